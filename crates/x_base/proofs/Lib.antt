@@ -1,0 +1,5 @@
+pub mod Digits
+pub mod Expanding
+pub mod Naming
+pub mod Spelling
+pub mod Splitting

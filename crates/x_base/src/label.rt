@@ -1,0 +1,55 @@
+ghost use Rattle.std.specs.Prelude.{◌≡◌, ◌↔◌, IsOk, IfOk};
+ghost use Rattle.x_base.specs.Names.{IsLabel};
+
+use crate::names::is_name;
+use crate::padded::Padded;
+use std::marker::Model;
+use thiserror::Error;
+
+/// These bytes are no label.
+#[derive(Clone, Copy, Debug, PartialEq, Eq, Error)]
+#[error("bad label")]
+pub struct BadLabel;
+
+/// A label: 1 to 16 bytes of `A`-`Z`, `0`-`9` and `-` (ANSI X9.17; the bytes are this
+/// project's profile).
+#[derive(Clone, Copy, Debug, PartialEq, Eq, Hash)]
+pub struct Label {
+    name: Padded,
+}
+
+impl Model for Label {
+    ghost use Rattle.std.specs.Prelude.{ℕ, List};
+    ghost use Rattle.x_base.specs.Names.{IsLabel};
+
+    ghost Value = { List ℕ };
+
+    ghost view = { λ l. l.name };
+
+    ghost invariant = { λ l. IsLabel l.name };
+
+    ghost inverse = { λ bytes. record { name = bytes } };
+}
+
+impl Label {
+    /// Reads a label that is all of the bytes.
+    pub fn read(bytes: &[u8]) -> Result<Label, BadLabel>
+        ensures value { IfOk result (λ label. label ≡ bytes.now) }
+        ensures found { IsOk result ↔ IsLabel bytes.now }
+    {
+        if !is_name(1, bytes) {
+            return Err(BadLabel);
+        }
+        Ok(Label {
+            name: Padded::new(bytes),
+        })
+    }
+
+    /// The bytes of the label.
+    pub fn bytes(&self) -> &[u8]
+        ensures value { result.now ≡ self.now }
+        ensures label { IsLabel self.now }
+    {
+        self.name.bytes()
+    }
+}

@@ -1,0 +1,67 @@
+// Up to sixteen bytes, copied by value.
+ghost use Rattle.std.specs.Prelude.{◌≡◌, ◌≤◌, nat_eq, length};
+ghost use Rattle.std.specs.Cmp.{partial_equiv_from_equiv};
+ghost use Rattle.std.specs.Cmp.Lexicographic.{pointwise, nat_list_eq_equiv};
+
+use crate::names::LONGEST;
+use std::marker::Model;
+
+/// Up to `LONGEST` bytes; zeros fill the rest.
+#[derive(Clone, Copy, Debug, Hash)]
+pub(crate) struct Padded {
+    bytes: [u8; LONGEST],
+    len: u8,
+}
+
+impl Model for Padded {
+    ghost use Rattle.std.specs.Prelude.{ℕ, List};
+
+    ghost Value = { List ℕ };
+
+    ghost use Rattle.x_base.specs.Padded.{bytes_of, IsPadded, padded, padded-bytes_of};
+
+    ghost view = { bytes_of };
+
+    ghost invariant = { IsPadded };
+
+    ghost inverse = { padded };
+
+    ghost inverse_ok = { padded-bytes_of };
+}
+
+impl PartialEq for Padded {
+    ghost eq = { pointwise nat_eq };
+
+    ghost laws = { partial_equiv_from_equiv nat_list_eq_equiv };
+
+    fn eq(&self, other: &Padded) -> bool {
+        self.bytes() == other.bytes()
+    }
+}
+
+impl Eq for Padded {
+    ghost laws = { nat_list_eq_equiv };
+}
+
+impl Padded {
+    /// These bytes.
+    pub(crate) fn new(bytes: &[u8]) -> Padded
+        requires { length bytes.now ≤ 16 }
+        ensures { result ≡ bytes.now }
+    {
+        let len = bytes.len();
+        let mut filled = [0; LONGEST];
+        filled[..len].copy_from_slice(bytes);
+        Padded {
+            bytes: filled,
+            len: len as u8,
+        }
+    }
+
+    /// The bytes without the filling.
+    pub(crate) fn bytes(&self) -> &[u8]
+        ensures { result.now ≡ self.now }
+    {
+        &self.bytes[..self.len as usize]
+    }
+}

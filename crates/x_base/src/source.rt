@@ -1,0 +1,136 @@
+ghost use Rattle.std.specs.Prelude.{◌≡◌, ◌≤◌, ◌<◌, ℕ, List, Option, Some, None, length, IfOk, OnErr, min, is_ok, not, if◌then◌else◌};
+ghost use Rattle.x_base.specs.Edge.{Rose, TakesFront};
+ghost use Rattle.x_base.specs.Memory.{is_due, next_number};
+
+use crate::due::is_due;
+use crate::text::Text;
+use std::io::Read;
+use std::marker::Model;
+use thiserror::Error;
+
+/// A source failed, and its count of faults rose.
+#[derive(Clone, Copy, Debug, PartialEq, Eq, Error)]
+#[error("read fault")]
+pub struct SourceFault;
+
+/// Where the program's input comes from.
+pub trait Source {
+    // the bytes not yet taken, where told
+    ghost left: { Self → Option (List ℕ) };
+
+    // a number that never falls
+    ghost faults: { Self → ℕ };
+
+    /// Moves bytes from the front of what is left into the buffer, and answers how many; 0 only at
+    /// the end.
+    fn take(&mut self, buf: &mut [u8]) -> Result<usize, SourceFault>
+        requires { 0 < length buf.old }
+        ensures bound { IfOk result (λ n. n ≤ length buf.new) }
+        ensures front { IfOk result (λ n. TakesFront (left self.old) (left self.new) n buf.new) }
+        ensures fault { OnErr result (Rose (faults self.old) (faults self.new)) }
+        ensures kept { OnErr result (left self.new ≡ left self.old) }
+        ensures climbs { faults self.old ≤ faults self.new };
+}
+
+/// A source of bytes in memory, which it tells. It fails at the calls that it is made with.
+#[derive(Debug, Drop)]
+pub struct MemorySource {
+    bytes: Text,
+    at: usize,
+    fails: Vec<u32>,
+    calls: u64,
+    faults: u64,
+}
+
+impl Model for MemorySource {
+    ghost use Rattle.std.specs.Prelude.{◌≤◌, length, drop};
+    ghost use Rattle.x_base.specs.Memory.{SourceState};
+
+    ghost Value = { SourceState };
+
+    ghost view = { λ s. record { left = drop s.at s.bytes; fails = s.fails.items; calls = s.calls; faults = s.faults } };
+
+    ghost invariant = { λ s. s.at ≤ length s.bytes };
+}
+
+impl MemorySource {
+    /// A source of these bytes that fails at the calls whose numbers, from 1, are in `fails`.
+    pub fn new(bytes: Text, fails: Vec<u32>) -> MemorySource
+        ensures { result ≡ record { left = bytes; fails = fails.items; calls = 0; faults = 0 } }
+    {
+        MemorySource {
+            bytes,
+            at: 0,
+            fails,
+            calls: 0,
+            faults: 0,
+        }
+    }
+}
+
+impl Source for MemorySource {
+    ghost left = { λ s. Some s.left };
+
+    ghost faults = { λ s. s.faults };
+
+    // The first five clauses are the trait's.
+    fn take(&mut self, buf: &mut [u8]) -> Result<usize, SourceFault>
+        requires { 0 < length buf.old }
+        ensures bound { IfOk result (λ n. n ≤ length buf.new) }
+        ensures front { IfOk result (λ n. TakesFront (Some self.old.left) (Some self.new.left) n buf.new) }
+        ensures fault { OnErr result (Rose self.old.faults self.new.faults) }
+        ensures kept { OnErr result (Some self.new.left ≡ Some self.old.left) }
+        ensures climbs { self.old.faults ≤ self.new.faults }
+
+        // It gives all that the buffer can hold, and fails at the calls that are due alone.
+        ensures whole { IfOk result (λ n. n ≡ min (length self.old.left) (length buf.old)) }
+        ensures due { is_ok result ≡ not (is_due self.new.calls self.old.fails) }
+        ensures called { self.new.calls ≡ next_number self.old.calls }
+        ensures counted { self.new.faults ≡ (if is_ok result then self.old.faults else next_number self.old.faults) }
+        ensures same { self.new.fails ≡ self.old.fails }
+    {
+        self.calls = self.calls.saturating_add(1);
+        let call = self.calls;
+        if is_due(self.fails.as_slice(), call) {
+            self.faults = self.faults.saturating_add(1);
+            return Err(SourceFault);
+        }
+        let left = &self.bytes.bytes()[self.at..];
+        let n = left.len().min(buf.len());
+        buf[..n].copy_from_slice(&left[..n]);
+        self.at += n;
+        Ok(n)
+    }
+}
+
+/// A source over a reader of std, which tells no bytes: the trusted edge.
+#[derive(Drop)]
+pub struct StdSource<R> {
+    reader: R,
+    faults: u64,
+}
+
+impl<R: Read> StdSource<R> {
+    /// A source over this reader, without faults so far.
+    pub fn new(reader: R) -> StdSource<R>
+        ensures { ⟦<StdSource<R> as Source>⟧.faults result ≡ 0 }
+    {
+        StdSource { reader, faults: 0 }
+    }
+}
+
+impl<R: Read> Source for StdSource<R> {
+    ghost left = { λ _. None };
+
+    ghost faults = { λ s. s.faults };
+
+    fn take(&mut self, buf: &mut [u8]) -> Result<usize, SourceFault> {
+        match self.reader.read(buf) {
+            Ok(n) => Ok(n),
+            Err(_) => {
+                self.faults = self.faults.saturating_add(1);
+                Err(SourceFault)
+            }
+        }
+    }
+}
