@@ -1,0 +1,12 @@
+pub mod BitsLemmas
+pub mod ExclusiveOr
+pub mod Inverse
+pub mod Steps
+pub mod KeyPlaces
+pub mod KeyRows
+pub mod CombinedTable
+pub mod CombinedRound
+pub mod StandardFacts
+pub mod Words
+pub mod Permuting
+pub mod Blocks

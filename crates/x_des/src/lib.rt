@@ -1,0 +1,20 @@
+//! DES of FIPS 46: wirings, key schedules, and the encryption and decryption of a block.
+#![tactic(auto)]
+
+mod block;
+mod boxes;
+mod cipher;
+mod combined;
+mod round_keys;
+mod rows_c;
+mod rows_d;
+mod schedule;
+#[cfg(test)]
+mod tests;
+mod wiring;
+
+pub use block::Block;
+pub use boxes::sp;
+pub use cipher::{decrypt, encrypt};
+pub use schedule::Schedule;
+pub use wiring::Wiring;
