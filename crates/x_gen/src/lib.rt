@@ -1,0 +1,10 @@
+//! The key generator of ANSI X9.17, the parity of keys, and the weak keys.
+#![tactic(auto)]
+
+mod generator;
+mod parity;
+#[cfg(test)]
+mod tests;
+
+pub use generator::{Gen, WeakDraws};
+pub use parity::{is_weak, odd};

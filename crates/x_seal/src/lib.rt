@@ -1,0 +1,10 @@
+//! Key offset, notarization, and keys encrypted under them (ANSI X9.17).
+#![tactic(auto)]
+
+mod offsetting;
+mod sealing;
+#[cfg(test)]
+mod tests;
+
+pub use offsetting::{notarize, offset, spread};
+pub use sealing::{seal, unseal, unwrap, unwrap_pair, wrap, wrap_pair};
