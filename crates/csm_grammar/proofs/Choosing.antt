@@ -1,0 +1,222 @@
+-- The form of fields without a fault, and the contents behind each tag.
+use Rattle.std.proofs.Common.{◌≡◌, ℕ, suc, ◌≤◌, Bool, true, false, cond, List, [], ◌∷◌, ◌++◌, map, Option, Some, None, refl, sym, ◌∙◌, ap, subst, arith}
+use Rattle.std.specs.Prelude.{◌&&◌, ◌||◌, not, is_none, is_some, option_map, option_to_list, bytes_eq}
+use Rattle.std.specs.List.{find, filter, list_any, list_all}
+use Rattle.std.specs.Cmp.Lexicographic.{bytes_decides}
+use Rattle.std.proofs.lemmas.Bool.{and_parts, and_from, or_parts, not-true, not-false, not_from_true, not_from_false, false≢true, both_ways, false_from_ne_true, true_from_ne_false}
+use Rattle.std.proofs.lemmas.List.{nil_from_length}
+use Rattle.std.proofs.lemmas.List.Folds.{list_any-append}
+use Rattle.csm_grammar.specs.declared.tag.Tag.{Tag}
+use Rattle.csm_grammar.specs.declared.tag.Tag.TheVariants.{Mcl}
+use Rattle.csm_grammar.specs.declared.form.Form.{Form}
+use Rattle.csm_grammar.specs.declared.form.Need.{Need}
+use Rattle.csm_grammar.specs.declared.form.Need.TheVariants.{Required}
+use Rattle.csm_grammar.specs.Tags.{same_tag, has_tag, count_tag, is_closing}
+use Rattle.csm_grammar.specs.Classes.{forms, class_text, class_forms, required, need_of, allows}
+use Rattle.csm_grammar.specs.Values.{Value, AText, kind_of, value_of}
+use Rattle.csm_grammar.specs.Spelling.{Field, tags_in, ComesAs, AreOfForm, values_in}
+use Rattle.csm_grammar.specs.Units.{Standing}
+use Rattle.csm_grammar.specs.Faults.{candidates, forms_left, absent, fields_from, shut_fault}
+use Rattle.csm_grammar.specs.Judging.{contents_at, form_left}
+use Rattle.csm_grammar.proofs.TagLemmas.{find_passes, same_tags}
+use Rattle.csm_grammar.proofs.Passing.{AllPass}
+use Rattle.csm_grammar.proofs.Counting.{tags_append, count_fields, present_count, present_from_count, all_at, none_found, found_nowhere, of_form}
+use Rattle.csm_grammar.proofs.Closing.{passing_once, any_filtered, IsWholeForm, whole_form}
+use Rattle.csm_grammar.proofs.Slots.{count_values, unallowed_count}
+use Rattle.csm_grammar.proofs.Making.{are_known, passing_known, OneCode}
+use Rattle.csm_grammar.proofs.Codes.{one_code}
+use Rattle.csm_grammar.proofs.Spelled.{faultless}
+use Rattle.csm_grammar.proofs.Found.{class_values}
+use Rattle.csm_grammar.proofs.Proper.{all_from, any_form, required_is_open}
+use Rattle.csm_grammar.proofs.Judging.{AtShut, shut_faultless}
+
+found_all : {X : Type 0} (p q : X → Bool) (xs : List X) (x : X) → list_all q xs ≡ true → find p xs ≡ Some x → q x ≡ true
+found_all p q [] x a h = absurd cc
+found_all {X} p q (y ∷ ys) x a h = go (p y) h (λ i. found_all p q ys x k.1 i) where
+  k : (q y ≡ true) × (list_all q ys ≡ true)
+  k = and_parts (q y) (list_all q ys) a
+
+  go : (b : Bool) → cond b (Some y) (find p ys) ≡ Some x → (find p ys ≡ Some x → q x ≡ true) → q x ≡ true
+  go true i more = let e : y ≡ x = cc in subst (λ (z : X). q z ≡ true) e k.0
+  go false i more = more i
+
+filter_all : {X : Type 0} (q : X → Bool) (xs : List X) → list_all q (filter q xs) ≡ true
+filter_all q [] = refl
+filter_all {X} q (x ∷ xs) = go (q x) refl (filter_all q xs) where
+  go : (b : Bool) → q x ≡ b → list_all q (filter q xs) ≡ true → list_all q (cond b (x ∷ filter q xs) (filter q xs)) ≡ true
+  go true e more = and_from _ _ e more
+  go false e more = more
+
+filter_keeps : {X : Type 0} (p q : X → Bool) (xs : List X) → list_all p xs ≡ true → list_all p (filter q xs) ≡ true
+filter_keeps p q [] h = refl
+filter_keeps {X} p q (x ∷ xs) h = go (q x) (filter_keeps p q xs k.1) where
+  k : (p x ≡ true) × (list_all p xs ≡ true)
+  k = and_parts (p x) (list_all p xs) h
+
+  go : (b : Bool) → list_all p (filter q xs) ≡ true → list_all p (cond b (x ∷ filter q xs) (filter q xs)) ≡ true
+  go true more = and_from _ _ k.0 more
+  go false more = more
+
+any_found : {X : Type 0} (p : X → Bool) (xs : List X) → list_any p xs ≡ true → (x : X) × (find p xs ≡ Some x)
+any_found p [] h = absurd cc
+any_found {X} p (x ∷ xs) h = go (p x) h (λ i. any_found p xs i) where
+  go : (b : Bool) → (b || list_any p xs) ≡ true → (list_any p xs ≡ true → (y : X) × (find p xs ≡ Some y)) → (y : X) × (cond b (Some x) (find p xs) ≡ Some y)
+  go true i more = (x, refl)
+  go false i more = more i
+
+-- fields of a form, up to a code
+pub record IsReady (fs : List Field) : Type 0 where
+  pub form : Form
+  pub left : form_left fs ≡ Some form
+  pub tags : AreOfForm form fs
+  pub known : are_known fs ≡ true
+  pub class : values_in Mcl fs ≡ map Some (AText (class_text form) ∷ [])
+  pub code : OneCode fs
+
+module _ (fs : List Field) (pass : AllPass [] fs) (w : IsWholeForm fs) where
+  gs : List Field
+  gs = w.first ∷ w.rest
+
+  complete_test : Form → Bool
+  complete_test g = is_none (absent g (tags_in fs))
+
+  allowed_test : Form → Bool
+  allowed_test g = list_all (allows g) (tags_in fs)
+
+  class_test : Form → Bool
+  class_test g = bytes_eq (class_text g) w.first.contents
+
+  in_front : candidates fs ≡ class_forms w.first.contents
+  in_front = ap candidates w.text
+
+  all_tags : (t : Tag) → has_tag t (tags_in fs) ≡ true → allows w.form t ≡ true
+  all_tags t h = true_from_ne_false (allows w.form t) (λ e. let z = unallowed_count w.form fs t w.tags e in let n = present_count t (tags_in fs) h in absurd (omega arith))
+
+  own_complete : complete_test w.form ≡ true
+  unfolding complete_test
+  own_complete = found_nowhere (λ t. not (has_tag t (tags_in fs))) (Mcl ∷ required w.form) (all_from (λ t. not (not (has_tag t (tags_in fs)))) (Mcl ∷ required w.form) there) where
+    there : (t : Tag) → has_tag t (Mcl ∷ required w.form) ≡ true → not (not (has_tag t (tags_in fs))) ≡ true
+    there t h =
+        let n : need_of w.form t ≡ Required = rw h refl in
+        let one : count_tag t (tags_in fs) ≡ 1 = subst (λ (k : Need). ComesAs k (count_tag t (tags_in fs))) n (w.tags t) in
+        not_from_false _ (not_from_true _ (present_from_count t (tags_in fs) (omega arith)))
+
+  own_test : (class_test w.form && (allowed_test w.form && complete_test w.form)) ≡ true
+  unfolding class_test allowed_test
+  own_test = and_from _ _ ((bytes_decides (class_text w.form) w.first.contents).1 w.class) (and_from _ _ (all_from (allows w.form) (tags_in fs) all_tags) own_complete)
+
+  some_form : (g : Form) × (form_left fs ≡ Some g)
+  unfolding class_test allowed_test complete_test
+  some_form =
+      let a = any_filtered complete_test allowed_test (candidates fs) in
+      let b = ap (list_any (λ g. allowed_test g && complete_test g)) in_front ∙ any_filtered (λ g. allowed_test g && complete_test g) class_test forms in
+      any_found complete_test (forms_left fs (tags_in fs)) (a ∙ b ∙ any_form (λ g. class_test g && (allowed_test g && complete_test g)) w.form own_test)
+
+  -- a form that is left has all tags
+  of_left : (g : Form) → form_left fs ≡ Some g → AreOfForm g fs
+  unfolding class_test allowed_test complete_test gs
+  of_left g h =
+      let complete = find_passes complete_test (forms_left fs (tags_in fs)) g h in
+      let allowed = found_all complete_test allowed_test (forms_left fs (tags_in fs)) g (filter_all allowed_test (candidates fs)) h in
+      let tags : tags_in fs ≡ tags_in gs ++ w.code.tag ∷ [] = ap tags_in w.text ∙ tags_append gs (w.code ∷ []) in
+      let present : (t : Tag) → has_tag t (w.code.tag ∷ tags_in gs) ≡ true → has_tag t (tags_in fs) ≡ true =
+      λ t i. ap (has_tag t) tags ∙ list_any-append (λ s. same_tag s t) (tags_in gs) (w.code.tag ∷ []) ∙ turned (same_tag w.code.tag t) (has_tag t (tags_in gs)) i in
+      let a : list_all (allows g) (w.code.tag ∷ tags_in gs) ≡ true = all_from (allows g) (w.code.tag ∷ tags_in gs) (λ t i. all_at (allows g) (tags_in fs) t allowed (present t i)) in
+      let c : is_none (absent g (tags_in gs)) ≡ true =
+      found_nowhere (λ t. not (has_tag t (tags_in gs))) (Mcl ∷ required g) (all_from (λ t. not (not (has_tag t (tags_in gs)))) (Mcl ∷ required g)
+      (λ t i. not_from_false _ (not_from_true _ (before_code g t i (not-false _ (not-true _ (all_at (λ s. not (not (has_tag s (tags_in fs)))) (Mcl ∷ required g) t (none_found (λ s. not (has_tag s (tags_in fs))) (Mcl ∷ required g) complete) i))))))) in
+      subst (AreOfForm g) (sym w.text) (of_form g gs w.code (λ t. subst (λ (xs : List Field). count_tag t (tags_in xs) ≤ 1) w.text (passing_once t fs pass)) a c w.closes) where
+        turned : (x y : Bool) → (x || y) ≡ true → (y || (x || false)) ≡ true
+        turned true true i = refl
+        turned true false i = refl
+        turned false true i = refl
+        turned false false i = i
+
+        before_code : (g : Form) (t : Tag) → has_tag t (Mcl ∷ required g) ≡ true → has_tag t (tags_in fs) ≡ true → has_tag t (tags_in (w.first ∷ w.rest)) ≡ true
+        before_code g t i j =
+            let o = required_is_open g t i in
+            let other : same_tag w.code.tag t ≡ false = false_from_ne_true _ (λ e. both_ways (is_closing t) o (subst (λ (s : Tag). is_closing s ≡ true) (same_tags w.code.tag t e) w.closes)) in
+            let z : count_tag t (w.code.tag ∷ []) ≡ 0 = rw other refl in
+            let n = present_count t (tags_in fs) j in
+            let k = ap (λ (xs : List Field). count_tag t (tags_in xs)) w.text ∙ count_fields t (w.first ∷ w.rest) (w.code ∷ []) in
+            present_from_count t (tags_in (w.first ∷ w.rest)) (omega arith)
+
+  left_class : (g : Form) → form_left fs ≡ Some g → class_text g ≡ w.first.contents
+  unfolding class_test allowed_test complete_test
+  left_class g h =
+      let all : list_all class_test (candidates fs) ≡ true = ap (list_all class_test) in_front ∙ filter_all class_test forms in
+      (bytes_decides (class_text g) w.first.contents).0 (found_all complete_test class_test (forms_left fs (tags_in fs)) g (filter_keeps class_test allowed_test (candidates fs) all) h)
+
+  pub ready_fields : IsReady fs
+  unfolding gs
+  ready_fields =
+      let g = some_form in
+      let k = passing_known [] fs pass in
+      let tags = of_left g.0 g.1 in
+      let t : fs ≡ w.first ∷ (w.rest ++ w.code ∷ []) = w.text in
+      let c = class_values g.0 w.first (w.rest ++ w.code ∷ []) w.class_first (left_class g.0 g.1) (subst (λ (xs : List Field). count_tag Mcl (tags_in xs) ≡ 1) t (tags Mcl)) (subst (λ (xs : List Field). are_known xs ≡ true) t k) in
+      record { form = g.0; left = g.1; tags = tags; known = k; class = ap (values_in Mcl) t ∙ c; code = subst OneCode (sym w.text) (one_code gs w.code w.closes w.unclosed) }
+
+-- at `)` without a fault one form is left, and the fields have its tags
+pub ready : (b : List ℕ) (done : List Standing) (at : ℕ) → AtShut b done at → shut_fault (fields_from done) at ≡ None → IsReady (fields_from done)
+ready b done at a h =
+    let x = faultless b (shut_faultless b done at a h) in
+    let e = x.fields ∙ ap fields_from a.are in
+    let pass = subst (AllPass []) e x.pass in
+    ready_fields (fields_from done) pass (whole_form (fields_from done) pass (subst (λ (fs : List Field). list_any is_closing (tags_in fs) ≡ true) e x.closes))
+
+-- what stands behind a tag that comes once
+pub values_at : (t : Tag) (fs : List Field) → count_tag t (tags_in fs) ≤ 1 → values_in t fs ≡ option_to_list (option_map (λ c. value_of (kind_of t) c) (contents_at t fs))
+values_at t [] h = refl
+values_at t (f ∷ fs) h = go (same_tag f.tag t) refl (λ n. values_at t fs n) where
+  go : (b : Bool) → same_tag f.tag t ≡ b → (count_tag t (tags_in fs) ≤ 1 → values_in t fs ≡ option_to_list (option_map (λ c. value_of (kind_of t) c) (contents_at t fs)))
+      → values_in t (f ∷ fs) ≡ option_to_list (option_map (λ c. value_of (kind_of t) c) (contents_at t (f ∷ fs)))
+  go true e more =
+      let n : count_tag t (tags_in (f ∷ fs)) ≡ suc (count_tag t (tags_in fs)) = rw e refl in
+      let l = count_values t fs in
+      let z : values_in t fs ≡ [] = nil_from_length _ (omega arith) in
+      rw e (λ i. value_of (kind_of (same_tags f.tag t e i)) f.contents ∷ z i)
+  go false e more =
+      let n : count_tag t (tags_in (f ∷ fs)) ≡ count_tag t (tags_in fs) = rw e refl in
+      rw e (more (omega arith))
+
+-- a field more, whose tag didn't come
+pub contents_more : (t : Tag) (before : List Field) (f : Field) → has_tag f.tag (tags_in before) ≡ false → contents_at t (before ++ f ∷ []) ≡ cond (same_tag f.tag t) (Some f.contents) (contents_at t before)
+contents_more t [] f h = go (same_tag f.tag t) where
+  go : (b : Bool) → option_map (λ (g : Field). g.contents) (cond b (Some f) None) ≡ cond b (Some f.contents) None
+  go true = refl
+  go false = refl
+contents_more t (g ∷ gs) f h = go (same_tag g.tag t) refl (contents_more t gs f k.1) where
+  k : (same_tag g.tag f.tag ≡ false) × (has_tag f.tag (tags_in gs) ≡ false)
+  k = or_parts _ _ h
+
+  go : (b : Bool) → same_tag g.tag t ≡ b → contents_at t (gs ++ f ∷ []) ≡ cond (same_tag f.tag t) (Some f.contents) (contents_at t gs)
+      → option_map (λ (x : Field). x.contents) (cond b (Some g) (find (λ (x : Field). same_tag x.tag t) (gs ++ f ∷ []))) ≡ cond (same_tag f.tag t) (Some f.contents) (option_map (λ (x : Field). x.contents) (cond b (Some g) (find (λ (x : Field). same_tag x.tag t) gs)))
+  go true e more =
+      let o : same_tag f.tag t ≡ false = false_from_ne_true _ (λ i. both_ways (same_tag g.tag f.tag) k.0 (subst (λ (s : Tag). same_tag g.tag s ≡ true) (sym (same_tags f.tag t i)) e)) in
+      rw o refl
+  go false e more = more
+
+pub contents_present : (t : Tag) (fs : List Field) → is_some (contents_at t fs) ≡ has_tag t (tags_in fs)
+contents_present t [] = refl
+contents_present t (f ∷ fs) = go (same_tag f.tag t) (contents_present t fs) where
+  go : (b : Bool) → is_some (contents_at t fs) ≡ has_tag t (tags_in fs) → is_some (option_map (λ (x : Field). x.contents) (cond b (Some f) (find (λ (x : Field). same_tag x.tag t) fs))) ≡ (b || has_tag t (tags_in fs))
+  go true more = refl
+  go false more = more
+
+-- contents behind a tag of known fields stand for a value
+pub contents_known : (t : Tag) (fs : List Field) (c : List ℕ) → are_known fs ≡ true → contents_at t fs ≡ Some c → (v : Value) × (value_of (kind_of t) c ≡ Some v)
+contents_known t [] c k h = absurd cc
+contents_known t (f ∷ fs) c k h = go (same_tag f.tag t) refl h (λ i. contents_known t fs c j.1 i) where
+  j : (is_some (value_of (kind_of f.tag) f.contents) ≡ true) × (are_known fs ≡ true)
+  j = and_parts _ _ k
+
+  some : (o : Option Value) → is_some o ≡ true → (v : Value) × (o ≡ Some v)
+  some None i = absurd (false≢true i)
+  some (Some v) i = (v, refl)
+
+  go : (b : Bool) → same_tag f.tag t ≡ b → option_map (λ (x : Field). x.contents) (cond b (Some f) (find (λ (x : Field). same_tag x.tag t) fs)) ≡ Some c → (contents_at t fs ≡ Some c → (v : Value) × (value_of (kind_of t) c ≡ Some v)) → (v : Value) × (value_of (kind_of t) c ≡ Some v)
+  go true e i more =
+      let x : f.contents ≡ c = cc in
+      some (value_of (kind_of t) c) (subst (λ (d : List ℕ). is_some (value_of (kind_of t) d) ≡ true) x (subst (λ (s : Tag). is_some (value_of (kind_of s) f.contents) ≡ true) (same_tags f.tag t e) j.0))
+  go false e i more = more i

@@ -1,0 +1,148 @@
+-- Fields that pass up to a code are those of a form.
+use Rattle.std.proofs.Common.{◌≡◌, ◌+◌, ◌≤◌, Bool, true, false, cond, List, [], ◌∷◌, ◌++◌, length, None, refl, sym, ◌∙◌, ap, subst, append_assoc, arith}
+use Rattle.std.specs.Prelude.{◌==◌, ◌&&◌, ◌||◌, is_none, bytes_eq}
+use Rattle.std.specs.List.{list_any, list_all, filter}
+use Rattle.std.specs.Cmp.Lexicographic.{bytes_decides}
+use Rattle.std.proofs.lemmas.List.{append-nil}
+use Rattle.std.proofs.lemmas.Bool.{and_parts, or_parts, or_left, or_right, not-false, true≢false, both_ways}
+use Rattle.std.proofs.lemmas.List.Folds.{list_any-append}
+use Rattle.csm_grammar.specs.declared.tag.Tag.{Tag}
+use Rattle.csm_grammar.specs.declared.tag.Tag.TheVariants.{Mcl}
+use Rattle.csm_grammar.specs.declared.form.Form.{Form}
+use Rattle.csm_grammar.specs.Tags.{same_tag, has_tag, count_tag, is_closing}
+use Rattle.csm_grammar.specs.Classes.{forms, class_text, class_forms, allows}
+use Rattle.csm_grammar.specs.Spelling.{Field, tags_in, AreOfForm}
+use Rattle.csm_grammar.specs.Faults.{forms_left, absent, lacking}
+use Rattle.csm_grammar.proofs.TagLemmas.{same_tags}
+use Rattle.csm_grammar.proofs.Passing.{Passes, AllPass}
+use Rattle.csm_grammar.proofs.ContentsLemmas.{any_has}
+use Rattle.csm_grammar.proofs.Counting.{tags_append, count_fields, absent_count, of_form}
+
+once_more : (t : Tag) (before : List Field) (f : Field) → Passes before f → count_tag t (tags_in before) ≤ 1 → count_tag t (tags_in (before ++ f ∷ [])) ≤ 1
+once_more t before f p h = go (same_tag f.tag t) refl where
+  counted : count_tag t (tags_in (before ++ f ∷ [])) ≡ count_tag t (tags_in before) + count_tag t (f.tag ∷ [])
+  counted = count_fields t before (f ∷ [])
+
+  go : (b : Bool) → same_tag f.tag t ≡ b → count_tag t (tags_in (before ++ f ∷ [])) ≤ 1
+  go true e =
+      let z : count_tag t (tags_in before) ≡ 0 = absent_count t (tags_in before) (subst (λ (s : Tag). has_tag s (tags_in before) ≡ false) (same_tags f.tag t e) p.once) in
+      let n : count_tag t (f.tag ∷ []) ≡ 1 = rw e refl in
+      omega (arith, counted)
+  go false e =
+      let n : count_tag t (f.tag ∷ []) ≡ 0 = rw e refl in
+      omega (arith, counted)
+
+once_all : (t : Tag) (before fs : List Field) → AllPass before fs → count_tag t (tags_in before) ≤ 1 → count_tag t (tags_in (before ++ fs)) ≤ 1
+once_all t before [] h i = subst (λ (xs : List Field). count_tag t (tags_in xs) ≤ 1) (sym (append-nil before)) i
+once_all t before (f ∷ fs) h i =
+    subst (λ (xs : List Field). count_tag t (tags_in xs) ≤ 1) (append_assoc before (f ∷ []) fs) (once_all t (before ++ f ∷ []) fs h.1 (once_more t before f h.0 i))
+
+pub passing_once : (t : Tag) (fs : List Field) → AllPass [] fs → count_tag t (tags_in fs) ≤ 1
+passing_once t fs h = once_all t [] fs h (omega arith)
+
+-- a code among fields that pass is the last of them
+pub record Closed (before fs : List Field) : Type 0 where
+  pub others : List Field
+  pub code : Field
+  pub text : fs ≡ others ++ code ∷ []
+  pub closes : is_closing code.tag ≡ true
+  pub passes : Passes (before ++ others) code
+
+closed_here : (before : List Field) (f : Field) (fs : List Field) → Passes before f → AllPass (before ++ f ∷ []) fs → is_closing f.tag ≡ true → Closed before (f ∷ fs)
+closed_here before f [] p h e = record { others = []; code = f; text = refl; closes = e; passes = subst (λ (xs : List Field). Passes xs f) (sym (append-nil before)) p }
+closed_here before f (g ∷ gs) p h e =
+    let k = ap (list_any is_closing) (tags_append before (f ∷ [])) ∙ list_any-append is_closing (tags_in before) (f.tag ∷ []) in
+    absurd (both_ways _ h.0.unclosed (k ∙ or_right _ _ (or_left _ _ e)))
+
+closed_later : (before : List Field) (f : Field) (fs : List Field) → Closed (before ++ f ∷ []) fs → Closed before (f ∷ fs)
+closed_later before f fs c = record {
+  others = f ∷ c.others;
+  code = c.code;
+  text = ap (λ (xs : List Field). f ∷ xs) c.text;
+  closes = c.closes;
+  passes = subst (λ (xs : List Field). Passes xs c.code) (append_assoc before (f ∷ []) c.others) c.passes;
+}
+
+pub closed : (before fs : List Field) → AllPass before fs → list_any is_closing (tags_in fs) ≡ true → Closed before fs
+closed before [] h c = absurd cc
+closed before (f ∷ fs) h c = go (is_closing f.tag) refl c (λ i. closed (before ++ f ∷ []) fs h.1 i) where
+  go : (b : Bool) → is_closing f.tag ≡ b → (b || list_any is_closing (tags_in fs)) ≡ true → (list_any is_closing (tags_in fs) ≡ true → Closed (before ++ f ∷ []) fs) → Closed before (f ∷ fs)
+  go true e i more = closed_here before f fs h.0 h.1 e
+  go false e i more = closed_later before f fs (more i)
+
+pub any_filtered : (p q : Form → Bool) (xs : List Form) → list_any p (filter q xs) ≡ list_any (λ x. q x && p x) xs
+any_filtered p q [] = refl
+any_filtered p q (x ∷ xs) = go (q x) (any_filtered p q xs) where
+  go : (b : Bool) → list_any p (filter q xs) ≡ list_any (λ y. q y && p y) xs → list_any p (cond b (x ∷ filter q xs) (filter q xs)) ≡ ((b && p x) || list_any (λ y. q y && p y) xs)
+  go true e = ap (λ (b : Bool). p x || b) e
+  go false e = e
+
+not_lacking : (fs : List Form) (ts : List Tag) → lacking fs ts ≡ None → (length fs == 0) ≡ false → list_any (λ g. is_none (absent g ts)) fs ≡ true
+not_lacking [] ts h n = absurd (true≢false n)
+not_lacking (f ∷ fs) ts h n = go (list_any (λ g. is_none (absent g ts)) (f ∷ fs)) refl h where
+  go : (b : Bool) → list_any (λ g. is_none (absent g ts)) (f ∷ fs) ≡ b → cond b None (absent f ts) ≡ None → b ≡ true
+  go true e i = refl
+  go false e i = let k = or_parts (is_none (absent f ts)) _ e in absurd (both_ways _ k.0 (ap is_none i))
+
+-- a form of the class that MCL names, with all tags of fields and of a code, none of its own absent
+pub record HasForm (gs : List Field) (c : Field) : Type 0 where
+  pub form : Form
+  pub first : Field
+  pub rest : List Field
+  pub begins : gs ≡ first ∷ rest
+  pub class : class_text form ≡ first.contents
+  pub allowed : list_all (allows form) (c.tag ∷ tags_in gs) ≡ true
+  pub complete : is_none (absent form (tags_in gs)) ≡ true
+
+pub has_form : (gs : List Field) (c : Field) → Passes gs c → is_closing c.tag ≡ true → HasForm gs c
+has_form [] c p h = absurd (both_ways _ closes (subst (λ (t : Tag). is_closing t ≡ true) (same_tags c.tag Mcl (not-false _ p.first)) h)) where
+  closes : is_closing Mcl ≡ false
+  closes = refl
+has_form (f ∷ fs) c p h =
+    let gs = f ∷ fs in
+    let allowed : Form → Bool = λ g. list_all (allows g) (c.tag ∷ tags_in gs) in
+    let complete : Form → Bool = λ g. is_none (absent g (tags_in gs)) in
+    let class : Form → Bool = λ g. bytes_eq (class_text g) f.contents in
+    let a = not_lacking (forms_left gs (c.tag ∷ tags_in gs)) (tags_in gs) (p.complete h) p.left in
+    let b = sym (any_filtered complete allowed (class_forms f.contents)) ∙ a in
+    let d = sym (any_filtered (λ g. allowed g && complete g) class forms) ∙ b in
+    let e = any_has (λ g. class g && (allowed g && complete g)) forms d in
+    let k = and_parts (class e.0) (allowed e.0 && complete e.0) e.1 in
+    let l = and_parts (allowed e.0) (complete e.0) k.1 in
+    record { form = e.0; first = f; rest = fs; begins = refl; class = (bytes_decides (class_text e.0) f.contents).0 k.0; allowed = l.0; complete = l.1 }
+
+-- fields that pass, with a code among them: MCL first, the code last, and the tags of one form
+pub record IsWholeForm (fs : List Field) : Type 0 where
+  pub form : Form
+  pub first : Field
+  pub rest : List Field
+  pub code : Field
+  pub text : fs ≡ (first ∷ rest) ++ code ∷ []
+  pub class_first : first.tag ≡ Mcl
+  pub class : class_text form ≡ first.contents
+  pub closes : is_closing code.tag ≡ true
+  pub unclosed : list_any is_closing (tags_in (first ∷ rest)) ≡ false
+  pub allowed : allows form code.tag ≡ true
+  pub tags : AreOfForm form fs
+
+first_is_class : (f : Field) (fs : List Field) → AllPass [] (f ∷ fs) → f.tag ≡ Mcl
+first_is_class f fs h = same_tags f.tag Mcl (not-false _ h.0.first)
+
+pub whole_form : (fs : List Field) → AllPass [] fs → list_any is_closing (tags_in fs) ≡ true → IsWholeForm fs
+whole_form fs h c =
+    let k = closed [] fs h c in
+    let g = has_form k.others k.code k.passes k.closes in
+    let t : fs ≡ (g.first ∷ g.rest) ++ k.code ∷ [] = k.text ∙ ap (λ (xs : List Field). xs ++ k.code ∷ []) g.begins in
+    record {
+      form = g.form;
+      first = g.first;
+      rest = g.rest;
+      code = k.code;
+      text = t;
+      class_first = first_is_class g.first (g.rest ++ k.code ∷ []) (subst (AllPass []) t h);
+      class = g.class;
+      closes = k.closes;
+      unclosed = subst (λ (xs : List Field). list_any is_closing (tags_in xs) ≡ false) g.begins k.passes.unclosed;
+      allowed = (and_parts _ _ g.allowed).0;
+      tags = subst (AreOfForm g.form) (sym k.text) (of_form g.form k.others k.code (λ t. subst (λ (xs : List Field). count_tag t (tags_in xs) ≤ 1) k.text (passing_once t fs h)) g.allowed g.complete k.closes);
+    }

@@ -1,0 +1,96 @@
+-- What is promised of every text.
+use Rattle.std.specs.Prelude.{◌≡◌, ◌≢◌, ◌≤◌, ◌<◌, ◌⊎◌, ℕ, true, List, [], ◌∷◌, ◌++◌, length, take, codes}
+use Rattle.std.specs.List.{flat_map, AllZip}
+use Rattle.csm_grammar.specs.declared.message.Message.{Message}
+use Rattle.csm_grammar.specs.declared.parsed.Parsed.{Parsed}
+use Rattle.csm_grammar.specs.declared.refusal.ReadRefusal.{ReadRefusal}
+use Rattle.csm_grammar.specs.declared.refusal.ReadRefusal.TheVariants as refusal
+use Rattle.csm_grammar.specs.declared.parsed.Shut.{Shut}
+use Rattle.csm_grammar.specs.Classes.{allows}
+use Rattle.csm_grammar.specs.Values.{kind_of, Denotes}
+use Rattle.csm_grammar.specs.Messages.{Valued, form_of, shut_field, all_fields}
+use Rattle.csm_grammar.specs.Spelling.{Field, field_text, Says}
+use Rattle.csm_grammar.specs.Reading.{IsRead, IsFault}
+
+-- exactly one prefix is a spelling, of one message closed by one code, and there is no fault
+pub record OneSpelling (b : List ℕ) : Type 0 where
+  pub parsed : Parsed
+  pub read : IsRead b parsed
+  pub alone : (p : Parsed) → IsRead b p → p ≡ parsed
+  pub faultless : (r : ReadRefusal) → ¬ (IsFault b r)
+
+-- exactly one reason and place is a fault, and no prefix is a spelling
+pub record OneFault (b : List ℕ) : Type 0 where
+  pub reason : ReadRefusal
+  pub fault : IsFault b reason
+  pub alone : (r : ReadRefusal) → IsFault b r → r ≡ reason
+  pub unread : (p : Parsed) → ¬ (IsRead b p)
+
+abbrev pub OneAnswer : Type 0
+OneAnswer = (b : List ℕ) → OneSpelling b ⊎ OneFault b
+
+-- want of memory is no fault of a text, and a text that doesn't end is so by its length
+pub record EndsAs (b : List ℕ) (r : ReadRefusal) : Type 0 where
+  pub memory : r ≢ refusal.NoMemory
+  pub long : (n : ℕ) → r ≡ refusal.TooLong n → (n ≡ 1024) × (1024 < length b)
+  pub unended : (n : ℕ) → r ≡ refusal.Unended n → (n ≡ length b) × (length b ≤ 1024)
+
+abbrev pub FaultEnds : Type 0
+FaultEnds = (b : List ℕ) (r : ReadRefusal) → IsFault b r → EndsAs b r
+
+-- how many bytes stand before a fault
+abbrev pub place_of : ReadRefusal → ℕ
+place_of (refusal.NotCsm n) = n
+place_of (refusal.TooLong n) = n
+place_of (refusal.Unended n) = n
+place_of (refusal.BadTag n) = n
+place_of (refusal.UnknownTag n) = n
+place_of (refusal.Repeated t n) = n
+place_of (refusal.Missing t n) = n
+place_of (refusal.Unwanted t n) = n
+place_of (refusal.BadContents t n) = n
+place_of (refusal.Unsupported t n) = n
+place_of refusal.NoMemory = 0
+
+-- a fault has its place in the text, or at its end
+abbrev pub FaultWithin : Type 0
+FaultWithin = (b : List ℕ) (r : ReadRefusal) → IsFault b r → place_of r ≤ length b
+
+-- more bytes change no answer, but of bytes that are none or only not ended
+abbrev pub FaultStays : Type 0
+FaultStays = (b more : List ℕ) (r : ReadRefusal) → b ≢ [] → ((n : ℕ) → r ≢ refusal.Unended n) → IsFault b r → IsFault (b ++ more) r
+
+abbrev pub ReadStays : Type 0
+ReadStays = (b more : List ℕ) (p : Parsed) → IsRead b p → IsRead (b ++ more) p
+
+-- an authenticated text says one message
+abbrev pub OneMeaning : Type 0
+OneMeaning = (text : List ℕ) (m n : Message) → Says text m → Says text n → m ≡ n
+
+-- the authenticated text of what is read says its message
+abbrev pub ReadSays : Type 0
+ReadSays = (b : List ℕ) (p : Parsed) → IsRead b p → Says (take p.auth_len b) p.message
+
+-- a field stands for a value under its tag
+pub record IsFor (f : Field) (v : Valued) : Type 0 where
+  pub tag : f.tag ≡ v.tag
+  pub value : Denotes (kind_of v.tag) f.contents v.value
+
+-- fields, each with a blank behind it: an authenticated text
+abbrev pub auth_text : List Field → List ℕ
+auth_text fs = codes "CSM(" ++ flat_map (λ f. field_text f ++ codes " ") fs
+
+-- fields and a code with single blanks between them
+abbrev pub blank_text : List Field → Field → List ℕ
+blank_text fs code = auth_text fs ++ (field_text code ++ codes ")")
+
+-- the fields and the code are those of the message in the writer's order
+pub record IsWritten (fs : List Field) (code : Field) (m : Message) (shut : Shut) : Type 0 where
+  pub each : AllZip IsFor (fs ++ code ∷ []) (all_fields m shut)
+  pub allowed : allows (form_of m) (shut_field shut).tag ≡ true
+  pub short : length (blank_text fs code) ≤ 1024
+
+-- what is written so is read back, whatever follows
+abbrev pub WrittenRead : Type 0
+WrittenRead = (fs : List Field) (code : Field) (m : Message) (shut : Shut) (rest : List ℕ) → IsWritten fs code m shut
+    → IsRead (blank_text fs code ++ rest) (record { message = m; shut = shut; auth_len = length (auth_text fs); len = length (blank_text fs code) })

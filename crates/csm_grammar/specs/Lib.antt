@@ -1,0 +1,16 @@
+pub mod Tags
+pub mod Classes
+pub mod Values
+pub mod Messages
+pub mod Spelling
+pub mod Units
+pub mod Faults
+pub mod Reading
+pub mod Judging
+pub mod Laws
+pub mod Letters
+pub mod Halves
+pub mod FormSets
+pub mod Scanning
+pub mod Slotting
+pub mod Building
