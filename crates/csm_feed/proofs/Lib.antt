@@ -1,0 +1,5 @@
+pub mod Spans
+pub mod Fronts
+pub mod Cutting
+pub mod Answering
+pub mod Pushing

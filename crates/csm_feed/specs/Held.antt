@@ -1,0 +1,17 @@
+-- What a feed holds (this project's profile).
+use Rattle.std.specs.Prelude.{◌≡◌, ◌≤◌, ◌<◌, ℕ, ◌+◌, ◌^◌, List, length, Option, Some}
+use Rattle.csm_grammar.specs.declared.refusal.ReadRefusal.{ReadRefusal}
+use Rattle.csm_feed.specs.Streams.{IsBegun, IsRefused}
+
+-- the bytes that are held, how many were pushed before them, and the refusal that was given
+pub record Feeding : Type 0 where
+  pub held : List ℕ
+  pub before : ℕ
+  pub refusal : Option ReadRefusal
+
+-- what a feed keeps
+pub record IsKept (f : Feeding) : Type 0 where
+  pub short : length f.held ≤ 1025
+  pub counted : f.before + length f.held < 2 ^ 64
+  pub begun : IsBegun f.held
+  pub refused : (r : ReadRefusal) → f.refusal ≡ Some r → IsRefused f.before f.held r

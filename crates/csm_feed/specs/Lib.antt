@@ -1,0 +1,4 @@
+pub mod Streams
+pub mod Held
+pub mod Feeding
+pub mod Laws

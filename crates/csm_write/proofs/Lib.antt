@@ -1,0 +1,6 @@
+pub mod Adding
+pub mod Hexadecimal
+pub mod Named
+pub mod Standing
+pub mod Codes
+pub mod Reading

@@ -1,0 +1,5 @@
+use Rattle.csm_write.proofs.Adding.{adds_then}
+use Rattle.csm_write.proofs.writer.Writer.ksm.Goals as goal
+
+pub returns : goal.returns
+returns c = adds_then _ _ _ _ _ _ c.in_ok-parties.ensures (adds_then _ _ _ _ _ _ c.in_ok-body.ensures c.extras.ensures)

@@ -1,0 +1,4 @@
+pub mod Canon
+pub mod Writable
+pub mod Writing
+pub mod Laws

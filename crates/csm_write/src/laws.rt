@@ -1,0 +1,19 @@
+// What is promised of every canonical text.
+ghost use Rattle.csm_write.specs.Laws.{CanonReadsBack, CanonRewrites};
+
+use csm_grammar::{law_one_answer, law_written_read};
+
+/// The canonical text of a writable message is read as this message, whatever follows.
+pub fn law_canon_reads_back()
+    ensures { CanonReadsBack }
+{
+    law_written_read();
+}
+
+/// What is read of the canonical text of a writable message has the same canonical text.
+pub fn law_canon_rewrites()
+    ensures { CanonRewrites }
+{
+    law_one_answer();
+    law_canon_reads_back();
+}

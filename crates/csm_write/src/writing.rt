@@ -1,0 +1,56 @@
+ghost use Rattle.std.specs.Prelude.{◌≡◌, IfOk, OnOk};
+ghost use Rattle.csm_write.specs.Canon.{shut_over, canon};
+ghost use Rattle.csm_write.specs.Writable.{Writable, AreTyped};
+ghost use Rattle.csm_write.specs.Laws.{ReadsBack, Rewrites};
+
+use crate::classes::class;
+use crate::closing::Closing;
+use crate::laws::{law_canon_reads_back, law_canon_rewrites};
+use crate::writer::Writer;
+use csm_grammar::{Message, Shut};
+use std::alloc::Global;
+use x_base::{NoMemory, Text};
+use x_mac::{edc, mac};
+
+/// The code that closes an authenticated text.
+fn shut(closing: &Closing, auth: &[u8]) -> Shut
+    ensures { result ≡ shut_over auth.now closing.now }
+{
+    match closing {
+        Closing::Mac(key) => Shut::Mac(mac(*key, auth)),
+        Closing::Edc => Shut::Edc(edc(auth)),
+        Closing::Stated(shut) => *shut,
+    }
+}
+
+/// The canonical text of a message.
+#[tactic(auto, using(crate::proofs::Reading::closing_typed))]
+fn written(alloc: Global, message: &Message, closing: &Closing) -> Result<Text, NoMemory>
+    ensures canonical { IfOk result (λ text. text ≡ canon message.now closing.now) }
+    ensures typed { OnOk result (AreTyped message.now closing.now) }
+{
+    let mut writer = Writer::new(alloc);
+    writer.push(b"CSM(")?;
+    writer.class(class(message))?;
+    writer.fields(message)?;
+    let shut = shut(closing, writer.bytes());
+    writer.code(shut)?;
+    writer.push(b")")?;
+    Ok(writer.into_text())
+}
+
+/// Writes the canonical text of a message: its fields in one fixed order with single blanks between
+/// them, hexadecimal digits in upper case, counts without leading zeros. The code that closes it is
+/// that of its own authenticated text, or the stated one.
+///
+/// Where the texts of the message are of their kinds, its form allows the code and the text has at
+/// most 1,024 bytes, what is read of the text is the message, whatever follows.
+pub fn write(alloc: Global, message: &Message, closing: &Closing) -> Result<Text, NoMemory>
+    ensures canonical { IfOk result (λ text. text ≡ canon message.now closing.now) }
+    ensures reads_back { Writable message.now closing.now → IfOk result (ReadsBack message.now closing.now) }
+    ensures rewrites { Writable message.now closing.now → IfOk result (Rewrites closing.now) }
+{
+    law_canon_reads_back();
+    law_canon_rewrites();
+    written(alloc, message, closing)
+}

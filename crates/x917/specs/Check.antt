@@ -1,0 +1,82 @@
+-- What `check` decides of an input, and what it writes: this project's profile.
+use Rattle.std.specs.Prelude.{◌≡◌, ◌++◌, ◌∷◌, ◌==◌, ℕ, Bool, true, List, [], take, Result, Ok, Err, Option, if◌then◌else◌}
+use Rattle.x_base.specs.Edge.{AppendsTo}
+use Rattle.x_base.specs.declared.verdict.Verdict.TheVariants.{BadEdc}
+use Rattle.x_mac.specs.Code.{edc_of}
+use Rattle.csm_grammar.specs.declared.parsed.Parsed.{Parsed}
+use Rattle.csm_grammar.specs.declared.parsed.Shut.{Shut}
+use Rattle.csm_grammar.specs.declared.parsed.Shut.TheVariants as shuts
+use Rattle.csm_grammar.specs.declared.refusal.ReadRefusal.TheVariants.{NoMemory}
+use Rattle.csm_write.specs.declared.closing.Closing.{Closing}
+use Rattle.csm_write.specs.declared.closing.Closing.TheVariants as closings
+use Rattle.csm_write.specs.Canon.{canon}
+use Rattle.x917.specs.declared.status.Refusal.{Refusal}
+use Rattle.x917.specs.declared.status.Refusal.TheVariants.{Text, Trailing, Decided}
+use Rattle.x917.specs.declared.status.Status.{Status}
+use Rattle.x917.specs.declared.status.Status.TheVariants.{Done, Refused}
+use Rattle.x917.specs.Transfer.{WrotePrefix}
+use Rattle.x917.specs.Heard.{behind, Heard}
+
+-- the bytes of an input that are taken
+abbrev pub taken : List ℕ → List ℕ
+taken input = take 2049 input
+
+-- the authenticated text of the message in the bytes, as it was received
+abbrev pub auth_text : List ℕ → Parsed → List ℕ
+auth_text bytes parsed = take parsed.auth_len (take parsed.len (behind bytes))
+
+-- an error detection code has to be that of the authenticated text; an authentication code, which has no key
+-- here, isn't verified
+abbrev pub is_right : List ℕ → Shut → Bool
+is_right auth (shuts.Edc code) = code == edc_of auth
+is_right auth (shuts.Mac code) = true
+
+-- what is decided of a message with this authenticated text
+abbrev pub judged : List ℕ → Parsed → Result Parsed Refusal
+judged auth parsed = if is_right auth parsed.shut then Ok parsed else Err (Decided BadEdc)
+
+-- what is decided of what was heard of the bytes
+abbrev pub decided_of : List ℕ → Result Parsed Refusal → Result Parsed Refusal
+decided_of bytes (Ok parsed) = judged (auth_text bytes parsed) parsed
+decided_of bytes (Err refusal) = Err refusal
+
+-- what is decided of an input: it follows from what is heard of the bytes that are taken
+pub record IsDecision (input : List ℕ) (decided : Result Parsed Refusal) : Type 0 where
+  pub arrival : Result Parsed Refusal
+  pub heard : Heard (taken input) arrival
+  pub follows : decided ≡ decided_of (taken input) arrival
+
+-- the refusals that can come, whatever the input
+abbrev pub IsPossible : Refusal → Type 0
+IsPossible (Text NoMemory) = ⊥
+IsPossible (Text refusal) = Unit {0}
+IsPossible (Trailing place) = Unit {0}
+IsPossible (Decided verdict) = verdict ≡ BadEdc
+
+-- the status of what was decided
+abbrev pub status_of : Result Parsed Refusal → Status
+status_of (Ok parsed) = Done
+status_of (Err refusal) = Refused refusal
+
+-- what closes the canonical text: a new error detection code, or the authentication code that came
+abbrev pub closing_of : Shut → Closing
+closing_of (shuts.Edc code) = closings.Edc
+closing_of (shuts.Mac code) = closings.Stated (shuts.Mac code)
+
+-- what is written: the canonical text of the message, and a line feed
+abbrev pub reply_of : Parsed → List ℕ
+reply_of parsed = canon parsed.message (closing_of parsed.shut) ++ 10 ∷ []
+
+-- the input was accepted, and this is the reply to it
+pub record IsReply (input reply : List ℕ) : Type 0 where
+  pub parsed : Parsed
+  pub accepted : IsDecision input (Ok parsed)
+  pub spelled : reply ≡ reply_of parsed
+
+-- the whole reply was written
+abbrev pub WroteReply : List ℕ → Option (List ℕ) → Option (List ℕ) → Type 0
+WroteReply input before after = (reply : List ℕ) × IsReply input reply × AppendsTo before after reply
+
+-- a prefix of the reply was written
+abbrev pub WroteSome : List ℕ → Option (List ℕ) → Option (List ℕ) → Type 0
+WroteSome input before after = (reply : List ℕ) × IsReply input reply × WrotePrefix before after reply

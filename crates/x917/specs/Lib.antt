@@ -1,0 +1,4 @@
+pub mod Transfer
+pub mod Heard
+pub mod Check
+pub mod Lines

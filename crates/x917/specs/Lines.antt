@@ -1,0 +1,66 @@
+-- The line and the exit code of a status: this project's profile.
+use Rattle.std.specs.Prelude.{◌++◌, ℕ, List, [], codes}
+use Rattle.std.specs.Fmt.{decimal}
+use Rattle.x_base.specs.Verdict.{number_of}
+use Rattle.x_base.specs.declared.verdict.Verdict.TheVariants.{CountLow}
+use Rattle.csm_grammar.specs.declared.refusal.ReadRefusal.{ReadRefusal}
+use Rattle.csm_grammar.specs.declared.refusal.ReadRefusal.TheVariants.{NotCsm, TooLong, Unended, BadTag, UnknownTag, Repeated, Missing, Unwanted, BadContents, Unsupported, NoMemory}
+use Rattle.x917.specs.declared.status.Refusal.{Refusal}
+use Rattle.x917.specs.declared.status.Refusal.TheVariants.{Text, Trailing, Decided}
+use Rattle.x917.specs.declared.status.UsageKind.TheVariants.{Line}
+use Rattle.x917.specs.declared.status.Status.{Status}
+use Rattle.x917.specs.declared.status.Status.TheVariants as status
+
+-- the number of a refusal to read, and its place; want of memory has neither
+abbrev pub read_number : ReadRefusal → ℕ
+read_number (NotCsm place) = 5
+read_number (TooLong place) = 6
+read_number (Unended place) = 7
+read_number (BadTag place) = 8
+read_number (UnknownTag place) = 9
+read_number (Repeated tag place) = 10
+read_number (Missing tag place) = 11
+read_number (Unwanted tag place) = 12
+read_number (BadContents tag place) = 13
+read_number (Unsupported tag place) = 14
+read_number NoMemory = 0
+
+abbrev pub read_place : ReadRefusal → ℕ
+read_place (NotCsm place) = place
+read_place (TooLong place) = place
+read_place (Unended place) = place
+read_place (BadTag place) = place
+read_place (UnknownTag place) = place
+read_place (Repeated tag place) = place
+read_place (Missing tag place) = place
+read_place (Unwanted tag place) = place
+read_place (BadContents tag place) = place
+read_place (Unsupported tag place) = place
+read_place NoMemory = 0
+
+-- the number, and the place or the expected count where there is one
+abbrev pub refusal_text : Refusal → List ℕ
+refusal_text (Text refusal) = decimal (read_number refusal) ++ (codes " at " ++ decimal (read_place refusal))
+refusal_text (Trailing place) = codes "38 at " ++ decimal place
+refusal_text (Decided (CountLow expected)) = codes "30 expected " ++ decimal expected
+refusal_text (Decided verdict) = decimal (number_of verdict)
+
+-- the line, which ends with a line feed; `Done` has none. A refusal to read for want of memory, which no run
+-- answers, is told as want of memory
+abbrev pub line_of : Status → List ℕ
+line_of status.Done = []
+line_of (status.Refused (Text NoMemory)) = codes "x917: no memory\n"
+line_of (status.Refused refusal) = codes "x917: refused " ++ (refusal_text refusal ++ codes "\n")
+line_of (status.Usage Line) = codes "x917: usage 1\n"
+line_of status.ReadFault = codes "x917: read fault\n"
+line_of status.WriteFault = codes "x917: write fault\n"
+line_of status.NoMemory = codes "x917: no memory\n"
+
+abbrev pub exit_code_of : Status → ℕ
+exit_code_of status.Done = 0
+exit_code_of (status.Refused (Text NoMemory)) = 9
+exit_code_of (status.Refused refusal) = 1
+exit_code_of (status.Usage kind) = 2
+exit_code_of status.ReadFault = 3
+exit_code_of status.WriteFault = 4
+exit_code_of status.NoMemory = 9

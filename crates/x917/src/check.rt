@@ -1,0 +1,72 @@
+// What `check` decides of an input, and the text that it writes.
+ghost use Rattle.std.specs.Prelude.{◌≡◌, ◌≤◌, length, take, Result, IfOk, IfErr};
+ghost use Rattle.csm_grammar.specs.declared.parsed.Parsed.{Parsed};
+ghost use Rattle.x917.specs.declared.status.Refusal.{Refusal};
+ghost use Rattle.x917.specs.Heard.{readings};
+ghost use Rattle.x917.specs.Check.{is_right, judged, IsDecision, IsPossible, closing_of, reply_of};
+
+use crate::hear::hear;
+use crate::status::Refusal;
+use crate::transfer::LIMIT;
+use csm_grammar::{Arrival, Parsed, Shut, law_one_answer};
+use csm_write::{Closing, write};
+use std::alloc::Global;
+use x_base::{NoMemory, Text, Verdict};
+use x_mac::edc;
+
+/// Whether no error detection code other than that of the authenticated text closes it.
+fn is_right(auth: &[u8], shut: Shut) -> bool
+    ensures { result ≡ is_right auth.now shut }
+{
+    match shut {
+        Shut::Edc(code) => code == edc(auth),
+        Shut::Mac(_) => true,
+    }
+}
+
+/// What is decided of a message as it was received.
+fn judged(arrival: Arrival) -> Result<Parsed, Refusal>
+    ensures { result ≡ judged (take arrival.parsed.auth_len arrival.text) arrival.parsed }
+{
+    if is_right(arrival.auth(), arrival.parsed.shut) {
+        Ok(arrival.parsed)
+    } else {
+        Err(Refusal::Decided(Verdict::BadEdc))
+    }
+}
+
+/// What is decided of the input.
+#[tactic(auto, using(crate::proofs::Decisions::judged_is, crate::proofs::Decisions::refused_is, crate::proofs::Decisions::decided_once, crate::proofs::Decisions::judged_possible))]
+pub fn judge(alloc: Global, input: &[u8]) -> Result<Result<Parsed, Refusal>, NoMemory>
+    requires { length input.now ≤ LIMIT }
+    ensures decides { IfOk result (λ decided. IsDecision input.now decided) }
+    ensures possible { IfOk result (λ decided. IfErr decided IsPossible) }
+    ensures only { IfOk result (λ decided. (other : Result Parsed Refusal) → IsDecision input.now other → decided ≡ other) }
+{
+    law_one_answer();
+    let arrival = match hear(alloc, input)? {
+        Ok(arrival) => arrival,
+        Err(refusal) => return Ok(Err(refusal)),
+    };
+    Ok(judged(arrival))
+}
+
+/// What closes the canonical text: a new error detection code, or the authentication code that came.
+fn closing_of(shut: Shut) -> Closing
+    ensures { result ≡ closing_of shut }
+{
+    match shut {
+        Shut::Edc(_) => Closing::Edc,
+        Shut::Mac(_) => Closing::Stated(shut),
+    }
+}
+
+/// The canonical text of the message, and a line feed.
+pub fn reply(alloc: Global, parsed: &Parsed) -> Result<Text, NoMemory>
+    ensures { IfOk result (λ text. text ≡ reply_of parsed.now) }
+{
+    let closing = closing_of(parsed.shut);
+    let mut text = write(alloc, &parsed.message, &closing)?;
+    text.push(b"\n")?;
+    Ok(text)
+}

@@ -1,0 +1,138 @@
+// How a run ended, and how that is told.
+ghost use Rattle.std.specs.Prelude.{◌≡◌, IfOk, string_bytes};
+ghost use Rattle.x917.specs.Lines.{read_number, read_place, refusal_text, line_of, exit_code_of};
+
+use csm_grammar::ReadRefusal;
+use std::alloc::{AllocError, Global};
+use x_base::{NoMemory, Text, Verdict};
+
+/// Why an input was refused.
+#[derive(Clone, Copy, Debug, PartialEq, Eq)]
+pub enum Refusal {
+    /// It was not read as a message. Never with the `NoMemory` of `ReadRefusal`.
+    Text(ReadRefusal),
+    /// Behind the message a byte stands that isn't taken, at this place.
+    Trailing(u64),
+    /// It is a message that isn't accepted.
+    Decided(Verdict),
+}
+
+/// What is wrong with the words of the command.
+#[derive(Clone, Copy, Debug, PartialEq, Eq)]
+pub enum UsageKind {
+    /// They are no command line.
+    Line,
+}
+
+/// How a run ended.
+#[derive(Clone, Copy, Debug, PartialEq, Eq)]
+pub enum Status {
+    Done,
+    Refused(Refusal),
+    Usage(UsageKind),
+    /// The source of the input failed.
+    ReadFault,
+    /// The sink of the output failed.
+    WriteFault,
+    NoMemory,
+}
+
+/// The number of a refusal to read.
+fn read_number(refusal: &ReadRefusal) -> u32
+    ensures { result ≡ read_number refusal.now }
+{
+    match refusal {
+        ReadRefusal::NotCsm(_) => 5,
+        ReadRefusal::TooLong(_) => 6,
+        ReadRefusal::Unended(_) => 7,
+        ReadRefusal::BadTag(_) => 8,
+        ReadRefusal::UnknownTag(_) => 9,
+        ReadRefusal::Repeated(_, _) => 10,
+        ReadRefusal::Missing(_, _) => 11,
+        ReadRefusal::Unwanted(_, _) => 12,
+        ReadRefusal::BadContents(_, _) => 13,
+        ReadRefusal::Unsupported(_, _) => 14,
+        ReadRefusal::NoMemory => 0,
+    }
+}
+
+/// The place of a refusal to read.
+fn read_place(refusal: &ReadRefusal) -> u64
+    ensures { result ≡ read_place refusal.now }
+{
+    match refusal {
+        ReadRefusal::NotCsm(place)
+        | ReadRefusal::TooLong(place)
+        | ReadRefusal::Unended(place)
+        | ReadRefusal::BadTag(place)
+        | ReadRefusal::UnknownTag(place)
+        | ReadRefusal::Repeated(_, place)
+        | ReadRefusal::Missing(_, place)
+        | ReadRefusal::Unwanted(_, place)
+        | ReadRefusal::BadContents(_, place)
+        | ReadRefusal::Unsupported(_, place) => *place,
+        ReadRefusal::NoMemory => 0,
+    }
+}
+
+/// The number of a refusal, and its place or the expected count, where it has one.
+fn refusal_text(alloc: Global, refusal: &Refusal) -> Result<String, AllocError>
+    ensures { IfOk result (λ s. string_bytes s ≡ refusal_text refusal.now) }
+{
+    match refusal {
+        Refusal::Text(refusal) => {
+            let number = read_number(refusal);
+            let place = read_place(refusal);
+            format!(in alloc; "{number} at {place}")
+        }
+        Refusal::Trailing(place) => format!(in alloc; "38 at {place}"),
+        Refusal::Decided(Verdict::CountLow(expected)) => {
+            format!(in alloc; "30 expected {expected}")
+        }
+        Refusal::Decided(verdict) => {
+            let number = verdict.number();
+            format!(in alloc; "{number}")
+        }
+    }
+}
+
+fn refusal_line(alloc: Global, refusal: &Refusal) -> Result<String, AllocError>
+    ensures { IfOk result (λ s. string_bytes s ≡ line_of (Status.Refused refusal.now)) }
+{
+    if let Refusal::Text(ReadRefusal::NoMemory) = refusal {
+        return format!(in alloc; "x917: no memory\n");
+    }
+    let text = refusal_text(alloc, refusal)?;
+    format!(in alloc; "x917: refused {text}\n")
+}
+
+/// The line of a status for standard error, with its line feed; empty at `Done`.
+pub fn status_line(alloc: Global, status: &Status) -> Result<Text, NoMemory>
+    ensures { IfOk result (λ line. line ≡ line_of status.now) }
+{
+    let mut line = Text::new(alloc);
+    match status {
+        Status::Done => {}
+        Status::Refused(refusal) => line.push(refusal_line(alloc, refusal)?.as_bytes())?,
+        Status::Usage(UsageKind::Line) => line.push(b"x917: usage 1\n")?,
+        Status::ReadFault => line.push(b"x917: read fault\n")?,
+        Status::WriteFault => line.push(b"x917: write fault\n")?,
+        Status::NoMemory => line.push(b"x917: no memory\n")?,
+    }
+    Ok(line)
+}
+
+/// The exit code of a status.
+pub fn exit_code(status: &Status) -> u8
+    ensures { result ≡ exit_code_of status.now }
+{
+    match status {
+        Status::Done => 0,
+        Status::Refused(Refusal::Text(ReadRefusal::NoMemory)) => 9,
+        Status::Refused(_) => 1,
+        Status::Usage(_) => 2,
+        Status::ReadFault => 3,
+        Status::WriteFault => 4,
+        Status::NoMemory => 9,
+    }
+}
