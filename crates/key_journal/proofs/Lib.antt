@@ -1,0 +1,6 @@
+mod ImageLemmas
+mod MakeLemmas
+mod OpenLemmas
+mod ReadLemmas
+mod SameLemmas
+mod StepLemmas

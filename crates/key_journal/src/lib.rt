@@ -1,0 +1,24 @@
+//! A journal of bodies on a disk, each of which is on the disk before it counts.
+#![tactic(auto)]
+
+mod blank;
+mod broken;
+mod cause;
+mod frame_text;
+mod header;
+mod judge;
+mod laws;
+mod opened;
+mod put;
+mod reader;
+mod ready;
+#[cfg(test)]
+mod tests;
+
+pub use blank::{Blank, prepare};
+pub use broken::Broken;
+pub use cause::{Cause, Unmade};
+pub use frame_text::frame;
+pub use laws::law_one_list;
+pub use opened::{Opened, open_disk};
+pub use ready::{Ready, Staged};

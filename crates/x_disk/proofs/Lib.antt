@@ -1,0 +1,5 @@
+mod Clauses
+mod ImageLemmas
+mod RecordLemmas
+pub mod Runs
+mod SlotLemmas

@@ -1,0 +1,45 @@
+use Rattle.std.proofs.Common.{◌≡◌, ℕ, suc, List, [], ◌∷◌, ◌++◌, length, ◌∙◌, ap, subst, sym, arith}
+use Rattle.x_disk.specs.History.{Step, Write, History, and_then, IsReserved}
+use Rattle.x_disk.specs.Record.{steps_of, Represents}
+use Rattle.x_disk.specs.declared.torn.Entry.{Entry}
+use Rattle.x_disk.specs.declared.torn.Entry.TheVariants as E
+use Rattle.x_disk.proofs.RecordLemmas.{steps-push, represents_write, length-steps, bytes-steps}
+use Rattle.x_disk.proofs.torn.TornDisk.add_write.Goals as goal
+
+pub returns-in_err-reserve-clause-covered : goal.returns-in_err-reserve-clause-covered
+returns-in_err-reserve-clause-covered c = λ end n calls covers le small.
+    let there = subst (λ h. IsReserved h end n (suc calls)) (sym c.self.view_is) covers in
+    absurd (omega (arith, there.counts, c.self.invariant.1.for_entries, c.in_err-reserve.ensures.full, length-steps c.self.inside.entries.items c.self.inside.payload.items))
+
+pub returns-in_err-reserve-2-clause-covered : goal.returns-in_err-reserve-2-clause-covered
+returns-in_err-reserve-2-clause-covered c = λ end n calls covers le small.
+    let there = subst (λ h. IsReserved h end n (suc calls)) (sym c.self.view_is) covers in
+    absurd (omega (arith, there.records, small, c.self.invariant.1.for_payload, c.in_err-reserve-2.ensures.full, bytes-steps c.self.inside.entries.items c.self.inside.payload.items c.self.invariant.0.size))
+
+pub invariant_of-self-2 : goal.invariant_of-self-2
+invariant_of-self-2 c =
+    let i = c.self.inside in
+    let entry = E.Write c.args.at (length c.args.bytes.now) in
+    let kept = represents_write i.bytes.items i.stable.items i.clean i.entries.items i.payload.items i.first c.args.at c.args.bytes.now c.min-self-inside.result c.min-self-inside.ensures c.self.invariant.0 in
+    let written = subst (λ (l : List ℕ). Represents l i.stable.items c.min-self-inside.result (i.entries.items ++ entry ∷ []) (i.payload.items ++ c.args.bytes.now) i.first) (sym c.in_ok-write_over.ensures.ok) kept in
+    let pushed = subst (λ (l : List Entry). Represents c.write_over.new.bytes.items i.stable.items c.min-self-inside.result l (i.payload.items ++ c.args.bytes.now) i.first) (sym (c.in_ok-push.ensures.items ∙ ap (λ (l : List Entry). l ++ entry ∷ []) c.reserve.ensures.items)) written in
+    let all = subst (λ (l : List ℕ). Represents c.write_over.new.bytes.items i.stable.items c.min-self-inside.result c.push.new.self.items l i.first) (sym (c.in_ok-extend_from_slice.ensures.items ∙ ap (λ (l : List ℕ). l ++ c.args.bytes.now) c.reserve-2.ensures.items)) pushed in (
+      all,
+      record {
+        for_bytes = omega (arith, c.self.invariant.1.for_bytes, c.write_over.ensures.capacity);
+        for_stable = c.self.invariant.1.for_stable;
+        for_payload = omega (arith, c.self.invariant.1.for_payload, c.reserve-2.ensures.capacity, c.extend_from_slice.ensures.capacity);
+        for_entries = omega (arith, c.self.invariant.1.for_entries, c.reserve.ensures.capacity, c.push.ensures.capacity);
+      },
+    )
+
+pub returns-clause-ok : goal.returns-clause-ok
+returns-clause-ok c =
+    let i = c.self.inside in
+    let entry = E.Write c.args.at (length c.args.bytes.now) in
+    let entries = c.in_ok-push.ensures.items ∙ ap (λ (l : List Entry). l ++ entry ∷ []) c.reserve.ensures.items in
+    let payload = c.in_ok-extend_from_slice.ensures.items ∙ ap (λ (l : List ℕ). l ++ c.args.bytes.now) c.reserve-2.ensures.items in
+    let steps : steps_of c.push.new.self.items c.extend_from_slice.new.self.items ≡ steps_of i.entries.items i.payload.items ++ Write c.args.at c.args.bytes.now ∷ [] =
+    ap (λ (l : List Entry). steps_of l c.extend_from_slice.new.self.items) entries ∙ ap (λ (l : List ℕ). steps_of (i.entries.items ++ entry ∷ []) l) payload
+    ∙ steps-push i.entries.items i.payload.items c.args.at c.args.bytes.now c.self.invariant.0.size in
+    ap (λ (l : List Step). let h : History = record { room = i.room; steps = l } in h) steps ∙ ap (λ (h : History). and_then h (Write c.args.at c.args.bytes.now)) c.self.view_is

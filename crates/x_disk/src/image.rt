@@ -1,0 +1,129 @@
+// The bytes of a disk in memory: how they are written over, copied and torn.
+ghost use Rattle.std.specs.Prelude.{◌≡◌, ◌+◌, ◌≤◌, ◌-◌, ◌++◌, max, length, take, drop, replicate, OnOk, OnErr, IsOk};
+ghost use Rattle.std.specs.Vec.{vec_capacity};
+ghost use Rattle.x_disk.specs.Disk.{overwrite};
+ghost use Rattle.x_disk.specs.History.{State, covers_place, torn_byte, torn_or, torn_from, left_by};
+ghost use Rattle.x_disk.specs.Record.{ranges_of};
+
+use crate::torn::Entry;
+use std::alloc::AllocError;
+
+// Fills it up with zeros to this length, if it is shorter.
+fn fill_up(bytes: &mut Vec<u8>, len: usize) -> Result<(), AllocError>
+    ensures ok { OnOk result (bytes.new.items ≡ bytes.old.items ++ replicate (len - length bytes.old.items) 0) }
+    ensures err { OnErr result (bytes.new.items ≡ bytes.old.items) }
+    ensures capacity { vec_capacity bytes.old ≤ vec_capacity bytes.new }
+    ensures succeeds { max (length bytes.old.items) len ≤ vec_capacity bytes.old → IsOk result }
+{
+    if bytes.len() < len {
+        bytes.resize(len, 0)?;
+    }
+    Ok(())
+}
+
+// Writes over what is there.
+fn paste(bytes: &mut [u8], at: usize, new: &[u8])
+    requires { at + length new.now ≤ length bytes.old }
+    ensures { bytes.new ≡ take at bytes.old ++ new.now ++ drop (at + length new.now) bytes.old }
+{
+    bytes[at..at + new.len()].copy_from_slice(new);
+}
+
+/// Writes over what is there and past the end.
+pub(crate) fn write_over(bytes: &mut Vec<u8>, at: usize, new: &[u8]) -> Result<(), AllocError>
+    requires { at + length new.now ≤ 16777216 }
+    ensures ok { OnOk result (bytes.new.items ≡ overwrite at new.now bytes.old.items) }
+    ensures err { OnErr result (bytes.new.items ≡ bytes.old.items) }
+    ensures capacity { vec_capacity bytes.old ≤ vec_capacity bytes.new }
+    ensures succeeds { max (length bytes.old.items) (at + length new.now) ≤ vec_capacity bytes.old → IsOk result }
+{
+    fill_up(bytes, at + new.len())?;
+    paste(bytes, at, new);
+    Ok(())
+}
+
+/// Makes it equal to bytes with which it agrees below this place.
+pub(crate) fn copy_from(to: &mut Vec<u8>, from: &[u8], place: usize) -> Result<(), AllocError>
+    requires from { place ≤ length from.now }
+    requires to { place ≤ length to.old.items }
+    requires same { take place to.old.items ≡ take place from.now }
+    ensures ok { OnOk result (to.new.items ≡ from.now) }
+    ensures err { OnErr result (to.new.items ≡ to.old.items) }
+    ensures capacity { vec_capacity to.old ≤ vec_capacity to.new }
+    ensures succeeds { length from.now ≤ vec_capacity to.old → IsOk result }
+{
+    to.resize(from.len(), 0)?;
+    paste(to, place, &from[place..]);
+    Ok(())
+}
+
+// Whether one of these writes has this place in its range.
+fn is_pending(entries: &[Entry], place: u64) -> bool
+    ensures { result ≡ covers_place (ranges_of entries.now) place }
+{
+    let mut rest = entries;
+    while let [entry, after @ ..] = rest {
+        if let Entry::Write { at, len } = *entry
+            && at <= place
+            && place - at < len
+        {
+            return true;
+        }
+        rest = after;
+    }
+    false
+}
+
+// The byte that a torn place holds.
+fn byte_at(choice: u64, place: u64) -> u8
+    ensures { result ≡ torn_byte choice place }
+{
+    (place.wrapping_mul(choice).wrapping_add(choice >> 8) % 256) as u8
+}
+
+// The byte that stands at a place after the power went.
+fn torn_at(old: u8, entries: &[Entry], stable: usize, choice: u64, place: usize) -> u8
+    ensures { result ≡ torn_or choice (ranges_of entries.now) stable place old }
+{
+    if is_pending(entries, place as u64) || stable <= place {
+        byte_at(choice, place as u64)
+    } else {
+        old
+    }
+}
+
+// Tears what is pending.
+fn tear(image: &mut [u8], entries: &[Entry], stable: usize, choice: u64)
+    ensures { image.new ≡ torn_from choice (ranges_of entries.now) stable 0 image.old }
+{
+    for place in 0..image.len() {
+        image[place] = torn_at(image[place], entries, stable, choice, place);
+    }
+}
+
+/// Makes both what a read gives and the image of the last sync the image that a power-off leaves.
+pub(crate) fn settle(
+    bytes: &mut Vec<u8>,
+    stable: &mut Vec<u8>,
+    entries: &[Entry],
+    choice: u64,
+) -> Result<(), AllocError>
+    ensures bytes { OnOk result (bytes.new.items ≡ left_by choice (record { now = bytes.old.items; stable = stable.old.items; pending = ranges_of entries.now })) }
+    ensures stable { OnOk result (stable.new.items ≡ left_by choice (record { now = bytes.old.items; stable = stable.old.items; pending = ranges_of entries.now })) }
+    ensures err { OnErr result ((bytes.new.items ≡ bytes.old.items) × (stable.new.items ≡ stable.old.items)) }
+    ensures capacity { vec_capacity bytes.old ≤ vec_capacity bytes.new }
+    ensures capacity_stable { vec_capacity stable.old ≤ vec_capacity stable.new }
+{
+    if choice == 0 {
+        copy_from(bytes, stable, 0)?;
+        return Ok(());
+    }
+    let settled = stable.len();
+    copy_from(stable, bytes, 0)?;
+    if choice == 1 {
+        return Ok(());
+    }
+    tear(stable, entries, settled, choice);
+    tear(bytes, entries, settled, choice);
+    Ok(())
+}

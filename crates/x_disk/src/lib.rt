@@ -1,0 +1,22 @@
+//! Disks as a journal sees them, and shelves of disks: what a read gives, and what a crash may leave.
+#![tactic(auto)]
+
+mod disk;
+mod files;
+mod folder_shelf;
+mod fused;
+mod image;
+mod memory_shelf;
+mod shelf;
+mod slot;
+#[cfg(test)]
+mod tests;
+mod torn;
+
+pub use disk::{Disk, DiskErr};
+pub use files::FileDisk;
+pub use folder_shelf::FolderShelf;
+pub use fused::Fused;
+pub use memory_shelf::MemoryShelf;
+pub use shelf::Shelf;
+pub use torn::TornDisk;
