@@ -13,10 +13,9 @@ use Rattle.std.proofs.lemmas.List.Elements.{All-nil, All-cons}
 use Rattle.std.proofs.lemmas.List.Splits.{slice_split_at, slice_split_none}
 use Rattle.x_base.specs.Names.{is_name, is_name_byte}
 use Rattle.x_base.specs.Count.{IsCount, SpellsCount}
-use Rattle.x_base.specs.KeyName.{NameOf, written}
+use Rattle.x_base.specs.KeyName.{NameOf, written, IsKeyName}
 use Rattle.x_base.specs.declared.key_name.KeyName.{KeyName}
 use Rattle.csm_grammar.specs.Values.{is_count, name_of, name_of_parts, Denotes, AName, ANumber, OfName, OfCount}
-use Rattle.csm_write.specs.Writable.{IsName}
 
 abbrev digit_test : ℕ → Bool
 digit_test b = nat_lt (digit_value b) 10
@@ -63,7 +62,7 @@ no_period p (x ∷ xs) h t =
 name_whole : (low : ℕ) (xs : List ℕ) → is_name low 16 xs ≡ true → All (λ b. is_period b ≡ false) xs
 name_whole low xs h = no_period is_name_byte xs refl (and_parts (nat_le low (length xs) && nat_le (length xs) 16) (list_all is_name_byte xs) h).1
 
-pub name_stands : (n : KeyName) → IsName n → Denotes OfName (written n) (AName n)
+pub name_stands : (n : KeyName) → IsKeyName n → Denotes OfName (written n) (AName n)
 name_stands n h =
     let k = counted n.count h.count in
     let d = decimal n.count in
@@ -78,7 +77,7 @@ name_stands n h =
     rw named refl
 
 -- a name that is spelled has the parts of a name
-pub name_from : (b : List ℕ) (n : KeyName) → NameOf b n → IsName n
+pub name_from : (b : List ℕ) (n : KeyName) → NameOf b n → IsKeyName n
 name_from b n h =
     let ds = h.digits in
     let short : length ds ≤ 14 = h.count.short in

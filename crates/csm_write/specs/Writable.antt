@@ -3,7 +3,7 @@ use Rattle.std.specs.Prelude.{◌≡◌, ℕ, ◌<◌, ◌≤◌, ◌^◌, true,
 use Rattle.std.specs.List.{All}
 use Rattle.x_base.specs.Names.{IsIdent, IsLabel}
 use Rattle.x_base.specs.Count.{IsCount}
-use Rattle.x_base.specs.declared.key_name.KeyName.{KeyName}
+use Rattle.x_base.specs.KeyName.{IsKeyName}
 use Rattle.csm_grammar.specs.declared.message.Message.{Message}
 use Rattle.csm_grammar.specs.Classes.{allows}
 use Rattle.csm_grammar.specs.Values.{Value, AText, AName, AService, ANumber, APair, Kind, OfIdent, OfService, OfName, OfLabel, OfPair, OfKey, OfCount, OfReason, OfText, OfCode, kind_of, Denotes}
@@ -24,17 +24,11 @@ pub record Writable (m : Message) (c : Closing) : Type 0 where
   pub allowed : allows (form_of m) (shut_field (shut_of m c)).tag ≡ true
   pub short : length (canon m c) ≤ 1024
 
-pub record IsName (n : KeyName) : Type 0 where
-  pub issuer : IsIdent n.issuer
-  pub originator : IsIdent n.originator
-  pub label : IsLabel n.label
-  pub count : IsCount n.count
-
 -- the values that the type of a field holds
 abbrev pub IsTyped : Kind → Value → Type 0
 IsTyped OfIdent (AText bytes) = IsIdent bytes
 IsTyped OfService (AService service) = Unit {0}
-IsTyped OfName (AName name) = IsName name
+IsTyped OfName (AName name) = IsKeyName name
 IsTyped OfLabel (AText bytes) = IsLabel bytes
 IsTyped OfPair (APair left right) = (left < 2 ^ 64) × (right < 2 ^ 64)
 IsTyped OfKey (ANumber key) = key < 2 ^ 64

@@ -8,7 +8,8 @@ ghost use Rattle.csm_grammar.specs.Values.Kind.{OfIdent, OfName, OfLabel, OfKey,
 ghost use Rattle.csm_grammar.specs.Messages.{valued, shut_field, if_any};
 ghost use Rattle.csm_grammar.specs.Spelling.{Field, field_text};
 ghost use Rattle.csm_write.specs.Canon.{field_for, key_digits, code_digits};
-ghost use Rattle.csm_write.specs.Writable.{IsName, IsTypedField};
+ghost use Rattle.csm_write.specs.Writable.{IsTypedField};
+ghost use Rattle.x_base.specs.KeyName.{IsKeyName};
 ghost use Rattle.csm_write.specs.Writing.{Adds};
 
 use csm_grammar::{Service, Shut, Tag};
@@ -120,7 +121,7 @@ impl Writer {
 
     fn name_text(&mut self, name: &KeyName) -> Result<(), NoMemory>
         ensures text { OnOk result (self.new ≡ self.old ++ written name.now) }
-        ensures name { IsName name.now }
+        ensures name { IsKeyName name.now }
     {
         name.write(&mut self.text)
     }

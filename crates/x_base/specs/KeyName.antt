@@ -7,8 +7,15 @@ use Rattle.std.specs.Str.Parse.{digits_value}
 use Rattle.x_base.specs.declared.key_name.KeyName.{KeyName}
 use Rattle.x_base.specs.declared.key_name.NameFault.{NameFault}
 use Rattle.x_base.specs.declared.key_name.NameFault.TheVariants.{BadIdent, BadLabel, BadCount}
-use Rattle.x_base.specs.Count.{SpellsCount}
+use Rattle.x_base.specs.Count.{IsCount, SpellsCount}
 use Rattle.x_base.specs.Names.{IsIdent, IsLabel}
+
+-- each part of the name is in its form
+pub record IsKeyName (name : KeyName) : Type 0 where
+  pub issuer : IsIdent name.issuer
+  pub originator : IsIdent name.originator
+  pub label : IsLabel name.label
+  pub count : IsCount name.count
 
 -- these bytes spell this key name: issuer, originator, label and the digits of the count, with a
 -- period between each two
