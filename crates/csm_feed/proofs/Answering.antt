@@ -12,7 +12,8 @@ use Rattle.csm_grammar.specs.Reading.{IsRead, IsArrival}
 use Rattle.csm_grammar.specs.Laws.{OneAnswer, FaultEnds}
 use Rattle.csm_feed.specs.declared.next.Next.{Next}
 use Rattle.csm_feed.specs.declared.next.Next.TheVariants.{Message, NotYet, Refused, NoMemory}
-use Rattle.csm_feed.specs.Streams.{Leads, IsWaiting, IsRefused, EndsWith, Holds, moved}
+use Rattle.csm_grammar.specs.Places.{moved}
+use Rattle.csm_feed.specs.Streams.{Leads, IsWaiting, IsRefused, EndsWith, Holds}
 use Rattle.csm_feed.specs.Held.{Feeding, IsKept}
 use Rattle.csm_feed.specs.Feeding.{with_refusal, Hands, Answers, ComesAs, Fed, HandsOut, Exhausts}
 use Rattle.csm_feed.proofs.Fronts.{one_parsed}

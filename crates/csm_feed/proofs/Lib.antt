@@ -1,5 +1,6 @@
 pub mod Spans
 pub mod Fronts
 pub mod Cutting
+pub mod Waiting
 pub mod Answering
 pub mod Pushing

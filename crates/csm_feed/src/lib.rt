@@ -3,7 +3,6 @@
 
 mod feed;
 mod laws;
-mod moving;
 mod next;
 mod separators;
 #[cfg(test)]
