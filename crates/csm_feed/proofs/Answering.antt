@@ -151,7 +151,7 @@ exhausts old new answer kept h = record {
   refusing : (r : ReadRefusal) → answer ≡ Refused r → IsRefused old.before old.held r
   refusing r e = (subst (λ (x : Next). Answers old x new) e h).0
 
-moved_other : (n : ℕ) (r : ReadRefusal) → r ≢ refusal.NoMemory → moved n r ≢ refusal.NoMemory
+pub moved_other : (n : ℕ) (r : ReadRefusal) → r ≢ refusal.NoMemory → moved n r ≢ refusal.NoMemory
 moved_other n (refusal.NotCsm m) h = λ e. cc
 moved_other n (refusal.TooLong m) h = λ e. cc
 moved_other n (refusal.Unended m) h = λ e. cc

@@ -4,3 +4,4 @@ pub mod Cutting
 pub mod Waiting
 pub mod Answering
 pub mod Pushing
+pub mod Inputs

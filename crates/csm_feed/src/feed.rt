@@ -27,7 +27,7 @@ pub const HELD: usize = 1025;
 #[derive(Drop)]
 pub struct Feed {
     held: Vec<u8>,
-    // how many of the bytes held are known not to be a whole message yet
+    // so many of the bytes held are known to be only not ended
     unended: usize,
     before: u64,
     refusal: Option<ReadRefusal>,
