@@ -1,3 +1,4 @@
+mod DamageLemmas
 mod ImageLemmas
 mod MakeLemmas
 mod OpenLemmas
