@@ -5,3 +5,4 @@ mod OpenLemmas
 mod ReadLemmas
 mod SameLemmas
 mod StepLemmas
+mod SwitchLemmas

@@ -1,6 +1,7 @@
 //! A journal of bodies on a disk, each of which is on the disk before it counts.
 #![tactic(auto)]
 
+mod area;
 mod blank;
 mod broken;
 mod cause;

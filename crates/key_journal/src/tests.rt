@@ -1,6 +1,6 @@
 ghost use Rattle.std.specs.Prelude.{◌≤◌, length};
 
-use crate::{Broken, Cause, frame, open_disk, prepare};
+use crate::{Broken, Cause, Ready, frame, open_disk, prepare};
 use std::alloc::{AllocError, Global};
 use std::test::Fail;
 use x_disk::{Disk, DiskErr, TornDisk};
@@ -175,5 +175,74 @@ fn a_long_body_is_read_back(rt: HostRuntime) -> Result<(), Fail> {
     let text = opened.next(rt.alloc());
     assert!(rt; matches!(&text, Ok(Some(read)) if read.bytes() == &long[..]));
     assert!(rt; matches!(opened.next(rt.alloc()), Ok(None)));
+    Ok(())
+}
+
+// The journal of the bodies 7 and 8 9, at rest.
+fn at_rest(alloc: Global) -> Result<Ready<TornDisk>, Cause> {
+    let mut disk = TornDisk::new(alloc, 64).map_err(|_| Cause::NoMemory)?;
+    disk.write_at(0, &IMAGE)?;
+    let mut opened = match open_disk(disk) {
+        Ok(opened) => opened,
+        Err(unmade) => return Err(unmade.cause),
+    };
+    let _ = opened.next(alloc)?;
+    let _ = opened.next(alloc)?;
+    match opened.next(alloc)? {
+        None => Ok(opened.ready()),
+        Some(_) => Err(Cause::NotEmpty),
+    }
+}
+
+// The first body that stands where so many calls of a switch to the body 5 passed before the power went.
+fn first_after(alloc: Global, calls: u64, choice: u64) -> Result<Option<u8>, Cause> {
+    let Ok(text) = frame(alloc, &[5]) else {
+        return Err(Cause::NoMemory);
+    };
+    let fused = match at_rest(alloc)?.fuse(calls).switch(text.bytes()) {
+        Ok(ready) => ready.into_disk(),
+        Err(broken) => broken.give_up().disk,
+    };
+    let mut disk = fused.into_inner();
+    disk.power_off(choice)?;
+    let mut opened = match open_disk(disk) {
+        Ok(opened) => opened,
+        Err(unmade) => return Err(unmade.cause),
+    };
+    match opened.next(alloc)? {
+        Some(body) => Ok(body.bytes().first().copied()),
+        None => Ok(None),
+    }
+}
+
+#[test]
+fn a_switch_leaves_the_old_bodies_or_the_new(rt: HostRuntime) -> Result<(), Fail> {
+    for (calls, choice, first) in [
+        (2, 1, 7),
+        (3, 0, 7),
+        (3, 1, 5),
+        (4, 0, 7),
+        (4, 1, 5),
+        (5, 0, 5),
+    ] {
+        assert_eq!(rt;
+            first_after(rt.alloc(), calls, choice),
+            Ok(Some(first)),
+            "after {calls} calls with {choice}"
+        );
+    }
+    Ok(())
+}
+
+#[test]
+fn a_switch_leaves_a_room_that_is_known(rt: HostRuntime) -> Result<(), Fail> {
+    let Ok(ready) = at_rest(rt.alloc()) else {
+        return Ok(assert!(rt; false));
+    };
+    let Ok(ready) = ready.switch(frame(rt.alloc(), &[5])?.bytes()) else {
+        return Ok(assert!(rt; false));
+    };
+    assert!(rt; ready.fits(8_388_593));
+    assert!(rt; !ready.fits(8_388_594));
     Ok(())
 }
