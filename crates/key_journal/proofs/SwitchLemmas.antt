@@ -1,15 +1,15 @@
 -- What images a journal passes through while its other area is written and then selected.
-use Rattle.std.proofs.Common.{◌≡◌, ◌⊎◌, inl, inr, ℕ, zero, suc, ◌+◌, ◌-◌, ◌≤◌, ◌<◌, ◌==◌, if◌then◌else◌, List, [], ◌∷◌, ◌++◌, length, get_or, take, drop, replicate, Option, Some, is_some, refl, sym, ◌∙◌, ap, subst, arith, append_assoc, length-append, length-drop}
+use Rattle.std.proofs.Common.{◌≡◌, ◌⊎◌, inl, inr, ℕ, zero, suc, ◌+◌, ◌-◌, ◌≤◌, ◌==◌, if◌then◌else◌, List, [], ◌∷◌, ◌++◌, length, get_or, take, drop, replicate, Some, is_some, refl, sym, ◌∙◌, ap, subst, arith, append_assoc, length-append}
 use mathlib.Core.Logic.{◌≢◌}
 use Rattle.std.proofs.Math.Seq.{drop-drop}
-use Rattle.std.proofs.lemmas.List.{take_at, drop_at, drop_more, append-nil, take-take, drop-take, take-append-le, get_or-drop, length-take-le, length-take, length-replicate}
+use Rattle.std.proofs.lemmas.List.{drop_at, take-take, drop-take, take-append-le, get_or-drop, length-take-le, length-replicate}
 use Rattle.std.proofs.lemmas.Bool.{cases_eq}
 use Rattle.std.proofs.lemmas.Bool.Decides.{nat_tests}
 use Rattle.x_disk.specs.Disk.{View, IsTornAt, IsDurable, IsWritten, LeavesOnly, IsSound, Tells, overwrite}
 use Rattle.x_disk.proofs.Runs.{weaker, joined}
-use Rattle.key_journal.specs.Journal.{magic, frame_of, frames, IsBody, AreBodies, start, Holds, gate_place}
-use Rattle.key_journal.specs.States.{HasBodies, IsFrame, IsAt, IsReady, MayTear, IsOldOrAlone, other_start, selector_of}
-use Rattle.key_journal.proofs.ImageLemmas.{Whole, whole_of, area_is, rest_of, same_front, SameHead, holds_of, holds_by, drop_join, start_in, head_start, gate_in, fits_area, length-frame_of}
+use Rattle.key_journal.specs.Journal.{magic, frame_of, frames, IsBody, start, Holds, gate_place}
+use Rattle.key_journal.specs.States.{HasBodies, IsAt, IsReady, MayTear, IsOldOrAlone, other_start, selector_of}
+use Rattle.key_journal.proofs.ImageLemmas.{whole_of, same_front, holds_of, holds_by, drop_join, start_in, head_start, gate_in, fits_area, length-frame_of}
 use Rattle.key_journal.proofs.StepLemmas.{told_before, torn_from_now}
 use Rattle.key_journal.proofs.MakeLemmas.{some_of, alone_front}
 

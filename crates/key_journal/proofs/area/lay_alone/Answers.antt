@@ -1,4 +1,4 @@
-use Rattle.std.proofs.Common.{rules, ◌≡◌, ◌+◌, ◌-◌, ◌<◌, ◌⊎◌, inl, inr, ◌∙◌, ℕ, zero, suc, List, length, Some, Result, IsErr, ap, sym, arith}
+use Rattle.std.proofs.Common.{◌+◌, length}
 use Rattle.x_disk.proofs.Runs.{began, goes_on, joined, weaker, torn_same}
 use Rattle.key_journal.specs.States.{MayTear}
 use Rattle.key_journal.proofs.SwitchLemmas.{torn_twice}

@@ -1,6 +1,5 @@
-use Rattle.std.proofs.Common.{◌∷◌, [], List, ℕ, ap, subst, sym}
+use Rattle.std.proofs.Common.{◌∷◌, [], ℕ, ap, subst, sym}
 use Rattle.x_disk.specs.Disk.{LeavesOnly, Tells, IsWritten}
-use Rattle.key_journal.specs.Journal.{frame_of, IsBody}
 use Rattle.key_journal.specs.States.{HasBodies, IsOldOrAlone}
 use Rattle.x_disk.proofs.Runs.{weaker}
 use Rattle.key_journal.proofs.StepLemmas.{room_is}
