@@ -6,7 +6,7 @@ use Rattle.std.proofs.lemmas.List.{take_at, drop_at, drop_more, append-nil, take
 use Rattle.std.proofs.lemmas.Bool.{cases_eq}
 use Rattle.std.proofs.lemmas.Bool.Decides.{nat_tests}
 use Rattle.x_disk.specs.Disk.{IsTornAt, overwrite}
-use Rattle.key_journal.specs.Journal.{four_bytes, frame_of, frames, IsBody, AreBodies, start, Holds, gate_place, Stages}
+use Rattle.key_journal.specs.Journal.{magic, four_bytes, frame_of, frames, IsBody, AreBodies, start, Holds, gate_place, Stages}
 
 pub start_in : (image : List ℕ) → (16 ≤ start image) × (start image ≤ 8388616)
 start_in image = elim (cases_eq (get_or image 1 0) 1) [
@@ -57,20 +57,26 @@ head_start image c same =
     let at : get_or c 1 0 ≡ get_or image 1 0 = sym (get_or-take 16 c 1 0 (omega arith)) ∙ ap (λ (l : List ℕ). get_or l 1 0) same.head ∙ get_or-take 16 image 1 0 (omega arith) in
     ap (λ (n : ℕ). if n == 1 then 8388616 else 16) at
 
-pub holds_of : (image c : List ℕ) (bodies more : List (List ℕ)) (gate : ℕ) (tail : List ℕ) → Holds image bodies → SameHead image c → gate ≢ 1
-    → drop (start image) c ≡ frames more ++ gate ∷ tail → length (frames more) + 1 ≤ 8388600 → 0 < length more → AreBodies more → Holds c more
-holds_of image c bodies more gate tail h same closed is room some all = record {
-  opened = sym (take-take 1 16 c (omega arith)) ∙ ap (λ (l : List ℕ). take 1 l) same.head ∙ take-take 1 16 image (omega arith) ∙ h.opened;
-  magic = sym (drop-take 2 14 c) ∙ ap (λ (l : List ℕ). drop 2 l) same.head ∙ drop-take 2 14 image ∙ h.magic;
+pub holds_by : (c : List ℕ) (bodies : List (List ℕ)) (gate : ℕ) (tail : List ℕ) → take 1 c ≡ 1 ∷ [] → take 14 (drop 2 c) ≡ magic → gate ≢ 1 → drop (start c) c ≡ frames bodies ++ gate ∷ tail
+    → length (frames bodies) + 1 ≤ 8388600 → 0 < length bodies → AreBodies bodies → Holds c bodies
+holds_by c bodies gate tail opened is closed whole room some all = record {
+  opened = opened;
+  magic = is;
   area = record {
     some = some;
     all = all;
     gate = gate;
-    rest = take (8388600 - (length (frames more) + 1)) tail;
+    rest = take (8388600 - (length (frames bodies) + 1)) tail;
     closed = closed;
-    whole = area_is 8388600 (8388600 - (length (frames more) + 1)) (frames more) gate tail (drop (start c) c) (ap (λ (n : ℕ). drop n c) (head_start image c same) ∙ is) (rest_of 8388600 (length (frames more)) room);
+    whole = area_is 8388600 (8388600 - (length (frames bodies) + 1)) (frames bodies) gate tail (drop (start c) c) whole (rest_of 8388600 (length (frames bodies)) room);
   };
 }
+
+pub holds_of : (image c : List ℕ) (bodies more : List (List ℕ)) (gate : ℕ) (tail : List ℕ) → Holds image bodies → SameHead image c → gate ≢ 1
+    → drop (start image) c ≡ frames more ++ gate ∷ tail → length (frames more) + 1 ≤ 8388600 → 0 < length more → AreBodies more → Holds c more
+holds_of image c bodies more gate tail h same closed is room some all =
+    holds_by c more gate tail (sym (take-take 1 16 c (omega arith)) ∙ ap (λ (l : List ℕ). take 1 l) same.head ∙ take-take 1 16 image (omega arith) ∙ h.opened)
+    (sym (drop-take 2 14 c) ∙ ap (λ (l : List ℕ). drop 2 l) same.head ∙ drop-take 2 14 image ∙ h.magic) closed (ap (λ (n : ℕ). drop n c) (head_start image c same) ∙ is) room some all
 
 pub same_head : (n : ℕ) (image c : List ℕ) → 16 ≤ n → take n c ≡ take n image → SameHead image c
 same_head n image c le is = record { head = sym (take-take 16 n c le) ∙ ap (λ (l : List ℕ). take 16 l) is ∙ take-take 16 n image le }

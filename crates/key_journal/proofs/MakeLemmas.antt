@@ -82,6 +82,10 @@ laid_is frame b some =
           ∙ append_assoc (take 1 b) head (frame ++ tail),
     )
 
+-- an area of one frame
+pub alone_front : (body tail : List ℕ) → 1 ∷ (frame_of body ++ tail) ≡ frames (body ∷ []) ++ 0 ∷ tail
+alone_front body tail = ap (λ (l : List ℕ). 1 ∷ (four_bytes (length body) ++ l)) (append_assoc body (0 ∷ []) tail ∙ ap (λ (l : List ℕ). l ++ 0 ∷ tail) (sym (append-nil body)))
+
 pub holds_first : (body tail : List ℕ) → IsBody body → Holds (1 ∷ (head ++ (frame_of body ++ tail))) (body ∷ [])
 holds_first body tail is = record {
   opened = refl;
@@ -92,12 +96,9 @@ holds_first body tail is = record {
     gate = 0;
     rest = take (8388600 - (length (frames (body ∷ [])) + 1)) tail;
     closed = omega arith;
-    whole = area_is 8388600 (8388600 - (length (frames (body ∷ [])) + 1)) (frames (body ∷ [])) 0 tail (1 ∷ (frame_of body ++ tail)) front (rest_of 8388600 (length (frames (body ∷ []))) (omega (arith, is.small, length-append body [])));
+    whole = area_is 8388600 (8388600 - (length (frames (body ∷ [])) + 1)) (frames (body ∷ [])) 0 tail (1 ∷ (frame_of body ++ tail)) (alone_front body tail) (rest_of 8388600 (length (frames (body ∷ []))) (omega (arith, is.small, length-append body [])));
   };
 }
-  where
-    front : 1 ∷ (frame_of body ++ tail) ≡ frames (body ∷ []) ++ 0 ∷ tail
-    front = ap (λ (l : List ℕ). 1 ∷ (four_bytes (length body) ++ l)) (append_assoc body (0 ∷ []) tail ∙ ap (λ (l : List ℕ). l ++ 0 ∷ tail) (sym (append-nil body)))
 
 head_cons : (c rest : List ℕ) → 1 ≤ length c → drop 1 c ≡ rest → c ≡ get_or c 0 0 ∷ rest
 head_cons [] rest some is = absurd (omega (arith, some))

@@ -243,13 +243,13 @@ module _ (v : View) (size gate end : ℕ) (ended : Bool) (o : IsOpen v size gate
           bodies = r.bodies;
           begins = r.begins;
           last = r.last;
-          closed = λ done. (shut b was, some_before b r.bodies r.begins r.last);
+          closed = λ done. (shut b was, some_in_front b r.bodies r.begins r.last);
         };
   }
     where
-      some_before : (b : List ℕ) (bodies : List (List ℕ)) → Begins b bodies gate → end ≡ start b + 8388600 → 0 < length bodies
-      some_before b [] begins last = absurd (not_first (omega (arith, begins.place, last)))
-      some_before b (x ∷ bodies) begins last = omega arith
+      some_in_front : (b : List ℕ) (bodies : List (List ℕ)) → Begins b bodies gate → end ≡ start b + 8388600 → 0 < length bodies
+      some_in_front b [] begins last = absurd (not_first (omega (arith, begins.place, last)))
+      some_in_front b (x ∷ bodies) begins last = omega arith
 
   -- the area's first gate, by its place
   pub first_gate : (b : List ℕ) → v.now ≡ Some b → gate + 8388600 ≡ end → gate ≡ start b
@@ -258,15 +258,16 @@ module _ (v : View) (size gate end : ℕ) (ended : Bool) (o : IsOpen v size gate
   pub later_gate : (b : List ℕ) → v.now ≡ Some b → gate + 8388600 ≢ end → gate ≢ start b
   later_gate b now not first = let r = o.journal b now in not (omega (arith, r.last, first))
 
+-- a gate that isn't the area's first has a frame before it
+pub some_before : (image : List ℕ) (bodies : List (List ℕ)) (gate : ℕ) → Begins image bodies gate → gate ≢ start image → 0 < length bodies
+some_before image [] gate begins not = absurd (not (omega (arith, begins.place)))
+some_before image (x ∷ bodies) gate begins not = omega arith
+
 -- the list of frames that ended at this gate is the image's
 pub all_of : (old new : View) (bodies : List (List ℕ)) (gate : ℕ) → new.now ≡ old.now → ((b : List ℕ) → old.now ≡ Some b → (is_open b gate ≡ false) × (gate ≢ start b)) → HasRead old bodies gate → HasBodies new bodies
 all_of old new bodies gate now shut read =
     let closed = shut read.image read.now in
-    record { image = read.image; now = now ∙ read.now; holds = all_read read.image bodies gate read.begins closed.0 (some_before bodies read.begins closed.1) }
-  where
-    some_before : (bs : List (List ℕ)) → Begins read.image bs gate → gate ≢ start read.image → 0 < length bs
-    some_before [] begins not = absurd (not (omega (arith, begins.place)))
-    some_before (x ∷ bs) begins not = omega arith
+    record { image = read.image; now = now ∙ read.now; holds = all_read read.image bodies gate read.begins closed.0 (some_before read.image bodies gate read.begins closed.1) }
 
 pub none_of : (o : Option Cause) → ((x : Cause) → o ≡ Some x → ⊥) → o ≡ None
 none_of None not = refl
@@ -279,7 +280,7 @@ blank_by n x long is = grind (arith, nat_tests)
 abbrev refusal_by : Bool → Bool → Option Cause
 refusal_by blank magic = if blank then Some cause.Blank else (if magic then None else Some (cause.Damaged 2))
 
-open_by_front : (image : List ℕ) → take 1 image ≡ 1 ∷ [] → take 14 (drop 2 image) ≡ magic → refusal_of image ≡ None
+pub open_by_front : (image : List ℕ) → take 1 image ≡ 1 ∷ [] → take 14 (drop 2 image) ≡ magic → refusal_of image ≡ None
 open_by_front image opened is =
     let long : 2 ≤ length image = omega (arith, ap length is, length-take 14 (drop 2 image), length-drop 2 image) in
     let first : get_or image 0 0 ≡ 1 = sym (get_or-take 1 image 0 0 (omega arith)) ∙ ap (λ (l : List ℕ). get_or l 0 0) opened in

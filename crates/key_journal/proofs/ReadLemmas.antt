@@ -43,7 +43,7 @@ begins_none image is =
     }
 
 -- what lies from the selected area's beginning on
-behind : (image : List ℕ) (bodies : List (List ℕ)) (gate : ℕ) → Begins image bodies gate → drop (start image) image ≡ frames bodies ++ drop gate image
+pub behind : (image : List ℕ) (bodies : List (List ℕ)) (gate : ℕ) → Begins image bodies gate → drop (start image) image ≡ frames bodies ++ drop gate image
 behind image bodies gate b =
     sym (take-append-drop (length (frames bodies)) (drop (start image) image)) ∙ ap (λ (l : List ℕ). l ++ drop (length (frames bodies)) (drop (start image) image)) b.front
     ∙ ap (λ (l : List ℕ). frames bodies ++ l) (drop-drop (length (frames bodies)) (start image) image ∙ ap (λ (n : ℕ). drop n image) (omega (arith, b.place)))
@@ -90,10 +90,10 @@ all_read image bodies gate b shut some =
       };
     }
 
-same_length : (m n : ℕ) → m ≤ 4194304 → n ≤ 4194304 → m / 65536 % 256 ≡ n / 65536 % 256 → m / 256 % 256 ≡ n / 256 % 256 → m % 256 ≡ n % 256 → m ≡ n
+pub same_length : (m n : ℕ) → m ≤ 4194304 → n ≤ 4194304 → m / 65536 % 256 ≡ n / 65536 % 256 → m / 256 % 256 ≡ n / 256 % 256 → m % 256 ≡ n % 256 → m ≡ n
 same_length m n le_m le_n high mid low = omega arith
 
-same_parts : (xs ys us vs : List ℕ) → length xs ≡ length ys → xs ++ us ≡ ys ++ vs → (xs ≡ ys) × (us ≡ vs)
+pub same_parts : (xs ys us vs : List ℕ) → length xs ≡ length ys → xs ++ us ≡ ys ++ vs → (xs ≡ ys) × (us ≡ vs)
 same_parts xs ys us vs long is = (
   sym (take_at xs us (length xs) refl) ∙ ap (λ (l : List ℕ). take (length xs) l) is ∙ take_at ys vs (length xs) (sym long),
   sym (drop_at xs us (length xs) refl) ∙ ap (λ (l : List ℕ). drop (length xs) l) is ∙ drop_at ys vs (length xs) (sym long),
@@ -119,13 +119,13 @@ first_bodies image bodies all gate b h =
     longer bodies all w.gate (drop gate image) w.tail b.all h.area.all w.closed (sym (behind image bodies gate b) ∙ w.whole)
 
 -- the frames behind the first ones
-frames-append : (bs cs : List (List ℕ)) (r : List ℕ) → frames (bs ++ cs) ++ r ≡ frames bs ++ (frames cs ++ r)
+pub frames-append : (bs cs : List (List ℕ)) (r : List ℕ) → frames (bs ++ cs) ++ r ≡ frames bs ++ (frames cs ++ r)
 frames-append [] cs r = refl
 frames-append (b ∷ bs) cs r =
     ap (λ (l : List ℕ). 1 ∷ (four_bytes (length b) ++ l))
     (append_assoc b (frames (bs ++ cs)) r ∙ ap (λ (l : List ℕ). b ++ l) (frames-append bs cs r) ∙ sym (append_assoc b (frames bs) (frames cs ++ r)))
 
-same_back : (xs us vs : List ℕ) → xs ++ us ≡ xs ++ vs → us ≡ vs
+pub same_back : (xs us vs : List ℕ) → xs ++ us ≡ xs ++ vs → us ≡ vs
 same_back xs us vs is = (same_parts xs xs us vs refl is).1
 
 -- what stands at the gate of an image that stands for bodies
@@ -177,13 +177,27 @@ whole_by n gate size end some small in_file in_area = grind (arith, nat_tests)
 apart_by : (gate first : ℕ) → first < gate → (gate == first) ≡ false
 apart_by gate first lt = grind (arith, nat_tests)
 
-second_body : (bodies : List (List ℕ)) (body : List ℕ) (rest : List (List ℕ)) → AreBodies (bodies ++ body ∷ rest) → IsBody body
+pub second_body : (bodies : List (List ℕ)) (body : List ℕ) (rest : List (List ℕ)) → AreBodies (bodies ++ body ∷ rest) → IsBody body
 second_body [] body rest all = all.0
 second_body (b ∷ bodies) body rest all = second_body bodies body rest all.1
 
-room_of : (bodies : List (List ℕ)) (body : List ℕ) (rest : List (List ℕ)) → length (frames (bodies ++ body ∷ rest)) ≡ length (frames bodies) + length body + 5 + length (frames rest)
+pub room_of : (bodies : List (List ℕ)) (body : List ℕ) (rest : List (List ℕ)) → length (frames (bodies ++ body ∷ rest)) ≡ length (frames bodies) + length body + 5 + length (frames rest)
 room_of [] body rest = omega (arith, length-append body (frames rest))
 room_of (b ∷ bodies) body rest = omega (arith, length-append b (frames (bodies ++ body ∷ rest)), length-append b (frames bodies), room_of bodies body rest)
+
+-- a whole frame lies at the gate
+pub frame_found : (image body tail : List ℕ) (gate end : ℕ) → IsBody body → drop gate image ≡ 1 ∷ (four_bytes (length body) ++ (body ++ tail)) → gate + 6 + length body ≤ length image → gate + 6 + length body ≤ end
+    → found_at image gate end ≡ Ok (Some body)
+frame_found image body tail gate end is_body front in_file in_area =
+    let n = length body in
+    let number = stated_is image gate n (body ++ tail) is_body.small front in
+    let opened = open_by gate (length image) (get_or image gate 0) (omega (arith, in_file)) (ap (λ (m : ℕ). get_or image m 0) (omega arith) ∙ get_at image (1 ∷ (four_bytes n ++ (body ++ tail))) gate 0 front) in
+    let within = ap (λ (m : ℕ). (nat_le 1 m && nat_le m 4194304) && (nat_le (gate + 6 + m) (length image) && nat_le (gate + 6 + m) end)) number ∙ whole_by n gate (length image) end is_body.some is_body.small in_file in_area in
+    let text : take (stated image gate) (drop (gate + 5) image) ≡ body =
+    ap (λ (m : ℕ). take m (drop (gate + 5) image)) number ∙ ap (λ (l : List ℕ). take n l) (sym (drop-drop 5 gate image) ∙ ap (λ (l : List ℕ). drop 5 l) front) ∙ take_at body tail n refl in
+    ap (λ (t : Bool). found_by t (is_whole image gate end) (gate == start image) gate (take (stated image gate) (drop (gate + 5) image))) opened
+    ∙ ap (λ (t : Bool). found_by true t (gate == start image) gate (take (stated image gate) (drop (gate + 5) image))) within
+    ∙ ap (λ (l : List ℕ). found_by true true (gate == start image) gate l) text
 
 reads_rest : (image : List ℕ) (bodies rest : List (List ℕ)) (gate end : ℕ) → Begins image bodies gate → Holds image (bodies ++ rest) → end ≡ start image + 8388600 → Reads image gate end
 reads_rest image bodies [] gate end b h last =
@@ -200,22 +214,13 @@ reads_rest image bodies [] gate end b h last =
 reads_rest image bodies (body ∷ rest) gate end b h last =
     let w = whole_of image (bodies ++ body ∷ rest) h in
     let n = length body in
-    let is_body = second_body bodies body rest h.area.all in
     let tail = frames rest ++ w.gate ∷ w.tail in
     let front : drop gate image ≡ 1 ∷ (four_bytes n ++ (body ++ tail)) = at_gate image bodies (body ∷ rest) gate b h ∙ ap (λ (l : List ℕ). 1 ∷ (four_bytes n ++ l)) (append_assoc body (frames rest) (w.gate ∷ w.tail)) in
     let size : length image - gate ≡ length body + length (frames rest) + length w.tail + 6 =
     sym (length-drop gate image) ∙ ap length front ∙ omega (arith, length-append body tail, length-append (frames rest) (w.gate ∷ w.tail)) in
-    let number = stated_is image gate n (body ++ tail) is_body.small front in
-    let opened = open_by gate (length image) (get_or image gate 0) (omega (arith, size)) (ap (λ (m : ℕ). get_or image m 0) (omega arith) ∙ get_at image (1 ∷ (four_bytes n ++ (body ++ tail))) gate 0 front) in
-    let within = ap (λ (m : ℕ). (nat_le 1 m && nat_le m 4194304) && (nat_le (gate + 6 + m) (length image) && nat_le (gate + 6 + m) end)) number
-    ∙ whole_by n gate (length image) end is_body.some is_body.small (omega (arith, size)) (omega (arith, last, b.place, w.room, room_of bodies body rest)) in
-    let text : take (stated image gate) (drop (gate + 5) image) ≡ body =
-    ap (λ (m : ℕ). take m (drop (gate + 5) image)) number ∙ ap (λ (l : List ℕ). take n l) (sym (drop-drop 5 gate image) ∙ ap (λ (l : List ℕ). drop 5 l) front) ∙ take_at body tail n refl in
     record {
       body = Some body;
-      is = ap (λ (t : Bool). found_by t (is_whole image gate end) (gate == start image) gate (take (stated image gate) (drop (gate + 5) image))) opened
-          ∙ ap (λ (t : Bool). found_by true t (gate == start image) gate (take (stated image gate) (drop (gate + 5) image))) within
-          ∙ ap (λ (l : List ℕ). found_by true true (gate == start image) gate l) text;
+      is = frame_found image body tail gate end (second_body bodies body rest h.area.all) front (omega (arith, size)) (omega (arith, last, b.place, w.room, room_of bodies body rest));
     }
 
 pub undamaged : (image : List ℕ) (bodies all : List (List ℕ)) (gate end : ℕ) → Begins image bodies gate → Holds image all → end ≡ start image + 8388600 → Reads image gate end

@@ -2,7 +2,7 @@
 use Rattle.std.specs.Prelude.{◌≡◌, ◌⊎◌, ℕ, ◌+◌, ◌*◌, ◌<◌, ◌≤◌, ◌==◌, nat_lt, nat_le, min, if◌then◌else◌, Bool, true, false, ◌&&◌, List, [], length, slice_index, take, drop, Option, Some, None, Result, Ok, Err}
 use Rattle.x_base.specs.Edge.{Rose}
 use Rattle.x_disk.specs.Disk.{View, IsDurable}
-use Rattle.key_journal.specs.Journal.{is_blank, has_magic, start, Begins}
+use Rattle.key_journal.specs.Journal.{is_blank, has_magic, start, Holds, Begins}
 use Rattle.key_journal.specs.declared.cause.Cause.{Cause}
 use Rattle.key_journal.specs.declared.cause.Cause.TheVariants as cause
 
@@ -39,6 +39,14 @@ pub record IsDamagedGate (image : List ℕ) (gate : ℕ) : Type 0 where
 pub record IsDamagedAt (image : List ℕ) (place : ℕ) : Type 0 where
   pub not_blank : is_blank image ≡ false
   pub damage : ((has_magic image ≡ false) × (place ≡ 2)) ⊎ ((has_magic image ≡ true) × IsDamagedGate image place)
+
+-- each place of the image holds a byte
+abbrev pub AreBytes : List ℕ → Type 0
+AreBytes image = (place : ℕ) → slice_index image place < 256
+
+-- what an image stands for: nothing yet, a list of bodies, or nothing since it is damaged
+abbrev pub IsJudged : List ℕ → Type 0
+IsJudged image = (is_blank image ≡ true) ⊎ (((bodies : List (List ℕ)) × Holds image bodies) ⊎ ((place : ℕ) × IsDamagedAt image place))
 
 -- causes that no image gives
 abbrev pub IsFree : Cause → Type 0

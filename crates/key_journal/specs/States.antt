@@ -1,5 +1,5 @@
 -- What the states of a journal tell.
-use Rattle.std.specs.Prelude.{◌≡◌, ◌≢◌, ◌⊎◌, ℕ, ◌+◌, ◌-◌, ◌<◌, ◌≤◌, List, [], ◌∷◌, ◌++◌, length, slice_index, true, Bool, Some, Result, IsErrOf}
+use Rattle.std.specs.Prelude.{◌≡◌, ◌≢◌, ◌⊎◌, ℕ, ◌+◌, ◌-◌, ◌<◌, ◌≤◌, ◌==◌, if◌then◌else◌, List, [], ◌∷◌, ◌++◌, length, slice_index, true, Bool, Some, Result, IsErrOf}
 use Rattle.x_base.specs.Edge.{Rose}
 use Rattle.x_disk.specs.Disk.{View, IsTornAt, IsDurable}
 use Rattle.x_disk.specs.declared.disk.DiskErr.{DiskErr}
@@ -134,3 +134,15 @@ IsOldOrNew bodies body image = Holds image bodies ⊎ Holds image (bodies ++ bod
 -- nothing yet, or the first body
 abbrev pub IsBlankOrFirst : List ℕ → List ℕ → Type 0
 IsBlankOrFirst body image = (is_blank image ≡ true) ⊎ Holds image (body ∷ [])
+
+-- the old bodies, or the new one alone
+abbrev pub IsOldOrAlone : List (List ℕ) → List ℕ → List ℕ → Type 0
+IsOldOrAlone bodies body image = Holds image bodies ⊎ Holds image (body ∷ [])
+
+-- where the other area begins, by the end of the selected one
+abbrev pub other_start : ℕ → ℕ
+other_start end = if end == 8388616 then 8388616 else 16
+
+-- the byte that selects the area that begins here
+abbrev pub selector_of : ℕ → ℕ
+selector_of start = if start == 8388616 then 1 else 0

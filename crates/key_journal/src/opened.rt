@@ -46,6 +46,7 @@ pub fn open_disk<D: Disk>(disk: D) -> Result<Opened<D>, Unmade<D>>
 
     ensures undamaged { (bodies : List (List ℕ)) → HasBodies (D.told disk) bodies → IfErr result (λ u. IsFree u.cause) }
     ensures damaged { IfErr result (λ u. (place : ℕ) → u.cause ≡ Cause.Damaged place → (b : List ℕ) → (D.told disk).now ≡ Some b → IsDamagedAt b place) }
+    ensures first_damage { IfErr result (λ u. (place : ℕ) (b : List ℕ) → (D.told disk).now ≡ Some b → IsDamagedAt b place → IsFree u.cause ⊎ (u.cause ≡ Cause.Damaged place)) }
 
     // A crash at any moment leaves what it could leave before.
     ensures any_moment { LeavesOnly (D.told disk) (D.told (opened_disk result)) (D.told disk).may_leave }
@@ -84,6 +85,7 @@ impl<D: Disk> Broken<D> {
         ensures refused { IfErr result (λ u. IsRefused (D.told self.disk) (D.told u.disk) u.cause) }
         ensures undamaged { (bodies : List (List ℕ)) → HasBodies (D.told self.disk) bodies → IfErr result (λ u. IsFree u.cause) }
         ensures damaged { IfErr result (λ u. (place : ℕ) → u.cause ≡ Cause.Damaged place → (b : List ℕ) → (D.told self.disk).now ≡ Some b → IsDamagedAt b place) }
+        ensures first_damage { IfErr result (λ u. (place : ℕ) (b : List ℕ) → (D.told self.disk).now ≡ Some b → IsDamagedAt b place → IsFree u.cause ⊎ (u.cause ≡ Cause.Damaged place)) }
         ensures any_moment { LeavesOnly (D.told self.disk) (D.told (opened_disk result)) (D.told self.disk).may_leave }
         ensures images { LeavesNoMore (D.told self.disk) (D.told (opened_disk result)) }
         ensures faults { (D.told self.disk).faults ≤ (D.told (opened_disk result)).faults }
@@ -107,6 +109,11 @@ impl<D: Disk> Opened<D> {
         ensures onward { IfOk result (λ o. IfSome o (λ body. (self.new.gate ≡ self.old.gate + 5 + length body) × (self.new.gate < self.new.end))) }
         ensures undamaged { (bodies : List (List ℕ)) → HasBodies (D.told self.old.disk) bodies → IfErr result IsFree }
         ensures damaged { IfErr result (λ c. (place : ℕ) → c ≡ Cause.Damaged place → (b : List ℕ) → (D.told self.old.disk).now ≡ Some b → IsDamagedAt b place) }
+
+        // An image with a damage is read on until there, and that is what is told of it.
+        ensures unended { IfOk result (λ o. o ≡ None → (place : ℕ) (b : List ℕ) → (D.told self.old.disk).now ≡ Some b → IsDamagedAt b place → ⊥) }
+        ensures first_damage { IfErr result (λ c. (place : ℕ) (b : List ℕ) → (D.told self.old.disk).now ≡ Some b → IsDamagedAt b place → IsFree c ⊎ (c ≡ Cause.Damaged place)) }
+
         ensures first { (bodies all : List (List ℕ)) → HasRead (D.told self.new.disk) bodies self.new.gate → HasBodies (D.told self.new.disk) all → AreFirst bodies all }
         ensures again { OnErr result ((self.new.gate ≡ self.old.gate) × (self.new.ended ≡ self.old.ended)) }
         ensures end { self.new.end ≡ self.old.end }

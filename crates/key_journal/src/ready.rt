@@ -1,11 +1,12 @@
 // A journal that takes frames: at rest, and with a frame that doesn't count yet.
 ghost use Rattle.std.specs.Prelude.{◌≡◌, ◌⊎◌, ◌+◌, ◌-◌, ◌<◌, ◌≤◌, [], ◌∷◌, ◌++◌, List, ℕ, suc, length, Some, None, is_some, IfOk, IfErr, IsErr, IsTrue, ◌↔◌};
-ghost use Rattle.x_disk.specs.Disk.{IsDurable, LeavesOnly, one_less};
+ghost use Rattle.x_disk.specs.Disk.{IsDurable, LeavesOnly, Tells, one_less};
 ghost use Rattle.x_disk.specs.Shelf.{IsAlike};
 ghost use Rattle.key_journal.specs.Journal.{frame_of, Holds, IsBody};
-ghost use Rattle.key_journal.specs.States.{HasBodies, HasStaged, IsFrame, IsOldOrNew, FaultsRose, HasRoom};
+ghost use Rattle.key_journal.specs.States.{HasBodies, HasStaged, IsFrame, IsOldOrNew, IsOldOrAlone, FaultsRose, HasRoom, other_start};
 
 use crate::Broken;
+use crate::area::{lay_alone, other_start, selector_of};
 use crate::put::put;
 use std::marker::Model;
 use x_disk::{Disk, DiskErr, Fused};
@@ -48,7 +49,7 @@ impl<D: Disk> Model for Staged<D> {
 }
 
 impl<D: Disk> Ready<D> {
-    ghost use Rattle.key_journal.specs.Results.{staged_disk};
+    ghost use Rattle.key_journal.specs.Results.{staged_disk, ready_disk};
     ghost use Rattle.key_journal.specs.States.{IsReady};
 
     pub(crate) fn new(disk: D, gate: u64, end: u64) -> Ready<D>
@@ -124,6 +125,45 @@ impl<D: Disk> Ready<D> {
                 gate,
                 next: gate + frame.len() as u64,
                 end,
+            }),
+            Err(cause) => Err(Broken { disk, cause }),
+        }
+    }
+
+    /// Writes the other area with this frame alone, syncs, selects that area, and syncs: from `Ok` on, its body is the only
+    /// one. Makes five disk calls and takes no memory itself.
+    pub fn switch(self, frame: &[u8]) -> Result<Ready<D>, Broken<D>>
+        requires { IsFrame frame.now }
+
+        ensures switched { IfOk result (λ s. (body : List ℕ) → IsBody body → frame.now ≡ frame_of body → Tells (D.told self.disk) → HasBodies (D.told s.disk) (body ∷ [])) }
+        ensures room { IfOk result (λ s. HasRoom (D.told s.disk) s.gate s.end) }
+        ensures place { IfOk result (λ s. (s.gate ≡ other_start self.end + length frame.now) × (s.end ≡ other_start self.end + 8388600)) }
+        ensures durable { IfOk result (λ s. IsDurable (D.told s.disk)) }
+
+        // A crash at any moment leaves the bodies that were there, or the new one alone.
+        ensures any_moment { (bodies : List (List ℕ)) (body : List ℕ) → HasBodies (D.told self.disk) bodies → IsBody body → frame.now ≡ frame_of body
+            → LeavesOnly (D.told self.disk) (D.told (ready_disk result)) (IsOldOrAlone bodies body) }
+
+        ensures cause { IfErr result (λ b. FaultsRose (D.told self.disk) (D.told b.disk) b.cause) }
+        ensures faults { (D.told self.disk).faults ≤ (D.told (ready_disk result)).faults }
+        ensures tells { is_some (D.told (ready_disk result)).now ≡ is_some (D.told self.disk).now }
+        ensures passes { IfOk result (λ s. (D.told s.disk).passes ≡ one_less (one_less (one_less (one_less (one_less (D.told self.disk).passes))))) }
+        ensures blows { (k : ℕ) → (D.told self.disk).passes ≡ Some k → k < 5 → IsErr result }
+        ensures covered { IfErr result (λ b. (end n calls : ℕ) → (D.told self.disk).covers end n (suc (suc (suc (suc (suc calls))))) → other_start self.end + 1 + length frame.now ≤ end → 2 + length frame.now ≤ n → b.cause ≡ DiskErr.NoMemory → ⊥) }
+        ensures covered_then { IfOk result (λ s. (end n calls : ℕ) → (D.told self.disk).covers end n (suc (suc (suc (suc (suc calls))))) → other_start self.end + 1 + length frame.now ≤ end → 2 + length frame.now ≤ n
+            → (D.told s.disk).covers end (n - 1 - length frame.now - 1) calls) }
+    {
+        let Ready { mut disk, end, .. } = self;
+        let start = other_start(end);
+        match lay_alone(&mut disk, start, frame) {
+            Ok(()) => {}
+            Err(cause) => return Err(Broken { disk, cause }),
+        }
+        match put(&mut disk, 1, &[selector_of(start)]) {
+            Ok(()) => Ok(Ready {
+                disk,
+                gate: start + frame.len() as u64,
+                end: start + 8_388_600,
             }),
             Err(cause) => Err(Broken { disk, cause }),
         }

@@ -1,7 +1,9 @@
 -- What a fuse adds to what its disk tells (this project's profile).
-use Rattle.std.specs.Prelude.{◌≡◌, ℕ, suc, ◌+◌, ◌<◌, ◌^◌, Option, Some, None}
+use Rattle.std.specs.Prelude.{◌≡◌, ℕ, zero, suc, ◌+◌, ◌<◌, ◌≤◌, ◌^◌, Bool, true, false, Option, Some, None, Result, Err, OnOk, IsErr, IsErrOf}
 use Rattle.std.proofs.Common.{arith}
-use Rattle.x_disk.specs.Disk.{View, IsSound}
+use Rattle.x_disk.specs.Disk.{View, IsSound, one_less}
+use Rattle.x_disk.specs.declared.disk.DiskErr.{DiskErr}
+use Rattle.x_disk.specs.declared.disk.DiskErr.TheVariants.{Fault, NoMemory}
 use Rattle.x_disk.specs.declared.fused.Fuse.{Fuse}
 use Rattle.x_disk.specs.declared.fused.Fuse.TheVariants.{Passes, Blown}
 
@@ -37,6 +39,23 @@ pub record IsCall (old new : Fuse) : Type 0 where
   pub passes : (n : ℕ) → old ≡ Passes (suc n) → new ≡ Passes n
   pub blows : old ≡ Passes 0 → new ≡ Blown 0
   pub counts : (n : ℕ) → old ≡ Blown n → n < 18446744073709551615 → new ≡ Blown (n + 1)
+
+-- the next call is the one that fails
+abbrev pub is_last : Fuse → Bool
+is_last (Passes zero) = true
+is_last (Passes (suc n)) = false
+is_last (Blown n) = false
+
+-- what a counted call is answered before the disk is asked
+pub record IsBurnt (old new : Fuse) (result : Result Unit DiskErr) : Type 0 where
+  pub call : IsCall old new
+  pub passes : passes_of new ≡ one_less (passes_of old)
+  pub unblown : OnOk result (faults_of old ≡ 0 × faults_of new ≡ 0)
+  pub blows : old ≡ Passes 0 → result ≡ Err Fault
+  pub fails : (n : ℕ) → old ≡ Blown n → IsErr result
+  pub later : faults_of old ≤ faults_of new
+  pub fault : IsErrOf result Fault → faults_of new ≡ faults_of old + 1
+  pub no_memory : IsErrOf result NoMemory → (new ≡ old) × (2 ^ 64 ≤ faults_of old)
 
 pub fused_sound : (fuse : Fuse) (v : View) → IsSound v → IsSound (with_fuse fuse v)
 fused_sound fuse v sound = record {

@@ -12,6 +12,34 @@ pub(crate) enum Fuse {
     Blown(u64),
 }
 
+impl Fuse {
+    ghost use Rattle.std.specs.Prelude.{◌≡◌};
+    ghost use Rattle.x_disk.specs.Fuse.{is_last, IsBurnt};
+
+    /// Whether the next counted call is the one that fails.
+    fn is_last(&self) -> bool
+        ensures { result ≡ is_last self.now }
+    {
+        matches!(self, Fuse::Passes(0))
+    }
+
+    /// Counts a call, which is made where this answers `Ok`.
+    fn burn(&mut self) -> Result<(), DiskErr>
+        ensures { IsBurnt self.old self.new result }
+    {
+        match *self {
+            Fuse::Passes(0) => *self = Fuse::Blown(0),
+            Fuse::Passes(calls) => {
+                *self = Fuse::Passes(calls - 1);
+                return Ok(());
+            }
+            Fuse::Blown(u64::MAX) => return Err(DiskErr::NoMemory),
+            Fuse::Blown(calls) => *self = Fuse::Blown(calls + 1),
+        }
+        Err(DiskErr::Fault)
+    }
+}
+
 /// A disk whose calls of length, read, write and sync pass as often as was said. The next one answers `Fault`: a write
 /// is first made and stays pending, another call does nothing. Every later one does nothing and answers `Fault`, or
 /// `NoMemory` once the count of these faults can't rise. A power-off isn't counted.
@@ -70,21 +98,8 @@ impl<D: Disk> Disk for Fused<D> {
         ensures blown { (n : ℕ) → self.old.fuse ≡ Blown n → IsErr result × (self.new.disk ≡ self.old.disk) }
         ensures last { self.old.fuse ≡ Passes 0 → IsErr result × (self.new.disk ≡ self.old.disk) }
     {
-        match self.fuse {
-            Fuse::Passes(0) => {
-                self.fuse = Fuse::Blown(0);
-                Err(DiskErr::Fault)
-            }
-            Fuse::Passes(calls) => {
-                self.fuse = Fuse::Passes(calls - 1);
-                self.disk.length()
-            }
-            Fuse::Blown(u64::MAX) => Err(DiskErr::NoMemory),
-            Fuse::Blown(calls) => {
-                self.fuse = Fuse::Blown(calls + 1);
-                Err(DiskErr::Fault)
-            }
-        }
+        self.fuse.burn()?;
+        self.disk.length()
     }
 
     fn read(&mut self, at: u64, buf: &mut [u8]) -> Result<(), DiskErr>
@@ -98,21 +113,8 @@ impl<D: Disk> Disk for Fused<D> {
         ensures blown { (n : ℕ) → self.old.fuse ≡ Blown n → IsErr result × (self.new.disk ≡ self.old.disk) }
         ensures last { self.old.fuse ≡ Passes 0 → IsErr result × (self.new.disk ≡ self.old.disk) }
     {
-        match self.fuse {
-            Fuse::Passes(0) => {
-                self.fuse = Fuse::Blown(0);
-                Err(DiskErr::Fault)
-            }
-            Fuse::Passes(calls) => {
-                self.fuse = Fuse::Passes(calls - 1);
-                self.disk.read(at, buf)
-            }
-            Fuse::Blown(u64::MAX) => Err(DiskErr::NoMemory),
-            Fuse::Blown(calls) => {
-                self.fuse = Fuse::Blown(calls + 1);
-                Err(DiskErr::Fault)
-            }
-        }
+        self.fuse.burn()?;
+        self.disk.read(at, buf)
     }
 
     fn write_at(&mut self, at: u64, bytes: &[u8]) -> Result<(), DiskErr>
@@ -131,21 +133,15 @@ impl<D: Disk> Disk for Fused<D> {
         ensures begun { self.old.fuse ≡ Passes 0 → (end n calls : ℕ) → (D.told self.old.disk).covers end n (suc calls) → at + length bytes.now ≤ end → length bytes.now ≤ n
             → (Rose (D.told self.old.disk).faults (D.told self.new.disk).faults → ⊥) → IsWritten at bytes.now (D.told self.old.disk) (D.told self.new.disk) }
     {
-        match self.fuse {
-            Fuse::Passes(0) => {
-                self.fuse = Fuse::Blown(0);
-                // It is begun, and nobody hears how it ended.
-                let _ = self.disk.write_at(at, bytes);
-                Err(DiskErr::Fault)
-            }
-            Fuse::Passes(calls) => {
-                self.fuse = Fuse::Passes(calls - 1);
-                self.disk.write_at(at, bytes)
-            }
-            Fuse::Blown(u64::MAX) => Err(DiskErr::NoMemory),
-            Fuse::Blown(calls) => {
-                self.fuse = Fuse::Blown(calls + 1);
-                Err(DiskErr::Fault)
+        let last = self.fuse.is_last();
+        match self.fuse.burn() {
+            Ok(()) => self.disk.write_at(at, bytes),
+            Err(cause) => {
+                if last {
+                    // It is begun, and nobody hears how it ended.
+                    let _ = self.disk.write_at(at, bytes);
+                }
+                Err(cause)
             }
         }
     }
@@ -164,21 +160,8 @@ impl<D: Disk> Disk for Fused<D> {
         ensures blown { (n : ℕ) → self.old.fuse ≡ Blown n → IsErr result × (self.new.disk ≡ self.old.disk) }
         ensures last { self.old.fuse ≡ Passes 0 → IsErr result × (self.new.disk ≡ self.old.disk) }
     {
-        match self.fuse {
-            Fuse::Passes(0) => {
-                self.fuse = Fuse::Blown(0);
-                Err(DiskErr::Fault)
-            }
-            Fuse::Passes(calls) => {
-                self.fuse = Fuse::Passes(calls - 1);
-                self.disk.sync()
-            }
-            Fuse::Blown(u64::MAX) => Err(DiskErr::NoMemory),
-            Fuse::Blown(calls) => {
-                self.fuse = Fuse::Blown(calls + 1);
-                Err(DiskErr::Fault)
-            }
-        }
+        self.fuse.burn()?;
+        self.disk.sync()
     }
 
     fn power_off(&mut self, choice: u64) -> Result<(), DiskErr>

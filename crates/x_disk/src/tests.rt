@@ -4,17 +4,47 @@ use std::os::unix::fs::MetadataExt;
 use std::test::Fail;
 use x_base::Ident;
 
+// The bytes of a disk of so many; nines where it has another length.
+fn bytes_of<D: Disk, const N: usize>(disk: &mut D) -> Result<[u8; N], DiskErr> {
+    let mut bytes = [9; N];
+    if disk.length()? == N as u64 {
+        disk.read(0, &mut bytes)?;
+    }
+    Ok(bytes)
+}
+
+// Places 1, 2, 4 and 5 are pending; the last sync left four bytes.
 #[test]
 fn a_power_off_tears_what_is_pending(rt: HostRuntime) -> Result<(), Fail> {
-    for (choice, left) in [(7, [0, 7, 14]), (256, [1, 1, 1]), (1, [1, 2, 3])] {
+    for (choice, left) in [
+        (1, [10, 1, 2, 40, 0, 9]),
+        (2, [10, 2, 4, 40, 8, 10]),
+        (7, [10, 7, 14, 40, 28, 35]),
+        (255, [10, 255, 254, 40, 252, 251]),
+        (256, [10, 1, 1, 40, 1, 1]),
+        (515, [10, 5, 8, 40, 14, 17]),
+        (u64::MAX, [10, 254, 253, 40, 251, 250]),
+    ] {
         let mut disk = TornDisk::new(rt.alloc(), 64)?;
-        disk.write_at(0, &[1, 2, 3])?;
+        disk.write_at(0, &[10, 20, 30, 40])?;
+        disk.sync()?;
+        disk.write_at(1, &[1, 2])?;
+        disk.write_at(5, &[9])?;
         disk.power_off(choice)?;
-        assert_eq!(rt; disk.length()?, 3);
-        let mut bytes = [0; 3];
-        disk.read(0, &mut bytes)?;
-        assert_eq!(rt; bytes, left);
+        assert_eq!(rt; bytes_of(&mut disk)?, left, "with {choice}");
     }
+    Ok(())
+}
+
+#[test]
+fn a_power_off_counts_as_a_sync(rt: HostRuntime) -> Result<(), Fail> {
+    let mut disk = TornDisk::new(rt.alloc(), 64)?;
+    disk.write_at(0, &[1, 2, 3])?;
+    disk.power_off(7)?;
+    disk.power_off(9)?;
+    disk.write_at(3, &[8])?;
+    disk.power_off(0)?;
+    assert_eq!(rt; bytes_of(&mut disk)?, [0, 7, 14]);
     Ok(())
 }
 
@@ -30,15 +60,35 @@ fn a_write_in_place_of_which_a_fault_came_is_pending(rt: HostRuntime) -> Result<
     Ok(())
 }
 
+// Writes and syncs a disk, puts it back, and reads the one that is fetched anew.
+fn fetched_anew<H: Shelf>(shelf: &mut H, name: &Ident) -> Result<[u8; 5], DiskErr> {
+    let mut disk = shelf.fetch(name)?;
+    disk.write_at(2, b"abc")?;
+    disk.sync()?;
+    shelf.put_back(name, disk)?;
+    let mut disk = shelf.fetch(name)?;
+    let bytes = bytes_of(&mut disk)?;
+    shelf.put_back(name, disk)?;
+    Ok(bytes)
+}
+
 #[test]
 fn a_shelf_in_memory_keeps_its_disks(rt: HostRuntime) -> Result<(), Fail> {
     let mut shelf = MemoryShelf::new(rt.alloc());
     let name = Ident::read(b"BANKA")?;
-    let mut disk = shelf.fetch(&name)?;
+    assert_eq!(rt; fetched_anew(&mut shelf, &name)?, *b"\0\0abc");
+    let mut disk = shelf.fetch(&Ident::read(b"BANKB")?)?;
     assert_eq!(rt; disk.length()?, 0);
-    disk.write_at(2, &[7])?;
-    shelf.put_back(&name, disk)?;
-    assert_eq!(rt; shelf.fetch(&name)?.length()?, 3);
+    Ok(())
+}
+
+#[test]
+fn a_shelf_over_the_folder_keeps_its_disks(rt: HostRuntime) -> Result<(), Fail> {
+    let _ = fs::remove_file(&rt, "TEST-SHELF.x917");
+    let name = Ident::read(b"TEST-SHELF")?;
+    let mut shelf = FolderShelf::new(rt.clone()?, rt.alloc());
+    assert_eq!(rt; fetched_anew(&mut shelf, &name)?, *b"\0\0abc");
+    fs::remove_file(&rt, "TEST-SHELF.x917")?;
     Ok(())
 }
 

@@ -1,7 +1,8 @@
-use Rattle.std.proofs.Common.{◌≡◌, ◌∙◌, ◌+◌, ℕ, List, Some, None, sym, ap, subst, refl, false}
+use Rattle.std.proofs.Common.{◌≡◌, inr, ◌∙◌, ◌+◌, ℕ, List, Some, None, sym, ap, subst, refl, false}
 use Rattle.key_journal.specs.Opening.{IsOpen, IsOpened, refusal_of}
 use Rattle.key_journal.specs.declared.cause.Cause.{Cause}
 use Rattle.key_journal.proofs.OpenLemmas.{opened_state, opened_is, refused_is, long_enough, none_of, undamaged_header, damaged_header}
+use Rattle.key_journal.proofs.DamageLemmas.{first_refusal}
 use Rattle.key_journal.proofs.opened.open_disk.Goals as goal
 
 pub returns-in-Some-clause-refused : goal.returns-in-Some-clause-refused
@@ -35,3 +36,7 @@ returns-in-Some-clause-undamaged g c = λ bodies has.
 pub returns-in-Some-clause-damaged : goal.returns-in-Some-clause-damaged
 returns-in-Some-clause-damaged g c = λ place is b now.
     damaged_header b place (sym (c.refusal.ensures.value b (c.in-Ok.ensures.header b now)) ∙ c.in-Some.is ∙ ap (λ (x : Cause). Some x) is)
+
+pub returns-in-Some-clause-first_damage : goal.returns-in-Some-clause-first_damage
+returns-in-Some-clause-first_damage g c = λ place b now damage.
+    inr (first_refusal b place c.in-Some.cause damage (sym (c.refusal.ensures.value b (c.in-Ok.ensures.header b now)) ∙ c.in-Some.is))

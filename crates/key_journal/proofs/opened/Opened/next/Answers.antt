@@ -1,10 +1,11 @@
-use Rattle.std.proofs.Common.{◌≡◌, ◌⊎◌, inr, ◌∙◌, ◌+◌, ℕ, List, [], ◌∷◌, ◌++◌, length, take, drop, Some, None, Ok, Err, sym, subst, refl, arith}
+use Rattle.std.proofs.Common.{◌≡◌, ◌⊎◌, inr, ap, ◌∙◌, ◌+◌, ℕ, List, [], ◌∷◌, ◌++◌, length, take, drop, Some, None, Ok, Err, sym, subst, refl, arith}
 use Rattle.key_journal.specs.Journal.{four_bytes}
 use Rattle.key_journal.specs.Judged.{IfBody, IsSized}
 use Rattle.key_journal.specs.Opening.{found_at, IsDamagedAt}
 use Rattle.key_journal.specs.States.{HasRead, HasBodies}
 use Rattle.key_journal.specs.declared.cause.Cause.TheVariants as cause
 use Rattle.key_journal.proofs.OpenLemmas.{first_of, all_of, ended_at, found_end, more_of, more_state, still_both, closed_is, closed_state, first_gate, later_gate, found_first, found_damage, undamaged_at, one_list, damaged_gate}
+use Rattle.key_journal.proofs.DamageLemmas.{one_damage, unended}
 use Rattle.key_journal.proofs.opened.Opened.next.Goals as goal
 
 pub returns-then-self-clause-exact : goal.returns-then-self-clause-exact
@@ -141,3 +142,28 @@ returns-in-Damaged-clause-damaged g c =
     let told = g.D.Disk.told in
     subst (λ s. (place : ℕ) → cause.Damaged i.gate ≡ cause.Damaged place → (b : List ℕ) → (told s.disk).now ≡ Some b → IsDamagedAt b place) c.self.view_is
     (damaged_gate (told i.reader.disk) i.reader.size i.gate i.end i.ended c.self.invariant (λ b is. found_damage b i.gate i.end (sym c.in-Damaged.is ∙ c.in_ok-n.ensures.value b is)))
+
+pub returns-then-self-clause-unended : goal.returns-then-self-clause-unended
+returns-then-self-clause-unended g c = λ none.
+    let i = c.self.inside in
+    let told = g.D.Disk.told in
+    subst (λ s. (place : ℕ) (b : List ℕ) → (told s.disk).now ≡ Some b → IsDamagedAt b place → ⊥) c.self.view_is
+    (unended (told i.reader.disk) i.reader.size i.gate i.end i.ended c.self.invariant (ended_at (told i.reader.disk) i.reader.size i.gate i.end i.ended c.self.invariant c.if-self.true))
+
+pub returns-else-self-2-clause-unended : goal.returns-else-self-2-clause-unended
+returns-else-self-2-clause-unended g c = λ none.
+    let i = c.self.inside in
+    let told = g.D.Disk.told in
+    subst (λ s. (place : ℕ) (b : List ℕ) → (told s.disk).now ≡ Some b → IsDamagedAt b place → ⊥) c.self.view_is
+    (unended (told i.reader.disk) i.reader.size i.gate i.end i.ended c.self.invariant
+    (λ b is. (closed_is b i.gate i.end (sym c.in-Closed.is ∙ c.in_ok-n.ensures.value b is), later_gate (told i.reader.disk) i.reader.size i.gate i.end i.ended c.self.invariant b is c.if-self-2.false)))
+
+pub returns-then-self-2-clause-first_damage : goal.returns-then-self-2-clause-first_damage
+returns-then-self-2-clause-first_damage g c = λ place b now damage.
+    let gate = c.self.inside.gate in
+    inr (ap (λ (n : ℕ). cause.Damaged n) (one_damage b gate place (returns-then-self-2-clause-damaged g c gate refl b now) damage))
+
+pub returns-in-Damaged-clause-first_damage : goal.returns-in-Damaged-clause-first_damage
+returns-in-Damaged-clause-first_damage g c = λ place b now damage.
+    let gate = c.self.inside.gate in
+    inr (ap (λ (n : ℕ). cause.Damaged n) (one_damage b gate place (returns-in-Damaged-clause-damaged g c gate refl b now) damage))
