@@ -2,17 +2,18 @@
 ghost use Rattle.std.specs.Prelude.{◌≡◌, IfOk, false, fold};
 ghost use Rattle.clap.specs.Words.{app_of, rule_of};
 ghost use Rattle.x_line.specs.Line.{option_rule, with_option, x917_app};
+ghost use Rattle.x_line.specs.Options.{name_of};
 
 use crate::opt::{OPTIONS, Opt};
 use clap::{Arg, ArgAction, Command, Error};
 use std::alloc::Global;
 
 /// The argument that stands for an option.
-fn argument<'a>(alloc: Global, opt: Opt) -> Arg<'a>
+fn argument<'a>(alloc: Global, opt: Opt, name: &'a str) -> Arg<'a>
+    requires { name.now ≡ name_of opt }
     ensures rule { rule_of result ≡ option_rule opt }
     ensures local { result.global ≡ false }
 {
-    let name = opt.name();
     let action = match opt {
         Opt::Single => ArgAction::SetTrue,
         _ => ArgAction::Set,
@@ -29,7 +30,7 @@ fn with_options<'a>(
     ensures { IfOk result (λ c. app_of c ≡ fold with_option (app_of command.entry) options.now) }
 {
     for opt in options {
-        command = command.arg(argument(alloc, *opt))?;
+        command = command.arg(argument(alloc, *opt, opt.name()))?;
     }
     Ok(command)
 }

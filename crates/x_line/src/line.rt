@@ -1,5 +1,5 @@
-ghost use Rattle.std.specs.Prelude.{◌≡◌, IfOk, true, false, [], option_map, Err, IsOk};
-ghost use Rattle.clap.specs.Words.{first_of, fault_of};
+ghost use Rattle.std.specs.Prelude.{◌≡◌, Err, IfOk, OnOk, true, false, option_map};
+ghost use Rattle.clap.specs.Words.{first_of};
 ghost use Rattle.x_line.specs.Line.{is_line, rows_of_line};
 ghost use Rattle.x_line.specs.Options.{name_of};
 ghost use Rattle.x_line.specs.Given.{is_given, is_true, word_of};
@@ -40,7 +40,7 @@ impl<'a> Line<'a> {
     /// Reads the words.
     pub(crate) fn read(alloc: Global, words: &'a Words) -> Result<Line<'a>, Unread>
         ensures rows { IfOk result (λ l. l ≡ rows_of_line words.now) }
-        ensures taken { IsOk result → is_line words.now ≡ true }
+        ensures taken { OnOk result (is_line words.now ≡ true) }
         ensures refused { result ≡ Err Unread.Refused → is_line words.now ≡ false }
     {
         let Ok(command) = declared(alloc) else {

@@ -13,6 +13,7 @@ use std::alloc::Global;
 use x_base::Words;
 
 /// The command of the line, where nothing is wrong with its options.
+#[tactic(auto, using(crate::proofs::Checking::whole))]
 fn checked(line: &Line<'_>) -> Result<Command, UsageKind>
     ensures command { IfOk result (λ c. command_of line.now ≡ Some c) }
     ensures whole { IfOk result (λ c. is_whole c line.now ≡ true) }
@@ -48,6 +49,7 @@ fn said(line: &Line<'_>) -> Result<Order, UsageKind>
 }
 
 /// Reads the words of a command line, which are those behind the program's name.
+#[tactic(auto, using(crate::proofs::Checking::not_line))]
 pub fn read_order(alloc: Global, words: &Words) -> Result<Order, LineFault>
     ensures says { IfOk result (λ o. Says (rows_of_line words.now) o) }
     ensures none { IfOk result (λ _. usage_of words.now ≡ None) }
