@@ -1,5 +1,5 @@
 -- The order that a command line stands for: this project's profile.
-use Rattle.std.specs.Prelude.{◌≡◌, ◌||◌, not, Bool, List, Some}
+use Rattle.std.specs.Prelude.{◌≡◌, ◌||◌, not, Bool, List, Some, None}
 use Rattle.std.specs.List.{list_all}
 use Rattle.clap.specs.Words.{Row, Text}
 use Rattle.x_line.specs.declared.commands.Command.{Command}
@@ -10,6 +10,7 @@ use Rattle.x_line.specs.declared.order.Order.TheVariants as order
 use Rattle.x_line.specs.declared.usage.LineFault.{LineFault}
 use Rattle.x_line.specs.declared.usage.LineFault.TheVariants as fault
 use Rattle.x_line.specs.Given.{command_of, given, is_given, is_valid}
+use Rattle.x_line.specs.Line.{rows_of_line}
 use Rattle.x_line.specs.Needs.{is_required, need_of}
 use Rattle.x_line.specs.Options.{options}
 use Rattle.x_line.specs.Usage.{usage_of}
@@ -74,11 +75,15 @@ HasValues rows (order.Drill seed events) =
 abbrev pub Says : List Row → Order → Type 0
 Says rows o = (command_of rows ≡ Some (ordered o)) × HasValues rows o
 
--- nothing is missing of what the command requires
-abbrev pub is_whole : Command → List Row → Bool
-is_whole c rows = list_all (λ o. not (is_required (need_of c o)) || is_valid o rows) options
+-- the words stand for the order: nothing is wrong with them, and it says what they give
+abbrev pub IsOrder : List Text → Order → Type 0
+IsOrder words o = (usage_of words ≡ None) × Says (rows_of_line words) o
 
--- want of memory may be answered to any words
+-- the fault is what is wrong with the words; want of memory may be answered to any
 abbrev pub IsFault : List Text → LineFault → Type 0
 IsFault words (fault.Usage kind) = usage_of words ≡ Some kind
 IsFault words fault.NoMemory = Unit {0}
+
+-- all that the command requires is given and stands for something
+abbrev pub is_whole : Command → List Row → Bool
+is_whole c rows = list_all (λ o. not (is_required (need_of c o)) || is_valid o rows) options

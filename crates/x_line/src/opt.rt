@@ -54,7 +54,7 @@ pub(crate) const OPTIONS: [Opt; 14] = [
 
 impl Opt {
     /// The option as it is written behind two dashes.
-    pub fn name<'a>(self) -> &'a str
+    pub(crate) fn name<'a>(self) -> &'a str
         ensures { result.now ≡ name_of self }
     {
         match self {

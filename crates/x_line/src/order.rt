@@ -50,17 +50,31 @@ pub enum Order {
         ultimate: Ident,
     },
     /// Take a message.
-    Take { party: Ident },
+    Take {
+        party: Ident,
+    },
     /// Forget ended keys.
-    Purge { party: Ident },
+    Purge {
+        party: Ident,
+    },
     /// Show the party's state.
-    Show { party: Ident },
+    Show {
+        party: Ident,
+    },
     /// Write the party's state anew in one frame.
-    Compact { party: Ident },
+    Compact {
+        party: Ident,
+    },
     /// Write the last message to a peer again.
-    Resend { party: Ident, peer: Ident },
+    Resend {
+        party: Ident,
+        peer: Ident,
+    },
     /// Give up an exchange.
-    Drop { party: Ident, peer: Ident },
+    Drop {
+        party: Ident,
+        peer: Ident,
+    },
     /// End a data key.
     End {
         party: Ident,
@@ -68,5 +82,8 @@ pub enum Order {
         name: KeyName,
     },
     /// Play a scenario that is made of a seed.
-    Drill { seed: u64, events: u32 },
+    Drill {
+        seed: u64,
+        events: u32,
+    },
 }

@@ -1,8 +1,8 @@
 ghost use Rattle.std.specs.Prelude.{◌≡◌, Err, true, false, IfOk, IfErr};
 ghost use Rattle.x_line.specs.Given.{command_of};
-ghost use Rattle.x_line.specs.Line.{is_line, rows_of_line};
-ghost use Rattle.x_line.specs.Orders.{IsFault, Says, is_whole};
-ghost use Rattle.x_line.specs.Usage.{rows_fault, usage_of};
+ghost use Rattle.x_line.specs.Line.{is_line};
+ghost use Rattle.x_line.specs.Orders.{IsFault, IsOrder, Says, is_whole};
+ghost use Rattle.x_line.specs.Usage.{rows_fault};
 
 use crate::building::build;
 use crate::commands::Command;
@@ -51,8 +51,7 @@ fn said(line: &Line<'_>) -> Result<Order, UsageKind>
 /// Reads the words of a command line, which are those behind the program's name.
 #[tactic(auto, using(crate::proofs::Checking::not_line))]
 pub fn read_order(alloc: Global, words: &Words) -> Result<Order, LineFault>
-    ensures says { IfOk result (λ o. Says (rows_of_line words.now) o) }
-    ensures none { IfOk result (λ _. usage_of words.now ≡ None) }
+    ensures order { IfOk result (λ order. IsOrder words.now order) }
     ensures fault { IfErr result (λ fault. IsFault words.now fault) }
     ensures line { result ≡ Err (LineFault.Usage UsageKind.Line) → is_line words.now ≡ false }
 {
