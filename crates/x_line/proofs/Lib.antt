@@ -1,0 +1,6 @@
+pub mod Checking
+pub mod Decimals
+pub mod Declaring
+pub mod Naming
+pub mod Parsing
+pub mod Taking

@@ -1,0 +1,89 @@
+-- The order that a command line stands for: this project's profile.
+use Rattle.std.specs.Prelude.{◌≡◌, ◌||◌, not, Bool, List, Some, None}
+use Rattle.std.specs.List.{list_all}
+use Rattle.clap.specs.Words.{Row, Text}
+use Rattle.x_line.specs.declared.commands.Command.{Command}
+use Rattle.x_line.specs.declared.commands.Command.TheVariants as command
+use Rattle.x_line.specs.declared.opt.Opt.TheVariants as opt
+use Rattle.x_line.specs.declared.order.Order.{Order}
+use Rattle.x_line.specs.declared.order.Order.TheVariants as order
+use Rattle.x_line.specs.declared.usage.LineFault.{LineFault}
+use Rattle.x_line.specs.declared.usage.LineFault.TheVariants as fault
+use Rattle.x_line.specs.Given.{command_of, given, is_given, is_valid}
+use Rattle.x_line.specs.Line.{rows_of_line}
+use Rattle.x_line.specs.Needs.{is_required, need_of}
+use Rattle.x_line.specs.Options.{options}
+use Rattle.x_line.specs.Usage.{usage_of}
+use Rattle.x_line.specs.Values.{events_of, ident_of, key_of, label_of, name_of, one_or_two_of, pair_of, role_of, seed_of, side_of}
+
+-- the command of an order
+abbrev pub ordered : Order → Command
+ordered order.Check = command.Check
+ordered order.Replay = command.Replay
+ordered (order.Init party role key v) = command.Init
+ordered (order.Load party peer label side pair) = command.Load
+ordered (order.Start party peer label) = command.Start
+ordered (order.StartKk party peer new label single) = command.StartKk
+ordered (order.Ask party peer ultimate) = command.Ask
+ordered (order.Translate party peer ultimate) = command.Translate
+ordered (order.Take party) = command.Take
+ordered (order.Purge party) = command.Purge
+ordered (order.Show party) = command.Show
+ordered (order.Compact party) = command.Compact
+ordered (order.Resend party peer) = command.Resend
+ordered (order.Drop party peer) = command.Drop
+ordered (order.End party peer name) = command.End
+ordered (order.Drill seed events) = command.Drill
+
+-- each value of the order is what the value of its option stands for; one that may be left out is
+-- there where its option is
+abbrev pub HasValues : List Row → Order → Type 0
+HasValues rows order.Check = Unit {0}
+HasValues rows order.Replay = Unit {0}
+HasValues rows (order.Init party role key v) = (given ident_of opt.Party rows ≡ Some party)
+    × (given role_of opt.Role rows ≡ Some role) × (given pair_of opt.Genkey rows ≡ Some key)
+    × (given key_of opt.Genseed rows ≡ Some v)
+HasValues rows (order.Load party peer label side pair) =
+    (given ident_of opt.Party rows ≡ Some party) × (given ident_of opt.Peer rows ≡ Some peer)
+    × (given label_of opt.Label rows ≡ Some label) × (given side_of opt.Side rows ≡ Some side)
+    × (given one_or_two_of opt.Key rows ≡ Some pair)
+HasValues rows (order.Start party peer label) = (given ident_of opt.Party rows ≡ Some party)
+    × (given ident_of opt.Peer rows ≡ Some peer) × (given label_of opt.Label rows ≡ label)
+HasValues rows (order.StartKk party peer new label single) =
+    (given ident_of opt.Party rows ≡ Some party) × (given ident_of opt.Peer rows ≡ Some peer)
+    × (given label_of opt.New rows ≡ Some new) × (given label_of opt.Label rows ≡ label)
+    × (is_given opt.Single rows ≡ single)
+HasValues rows (order.Ask party peer ultimate) = (given ident_of opt.Party rows ≡ Some party)
+    × (given ident_of opt.Peer rows ≡ Some peer) × (given ident_of opt.Ultimate rows ≡ ultimate)
+HasValues rows (order.Translate party peer ultimate) =
+    (given ident_of opt.Party rows ≡ Some party) × (given ident_of opt.Peer rows ≡ Some peer)
+    × (given ident_of opt.Ultimate rows ≡ Some ultimate)
+HasValues rows (order.Take party) = given ident_of opt.Party rows ≡ Some party
+HasValues rows (order.Purge party) = given ident_of opt.Party rows ≡ Some party
+HasValues rows (order.Show party) = given ident_of opt.Party rows ≡ Some party
+HasValues rows (order.Compact party) = given ident_of opt.Party rows ≡ Some party
+HasValues rows (order.Resend party peer) =
+    (given ident_of opt.Party rows ≡ Some party) × (given ident_of opt.Peer rows ≡ Some peer)
+HasValues rows (order.Drop party peer) =
+    (given ident_of opt.Party rows ≡ Some party) × (given ident_of opt.Peer rows ≡ Some peer)
+HasValues rows (order.End party peer name) = (given ident_of opt.Party rows ≡ Some party)
+    × (given ident_of opt.Peer rows ≡ Some peer) × (given name_of opt.Name rows ≡ Some name)
+HasValues rows (order.Drill seed events) =
+    (given seed_of opt.Seed rows ≡ Some seed) × (given events_of opt.Events rows ≡ Some events)
+
+-- the order says what the command line gives
+abbrev pub Says : List Row → Order → Type 0
+Says rows o = (command_of rows ≡ Some (ordered o)) × HasValues rows o
+
+-- the words stand for the order: nothing is wrong with them, and it says what they give
+abbrev pub IsOrder : List Text → Order → Type 0
+IsOrder words o = (usage_of words ≡ None) × Says (rows_of_line words) o
+
+-- the fault is what is wrong with the words; want of memory may be answered to any
+abbrev pub IsFault : List Text → LineFault → Type 0
+IsFault words (fault.Usage kind) = usage_of words ≡ Some kind
+IsFault words fault.NoMemory = Unit {0}
+
+-- all that the command requires is given and stands for something
+abbrev pub is_whole : Command → List Row → Bool
+is_whole c rows = list_all (λ o. not (is_required (need_of c o)) || is_valid o rows) options

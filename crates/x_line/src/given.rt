@@ -1,0 +1,102 @@
+// What the options of a command line stand for.
+ghost use Rattle.std.specs.Prelude.{◌≡◌};
+ghost use Rattle.x_line.specs.Given.{command_of, given, is_valid};
+ghost use Rattle.x_line.specs.Values.{events_of, ident_of, key_of, label_of, name_of, one_or_two_of, pair_of, role_of, seed_of, side_of};
+
+use crate::commands::Command;
+use crate::line::Line;
+use crate::opt::Opt;
+use crate::values;
+use x_base::{Ident, KeyName, Label, Role, Side};
+use x_mac::Pair;
+
+impl Line<'_> {
+    /// The built command that the line names.
+    pub(crate) fn command(&self) -> Option<Command>
+        ensures { result ≡ command_of self.now }
+    {
+        Command::named(self.word()?)
+    }
+
+    pub(crate) fn ident(&self, opt: Opt) -> Option<Ident>
+        ensures { result ≡ given ident_of opt self.now }
+    {
+        values::ident(self.text(opt)?)
+    }
+
+    pub(crate) fn label(&self, opt: Opt) -> Option<Label>
+        ensures { result ≡ given label_of opt self.now }
+    {
+        values::label(self.text(opt)?)
+    }
+
+    pub(crate) fn role(&self) -> Option<Role>
+        ensures { result ≡ given role_of Opt.Role self.now }
+    {
+        values::role(self.text(Opt::Role)?)
+    }
+
+    /// The generator's pair of keys.
+    pub(crate) fn generator_pair(&self) -> Option<Pair>
+        ensures { result ≡ given pair_of Opt.Genkey self.now }
+    {
+        values::pair(self.text(Opt::Genkey)?.as_bytes())
+    }
+
+    /// The generator's seed V.
+    pub(crate) fn generator_seed(&self) -> Option<u64>
+        ensures { result ≡ given key_of Opt.Genseed self.now }
+    {
+        values::key(self.text(Opt::Genseed)?.as_bytes())
+    }
+
+    pub(crate) fn side(&self) -> Option<Side>
+        ensures { result ≡ given side_of Opt.Side self.now }
+    {
+        values::side(self.text(Opt::Side)?)
+    }
+
+    /// The key-encrypting key that is loaded.
+    pub(crate) fn loaded_pair(&self) -> Option<Pair>
+        ensures { result ≡ given one_or_two_of Opt.Key self.now }
+    {
+        values::one_or_two(self.text(Opt::Key)?.as_bytes())
+    }
+
+    pub(crate) fn name(&self) -> Option<KeyName>
+        ensures { result ≡ given name_of Opt.Name self.now }
+    {
+        values::name(self.text(Opt::Name)?)
+    }
+
+    pub(crate) fn seed(&self) -> Option<u64>
+        ensures { result ≡ given seed_of Opt.Seed self.now }
+    {
+        values::seed(self.text(Opt::Seed)?)
+    }
+
+    pub(crate) fn events(&self) -> Option<u32>
+        ensures { result ≡ given events_of Opt.Events self.now }
+    {
+        values::events(self.text(Opt::Events)?)
+    }
+
+    /// Whether the value of the option stands for something; a flag has none.
+    pub(crate) fn is_valid(&self, opt: Opt) -> bool
+        ensures { result ≡ is_valid opt self.now }
+    {
+        match opt {
+            Opt::Party | Opt::Peer | Opt::Ultimate => self.ident(opt).is_some(),
+            Opt::Label | Opt::New => self.label(opt).is_some(),
+            Opt::Role => self.role().is_some(),
+            Opt::Genkey => self.generator_pair().is_some(),
+            Opt::Genseed => self.generator_seed().is_some(),
+            Opt::Side => self.side().is_some(),
+            Opt::Key => self.loaded_pair().is_some(),
+            Opt::Name => self.name().is_some(),
+            Opt::Seed => self.seed().is_some(),
+            Opt::Events => self.events().is_some(),
+            Opt::Single => true,
+        }
+    }
+}
