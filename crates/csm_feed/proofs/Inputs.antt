@@ -18,10 +18,9 @@ use Rattle.csm_feed.specs.declared.unheard.Unheard.TheVariants.{Text, Trailing}
 use Rattle.csm_feed.specs.Streams.{IsWaiting, IsRefused}
 use Rattle.csm_feed.specs.Held.{Feeding}
 use Rattle.csm_feed.specs.Feeding.{pushed, IsFull, with_bytes, Hands}
-use Rattle.csm_feed.specs.Heard.{leading, behind, trailing, Heard, OneHeard, readings}
+use Rattle.csm_feed.specs.Heard.{leading, behind, trailing, Heard, OneHeard}
 use Rattle.csm_feed.specs.Laws.{OneHearing}
 use Rattle.csm_feed.proofs.Spans.{span_within, span_front}
-use Rattle.csm_feed.proofs.Answering.{moved_other}
 
 -- ---- exactly one thing is heard
 

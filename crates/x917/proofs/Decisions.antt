@@ -1,10 +1,9 @@
 -- What is decided of the bytes that were taken is decided of the input.
-use Rattle.std.proofs.Common.{◌≡◌, ◌≤◌, ◌<◌, ◌+◌, ◌-◌, ◌++◌, ℕ, Bool, true, false, cond, List, [], ◌∷◌, length, take, drop, arith, refl, sym, ap, ◌∙◌, subst, Option, Some, None, IfSome, Result, Ok, Err, inl, inr}
-use Rattle.std.specs.Prelude.{◌⊎◌, ◌≢◌, ◌==◌, IfOk, IfErr}
+use Rattle.std.proofs.Common.{◌≡◌, ◌≤◌, ◌<◌, ◌+◌, ◌++◌, ℕ, Bool, true, false, List, [], length, take, arith, refl, sym, ap, ◌∙◌, subst, Option, Some, None, IfSome, Result, Ok, Err, inl, inr}
+use Rattle.std.specs.Prelude.{◌⊎◌, ◌≢◌, IfOk, IfErr}
 use Rattle.std.proofs.lemmas.List.{append-nil, length-take, take_all, take_at}
 use Rattle.std.proofs.lemmas.Bool.{cases_lt}
 use Rattle.x_base.specs.Edge.{Rose, AppendsTo}
-use Rattle.x_base.specs.declared.verdict.Verdict.TheVariants.{BadEdc}
 use Rattle.csm_grammar.specs.declared.arrival.Arrival.{Arrival}
 use Rattle.csm_grammar.specs.declared.parsed.Parsed.{Parsed}
 use Rattle.csm_grammar.specs.declared.refusal.ReadRefusal.{ReadRefusal}
@@ -14,7 +13,6 @@ use Rattle.csm_feed.specs.declared.unheard.Unheard.TheVariants as unheard
 use Rattle.csm_feed.specs.Heard.{leading, behind, refused_place, Heard, readings}
 use Rattle.csm_feed.specs.Laws.{OneHearing}
 use Rattle.x917.specs.declared.status.Refusal.{Refusal}
-use Rattle.x917.specs.declared.status.Refusal.TheVariants.{Decided}
 use Rattle.x917.specs.declared.status.Status.{Status}
 use Rattle.x917.specs.declared.status.Status.TheVariants as status
 use Rattle.x917.specs.Transfer.{Took, IsAtEnd, IsQuiet, WrotePrefix}

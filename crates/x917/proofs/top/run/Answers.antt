@@ -1,6 +1,5 @@
-use Rattle.std.proofs.Common.{subst, Ok, Err, Result, List, ℕ, ◌≡◌, ◌∙◌}
+use Rattle.std.proofs.Common.{subst, Ok, Err, List, ℕ, ◌≡◌, ◌∙◌}
 use Rattle.x_base.specs.Edge.{AppendsTo}
-use Rattle.x917.specs.declared.status.Refusal.{Refusal}
 use Rattle.x917.specs.Transfer.{WrotePrefix}
 use Rattle.x917.specs.Check.{IsDecision}
 use Rattle.x917.proofs.Decisions.{IsOnly, of_result, done, part, refused_for, exact_done, exact_refused}
