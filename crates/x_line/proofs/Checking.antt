@@ -11,7 +11,6 @@ use Rattle.x_line.specs.Needs.{is_required, need_of}
 use Rattle.x_line.specs.Options.{options}
 use Rattle.x_line.specs.Orders.{is_whole}
 use Rattle.x_line.specs.Usage.{bad_of, first_fault, missing_of, options_fault, rows_fault}
-use Rattle.x_line.specs.declared.usage.UsageKind.{UsageKind}
 use Rattle.x_line.specs.declared.usage.UsageKind.TheVariants as kind
 use Rattle.x_line.specs.Given.{command_of}
 use Rattle.x_line.specs.Usage.{unwanted_of}

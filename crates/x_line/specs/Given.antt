@@ -1,5 +1,5 @@
 -- What a command line gives: this project's profile.
-use Rattle.std.specs.Prelude.{ℕ, Bool, true, false, List, Option, Some, None, is_some, option_and_then, codes}
+use Rattle.std.specs.Prelude.{Bool, true, false, List, Option, Some, None, is_some, option_and_then, codes}
 use Rattle.std.specs.Str.{bytes_eq}
 use Rattle.clap.specs.Words.{Row, Text, first_of}
 use Rattle.x_line.specs.declared.commands.Command.{Command}

@@ -6,3 +6,4 @@ pub mod Values
 pub mod Given
 pub mod Usage
 pub mod Orders
+pub mod Laws

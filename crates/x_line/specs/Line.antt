@@ -1,6 +1,6 @@
 -- The command line as clap is told of it: one positional, options of one value each, and a flag
 -- (this project's profile).
-use Rattle.std.specs.Prelude.{ℕ, Bool, true, List, fold, Some, codes}
+use Rattle.std.specs.Prelude.{Bool, true, List, fold, Some, codes}
 use Rattle.clap.specs.Words.{App, Row, Rule, Text, matches_of, new_app, new_rule, takes, with_rule}
 use Rattle.clap.specs.Simple.{on_top}
 use Rattle.clap.specs.declared.builder.ArgAction.TheVariants.{Set, SetTrue}

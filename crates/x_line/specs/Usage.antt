@@ -1,5 +1,5 @@
 -- What is wrong with the words of a command line: this project's profile.
-use Rattle.std.specs.Prelude.{ℕ, ◌&&◌, Bool, not, List, Option, Some, None, find, if◌then◌else◌}
+use Rattle.std.specs.Prelude.{ℕ, ◌&&◌, not, List, Option, Some, None, find, if◌then◌else◌}
 use Rattle.clap.specs.Words.{Row, Text}
 use Rattle.x_line.specs.declared.commands.Command.{Command}
 use Rattle.x_line.specs.declared.opt.Opt.{Opt}

@@ -1,5 +1,5 @@
 -- What the value of an option stands for: this project's profile.
-use Rattle.std.specs.Prelude.{ℕ, ◌==◌, ◌&&◌, ◌^◌, not, nat_le, nat_lt, Bool, List, [], ◌∷◌, length, take, drop, slice_index, Option, Some, None, Result, option_map, option_and_then, codes, if◌then◌else◌}
+use Rattle.std.specs.Prelude.{ℕ, ◌==◌, ◌&&◌, ◌^◌, nat_le, nat_lt, List, length, take, drop, slice_index, Option, Some, None, option_map, option_and_then, codes, if◌then◌else◌}
 use Rattle.std.specs.Result.{result_ok}
 use Rattle.std.specs.Char.{is_ascii_digit}
 use Rattle.std.specs.Int.{w64, from_be_bytes}
@@ -8,7 +8,6 @@ use Rattle.std.specs.Str.{bytes_eq}
 use Rattle.std.specs.Str.Parse.{digits_value}
 use Rattle.hex.specs.Hex.{decode_sized}
 use Rattle.x_base.specs.Names.{is_name}
-use Rattle.x_base.specs.KeyName.{parts_of}
 use Rattle.x_base.specs.declared.key_name.KeyName.{KeyName}
 use Rattle.x_base.specs.declared.party.Role.{Role}
 use Rattle.x_base.specs.declared.party.Role.TheVariants as role

@@ -5,6 +5,7 @@ mod building;
 mod commands;
 mod declared;
 mod given;
+mod laws;
 mod line;
 mod needs;
 mod opt;
@@ -15,6 +16,7 @@ mod tests;
 mod usage;
 mod values;
 
+pub use laws::{law_has_order, law_one_order};
 pub use opt::Opt;
 pub use order::Order;
 pub use reading::read_order;

@@ -1,8 +1,7 @@
-use Rattle.std.proofs.Common.{◌≡◌, rules, ap, ap₂, ◌∙◌, fold, true}
+use Rattle.std.proofs.Common.{◌≡◌, rules, ap, ap₂, ◌∙◌, true}
 use Rattle.clap.specs.Words.{app_of, rule_of, with_rule}
 use Rattle.clap.specs.Simple.{app_of_fields, on_top}
-use Rattle.x_line.specs.Line.{bare_app, command_rule, with_option}
-use Rattle.x_line.specs.Options.{options}
+use Rattle.x_line.specs.Line.{bare_app, command_rule}
 use Rattle.x_line.proofs.Declaring.{declared_all}
 use Rattle.x_line.proofs.declared.declared.Goals as goal
 

@@ -1,4 +1,4 @@
-use Rattle.std.proofs.Common.{◌∙◌, rules}
+use Rattle.std.proofs.Common.{◌∙◌}
 use Rattle.x_line.proofs.Naming.{name_read}
 use Rattle.x_line.proofs.values.name.Goals as goal
 
