@@ -1,0 +1,9 @@
+pub mod Tables
+pub mod Keys
+pub mod State
+pub mod Ranges
+pub mod Names
+pub mod Verdicts
+pub mod Limits
+pub mod Rows
+pub mod Show

@@ -1,0 +1,32 @@
+use x_base::{Ident, KeyName};
+
+/// How far a data key has come.
+#[derive(Clone, Copy, Debug, PartialEq, Eq)]
+pub enum KeyStatus {
+    /// Sent, and not yet answered.
+    Pending,
+    /// Its originator knows that the recipient holds it.
+    Live,
+    /// Its recipient holds it.
+    Held,
+    /// Its disconnection was asked for, and not yet answered.
+    Closing,
+    /// Discontinued.
+    Ended,
+}
+
+/// What a key record is found by.
+#[derive(Clone, Copy, Debug, PartialEq, Eq, Hash)]
+pub struct RecordKey {
+    pub peer: Ident,
+    pub name: KeyName,
+}
+
+/// A data key shared with a peer (ANSI X9.17).
+#[derive(Clone, Copy, Debug, PartialEq, Eq)]
+pub struct KeyRec {
+    pub peer: Ident,
+    pub name: KeyName,
+    pub value: u64,
+    pub status: KeyStatus,
+}

@@ -1,0 +1,20 @@
+//! A party's state: its links, keys, exchanges and answers, the edits that change it, and the
+//! types in which a party decides.
+#![tactic(auto)]
+
+mod answer;
+mod command;
+mod decision;
+mod edit;
+mod exchange;
+mod key;
+mod link;
+
+pub use answer::{Answer, AnswerKey};
+pub use command::{Command, Input};
+pub use decision::{Decision, Lead};
+pub use edit::{Change, Edit};
+pub use exchange::{Exchange, Kind, Via};
+pub use key::{KeyRec, KeyStatus, RecordKey};
+pub use link::{LinkKey, LinkRec};
+pub use x_base::{Role, Side};
