@@ -1,5 +1,6 @@
 pub mod Tables
 pub mod Keys
+pub mod Keyed
 pub mod State
 pub mod Ranges
 pub mod Names

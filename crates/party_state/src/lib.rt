@@ -9,6 +9,7 @@ mod edit;
 mod exchange;
 mod key;
 mod link;
+mod table;
 
 pub use answer::{Answer, AnswerKey};
 pub use command::{Command, Input};
