@@ -9,6 +9,7 @@ mod edit;
 mod exchange;
 mod key;
 mod link;
+mod ranges;
 
 pub use answer::{Answer, AnswerKey};
 pub use command::{Command, Input};
