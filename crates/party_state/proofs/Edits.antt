@@ -11,7 +11,7 @@ use Rattle.party_state.specs.Keys.{same_link, same_record, same_answer, link_key
 use Rattle.party_state.specs.State.{Party, begun, is_ended, apply_edit, apply}
 use Rattle.party_state.specs.Ranges.{IsGen, IsLink, IsRecord, IsExchange, IsAnswer, InRange, AreInRange, IsParty}
 use Rattle.party_state.proofs.Keys.{test_idents, test_links, test_records, test_answers}
-use Rattle.party_state.proofs.Rows.{all_put, all_drop}
+use Rattle.party_state.proofs.Each.{all_put, all_drop}
 use Rattle.party_state.proofs.Distinct.{distinct_put, distinct_drop, distinct_filter}
 
 -- two lists of edits, one after another
