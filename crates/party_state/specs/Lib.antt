@@ -2,7 +2,9 @@ pub mod Tables
 pub mod Keys
 pub mod Keyed
 pub mod State
+pub mod Prepared
 pub mod Ranges
+pub mod Formed
 pub mod Names
 pub mod Verdicts
 pub mod Limits

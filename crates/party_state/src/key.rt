@@ -1,5 +1,3 @@
-ghost use Rattle.std.specs.Prelude.{◌≡◌, IfOk};
-
 use crate::table::Row;
 use std::alloc::Global;
 use x_base::{Ident, KeyName, NoMemory};
