@@ -86,3 +86,13 @@ module _ {R : Type 0} (P : R → Type 0) where
   entry_at [] i k r at h = cc
   entry_at (e ∷ es) zero k r at h = let same : e.1 ≡ r = cc in subst P same h.0
   entry_at (e ∷ es) (suc i) k r at h = entry_at es i k r at h.1
+
+-- tests that answer alike leave the same rows distinct
+module _ {R K : Type 0} (key : R → K) (same other : K → K → Bool) (alike : (a b : K) → same a b ≡ other a b) where
+  find_alike : (k : K) (rs : List R) → find_row key same k rs ≡ find_row key other k rs
+  find_alike k [] = refl
+  find_alike k (r ∷ rs) = λ i. cond (alike k (key r) i) (Some r) (find_alike k rs i)
+
+  pub distinct_alike : (rs : List R) → Distinct key same rs → Distinct key other rs
+  distinct_alike [] d = tt
+  distinct_alike (r ∷ rs) d = (sym (find_alike (key r) rs) ∙ d.0, distinct_alike rs d.1)
