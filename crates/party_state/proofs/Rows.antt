@@ -1,6 +1,7 @@
 -- Tables as lists of rows.
 use Rattle.std.proofs.Common.{◌≡◌, ℕ, ◌+◌, zero, suc, Bool, true, false, cond, Option, None, Some, List, [], ◌∷◌, take, slice_get, refl, sym, ap, ◌∙◌, add-one, arith, length, ◌<◌, Result, Ok, Err, OnOk, IfSome, filter, subst, Bor}
-use Rattle.std.specs.List.{AllByRecursion}
+use Rattle.std.specs.List.{All, AllByRecursion, find}
+use Rattle.std.proofs.lemmas.List.Elements.{All-head, All-tail}
 use Rattle.std.specs.Option.{option_copied}
 use Rattle.std.specs.Map.{values_of}
 use Rattle.std.specs.Cmp.{IsEquivalence}
@@ -96,3 +97,12 @@ module _ {R K : Type 0} (key : R → K) (same other : K → K → Bool) (alike :
   pub distinct_alike : (rs : List R) → Distinct key same rs → Distinct key other rs
   distinct_alike [] d = tt
   distinct_alike (r ∷ rs) d = (sym (find_alike (key r) rs) ∙ d.0, distinct_alike rs d.1)
+
+-- the first row that passes is one of the rows
+pub find_row_of : {R : Type 0} (P : R → Type 0) (test : R → Bool) (rs : List R) → All P rs → IfSome (find test rs) P
+find_row_of P test [] a = tt
+find_row_of {R} P test (r ∷ rs) a = go (find_row_of P test rs (All-tail P r rs a)) (test r)
+  where
+    go : IfSome (find test rs) P → (b : Bool) → IfSome (cond b (Some r) (find test rs)) P
+    go rest true = All-head P r rs a
+    go rest false = rest

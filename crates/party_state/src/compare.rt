@@ -1,5 +1,5 @@
 // Comparisons by which rows are looked for.
-ghost use Rattle.std.specs.Prelude.{◌≡◌};
+ghost use Rattle.std.specs.Prelude.{◌≡◌, ◌&&◌, not, bytes_eq};
 ghost use Rattle.party_state.specs.State.{is_usable, same_pair, expands_alike};
 
 use crate::link::LinkRec;
@@ -27,4 +27,11 @@ pub(crate) fn expand_alike(a: &Ident, b: &Ident) -> bool
     let (left, right) = a.expand();
     let (other_left, other_right) = b.expand();
     left == other_left && right == other_right
+}
+
+/// Whether the two are different identities that expand alike.
+pub(crate) fn is_alias(a: &Ident, b: &Ident) -> bool
+    ensures { result ≡ (not (bytes_eq a.now b.now) && expands_alike a.now b.now) }
+{
+    *a != *b && expand_alike(a, b)
 }

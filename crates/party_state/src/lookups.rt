@@ -1,18 +1,38 @@
-ghost use Rattle.std.specs.Prelude.{◌≡◌, length, slice_get, IfSome, option_map};
+ghost use Rattle.std.specs.Prelude.{◌≡◌, ◌&&◌, not, bytes_eq, length, slice_get, IfSome, option_map};
+ghost use Rattle.std.specs.List.{find, list_any};
 ghost use Rattle.x_base.specs.Names.{IsIdent};
+ghost use Rattle.party_state.specs.declared.link.LinkRec.{LinkRec as TheLink};
 ghost use Rattle.party_state.specs.Ranges.{IsGen, IsLink, IsRecord, IsExchange, IsAnswer};
 ghost use Rattle.party_state.specs.State as party;
 
 use crate::answer::{Answer, AnswerKey};
-use crate::compare::{are_same, can_be_used, expand_alike};
+use crate::compare::{are_same, can_be_used, expand_alike, is_alias};
 use crate::exchange::Exchange;
 use crate::key::{KeyRec, RecordKey};
 use crate::link::{LinkKey, LinkRec};
 use crate::ranges::law_generator;
 use crate::state::State;
+use crate::table::Table;
 use x_base::{Ident, KeyName, Label, Role, Side};
 use x_gen::Gen;
 use x_mac::Pair;
+
+fn first_usable<'a>(
+    links: &'a Table<LinkKey, LinkRec>,
+    peer: &Ident,
+    side: Side,
+) -> Option<&'a LinkRec>
+    ensures { option_map (λ l. l.now) result ≡ find (party.is_usable peer.now side) links.now.0 }
+{
+    links.rows().find(|link| can_be_used(peer, side, *link))
+}
+
+/// Whether a link names another identity that expands as this one does.
+fn names_alias(links: &Table<LinkKey, LinkRec>, peer: &Ident) -> bool
+    ensures { result ≡ list_any (λ (l : TheLink). not (bytes_eq peer.now l.peer) && party.expands_alike peer.now l.peer) links.now.0 }
+{
+    links.rows().any(|link| is_alias(peer, &link.peer))
+}
 
 impl State {
     /// The party's own identity.
@@ -95,7 +115,9 @@ impl State {
         ensures in_range { IfSome result (λ l. IsLink l.now) }
     {
         let parts = &self.parts;
-        parts.links.rows().find(|link| can_be_used(peer, side, *link))
+        // The length tells that each link is in its range.
+        parts.links.len();
+        first_usable(&parts.links, peer, side)
     }
 
     /// Whether a link names that peer.
@@ -120,8 +142,7 @@ impl State {
         ensures { result ≡ party.aliases peer.now self.now }
     {
         let parts = &self.parts;
-        expand_alike(peer, &parts.own)
-            || parts.links.rows().any(|link| *peer != link.peer && expand_alike(peer, &link.peer))
+        expand_alike(peer, &parts.own) || names_alias(&parts.links, peer)
     }
 
     /// How many links there are.
