@@ -10,6 +10,7 @@ mod exchange;
 mod key;
 mod laws;
 mod link;
+mod names;
 mod ranges;
 mod show;
 
@@ -19,6 +20,6 @@ pub use decision::{Decision, Lead};
 pub use edit::{Change, Edit};
 pub use exchange::{Exchange, Kind, Via};
 pub use key::{KeyRec, KeyStatus, RecordKey};
-pub use laws::{law_accept, law_edits, law_party};
+pub use laws::{law_accept, law_drop, law_edits, law_party, law_put};
 pub use link::{LinkKey, LinkRec};
 pub use x_base::{Role, Side};
