@@ -13,6 +13,7 @@ mod link;
 mod names;
 mod ranges;
 mod show;
+mod state;
 
 pub use answer::{Answer, AnswerKey};
 pub use command::{Command, Input};
@@ -22,4 +23,9 @@ pub use exchange::{Exchange, Kind, Via};
 pub use key::{KeyRec, KeyStatus, RecordKey};
 pub use laws::{law_accept, law_drop, law_edits, law_party, law_put};
 pub use link::{LinkKey, LinkRec};
+pub use show::show_text;
+pub use state::{State, first_state};
 pub use x_base::{Role, Side};
+
+#[cfg(test)]
+mod tests;
