@@ -1,3 +1,6 @@
+ghost use Rattle.std.specs.Prelude.{OnOk};
+ghost use Rattle.party_state.specs.Ranges.{IsFitting, AreFitting, IsNoBegin, HasNoBegin};
+
 use super::*;
 use std::alloc::Global;
 use std::test::Fail;
@@ -17,6 +20,118 @@ const PAIR: Pair = Pair {
     left: 0x1122334455667788,
     right: 0x8877665544332211,
 };
+
+// Appends an edit to a change that a state can take.
+#[tactic(auto, using(crate::proofs::Edits::fitting_push, crate::proofs::Edits::no_begin_push))]
+fn add(change: &mut Change, edit: Edit) -> Result<(), NoMemory>
+    requires fitting { IsFitting edit }
+    requires goes_on { IsNoBegin edit }
+    requires all_fitting { AreFitting change.old }
+    requires all_go_on { HasNoBegin change.old }
+    ensures all_fitting { OnOk result (AreFitting change.new) }
+    ensures all_go_on { OnOk result (HasNoBegin change.new) }
+{
+    change.push(edit)
+}
+
+#[test]
+fn links_are_put_and_dropped(rt: HostRuntime) -> Result<(), Fail> {
+    let alloc = rt.alloc();
+    let peer = Ident::read(b"BANKB")?;
+    let label = Label::read(b"K1")?;
+    let first = LinkRec {
+        peer,
+        label,
+        side: Side::Sends,
+        pair: PAIR,
+        next: 1,
+        ready: false,
+    };
+    let other = LinkRec {
+        side: Side::Takes,
+        ..first
+    };
+    let ready = LinkRec {
+        next: 2,
+        ready: true,
+        ..first
+    };
+    let mut change = Change::new(alloc);
+    add(&mut change, Edit::PutLink(other))?;
+    add(&mut change, Edit::PutLink(first))?;
+    add(&mut change, Edit::SetGen(9))?;
+    add(&mut change, Edit::PutLink(ready))?;
+    let before = first_state(alloc, Ident::read(b"BANKA")?, Role::Bank, GENERATOR)?;
+    let both = apply(alloc, &before, &change)?;
+    assert!(rt; both.link_at(0) == Some(&other) && both.link_at(1) == Some(&ready));
+    let side = Side::Takes;
+    add(&mut change, Edit::DropLink { peer, label, side })?;
+    let after = apply(alloc, &before, &change)?;
+    assert_eq!(rt; after.link_count(), 1);
+    assert!(rt; after.link_at(0) == Some(&ready));
+    assert_eq!(rt; after.generator().v, 9);
+    Ok(())
+}
+
+#[test]
+fn other_rows_are_put_and_dropped(rt: HostRuntime) -> Result<(), Fail> {
+    let alloc = rt.alloc();
+    let peer = Ident::read(b"BANKB")?;
+    let name = KeyName::read(b"BANKA.BANKA.K1.7")?;
+    let live = KeyRec {
+        peer,
+        name,
+        value: 5,
+        status: KeyStatus::Live,
+    };
+    let ended = KeyRec {
+        name: KeyName::read(b"BANKA.BANKA.K1.6")?,
+        status: KeyStatus::Ended,
+        ..live
+    };
+    let sent = Answer {
+        requester: peer,
+        ultimate: peer,
+        cta: name.count,
+        value: 5,
+    };
+    let text = Text::new(alloc);
+    let kind = Kind::Ending { name };
+    let mut change = Change::new(alloc);
+    add(&mut change, Edit::PutKey(ended))?;
+    add(&mut change, Edit::PutKey(live))?;
+    add(&mut change, Edit::PutExchange(Exchange { peer, kind, text }))?;
+    add(&mut change, Edit::PutAnswer(Answer { value: 4, ..sent }))?;
+    add(&mut change, Edit::DropEnded)?;
+    add(&mut change, Edit::PutAnswer(sent))?;
+    let before = first_state(alloc, Ident::read(b"BANKA")?, Role::Bank, GENERATOR)?;
+    let after = apply(alloc, &before, &change)?;
+    assert!(rt; after.key_count() == 1 && after.key_at(0) == Some(&live));
+    assert!(rt; after.answer_count() == 1 && after.answer_at(0) == Some(&sent));
+    assert!(rt; matches!(after.exchange_at(0), Some(found) if found.kind == kind));
+    add(&mut change, Edit::DropExchange { peer })?;
+    assert_eq!(rt; apply(alloc, &before, &change)?.exchange_count(), 0);
+    Ok(())
+}
+
+#[test]
+fn changes_are_copied(rt: HostRuntime) -> Result<(), Fail> {
+    let alloc = rt.alloc();
+    let peer = Ident::read(b"BANKB")?;
+    let kind = Kind::Asked { ultimate: peer };
+    let mut text = Text::new(alloc);
+    text.push(b"CSM(")?;
+    let mut change = Change::new(alloc);
+    assert!(rt; change.is_empty());
+    change.push(Edit::DropEnded)?;
+    change.push(Edit::PutExchange(Exchange { peer, kind, text }))?;
+    let copy = change.copy(alloc)?;
+    assert_eq!(rt; copy.len(), 2);
+    assert!(rt; matches!(copy.edit_at(0), Some(Edit::DropEnded)));
+    assert!(rt; matches!(copy.edit_at(1), Some(Edit::PutExchange(exchange)) if exchange.text.bytes() == b"CSM(".as_slice()));
+    assert_eq!(rt; copy.into_edits().len(), 2);
+    Ok(())
+}
 
 #[test]
 fn links_and_keys_are_shown(rt: HostRuntime) -> Result<(), Fail> {
