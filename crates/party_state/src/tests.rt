@@ -1,0 +1,255 @@
+ghost use Rattle.std.specs.Prelude.{OnOk};
+ghost use Rattle.party_state.specs.Ranges.{IsFitting, AreFitting, IsNoBegin, HasNoBegin};
+
+use super::*;
+use std::alloc::Global;
+use std::test::Fail;
+use x_base::{Ident, KeyName, Label, NoMemory, Text};
+use x_gen::Gen;
+use x_mac::Pair;
+
+const GENERATOR: Gen = Gen {
+    key: Pair {
+        left: 0x0123456789ABCDEF,
+        right: 0xFEDCBA9876543210,
+    },
+    v: 1,
+};
+
+const PAIR: Pair = Pair {
+    left: 0x1122334455667788,
+    right: 0x8877665544332211,
+};
+
+// Appends an edit to a change that a state can take.
+#[tactic(auto, using(crate::proofs::Edits::fitting_push, crate::proofs::Edits::no_begin_push))]
+fn add(change: &mut Change, edit: Edit) -> Result<(), NoMemory>
+    requires fitting { IsFitting edit }
+    requires goes_on { IsNoBegin edit }
+    requires all_fitting { AreFitting change.old }
+    requires all_go_on { HasNoBegin change.old }
+    ensures all_fitting { OnOk result (AreFitting change.new) }
+    ensures all_go_on { OnOk result (HasNoBegin change.new) }
+{
+    change.push(edit)
+}
+
+#[test]
+fn links_are_put_and_dropped(rt: HostRuntime) -> Result<(), Fail> {
+    let alloc = rt.alloc();
+    let peer = Ident::read(b"BANKB")?;
+    let label = Label::read(b"K1")?;
+    let first = LinkRec {
+        peer,
+        label,
+        side: Side::Sends,
+        pair: PAIR,
+        next: 1,
+        ready: false,
+    };
+    let other = LinkRec {
+        side: Side::Takes,
+        ..first
+    };
+    let ready = LinkRec {
+        next: 2,
+        ready: true,
+        ..first
+    };
+    let mut change = Change::new(alloc);
+    add(&mut change, Edit::PutLink(other))?;
+    add(&mut change, Edit::PutLink(first))?;
+    add(&mut change, Edit::SetGen(9))?;
+    add(&mut change, Edit::PutLink(ready))?;
+    let before = first_state(alloc, Ident::read(b"BANKA")?, Role::Bank, GENERATOR)?;
+    let both = apply(alloc, &before, &change)?;
+    assert!(rt; both.link_at(0) == Some(&other) && both.link_at(1) == Some(&ready));
+    let side = Side::Takes;
+    add(&mut change, Edit::DropLink { peer, label, side })?;
+    let after = apply(alloc, &before, &change)?;
+    assert_eq!(rt; after.link_count(), 1);
+    assert!(rt; after.link_at(0) == Some(&ready));
+    assert_eq!(rt; after.generator().v, 9);
+    Ok(())
+}
+
+#[test]
+fn other_rows_are_put_and_dropped(rt: HostRuntime) -> Result<(), Fail> {
+    let alloc = rt.alloc();
+    let peer = Ident::read(b"BANKB")?;
+    let name = KeyName::read(b"BANKA.BANKA.K1.7")?;
+    let live = KeyRec {
+        peer,
+        name,
+        value: 5,
+        status: KeyStatus::Live,
+    };
+    let ended = KeyRec {
+        name: KeyName::read(b"BANKA.BANKA.K1.6")?,
+        status: KeyStatus::Ended,
+        ..live
+    };
+    let sent = Answer {
+        requester: peer,
+        ultimate: peer,
+        cta: name.count,
+        value: 5,
+    };
+    let text = Text::new(alloc);
+    let kind = Kind::Ending { name };
+    let mut change = Change::new(alloc);
+    add(&mut change, Edit::PutKey(ended))?;
+    add(&mut change, Edit::PutKey(live))?;
+    add(&mut change, Edit::PutExchange(Exchange { peer, kind, text }))?;
+    add(&mut change, Edit::PutAnswer(Answer { value: 4, ..sent }))?;
+    add(&mut change, Edit::DropEnded)?;
+    add(&mut change, Edit::PutAnswer(sent))?;
+    let before = first_state(alloc, Ident::read(b"BANKA")?, Role::Bank, GENERATOR)?;
+    let after = apply(alloc, &before, &change)?;
+    assert!(rt; after.key_count() == 1 && after.key_at(0) == Some(&live));
+    assert!(rt; after.answer_count() == 1 && after.answer_at(0) == Some(&sent));
+    assert!(rt; matches!(after.exchange_at(0), Some(found) if found.kind == kind));
+    add(&mut change, Edit::DropExchange { peer })?;
+    assert_eq!(rt; apply(alloc, &before, &change)?.exchange_count(), 0);
+    Ok(())
+}
+
+#[test]
+fn changes_are_copied(rt: HostRuntime) -> Result<(), Fail> {
+    let alloc = rt.alloc();
+    let peer = Ident::read(b"BANKB")?;
+    let kind = Kind::Asked { ultimate: peer };
+    let mut text = Text::new(alloc);
+    text.push(b"CSM(")?;
+    let mut change = Change::new(alloc);
+    assert!(rt; change.is_empty());
+    change.push(Edit::DropEnded)?;
+    change.push(Edit::PutExchange(Exchange { peer, kind, text }))?;
+    let copy = change.copy(alloc)?;
+    assert_eq!(rt; copy.len(), 2);
+    assert!(rt; matches!(copy.edit_at(0), Some(Edit::DropEnded)));
+    assert!(rt; matches!(copy.edit_at(1), Some(Edit::PutExchange(exchange)) if exchange.text.bytes() == b"CSM(".as_slice()));
+    assert_eq!(rt; copy.into_edits().len(), 2);
+    Ok(())
+}
+
+#[test]
+fn links_and_keys_are_shown(rt: HostRuntime) -> Result<(), Fail> {
+    let alloc = rt.alloc();
+    let peer = Ident::read(b"BANKB")?;
+    let mut state = first_state(alloc, Ident::read(b"BANKA")?, Role::Bank, GENERATOR)?;
+    let links = [
+        (Label::read(b"K1")?, Side::Sends, true),
+        (Label::read(b"K-2")?, Side::Takes, false),
+    ];
+    for (label, side, ready) in links {
+        let link = LinkRec {
+            peer,
+            label,
+            side,
+            pair: PAIR,
+            next: 100_000_000_000_000,
+            ready,
+        };
+        state.edit(alloc, Edit::PutLink(link))?;
+    }
+    let keys: [(&[u8], KeyStatus); 5] = [
+        (b"BANKA.BANKA.K1.007", KeyStatus::Pending),
+        (b"BANKA.BANKA.K1.8", KeyStatus::Live),
+        (b"BANKB.BANKB.K-2.8", KeyStatus::Held),
+        (b"BANKA.BANKA.K1.9", KeyStatus::Closing),
+        (b"CKDX.BANKA.C.10", KeyStatus::Ended),
+    ];
+    for (name, status) in keys {
+        let name = KeyName::read(name)?;
+        let key = KeyRec {
+            peer,
+            name,
+            value: 0x0123456789ABCDEF,
+            status,
+        };
+        state.edit(alloc, Edit::PutKey(key))?;
+    }
+    let text = show_text(alloc, &state)?;
+    let lines = b"PARTY BANKA BANK
+LINK BANKB K1 OUT 100000000000000 READY
+LINK BANKB K-2 IN 100000000000000 PENDING
+KEY BANKB BANKA.BANKA.K1.7 PENDING
+KEY BANKB BANKA.BANKA.K1.8 LIVE
+KEY BANKB BANKB.BANKB.K-2.8 HELD
+KEY BANKB BANKA.BANKA.K1.9 CLOSING
+KEY BANKB CKDX.BANKA.C.10 ENDED
+";
+    assert!(rt; text.bytes() == lines.as_slice());
+    Ok(())
+}
+
+#[test]
+fn exchanges_and_answers_are_shown(rt: HostRuntime) -> Result<(), Fail> {
+    let alloc = rt.alloc();
+    let own = Ident::read(b"CKDX")?;
+    let peer = Ident::read(b"BANKB")?;
+    let ultimate = Ident::read(b"BANK-C")?;
+    let name = KeyName::read(b"BANKA.BANKA.K1.7")?;
+    let cta = name.count;
+    let label = name.label;
+    let via = Via::Direct { label, new: None };
+    let kinds: [(&[u8], Kind); 4] = [
+        (b"BANKB", Kind::Asked { ultimate }),
+        (
+            b"CKTX",
+            Kind::Translating {
+                ultimate,
+                value: 5,
+                cta,
+            },
+        ),
+        (b"BANK-C", Kind::KeySent { name, via }),
+        (b"BANKD", Kind::Ending { name }),
+    ];
+    let mut state = first_state(alloc, own, Role::Distribution, GENERATOR)?;
+    for (peer, kind) in kinds {
+        let exchange = Exchange {
+            peer: Ident::read(peer)?,
+            kind,
+            text: Text::new(alloc),
+        };
+        state.edit(alloc, Edit::PutExchange(exchange))?;
+    }
+    let answer = Answer {
+        requester: peer,
+        ultimate,
+        cta,
+        value: 5,
+    };
+    state.edit(alloc, Edit::PutAnswer(answer))?;
+    let text = show_text(alloc, &state)?;
+    let lines = b"PARTY CKDX DISTRIBUTION
+EXCHANGE BANKB ASKED BANK-C
+EXCHANGE CKTX TRANSLATING BANK-C 7
+EXCHANGE BANK-C KEYSENT BANKA.BANKA.K1.7
+EXCHANGE BANKD ENDING BANKA.BANKA.K1.7
+ANSWER BANKB BANK-C 7
+";
+    assert!(rt; text.bytes() == lines.as_slice());
+    Ok(())
+}
+
+#[test]
+fn full_names_tell_the_recipient(rt: HostRuntime) -> Result<(), Fail> {
+    // Each identity, doubled, expands as before.
+    let once = Ident::read(b"ABAB")?;
+    let twice = Ident::read(b"ABABABAB")?;
+    let name = KeyName::read(b"ABAB.ABAB.K1.7")?;
+    let key = |peer: Ident| -> KeyRec {
+        KeyRec {
+            peer,
+            name,
+            value: 5,
+            status: KeyStatus::Live,
+        }
+    };
+    assert!(rt; key(twice).full_name(&once).recipient == twice);
+    assert!(rt; key(once).full_name(&twice).recipient == twice);
+    Ok(())
+}
