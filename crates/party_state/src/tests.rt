@@ -1,4 +1,4 @@
-ghost use Rattle.std.specs.Prelude.{OnOk};
+ghost use Rattle.std.specs.Prelude.{◌≡◌, OnOk};
 ghost use Rattle.party_state.specs.Ranges.{IsFitting, AreFitting, IsNoBegin, HasNoBegin};
 
 use super::*;
@@ -34,83 +34,71 @@ fn add(change: &mut Change, edit: Edit) -> Result<(), NoMemory>
     change.push(edit)
 }
 
-#[test]
-fn links_are_put_and_dropped(rt: HostRuntime) -> Result<(), Fail> {
-    let alloc = rt.alloc();
-    let peer = Ident::read(b"BANKB")?;
-    let label = Label::read(b"K1")?;
-    let first = LinkRec {
+fn sending(peer: Ident, label: Label, next: u64) -> LinkRec
+    ensures { result.next ≡ next }
+{
+    LinkRec {
         peer,
         label,
         side: Side::Sends,
         pair: PAIR,
-        next: 1,
-        ready: false,
-    };
-    let other = LinkRec {
-        side: Side::Takes,
-        ..first
-    };
-    let ready = LinkRec {
-        next: 2,
+        next,
         ready: true,
-        ..first
-    };
+    }
+}
+
+#[test]
+fn links_are_put_in_place(rt: HostRuntime) -> Result<(), Fail> {
+    let alloc = rt.alloc();
+    let peer = Ident::read(b"BANKB")?;
+    let one = Label::read(b"K1")?;
+    let two = Label::read(b"K2")?;
     let mut change = Change::new(alloc);
-    add(&mut change, Edit::PutLink(other))?;
-    add(&mut change, Edit::PutLink(first))?;
-    add(&mut change, Edit::SetGen(9))?;
-    add(&mut change, Edit::PutLink(ready))?;
-    let before = first_state(alloc, Ident::read(b"BANKA")?, Role::Bank, GENERATOR)?;
-    let both = apply(alloc, &before, &change)?;
-    assert!(rt; both.link_at(0) == Some(&other) && both.link_at(1) == Some(&ready));
-    let side = Side::Takes;
-    add(&mut change, Edit::DropLink { peer, label, side })?;
+    add(&mut change, Edit::PutLink(sending(peer, one, 1)))?;
+    add(&mut change, Edit::PutLink(sending(peer, two, 1)))?;
+    add(&mut change, Edit::PutLink(sending(peer, one, 2)))?;
+    let before = first_state(alloc, peer, Role::Bank, GENERATOR)?;
     let after = apply(alloc, &before, &change)?;
-    assert_eq!(rt; after.link_count(), 1);
-    assert!(rt; after.link_at(0) == Some(&ready));
-    assert_eq!(rt; after.generator().v, 9);
+    assert_eq!(rt; after.link_count(), 2);
+    assert!(rt; after.link_at(0) == Some(&sending(peer, one, 2)));
     Ok(())
 }
 
 #[test]
-fn other_rows_are_put_and_dropped(rt: HostRuntime) -> Result<(), Fail> {
+fn links_and_exchanges_are_dropped(rt: HostRuntime) -> Result<(), Fail> {
     let alloc = rt.alloc();
     let peer = Ident::read(b"BANKB")?;
-    let name = KeyName::read(b"BANKA.BANKA.K1.7")?;
-    let live = KeyRec {
-        peer,
-        name,
-        value: 5,
-        status: KeyStatus::Live,
-    };
-    let ended = KeyRec {
-        name: KeyName::read(b"BANKA.BANKA.K1.6")?,
-        status: KeyStatus::Ended,
-        ..live
-    };
-    let sent = Answer {
-        requester: peer,
-        ultimate: peer,
-        cta: name.count,
-        value: 5,
-    };
+    let label = Label::read(b"K1")?;
+    let side = Side::Sends;
+    let kind = Kind::Asked { ultimate: peer };
     let text = Text::new(alloc);
-    let kind = Kind::Ending { name };
-    let mut change = Change::new(alloc);
-    add(&mut change, Edit::PutKey(ended))?;
-    add(&mut change, Edit::PutKey(live))?;
-    add(&mut change, Edit::PutExchange(Exchange { peer, kind, text }))?;
-    add(&mut change, Edit::PutAnswer(Answer { value: 4, ..sent }))?;
-    add(&mut change, Edit::DropEnded)?;
-    add(&mut change, Edit::PutAnswer(sent))?;
-    let before = first_state(alloc, Ident::read(b"BANKA")?, Role::Bank, GENERATOR)?;
-    let after = apply(alloc, &before, &change)?;
-    assert!(rt; after.key_count() == 1 && after.key_at(0) == Some(&live));
-    assert!(rt; after.answer_count() == 1 && after.answer_at(0) == Some(&sent));
-    assert!(rt; matches!(after.exchange_at(0), Some(found) if found.kind == kind));
-    add(&mut change, Edit::DropExchange { peer })?;
-    assert_eq!(rt; apply(alloc, &before, &change)?.exchange_count(), 0);
+    let mut state = first_state(alloc, peer, Role::Bank, GENERATOR)?;
+    state.edit(alloc, Edit::PutLink(sending(peer, label, 1)))?;
+    state.edit(alloc, Edit::DropLink { peer, label, side })?;
+    assert_eq!(rt; state.link_count(), 0);
+    state.edit(alloc, Edit::PutExchange(Exchange { peer, kind, text }))?;
+    assert_eq!(rt; state.exchange_count(), 1);
+    state.edit(alloc, Edit::DropExchange { peer })?;
+    assert_eq!(rt; state.exchange_count(), 0);
+    Ok(())
+}
+
+#[test]
+fn records_of_ended_keys_go(rt: HostRuntime) -> Result<(), Fail> {
+    let alloc = rt.alloc();
+    let peer = Ident::read(b"BANKB")?;
+    let mut state = first_state(alloc, peer, Role::Bank, GENERATOR)?;
+    for status in [KeyStatus::Ended, KeyStatus::Closing] {
+        let key = KeyRec {
+            peer,
+            name: KeyName::read(b"BANKA.BANKA.K1.7")?,
+            value: 5,
+            status,
+        };
+        state.edit(alloc, Edit::PutKey(key))?;
+        state.edit(alloc, Edit::DropEnded)?;
+    }
+    assert_eq!(rt; state.key_count(), 1);
     Ok(())
 }
 
@@ -128,7 +116,9 @@ fn changes_are_copied(rt: HostRuntime) -> Result<(), Fail> {
     let copy = change.copy(alloc)?;
     assert_eq!(rt; copy.len(), 2);
     assert!(rt; matches!(copy.edit_at(0), Some(Edit::DropEnded)));
-    assert!(rt; matches!(copy.edit_at(1), Some(Edit::PutExchange(exchange)) if exchange.text.bytes() == b"CSM(".as_slice()));
+    assert!(rt;
+        matches!(copy.edit_at(1), Some(Edit::PutExchange(exchange)) if exchange.text.bytes() == b"CSM(".as_slice())
+    );
     assert_eq!(rt; copy.into_edits().len(), 2);
     Ok(())
 }
