@@ -1,5 +1,5 @@
 -- Tables as lists of rows.
-use Rattle.std.proofs.Common.{◌≡◌, ℕ, ◌+◌, zero, suc, Bool, true, false, cond, Option, None, Some, List, [], ◌∷◌, take, slice_get, refl, sym, ap, ◌∙◌, add-one, arith, length, ◌<◌, Result, Ok, Err, OnOk, IfSome, filter, subst, Bor}
+use Rattle.std.proofs.Common.{◌≡◌, ℕ, ◌+◌, zero, suc, Bool, true, false, cond, Option, None, Some, List, [], ◌∷◌, take, slice_get, refl, sym, ap, ◌∙◌, add-one, Result, Ok, Err, OnOk, IfSome, filter, subst, Bor}
 use Rattle.std.specs.List.{All, AllByRecursion, find}
 use Rattle.std.proofs.lemmas.List.Elements.{All-head, All-tail}
 use Rattle.std.specs.Option.{option_copied}
@@ -38,12 +38,6 @@ module _ {R K : Type 0} (key : R → K) (same : K → K → Bool) (laws : IsEqui
       → OnOk r (ds ≡ put_row key same y cs) → OnOk r (ds ≡ take (i + 1) rs)
   copied_next (Ok a) rs cs ds i x y once before at e put = put ∙ (λ j. put_row key same (e j) (before j)) ∙ put_after rs i x once at
   copied_next (Err a) rs cs ds i x y once before at e put = tt
-
--- below its length a list has an item
-pub none_within : {R : Type 0} (rs : List R) (i : ℕ) → i < length rs → slice_get rs i ≡ None → ⊥
-none_within [] i within none = omega arith
-none_within (r ∷ rs) zero within none = cc
-none_within (r ∷ rs) (suc i) within none = none_within rs i (omega arith) none
 
 -- the rows of a table that are found, put and kept
 module _ {R K : Type 0} (key : R → K) (same : K → K → Bool) (P : R → Type 0) where

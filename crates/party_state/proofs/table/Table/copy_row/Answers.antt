@@ -1,5 +1,6 @@
 use Rattle.std.proofs.Common.{sym, subst}
-use Rattle.party_state.proofs.Rows.{copied_next, none_within}
+use Rattle.party_state.proofs.Lines.{none_within}
+use Rattle.party_state.proofs.Rows.{copied_next}
 use Rattle.party_state.proofs.table.Table.copy_row.Goals as goal
 
 pub returns-in_ok-copied-in-Some : goal.returns-in_ok-copied-in-Some
