@@ -7,4 +7,4 @@ mod sealing;
 mod tests;
 
 pub use offsetting::{notarize, offset, spread};
-pub use sealing::{seal, unseal, unwrap, unwrap_pair, wrap, wrap_pair};
+pub use sealing::{law_unseals, law_unwraps, seal, unseal, unwrap, unwrap_pair, wrap, wrap_pair};
