@@ -1,0 +1,2 @@
+//! What a bank decides (ANSI X9.17): of commands, and of service messages that arrive.
+#![tactic(auto)]
