@@ -17,3 +17,4 @@ pub mod Rows
 pub mod Leads
 pub mod Differing
 pub mod Deciding
+pub mod Storable
