@@ -1,5 +1,5 @@
 -- The edits that make a difference to a party.
-use Rattle.std.specs.Prelude.{ℕ, ◌==◌, Bool, true, false, not, ◌&&◌, is_some, Option, Some, None, List, bytes_eq}
+use Rattle.std.specs.Prelude.{ℕ, ◌==◌, Bool, true, false, not, ◌&&◌, is_some, Option, Some, None, List, filter, bytes_eq}
 use Rattle.std.specs.List.{list_any}
 use Rattle.x_base.specs.declared.party.Role.{Role}
 use Rattle.party_state.specs.declared.link.LinkRec.{LinkRec}
@@ -43,3 +43,7 @@ differs p (PutExchange e) = true
 differs p (DropExchange peer) = is_some (exchange_with peer p)
 differs p (PutAnswer a) = true
 differs p (SetGen v) = not (v == p.generator.v)
+
+-- the edits that make a difference
+unfoldable pub differing : Party → List Edit → List Edit
+differing p es = filter (differs p) es

@@ -16,5 +16,7 @@ pub mod Dsm
 pub mod Rows
 pub mod Leads
 pub mod Differing
+pub mod Failing
+pub mod Replies
 pub mod Deciding
 pub mod Storable

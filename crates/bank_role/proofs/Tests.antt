@@ -1,0 +1,57 @@
+-- The first test of a list that fails.
+use Rattle.std.proofs.Common.{◌≡◌, Bool, true, false, cond, not, Option, Some, None, List, [], ◌∷◌, ◌++◌, refl}
+use Rattle.std.specs.Prelude.{option_map}
+use Rattle.std.specs.List.{find}
+use Rattle.x_base.specs.declared.verdict.Verdict.{Verdict}
+use Rattle.x_base.specs.declared.verdict.Verdict.TheVariants.{Accept}
+use Rattle.party_state.specs.Verdicts.{Test, verdict_of, is_accept}
+use Rattle.bank_role.specs.Failing.{failed_in}
+
+-- where no test fails, the verdict is that of the tests behind
+pub none_failed : (ts us : List Test) → failed_in ts ≡ None → verdict_of (ts ++ us) ≡ verdict_of us
+none_failed [] us h = refl
+none_failed (t ∷ ts) us h = go t.0 h (none_failed ts us)
+  where
+    go : (b : Bool) → option_map (λ (t : Test). t.1) (cond (not b) (Some t) (find (λ (t : Test). not t.0) ts)) ≡ None → (failed_in ts ≡ None → verdict_of (ts ++ us) ≡ verdict_of us) → cond b (verdict_of (ts ++ us)) t.1 ≡ verdict_of us
+    go true h ih = ih h
+    go false h ih = cc
+
+-- the first test that fails gives its verdict, whatever stands behind
+pub some_failed : (ts us : List Test) (v : Verdict) → failed_in ts ≡ Some v → verdict_of (ts ++ us) ≡ v
+some_failed [] us v h = cc
+some_failed (t ∷ ts) us v h = go t.0 h (some_failed ts us v)
+  where
+    go : (b : Bool) → option_map (λ (t : Test). t.1) (cond (not b) (Some t) (find (λ (t : Test). not t.0) ts)) ≡ Some v → (failed_in ts ≡ Some v → verdict_of (ts ++ us) ≡ v) → cond b (verdict_of (ts ++ us)) t.1 ≡ v
+    go true h ih = ih h
+    go false h ih = cc
+
+-- the same of a list alone
+pub none_failed_alone : (ts : List Test) → failed_in ts ≡ None → verdict_of ts ≡ Accept
+none_failed_alone [] h = refl
+none_failed_alone (t ∷ ts) h = go t.0 h (none_failed_alone ts)
+  where
+    go : (b : Bool) → option_map (λ (t : Test). t.1) (cond (not b) (Some t) (find (λ (t : Test). not t.0) ts)) ≡ None → (failed_in ts ≡ None → verdict_of ts ≡ Accept) → cond b (verdict_of ts) t.1 ≡ Accept
+    go true h ih = ih h
+    go false h ih = cc
+
+pub some_failed_alone : (ts : List Test) (v : Verdict) → failed_in ts ≡ Some v → verdict_of ts ≡ v
+some_failed_alone [] v h = cc
+some_failed_alone (t ∷ ts) v h = go t.0 h (some_failed_alone ts v)
+  where
+    go : (b : Bool) → option_map (λ (t : Test). t.1) (cond (not b) (Some t) (find (λ (t : Test). not t.0) ts)) ≡ Some v → (failed_in ts ≡ Some v → verdict_of ts ≡ v) → cond b (verdict_of ts) t.1 ≡ v
+    go true h ih = ih h
+    go false h ih = cc
+
+-- nothing counts behind a test that fails
+pub stopped : (front us : List Test) (v : Verdict) → verdict_of (front ++ (false, v) ∷ us) ≡ verdict_of (front ++ (false, v) ∷ [])
+stopped [] us v = refl
+stopped (t ∷ ts) us v = go t.0 (stopped ts us v)
+  where
+    go : (b : Bool) → verdict_of (ts ++ (false, v) ∷ us) ≡ verdict_of (ts ++ (false, v) ∷ []) → cond b (verdict_of (ts ++ (false, v) ∷ us)) t.1 ≡ cond b (verdict_of (ts ++ (false, v) ∷ [])) t.1
+    go true ih = ih
+    go false ih = refl
+
+-- a verdict that is told to be Accept is it
+pub accept_is : (v : Verdict) → is_accept v ≡ true → v ≡ Accept
+accept_is Accept h = refl
+accept_is _ h = cc
