@@ -4,12 +4,14 @@
 
 mod answer;
 mod command;
+mod compare;
 mod decision;
 mod edit;
 mod exchange;
 mod key;
 mod laws;
 mod link;
+mod lookups;
 mod party;
 mod prepared;
 mod ranges;

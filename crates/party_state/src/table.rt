@@ -1,11 +1,13 @@
 ghost use Rattle.std.specs.Prelude.{◌≡◌, ◌+◌, ◌<◌, ◌≤◌, [], ℕ, length, slice_get, take, filter, not, IsOk, IfSome, IfOk, OnOk, OnErr};
 ghost use Rattle.std.specs.List.{All};
+ghost use Rattle.std.specs.Map.Iter.{ShowsInOrder, deref};
 ghost use Rattle.std.specs.Option.{option_copied};
 ghost use Rattle.party_state.specs.Tables.{find_row, put_row, drop_row, Distinct};
 ghost use Rattle.party_state.specs.State.{is_ended};
 
 use crate::key::{KeyRec, KeyStatus, RecordKey};
 use indexmap::IndexMap;
+use indexmap::map::Values;
 use std::alloc::Global;
 use std::hash::Hash;
 use std::marker::Model;
@@ -80,6 +82,14 @@ impl<K: Eq + Hash + Copy, R: Row<K>> Table<K, R> {
         ensures rows { All R.IsRow self.now.0 }
     {
         self.map.len()
+    }
+
+    /// The rows, in their order.
+    pub(crate) fn rows(&self) -> Values<'_, K, R>
+        ensures rest { result ≡ self.now.0 }
+        ensures runs { ShowsInOrder (deref {X = R}) }
+    {
+        self.map.values()
     }
 
     /// Makes room for that many more rows.
