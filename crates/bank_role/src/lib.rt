@@ -3,6 +3,10 @@
 
 mod common_tests;
 mod decisions;
+mod dsm;
+mod esm;
 mod exchanges;
+mod ksm;
+mod names;
 mod texts;
 mod verdicts;
