@@ -1,2 +1,4 @@
 pub mod Tests
+pub mod Differing
+pub mod ByRow
 mod Storable

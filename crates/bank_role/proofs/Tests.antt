@@ -1,10 +1,10 @@
 -- The first test of a list that fails.
-use Rattle.std.proofs.Common.{◌≡◌, Bool, true, false, cond, not, Option, Some, None, List, [], ◌∷◌, ◌++◌, refl}
+use Rattle.std.proofs.Common.{◌≡◌, Bool, true, false, cond, not, Option, Some, None, List, [], ◌∷◌, ◌++◌, ◌&&◌, refl, ap}
 use Rattle.std.specs.Prelude.{option_map}
-use Rattle.std.specs.List.{find}
+use Rattle.std.specs.List.{find, list_all}
 use Rattle.x_base.specs.declared.verdict.Verdict.{Verdict}
 use Rattle.x_base.specs.declared.verdict.Verdict.TheVariants.{Accept}
-use Rattle.party_state.specs.Verdicts.{Test, verdict_of, is_accept}
+use Rattle.party_state.specs.Verdicts.{Test, verdict_of, passes, is_accept}
 use Rattle.bank_role.specs.Failing.{failed_in}
 
 -- where no test fails, the verdict is that of the tests behind
@@ -55,3 +55,8 @@ stopped (t ∷ ts) us v = go t.0 (stopped ts us v)
 pub accept_is : (v : Verdict) → is_accept v ≡ true → v ≡ Accept
 accept_is Accept h = refl
 accept_is _ h = cc
+
+-- every test holds where each one does
+pub passes_all : (ts : List Test) → passes ts ≡ list_all (λ (t : Test). t.0) ts
+passes_all [] = refl
+passes_all (t ∷ ts) = ap (λ (b : Bool). t.0 && b) (passes_all ts)

@@ -19,4 +19,5 @@ pub mod Differing
 pub mod Failing
 pub mod Replies
 pub mod Deciding
+pub mod Errors
 pub mod Storable

@@ -1,13 +1,21 @@
 // A disconnect service message arrives: the key ends, and a response that names it goes back.
-ghost use Rattle.std.specs.Prelude.{◌≡◌};
-ghost use Rattle.bank_role.specs.Dsm.{named_by, dsm_front, dsm_response};
+ghost use Rattle.std.specs.Prelude.{◌≡◌, IfOk};
+ghost use Rattle.party_state.specs.State.{exchange_with};
+ghost use Rattle.bank_role.specs.Deciding.{decision_of};
+ghost use Rattle.bank_role.specs.Dsm.{named_by, dsm_front, left_by, left_in, disconnected, dsm_response, dsm_on, dsm, dsm_lead_on, dsm_lead};
 
 use crate::common_tests::is_for;
-use crate::exchanges::record_of;
-use crate::names::no_extras;
-use csm_grammar::{Dsm, Message, Rsm};
-use party_state::{KeyRec, State};
-use x_base::Verdict;
+use crate::decisions::{accept, refusal};
+use crate::edits::{dropped, joined, list_of};
+use crate::exchanges::{new_link, record_of};
+use crate::leads::lead_under;
+use crate::names::{full_name, no_extras};
+use crate::texts::Written;
+use crate::verdicts::{is_accept, passes, verdict_after, verdict_of};
+use csm_grammar::{Arrival, Dsm, Message, Rsm};
+use party_state::{Decision, Edit, KeyRec, KeyStatus, Kind, Lead, State};
+use std::alloc::Global;
+use x_base::{Ident, KeyName, NoMemory, Verdict};
 
 /// The key that ends, and the key whose code closes the message.
 #[derive(Clone, Copy)]
@@ -50,4 +58,126 @@ fn dsm_response(state: &State, key: &KeyRec) -> Message
         idd: Some(key.name),
         extras: no_extras(),
     })
+}
+
+/// The edits before and behind that of the key, for an exchange that names it.
+fn left_by(
+    alloc: Global,
+    state: &State,
+    peer: Ident,
+    name: &KeyName,
+    kind: &Kind,
+) -> Result<(Vec<Edit>, Vec<Edit>), NoMemory>
+    ensures { IfOk result (λ edits. (edits.0.items, edits.1.items) ≡ left_by state.now peer name.now kind.now) }
+{
+    let none = Vec::new(alloc);
+    match kind {
+        Kind::KeySent { name: sent, via } => {
+            if *name != *sent {
+                return Ok((none, Vec::new(alloc)));
+            }
+            let gone = dropped(alloc, new_link(state, &peer, via))?;
+            Ok((gone, list_of(alloc, [Edit::DropExchange { peer }])?))
+        }
+        Kind::Ending { name: ending } => {
+            if *name != *ending {
+                return Ok((none, Vec::new(alloc)));
+            }
+            Ok((none, list_of(alloc, [Edit::DropExchange { peer }])?))
+        }
+        Kind::Asked { .. } | Kind::Translating { .. } => Ok((none, Vec::new(alloc))),
+    }
+}
+
+fn left_in(
+    alloc: Global,
+    state: &State,
+    peer: Ident,
+    name: &KeyName,
+) -> Result<(Vec<Edit>, Vec<Edit>), NoMemory>
+    ensures { IfOk result (λ edits. (edits.0.items, edits.1.items) ≡ left_in state.now peer name.now (exchange_with peer state.now)) }
+{
+    match state.exchange(&peer) {
+        Some(exchange) => left_by(alloc, state, peer, name, &exchange.kind),
+        None => Ok((Vec::new(alloc), Vec::new(alloc))),
+    }
+}
+
+/// The key ends, unless it ended already.
+fn disconnected(
+    alloc: Global,
+    state: &State,
+    peer: Ident,
+    key: &KeyRec,
+) -> Result<Vec<Edit>, NoMemory>
+    ensures { IfOk result (λ edits. edits.items ≡ disconnected state.now peer key.now) }
+{
+    if key.status == KeyStatus::Ended {
+        return Ok(Vec::new(alloc));
+    }
+    let (before, behind) = left_in(alloc, state, peer, &key.name)?;
+    let status = KeyStatus::Ended;
+    let ended = list_of(alloc, [Edit::PutKey(KeyRec { status, ..*key })])?;
+    joined(before, joined(ended, behind)?)
+}
+
+fn dsm_on(
+    alloc: Global,
+    state: &State,
+    arrival: &Arrival,
+    message: &Dsm,
+    found: Option<Named>,
+) -> Result<Decision, NoMemory>
+    ensures { IfOk result (λ d. d ≡ decision_of state.now (dsm_on state.now arrival.now message.now found)) }
+{
+    let front = dsm_front(state, message, &found);
+    let Some(named) = found else {
+        return Ok(refusal(verdict_of(&front)));
+    };
+    let lead = lead_under(arrival, full_name(state, &named.by), named.by.value);
+    let verdict = verdict_after(&front, &[(lead.verified, Verdict::BadMac)]);
+    if !is_accept(&verdict) {
+        return Ok(refusal(verdict));
+    }
+    let key = &named.key;
+    let response = dsm_response(state, key);
+    let written = Written::coded(alloc, &response, full_name(state, key), key.value)?;
+    let edits = disconnected(alloc, state, message.originator, key)?;
+    accept(alloc, state, edits, Some(written))
+}
+
+fn dsm_lead_on(
+    state: &State,
+    arrival: &Arrival,
+    message: &Dsm,
+    found: Option<Named>,
+) -> Option<Lead>
+    ensures { result ≡ dsm_lead_on state.now arrival.now message.now found }
+{
+    let front = dsm_front(state, message, &found);
+    let named = found?;
+    if passes(&front) {
+        Some(lead_under(arrival, full_name(state, &named.by), named.by.value))
+    } else {
+        None
+    }
+}
+
+/// Decides of a disconnection.
+pub(crate) fn dsm(
+    alloc: Global,
+    state: &State,
+    arrival: &Arrival,
+    message: &Dsm,
+) -> Result<Decision, NoMemory>
+    ensures { IfOk result (λ d. d ≡ decision_of state.now (dsm state.now arrival.now message.now)) }
+{
+    dsm_on(alloc, state, arrival, message, named_by(state, message))
+}
+
+/// The key under which its code is tested.
+pub(crate) fn dsm_lead(state: &State, arrival: &Arrival, message: &Dsm) -> Option<Lead>
+    ensures { result ≡ dsm_lead state.now arrival.now message.now }
+{
+    dsm_lead_on(state, arrival, message, named_by(state, message))
 }

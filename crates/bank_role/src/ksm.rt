@@ -1,13 +1,28 @@
 // A key service message arrives from a partner: its key is held, and a response goes back under it.
-ghost use Rattle.std.specs.Prelude.{◌≡◌, IfSome, IfOk};
+ghost use Rattle.std.specs.Prelude.{◌≡◌, ◌+◌, ◌++◌, ◌∷◌, [], IfSome, IfOk};
+ghost use Rattle.x_base.specs.declared.verdict.Verdict.TheVariants.{BadMac};
+ghost use Rattle.party_state.specs.declared.edit.Edit.TheVariants.{PutLink, PutKey};
+ghost use Rattle.party_state.specs.declared.key.KeyStatus.TheVariants.{Held};
 ghost use Rattle.party_state.specs.Ranges.{IsLink};
-ghost use Rattle.bank_role.specs.Ksm.{link_in_use, arriving, ksm_front, ksm_rest, response};
+ghost use Rattle.party_state.specs.Verdicts.{verdict_of};
+ghost use Rattle.bank_role.specs.Texts.{is_verified};
+ghost use Rattle.bank_role.specs.Deciding.{decision_of, accepting};
+ghost use Rattle.party_state.specs.Rows.Reply.{Coded};
+ghost use Rattle.bank_role.specs.Ksm.{link_in_use, arriving, carried_key, ksm_front, ksm_rest, ksm_tests, response, lead_under, ksm_under, unserved, ksm_with, ksm, ksm_lead_under, ksm_lead};
 
 use crate::common_tests::{count_tests, has_key_room, is_for, is_of_centre};
+use crate::decisions::{accept, refusal};
+use crate::edits::list_of;
+use crate::errors::error_answer;
+use crate::leads::lead_under;
 use crate::names::{direct_name, no_extras};
-use csm_grammar::{Ksm, Message, Rsm};
-use party_state::{LinkRec, State};
-use x_base::{Count, FullName, Ident, Label, Side, Verdict};
+use crate::texts::Written;
+use crate::verdicts::{is_accept, passes, verdict_after, verdict_of};
+use csm_grammar::{Arrival, Ksm, KsmBody, Message, Rsm};
+use party_state::{Decision, Edit, KeyRec, KeyStatus, Lead, LinkRec, State};
+use std::alloc::Global;
+use x_base::{Count, FullName, Ident, Label, NoMemory, Side, Verdict};
+use x_seal::unwrap;
 
 /// What a key service message carries: its key as encrypted, and the count.
 #[derive(Clone, Copy)]
@@ -81,4 +96,167 @@ fn response(state: &State, originator: Ident) -> Message
         idd: None,
         extras: no_extras(),
     })
+}
+
+/// The key that arrives under a link, and whether the code is made under it.
+fn carried_lead(state: &State, arrival: &Arrival, carried: Carried, link: &LinkRec) -> Lead
+    ensures { result ≡ lead_under arrival.now (arriving state.now link.now carried.ctp) (carried_key link.now carried) }
+{
+    let value = unwrap(link.pair, carried.ctp, carried.kd);
+    lead_under(arrival, arriving(state, link, carried.ctp), value)
+}
+
+/// The verdict under a link, the code being tested.
+fn ksm_verdict(
+    state: &State,
+    message: &Ksm,
+    carried: Carried,
+    link: &LinkRec,
+    verified: bool,
+) -> Verdict
+    ensures { result ≡ verdict_of (ksm_front state.now message.now (Some link.now) ++ (verified, BadMac) ∷ ksm_rest state.now message.now carried link.now) }
+{
+    let front = ksm_front(state, message, &Some(*link));
+    let [low, spent, full] = ksm_rest(state, message, carried, link);
+    verdict_after(&front, &[(verified, Verdict::BadMac), low, spent, full])
+}
+
+/// The key is held, and the response goes back under it.
+fn held(
+    alloc: Global,
+    state: &State,
+    message: &Ksm,
+    carried: Carried,
+    link: &LinkRec,
+    lead: &Lead,
+) -> Result<Decision, NoMemory>
+    ensures { IfOk result (λ d. d ≡ accepting state.now
+        (PutLink (record link.now { next = carried.ctp + 1 })
+        ∷ PutKey (record { peer = message.now.originator; name = lead.now.under.name; value = lead.now.value; status = Held }) ∷ [])
+        (Some (Coded (response state.now message.now.originator) lead.now.under lead.now.value))) }
+{
+    let next = carried.ctp.value() + 1;
+    let key = KeyRec {
+        peer: message.originator,
+        name: lead.under.name,
+        value: lead.value,
+        status: KeyStatus::Held,
+    };
+    let reply = response(state, message.originator);
+    let written = Written::coded(alloc, &reply, lead.under, lead.value)?;
+    let link = LinkRec { next, ..*link };
+    let edits = list_of(alloc, [Edit::PutLink(link), Edit::PutKey(key)])?;
+    accept(alloc, state, edits, Some(written))
+}
+
+fn ksm_under(
+    alloc: Global,
+    state: &State,
+    arrival: &Arrival,
+    message: &Ksm,
+    carried: Carried,
+    link: &LinkRec,
+) -> Result<Decision, NoMemory>
+    requires { IsLink link.now }
+    ensures { IfOk result (λ d. d ≡ decision_of state.now (ksm_under state.now arrival.now message.now carried (Some link.now))) }
+{
+    let lead = carried_lead(state, arrival, carried, link);
+    let verdict = ksm_verdict(state, message, carried, link, lead.verified);
+    if is_accept(&verdict) {
+        held(alloc, state, message, carried, link, &lead)
+    } else {
+        error_answer(alloc, state, message.originator, carried.ctp, verdict, &lead)
+    }
+}
+
+/// A new key-encrypting key, or a key through a centre, which isn't served.
+fn unserved(state: &State, message: &Ksm, known: &Ident) -> Decision
+    ensures { result ≡ decision_of state.now (unserved state.now message.now known.now) }
+{
+    refusal(verdict_of(&[
+        (
+            is_for(state, &message.receiver, &message.originator),
+            Verdict::NotForMe,
+        ),
+        (state.knows(known), Verdict::UnknownPeer),
+        (false, Verdict::WrongClass),
+    ]))
+}
+
+fn ksm_direct(
+    alloc: Global,
+    state: &State,
+    arrival: &Arrival,
+    message: &Ksm,
+    carried: Carried,
+    idk2: &Option<Label>,
+) -> Result<Decision, NoMemory>
+    ensures { IfOk result (λ d. d ≡ decision_of state.now (ksm_under state.now arrival.now message.now carried (link_in_use state.now message.now.originator idk2.now))) }
+{
+    let found = link_in_use(state, &message.originator, idk2);
+    match found {
+        Some(link) => ksm_under(alloc, state, arrival, message, carried, &link),
+        None => Ok(refusal(verdict_of(&ksm_front(state, message, &found)))),
+    }
+}
+
+/// Decides of a key service message.
+pub(crate) fn ksm(
+    alloc: Global,
+    state: &State,
+    arrival: &Arrival,
+    message: &Ksm,
+) -> Result<Decision, NoMemory>
+    ensures { IfOk result (λ d. d ≡ decision_of state.now (ksm state.now arrival.now message.now)) }
+{
+    match &message.body {
+        KsmBody::Direct {
+            idk2,
+            new: None,
+            kd,
+            ctp,
+        } => {
+            let carried = Carried { kd: *kd, ctp: *ctp };
+            ksm_direct(alloc, state, arrival, message, carried, idk2)
+        }
+        KsmBody::Direct { new: Some(_), .. } => Ok(unserved(state, message, &message.originator)),
+        KsmBody::Centre { centre, .. } => Ok(unserved(state, message, centre)),
+    }
+}
+
+fn ksm_lead_direct(
+    state: &State,
+    arrival: &Arrival,
+    message: &Ksm,
+    carried: Carried,
+    idk2: &Option<Label>,
+) -> Option<Lead>
+    ensures { result ≡ ksm_lead_under state.now arrival.now message.now carried (link_in_use state.now message.now.originator idk2.now) }
+{
+    let found = link_in_use(state, &message.originator, idk2);
+    let front = ksm_front(state, message, &found);
+    let link = found?;
+    if passes(&front) {
+        Some(carried_lead(state, arrival, carried, &link))
+    } else {
+        None
+    }
+}
+
+/// The key under which its code is tested.
+pub(crate) fn ksm_lead(state: &State, arrival: &Arrival, message: &Ksm) -> Option<Lead>
+    ensures { result ≡ ksm_lead state.now arrival.now message.now }
+{
+    match &message.body {
+        KsmBody::Direct {
+            idk2,
+            new: None,
+            kd,
+            ctp,
+        } => {
+            let carried = Carried { kd: *kd, ctp: *ctp };
+            ksm_lead_direct(state, arrival, message, carried, idk2)
+        }
+        KsmBody::Direct { new: Some(_), .. } | KsmBody::Centre { .. } => None,
+    }
 }

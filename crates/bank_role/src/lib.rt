@@ -3,10 +3,15 @@
 
 mod common_tests;
 mod decisions;
+mod differing;
 mod dsm;
+mod edits;
+mod errors;
 mod esm;
 mod exchanges;
 mod ksm;
+mod leads;
 mod names;
+mod rsm;
 mod texts;
 mod verdicts;

@@ -1,5 +1,6 @@
 // Names of keys, and what a bank leaves out of its messages.
 ghost use Rattle.std.specs.Prelude.{◌≡◌};
+ghost use Rattle.party_state.specs.State.{centre_label};
 ghost use Rattle.party_state.specs.Names.{full_name};
 ghost use Rattle.bank_role.specs.Texts.{direct_name, no_extras};
 
@@ -38,5 +39,15 @@ pub(crate) fn no_extras() -> Extras
         iv: None,
         edk: None,
         p: None,
+    }
+}
+
+/// The label of the links with centres.
+pub(crate) fn centre_label() -> Label
+    ensures { result ≡ centre_label }
+{
+    match Label::read(b"C") {
+        Ok(label) => label,
+        Err(_) => unreachable!(),
     }
 }

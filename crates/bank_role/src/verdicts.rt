@@ -1,6 +1,6 @@
 // The verdict of a list of tests, each with the verdict where it is the first that fails.
 ghost use Rattle.std.specs.Prelude.{◌≡◌, ◌++◌};
-ghost use Rattle.party_state.specs.Verdicts.{verdict_of, is_accept};
+ghost use Rattle.party_state.specs.Verdicts.{verdict_of, passes, is_accept};
 ghost use Rattle.bank_role.specs.Failing.{failed_in};
 
 use x_base::Verdict;
@@ -38,4 +38,12 @@ pub(crate) fn is_accept(verdict: &Verdict) -> bool
     ensures { result ≡ is_accept verdict.now }
 {
     *verdict == Verdict::Accept
+}
+
+/// Whether every test holds.
+#[tactic(auto, using(crate::proofs::Tests::passes_all))]
+pub(crate) fn passes(tests: &[(bool, Verdict)]) -> bool
+    ensures { result ≡ passes tests.now }
+{
+    tests.iter().all(|test| test.0)
 }
