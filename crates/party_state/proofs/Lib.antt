@@ -1,3 +1,5 @@
+mod Entries
+mod Rows
 mod Forms
 mod Lines
 pub mod Tables
