@@ -1,6 +1,7 @@
 -- Tables as lists of rows.
 use Rattle.std.proofs.Common.{◌≡◌, ℕ, ◌+◌, zero, suc, Bool, true, false, cond, Option, None, Some, List, [], ◌∷◌, take, slice_get, refl, sym, ap, ◌∙◌, add-one, arith, length, ◌<◌, Result, Ok, Err, OnOk, IfSome, filter, subst, Bor}
-use Rattle.std.specs.List.{AllByRecursion}
+use Rattle.std.specs.List.{All, AllByRecursion, find}
+use Rattle.std.proofs.lemmas.List.Elements.{All-head, All-tail}
 use Rattle.std.specs.Option.{option_copied}
 use Rattle.std.specs.Map.{values_of}
 use Rattle.std.specs.Cmp.{IsEquivalence}
@@ -86,3 +87,22 @@ module _ {R : Type 0} (P : R → Type 0) where
   entry_at [] i k r at h = cc
   entry_at (e ∷ es) zero k r at h = let same : e.1 ≡ r = cc in subst P same h.0
   entry_at (e ∷ es) (suc i) k r at h = entry_at es i k r at h.1
+
+-- tests that answer alike leave the same rows distinct
+module _ {R K : Type 0} (key : R → K) (same other : K → K → Bool) (alike : (a b : K) → same a b ≡ other a b) where
+  find_alike : (k : K) (rs : List R) → find_row key same k rs ≡ find_row key other k rs
+  find_alike k [] = refl
+  find_alike k (r ∷ rs) = λ i. cond (alike k (key r) i) (Some r) (find_alike k rs i)
+
+  pub distinct_alike : (rs : List R) → Distinct key same rs → Distinct key other rs
+  distinct_alike [] d = tt
+  distinct_alike (r ∷ rs) d = (sym (find_alike (key r) rs) ∙ d.0, distinct_alike rs d.1)
+
+-- the first row that passes is one of the rows
+pub find_row_of : {R : Type 0} (P : R → Type 0) (test : R → Bool) (rs : List R) → All P rs → IfSome (find test rs) P
+find_row_of P test [] a = tt
+find_row_of {R} P test (r ∷ rs) a = go (find_row_of P test rs (All-tail P r rs a)) (test r)
+  where
+    go : IfSome (find test rs) P → (b : Bool) → IfSome (cond b (Some r) (find test rs)) P
+    go rest true = All-head P r rs a
+    go rest false = rest

@@ -1,4 +1,6 @@
 ghost use Rattle.std.specs.Prelude.{◌≡◌, ◌+◌, ◌<◌, ◌≤◌, IsOk, IfOk, OnOk, OnErr};
+ghost use Rattle.party_state.specs.declared.link.LinkKey.{LinkKey as TheKey};
+ghost use Rattle.party_state.specs.Keys.{same_link};
 ghost use Rattle.party_state.specs.Ranges.{IsFitting, IsNoBegin, IsParty};
 ghost use Rattle.party_state.specs.State.{begun, apply_edit};
 
@@ -13,6 +15,11 @@ use std::alloc::Global;
 use std::marker::Model;
 use x_base::{Ident, NoMemory, Role};
 use x_gen::Gen;
+
+/// Keys of links are told apart by what they hold. It does nothing.
+fn law_link_test()
+    ensures { (a b : TheKey) → ⟦<LinkKey as PartialEq>⟧.eq a b ≡ same_link a b }
+{}
 
 /// A party's parts: seen as the party, and for how many more rows each table has room.
 #[derive(Drop)]
@@ -32,8 +39,10 @@ impl Model for Parts {
 
     ghost Value = { Party × ℕ };
 
-    ghost view = { λ p. (record { own = p.own; role = p.role; generator = p.generator; links = p.links.0; keys = p.keys.0; exchanges = p.exchanges.0; answers = p.answers.0 },
-        min (min p.links.1 p.keys.1) (min p.exchanges.1 p.answers.1)) };
+    ghost view = { λ p. (
+      record { own = p.own; role = p.role; generator = p.generator; links = p.links.0; keys = p.keys.0; exchanges = p.exchanges.0; answers = p.answers.0 },
+      min (min p.links.1 p.keys.1) (min p.exchanges.1 p.answers.1),
+    ) };
 }
 
 impl Parts {
@@ -73,6 +82,7 @@ impl Parts {
     {
         self.own.bytes();
         law_generator(&self.generator);
+        law_link_test();
         self.links.len();
         self.keys.len();
         self.exchanges.len();

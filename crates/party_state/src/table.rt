@@ -1,11 +1,13 @@
 ghost use Rattle.std.specs.Prelude.{◌≡◌, ◌+◌, ◌<◌, ◌≤◌, [], ℕ, length, slice_get, take, filter, not, IsOk, IfSome, IfOk, OnOk, OnErr};
 ghost use Rattle.std.specs.List.{All};
+ghost use Rattle.std.specs.Map.Iter.{ShowsInOrder, deref};
 ghost use Rattle.std.specs.Option.{option_copied};
 ghost use Rattle.party_state.specs.Tables.{find_row, put_row, drop_row, Distinct};
 ghost use Rattle.party_state.specs.State.{is_ended};
 
 use crate::key::{KeyRec, KeyStatus, RecordKey};
 use indexmap::IndexMap;
+use indexmap::map::Values;
 use std::alloc::Global;
 use std::hash::Hash;
 use std::marker::Model;
@@ -82,6 +84,14 @@ impl<K: Eq + Hash + Copy, R: Row<K>> Table<K, R> {
         self.map.len()
     }
 
+    /// The rows, in their order.
+    pub(crate) fn rows(&self) -> Values<'_, K, R>
+        ensures rest { result ≡ self.now.0 }
+        ensures runs { ShowsInOrder (deref {X = R}) }
+    {
+        self.map.values()
+    }
+
     /// Makes room for that many more rows.
     pub(crate) fn reserve(&mut self, rows: usize) -> Result<(), NoMemory>
         ensures same { self.new.0 ≡ self.old.0 }
@@ -130,12 +140,7 @@ impl<K: Eq + Hash + Copy, R: Row<K>> Table<K, R> {
     }
 
     /// Puts a copy of row `i` behind those of the rows before it.
-    fn copy_row(
-        &self,
-        alloc: Global,
-        i: usize,
-        copy: &mut Table<K, R>,
-    ) -> Result<(), NoMemory>
+    fn copy_row(&self, alloc: Global, i: usize, copy: &mut Table<K, R>) -> Result<(), NoMemory>
         requires before { copy.old.0 ≡ take i self.now.0 }
         requires within { i < length self.now.0 }
         ensures { OnOk result (copy.new.0 ≡ take (i + 1) self.now.0) }
