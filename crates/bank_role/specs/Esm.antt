@@ -23,7 +23,8 @@ use Rattle.party_state.specs.Verdicts.{Test, verdict_of, passes}
 use Rattle.party_state.specs.Rows.{Row, Accepted, OfEsm, refused}
 use Rattle.bank_role.specs.Texts.{direct_name, is_verified, is_right, is_plain}
 use Rattle.bank_role.specs.Tests.{is_for}
-use Rattle.bank_role.specs.Exchanges.{Sent, sent_by, is_waiting, new_link, dropped}
+use Rattle.bank_role.specs.declared.exchanges.Sent.{Sent}
+use Rattle.bank_role.specs.Exchanges.{sent_by, is_waiting, new_link, dropped}
 use Rattle.bank_role.specs.Ksm.{lead_under}
 
 -- what an error message speaks of: a key that was sent, or a key with a translation centre

@@ -11,17 +11,13 @@ use Rattle.party_state.specs.declared.exchange.Kind.TheVariants as kind
 use Rattle.party_state.specs.declared.exchange.Exchange.{Exchange}
 use Rattle.party_state.specs.declared.edit.Edit.{Edit}
 use Rattle.party_state.specs.declared.edit.Edit.TheVariants.{PutLink, DropLink}
+use Rattle.bank_role.specs.declared.exchanges.Sent.{Sent}
 use Rattle.party_state.specs.Keys.{sends}
 use Rattle.party_state.specs.State.{Party, link_with, record_with, exchange_with}
 
 -- the record of a key shared with the peer
 abbrev pub record_of : Party → List ℕ → KeyName → Option KeyRec
 record_of p peer name = record_with (record { peer = peer; name = name }) p
-
--- a key that was sent to the peer, and the way
-pub record Sent : Type 0 where
-  pub key : KeyRec
-  pub way : Via
 
 abbrev pub sent_by : Party → List ℕ → Kind → Option Sent
 sent_by p peer (kind.KeySent name way) = option_map (λ k. record { key = k; way = way }) (record_of p peer name)

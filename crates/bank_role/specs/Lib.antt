@@ -19,3 +19,4 @@ pub mod Differing
 pub mod Failing
 pub mod Replies
 pub mod Deciding
+pub mod Storable

@@ -16,7 +16,8 @@ use Rattle.party_state.specs.Verdicts.{Test, verdict_of, passes}
 use Rattle.party_state.specs.Rows.{Row, OfRsm, OfAnswer, refused}
 use Rattle.bank_role.specs.Texts.{is_verified}
 use Rattle.bank_role.specs.Tests.{is_for}
-use Rattle.bank_role.specs.Exchanges.{Sent, sent_to, ending_with, new_link, readied}
+use Rattle.bank_role.specs.declared.exchanges.Sent.{Sent}
+use Rattle.bank_role.specs.Exchanges.{sent_to, ending_with, new_link, readied}
 use Rattle.bank_role.specs.Ksm.{lead_under}
 
 -- the answer to a key

@@ -1,6 +1,8 @@
 //! What a bank decides (ANSI X9.17): of commands, and of service messages that arrive.
 #![tactic(auto)]
 
+mod common_tests;
 mod decisions;
+mod exchanges;
 mod texts;
 mod verdicts;

@@ -1,0 +1,58 @@
+// The tests that several rows have in common.
+ghost use Rattle.std.specs.Prelude.{◌≡◌, bytes_eq};
+ghost use Rattle.bank_role.specs.Tests.{is_for, has_count, count_tests, has_key_room, has_link_room};
+
+use party_state::{LinkRec, State};
+use x_base::{Count, Ident, KeyName, LIMIT, Label, Side, Verdict};
+
+/// How many key records a party holds at most.
+const MOST_KEYS: usize = 1024;
+
+/// How many links a party holds at most.
+const MOST_LINKS: usize = 64;
+
+fn same_ident(one: &Ident, other: &Ident) -> bool
+    ensures { result ≡ bytes_eq one.now other.now }
+{
+    one.bytes() == other.bytes()
+}
+
+/// Whether the receiver is this party, and the originator isn't.
+pub(crate) fn is_for(state: &State, receiver: &Ident, originator: &Ident) -> bool
+    ensures { result ≡ is_for state.now receiver.now originator.now }
+{
+    let own = state.own();
+    same_ident(receiver, &own) && !same_ident(originator, &own)
+}
+
+/// Whether a count is left.
+pub(crate) fn has_count(link: &LinkRec) -> bool
+    ensures { result ≡ has_count link.now }
+{
+    link.next <= LIMIT
+}
+
+/// The tests of a count that arrived, against the expected one.
+pub(crate) fn count_tests(link: &LinkRec, count: Count) -> [(bool, Verdict); 2]
+    ensures { result ≡ count_tests link.now count }
+{
+    let left = has_count(link);
+    [
+        (!left || link.next <= count.value(), Verdict::CountLow(link.next)),
+        (left, Verdict::CountSpent),
+    ]
+}
+
+/// Whether 1,024 key records stand at most after this one is put.
+pub(crate) fn has_key_room(state: &State, peer: &Ident, name: &KeyName) -> bool
+    ensures { result ≡ has_key_room state.now (record { peer = peer.now; name = name.now }) }
+{
+    state.key(peer, name).is_some() || state.key_count() < MOST_KEYS
+}
+
+/// Whether 64 links stand at most after this one is put.
+pub(crate) fn has_link_room(state: &State, peer: &Ident, label: &Label, side: Side) -> bool
+    ensures { result ≡ has_link_room state.now (record { peer = peer.now; label = label.now; side = side }) }
+{
+    state.link(peer, label, side).is_some() || state.link_count() < MOST_LINKS
+}
