@@ -3,6 +3,7 @@
 
 mod common_tests;
 mod decisions;
+mod differing;
 mod exchanges;
 mod texts;
 mod verdicts;
