@@ -2,7 +2,7 @@
 -- is told. One that is closed by an error detection code alone changes nothing.
 use Rattle.std.specs.Prelude.{ℕ, max, Bool, cond, is_some, List, [], ◌∷◌, ◌++◌, Option, Some, None, option_map}
 use Rattle.x_base.specs.declared.key_name.FullName.{FullName}
-use Rattle.x_base.specs.declared.verdict.Verdict.TheVariants.{NotForMe, NoExchange, BadMac, BadEdc}
+use Rattle.x_base.specs.declared.verdict.Verdict.TheVariants.{BadMac, BadEdc}
 use Rattle.csm_grammar.specs.declared.message.Esm.{Esm}
 use Rattle.csm_grammar.specs.declared.arrival.Arrival.{Arrival}
 use Rattle.party_state.specs.declared.link.LinkRec.{LinkRec}
@@ -21,16 +21,16 @@ use Rattle.party_state.specs.Names.{full_name}
 use Rattle.party_state.specs.State.{Party, centre_label, link_with, exchange_with}
 use Rattle.party_state.specs.Verdicts.{Test, verdict_of, passes}
 use Rattle.party_state.specs.Rows.{Row, Accepted, OfEsm, refused}
+use Rattle.bank_role.specs.declared.esm.Subject.{Subject}
+use Rattle.bank_role.specs.declared.esm.Subject.TheVariants.{SentKey, Translated}
 use Rattle.bank_role.specs.Texts.{direct_name, is_verified, is_right, is_plain}
-use Rattle.bank_role.specs.Tests.{is_for}
+use Rattle.bank_role.specs.Tests.{answer_front}
 use Rattle.bank_role.specs.declared.exchanges.Sent.{Sent}
 use Rattle.bank_role.specs.Exchanges.{sent_by, is_waiting, new_link, dropped}
 use Rattle.bank_role.specs.Ksm.{lead_under}
 
--- what an error message speaks of: a key that was sent, or a key with a translation centre
-pub data Subject : Type 0 where
-  SentKey : Sent → Subject
-  Translated : ℕ → ℕ → Subject     -- its value, and the count at the centre
+-- what an error message from the peer speaks of: a key that was sent, or a key with a translation centre,
+-- by its value and its count at the centre
 
 abbrev pub subject_by : Party → List ℕ → Kind → Option Subject
 subject_by p peer (kind.KeySent name way) = option_map SentKey (sent_by p peer (kind.KeySent name way))
@@ -78,7 +78,7 @@ subject_accepted p (SentKey s) = Some (record { class = OfEsm; under = full_name
 subject_accepted p (Translated value cta) = None
 
 abbrev pub esm_front : Party → Esm → Option Subject → List Test
-esm_front p m found = (is_for p m.receiver m.originator, NotForMe) ∷ (is_some found, NoExchange) ∷ []
+esm_front p m found = answer_front p m.receiver m.originator (is_some found)
 
 abbrev pub esm_of : Party → Arrival → Esm → Option Subject → Row
 esm_of p a m None = refused (verdict_of (esm_front p m None))
@@ -97,7 +97,7 @@ esm_lead_of p a m None = None
 esm_lead_of p a m (Some s) = cond (passes (esm_front p m (Some s))) (Some (lead_under a (subject_name p m.originator s) (subject_value s))) None
 
 abbrev pub plain_tests : Party → Arrival → Esm → List Test
-plain_tests p a m = (is_for p m.receiver m.originator, NotForMe) ∷ (is_waiting p m.originator, NoExchange) ∷ (is_right a, BadEdc) ∷ []
+plain_tests p a m = answer_front p m.receiver m.originator (is_waiting p m.originator) ++ (is_right a, BadEdc) ∷ []
 
 abbrev pub plain_esm : Party → Arrival → Esm → Row
 plain_esm p a m = record {

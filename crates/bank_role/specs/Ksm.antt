@@ -1,6 +1,6 @@
 -- A key service message arrives from a partner (ANSI X9.17, point to point): its key is held, and a
 -- response goes back under it; a refusal for a count or for want of room is answered by an error message.
-use Rattle.std.specs.Prelude.{ℕ, ◌+◌, Bool, false, cond, is_some, List, [], ◌∷◌, ◌++◌, Option, Some, None, bytes_eq, codes}
+use Rattle.std.specs.Prelude.{ℕ, ◌+◌, Bool, false, cond, is_some, List, [], ◌∷◌, ◌++◌, Option, Some, None, option_map, bytes_eq, codes}
 use Rattle.x_base.specs.declared.key_name.KeyName.{KeyName}
 use Rattle.x_base.specs.declared.key_name.FullName.{FullName}
 use Rattle.x_base.specs.declared.party.Side.TheVariants.{Takes}
@@ -22,6 +22,7 @@ use Rattle.party_state.specs.Keys.{takes}
 use Rattle.party_state.specs.State.{Party, centre_label, link_with, first_link, knows}
 use Rattle.party_state.specs.Verdicts.{Test, verdict_of, passes}
 use Rattle.party_state.specs.Rows.{Row, Reply, Coded, OfKsm, refused}
+use Rattle.bank_role.specs.declared.ksm.Carried.{Carried}
 use Rattle.bank_role.specs.Texts.{direct_name, no_extras, is_verified}
 use Rattle.bank_role.specs.Tests.{is_for, count_tests, has_key_room}
 
@@ -29,11 +30,6 @@ use Rattle.bank_role.specs.Tests.{is_for, count_tests, has_key_room}
 abbrev pub link_in_use : Party → List ℕ → Option (List ℕ) → Option LinkRec
 link_in_use p originator None = first_link originator Takes p
 link_in_use p originator (Some label) = cond (bytes_eq label centre_label) None (link_with (takes originator label) p)
-
--- what a key service message carries: its key as encrypted, and the count
-pub record Carried : Type 0 where
-  pub kd : ℕ
-  pub ctp : ℕ
 
 -- the full name of the key that arrives under a link, and its value
 abbrev pub arriving : Party → LinkRec → ℕ → FullName
@@ -46,25 +42,37 @@ abbrev pub ksm_front : Party → Ksm → Option LinkRec → List Test
 ksm_front p m found =
     (is_for p m.receiver m.originator, verdict.NotForMe) ∷ (knows m.originator p, verdict.UnknownPeer) ∷ (is_some found, verdict.UnknownKk) ∷ []
 
+-- the tests behind the code's
+abbrev pub ksm_rest : Party → Ksm → Carried → LinkRec → List Test
+ksm_rest p m c l =
+    count_tests l c.ctp ++ (has_key_room p (record { peer = m.originator; name = (arriving p l c.ctp).name }), verdict.KeysFull) ∷ []
+
 abbrev pub ksm_tests : Party → Arrival → Ksm → Carried → LinkRec → List Test
-ksm_tests p a m c l =
-    ksm_front p m (Some l) ++ (is_verified a (carried_key l c), verdict.BadMac)
-    ∷ (count_tests l c.ctp ++ (has_key_room p (record { peer = m.originator; name = (arriving p l c.ctp).name }), verdict.KeysFull) ∷ [])
+ksm_tests p a m c l = ksm_front p m (Some l) ++ (is_verified a (carried_key l c), verdict.BadMac) ∷ ksm_rest p m c l
 
 -- the error message, with the refused count, and the expected one where it is told
 abbrev pub error_message : Party → List ℕ → ℕ → List ℕ → Option ℕ → Message
 error_message p originator ctp erf ctr =
     message.Esm (record { receiver = originator; originator = p.own; erf = erf; ctp = Some ctp; cta = None; ctb = None; ctr = ctr })
 
+-- the letter of a refusal that is answered
+abbrev pub error_letter : Verdict → Option (List ℕ)
+error_letter (verdict.CountLow expected) = Some (codes "C")
+error_letter verdict.CountSpent = Some (codes "S")
+error_letter verdict.LabelTaken = Some (codes "L")
+error_letter verdict.SameKey = Some (codes "K")
+error_letter verdict.LinksFull = Some (codes "N")
+error_letter verdict.KeysFull = Some (codes "F")
+error_letter v = None
+
+-- the expected count, where it is told
+abbrev pub expected_count : Verdict → Option ℕ
+expected_count (verdict.CountLow expected) = Some expected
+expected_count v = None
+
 -- the answer to a refusal, by its verdict
 abbrev pub error_for : Party → List ℕ → ℕ → Verdict → Option Message
-error_for p originator ctp (verdict.CountLow expected) = Some (error_message p originator ctp (codes "C") (Some expected))
-error_for p originator ctp verdict.CountSpent = Some (error_message p originator ctp (codes "S") None)
-error_for p originator ctp verdict.LabelTaken = Some (error_message p originator ctp (codes "L") None)
-error_for p originator ctp verdict.SameKey = Some (error_message p originator ctp (codes "K") None)
-error_for p originator ctp verdict.LinksFull = Some (error_message p originator ctp (codes "N") None)
-error_for p originator ctp verdict.KeysFull = Some (error_message p originator ctp (codes "F") None)
-error_for p originator ctp v = None
+error_for p originator ctp v = option_map (λ erf. error_message p originator ctp erf (expected_count v)) (error_letter v)
 
 abbrev pub coded_under : FullName → ℕ → Option Message → Option Reply
 coded_under under value None = None

@@ -2,7 +2,7 @@
 -- the end that was told of that key is done.
 use Rattle.std.specs.Prelude.{ℕ, Bool, false, cond, is_some, List, [], ◌∷◌, ◌++◌, Option, Some, None}
 use Rattle.x_base.specs.declared.key_name.KeyName.{KeyName}
-use Rattle.x_base.specs.declared.verdict.Verdict.TheVariants.{NotForMe, NoExchange, BadMac}
+use Rattle.x_base.specs.declared.verdict.Verdict.TheVariants.{BadMac}
 use Rattle.csm_grammar.specs.declared.message.Rsm.{Rsm}
 use Rattle.csm_grammar.specs.declared.arrival.Arrival.{Arrival}
 use Rattle.party_state.specs.declared.key.KeyRec.{KeyRec}
@@ -15,7 +15,7 @@ use Rattle.party_state.specs.State.{Party}
 use Rattle.party_state.specs.Verdicts.{Test, verdict_of, passes}
 use Rattle.party_state.specs.Rows.{Row, OfRsm, OfAnswer, refused}
 use Rattle.bank_role.specs.Texts.{is_verified}
-use Rattle.bank_role.specs.Tests.{is_for}
+use Rattle.bank_role.specs.Tests.{answer_front}
 use Rattle.bank_role.specs.declared.exchanges.Sent.{Sent}
 use Rattle.bank_role.specs.Exchanges.{sent_to, ending_with, new_link, readied}
 use Rattle.bank_role.specs.Ksm.{lead_under}
@@ -23,7 +23,7 @@ use Rattle.bank_role.specs.Ksm.{lead_under}
 -- the answer to a key
 
 abbrev pub rsm_front : Party → Rsm → Option Sent → List Test
-rsm_front p m found = (is_for p m.receiver m.originator, NotForMe) ∷ (is_some found, NoExchange) ∷ []
+rsm_front p m found = answer_front p m.receiver m.originator (is_some found)
 
 abbrev pub rsm_to : Party → Arrival → Rsm → Option Sent → Row
 rsm_to p a m None = refused (verdict_of (rsm_front p m None))
@@ -47,13 +47,13 @@ abbrev pub is_named : KeyName → Option KeyRec → Bool
 is_named name None = false
 is_named name (Some k) = same_name name k.name
 
-abbrev pub answer_front : Party → Rsm → KeyName → Option KeyRec → List Test
-answer_front p m name found = (is_for p m.receiver m.originator, NotForMe) ∷ (is_named name found, NoExchange) ∷ []
+abbrev pub end_front : Party → Rsm → KeyName → Option KeyRec → List Test
+end_front p m name found = answer_front p m.receiver m.originator (is_named name found)
 
 abbrev pub answer_to : Party → Arrival → Rsm → KeyName → Option KeyRec → Row
-answer_to p a m name None = refused (verdict_of (answer_front p m name None))
+answer_to p a m name None = refused (verdict_of (end_front p m name None))
 answer_to p a m name (Some k) = record {
-  verdict = verdict_of (answer_front p m name (Some k) ++ (is_verified a k.value, BadMac) ∷ []);
+  verdict = verdict_of (end_front p m name (Some k) ++ (is_verified a k.value, BadMac) ∷ []);
   edits = PutKey (record k { status = Ended }) ∷ DropExchange m.originator ∷ [];
   reply = None;
   uses = [];
@@ -64,7 +64,7 @@ answer_to p a m name (Some k) = record {
 
 abbrev pub answer_lead_to : Party → Arrival → Rsm → KeyName → Option KeyRec → Option Lead
 answer_lead_to p a m name None = None
-answer_lead_to p a m name (Some k) = cond (passes (answer_front p m name (Some k))) (Some (lead_under a (full_name p.own k) k.value)) None
+answer_lead_to p a m name (Some k) = cond (passes (end_front p m name (Some k))) (Some (lead_under a (full_name p.own k) k.value)) None
 
 abbrev pub rsm_with : Party → Arrival → Rsm → Option KeyName → Row
 rsm_with p a m None = rsm_to p a m (sent_to p m.originator)

@@ -1,6 +1,6 @@
 -- The tests that several rows have in common (this project's profile).
 use Rattle.std.specs.Prelude.{ℕ, Bool, not, ◌&&◌, ◌||◌, nat_le, nat_lt, is_some, List, [], ◌∷◌, length, bytes_eq}
-use Rattle.x_base.specs.declared.verdict.Verdict.TheVariants.{CountLow, CountSpent}
+use Rattle.x_base.specs.declared.verdict.Verdict.TheVariants.{NotForMe, NoExchange, CountLow, CountSpent}
 use Rattle.party_state.specs.declared.link.LinkKey.{LinkKey}
 use Rattle.party_state.specs.declared.link.LinkRec.{LinkRec}
 use Rattle.party_state.specs.declared.key.RecordKey.{RecordKey}
@@ -10,6 +10,10 @@ use Rattle.party_state.specs.Verdicts.{Test}
 -- the receiver is this party, and the originator isn't
 abbrev pub is_for : Party → List ℕ → List ℕ → Bool
 is_for p receiver originator = bytes_eq receiver p.own && not (bytes_eq originator p.own)
+
+-- an answer is for this party, and belongs to an exchange that stands
+abbrev pub answer_front : Party → List ℕ → List ℕ → Bool → List Test
+answer_front p receiver originator stands = (is_for p receiver originator, NotForMe) ∷ (stands, NoExchange) ∷ []
 
 -- a count is left
 abbrev pub has_count : LinkRec → Bool

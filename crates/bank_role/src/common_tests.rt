@@ -1,6 +1,7 @@
 // The tests that several rows have in common.
 ghost use Rattle.std.specs.Prelude.{◌≡◌, bytes_eq};
-ghost use Rattle.bank_role.specs.Tests.{is_for, has_count, count_tests, has_key_room, has_link_room};
+ghost use Rattle.party_state.specs.State.{centre_label};
+ghost use Rattle.bank_role.specs.Tests.{is_for, answer_front, has_count, count_tests, has_key_room, has_link_room};
 
 use party_state::{LinkRec, State};
 use x_base::{Count, Ident, KeyName, LIMIT, Label, Side, Verdict};
@@ -11,18 +12,12 @@ const MOST_KEYS: usize = 1024;
 /// How many links a party holds at most.
 const MOST_LINKS: usize = 64;
 
-fn same_ident(one: &Ident, other: &Ident) -> bool
-    ensures { result ≡ bytes_eq one.now other.now }
-{
-    one.bytes() == other.bytes()
-}
-
 /// Whether the receiver is this party, and the originator isn't.
 pub(crate) fn is_for(state: &State, receiver: &Ident, originator: &Ident) -> bool
     ensures { result ≡ is_for state.now receiver.now originator.now }
 {
     let own = state.own();
-    same_ident(receiver, &own) && !same_ident(originator, &own)
+    *receiver == own && *originator != own
 }
 
 /// Whether a count is left.
@@ -55,4 +50,27 @@ pub(crate) fn has_link_room(state: &State, peer: &Ident, label: &Label, side: Si
     ensures { result ≡ has_link_room state.now (record { peer = peer.now; label = label.now; side = side }) }
 {
     state.link(peer, label, side).is_some() || state.link_count() < MOST_LINKS
+}
+
+/// The tests of an answer before its code's: it is for this party, and belongs to an exchange that
+/// stands.
+pub(crate) fn answer_front(
+    state: &State,
+    receiver: &Ident,
+    originator: &Ident,
+    stands: bool,
+) -> [(bool, Verdict); 2]
+    ensures { result ≡ answer_front state.now receiver.now originator.now stands }
+{
+    [
+        (is_for(state, receiver, originator), Verdict::NotForMe),
+        (stands, Verdict::NoExchange),
+    ]
+}
+
+/// Whether the label is that of the links with centres.
+pub(crate) fn is_of_centre(label: &Label) -> bool
+    ensures { result ≡ bytes_eq label.now centre_label }
+{
+    label.bytes() == b"C".as_slice()
 }

@@ -4,6 +4,10 @@
 mod common_tests;
 mod decisions;
 mod differing;
+mod dsm;
+mod esm;
 mod exchanges;
+mod ksm;
+mod names;
 mod texts;
 mod verdicts;
