@@ -11,7 +11,7 @@ use Rattle.bank_role.specs.Texts.{text_of}
 use Rattle.bank_role.specs.Differing.{differing}
 use Rattle.bank_role.specs.Deciding.{some_edits, name_of, decision_of, refusal_of, accepting}
 use Rattle.bank_role.specs.Errors.{answering}
-use Rattle.bank_role.proofs.Differing.{differing_none}
+use Rattle.bank_role.proofs.Filtering.{differing_none}
 
 -- refused without an answer, whatever the verdict
 pub by_refused : (p : Party) (v : Verdict) → refusal_of v ≡ decision_of p (refused v)

@@ -1,4 +1,4 @@
 pub mod Tests
-pub mod Differing
+pub mod Filtering
 pub mod ByRow
 mod Storable

@@ -12,7 +12,8 @@ use Rattle.csm_grammar.specs.Reading.{IsRead, IsArrival}
 use Rattle.csm_grammar.specs.Laws.{OneAnswer, FaultEnds}
 use Rattle.csm_feed.specs.declared.next.Next.{Next}
 use Rattle.csm_feed.specs.declared.next.Next.TheVariants.{Message, NotYet, Refused, NoMemory}
-use Rattle.csm_feed.specs.Streams.{Leads, IsWaiting, IsRefused, EndsWith, Holds, moved}
+use Rattle.csm_grammar.specs.Places.{moved}
+use Rattle.csm_feed.specs.Streams.{Leads, IsWaiting, IsRefused, EndsWith, Holds}
 use Rattle.csm_feed.specs.Held.{Feeding, IsKept}
 use Rattle.csm_feed.specs.Feeding.{with_refusal, Hands, Answers, ComesAs, Fed, HandsOut, Exhausts}
 use Rattle.csm_feed.proofs.Fronts.{one_parsed}
@@ -150,7 +151,7 @@ exhausts old new answer kept h = record {
   refusing : (r : ReadRefusal) → answer ≡ Refused r → IsRefused old.before old.held r
   refusing r e = (subst (λ (x : Next). Answers old x new) e h).0
 
-moved_other : (n : ℕ) (r : ReadRefusal) → r ≢ refusal.NoMemory → moved n r ≢ refusal.NoMemory
+pub moved_other : (n : ℕ) (r : ReadRefusal) → r ≢ refusal.NoMemory → moved n r ≢ refusal.NoMemory
 moved_other n (refusal.NotCsm m) h = λ e. cc
 moved_other n (refusal.TooLong m) h = λ e. cc
 moved_other n (refusal.Unended m) h = λ e. cc

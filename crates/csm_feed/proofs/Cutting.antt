@@ -8,7 +8,8 @@ use Rattle.csm_grammar.specs.declared.refusal.ReadRefusal.{ReadRefusal}
 use Rattle.csm_grammar.specs.declared.refusal.ReadRefusal.TheVariants as refusal
 use Rattle.csm_grammar.specs.Spelling.{is_separator, AreSeparators}
 use Rattle.csm_grammar.specs.Laws.{OneAnswer, FaultStays, ReadStays}
-use Rattle.csm_feed.specs.Streams.{Leads, AreMessages, IsBegun, IsWaiting, IsRefused, EndsWith, moved}
+use Rattle.csm_grammar.specs.Places.{moved}
+use Rattle.csm_feed.specs.Streams.{Leads, AreMessages, IsBegun, IsWaiting, IsRefused, EndsWith}
 use Rattle.csm_feed.specs.Laws.{OneHolding, RefusalStays, FirstHeld}
 use Rattle.csm_feed.proofs.Fronts.{IsUnread, same_front, same_lead, leads_more, no_lead, unread}
 

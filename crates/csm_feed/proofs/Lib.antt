@@ -1,5 +1,7 @@
 pub mod Spans
 pub mod Fronts
 pub mod Cutting
+pub mod Waiting
 pub mod Answering
 pub mod Pushing
+pub mod Inputs

@@ -1,7 +1,7 @@
 -- What a feed holds (this project's profile).
-use Rattle.std.specs.Prelude.{◌≡◌, ◌≤◌, ◌<◌, ℕ, ◌+◌, ◌^◌, List, length, Option, Some}
+use Rattle.std.specs.Prelude.{◌≡◌, ◌≤◌, ◌<◌, ℕ, ◌+◌, ◌^◌, List, length, take, Option, Some}
 use Rattle.csm_grammar.specs.declared.refusal.ReadRefusal.{ReadRefusal}
-use Rattle.csm_feed.specs.Streams.{IsBegun, IsRefused}
+use Rattle.csm_feed.specs.Streams.{IsBegun, IsWaiting, IsRefused}
 
 -- the bytes that are held, how many were pushed before them, and the refusal that was given
 pub record Feeding : Type 0 where
@@ -15,3 +15,8 @@ pub record IsKept (f : Feeding) : Type 0 where
   pub counted : f.before + length f.held < 2 ^ 64
   pub begun : IsBegun f.held
   pub refused : (r : ReadRefusal) → f.refusal ≡ Some r → IsRefused f.before f.held r
+
+-- the first bytes that are held, so many, are none or only don't end yet
+pub record IsKnown (count : ℕ) (held : List ℕ) : Type 0 where
+  pub within : count ≤ length held
+  pub waiting : IsWaiting (take count held)

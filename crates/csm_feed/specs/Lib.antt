@@ -1,4 +1,5 @@
 pub mod Streams
 pub mod Held
 pub mod Feeding
+pub mod Heard
 pub mod Laws

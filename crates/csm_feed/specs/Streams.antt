@@ -1,11 +1,12 @@
 -- A stream of messages (this project's profile): cryptographic service messages one behind the
 -- other, with any blanks, CR and LF before, between and behind them.
-use Rattle.std.specs.Prelude.{◌≡◌, ◌≢◌, ◌⊎◌, ℕ, ◌+◌, false, List, [], ◌∷◌, ◌++◌, length, Option, Some, None}
+use Rattle.std.specs.Prelude.{◌≡◌, ◌≢◌, ◌⊎◌, ℕ, false, List, [], ◌∷◌, ◌++◌, length, Option, Some, None}
 use Rattle.csm_grammar.specs.declared.arrival.Arrival.{Arrival}
 use Rattle.csm_grammar.specs.declared.refusal.ReadRefusal.{ReadRefusal}
 use Rattle.csm_grammar.specs.declared.refusal.ReadRefusal.TheVariants as refusal
 use Rattle.csm_grammar.specs.Spelling.{is_separator, AreSeparators}
 use Rattle.csm_grammar.specs.Reading.{IsArrival, IsFault}
+use Rattle.csm_grammar.specs.Places.{moved}
 
 -- the bytes are separators and then a message as it was received, and so on
 pub record Leads (b : List ℕ) (a : Arrival) (rest : List ℕ) : Type 0 where
@@ -23,20 +24,6 @@ AreMessages b (a ∷ later) = (rest : List ℕ) × Leads b a rest × AreMessages
 abbrev pub IsBegun : List ℕ → Type 0
 IsBegun [] = Unit {0}
 IsBegun (b ∷ bs) = is_separator b ≡ false
-
--- a refusal at a place that is counted from so many bytes before
-abbrev pub moved : ℕ → ReadRefusal → ReadRefusal
-moved before (refusal.NotCsm n) = refusal.NotCsm (before + n)
-moved before (refusal.TooLong n) = refusal.TooLong (before + n)
-moved before (refusal.Unended n) = refusal.Unended (before + n)
-moved before (refusal.BadTag n) = refusal.BadTag (before + n)
-moved before (refusal.UnknownTag n) = refusal.UnknownTag (before + n)
-moved before (refusal.Repeated t n) = refusal.Repeated t (before + n)
-moved before (refusal.Missing t n) = refusal.Missing t (before + n)
-moved before (refusal.Unwanted t n) = refusal.Unwanted t (before + n)
-moved before (refusal.BadContents t n) = refusal.BadContents t (before + n)
-moved before (refusal.Unsupported t n) = refusal.Unsupported t (before + n)
-moved before refusal.NoMemory = refusal.NoMemory
 
 -- nothing, or a text that only doesn't end yet
 abbrev pub IsWaiting : List ℕ → Type 0

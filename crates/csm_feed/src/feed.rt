@@ -1,17 +1,17 @@
-ghost use Rattle.std.specs.Prelude.{◌≡◌, ◌+◌, ◌≢◌, ◌≤◌, ◌<◌, ◌↔◌, ◌^◌, ◌-◌, ℕ, List, [], length, take, Some, None, Err, IfOk, IsOk};
+ghost use Rattle.std.specs.Prelude.{◌≡◌, ◌+◌, ◌≢◌, ◌≤◌, ◌<◌, ◌↔◌, ◌^◌, ◌-◌, ℕ, List, [], length, take, Some, None, Err, IfOk, IsOk, IsTrue};
 ghost use Rattle.csm_grammar.specs.declared.arrival.Arrival.{Arrival};
 ghost use Rattle.csm_grammar.specs.declared.refusal.ReadRefusal.{ReadRefusal};
 ghost use Rattle.csm_grammar.specs.Reading.{IsFault};
 ghost use Rattle.csm_feed.specs.declared.next.Next.{Next};
-ghost use Rattle.csm_feed.specs.Streams.{AreMessages};
+ghost use Rattle.csm_feed.specs.Streams.{AreMessages, IsWaiting};
 ghost use Rattle.csm_feed.specs.Held.{Feeding, IsKept};
 ghost use Rattle.csm_feed.specs.Feeding.{pushed, IsFull, gap_before, with_bytes, without, with_refusal, Answers, ComesAs, Fed, Feeds, HandsOut, Exhausts};
 
-use crate::moving::moved;
 use crate::next::Next;
-use crate::separators::leading_separators;
+use crate::separators::{are_plain, leading_separators};
 use csm_grammar::{
     Arrival, ReadRefusal, law_fault_ends, law_fault_stays, law_fault_within, law_one_answer,
+    law_unended_stays,
 };
 use std::alloc::Global;
 use std::marker::Model;
@@ -22,10 +22,13 @@ pub const HELD: usize = 1025;
 
 /// Messages from a stream of bytes that comes in pieces.
 ///
-/// Separators before a message are taken and not held. A feed takes 2^64 - 1 bytes at most.
+/// Separators before a message are taken and not held. A feed takes 2^64 - 1 bytes at most. What is
+/// held is read again only when a token of it may have ended.
 #[derive(Drop)]
 pub struct Feed {
     held: Vec<u8>,
+    // so many of the bytes held are known to be only not ended
+    unended: usize,
     before: u64,
     refusal: Option<ReadRefusal>,
 }
@@ -33,13 +36,13 @@ pub struct Feed {
 impl Model for Feed {
     ghost use Rattle.std.specs.Prelude.{◌≤◌};
     ghost use Rattle.std.specs.Vec.{vec_capacity};
-    ghost use Rattle.csm_feed.specs.Held.{Feeding, IsKept};
+    ghost use Rattle.csm_feed.specs.Held.{Feeding, IsKept, IsKnown};
 
     ghost Value = { Feeding };
 
     ghost view = { λ f. record { held = f.held.items; before = f.before; refusal = f.refusal } };
 
-    ghost invariant = { λ f. IsKept (record { held = f.held.items; before = f.before; refusal = f.refusal }) × (1025 ≤ vec_capacity f.held) };
+    ghost invariant = { λ f. IsKept (record { held = f.held.items; before = f.before; refusal = f.refusal }) × (1025 ≤ vec_capacity f.held) × IsKnown f.unended f.held.items };
 }
 
 impl Feed {
@@ -51,6 +54,7 @@ impl Feed {
         let held = Vec::with_capacity(alloc, HELD)?;
         Ok(Feed {
             held,
+            unended: 0,
             before: 0,
             refusal: None,
         })
@@ -78,11 +82,8 @@ impl Feed {
         ensures value { result ≡ gap_before self.now.held piece.now }
         ensures within { result ≤ length piece.now }
     {
-        if self.held.is_empty() {
-            leading_separators(piece)
-        } else {
-            0
-        }
+        let begun = !self.held.is_empty();
+        if begun { 0 } else { leading_separators(piece) }
     }
 
     /// The next message, if what is held begins with one. Its bytes are released, and the
@@ -110,8 +111,8 @@ impl Feed {
         if let Some(refusal) = self.refusal {
             return Next::Refused(refusal);
         }
-        if self.held.is_empty() {
-            return Next::NotYet;
+        if self.held.is_empty() || self.is_unended() {
+            return self.wait();
         }
         match Arrival::read(alloc, self.held.as_slice()) {
             Ok(arrival) => {
@@ -119,11 +120,35 @@ impl Feed {
                 Next::Message(arrival)
             }
             Err(ReadRefusal::NoMemory) => Next::NoMemory,
-            Err(ReadRefusal::Unended(_)) => Next::NotYet,
+            Err(ReadRefusal::Unended(_)) => self.wait(),
             Err(reason) => self.refuse(reason),
         }
     }
 
+    /// Whether what is held is known to be only not ended, without reading it.
+    #[tactic(auto, using(crate::proofs::Waiting::known_waiting))]
+    fn is_unended(&self) -> bool
+        ensures { IsTrue result → IsWaiting self.now.held }
+    {
+        law_unended_stays();
+        if self.unended < 4 || self.held.len() >= HELD {
+            return false;
+        }
+        let (_, behind) = self.held.as_slice().split_at(self.unended);
+        are_plain(behind)
+    }
+
+    #[tactic(auto, using(crate::proofs::Waiting::known_all))]
+    fn wait(&mut self) -> Next
+        requires { IsWaiting self.old.held }
+        ensures answer { result ≡ Next.NotYet }
+        ensures same { self.new ≡ self.old }
+    {
+        self.unended = self.held.len();
+        Next::NotYet
+    }
+
+    #[tactic(auto, using(crate::proofs::Waiting::known_none))]
     fn release(&mut self, len: usize)
         requires unrefused { self.old.refusal ≡ None }
         requires within { len ≤ length self.old.held }
@@ -132,6 +157,7 @@ impl Feed {
         let (_, behind) = self.held.as_slice().split_at(len);
         let gone = len + leading_separators(behind);
         self.held.drain(..gone);
+        self.unended = 0;
         self.before += gone as u64;
     }
 
@@ -142,7 +168,7 @@ impl Feed {
         ensures { Answers self.old result self.new }
     {
         law_fault_within();
-        let refusal = moved(reason, self.before);
+        let refusal = reason.moved(self.before);
         self.refusal = Some(refusal);
         Next::Refused(refusal)
     }

@@ -1,5 +1,5 @@
 // What is promised of every stream, whatever cuts it.
-ghost use Rattle.csm_feed.specs.Laws.{OneHolding, RefusalStays, FirstHeld};
+ghost use Rattle.csm_feed.specs.Laws.{OneHolding, RefusalStays, FirstHeld, OneHearing};
 
 use csm_grammar::{law_fault_stays, law_one_answer, law_read_stays};
 
@@ -24,4 +24,12 @@ pub fn law_first_held()
 {
     law_one_answer();
     law_read_stays();
+}
+
+/// Of any bytes exactly one thing is heard: a message, or why none is.
+#[tactic(auto, using(crate::proofs::Inputs::one_hearing))]
+pub fn law_one_hearing()
+    ensures { OneHearing }
+{
+    law_one_answer();
 }

@@ -2,13 +2,16 @@
 #![tactic(auto)]
 
 mod feed;
+mod hearing;
 mod laws;
-mod moving;
 mod next;
 mod separators;
 #[cfg(test)]
 mod tests;
+mod unheard;
 
 pub use feed::{Feed, HELD};
-pub use laws::{law_first_held, law_one_holding, law_refusal_stays};
+pub use hearing::{INPUT_LIMIT, hear};
+pub use laws::{law_first_held, law_one_hearing, law_one_holding, law_refusal_stays};
 pub use next::Next;
+pub use unheard::Unheard;

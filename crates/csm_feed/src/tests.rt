@@ -93,3 +93,33 @@ fn a_stream_ends_within_a_message(rt: HostRuntime) -> Result<(), Fail> {
     assert_eq!(rt; feed.finish(), Err(ReadRefusal::Unended(15)));
     Ok(())
 }
+
+const UNHEARD: [(&[u8], Unheard); 5] = [
+    (b"", Unheard::Text(ReadRefusal::NotCsm(0))),
+    (b" \r\n", Unheard::Text(ReadRefusal::NotCsm(3))),
+    (b" CSM(MCL/RSI", Unheard::Text(ReadRefusal::Unended(12))),
+    (
+        b"  CSM(MCL/RSI RCV/BANKB RCV/BANKB ORG/BANKA)",
+        Unheard::Text(ReadRefusal::Repeated(Tag::Rcv, 24)),
+    ),
+    (
+        b"CSM(MCL/RSI RCV/BANKB ORG/BANKA SVR/KD EDC/00000000) X",
+        Unheard::Trailing(53),
+    ),
+];
+
+#[test]
+fn an_input_is_heard(rt: HostRuntime) -> Result<(), Fail> {
+    let input = b"\r\nCSM(MCL/RSI RCV/BANKB ORG/BANKA SVR/KD EDC/00000000)\n";
+    match hear(rt.alloc(), input)? {
+        Ok(arrival) => assert!(rt; arrival.text.bytes() == MESSAGES[0]),
+        Err(_) => panic!(rt; "no message"),
+    }
+    for (bytes, unheard) in UNHEARD {
+        match hear(rt.alloc(), bytes)? {
+            Ok(_) => panic!(rt; "a message"),
+            Err(reason) => assert_eq!(rt; reason, unheard),
+        }
+    }
+    Ok(())
+}

@@ -2,7 +2,7 @@
 use Rattle.std.proofs.Common.{◌≡◌, ◌≢◌, ℕ, ◌+◌, ◌≤◌, ◌<◌, Bool, true, false, cond, List, [], ◌∷◌, ◌++◌, length, take, drop, Option, Some, None, refl, sym, ◌∙◌, ap, subst, append_assoc, arith, inl, inr, length-append}
 use Rattle.std.specs.Prelude.{◌⊎◌, ◌==◌, ◌&&◌, ◌||◌, option_to_list, codes}
 use Rattle.std.proofs.lemmas.Bool.{lt-ltb, le-ltb, cases_lt, true≢false, false≢true}
-use Rattle.std.proofs.lemmas.List.{take-append-drop, take-append-le, length-take, drop-append-le, drop_all}
+use Rattle.std.proofs.lemmas.List.{take-append-drop, take-append-le, length-take, drop-append-le, drop_all, take_all}
 use Rattle.csm_grammar.specs.declared.parsed.Parsed.{Parsed}
 use Rattle.csm_grammar.specs.declared.refusal.ReadRefusal.{ReadRefusal}
 use Rattle.csm_grammar.specs.declared.refusal.ReadRefusal.TheVariants as refusal
@@ -11,12 +11,14 @@ use Rattle.csm_grammar.specs.Spelling.{Field, is_separator, Spells}
 use Rattle.csm_grammar.specs.Units.{Stretch, Standing, longer, stretches, shut_place, waits, put, units, stretches_of, units_of}
 use Rattle.csm_grammar.specs.Faults.{or_else, differs, front_fault, field_of, fault_of, fields_from, first_fault, shut_fault, endless_fault, end_fault, fault_of_text}
 use Rattle.csm_grammar.specs.Reading.{IsRead}
-use Rattle.csm_grammar.specs.Laws.{FaultStays}
-use Rattle.csm_grammar.proofs.Stretching.{stretch, unit_not_waiting}
+use Rattle.csm_grammar.specs.Judging.{ArePlain}
+use Rattle.csm_grammar.specs.Laws.{FaultStays, UnendedStays}
+use Rattle.csm_grammar.proofs.Stretching.{stretch, stretch_none, unit_not_waiting}
 use Rattle.csm_grammar.proofs.Tokens.{no_units}
 use Rattle.csm_grammar.proofs.Grouping.{is_shut, units_two}
 use Rattle.csm_grammar.proofs.Passing.{no_fault, fault_more}
 use Rattle.csm_grammar.proofs.Kept.{taken}
+use Rattle.csm_grammar.proofs.Reasons.{unended_parts}
 
 -- stretches of a longer text
 stretches_step : (p b : ℕ) (xs ys : List Stretch) (zs : List Stretch) (shut separator : Bool) → ys ≡ xs ++ zs
@@ -228,3 +230,20 @@ read_stays b more p r =
 
 pub fault_of_more : FaultStays
 fault_of_more b more r filled n h = answer_stays b more filled (λ k e. n k (let s : Some r ≡ Some (refusal.Unended k) = sym h ∙ e in cc)) ∙ h
+
+-- bytes that end nothing are in no stretch
+stretches_plain : (p : ℕ) (b more : List ℕ) → ArePlain more → stretches p (b ++ more) ≡ stretches p b
+unfolding stretches
+stretches_plain p [] more h = stretch_none p more h
+stretches_plain p (b ∷ bs) more h =
+    ap (λ (ss : List Stretch). cond (b == 41) (stretch p [] b ∷ []) (cond (is_separator b) (stretch p [] b ∷ ss) (longer p b ss))) (stretches_plain (p + 1) bs more h)
+
+pub unended_more : UnendedStays
+unended_more b more l h s e =
+    let parts = unended_parts b (length b) e in
+    let n = length-append b more in
+    let same : stretches_of (b ++ more) ≡ stretches_of b =
+    ap (λ (y : List ℕ). stretches 4 (drop 4 y)) (take_all 1024 (b ++ more) s) ∙ ap (stretches 4) (drop-append-le 4 b more l)
+    ∙ stretches_plain 4 (drop 4 b) more h ∙ ap (λ (y : List ℕ). stretches 4 (drop 4 y)) (sym (take_all 1024 b (omega (arith, n, s)))) in
+    answer_is (b ++ more) None None (front_none b more parts.front l) (ap (λ (ss : List Stretch). first_fault [] (units ss)) same ∙ parts.tokens) (ap shut_place same ∙ parts.unshut)
+    ∙ ap (λ (r : ReadRefusal). Some r) (endless_short (length (b ++ more)) s)

@@ -132,3 +132,30 @@ ends_as b r h = record { memory = λ e. no_memory (at e refl) (cases_lt 1024 (le
   short : (n : ℕ) → refusal.Unended n ≡ endless_fault (length b) → (1024 < length b) ⊎ (length b ≤ 1024) → (n ≡ length b) × (length b ≤ 1024)
   short n e (inl l) = let k : refusal.Unended n ≡ refusal.TooLong 1024 = e ∙ too_long (length b) l in absurd cc
   short n e (inr l) = (let k : refusal.Unended n ≡ refusal.Unended (length b) = e ∙ unended (length b) l in cc, l)
+
+none_before : (o p : Option ReadRefusal) (r : ReadRefusal) → GivesOther o → or_else o p ≡ Some r → is_last r ≡ true → (o ≡ None) × (p ≡ Some r)
+unfolding GivesOther
+none_before None p r g h k = (refl, h)
+none_before (Some s) p r g h k = absurd (false≢true (sym (g r h) ∙ k))
+
+open_end : (place : Option ℕ) (fs : List Field) (n : ℕ) (r : ReadRefusal) → end_fault place fs n ≡ Some r → is_last r ≡ true → place ≡ None
+unfolding GivesOther
+open_end None fs n r h k = refl
+open_end (Some at) fs n r h k = absurd (false≢true (sym (shut_gives fs at r h) ∙ k))
+
+-- the parts of a text that only doesn't end
+pub record Open (b : List ℕ) : Type 0 where
+  pub front : front_fault b ≡ None
+  pub tokens : first_fault [] (units_of b) ≡ None
+  pub unshut : shut_place (stretches_of b) ≡ None
+
+last_parts : (b : List ℕ) (r : ReadRefusal) → fault_of_text b ≡ Some r → is_last r ≡ true → Open b
+unfolding fault_of_text
+last_parts b r h k =
+    let f = none_before (front_fault b) _ r (front_gives b) h k in
+    let t = none_before (first_fault [] (units_of b)) _ r (tokens_give [] (units_of b)) f.1 k in
+    record { front = f.0; tokens = t.0; unshut = open_end (shut_place (stretches_of b)) (fields_from (units_of b)) (length b) r t.1 k }
+
+pub unended_parts : (b : List ℕ) (n : ℕ) → fault_of_text b ≡ Some (refusal.Unended n) → Open b
+unfolding is_last
+unended_parts b n h = last_parts b (refusal.Unended n) h refl

@@ -13,7 +13,7 @@ use Rattle.csm_grammar.specs.Values.{kind_of, value_of, is_hex}
 use Rattle.csm_grammar.specs.Spelling.{Field, tags_in, is_separator}
 use Rattle.csm_grammar.specs.Units.{Stretch, Standing, longer, stretches, shut_place, put, waits, units, stretches_of, units_of, tag_text, contents_text}
 use Rattle.csm_grammar.specs.Faults.{refuse, or_else, differs, front_fault, is_tagged, lacking, forms_left, field_of, fault_of, fault_of_field, fields_from, first_fault, missing_of, shut_fault, endless_fault, end_fault, fault_of_text}
-use Rattle.csm_grammar.specs.Laws.{place_of}
+use Rattle.csm_grammar.specs.Places.{place_of}
 use Rattle.csm_grammar.proofs.Passing.{no_fault, fault_more}
 use Rattle.csm_grammar.proofs.Stretching.{stretch}
 use Rattle.csm_grammar.proofs.Grouping.{units_two}

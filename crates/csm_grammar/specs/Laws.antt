@@ -11,6 +11,8 @@ use Rattle.csm_grammar.specs.Values.{kind_of, Denotes}
 use Rattle.csm_grammar.specs.Messages.{Valued, form_of, shut_field, all_fields}
 use Rattle.csm_grammar.specs.Spelling.{Field, field_text, Says}
 use Rattle.csm_grammar.specs.Reading.{IsRead, IsFault}
+use Rattle.csm_grammar.specs.Judging.{ArePlain}
+use Rattle.csm_grammar.specs.Places.{place_of}
 
 -- exactly one prefix is a spelling, of one message closed by one code, and there is no fault
 pub record OneSpelling (b : List ℕ) : Type 0 where
@@ -38,20 +40,6 @@ pub record EndsAs (b : List ℕ) (r : ReadRefusal) : Type 0 where
 abbrev pub FaultEnds : Type 0
 FaultEnds = (b : List ℕ) (r : ReadRefusal) → IsFault b r → EndsAs b r
 
--- how many bytes stand before a fault
-abbrev pub place_of : ReadRefusal → ℕ
-place_of (refusal.NotCsm n) = n
-place_of (refusal.TooLong n) = n
-place_of (refusal.Unended n) = n
-place_of (refusal.BadTag n) = n
-place_of (refusal.UnknownTag n) = n
-place_of (refusal.Repeated t n) = n
-place_of (refusal.Missing t n) = n
-place_of (refusal.Unwanted t n) = n
-place_of (refusal.BadContents t n) = n
-place_of (refusal.Unsupported t n) = n
-place_of refusal.NoMemory = 0
-
 -- a fault has its place in the text, or at its end
 abbrev pub FaultWithin : Type 0
 FaultWithin = (b : List ℕ) (r : ReadRefusal) → IsFault b r → place_of r ≤ length b
@@ -59,6 +47,10 @@ FaultWithin = (b : List ℕ) (r : ReadRefusal) → IsFault b r → place_of r �
 -- more bytes change no answer, but of bytes that are none or only not ended
 abbrev pub FaultStays : Type 0
 FaultStays = (b more : List ℕ) (r : ReadRefusal) → b ≢ [] → ((n : ℕ) → r ≢ refusal.Unended n) → IsFault b r → IsFault (b ++ more) r
+
+-- where `CSM(` is there and no more than 1,024 bytes are, bytes other than separators and `)` end nothing
+abbrev pub UnendedStays : Type 0
+UnendedStays = (b more : List ℕ) → 4 ≤ length b → ArePlain more → length (b ++ more) ≤ 1024 → IsFault b (refusal.Unended (length b)) → IsFault (b ++ more) (refusal.Unended (length (b ++ more)))
 
 abbrev pub ReadStays : Type 0
 ReadStays = (b more : List ℕ) (p : Parsed) → IsRead b p → IsRead (b ++ more) p

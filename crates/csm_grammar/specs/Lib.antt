@@ -7,6 +7,7 @@ pub mod Units
 pub mod Faults
 pub mod Reading
 pub mod Judging
+pub mod Places
 pub mod Laws
 pub mod Letters
 pub mod Halves

@@ -1,5 +1,5 @@
 // What is promised of every text, whatever reads it.
-ghost use Rattle.csm_grammar.specs.Laws.{OneAnswer, FaultEnds, FaultWithin, FaultStays, ReadStays, OneMeaning, ReadSays, WrittenRead};
+ghost use Rattle.csm_grammar.specs.Laws.{OneAnswer, FaultEnds, FaultWithin, FaultStays, UnendedStays, ReadStays, OneMeaning, ReadSays, WrittenRead};
 
 /// For each text either exactly one prefix is a spelling, or exactly one reason and place is a
 /// fault.
@@ -25,6 +25,13 @@ pub fn law_fault_within()
 #[tactic(auto, using(crate::proofs::Growing::fault_of_more))]
 pub fn law_fault_stays()
     ensures { FaultStays }
+{}
+
+/// A text of at least four bytes that is only not ended stays so while bytes other than separators
+/// and `)` come, and at most 1,024 are there.
+#[tactic(auto, using(crate::proofs::Growing::unended_more))]
+pub fn law_unended_stays()
+    ensures { UnendedStays }
 {}
 
 /// A message stays when more bytes come.

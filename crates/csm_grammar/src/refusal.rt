@@ -1,3 +1,6 @@
+ghost use Rattle.std.specs.Prelude.{◌≡◌, ◌+◌, ◌<◌, ◌^◌};
+ghost use Rattle.csm_grammar.specs.Places.{place_of, moved};
+
 use crate::tag::Tag;
 
 /// Why no message begins at byte 0. A number is the place of the fault: how many bytes stand
@@ -20,4 +23,45 @@ pub enum ReadRefusal {
     BadContents(Tag, u64),
     Unsupported(Tag, u64),
     NoMemory,
+}
+
+impl ReadRefusal {
+    /// How many bytes stand before the fault. Want of memory has no place, and gives 0.
+    pub fn place(self) -> u64
+        ensures { result ≡ place_of self }
+    {
+        match self {
+            ReadRefusal::NotCsm(place)
+            | ReadRefusal::TooLong(place)
+            | ReadRefusal::Unended(place)
+            | ReadRefusal::BadTag(place)
+            | ReadRefusal::UnknownTag(place)
+            | ReadRefusal::Repeated(_, place)
+            | ReadRefusal::Missing(_, place)
+            | ReadRefusal::Unwanted(_, place)
+            | ReadRefusal::BadContents(_, place)
+            | ReadRefusal::Unsupported(_, place) => place,
+            ReadRefusal::NoMemory => 0,
+        }
+    }
+
+    /// The refusal, its place counted from a byte that stands `count` bytes earlier.
+    pub fn moved(self, count: u64) -> ReadRefusal
+        requires { count + place_of self < 2 ^ 64 }
+        ensures { result ≡ moved count self }
+    {
+        match self {
+            ReadRefusal::NotCsm(place) => ReadRefusal::NotCsm(count + place),
+            ReadRefusal::TooLong(place) => ReadRefusal::TooLong(count + place),
+            ReadRefusal::Unended(place) => ReadRefusal::Unended(count + place),
+            ReadRefusal::BadTag(place) => ReadRefusal::BadTag(count + place),
+            ReadRefusal::UnknownTag(place) => ReadRefusal::UnknownTag(count + place),
+            ReadRefusal::Repeated(tag, place) => ReadRefusal::Repeated(tag, count + place),
+            ReadRefusal::Missing(tag, place) => ReadRefusal::Missing(tag, count + place),
+            ReadRefusal::Unwanted(tag, place) => ReadRefusal::Unwanted(tag, count + place),
+            ReadRefusal::BadContents(tag, place) => ReadRefusal::BadContents(tag, count + place),
+            ReadRefusal::Unsupported(tag, place) => ReadRefusal::Unsupported(tag, count + place),
+            ReadRefusal::NoMemory => ReadRefusal::NoMemory,
+        }
+    }
 }

@@ -2,24 +2,12 @@
 ghost use Rattle.std.specs.Prelude.{◌≡◌, ◌&&◌, ◌||◌, ◌==◌, ◌<◌, true, false, length, take, slice_index, position, MatchOption};
 ghost use Rattle.std.specs.List.{list_all, list_any};
 ghost use Rattle.csm_grammar.specs.Values.{is_hex};
-ghost use Rattle.csm_grammar.specs.Spelling.{is_separator};
 ghost use Rattle.csm_grammar.specs.Units.{is_half, tag_text, contents_text};
 ghost use Rattle.csm_grammar.specs.Judging.{is_plain};
 ghost use Rattle.csm_grammar.specs.Scanning.{IsRun, IsUnit, RunsOut};
 
+use crate::separators::is_plain;
 use hex::FromHex;
-
-fn is_separator(byte: u8) -> bool
-    ensures { result ≡ is_separator byte }
-{
-    matches!(byte, b' ' | b'\r' | b'\n')
-}
-
-fn is_plain(byte: u8) -> bool
-    ensures { result ≡ is_plain byte }
-{
-    !(byte == b')' || is_separator(byte))
-}
 
 /// How many bytes stand before the first separator or `)`.
 #[tactic(auto, using(std::proofs::lemmas::List::Folds::list_all_more))]

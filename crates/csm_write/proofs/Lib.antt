@@ -4,3 +4,4 @@ pub mod Named
 pub mod Standing
 pub mod Codes
 pub mod Reading
+pub mod Lengths

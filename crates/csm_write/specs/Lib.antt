@@ -1,4 +1,5 @@
 pub mod Canon
 pub mod Writable
 pub mod Writing
+pub mod Shortness
 pub mod Laws

@@ -5,6 +5,7 @@ mod classes;
 mod closing;
 mod laws;
 mod optional;
+mod shortness;
 #[cfg(test)]
 mod tests;
 mod writer;
@@ -12,4 +13,5 @@ mod writing;
 
 pub use closing::Closing;
 pub use laws::{law_canon_reads_back, law_canon_rewrites};
+pub use shortness::law_canon_short;
 pub use writing::write;

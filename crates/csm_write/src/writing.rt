@@ -47,6 +47,7 @@ fn written(alloc: Global, message: &Message, closing: &Closing) -> Result<Text, 
 /// most 1,024 bytes, what is read of the text is the message, whatever follows.
 pub fn write(alloc: Global, message: &Message, closing: &Closing) -> Result<Text, NoMemory>
     ensures canonical { IfOk result (λ text. text ≡ canon message.now closing.now) }
+    ensures typed { OnOk result (AreTyped message.now closing.now) }
     ensures reads_back { Writable message.now closing.now → IfOk result (ReadsBack message.now closing.now) }
     ensures rewrites { Writable message.now closing.now → IfOk result (Rewrites closing.now) }
 {

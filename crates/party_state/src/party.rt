@@ -39,8 +39,10 @@ impl Model for Parts {
 
     ghost Value = { Party × ℕ };
 
-    ghost view = { λ p. (record { own = p.own; role = p.role; generator = p.generator; links = p.links.0; keys = p.keys.0; exchanges = p.exchanges.0; answers = p.answers.0 },
-        min (min p.links.1 p.keys.1) (min p.exchanges.1 p.answers.1)) };
+    ghost view = { λ p. (
+      record { own = p.own; role = p.role; generator = p.generator; links = p.links.0; keys = p.keys.0; exchanges = p.exchanges.0; answers = p.answers.0 },
+      min (min p.links.1 p.keys.1) (min p.exchanges.1 p.answers.1),
+    ) };
 }
 
 impl Parts {

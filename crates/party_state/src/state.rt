@@ -25,12 +25,7 @@ impl Model for State {
 }
 
 /// The state of a party that begins.
-pub fn first_state(
-    alloc: Global,
-    own: Ident,
-    role: Role,
-    generator: Gen,
-) -> Result<State, NoMemory>
+pub fn first_state(alloc: Global, own: Ident, role: Role, generator: Gen) -> Result<State, NoMemory>
     ensures { IfOk result (λ s. s ≡ begun own role generator) }
 {
     Ok(State {

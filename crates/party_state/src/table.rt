@@ -140,12 +140,7 @@ impl<K: Eq + Hash + Copy, R: Row<K>> Table<K, R> {
     }
 
     /// Puts a copy of row `i` behind those of the rows before it.
-    fn copy_row(
-        &self,
-        alloc: Global,
-        i: usize,
-        copy: &mut Table<K, R>,
-    ) -> Result<(), NoMemory>
+    fn copy_row(&self, alloc: Global, i: usize, copy: &mut Table<K, R>) -> Result<(), NoMemory>
         requires before { copy.old.0 ≡ take i self.now.0 }
         requires within { i < length self.now.0 }
         ensures { OnOk result (copy.new.0 ≡ take (i + 1) self.now.0) }

@@ -1,21 +1,24 @@
 -- What is decided of the bytes that were taken is decided of the input.
 use Rattle.std.proofs.Common.{◌≡◌, ◌≤◌, ◌<◌, ◌+◌, ◌-◌, ◌++◌, ℕ, Bool, true, false, cond, List, [], ◌∷◌, length, take, drop, arith, refl, sym, ap, ◌∙◌, subst, Option, Some, None, IfSome, Result, Ok, Err, inl, inr}
-use Rattle.std.specs.Prelude.{◌⊎◌, ◌==◌, IfOk, IfErr}
+use Rattle.std.specs.Prelude.{◌⊎◌, ◌≢◌, ◌==◌, IfOk, IfErr}
 use Rattle.std.proofs.lemmas.List.{append-nil, length-take, take_all, take_at}
 use Rattle.std.proofs.lemmas.Bool.{cases_lt}
 use Rattle.x_base.specs.Edge.{Rose, AppendsTo}
 use Rattle.x_base.specs.declared.verdict.Verdict.TheVariants.{BadEdc}
 use Rattle.csm_grammar.specs.declared.arrival.Arrival.{Arrival}
 use Rattle.csm_grammar.specs.declared.parsed.Parsed.{Parsed}
-use Rattle.csm_grammar.specs.Laws.{OneAnswer}
+use Rattle.csm_grammar.specs.declared.refusal.ReadRefusal.{ReadRefusal}
+use Rattle.csm_grammar.specs.declared.refusal.ReadRefusal.TheVariants as reason
+use Rattle.csm_feed.specs.declared.unheard.Unheard.{Unheard}
+use Rattle.csm_feed.specs.declared.unheard.Unheard.TheVariants as unheard
+use Rattle.csm_feed.specs.Heard.{leading, behind, refused_place, Heard, readings}
+use Rattle.csm_feed.specs.Laws.{OneHearing}
 use Rattle.x917.specs.declared.status.Refusal.{Refusal}
 use Rattle.x917.specs.declared.status.Refusal.TheVariants.{Decided}
 use Rattle.x917.specs.declared.status.Status.{Status}
 use Rattle.x917.specs.declared.status.Status.TheVariants as status
 use Rattle.x917.specs.Transfer.{Took, IsAtEnd, IsQuiet, WrotePrefix}
-use Rattle.x917.specs.Heard.{behind, Heard, readings}
-use Rattle.x917.specs.Check.{taken, is_right, judged, decided_of, IsDecision, IsPossible, IsReply, status_of, reply_of, WroteReply, WroteSome}
-use Rattle.x917.proofs.Hearing.{heard_once, heard_short}
+use Rattle.x917.specs.Check.{taken, is_right, judged, refusal_of, decided_of, IsDecision, IsPossible, IsReply, status_of, reply_of, WroteReply, WroteSome}
 
 -- ---- of the bytes that were taken
 
@@ -53,25 +56,28 @@ text_taken all text (Some rest) t h e = elim (cases_lt (length text) 2049) [
 
 -- ---- what `judge` decides
 
-pub judged_is : (text : List ℕ) (r : Result Parsed Refusal) → length text ≤ 2049 → Heard text r → IsDecision text (decided_of text r)
-judged_is text r h k =
+judged_is : (text : List ℕ) (r : Result Parsed Unheard) (d : Result Parsed Refusal) → length text ≤ 2049 → Heard text r → d ≡ decided_of text r → IsDecision text d
+judged_is text r d h k e =
     let t = sym (few_taken text h) in
-    record { arrival = r; heard = subst (λ (b : List ℕ). Heard b r) t k; follows = ap (λ (b : List ℕ). decided_of b r) t }
+    record { arrival = r; heard = subst (λ (b : List ℕ). Heard b r) t k; follows = e ∙ ap (λ (b : List ℕ). decided_of b r) t }
 
-pub refused_is : (text : List ℕ) (r : Refusal) → length text ≤ 2049 → Heard text (Err r) → IsDecision text (Err r)
-refused_is text r h k = judged_is text (Err r) h k
+-- of a message that was heard, by its authenticated text
+arrival_is : (text : List ℕ) (a : Arrival) (d : Result Parsed Refusal) → length text ≤ 2049 → Heard text (Ok a.parsed) → a.text ≡ take a.parsed.len (behind text)
+    → d ≡ judged (is_right (take a.parsed.auth_len a.text) a.parsed.shut) a.parsed → IsDecision text d
+arrival_is text a d n h t j = judged_is text (Ok a.parsed) d n h (j ∙ ap (λ (x : List ℕ). judged (is_right (take a.parsed.auth_len x) a.parsed.shut) a.parsed) t)
 
--- a message that was heard, judged by its authenticated text
-pub judged_arrival : (text : List ℕ) (r : Result Arrival Refusal) (a : Arrival) (d : Result Parsed Refusal) → length text ≤ 2049 → Heard text (readings r)
-    → IfOk r (λ a. a.text ≡ take a.parsed.len (behind text)) → r ≡ Ok a → d ≡ judged (take a.parsed.auth_len a.text) a.parsed → IsDecision text d
-judged_arrival text r a d n h t e j =
-    let heard = subst (λ (q : Result Arrival Refusal). Heard text (readings q)) e h in
-    let spelled = subst (λ (q : Result Arrival Refusal). IfOk q (λ a. a.text ≡ take a.parsed.len (behind text))) e t in
-    let same : d ≡ decided_of text (Ok a.parsed) = j ∙ ap (λ (x : List ℕ). judged (take a.parsed.auth_len x) a.parsed) spelled in
-    subst (λ (q : Result Parsed Refusal). IsDecision text q) (sym same) (judged_is text (Ok a.parsed) n heard)
+pub arrival_was : (text : List ℕ) (r : Result Arrival Unheard) (a : Arrival) (d : Result Parsed Refusal) → length text ≤ 2049 → Heard text (readings r)
+    → IfOk r (λ a. a.text ≡ take a.parsed.len (behind text)) → r ≡ Ok a → d ≡ judged (is_right (take a.parsed.auth_len a.text) a.parsed.shut) a.parsed → IsDecision text d
+arrival_was text r a d n h t e j =
+    arrival_is text a d n (subst (λ (q : Result Arrival Unheard). Heard text (readings q)) e h)
+    (subst (λ (q : Result Arrival Unheard). IfOk q (λ a. a.text ≡ take a.parsed.len (behind text))) e t) j
 
-pub refused_arrival : (text : List ℕ) (r : Result Arrival Refusal) (f : Refusal) → length text ≤ 2049 → Heard text (readings r) → r ≡ Err f → IsDecision text (Err f)
-refused_arrival text r f n h e = refused_is text f n (subst (λ (q : Result Arrival Refusal). Heard text (readings q)) e h)
+refused_is : (text : List ℕ) (u : Unheard) → length text ≤ 2049 → Heard text (Err u) → IsDecision text (Err (refusal_of u))
+refused_is text u n h = judged_is text (Err u) (Err (refusal_of u)) n h refl
+
+pub refused_was : (text : List ℕ) (r : Result Arrival Unheard) (u : Unheard) (f : Refusal) → length text ≤ 2049 → Heard text (readings r) → r ≡ Err u → f ≡ refusal_of u → IsDecision text (Err f)
+refused_was text r u f n h e k =
+    subst (λ (x : Refusal). IsDecision text (Err x)) (sym k) (refused_is text u n (subst (λ (q : Result Arrival Unheard). Heard text (readings q)) e h))
 
 -- no other decision is one of the text
 abbrev pub IsOnly : List ℕ → Result Parsed Refusal → Type 0
@@ -81,23 +87,43 @@ IsOnly text d = (other : Result Parsed Refusal) → IsDecision text other → d 
 pub of_result : {E : Type 0} (r : Result (Result Parsed Refusal) E) (d : Result Parsed Refusal) (P : Result Parsed Refusal → Type 0) → r ≡ Ok d → IfOk r P → P d
 of_result r d P e h = subst (λ q. IfOk q P) e h
 
-pub decided_once : OneAnswer → (text : List ℕ) (d e : Result Parsed Refusal) → IsDecision text d → IsDecision text e → d ≡ e
+pub decided_once : OneHearing → (text : List ℕ) (d e : Result Parsed Refusal) → IsDecision text d → IsDecision text e → d ≡ e
 decided_once one text d e h k =
-    h.follows ∙ ap (decided_of (taken text)) (heard_once one (taken text) h.arrival k.arrival h.heard k.heard) ∙ sym k.follows
+    let o = one (taken text) in
+    h.follows ∙ ap (decided_of (taken text)) (o.alone h.arrival h.heard ∙ sym (o.alone k.arrival k.heard)) ∙ sym k.follows
 
 -- ---- the refusals that can come
 
-pub judged_possible : (auth : List ℕ) (p : Parsed) → IfErr (judged auth p) IsPossible
-judged_possible auth p = go (is_right auth p.shut) where
-  go : (c : Bool) → IfErr (cond c (Ok p) (Err (Decided BadEdc))) IsPossible
-  go true = tt
-  go false = refl
+pub refused_possible : (u : Unheard) → u ≢ unheard.Text reason.NoMemory → IsPossible (refusal_of u)
+refused_possible (unheard.Text r) h = go r h where
+  go : (r : ReadRefusal) → unheard.Text r ≢ unheard.Text reason.NoMemory → IsPossible (refusal_of (unheard.Text r))
+  go (reason.NotCsm p) h = tt
+  go (reason.TooLong p) h = tt
+  go (reason.Unended p) h = tt
+  go (reason.BadTag p) h = tt
+  go (reason.UnknownTag p) h = tt
+  go (reason.Repeated t p) h = tt
+  go (reason.Missing t p) h = tt
+  go (reason.Unwanted t p) h = tt
+  go (reason.BadContents t p) h = tt
+  go (reason.Unsupported t p) h = tt
+  go reason.NoMemory h = h refl
+refused_possible (unheard.Trailing place) h = tt
+
+pub judged_possible : (right : Bool) (p : Parsed) → IfErr (judged right p) IsPossible
+judged_possible true p = tt
+judged_possible false p = refl
 
 -- ---- how `check` ends
 
-accepted_heard : (bytes : List ℕ) (q : Parsed) (r : Result Parsed Refusal) → Heard bytes r → Ok q ≡ decided_of bytes r → length bytes ≡ 2049 → ⊥
-accepted_heard bytes q (Ok p) h k e = heard_short bytes p h e
-accepted_heard bytes q (Err f) h k e = absurd cc
+-- a message that is heard isn't among 2,049 bytes
+not_full : (end count : ℕ) (o : Option ℕ) → refused_place end count o ≡ None → count ≡ 2049 → ⊥
+not_full end count (Some n) h e = absurd cc
+not_full end count None h e = let k : Some 2048 ≡ None = subst (λ (c : ℕ). refused_place end c None ≡ None) e h in absurd cc
+
+accepted_heard : (bytes : List ℕ) (q : Parsed) (r : Result Parsed Unheard) → Heard bytes r → Ok q ≡ decided_of bytes r → length bytes ≡ 2049 → ⊥
+accepted_heard bytes q (Ok p) h k e = not_full (leading bytes + p.len) (length bytes) _ h.1 e
+accepted_heard bytes q (Err u) h k e = absurd cc
 
 accepted_short : (text : List ℕ) (p : Parsed) → length text ≤ 2049 → IsDecision text (Ok p) → length text < 2049
 accepted_short text p h d = elim (cases_lt (length text) 2049) [
@@ -133,12 +159,12 @@ refused None after text r t h e d = tt
 refused (Some all) after text r t h e d =
     of_input all (Err r) (subst (λ (b : List ℕ). IsDecision b (Err r)) (text_taken all text after t h e) d)
 
-abbrev refusal_of : Status → Refusal → Refusal
-refusal_of (status.Refused r) d = r
-refusal_of other d = d
+abbrev refusal_in : Status → Refusal → Refusal
+refusal_in (status.Refused r) d = r
+refusal_in other d = d
 
 pub same_refusal : (r s : Refusal) → status.Refused r ≡ status.Refused s → r ≡ s
-same_refusal r s same = ap (λ (x : Status). refusal_of x r) same
+same_refusal r s same = ap (λ (x : Status). refusal_in x r) same
 
 pub refused_for : (before after : Option (List ℕ)) (text : List ℕ) (r s : Refusal) → Took before after text → length text ≤ 2049
     → (length text < 2049 → IsAtEnd before after) → IsDecision text (Err r) → status.Refused r ≡ status.Refused s → IfSome before (λ all. IsDecision all (Err s))

@@ -7,6 +7,9 @@ use Rattle.csm_grammar.specs.declared.parsed.Parsed.{Parsed}
 use Rattle.csm_grammar.specs.declared.parsed.Shut.{Shut}
 use Rattle.csm_grammar.specs.declared.parsed.Shut.TheVariants as shuts
 use Rattle.csm_grammar.specs.declared.refusal.ReadRefusal.TheVariants.{NoMemory}
+use Rattle.csm_feed.specs.declared.unheard.Unheard.{Unheard}
+use Rattle.csm_feed.specs.declared.unheard.Unheard.TheVariants as unheard
+use Rattle.csm_feed.specs.Heard.{behind, Heard}
 use Rattle.csm_write.specs.declared.closing.Closing.{Closing}
 use Rattle.csm_write.specs.declared.closing.Closing.TheVariants as closings
 use Rattle.csm_write.specs.Canon.{canon}
@@ -15,7 +18,6 @@ use Rattle.x917.specs.declared.status.Refusal.TheVariants.{Text, Trailing, Decid
 use Rattle.x917.specs.declared.status.Status.{Status}
 use Rattle.x917.specs.declared.status.Status.TheVariants.{Done, Refused}
 use Rattle.x917.specs.Transfer.{WrotePrefix}
-use Rattle.x917.specs.Heard.{behind, Heard}
 
 -- the bytes of an input that are taken
 abbrev pub taken : List ℕ → List ℕ
@@ -31,18 +33,23 @@ abbrev pub is_right : List ℕ → Shut → Bool
 is_right auth (shuts.Edc code) = code == edc_of auth
 is_right auth (shuts.Mac code) = true
 
--- what is decided of a message with this authenticated text
-abbrev pub judged : List ℕ → Parsed → Result Parsed Refusal
-judged auth parsed = if is_right auth parsed.shut then Ok parsed else Err (Decided BadEdc)
+-- what is decided of a message, by its error detection code
+abbrev pub judged : Bool → Parsed → Result Parsed Refusal
+judged right parsed = if right then Ok parsed else Err (Decided BadEdc)
+
+-- where no message is heard, that is the refusal
+abbrev pub refusal_of : Unheard → Refusal
+refusal_of (unheard.Text refusal) = Text refusal
+refusal_of (unheard.Trailing place) = Trailing place
 
 -- what is decided of what was heard of the bytes
-abbrev pub decided_of : List ℕ → Result Parsed Refusal → Result Parsed Refusal
-decided_of bytes (Ok parsed) = judged (auth_text bytes parsed) parsed
-decided_of bytes (Err refusal) = Err refusal
+abbrev pub decided_of : List ℕ → Result Parsed Unheard → Result Parsed Refusal
+decided_of bytes (Ok parsed) = judged (is_right (auth_text bytes parsed) parsed.shut) parsed
+decided_of bytes (Err unheard) = Err (refusal_of unheard)
 
 -- what is decided of an input: it follows from what is heard of the bytes that are taken
 pub record IsDecision (input : List ℕ) (decided : Result Parsed Refusal) : Type 0 where
-  pub arrival : Result Parsed Refusal
+  pub arrival : Result Parsed Unheard
   pub heard : Heard (taken input) arrival
   pub follows : decided ≡ decided_of (taken input) arrival
 

@@ -1,4 +1,3 @@
 pub mod Transfer
-pub mod Heard
 pub mod Check
 pub mod Lines

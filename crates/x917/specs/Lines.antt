@@ -5,13 +5,14 @@ use Rattle.x_base.specs.Verdict.{number_of}
 use Rattle.x_base.specs.declared.verdict.Verdict.TheVariants.{CountLow}
 use Rattle.csm_grammar.specs.declared.refusal.ReadRefusal.{ReadRefusal}
 use Rattle.csm_grammar.specs.declared.refusal.ReadRefusal.TheVariants.{NotCsm, TooLong, Unended, BadTag, UnknownTag, Repeated, Missing, Unwanted, BadContents, Unsupported, NoMemory}
+use Rattle.csm_grammar.specs.Places.{place_of}
 use Rattle.x917.specs.declared.status.Refusal.{Refusal}
 use Rattle.x917.specs.declared.status.Refusal.TheVariants.{Text, Trailing, Decided}
 use Rattle.x917.specs.declared.status.UsageKind.TheVariants.{Line}
 use Rattle.x917.specs.declared.status.Status.{Status}
 use Rattle.x917.specs.declared.status.Status.TheVariants as status
 
--- the number of a refusal to read, and its place; want of memory has neither
+-- the number of a refusal to read; want of memory has none
 abbrev pub read_number : ReadRefusal → ℕ
 read_number (NotCsm place) = 5
 read_number (TooLong place) = 6
@@ -25,22 +26,9 @@ read_number (BadContents tag place) = 13
 read_number (Unsupported tag place) = 14
 read_number NoMemory = 0
 
-abbrev pub read_place : ReadRefusal → ℕ
-read_place (NotCsm place) = place
-read_place (TooLong place) = place
-read_place (Unended place) = place
-read_place (BadTag place) = place
-read_place (UnknownTag place) = place
-read_place (Repeated tag place) = place
-read_place (Missing tag place) = place
-read_place (Unwanted tag place) = place
-read_place (BadContents tag place) = place
-read_place (Unsupported tag place) = place
-read_place NoMemory = 0
-
 -- the number, and the place or the expected count where there is one
 abbrev pub refusal_text : Refusal → List ℕ
-refusal_text (Text refusal) = decimal (read_number refusal) ++ (codes " at " ++ decimal (read_place refusal))
+refusal_text (Text refusal) = decimal (read_number refusal) ++ (codes " at " ++ decimal (place_of refusal))
 refusal_text (Trailing place) = codes "38 at " ++ decimal place
 refusal_text (Decided (CountLow expected)) = codes "30 expected " ++ decimal expected
 refusal_text (Decided verdict) = decimal (number_of verdict)

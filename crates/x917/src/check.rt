@@ -2,13 +2,12 @@
 ghost use Rattle.std.specs.Prelude.{◌≡◌, ◌≤◌, length, take, Result, IfOk, IfErr};
 ghost use Rattle.csm_grammar.specs.declared.parsed.Parsed.{Parsed};
 ghost use Rattle.x917.specs.declared.status.Refusal.{Refusal};
-ghost use Rattle.x917.specs.Heard.{readings};
-ghost use Rattle.x917.specs.Check.{is_right, judged, IsDecision, IsPossible, closing_of, reply_of};
+ghost use Rattle.x917.specs.Check.{is_right, judged, refusal_of, IsDecision, IsPossible, closing_of, reply_of};
 
-use crate::hear::hear;
 use crate::status::Refusal;
 use crate::transfer::LIMIT;
-use csm_grammar::{Arrival, Parsed, Shut, law_one_answer};
+use csm_feed::{Unheard, hear, law_one_hearing};
+use csm_grammar::{Parsed, Shut};
 use csm_write::{Closing, write};
 use std::alloc::Global;
 use x_base::{NoMemory, Text, Verdict};
@@ -24,31 +23,43 @@ fn is_right(auth: &[u8], shut: Shut) -> bool
     }
 }
 
-/// What is decided of a message as it was received.
-fn judged(arrival: Arrival) -> Result<Parsed, Refusal>
-    ensures { result ≡ judged (take arrival.parsed.auth_len arrival.text) arrival.parsed }
+/// What is decided of a message, by its error detection code.
+fn judged(right: bool, parsed: Parsed) -> Result<Parsed, Refusal>
+    ensures { result ≡ judged right parsed }
 {
-    if is_right(arrival.auth(), arrival.parsed.shut) {
-        Ok(arrival.parsed)
+    if right {
+        Ok(parsed)
     } else {
         Err(Refusal::Decided(Verdict::BadEdc))
     }
 }
 
+/// The refusal where no message is heard.
+fn refusal_of(unheard: Unheard) -> Refusal
+    ensures { result ≡ refusal_of unheard }
+{
+    match unheard {
+        Unheard::Text(refusal) => Refusal::Text(refusal),
+        Unheard::Trailing(place) => Refusal::Trailing(place),
+    }
+}
+
 /// What is decided of the input.
-#[tactic(auto, using(crate::proofs::Decisions::judged_is, crate::proofs::Decisions::refused_is, crate::proofs::Decisions::decided_once, crate::proofs::Decisions::judged_possible))]
+#[tactic(auto, using(crate::proofs::Decisions::refused_possible, crate::proofs::Decisions::judged_possible))]
 pub fn judge(alloc: Global, input: &[u8]) -> Result<Result<Parsed, Refusal>, NoMemory>
     requires { length input.now ≤ LIMIT }
     ensures decides { IfOk result (λ decided. IsDecision input.now decided) }
     ensures possible { IfOk result (λ decided. IfErr decided IsPossible) }
     ensures only { IfOk result (λ decided. (other : Result Parsed Refusal) → IsDecision input.now other → decided ≡ other) }
 {
-    law_one_answer();
-    let arrival = match hear(alloc, input)? {
-        Ok(arrival) => arrival,
-        Err(refusal) => return Ok(Err(refusal)),
-    };
-    Ok(judged(arrival))
+    law_one_hearing();
+    match hear(alloc, input)? {
+        Ok(arrival) => {
+            let right = is_right(arrival.auth(), arrival.parsed.shut);
+            Ok(judged(right, arrival.parsed))
+        }
+        Err(unheard) => Ok(Err(refusal_of(unheard))),
+    }
 }
 
 /// What closes the canonical text: a new error detection code, or the authentication code that came.

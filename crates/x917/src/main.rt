@@ -2,7 +2,6 @@
 #![tactic(auto)]
 
 mod check;
-mod hear;
 mod status;
 #[cfg(test)]
 mod tests;

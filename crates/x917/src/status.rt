@@ -1,6 +1,6 @@
 // How a run ended, and how that is told.
 ghost use Rattle.std.specs.Prelude.{◌≡◌, IfOk, string_bytes};
-ghost use Rattle.x917.specs.Lines.{read_number, read_place, refusal_text, line_of, exit_code_of};
+ghost use Rattle.x917.specs.Lines.{read_number, refusal_text, line_of, exit_code_of};
 
 use csm_grammar::ReadRefusal;
 use std::alloc::{AllocError, Global};
@@ -56,25 +56,6 @@ fn read_number(refusal: &ReadRefusal) -> u32
     }
 }
 
-/// The place of a refusal to read.
-fn read_place(refusal: &ReadRefusal) -> u64
-    ensures { result ≡ read_place refusal.now }
-{
-    match refusal {
-        ReadRefusal::NotCsm(place)
-        | ReadRefusal::TooLong(place)
-        | ReadRefusal::Unended(place)
-        | ReadRefusal::BadTag(place)
-        | ReadRefusal::UnknownTag(place)
-        | ReadRefusal::Repeated(_, place)
-        | ReadRefusal::Missing(_, place)
-        | ReadRefusal::Unwanted(_, place)
-        | ReadRefusal::BadContents(_, place)
-        | ReadRefusal::Unsupported(_, place) => *place,
-        ReadRefusal::NoMemory => 0,
-    }
-}
-
 /// The number of a refusal, and its place or the expected count, where it has one.
 fn refusal_text(alloc: Global, refusal: &Refusal) -> Result<String, AllocError>
     ensures { IfOk result (λ s. string_bytes s ≡ refusal_text refusal.now) }
@@ -82,7 +63,7 @@ fn refusal_text(alloc: Global, refusal: &Refusal) -> Result<String, AllocError>
     match refusal {
         Refusal::Text(refusal) => {
             let number = read_number(refusal);
-            let place = read_place(refusal);
+            let place = refusal.place();
             format!(in alloc; "{number} at {place}")
         }
         Refusal::Trailing(place) => format!(in alloc; "38 at {place}"),

@@ -3,11 +3,12 @@ ghost use Rattle.std.specs.Prelude.{◌≡◌, ◌≤◌, ◌<◌, length, IfOk,
 ghost use Rattle.x_base.specs.Edge.{Rose, AppendsTo};
 ghost use Rattle.x917.specs.Transfer.{Took, TookAtMost, IsAtEnd, WrotePrefix};
 
+use csm_feed::INPUT_LIMIT;
 use std::alloc::Global;
 use x_base::{Sink, SinkFault, Source, Text};
 
 /// How many bytes are taken at most.
-pub const LIMIT: usize = 2049;
+pub const LIMIT: usize = INPUT_LIMIT;
 
 /// Why no text was taken.
 #[derive(Clone, Copy, Debug, PartialEq, Eq)]

@@ -1,6 +1,7 @@
-use Rattle.std.proofs.Common.{rules, ◌≡◌, ◌^◌, ◌-◌, ◌+◌, ℕ, List, length, take, subst}
-use Rattle.csm_feed.specs.Held.{Feeding}
+use Rattle.std.proofs.Common.{rules, ◌≡◌, ◌^◌, ◌-◌, ◌+◌, ℕ, List, length, take, ◌++◌, sym, subst}
+use Rattle.csm_feed.specs.Held.{Feeding, IsKnown}
 use Rattle.csm_feed.specs.Feeding.{with_bytes, Feeds}
+use Rattle.csm_feed.proofs.Waiting.{known_more}
 use Rattle.csm_feed.proofs.Pushing.{added, kept_as, feeds_as}
 use Rattle.csm_feed.proofs.feed.Feed.push.Goals as goal
 
@@ -22,8 +23,13 @@ takes c =
     (2 ^ 64 - 1 - (c.self.inside.before + length c.self.inside.held.items)) c.gap.result c.min.result
     (search rules) (search rules) (search rules) (search rules) (search rules) (search rules)
 
+known : (c : goal.After-self-1) → IsKnown c.self.inside.unended c.extend_from_slice.new.self.items
+known c =
+    let e : c.extend_from_slice.new.self.items ≡ c.self.inside.held.items ++ c.split_at-2.result.0.now = search rules in
+    subst (IsKnown c.self.inside.unended) (sym e) (known_more c.self.inside.unended c.self.inside.held.items c.split_at-2.result.0.now c.self.invariant.2)
+
 pub invariant_of-self : goal.invariant_of-self
-invariant_of-self c = (kept_as (was c) (after c) (taken c) c.law_fault_stays.ensures c.self.invariant.0 (takes c) (search rules) (search rules), search rules)
+invariant_of-self c = (kept_as (was c) (after c) (taken c) c.law_fault_stays.ensures c.self.invariant.0 (takes c) (search rules) (search rules), search rules, known c)
 
 pub returns-clause-takes : goal.returns-clause-takes
 returns-clause-takes c = subst (λ (f : Feeding). after c ≡ with_bytes f (taken c)) (same c) (takes c)
