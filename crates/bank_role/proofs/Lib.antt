@@ -1,4 +1,9 @@
 pub mod Tests
 pub mod Filtering
 pub mod ByRow
+pub mod Told
+pub mod Responses
+pub mod ErrorMessages
+pub mod Disconnections
+pub mod KeyService
 mod Storable

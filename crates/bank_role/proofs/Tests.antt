@@ -1,7 +1,7 @@
 -- The first test of a list that fails.
-use Rattle.std.proofs.Common.{◌≡◌, Bool, true, false, cond, not, Option, Some, None, List, [], ◌∷◌, ◌++◌, ◌&&◌, refl, ap}
-use Rattle.std.specs.Prelude.{option_map}
-use Rattle.std.specs.List.{find, list_all}
+use Rattle.std.proofs.Common.{◌≡◌, Bool, true, false, cond, not, Option, Some, None, List, [], ◌∷◌, ◌++◌, ◌&&◌, refl}
+use Rattle.std.specs.Prelude.{option_map, is_none}
+use Rattle.std.specs.List.{find}
 use Rattle.x_base.specs.declared.verdict.Verdict.{Verdict}
 use Rattle.x_base.specs.declared.verdict.Verdict.TheVariants.{Accept}
 use Rattle.party_state.specs.Verdicts.{Test, verdict_of, passes, is_accept}
@@ -56,7 +56,11 @@ pub accept_is : (v : Verdict) → is_accept v ≡ true → v ≡ Accept
 accept_is Accept h = refl
 accept_is _ h = cc
 
--- every test holds where each one does
-pub passes_all : (ts : List Test) → passes ts ≡ list_all (λ (t : Test). t.0) ts
-passes_all [] = refl
-passes_all (t ∷ ts) = ap (λ (b : Bool). t.0 && b) (passes_all ts)
+-- every test holds where none fails
+pub passes_where : (ts : List Test) → is_none (failed_in ts) ≡ passes ts
+passes_where [] = refl
+passes_where (t ∷ ts) = go t.0 (passes_where ts)
+  where
+    go : (b : Bool) → is_none (failed_in ts) ≡ passes ts → is_none (option_map (λ (t : Test). t.1) (cond (not b) (Some t) (find (λ (t : Test). not t.0) ts))) ≡ (b && passes ts)
+    go true ih = ih
+    go false ih = refl

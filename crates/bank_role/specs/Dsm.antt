@@ -39,8 +39,8 @@ closing_name idd (Some ida) = ida
 abbrev pub named_by : Party → Dsm → Option Named
 named_by p m = paired (record_of p m.originator m.idd) (record_of p m.originator (closing_name m.idd m.ida))
 
-abbrev pub dsm_front : Party → Dsm → Option Named → List Test
-dsm_front p m found = (is_for p m.receiver m.originator, NotForMe) ∷ (is_some found, UnknownKey) ∷ []
+abbrev pub dsm_front : Party → Dsm → Bool → List Test
+dsm_front p m stands = (is_for p m.receiver m.originator, NotForMe) ∷ (stands, UnknownKey) ∷ []
 
 -- an exchange that names the key goes, with a new key-encrypting key
 abbrev pub left_by : Party → List ℕ → KeyName → Kind → List Edit × List Edit
@@ -62,9 +62,9 @@ abbrev pub dsm_response : Party → KeyRec → Message
 dsm_response p k = message.Rsm (record { receiver = k.peer; originator = p.own; idd = Some k.name; extras = no_extras })
 
 abbrev pub dsm_on : Party → Arrival → Dsm → Option Named → Row
-dsm_on p a m None = refused (verdict_of (dsm_front p m None))
+dsm_on p a m None = refused (verdict_of (dsm_front p m false))
 dsm_on p a m (Some n) = record {
-  verdict = verdict_of (dsm_front p m (Some n) ++ (is_verified a n.by.value, BadMac) ∷ []);
+  verdict = verdict_of (dsm_front p m true ++ (is_verified a n.by.value, BadMac) ∷ []);
   edits = disconnected p m.originator n.key;
   reply = Some (Coded (dsm_response p n.key) (full_name p.own n.key) n.key.value);
   uses = [];
@@ -78,7 +78,7 @@ dsm p a m = dsm_on p a m (named_by p m)
 
 abbrev pub dsm_lead_on : Party → Arrival → Dsm → Option Named → Option Lead
 dsm_lead_on p a m None = None
-dsm_lead_on p a m (Some n) = cond (passes (dsm_front p m (Some n))) (Some (lead_under a (full_name p.own n.by) n.by.value)) None
+dsm_lead_on p a m (Some n) = cond (passes (dsm_front p m true)) (Some (lead_under a (full_name p.own n.by) n.by.value)) None
 
 abbrev pub dsm_lead : Party → Arrival → Dsm → Option Lead
 dsm_lead p a m = dsm_lead_on p a m (named_by p m)

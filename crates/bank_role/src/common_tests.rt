@@ -1,9 +1,14 @@
 // The tests that several rows have in common.
-ghost use Rattle.std.specs.Prelude.{◌≡◌, bytes_eq};
+ghost use Rattle.std.specs.Prelude.{◌≡◌, ◌++◌, ◌∷◌, [], false, bytes_eq};
+ghost use Rattle.x_base.specs.declared.verdict.Verdict.TheVariants.{BadMac};
 ghost use Rattle.party_state.specs.State.{centre_label};
+ghost use Rattle.party_state.specs.Verdicts.{verdict_of};
+ghost use Rattle.bank_role.specs.Deciding.{refusal_of};
 ghost use Rattle.bank_role.specs.Tests.{is_for, answer_front, has_count, count_tests, has_key_room, has_link_room};
 
-use party_state::{LinkRec, State};
+use crate::decisions::refusal;
+use crate::verdicts::{verdict_after, verdict_of};
+use party_state::{Decision, LinkRec, State};
 use x_base::{Count, Ident, KeyName, LIMIT, Label, Side, Verdict};
 
 /// How many key records a party holds at most.
@@ -73,4 +78,25 @@ pub(crate) fn is_of_centre(label: &Label) -> bool
     ensures { result ≡ bytes_eq label.now centre_label }
 {
     label.bytes() == b"C".as_slice()
+}
+
+/// The verdict of an answer, where its code was tested.
+pub(crate) fn answer_verdict(
+    state: &State,
+    receiver: &Ident,
+    originator: &Ident,
+    stands: bool,
+    verified: bool,
+) -> Verdict
+    ensures { result ≡ verdict_of (answer_front state.now receiver.now originator.now stands ++ (verified, BadMac) ∷ []) }
+{
+    let front = answer_front(state, receiver, originator, stands);
+    verdict_after(&front, &[(verified, Verdict::BadMac)])
+}
+
+/// Refused, since it answers no exchange.
+pub(crate) fn not_answering(state: &State, receiver: &Ident, originator: &Ident) -> Decision
+    ensures { result ≡ refusal_of (verdict_of (answer_front state.now receiver.now originator.now false)) }
+{
+    refusal(verdict_of(&answer_front(state, receiver, originator, false)))
 }

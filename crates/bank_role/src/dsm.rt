@@ -1,5 +1,10 @@
 // A disconnect service message arrives: the key ends, and a response that names it goes back.
-ghost use Rattle.std.specs.Prelude.{◌≡◌, IfOk};
+ghost use Rattle.std.specs.Prelude.{◌≡◌, ◌++◌, ◌∷◌, [], true, IfOk};
+ghost use Rattle.x_base.specs.declared.verdict.Verdict.TheVariants.{BadMac};
+ghost use Rattle.party_state.specs.Names.{full_name};
+ghost use Rattle.party_state.specs.Rows.Reply.{Coded};
+ghost use Rattle.party_state.specs.Verdicts.{verdict_of};
+ghost use Rattle.bank_role.specs.Replies.{IsWritten};
 ghost use Rattle.party_state.specs.State.{exchange_with};
 ghost use Rattle.bank_role.specs.Deciding.{decision_of};
 ghost use Rattle.bank_role.specs.Dsm.{named_by, dsm_front, left_by, left_in, disconnected, dsm_response, dsm_on, dsm, dsm_lead_on, dsm_lead};
@@ -8,7 +13,7 @@ use crate::common_tests::is_for;
 use crate::decisions::{accept, refusal};
 use crate::edits::{dropped, joined, list_of};
 use crate::exchanges::{new_link, record_of};
-use crate::leads::lead_under;
+use crate::leads::key_lead;
 use crate::names::{full_name, no_extras};
 use crate::texts::Written;
 use crate::verdicts::{is_accept, passes, verdict_after, verdict_of};
@@ -37,16 +42,25 @@ fn named_by(state: &State, message: &Dsm) -> Option<Named>
 }
 
 /// The tests before the code's.
-fn dsm_front(state: &State, message: &Dsm, found: &Option<Named>) -> [(bool, Verdict); 2]
-    ensures { result ≡ dsm_front state.now message.now found.now }
+fn dsm_front(state: &State, message: &Dsm, stands: bool) -> [(bool, Verdict); 2]
+    ensures { result ≡ dsm_front state.now message.now stands }
 {
     [
         (
             is_for(state, &message.receiver, &message.originator),
             Verdict::NotForMe,
         ),
-        (found.is_some(), Verdict::UnknownKey),
+        (stands, Verdict::UnknownKey),
     ]
+}
+
+fn dsm_verdict(state: &State, message: &Dsm, verified: bool) -> Verdict
+    ensures { result ≡ verdict_of (dsm_front state.now message.now true ++ (verified, BadMac) ∷ []) }
+{
+    verdict_after(
+        &dsm_front(state, message, true),
+        &[(verified, Verdict::BadMac)],
+    )
 }
 
 fn dsm_response(state: &State, key: &KeyRec) -> Message
@@ -121,29 +135,46 @@ fn disconnected(
     joined(before, joined(ended, behind)?)
 }
 
+/// The response, under the key that ends.
+fn dsm_reply(alloc: Global, state: &State, key: &KeyRec) -> Result<Written, NoMemory>
+    ensures { IfOk result (λ w. IsWritten w (Coded (dsm_response state.now key.now) (full_name state.now.own key.now) key.now.value)) }
+{
+    let response = dsm_response(state, key);
+    Written::coded(alloc, &response, full_name(state, key), key.value)
+}
+
+fn dsm_of(
+    alloc: Global,
+    state: &State,
+    arrival: &Arrival,
+    message: &Dsm,
+    named: &Named,
+) -> Result<Decision, NoMemory>
+    ensures { IfOk result (λ d. d ≡ decision_of state.now (dsm_on state.now arrival.now message.now (Some named.now))) }
+{
+    let lead = key_lead(state, arrival, &named.by);
+    let verdict = dsm_verdict(state, message, lead.verified);
+    if !is_accept(&verdict) {
+        return Ok(refusal(verdict));
+    }
+    let edits = disconnected(alloc, state, message.originator, &named.key)?;
+    let written = dsm_reply(alloc, state, &named.key)?;
+    accept(alloc, state, edits, Some(written))
+}
+
 fn dsm_on(
     alloc: Global,
     state: &State,
     arrival: &Arrival,
     message: &Dsm,
-    found: Option<Named>,
+    found: &Option<Named>,
 ) -> Result<Decision, NoMemory>
-    ensures { IfOk result (λ d. d ≡ decision_of state.now (dsm_on state.now arrival.now message.now found)) }
+    ensures { IfOk result (λ d. d ≡ decision_of state.now (dsm_on state.now arrival.now message.now found.now)) }
 {
-    let front = dsm_front(state, message, &found);
-    let Some(named) = found else {
-        return Ok(refusal(verdict_of(&front)));
-    };
-    let lead = lead_under(arrival, full_name(state, &named.by), named.by.value);
-    let verdict = verdict_after(&front, &[(lead.verified, Verdict::BadMac)]);
-    if !is_accept(&verdict) {
-        return Ok(refusal(verdict));
+    match found {
+        Some(named) => dsm_of(alloc, state, arrival, message, named),
+        None => Ok(refusal(verdict_of(&dsm_front(state, message, false)))),
     }
-    let key = &named.key;
-    let response = dsm_response(state, key);
-    let written = Written::coded(alloc, &response, full_name(state, key), key.value)?;
-    let edits = disconnected(alloc, state, message.originator, key)?;
-    accept(alloc, state, edits, Some(written))
 }
 
 fn dsm_lead_on(
@@ -154,10 +185,9 @@ fn dsm_lead_on(
 ) -> Option<Lead>
     ensures { result ≡ dsm_lead_on state.now arrival.now message.now found }
 {
-    let front = dsm_front(state, message, &found);
     let named = found?;
-    if passes(&front) {
-        Some(lead_under(arrival, full_name(state, &named.by), named.by.value))
+    if passes(&dsm_front(state, message, true)) {
+        Some(key_lead(state, arrival, &named.by))
     } else {
         None
     }
@@ -172,7 +202,7 @@ pub(crate) fn dsm(
 ) -> Result<Decision, NoMemory>
     ensures { IfOk result (λ d. d ≡ decision_of state.now (dsm state.now arrival.now message.now)) }
 {
-    dsm_on(alloc, state, arrival, message, named_by(state, message))
+    dsm_on(alloc, state, arrival, message, &named_by(state, message))
 }
 
 /// The key under which its code is tested.

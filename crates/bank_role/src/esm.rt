@@ -2,19 +2,20 @@
 // told.
 ghost use Rattle.std.specs.Prelude.{◌≡◌, ◌++◌, ◌∷◌, [], IfOk};
 ghost use Rattle.party_state.specs.declared.edit.Edit.TheVariants.{DropExchange};
+ghost use Rattle.party_state.specs.Verdicts.{verdict_of};
 ghost use Rattle.bank_role.specs.Deciding.{decision_of};
 ghost use Rattle.bank_role.specs.Texts.{is_plain};
 ghost use Rattle.bank_role.specs.Ksm.{lead_under};
-ghost use Rattle.bank_role.specs.Esm.{subject_by, subject_with, subject_value, subject_name, way_link, subject_link, raised, subject_ended, esm_of, esm_lead_of, plain_esm, esm, esm_lead};
+ghost use Rattle.bank_role.specs.Esm.{subject_by, subject_with, subject_value, subject_name, way_link, subject_link, raised, subject_ended, esm_of, esm_lead_of, plain_tests, plain_esm, esm, esm_lead};
 
-use crate::common_tests::answer_front;
+use crate::common_tests::{answer_front, answer_verdict, not_answering};
 use crate::decisions::{accept, refusal};
 use crate::edits::{dropped, joined, list_of};
 use crate::exchanges::{Sent, is_waiting, new_link, record_of};
 use crate::leads::lead_under;
 use crate::names::{centre_label, direct_name, full_name};
 use crate::texts::is_right;
-use crate::verdicts::{is_accept, passes, verdict_after, verdict_of};
+use crate::verdicts::{is_accept, passes, verdict_after};
 use csm_grammar::{Arrival, Esm, Shut};
 use party_state::{Decision, Edit, KeyRec, KeyStatus, Kind, Lead, LinkRec, State, Via};
 use std::alloc::Global;
@@ -147,43 +148,76 @@ fn esm_edits(
     joined(raised(alloc, link, message.ctr)?, ended)
 }
 
+fn esm_about(
+    alloc: Global,
+    state: &State,
+    arrival: &Arrival,
+    message: &Esm,
+    subject: &Subject,
+) -> Result<Decision, NoMemory>
+    ensures { IfOk result (λ d. d ≡ decision_of state.now (esm_of state.now arrival.now message.now (Some subject.now))) }
+{
+    let (receiver, originator) = (&message.receiver, &message.originator);
+    let lead = subject_lead(state, arrival, originator, subject);
+    let verdict = answer_verdict(state, receiver, originator, true, lead.verified);
+    if !is_accept(&verdict) {
+        return Ok(refusal(verdict));
+    }
+    let edits = esm_edits(alloc, state, message, subject)?;
+    accept(alloc, state, edits, None)
+}
+
 fn esm_of(
     alloc: Global,
     state: &State,
     arrival: &Arrival,
     message: &Esm,
-    found: Option<Subject>,
+    found: &Option<Subject>,
 ) -> Result<Decision, NoMemory>
-    ensures { IfOk result (λ d. d ≡ decision_of state.now (esm_of state.now arrival.now message.now found)) }
+    ensures { IfOk result (λ d. d ≡ decision_of state.now (esm_of state.now arrival.now message.now found.now)) }
 {
-    let stands = found.is_some();
-    let front = answer_front(state, &message.receiver, &message.originator, stands);
-    let Some(subject) = found else {
-        return Ok(refusal(verdict_of(&front)));
-    };
-    let lead = subject_lead(state, arrival, &message.originator, &subject);
-    let verdict = verdict_after(&front, &[(lead.verified, Verdict::BadMac)]);
-    if !is_accept(&verdict) {
-        return Ok(refusal(verdict));
+    match found {
+        Some(subject) => esm_about(alloc, state, arrival, message, subject),
+        None => Ok(not_answering(state, &message.receiver, &message.originator)),
     }
-    accept(alloc, state, esm_edits(alloc, state, message, &subject)?, None)
+}
+
+fn esm_lead_about(
+    state: &State,
+    arrival: &Arrival,
+    message: &Esm,
+    subject: &Subject,
+) -> Option<Lead>
+    ensures { result ≡ esm_lead_of state.now arrival.now message.now (Some subject.now) }
+{
+    let peer = &message.originator;
+    if passes(&answer_front(state, &message.receiver, peer, true)) {
+        Some(subject_lead(state, arrival, peer, subject))
+    } else {
+        None
+    }
 }
 
 fn esm_lead_of(
     state: &State,
     arrival: &Arrival,
     message: &Esm,
-    found: Option<Subject>,
+    found: &Option<Subject>,
 ) -> Option<Lead>
-    ensures { result ≡ esm_lead_of state.now arrival.now message.now found }
+    ensures { result ≡ esm_lead_of state.now arrival.now message.now found.now }
 {
-    let subject = found?;
-    let peer = &message.originator;
-    if passes(&answer_front(state, &message.receiver, peer, true)) {
-        Some(subject_lead(state, arrival, peer, &subject))
-    } else {
-        None
+    match found {
+        Some(subject) => esm_lead_about(state, arrival, message, subject),
+        None => None,
     }
+}
+
+fn plain_verdict(state: &State, arrival: &Arrival, message: &Esm) -> Verdict
+    ensures { result ≡ verdict_of (plain_tests state.now arrival.now message.now) }
+{
+    let peer = &message.originator;
+    let front = answer_front(state, &message.receiver, peer, is_waiting(state, peer));
+    verdict_after(&front, &[(is_right(arrival), Verdict::BadEdc)])
 }
 
 /// One that is closed by an error detection code alone changes nothing.
@@ -195,9 +229,7 @@ fn plain_esm(
 ) -> Result<Decision, NoMemory>
     ensures { IfOk result (λ d. d ≡ decision_of state.now (plain_esm state.now arrival.now message.now)) }
 {
-    let peer = &message.originator;
-    let front = answer_front(state, &message.receiver, peer, is_waiting(state, peer));
-    let verdict = verdict_after(&front, &[(is_right(arrival), Verdict::BadEdc)]);
+    let verdict = plain_verdict(state, arrival, message);
     if is_accept(&verdict) {
         accept(alloc, state, Vec::new(alloc), None)
     } else {
@@ -227,7 +259,7 @@ pub(crate) fn esm(
         plain_esm(alloc, state, arrival, message)
     } else {
         let found = subject_with(state, &message.originator);
-        esm_of(alloc, state, arrival, message, found)
+        esm_of(alloc, state, arrival, message, &found)
     }
 }
 
@@ -238,6 +270,11 @@ pub(crate) fn esm_lead(state: &State, arrival: &Arrival, message: &Esm) -> Optio
     if is_plain(arrival) {
         None
     } else {
-        esm_lead_of(state, arrival, message, subject_with(state, &message.originator))
+        esm_lead_of(
+            state,
+            arrival,
+            message,
+            &subject_with(state, &message.originator),
+        )
     }
 }

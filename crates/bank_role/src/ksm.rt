@@ -6,7 +6,8 @@ ghost use Rattle.party_state.specs.declared.key.KeyStatus.TheVariants.{Held};
 ghost use Rattle.party_state.specs.Ranges.{IsLink};
 ghost use Rattle.party_state.specs.Verdicts.{verdict_of};
 ghost use Rattle.bank_role.specs.Texts.{is_verified};
-ghost use Rattle.bank_role.specs.Deciding.{decision_of, accepting};
+ghost use Rattle.bank_role.specs.Replies.{IsWritten};
+ghost use Rattle.bank_role.specs.Deciding.{decision_of};
 ghost use Rattle.party_state.specs.Rows.Reply.{Coded};
 ghost use Rattle.bank_role.specs.Ksm.{link_in_use, arriving, carried_key, ksm_front, ksm_rest, ksm_tests, response, lead_under, ksm_under, unserved, ksm_with, ksm, ksm_lead_under, ksm_lead};
 
@@ -76,10 +77,10 @@ fn ksm_front(state: &State, message: &Ksm, found: &Option<LinkRec>) -> [(bool, V
 fn ksm_rest(
     state: &State,
     message: &Ksm,
-    carried: Carried,
+    carried: &Carried,
     link: &LinkRec,
 ) -> [(bool, Verdict); 3]
-    ensures { result ≡ ksm_rest state.now message.now carried link.now }
+    ensures { result ≡ ksm_rest state.now message.now carried.now link.now }
 {
     let [low, spent] = count_tests(link, carried.ctp);
     let name = arriving(state, link, carried.ctp).name;
@@ -99,8 +100,8 @@ fn response(state: &State, originator: Ident) -> Message
 }
 
 /// The key that arrives under a link, and whether the code is made under it.
-fn carried_lead(state: &State, arrival: &Arrival, carried: Carried, link: &LinkRec) -> Lead
-    ensures { result ≡ lead_under arrival.now (arriving state.now link.now carried.ctp) (carried_key link.now carried) }
+fn carried_lead(state: &State, arrival: &Arrival, carried: &Carried, link: &LinkRec) -> Lead
+    ensures { result ≡ lead_under arrival.now (arriving state.now link.now carried.now.ctp) (carried_key link.now carried.now) }
 {
     let value = unwrap(link.pair, carried.ctp, carried.kd);
     lead_under(arrival, arriving(state, link, carried.ctp), value)
@@ -110,30 +111,28 @@ fn carried_lead(state: &State, arrival: &Arrival, carried: Carried, link: &LinkR
 fn ksm_verdict(
     state: &State,
     message: &Ksm,
-    carried: Carried,
+    carried: &Carried,
     link: &LinkRec,
     verified: bool,
 ) -> Verdict
-    ensures { result ≡ verdict_of (ksm_front state.now message.now (Some link.now) ++ (verified, BadMac) ∷ ksm_rest state.now message.now carried link.now) }
+    ensures { result ≡ verdict_of (ksm_front state.now message.now (Some link.now) ++ (verified, BadMac) ∷ ksm_rest state.now message.now carried.now link.now) }
 {
     let front = ksm_front(state, message, &Some(*link));
     let [low, spent, full] = ksm_rest(state, message, carried, link);
     verdict_after(&front, &[(verified, Verdict::BadMac), low, spent, full])
 }
 
-/// The key is held, and the response goes back under it.
+/// The key is held.
 fn held(
     alloc: Global,
-    state: &State,
     message: &Ksm,
-    carried: Carried,
+    carried: &Carried,
     link: &LinkRec,
     lead: &Lead,
-) -> Result<Decision, NoMemory>
-    ensures { IfOk result (λ d. d ≡ accepting state.now
-        (PutLink (record link.now { next = carried.ctp + 1 })
-        ∷ PutKey (record { peer = message.now.originator; name = lead.now.under.name; value = lead.now.value; status = Held }) ∷ [])
-        (Some (Coded (response state.now message.now.originator) lead.now.under lead.now.value))) }
+) -> Result<Vec<Edit>, NoMemory>
+    ensures { IfOk result (λ edits. edits.items ≡
+        PutLink (record link.now { next = carried.now.ctp + 1 })
+        ∷ PutKey (record { peer = message.now.originator; name = lead.now.under.name; value = lead.now.value; status = Held }) ∷ []) }
 {
     let next = carried.ctp.value() + 1;
     let key = KeyRec {
@@ -142,31 +141,43 @@ fn held(
         value: lead.value,
         status: KeyStatus::Held,
     };
-    let reply = response(state, message.originator);
-    let written = Written::coded(alloc, &reply, lead.under, lead.value)?;
     let link = LinkRec { next, ..*link };
-    let edits = list_of(alloc, [Edit::PutLink(link), Edit::PutKey(key)])?;
-    accept(alloc, state, edits, Some(written))
+    list_of(alloc, [Edit::PutLink(link), Edit::PutKey(key)])
 }
 
+/// The response goes back under the key that came.
+fn ksm_reply(
+    alloc: Global,
+    state: &State,
+    message: &Ksm,
+    lead: &Lead,
+) -> Result<Written, NoMemory>
+    ensures { IfOk result (λ w. IsWritten w (Coded (response state.now message.now.originator) lead.now.under lead.now.value)) }
+{
+    let reply = response(state, message.originator);
+    Written::coded(alloc, &reply, lead.under, lead.value)
+}
+
+#[tactic(auto, using(crate::proofs::Told::ksm_told))]
 fn ksm_under(
     alloc: Global,
     state: &State,
     arrival: &Arrival,
     message: &Ksm,
-    carried: Carried,
+    carried: &Carried,
     link: &LinkRec,
 ) -> Result<Decision, NoMemory>
     requires { IsLink link.now }
-    ensures { IfOk result (λ d. d ≡ decision_of state.now (ksm_under state.now arrival.now message.now carried (Some link.now))) }
+    ensures { IfOk result (λ d. d ≡ decision_of state.now (ksm_under state.now arrival.now message.now carried.now (Some link.now))) }
 {
     let lead = carried_lead(state, arrival, carried, link);
     let verdict = ksm_verdict(state, message, carried, link, lead.verified);
-    if is_accept(&verdict) {
-        held(alloc, state, message, carried, link, &lead)
-    } else {
-        error_answer(alloc, state, message.originator, carried.ctp, verdict, &lead)
+    if !is_accept(&verdict) {
+        return error_answer(alloc, state, message.originator, carried.ctp, verdict, &lead);
     }
+    let edits = held(alloc, message, carried, link, &lead)?;
+    let written = ksm_reply(alloc, state, message, &lead)?;
+    accept(alloc, state, edits, Some(written))
 }
 
 /// A new key-encrypting key, or a key through a centre, which isn't served.
@@ -188,14 +199,14 @@ fn ksm_direct(
     state: &State,
     arrival: &Arrival,
     message: &Ksm,
-    carried: Carried,
+    carried: &Carried,
     idk2: &Option<Label>,
 ) -> Result<Decision, NoMemory>
-    ensures { IfOk result (λ d. d ≡ decision_of state.now (ksm_under state.now arrival.now message.now carried (link_in_use state.now message.now.originator idk2.now))) }
+    ensures { IfOk result (λ d. d ≡ decision_of state.now (ksm_under state.now arrival.now message.now carried.now (link_in_use state.now message.now.originator idk2.now))) }
 {
     let found = link_in_use(state, &message.originator, idk2);
-    match found {
-        Some(link) => ksm_under(alloc, state, arrival, message, carried, &link),
+    match &found {
+        Some(link) => ksm_under(alloc, state, arrival, message, carried, link),
         None => Ok(refusal(verdict_of(&ksm_front(state, message, &found)))),
     }
 }
@@ -217,7 +228,7 @@ pub(crate) fn ksm(
             ctp,
         } => {
             let carried = Carried { kd: *kd, ctp: *ctp };
-            ksm_direct(alloc, state, arrival, message, carried, idk2)
+            ksm_direct(alloc, state, arrival, message, &carried, idk2)
         }
         KsmBody::Direct { new: Some(_), .. } => Ok(unserved(state, message, &message.originator)),
         KsmBody::Centre { centre, .. } => Ok(unserved(state, message, centre)),
@@ -228,10 +239,10 @@ fn ksm_lead_direct(
     state: &State,
     arrival: &Arrival,
     message: &Ksm,
-    carried: Carried,
+    carried: &Carried,
     idk2: &Option<Label>,
 ) -> Option<Lead>
-    ensures { result ≡ ksm_lead_under state.now arrival.now message.now carried (link_in_use state.now message.now.originator idk2.now) }
+    ensures { result ≡ ksm_lead_under state.now arrival.now message.now carried.now (link_in_use state.now message.now.originator idk2.now) }
 {
     let found = link_in_use(state, &message.originator, idk2);
     let front = ksm_front(state, message, &found);
@@ -255,7 +266,7 @@ pub(crate) fn ksm_lead(state: &State, arrival: &Arrival, message: &Ksm) -> Optio
             ctp,
         } => {
             let carried = Carried { kd: *kd, ctp: *ctp };
-            ksm_lead_direct(state, arrival, message, carried, idk2)
+            ksm_lead_direct(state, arrival, message, &carried, idk2)
         }
         KsmBody::Direct { new: Some(_), .. } | KsmBody::Centre { .. } => None,
     }

@@ -8,17 +8,16 @@ ghost use Rattle.bank_role.specs.Deciding.{decision_of};
 ghost use Rattle.bank_role.specs.Exchanges.{readied, new_link};
 ghost use Rattle.bank_role.specs.Rsm.{rsm, rsm_to, rsm_lead, rsm_lead_to, answer_to, answer_lead_to, is_named};
 
-use crate::common_tests::answer_front;
+use crate::common_tests::{answer_front, answer_verdict, not_answering};
 use crate::decisions::{accept, refusal};
 use crate::edits::{joined, list_of, readied};
 use crate::exchanges::{Sent, ending_with, new_link, sent_to};
-use crate::leads::lead_under;
-use crate::names::full_name;
-use crate::verdicts::{is_accept, passes, verdict_after, verdict_of};
+use crate::leads::key_lead;
+use crate::verdicts::{is_accept, passes};
 use csm_grammar::{Arrival, Rsm};
 use party_state::{Decision, Edit, KeyRec, KeyStatus, Lead, State};
 use std::alloc::Global;
-use x_base::{KeyName, NoMemory, Verdict};
+use x_base::{KeyName, NoMemory};
 
 fn live(alloc: Global, state: &State, message: &Rsm, sent: &Sent) -> Result<Vec<Edit>, NoMemory>
     ensures { IfOk result (λ edits. edits.items ≡ readied (new_link state.now message.now.originator sent.now.way)
@@ -34,26 +33,39 @@ fn live(alloc: Global, state: &State, message: &Rsm, sent: &Sent) -> Result<Vec<
     joined(readied(alloc, link)?, rest)
 }
 
+/// The response to a key that was sent.
+fn rsm_sent(
+    alloc: Global,
+    state: &State,
+    arrival: &Arrival,
+    message: &Rsm,
+    sent: &Sent,
+) -> Result<Decision, NoMemory>
+    ensures { IfOk result (λ d. d ≡ decision_of state.now (rsm_to state.now arrival.now message.now (Some sent.now))) }
+{
+    let lead = key_lead(state, arrival, &sent.key);
+    let (receiver, originator) = (&message.receiver, &message.originator);
+    let verdict = answer_verdict(state, receiver, originator, true, lead.verified);
+    if !is_accept(&verdict) {
+        return Ok(refusal(verdict));
+    }
+    let edits = live(alloc, state, message, sent)?;
+    accept(alloc, state, edits, None)
+}
+
 fn rsm_to(
     alloc: Global,
     state: &State,
     arrival: &Arrival,
     message: &Rsm,
-    found: Option<Sent>,
+    found: &Option<Sent>,
 ) -> Result<Decision, NoMemory>
-    ensures { IfOk result (λ d. d ≡ decision_of state.now (rsm_to state.now arrival.now message.now found)) }
+    ensures { IfOk result (λ d. d ≡ decision_of state.now (rsm_to state.now arrival.now message.now found.now)) }
 {
-    let stands = found.is_some();
-    let front = answer_front(state, &message.receiver, &message.originator, stands);
-    let Some(sent) = found else {
-        return Ok(refusal(verdict_of(&front)));
-    };
-    let lead = lead_under(arrival, full_name(state, &sent.key), sent.key.value);
-    let verdict = verdict_after(&front, &[(lead.verified, Verdict::BadMac)]);
-    if !is_accept(&verdict) {
-        return Ok(refusal(verdict));
+    match found {
+        Some(sent) => rsm_sent(alloc, state, arrival, message, sent),
+        None => Ok(not_answering(state, &message.receiver, &message.originator)),
     }
-    accept(alloc, state, live(alloc, state, message, &sent)?, None)
 }
 
 fn rsm_lead_to(
@@ -66,7 +78,7 @@ fn rsm_lead_to(
 {
     let sent = found?;
     if passes(&answer_front(state, &message.receiver, &message.originator, true)) {
-        Some(lead_under(arrival, full_name(state, &sent.key), sent.key.value))
+        Some(key_lead(state, arrival, &sent.key))
     } else {
         None
     }
@@ -81,33 +93,44 @@ fn is_named(name: &KeyName, found: &Option<KeyRec>) -> bool
     }
 }
 
+/// The response to the end of a key.
+fn answer_for(
+    alloc: Global,
+    state: &State,
+    arrival: &Arrival,
+    message: &Rsm,
+    name: &KeyName,
+    key: &KeyRec,
+) -> Result<Decision, NoMemory>
+    ensures { IfOk result (λ d. d ≡ decision_of state.now (answer_to state.now arrival.now message.now name.now (Some key.now))) }
+{
+    let lead = key_lead(state, arrival, key);
+    let (receiver, originator) = (&message.receiver, &message.originator);
+    let named = *name == key.name;
+    let verdict = answer_verdict(state, receiver, originator, named, lead.verified);
+    if !is_accept(&verdict) {
+        return Ok(refusal(verdict));
+    }
+    let (peer, status) = (message.originator, KeyStatus::Ended);
+    let ended = KeyRec { status, ..*key };
+    let edits = list_of(alloc, [Edit::PutKey(ended), Edit::DropExchange { peer }])?;
+    accept(alloc, state, edits, None)
+}
+
 fn answer_to(
     alloc: Global,
     state: &State,
     arrival: &Arrival,
     message: &Rsm,
     name: &KeyName,
-    found: Option<KeyRec>,
+    found: &Option<KeyRec>,
 ) -> Result<Decision, NoMemory>
-    ensures { IfOk result (λ d. d ≡ decision_of state.now (answer_to state.now arrival.now message.now name.now found)) }
+    ensures { IfOk result (λ d. d ≡ decision_of state.now (answer_to state.now arrival.now message.now name.now found.now)) }
 {
-    let named = is_named(name, &found);
-    let front = answer_front(state, &message.receiver, &message.originator, named);
-    let Some(key) = found else {
-        return Ok(refusal(verdict_of(&front)));
-    };
-    let lead = lead_under(arrival, full_name(state, &key), key.value);
-    let verdict = verdict_after(&front, &[(lead.verified, Verdict::BadMac)]);
-    if !is_accept(&verdict) {
-        return Ok(refusal(verdict));
+    match found {
+        Some(key) => answer_for(alloc, state, arrival, message, name, key),
+        None => Ok(not_answering(state, &message.receiver, &message.originator)),
     }
-    let ended = KeyRec {
-        status: KeyStatus::Ended,
-        ..key
-    };
-    let peer = message.originator;
-    let edits = list_of(alloc, [Edit::PutKey(ended), Edit::DropExchange { peer }])?;
-    accept(alloc, state, edits, None)
 }
 
 fn answer_lead_to(
@@ -122,7 +145,7 @@ fn answer_lead_to(
     let named = is_named(name, &found);
     let key = found?;
     if passes(&answer_front(state, &message.receiver, &message.originator, named)) {
-        Some(lead_under(arrival, full_name(state, &key), key.value))
+        Some(key_lead(state, arrival, &key))
     } else {
         None
     }
@@ -139,10 +162,10 @@ pub(crate) fn rsm(
 {
     let peer = &message.originator;
     match &message.idd {
-        None => rsm_to(alloc, state, arrival, message, sent_to(state, peer)),
+        None => rsm_to(alloc, state, arrival, message, &sent_to(state, peer)),
         Some(name) => {
             let found = ending_with(state, peer);
-            answer_to(alloc, state, arrival, message, name, found)
+            answer_to(alloc, state, arrival, message, name, &found)
         }
     }
 }
