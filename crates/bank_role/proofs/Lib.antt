@@ -1,4 +1,7 @@
 pub mod Tests
 pub mod Filtering
 pub mod ByRow
+pub mod Found
+pub mod Keeping
+pub mod Decided
 mod Storable
