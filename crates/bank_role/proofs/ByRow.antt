@@ -15,6 +15,7 @@ use Rattle.bank_role.specs.declared.texts.Written.{Written}
 use Rattle.bank_role.specs.Replies.{IsWritten, AreWritten}
 use Rattle.bank_role.specs.Errors.{answering}
 use Rattle.bank_role.proofs.Filtering.{differing_none}
+use Rattle.bank_role.proofs.Tests.{accept_is}
 
 -- refused without an answer, whatever the verdict
 pub by_refused : (p : Party) (v : Verdict) → refusal_of v ≡ decision_of p (refused v)
@@ -23,10 +24,6 @@ by_refused p v = go (is_accept v)
     go : (b : Bool) → refusal_of v ≡ record { change = cond b (some_edits (differing p [])) None; reply = option_map text_of (cond b None None); under = name_of (cond b None None); verdict = v }
     go true = rw (differing_none p) refl
     go false = refl
-
-accept_is : (v : Verdict) → is_accept v ≡ true → v ≡ Accept
-accept_is Accept h = refl
-accept_is _ h = cc
 
 -- accepted
 pub by_accepted : (p : Party) (r : Row) (v : Verdict) → v ≡ r.verdict → is_accept v ≡ true → accepting p r.edits r.reply ≡ decision_of p r

@@ -1,9 +1,11 @@
 -- The edits that make a difference, one after another.
-use Rattle.std.proofs.Common.{◌≡◌, ℕ, Bool, true, false, cond, Option, Some, None, List, [], ◌∷◌, ◌++◌, length, filter, refl, sym, ◌∙◌, ap, arith}
+use Rattle.std.proofs.Common.{◌≡◌, ℕ, zero, suc, ◌+◌, Bool, true, false, cond, ◌||◌, take, slice_get, add-one, Option, Some, None, List, [], ◌∷◌, ◌++◌, length, filter, refl, sym, ◌∙◌, ap, arith}
 use Rattle.std.specs.Prelude.{◌==◌}
+use Rattle.std.specs.List.{list_any}
+use Rattle.party_state.specs.declared.key.KeyRec.{KeyRec}
 use Rattle.party_state.specs.declared.edit.Edit.{Edit}
-use Rattle.party_state.specs.State.{Party}
-use Rattle.bank_role.specs.Differing.{differs, differing}
+use Rattle.party_state.specs.State.{Party, is_ended}
+use Rattle.bank_role.specs.Differing.{differs, differing, ended_in}
 use Rattle.bank_role.specs.Deciding.{some_edits}
 
 pub differing_none : (p : Party) → differing p [] ≡ []
@@ -41,3 +43,30 @@ no_edits (e ∷ es) h = cc
 pub with_edits : (es : List Edit) → (length es == 0) ≡ false → some_edits es ≡ Some es
 with_edits [] h = cc
 with_edits (e ∷ es) h = refl
+
+-- the records of ended keys
+
+abbrev is_over : KeyRec → Bool
+is_over k = is_ended k.status
+
+either : (a b : Bool) → b ≡ true → (a || b) ≡ true
+either true b h = refl
+either false b h = h
+
+pub ended_found : (ks : List KeyRec) (i : ℕ) → ended_in (slice_get ks i) ≡ true → list_any (λ (k : KeyRec). is_ended k.status) ks ≡ true
+ended_found [] i h = cc
+ended_found (k ∷ ks) zero h = rw h refl
+ended_found (k ∷ ks) (suc i) h = either (is_over k) (list_any is_over ks) (ended_found ks i h)
+
+one_more : (ks : List KeyRec) (i : ℕ) → ended_in (slice_get ks i) ≡ false → list_any is_over (take i ks) ≡ false → list_any is_over (take (suc i) ks) ≡ false
+one_more [] zero h t = refl
+one_more [] (suc i) h t = refl
+one_more (k ∷ ks) zero h t = rw h refl
+one_more (k ∷ ks) (suc i) h t = go (is_over k) t
+  where
+    go : (b : Bool) → (b || list_any is_over (take i ks)) ≡ false → (b || list_any is_over (take (suc i) ks)) ≡ false
+    go true t = cc
+    go false t = one_more ks i h t
+
+pub ended_more : (ks : List KeyRec) (i : ℕ) → ended_in (slice_get ks i) ≡ false → list_any (λ (k : KeyRec). is_ended k.status) (take i ks) ≡ false → list_any (λ (k : KeyRec). is_ended k.status) (take (i + 1) ks) ≡ false
+ended_more ks i h t = rw add-one (one_more ks i h t)

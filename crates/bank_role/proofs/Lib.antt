@@ -1,6 +1,9 @@
 pub mod Tests
 pub mod Filtering
 pub mod ByRow
+pub mod Found
+pub mod Keeping
+pub mod Decided
 pub mod Told
 pub mod Responses
 pub mod ErrorMessages

@@ -32,13 +32,21 @@ abbrev pub has_record : Option KeyRec → KeyRec → Bool
 has_record None k = false
 has_record (Some old) k = (old.value == k.value) && same_status old.status k.status
 
+abbrev pub ended_in : Option KeyRec → Bool
+ended_in None = false
+ended_in (Some k) = is_ended k.status
+
+-- the record of an ended key stands
+abbrev pub has_ended : Party → Bool
+has_ended p = list_any (λ (k : KeyRec). is_ended k.status) p.keys
+
 -- an exchange that is put is new
 abbrev pub differs : Party → Edit → Bool
 differs p (Begin own role generator) = true
 differs p (PutLink l) = not (has_link (link_with (link_key l) p) l)
 differs p (DropLink peer label side) = is_some (link_with (record { peer = peer; label = label; side = side }) p)
 differs p (PutKey k) = not (has_record (record_with (record_key k) p) k)
-differs p DropEnded = list_any (λ (k : KeyRec). is_ended k.status) p.keys
+differs p DropEnded = has_ended p
 differs p (PutExchange e) = true
 differs p (DropExchange peer) = is_some (exchange_with peer p)
 differs p (PutAnswer a) = true

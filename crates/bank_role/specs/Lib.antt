@@ -17,6 +17,7 @@ pub mod Rows
 pub mod Leads
 pub mod Differing
 pub mod Failing
+pub mod Standing
 pub mod Replies
 pub mod Deciding
 pub mod Errors

@@ -14,6 +14,7 @@ use Rattle.party_state.specs.declared.link.LinkRec.{LinkRec}
 use Rattle.party_state.specs.declared.key.KeyStatus.TheVariants.{Pending}
 use Rattle.party_state.specs.declared.exchange.Via.TheVariants as via
 use Rattle.party_state.specs.declared.exchange.Kind.TheVariants as kind
+use Rattle.party_state.specs.declared.edit.Edit.{Edit}
 use Rattle.party_state.specs.declared.edit.Edit.TheVariants.{PutLink, PutKey, PutExchange, SetGen}
 use Rattle.party_state.specs.State.{Party}
 use Rattle.party_state.specs.Verdicts.{Test, verdict_of}
@@ -41,24 +42,27 @@ abbrev pub sending_tests : Party → LinkRec → Option (ℕ × Gen) → List Te
 sending_tests p l drawn =
     (has_count l, CountSpent) ∷ (has_key_room p (record { peer = l.peer; name = next_name p l }), KeysFull) ∷ (is_some drawn, WeakDraws) ∷ []
 
+-- the generator goes on, the link's count is used, the key is pending and the exchange stands
+abbrev pub sent_edits : Party → LinkRec → ℕ → ℕ → List Edit
+sent_edits p l key v =
+    SetGen v
+    ∷ PutLink (record l { next = l.next + 1 })
+    ∷ PutKey (record { peer = l.peer; name = next_name p l; value = key; status = Pending })
+    ∷ PutExchange (record { peer = l.peer; kind = kind.KeySent (next_name p l) (via.Direct l.label None); text = text_of (data_key_reply p l key) })
+    ∷ []
+
 -- the row behind the tests that come before, with what is drawn
 abbrev pub sending_drawn : Party → List Test → LinkRec → Option (ℕ × Gen) → Row
 sending_drawn p front l None = refused (verdict_of (front ++ sending_tests p l None))
-sending_drawn p front l (Some drawn) =
-    let reply : Reply = data_key_reply p l drawn.0 in
-    record {
-      verdict = verdict_of (front ++ sending_tests p l (Some drawn));
-      edits = SetGen drawn.1.v
-          ∷ PutLink (record l { next = l.next + 1 })
-          ∷ PutKey (record { peer = l.peer; name = next_name p l; value = drawn.0; status = Pending })
-          ∷ PutExchange (record { peer = l.peer; kind = kind.KeySent (next_name p l) (via.Direct l.label None); text = text_of reply })
-          ∷ [];
-      reply = Some reply;
-      uses = record { recipient = l.peer; label = l.label; count = l.next; sealed = OneKey drawn.0 } ∷ [];
-      makes = None;
-      accepts = None;
-      answer = None;
-    }
+sending_drawn p front l (Some drawn) = record {
+  verdict = verdict_of (front ++ sending_tests p l (Some drawn));
+  edits = sent_edits p l drawn.0 drawn.1.v;
+  reply = Some (data_key_reply p l drawn.0);
+  uses = record { recipient = l.peer; label = l.label; count = l.next; sealed = OneKey drawn.0 } ∷ [];
+  makes = None;
+  accepts = None;
+  answer = None;
+}
 
 abbrev pub sending : Party → List Test → LinkRec → ℕ → Row
 sending p front l moment = sending_drawn p front l (good_draw p.generator moment)

@@ -13,10 +13,14 @@ abbrev pub if_ready : Option LinkRec → Option LinkRec
 if_ready None = None
 if_ready (Some l) = cond l.ready (Some l) None
 
--- the link to send under: the ready one with that label, which isn't a centre's, or the first
+-- the ready link with that label, which isn't a centre's
+abbrev pub labelled_link : Party → List ℕ → List ℕ → Option LinkRec
+labelled_link p peer label = cond (bytes_eq label centre_label) None (if_ready (link_with (sends peer label) p))
+
+-- the link to send under: the one with that label, or the first
 abbrev pub sending_link : Party → List ℕ → Option (List ℕ) → Option LinkRec
 sending_link p peer None = first_link peer Sends p
-sending_link p peer (Some label) = cond (bytes_eq label centre_label) None (if_ready (link_with (sends peer label) p))
+sending_link p peer (Some label) = labelled_link p peer label
 
 abbrev pub start_tests : Party → List ℕ → Option LinkRec → List Test
 start_tests p peer found = (knows peer p, UnknownPeer) ∷ (is_none (exchange_with peer p), Outstanding) ∷ (is_some found, UnknownKk) ∷ []

@@ -1,9 +1,8 @@
 // Whether an edit makes a difference to a state.
-ghost use Rattle.std.specs.Prelude.{◌≡◌};
-ghost use Rattle.std.specs.List.{list_any};
+ghost use Rattle.std.specs.Prelude.{◌≡◌, slice_get};
 ghost use Rattle.party_state.specs.State.{is_ended, link_with, record_with};
 ghost use Rattle.party_state.specs.Keys.{link_key, record_key};
-ghost use Rattle.bank_role.specs.Differing.{differs, has_link, has_record, same_status};
+ghost use Rattle.bank_role.specs.Differing.{differs, ended_in, has_ended, has_link, has_record, same_status};
 
 use party_state::{Edit, KeyRec, KeyStatus, LinkRec, State};
 
@@ -44,14 +43,23 @@ fn is_ended(status: KeyStatus) -> bool
     matches!(status, KeyStatus::Ended)
 }
 
+/// Whether record `i` is that of an ended key.
+fn is_ended_at(state: &State, i: usize) -> bool
+    ensures { result ≡ ended_in (slice_get state.now.keys i) }
+{
+    match state.key_at(i) {
+        Some(key) => is_ended(key.status),
+        None => false,
+    }
+}
+
 /// Whether the record of an ended key stands.
+#[tactic(auto, using(crate::proofs::Filtering::ended_found, crate::proofs::Filtering::ended_more))]
 fn has_ended(state: &State) -> bool
-    ensures { result ≡ list_any (λ k. is_ended k.status) state.now.keys }
+    ensures { result ≡ has_ended state.now }
 {
     for i in 0..state.key_count() {
-        if let Some(key) = state.key_at(i)
-            && is_ended(key.status)
-        {
+        if is_ended_at(state, i) {
             return true;
         }
     }

@@ -1,17 +1,25 @@
 //! What a bank decides (ANSI X9.17): of commands, and of service messages that arrive.
 #![tactic(auto)]
 
+mod ask;
 mod common_tests;
 mod decisions;
 mod differing;
 mod dsm;
 mod edits;
+mod ending;
 mod errors;
 mod esm;
 mod exchanges;
+mod giving_up;
 mod ksm;
 mod leads;
+mod links;
+mod load;
 mod names;
+mod resend;
 mod rsm;
+mod sending;
+mod start;
 mod texts;
 mod verdicts;

@@ -1,15 +1,15 @@
 // A new data key under a link: drawn, encrypted at the link's next count, kept as pending, and sent.
-ghost use Rattle.std.specs.Prelude.{◌≡◌, ◌+◌, ◌≤◌, ◌∷◌, [], length, IfOk, Some};
-ghost use Rattle.x_gen.specs.Gen.{good_draw};
-ghost use Rattle.party_state.specs.Ranges.{IsLink};
-ghost use Rattle.party_state.specs.Rows.{Reply};
+ghost use Rattle.std.specs.Prelude.{◌≡◌, ◌≤◌, true, length, IfOk};
 ghost use Rattle.bank_role.specs.Storable.{CanKeep};
 ghost use Rattle.bank_role.specs.Replies.{IsWritten};
-ghost use Rattle.bank_role.specs.Deciding.{decision_of};
-ghost use Rattle.bank_role.specs.Sending.{next_name, data_key_message, data_key_reply, sending, sending_drawn};
+ghost use Rattle.bank_role.specs.Deciding.{decision_of, accepting};
+ghost use Rattle.bank_role.specs.Standing.{LinkStands};
+ghost use Rattle.bank_role.specs.Tests.{has_key_room};
+ghost use Rattle.bank_role.specs.Sending.{next_name, data_key_message, data_key_reply, sent_edits, sending, sending_drawn};
 
 use crate::common_tests::has_key_room;
 use crate::decisions::{accept, refusal};
+use crate::edits::list_of;
 use crate::names::{direct_name, no_extras};
 use crate::texts::Written;
 use crate::verdicts::{is_accept, verdict_after};
@@ -64,4 +64,102 @@ fn data_key_text(
         recipient: link.peer,
     };
     Written::coded(alloc, &message, under, key)
+}
+
+/// A key that was drawn is sent.
+fn send_key(
+    alloc: Global,
+    state: &State,
+    link: &LinkRec,
+    count: Count,
+    key: u64,
+    after: &Gen,
+) -> Result<Decision, NoMemory>
+    requires at_next { count ≡ link.now.next }
+    requires stands { LinkStands state.now link.now }
+    requires room { has_key_room state.now (record { peer = link.now.peer; name = next_name state.now link.now }) ≡ true }
+    ensures decision { IfOk result (λ d. d ≡ accepting state.now (sent_edits state.now link.now key after.now.v) (Some (data_key_reply state.now link.now key))) }
+    ensures kept { IfOk result (λ d. CanKeep state.now d.change) }
+{
+    let written = data_key_text(alloc, state, link, count, key)?;
+    let name = next_name(state, link, count);
+    let record = KeyRec {
+        peer: link.peer,
+        name,
+        value: key,
+        status: KeyStatus::Pending,
+    };
+    let label = link.label;
+    let exchange = Exchange {
+        peer: link.peer,
+        kind: Kind::KeySent {
+            name,
+            via: Via::Direct { label, new: None },
+        },
+        text: written.text.copy(alloc)?,
+    };
+    let used = LinkRec {
+        next: count.value() + 1,
+        ..*link
+    };
+    let edits = [
+        Edit::SetGen(after.v),
+        Edit::PutLink(used),
+        Edit::PutKey(record),
+        Edit::PutExchange(exchange),
+    ];
+    accept(alloc, state, list_of(alloc, edits)?, Some(written))
+}
+
+/// What is decided behind the tests that come before, with what is drawn.
+fn send_drawn(
+    alloc: Global,
+    state: &State,
+    front: &[(bool, Verdict)],
+    link: &LinkRec,
+    count: Count,
+    drawn: Option<(u64, Gen)>,
+) -> Result<Decision, NoMemory>
+    requires at_next { count ≡ link.now.next }
+    requires stands { LinkStands state.now link.now }
+    ensures decision { IfOk result (λ d. d ≡ decision_of state.now (sending_drawn state.now front.now link.now drawn)) }
+    ensures kept { IfOk result (λ d. CanKeep state.now d.change) }
+{
+    let room = has_key_room(state, &link.peer, &next_name(state, link, count));
+    let tests = [
+        (true, Verdict::CountSpent),
+        (room, Verdict::KeysFull),
+        (drawn.is_some(), Verdict::WeakDraws),
+    ];
+    let verdict = verdict_after(front, &tests);
+    match drawn {
+        Some((key, after)) if room && is_accept(&verdict) => {
+            send_key(alloc, state, link, count, key, &after)
+        }
+        _ => Ok(refusal(verdict)),
+    }
+}
+
+/// What is decided where a new data key is to go under the link, behind the tests that come before.
+pub(crate) fn send(
+    alloc: Global,
+    state: &State,
+    front: &[(bool, Verdict)],
+    link: &LinkRec,
+    moment: u64,
+) -> Result<Decision, NoMemory>
+    requires { LinkStands state.now link.now }
+    ensures decision { IfOk result (λ d. d ≡ decision_of state.now (sending state.now front.now link.now moment)) }
+    ensures kept { IfOk result (λ d. CanKeep state.now d.change) }
+{
+    match Count::of(link.next) {
+        Some(count) => {
+            let drawn = state.generator().draw_good(moment).ok();
+            send_drawn(alloc, state, front, link, count, drawn)
+        }
+        None => Ok(refusal(verdict_after(
+            front,
+            &[(false, Verdict::CountSpent)],
+        ))),
+    }
 }

@@ -1,10 +1,11 @@
 // The texts that a bank writes, and the codes of those that arrive.
-ghost use Rattle.std.specs.Prelude.{◌≡◌, IfOk};
+ghost use Rattle.std.specs.Prelude.{◌≡◌, ◌≤◌, length, IfOk};
+ghost use Rattle.csm_write.specs.Shortness.{free_length};
 ghost use Rattle.party_state.specs.Rows.Reply.{Coded, Plain, Again};
 ghost use Rattle.bank_role.specs.Texts.{is_verified, is_right};
 
 use csm_grammar::{Arrival, Message, Shut};
-use csm_write::{Closing, write};
+use csm_write::{Closing, law_canon_short, write};
 use std::alloc::Global;
 use x_base::{FullName, NoMemory, Text};
 use x_mac::{edc, mac};
@@ -27,8 +28,10 @@ impl Written {
         under: FullName,
         key: u64,
     ) -> Result<Written, NoMemory>
-        ensures { IfOk result (λ w. IsWritten w (Coded message.now under key)) }
+        ensures written { IfOk result (λ w. IsWritten w (Coded message.now under key)) }
+        ensures short { free_length message.now ≤ 64 → IfOk result (λ w. length w.text ≤ 1024) }
     {
+        law_canon_short();
         let text = write(alloc, message, &Closing::Mac(key))?;
         Ok(Written {
             text,

@@ -1,6 +1,6 @@
 -- What lists of edits make of a party, and what stays true of every party.
 use Rattle.std.proofs.Common.{◌≡◌, ℕ, not, List, [], ◌∷◌, ◌++◌, refl, bytes_eq}
-use Rattle.std.proofs.lemmas.List.Elements.{All-nil, All-filter, All-head, All-tail}
+use Rattle.std.proofs.lemmas.List.Elements.{All-nil, All-filter, All-head, All-tail, All-push}
 use Rattle.x_base.specs.Names.{IsIdent}
 use Rattle.x_base.specs.declared.party.Role.{Role}
 use Rattle.x_gen.specs.declared.generator.Gen.{Gen}
@@ -9,7 +9,7 @@ use Rattle.party_state.specs.declared.edit.Edit.{Edit}
 use Rattle.party_state.specs.declared.edit.Edit.TheVariants.{Begin, PutLink, DropLink, PutKey, DropEnded, PutExchange, DropExchange, PutAnswer, SetGen}
 use Rattle.party_state.specs.Keys.{same_link, same_record, same_answer, link_key, record_key, exchange_key, answer_key}
 use Rattle.party_state.specs.State.{Party, begun, is_ended, apply_edit, apply}
-use Rattle.party_state.specs.Ranges.{IsGen, IsLink, IsRecord, IsExchange, IsAnswer, InRange, AreInRange, IsParty}
+use Rattle.party_state.specs.Ranges.{IsGen, IsLink, IsRecord, IsExchange, IsAnswer, InRange, AreInRange, IsFitting, AreFitting, IsNoBegin, HasNoBegin, IsParty}
 use Rattle.party_state.proofs.Keys.{test_idents, test_links, test_records, test_answers}
 use Rattle.party_state.proofs.Each.{all_put, all_drop}
 use Rattle.party_state.proofs.Distinct.{distinct_put, distinct_drop, distinct_filter}
@@ -39,3 +39,10 @@ party_edit (SetGen v) p r i = record { own = i.own; generator = record { key = i
 pub party_apply : (es : List Edit) (p : Party) → AreInRange es → IsParty p → IsParty (apply es p)
 party_apply [] p r i = i
 party_apply (e ∷ es) p r i = party_apply es (apply_edit e p) (All-tail InRange e es r) (party_edit e p (All-head InRange e es r) i)
+
+-- a list of edits that a state can take, and one more
+pub fitting_push : (es : List Edit) (e : Edit) → AreFitting es → IsFitting e → AreFitting (es ++ e ∷ [])
+fitting_push es e a i = All-push IsFitting es e a i
+
+pub no_begin_push : (es : List Edit) (e : Edit) → HasNoBegin es → IsNoBegin e → HasNoBegin (es ++ e ∷ [])
+no_begin_push es e a i = All-push IsNoBegin es e a i

@@ -1,3 +1,6 @@
+ghost use Rattle.std.specs.Prelude.{◌≡◌, OnOk};
+ghost use Rattle.party_state.specs.Ranges.{IsFitting, AreFitting, IsNoBegin, HasNoBegin};
+
 use super::*;
 use std::alloc::Global;
 use std::test::Fail;
@@ -17,6 +20,108 @@ const PAIR: Pair = Pair {
     left: 0x1122334455667788,
     right: 0x8877665544332211,
 };
+
+// Appends an edit to a change that a state can take.
+#[tactic(auto, using(crate::proofs::Edits::fitting_push, crate::proofs::Edits::no_begin_push))]
+fn add(change: &mut Change, edit: Edit) -> Result<(), NoMemory>
+    requires fitting { IsFitting edit }
+    requires goes_on { IsNoBegin edit }
+    requires all_fitting { AreFitting change.old }
+    requires all_go_on { HasNoBegin change.old }
+    ensures all_fitting { OnOk result (AreFitting change.new) }
+    ensures all_go_on { OnOk result (HasNoBegin change.new) }
+{
+    change.push(edit)
+}
+
+fn sending(peer: Ident, label: Label, next: u64) -> LinkRec
+    ensures { result.next ≡ next }
+{
+    LinkRec {
+        peer,
+        label,
+        side: Side::Sends,
+        pair: PAIR,
+        next,
+        ready: true,
+    }
+}
+
+#[test]
+fn links_are_put_in_place(rt: HostRuntime) -> Result<(), Fail> {
+    let alloc = rt.alloc();
+    let peer = Ident::read(b"BANKB")?;
+    let one = Label::read(b"K1")?;
+    let two = Label::read(b"K2")?;
+    let mut change = Change::new(alloc);
+    add(&mut change, Edit::PutLink(sending(peer, one, 1)))?;
+    add(&mut change, Edit::PutLink(sending(peer, two, 1)))?;
+    add(&mut change, Edit::PutLink(sending(peer, one, 2)))?;
+    let before = first_state(alloc, peer, Role::Bank, GENERATOR)?;
+    let after = apply(alloc, &before, &change)?;
+    assert_eq!(rt; after.link_count(), 2);
+    assert!(rt; after.link_at(0) == Some(&sending(peer, one, 2)));
+    Ok(())
+}
+
+#[test]
+fn links_and_exchanges_are_dropped(rt: HostRuntime) -> Result<(), Fail> {
+    let alloc = rt.alloc();
+    let peer = Ident::read(b"BANKB")?;
+    let label = Label::read(b"K1")?;
+    let side = Side::Sends;
+    let kind = Kind::Asked { ultimate: peer };
+    let text = Text::new(alloc);
+    let mut state = first_state(alloc, peer, Role::Bank, GENERATOR)?;
+    state.edit(alloc, Edit::PutLink(sending(peer, label, 1)))?;
+    state.edit(alloc, Edit::DropLink { peer, label, side })?;
+    assert_eq!(rt; state.link_count(), 0);
+    state.edit(alloc, Edit::PutExchange(Exchange { peer, kind, text }))?;
+    assert_eq!(rt; state.exchange_count(), 1);
+    state.edit(alloc, Edit::DropExchange { peer })?;
+    assert_eq!(rt; state.exchange_count(), 0);
+    Ok(())
+}
+
+#[test]
+fn records_of_ended_keys_go(rt: HostRuntime) -> Result<(), Fail> {
+    let alloc = rt.alloc();
+    let peer = Ident::read(b"BANKB")?;
+    let mut state = first_state(alloc, peer, Role::Bank, GENERATOR)?;
+    for status in [KeyStatus::Ended, KeyStatus::Closing] {
+        let key = KeyRec {
+            peer,
+            name: KeyName::read(b"BANKA.BANKA.K1.7")?,
+            value: 5,
+            status,
+        };
+        state.edit(alloc, Edit::PutKey(key))?;
+        state.edit(alloc, Edit::DropEnded)?;
+    }
+    assert_eq!(rt; state.key_count(), 1);
+    Ok(())
+}
+
+#[test]
+fn changes_are_copied(rt: HostRuntime) -> Result<(), Fail> {
+    let alloc = rt.alloc();
+    let peer = Ident::read(b"BANKB")?;
+    let kind = Kind::Asked { ultimate: peer };
+    let mut text = Text::new(alloc);
+    text.push(b"CSM(")?;
+    let mut change = Change::new(alloc);
+    assert!(rt; change.is_empty());
+    change.push(Edit::DropEnded)?;
+    change.push(Edit::PutExchange(Exchange { peer, kind, text }))?;
+    let copy = change.copy(alloc)?;
+    assert_eq!(rt; copy.len(), 2);
+    assert!(rt; matches!(copy.edit_at(0), Some(Edit::DropEnded)));
+    assert!(rt;
+        matches!(copy.edit_at(1), Some(Edit::PutExchange(exchange)) if exchange.text.bytes() == b"CSM(".as_slice())
+    );
+    assert_eq!(rt; copy.into_edits().len(), 2);
+    Ok(())
+}
 
 #[test]
 fn links_and_keys_are_shown(rt: HostRuntime) -> Result<(), Fail> {
