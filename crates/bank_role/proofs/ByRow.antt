@@ -12,6 +12,7 @@ use Rattle.bank_role.specs.Differing.{differing}
 use Rattle.bank_role.specs.Deciding.{some_edits, name_of, decision_of, refusal_of, accepting}
 use Rattle.bank_role.specs.Errors.{answering}
 use Rattle.bank_role.proofs.Filtering.{differing_none}
+use Rattle.bank_role.proofs.Tests.{accept_is}
 
 -- refused without an answer, whatever the verdict
 pub by_refused : (p : Party) (v : Verdict) → refusal_of v ≡ decision_of p (refused v)
@@ -20,9 +21,6 @@ by_refused p v = go (is_accept v)
     go : (b : Bool) → refusal_of v ≡ record { change = cond b (some_edits (differing p [])) None; reply = option_map text_of (cond b None None); under = name_of (cond b None None); verdict = v }
     go true = rw (differing_none p) refl
     go false = refl
-
-accept_is : (v : Verdict) → is_accept v ≡ true → v ≡ Accept
-accept_is v h = elim v [ Accept ↦ refl | _ ↦ cc ]
 
 -- accepted
 pub by_accepted : (p : Party) (r : Row) (v : Verdict) → v ≡ r.verdict → is_accept v ≡ true → accepting p r.edits r.reply ≡ decision_of p r

@@ -4,4 +4,5 @@ pub mod ByRow
 pub mod Found
 pub mod Keeping
 pub mod Decided
+pub mod Spent
 mod Storable
