@@ -2,6 +2,7 @@
 use Rattle.std.proofs.Common.{◌≡◌, ℕ, zero, suc, ◌+◌, Bool, true, false, cond, ◌||◌, take, slice_get, add-one, Option, Some, None, List, [], ◌∷◌, ◌++◌, length, filter, refl, sym, ◌∙◌, ap, arith}
 use Rattle.std.specs.Prelude.{◌==◌}
 use Rattle.std.specs.List.{list_any}
+use Rattle.std.proofs.lemmas.Bool.{eqb-true}
 use Rattle.party_state.specs.declared.key.KeyRec.{KeyRec}
 use Rattle.party_state.specs.declared.edit.Edit.{Edit}
 use Rattle.party_state.specs.State.{Party, is_ended}
@@ -38,7 +39,7 @@ differing_same p es e h = filter_more (differs p) es e ∙ ap (λ (b : Bool). fi
 
 pub no_edits : (es : List Edit) → (length es == 0) ≡ true → some_edits es ≡ None
 no_edits [] h = refl
-no_edits (e ∷ es) h = cc
+no_edits (e ∷ es) h = let z : length (e ∷ es) ≡ 0 = eqb-true (length (e ∷ es)) 0 h in absurd (omega arith)
 
 pub with_edits : (es : List Edit) → (length es == 0) ≡ false → some_edits es ≡ Some es
 with_edits [] h = cc

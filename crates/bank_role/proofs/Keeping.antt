@@ -14,6 +14,12 @@ use Rattle.x_base.specs.declared.key_name.KeyName.{KeyName}
 use Rattle.party_state.specs.State.{Party}
 use Rattle.party_state.specs.Keys.{record_key, link_key}
 use Rattle.party_state.specs.Rows.{Reply}
+use Rattle.party_state.specs.Verdicts.{verdict_of, is_accept, Held}
+use Rattle.party_state.specs.declared.link.LinkKey.{LinkKey}
+use Rattle.party_state.proofs.Verdicts.{held}
+use Rattle.x_base.specs.declared.verdict.Verdict.{Verdict}
+use Rattle.x_mac.specs.declared.pair.Pair.{Pair}
+use Rattle.bank_role.specs.Load.{load_tests}
 use Rattle.bank_role.specs.Tests.{has_key_room, has_link_room}
 use Rattle.bank_role.specs.Differing.{differing}
 use Rattle.bank_role.specs.Exchanges.{record_of, new_link, dropped}
@@ -87,3 +93,7 @@ given_up_few p peer e = by_kind e.kind
     by_kind (kind.Asked ultimate) = lit≤ tt
     by_kind (kind.Translating ultimate value cta) = lit≤ tt
     by_kind (kind.Ending name) = lit≤ tt
+
+-- a link that is loaded has room
+pub load_room : (p : Party) (key : LinkKey) (pair : Pair) (v : Verdict) → v ≡ verdict_of (load_tests p key pair) → is_accept v ≡ true → has_link_room p key ≡ true
+load_room p key pair v e t = let h : Held (load_tests p key pair) = held (load_tests p key pair) refl (rw (← e) t) in h.1.1.1.0

@@ -4,9 +4,11 @@ pub mod ByRow
 pub mod Found
 pub mod Keeping
 pub mod Decided
+pub mod Spent
 pub mod Told
 pub mod Responses
 pub mod ErrorMessages
 pub mod Disconnections
 pub mod KeyService
+pub mod ArrivalsKept
 mod Storable

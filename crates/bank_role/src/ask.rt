@@ -1,5 +1,7 @@
 // Asking a peer for a data key.
 ghost use Rattle.std.specs.Prelude.{◌≡◌, IfOk};
+ghost use Rattle.party_state.specs.Rows.Reply.{Plain};
+ghost use Rattle.bank_role.specs.Replies.{IsWritten};
 ghost use Rattle.bank_role.specs.Storable.{CanKeep};
 ghost use Rattle.bank_role.specs.Deciding.{decision_of};
 ghost use Rattle.bank_role.specs.Ask.{request, ask};
@@ -21,6 +23,12 @@ fn request(state: &State, peer: &Ident) -> Message
         service: Service::Kd,
         ultimate: None,
     })
+}
+
+fn request_text(alloc: Global, state: &State, peer: &Ident) -> Result<Written, NoMemory>
+    ensures { IfOk result (λ w. IsWritten w (Plain (request state.now peer.now))) }
+{
+    Written::plain(alloc, &request(state, peer))
 }
 
 /// What a bank decides where a key is asked for. For an ultimate recipient it asks no centre.
@@ -45,6 +53,6 @@ pub(crate) fn ask(
     if !known {
         return Ok(refusal(Verdict::UnknownPeer));
     }
-    let written = Written::plain(alloc, &request(state, peer))?;
+    let written = request_text(alloc, state, peer)?;
     accept(alloc, state, Vec::new(alloc), Some(written))
 }

@@ -2,6 +2,7 @@
 #![tactic(auto)]
 
 mod ask;
+mod commands;
 mod common_tests;
 mod decisions;
 mod differing;

@@ -1,5 +1,6 @@
 // A new data key under a link: drawn, encrypted at the link's next count, kept as pending, and sent.
 ghost use Rattle.std.specs.Prelude.{◌≡◌, ◌≤◌, true, length, IfOk};
+ghost use Rattle.party_state.specs.Verdicts.{all_refuse};
 ghost use Rattle.bank_role.specs.Storable.{CanKeep};
 ghost use Rattle.bank_role.specs.Replies.{IsWritten};
 ghost use Rattle.bank_role.specs.Deciding.{decision_of, accepting};
@@ -112,6 +113,7 @@ fn send_key(
 }
 
 /// What is decided behind the tests that come before, with what is drawn.
+#[tactic(auto, using(crate::proofs::Tests::drawn_room, crate::proofs::Tests::undrawn, crate::proofs::Decided::decides_row, crate::proofs::Decided::refuses, crate::proofs::ByRow::by_refused))]
 fn send_drawn(
     alloc: Global,
     state: &State,
@@ -122,6 +124,7 @@ fn send_drawn(
 ) -> Result<Decision, NoMemory>
     requires at_next { count ≡ link.now.next }
     requires stands { LinkStands state.now link.now }
+    requires refuse { all_refuse front.now ≡ true }
     ensures decision { IfOk result (λ d. d ≡ decision_of state.now (sending_drawn state.now front.now link.now drawn)) }
     ensures kept { IfOk result (λ d. CanKeep state.now d.change) }
 {
@@ -133,7 +136,7 @@ fn send_drawn(
     ];
     let verdict = verdict_after(front, &tests);
     match drawn {
-        Some((key, after)) if room && is_accept(&verdict) => {
+        Some((key, after)) if is_accept(&verdict) => {
             send_key(alloc, state, link, count, key, &after)
         }
         _ => Ok(refusal(verdict)),
@@ -148,7 +151,8 @@ pub(crate) fn send(
     link: &LinkRec,
     moment: u64,
 ) -> Result<Decision, NoMemory>
-    requires { LinkStands state.now link.now }
+    requires stands { LinkStands state.now link.now }
+    requires refuse { all_refuse front.now ≡ true }
     ensures decision { IfOk result (λ d. d ≡ decision_of state.now (sending state.now front.now link.now moment)) }
     ensures kept { IfOk result (λ d. CanKeep state.now d.change) }
 {
