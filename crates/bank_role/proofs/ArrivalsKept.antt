@@ -4,6 +4,7 @@ use Rattle.x_base.specs.Count.{IsCount}
 use Rattle.x_base.specs.declared.text.NoMemory.{NoMemory}
 use Rattle.x_base.specs.declared.key_name.KeyName.{KeyName}
 use Rattle.csm_grammar.specs.declared.arrival.Arrival.{Arrival}
+use Rattle.csm_grammar.specs.declared.message.Ksm.{Ksm}
 use Rattle.csm_grammar.specs.declared.message.Rsm.{Rsm}
 use Rattle.party_state.specs.declared.decision.Decision.{Decision}
 use Rattle.party_state.specs.declared.link.LinkRec.{LinkRec}
@@ -19,15 +20,18 @@ use Rattle.party_state.specs.declared.edit.Edit.TheVariants.{PutLink, DropLink, 
 use Rattle.party_state.specs.Keys.{link_key, same_link, record_key, sends}
 use Rattle.party_state.specs.Ranges.{IsLink, IsNext, IsParty}
 use Rattle.party_state.specs.State.{Party, link_with, record_with, exchange_with}
-use Rattle.party_state.specs.Verdicts.{is_accept}
+use Rattle.party_state.specs.Verdicts.{Held as AllHeld, is_accept}
 use Rattle.party_state.specs.Rows.{Row}
 use Rattle.party_state.proofs.Each.{find_all}
+use Rattle.party_state.proofs.Verdicts.{held}
 use Rattle.bank_role.specs.declared.exchanges.Sent.{Sent}
 use Rattle.bank_role.specs.Differing.{differing}
 use Rattle.bank_role.specs.Deciding.{some_edits, change_of, decision_of}
 use Rattle.bank_role.specs.Storable.{IsStorable, CanKeep}
 use Rattle.bank_role.specs.Standing.{LinkStands, KeyStands}
-use Rattle.bank_role.specs.Exchanges.{record_of, sent_by, sent_in, sent_to, ending_in, ending_with, new_label, new_link_at, new_link, readied, dropped}
+use Rattle.bank_role.specs.Exchanges.{record_of, sent_by, sent_in, sent_to, ending_by, ending_in, ending_with, new_label, new_link_at, new_link, readied, dropped}
+use Rattle.bank_role.specs.declared.ksm.Carried.{Carried}
+use Rattle.bank_role.specs.Ksm.{ksm_tests, ksm_under}
 use Rattle.bank_role.specs.Rsm.{rsm, rsm_with, rsm_to, answer_to}
 use Rattle.bank_role.proofs.Found.{link_stands, key_stands}
 use Rattle.bank_role.proofs.Storable.{AreTame, storable}
@@ -113,3 +117,15 @@ rsm_kept p a m made w e = made_kept p (rsm p a m) made (by_name m.idd) e
     by_name : (o : Option KeyName) → CanKeep p (change_of p (rsm_with p a m o))
     by_name None = rsm_to_kept p a m (sent_to p m.originator) w refl
     by_name (Some name) = answer_to_kept p a m name (ending_with p m.originator) refl
+
+-- a key service message under a link
+one_more : (n most : ℕ) → n ≤ most → n + 1 ≤ most + 1
+one_more n most h = omega arith
+
+pub ksm_kept : (p : Party) (a : Arrival) (m : Ksm) (c : Carried) (l : LinkRec) (made : Result Decision NoMemory) → LinkStands p l → IsCount c.ctp → IfOk made (λ d. d ≡ decision_of p (ksm_under p a m c (Some l))) → IfOk made (λ d. CanKeep p d.change)
+ksm_kept p a m c l made st i e = made_kept p (ksm_under p a m c (Some l)) made (row_kept p (ksm_under p a m c (Some l)) tame (omega arith)) e
+  where
+    next : IsNext (c.ctp + 1)
+    next = record { low = omega arith; high = one_more c.ctp 99999999999999 i.high }
+    tame : is_accept (ksm_under p a m c (Some l)).verdict ≡ true → AreTame p (ksm_under p a m c (Some l)).edits
+    tame t = let h : AllHeld (ksm_tests p a m c l) = held (ksm_tests p a m c l) refl t in record { each = ((next, rw (link_room p l st) refl), (h.1.1.1.1.1.1.0, tt)); turns = refl }

@@ -7,6 +7,8 @@ ghost use Rattle.party_state.specs.Ranges.{IsLink};
 ghost use Rattle.party_state.specs.Verdicts.{verdict_of};
 ghost use Rattle.bank_role.specs.Texts.{is_verified};
 ghost use Rattle.bank_role.specs.Replies.{IsWritten};
+ghost use Rattle.bank_role.specs.Standing.{LinkStands};
+ghost use Rattle.bank_role.specs.Storable.{CanKeep};
 ghost use Rattle.bank_role.specs.Deciding.{decision_of};
 ghost use Rattle.party_state.specs.Rows.Reply.{Coded};
 ghost use Rattle.bank_role.specs.Ksm.{link_in_use, arriving, carried_key, ksm_front, ksm_rest, ksm_tests, response, lead_under, ksm_under, unserved, ksm_with, ksm, ksm_lead_under, ksm_lead};
@@ -16,6 +18,7 @@ use crate::decisions::{accept, refusal};
 use crate::edits::list_of;
 use crate::errors::error_answer;
 use crate::leads::lead_under;
+use crate::links::{first_link, link_with};
 use crate::names::{direct_name, no_extras};
 use crate::texts::Written;
 use crate::verdicts::{is_accept, passes, verdict_after, verdict_of};
@@ -35,15 +38,15 @@ pub(crate) struct Carried {
 /// The link in use: the one with that label, which isn't a centre's, or the first.
 fn link_in_use(state: &State, originator: &Ident, idk2: &Option<Label>) -> Option<LinkRec>
     ensures link { result ≡ link_in_use state.now originator.now idk2.now }
-    ensures in_range { IfSome result IsLink }
+    ensures stands { IfSome result (LinkStands state.now) }
 {
     match idk2 {
-        None => state.first_link(originator, Side::Takes).copied(),
+        None => first_link(state, originator, Side::Takes),
         Some(label) => {
             if is_of_centre(label) {
                 None
             } else {
-                state.link(originator, label, Side::Takes).copied()
+                link_with(state, originator, label, Side::Takes)
             }
         }
     }
@@ -159,7 +162,7 @@ fn ksm_reply(
 }
 
 #[tactic(auto, using(crate::proofs::Told::ksm_told))]
-fn ksm_under(
+fn ksm_decided(
     alloc: Global,
     state: &State,
     arrival: &Arrival,
@@ -180,9 +183,27 @@ fn ksm_under(
     accept(alloc, state, edits, Some(written))
 }
 
+fn ksm_under(
+    alloc: Global,
+    state: &State,
+    arrival: &Arrival,
+    message: &Ksm,
+    carried: &Carried,
+    link: &LinkRec,
+) -> Result<Decision, NoMemory>
+    requires { LinkStands state.now link.now }
+    ensures decision { IfOk result (λ d. d ≡ decision_of state.now (ksm_under state.now arrival.now message.now carried.now (Some link.now))) }
+    ensures kept { IfOk result (λ d. CanKeep state.now d.change) }
+{
+    // The value tells that it is a count.
+    carried.ctp.value();
+    ksm_decided(alloc, state, arrival, message, carried, link)
+}
+
 /// A new key-encrypting key, or a key through a centre, which isn't served.
 fn unserved(state: &State, message: &Ksm, known: &Ident) -> Decision
-    ensures { result ≡ decision_of state.now (unserved state.now message.now known.now) }
+    ensures decision { result ≡ decision_of state.now (unserved state.now message.now known.now) }
+    ensures kept { CanKeep state.now result.change }
 {
     refusal(verdict_of(&[
         (
@@ -202,7 +223,8 @@ fn ksm_direct(
     carried: &Carried,
     idk2: &Option<Label>,
 ) -> Result<Decision, NoMemory>
-    ensures { IfOk result (λ d. d ≡ decision_of state.now (ksm_under state.now arrival.now message.now carried.now (link_in_use state.now message.now.originator idk2.now))) }
+    ensures decision { IfOk result (λ d. d ≡ decision_of state.now (ksm_under state.now arrival.now message.now carried.now (link_in_use state.now message.now.originator idk2.now))) }
+    ensures kept { IfOk result (λ d. CanKeep state.now d.change) }
 {
     let found = link_in_use(state, &message.originator, idk2);
     match &found {
@@ -218,7 +240,8 @@ pub(crate) fn ksm(
     arrival: &Arrival,
     message: &Ksm,
 ) -> Result<Decision, NoMemory>
-    ensures { IfOk result (λ d. d ≡ decision_of state.now (ksm state.now arrival.now message.now)) }
+    ensures decision { IfOk result (λ d. d ≡ decision_of state.now (ksm state.now arrival.now message.now)) }
+    ensures kept { IfOk result (λ d. CanKeep state.now d.change) }
 {
     match &message.body {
         KsmBody::Direct {

@@ -4,6 +4,7 @@ ghost use Rattle.std.specs.Prelude.{◌≡◌, ◌++◌, ◌∷◌, [], IfOk};
 ghost use Rattle.party_state.specs.declared.edit.Edit.TheVariants.{PutKey, DropExchange};
 ghost use Rattle.party_state.specs.declared.key.KeyStatus.TheVariants.{Live, Ended};
 ghost use Rattle.party_state.specs.Keys.{same_name};
+ghost use Rattle.bank_role.specs.Storable.{CanKeep};
 ghost use Rattle.bank_role.specs.Deciding.{decision_of};
 ghost use Rattle.bank_role.specs.Exchanges.{readied, new_link};
 ghost use Rattle.bank_role.specs.Rsm.{rsm, rsm_to, rsm_lead, rsm_lead_to, answer_to, answer_lead_to, is_named};
@@ -151,8 +152,7 @@ fn answer_lead_to(
     }
 }
 
-/// Decides of a response.
-pub(crate) fn rsm(
+fn rsm_decided(
     alloc: Global,
     state: &State,
     arrival: &Arrival,
@@ -168,6 +168,20 @@ pub(crate) fn rsm(
             answer_to(alloc, state, arrival, message, name, &found)
         }
     }
+}
+
+/// Decides of a response.
+pub(crate) fn rsm(
+    alloc: Global,
+    state: &State,
+    arrival: &Arrival,
+    message: &Rsm,
+) -> Result<Decision, NoMemory>
+    ensures decision { IfOk result (λ d. d ≡ decision_of state.now (rsm state.now arrival.now message.now)) }
+    ensures kept { IfOk result (λ d. CanKeep state.now d.change) }
+{
+    state.law_party();
+    rsm_decided(alloc, state, arrival, message)
 }
 
 /// The key under which its code is tested.
