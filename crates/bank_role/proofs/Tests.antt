@@ -62,23 +62,25 @@ passes_all [] = refl
 passes_all (t ∷ ts) = ap (λ (b : Bool). t.0 && b) (passes_all ts)
 
 -- behind tests that refuse, an accepted key has room
-pub drawn_room : (front us : List Test) (room : Bool) (v : Verdict) → all_refuse front ≡ true → v ≡ verdict_of (front ++ (true, CountSpent) ∷ (room, KeysFull) ∷ us) → is_accept v ≡ true → room ≡ true
-drawn_room [] us true v r e t = refl
-drawn_room [] us false v r e t = cc
-drawn_room (t ∷ ts) us room v r e a = go t.0 (is_accept t.1) refl r e (drawn_room ts us room v)
+pub drawn_room : (front us : List Test) (count room : Bool) (v : Verdict) → all_refuse front ≡ true → v ≡ verdict_of (front ++ (count, CountSpent) ∷ (room, KeysFull) ∷ us) → is_accept v ≡ true → room ≡ true
+drawn_room [] us count true v r e t = refl
+drawn_room [] us true false v r e t = cc
+drawn_room [] us false false v r e t = cc
+drawn_room (t ∷ ts) us count room v r e a = go t.0 (is_accept t.1) refl r e (drawn_room ts us count room v)
   where
-    go : (b w : Bool) → is_accept t.1 ≡ w → (not w && all_refuse ts) ≡ true → v ≡ cond b (verdict_of (ts ++ (true, CountSpent) ∷ (room, KeysFull) ∷ us)) t.1 → (all_refuse ts ≡ true → v ≡ verdict_of (ts ++ (true, CountSpent) ∷ (room, KeysFull) ∷ us) → is_accept v ≡ true → room ≡ true) → room ≡ true
+    go : (b w : Bool) → is_accept t.1 ≡ w → (not w && all_refuse ts) ≡ true → v ≡ cond b (verdict_of (ts ++ (count, CountSpent) ∷ (room, KeysFull) ∷ us)) t.1 → (all_refuse ts ≡ true → v ≡ verdict_of (ts ++ (count, CountSpent) ∷ (room, KeysFull) ∷ us) → is_accept v ≡ true → room ≡ true) → room ≡ true
     go b true i r e ih = absurd (cc)
     go true false i r e ih = ih r e a
     go false false i r e ih = absurd (cc)
 
 -- and where no key was drawn there is no Accept
-pub undrawn : (front : List Test) (room : Bool) (v : Verdict) → all_refuse front ≡ true → v ≡ verdict_of (front ++ (true, CountSpent) ∷ (room, KeysFull) ∷ (false, WeakDraws) ∷ []) → is_accept v ≡ false
-undrawn [] true v r e = rw e refl
-undrawn [] false v r e = rw e refl
-undrawn (t ∷ ts) room v r e = go t.0 (is_accept t.1) refl r e (undrawn ts room v)
+pub undrawn : (front : List Test) (count room : Bool) (v : Verdict) → all_refuse front ≡ true → v ≡ verdict_of (front ++ (count, CountSpent) ∷ (room, KeysFull) ∷ (false, WeakDraws) ∷ []) → is_accept v ≡ false
+undrawn [] true true v r e = rw e refl
+undrawn [] true false v r e = rw e refl
+undrawn [] false room v r e = rw e refl
+undrawn (t ∷ ts) count room v r e = go t.0 (is_accept t.1) refl r e (undrawn ts count room v)
   where
-    go : (b w : Bool) → is_accept t.1 ≡ w → (not w && all_refuse ts) ≡ true → v ≡ cond b (verdict_of (ts ++ (true, CountSpent) ∷ (room, KeysFull) ∷ (false, WeakDraws) ∷ [])) t.1 → (all_refuse ts ≡ true → v ≡ verdict_of (ts ++ (true, CountSpent) ∷ (room, KeysFull) ∷ (false, WeakDraws) ∷ []) → is_accept v ≡ false) → is_accept v ≡ false
+    go : (b w : Bool) → is_accept t.1 ≡ w → (not w && all_refuse ts) ≡ true → v ≡ cond b (verdict_of (ts ++ (count, CountSpent) ∷ (room, KeysFull) ∷ (false, WeakDraws) ∷ [])) t.1 → (all_refuse ts ≡ true → v ≡ verdict_of (ts ++ (count, CountSpent) ∷ (room, KeysFull) ∷ (false, WeakDraws) ∷ []) → is_accept v ≡ false) → is_accept v ≡ false
     go b true i r e ih = absurd (cc)
     go true false i r e ih = ih r e
     go false false i r e ih = rw e i
