@@ -49,6 +49,10 @@ pub drawn_refused : (p : Party) (front : List Test) (l : LinkRec) (o : Option (�
 drawn_refused p front l None v e f = ap refusal_of e ∙ by_refused p (verdict_of (front ++ sending_tests p l None))
 drawn_refused p front l (Some d) v e f = refuses p (sending_drawn p front l (Some d)) v e f refl
 
+pub drawn_none : (p : Party) (front : List Test) (l : LinkRec) (o : Option (ℕ × Gen)) (v : Verdict) → o ≡ None → v ≡ verdict_of (front ++ sending_tests p l o) → refusal_of v ≡ decision_of p (sending_drawn p front l o)
+drawn_none p front l None v i e = ap refusal_of e ∙ by_refused p (verdict_of (front ++ sending_tests p l None))
+drawn_none p front l (Some d) v i e = cc
+
 pub drawn_sent : (result : Result Decision NoMemory) (p : Party) (front : List Test) (l : LinkRec) (o : Option (ℕ × Gen)) (key : ℕ) (after : Gen) (v : Verdict) → o ≡ Some (key, after)
     → IfOk result (λ d. d ≡ accepting p (sent_edits p l key after.v) (Some (data_key_reply p l key))) → v ≡ verdict_of (front ++ sending_tests p l o) → is_accept v ≡ true
     → IfOk result (λ d. d ≡ decision_of p (sending_drawn p front l o))

@@ -3,7 +3,7 @@ use Rattle.std.proofs.Common.{◌≡◌, Bool, true, false, cond, not, Option, S
 use Rattle.std.specs.Prelude.{option_map}
 use Rattle.std.specs.List.{find, list_all}
 use Rattle.x_base.specs.declared.verdict.Verdict.{Verdict}
-use Rattle.x_base.specs.declared.verdict.Verdict.TheVariants.{Accept, CountSpent, KeysFull, WeakDraws}
+use Rattle.x_base.specs.declared.verdict.Verdict.TheVariants.{Accept, CountSpent, KeysFull}
 use Rattle.party_state.specs.Verdicts.{Test, verdict_of, passes, is_accept, all_refuse}
 use Rattle.bank_role.specs.Failing.{failed_in}
 
@@ -73,19 +73,7 @@ drawn_room (t ∷ ts) us count room v r e a = go t.0 (is_accept t.1) refl r e (d
     go true false i r e ih = ih r e a
     go false false i r e ih = absurd (cc)
 
--- and where no key was drawn there is no Accept
-pub undrawn : (front : List Test) (count room : Bool) (v : Verdict) → all_refuse front ≡ true → v ≡ verdict_of (front ++ (count, CountSpent) ∷ (room, KeysFull) ∷ (false, WeakDraws) ∷ []) → is_accept v ≡ false
-undrawn [] true true v r e = rw e refl
-undrawn [] true false v r e = rw e refl
-undrawn [] false room v r e = rw e refl
-undrawn (t ∷ ts) count room v r e = go t.0 (is_accept t.1) refl r e (undrawn ts count room v)
-  where
-    go : (b w : Bool) → is_accept t.1 ≡ w → (not w && all_refuse ts) ≡ true → v ≡ cond b (verdict_of (ts ++ (count, CountSpent) ∷ (room, KeysFull) ∷ (false, WeakDraws) ∷ [])) t.1 → (all_refuse ts ≡ true → v ≡ verdict_of (ts ++ (count, CountSpent) ∷ (room, KeysFull) ∷ (false, WeakDraws) ∷ []) → is_accept v ≡ false) → is_accept v ≡ false
-    go b true i r e ih = absurd (cc)
-    go true false i r e ih = ih r e
-    go false false i r e ih = rw e i
-
--- nor where no count is left
+-- where no count is left there is no Accept
 pub unspent : (front : List Test) → all_refuse front ≡ true → is_accept (verdict_of (front ++ (false, CountSpent) ∷ [])) ≡ false
 unspent [] r = refl
 unspent (t ∷ ts) r = go t.0 (is_accept t.1) refl r (unspent ts)

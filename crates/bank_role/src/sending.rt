@@ -130,7 +130,7 @@ fn sending_tests(
 }
 
 /// What is decided behind the tests that come before, with what is drawn.
-#[tactic(auto, using(crate::proofs::Tests::drawn_room, crate::proofs::Tests::undrawn, crate::proofs::Spent::drawn_refused, crate::proofs::Spent::drawn_sent))]
+#[tactic(auto, using(crate::proofs::Tests::drawn_room))]
 fn send_drawn(
     alloc: Global,
     state: &State,
