@@ -11,7 +11,7 @@ returns-in-None-clause-decision c =
 
 pub returns-then-is_accept-clause-decision : goal.returns-then-is_accept-clause-decision
 returns-then-is_accept-clause-decision c =
-    let i : c.args.drawn ≡ Some (c.in-Some.key, c.in-Some.after) = first_of (c.in-Some.is, cc (c.in-Some.is, c.in-Some.key-is, c.in-Some.after-is)) in
+    let i : c.args.drawn ≡ Some (c.in-Some.key, c.in-Some.after) = first_of (search (c.in-Some.is), cc (c.in-Some.is, c.in-Some.key-is, c.in-Some.after-is), grind (c.in-Some.is, c.in-Some.key-is, c.in-Some.after-is)) in
     drawn_sent c.send_key.result c.args.state.now c.args.front.now c.args.link.now c.args.drawn c.in-Some.key c.in-Some.after c.verdict_after-verdict.result i c.send_key.ensures.decision
     (c.verdict_after-verdict.ensures ∙ ap (λ (ts : List Test). verdict_of (c.args.front.now ++ ts)) c.sending_tests.ensures) (sym c.is_accept.ensures ∙ c.if-is_accept.true)
 
