@@ -176,9 +176,6 @@ pub(crate) fn send(
             let drawn = state.generator().draw_good(moment).ok();
             send_drawn(alloc, state, front, link, count, drawn)
         }
-        None => Ok(refusal(verdict_after(
-            front,
-            &[(false, Verdict::CountSpent)],
-        ))),
+        None => Ok(refusal(verdict_after(front, &[(false, Verdict::CountSpent)]))),
     }
 }
