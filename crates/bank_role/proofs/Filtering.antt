@@ -63,11 +63,11 @@ one_more : (ks : List KeyRec) (i : ℕ) → ended_in (slice_get ks i) ≡ false 
 one_more [] zero h t = refl
 one_more [] (suc i) h t = refl
 one_more (k ∷ ks) zero h t = rw h refl
-one_more (k ∷ ks) (suc i) h t = go (is_over k) t
+one_more (k ∷ ks) (suc i) h t = go (is_over k) t (one_more ks i h)
   where
-    go : (b : Bool) → (b || list_any is_over (take i ks)) ≡ false → (b || list_any is_over (take (suc i) ks)) ≡ false
-    go true t = cc
-    go false t = one_more ks i h t
+    go : (b : Bool) → (b || list_any is_over (take i ks)) ≡ false → (list_any is_over (take i ks) ≡ false → list_any is_over (take (suc i) ks) ≡ false) → (b || list_any is_over (take (suc i) ks)) ≡ false
+    go true t ih = cc
+    go false t ih = ih t
 
 pub ended_more : (ks : List KeyRec) (i : ℕ) → ended_in (slice_get ks i) ≡ false → list_any (λ (k : KeyRec). is_ended k.status) (take i ks) ≡ false → list_any (λ (k : KeyRec). is_ended k.status) (take (i + 1) ks) ≡ false
 ended_more ks i h t = rw add-one (one_more ks i h t)

@@ -74,6 +74,7 @@ given_up_tame p peer e = by_kind e.kind
     by_record (Some l) name None h = record { each = (tt, (tt, tt)); turns = refl }
     by_record None name (Some k) h = record { each = (key_room p k (key_stands p (record { peer = peer; name = name }) k h), (tt, tt)); turns = refl }
     by_record (Some l) name (Some k) h = record { each = (tt, (key_room p k (key_stands p (record { peer = peer; name = name }) k h), (tt, tt))); turns = refl }
+
     by_kind : (k : Kind) → AreTame p (given_up p peer k ++ DropExchange peer ∷ [])
     by_kind (kind.KeySent name way) = by_record (new_link p peer way) name (record_of p peer name) refl
     by_kind (kind.Asked ultimate) = record { each = (tt, tt); turns = refl }
@@ -88,6 +89,7 @@ given_up_few p peer e = by_kind e.kind
     by_parts (Some l) None = lit≤ tt
     by_parts None (Some k) = lit≤ tt
     by_parts (Some l) (Some k) = lit≤ tt
+
     by_kind : (k : Kind) → length (given_up p peer k ++ DropExchange peer ∷ []) ≤ 9
     by_kind (kind.KeySent name way) = by_parts (new_link p peer way) (record_of p peer name)
     by_kind (kind.Asked ultimate) = lit≤ tt

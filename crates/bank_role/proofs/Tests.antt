@@ -3,7 +3,7 @@ use Rattle.std.proofs.Common.{◌≡◌, Bool, true, false, cond, not, Option, S
 use Rattle.std.specs.Prelude.{option_map, is_none}
 use Rattle.std.specs.List.{find}
 use Rattle.x_base.specs.declared.verdict.Verdict.{Verdict}
-use Rattle.x_base.specs.declared.verdict.Verdict.TheVariants.{Accept, CountSpent, KeysFull, WeakDraws}
+use Rattle.x_base.specs.declared.verdict.Verdict.TheVariants.{Accept, CountSpent, KeysFull}
 use Rattle.party_state.specs.Verdicts.{Test, verdict_of, passes, is_accept, all_refuse}
 use Rattle.bank_role.specs.Failing.{failed_in}
 
@@ -66,28 +66,18 @@ passes_where (t ∷ ts) = go t.0 (passes_where ts)
     go false ih = refl
 
 -- behind tests that refuse, an accepted key has room
-pub drawn_room : (front us : List Test) (room : Bool) (v : Verdict) → all_refuse front ≡ true → v ≡ verdict_of (front ++ (true, CountSpent) ∷ (room, KeysFull) ∷ us) → is_accept v ≡ true → room ≡ true
-drawn_room [] us true v r e t = refl
-drawn_room [] us false v r e t = cc
-drawn_room (t ∷ ts) us room v r e a = go t.0 (is_accept t.1) refl r e (drawn_room ts us room v)
+pub drawn_room : (front us : List Test) (count room : Bool) (v : Verdict) → all_refuse front ≡ true → v ≡ verdict_of (front ++ (count, CountSpent) ∷ (room, KeysFull) ∷ us) → is_accept v ≡ true → room ≡ true
+drawn_room [] us count true v r e t = refl
+drawn_room [] us true false v r e t = cc
+drawn_room [] us false false v r e t = cc
+drawn_room (t ∷ ts) us count room v r e a = go t.0 (is_accept t.1) refl r e (drawn_room ts us count room v)
   where
-    go : (b w : Bool) → is_accept t.1 ≡ w → (not w && all_refuse ts) ≡ true → v ≡ cond b (verdict_of (ts ++ (true, CountSpent) ∷ (room, KeysFull) ∷ us)) t.1 → (all_refuse ts ≡ true → v ≡ verdict_of (ts ++ (true, CountSpent) ∷ (room, KeysFull) ∷ us) → is_accept v ≡ true → room ≡ true) → room ≡ true
+    go : (b w : Bool) → is_accept t.1 ≡ w → (not w && all_refuse ts) ≡ true → v ≡ cond b (verdict_of (ts ++ (count, CountSpent) ∷ (room, KeysFull) ∷ us)) t.1 → (all_refuse ts ≡ true → v ≡ verdict_of (ts ++ (count, CountSpent) ∷ (room, KeysFull) ∷ us) → is_accept v ≡ true → room ≡ true) → room ≡ true
     go b true i r e ih = absurd (cc)
     go true false i r e ih = ih r e a
     go false false i r e ih = absurd (cc)
 
--- and where no key was drawn there is no Accept
-pub undrawn : (front : List Test) (room : Bool) (v : Verdict) → all_refuse front ≡ true → v ≡ verdict_of (front ++ (true, CountSpent) ∷ (room, KeysFull) ∷ (false, WeakDraws) ∷ []) → is_accept v ≡ false
-undrawn [] true v r e = rw e refl
-undrawn [] false v r e = rw e refl
-undrawn (t ∷ ts) room v r e = go t.0 (is_accept t.1) refl r e (undrawn ts room v)
-  where
-    go : (b w : Bool) → is_accept t.1 ≡ w → (not w && all_refuse ts) ≡ true → v ≡ cond b (verdict_of (ts ++ (true, CountSpent) ∷ (room, KeysFull) ∷ (false, WeakDraws) ∷ [])) t.1 → (all_refuse ts ≡ true → v ≡ verdict_of (ts ++ (true, CountSpent) ∷ (room, KeysFull) ∷ (false, WeakDraws) ∷ []) → is_accept v ≡ false) → is_accept v ≡ false
-    go b true i r e ih = absurd (cc)
-    go true false i r e ih = ih r e
-    go false false i r e ih = rw e i
-
--- nor where no count is left
+-- where no count is left there is no Accept
 pub unspent : (front : List Test) → all_refuse front ≡ true → is_accept (verdict_of (front ++ (false, CountSpent) ∷ [])) ≡ false
 unspent [] r = refl
 unspent (t ∷ ts) r = go t.0 (is_accept t.1) refl r (unspent ts)

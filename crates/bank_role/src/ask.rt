@@ -44,10 +44,7 @@ pub(crate) fn ask(
 {
     let known = state.knows(peer);
     if ultimate.is_some() {
-        let tests = [
-            (known, Verdict::UnknownPeer),
-            (false, Verdict::WrongClass),
-        ];
+        let tests = [(known, Verdict::UnknownPeer), (false, Verdict::WrongClass)];
         return Ok(refusal(verdict_of(&tests)));
     }
     if !known {

@@ -42,7 +42,11 @@ fn differing(alloc: Global, state: &State, edits: Vec<Edit>) -> Result<Change, N
 fn some_edits(change: Change) -> Option<Change>
     ensures { result ≡ some_edits change }
 {
-    if change.is_empty() { None } else { Some(change) }
+    if change.is_empty() {
+        None
+    } else {
+        Some(change)
+    }
 }
 
 /// Accepted, with those of the edits that make a difference, and the reply.

@@ -25,12 +25,7 @@ fn ended(alloc: Global, key: Option<KeyRec>) -> Result<Vec<Edit>, NoMemory>
 }
 
 /// What becomes of what the exchange names.
-fn given_up(
-    alloc: Global,
-    state: &State,
-    peer: &Ident,
-    kind: &Kind,
-) -> Result<Vec<Edit>, NoMemory>
+fn given_up(alloc: Global, state: &State, peer: &Ident, kind: &Kind) -> Result<Vec<Edit>, NoMemory>
     ensures { IfOk result (λ edits. edits.items ≡ given_up state.now peer.now kind.now) }
 {
     match kind {

@@ -22,5 +22,7 @@ mod resend;
 mod rsm;
 mod sending;
 mod start;
+#[cfg(test)]
+mod tests;
 mod texts;
 mod verdicts;

@@ -18,12 +18,7 @@ pub(crate) fn first_link(state: &State, peer: &Ident, side: Side) -> Option<Link
 
 /// The link with that peer, label and side.
 #[tactic(auto, using(crate::proofs::Found::link_stands))]
-pub(crate) fn link_with(
-    state: &State,
-    peer: &Ident,
-    label: &Label,
-    side: Side,
-) -> Option<LinkRec>
+pub(crate) fn link_with(state: &State, peer: &Ident, label: &Label, side: Side) -> Option<LinkRec>
     ensures link { result ≡ party.link_with (record { peer = peer.now; label = label.now; side = side }) state.now }
     ensures stands { IfSome result (LinkStands state.now) }
 {

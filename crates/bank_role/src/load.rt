@@ -34,10 +34,7 @@ fn load_tests(
     ensures { result ≡ load_tests state.now (record { peer = peer.now; label = label.now; side = side }) pair }
 {
     [
-        (
-            state.link(peer, label, side).is_none(),
-            Verdict::LabelTaken,
-        ),
+        (state.link(peer, label, side).is_none(), Verdict::LabelTaken),
         (!state.has_pair(odd_pair(pair)), Verdict::SameKey),
         (!state.aliases(peer), Verdict::Alias),
         (has_link_room(state, peer, label, side), Verdict::LinksFull),

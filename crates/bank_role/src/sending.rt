@@ -6,9 +6,9 @@ ghost use Rattle.bank_role.specs.Replies.{IsWritten};
 ghost use Rattle.bank_role.specs.Deciding.{decision_of, accepting};
 ghost use Rattle.bank_role.specs.Standing.{LinkStands};
 ghost use Rattle.bank_role.specs.Tests.{has_key_room};
-ghost use Rattle.bank_role.specs.Sending.{next_name, data_key_message, data_key_reply, sent_edits, sending, sending_drawn};
+ghost use Rattle.bank_role.specs.Sending.{next_name, data_key_message, data_key_reply, sending_tests, sent_edits, sending, sending_drawn};
 
-use crate::common_tests::has_key_room;
+use crate::common_tests::{has_count, has_key_room};
 use crate::decisions::{accept, refusal};
 use crate::edits::list_of;
 use crate::names::{direct_name, no_extras};
@@ -112,8 +112,25 @@ fn send_key(
     accept(alloc, state, list_of(alloc, edits)?, Some(written))
 }
 
+fn sending_tests(
+    state: &State,
+    link: &LinkRec,
+    count: Count,
+    drawn: &Option<(u64, Gen)>,
+) -> [(bool, Verdict); 3]
+    requires { count ≡ link.now.next }
+    ensures { result ≡ sending_tests state.now link.now drawn.now }
+{
+    let room = has_key_room(state, &link.peer, &next_name(state, link, count));
+    [
+        (has_count(link), Verdict::CountSpent),
+        (room, Verdict::KeysFull),
+        (drawn.is_some(), Verdict::WeakDraws),
+    ]
+}
+
 /// What is decided behind the tests that come before, with what is drawn.
-#[tactic(auto, using(crate::proofs::Tests::drawn_room, crate::proofs::Tests::undrawn, crate::proofs::Decided::decides_row, crate::proofs::Decided::refuses, crate::proofs::ByRow::by_refused))]
+#[tactic(auto, using(crate::proofs::Tests::drawn_room))]
 fn send_drawn(
     alloc: Global,
     state: &State,
@@ -128,18 +145,16 @@ fn send_drawn(
     ensures decision { IfOk result (λ d. d ≡ decision_of state.now (sending_drawn state.now front.now link.now drawn)) }
     ensures kept { IfOk result (λ d. CanKeep state.now d.change) }
 {
-    let room = has_key_room(state, &link.peer, &next_name(state, link, count));
-    let tests = [
-        (true, Verdict::CountSpent),
-        (room, Verdict::KeysFull),
-        (drawn.is_some(), Verdict::WeakDraws),
-    ];
-    let verdict = verdict_after(front, &tests);
+    let verdict = verdict_after(front, &sending_tests(state, link, count, &drawn));
     match drawn {
-        Some((key, after)) if is_accept(&verdict) => {
-            send_key(alloc, state, link, count, key, &after)
+        None => Ok(refusal(verdict)),
+        Some((key, after)) => {
+            if is_accept(&verdict) {
+                send_key(alloc, state, link, count, key, &after)
+            } else {
+                Ok(refusal(verdict))
+            }
         }
-        _ => Ok(refusal(verdict)),
     }
 }
 
@@ -161,9 +176,6 @@ pub(crate) fn send(
             let drawn = state.generator().draw_good(moment).ok();
             send_drawn(alloc, state, front, link, count, drawn)
         }
-        None => Ok(refusal(verdict_after(
-            front,
-            &[(false, Verdict::CountSpent)],
-        ))),
+        None => Ok(refusal(verdict_after(front, &[(false, Verdict::CountSpent)]))),
     }
 }

@@ -9,5 +9,5 @@ returns-in_ok-edits-in-Some-clause-kept c =
     let p = c.args.state.now in
     let peer = c.args.peer.now in
     let e = c.in-Some.exchange.now in
-    keeps c.accept.result p c.in_ok-edits.edits.items (given_up_in p peer (Some e)) None None
-    c.accept.ensures c.in_ok-edits.ensures tt (given_up_tame p peer e) (given_up_few p peer e)
+    keeps c.accept.result p c.in_ok-edits-in-Some.edits.items (given_up_in p peer (Some e)) None None
+    c.accept.ensures c.in_ok-edits-in-Some.ensures tt (given_up_tame p peer e) (given_up_few p peer e)

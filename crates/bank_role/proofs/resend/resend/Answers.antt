@@ -5,5 +5,5 @@ use Rattle.bank_role.proofs.resend.resend.Goals as goal
 
 pub returns-in_ok-written-in-Some-clause-kept : goal.returns-in_ok-written-in-Some-clause-kept
 returns-in_ok-written-in-Some-clause-kept c =
-    keeps c.accept.result c.args.state.now c.new.result.items [] (Some c.in_ok-written.written) (Some (Again c.in-Some.exchange.now.text))
-    c.accept.ensures c.new.ensures.items c.in_ok-written.ensures (record { each = tt; turns = refl }) (lit≤ tt)
+    keeps c.accept.result c.args.state.now c.new.result.items [] (Some c.in_ok-written-in-Some.written) (Some (Again c.in-Some.exchange.now.text))
+    c.accept.ensures c.new.ensures.items c.in_ok-written-in-Some.ensures (record { each = tt; turns = refl }) (lit≤ tt)
