@@ -43,6 +43,7 @@ row_kept p r tame few = go (is_accept r.verdict) refl
     some_kept : (es : List Edit) → IsStorable p es → CanKeep p (some_edits es)
     some_kept [] s = tt
     some_kept (e ∷ es) s = s
+
     go : (b : Bool) → is_accept r.verdict ≡ b → CanKeep p (cond b (some_edits (differing p r.edits)) None)
     go true e = some_kept (differing p r.edits) (storable p r.edits (tame e) few)
     go false e = tt
@@ -67,11 +68,13 @@ sent_stands p peer s h = by_exchange (exchange_with peer p) h
     by_record : (name : KeyName) (way : Via) (o : Option KeyRec) → record_of p peer name ≡ o → option_map (λ (k : KeyRec). let t : Sent = record { key = k; way = way } in t) o ≡ Some s → KeyStands p s.key
     by_record name way None f h = absurd (cc)
     by_record name way (Some k) f h = let e : s.key ≡ k = cc in rw e (key_stands p (record { peer = peer; name = name }) k f)
+
     by_kind : (k : Kind) → sent_by p peer k ≡ Some s → KeyStands p s.key
     by_kind (kind.KeySent name way) h = by_record name way (record_of p peer name) refl h
     by_kind (kind.Asked ultimate) h = absurd (cc)
     by_kind (kind.Translating ultimate value cta) h = absurd (cc)
     by_kind (kind.Ending name) h = absurd (cc)
+
     by_exchange : (o : Option Exchange) → sent_in p peer o ≡ Some s → KeyStands p s.key
     by_exchange None h = absurd (cc)
     by_exchange (Some e) h = by_kind e.kind h
@@ -89,10 +92,11 @@ rsm_to_kept p a m (Some s) w h = by_link (new_link p m.originator s.way) refl
   where
     key : is_some (record_with (record_key s.key) p) ≡ true
     key = key_room p s.key (sent_stands p m.originator s h)
+
     by_link : (l : Option LinkRec) → new_link p m.originator s.way ≡ l → CanKeep p (change_of p (rsm_to p a m (Some s)))
     by_link None e = row_kept p (rsm_to p a m (Some s)) (λ _. rw e (record { each = (rw key refl, (tt, tt)); turns = refl })) (rw e (omega arith))
     by_link (Some l) e = let st : LinkStands p l = new_link_stands p m.originator s.way l w e in
-      row_kept p (rsm_to p a m (Some s)) (λ _. rw e (record { each = ((st.range.next, rw (link_room p l st) refl), (rw key refl, (tt, tt))); turns = refl })) (rw e (omega arith))
+        row_kept p (rsm_to p a m (Some s)) (λ _. rw e (record { each = ((st.range.next, rw (link_room p l st) refl), (rw key refl, (tt, tt))); turns = refl })) (rw e (omega arith))
 
 ending_stands : (p : Party) (peer : List ℕ) (k : KeyRec) → ending_with p peer ≡ Some k → KeyStands p k
 ending_stands p peer k h = by_exchange (exchange_with peer p) h
@@ -102,6 +106,7 @@ ending_stands p peer k h = by_exchange (exchange_with peer p) h
     by_kind (kind.KeySent name way) h = absurd (cc)
     by_kind (kind.Asked ultimate) h = absurd (cc)
     by_kind (kind.Translating ultimate value cta) h = absurd (cc)
+
     by_exchange : (o : Option Exchange) → ending_in p peer o ≡ Some k → KeyStands p k
     by_exchange None h = absurd (cc)
     by_exchange (Some e) h = by_kind e.kind h
@@ -127,5 +132,6 @@ ksm_kept p a m c l made st i e = made_kept p (ksm_under p a m c (Some l)) made (
   where
     next : IsNext (c.ctp + 1)
     next = record { low = omega arith; high = one_more c.ctp 99999999999999 i.high }
+
     tame : is_accept (ksm_under p a m c (Some l)).verdict ≡ true → AreTame p (ksm_under p a m c (Some l)).edits
     tame t = let h : AllHeld (ksm_tests p a m c l) = held (ksm_tests p a m c l) refl t in record { each = ((next, rw (link_room p l st) refl), (h.1.1.1.1.1.1.0, tt)); turns = refl }

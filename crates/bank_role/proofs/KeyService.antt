@@ -32,9 +32,9 @@ pub ksm_refuses : (p : Party) (a : Arrival) (m : Ksm) (c : Carried) (l : LinkRec
 ksm_refuses p a m c l x v made e i f k =
     let w : v ≡ (ksm_under p a m c (Some l)).verdict = verdict_is p a m c l x v e i in
     let r : answering v (coded_under x.under x.value (error_for p m.originator c.ctp v)) ≡ decision_of p (ksm_under p a m c (Some l)) =
-        ap (λ (y : Lead). answering v (coded_under y.under y.value (error_for p m.originator c.ctp v))) i
-        ∙ (ap (λ (u : Verdict). answering v (coded_under (arriving p l c.ctp) (carried_key l c) (error_for p m.originator c.ctp u))) w
-        ∙ by_answered p (ksm_under p a m c (Some l)) v w f) in
+    ap (λ (y : Lead). answering v (coded_under y.under y.value (error_for p m.originator c.ctp v))) i
+    ∙ (ap (λ (u : Verdict). answering v (coded_under (arriving p l c.ctp) (carried_key l c) (error_for p m.originator c.ctp u))) w
+    ∙ by_answered p (ksm_under p a m c (Some l)) v w f) in
     if_made made _ _ r k
   where
     if_made : (made : Result Decision NoMemory) (one other : Decision) → one ≡ other → IfOk made (λ d. d ≡ one) → IfOk made (λ d. d ≡ other)
@@ -46,5 +46,5 @@ pub ksm_accepts : (p : Party) (a : Arrival) (m : Ksm) (c : Carried) (l : LinkRec
 ksm_accepts p a m c l x v es w made e i t j written k =
     let P : Lead → Type 0 = λ y. IsWritten w (Coded (response p m.originator) y.under y.value) in
     by_accept_with p (ksm_under p a m c (Some l)) v es w (Coded (response p m.originator) (arriving p l c.ctp) (carried_key l c)) made (verdict_is p a m c l x v e i) t
-      (j ∙ ap (λ (y : Lead). PutLink (record l { next = c.ctp + 1 }) ∷ PutKey (record { peer = m.originator; name = y.under.name; value = y.value; status = Held }) ∷ []) i)
-      refl (subst P i written) k
+    (j ∙ ap (λ (y : Lead). PutLink (record l { next = c.ctp + 1 }) ∷ PutKey (record { peer = m.originator; name = y.under.name; value = y.value; status = Held }) ∷ []) i)
+    refl (subst P i written) k

@@ -122,11 +122,11 @@ stays p f (e ∷ es) q t turns ls ks w =
     let rest : in_turn es ≡ true = second _ _ (second (not (moves_links e && list_any puts_link es)) _ turns) in
     let kept : IsWithinLimits (apply_edit e q) = limits_edit p q e t.0 (λ h. ls (ahead (puts_link e) (list_any puts_link es) h)) (λ h. ks (ahead (puts_key e) (list_any puts_key es) h)) w in
     go (f e) kept
-      (stays p f es (apply_edit e q) t.1 rest
-        (λ h. links_stay e q (not_moved (moves_links e) (list_any puts_link es) _ turns h) ∙ ls (behind (puts_link e) (list_any puts_link es) h))
-        (λ h. keys_stay e q (not_moved (moves_keys e) (list_any puts_key es) (in_turn es) (second (not (moves_links e && list_any puts_link es)) _ turns) h) ∙ ks (behind (puts_key e) (list_any puts_key es) h))
-        kept)
-      (stays p f es q t.1 rest (λ h. ls (behind (puts_link e) (list_any puts_link es) h)) (λ h. ks (behind (puts_key e) (list_any puts_key es) h)) w)
+    (stays p f es (apply_edit e q) t.1 rest
+    (λ h. links_stay e q (not_moved (moves_links e) (list_any puts_link es) _ turns h) ∙ ls (behind (puts_link e) (list_any puts_link es) h))
+    (λ h. keys_stay e q (not_moved (moves_keys e) (list_any puts_key es) (in_turn es) (second (not (moves_links e && list_any puts_link es)) _ turns) h) ∙ ks (behind (puts_key e) (list_any puts_key es) h))
+    kept)
+    (stays p f es q t.1 rest (λ h. ls (behind (puts_link e) (list_any puts_link es) h)) (λ h. ks (behind (puts_key e) (list_any puts_key es) h)) w)
   where
     go : (b : Bool) → IsWithinLimits (apply_edit e q) → StaysWithinLimits (filter f es) (apply_edit e q) → StaysWithinLimits (filter f es) q → StaysWithinLimits (cond b (e ∷ filter f es) (filter f es)) q
     go true kept after without = (kept, after)

@@ -38,7 +38,10 @@ pub(crate) fn count_tests(link: &LinkRec, count: Count) -> [(bool, Verdict); 2]
 {
     let left = has_count(link);
     [
-        (!left || link.next <= count.value(), Verdict::CountLow(link.next)),
+        (
+            !left || link.next <= count.value(),
+            Verdict::CountLow(link.next),
+        ),
         (left, Verdict::CountSpent),
     ]
 }

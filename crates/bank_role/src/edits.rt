@@ -32,7 +32,13 @@ pub(crate) fn readied(alloc: Global, link: Option<LinkRec>) -> Result<Vec<Edit>,
     ensures { IfOk result (λ edits. edits.items ≡ readied link) }
 {
     match link {
-        Some(link) => list_of(alloc, [Edit::PutLink(LinkRec { ready: true, ..link })]),
+        Some(link) => list_of(
+            alloc,
+            [Edit::PutLink(LinkRec {
+                ready: true,
+                ..link
+            })],
+        ),
         None => Ok(Vec::new(alloc)),
     }
 }
@@ -42,9 +48,14 @@ pub(crate) fn dropped(alloc: Global, link: Option<LinkRec>) -> Result<Vec<Edit>,
     ensures { IfOk result (λ edits. edits.items ≡ dropped link) }
 {
     match link {
-        Some(LinkRec {
-            peer, label, side, ..
-        }) => list_of(alloc, [Edit::DropLink { peer, label, side }]),
+        Some(
+            LinkRec {
+                peer,
+                label,
+                side,
+                ..
+            },
+        ) => list_of(alloc, [Edit::DropLink { peer, label, side }]),
         None => Ok(Vec::new(alloc)),
     }
 }

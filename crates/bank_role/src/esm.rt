@@ -99,11 +99,7 @@ fn subject_link(state: &State, peer: &Ident, subject: &Subject) -> Option<LinkRe
 }
 
 /// The count goes on where it is told.
-fn raised(
-    alloc: Global,
-    link: Option<LinkRec>,
-    ctr: Option<Count>,
-) -> Result<Vec<Edit>, NoMemory>
+fn raised(alloc: Global, link: Option<LinkRec>, ctr: Option<Count>) -> Result<Vec<Edit>, NoMemory>
     ensures { IfOk result (λ edits. edits.items ≡ raised link ctr) }
 {
     let (Some(link), Some(ctr)) = (link, ctr) else {

@@ -77,12 +77,7 @@ fn ksm_front(state: &State, message: &Ksm, found: &Option<LinkRec>) -> [(bool, V
 }
 
 /// The tests behind the code's.
-fn ksm_rest(
-    state: &State,
-    message: &Ksm,
-    carried: &Carried,
-    link: &LinkRec,
-) -> [(bool, Verdict); 3]
+fn ksm_rest(state: &State, message: &Ksm, carried: &Carried, link: &LinkRec) -> [(bool, Verdict); 3]
     ensures { result ≡ ksm_rest state.now message.now carried.now link.now }
 {
     let [low, spent] = count_tests(link, carried.ctp);
@@ -149,12 +144,7 @@ fn held(
 }
 
 /// The response goes back under the key that came.
-fn ksm_reply(
-    alloc: Global,
-    state: &State,
-    message: &Ksm,
-    lead: &Lead,
-) -> Result<Written, NoMemory>
+fn ksm_reply(alloc: Global, state: &State, message: &Ksm, lead: &Lead) -> Result<Written, NoMemory>
     ensures { IfOk result (λ w. IsWritten w (Coded (response state.now message.now.originator) lead.now.under lead.now.value)) }
 {
     let reply = response(state, message.originator);
@@ -176,7 +166,14 @@ fn ksm_decided(
     let lead = carried_lead(state, arrival, carried, link);
     let verdict = ksm_verdict(state, message, carried, link, lead.verified);
     if !is_accept(&verdict) {
-        return error_answer(alloc, state, message.originator, carried.ctp, verdict, &lead);
+        return error_answer(
+            alloc,
+            state,
+            message.originator,
+            carried.ctp,
+            verdict,
+            &lead,
+        );
     }
     let edits = held(alloc, message, carried, link, &lead)?;
     let written = ksm_reply(alloc, state, message, &lead)?;

@@ -1,9 +1,11 @@
 //! What a bank decides (ANSI X9.17): of commands, and of service messages that arrive.
 #![tactic(auto)]
 
+mod arrivals;
 mod ask;
 mod commands;
 mod common_tests;
+mod deciding;
 mod decisions;
 mod differing;
 mod dsm;
@@ -19,6 +21,7 @@ mod links;
 mod load;
 mod names;
 mod resend;
+mod rsi;
 mod rsm;
 mod sending;
 mod start;
@@ -26,3 +29,6 @@ mod start;
 mod tests;
 mod texts;
 mod verdicts;
+
+pub use deciding::decide;
+pub use leads::lead;

@@ -27,7 +27,11 @@ pub(crate) fn full_name(state: &State, key: &KeyRec) -> FullName
     let own = state.own();
     FullName {
         name: key.name,
-        recipient: if key.name.originator == own { key.peer } else { own },
+        recipient: if key.name.originator == own {
+            key.peer
+        } else {
+            own
+        },
     }
 }
 

@@ -20,11 +20,8 @@ fn is_data_key(service: Service) -> bool
 {
     match service {
         Service::Kd => true,
-        Service::KdKd
-        | Service::Kk
-        | Service::DoubleKk
-        | Service::KkKd
-        | Service::DoubleKkKd => false,
+        Service::KdKd | Service::Kk | Service::DoubleKk | Service::KkKd | Service::DoubleKkKd =>
+            false,
     }
 }
 

@@ -69,12 +69,7 @@ fn rsm_to(
     }
 }
 
-fn rsm_lead_to(
-    state: &State,
-    arrival: &Arrival,
-    message: &Rsm,
-    found: Option<Sent>,
-) -> Option<Lead>
+fn rsm_lead_to(state: &State, arrival: &Arrival, message: &Rsm, found: Option<Sent>) -> Option<Lead>
     ensures { result ≡ rsm_lead_to state.now arrival.now message.now found }
 {
     let sent = found?;
