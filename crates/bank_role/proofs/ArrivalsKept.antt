@@ -34,6 +34,8 @@ use Rattle.bank_role.specs.declared.ksm.Carried.{Carried}
 use Rattle.bank_role.specs.Ksm.{ksm_tests, ksm_under}
 use Rattle.bank_role.specs.Rsm.{rsm, rsm_with, rsm_to, answer_to}
 use Rattle.bank_role.proofs.Found.{link_stands, key_stands}
+use Rattle.bank_role.specs.Tests.{has_key_room}
+use Rattle.bank_role.proofs.Keeping.{link_room, key_room}
 use Rattle.bank_role.proofs.Storable.{AreTame, storable}
 
 -- few edits, which the store can keep
@@ -84,24 +86,18 @@ sent_stands p peer s h = by_exchange (exchange_with peer p) h
     by_exchange None h = absurd (cc)
     by_exchange (Some e) h = by_kind e.kind h
 
-key_room : (p : Party) (k : KeyRec) → KeyStands p k → is_some (record_with (record_key k) p) ≡ true
-key_room p k h = rw h refl
-
-link_room : (p : Party) (l : LinkRec) → LinkStands p l → is_some (link_with (link_key l) p) ≡ true
-link_room p l h = rw h.found refl
-
 -- the response to a key
 rsm_to_kept : (p : Party) (a : Arrival) (m : Rsm) (o : Option Sent) → IsParty p → sent_to p m.originator ≡ o → CanKeep p (change_of p (rsm_to p a m o))
 rsm_to_kept p a m None w h = row_kept p (rsm_to p a m None) (λ _. record { each = tt; turns = refl }) (omega arith)
 rsm_to_kept p a m (Some s) w h = by_link (new_link p m.originator s.way) refl
   where
-    key : is_some (record_with (record_key s.key) p) ≡ true
+    key : has_key_room p (record_key s.key) ≡ true
     key = key_room p s.key (sent_stands p m.originator s h)
 
     by_link : (l : Option LinkRec) → new_link p m.originator s.way ≡ l → CanKeep p (change_of p (rsm_to p a m (Some s)))
-    by_link None e = row_kept p (rsm_to p a m (Some s)) (λ _. rw e (record { each = (rw key refl, (tt, tt)); turns = refl })) (rw e (omega arith))
+    by_link None e = row_kept p (rsm_to p a m (Some s)) (λ _. rw e (record { each = (key, (tt, tt)); turns = refl })) (rw e (omega arith))
     by_link (Some l) e = let st : LinkStands p l = new_link_stands p m.originator s.way l w e in
-        row_kept p (rsm_to p a m (Some s)) (λ _. rw e (record { each = ((st.range.next, rw (link_room p l st) refl), (rw key refl, (tt, tt))); turns = refl })) (rw e (omega arith))
+        row_kept p (rsm_to p a m (Some s)) (λ _. rw e (record { each = ((st.range.next, link_room p l st), (key, (tt, tt))); turns = refl })) (rw e (omega arith))
 
 ending_stands : (p : Party) (peer : List ℕ) (k : KeyRec) → ending_with p peer ≡ Some k → KeyStands p k
 ending_stands p peer k h = by_exchange (exchange_with peer p) h
@@ -119,7 +115,7 @@ ending_stands p peer k h = by_exchange (exchange_with peer p) h
 -- the response to the end of a key
 answer_to_kept : (p : Party) (a : Arrival) (m : Rsm) (name : KeyName) (o : Option KeyRec) → ending_with p m.originator ≡ o → CanKeep p (change_of p (answer_to p a m name o))
 answer_to_kept p a m name None h = row_kept p (answer_to p a m name None) (λ _. record { each = tt; turns = refl }) (omega arith)
-answer_to_kept p a m name (Some k) h = row_kept p (answer_to p a m name (Some k)) (λ _. record { each = (rw (key_room p k (ending_stands p m.originator k h)) refl, (tt, tt)); turns = refl }) (omega arith)
+answer_to_kept p a m name (Some k) h = row_kept p (answer_to p a m name (Some k)) (λ _. record { each = (key_room p k (ending_stands p m.originator k h), (tt, tt)); turns = refl }) (omega arith)
 
 pub rsm_kept : (p : Party) (a : Arrival) (m : Rsm) (made : Result Decision NoMemory) → IsParty p → IfOk made (λ d. d ≡ decision_of p (rsm p a m)) → IfOk made (λ d. CanKeep p d.change)
 rsm_kept p a m made w e = made_kept p (rsm p a m) made (by_name m.idd) e
@@ -139,4 +135,4 @@ ksm_kept p a m c l made st i e = made_kept p (ksm_under p a m c (Some l)) made (
     next = record { low = omega arith; high = one_more c.ctp 99999999999999 i.high }
 
     tame : is_accept (ksm_under p a m c (Some l)).verdict ≡ true → AreTame p (ksm_under p a m c (Some l)).edits
-    tame t = let h : AllHeld (ksm_tests p a m c l) = held (ksm_tests p a m c l) refl t in record { each = ((next, rw (link_room p l st) refl), (h.1.1.1.1.1.1.0, tt)); turns = refl }
+    tame t = let h : AllHeld (ksm_tests p a m c l) = held (ksm_tests p a m c l) refl t in record { each = ((next, link_room p l st), (h.1.1.1.1.1.1.0, tt)); turns = refl }

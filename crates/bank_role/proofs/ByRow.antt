@@ -15,7 +15,7 @@ use Rattle.bank_role.specs.declared.texts.Written.{Written}
 use Rattle.bank_role.specs.Replies.{IsWritten, AreWritten}
 use Rattle.bank_role.specs.Errors.{answering}
 use Rattle.bank_role.proofs.Filtering.{differing_none}
-use Rattle.bank_role.proofs.Tests.{accept_is}
+use Rattle.bank_role.proofs.Failing.{accept_is}
 
 -- refused without an answer, whatever the verdict
 pub by_refused : (p : Party) (v : Verdict) → refusal_of v ≡ decision_of p (refused v)

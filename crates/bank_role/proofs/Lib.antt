@@ -1,4 +1,4 @@
-pub mod Tests
+pub mod Failing
 pub mod Filtering
 pub mod ByRow
 pub mod Found

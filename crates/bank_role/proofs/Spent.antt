@@ -25,7 +25,7 @@ use Rattle.party_state.specs.declared.key.KeyStatus.TheVariants.{Pending, Closin
 use Rattle.party_state.specs.declared.edit.Edit.TheVariants.{SetGen, PutLink, PutKey, PutExchange}
 use Rattle.party_state.specs.declared.exchange.Kind.TheVariants as kind
 use Rattle.party_state.specs.declared.exchange.Via.TheVariants as via
-use Rattle.bank_role.proofs.Tests.{stopped, unspent}
+use Rattle.bank_role.proofs.Failing.{stopped, unspent}
 use Rattle.bank_role.proofs.ByRow.{by_refused}
 use Rattle.bank_role.proofs.Decided.{refuses, decides_row}
 

@@ -1,6 +1,6 @@
 -- A key that a partner sends is accepted exactly where it can be taken.
 use Rattle.std.proofs.Common.{arith, ◌≡◌, ◌≢◌, ℕ, ◌+◌, ◌≤◌, ◌<◌, ◌↔◌, max, Bool, true, false, not, ◌&&◌, ◌||◌, nat_lt, nat_le, is_some, bytes_eq, IsTrue, Option, Some, None, Result, Ok, Err, IfOk, List, length, refl, sym, ap, ◌∙◌}
-use Rattle.std.proofs.lemmas.Bool.{leb-true, le-leb}
+use Rattle.std.proofs.lemmas.Bool.{leb-true, le-leb, both_ways, not-true, not_from_false, false_from_ne_true, and_parts, and_from, or_right}
 use Rattle.std.proofs.lemmas.Bool.Decides.{nat_tests}
 use Rattle.std.proofs.lemmas.Slice.Eq.{bytes_eq-Decides}
 use Rattle.x_base.specs.declared.text.NoMemory.{NoMemory}
@@ -29,42 +29,23 @@ use Rattle.bank_role.specs.Rows.{message_row, row_of}
 use Rattle.bank_role.specs.Deciding.{decided}
 use Rattle.bank_role.specs.Taking.{Brings, held_record, HasRoomFor, CanTake, TakesKeys}
 
-first : (a b : Bool) → (a && b) ≡ true → a ≡ true
-first true b h = refl
-first false b h = absurd (cc)
-
-second : (a b : Bool) → (a && b) ≡ true → b ≡ true
-second true b h = h
-second false b h = absurd (cc)
-
 -- who the message is for
 
 for_me : (p : Party) (receiver originator : List ℕ) → is_for p receiver originator ≡ true → (receiver ≡ p.own) × (originator ≢ p.own)
-for_me p receiver originator h = (
-  (bytes_eq-Decides receiver p.own).0 (first (bytes_eq receiver p.own) (not (bytes_eq originator p.own)) h),
-  λ e. other (bytes_eq originator p.own) ((bytes_eq-Decides originator p.own).1 e) (second (bytes_eq receiver p.own) (not (bytes_eq originator p.own)) h),
-)
-  where
-    other : (b : Bool) → b ≡ true → not b ≡ true → ⊥
-    other true e f = cc
-    other false e f = cc
+for_me p receiver originator h =
+    let both : (bytes_eq receiver p.own ≡ true) × (not (bytes_eq originator p.own) ≡ true) = and_parts (bytes_eq receiver p.own) (not (bytes_eq originator p.own)) h in
+    ((bytes_eq-Decides receiver p.own).0 both.0, λ e. both_ways (bytes_eq originator p.own) (not-true (bytes_eq originator p.own) both.1) ((bytes_eq-Decides originator p.own).1 e))
 
 mine : (p : Party) (receiver originator : List ℕ) → receiver ≡ p.own → originator ≢ p.own → is_for p receiver originator ≡ true
-mine p receiver originator r o = rw ((bytes_eq-Decides receiver p.own).1 r) (other (bytes_eq originator p.own) (λ t. o ((bytes_eq-Decides originator p.own).0 t)))
-  where
-    other : (b : Bool) → (b ≡ true → ⊥) → not b ≡ true
-    other true n = absurd (n refl)
-    other false n = refl
+mine p receiver originator r o =
+    let other : bytes_eq originator p.own ≡ false = false_from_ne_true (bytes_eq originator p.own) (λ t. o ((bytes_eq-Decides originator p.own).0 t)) in
+    and_from (bytes_eq receiver p.own) (not (bytes_eq originator p.own)) ((bytes_eq-Decides receiver p.own).1 r) (not_from_false (bytes_eq originator p.own) other)
 
 -- the count
 
 not_low : (a b : Bool) → (not a || b) ≡ true → a ≡ true → b ≡ true
 not_low true b h t = h
 not_low false b h t = absurd (cc)
-
-behind : (a b : Bool) → b ≡ true → (a || b) ≡ true
-behind true b h = refl
-behind false b h = h
 
 -- the room
 
@@ -115,7 +96,7 @@ takes_under p a m idk2 c t = accepted (ksm_tests p a m c t.link) (
       (
         t.code,
         (
-          behind (not (has_count t.link)) (nat_le t.link.next c.ctp) (le-leb t.link.next c.ctp t.fresh),
+          or_right (not (has_count t.link)) (nat_le t.link.next c.ctp) (le-leb t.link.next c.ctp t.fresh),
           (le-leb t.link.next 99999999999999 t.left, (room_before p (held_record p m c t.link) t.room, tt)),
         ),
       ),
@@ -127,10 +108,7 @@ accepts_exactly : (p : Party) (a : Arrival) (m : Ksm) (idk2 : Option (List ℕ))
 accepts_exactly p a m idk2 c = (accepts (link_in_use p m.originator idk2) refl, takes)
   where
     accepts : (o : Option LinkRec) → link_in_use p m.originator idk2 ≡ o → (ksm_under p a m c o).verdict ≡ Accept → CanTake p a m idk2 c
-    accepts None f e = let h : Held (ksm_front p m None) = held_at_accept (ksm_front p m None) refl e in absurd (no h.1.1.0)
-      where
-        no : false ≡ true → ⊥
-        no e = cc
+    accepts None f e = let h : Held (ksm_front p m None) = held_at_accept (ksm_front p m None) refl e in absurd (both_ways false refl h.1.1.0)
     accepts (Some l) f e = accepts_under p a m idk2 c l f e
 
     takes : CanTake p a m idk2 c → (ksm_under p a m c (link_in_use p m.originator idk2)).verdict ≡ Accept

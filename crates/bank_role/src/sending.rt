@@ -130,7 +130,7 @@ fn sending_tests(
 }
 
 /// What is decided behind the tests that come before, with what is drawn.
-#[tactic(auto, using(crate::proofs::Tests::drawn_room))]
+#[tactic(auto, using(crate::proofs::Failing::drawn_room))]
 fn send_drawn(
     alloc: Global,
     state: &State,

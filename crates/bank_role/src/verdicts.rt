@@ -12,7 +12,7 @@ fn failed_in(tests: &[(bool, Verdict)]) -> Option<Verdict>
 }
 
 /// The verdict of the first test that fails, or Accept.
-#[tactic(auto, using(crate::proofs::Tests::none_failed_alone, crate::proofs::Tests::some_failed_alone))]
+#[tactic(auto, using(crate::proofs::Failing::none_failed_alone, crate::proofs::Failing::some_failed_alone))]
 pub(crate) fn verdict_of(tests: &[(bool, Verdict)]) -> Verdict
     ensures { result ≡ verdict_of tests.now }
 {
@@ -23,7 +23,7 @@ pub(crate) fn verdict_of(tests: &[(bool, Verdict)]) -> Verdict
 }
 
 /// The verdict of two lists of tests, one after the other.
-#[tactic(auto, using(crate::proofs::Tests::none_failed, crate::proofs::Tests::some_failed))]
+#[tactic(auto, using(crate::proofs::Failing::none_failed, crate::proofs::Failing::some_failed))]
 pub(crate) fn verdict_after(front: &[(bool, Verdict)], tests: &[(bool, Verdict)]) -> Verdict
     ensures { result ≡ verdict_of (front.now ++ tests.now) }
 {

@@ -1,4 +1,4 @@
-use Rattle.std.proofs.Common.{◌≡◌, ◌≤◌, true, Some, None, [], ◌∷◌, length, refl, sym, subst, lit≤}
+use Rattle.std.proofs.Common.{Some, [], refl, lit≤}
 use Rattle.party_state.specs.Rows.{Plain}
 use Rattle.bank_role.specs.Ask.{request}
 use Rattle.bank_role.proofs.Decided.{keeps}

@@ -1,4 +1,4 @@
-use Rattle.std.proofs.Common.{◌≡◌, ◌≤◌, true, Some, None, [], ◌∷◌, length, refl, sym, subst, lit≤}
+use Rattle.std.proofs.Common.{sym}
 use Rattle.bank_role.proofs.Found.{key_stands}
 use Rattle.bank_role.proofs.ending.end.Goals as goal
 

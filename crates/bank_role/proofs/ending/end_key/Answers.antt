@@ -1,4 +1,4 @@
-use Rattle.std.proofs.Common.{◌≡◌, ◌≤◌, true, Some, None, [], ◌∷◌, length, refl, sym, subst, lit≤, ◌∙◌}
+use Rattle.std.proofs.Common.{◌≡◌, ◌≤◌, Some, length, lit≤, ◌∙◌}
 use Rattle.bank_role.specs.Texts.{text_of}
 use Rattle.bank_role.specs.Ending.{end_reply, ended_edits}
 use Rattle.bank_role.proofs.Decided.{accepts, keeps}

@@ -1,4 +1,4 @@
-use Rattle.std.proofs.Common.{◌≡◌, ◌≤◌, true, Some, None, [], ◌∷◌, length, refl, sym, subst, lit≤}
+use Rattle.std.proofs.Common.{None, [], ◌∷◌, refl, lit≤}
 use Rattle.x_base.specs.declared.verdict.Verdict.TheVariants.{Accept}
 use Rattle.party_state.specs.declared.edit.Edit.TheVariants.{DropEnded}
 use Rattle.bank_role.specs.Ending.{purge}

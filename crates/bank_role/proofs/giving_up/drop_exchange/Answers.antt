@@ -1,4 +1,4 @@
-use Rattle.std.proofs.Common.{◌≡◌, ◌≤◌, true, Some, None, [], ◌∷◌, length, refl, sym, subst, lit≤}
+use Rattle.std.proofs.Common.{Some, None}
 use Rattle.bank_role.specs.GivingUp.{given_up_in}
 use Rattle.bank_role.proofs.Decided.{keeps}
 use Rattle.bank_role.proofs.Keeping.{given_up_tame, given_up_few}

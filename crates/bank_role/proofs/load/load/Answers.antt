@@ -1,4 +1,4 @@
-use Rattle.std.proofs.Common.{◌≡◌, ◌≤◌, true, Some, None, [], ◌∷◌, length, refl, sym, subst, lit≤, arith}
+use Rattle.std.proofs.Common.{◌≡◌, true, None, refl, lit≤, arith}
 use Rattle.party_state.specs.Verdicts.{verdict_of, is_accept}
 use Rattle.bank_role.specs.Load.{load_tests}
 use Rattle.bank_role.specs.Tests.{has_link_room}

@@ -1,4 +1,4 @@
-use Rattle.std.proofs.Common.{◌≡◌, ◌≤◌, true, Some, None, [], ◌∷◌, length, refl, sym, subst, lit≤}
+use Rattle.std.proofs.Common.{Some, [], refl, lit≤}
 use Rattle.party_state.specs.Rows.{Again}
 use Rattle.bank_role.proofs.Decided.{keeps}
 use Rattle.bank_role.proofs.resend.resend.Goals as goal

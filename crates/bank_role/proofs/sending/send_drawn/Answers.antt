@@ -1,6 +1,5 @@
-use Rattle.std.proofs.Common.{◌≡◌, Some, true, false, List, ◌++◌, sym, ap, ◌∙◌}
-use Rattle.party_state.specs.Verdicts.{Test, verdict_of, is_accept}
-use Rattle.bank_role.specs.Sending.{sending_tests}
+use Rattle.std.proofs.Common.{◌≡◌, Some, List, ◌++◌, sym, ap, ◌∙◌}
+use Rattle.party_state.specs.Verdicts.{Test, verdict_of}
 use Rattle.bank_role.proofs.Spent.{drawn_none, drawn_sent, drawn_refused}
 use Rattle.bank_role.proofs.sending.send_drawn.Goals as goal
 

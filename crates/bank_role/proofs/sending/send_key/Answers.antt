@@ -1,4 +1,4 @@
-use Rattle.std.proofs.Common.{◌≡◌, ◌≤◌, true, Some, None, [], ◌∷◌, length, refl, sym, subst, lit≤, ◌∙◌}
+use Rattle.std.proofs.Common.{◌≡◌, ◌≤◌, Some, length, refl, subst, lit≤, ◌∙◌}
 use Rattle.x_base.specs.Count.{IsCount}
 use Rattle.bank_role.specs.Texts.{text_of}
 use Rattle.bank_role.specs.Sending.{data_key_reply, sent_edits}

@@ -1,6 +1,6 @@
 use Rattle.std.proofs.Common.{ap, ◌∙◌}
 use Rattle.std.specs.Prelude.{is_none}
-use Rattle.bank_role.proofs.Tests.{passes_where}
+use Rattle.bank_role.proofs.Failing.{passes_where}
 use Rattle.bank_role.proofs.verdicts.passes.Goals as goal
 
 pub returns-in-Some : goal.returns-in-Some

@@ -1,5 +1,5 @@
 use Rattle.std.proofs.Common.{sym}
-use Rattle.bank_role.proofs.Tests.{some_failed_alone}
+use Rattle.bank_role.proofs.Failing.{some_failed_alone}
 use Rattle.bank_role.proofs.verdicts.verdict_of.Goals as goal
 
 pub returns-in-Some : goal.returns-in-Some
