@@ -1,5 +1,5 @@
 -- The changes of the arrivals can be kept.
-use Rattle.std.proofs.Common.{arith, ◌≡◌, ℕ, ◌+◌, ◌≤◌, max, Bool, true, false, cond, is_some, Option, Some, None, Result, Ok, Err, IfOk, IfSome, List, [], ◌∷◌, ◌++◌, length, option_map, refl, ap, sym, ◌∙◌}
+use Rattle.std.proofs.Common.{arith, ◌≡◌, ℕ, ◌+◌, ◌≤◌, Bool, true, false, cond, Option, Some, None, Result, Ok, Err, IfOk, List, [], ◌∷◌, length, option_map, refl}
 use Rattle.x_base.specs.Count.{IsCount}
 use Rattle.x_base.specs.declared.text.NoMemory.{NoMemory}
 use Rattle.x_base.specs.declared.key_name.KeyName.{KeyName}
@@ -9,17 +9,14 @@ use Rattle.csm_grammar.specs.declared.message.Rsm.{Rsm}
 use Rattle.party_state.specs.declared.decision.Decision.{Decision}
 use Rattle.party_state.specs.declared.link.LinkRec.{LinkRec}
 use Rattle.party_state.specs.declared.key.KeyRec.{KeyRec}
-use Rattle.party_state.specs.declared.key.KeyStatus.TheVariants.{Live, Held, Ended}
 use Rattle.party_state.specs.declared.exchange.Via.{Via}
-use Rattle.party_state.specs.declared.exchange.Via.TheVariants as via
 use Rattle.party_state.specs.declared.exchange.Kind.{Kind}
 use Rattle.party_state.specs.declared.exchange.Kind.TheVariants as kind
 use Rattle.party_state.specs.declared.exchange.Exchange.{Exchange}
 use Rattle.party_state.specs.declared.edit.Edit.{Edit}
-use Rattle.party_state.specs.declared.edit.Edit.TheVariants.{PutLink, DropLink, PutKey, DropExchange}
 use Rattle.party_state.specs.Keys.{link_key, same_link, record_key, sends}
 use Rattle.party_state.specs.Ranges.{IsLink, IsNext, IsParty}
-use Rattle.party_state.specs.State.{Party, link_with, record_with, exchange_with}
+use Rattle.party_state.specs.State.{Party, exchange_with}
 use Rattle.party_state.specs.Verdicts.{Held as AllHeld, is_accept}
 use Rattle.party_state.specs.Rows.{Row}
 use Rattle.party_state.proofs.Each.{find_all}
@@ -29,7 +26,7 @@ use Rattle.bank_role.specs.Differing.{differing}
 use Rattle.bank_role.specs.Deciding.{some_edits, change_of, decision_of}
 use Rattle.bank_role.specs.Storable.{IsStorable, CanKeep}
 use Rattle.bank_role.specs.Standing.{LinkStands, KeyStands}
-use Rattle.bank_role.specs.Exchanges.{record_of, sent_by, sent_in, sent_to, ending_by, ending_in, ending_with, new_label, new_link_at, new_link, readied, dropped}
+use Rattle.bank_role.specs.Exchanges.{record_of, sent_by, sent_in, sent_to, ending_by, ending_in, ending_with, new_label, new_link_at, new_link}
 use Rattle.bank_role.specs.declared.ksm.Carried.{Carried}
 use Rattle.bank_role.specs.Ksm.{ksm_tests, ksm_under}
 use Rattle.bank_role.specs.Rsm.{rsm, rsm_with, rsm_to, answer_to}

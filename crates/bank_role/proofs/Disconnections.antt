@@ -1,13 +1,10 @@
 -- What is decided of a disconnection, by the keys that it names.
-use Rattle.std.proofs.Common.{◌≡◌, true, false, Option, Some, None, Result, IfOk, List, [], ◌∷◌, ◌++◌, refl, ap, ◌∙◌}
+use Rattle.std.proofs.Common.{◌≡◌, true, false, Option, Some, Result, IfOk, List, [], ◌∷◌, ◌++◌, refl, ap, ◌∙◌}
 use Rattle.x_base.specs.declared.text.NoMemory.{NoMemory}
 use Rattle.x_base.specs.declared.verdict.Verdict.{Verdict}
 use Rattle.x_base.specs.declared.verdict.Verdict.TheVariants.{BadMac}
 use Rattle.csm_grammar.specs.declared.arrival.Arrival.{Arrival}
 use Rattle.party_state.specs.declared.edit.Edit.{Edit}
-use Rattle.party_state.specs.declared.edit.Edit.TheVariants.{PutLink, PutKey, DropExchange}
-use Rattle.party_state.specs.declared.key.KeyRec.{KeyRec}
-use Rattle.party_state.specs.declared.key.KeyStatus.TheVariants.{Held, Live, Ended}
 use Rattle.party_state.specs.declared.decision.Decision.{Decision}
 use Rattle.party_state.specs.declared.decision.Lead.{Lead}
 use Rattle.party_state.specs.Names.{full_name}
@@ -18,7 +15,7 @@ use Rattle.bank_role.specs.Deciding.{decision_of, refusal_of, accepting}
 use Rattle.bank_role.specs.Replies.{AreWritten, IsWritten}
 use Rattle.bank_role.specs.declared.texts.Written.{Written}
 use Rattle.bank_role.specs.Ksm.{lead_under}
-use Rattle.bank_role.proofs.ByRow.{by_answered, by_accept, by_accept_with}
+use Rattle.bank_role.proofs.ByRow.{by_answered, by_accept_with}
 use Rattle.csm_grammar.specs.declared.message.Dsm.{Dsm}
 use Rattle.bank_role.specs.declared.dsm.Named.{Named}
 use Rattle.bank_role.specs.Dsm.{dsm_front, disconnected, dsm_response, dsm_on}

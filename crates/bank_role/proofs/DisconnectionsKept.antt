@@ -1,7 +1,6 @@
 -- The change of a disconnection can be kept.
-use Rattle.std.proofs.Common.{◌≡◌, ℕ, ◌≤◌, Bool, true, false, cond, Option, Some, None, Result, IfOk, List, [], ◌∷◌, ◌++◌, length, refl, sym, lit≤}
+use Rattle.std.proofs.Common.{◌≡◌, ℕ, Bool, true, false, cond, Option, Some, None, Result, IfOk, List, [], ◌∷◌, ◌++◌, refl, sym, lit≤}
 use Rattle.x_base.specs.declared.text.NoMemory.{NoMemory}
-use Rattle.x_base.specs.declared.key_name.KeyName.{KeyName}
 use Rattle.csm_grammar.specs.declared.arrival.Arrival.{Arrival}
 use Rattle.csm_grammar.specs.declared.message.Dsm.{Dsm}
 use Rattle.party_state.specs.declared.decision.Decision.{Decision}
@@ -12,7 +11,7 @@ use Rattle.party_state.specs.declared.exchange.Kind.{Kind}
 use Rattle.party_state.specs.declared.exchange.Kind.TheVariants as kind
 use Rattle.party_state.specs.declared.exchange.Exchange.{Exchange}
 use Rattle.party_state.specs.declared.edit.Edit.{Edit}
-use Rattle.party_state.specs.declared.edit.Edit.TheVariants.{DropLink, PutKey, DropExchange}
+use Rattle.party_state.specs.declared.edit.Edit.TheVariants.{PutKey, DropExchange}
 use Rattle.party_state.specs.Keys.{record_key, same_name}
 use Rattle.party_state.specs.State.{Party, exchange_with, is_ended}
 use Rattle.bank_role.specs.Tests.{has_key_room}
@@ -24,7 +23,6 @@ use Rattle.bank_role.specs.declared.dsm.Named.{Named}
 use Rattle.bank_role.specs.Dsm.{paired, closing_name, named_by, left_by, left_in, disconnected, dsm_on}
 use Rattle.bank_role.proofs.Found.{key_stands}
 use Rattle.bank_role.proofs.Keeping.{key_room}
-use Rattle.bank_role.proofs.Storable.{AreTame}
 use Rattle.bank_role.proofs.ArrivalsKept.{AreFew, row_kept, made_kept}
 
 -- the record of the key that ends stands

@@ -5,20 +5,16 @@ use Rattle.x_base.specs.declared.verdict.Verdict.{Verdict}
 use Rattle.x_base.specs.declared.verdict.Verdict.TheVariants.{BadMac}
 use Rattle.csm_grammar.specs.declared.arrival.Arrival.{Arrival}
 use Rattle.party_state.specs.declared.edit.Edit.{Edit}
-use Rattle.party_state.specs.declared.edit.Edit.TheVariants.{PutLink, PutKey, DropExchange}
-use Rattle.party_state.specs.declared.key.KeyRec.{KeyRec}
-use Rattle.party_state.specs.declared.key.KeyStatus.TheVariants.{Held, Live, Ended}
+use Rattle.party_state.specs.declared.edit.Edit.TheVariants.{DropExchange}
 use Rattle.party_state.specs.declared.decision.Decision.{Decision}
 use Rattle.party_state.specs.declared.decision.Lead.{Lead}
-use Rattle.party_state.specs.Names.{full_name}
 use Rattle.party_state.specs.State.{Party}
 use Rattle.party_state.specs.Verdicts.{verdict_of, is_accept}
-use Rattle.party_state.specs.Rows.{Reply, Coded}
+use Rattle.party_state.specs.Rows.{Reply}
 use Rattle.bank_role.specs.Deciding.{decision_of, refusal_of, accepting}
-use Rattle.bank_role.specs.Replies.{AreWritten, IsWritten}
-use Rattle.bank_role.specs.declared.texts.Written.{Written}
+use Rattle.bank_role.specs.Replies.{AreWritten}
 use Rattle.bank_role.specs.Ksm.{lead_under}
-use Rattle.bank_role.proofs.ByRow.{by_answered, by_accept, by_accept_with}
+use Rattle.bank_role.proofs.ByRow.{by_answered, by_accept}
 use Rattle.csm_grammar.specs.declared.message.Esm.{Esm}
 use Rattle.bank_role.specs.declared.esm.Subject.{Subject}
 use Rattle.bank_role.specs.Tests.{answer_front}

@@ -17,7 +17,7 @@ use Rattle.party_state.specs.declared.exchange.Kind.{Kind}
 use Rattle.party_state.specs.declared.exchange.Kind.TheVariants as kind
 use Rattle.party_state.specs.declared.exchange.Exchange.{Exchange}
 use Rattle.party_state.specs.declared.edit.Edit.{Edit}
-use Rattle.party_state.specs.declared.edit.Edit.TheVariants.{PutLink, DropLink, PutKey, DropExchange}
+use Rattle.party_state.specs.declared.edit.Edit.TheVariants.{PutKey, DropExchange}
 use Rattle.party_state.specs.Keys.{link_key, same_link, record_key, sends}
 use Rattle.party_state.specs.Ranges.{IsLink, IsNext, IsParty}
 use Rattle.party_state.specs.State.{Party, centre_label, link_with, exchange_with}
@@ -30,7 +30,7 @@ use Rattle.bank_role.specs.Standing.{LinkStands, KeyStands}
 use Rattle.bank_role.specs.declared.exchanges.Sent.{Sent}
 use Rattle.bank_role.specs.declared.esm.Subject.{Subject}
 use Rattle.bank_role.specs.declared.esm.Subject.TheVariants.{SentKey, Translated}
-use Rattle.bank_role.specs.Exchanges.{record_of, sent_to, new_link, dropped}
+use Rattle.bank_role.specs.Exchanges.{record_of, new_link, dropped}
 use Rattle.bank_role.specs.Esm.{subject_by, subject_in, subject_with, way_link, subject_link, raised, subject_ended, esm_of, plain_esm, esm}
 use Rattle.bank_role.proofs.Found.{link_stands, key_stands}
 use Rattle.bank_role.proofs.Keeping.{link_room, key_room}

@@ -1,5 +1,5 @@
 -- The first test of a list that fails.
-use Rattle.std.proofs.Common.{◌≡◌, Bool, true, false, cond, not, Option, Some, None, List, [], ◌∷◌, ◌++◌, ◌&&◌, refl}
+use Rattle.std.proofs.Common.{◌≡◌, Bool, true, false, cond, not, Some, None, List, [], ◌∷◌, ◌++◌, ◌&&◌, refl}
 use Rattle.std.specs.Prelude.{option_map, is_none}
 use Rattle.std.specs.List.{find}
 use Rattle.x_base.specs.declared.verdict.Verdict.{Verdict}

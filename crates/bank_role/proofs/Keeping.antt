@@ -1,12 +1,12 @@
 -- The changes of the commands can be kept.
-use Rattle.std.proofs.Common.{◌≡◌, ℕ, ◌+◌, ◌≤◌, Bool, true, false, ◌||◌, is_some, cond, Option, Some, None, List, [], ◌∷◌, ◌++◌, length, refl, arith, lit≤}
+use Rattle.std.proofs.Common.{◌≡◌, ℕ, ◌+◌, ◌≤◌, true, Option, Some, None, List, [], ◌∷◌, ◌++◌, length, refl, arith, lit≤}
 use Rattle.std.specs.Prelude.{IfSome}
 use Rattle.x_base.specs.Count.{IsCount}
 use Rattle.party_state.specs.declared.link.LinkRec.{LinkRec}
 use Rattle.party_state.specs.declared.key.KeyRec.{KeyRec}
 use Rattle.party_state.specs.declared.exchange.Exchange.{Exchange}
 use Rattle.party_state.specs.declared.edit.Edit.{Edit}
-use Rattle.party_state.specs.declared.edit.Edit.TheVariants.{PutLink, DropLink, PutKey, DropEnded, PutExchange, DropExchange, SetGen}
+use Rattle.party_state.specs.declared.edit.Edit.TheVariants.{PutLink, PutKey, PutExchange, DropExchange, SetGen}
 use Rattle.party_state.specs.declared.key.KeyStatus.TheVariants.{Closing}
 use Rattle.party_state.specs.declared.exchange.Kind.{Kind}
 use Rattle.party_state.specs.declared.exchange.Kind.TheVariants as kind

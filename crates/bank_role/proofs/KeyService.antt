@@ -1,24 +1,22 @@
 -- What is decided of a key service message under a link.
-use Rattle.std.proofs.Common.{◌≡◌, true, false, Option, Some, None, Result, Ok, Err, IfOk, List, [], ◌∷◌, ◌++◌, refl, ap, subst, ◌∙◌, ◌+◌}
+use Rattle.std.proofs.Common.{◌≡◌, true, false, Option, Some, Result, Ok, Err, IfOk, List, [], ◌∷◌, ◌++◌, refl, ap, subst, ◌∙◌, ◌+◌}
 use Rattle.x_base.specs.declared.text.NoMemory.{NoMemory}
 use Rattle.x_base.specs.declared.verdict.Verdict.{Verdict}
 use Rattle.x_base.specs.declared.verdict.Verdict.TheVariants.{BadMac}
 use Rattle.csm_grammar.specs.declared.arrival.Arrival.{Arrival}
 use Rattle.party_state.specs.declared.edit.Edit.{Edit}
-use Rattle.party_state.specs.declared.edit.Edit.TheVariants.{PutLink, PutKey, DropExchange}
-use Rattle.party_state.specs.declared.key.KeyRec.{KeyRec}
-use Rattle.party_state.specs.declared.key.KeyStatus.TheVariants.{Held, Live, Ended}
+use Rattle.party_state.specs.declared.edit.Edit.TheVariants.{PutLink, PutKey}
+use Rattle.party_state.specs.declared.key.KeyStatus.TheVariants.{Held}
 use Rattle.party_state.specs.declared.decision.Decision.{Decision}
 use Rattle.party_state.specs.declared.decision.Lead.{Lead}
-use Rattle.party_state.specs.Names.{full_name}
 use Rattle.party_state.specs.State.{Party}
 use Rattle.party_state.specs.Verdicts.{verdict_of, is_accept}
 use Rattle.party_state.specs.Rows.{Reply, Coded}
-use Rattle.bank_role.specs.Deciding.{decision_of, refusal_of, accepting}
+use Rattle.bank_role.specs.Deciding.{decision_of, accepting}
 use Rattle.bank_role.specs.Replies.{AreWritten, IsWritten}
 use Rattle.bank_role.specs.declared.texts.Written.{Written}
 use Rattle.bank_role.specs.Ksm.{lead_under}
-use Rattle.bank_role.proofs.ByRow.{by_answered, by_accept, by_accept_with}
+use Rattle.bank_role.proofs.ByRow.{by_answered, by_accept_with}
 use Rattle.csm_grammar.specs.declared.message.Ksm.{Ksm}
 use Rattle.party_state.specs.declared.link.LinkRec.{LinkRec}
 use Rattle.bank_role.specs.declared.ksm.Carried.{Carried}

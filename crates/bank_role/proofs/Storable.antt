@@ -1,5 +1,5 @@
 -- Changes that the store can keep: what holds of a row's edits holds of those that differ.
-use Rattle.std.proofs.Common.{arith, ◌≡◌, ℕ, ◌+◌, ◌≤◌, ◌<◌, nat_lt, ltb, Bool, true, false, cond, not, ◌&&◌, ◌||◌, is_some, Option, Some, None, List, [], ◌∷◌, length, filter, refl, ◌∙◌}
+use Rattle.std.proofs.Common.{arith, ◌≡◌, ℕ, ◌+◌, ◌≤◌, ◌<◌, nat_lt, Bool, true, false, cond, not, ◌&&◌, ◌||◌, is_some, Option, Some, None, List, [], ◌∷◌, length, filter, refl, ◌∙◌}
 use Rattle.std.proofs.lemmas.Bool.Decides.{nat_tests}
 use Rattle.std.specs.List.{AllByRecursion, list_any}
 use Rattle.std.proofs.lemmas.List.Elements.{All-from_recursion, All-filter, All-weaker}
@@ -9,7 +9,7 @@ use Rattle.party_state.specs.declared.key.KeyRec.{KeyRec}
 use Rattle.party_state.specs.Tables.{find_row, put_row}
 use Rattle.party_state.specs.Keys.{same_link, same_record, link_key, record_key}
 use Rattle.party_state.specs.State.{Party, apply_edit, is_ended}
-use Rattle.party_state.specs.Ranges.{IsNext, IsFitting, AreFitting, IsNoBegin, HasNoBegin}
+use Rattle.party_state.specs.Ranges.{IsNext, IsFitting, IsNoBegin}
 use Rattle.party_state.specs.Limits.{IsWithinLimits, StaysWithinLimits}
 use Rattle.party_state.proofs.Lengths.{length_put_found, length_put_absent, length_filter_most, length_drop_most}
 use Rattle.bank_role.specs.Tests.{has_link_room, has_key_room}

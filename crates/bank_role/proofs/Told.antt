@@ -1,8 +1,7 @@
 -- The expected count that a refusal tells is a count.
-use Rattle.std.proofs.Common.{arith, ◌≡◌, ℕ, ◌≤◌, leb, nat_le, Bool, true, false, cond, not, ◌||◌, Some, List, [], ◌∷◌, ◌++◌, refl}
+use Rattle.std.proofs.Common.{◌≡◌, ℕ, ◌≤◌, nat_le, Bool, true, false, cond, not, ◌||◌, Some, List, [], ◌∷◌, ◌++◌, refl}
 use Rattle.std.proofs.lemmas.Bool.{leb-true}
 use Rattle.std.specs.List.{AllByRecursion}
-use Rattle.x_base.specs.Count.{IsCount}
 use Rattle.x_base.specs.declared.verdict.Verdict.TheVariants.{BadMac}
 use Rattle.csm_grammar.specs.declared.message.Ksm.{Ksm}
 use Rattle.party_state.specs.declared.link.LinkRec.{LinkRec}

@@ -1,7 +1,6 @@
 -- The edits that make a difference to a party.
-use Rattle.std.specs.Prelude.{ℕ, ◌==◌, Bool, true, false, not, ◌&&◌, is_some, Option, Some, None, List, filter, bytes_eq}
+use Rattle.std.specs.Prelude.{◌==◌, Bool, true, false, not, ◌&&◌, is_some, Option, Some, None, List, filter}
 use Rattle.std.specs.List.{list_any}
-use Rattle.x_base.specs.declared.party.Role.{Role}
 use Rattle.party_state.specs.declared.link.LinkRec.{LinkRec}
 use Rattle.party_state.specs.declared.key.KeyRec.{KeyRec}
 use Rattle.party_state.specs.declared.key.KeyStatus.{KeyStatus}

@@ -1,6 +1,6 @@
 -- A disconnect service message arrives (ANSI X9.17): the key ends, and a response that names it goes back
 -- under it. A key that ended already changes nothing.
-use Rattle.std.specs.Prelude.{ℕ, Bool, true, false, cond, ◌&&◌, is_some, List, [], ◌∷◌, ◌++◌, Option, Some, None}
+use Rattle.std.specs.Prelude.{ℕ, Bool, true, false, cond, List, [], ◌∷◌, ◌++◌, Option, Some, None}
 use Rattle.x_base.specs.declared.key_name.KeyName.{KeyName}
 use Rattle.x_base.specs.declared.verdict.Verdict.TheVariants.{NotForMe, UnknownKey, BadMac}
 use Rattle.csm_grammar.specs.declared.message.Message.{Message}

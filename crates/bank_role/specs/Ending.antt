@@ -1,5 +1,5 @@
 -- Discontinuing a data key (ANSI X9.17, disconnect service message), and removing the records of ended keys.
-use Rattle.std.specs.Prelude.{ℕ, Bool, true, false, is_none, is_some, List, [], ◌∷◌, Option, Some, None}
+use Rattle.std.specs.Prelude.{ℕ, Bool, true, false, is_none, List, [], ◌∷◌, Option, Some, None}
 use Rattle.x_base.specs.declared.key_name.KeyName.{KeyName}
 use Rattle.x_base.specs.declared.verdict.Verdict.TheVariants.{Accept, Outstanding, UnknownKey}
 use Rattle.csm_grammar.specs.declared.message.Message.{Message}

@@ -1,5 +1,5 @@
 -- A refusal that is answered.
-use Rattle.std.specs.Prelude.{ℕ, Option, None, option_map}
+use Rattle.std.specs.Prelude.{Option, None, option_map}
 use Rattle.x_base.specs.Count.{IsCount}
 use Rattle.x_base.specs.declared.verdict.Verdict.{Verdict}
 use Rattle.x_base.specs.declared.verdict.Verdict.TheVariants.{CountLow}

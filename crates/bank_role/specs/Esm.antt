@@ -1,12 +1,11 @@
 -- An error service message arrives (ANSI X9.17): what was sent is given up, and the count goes on where it
 -- is told. One that is closed by an error detection code alone changes nothing.
-use Rattle.std.specs.Prelude.{ℕ, max, Bool, cond, is_some, List, [], ◌∷◌, ◌++◌, Option, Some, None, option_map}
+use Rattle.std.specs.Prelude.{ℕ, max, cond, is_some, List, [], ◌∷◌, ◌++◌, Option, Some, None, option_map}
 use Rattle.x_base.specs.declared.key_name.FullName.{FullName}
 use Rattle.x_base.specs.declared.verdict.Verdict.TheVariants.{BadMac, BadEdc}
 use Rattle.csm_grammar.specs.declared.message.Esm.{Esm}
 use Rattle.csm_grammar.specs.declared.arrival.Arrival.{Arrival}
 use Rattle.party_state.specs.declared.link.LinkRec.{LinkRec}
-use Rattle.party_state.specs.declared.key.KeyRec.{KeyRec}
 use Rattle.party_state.specs.declared.key.KeyStatus.TheVariants.{Ended}
 use Rattle.party_state.specs.declared.exchange.Via.{Via}
 use Rattle.party_state.specs.declared.exchange.Via.TheVariants as via
@@ -25,7 +24,6 @@ use Rattle.bank_role.specs.declared.esm.Subject.{Subject}
 use Rattle.bank_role.specs.declared.esm.Subject.TheVariants.{SentKey, Translated}
 use Rattle.bank_role.specs.Texts.{direct_name, is_verified, is_right, is_plain}
 use Rattle.bank_role.specs.Tests.{answer_front}
-use Rattle.bank_role.specs.declared.exchanges.Sent.{Sent}
 use Rattle.bank_role.specs.Exchanges.{sent_by, is_waiting, new_link, dropped}
 use Rattle.bank_role.specs.Ksm.{lead_under}
 

@@ -4,7 +4,6 @@ use Rattle.std.specs.Prelude.{ℕ, is_some, List, [], ◌∷◌, ◌++◌, Optio
 use Rattle.x_base.specs.declared.verdict.Verdict.TheVariants.{NoExchange}
 use Rattle.party_state.specs.declared.key.KeyRec.{KeyRec}
 use Rattle.party_state.specs.declared.key.KeyStatus.TheVariants.{Ended}
-use Rattle.party_state.specs.declared.exchange.Via.{Via}
 use Rattle.party_state.specs.declared.exchange.Kind.{Kind}
 use Rattle.party_state.specs.declared.exchange.Kind.TheVariants as kind
 use Rattle.party_state.specs.declared.exchange.Exchange.{Exchange}

@@ -1,7 +1,6 @@
 -- A key service message arrives from a partner (ANSI X9.17, point to point): its key is held, and a
 -- response goes back under it; a refusal for a count or for want of room is answered by an error message.
-use Rattle.std.specs.Prelude.{ℕ, ◌+◌, Bool, false, cond, is_some, List, [], ◌∷◌, ◌++◌, Option, Some, None, option_map, bytes_eq, codes}
-use Rattle.x_base.specs.declared.key_name.KeyName.{KeyName}
+use Rattle.std.specs.Prelude.{ℕ, ◌+◌, false, cond, is_some, List, [], ◌∷◌, ◌++◌, Option, Some, None, option_map, bytes_eq, codes}
 use Rattle.x_base.specs.declared.key_name.FullName.{FullName}
 use Rattle.x_base.specs.declared.party.Side.TheVariants.{Takes}
 use Rattle.x_base.specs.declared.verdict.Verdict.{Verdict}
@@ -9,7 +8,6 @@ use Rattle.x_base.specs.declared.verdict.Verdict.TheVariants as verdict
 use Rattle.x_seal.specs.Wrapped.{unwrap_of}
 use Rattle.csm_grammar.specs.declared.message.Message.{Message}
 use Rattle.csm_grammar.specs.declared.message.Message.TheVariants as message
-use Rattle.csm_grammar.specs.declared.message.NewKk.{NewKk}
 use Rattle.csm_grammar.specs.declared.message.KsmBody.{KsmBody}
 use Rattle.csm_grammar.specs.declared.message.KsmBody.TheVariants as body
 use Rattle.csm_grammar.specs.declared.message.Ksm.{Ksm}

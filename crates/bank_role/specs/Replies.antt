@@ -1,5 +1,5 @@
 -- A text that was made, beside the reply that a row says.
-use Rattle.std.specs.Prelude.{◌≡◌, ℕ, List, Option, Some, None}
+use Rattle.std.specs.Prelude.{◌≡◌, Option, Some, None}
 use Rattle.bank_role.specs.declared.texts.Written.{Written}
 use Rattle.party_state.specs.Rows.{Reply}
 use Rattle.bank_role.specs.Texts.{text_of, name_under}

@@ -1,6 +1,6 @@
 -- A response service message arrives (ANSI X9.17): the key that was sent is live; or, where it names a key,
 -- the end that was told of that key is done.
-use Rattle.std.specs.Prelude.{ℕ, Bool, false, cond, is_some, List, [], ◌∷◌, ◌++◌, Option, Some, None}
+use Rattle.std.specs.Prelude.{Bool, false, cond, is_some, List, [], ◌∷◌, ◌++◌, Option, Some, None}
 use Rattle.x_base.specs.declared.key_name.KeyName.{KeyName}
 use Rattle.x_base.specs.declared.verdict.Verdict.TheVariants.{BadMac}
 use Rattle.csm_grammar.specs.declared.message.Rsm.{Rsm}

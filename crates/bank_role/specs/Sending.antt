@@ -2,7 +2,6 @@
 -- as pending, and sent in a key service message.
 use Rattle.std.specs.Prelude.{ℕ, ◌+◌, is_some, List, [], ◌∷◌, ◌++◌, Option, Some, None}
 use Rattle.x_base.specs.declared.key_name.KeyName.{KeyName}
-use Rattle.x_base.specs.declared.key_name.FullName.{FullName}
 use Rattle.x_base.specs.declared.verdict.Verdict.TheVariants.{CountSpent, KeysFull, WeakDraws}
 use Rattle.x_gen.specs.declared.generator.Gen.{Gen}
 use Rattle.x_gen.specs.Gen.{good_draw}

@@ -1,5 +1,5 @@
 -- Starting: a new data key for a peer (ANSI X9.17, point to point).
-use Rattle.std.specs.Prelude.{ℕ, not, Bool, false, ◌&&◌, is_none, is_some, cond, List, [], ◌∷◌, ◌++◌, Option, Some, None, bytes_eq}
+use Rattle.std.specs.Prelude.{ℕ, is_none, is_some, cond, List, [], ◌∷◌, Option, Some, None, bytes_eq}
 use Rattle.x_base.specs.declared.party.Side.TheVariants.{Sends}
 use Rattle.x_base.specs.declared.verdict.Verdict.TheVariants.{UnknownPeer, Outstanding, UnknownKk}
 use Rattle.party_state.specs.declared.link.LinkRec.{LinkRec}

@@ -1,5 +1,5 @@
 -- What the store asks of a change (this project's profile).
-use Rattle.std.specs.Prelude.{ℕ, ◌≤◌, List, length, Option, IfSome}
+use Rattle.std.specs.Prelude.{◌≤◌, List, length, Option, IfSome}
 use Rattle.party_state.specs.declared.edit.Edit.{Edit}
 use Rattle.party_state.specs.State.{Party}
 use Rattle.party_state.specs.Ranges.{AreFitting, HasNoBegin}

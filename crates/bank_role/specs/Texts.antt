@@ -1,9 +1,8 @@
 -- The texts that a bank writes, and the codes of those that arrive (ANSI X9.17).
-use Rattle.std.specs.Prelude.{ℕ, ◌==◌, Bool, false, true, take, List, [], Option, Some, None}
+use Rattle.std.specs.Prelude.{ℕ, ◌==◌, Bool, false, true, take, List, Option, Some, None}
 use Rattle.x_base.specs.declared.key_name.KeyName.{KeyName}
 use Rattle.x_base.specs.declared.key_name.FullName.{FullName}
 use Rattle.x_mac.specs.Code.{mac_of, edc_of}
-use Rattle.csm_grammar.specs.declared.message.Message.{Message}
 use Rattle.csm_grammar.specs.declared.message.Extras.{Extras}
 use Rattle.csm_grammar.specs.declared.parsed.Shut.{Shut}
 use Rattle.csm_grammar.specs.declared.parsed.Shut.TheVariants as shut
