@@ -1,0 +1,101 @@
+-- The changes of the commands can be kept.
+use Rattle.std.proofs.Common.{◌≡◌, ℕ, ◌+◌, ◌≤◌, true, Option, Some, None, List, [], ◌∷◌, ◌++◌, length, refl, arith, lit≤}
+use Rattle.std.specs.Prelude.{IfSome}
+use Rattle.x_base.specs.Count.{IsCount}
+use Rattle.party_state.specs.declared.link.LinkRec.{LinkRec}
+use Rattle.party_state.specs.declared.key.KeyRec.{KeyRec}
+use Rattle.party_state.specs.declared.exchange.Exchange.{Exchange}
+use Rattle.party_state.specs.declared.edit.Edit.{Edit}
+use Rattle.party_state.specs.declared.edit.Edit.TheVariants.{PutLink, PutKey, PutExchange, DropExchange, SetGen}
+use Rattle.party_state.specs.declared.key.KeyStatus.TheVariants.{Closing}
+use Rattle.party_state.specs.declared.exchange.Kind.{Kind}
+use Rattle.party_state.specs.declared.exchange.Kind.TheVariants as kind
+use Rattle.x_base.specs.declared.key_name.KeyName.{KeyName}
+use Rattle.party_state.specs.State.{Party}
+use Rattle.party_state.specs.Keys.{record_key, link_key}
+use Rattle.party_state.specs.Rows.{Reply}
+use Rattle.party_state.specs.Verdicts.{verdict_of, is_accept, Held}
+use Rattle.party_state.specs.declared.link.LinkKey.{LinkKey}
+use Rattle.party_state.proofs.Verdicts.{held}
+use Rattle.x_base.specs.declared.verdict.Verdict.{Verdict}
+use Rattle.x_mac.specs.declared.pair.Pair.{Pair}
+use Rattle.bank_role.specs.Load.{load_tests}
+use Rattle.bank_role.specs.Tests.{has_key_room, has_link_room}
+use Rattle.bank_role.specs.Differing.{differing}
+use Rattle.bank_role.specs.Exchanges.{record_of, new_link, dropped}
+use Rattle.bank_role.specs.GivingUp.{ended, given_up, given_up_in}
+use Rattle.bank_role.specs.Deciding.{some_edits, accepting}
+use Rattle.bank_role.specs.Storable.{IsStorable, CanKeep}
+use Rattle.bank_role.specs.Standing.{LinkStands, KeyStands}
+use Rattle.bank_role.proofs.Storable.{AreTame, storable}
+use Rattle.bank_role.proofs.Found.{key_stands}
+
+pub accepted_kept : (p : Party) (es : List Edit) (r : Option Reply) → AreTame p es → length es ≤ 9 → CanKeep p (accepting p es r).change
+accepted_kept p es r t few = go (differing p es) (storable p es t few)
+  where
+    go : (ds : List Edit) → IsStorable p ds → IfSome (some_edits ds) (IsStorable p)
+    go [] h = _
+    go (d ∷ ds) h = h
+
+pub link_room : (p : Party) (l : LinkRec) → LinkStands p l → has_link_room p (link_key l) ≡ true
+link_room p l s = let e = s.found in rw e refl
+
+pub key_room : (p : Party) (k : KeyRec) → KeyStands p k → has_key_room p (record_key k) ≡ true
+key_room p k s = rw s refl
+
+-- a key that is sent
+pub sent_tame : (p : Party) (l : LinkRec) (k : KeyRec) (e : Exchange) (v n : ℕ) → LinkStands p l → IsCount l.next → n ≡ l.next → has_key_room p (record_key k) ≡ true → length e.text ≤ 1024
+    → AreTame p (SetGen v ∷ PutLink (record l { next = n + 1 }) ∷ PutKey k ∷ PutExchange e ∷ [])
+sent_tame p l k e v n s c i room short =
+    let low = c.low in
+    let high = c.high in
+    record {
+      each = (tt, ((record { low = omega (arith, low, i); high = omega (arith, high, i) }, link_room p l s), (room, (short, tt))));
+      turns = refl;
+    }
+
+-- a link that is loaded
+pub loaded_tame : (p : Party) (l : LinkRec) → l.next ≡ 1 → has_link_room p (link_key l) ≡ true → AreTame p (PutLink l ∷ [])
+loaded_tame p l n room = record {
+  each = ((record { low = omega (arith, n); high = omega (arith, n) }, room), tt);
+  turns = refl;
+}
+
+-- a key that is being closed
+pub ended_tame : (p : Party) (k : KeyRec) (e : Exchange) → KeyStands p k → length e.text ≤ 1024 → AreTame p (PutKey (record k { status = Closing }) ∷ PutExchange e ∷ [])
+ended_tame p k e s short = record { each = (key_room p k s, (short, tt)); turns = refl }
+
+-- an exchange that is given up
+pub given_up_tame : (p : Party) (peer : List ℕ) (e : Exchange) → AreTame p (given_up_in p peer (Some e))
+given_up_tame p peer e = by_kind e.kind
+  where
+    by_record : (l : Option LinkRec) (name : KeyName) (o : Option KeyRec) → record_of p peer name ≡ o → AreTame p (dropped l ++ ended o ++ DropExchange peer ∷ [])
+    by_record None name None h = record { each = (tt, tt); turns = refl }
+    by_record (Some l) name None h = record { each = (tt, (tt, tt)); turns = refl }
+    by_record None name (Some k) h = record { each = (key_room p k (key_stands p (record { peer = peer; name = name }) k h), (tt, tt)); turns = refl }
+    by_record (Some l) name (Some k) h = record { each = (tt, (key_room p k (key_stands p (record { peer = peer; name = name }) k h), (tt, tt))); turns = refl }
+
+    by_kind : (k : Kind) → AreTame p (given_up p peer k ++ DropExchange peer ∷ [])
+    by_kind (kind.KeySent name way) = by_record (new_link p peer way) name (record_of p peer name) refl
+    by_kind (kind.Asked ultimate) = record { each = (tt, tt); turns = refl }
+    by_kind (kind.Translating ultimate value cta) = record { each = (tt, tt); turns = refl }
+    by_kind (kind.Ending name) = record { each = (tt, tt); turns = refl }
+
+pub given_up_few : (p : Party) (peer : List ℕ) (e : Exchange) → length (given_up_in p peer (Some e)) ≤ 9
+given_up_few p peer e = by_kind e.kind
+  where
+    by_parts : (l : Option LinkRec) (o : Option KeyRec) → length (dropped l ++ ended o ++ DropExchange peer ∷ []) ≤ 9
+    by_parts None None = lit≤ tt
+    by_parts (Some l) None = lit≤ tt
+    by_parts None (Some k) = lit≤ tt
+    by_parts (Some l) (Some k) = lit≤ tt
+
+    by_kind : (k : Kind) → length (given_up p peer k ++ DropExchange peer ∷ []) ≤ 9
+    by_kind (kind.KeySent name way) = by_parts (new_link p peer way) (record_of p peer name)
+    by_kind (kind.Asked ultimate) = lit≤ tt
+    by_kind (kind.Translating ultimate value cta) = lit≤ tt
+    by_kind (kind.Ending name) = lit≤ tt
+
+-- a link that is loaded has room
+pub load_room : (p : Party) (key : LinkKey) (pair : Pair) (v : Verdict) → v ≡ verdict_of (load_tests p key pair) → is_accept v ≡ true → has_link_room p key ≡ true
+load_room p key pair v e t = let h : Held (load_tests p key pair) = held (load_tests p key pair) refl (rw (← e) t) in h.1.1.1.0

@@ -1,0 +1,124 @@
+-- A key service message arrives from a partner (ANSI X9.17, point to point): its key is held, and a
+-- response goes back under it; a refusal for a count or for want of room is answered by an error message.
+use Rattle.std.specs.Prelude.{ℕ, ◌+◌, false, cond, is_some, List, [], ◌∷◌, ◌++◌, Option, Some, None, option_map, bytes_eq, codes}
+use Rattle.x_base.specs.declared.key_name.FullName.{FullName}
+use Rattle.x_base.specs.declared.party.Side.TheVariants.{Takes}
+use Rattle.x_base.specs.declared.verdict.Verdict.{Verdict}
+use Rattle.x_base.specs.declared.verdict.Verdict.TheVariants as verdict
+use Rattle.x_seal.specs.Wrapped.{unwrap_of}
+use Rattle.csm_grammar.specs.declared.message.Message.{Message}
+use Rattle.csm_grammar.specs.declared.message.Message.TheVariants as message
+use Rattle.csm_grammar.specs.declared.message.KsmBody.{KsmBody}
+use Rattle.csm_grammar.specs.declared.message.KsmBody.TheVariants as body
+use Rattle.csm_grammar.specs.declared.message.Ksm.{Ksm}
+use Rattle.csm_grammar.specs.declared.arrival.Arrival.{Arrival}
+use Rattle.party_state.specs.declared.link.LinkRec.{LinkRec}
+use Rattle.party_state.specs.declared.key.KeyStatus.TheVariants.{Held}
+use Rattle.party_state.specs.declared.edit.Edit.TheVariants.{PutLink, PutKey}
+use Rattle.party_state.specs.declared.decision.Lead.{Lead}
+use Rattle.party_state.specs.Keys.{takes}
+use Rattle.party_state.specs.State.{Party, centre_label, link_with, first_link, knows}
+use Rattle.party_state.specs.Verdicts.{Test, verdict_of, passes}
+use Rattle.party_state.specs.Rows.{Row, Reply, Coded, OfKsm, refused}
+use Rattle.bank_role.specs.declared.ksm.Carried.{Carried}
+use Rattle.bank_role.specs.Texts.{direct_name, no_extras, is_verified}
+use Rattle.bank_role.specs.Tests.{is_for, count_tests, has_key_room}
+
+-- the link in use: the one with that label, which isn't a centre's, or the first
+abbrev pub link_in_use : Party → List ℕ → Option (List ℕ) → Option LinkRec
+link_in_use p originator None = first_link originator Takes p
+link_in_use p originator (Some label) = cond (bytes_eq label centre_label) None (link_with (takes originator label) p)
+
+-- the full name of the key that arrives under a link, and its value
+abbrev pub arriving : Party → LinkRec → ℕ → FullName
+arriving p l ctp = record { name = direct_name l.peer l.label ctp; recipient = p.own }
+
+abbrev pub carried_key : LinkRec → Carried → ℕ
+carried_key l c = unwrap_of l.pair c.ctp c.kd
+
+abbrev pub ksm_front : Party → Ksm → Option LinkRec → List Test
+ksm_front p m found =
+    (is_for p m.receiver m.originator, verdict.NotForMe) ∷ (knows m.originator p, verdict.UnknownPeer) ∷ (is_some found, verdict.UnknownKk) ∷ []
+
+-- the tests behind the code's
+abbrev pub ksm_rest : Party → Ksm → Carried → LinkRec → List Test
+ksm_rest p m c l =
+    count_tests l c.ctp ++ (has_key_room p (record { peer = m.originator; name = (arriving p l c.ctp).name }), verdict.KeysFull) ∷ []
+
+abbrev pub ksm_tests : Party → Arrival → Ksm → Carried → LinkRec → List Test
+ksm_tests p a m c l = ksm_front p m (Some l) ++ (is_verified a (carried_key l c), verdict.BadMac) ∷ ksm_rest p m c l
+
+-- the error message, with the refused count, and the expected one where it is told
+abbrev pub error_message : Party → List ℕ → ℕ → List ℕ → Option ℕ → Message
+error_message p originator ctp erf ctr =
+    message.Esm (record { receiver = originator; originator = p.own; erf = erf; ctp = Some ctp; cta = None; ctb = None; ctr = ctr })
+
+-- the letter of a refusal that is answered
+abbrev pub error_letter : Verdict → Option (List ℕ)
+error_letter (verdict.CountLow expected) = Some (codes "C")
+error_letter verdict.CountSpent = Some (codes "S")
+error_letter verdict.LabelTaken = Some (codes "L")
+error_letter verdict.SameKey = Some (codes "K")
+error_letter verdict.LinksFull = Some (codes "N")
+error_letter verdict.KeysFull = Some (codes "F")
+error_letter v = None
+
+-- the expected count, where it is told
+abbrev pub expected_count : Verdict → Option ℕ
+expected_count (verdict.CountLow expected) = Some expected
+expected_count v = None
+
+-- the answer to a refusal, by its verdict
+abbrev pub error_for : Party → List ℕ → ℕ → Verdict → Option Message
+error_for p originator ctp v = option_map (λ erf. error_message p originator ctp erf (expected_count v)) (error_letter v)
+
+abbrev pub coded_under : FullName → ℕ → Option Message → Option Reply
+coded_under under value None = None
+coded_under under value (Some m) = Some (Coded m under value)
+
+abbrev pub response : Party → List ℕ → Message
+response p originator = message.Rsm (record { receiver = originator; originator = p.own; idd = None; extras = no_extras })
+
+abbrev pub ksm_under : Party → Arrival → Ksm → Carried → Option LinkRec → Row
+ksm_under p a m c None = refused (verdict_of (ksm_front p m None))
+ksm_under p a m c (Some l) =
+    let under : FullName = arriving p l c.ctp in
+    let value : ℕ = carried_key l c in
+    record {
+      verdict = verdict_of (ksm_tests p a m c l);
+      edits = PutLink (record l { next = c.ctp + 1 }) ∷ PutKey (record { peer = m.originator; name = under.name; value = value; status = Held }) ∷ [];
+      reply = Some (Coded (response p m.originator) under value);
+      uses = [];
+      makes = None;
+      accepts = Some (record { class = OfKsm; under = under });
+      answer = coded_under under value (error_for p m.originator c.ctp (verdict_of (ksm_tests p a m c l)));
+    }
+
+abbrev pub unserved : Party → Ksm → List ℕ → Row
+unserved p m known = refused (verdict_of ((is_for p m.receiver m.originator, verdict.NotForMe) ∷ (knows known p, verdict.UnknownPeer) ∷ (false, verdict.WrongClass) ∷ []))
+
+-- a new key-encrypting key, and a key through a centre, aren't served
+abbrev pub ksm_with : Party → Arrival → Ksm → KsmBody → Row
+ksm_with p a m (body.Direct idk2 None kd ctp) = ksm_under p a m (record { kd = kd; ctp = ctp }) (link_in_use p m.originator idk2)
+ksm_with p a m (body.Direct idk2 (Some new) kd ctp) = unserved p m m.originator
+ksm_with p a m (body.Centre centre kdu ctb) = unserved p m centre
+
+abbrev pub ksm : Party → Arrival → Ksm → Row
+ksm p a m = ksm_with p a m m.body
+
+-- the key under which its code is tested
+
+abbrev pub lead_under : Arrival → FullName → ℕ → Lead
+lead_under a under value = record { under = under; value = value; verified = is_verified a value }
+
+abbrev pub ksm_lead_under : Party → Arrival → Ksm → Carried → Option LinkRec → Option Lead
+ksm_lead_under p a m c None = None
+ksm_lead_under p a m c (Some l) = cond (passes (ksm_front p m (Some l))) (Some (lead_under a (arriving p l c.ctp) (carried_key l c))) None
+
+abbrev pub ksm_lead_with : Party → Arrival → Ksm → KsmBody → Option Lead
+ksm_lead_with p a m (body.Direct idk2 None kd ctp) = ksm_lead_under p a m (record { kd = kd; ctp = ctp }) (link_in_use p m.originator idk2)
+ksm_lead_with p a m (body.Direct idk2 (Some new) kd ctp) = None
+ksm_lead_with p a m (body.Centre centre kdu ctb) = None
+
+abbrev pub ksm_lead : Party → Arrival → Ksm → Option Lead
+ksm_lead p a m = ksm_lead_with p a m m.body

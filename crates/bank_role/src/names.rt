@@ -1,0 +1,57 @@
+// Names of keys, and what a bank leaves out of its messages.
+ghost use Rattle.std.specs.Prelude.{◌≡◌};
+ghost use Rattle.party_state.specs.State.{centre_label};
+ghost use Rattle.party_state.specs.Names.{full_name};
+ghost use Rattle.bank_role.specs.Texts.{direct_name, no_extras};
+
+use csm_grammar::Extras;
+use party_state::{KeyRec, State};
+use x_base::{Count, FullName, Ident, KeyName, Label};
+
+/// The name of a key that came without a centre.
+pub(crate) fn direct_name(originator: Ident, label: Label, count: Count) -> KeyName
+    ensures { result ≡ direct_name originator label count }
+{
+    KeyName {
+        issuer: originator,
+        originator,
+        label,
+        count,
+    }
+}
+
+/// The full name of a key that this party holds.
+pub(crate) fn full_name(state: &State, key: &KeyRec) -> FullName
+    ensures { result ≡ full_name state.now.own key.now }
+{
+    let own = state.own();
+    FullName {
+        name: key.name,
+        recipient: if key.name.originator == own {
+            key.peer
+        } else {
+            own
+        },
+    }
+}
+
+/// No contents that are kept and not interpreted.
+pub(crate) fn no_extras() -> Extras
+    ensures { result ≡ no_extras }
+{
+    Extras {
+        iv: None,
+        edk: None,
+        p: None,
+    }
+}
+
+/// The label of the links with centres.
+pub(crate) fn centre_label() -> Label
+    ensures { result ≡ centre_label }
+{
+    match Label::read(b"C") {
+        Ok(label) => label,
+        Err(_) => unreachable!(),
+    }
+}

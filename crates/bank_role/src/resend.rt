@@ -1,0 +1,26 @@
+// Writing the text of an exchange again, as it is kept.
+ghost use Rattle.std.specs.Prelude.{◌≡◌, IfOk};
+ghost use Rattle.bank_role.specs.Storable.{CanKeep};
+ghost use Rattle.bank_role.specs.Deciding.{decision_of};
+ghost use Rattle.bank_role.specs.Resend.{resend};
+
+use crate::decisions::{accept, refusal};
+use crate::texts::Written;
+use party_state::{Decision, State};
+use std::alloc::Global;
+use x_base::{Ident, NoMemory, Verdict};
+
+/// What a bank decides where the text of the exchange with a peer is to be written again.
+#[tactic(auto, using(crate::proofs::ByRow::by_refused, crate::proofs::ByRow::by_accepted))]
+pub(crate) fn resend(alloc: Global, state: &State, peer: &Ident) -> Result<Decision, NoMemory>
+    ensures decision { IfOk result (λ d. d ≡ decision_of state.now (resend state.now peer.now)) }
+    ensures kept { IfOk result (λ d. CanKeep state.now d.change) }
+{
+    match state.exchange(peer) {
+        Some(exchange) => {
+            let written = Written::again(alloc, &exchange.text)?;
+            accept(alloc, state, Vec::new(alloc), Some(written))
+        }
+        None => Ok(refusal(Verdict::NoExchange)),
+    }
+}
