@@ -1,6 +1,8 @@
 //! What a bank decides (ANSI X9.17): of commands, and of service messages that arrive.
 #![tactic(auto)]
 
+#[cfg(test)]
+mod arrival_tests;
 mod arrivals;
 mod ask;
 mod commands;
@@ -25,6 +27,8 @@ mod rsi;
 mod rsm;
 mod sending;
 mod start;
+#[cfg(test)]
+mod test_parties;
 #[cfg(test)]
 mod tests;
 mod texts;
