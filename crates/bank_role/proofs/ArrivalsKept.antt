@@ -36,6 +36,11 @@ use Rattle.bank_role.specs.Rsm.{rsm, rsm_with, rsm_to, answer_to}
 use Rattle.bank_role.proofs.Found.{link_stands, key_stands}
 use Rattle.bank_role.proofs.Storable.{AreTame, storable}
 
+-- few edits, which the store can keep
+pub record AreFew (p : Party) (es : List Edit) : Type 0 where
+  pub tame : AreTame p es
+  pub few : length es ≤ 9
+
 -- the change of a row can be kept where its edits fit whenever it is accepted
 pub row_kept : (p : Party) (r : Row) → (is_accept r.verdict ≡ true → AreTame p r.edits) → length r.edits ≤ 9 → CanKeep p (change_of p r)
 row_kept p r tame few = go (is_accept r.verdict) refl

@@ -37,10 +37,10 @@ accepted_kept p es r t few = go (differing p es) (storable p es t few)
     go [] h = _
     go (d ∷ ds) h = h
 
-link_room : (p : Party) (l : LinkRec) → LinkStands p l → has_link_room p (link_key l) ≡ true
+pub link_room : (p : Party) (l : LinkRec) → LinkStands p l → has_link_room p (link_key l) ≡ true
 link_room p l s = let e = s.found in rw e refl
 
-key_room : (p : Party) (k : KeyRec) → KeyStands p k → has_key_room p (record_key k) ≡ true
+pub key_room : (p : Party) (k : KeyRec) → KeyStands p k → has_key_room p (record_key k) ≡ true
 key_room p k s = rw s refl
 
 -- a key that is sent

@@ -12,3 +12,5 @@ pub mod Disconnections
 pub mod KeyService
 pub mod ArrivalsKept
 mod Storable
+pub mod DisconnectionsKept
+pub mod ErrorsKept

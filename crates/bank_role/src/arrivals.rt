@@ -1,5 +1,6 @@
 // What a bank decides of a message that arrives, by its class.
 ghost use Rattle.std.specs.Prelude.{◌≡◌, IfOk};
+ghost use Rattle.bank_role.specs.Storable.{CanKeep};
 ghost use Rattle.bank_role.specs.Deciding.{decision_of};
 ghost use Rattle.bank_role.specs.Rows.{other_class, message_row};
 
@@ -19,7 +20,8 @@ use x_base::{Ident, NoMemory, Verdict};
 /// A class that a bank doesn't serve.
 #[tactic(auto, using(crate::proofs::ByRow::by_refused))]
 fn other_class(state: &State, receiver: &Ident, originator: &Ident) -> Decision
-    ensures { result ≡ decision_of state.now (other_class state.now receiver.now originator.now) }
+    ensures decision { result ≡ decision_of state.now (other_class state.now receiver.now originator.now) }
+    ensures kept { CanKeep state.now result.change }
 {
     refusal(verdict_of(&[
         (is_for(state, receiver, originator), Verdict::NotForMe),
@@ -35,7 +37,8 @@ pub(crate) fn arrived(
     arrival: &Arrival,
     moment: u64,
 ) -> Result<Decision, NoMemory>
-    ensures { IfOk result (λ d. d ≡ decision_of state.now (message_row state.now arrival.now arrival.now.parsed.message moment)) }
+    ensures decision { IfOk result (λ d. d ≡ decision_of state.now (message_row state.now arrival.now arrival.now.parsed.message moment)) }
+    ensures kept { IfOk result (λ d. CanKeep state.now d.change) }
 {
     match &arrival.parsed.message {
         Message::Rsi(message) => rsi(alloc, state, arrival, message, moment),

@@ -1,5 +1,6 @@
 ghost use Rattle.std.specs.Prelude.{◌≡◌, IfOk};
 ghost use Rattle.x_base.specs.declared.party.Role.TheVariants.{Bank};
+ghost use Rattle.bank_role.specs.Storable.{CanKeep};
 ghost use Rattle.bank_role.specs.Deciding.{decided};
 
 use crate::arrivals::arrived;
@@ -19,7 +20,8 @@ pub fn decide(
     moment: u64,
 ) -> Result<Decision, NoMemory>
     requires { state.now.role ≡ Bank }
-    ensures { IfOk result (λ d. d ≡ decided state.now input.now moment) }
+    ensures decision { IfOk result (λ d. d ≡ decided state.now input.now moment) }
+    ensures kept { IfOk result (λ d. CanKeep state.now d.change) }
 {
     match input {
         Input::Ordered(order) => command(alloc, state, order, moment),

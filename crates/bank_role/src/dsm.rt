@@ -5,6 +5,7 @@ ghost use Rattle.party_state.specs.Names.{full_name};
 ghost use Rattle.party_state.specs.Rows.Reply.{Coded};
 ghost use Rattle.party_state.specs.Verdicts.{verdict_of};
 ghost use Rattle.bank_role.specs.Replies.{IsWritten};
+ghost use Rattle.bank_role.specs.Storable.{CanKeep};
 ghost use Rattle.party_state.specs.State.{exchange_with};
 ghost use Rattle.bank_role.specs.Deciding.{decision_of};
 ghost use Rattle.bank_role.specs.Dsm.{named_by, dsm_front, left_by, left_in, disconnected, dsm_response, dsm_on, dsm, dsm_lead_on, dsm_lead};
@@ -200,7 +201,8 @@ pub(crate) fn dsm(
     arrival: &Arrival,
     message: &Dsm,
 ) -> Result<Decision, NoMemory>
-    ensures { IfOk result (λ d. d ≡ decision_of state.now (dsm state.now arrival.now message.now)) }
+    ensures decision { IfOk result (λ d. d ≡ decision_of state.now (dsm state.now arrival.now message.now)) }
+    ensures kept { IfOk result (λ d. CanKeep state.now d.change) }
 {
     dsm_on(alloc, state, arrival, message, &named_by(state, message))
 }

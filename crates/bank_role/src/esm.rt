@@ -1,8 +1,10 @@
 // An error service message arrives: what was sent is given up, and the count goes on where it is
 // told.
-ghost use Rattle.std.specs.Prelude.{◌≡◌, ◌++◌, ◌∷◌, [], IfOk};
+ghost use Rattle.std.specs.Prelude.{◌≡◌, ◌++◌, ◌∷◌, [], IfSome, IfOk};
+ghost use Rattle.x_base.specs.Count.{IsCount};
 ghost use Rattle.party_state.specs.declared.edit.Edit.TheVariants.{DropExchange};
 ghost use Rattle.party_state.specs.Verdicts.{verdict_of};
+ghost use Rattle.bank_role.specs.Storable.{CanKeep};
 ghost use Rattle.bank_role.specs.Deciding.{decision_of};
 ghost use Rattle.bank_role.specs.Texts.{is_plain};
 ghost use Rattle.bank_role.specs.Ksm.{lead_under};
@@ -242,8 +244,7 @@ fn is_plain(arrival: &Arrival) -> bool
     }
 }
 
-/// Decides of an error message.
-pub(crate) fn esm(
+fn esm_decided(
     alloc: Global,
     state: &State,
     arrival: &Arrival,
@@ -257,6 +258,30 @@ pub(crate) fn esm(
         let found = subject_with(state, &message.originator);
         esm_of(alloc, state, arrival, message, &found)
     }
+}
+
+/// The count that is told.
+fn told(message: &Esm) -> Option<u64>
+    ensures { IfSome message.now.ctr IsCount }
+{
+    let count = message.ctr?;
+    Some(count.value())
+}
+
+/// Decides of an error message.
+pub(crate) fn esm(
+    alloc: Global,
+    state: &State,
+    arrival: &Arrival,
+    message: &Esm,
+) -> Result<Decision, NoMemory>
+    ensures decision { IfOk result (λ d. d ≡ decision_of state.now (esm state.now arrival.now message.now)) }
+    ensures kept { IfOk result (λ d. CanKeep state.now d.change) }
+{
+    state.law_party();
+    // The value tells that it is a count.
+    told(message);
+    esm_decided(alloc, state, arrival, message)
 }
 
 /// The key under which its code is tested.
