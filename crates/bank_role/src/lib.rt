@@ -5,6 +5,8 @@
 mod arrival_tests;
 mod arrivals;
 mod ask;
+#[cfg(test)]
+mod command_tests;
 mod commands;
 mod common_tests;
 mod deciding;
@@ -29,8 +31,6 @@ mod sending;
 mod start;
 #[cfg(test)]
 mod test_parties;
-#[cfg(test)]
-mod tests;
 mod texts;
 mod verdicts;
 
