@@ -14,3 +14,4 @@ pub mod ArrivalsKept
 mod Storable
 pub mod DisconnectionsKept
 pub mod ErrorsKept
+pub mod Taking

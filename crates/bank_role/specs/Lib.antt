@@ -22,3 +22,4 @@ pub mod Replies
 pub mod Deciding
 pub mod Errors
 pub mod Storable
+pub mod Taking
