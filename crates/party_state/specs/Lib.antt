@@ -2,6 +2,7 @@ pub mod Tables
 pub mod Keys
 pub mod State
 pub mod Ranges
+pub mod Formed
 pub mod Names
 pub mod Verdicts
 pub mod Limits

@@ -1,5 +1,5 @@
 -- The ranges of what a party's tables and edits hold (this project's profile).
-use Rattle.std.specs.Prelude.{◌≡◌, ℕ, ◌≤◌, ◌<◌, ◌^◌, Option, Some, None, List, length, IfSome}
+use Rattle.std.specs.Prelude.{ℕ, ◌≤◌, ◌<◌, ◌^◌, List, length, IfSome}
 use Rattle.std.specs.List.{All}
 use Rattle.x_base.specs.Names.{IsIdent, IsLabel}
 use Rattle.x_base.specs.Count.{IsCount}

@@ -1,6 +1,6 @@
 -- What a party decides of an input, row by row of the profile: the tests of the row give the verdict;
 -- the rest tells what the row does where the verdict is Accept, and what it answers where it isn't.
-use Rattle.std.specs.Prelude.{ℕ, List, [], ◌∷◌, Option, None}
+use Rattle.std.specs.Prelude.{ℕ, List, [], Option, None}
 use Rattle.x_base.specs.declared.key_name.FullName.{FullName}
 use Rattle.x_base.specs.declared.verdict.Verdict.{Verdict}
 use Rattle.x_mac.specs.declared.pair.Pair.{Pair}

@@ -13,7 +13,10 @@ pub enum Command {
         pair: Pair,
     },
     /// Sends a new data key.
-    Start { peer: Ident, label: Option<Label> },
+    Start {
+        peer: Ident,
+        label: Option<Label>,
+    },
     /// Sends a new key-encrypting key, single or of double length, with a data key under it.
     StartKk {
         peer: Ident,
@@ -22,15 +25,28 @@ pub enum Command {
         single: bool,
     },
     /// Asks the peer for a key, for itself or for an ultimate recipient.
-    Ask { peer: Ident, ultimate: Option<Ident> },
+    Ask {
+        peer: Ident,
+        ultimate: Option<Ident>,
+    },
     /// Sends a new data key to a translation centre for an ultimate recipient.
-    Translate { centre: Ident, ultimate: Ident },
+    Translate {
+        centre: Ident,
+        ultimate: Ident,
+    },
     /// Writes the text of an exchange again.
-    Resend { peer: Ident },
+    Resend {
+        peer: Ident,
+    },
     /// Discontinues a key.
-    End { peer: Ident, name: KeyName },
+    End {
+        peer: Ident,
+        name: KeyName,
+    },
     /// Gives an exchange up.
-    Drop { peer: Ident },
+    Drop {
+        peer: Ident,
+    },
     /// Removes the records of ended keys.
     Purge,
 }

@@ -1,4 +1,7 @@
-use x_base::{Count, Ident, KeyName, Label, Text};
+ghost use Rattle.std.specs.Prelude.{◌≡◌, IfOk};
+
+use std::alloc::Global;
+use x_base::{Count, Ident, KeyName, Label, NoMemory, Text};
 
 /// The way a key was sent.
 #[derive(Clone, Copy, Debug, PartialEq, Eq)]
@@ -15,7 +18,9 @@ pub enum Via {
 #[derive(Clone, Copy, Debug, PartialEq, Eq)]
 pub enum Kind {
     /// A key for this ultimate recipient was asked for.
-    Asked { ultimate: Ident },
+    Asked {
+        ultimate: Ident,
+    },
     /// A key for this ultimate recipient is with a translation centre.
     Translating {
         ultimate: Ident,
@@ -23,9 +28,14 @@ pub enum Kind {
         cta: Count,
     },
     /// A key was sent.
-    KeySent { name: KeyName, via: Via },
+    KeySent {
+        name: KeyName,
+        via: Via,
+    },
     /// The end of a key was told.
-    Ending { name: KeyName },
+    Ending {
+        name: KeyName,
+    },
 }
 
 /// An exchange with a peer that isn't over, and the text that began it, of at most 1,024 bytes.
@@ -34,4 +44,17 @@ pub struct Exchange {
     pub peer: Ident,
     pub kind: Kind,
     pub text: Text,
+}
+
+impl Exchange {
+    /// An equal exchange in memory of its own.
+    pub fn copy(&self, alloc: Global) -> Result<Exchange, NoMemory>
+        ensures { IfOk result (λ copy. copy ≡ self.now) }
+    {
+        Ok(Exchange {
+            peer: self.peer,
+            kind: self.kind,
+            text: self.text.copy(alloc)?,
+        })
+    }
 }

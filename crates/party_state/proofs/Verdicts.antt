@@ -1,0 +1,59 @@
+-- What the verdict of a list of tests says of the tests.
+use Rattle.std.proofs.Common.{◌≡◌, Bool, true, false, cond, not, ◌&&◌, List, [], ◌∷◌, ◌++◌, refl, ap}
+use Rattle.x_base.specs.declared.verdict.Verdict.{Verdict}
+use Rattle.x_base.specs.declared.verdict.Verdict.TheVariants.{Accept}
+use Rattle.party_state.specs.Verdicts.{Test, verdict_of, passes, Held, is_accept, all_refuse}
+
+-- where the verdict is Accept, each test held
+pub held : (ts : List Test) → all_refuse ts ≡ true → is_accept (verdict_of ts) ≡ true → Held ts
+held [] r h = tt
+held (t ∷ ts) r h = go t.0 refl (is_accept t.1) refl r h (held ts)
+  where
+    go : (b : Bool) → t.0 ≡ b → (a : Bool) → is_accept t.1 ≡ a → (not a && all_refuse ts) ≡ true → is_accept (cond b (verdict_of ts) t.1) ≡ true → (all_refuse ts ≡ true → is_accept (verdict_of ts) ≡ true → Held ts) → (t.0 ≡ true) × Held ts
+    go b b= true a= r h ih = absurd (cc)
+    go true b= false a= r h ih = (b=, ih r h)
+    go false b= false a= r h ih = absurd (cc)
+
+pub held_at_accept : (ts : List Test) → all_refuse ts ≡ true → verdict_of ts ≡ Accept → Held ts
+held_at_accept ts r h = held ts r (ap is_accept h)
+
+-- where each test held, the verdict is Accept
+pub accepted : (ts : List Test) → Held ts → verdict_of ts ≡ Accept
+accepted [] h = refl
+accepted (t ∷ ts) h = rw h.0 (accepted ts h.1)
+
+-- after a test that fails there is no Accept
+pub blocked : (ts : List Test) (v : Verdict) → all_refuse ts ≡ true → is_accept v ≡ false → is_accept (verdict_of (ts ++ (false, v) ∷ [])) ≡ true → ⊥
+blocked [] v r f h = cc
+blocked (t ∷ ts) v r f h = go t.0 (is_accept t.1) refl r h (blocked ts v)
+  where
+    go : (b a : Bool) → is_accept t.1 ≡ a → (not a && all_refuse ts) ≡ true → is_accept (cond b (verdict_of (ts ++ (false, v) ∷ [])) t.1) ≡ true → (all_refuse ts ≡ true → is_accept v ≡ false → is_accept (verdict_of (ts ++ (false, v) ∷ [])) ≡ true → ⊥) → ⊥
+    go b true a= r h ih = cc
+    go true false a= r h ih = ih r f h
+    go false false a= r h ih = cc
+
+-- the tests of a list that is two lists one after another
+pub held_after : (ts us : List Test) → Held (ts ++ us) → Held ts × Held us
+held_after [] us h = (tt, h)
+held_after (t ∷ ts) us h = let later : Held ts × Held us = held_after ts us h.1 in ((h.0, later.0), later.1)
+
+pub held_before : (ts us : List Test) → Held ts → Held us → Held (ts ++ us)
+held_before [] us h k = k
+held_before (t ∷ ts) us h k = (h.0, held_before ts us h.1 k)
+
+-- the verdict of two lists one after another, where the first one held
+pub verdict_after : (ts us : List Test) → Held ts → verdict_of (ts ++ us) ≡ verdict_of us
+verdict_after [] us h = refl
+verdict_after (t ∷ ts) us h = rw h.0 (verdict_after ts us h.1)
+
+pub passes_held : (ts : List Test) → Held ts → passes ts ≡ true
+passes_held [] h = refl
+passes_held (t ∷ ts) h = rw h.0 (passes_held ts h.1)
+
+pub held_passes : (ts : List Test) → passes ts ≡ true → Held ts
+held_passes [] h = tt
+held_passes (t ∷ ts) h = go t.0 refl h (held_passes ts)
+  where
+    go : (b : Bool) → t.0 ≡ b → (b && passes ts) ≡ true → (passes ts ≡ true → Held ts) → (t.0 ≡ true) × Held ts
+    go true b= h ih = (b=, ih h)
+    go false b= h ih = absurd (cc)

@@ -1,0 +1,5 @@
+use Rattle.party_state.proofs.Edits.{party_apply}
+use Rattle.party_state.proofs.laws.law_party.Goals as goal
+
+pub returns-clause-stays : goal.returns-clause-stays
+returns-clause-stays c = party_apply

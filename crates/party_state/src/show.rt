@@ -1,0 +1,148 @@
+ghost use Rattle.std.specs.Prelude.{◌≡◌, ◌++◌, ◌∷◌, map, IfOk, OnOk};
+ghost use Rattle.std.specs.List.{flat_map};
+ghost use Rattle.x_base.specs.KeyName.{written as written_name};
+ghost use Rattle.party_state.specs.Show.{line, role_word as word_of_role, side_word as word_of_side, ready_word as word_of_ready, status_word as word_of_status, link_line, key_line, exchange_line, answer_line};
+
+use crate::answer::Answer;
+use crate::exchange::{Exchange, Kind};
+use crate::key::{KeyRec, KeyStatus};
+use crate::link::LinkRec;
+use std::alloc::Global;
+use x_base::{KeyName, NoMemory, Role, Side, Text};
+
+fn role_word(role: &Role) -> &[u8]
+    ensures { result.now ≡ word_of_role role.now }
+{
+    match role {
+        Role::Bank => b"BANK",
+        Role::Distribution => b"DISTRIBUTION",
+        Role::Translation => b"TRANSLATION",
+    }
+}
+
+fn side_word(side: &Side) -> &[u8]
+    ensures { result.now ≡ word_of_side side.now }
+{
+    match side {
+        Side::Sends => b"OUT",
+        Side::Takes => b"IN",
+    }
+}
+
+fn ready_word(ready: &bool) -> &[u8]
+    ensures { result.now ≡ word_of_ready ready.now }
+{
+    if *ready { b"READY" } else { b"PENDING" }
+}
+
+fn status_word(status: &KeyStatus) -> &[u8]
+    ensures { result.now ≡ word_of_status status.now }
+{
+    match status {
+        KeyStatus::Pending => b"PENDING",
+        KeyStatus::Live => b"LIVE",
+        KeyStatus::Held => b"HELD",
+        KeyStatus::Closing => b"CLOSING",
+        KeyStatus::Ended => b"ENDED",
+    }
+}
+
+fn written(alloc: Global, name: &KeyName) -> Result<Text, NoMemory>
+    ensures { IfOk result (λ text. text ≡ written_name name.now) }
+{
+    let mut text = Text::new(alloc);
+    name.write(&mut text)?;
+    Ok(text)
+}
+
+/// Appends words, each behind a blank.
+fn push_words(out: &mut Text, words: &[&[u8]]) -> Result<(), NoMemory>
+    ensures { OnOk result (out.new ≡ out.old ++ flat_map (λ w. 32 ∷ w.now) words.now) }
+{
+    for word in words {
+        out.push(b" ")?;
+        out.push(word)?;
+    }
+    Ok(())
+}
+
+/// Appends a line of a first word and others.
+fn push_line(out: &mut Text, first: &[u8], words: &[&[u8]]) -> Result<(), NoMemory>
+    ensures { OnOk result (out.new ≡ out.old ++ line (first.now ∷ map (λ w. w.now) words.now)) }
+{
+    out.push(first)?;
+    push_words(out, words)?;
+    out.push(b"\n")
+}
+
+fn push_link(alloc: Global, out: &mut Text, link: &LinkRec) -> Result<(), NoMemory>
+    ensures { OnOk result (out.new ≡ out.old ++ link_line link.now) }
+{
+    let next = link.next.to_string(alloc)?;
+    push_line(
+        out,
+        b"LINK",
+        &[
+            link.peer.bytes(),
+            link.label.bytes(),
+            side_word(&link.side),
+            next.as_bytes(),
+            ready_word(&link.ready),
+        ],
+    )
+}
+
+fn push_key(alloc: Global, out: &mut Text, key: &KeyRec) -> Result<(), NoMemory>
+    ensures { OnOk result (out.new ≡ out.old ++ key_line key.now) }
+{
+    let name = written(alloc, &key.name)?;
+    push_line(
+        out,
+        b"KEY",
+        &[key.peer.bytes(), name.bytes(), status_word(&key.status)],
+    )
+}
+
+fn push_exchange(alloc: Global, out: &mut Text, exchange: &Exchange) -> Result<(), NoMemory>
+    ensures { OnOk result (out.new ≡ out.old ++ exchange_line exchange.now) }
+{
+    let peer = exchange.peer.bytes();
+    match &exchange.kind {
+        Kind::Asked { ultimate } => push_line(
+            out,
+            b"EXCHANGE",
+            &[peer, b"ASKED", ultimate.bytes()],
+        ),
+        Kind::Translating { ultimate, cta, .. } => {
+            let cta = cta.value().to_string(alloc)?;
+            push_line(
+                out,
+                b"EXCHANGE",
+                &[peer, b"TRANSLATING", ultimate.bytes(), cta.as_bytes()],
+            )
+        }
+        Kind::KeySent { name, .. } => {
+            let name = written(alloc, name)?;
+            push_line(out, b"EXCHANGE", &[peer, b"KEYSENT", name.bytes()])
+        }
+        Kind::Ending { name } => {
+            let name = written(alloc, name)?;
+            push_line(out, b"EXCHANGE", &[peer, b"ENDING", name.bytes()])
+        }
+    }
+}
+
+fn push_answer(alloc: Global, out: &mut Text, answer: &Answer) -> Result<(), NoMemory>
+    ensures { OnOk result (out.new ≡ out.old ++ answer_line answer.now) }
+{
+    let cta = answer.cta.value().to_string(alloc)?;
+    push_line(
+        out,
+        b"ANSWER",
+        &[
+            answer.requester.bytes(),
+            answer.ultimate.bytes(),
+            cta.as_bytes(),
+        ],
+    )
+}
