@@ -1,3 +1,7 @@
 mod Joining
 mod Numbers
 mod Names
+mod Tags
+mod RowForms
+mod ExchangeForms
+mod EditForms

@@ -101,3 +101,11 @@ pub read_long_of : {B : Type 0} (now : B → List ℕ) (old rest more : List ℕ
     → MatchOption result (LacksLong old) (λ text. old ≡ long (now text) ++ more)
 read_long_of now old rest more n None small is few = lacks_long_few old rest n small is few
 read_long_of now old rest more n (Some front) small is there = read_long old rest n (now front) more is there.0 there.1
+
+-- a text that is too long
+pub lacks_text : (old rest text : List ℕ) → old ≡ long text ++ rest → length text < 2 ^ 16 → 1024 < length text → Lacks text_form old
+lacks_text old rest text is small many = record {
+  none = λ other more fits there.
+      let same = long_apart text other rest more small (omega (arith, fits)) (sym is ∙ there) in
+      omega (arith, many, fits, ap length same.0);
+}

@@ -1,5 +1,5 @@
 -- What a reader of pieces finds in front of its bytes (this project's profile).
-use Rattle.std.specs.Prelude.{◌≡◌, ℕ, ◌≤◌, ◌<◌, ◌^◌, Bool, Option, Some, None, IfSome, List, ◌++◌, length}
+use Rattle.std.specs.Prelude.{◌≡◌, ℕ, ◌≤◌, ◌<◌, ◌^◌, Bool, Option, Some, None, IfSome, Result, Ok, Err, List, ◌++◌, length}
 use Rattle.x_base.specs.Count.{IsCount}
 use Rattle.x_base.specs.KeyName.{IsKeyName}
 use Rattle.x_base.specs.Names.{IsIdent, IsLabel}
@@ -17,6 +17,8 @@ use Rattle.party_state.specs.declared.exchange.Exchange.{Exchange}
 use Rattle.party_state.specs.declared.answer.Answer.{Answer}
 use Rattle.party_state.specs.declared.edit.Edit.{Edit}
 use Rattle.party_state.specs.Ranges.{IsWord, IsPair, IsGen, IsNext, IsLink, IsRecord, IsVia, IsKind, IsExchange, IsAnswer, InRange}
+use Rattle.key_store.specs.declared.fault.CodeFault.{CodeFault}
+use Rattle.key_store.specs.declared.fault.CodeFault.TheVariants.{Bad, NoMemory}
 use Rattle.key_store.specs.Code.{two, eight, short, long, name_code, pair_code, gen_code, role_code, side_code, status_code, flag_code, maybe_code, link_code, key_code, via_code, kind_code, exchange_code, answer_code, edit_code}
 
 -- how a kind of value is coded, and its range
@@ -37,6 +39,12 @@ pub record Begins {T : Type 0} (form : Form T) (bytes rest : List ℕ) (x : T) :
 abbrev pub IsRead : {T : Type 0} → Form T → List ℕ → List ℕ → Option T → Type 0
 IsRead form bytes rest None = Lacks form bytes
 IsRead form bytes rest (Some x) = Begins form bytes rest x
+
+-- the same where memory may be wanting
+abbrev pub IsDecoded : {T : Type 0} → Form T → List ℕ → List ℕ → Result T CodeFault → Type 0
+IsDecoded form bytes rest (Ok x) = Begins form bytes rest x
+IsDecoded form bytes rest (Err Bad) = Lacks form bytes
+IsDecoded form bytes rest (Err NoMemory) = Unit {0}
 
 -- any value
 abbrev pub Any : {T : Type 0} → T → Type 0

@@ -1,5 +1,5 @@
 // Reading the pieces of a code from the front.
-ghost use Rattle.std.specs.Prelude.{◌≡◌, ◌+◌, ◌<◌, ◌∷◌, ◌++◌, List, ℕ, length, take, drop, Option, Some, None, MatchOption};
+ghost use Rattle.std.specs.Prelude.{◌≡◌, ◌+◌, ◌<◌, ◌^◌, ◌∷◌, ◌++◌, List, ℕ, length, take, drop, Option, Some, None, IfSome, MatchOption};
 ghost use Rattle.key_store.specs.Code.{short, long};
 ghost use Rattle.key_store.specs.Reading.{LacksShort, LacksLong};
 
@@ -53,7 +53,8 @@ impl<'a> Reader<'a> {
 
     /// The bytes behind two bytes with their number.
     pub(crate) fn long(&mut self) -> Option<&'a [u8]>
-        ensures { MatchOption result (LacksLong self.old) (λ text. self.old ≡ long text.now ++ self.new) }
+        ensures code { MatchOption result (LacksLong self.old) (λ text. self.old ≡ long text.now ++ self.new) }
+        ensures length { IfSome result (λ text. length text.now < 2 ^ 16) }
     {
         let n = self.half_word()?;
         self.bytes(usize::from(n))

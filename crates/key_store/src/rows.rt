@@ -1,14 +1,8 @@
-// Reading the rows of a party's tables.
-ghost use Rattle.std.specs.Prelude.{◌≡◌, MatchOption, length, ◌≤◌};
-ghost use Rattle.key_store.specs.Reading.{IsRead, Lacks, Begins, text_form, link_form, key_form, via_form, kind_form, exchange_form, answer_form};
+// Reading links, key records and answers.
+ghost use Rattle.key_store.specs.Reading.{IsRead, link_form, key_form, answer_form};
 
-use crate::fault::CodeFault;
 use crate::reader::Reader;
-use party_state::{Answer, Exchange, Kind, KeyRec, LinkRec, Via};
-use std::alloc::Global;
-use x_base::{Ident, Text};
-
-const LONGEST_TEXT: usize = 1024;
+use party_state::{Answer, KeyRec, LinkRec};
 
 impl<'a> Reader<'a> {
     pub(crate) fn link(&mut self) -> Option<LinkRec>
@@ -43,22 +37,6 @@ impl<'a> Reader<'a> {
             value,
             status,
         })
-    }
-
-    fn direct(&mut self) -> Option<Via>
-        ensures { IsRead direct_form self.old self.new result }
-    {
-        let label = self.label()?;
-        let new = self.maybe_label()?;
-        Some(Via::Direct { label, new })
-    }
-
-    fn distribution(&mut self) -> Option<Via>
-        ensures { IsRead distribution_form self.old self.new result }
-    {
-        let centre = self.ident()?;
-        let cta = self.count()?;
-        Some(Via::Distribution { centre, cta })
     }
 
     pub(crate) fn answer(&mut self) -> Option<Answer>
