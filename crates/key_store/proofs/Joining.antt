@@ -53,7 +53,7 @@ pub apart_as : {T U : Type 0} (form : Form T) (inner : Form U) → Shape form in
 apart_as form inner shape apart = record {
   same = λ x y r s fx fy is.
       let same = apart.same (shape.parts x) (shape.parts y) r s (shape.fits x fx) (shape.fits y fy)
-          (ap (λ (l : List ℕ). l ++ r) (sym (shape.code x)) ∙ (is ∙ ap (λ (l : List ℕ). l ++ s) (shape.code y))) in
+      (ap (λ (l : List ℕ). l ++ r) (sym (shape.code x)) ∙ (is ∙ ap (λ (l : List ℕ). l ++ s) (shape.code y))) in
       (sym (shape.back x) ∙ (ap shape.whole same.0 ∙ shape.back y), same.1);
 }
 

@@ -5,3 +5,4 @@ mod Tags
 mod RowForms
 mod ExchangeForms
 mod EditForms
+mod Changes

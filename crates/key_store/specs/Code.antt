@@ -1,5 +1,5 @@
 -- The code of a change (this project's profile). Numbers are most significant byte first.
-use Rattle.std.specs.Prelude.{ℕ, Bool, true, false, Option, Some, None, List, [], ◌∷◌, ◌++◌, length}
+use Rattle.std.specs.Prelude.{◌≡◌, ◌≤◌, ℕ, Bool, true, false, Option, Some, None, List, [], ◌∷◌, ◌++◌, length}
 use Rattle.std.specs.Int.{w16, w64, to_be_bytes}
 use Rattle.std.specs.List.{flat_map}
 use Rattle.x_base.specs.declared.key_name.KeyName.{KeyName}
@@ -21,6 +21,7 @@ use Rattle.party_state.specs.declared.exchange.Exchange.{Exchange}
 use Rattle.party_state.specs.declared.answer.Answer.{Answer}
 use Rattle.party_state.specs.declared.edit.Edit.{Edit}
 use Rattle.party_state.specs.declared.edit.Edit.TheVariants.{Begin, PutLink, DropLink, PutKey, DropEnded, PutExchange, DropExchange, PutAnswer, SetGen}
+use Rattle.party_state.specs.Ranges.{AreInRange}
 
 -- pieces
 
@@ -120,3 +121,17 @@ code_in format edits = format ∷ (two (length edits) ++ edits_code edits)
 -- the same in the format that is written
 abbrev pub code_of : List Edit → List ℕ
 code_of edits = code_in 1 edits
+
+-- the bytes are the code in this format of this change, in which each part is in its range
+pub record IsCodeIn (format : ℕ) (bytes : List ℕ) (edits : List Edit) : Type 0 where
+  pub few : length edits ≤ 65535
+  pub in_range : AreInRange edits
+  pub is : bytes ≡ code_in format edits
+
+-- the same in the format that is written
+abbrev pub IsCode : List ℕ → List Edit → Type 0
+IsCode bytes edits = IsCodeIn 1 bytes edits
+
+-- the bytes are the code of no change
+abbrev pub IsNoCode : List ℕ → Type 0
+IsNoCode bytes = (edits : List Edit) → IsCode bytes edits → ⊥

@@ -16,10 +16,10 @@ use Rattle.party_state.specs.declared.exchange.Kind.{Kind}
 use Rattle.party_state.specs.declared.exchange.Exchange.{Exchange}
 use Rattle.party_state.specs.declared.answer.Answer.{Answer}
 use Rattle.party_state.specs.declared.edit.Edit.{Edit}
-use Rattle.party_state.specs.Ranges.{IsWord, IsPair, IsGen, IsNext, IsLink, IsRecord, IsVia, IsKind, IsExchange, IsAnswer, InRange}
+use Rattle.party_state.specs.Ranges.{IsWord, IsPair, IsGen, IsNext, IsLink, IsRecord, IsVia, IsKind, IsExchange, IsAnswer, InRange, AreInRange}
 use Rattle.key_store.specs.declared.fault.CodeFault.{CodeFault}
 use Rattle.key_store.specs.declared.fault.CodeFault.TheVariants.{Bad, NoMemory}
-use Rattle.key_store.specs.Code.{two, eight, short, long, name_code, pair_code, gen_code, role_code, side_code, status_code, flag_code, maybe_code, link_code, key_code, via_code, kind_code, exchange_code, answer_code, edit_code}
+use Rattle.key_store.specs.Code.{two, eight, short, long, name_code, pair_code, gen_code, role_code, side_code, status_code, flag_code, maybe_code, link_code, key_code, via_code, kind_code, exchange_code, answer_code, edit_code, edits_code}
 
 -- how a kind of value is coded, and its range
 pub record Form (T : Type 0) : Type 1 where
@@ -126,3 +126,7 @@ answer_form = record { code = answer_code; Fits = IsAnswer }
 
 abbrev pub edit_form : Form Edit
 edit_form = record { code = edit_code; Fits = InRange }
+
+-- so many edits
+abbrev pub edits_form : ℕ → Form (List Edit)
+edits_form n = record { code = edits_code; Fits = λ edits. (length edits ≡ n) × AreInRange edits }

@@ -1,11 +1,12 @@
 // Reading the pieces of a code from the front.
-ghost use Rattle.std.specs.Prelude.{◌≡◌, ◌+◌, ◌<◌, ◌^◌, ◌∷◌, ◌++◌, List, ℕ, length, take, drop, Option, Some, None, IfSome, MatchOption};
+ghost use Rattle.std.specs.Prelude.{◌≡◌, ◌+◌, ◌<◌, ◌^◌, ◌∷◌, ◌++◌, List, ℕ, nat_eq, length, take, drop, Option, Some, None, IfSome, MatchOption};
 ghost use Rattle.key_store.specs.Code.{short, long};
 ghost use Rattle.key_store.specs.Reading.{LacksShort, LacksLong};
 
 use std::marker::Model;
 
 /// The bytes that weren't read yet.
+#[derive(Drop)]
 pub(crate) struct Reader<'a> {
     pub(crate) rest: &'a [u8],
 }
@@ -23,6 +24,12 @@ impl<'a> Reader<'a> {
         ensures { result ≡ bytes.entry.now }
     {
         Reader { rest: bytes }
+    }
+
+    pub(crate) fn is_empty(&self) -> bool
+        ensures { result ≡ nat_eq (length self.now) 0 }
+    {
+        self.rest.is_empty()
     }
 
     /// The next byte.
