@@ -1,3 +1,6 @@
+mod Entries
+mod Rows
+mod Steps
 mod Forms
 mod Lines
 pub mod Tables

@@ -1,6 +1,8 @@
 pub mod Tables
 pub mod Keys
+pub mod Keyed
 pub mod State
+pub mod Prepared
 pub mod Ranges
 pub mod Formed
 pub mod Names

@@ -1,4 +1,6 @@
-use x_base::{Count, Ident};
+use crate::table::Row;
+use std::alloc::Global;
+use x_base::{Count, Ident, NoMemory};
 
 /// What an answer is found by.
 #[derive(Clone, Copy, Debug, PartialEq, Eq, Hash)]
@@ -14,4 +16,24 @@ pub struct Answer {
     pub ultimate: Ident,
     pub cta: Count,
     pub value: u64,
+}
+
+impl Row<AnswerKey> for Answer {
+    ghost use Rattle.party_state.specs.Keys.{answer_key};
+    ghost use Rattle.party_state.specs.Ranges.{IsAnswer};
+
+    ghost row_key = { answer_key };
+
+    ghost IsRow = { IsAnswer };
+
+    fn row_key(&self) -> AnswerKey {
+        AnswerKey {
+            requester: self.requester,
+            ultimate: self.ultimate,
+        }
+    }
+
+    fn copied(&self, _: Global) -> Result<Answer, NoMemory> {
+        Ok(*self)
+    }
 }

@@ -1,5 +1,6 @@
 ghost use Rattle.std.specs.Prelude.{◌≡◌, IfOk};
 
+use crate::table::Row;
 use std::alloc::Global;
 use x_base::{Count, Ident, KeyName, Label, NoMemory, Text};
 
@@ -56,5 +57,22 @@ impl Exchange {
             kind: self.kind,
             text: self.text.copy(alloc)?,
         })
+    }
+}
+
+impl Row<Ident> for Exchange {
+    ghost use Rattle.party_state.specs.Keys.{exchange_key};
+    ghost use Rattle.party_state.specs.Ranges.{IsExchange};
+
+    ghost row_key = { exchange_key };
+
+    ghost IsRow = { IsExchange };
+
+    fn row_key(&self) -> Ident {
+        self.peer
+    }
+
+    fn copied(&self, alloc: Global) -> Result<Exchange, NoMemory> {
+        self.copy(alloc)
     }
 }

@@ -1,4 +1,6 @@
-use x_base::{Ident, KeyName};
+use crate::table::Row;
+use std::alloc::Global;
+use x_base::{Ident, KeyName, NoMemory};
 
 /// How far a data key has come.
 #[derive(Clone, Copy, Debug, PartialEq, Eq)]
@@ -29,4 +31,24 @@ pub struct KeyRec {
     pub name: KeyName,
     pub value: u64,
     pub status: KeyStatus,
+}
+
+impl Row<RecordKey> for KeyRec {
+    ghost use Rattle.party_state.specs.Keys.{record_key};
+    ghost use Rattle.party_state.specs.Ranges.{IsRecord};
+
+    ghost row_key = { record_key };
+
+    ghost IsRow = { IsRecord };
+
+    fn row_key(&self) -> RecordKey {
+        RecordKey {
+            peer: self.peer,
+            name: self.name,
+        }
+    }
+
+    fn copied(&self, _: Global) -> Result<KeyRec, NoMemory> {
+        Ok(*self)
+    }
 }

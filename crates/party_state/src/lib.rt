@@ -4,14 +4,21 @@
 
 mod answer;
 mod command;
+mod compare;
 mod decision;
 mod edit;
 mod exchange;
 mod key;
 mod laws;
 mod link;
+mod lookups;
+mod names;
+mod party;
+mod prepared;
 mod ranges;
 mod show;
+mod state;
+mod table;
 
 pub use answer::{Answer, AnswerKey};
 pub use command::{Command, Input};
@@ -19,6 +26,14 @@ pub use decision::{Decision, Lead};
 pub use edit::{Change, Edit};
 pub use exchange::{Exchange, Kind, Via};
 pub use key::{KeyRec, KeyStatus, RecordKey};
-pub use laws::{law_accept, law_edits, law_party};
+pub use laws::{law_accept, law_drop, law_edits, law_party, law_put};
 pub use link::{LinkKey, LinkRec};
+pub use prepared::{Prepared, apply};
+pub use show::show_text;
+pub use state::{State, first_state};
 pub use x_base::{Role, Side};
+
+#[cfg(test)]
+mod state_tests;
+#[cfg(test)]
+mod tests;

@@ -1,4 +1,6 @@
-use x_base::{Ident, Label, Side};
+use crate::table::Row;
+use std::alloc::Global;
+use x_base::{Ident, Label, NoMemory, Side};
 use x_mac::Pair;
 
 /// What a link is found by.
@@ -21,4 +23,25 @@ pub struct LinkRec {
     pub pair: Pair,
     pub next: u64,
     pub ready: bool,
+}
+
+impl Row<LinkKey> for LinkRec {
+    ghost use Rattle.party_state.specs.Keys.{link_key};
+    ghost use Rattle.party_state.specs.Ranges.{IsLink};
+
+    ghost row_key = { link_key };
+
+    ghost IsRow = { IsLink };
+
+    fn row_key(&self) -> LinkKey {
+        LinkKey {
+            peer: self.peer,
+            label: self.label,
+            side: self.side,
+        }
+    }
+
+    fn copied(&self, _: Global) -> Result<LinkRec, NoMemory> {
+        Ok(*self)
+    }
 }

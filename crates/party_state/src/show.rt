@@ -1,12 +1,13 @@
 ghost use Rattle.std.specs.Prelude.{◌≡◌, ◌++◌, ◌∷◌, map, IfOk, OnOk};
-ghost use Rattle.std.specs.List.{flat_map};
+ghost use Rattle.std.specs.List.{concat, flat_map};
 ghost use Rattle.x_base.specs.KeyName.{written as written_name};
-ghost use Rattle.party_state.specs.Show.{line, role_word as word_of_role, side_word as word_of_side, ready_word as word_of_ready, status_word as word_of_status, link_line, key_line, exchange_line, answer_line};
+ghost use Rattle.party_state.specs.Show.{line, role_word as word_of_role, side_word as word_of_side, ready_word as word_of_ready, status_word as word_of_status, link_line, key_line, exchange_line, answer_line, shown};
 
 use crate::answer::Answer;
 use crate::exchange::{Exchange, Kind};
 use crate::key::{KeyRec, KeyStatus};
 use crate::link::LinkRec;
+use crate::state::State;
 use std::alloc::Global;
 use x_base::{KeyName, NoMemory, Role, Side, Text};
 
@@ -145,4 +146,64 @@ fn push_answer(alloc: Global, out: &mut Text, answer: &Answer) -> Result<(), NoM
             cta.as_bytes(),
         ],
     )
+}
+
+fn push_links(alloc: Global, out: &mut Text, state: &State) -> Result<(), NoMemory>
+    ensures { OnOk result (out.new ≡ out.old ++ concat (map link_line state.now.links)) }
+{
+    for i in 0..state.link_count() {
+        if let Some(link) = state.link_at(i) {
+            push_link(alloc, out, link)?;
+        }
+    }
+    Ok(())
+}
+
+fn push_keys(alloc: Global, out: &mut Text, state: &State) -> Result<(), NoMemory>
+    ensures { OnOk result (out.new ≡ out.old ++ concat (map key_line state.now.keys)) }
+{
+    for i in 0..state.key_count() {
+        if let Some(key) = state.key_at(i) {
+            push_key(alloc, out, key)?;
+        }
+    }
+    Ok(())
+}
+
+fn push_exchanges(alloc: Global, out: &mut Text, state: &State) -> Result<(), NoMemory>
+    ensures { OnOk result (out.new ≡ out.old ++ concat (map exchange_line state.now.exchanges)) }
+{
+    for i in 0..state.exchange_count() {
+        if let Some(exchange) = state.exchange_at(i) {
+            push_exchange(alloc, out, exchange)?;
+        }
+    }
+    Ok(())
+}
+
+fn push_answers(alloc: Global, out: &mut Text, state: &State) -> Result<(), NoMemory>
+    ensures { OnOk result (out.new ≡ out.old ++ concat (map answer_line state.now.answers)) }
+{
+    for i in 0..state.answer_count() {
+        if let Some(answer) = state.answer_at(i) {
+            push_answer(alloc, out, answer)?;
+        }
+    }
+    Ok(())
+}
+
+/// The lines in which a party is shown: the party, its links, keys, exchanges and answers, each
+/// list in its order. No key's value is shown.
+pub fn show_text(alloc: Global, state: &State) -> Result<Text, NoMemory>
+    ensures { IfOk result (λ text. text ≡ shown state.now) }
+{
+    let own = state.own();
+    let role = state.role();
+    let mut text = Text::new(alloc);
+    push_line(&mut text, b"PARTY", &[own.bytes(), role_word(&role)])?;
+    push_links(alloc, &mut text, state)?;
+    push_keys(alloc, &mut text, state)?;
+    push_exchanges(alloc, &mut text, state)?;
+    push_answers(alloc, &mut text, state)?;
+    Ok(text)
 }

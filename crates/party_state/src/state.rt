@@ -1,0 +1,64 @@
+ghost use Rattle.std.specs.Prelude.{◌≡◌, length, slice_get, IfSome, IfOk, IfErr, OnOk, OnErr, option_map};
+ghost use Rattle.party_state.specs.Ranges.{AreFitting, HasNoBegin, IsFitting, IsNoBegin, IsParty};
+ghost use Rattle.party_state.specs.State.{begun, apply_edit};
+ghost use Rattle.party_state.specs.State as party;
+
+use crate::edit::{Change, Edit};
+use crate::party::Parts;
+use std::alloc::Global;
+use std::marker::Model;
+use x_base::{Ident, NoMemory, Role};
+use x_gen::Gen;
+
+/// A party's state.
+#[derive(Drop)]
+pub struct State {
+    pub(crate) parts: Parts,
+}
+
+impl Model for State {
+    ghost use Rattle.party_state.specs.State.{Party};
+
+    ghost Value = { Party };
+
+    ghost view = { λ s. s.parts.0 };
+}
+
+/// The state of a party that begins.
+pub fn first_state(alloc: Global, own: Ident, role: Role, generator: Gen) -> Result<State, NoMemory>
+    ensures { IfOk result (λ s. s ≡ begun own role generator) }
+{
+    Ok(State {
+        parts: Parts::new(alloc, own, role, generator),
+    })
+}
+
+impl State {
+    /// Every part is in its range, and each table has each key once. It does nothing.
+    pub fn law_party(&self)
+        ensures { IsParty self.now }
+    {
+        self.parts.law();
+    }
+
+    /// Does an edit in place. Where there is no memory for it, all stays as it was.
+    pub fn edit(&mut self, _: Global, edit: Edit) -> Result<(), NoMemory>
+        requires fitting { IsFitting edit }
+        requires goes_on { IsNoBegin edit }
+        ensures done { OnOk result (self.new ≡ apply_edit edit self.old) }
+        ensures kept { OnErr result (self.new ≡ self.old) }
+    {
+        self.parts.edit(edit)
+    }
+}
+
+impl State {
+    /// The same state in memory of its own.
+    pub(crate) fn copy(&self, alloc: Global) -> Result<State, NoMemory>
+        ensures { IfOk result (λ copy. copy ≡ self.now) }
+    {
+        Ok(State {
+            parts: self.parts.copy(alloc)?,
+        })
+    }
+}
