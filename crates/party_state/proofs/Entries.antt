@@ -1,5 +1,5 @@
 -- The entries of a table beside its rows.
-use Rattle.std.proofs.Common.{◌≡◌, Bool, true, false, not, cond, Option, None, Some, List, [], ◌∷◌, filter, refl, sym, ap, subst, ◌∙◌, Result, Ok, Err, OnOk, OnErr}
+use Rattle.std.proofs.Common.{◌≡◌, Bool, true, false, not, cond, None, Some, List, [], ◌∷◌, filter, refl, sym, ap, subst, ◌∙◌, Result, Ok, Err, OnOk, OnErr}
 use Rattle.std.specs.Cmp.{IsEquivalence}
 use Rattle.std.specs.List.{IsDistinct, AllByRecursion}
 use Rattle.std.specs.Map.{keys_of, values_of, lookup}

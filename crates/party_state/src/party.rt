@@ -9,7 +9,7 @@ use crate::edit::Edit;
 use crate::exchange::Exchange;
 use crate::key::{KeyRec, RecordKey};
 use crate::link::{LinkKey, LinkRec};
-use crate::ranges::{law_answer, law_exchange, law_generator, law_link, law_record};
+use crate::ranges::law_generator;
 use crate::table::Table;
 use std::alloc::Global;
 use std::marker::Model;
@@ -109,23 +109,12 @@ impl Parts {
         ensures succeeds { 0 < self.old.1 → IsOk result }
         ensures room { self.old.1 ≤ self.new.1 + 1 }
     {
+        edit.law_in_range();
         match edit {
-            Edit::PutLink(link) => {
-                law_link(&link);
-                self.links.put(link)
-            }
-            Edit::PutKey(key) => {
-                law_record(&key);
-                self.keys.put(key)
-            }
-            Edit::PutExchange(exchange) => {
-                law_exchange(&exchange);
-                self.exchanges.put(exchange)
-            }
-            Edit::PutAnswer(answer) => {
-                law_answer(&answer);
-                self.answers.put(answer)
-            }
+            Edit::PutLink(link) => self.links.put(link),
+            Edit::PutKey(key) => self.keys.put(key),
+            Edit::PutExchange(exchange) => self.exchanges.put(exchange),
+            Edit::PutAnswer(answer) => self.answers.put(answer),
             Edit::DropLink { peer, label, side } => {
                 self.links.remove(&LinkKey { peer, label, side });
                 Ok(())

@@ -1,4 +1,4 @@
-use Rattle.std.proofs.Common.{rules, not, ◌≡◌, filter, ap, ◌∙◌, sym}
+use Rattle.std.proofs.Common.{rules, not, ap, ◌∙◌}
 use Rattle.std.specs.Map.{values_of}
 use Rattle.indexmap.proofs.CallerLemmas.{filter-RetainsPairs}
 use Rattle.party_state.specs.declared.key.KeyRec.{KeyRec}
