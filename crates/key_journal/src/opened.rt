@@ -135,6 +135,13 @@ impl<D: Disk> Opened<D> {
         }
     }
 
+    /// The place of the gate that is read next.
+    pub fn gate(&self) -> u64
+        ensures { result ≡ self.now.gate }
+    {
+        self.gate
+    }
+
     /// The journal at rest. Needs that `next` gave none.
     pub fn ready(self) -> Ready<D>
         requires { self.ended ≡ true }

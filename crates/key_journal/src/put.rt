@@ -19,6 +19,7 @@ pub(crate) fn put<D: Disk>(disk: &mut D, at: u64, bytes: &[u8]) -> Result<(), Di
     ensures stable { OnErr result ((D.told disk.new).stable ≡ (D.told disk.old).stable) }
     ensures cause { HasFaults (D.told disk.old) (D.told disk.new) result }
     ensures passes { OnOk result ((D.told disk.new).passes ≡ one_less (one_less (D.told disk.old).passes)) }
+    ensures left { OnErr result (((D.told disk.new).passes ≡ one_less (D.told disk.old).passes) ⊎ ((D.told disk.new).passes ≡ one_less (one_less (D.told disk.old).passes))) }
     ensures blows { ((D.told disk.old).passes ≡ Some 0) ⊎ ((D.told disk.old).passes ≡ Some 1) → IsErr result }
 
     // Where the sync was the call that failed, a read gives what was written.

@@ -108,6 +108,7 @@ impl<D: Disk> Ready<D> {
         ensures faults { (D.told self.disk).faults ≤ (D.told (staged_disk result)).faults }
         ensures tells { is_some (D.told (staged_disk result)).now ≡ is_some (D.told self.disk).now }
         ensures passes { IfOk result (λ s. (D.told s.disk).passes ≡ one_less (one_less (D.told self.disk).passes)) }
+        ensures left { IfErr result (λ b. ((D.told b.disk).passes ≡ one_less (D.told self.disk).passes) ⊎ ((D.told b.disk).passes ≡ one_less (one_less (D.told self.disk).passes))) }
         ensures blows { ((D.told self.disk).passes ≡ Some 0) ⊎ ((D.told self.disk).passes ≡ Some 1) → IsErr result }
         ensures covered { IfErr result (λ b. (end n calls : ℕ) → (D.told self.disk).covers end n (suc (suc calls)) → self.gate + 1 + length frame.now ≤ end → length frame.now ≤ n → b.cause ≡ DiskErr.NoMemory → ⊥) }
         ensures covered_then { IfOk result (λ s. (end n calls : ℕ) → (D.told self.disk).covers end n (suc (suc calls)) → self.gate + 1 + length frame.now ≤ end → length frame.now ≤ n

@@ -6,3 +6,5 @@ mod RowForms
 mod ExchangeForms
 mod EditForms
 mod Changes
+mod Folding
+mod Keeping

@@ -1,2 +1,4 @@
 pub mod Code
+pub mod Kept
 pub mod Reading
+pub mod Store

@@ -1,18 +1,23 @@
 //! The code of a change, and the store of a party's state on a journal.
 #![tactic(auto)]
 
+mod bodies;
 mod code_laws;
 mod decoding;
 mod edits;
 mod encoding;
 mod exchanges;
 mod fault;
+mod follow;
+mod keep;
 mod pieces;
 mod reader;
 mod rows;
+mod store;
 mod writing;
 
 pub use code_laws::{law_one_change, law_one_code};
 pub use decoding::decode;
 pub use encoding::encode;
 pub use fault::CodeFault;
+pub use store::{Kept, Store};
