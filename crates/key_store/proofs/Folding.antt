@@ -1,10 +1,14 @@
 -- Bodies one after the other, and the party that they make.
-use Rattle.std.proofs.Common.{◌≡◌, inl, inr, ℕ, ◌+◌, ◌≤◌, List, [], ◌∷◌, ◌++◌, length, refl, sym, ◌∙◌, ap, subst, arith}
+use Rattle.std.proofs.Common.{◌≡◌, inl, inr, ℕ, ◌+◌, ◌≤◌, List, [], ◌∷◌, ◌++◌, length, ◌<◌, refl, sym, ◌∙◌, ap, subst, arith}
 use Rattle.x_base.specs.declared.party.Role.{Role}
 use Rattle.x_gen.specs.declared.generator.Gen.{Gen}
-use Rattle.party_state.specs.State.{Party, begun, apply}
+use Rattle.std.specs.List.{All, slice_index_or, remove}
+use Rattle.std.proofs.lemmas.List.Elements.{All-nil, All-cons, All-head, All-tail}
+use Rattle.party_state.specs.Ranges.{InRange, AreInRange, IsFitting, AreFitting, IsNoBegin}
+use Rattle.party_state.specs.Limits.{IsWithinLimits}
+use Rattle.party_state.specs.State.{Party, begun, apply, apply_edit}
 use Rattle.party_state.specs.declared.edit.Edit.{Edit}
-use Rattle.party_state.specs.declared.edit.Edit.TheVariants.{Begin}
+use Rattle.party_state.specs.declared.edit.Edit.TheVariants.{Begin, PutLink, DropLink, PutKey, DropEnded, PutExchange, DropExchange, PutAnswer, SetGen}
 use Rattle.key_store.specs.Code.{IsCode}
 use Rattle.key_store.specs.Store.{GoOn, IsFirst, IsNext, Lead, Fold}
 use Rattle.key_store.proofs.Changes.{one_change}
@@ -45,3 +49,49 @@ pub one_fold : (bodies : List (List ℕ)) (a b : Party) → Fold bodies a → Fo
 one_fold [] a b first second = absurd first
 one_fold (body ∷ bodies) a b first second =
     one_lead first.0 a b bodies first.2 (subst (λ (p : Party). Lead p bodies b) (one_first body second.0 first.0 second.1 first.1) second.2)
+
+-- edits one after the other
+
+pub go_nil : (items : List Edit) (p : Party) → items ≡ [] → GoOn items p
+go_nil items p is = subst (λ (l : List Edit). GoOn l p) (sym is) (record { goes_on = All-nil IsNoBegin; within = tt })
+
+pub go_cons : (e : Edit) (es items : List Edit) (p q : Party) → items ≡ e ∷ es → IsNoBegin e → IsWithinLimits (apply_edit e p) → q ≡ apply_edit e p → GoOn es q → GoOn items p
+go_cons e es items p q is goes within after rest =
+    let there : GoOn es (apply_edit e p) = subst (λ (r : Party). GoOn es r) after rest in
+    subst (λ (l : List Edit). GoOn l p) (sym is) (record { goes_on = All-cons IsNoBegin e es goes there.goes_on; within = (within, there.within) })
+
+pub go_tail : (e : Edit) (es items : List Edit) (p q : Party) → items ≡ e ∷ es → q ≡ apply_edit e p → GoOn items p → GoOn es q
+go_tail e es items p q is after all =
+    let there : GoOn (e ∷ es) p = subst (λ (l : List Edit). GoOn l p) is all in
+    subst (λ (r : Party). GoOn es r) (sym after) (record { goes_on = All-tail IsNoBegin e es there.goes_on; within = there.within.1 })
+
+pub go_head : (e : Edit) (es items : List Edit) (p : Party) → items ≡ e ∷ es → GoOn items p → IsNoBegin e × IsWithinLimits (apply_edit e p)
+go_head e es items p is all =
+    let there : GoOn (e ∷ es) p = subst (λ (l : List Edit). GoOn l p) is all in
+    (All-head IsNoBegin e es there.goes_on, there.within.0)
+
+pub apply_cons : (e : Edit) (es items : List Edit) (p q : Party) → items ≡ e ∷ es → q ≡ apply_edit e p → apply es q ≡ apply items p
+apply_cons e es items p q is after = ap (λ (r : Party). apply es r) after ∙ ap (λ (l : List Edit). apply l p) (sym is)
+
+fits_one : (e : Edit) → InRange e → IsFitting e
+fits_one (Begin own role generator) is = tt
+fits_one (PutLink link) is = is.next
+fits_one (DropLink peer label side) is = tt
+fits_one (PutKey key) is = tt
+fits_one DropEnded is = tt
+fits_one (PutExchange exchange) is = is.text
+fits_one (DropExchange peer) is = tt
+fits_one (PutAnswer answer) is = tt
+fits_one (SetGen v) is = tt
+
+-- edits that are in range fit
+pub fits_all : (es : List Edit) → AreInRange es → AreFitting es
+fits_all es all = λ k d few. fits_one (slice_index_or es k d) (all k d few)
+
+-- a body that is no first one
+pub never_first : (body : List ℕ) (edits : List Edit) → IsCode body edits → ((own : List ℕ) (role : Role) (g : Gen) (es : List Edit) → edits ≡ Begin own role g ∷ es → GoOn es (begun own role g) → ⊥) → (p : Party) → IsFirst body p → ⊥
+never_first body edits code never p first =
+    never first.own first.role first.generator first.edits (one_change body edits (Begin first.own first.role first.generator ∷ first.edits) code first.code) first.go_on
+
+pub never_next : (body : List ℕ) (edits : List Edit) (old : Party) → IsCode body edits → (GoOn edits old → ⊥) → (new : Party) → IsNext body old new → ⊥
+never_next body edits old code never new next = never (subst (λ (l : List Edit). GoOn l old) (one_change body next.edits edits next.code code) next.go_on)

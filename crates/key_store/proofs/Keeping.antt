@@ -1,16 +1,17 @@
 -- A change is kept: what a crash leaves, and what stands behind it.
-use Rattle.std.proofs.Common.{◌≡◌, ◌⊎◌, inl, inr, ℕ, suc, ◌+◌, ◌<◌, ◌≤◌, List, [], ◌∷◌, ◌++◌, length, Option, Some, None, is_some, refl, sym, ◌∙◌, ap, subst, arith}
+use Rattle.std.proofs.Common.{◌≡◌, ◌⊎◌, inl, inr, ℕ, suc, ◌+◌, ◌<◌, ◌≤◌, List, [], ◌∷◌, ◌++◌, length, Bool, true, false, Option, Some, None, is_some, Result, Ok, Err, zero, ◌-◌, refl, sym, ◌∙◌, ap, subst, arith, length-append}
 use Rattle.x_base.specs.Edge.{Rose}
 use Rattle.x_disk.specs.Disk.{View, Tells, LeavesOnly, IsDurable, IsSound, one_less}
 use Rattle.x_disk.specs.declared.disk.DiskErr.{DiskErr}
 use Rattle.x_disk.proofs.Runs.{began, joined, weaker}
-use Rattle.key_journal.specs.Journal.{Holds, IsBody, frame_of, frames}
+use Rattle.key_journal.specs.Journal.{Holds, IsBody, frame_of, frames, four_bytes}
 use Rattle.key_journal.specs.States.{HasBodies, HasStaged, FaultsRose, room_of} 
 use Rattle.key_journal.specs.States as journal
 use Rattle.party_state.specs.State.{Party, apply}
 use Rattle.party_state.specs.declared.edit.Edit.{Edit}
 use Rattle.key_store.specs.Code.{IsCode, code_of}
-use Rattle.key_store.specs.Store.{GoOn, IsNext, Fold, Stands, IsStore, IsOldOrNew}
+use Rattle.key_store.specs.declared.store.Kept.TheVariants as Kept
+use Rattle.key_store.specs.Store.{Stored, GoOn, IsNext, Fold, Stands, IsStore, IsOldOrNew}
 use Rattle.key_store.proofs.Folding.{fold_on}
 
 -- the bodies for which a store's image stands now
@@ -112,9 +113,9 @@ module _ (v0 v1 v2 : View) (gate end : ℕ) (party : Party) (edits : List Edit) 
       let one : new.image ≡ image = cc there in
       record { bodies = s.0 ++ code_of edits ∷ []; holds = subst (λ (l : List ℕ). Holds l (s.0 ++ code_of edits ∷ [])) one new.holds; fold = new_fold s.0 party edits s.1 change }
 
-  pub kept : (next : ℕ) → is_some v2.now ≡ is_some v1.now → ((bodies : List (List ℕ)) (body : List ℕ) → HasStaged v1 bodies body → HasBodies v2 (bodies ++ body ∷ [])) → IsDurable v2
-      → ((bodies : List (List ℕ)) → HasBodies v2 bodies → end ≡ next + room_of bodies) → IsStore v2 next end (apply edits party)
-  kept next tells2 commits durable room = record { durable = durable; stands = now_new tells2 commits; room = room }
+  pub kept : (next last : ℕ) → is_some v2.now ≡ is_some v1.now → ((bodies : List (List ℕ)) (body : List ℕ) → HasStaged v1 bodies body → HasBodies v2 (bodies ++ body ∷ [])) → IsDurable v2
+      → ((bodies : List (List ℕ)) → HasBodies v2 bodies → last ≡ next + room_of bodies) → IsStore v2 next last (apply edits party)
+  kept next last tells2 commits durable room = record { durable = durable; stands = now_new tells2 commits; room = room }
 
 -- causes and counts
 
@@ -124,3 +125,37 @@ rose_later a b c le (inr most) = inr most
 
 pub faults_later : (v0 v1 v2 : View) (cause : DiskErr) → v0.faults ≤ v1.faults → FaultsRose v1 v2 cause → FaultsRose v0 v2 cause
 faults_later v0 v1 v2 cause le rose = record { later = omega (arith, le, rose.later); fault = λ is. rose_later v0.faults v1.faults v2.faults le (rose.fault is) }
+
+pub few_calls : (passes : Option ℕ) (calls : ℕ) → passes ≡ Some calls → calls ≤ 1 → (passes ≡ Some 0) ⊎ (passes ≡ Some 1)
+few_calls passes zero is few = inl is
+few_calls passes (suc zero) is few = inr is
+few_calls passes (suc (suc calls)) is few = absurd (omega arith)
+
+-- with three calls or fewer, staging or the commit fails
+pub never_done : (before between : Option ℕ) → ((before ≡ Some 0) ⊎ (before ≡ Some 1) → ⊥) → between ≡ one_less (one_less before) → ((between ≡ Some 0) ⊎ (between ≡ Some 1) → ⊥)
+    → (calls : ℕ) → before ≡ Some calls → calls ≤ 3 → ⊥
+never_done before between first then_less second zero is few = first (inl is)
+never_done before between first then_less second (suc zero) is few = first (inr is)
+never_done before between first then_less second (suc (suc zero)) is few = second (inl (then_less ∙ ap (λ (p : Option ℕ). one_less (one_less p)) is))
+never_done before between first then_less second (suc (suc (suc zero))) is few = second (inr (then_less ∙ ap (λ (p : Option ℕ). one_less (one_less p)) is))
+never_done before between first then_less second (suc (suc (suc (suc calls)))) is few = omega arith
+
+-- after three calls, staging leaves the number told
+pub still_told : (before after : Option ℕ) → before ≡ Some 3 → (after ≡ one_less before) ⊎ (after ≡ one_less (one_less before)) → after ≡ None → ⊥
+still_told before after is (inl less) none = let two : Some 2 ≡ None = sym (ap one_less is) ∙ (sym less ∙ none) in cc two
+still_told before after is (inr less) none = let one : Some 1 ≡ None = sym (ap (λ (p : Option ℕ). one_less (one_less p)) is) ∙ (sym less ∙ none) in cc one
+
+pub one_left : (before between : Option ℕ) → before ≡ Some 3 → between ≡ one_less (one_less before) → between ≡ Some 1
+one_left before between is less = less ∙ ap (λ (p : Option ℕ). one_less (one_less p)) is
+
+pub frame_long : (body : List ℕ) → length (frame_of body) ≡ length body + 5
+frame_long body = omega (arith, length-append (four_bytes (length body) ++ body) (0 ∷ []), length-append (four_bytes (length body)) body)
+
+pub never_err : false ≡ true → ⊥
+never_err err = cc err
+
+pub done_same : {D : Type 0} (a b : Stored D) → Kept.Done a ≡ Kept.Done b → a ≡ b
+done_same a b is = cc is
+
+pub broken_same : {D : Type 0} (a b : journal.Failed D) → Kept.Broken a ≡ Kept.Broken b → a ≡ b
+broken_same a b is = cc is

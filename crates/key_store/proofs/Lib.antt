@@ -8,3 +8,4 @@ mod EditForms
 mod Changes
 mod Folding
 mod Keeping
+mod Frames

@@ -19,7 +19,7 @@ use x_base::{NoMemory, Text};
 use x_disk::{Disk, DiskErr};
 
 /// The text of the frame of a change.
-fn frame_text(alloc: Global, change: &Change) -> Result<Text, NoMemory>
+pub(crate) fn frame_text(alloc: Global, change: &Change) -> Result<Text, NoMemory>
     requires few { length change.now ≤ 65535 }
     requires fitting { AreFitting change.now }
     requires short { length (code_of change.now) ≤ 4194304 }
@@ -92,25 +92,24 @@ impl<D: Disk> Store<D> {
         ensures pending { (b : Failed D) → result ≡ Kept.Broken b → (D.told self.disk).passes ≡ Some 3 → b.cause ≡ DiskErr.Fault → (D.told b.disk).passes ≡ None
             → (image : List ℕ) → (D.told b.disk).now ≡ Some image → Stands image (apply change.now self.party) }
     {
-        let Ok(text) = frame_text(alloc, change) else {
-            return Kept::NoMemory(self);
-        };
         let Store { ready, state } = self;
+        let Ok(text) = frame_text(alloc, change) else {
+            return Kept::NoMemory(Store { ready, state });
+        };
         if !ready.fits(text.bytes().len()) {
             return Kept::Full(Store { ready, state });
         }
-        let prepared = match state.prepare(alloc, change) {
-            Ok(prepared) => prepared,
-            Err(state) => return Kept::NoMemory(Store { ready, state }),
-        };
-        match ready.stage(text.bytes()) {
-            Err(broken) => Kept::Broken(broken),
-            Ok(staged) => match staged.commit() {
+        match state.prepare(alloc, change) {
+            Err(state) => Kept::NoMemory(Store { ready, state }),
+            Ok(prepared) => match ready.stage(text.bytes()) {
                 Err(broken) => Kept::Broken(broken),
-                Ok(ready) => Kept::Done(Store {
-                    ready,
-                    state: prepared.finish(),
-                }),
+                Ok(staged) => match staged.commit() {
+                    Err(broken) => Kept::Broken(broken),
+                    Ok(ready) => Kept::Done(Store {
+                        ready,
+                        state: prepared.finish(),
+                    }),
+                },
             },
         }
     }
