@@ -2,6 +2,8 @@
 use Rattle.std.proofs.Common.{◌≡◌, inl, inr, ℕ, ◌+◌, ◌≤◌, List, [], ◌∷◌, ◌++◌, length, ◌<◌, refl, sym, ◌∙◌, ap, subst, arith}
 use Rattle.x_base.specs.declared.party.Role.{Role}
 use Rattle.x_gen.specs.declared.generator.Gen.{Gen}
+use Rattle.std.specs.Prelude.{◌==◌, Bool, true, zero, suc}
+use Rattle.std.proofs.lemmas.Bool.{eqb-true}
 use Rattle.std.specs.List.{All, slice_index_or, remove}
 use Rattle.std.proofs.lemmas.List.Elements.{All-nil, All-cons, All-head, All-tail}
 use Rattle.party_state.specs.Ranges.{InRange, AreInRange, IsFitting, AreFitting, IsNoBegin}
@@ -95,3 +97,35 @@ never_first body edits code never p first =
 
 pub never_next : (body : List ℕ) (edits : List Edit) (old : Party) → IsCode body edits → (GoOn edits old → ⊥) → (new : Party) → IsNext body old new → ⊥
 never_next body edits old code never new next = never (subst (λ (l : List Edit). GoOn l old) (one_change body next.edits edits next.code code) next.go_on)
+
+pub empty_list : (es : List Edit) → length es ≡ 0 → es ≡ []
+empty_list [] none = refl
+empty_list (e ∷ es) none = absurd (omega arith)
+
+pub head_of : (items : List Edit) (r e : Edit) (es : List Edit) → r ≡ slice_index_or items 0 r → items ≡ e ∷ es → r ≡ e
+head_of items r e es value is = value ∙ ap (λ (l : List Edit). slice_index_or l 0 r) is
+
+pub rest_of : (items rest : List Edit) (e : Edit) (es : List Edit) → rest ≡ remove items 0 → items ≡ e ∷ es → rest ≡ es
+rest_of items rest e es value is = value ∙ ap (λ (l : List Edit). remove l 0) is
+
+rest_fits_of : (items : List Edit) → AreInRange items → AreFitting (remove items 0)
+rest_fits_of [] all = All-nil IsFitting
+rest_fits_of (e ∷ es) all = fits_all es (All-tail InRange e es all)
+
+pub rest_fits : (edits items rest : List Edit) → AreInRange edits → items ≡ edits → rest ≡ remove items 0 → AreFitting rest
+rest_fits edits items rest all same is = subst AreFitting (sym is) (rest_fits_of items (subst AreInRange (sym same) all))
+
+pub zero_of : (n : ℕ) → (n == 0) ≡ true → n ≡ 0
+zero_of n is = eqb-true n 0 is
+
+begun_of : (own other : List ℕ) (r s : Role) (g h : Gen) → Begin own r g ≡ Begin other s h → begun own r g ≡ begun other s h
+begun_of own other r s g h is =
+    let o : own ≡ other = cc is in
+    let q : r ≡ s = cc is in
+    let k : g ≡ h = cc is in
+    cc (o, q, k)
+
+-- the edits behind a Begin go on from what it begins
+pub go_same : (own other : List ℕ) (r s : Role) (g h : Gen) (es rest : List Edit) (state : Party) → Begin own r g ≡ Begin other s h → rest ≡ es → state ≡ begun own r g → GoOn es (begun other s h) → GoOn rest state
+go_same own other r s g h es rest state same is after go =
+    subst (λ (l : List Edit). GoOn l state) (sym is) (subst (λ (p : Party). GoOn es p) (sym (after ∙ begun_of own other r s g h same)) go)

@@ -5,7 +5,7 @@ use Rattle.x_disk.specs.Disk.{View, Tells, LeavesOnly, IsDurable, IsSound, one_l
 use Rattle.x_disk.specs.declared.disk.DiskErr.{DiskErr}
 use Rattle.x_disk.proofs.Runs.{began, joined, weaker}
 use Rattle.key_journal.specs.Journal.{Holds, IsBody, frame_of, frames, four_bytes}
-use Rattle.key_journal.specs.States.{HasBodies, HasStaged, FaultsRose, room_of} 
+use Rattle.key_journal.specs.States.{HasBodies, HasStaged, FaultsRose, room_of}
 use Rattle.key_journal.specs.States as journal
 use Rattle.party_state.specs.State.{Party, apply}
 use Rattle.party_state.specs.declared.edit.Edit.{Edit}

@@ -8,4 +8,4 @@ mod EditForms
 mod Changes
 mod Folding
 mod Keeping
-mod Frames
+mod Making

@@ -1,5 +1,4 @@
 pub mod Code
 pub mod Kept
-pub mod Loading
 pub mod Reading
 pub mod Store

@@ -111,3 +111,7 @@ pub record IsStore (v : View) (gate end : ℕ) (party : Party) : Type 0 where
 -- one of the two
 abbrev pub IsOldOrNew : Party → List Edit → List ℕ → Type 0
 IsOldOrNew party edits image = Stands image party ⊎ Stands image (apply edits party)
+
+-- no journal yet, or the party that begins
+abbrev pub IsBlankOrFirst : Party → List ℕ → Type 0
+IsBlankOrFirst party image = (is_blank image ≡ true) ⊎ Stands image party

@@ -3,6 +3,7 @@
 
 mod bodies;
 mod code_laws;
+mod creating;
 mod decoding;
 mod edits;
 mod encoding;

@@ -1,8 +1,9 @@
-use Rattle.std.proofs.Common.{◌≡◌, sym, ◌∙◌}
+use Rattle.std.proofs.Common.{◌≡◌, sym, ap, ◌∙◌, arith}
 use Rattle.std.proofs.lemmas.List.Elements.{All-rest}
 use Rattle.std.specs.Vec.Iter.{into_iter_items}
 use Rattle.party_state.specs.Ranges.{IsFitting}
-use Rattle.key_store.proofs.Folding.{go_nil, go_cons, go_tail, go_head, apply_cons}
+use Rattle.party_state.specs.State.{apply}
+use Rattle.key_store.proofs.Folding.{go_nil, go_cons, go_tail, go_head, apply_cons, empty_list}
 use Rattle.key_store.proofs.follow.follow.Goals as goal
 
 pub loop-edit-preserved : goal.loop-edit-preserved
@@ -24,4 +25,6 @@ returns-then-not-branch-clause-no c = λ is go.
     c.in_ok-follow_one.ensures.no c.if-not-branch.true head.0 head.1
 
 pub returns-clause-yes : goal.returns-clause-yes
-returns-clause-yes c = λ is. let h = c.in-None.ensures.steps in ?
+returns-clause-yes c = λ is.
+    let none = empty_list (into_iter_items c.loop-edit.edit-iterator) (omega (arith, c.in-None.ensures.steps.0, c.loop-edit.edit-iterator.rest.ok.0)) in
+    (c.loop-edit.invariant.there (go_nil _ _ none), ap (λ es. apply es c.loop-edit.state) (sym none) ∙ c.loop-edit.invariant.same)
