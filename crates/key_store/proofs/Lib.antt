@@ -1,5 +1,6 @@
 mod Joining
 mod Numbers
+mod Lengths
 mod Names
 mod Tags
 mod RowForms

@@ -17,7 +17,7 @@ mod rows;
 mod store;
 mod writing;
 
-pub use code_laws::{law_one_change, law_one_code};
+pub use code_laws::{law_one_change, law_one_code, law_short_code};
 pub use decoding::decode;
 pub use encoding::encode;
 pub use fault::CodeFault;
