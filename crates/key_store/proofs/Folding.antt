@@ -24,7 +24,7 @@ pub fold_on : (bodies : List (List ℕ)) (body : List ℕ) (old new : Party) →
 fold_on [] body old new none next = absurd none
 fold_on (b ∷ bodies) body old new fold next = (fold.0, fold.1, lead_on fold.0 old new bodies body fold.2 next)
 
-one_next : (body : List ℕ) (old a b : Party) → IsNext body old a → IsNext body old b → a ≡ b
+pub one_next : (body : List ℕ) (old a b : Party) → IsNext body old a → IsNext body old b → a ≡ b
 one_next body old a b first second =
     first.after ∙ (ap (λ (es : List Edit). apply es old) (one_change body first.edits second.edits first.code second.code) ∙ sym second.after)
 
@@ -41,7 +41,7 @@ begun_same es fs own other role role' g h is =
     let k : g ≡ h = cc is in
     cc (e, o, r, k)
 
-one_first : (body : List ℕ) (a b : Party) → IsFirst body a → IsFirst body b → a ≡ b
+pub one_first : (body : List ℕ) (a b : Party) → IsFirst body a → IsFirst body b → a ≡ b
 one_first body a b first second =
     let same = one_change body (Begin first.own first.role first.generator ∷ first.edits) (Begin second.own second.role second.generator ∷ second.edits) first.code second.code in
     first.after ∙ (begun_same first.edits second.edits first.own second.own first.role second.role first.generator second.generator same ∙ sym second.after)

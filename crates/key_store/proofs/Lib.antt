@@ -10,3 +10,6 @@ mod Changes
 mod Folding
 mod Keeping
 mod Making
+mod Frames
+mod Alike
+mod Spared
