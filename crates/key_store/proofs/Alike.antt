@@ -13,5 +13,6 @@ alike_store v w gate end party alike store = record {
     stable = sym alike.stable ∙ (store.durable.stable ∙ alike.now);
   };
   stands = λ image now. store.stands image (alike.now ∙ now);
+  within = store.within;
   room = λ bodies has. store.room bodies (record { image = has.image; now = alike.now ∙ has.now; holds = has.holds });
 }

@@ -13,6 +13,7 @@ use Rattle.key_store.specs.Code.{IsCode, code_of}
 use Rattle.key_store.specs.declared.store.Kept.TheVariants as Kept
 use Rattle.key_store.specs.Store.{Stored, GoOn, IsNext, Fold, Stands, IsStore, IsOldOrNew}
 use Rattle.key_store.proofs.Folding.{fold_on}
+use Rattle.key_store.proofs.Within.{within_after}
 
 -- the bodies for which a store's image stands now
 pub record Here (v : View) (party : Party) : Type 0 where
@@ -115,7 +116,12 @@ module _ (v0 v1 v2 : View) (gate end : ℕ) (party : Party) (edits : List Edit) 
 
   pub kept : (next last : ℕ) → is_some v2.now ≡ is_some v1.now → ((bodies : List (List ℕ)) (body : List ℕ) → HasStaged v1 bodies body → HasBodies v2 (bodies ++ body ∷ [])) → IsDurable v2
       → ((bodies : List (List ℕ)) → HasBodies v2 bodies → last ≡ next + room_of bodies) → IsStore v2 next last (apply edits party)
-  kept next last tells2 commits durable room = record { durable = durable; stands = now_new tells2 commits; room = room }
+  kept next last tells2 commits durable room = record {
+    durable = durable;
+    stands = now_new tells2 commits;
+    within = within_after edits party store.within change.go_on.within;
+    room = room;
+  }
 
 -- causes and counts
 

@@ -8,6 +8,7 @@ mod ExchangeForms
 mod EditForms
 mod Changes
 mod Folding
+mod Within
 mod Keeping
 mod Making
 mod Frames

@@ -23,6 +23,7 @@ use Rattle.key_store.specs.Code.{code_of, IsCode, eight, two, role_code}
 use Rattle.key_store.specs.Store.{IsFirst, Fold, Stands, IsStore, IsBlankOrFirst}
 use Rattle.key_store.proofs.Numbers.{eight_long, two_long}
 use Rattle.key_store.proofs.Keeping.{told_before}
+use Rattle.key_store.proofs.Within.{within_fold}
 
 short_role : (r : Role) → length (role_code r) ≡ 1
 short_role role.Bank = refl
@@ -70,12 +71,17 @@ made v1 v2 gate end party body fold same created durable room = record {
       let there : Some has.image ≡ Some image = sym has.now ∙ now in
       let one : has.image ≡ image = cc there in
       record { bodies = body ∷ []; holds = subst (λ (l : List ℕ). Holds l (body ∷ [])) one has.holds; fold = fold };
+  within = within_fold (body ∷ []) party fold;
   room = room;
 }
 
 pub free_cause : (d : DiskErr) → IsFree (cause_of d)
 free_cause disk.Fault = tt
 free_cause disk.NoMemory = tt
+
+pub never_filled : (d : DiskErr) → cause_of d ≡ cause.NotEmpty → ⊥
+never_filled disk.Fault is = cc is
+never_filled disk.NoMemory is = cc is
 
 pub fault_of : (d : DiskErr) → cause_of d ≡ cause.Fault → d ≡ disk.Fault
 fault_of disk.Fault is = refl

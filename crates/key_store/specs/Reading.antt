@@ -56,11 +56,11 @@ IsText text = length text ≤ 1024
 abbrev pub IsMaybe : Option (List ℕ) → Type 0
 IsMaybe label = IfSome label IsLabel
 
--- no byte with a number and so many bytes
+-- the bytes don't begin with a byte that tells a length, and so many bytes behind it
 abbrev pub LacksShort : List ℕ → Type 0
 LacksShort bytes = (name rest : List ℕ) → bytes ≡ short name ++ rest → ⊥
 
--- no two bytes with a number and so many bytes
+-- the bytes don't begin with two bytes that tell a length, and so many bytes behind them
 abbrev pub LacksLong : List ℕ → Type 0
 LacksLong bytes = (text rest : List ℕ) → length text < 2 ^ 16 → bytes ≡ long text ++ rest → ⊥
 

@@ -10,7 +10,7 @@ use Rattle.key_journal.specs.declared.cause.Cause.{Cause}
 use Rattle.key_journal.specs.declared.cause.Cause.TheVariants as cause
 use Rattle.party_state.specs.State.{Party, begun, apply}
 use Rattle.party_state.specs.Ranges.{HasNoBegin}
-use Rattle.party_state.specs.Limits.{StaysWithinLimits}
+use Rattle.party_state.specs.Limits.{IsWithinLimits, StaysWithinLimits}
 use Rattle.party_state.specs.declared.edit.Edit.{Edit}
 use Rattle.party_state.specs.declared.edit.Edit.TheVariants.{Begin}
 use Rattle.key_store.specs.Code.{IsCode, code_of}
@@ -102,10 +102,11 @@ room s = s.end - s.gate
 abbrev pub Fits : {D : Type 0} → Stored D → ℕ → Type 0
 Fits s n = n + 6 ≤ room s
 
--- every store: each image that a crash may leave now stands for its party
+-- every store: each image that a crash may leave now stands for its party, which is within the limits
 pub record IsStore (v : View) (gate end : ℕ) (party : Party) : Type 0 where
   pub durable : IsDurable v
   pub stands : (image : List ℕ) → v.now ≡ Some image → Stands image party
+  pub within : IsWithinLimits party
   pub room : (bodies : List (List ℕ)) → HasBodies v bodies → end ≡ gate + room_of bodies
 
 -- one of the two

@@ -1,7 +1,7 @@
 // Making a store on a blank disk.
-ghost use Rattle.std.specs.Prelude.{◌≡◌, ◌⊎◌, ◌≤◌, ◌∷◌, [], true, false, List, ℕ, Some, IfOk, IfErr, is_some};
+ghost use Rattle.std.specs.Prelude.{◌≡◌, ◌⊎◌, ◌+◌, ◌≤◌, ◌∷◌, [], true, false, List, ℕ, length, Some, IfOk, IfErr, is_some};
 ghost use Rattle.x_base.specs.Edge.{Rose};
-ghost use Rattle.x_disk.specs.Disk.{LeavesOnly, Tells};
+ghost use Rattle.x_disk.specs.Disk.{LeavesOnly, LeavesNoMore, Tells};
 ghost use Rattle.key_journal.specs.Journal.{frame_of, is_blank, IsBody};
 ghost use Rattle.key_journal.specs.Opening.{IsFree};
 ghost use Rattle.key_journal.specs.States.{IsFrame};
@@ -49,8 +49,11 @@ impl<D: Disk> Store<D> {
     ) -> Result<Store<D>, Unmade<D>>
         ensures party { IfOk result (λ s. s.party ≡ begun own role generator) }
         ensures stands { IfOk result (λ s. IsStore (D.told s.disk) s.gate s.end s.party) }
+        ensures place { IfOk result (λ s. (s.gate ≡ 21 + length (code_of (Begin own role generator ∷ []))) × (s.end ≡ 8388616)) }
         ensures blank { IfOk result (λ s. (b : List ℕ) → (D.told disk).now ≡ Some b → is_blank b ≡ true) }
         ensures exact { IfErr result (λ u. (b : List ℕ) → (D.told disk).now ≡ Some b → IsFree u.cause ⊎ ((u.cause ≡ Cause.NotEmpty) × (is_blank b ≡ false))) }
+        ensures names { IfErr result (λ u. IsFree u.cause ⊎ (u.cause ≡ Cause.NotEmpty)) }
+        ensures kept { IfErr result (λ u. u.cause ≡ Cause.NotEmpty → ((D.told u.disk).now ≡ (D.told disk).now) × LeavesNoMore (D.told disk) (D.told u.disk)) }
 
         // A crash at any moment leaves a blank image, one that stands for the party, or what it could leave before.
         ensures any_moment { Tells (D.told disk) → LeavesOnly (D.told disk) (D.told (store_disk result)) (λ c. IsBlankOrFirst (begun own role generator) c ⊎ (D.told disk).may_leave c) }

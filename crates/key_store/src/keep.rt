@@ -60,8 +60,7 @@ impl<D: Disk> Store<D> {
         Ok(self.ready.fits(body.bytes().len() + 5))
     }
 
-    /// Keeps a change, as one frame. All memory is taken before the first disk call, and the cost grows with the change
-    /// alone.
+    /// Keeps a change, as one frame. All memory is taken before the first disk call.
     pub fn keep(self, alloc: Global, change: &Change) -> Kept<D>
         requires few { length change.now ≤ 65535 }
         requires fitting { AreFitting change.now }
@@ -74,6 +73,7 @@ impl<D: Disk> Store<D> {
         ensures full { (s : Stored D) → result ≡ Kept.Full s → (s ≡ self) × (Fits self (length (code_of change.now)) → ⊥) }
         ensures memory { (s : Stored D) → result ≡ Kept.NoMemory s → s ≡ self }
         ensures fits { (s : Stored D) → result ≡ Kept.Done s → Fits self (length (code_of change.now)) }
+        ensures tried { (b : Failed D) → result ≡ Kept.Broken b → Fits self (length (code_of change.now)) }
 
         // A crash at any moment leaves an image that stands for the state before the change, or for the one after it.
         ensures any_moment { Tells (D.told self.disk) → LeavesOnly (D.told self.disk) (D.told (kept_disk result)) (IsOldOrNew self.party change.now) }
