@@ -3,6 +3,7 @@ ghost use Rattle.std.specs.Prelude.{◌≡◌, ◌⊎◌, ◌+◌, ◌<◌, ◌�
 ghost use Rattle.x_base.specs.Edge.{Rose};
 ghost use Rattle.x_disk.specs.Disk.{IsStill, IsDurable, LeavesOnly, LeavesNoMore};
 ghost use Rattle.key_journal.specs.Opening.{IsFree};
+ghost use Rattle.party_state.specs.Limits.{IsWithinLimits};
 ghost use Rattle.party_state.specs.State.{Party};
 ghost use Rattle.key_store.specs.Store.{Stands, IsStore, IsRefusal};
 ghost use Rattle.key_store.specs.Loading.{Unread, ReadTo, Stops, StopsSomewhere, StandsOnly, Spares};
@@ -17,9 +18,11 @@ use x_base::NoMemory;
 use x_disk::Disk;
 
 /// The party that the first frame makes.
+#[tactic(auto, using(crate::proofs::Within::within_first))]
 fn read_first<D: Disk>(alloc: Global, opened: &mut Opened<D>) -> Result<State, Cause>
     requires { Unread (D.told opened.old.disk) opened.old.gate opened.old.end }
     ensures read { IfOk result (ReadTo (D.told opened.new.disk) opened.new.gate opened.new.end) }
+    ensures within { IfOk result IsWithinLimits }
     ensures stops { IfErr result (Stops (D.told opened.old.disk) opened.old.gate) }
     ensures spares { IfErr result (Spares (D.told opened.old.disk)) }
     ensures still { IsStill (D.told opened.old.disk) (D.told opened.new.disk) }
@@ -38,9 +41,11 @@ fn read_first<D: Disk>(alloc: Global, opened: &mut Opened<D>) -> Result<State, C
 }
 
 /// Makes of the party the one after the next frame; false where there is none.
+#[tactic(auto, using(crate::proofs::Within::within_next))]
 fn read_next<D: Disk>(alloc: Global, opened: &mut Opened<D>, state: &mut State) -> Result<bool, Cause>
     requires { ReadTo (D.told opened.old.disk) opened.old.gate opened.old.end state.old }
     ensures read { IfOk result (λ more. more ≡ true → ReadTo (D.told opened.new.disk) opened.new.gate opened.new.end state.new) }
+    ensures within { IfOk result (λ more. IsWithinLimits state.old → IsWithinLimits state.new) }
     ensures further { IfOk result (λ more. more ≡ true → (opened.old.gate < opened.new.gate) × (opened.new.gate < opened.new.end)) }
     ensures all { IfOk result (λ more. more ≡ false → (opened.new.ended ≡ true)
         × StandsOnly (D.told opened.new.disk) state.new) }
