@@ -17,6 +17,8 @@ mod pieces;
 mod reader;
 mod rows;
 mod store;
+#[cfg(test)]
+mod tests;
 mod writing;
 
 pub use code_laws::{law_one_change, law_one_code};
