@@ -144,7 +144,8 @@ fn the_first_key_sent_is_coded(rt: HostRuntime) -> Result<(), Fail> {
     let via = Via::Direct { label, new: None };
     let text =
         b"CSM(MCL/KSM RCV/BANKB ORG/BANKA IDK2/K1 KD/C2A5290756D949F4 CTP/1 MAC/8F270CC6)";
-    let sent = exchange(alloc, peer, Kind::KeySent { name, via }, text)?;
+    let kind = Kind::KeySent { name, via };
+    let sent = exchange(alloc, peer, kind, text)?;
     let mut change = Change::new(alloc);
     change.push(Edit::SetGen(0xF5A9F00D0F18E82D))?;
     change.push(Edit::PutLink(LinkRec {
