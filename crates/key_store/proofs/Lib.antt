@@ -7,6 +7,7 @@ mod RowForms
 mod ExchangeForms
 mod EditForms
 mod Changes
+mod Undoing
 mod Folding
 mod Within
 mod Keeping

@@ -1,10 +1,15 @@
 // What holds of every code.
-ghost use Rattle.std.specs.Prelude.{◌≡◌, ◌+◌, ◌*◌, ◌≤◌, ℕ, List, length};
-ghost use Rattle.party_state.specs.Ranges.{AreFitting};
+ghost use Rattle.std.specs.Prelude.{◌≡◌, ◌+◌, ◌*◌, ◌≤◌, ℕ, List, length, IfOk};
 ghost use Rattle.party_state.specs.declared.edit.Edit.{Edit};
+ghost use Rattle.party_state.specs.Ranges.{AreFitting};
 ghost use Rattle.key_store.specs.Code.{code_of, IsCode};
 
+use crate::decoding::decode;
+use crate::encoding::encode;
+use crate::fault::CodeFault;
 use party_state::Change;
+use std::alloc::Global;
+use x_base::NoMemory;
 
 /// Bytes are the code of one change only.
 #[tactic(auto, using(crate::proofs::Changes::one_change))]
@@ -25,4 +30,19 @@ pub fn law_short_code(change: &Change)
     ensures { length (code_of change.now) ≤ 3 + 1200 * length change.now }
 {
     change.law_in_range();
+}
+
+/// Decoding the code of a change gives back an equal change.
+#[tactic(auto, using(crate::proofs::Undoing::undone, crate::proofs::Undoing::never_bad))]
+pub fn law_decode_undoes(alloc: Global, change: &Change) -> Result<Change, NoMemory>
+    requires few { length change.now ≤ 65535 }
+    requires fitting { AreFitting change.now }
+    ensures { IfOk result (λ back. back ≡ change.now) }
+{
+    let code = encode(alloc, change)?;
+    match decode(alloc, code.bytes()) {
+        Ok(back) => Ok(back),
+        Err(CodeFault::NoMemory) => Err(NoMemory),
+        Err(CodeFault::Bad) => unreachable!(),
+    }
 }
