@@ -1,4 +1,5 @@
 mod ImageLemmas
+mod GateLemmas
 mod MakeLemmas
 mod OpenLemmas
 mod ReadLemmas

@@ -279,7 +279,7 @@ blank_by n x long is = grind (arith, nat_tests)
 abbrev refusal_by : Bool → Bool → Option Cause
 refusal_by blank magic = if blank then Some cause.Blank else (if magic then None else Some (cause.Damaged 2))
 
-open_by_front : (image : List ℕ) → take 1 image ≡ 1 ∷ [] → take 14 (drop 2 image) ≡ magic → refusal_of image ≡ None
+pub open_by_front : (image : List ℕ) → take 1 image ≡ 1 ∷ [] → take 14 (drop 2 image) ≡ magic → refusal_of image ≡ None
 open_by_front image opened is =
     let long : 2 ≤ length image = omega (arith, ap length is, length-take 14 (drop 2 image), length-drop 2 image) in
     let first : get_or image 0 0 ≡ 1 = sym (get_or-take 1 image 0 0 (omega arith)) ∙ ap (λ (l : List ℕ). get_or l 0 0) opened in

@@ -43,7 +43,7 @@ begins_none image is =
     }
 
 -- what lies from the selected area's beginning on
-behind : (image : List ℕ) (bodies : List (List ℕ)) (gate : ℕ) → Begins image bodies gate → drop (start image) image ≡ frames bodies ++ drop gate image
+pub behind : (image : List ℕ) (bodies : List (List ℕ)) (gate : ℕ) → Begins image bodies gate → drop (start image) image ≡ frames bodies ++ drop gate image
 behind image bodies gate b =
     sym (take-append-drop (length (frames bodies)) (drop (start image) image)) ∙ ap (λ (l : List ℕ). l ++ drop (length (frames bodies)) (drop (start image) image)) b.front
     ∙ ap (λ (l : List ℕ). frames bodies ++ l) (drop-drop (length (frames bodies)) (start image) image ∙ ap (λ (n : ℕ). drop n image) (omega (arith, b.place)))
@@ -90,10 +90,10 @@ all_read image bodies gate b shut some =
       };
     }
 
-same_length : (m n : ℕ) → m ≤ 4194304 → n ≤ 4194304 → m / 65536 % 256 ≡ n / 65536 % 256 → m / 256 % 256 ≡ n / 256 % 256 → m % 256 ≡ n % 256 → m ≡ n
+pub same_length : (m n : ℕ) → m ≤ 4194304 → n ≤ 4194304 → m / 65536 % 256 ≡ n / 65536 % 256 → m / 256 % 256 ≡ n / 256 % 256 → m % 256 ≡ n % 256 → m ≡ n
 same_length m n le_m le_n high mid low = omega arith
 
-same_parts : (xs ys us vs : List ℕ) → length xs ≡ length ys → xs ++ us ≡ ys ++ vs → (xs ≡ ys) × (us ≡ vs)
+pub same_parts : (xs ys us vs : List ℕ) → length xs ≡ length ys → xs ++ us ≡ ys ++ vs → (xs ≡ ys) × (us ≡ vs)
 same_parts xs ys us vs long is = (
   sym (take_at xs us (length xs) refl) ∙ ap (λ (l : List ℕ). take (length xs) l) is ∙ take_at ys vs (length xs) (sym long),
   sym (drop_at xs us (length xs) refl) ∙ ap (λ (l : List ℕ). drop (length xs) l) is ∙ drop_at ys vs (length xs) (sym long),
@@ -119,13 +119,13 @@ first_bodies image bodies all gate b h =
     longer bodies all w.gate (drop gate image) w.tail b.all h.area.all w.closed (sym (behind image bodies gate b) ∙ w.whole)
 
 -- the frames behind the first ones
-frames-append : (bs cs : List (List ℕ)) (r : List ℕ) → frames (bs ++ cs) ++ r ≡ frames bs ++ (frames cs ++ r)
+pub frames-append : (bs cs : List (List ℕ)) (r : List ℕ) → frames (bs ++ cs) ++ r ≡ frames bs ++ (frames cs ++ r)
 frames-append [] cs r = refl
 frames-append (b ∷ bs) cs r =
     ap (λ (l : List ℕ). 1 ∷ (four_bytes (length b) ++ l))
     (append_assoc b (frames (bs ++ cs)) r ∙ ap (λ (l : List ℕ). b ++ l) (frames-append bs cs r) ∙ sym (append_assoc b (frames bs) (frames cs ++ r)))
 
-same_back : (xs us vs : List ℕ) → xs ++ us ≡ xs ++ vs → us ≡ vs
+pub same_back : (xs us vs : List ℕ) → xs ++ us ≡ xs ++ vs → us ≡ vs
 same_back xs us vs is = (same_parts xs xs us vs refl is).1
 
 -- what stands at the gate of an image that stands for bodies
@@ -134,13 +134,13 @@ at_gate image bodies rest gate b h =
     let w = whole_of image (bodies ++ rest) h in
     same_back (frames bodies) (drop gate image) (frames rest ++ w.gate ∷ w.tail) (sym (behind image bodies gate b) ∙ w.whole ∙ frames-append bodies rest (w.gate ∷ w.tail))
 
-get_at : (image front : List ℕ) (gate i : ℕ) → drop gate image ≡ front → get_or image (gate + i) 0 ≡ get_or front i 0
+pub get_at : (image front : List ℕ) (gate i : ℕ) → drop gate image ≡ front → get_or image (gate + i) 0 ≡ get_or front i 0
 get_at image front gate i is = sym (get_or-drop gate image i 0) ∙ ap (λ (l : List ℕ). get_or l i 0) is
 
 number_of : (n : ℕ) → n ≤ 4194304 → n / 16777216 % 256 * 16777216 + n / 65536 % 256 * 65536 + n / 256 % 256 * 256 + n % 256 ≡ n
 number_of n le = omega arith
 
-stated_is : (image : List ℕ) (gate n : ℕ) (tail : List ℕ) → n ≤ 4194304 → drop gate image ≡ 1 ∷ (four_bytes n ++ tail) → stated image gate ≡ n
+pub stated_is : (image : List ℕ) (gate n : ℕ) (tail : List ℕ) → n ≤ 4194304 → drop gate image ≡ 1 ∷ (four_bytes n ++ tail) → stated image gate ≡ n
 stated_is image gate n tail small is =
     let a = get_at image (1 ∷ (four_bytes n ++ tail)) gate 1 is in
     let b = get_at image (1 ∷ (four_bytes n ++ tail)) gate 2 is in
@@ -165,38 +165,39 @@ pub record Reads (image : List ℕ) (gate end : ℕ) : Type 0 where
   pub body : Option (List ℕ)
   pub is : found_at image gate end ≡ Ok body
 
-open_by : (gate size x : ℕ) → gate < size → x ≡ 1 → nat_lt gate size && (x == 1) ≡ true
+pub open_by : (gate size x : ℕ) → gate < size → x ≡ 1 → nat_lt gate size && (x == 1) ≡ true
 open_by gate size x within is = grind (arith, nat_tests)
 
 shut_by : (gate size x : ℕ) → x ≢ 1 → nat_lt gate size && (x == 1) ≡ false
 shut_by gate size x not = grind (arith, nat_tests)
 
-whole_by : (n gate size end : ℕ) → 1 ≤ n → n ≤ 4194304 → gate + 6 + n ≤ size → gate + 6 + n ≤ end → (nat_le 1 n && nat_le n 4194304) && (nat_le (gate + 6 + n) size && nat_le (gate + 6 + n) end) ≡ true
+pub whole_by : (n gate size end : ℕ) → 1 ≤ n → n ≤ 4194304 → gate + 6 + n ≤ size → gate + 6 + n ≤ end → (nat_le 1 n && nat_le n 4194304) && (nat_le (gate + 6 + n) size && nat_le (gate + 6 + n) end) ≡ true
 whole_by n gate size end some small in_file in_area = grind (arith, nat_tests)
 
 apart_by : (gate first : ℕ) → first < gate → (gate == first) ≡ false
 apart_by gate first lt = grind (arith, nat_tests)
 
-second_body : (bodies : List (List ℕ)) (body : List ℕ) (rest : List (List ℕ)) → AreBodies (bodies ++ body ∷ rest) → IsBody body
+pub second_body : (bodies : List (List ℕ)) (body : List ℕ) (rest : List (List ℕ)) → AreBodies (bodies ++ body ∷ rest) → IsBody body
 second_body [] body rest all = all.0
 second_body (b ∷ bodies) body rest all = second_body bodies body rest all.1
 
-room_of : (bodies : List (List ℕ)) (body : List ℕ) (rest : List (List ℕ)) → length (frames (bodies ++ body ∷ rest)) ≡ length (frames bodies) + length body + 5 + length (frames rest)
+pub room_of : (bodies : List (List ℕ)) (body : List ℕ) (rest : List (List ℕ)) → length (frames (bodies ++ body ∷ rest)) ≡ length (frames bodies) + length body + 5 + length (frames rest)
 room_of [] body rest = omega (arith, length-append body (frames rest))
 room_of (b ∷ bodies) body rest = omega (arith, length-append b (frames (bodies ++ body ∷ rest)), length-append b (frames bodies), room_of bodies body rest)
 
-reads_rest : (image : List ℕ) (bodies rest : List (List ℕ)) (gate end : ℕ) → Begins image bodies gate → Holds image (bodies ++ rest) → end ≡ start image + 8388600 → Reads image gate end
-reads_rest image bodies [] gate end b h last =
+-- the end of the list
+pub found_none : (image : List ℕ) (bodies : List (List ℕ)) (gate end : ℕ) → Begins image bodies gate → Holds image (bodies ++ []) → found_at image gate end ≡ Ok None
+found_none image bodies gate end b h =
     let w = whole_of image (bodies ++ []) h in
     let front = at_gate image bodies [] gate b h in
     let some : 0 < length bodies = omega (arith, h.area.some, length-append bodies []) in
     let shut = shut_by gate (length image) (get_or image gate 0) (λ one. w.closed (sym (get_at image (w.gate ∷ w.tail) gate 0 front) ∙ ap (λ (n : ℕ). get_or image n 0) (omega arith) ∙ one)) in
     let apart = apart_by gate (start image) (omega (arith, b.place, frames_some bodies some)) in
-    record {
-      body = None;
-      is = ap (λ (t : Bool). found_by t (is_whole image gate end) (gate == start image) gate (take (stated image gate) (drop (gate + 5) image))) shut
-          ∙ ap (λ (t : Bool). found_by false (is_whole image gate end) t gate (take (stated image gate) (drop (gate + 5) image))) apart;
-    }
+    ap (λ (t : Bool). found_by t (is_whole image gate end) (gate == start image) gate (take (stated image gate) (drop (gate + 5) image))) shut
+    ∙ ap (λ (t : Bool). found_by false (is_whole image gate end) t gate (take (stated image gate) (drop (gate + 5) image))) apart
+
+reads_rest : (image : List ℕ) (bodies rest : List (List ℕ)) (gate end : ℕ) → Begins image bodies gate → Holds image (bodies ++ rest) → end ≡ start image + 8388600 → Reads image gate end
+reads_rest image bodies [] gate end b h last = record { body = None; is = found_none image bodies gate end b h }
 reads_rest image bodies (body ∷ rest) gate end b h last =
     let w = whole_of image (bodies ++ body ∷ rest) h in
     let n = length body in
