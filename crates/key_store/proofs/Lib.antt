@@ -12,3 +12,4 @@ mod Making
 mod Frames
 mod Alike
 mod Spared
+mod Loaded
