@@ -15,3 +15,4 @@ mod Making
 mod Frames
 mod Alike
 mod Spared
+mod Loaded
