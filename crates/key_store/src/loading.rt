@@ -71,6 +71,7 @@ fn read_next<D: Disk>(alloc: Global, opened: &mut Opened<D>, state: &mut State) 
 fn read_party<D: Disk>(alloc: Global, opened: &mut Opened<D>) -> Result<State, Cause>
     requires { Unread (D.told opened.old.disk) opened.old.gate opened.old.end }
     ensures stands { IfOk result (StandsOnly (D.told opened.new.disk)) }
+    ensures within { IfOk result IsWithinLimits }
     ensures ended { IfOk result (λ party. opened.new.ended ≡ true) }
     ensures stops { IfErr result (StopsSomewhere (D.told opened.old.disk)) }
     ensures spares { IfErr result (Spares (D.told opened.old.disk)) }
