@@ -16,3 +16,4 @@ mod Frames
 mod Alike
 mod Spared
 mod Loaded
+mod Findings

@@ -80,8 +80,8 @@ pub refused_later : (u v : View) (gate end : ℕ) (ended : Bool) (reason : Cause
 refused_later u v gate end ended reason opened stops image now =
     let head = sound_head image (opened.exact image now) in
     elim (stops image (opened.now ∙ now)) [
-      inl free ↦ free_refusal image reason free
-    | inr there ↦ subst (λ (r : Cause). IsRefusal image r) (sym there.1) (record { not_blank = head.0; damage = inr (head.1, there.2) })
+      | inl free ↦ free_refusal image reason free
+      | inr there ↦ subst (λ (r : Cause). IsRefusal image r) (sym there.1) (record { not_blank = head.0; damage = inr (head.1, there.2) })
     ]
 
 -- an image that stands isn't refused at once

@@ -11,6 +11,7 @@ mod exchanges;
 mod fault;
 mod follow;
 mod fusing;
+mod image_laws;
 mod keep;
 mod loading;
 mod pieces;
@@ -25,4 +26,5 @@ pub use code_laws::{law_decode_undoes, law_one_change, law_one_code, law_short_c
 pub use decoding::decode;
 pub use encoding::encode;
 pub use fault::CodeFault;
+pub use image_laws::law_one_finding;
 pub use store::{Kept, Store};

@@ -42,7 +42,11 @@ fn read_first<D: Disk>(alloc: Global, opened: &mut Opened<D>) -> Result<State, C
 
 /// Makes of the party the one after the next frame; false where there is none.
 #[tactic(auto, using(crate::proofs::Within::within_next))]
-fn read_next<D: Disk>(alloc: Global, opened: &mut Opened<D>, state: &mut State) -> Result<bool, Cause>
+fn read_next<D: Disk>(
+    alloc: Global,
+    opened: &mut Opened<D>,
+    state: &mut State,
+) -> Result<bool, Cause>
     requires { ReadTo (D.told opened.old.disk) opened.old.gate opened.old.end state.old }
     ensures read { IfOk result (λ more. more ≡ true → ReadTo (D.told opened.new.disk) opened.new.gate opened.new.end state.new) }
     ensures within { IfOk result (λ more. IsWithinLimits state.old → IsWithinLimits state.new) }

@@ -1,3 +1,6 @@
+ghost use Rattle.std.specs.Prelude.{IfOk, ◌≤◌, length};
+ghost use Rattle.party_state.specs.Ranges.{IsFitting};
+
 use crate::{CodeFault, Kept, Store, decode, encode};
 use party_state::{
     Answer, Change, Edit, Exchange, KeyRec, KeyStatus, Kind, LinkRec, Role, Side, Via, show_text,
@@ -8,9 +11,6 @@ use x_base::{Ident, KeyName, Label, NoMemory, Text};
 use x_disk::{Disk, TornDisk};
 use x_gen::Gen;
 use x_mac::Pair;
-
-ghost use Rattle.std.specs.Prelude.{IfOk, ◌≤◌, length};
-ghost use Rattle.party_state.specs.Ranges.{IsFitting};
 
 const GENERATOR: Gen = Gen {
     key: Pair {
@@ -142,8 +142,7 @@ fn the_first_key_sent_is_coded(rt: HostRuntime) -> Result<(), Fail> {
     let name = KeyName::read(b"BANKA.BANKA.K1.1")?;
     let label = name.label;
     let via = Via::Direct { label, new: None };
-    let text =
-        b"CSM(MCL/KSM RCV/BANKB ORG/BANKA IDK2/K1 KD/C2A5290756D949F4 CTP/1 MAC/8F270CC6)";
+    let text = b"CSM(MCL/KSM RCV/BANKB ORG/BANKA IDK2/K1 KD/C2A5290756D949F4 CTP/1 MAC/8F270CC6)";
     let kind = Kind::KeySent { name, via };
     let sent = exchange(alloc, peer, kind, text)?;
     let mut change = Change::new(alloc);
