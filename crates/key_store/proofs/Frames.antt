@@ -88,7 +88,7 @@ module _ (v0 v1 : View) (gate end : ℕ) where
     next_none same all only image now =
         let before = sym same ∙ now in
         let r = read image before in
-        let there = record { image = image; now = before; begins = r.begins } in
+        let there : HasRead v0 r.bodies gate = record { image = image; now = before; begins = r.begins } in
         let has = all r.bodies there in
         (
           record { bodies = r.bodies; holds = subst (λ (l : List ℕ). Holds l r.bodies) (same_image v1 image has.image now has.now) has.holds; fold = r.fold },

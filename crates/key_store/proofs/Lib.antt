@@ -13,3 +13,4 @@ mod Making
 mod Frames
 mod Alike
 mod Spared
+mod Loaded

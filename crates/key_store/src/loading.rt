@@ -40,7 +40,7 @@ fn read_first<D: Disk>(alloc: Global, opened: &mut Opened<D>) -> Result<State, C
 /// Makes of the party the one after the next frame; false where there is none.
 fn read_next<D: Disk>(alloc: Global, opened: &mut Opened<D>, state: &mut State) -> Result<bool, Cause>
     requires { ReadTo (D.told opened.old.disk) opened.old.gate opened.old.end state.old }
-    ensures read { IfOk result (λ more. ReadTo (D.told opened.new.disk) opened.new.gate opened.new.end state.new) }
+    ensures read { IfOk result (λ more. more ≡ true → ReadTo (D.told opened.new.disk) opened.new.gate opened.new.end state.new) }
     ensures further { IfOk result (λ more. more ≡ true → (opened.old.gate < opened.new.gate) × (opened.new.gate < opened.new.end)) }
     ensures all { IfOk result (λ more. more ≡ false → (opened.new.ended ≡ true)
         × StandsOnly (D.told opened.new.disk) state.new) }
