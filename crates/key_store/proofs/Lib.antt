@@ -6,6 +6,7 @@ mod RowForms
 mod ExchangeForms
 mod EditForms
 mod Changes
+mod Undoing
 mod Folding
 mod Keeping
 mod Making

@@ -1,7 +1,15 @@
 // What holds of every code.
-ghost use Rattle.std.specs.Prelude.{◌≡◌, ℕ, List};
+ghost use Rattle.std.specs.Prelude.{◌≡◌, ◌≤◌, ℕ, List, length, IfOk};
 ghost use Rattle.party_state.specs.declared.edit.Edit.{Edit};
+ghost use Rattle.party_state.specs.Ranges.{AreFitting};
 ghost use Rattle.key_store.specs.Code.{IsCode};
+
+use crate::decoding::decode;
+use crate::encoding::encode;
+use crate::fault::CodeFault;
+use party_state::Change;
+use std::alloc::Global;
+use x_base::NoMemory;
 
 /// Bytes are the code of one change only.
 #[tactic(auto, using(crate::proofs::Changes::one_change))]
@@ -14,3 +22,18 @@ pub fn law_one_change()
 pub fn law_one_code()
     ensures { (first second : List ℕ) (edits : List Edit) → IsCode first edits → IsCode second edits → first ≡ second }
 {}
+
+/// Decoding the code of a change gives back an equal change.
+#[tactic(auto, using(crate::proofs::Undoing::undone, crate::proofs::Undoing::never_bad))]
+pub fn law_decode_undoes(alloc: Global, change: &Change) -> Result<Change, NoMemory>
+    requires few { length change.now ≤ 65535 }
+    requires fitting { AreFitting change.now }
+    ensures { IfOk result (λ back. back ≡ change.now) }
+{
+    let code = encode(alloc, change)?;
+    match decode(alloc, code.bytes()) {
+        Ok(back) => Ok(back),
+        Err(CodeFault::NoMemory) => Err(NoMemory),
+        Err(CodeFault::Bad) => unreachable!(),
+    }
+}

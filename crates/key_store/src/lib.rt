@@ -17,9 +17,11 @@ mod pieces;
 mod reader;
 mod rows;
 mod store;
+#[cfg(test)]
+mod tests;
 mod writing;
 
-pub use code_laws::{law_one_change, law_one_code};
+pub use code_laws::{law_decode_undoes, law_one_change, law_one_code};
 pub use decoding::decode;
 pub use encoding::encode;
 pub use fault::CodeFault;
