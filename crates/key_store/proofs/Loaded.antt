@@ -67,7 +67,7 @@ sound_head_at true magic is = absurd (cc is)
 sound_head_at false true is = (refl, refl)
 sound_head_at false false is = absurd (cc is)
 
-sound_head : (image : List ℕ) → refusal_of image ≡ None → (is_blank image ≡ false) × (has_magic image ≡ true)
+pub sound_head : (image : List ℕ) → refusal_of image ≡ None → (is_blank image ≡ false) × (has_magic image ≡ true)
 sound_head image is = sound_head_at (is_blank image) (has_magic image) is
 
 -- opening was refused

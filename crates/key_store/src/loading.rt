@@ -2,6 +2,7 @@
 ghost use Rattle.std.specs.Prelude.{◌≡◌, ◌⊎◌, ◌+◌, ◌<◌, ◌≤◌, true, false, List, ℕ, Some, IfOk, IfErr, is_some};
 ghost use Rattle.x_base.specs.Edge.{Rose};
 ghost use Rattle.x_disk.specs.Disk.{IsStill, IsDurable, LeavesOnly, LeavesNoMore};
+ghost use Rattle.key_journal.specs.Journal.{is_blank, has_magic};
 ghost use Rattle.key_journal.specs.Opening.{IsFree};
 ghost use Rattle.party_state.specs.State.{Party};
 ghost use Rattle.key_store.specs.Store.{Stands, IsStore, IsRefusal};
@@ -84,6 +85,7 @@ impl<D: Disk> Store<D> {
     pub fn load_from(alloc: Global, disk: D) -> Result<Store<D>, Unmade<D>>
         ensures stands { IfOk result (λ s. IsStore (D.told s.disk) s.gate s.end s.party) }
         ensures exact { IfOk result (λ s. (image : List ℕ) (party : Party) → (D.told disk).now ≡ Some image → Stands image party → s.party ≡ party) }
+        ensures marked { IfOk result (λ s. (image : List ℕ) → (D.told disk).now ≡ Some image → (is_blank image ≡ false) × (has_magic image ≡ true)) }
         ensures now { (D.told (store_disk result)).now ≡ (D.told disk).now }
         ensures refused { IfErr result (λ u. (image : List ℕ) → (D.told disk).now ≡ Some image → IsRefusal image u.cause) }
         ensures spares { IfErr result (λ u. (image : List ℕ) (party : Party) → (D.told disk).now ≡ Some image → Stands image party → IsFree u.cause) }
