@@ -12,19 +12,19 @@ use Rattle.party_state.specs.State.{Party, begun, apply, apply_edit}
 use Rattle.party_state.specs.declared.edit.Edit.{Edit}
 use Rattle.party_state.specs.declared.edit.Edit.TheVariants.{Begin, PutLink, DropLink, PutKey, DropEnded, PutExchange, DropExchange, PutAnswer, SetGen}
 use Rattle.key_store.specs.Code.{IsCode}
-use Rattle.key_store.specs.Store.{GoOn, IsFirst, IsNext, Lead, Fold}
+use Rattle.key_store.specs.Store.{GoOn, IsFirst, IsStep, Lead, Fold}
 use Rattle.key_store.proofs.Changes.{one_change}
 
-lead_on : (old mid new : Party) (bodies : List (List ℕ)) (body : List ℕ) → Lead old bodies mid → IsNext body mid new → Lead old (bodies ++ body ∷ []) new
-lead_on old mid new [] body is next = (new, subst (λ (p : Party). IsNext body p new) is next, refl)
+lead_on : (old mid new : Party) (bodies : List (List ℕ)) (body : List ℕ) → Lead old bodies mid → IsStep body mid new → Lead old (bodies ++ body ∷ []) new
+lead_on old mid new [] body is next = (new, subst (λ (p : Party). IsStep body p new) is next, refl)
 lead_on old mid new (b ∷ bodies) body lead next = (lead.0, lead.1, lead_on lead.0 mid new bodies body lead.2 next)
 
 -- one body more
-pub fold_on : (bodies : List (List ℕ)) (body : List ℕ) (old new : Party) → Fold bodies old → IsNext body old new → Fold (bodies ++ body ∷ []) new
+pub fold_on : (bodies : List (List ℕ)) (body : List ℕ) (old new : Party) → Fold bodies old → IsStep body old new → Fold (bodies ++ body ∷ []) new
 fold_on [] body old new none next = absurd none
 fold_on (b ∷ bodies) body old new fold next = (fold.0, fold.1, lead_on fold.0 old new bodies body fold.2 next)
 
-pub one_next : (body : List ℕ) (old a b : Party) → IsNext body old a → IsNext body old b → a ≡ b
+pub one_next : (body : List ℕ) (old a b : Party) → IsStep body old a → IsStep body old b → a ≡ b
 one_next body old a b first second =
     first.after ∙ (ap (λ (es : List Edit). apply es old) (one_change body first.edits second.edits first.code second.code) ∙ sym second.after)
 
@@ -95,7 +95,7 @@ pub never_first : (body : List ℕ) (edits : List Edit) → IsCode body edits �
 never_first body edits code never p first =
     never first.own first.role first.generator first.edits (one_change body edits (Begin first.own first.role first.generator ∷ first.edits) code first.code) first.go_on
 
-pub never_next : (body : List ℕ) (edits : List Edit) (old : Party) → IsCode body edits → (GoOn edits old → ⊥) → (new : Party) → IsNext body old new → ⊥
+pub never_next : (body : List ℕ) (edits : List Edit) (old : Party) → IsCode body edits → (GoOn edits old → ⊥) → (new : Party) → IsStep body old new → ⊥
 never_next body edits old code never new next = never (subst (λ (l : List Edit). GoOn l old) (one_change body next.edits edits next.code code) next.go_on)
 
 pub empty_list : (es : List Edit) → length es ≡ 0 → es ≡ []

@@ -7,7 +7,7 @@ use Rattle.key_journal.specs.States.{HasRead, HasBodies}
 use Rattle.key_journal.specs.declared.cause.Cause.{Cause}
 use Rattle.key_journal.specs.declared.cause.Cause.TheVariants as cause
 use Rattle.party_state.specs.State.{Party}
-use Rattle.key_store.specs.Store.{IsFirst, IsNext, Fold, Stands, AreSound, IsUnsound, IsDamagedFrame, IsFirstDamage, IsRefusal, found}
+use Rattle.key_store.specs.Store.{IsFirst, IsStep, Fold, Stands, AreSound, IsUnsound, IsDamagedFrame, IsFirstDamage, IsRefusal, found}
 use Rattle.key_store.specs.Loading.{IsUnread, IsReadTo, Unread, ReadTo, Stops, StandsOnly}
 use Rattle.key_store.proofs.Folding.{fold_on, one_fold}
 
@@ -19,9 +19,9 @@ pub sound_of : (bodies : List (List ℕ)) (party : Party) → Fold bodies party 
 sound_of [] party fold = tt
 sound_of (b ∷ bodies) party fold = (party, fold)
 
-pub unsound_of : (bodies : List (List ℕ)) (party : Party) (body : List ℕ) → Fold bodies party → ((new : Party) → IsNext body party new → ⊥) → IsUnsound bodies body
+pub unsound_of : (bodies : List (List ℕ)) (party : Party) (body : List ℕ) → Fold bodies party → ((new : Party) → IsStep body party new → ⊥) → IsUnsound bodies body
 unsound_of [] party body fold never = absurd fold
-unsound_of (b ∷ bodies) party body fold never = λ old new other next. never new (subst (λ (p : Party). IsNext body p new) (one_fold (b ∷ bodies) old party other fold) next)
+unsound_of (b ∷ bodies) party body fold never = λ old new other next. never new (subst (λ (p : Party). IsStep body p new) (one_fold (b ∷ bodies) old party other fold) next)
 
 -- a frame that is damaged in itself
 stop_frame : (image : List ℕ) (bodies : List (List ℕ)) (gate end : ℕ) (reason : Cause) → Begins image bodies gate → AreSound bodies → end ≡ start image + 8388600
@@ -78,7 +78,7 @@ module _ (v0 v1 : View) (gate end : ℕ) where
         let r = read image now in
         stop_frame image r.bodies gate end reason r.begins (sound_of r.bodies party r.fold) r.last (exact image now) names
 
-    pub next_unsound : (body : List ℕ) → ((image : List ℕ) → v0.now ≡ Some image → IsFound (found_at image gate end) (Ok (Some body))) → ((p : Party) → IsNext body party p → ⊥) → Stops v0 gate (cause.Damaged gate)
+    pub next_unsound : (body : List ℕ) → ((image : List ℕ) → v0.now ≡ Some image → IsFound (found_at image gate end) (Ok (Some body))) → ((p : Party) → IsStep body party p → ⊥) → Stops v0 gate (cause.Damaged gate)
     next_unsound body exact never image now =
         let r = read image now in
         inr (refl, stop_body image r.bodies body gate end r.begins (sound_of r.bodies party r.fold) r.last (exact image now) (unsound_of r.bodies party body r.fold never))
@@ -97,7 +97,7 @@ module _ (v0 v1 : View) (gate end : ℕ) where
         )
 
     pub next_read : (next : ℕ) (body : List ℕ) (new : Party) → v1.now ≡ v0.now
-        → ((bodies : List (List ℕ)) → HasRead v0 bodies gate → HasRead v1 (bodies ++ body ∷ []) next) → IsNext body party new → ReadTo v1 next end new
+        → ((bodies : List (List ℕ)) → HasRead v0 bodies gate → HasRead v1 (bodies ++ body ∷ []) next) → IsStep body party new → ReadTo v1 next end new
     next_read next body new same more follows image now =
         let before = sym same ∙ now in
         let r = read image before in

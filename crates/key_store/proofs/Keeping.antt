@@ -11,7 +11,7 @@ use Rattle.party_state.specs.State.{Party, apply}
 use Rattle.party_state.specs.declared.edit.Edit.{Edit}
 use Rattle.key_store.specs.Code.{IsCode, code_of}
 use Rattle.key_store.specs.declared.store.Kept.TheVariants as Kept
-use Rattle.key_store.specs.Store.{Stored, GoOn, IsNext, Fold, Stands, IsStore, IsOldOrNew}
+use Rattle.key_store.specs.Store.{Stored, GoOn, IsStep, Fold, Stands, IsStore, IsOldOrNew}
 use Rattle.key_store.proofs.Folding.{fold_on}
 use Rattle.key_store.proofs.Within.{within_after}
 

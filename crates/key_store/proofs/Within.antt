@@ -5,7 +5,7 @@ use Rattle.party_state.specs.Limits.{IsWithinLimits, StaysWithinLimits}
 use Rattle.party_state.specs.declared.edit.Edit.{Edit}
 use Rattle.x_base.specs.declared.party.Role.{Role}
 use Rattle.x_gen.specs.declared.generator.Gen.{Gen}
-use Rattle.key_store.specs.Store.{IsFirst, IsNext, Lead, Fold}
+use Rattle.key_store.specs.Store.{IsFirst, IsStep, Lead, Fold}
 
 pub within_after : (edits : List Edit) (party : Party) → IsWithinLimits party → StaysWithinLimits edits party → IsWithinLimits (apply edits party)
 within_after [] party within stays = within
@@ -19,7 +19,7 @@ within_first body party first =
     subst IsWithinLimits (sym first.after)
     (within_after first.edits (begun first.own first.role first.generator) (within_begun first.own first.role first.generator) first.go_on.within)
 
-pub within_next : (body : List ℕ) (old new : Party) → IsNext body old new → IsWithinLimits old → IsWithinLimits new
+pub within_next : (body : List ℕ) (old new : Party) → IsStep body old new → IsWithinLimits old → IsWithinLimits new
 within_next body old new next within = subst IsWithinLimits (sym next.after) (within_after next.edits old within next.go_on.within)
 
 within_lead : (old new : Party) (bodies : List (List ℕ)) → Lead old bodies new → IsWithinLimits old → IsWithinLimits new

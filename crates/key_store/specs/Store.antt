@@ -30,17 +30,17 @@ pub record IsFirst (body : List ℕ) (party : Party) : Type 0 where
   pub go_on : GoOn edits (begun own role generator)
   pub after : party ≡ apply edits (begun own role generator)
 
--- the body is the code of a change that goes on from one party to the next
-pub record IsNext (body : List ℕ) (old new : Party) : Type 0 where
+-- the body is a step from one party to the next: the code of a change that goes on from it
+pub record IsStep (body : List ℕ) (old new : Party) : Type 0 where
   pub edits : List Edit
   pub code : IsCode body edits
   pub go_on : GoOn edits old
   pub after : new ≡ apply edits old
 
--- the bodies go on from one party to another
+-- the bodies lead from one party to another, step by step
 abbrev pub Lead : Party → List (List ℕ) → Party → Type 0
 Lead old [] new = new ≡ old
-Lead old (body ∷ bodies) new = (mid : Party) × IsNext body old mid × Lead mid bodies new
+Lead old (body ∷ bodies) new = (mid : Party) × IsStep body old mid × Lead mid bodies new
 
 -- the fold of the bodies is this party
 abbrev pub Fold : List (List ℕ) → Party → Type 0
@@ -61,7 +61,7 @@ AreSound (body ∷ bodies) = (party : Party) × Fold (body ∷ bodies) party
 -- this body can't follow those
 abbrev pub IsUnsound : List (List ℕ) → List ℕ → Type 0
 IsUnsound [] next = (party : Party) → IsFirst next party → ⊥
-IsUnsound (body ∷ bodies) next = (old new : Party) → Fold (body ∷ bodies) old → IsNext next old new → ⊥
+IsUnsound (body ∷ bodies) next = (old new : Party) → Fold (body ∷ bodies) old → IsStep next old new → ⊥
 
 -- what lies at a gate of the selected area
 abbrev pub found : List ℕ → ℕ → Result (Option (List ℕ)) Cause

@@ -2,7 +2,7 @@
 ghost use Rattle.std.specs.Prelude.{◌≡◌, true, false, Some, None, IfOk, IfSome};
 ghost use Rattle.party_state.specs.State.{Party};
 ghost use Rattle.key_store.specs.Code.{IsCode, IsNoCode};
-ghost use Rattle.key_store.specs.Store.{IsFirst, IsNext};
+ghost use Rattle.key_store.specs.Store.{IsFirst, IsStep};
 
 use crate::decoding::decode;
 use crate::fault::CodeFault;
@@ -53,8 +53,8 @@ pub(crate) fn first_party(alloc: Global, body: &[u8]) -> Result<Option<State>, N
 
 /// Makes of a party the next one, and answers whether the body does that.
 pub(crate) fn next_party(alloc: Global, state: &mut State, body: &[u8]) -> Result<bool, NoMemory>
-    ensures yes { IfOk result (λ goes. goes ≡ true → IsNext body.now state.old state.new) }
-    ensures no { IfOk result (λ goes. goes ≡ false → (p : Party) → IsNext body.now state.old p → ⊥) }
+    ensures yes { IfOk result (λ goes. goes ≡ true → IsStep body.now state.old state.new) }
+    ensures no { IfOk result (λ goes. goes ≡ false → (p : Party) → IsStep body.now state.old p → ⊥) }
 {
     match decoded(alloc, body)? {
         Some(change) => follow(alloc, state, change.into_edits()),
