@@ -10,6 +10,7 @@ mod Changes
 mod Undoing
 mod Folding
 mod Within
+mod Causes
 mod Keeping
 mod Making
 mod Frames

@@ -8,7 +8,6 @@ use Rattle.key_journal.specs.States.{HasBodies, HasRoom}
 use Rattle.key_journal.specs.declared.cause.Cause.{Cause}
 use Rattle.key_journal.specs.declared.cause.Cause.TheVariants as cause
 use Rattle.party_state.specs.State.{Party}
-use Rattle.party_state.specs.Limits.{IsWithinLimits}
 use Rattle.key_store.specs.Store.{Stands, IsStore, IsRefusal}
 use Rattle.key_store.specs.Loading.{Unread, Stops, StopsSomewhere, StandsOnly, Spares}
 use Rattle.key_store.proofs.Frames.{free_refusal}
@@ -88,10 +87,6 @@ refused_later u v gate end ended reason opened stops image now =
 pub spared_at_once : (u : View) (reason : Cause) → ((bodies : List (List ℕ)) → HasBodies u bodies → IsFree reason) → Spares u reason
 spared_at_once u reason undamaged image party now stands = undamaged stands.bodies (record { image = image; now = now; holds = stands.holds })
 
--- the store that was loaded
-pub loaded : (w : View) (gate end : ℕ) (party : Party) → IsDurable w → HasRoom w gate end → StandsOnly w party → IsWithinLimits party → IsStore w gate end party
-loaded w gate end party durable room stands within = record { durable = durable; stands = λ image now. (stands image now).0; within = within; room = room }
-
--- and no other party
+-- an image stands for no other party than the one that was loaded
 pub loaded_exact : (u w : View) (party : Party) → w.now ≡ u.now → StandsOnly w party → (image : List ℕ) (other : Party) → u.now ≡ Some image → Stands image other → party ≡ other
 loaded_exact u w party same stands image other now is = (stands image (same ∙ now)).1 other is

@@ -19,13 +19,14 @@ use x_base::NoMemory;
 use x_disk::Disk;
 
 /// The party that the first frame makes.
-#[tactic(auto, using(crate::proofs::Within::within_first))]
+#[tactic(auto, using(crate::proofs::Within::within_first, crate::proofs::Causes::read_any))]
 fn read_first<D: Disk>(alloc: Global, opened: &mut Opened<D>) -> Result<State, Cause>
     requires { Unread (D.told opened.old.disk) opened.old.gate opened.old.end }
     ensures read { IfOk result (ReadTo (D.told opened.new.disk) opened.new.gate opened.new.end) }
     ensures within { IfOk result IsWithinLimits }
     ensures stops { IfErr result (Stops (D.told opened.old.disk) opened.old.gate) }
     ensures spares { IfErr result (Spares (D.told opened.old.disk)) }
+    ensures names { IfErr result (λ reason. reason ≡ Cause.NotEmpty → ⊥) }
     ensures still { IsStill (D.told opened.old.disk) (D.told opened.new.disk) }
     ensures fault { IfErr result (λ reason. reason ≡ Cause.Fault → Rose (D.told opened.old.disk).faults (D.told opened.new.disk).faults) }
     ensures faults { (D.told opened.old.disk).faults ≤ (D.told opened.new.disk).faults }
@@ -42,7 +43,7 @@ fn read_first<D: Disk>(alloc: Global, opened: &mut Opened<D>) -> Result<State, C
 }
 
 /// Makes of the party the one after the next frame; false where there is none.
-#[tactic(auto, using(crate::proofs::Within::within_next))]
+#[tactic(auto, using(crate::proofs::Within::within_next, crate::proofs::Causes::read_any))]
 fn read_next<D: Disk>(
     alloc: Global,
     opened: &mut Opened<D>,
@@ -56,6 +57,7 @@ fn read_next<D: Disk>(
         × StandsOnly (D.told opened.new.disk) state.new) }
     ensures stops { IfErr result (Stops (D.told opened.old.disk) opened.old.gate) }
     ensures spares { IfErr result (Spares (D.told opened.old.disk)) }
+    ensures names { IfErr result (λ reason. reason ≡ Cause.NotEmpty → ⊥) }
     ensures end { opened.new.end ≡ opened.old.end }
     ensures still { IsStill (D.told opened.old.disk) (D.told opened.new.disk) }
     ensures fault { IfErr result (λ reason. reason ≡ Cause.Fault → Rose (D.told opened.old.disk).faults (D.told opened.new.disk).faults) }
@@ -80,6 +82,7 @@ fn read_party<D: Disk>(alloc: Global, opened: &mut Opened<D>) -> Result<State, C
     ensures ended { IfOk result (λ party. opened.new.ended ≡ true) }
     ensures stops { IfErr result (StopsSomewhere (D.told opened.old.disk)) }
     ensures spares { IfErr result (Spares (D.told opened.old.disk)) }
+    ensures names { IfErr result (λ reason. reason ≡ Cause.NotEmpty → ⊥) }
     ensures still { IsStill (D.told opened.old.disk) (D.told opened.new.disk) }
     ensures fault { IfErr result (λ reason. reason ≡ Cause.Fault → Rose (D.told opened.old.disk).faults (D.told opened.new.disk).faults) }
     ensures faults { (D.told opened.old.disk).faults ≤ (D.told opened.new.disk).faults }
@@ -98,6 +101,7 @@ impl<D: Disk> Store<D> {
         ensures marked { IfOk result (λ s. (image : List ℕ) → (D.told disk).now ≡ Some image → (is_blank image ≡ false) × (has_magic image ≡ true)) }
         ensures now { (D.told (store_disk result)).now ≡ (D.told disk).now }
         ensures refused { IfErr result (λ u. (image : List ℕ) → (D.told disk).now ≡ Some image → IsRefusal image u.cause) }
+        ensures names { IfErr result (λ u. u.cause ≡ Cause.NotEmpty → ⊥) }
         ensures spares { IfErr result (λ u. (image : List ℕ) (party : Party) → (D.told disk).now ≡ Some image → Stands image party → IsFree u.cause) }
 
         // A crash at any moment leaves what it could leave before.
