@@ -1,5 +1,6 @@
 mod DamageLemmas
 mod ImageLemmas
+mod GateLemmas
 mod MakeLemmas
 mod OpenLemmas
 mod ReadLemmas

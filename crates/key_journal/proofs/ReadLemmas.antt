@@ -134,13 +134,13 @@ at_gate image bodies rest gate b h =
     let w = whole_of image (bodies ++ rest) h in
     same_back (frames bodies) (drop gate image) (frames rest ++ w.gate ∷ w.tail) (sym (behind image bodies gate b) ∙ w.whole ∙ frames-append bodies rest (w.gate ∷ w.tail))
 
-get_at : (image front : List ℕ) (gate i : ℕ) → drop gate image ≡ front → get_or image (gate + i) 0 ≡ get_or front i 0
+pub get_at : (image front : List ℕ) (gate i : ℕ) → drop gate image ≡ front → get_or image (gate + i) 0 ≡ get_or front i 0
 get_at image front gate i is = sym (get_or-drop gate image i 0) ∙ ap (λ (l : List ℕ). get_or l i 0) is
 
 number_of : (n : ℕ) → n ≤ 4194304 → n / 16777216 % 256 * 16777216 + n / 65536 % 256 * 65536 + n / 256 % 256 * 256 + n % 256 ≡ n
 number_of n le = omega arith
 
-stated_is : (image : List ℕ) (gate n : ℕ) (tail : List ℕ) → n ≤ 4194304 → drop gate image ≡ 1 ∷ (four_bytes n ++ tail) → stated image gate ≡ n
+pub stated_is : (image : List ℕ) (gate n : ℕ) (tail : List ℕ) → n ≤ 4194304 → drop gate image ≡ 1 ∷ (four_bytes n ++ tail) → stated image gate ≡ n
 stated_is image gate n tail small is =
     let a = get_at image (1 ∷ (four_bytes n ++ tail)) gate 1 is in
     let b = get_at image (1 ∷ (four_bytes n ++ tail)) gate 2 is in
@@ -165,13 +165,13 @@ pub record Reads (image : List ℕ) (gate end : ℕ) : Type 0 where
   pub body : Option (List ℕ)
   pub is : found_at image gate end ≡ Ok body
 
-open_by : (gate size x : ℕ) → gate < size → x ≡ 1 → nat_lt gate size && (x == 1) ≡ true
+pub open_by : (gate size x : ℕ) → gate < size → x ≡ 1 → nat_lt gate size && (x == 1) ≡ true
 open_by gate size x within is = grind (arith, nat_tests)
 
 shut_by : (gate size x : ℕ) → x ≢ 1 → nat_lt gate size && (x == 1) ≡ false
 shut_by gate size x not = grind (arith, nat_tests)
 
-whole_by : (n gate size end : ℕ) → 1 ≤ n → n ≤ 4194304 → gate + 6 + n ≤ size → gate + 6 + n ≤ end → (nat_le 1 n && nat_le n 4194304) && (nat_le (gate + 6 + n) size && nat_le (gate + 6 + n) end) ≡ true
+pub whole_by : (n gate size end : ℕ) → 1 ≤ n → n ≤ 4194304 → gate + 6 + n ≤ size → gate + 6 + n ≤ end → (nat_le 1 n && nat_le n 4194304) && (nat_le (gate + 6 + n) size && nat_le (gate + 6 + n) end) ≡ true
 whole_by n gate size end some small in_file in_area = grind (arith, nat_tests)
 
 apart_by : (gate first : ℕ) → first < gate → (gate == first) ≡ false
@@ -199,18 +199,19 @@ frame_found image body tail gate end is_body front in_file in_area =
     ∙ ap (λ (t : Bool). found_by true t (gate == start image) gate (take (stated image gate) (drop (gate + 5) image))) within
     ∙ ap (λ (l : List ℕ). found_by true true (gate == start image) gate l) text
 
-reads_rest : (image : List ℕ) (bodies rest : List (List ℕ)) (gate end : ℕ) → Begins image bodies gate → Holds image (bodies ++ rest) → end ≡ start image + 8388600 → Reads image gate end
-reads_rest image bodies [] gate end b h last =
+-- the end of the list
+pub found_none : (image : List ℕ) (bodies : List (List ℕ)) (gate end : ℕ) → Begins image bodies gate → Holds image (bodies ++ []) → found_at image gate end ≡ Ok None
+found_none image bodies gate end b h =
     let w = whole_of image (bodies ++ []) h in
     let front = at_gate image bodies [] gate b h in
     let some : 0 < length bodies = omega (arith, h.area.some, length-append bodies []) in
     let shut = shut_by gate (length image) (get_or image gate 0) (λ one. w.closed (sym (get_at image (w.gate ∷ w.tail) gate 0 front) ∙ ap (λ (n : ℕ). get_or image n 0) (omega arith) ∙ one)) in
     let apart = apart_by gate (start image) (omega (arith, b.place, frames_some bodies some)) in
-    record {
-      body = None;
-      is = ap (λ (t : Bool). found_by t (is_whole image gate end) (gate == start image) gate (take (stated image gate) (drop (gate + 5) image))) shut
-          ∙ ap (λ (t : Bool). found_by false (is_whole image gate end) t gate (take (stated image gate) (drop (gate + 5) image))) apart;
-    }
+    ap (λ (t : Bool). found_by t (is_whole image gate end) (gate == start image) gate (take (stated image gate) (drop (gate + 5) image))) shut
+    ∙ ap (λ (t : Bool). found_by false (is_whole image gate end) t gate (take (stated image gate) (drop (gate + 5) image))) apart
+
+reads_rest : (image : List ℕ) (bodies rest : List (List ℕ)) (gate end : ℕ) → Begins image bodies gate → Holds image (bodies ++ rest) → end ≡ start image + 8388600 → Reads image gate end
+reads_rest image bodies [] gate end b h last = record { body = None; is = found_none image bodies gate end b h }
 reads_rest image bodies (body ∷ rest) gate end b h last =
     let w = whole_of image (bodies ++ body ∷ rest) h in
     let n = length body in

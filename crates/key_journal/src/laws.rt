@@ -1,7 +1,8 @@
 // What holds of every image.
-ghost use Rattle.std.specs.Prelude.{◌≡◌, List, ℕ, true};
-ghost use Rattle.key_journal.specs.Journal.{is_blank, Holds};
-ghost use Rattle.key_journal.specs.Opening.{AreBytes, IsDamagedAt, IsJudged};
+ghost use Rattle.std.specs.Prelude.{◌≡◌, ◌⊎◌, ◌+◌, ◌∷◌, ◌++◌, List, ℕ, true, false, Some, None, Ok};
+ghost use Rattle.key_journal.specs.Journal.{is_blank, has_magic, start, gate_place, Holds, Begins};
+ghost use Rattle.key_journal.specs.Opening.{AreBytes, IsDamagedAt, IsJudged, found_at};
+ghost use Rattle.key_journal.specs.States.{AreFirst};
 
 /// An image stands for one list of bodies only.
 pub fn law_one_list()
@@ -18,4 +19,15 @@ pub fn law_blank_sound_or_damaged()
 /// An image has one first damage only.
 pub fn law_one_damage()
     ensures { (image : List ℕ) (first second : ℕ) → IsDamagedAt image first → IsDamagedAt image second → first ≡ second }
+{}
+
+/// What is found at the gates of an image, and what two lists of its first bodies have to do with one another.
+#[tactic(auto, using(crate::proofs::GateLemmas::head_stands))]
+pub fn law_gates()
+    ensures head { (image : List ℕ) (bodies : List (List ℕ)) → Holds image bodies → (is_blank image ≡ false) × (has_magic image ≡ true) }
+    ensures begins { (image : List ℕ) (bodies : List (List ℕ)) → Holds image bodies → Begins image bodies (gate_place image bodies) }
+    ensures either { (image : List ℕ) (first second : List (List ℕ)) (g h : ℕ) → Begins image first g → Begins image second h → AreFirst first second ⊎ AreFirst second first }
+    ensures next { (image : List ℕ) (bodies rest : List (List ℕ)) (body : List ℕ) (gate last : ℕ) → Begins image bodies gate → Begins image (bodies ++ body ∷ rest) last
+        → found_at image gate (start image + 8388600) ≡ Ok (Some body) }
+    ensures end { (image : List ℕ) (bodies : List (List ℕ)) (gate : ℕ) → Begins image bodies gate → Holds image bodies → found_at image gate (start image + 8388600) ≡ Ok None }
 {}

@@ -20,6 +20,6 @@ pub use blank::{Blank, prepare};
 pub use broken::Broken;
 pub use cause::{Cause, Unmade};
 pub use frame_text::frame;
-pub use laws::{law_blank_sound_or_damaged, law_one_damage, law_one_list};
+pub use laws::{law_blank_sound_or_damaged, law_gates, law_one_damage, law_one_list};
 pub use opened::{Opened, open_disk};
 pub use ready::{Ready, Staged};

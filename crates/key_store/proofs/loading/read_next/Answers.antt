@@ -1,0 +1,51 @@
+use Rattle.std.proofs.Common.{◌≡◌, ℕ, List, Option, Some, Ok, sym, subst}
+use Rattle.std.proofs.lemmas.Result.{err_from_is_err_and}
+use Rattle.key_journal.specs.Opening.{IsFound, found_at}
+use Rattle.key_journal.specs.declared.cause.Cause.TheVariants as cause
+use Rattle.key_store.specs.Store.{IsStep}
+use Rattle.key_store.specs.Loading.{ReadTo, Stops, Spares}
+use Rattle.key_store.proofs.Frames.{next_stops, next_unsound, next_none, next_read}
+use Rattle.key_store.proofs.Spared.{spared, spared_next}
+use Rattle.key_store.proofs.loading.read_next.Goals as goal
+
+pub returns-in_err-body-clause-spares : goal.returns-in_err-body-clause-spares
+returns-in_err-body-clause-spares g c = let p = err_from_is_err_and c.from_residual.result c.from_residual.ensures.1 in rw (p.1, p.2) (spared (g.D.Disk.told c.args.opened.now.disk) c.in_err-body.field-0.0 c.in_err-body.ensures.undamaged)
+
+pub returns-in_err-body-clause-stops : goal.returns-in_err-body-clause-stops
+returns-in_err-body-clause-stops g c =
+    let told = g.D.Disk.told in
+    let p = err_from_is_err_and c.from_residual.result c.from_residual.ensures.1 in
+    rw (p.1, p.2)
+    (next_stops (told c.args.opened.now.disk) (told c.next.new.self.disk) c.args.opened.now.gate c.args.opened.now.end c.args.state.now c.requires c.in_err-body.field-0.0 c.in_err-body.ensures.exact c.in_err-body.ensures.names)
+
+pub returns-in_default-clause-all : goal.returns-in_default-clause-all
+returns-in_default-clause-all g c =
+    let told = g.D.Disk.told in
+    λ is. (
+      c.in_ok-body.ensures.ended c.in_default.is,
+      next_none (told c.args.opened.now.disk) (told c.next.new.self.disk) c.args.opened.now.gate c.args.opened.now.end c.args.state.now c.requires c.next.ensures.still.now (c.in_ok-body.ensures.all c.in_default.is) (c.in_ok-body.ensures.only c.in_default.is),
+    )
+
+pub returns-in-Ok-true-clause-read : goal.returns-in-Ok-true-clause-read
+returns-in-Ok-true-clause-read g c =
+    let told = g.D.Disk.told in
+    let more = rw c.in-Some.is at c.in_ok-body.ensures.more in
+    λ is. subst (λ (e : ℕ). ReadTo (told c.next.new.self.disk) c.next.new.self.gate e c.next_party.new.state) (sym c.next.ensures.end)
+    (next_read (told c.args.opened.now.disk) (told c.next.new.self.disk) c.args.opened.now.gate c.args.opened.now.end c.args.state.now c.requires c.next.new.self.gate c.in-Some.body c.next_party.new.state c.next.ensures.still.now more
+    (subst (λ (b : List ℕ). IsStep b c.args.state.now c.next_party.new.state) c.bytes.ensures (c.in-Ok-true.ensures.yes c.in-Ok-true.field-0-test)))
+
+pub returns-in-Ok-false-clause-stops : goal.returns-in-Ok-false-clause-stops
+returns-in-Ok-false-clause-stops g c =
+    let told = g.D.Disk.told in
+    let v = told c.args.opened.now.disk in
+    subst (λ (n : ℕ). Stops v c.args.opened.now.gate (cause.Damaged n)) (sym c.gate-gate.ensures)
+    (next_unsound v (told c.next.new.self.disk) c.args.opened.now.gate c.args.opened.now.end c.args.state.now c.requires c.in-Some.body
+    (subst (λ (o : Option (List ℕ)). (b : List ℕ) → v.now ≡ Some b → IsFound (found_at b c.args.opened.now.gate c.args.opened.now.end) (Ok o)) c.in-Some.is c.in_ok-body.ensures.exact)
+    (λ p is. c.in-Ok-false.ensures.no c.in-Ok-false.field-0-test p (subst (λ (b : List ℕ). IsStep b c.args.state.now p) (sym c.bytes.ensures) is)))
+
+pub returns-in-Ok-false-clause-spares : goal.returns-in-Ok-false-clause-spares
+returns-in-Ok-false-clause-spares g c =
+    let told = g.D.Disk.told in
+    let more = rw c.in-Some.is at c.in_ok-body.ensures.more in
+    spared_next (told c.args.opened.now.disk) (told c.next.new.self.disk) c.args.opened.now.gate c.next.new.self.gate c.in-Some.body c.next.ensures.still.now more c.next.ensures.first (cause.Damaged c.gate-gate.result) c.args.opened.now.end c.args.state.now c.requires
+    (λ p is. c.in-Ok-false.ensures.no c.in-Ok-false.field-0-test p (subst (λ (b : List ℕ). IsStep b c.args.state.now p) (sym c.bytes.ensures) is))

@@ -1,0 +1,19 @@
+use Rattle.key_store.specs.Reading.{count_form, ident_form, via_form}
+use Rattle.key_store.proofs.Joining.{both, lacks_first, lacks_second}
+use Rattle.key_store.proofs.ExchangeForms.{distribution, distribution_tagged}
+use Rattle.key_store.proofs.Names.{ident_apart}
+use Rattle.key_store.proofs.Tags.{lacks_tagged}
+use Rattle.key_store.proofs.reader.Reader.distribution.Goals as goal
+
+pub returns-in_err-centre : goal.returns-in_err-centre
+returns-in_err-centre c =
+    rw c.from_residual.ensures
+    (lacks_tagged via_form 2 (both ident_form count_form) distribution _ distribution_tagged
+    (lacks_first ident_form count_form _ c.in_err-centre.ensures))
+
+pub returns-in_err-cta : goal.returns-in_err-cta
+returns-in_err-cta c =
+    rw c.from_residual-in_err-cta.ensures
+    (lacks_tagged via_form 2 (both ident_form count_form) distribution _ distribution_tagged
+    (lacks_second ident_form count_form _ _ _ ident_apart c.in_ok-centre.ensures
+    c.in_err-cta.ensures))

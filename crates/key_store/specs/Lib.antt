@@ -1,0 +1,5 @@
+pub mod Code
+pub mod Kept
+pub mod Loading
+pub mod Reading
+pub mod Store
