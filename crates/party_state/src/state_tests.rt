@@ -35,15 +35,23 @@ fn sending(peer: Ident, label: Label, ready: bool) -> Edit
     })
 }
 
+// Puts an edit, and tells nothing of the state: what a test sees is what it asks.
+fn put(state: &mut State, alloc: Global, edit: Edit) -> Result<(), NoMemory>
+    requires fitting { IsFitting edit }
+    requires goes_on { IsNoBegin edit }
+{
+    state.edit(alloc, edit)
+}
+
 #[test]
 fn the_first_link_is_ready(rt: HostRuntime) -> Result<(), Fail> {
     let alloc = rt.alloc();
     let peer = Ident::read(b"BANKB")?;
     let mut state = bank(alloc, Ident::read(b"BANKA")?)?;
-    state.edit(alloc, sending(peer, Label::read(b"C")?, true))?;
-    state.edit(alloc, sending(peer, Label::read(b"K1")?, false))?;
+    put(&mut state, alloc, sending(peer, Label::read(b"C")?, true))?;
+    put(&mut state, alloc, sending(peer, Label::read(b"K1")?, false))?;
     assert!(rt; state.first_link(&peer, Side::Sends).is_none());
-    state.edit(alloc, sending(peer, Label::read(b"K1")?, true))?;
+    put(&mut state, alloc, sending(peer, Label::read(b"K1")?, true))?;
     assert!(rt; state.first_link(&peer, Side::Sends) == state.link_at(1));
     Ok(())
 }
@@ -53,7 +61,7 @@ fn links_are_searched(rt: HostRuntime) -> Result<(), Fail> {
     let alloc = rt.alloc();
     let peer = Ident::read(b"ABAB")?;
     let mut state = bank(alloc, Ident::read(b"BANKA")?)?;
-    state.edit(alloc, sending(peer, Label::read(b"K1")?, true))?;
+    put(&mut state, alloc, sending(peer, Label::read(b"K1")?, true))?;
     assert!(rt; state.knows(&peer));
     assert!(rt; state.has_pair(PAIR));
     assert!(rt; state.aliases(&Ident::read(b"ABABABAB")?));
@@ -87,7 +95,7 @@ fn answers_and_exchanges_are_looked_up(rt: HostRuntime) -> Result<(), Fail> {
         cta: Count::of(1).ok_or("no count")?,
         value: 5,
     };
-    state.edit(alloc, Edit::PutAnswer(answer))?;
+    put(&mut state, alloc, Edit::PutAnswer(answer))?;
     assert!(rt; state.answer(&peer, &peer) == Some(&answer));
     assert!(rt; state.exchange(&peer).is_none());
     Ok(())

@@ -47,6 +47,62 @@ fn sending(peer: Ident, label: Label, next: u64) -> LinkRec
     }
 }
 
+// Puts an edit, and tells nothing of the state: what a test sees is what it asks.
+fn put(state: &mut State, alloc: Global, edit: Edit) -> Result<(), NoMemory>
+    requires fitting { IsFitting edit }
+    requires goes_on { IsNoBegin edit }
+{
+    state.edit(alloc, edit)
+}
+
+fn put_link(
+    state: &mut State,
+    alloc: Global,
+    label: Label,
+    side: Side,
+    ready: bool,
+) -> Result<(), NoMemory> {
+    let peer = state.own();
+    let link = LinkRec {
+        peer,
+        label,
+        side,
+        pair: PAIR,
+        next: 100_000_000_000_000,
+        ready,
+    };
+    put(state, alloc, Edit::PutLink(link))
+}
+
+fn put_key(
+    state: &mut State,
+    alloc: Global,
+    peer: Ident,
+    name: KeyName,
+    status: KeyStatus,
+) -> Result<(), NoMemory> {
+    let key = KeyRec {
+        peer,
+        name,
+        value: 0x0123456789ABCDEF,
+        status,
+    };
+    put(state, alloc, Edit::PutKey(key))
+}
+
+fn put_exchange(state: &mut State, alloc: Global, peer: Ident, kind: Kind) -> Result<(), NoMemory> {
+    let text = Text::new(alloc);
+    put(
+        state,
+        alloc,
+        Edit::PutExchange(Exchange { peer, kind, text }),
+    )
+}
+
+fn shows(alloc: Global, state: &State, lines: &[u8]) -> Result<bool, NoMemory> {
+    Ok(show_text(alloc, state)?.bytes() == lines)
+}
+
 #[test]
 fn links_are_put_in_place(rt: HostRuntime) -> Result<(), Fail> {
     let alloc = rt.alloc();
@@ -73,12 +129,16 @@ fn links_and_exchanges_are_dropped(rt: HostRuntime) -> Result<(), Fail> {
     let kind = Kind::Asked { ultimate: peer };
     let text = Text::new(alloc);
     let mut state = first_state(alloc, peer, Role::Bank, GENERATOR)?;
-    state.edit(alloc, Edit::PutLink(sending(peer, label, 1)))?;
-    state.edit(alloc, Edit::DropLink { peer, label, side })?;
+    put(&mut state, alloc, Edit::PutLink(sending(peer, label, 1)))?;
+    put(&mut state, alloc, Edit::DropLink { peer, label, side })?;
     assert_eq!(rt; state.link_count(), 0);
-    state.edit(alloc, Edit::PutExchange(Exchange { peer, kind, text }))?;
+    put(
+        &mut state,
+        alloc,
+        Edit::PutExchange(Exchange { peer, kind, text }),
+    )?;
     assert_eq!(rt; state.exchange_count(), 1);
-    state.edit(alloc, Edit::DropExchange { peer })?;
+    put(&mut state, alloc, Edit::DropExchange { peer })?;
     assert_eq!(rt; state.exchange_count(), 0);
     Ok(())
 }
@@ -88,17 +148,13 @@ fn records_of_ended_keys_go(rt: HostRuntime) -> Result<(), Fail> {
     let alloc = rt.alloc();
     let peer = Ident::read(b"BANKB")?;
     let mut state = first_state(alloc, peer, Role::Bank, GENERATOR)?;
-    for status in [KeyStatus::Ended, KeyStatus::Closing] {
-        let key = KeyRec {
-            peer,
-            name: KeyName::read(b"BANKA.BANKA.K1.7")?,
-            value: 5,
-            status,
-        };
-        state.edit(alloc, Edit::PutKey(key))?;
-        state.edit(alloc, Edit::DropEnded)?;
-    }
+    let one = KeyName::read(b"BANKA.BANKA.K1.7")?;
+    let two = KeyName::read(b"BANKA.BANKA.K1.8")?;
+    put_key(&mut state, alloc, peer, one, KeyStatus::Ended)?;
+    put_key(&mut state, alloc, peer, two, KeyStatus::Closing)?;
+    put(&mut state, alloc, Edit::DropEnded)?;
     assert_eq!(rt; state.key_count(), 1);
+    assert!(rt; state.key(&peer, &two).is_some());
     Ok(())
 }
 
@@ -126,51 +182,31 @@ fn changes_are_copied(rt: HostRuntime) -> Result<(), Fail> {
 #[test]
 fn links_and_keys_are_shown(rt: HostRuntime) -> Result<(), Fail> {
     let alloc = rt.alloc();
+    let own = Ident::read(b"BANKA")?;
     let peer = Ident::read(b"BANKB")?;
-    let mut state = first_state(alloc, Ident::read(b"BANKA")?, Role::Bank, GENERATOR)?;
-    let links = [
-        (Label::read(b"K1")?, Side::Sends, true),
-        (Label::read(b"K-2")?, Side::Takes, false),
-    ];
-    for (label, side, ready) in links {
-        let link = LinkRec {
-            peer,
-            label,
-            side,
-            pair: PAIR,
-            next: 100_000_000_000_000,
-            ready,
-        };
-        state.edit(alloc, Edit::PutLink(link))?;
-    }
-    let keys: [(&[u8], KeyStatus); 5] = [
-        (b"BANKA.BANKA.K1.007", KeyStatus::Pending),
-        (b"BANKA.BANKA.K1.8", KeyStatus::Live),
-        (b"BANKB.BANKB.K-2.8", KeyStatus::Held),
-        (b"BANKA.BANKA.K1.9", KeyStatus::Closing),
-        (b"CKDX.BANKA.C.10", KeyStatus::Ended),
-    ];
-    for (name, status) in keys {
-        let name = KeyName::read(name)?;
-        let key = KeyRec {
-            peer,
-            name,
-            value: 0x0123456789ABCDEF,
-            status,
-        };
-        state.edit(alloc, Edit::PutKey(key))?;
-    }
-    let text = show_text(alloc, &state)?;
+    let mut state = first_state(alloc, own, Role::Bank, GENERATOR)?;
+    put_link(&mut state, alloc, Label::read(b"K1")?, Side::Sends, true)?;
+    put_link(&mut state, alloc, Label::read(b"K-2")?, Side::Takes, false)?;
+    let name = KeyName::read(b"BANKA.BANKA.K1.007")?;
+    put_key(&mut state, alloc, peer, name, KeyStatus::Pending)?;
+    let name = KeyName::read(b"BANKA.BANKA.K1.8")?;
+    put_key(&mut state, alloc, peer, name, KeyStatus::Live)?;
+    let name = KeyName::read(b"BANKB.BANKB.K-2.8")?;
+    put_key(&mut state, alloc, peer, name, KeyStatus::Held)?;
+    let name = KeyName::read(b"BANKA.BANKA.K1.9")?;
+    put_key(&mut state, alloc, peer, name, KeyStatus::Closing)?;
+    let name = KeyName::read(b"CKDX.BANKA.C.10")?;
+    put_key(&mut state, alloc, peer, name, KeyStatus::Ended)?;
     let lines = b"PARTY BANKA BANK
-LINK BANKB K1 OUT 100000000000000 READY
-LINK BANKB K-2 IN 100000000000000 PENDING
+LINK BANKA K1 OUT 100000000000000 READY
+LINK BANKA K-2 IN 100000000000000 PENDING
 KEY BANKB BANKA.BANKA.K1.7 PENDING
 KEY BANKB BANKA.BANKA.K1.8 LIVE
 KEY BANKB BANKB.BANKB.K-2.8 HELD
 KEY BANKB BANKA.BANKA.K1.9 CLOSING
 KEY BANKB CKDX.BANKA.C.10 ENDED
 ";
-    assert!(rt; text.bytes() == lines.as_slice());
+    assert!(rt; shows(alloc, &state, lines.as_slice())?);
     Ok(())
 }
 
@@ -182,38 +218,30 @@ fn exchanges_and_answers_are_shown(rt: HostRuntime) -> Result<(), Fail> {
     let ultimate = Ident::read(b"BANK-C")?;
     let name = KeyName::read(b"BANKA.BANKA.K1.7")?;
     let cta = name.count;
+    let mut state = first_state(alloc, own, Role::Distribution, GENERATOR)?;
+    put_exchange(&mut state, alloc, peer, Kind::Asked { ultimate })?;
+    let kind = Kind::Translating {
+        ultimate,
+        value: 5,
+        cta,
+    };
+    put_exchange(&mut state, alloc, Ident::read(b"CKTX")?, kind)?;
     let label = name.label;
     let via = Via::Direct { label, new: None };
-    let kinds: [(&[u8], Kind); 4] = [
-        (b"BANKB", Kind::Asked { ultimate }),
-        (
-            b"CKTX",
-            Kind::Translating {
-                ultimate,
-                value: 5,
-                cta,
-            },
-        ),
-        (b"BANK-C", Kind::KeySent { name, via }),
-        (b"BANKD", Kind::Ending { name }),
-    ];
-    let mut state = first_state(alloc, own, Role::Distribution, GENERATOR)?;
-    for (peer, kind) in kinds {
-        let exchange = Exchange {
-            peer: Ident::read(peer)?,
-            kind,
-            text: Text::new(alloc),
-        };
-        state.edit(alloc, Edit::PutExchange(exchange))?;
-    }
+    put_exchange(&mut state, alloc, ultimate, Kind::KeySent { name, via })?;
+    put_exchange(
+        &mut state,
+        alloc,
+        Ident::read(b"BANKD")?,
+        Kind::Ending { name },
+    )?;
     let answer = Answer {
         requester: peer,
         ultimate,
         cta,
         value: 5,
     };
-    state.edit(alloc, Edit::PutAnswer(answer))?;
-    let text = show_text(alloc, &state)?;
+    put(&mut state, alloc, Edit::PutAnswer(answer))?;
     let lines = b"PARTY CKDX DISTRIBUTION
 EXCHANGE BANKB ASKED BANK-C
 EXCHANGE CKTX TRANSLATING BANK-C 7
@@ -221,7 +249,7 @@ EXCHANGE BANK-C KEYSENT BANKA.BANKA.K1.7
 EXCHANGE BANKD ENDING BANKA.BANKA.K1.7
 ANSWER BANKB BANK-C 7
 ";
-    assert!(rt; text.bytes() == lines.as_slice());
+    assert!(rt; shows(alloc, &state, lines.as_slice())?);
     Ok(())
 }
 
