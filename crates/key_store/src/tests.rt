@@ -1,16 +1,15 @@
-ghost use Rattle.std.specs.Prelude.{IfOk, ◌≤◌, length};
-ghost use Rattle.party_state.specs.Ranges.{IsFitting};
-
-use crate::{CodeFault, Kept, Store, decode, encode};
+use crate::{CodeFault, decode, encode};
 use party_state::{
-    Answer, Change, Edit, Exchange, KeyRec, KeyStatus, Kind, LinkRec, Role, Side, Via, show_text,
+    Answer, Change, Edit, Exchange, KeyRec, KeyStatus, Kind, LinkRec, Role, Side, Via,
 };
 use std::alloc::Global;
 use std::test::Fail;
 use x_base::{Ident, KeyName, Label, NoMemory, Text};
-use x_disk::{Disk, TornDisk};
 use x_gen::Gen;
 use x_mac::Pair;
+
+ghost use Rattle.std.specs.Prelude.{IfOk, ◌≤◌, length};
+ghost use Rattle.party_state.specs.Ranges.{IsFitting};
 
 const GENERATOR: Gen = Gen {
     key: Pair {
@@ -136,43 +135,6 @@ fn each_kind_of_exchange_is_coded(rt: HostRuntime) -> Result<(), Fail> {
 }
 
 #[test]
-fn the_first_key_sent_is_coded(rt: HostRuntime) -> Result<(), Fail> {
-    let alloc = rt.alloc();
-    let peer = Ident::read(b"BANKB")?;
-    let name = KeyName::read(b"BANKA.BANKA.K1.1")?;
-    let label = name.label;
-    let via = Via::Direct { label, new: None };
-    let text = b"CSM(MCL/KSM RCV/BANKB ORG/BANKA IDK2/K1 KD/C2A5290756D949F4 CTP/1 MAC/8F270CC6)";
-    let kind = Kind::KeySent { name, via };
-    let sent = exchange(alloc, peer, kind, text)?;
-    let mut change = Change::new(alloc);
-    change.push(Edit::SetGen(0xF5A9F00D0F18E82D))?;
-    change.push(Edit::PutLink(LinkRec {
-        peer,
-        label,
-        side: Side::Sends,
-        pair: PAIR,
-        next: 2,
-        ready: true,
-    }))?;
-    change.push(Edit::PutKey(KeyRec {
-        peer,
-        name,
-        value: 0x7FD0388551613B61,
-        status: KeyStatus::Pending,
-    }))?;
-    change.push(sent)?;
-    let code = encode(alloc, &change)?;
-    let bytes = b"\x01\0\x04\x09\xF5\xA9\xF0\x0D\x0F\x18\xE8\x2D\
-\x02\x05BANKB\x02K1\x01\x01\x23\x45\x67\x89\xAB\xCD\xEC\xFE\xDC\xBA\x98\x76\x54\x32\x13\0\0\0\0\0\0\0\x02\x01\
-\x04\x05BANKB\x05BANKA\x05BANKA\x02K1\0\0\0\0\0\0\0\x01\x7F\xD0\x38\x85\x51\x61\x3B\x61\x01\
-\x06\x05BANKB\x03\x05BANKA\x05BANKA\x02K1\0\0\0\0\0\0\0\x01\x01\x02K1\0\
-\0\x4FCSM(MCL/KSM RCV/BANKB ORG/BANKA IDK2/K1 KD/C2A5290756D949F4 CTP/1 MAC/8F270CC6)";
-    assert!(rt; code.bytes() == bytes.as_slice());
-    Ok(())
-}
-
-#[test]
 fn other_bytes_are_no_code(rt: HostRuntime) -> Result<(), Fail> {
     let others: [&[u8]; 8] = [
         b"",
@@ -187,69 +149,5 @@ fn other_bytes_are_no_code(rt: HostRuntime) -> Result<(), Fail> {
     for bytes in others {
         assert!(rt; matches!(decode(rt.alloc(), bytes), Err(CodeFault::Bad)));
     }
-    Ok(())
-}
-
-#[test]
-fn a_link_is_kept_and_loaded(rt: HostRuntime) -> Result<(), Fail> {
-    let alloc = rt.alloc();
-    let own = Ident::read(b"BANKA")?;
-    let disk = TornDisk::new(alloc, 65_536)?;
-    let Ok(store) = Store::create(alloc, disk, own, Role::Bank, GENERATOR) else {
-        return Ok(assert!(rt; false));
-    };
-    let mut change = Change::new(alloc);
-    change.push(Edit::PutLink(LinkRec {
-        peer: Ident::read(b"BANKB")?,
-        label: Label::read(b"K1")?,
-        side: Side::Sends,
-        pair: PAIR,
-        next: 1,
-        ready: true,
-    }))?;
-    assert!(rt; store.fits(alloc, &change)?);
-    let Kept::Done(kept) = store.keep(alloc, &change) else {
-        return Ok(assert!(rt; false));
-    };
-    let mut disk = kept.into_disk();
-    let bytes = b"\x01\0X917-KEYSTORE1\
-\x01\0\0\0\x23\x01\0\x01\x01\x05BANKA\x01\x01\x23\x45\x67\x89\xAB\xCD\xEF\xFE\xDC\xBA\x98\x76\x54\x32\x10\0\0\0\0\0\0\0\x01\
-\x01\0\0\0\x27\x01\0\x01\x02\x05BANKB\x02K1\x01\x01\x23\x45\x67\x89\xAB\xCD\xEC\xFE\xDC\xBA\x98\x76\x54\x32\x13\0\0\0\0\0\0\0\x01\x01\
-\0";
-    assert_eq!(rt; disk.length()?, 101);
-    let mut image = [0; 101];
-    disk.read(0, &mut image)?;
-    assert!(rt; image.as_slice() == bytes.as_slice());
-    let Ok(loaded) = Store::load_from(alloc, disk) else {
-        return Ok(assert!(rt; false));
-    };
-    let shown = show_text(alloc, loaded.view())?;
-    assert!(rt; shown.bytes() == b"PARTY BANKA BANK\nLINK BANKB K1 OUT 1 READY\n".as_slice());
-    Ok(())
-}
-
-#[test]
-fn a_change_is_pending_where_the_last_call_fails(rt: HostRuntime) -> Result<(), Fail> {
-    let alloc = rt.alloc();
-    let own = Ident::read(b"BANKA")?;
-    let disk = TornDisk::new(alloc, 65_536)?;
-    let Ok(store) = Store::create(alloc, disk, own, Role::Bank, GENERATOR) else {
-        return Ok(assert!(rt; false));
-    };
-    let mut change = Change::new(alloc);
-    change.push(Edit::SetGen(2))?;
-    let Kept::Broken(broken) = store.fuse(3).keep(alloc, &change) else {
-        return Ok(assert!(rt; false));
-    };
-    let mut disk = broken.give_up().disk.into_inner();
-    disk.power_off(1)?;
-    let mut frame = [0; 17];
-    disk.read(57, &mut frame)?;
-    let bytes = b"\0\0\0\x0C\x01\0\x01\x09\0\0\0\0\0\0\0\x02\0";
-    assert!(rt; frame == *bytes);
-    let Ok(loaded) = Store::load_from(alloc, disk) else {
-        return Ok(assert!(rt; false));
-    };
-    assert_eq!(rt; loaded.view().generator().v, 2);
     Ok(())
 }
