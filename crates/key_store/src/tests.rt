@@ -1,3 +1,6 @@
+ghost use Rattle.std.specs.Prelude.{IfOk, ◌≤◌, length};
+ghost use Rattle.party_state.specs.Ranges.{IsFitting};
+
 use crate::{CodeFault, decode, encode};
 use party_state::{
     Answer, Change, Edit, Exchange, KeyRec, KeyStatus, Kind, LinkRec, Role, Side, Via,
@@ -7,9 +10,6 @@ use std::test::Fail;
 use x_base::{Ident, KeyName, Label, NoMemory, Text};
 use x_gen::Gen;
 use x_mac::Pair;
-
-ghost use Rattle.std.specs.Prelude.{IfOk, ◌≤◌, length};
-ghost use Rattle.party_state.specs.Ranges.{IsFitting};
 
 const GENERATOR: Gen = Gen {
     key: Pair {
