@@ -8,14 +8,25 @@ use x_base::{Ident, KeyName, Label, Verdict};
 fn keys_are_sent_and_given_up(rt: HostRuntime) -> Result<(), Fail> {
     let alloc = rt.alloc();
     let peer = Ident::read(b"BANKB")?;
-    let start = Command::Start { peer, label: None };
     let first = "CSM(MCL/KSM RCV/BANKB ORG/BANKA IDK2/K1 KD/C2A5290756D949F4 CTP/1 MAC/8F270CC6)";
     let second = "CSM(MCL/KSM RCV/BANKB ORG/BANKA IDK2/K1 KD/20E2F5F31394D5D9 CTP/2 MAC/F5545A49)";
     let state = loaded(&rt, alloc, b"BANKA", b"BANKB", Side::Sends)?;
-    let state = orders(&rt, alloc, state, start, first)?;
+    let state = orders(
+        &rt,
+        alloc,
+        state,
+        Command::Start { peer, label: None },
+        first,
+    )?;
     let state = orders(&rt, alloc, state, Command::Resend { peer }, first)?;
     let state = orders(&rt, alloc, state, Command::Drop { peer }, "")?;
-    let _state = orders(&rt, alloc, state, start, second)?;
+    let _state = orders(
+        &rt,
+        alloc,
+        state,
+        Command::Start { peer, label: None },
+        second,
+    )?;
     Ok(())
 }
 
