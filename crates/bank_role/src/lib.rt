@@ -1,12 +1,8 @@
 //! What a bank decides (ANSI X9.17): of commands, and of service messages that arrive.
 #![tactic(auto)]
 
-#[cfg(test)]
-mod arrival_tests;
 mod arrivals;
 mod ask;
-#[cfg(test)]
-mod command_tests;
 mod commands;
 mod common_tests;
 mod deciding;
@@ -29,8 +25,6 @@ mod rsi;
 mod rsm;
 mod sending;
 mod start;
-#[cfg(test)]
-mod test_parties;
 mod texts;
 mod verdicts;
 
