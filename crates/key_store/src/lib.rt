@@ -18,8 +18,6 @@ mod pieces;
 mod reader;
 mod rows;
 mod store;
-#[cfg(test)]
-mod tests;
 mod writing;
 
 pub use code_laws::{law_decode_undoes, law_one_change, law_one_code, law_short_code};

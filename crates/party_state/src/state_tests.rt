@@ -1,4 +1,4 @@
-ghost use Rattle.party_state.specs.Ranges.{IsFitting, IsNoBegin};
+ghost use Rattle.party_state.specs.Ranges.{AreFitting, HasNoBegin, IsFitting, IsNoBegin};
 
 use super::*;
 use std::alloc::Global;
@@ -69,18 +69,34 @@ fn links_are_searched(rt: HostRuntime) -> Result<(), Fail> {
     Ok(())
 }
 
+fn seed_after(alloc: Global, state: State, change: &Change) -> Result<u64, NoMemory>
+    requires fitting { AreFitting change.now }
+    requires goes_on { HasNoBegin change.now }
+{
+    match state.prepare(alloc, change) {
+        Ok(prepared) => Ok(prepared.finish().generator().v),
+        Err(_) => Err(NoMemory),
+    }
+}
+
+fn seed_before(alloc: Global, state: State, change: &Change) -> Result<u64, NoMemory>
+    requires fitting { AreFitting change.now }
+    requires goes_on { HasNoBegin change.now }
+{
+    match state.prepare(alloc, change) {
+        Ok(prepared) => Ok(prepared.cancel().generator().v),
+        Err(_) => Err(NoMemory),
+    }
+}
+
 #[test]
 fn a_prepared_change_is_done(rt: HostRuntime) -> Result<(), Fail> {
     let alloc = rt.alloc();
+    let own = Ident::read(b"BANKA")?;
     let mut change = Change::new(alloc);
     change.push(Edit::SetGen(5))?;
-    let state = bank(alloc, Ident::read(b"BANKA")?)?;
-    let prepared = state.prepare(alloc, &change).ok().ok_or("no memory")?;
-    let state = prepared.cancel();
-    assert_eq!(rt; state.generator().v, 1);
-    assert_eq!(rt; apply(alloc, &state, &change)?.generator().v, 5);
-    let prepared = state.prepare(alloc, &change).ok().ok_or("no memory")?;
-    assert_eq!(rt; prepared.finish().generator().v, 5);
+    assert_eq!(rt; seed_before(alloc, bank(alloc, own)?, &change)?, 1);
+    assert_eq!(rt; seed_after(alloc, bank(alloc, own)?, &change)?, 5);
     Ok(())
 }
 

@@ -103,20 +103,25 @@ fn shows(alloc: Global, state: &State, lines: &[u8]) -> Result<bool, NoMemory> {
     Ok(show_text(alloc, state)?.bytes() == lines)
 }
 
+fn next_after(alloc: Global, state: &State, change: &Change) -> Result<Option<u64>, NoMemory>
+    requires fitting { AreFitting change.now }
+    requires goes_on { HasNoBegin change.now }
+{
+    let after = apply(alloc, state, change)?;
+    Ok(after.link_at(0).map(|link| link.next))
+}
+
 #[test]
 fn links_are_put_in_place(rt: HostRuntime) -> Result<(), Fail> {
     let alloc = rt.alloc();
     let peer = Ident::read(b"BANKB")?;
-    let one = Label::read(b"K1")?;
-    let two = Label::read(b"K2")?;
+    let label = Label::read(b"K1")?;
     let mut change = Change::new(alloc);
-    add(&mut change, Edit::PutLink(sending(peer, one, 1)))?;
-    add(&mut change, Edit::PutLink(sending(peer, two, 1)))?;
-    add(&mut change, Edit::PutLink(sending(peer, one, 2)))?;
-    let before = first_state(alloc, peer, Role::Bank, GENERATOR)?;
-    let after = apply(alloc, &before, &change)?;
-    assert_eq!(rt; after.link_count(), 2);
-    assert!(rt; after.link_at(0) == Some(&sending(peer, one, 2)));
+    add(&mut change, Edit::PutLink(sending(peer, label, 1)))?;
+    add(&mut change, Edit::PutLink(sending(peer, label, 2)))?;
+    let state = first_state(alloc, peer, Role::Bank, GENERATOR)?;
+    assert!(rt; next_after(alloc, &state, &change)? == Some(2));
+    assert_eq!(rt; state.link_count(), 0);
     Ok(())
 }
 
