@@ -1,0 +1,11 @@
+//! One party over its disk: it decides, keeps the change, and only then hands out the reply.
+#![tactic(auto)]
+
+mod deciding;
+mod fusing;
+mod keeping;
+mod node;
+mod opening;
+mod taking;
+
+pub use node::{Node, Turn};

@@ -1,0 +1,4 @@
+mod Alike
+mod Opened
+mod Telling
+mod Beginning

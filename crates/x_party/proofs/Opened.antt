@@ -1,0 +1,75 @@
+-- A disk is fetched and opened, or put back.
+use Rattle.std.proofs.Common.{◌≡◌, ◌⊎◌, inl, inr, ℕ, ◌<◌, ◌≤◌, List, Some, None, sym, ◌∙◌, subst, arith, refl}
+use Rattle.x_base.specs.Edge.{Rose}
+use Rattle.x_base.specs.declared.verdict.Verdict.TheVariants.{Blank}
+use Rattle.x_disk.specs.Disk.{View, LeavesOnly, LeavesNoMore, IsSound}
+use Rattle.x_disk.specs.Shelf.{IsAlike}
+use Rattle.x_disk.proofs.Runs.{weaker, begins_alike}
+use Rattle.key_journal.specs.declared.cause.Cause.{Cause}
+use Rattle.key_journal.specs.declared.cause.Cause.TheVariants as cause
+use Rattle.party_state.specs.State.{Party}
+use Rattle.key_store.specs.Store.{Stands, IsStore, IsRefusal}
+use Rattle.x_party.specs.Images.{IsUntouched}
+use Rattle.x_party.specs.Steps.{IsOpened, IsNotOpened, HasNoParty, IsClosed, outcome_of}
+use Rattle.x_party.specs.declared.outcome.Outcome.{Outcome}
+use Rattle.x_party.specs.declared.outcome.Outcome.TheVariants as outcome
+use Rattle.x_party.proofs.Alike.{untouched_alike, untouched_between}
+
+pub opened : (old v w : View) (gate end : ℕ) (party : Party) → IsAlike old v → IsStore w gate end party → w.now ≡ v.now → LeavesNoMore v w → LeavesOnly v w v.may_leave
+    → ((image : List ℕ) (other : Party) → v.now ≡ Some image → Stands image other → party ≡ other) → IsOpened old w gate end party
+opened old v w gate end party out store same images run exact = record {
+  store = store;
+  untouched = record {
+    now = same ∙ out.now;
+    images = λ c left. out.images c (images c left);
+    any_moment = weaker old w v.may_leave old.may_leave (begins_alike old v w v.may_leave out run) out.images;
+  };
+  exact = λ image other now stands. exact image other (out.now ∙ now) stands;
+}
+
+pub not_fetched : (old new : View) (o : Outcome) → IsSound old → IsAlike old new → (o ≡ outcome.Fault) ⊎ (o ≡ outcome.NoMemory) → IsNotOpened old new o
+not_fetched old new o sound alike (inl is) = record { untouched = untouched_alike old new sound alike; refused = λ image now. subst (HasNoParty image) (sym is) tt }
+not_fetched old new o sound alike (inr is) = record { untouched = untouched_alike old new sound alike; refused = λ image now. subst (HasNoParty image) (sym is) tt }
+
+no_party : (image : List ℕ) (reason : Cause) → IsRefusal image reason → HasNoParty image (outcome_of reason)
+no_party image cause.Blank blank = record { blank = blank; verdict = refl; reply = refl }
+no_party image cause.NotEmpty never = absurd never
+no_party image (cause.Damaged place) damage = damage
+no_party image cause.Fault is = tt
+no_party image cause.NoMemory is = tt
+
+closed_party : (image : List ℕ) (o result : Outcome) (before after : ℕ) → IsClosed o before after result → HasNoParty image o → HasNoParty image result
+closed_party image o result before after (inl is) none = subst (HasNoParty image) (sym is) none
+closed_party image o result before after (inr (inl fault)) none = subst (HasNoParty image) (sym fault.0) tt
+closed_party image o result before after (inr (inr is)) none = subst (HasNoParty image) (sym is) tt
+
+pub not_opened : (old v w new : View) (reason : Cause) (o : Outcome) (before after : ℕ) → IsAlike old v → w.now ≡ v.now → LeavesNoMore v w → LeavesOnly v w v.may_leave
+    → ((image : List ℕ) → v.now ≡ Some image → IsRefusal image reason) → IsAlike w new → IsClosed (outcome_of reason) before after o → IsNotOpened old new o
+not_opened old v w new reason o before after out same images run refused back closed = record {
+  untouched = untouched_between old v w new out same images run back;
+  refused = λ image now. closed_party image (outcome_of reason) o before after closed (no_party image reason (refused image (out.now ∙ now)));
+}
+
+pub rose_some : (before after : ℕ) → Rose before after → 0 < after
+rose_some before after (inl less) = omega (arith, less)
+rose_some before after (inr most) = omega (arith, most)
+
+never : {A : Type 0} → outcome.Refused Blank None ≡ outcome.Fault → A
+never is = absurd (cc is)
+
+pub fault_cause : (reason : Cause) → outcome_of reason ≡ outcome.Fault → reason ≡ cause.Fault
+fault_cause cause.Blank is = absurd (cc is)
+fault_cause cause.NotEmpty is = absurd (cc is)
+fault_cause (cause.Damaged place) is = absurd (cc is)
+fault_cause cause.Fault is = refl
+fault_cause cause.NoMemory is = absurd (cc is)
+
+-- a fault is the put back's, or one that it shows
+pub fault_closed : (o result : Outcome) (before after : ℕ) → IsClosed o before after result → (o ≡ outcome.Fault → Rose before after) → result ≡ outcome.Fault → Rose before after
+fault_closed o result before after (inl is) shows fault = shows (sym is ∙ fault)
+fault_closed o result before after (inr (inl is)) shows fault = is.1
+fault_closed o result before after (inr (inr is)) shows fault = let no : outcome.NoMemory ≡ outcome.Fault = sym is ∙ fault in absurd (cc no)
+
+pub rose_from : (first mid last : ℕ) → first ≤ mid → Rose mid last → Rose first last
+rose_from first mid last le (inl less) = inl (omega (arith, le, less))
+rose_from first mid last le (inr most) = inr most

@@ -1,0 +1,77 @@
+-- The steps of a call: the disk is fetched and opened, the party acts, and the disk is put back (this project's profile).
+use Rattle.std.specs.Prelude.{◌≡◌, ◌⊎◌, ℕ, ◌-◌, ◌<◌, ◌≤◌, true, false, List, Option, Some, None, Result, Ok, Err}
+use Rattle.x_base.specs.Edge.{Rose}
+use Rattle.x_base.specs.declared.verdict.Verdict.{Verdict}
+use Rattle.x_base.specs.declared.verdict.Verdict.TheVariants.{Accept, NotEmpty, Blank}
+use Rattle.x_disk.specs.Disk.{View, Tells, LeavesOnly, LeavesNoMore}
+use Rattle.key_journal.specs.declared.cause.Cause.{Cause}
+use Rattle.key_journal.specs.declared.cause.Cause.TheVariants as cause
+use Rattle.party_state.specs.declared.command.Input.{Input}
+use Rattle.party_state.specs.declared.decision.Decision.{Decision}
+use Rattle.party_state.specs.State.{Party}
+use Rattle.key_journal.specs.Journal.{is_blank}
+use Rattle.key_store.specs.Store.{Stands, IsStore, IsFirstDamage, IsBlankOrFirst}
+use Rattle.node_core.specs.Deciding.{decision, after}
+use Rattle.node_core.specs.Turns.{IsOldOrNext}
+use Rattle.x_party.specs.Images.{StandsFor, FitsInto, IsUntouched}
+use Rattle.x_party.specs.Outcomes.{IsAsDecided, IsTooLong, IsNobody}
+use Rattle.x_party.specs.declared.outcome.Outcome.{Outcome}
+use Rattle.x_party.specs.declared.outcome.Outcome.TheVariants as outcome
+
+-- the outcome where a disk isn't opened, or no party is set up on it
+abbrev pub outcome_of : Cause → Outcome
+outcome_of cause.Blank = outcome.Refused Blank None
+outcome_of cause.NotEmpty = outcome.Refused NotEmpty None
+outcome_of (cause.Damaged place) = outcome.Damaged place
+outcome_of cause.Fault = outcome.Fault
+outcome_of cause.NoMemory = outcome.NoMemory
+
+-- why no party is opened
+abbrev pub HasNoParty : List ℕ → Outcome → Type 0
+HasNoParty image (outcome.Done reply) = ⊥
+HasNoParty image (outcome.Refused verdict reply) = IsNobody image verdict reply
+HasNoParty image (outcome.Damaged place) = IsFirstDamage image place
+HasNoParty image outcome.Fault = Unit {0}
+HasNoParty image outcome.NoMemory = Unit {0}
+
+-- from the disk on the shelf to the open one: it stands for this party, for which the image stood
+pub record IsOpened (old now : View) (gate end : ℕ) (party : Party) : Type 0 where
+  pub store : IsStore now gate end party
+  pub untouched : IsUntouched old now
+  pub exact : (image : List ℕ) (other : Party) → old.now ≡ Some image → Stands image other → party ≡ other
+
+-- no party is opened, and the disk is back on the shelf
+pub record IsNotOpened (old new : View) (o : Outcome) : Type 0 where
+  pub untouched : IsUntouched old new
+  pub refused : (image : List ℕ) → old.now ≡ Some image → HasNoParty image o
+
+-- what the party did with an input
+abbrev pub Acts : View → View → ℕ → Party → Decision → Outcome → Type 0
+Acts now then room p d (outcome.Done reply) = (d.verdict ≡ Accept) × FitsInto room d.change × (reply ≡ d.reply) × StandsFor then (after d p)
+Acts now then room p d (outcome.Refused verdict reply) = (IsAsDecided d verdict reply ⊎ IsTooLong d (FitsInto room d.change) verdict reply) × StandsFor then p
+Acts now then room p d (outcome.Damaged place) = ⊥
+Acts now then room p d outcome.Fault = Rose now.faults then.faults
+Acts now then room p d outcome.NoMemory = Unit {0}
+
+pub record HasActed (now then : View) (room : ℕ) (p : Party) (d : Decision) (o : Outcome) : Type 0 where
+  pub acts : Acts now then room p d o
+  pub any_moment : Tells now → LeavesOnly now then (IsOldOrNext p d)
+  pub faults : now.faults ≤ then.faults
+
+-- the outcome, or an error of the put back in its place
+abbrev pub IsClosed : Outcome → ℕ → ℕ → Outcome → Type 0
+IsClosed o before after result = (result ≡ o) ⊎ (((result ≡ outcome.Fault) × Rose before after) ⊎ (result ≡ outcome.NoMemory))
+
+-- what beginning a party did
+abbrev pub Begins : View → View → Party → Outcome → Type 0
+Begins now then p (outcome.Done reply) = (reply ≡ None) × StandsFor then p × ((image : List ℕ) → now.now ≡ Some image → is_blank image ≡ true)
+Begins now then p (outcome.Refused verdict reply) = (verdict ≡ NotEmpty) × (reply ≡ None)
+    × ((image : List ℕ) → now.now ≡ Some image → (is_blank image ≡ false) × (then.now ≡ now.now) × LeavesNoMore now then)
+Begins now then p (outcome.Damaged place) = ⊥
+Begins now then p outcome.Fault = Rose now.faults then.faults
+Begins now then p outcome.NoMemory = Unit {0}
+
+pub record HasBegun (now then : View) (p : Party) (o : Outcome) : Type 0 where
+  pub begins : Begins now then p o
+  pub any_moment : Tells now → LeavesOnly now then (λ c. IsBlankOrFirst p c ⊎ now.may_leave c)
+  pub faults : now.faults ≤ then.faults

@@ -1,0 +1,33 @@
+// A party is shown.
+ghost use Rattle.std.specs.Prelude.{◌≡◌, ◌≤◌, IfOk};
+ghost use Rattle.x_base.specs.Edge.{Rose};
+ghost use Rattle.x_disk.specs.Shelf.{OthersStay};
+ghost use Rattle.x_party.specs.Images.{IsUntouched};
+ghost use Rattle.x_party.specs.Outcomes.{IsShow};
+
+use crate::closing::close;
+use crate::opening::open;
+use crate::outcome::Outcome;
+use party_state::show_text;
+use std::alloc::Global;
+use x_base::Ident;
+use x_disk::Shelf;
+
+/// The lines in which the party is shown. Nothing is written, and the disk is put back, whatever comes.
+pub fn show<H: Shelf>(alloc: Global, shelf: &mut H, name: &Ident) -> Outcome
+    ensures shown { IsShow (H.entry shelf.old name.now) (H.entry shelf.new name.now) result }
+    ensures untouched { IsUntouched (H.entry shelf.old name.now) (H.entry shelf.new name.now) }
+    ensures others { OthersStay name.now (H.entry shelf.old) (H.entry shelf.new) }
+    ensures fault { result ≡ Outcome.Fault → Rose (H.faults shelf.old) (H.faults shelf.new) }
+    ensures later { H.faults shelf.old ≤ H.faults shelf.new }
+{
+    let node = match open(alloc, shelf, name) {
+        Ok(node) => node,
+        Err(outcome) => return outcome,
+    };
+    let outcome = match show_text(alloc, node.view()) {
+        Ok(text) => Outcome::Done(Some(text)),
+        Err(_) => Outcome::NoMemory,
+    };
+    close(shelf, name, node.into_disk(), outcome)
+}
