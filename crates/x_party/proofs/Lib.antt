@@ -2,5 +2,6 @@ mod Acted
 mod Alike
 mod Beginning
 mod Ended
+mod Exactly
 mod Opened
 mod Shown
