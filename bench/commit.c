@@ -175,16 +175,20 @@ static double mean(const double *list)
 
 static void report(void)
 {
-    double means[KINDS], medians[KINDS];
-    printf("%zu of each, in milliseconds %35s %8s %8s\n", taken, "least", "median", "mean");
+    double least[KINDS], median[KINDS], means[KINDS];
+    char head[64];
+    snprintf(head, sizeof head, "%zu of each, in milliseconds", taken);
+    printf("%-46s %9s %9s %9s\n", head, "least", "median", "mean");
     for (int i = 0; i < KINDS; i++) {
         means[i] = mean(times[i]);
         qsort(times[i], taken, sizeof times[i][0], in_order);
-        medians[i] = times[i][taken / 2];
-        printf("%-48s %10.3f %8.3f %8.3f\n", names[i], times[i][0], medians[i], means[i]);
+        least[i] = times[i][0];
+        median[i] = times[i][taken / 2];
+        printf("%-46s %9.3f %9.3f %9.3f\n", names[i], least[i], median[i], means[i]);
     }
+    printf("and as a part of the time of x917\n");
     for (int i = 1; i < KINDS; i++)
-        printf("%-48s / x917: %.2f by medians, %.2f by means\n", names[i], medians[i] / medians[0], means[i] / means[0]);
+        printf("%-46s %9.2f %9.2f %9.2f\n", names[i], least[i] / least[0], median[i] / median[0], means[i] / means[0]);
 }
 
 int main(int count, char **words)
