@@ -75,6 +75,11 @@ run 'x917 purge --party BANKA'
 run 'x917 purge --party BANKB'
 show_both
 
+echo '# BANKB asks for a key, and BANKA sends one.'
+run 'x917 ask --party BANKB --peer BANKA | tee request.csm | x917 take --party BANKA | x917 take --party BANKB | x917 take --party BANKA'
+run 'cat request.csm'
+show_both
+
 echo '# The error message about a repeat overtakes the response: BANKA ends the key, BANKB holds it.'
 run 'x917 start --party BANKA --peer BANKB > key.csm'
 run 'x917 take --party BANKB < key.csm > response.csm'
@@ -85,14 +90,9 @@ show_both
 
 echo '# BANKA removes its record before BANKB ends the key: BANKA refuses the disconnection, and the key stays CLOSING.'
 run 'x917 purge --party BANKA'
-run 'x917 end --party BANKB --peer BANKA --name BANKA.BANKA.K1.3 > disconnect.csm'
+run 'x917 end --party BANKB --peer BANKA --name BANKA.BANKA.K1.4 > disconnect.csm'
 run 'x917 take --party BANKA < disconnect.csm'
 run 'x917 show --party BANKB'
 run 'x917 drop --party BANKB --peer BANKA'
 run 'x917 purge --party BANKB'
-show_both
-
-echo '# BANKB asks for a key, and BANKA sends one.'
-run 'x917 ask --party BANKB --peer BANKA | tee request.csm | x917 take --party BANKA | x917 take --party BANKB | x917 take --party BANKA'
-run 'cat request.csm'
 show_both
