@@ -84,8 +84,13 @@ fail_at() {
     grep -q INJECTED ../trace || violation "$3 not given at $1 $2"
     [ "$code" = "$4" ] || violation "$3 at $1 $2: exit $code"
     echo "$5" | cmp -s - ../error || violation "$3 at $1 $2: another line"
-    [ ! -s ../output ] || violation "$3 at $1 $2: a reply is out"
-    cmp -s ../shown ../new || { [ "$4" = 5 ] && cmp -s ../shown ../old; } || violation "$3 at $1 $2: another party"
+    if [ "$4" = 5 ]; then
+        [ ! -s ../output ] || violation "$3 at $1 $2: a reply is out"
+        cmp -s ../shown ../new || cmp -s ../shown ../old || violation "$3 at $1 $2: another party"
+    else
+        head -c "$(wc -c <../output)" ../reply | cmp -s - ../output || violation "$3 at $1 $2: no prefix of the reply"
+        cmp -s ../shown ../new || violation "$3 at $1 $2: the old party"
+    fi
 }
 
 # subject NAME PARTY WORDS: a command in ../before, with ../input as its input
@@ -98,6 +103,7 @@ subject() {
     shown
     mv ../shown ../old
     traced
+    mv ../output ../reply
     shown
     mv ../shown ../new
     calls >../calls
