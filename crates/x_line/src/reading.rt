@@ -1,7 +1,8 @@
 ghost use Rattle.std.specs.Prelude.{◌≡◌, Err, true, false, IfOk, IfErr};
+ghost use Rattle.x_line.specs.Commands.{is_built};
 ghost use Rattle.x_line.specs.Given.{command_of};
 ghost use Rattle.x_line.specs.Line.{is_line};
-ghost use Rattle.x_line.specs.Orders.{IsFault, IsOrder, Says, is_whole};
+ghost use Rattle.x_line.specs.Orders.{IsFault, IsOrder, Says, is_whole, ordered};
 ghost use Rattle.x_line.specs.Usage.{rows_fault};
 
 use crate::building::build;
@@ -52,6 +53,7 @@ fn said(line: &Line<'_>) -> Result<Order, UsageKind>
 #[tactic(auto, using(crate::proofs::Checking::not_line))]
 pub fn read_order(alloc: Global, words: &Words) -> Result<Order, LineFault>
     ensures order { IfOk result (λ order. IsOrder words.now order) }
+    ensures built { IfOk result (λ order. is_built (ordered order) ≡ true) }
     ensures fault { IfErr result (λ fault. IsFault words.now fault) }
     ensures line { result ≡ Err (LineFault.Usage UsageKind.Line) → is_line words.now ≡ false }
 {

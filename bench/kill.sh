@@ -1,0 +1,162 @@
+#!/bin/sh
+# Kills commands of a built program at each of their system calls in turn, from the first that opens the party's file on,
+# and lets each call on the disk, and each write of the reply, fail in turn. Each time it runs over a fresh copy of the
+# file; `show` must then give the party as it was or as it becomes, and as it becomes where any of the reply went out.
+# A killed process leaves the system's memory of the file as it is: this is no loss of power.
+# kill.sh [PROGRAM]; wants Linux and strace.
+here=$(cd "$(dirname "$0")/.." && pwd) || exit 1
+program=${1:-$here/crates/x917/out/x917}
+case $program in
+/*) ;;
+*) program=$PWD/$program ;;
+esac
+work=$(mktemp -d) || exit 1
+trap 'rm -rf "$work"' EXIT
+mkdir "$work/before" "$work/run" && cd "$work/run" || exit 1
+tried=0
+violations=0
+
+violation() {
+    violations=$((violations + 1))
+    printf 'violation: %s: %s\n' "$name" "$1"
+    cat ../shown
+}
+
+# fresh: the folder as before the command
+fresh() {
+    rm -rf ./*
+    cp -p ../before/* . 2>/dev/null
+    : >../output
+    : >../error
+}
+
+# shown: the party, in ../shown
+shown() {
+    "$program" show --party "$party" >../shown 2>&1
+    echo "exit $?" >>../shown
+}
+
+# traced OPTIONS: the command under strace; its exit code in $code
+traced() {
+    # shellcheck disable=SC2086
+    strace -f -y -qq -o ../trace "$@" "$program" $words <../input >../output 2>../error
+    code=$?
+} 2>/dev/null
+
+# calls: a line for each system call of the last trace, from the first that names the party's file on: its name, which
+# one of that name it is, and what it is for
+calls() {
+    awk -v file="$party.x917" '
+        { sub(/^[0-9]+ +/, "") }
+        !/^[a-z0-9_]+\(/ { next }
+        { name = $0; sub(/\(.*/, "", name); count[name]++ }
+        index($0, file) { on = 1 }
+        !on { next }
+        name == "close" { print name, count[name], "other"; next }
+        index($0, file) || /"\."/ || name ~ /sync/ { print name, count[name], "disk"; next }
+        /^write\(1</ { print name, count[name], "output"; next }
+        { print name, count[name], "other" }
+    ' ../trace
+}
+
+# kill_at CALL N
+kill_at() {
+    fresh
+    traced -e "trace=$1" -e "inject=$1:signal=KILL:when=$2"
+    shown
+    tried=$((tried + 1))
+    [ "$code" = 137 ] || violation "not killed at $1 $2"
+    if cmp -s ../shown ../new; then
+        stands_new=$((stands_new + 1))
+    elif ! cmp -s ../shown ../old; then
+        violation "killed at $1 $2: neither the old nor the new party"
+    elif [ -s ../output ]; then
+        violation "killed at $1 $2: the reply is out, and the old party stands"
+    fi
+}
+
+# fail_at CALL N ERROR EXIT LINE: the call answers the error
+fail_at() {
+    fresh
+    traced -e "trace=$1" -e "inject=$1:error=$3:when=$2"
+    shown
+    tried=$((tried + 1))
+    grep -q INJECTED ../trace || violation "$3 not given at $1 $2"
+    [ "$code" = "$4" ] || violation "$3 at $1 $2: exit $code"
+    echo "$5" | cmp -s - ../error || violation "$3 at $1 $2: another line"
+    if [ "$4" = 5 ]; then
+        [ ! -s ../output ] || violation "$3 at $1 $2: a reply is out"
+        cmp -s ../shown ../new || cmp -s ../shown ../old || violation "$3 at $1 $2: another party"
+    else
+        head -c "$(wc -c <../output)" ../reply | cmp -s - ../output || violation "$3 at $1 $2: no prefix of the reply"
+        cmp -s ../shown ../new || violation "$3 at $1 $2: the old party"
+    fi
+}
+
+# subject NAME PARTY WORDS: a command in ../before, with ../input as its input
+subject() {
+    name=$1
+    party=$2
+    words=$3
+    stands_new=0
+    fresh
+    shown
+    mv ../shown ../old
+    traced
+    mv ../output ../reply
+    shown
+    mv ../shown ../new
+    calls >../calls
+    { [ "$code" = 0 ] && ! cmp -s ../old ../new; } || { echo "$name: not done: exit $code"; cat ../error; exit 1; }
+    while read -r call n kind; do
+        kill_at "$call" "$n"
+    done <../calls
+    kills=$tried
+    while read -r call n kind; do
+        case $kind in
+        disk)
+            fail_at "$call" "$n" EIO 5 'x917: disk fault'
+            case $call in
+            *write* | *sync*) fail_at "$call" "$n" ENOSPC 5 'x917: disk fault' ;;
+            esac
+            ;;
+        output) fail_at "$call" "$n" EIO 4 'x917: write fault' ;;
+        esac
+    done <../calls
+    printf '%-16s %3d kills (%d leave the new party), %3d faults\n' "$name" "$((kills - start))" "$stands_new" "$((tried - kills))"
+    start=$tried
+}
+
+# keep: what the last undisturbed command left is where the next one begins
+keep() {
+    fresh
+    # shellcheck disable=SC2086
+    "$program" $words <../input >../output || exit 1
+    rm -rf ../before
+    mkdir ../before
+    cp -p ./* ../before
+}
+
+start=0
+: >../input
+pair=0123456789ABCDEFFEDCBA9876543210
+subject init BANKA "init --party BANKA --role bank --genkey $pair --genseed 0000000000000001"
+keep
+subject load BANKA "load --party BANKA --peer BANKB --label K1 --side out --key $pair"
+keep
+words="init --party BANKB --role bank --genkey $pair --genseed 0000000000000002"
+keep
+words="load --party BANKB --peer BANKA --label K1 --side in --key $pair"
+keep
+subject start BANKA 'start --party BANKA --peer BANKB'
+keep
+cp ../output ../input
+subject 'take (key)' BANKB 'take --party BANKB'
+keep
+cp ../output ../input
+subject 'take (response)' BANKA 'take --party BANKA'
+keep
+: >../input
+subject end BANKA 'end --party BANKA --peer BANKB --name BANKA.BANKA.K1.1'
+echo "$tried tried, $violations violations"
+[ "$violations" = 0 ]
