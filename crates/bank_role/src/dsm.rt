@@ -15,7 +15,7 @@ use crate::decisions::{accept, refusal};
 use crate::edits::{dropped, joined, list_of};
 use crate::exchanges::{new_link, record_of};
 use crate::leads::key_lead;
-use crate::names::{full_name, no_extras};
+use crate::names::no_extras;
 use crate::texts::Written;
 use crate::verdicts::{is_accept, passes, verdict_after, verdict_of};
 use csm_grammar::{Arrival, Dsm, Message, Rsm};
@@ -141,7 +141,7 @@ fn dsm_reply(alloc: Global, state: &State, key: &KeyRec) -> Result<Written, NoMe
     ensures { IfOk result (λ w. IsWritten w (Coded (dsm_response state.now key.now) (full_name state.now.own key.now) key.now.value)) }
 {
     let response = dsm_response(state, key);
-    Written::coded(alloc, &response, full_name(state, key), key.value)
+    Written::coded(alloc, &response, key.full_name(&state.own()), key.value)
 }
 
 fn dsm_of(

@@ -8,7 +8,6 @@ ghost use Rattle.bank_role.specs.Ending.{can_end, end_tests, end_message, end_re
 
 use crate::decisions::{accept, refusal};
 use crate::edits::list_of;
-use crate::names::full_name;
 use crate::texts::Written;
 use crate::verdicts::{is_accept, verdict_of};
 use csm_grammar::{Dsm, Message};
@@ -51,7 +50,7 @@ fn end_text(alloc: Global, state: &State, key: &KeyRec) -> Result<Written, NoMem
     ensures short { IfOk result (λ w. length w.text ≤ 1024) }
 {
     let message = end_message(state, key);
-    Written::coded(alloc, &message, full_name(state, key), key.value)
+    Written::coded(alloc, &message, key.full_name(&state.own()), key.value)
 }
 
 /// The key is being closed, and the peer is told.

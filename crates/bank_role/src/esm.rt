@@ -15,7 +15,7 @@ use crate::decisions::{accept, refusal};
 use crate::edits::{dropped, joined, list_of};
 use crate::exchanges::{Sent, is_waiting, new_link, record_of};
 use crate::leads::lead_under;
-use crate::names::{centre_label, direct_name, full_name};
+use crate::names::{centre_label, direct_name};
 use crate::texts::is_right;
 use crate::verdicts::{is_accept, passes, verdict_after};
 use csm_grammar::{Arrival, Esm, Shut};
@@ -66,7 +66,7 @@ fn subject_name(state: &State, peer: &Ident, subject: &Subject) -> FullName
     ensures { result ≡ subject_name state.now peer.now subject.now }
 {
     match subject {
-        Subject::SentKey(sent) => full_name(state, &sent.key),
+        Subject::SentKey(sent) => sent.key.full_name(&state.own()),
         Subject::Translated(_, cta) => FullName {
             name: direct_name(state.own(), centre_label(), *cta),
             recipient: *peer,

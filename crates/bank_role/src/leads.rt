@@ -7,7 +7,6 @@ ghost use Rattle.bank_role.specs.Leads.{lead_of};
 use crate::dsm::dsm_lead;
 use crate::esm::esm_lead;
 use crate::ksm::ksm_lead;
-use crate::names::full_name;
 use crate::rsm::rsm_lead;
 use crate::texts::is_verified;
 use csm_grammar::{Arrival, Message};
@@ -29,7 +28,7 @@ pub(crate) fn lead_under(arrival: &Arrival, under: FullName, value: u64) -> Lead
 pub(crate) fn key_lead(state: &State, arrival: &Arrival, key: &KeyRec) -> Lead
     ensures { result ≡ lead_under arrival.now (full_name state.now.own key.now) key.now.value }
 {
-    lead_under(arrival, full_name(state, key), key.value)
+    lead_under(arrival, key.full_name(&state.own()), key.value)
 }
 
 /// The key under which the authentication code of an arrival is tested, with its full name, and

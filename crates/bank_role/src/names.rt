@@ -1,12 +1,10 @@
 // Names of keys, and what a bank leaves out of its messages.
 ghost use Rattle.std.specs.Prelude.{◌≡◌};
 ghost use Rattle.party_state.specs.State.{centre_label};
-ghost use Rattle.party_state.specs.Names.{full_name};
 ghost use Rattle.bank_role.specs.Texts.{direct_name, no_extras};
 
 use csm_grammar::Extras;
-use party_state::{KeyRec, State};
-use x_base::{Count, FullName, Ident, KeyName, Label};
+use x_base::{Count, Ident, KeyName, Label};
 
 /// The name of a key that came without a centre.
 pub(crate) fn direct_name(originator: Ident, label: Label, count: Count) -> KeyName
@@ -17,21 +15,6 @@ pub(crate) fn direct_name(originator: Ident, label: Label, count: Count) -> KeyN
         originator,
         label,
         count,
-    }
-}
-
-/// The full name of a key that this party holds.
-pub(crate) fn full_name(state: &State, key: &KeyRec) -> FullName
-    ensures { result ≡ full_name state.now.own key.now }
-{
-    let own = state.own();
-    FullName {
-        name: key.name,
-        recipient: if key.name.originator == own {
-            key.peer
-        } else {
-            own
-        },
     }
 }
 
