@@ -1,6 +1,9 @@
 //! Fills a party's journal with the largest changes, until no more fits.
 #![tactic(auto)]
 
+#[cfg(test)]
+mod code_tests;
+
 ghost use Rattle.std.specs.Prelude.{IfOk};
 ghost use Rattle.full_journal.specs.Seeds.{AreSeeds};
 
