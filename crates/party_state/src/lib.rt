@@ -34,6 +34,14 @@ pub use state::{State, first_state};
 pub use x_base::{Role, Side};
 
 #[cfg(test)]
+mod edit_tests;
+#[cfg(test)]
+mod lookup_tests;
+#[cfg(test)]
+mod samples;
+#[cfg(test)]
+mod show_tests;
+#[cfg(test)]
 mod state_tests;
 #[cfg(test)]
 mod tests;

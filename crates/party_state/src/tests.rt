@@ -91,16 +91,6 @@ fn changes_are_copied(rt: HostRuntime) -> Result<(), Fail> {
 }
 
 #[test]
-fn a_party_is_shown(rt: HostRuntime) -> Result<(), Fail> {
-    let alloc = rt.alloc();
-    let own = Ident::read(b"CKDX")?;
-    let state = first_state(alloc, own, Role::Distribution, GENERATOR)?;
-    let text = show_text(alloc, &state)?;
-    assert!(rt; text.bytes() == b"PARTY CKDX DISTRIBUTION\n".as_slice());
-    Ok(())
-}
-
-#[test]
 fn full_names_tell_the_recipient(rt: HostRuntime) -> Result<(), Fail> {
     // Each identity, doubled, expands as before.
     let once = Ident::read(b"ABAB")?;

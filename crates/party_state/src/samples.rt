@@ -1,0 +1,221 @@
+// Parties for tests. A call here tells nothing of the state that it makes: a test sees what it asks.
+ghost use Rattle.party_state.specs.Ranges.{IsFitting, IsNext, IsNoBegin};
+
+use super::*;
+use std::alloc::Global;
+use std::process::Abort;
+use x_base::{Count, Ident, KeyName, Label, Text};
+use x_gen::Gen;
+use x_mac::Pair;
+
+pub(crate) const PAIR: Pair = Pair {
+    left: 0x1122334455667788,
+    right: 0x8877665544332211,
+};
+
+pub(crate) fn ident(rt: &impl Abort, bytes: &[u8]) -> Ident {
+    Ident::read(bytes).expect(rt, "an identity")
+}
+
+pub(crate) fn label(rt: &impl Abort, bytes: &[u8]) -> Label {
+    Label::read(bytes).expect(rt, "a label")
+}
+
+pub(crate) fn name(rt: &impl Abort, bytes: &[u8]) -> KeyName {
+    KeyName::read(bytes).expect(rt, "a key name")
+}
+
+fn count(rt: &impl Abort, digits: &[u8]) -> Count {
+    Count::read(digits).expect(rt, "a count")
+}
+
+pub(crate) fn link(rt: &impl Abort, name: &[u8], side: Side, next: u64, ready: bool) -> Edit
+    requires { IsNext next }
+    ensures fitting { IsFitting result }
+    ensures goes_on { IsNoBegin result }
+{
+    Edit::PutLink(LinkRec {
+        peer: ident(rt, b"BANKB"),
+        label: label(rt, name),
+        side,
+        pair: PAIR,
+        next,
+        ready,
+    })
+}
+
+pub(crate) fn key(rt: &impl Abort, bytes: &[u8], status: KeyStatus) -> Edit
+    ensures fitting { IsFitting result }
+    ensures goes_on { IsNoBegin result }
+{
+    Edit::PutKey(KeyRec {
+        peer: ident(rt, b"BANKB"),
+        name: name(rt, bytes),
+        value: 0x0123456789ABCDEF,
+        status,
+    })
+}
+
+pub(crate) fn exchange(rt: &impl Abort, alloc: Global, peer: &[u8], kind: Kind) -> Edit
+    ensures fitting { IsFitting result }
+    ensures goes_on { IsNoBegin result }
+{
+    Edit::PutExchange(Exchange {
+        peer: ident(rt, peer),
+        kind,
+        text: Text::new(alloc),
+    })
+}
+
+pub(crate) fn answer(rt: &impl Abort, requester: &[u8], ultimate: &[u8], cta: &[u8]) -> Edit
+    ensures fitting { IsFitting result }
+    ensures goes_on { IsNoBegin result }
+{
+    Edit::PutAnswer(Answer {
+        requester: ident(rt, requester),
+        ultimate: ident(rt, ultimate),
+        cta: count(rt, cta),
+        value: 5,
+    })
+}
+
+pub(crate) fn asked(rt: &impl Abort, ultimate: &[u8]) -> Kind {
+    Kind::Asked {
+        ultimate: ident(rt, ultimate),
+    }
+}
+
+pub(crate) fn translating(rt: &impl Abort, ultimate: &[u8], cta: &[u8]) -> Kind {
+    Kind::Translating {
+        ultimate: ident(rt, ultimate),
+        value: 5,
+        cta: count(rt, cta),
+    }
+}
+
+pub(crate) fn key_sent(rt: &impl Abort, bytes: &[u8]) -> Kind {
+    Kind::KeySent {
+        name: name(rt, bytes),
+        via: Via::Translation {
+            centre: ident(rt, b"CKTX"),
+        },
+    }
+}
+
+pub(crate) fn ending(rt: &impl Abort, bytes: &[u8]) -> Kind {
+    Kind::Ending {
+        name: name(rt, bytes),
+    }
+}
+
+pub(crate) fn begun(rt: &impl Abort, alloc: Global, own: &[u8], role: Role) -> State {
+    let generator = Gen { key: PAIR, v: 1 };
+    first_state(alloc, ident(rt, own), role, generator).expect(rt, "memory")
+}
+
+/// The state after one edit.
+pub(crate) fn with(rt: &impl Abort, alloc: Global, state: State, edit: Edit) -> State
+    requires fitting { IsFitting edit }
+    requires goes_on { IsNoBegin edit }
+{
+    let mut state = state;
+    state.edit(alloc, edit).expect(rt, "memory");
+    state
+}
+
+/// The state after a change of one edit.
+fn after(rt: &impl Abort, alloc: Global, state: &State, edit: Edit) -> State
+    requires fitting { IsFitting edit }
+    requires goes_on { IsNoBegin edit }
+{
+    let mut change = Change::new(alloc);
+    change.push(edit).expect(rt, "memory");
+    apply(alloc, state, &change).expect(rt, "memory")
+}
+
+fn with_links(rt: &impl Abort, alloc: Global, state: State) -> State {
+    let sends = link(rt, b"K1", Side::Sends, 100_000_000_000_000, true);
+    let state = with(rt, alloc, state, sends);
+    let takes = link(rt, b"K-2", Side::Takes, 7, false);
+    with(rt, alloc, state, takes)
+}
+
+fn with_key(rt: &impl Abort, alloc: Global, state: State, name: &[u8], status: KeyStatus) -> State {
+    with(rt, alloc, state, key(rt, name, status))
+}
+
+fn with_keys(rt: &impl Abort, alloc: Global, state: State) -> State {
+    let state = with_key(rt, alloc, state, b"BANKA.BANKA.K1.007", KeyStatus::Pending);
+    let state = with_key(rt, alloc, state, b"BANKA.BANKA.K1.8", KeyStatus::Live);
+    let state = with_key(rt, alloc, state, b"BANKB.BANKB.K-2.8", KeyStatus::Held);
+    let state = with_key(rt, alloc, state, b"BANKA.BANKA.K1.9", KeyStatus::Closing);
+    with_key(rt, alloc, state, b"CKDX.BANKA.C.10", KeyStatus::Ended)
+}
+
+fn with_exchange(rt: &impl Abort, alloc: Global, state: State, peer: &[u8], kind: Kind) -> State {
+    with(rt, alloc, state, exchange(rt, alloc, peer, kind))
+}
+
+fn with_exchanges(rt: &impl Abort, alloc: Global, state: State) -> State {
+    let state = with_exchange(rt, alloc, state, b"CKDX", asked(rt, b"BANK-C"));
+    let state = with_exchange(rt, alloc, state, b"CKTX", translating(rt, b"BANK-C", b"12"));
+    let state = with_exchange(
+        rt,
+        alloc,
+        state,
+        b"BANKB",
+        key_sent(rt, b"BANKA.BANKA.K1.7"),
+    );
+    with_exchange(rt, alloc, state, b"BANKD", ending(rt, b"BANKA.BANKA.K1.9"))
+}
+
+fn with_answers(rt: &impl Abort, alloc: Global, state: State) -> State {
+    let state = with(rt, alloc, state, answer(rt, b"BANKB", b"BANK-C", b"3"));
+    with(rt, alloc, state, answer(rt, b"BANK-C", b"BANKB", b"4"))
+}
+
+/// Whether the state is shown in these lines.
+pub(crate) fn shows(rt: &impl Abort, alloc: Global, state: &State, lines: &[u8]) -> bool {
+    let text = show_text(alloc, state).expect(rt, "memory");
+    text.bytes() == lines
+}
+
+/// Whether the state is shown in these lines after an edit.
+pub(crate) fn shows_after(
+    rt: &impl Abort,
+    alloc: Global,
+    state: &State,
+    edit: Edit,
+    lines: &[u8],
+) -> bool
+    requires fitting { IsFitting edit }
+    requires goes_on { IsNoBegin edit }
+{
+    shows(rt, alloc, &after(rt, alloc, state, edit), lines)
+}
+
+/// A bank of two links.
+pub(crate) fn linked(rt: &impl Abort, alloc: Global) -> State {
+    with_links(rt, alloc, begun(rt, alloc, b"BANKA", Role::Bank))
+}
+
+/// A bank of five keys.
+pub(crate) fn keyed(rt: &impl Abort, alloc: Global) -> State {
+    with_keys(rt, alloc, begun(rt, alloc, b"BANKA", Role::Bank))
+}
+
+/// A bank that waits for four peers.
+pub(crate) fn waiting(rt: &impl Abort, alloc: Global) -> State {
+    with_exchanges(rt, alloc, begun(rt, alloc, b"BANKA", Role::Bank))
+}
+
+/// A distribution centre that answered two requests.
+pub(crate) fn answered(rt: &impl Abort, alloc: Global) -> State {
+    with_answers(rt, alloc, begun(rt, alloc, b"CKDX", Role::Distribution))
+}
+
+/// A bank with rows of every kind.
+pub(crate) fn whole(rt: &impl Abort, alloc: Global) -> State {
+    let state = with_exchanges(rt, alloc, with_keys(rt, alloc, linked(rt, alloc)));
+    with_answers(rt, alloc, state)
+}
