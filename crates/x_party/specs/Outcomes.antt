@@ -61,15 +61,6 @@ IsTold old new i moment (outcome.Damaged place) = (image : List ℕ) → old.now
 IsTold old new i moment outcome.Fault = Unit {0}
 IsTold old new i moment outcome.NoMemory = Unit {0}
 
--- of the party for which the image stands: it is done exactly where the party accepts and its change fits, and
--- refused as the party decides or where the change doesn't fit
-abbrev pub IsExact : List ℕ → Decision → Outcome → Type 0
-IsExact image d (outcome.Done reply) = (d.verdict ≡ Accept) × FitsImage image d.change × (reply ≡ d.reply)
-IsExact image d (outcome.Refused verdict reply) = IsAsDecided d verdict reply ⊎ IsTooLong d (FitsImage image d.change) verdict reply
-IsExact image d (outcome.Damaged place) = ⊥
-IsExact image d outcome.Fault = Unit {0}
-IsExact image d outcome.NoMemory = Unit {0}
-
 -- a crash at any moment leaves the party before the decision or the one after it, or what it could leave before;
 -- where the image stands for no party, nothing is written
 pub record IsSafe (old new : View) (i : Input) (moment : ℕ) : Type 0 where

@@ -1,17 +1,13 @@
 // A party is told a command or a message.
-ghost use Rattle.std.specs.Prelude.{◌≡◌, ◌≤◌, ℕ, List, Some};
+ghost use Rattle.std.specs.Prelude.{◌≡◌, ◌≤◌};
 ghost use Rattle.x_base.specs.Edge.{Rose};
 ghost use Rattle.x_disk.specs.Shelf.{OthersStay};
-ghost use Rattle.party_state.specs.State.{Party};
-ghost use Rattle.key_store.specs.Store.{Stands};
-ghost use Rattle.node_core.specs.Deciding.{decision};
-ghost use Rattle.x_party.specs.Outcomes.{IsTold, IsExact, IsSafe};
+ghost use Rattle.x_party.specs.Outcomes.{IsTold, IsSafe};
 
 use crate::acting::act;
 use crate::closing::close;
 use crate::opening::open;
 use crate::outcome::Outcome;
-use key_store::law_one_finding;
 use party_state::Input;
 use std::alloc::Global;
 use x_base::Ident;
@@ -27,14 +23,11 @@ pub fn tell<H: Shelf>(
     moment: u64,
 ) -> Outcome
     ensures told { IsTold (H.entry shelf.old name.now) (H.entry shelf.new name.now) input moment result }
-    // Of the party for which the image stands, if it stands for one.
-    ensures exact { (image : List ℕ) (party : Party) → (H.entry shelf.old name.now).now ≡ Some image → Stands image party → IsExact image (decision party input moment) result }
     ensures safe { IsSafe (H.entry shelf.old name.now) (H.entry shelf.new name.now) input moment }
     ensures others { OthersStay name.now (H.entry shelf.old) (H.entry shelf.new) }
     ensures fault { result ≡ Outcome.Fault → Rose (H.faults shelf.old) (H.faults shelf.new) }
     ensures later { H.faults shelf.old ≤ H.faults shelf.new }
 {
-    law_one_finding();
     match open(alloc, shelf, name) {
         Ok(node) => {
             let (disk, outcome) = act(node, alloc, input, moment);
