@@ -1,5 +1,5 @@
 -- What a party decides, by its role (this project's profile).
-use Rattle.std.specs.Prelude.{ℕ, List, [], Option, None, unwrap_or}
+use Rattle.std.specs.Prelude.{ℕ, List, [], None, unwrap_or}
 use Rattle.x_base.specs.declared.party.Role.{Role}
 use Rattle.x_base.specs.declared.party.Role.TheVariants.{Bank, Distribution, Translation}
 use Rattle.x_base.specs.declared.verdict.Verdict.TheVariants.{WrongClass}

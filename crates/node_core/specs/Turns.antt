@@ -1,6 +1,6 @@
 -- What became of an input: the answer of a node, its state, and what a crash may leave (this project's
 -- profile).
-use Rattle.std.specs.Prelude.{◌≡◌, ◌≢◌, ◌⊎◌, ℕ, suc, ◌+◌, ◌≤◌, List, [], length, Option, Some, None, is_some}
+use Rattle.std.specs.Prelude.{◌≡◌, ◌≢◌, ◌⊎◌, ℕ, suc, ◌+◌, ◌≤◌, List, length, Option, Some, None, is_some}
 use Rattle.x_base.specs.declared.verdict.Verdict.{Verdict}
 use Rattle.x_base.specs.declared.verdict.Verdict.TheVariants.{Accept, JournalFull}
 use Rattle.x_base.specs.declared.key_name.FullName.{FullName}
@@ -27,33 +27,33 @@ gate_after gate None = gate
 gate_after gate (Some edits) = gate + length (code_of edits) + 5
 
 -- accepted and kept: the party is the one after the decision, and the reply is handed out
-pub record IsDone {D : Type 0} (told : D → View) (old : Stored D) (d : Decision) (new : Stored D) (reply : Option (List ℕ)) (under : Option FullName) : Type 0 where
+pub record IsDone {D : Type 0} (told : D → View) (old : Stored D) (d : Decision) (new : Stored D) (answer : Option (List ℕ)) (name : Option FullName) : Type 0 where
   pub accepted : d.verdict ≡ Accept
   pub fits : FitsWhole old d.change
   pub party : new.party ≡ after d old.party
   pub gate : new.gate ≡ gate_after old.gate d.change
   pub end : new.end ≡ old.end
-  pub reply : reply ≡ d.reply
-  pub under : under ≡ d.under
+  pub reply : answer ≡ d.reply
+  pub under : name ≡ d.under
   -- where nothing changes, no disk call is made
   pub unchanged : d.change ≡ None → new ≡ old
   -- four calls are made where something does
   pub calls : (calls : ℕ) → (told old.disk).passes ≡ Some calls → calls ≤ 3 → d.change ≡ None
 
 -- refused as decided
-pub record IsRefusal (d : Decision) (verdict : Verdict) (reply : Option (List ℕ)) (under : Option FullName) : Type 0 where
-  pub refused : verdict ≢ Accept
-  pub verdict : verdict ≡ d.verdict
-  pub reply : reply ≡ d.reply
-  pub under : under ≡ d.under
+pub record IsRefusal (d : Decision) (said : Verdict) (answer : Option (List ℕ)) (name : Option FullName) : Type 0 where
+  pub refused : said ≢ Accept
+  pub verdict : said ≡ d.verdict
+  pub reply : answer ≡ d.reply
+  pub under : name ≡ d.under
 
 -- accepted, but the change doesn't fit
-pub record IsFull {D : Type 0} (old : Stored D) (d : Decision) (verdict : Verdict) (reply : Option (List ℕ)) (under : Option FullName) : Type 0 where
+pub record IsFull {D : Type 0} (old : Stored D) (d : Decision) (said : Verdict) (answer : Option (List ℕ)) (name : Option FullName) : Type 0 where
   pub accepted : d.verdict ≡ Accept
   pub full : FitsWhole old d.change → ⊥
-  pub verdict : verdict ≡ JournalFull
-  pub reply : reply ≡ None
-  pub under : under ≡ None
+  pub verdict : said ≡ JournalFull
+  pub reply : answer ≡ None
+  pub under : name ≡ None
 
 -- the disk failed while a change was kept that fits
 pub record IsCut {D : Type 0} (told : D → View) (old : Stored D) (d : Decision) (new : Failed D) : Type 0 where

@@ -1,4 +1,6 @@
 // A decision is carried out: its change is kept, and then the reply is handed out.
+ghost use Rattle.std.specs.Prelude.{◌≡◌};
+ghost use Rattle.x_base.specs.declared.verdict.Verdict.TheVariants.{Accept};
 ghost use Rattle.bank_role.specs.Storable.{CanKeep};
 ghost use Rattle.node_core.specs.Turns.{IsTurn};
 
@@ -9,24 +11,19 @@ use std::alloc::Global;
 use x_base::Verdict;
 use x_disk::Disk;
 
-pub(crate) fn carry_out<D: Disk>(node: Node<D>, alloc: Global, decision: Decision) -> Turn<D>
-    requires { CanKeep node.party decision.change }
+/// Keeps the change of a decision that accepts. Without one, no disk call is made.
+fn keep<D: Disk>(node: Node<D>, alloc: Global, decision: Decision) -> Turn<D>
+    requires accepted { decision.verdict ≡ Accept }
+    requires change { CanKeep node.party decision.change }
     ensures { IsTurn D.told node decision result }
 {
+    node.view();
     let Decision {
         change,
         reply,
         under,
-        verdict,
+        ..
     } = decision;
-    if verdict != Verdict::Accept {
-        return Turn::Refused {
-            node,
-            verdict,
-            reply,
-            under,
-        };
-    }
     let Some(change) = change else {
         return Turn::Done { node, reply, under };
     };
@@ -45,5 +42,27 @@ pub(crate) fn carry_out<D: Disk>(node: Node<D>, alloc: Global, decision: Decisio
         },
         Kept::NoMemory(store) => Turn::NoMemory(Node { store }),
         Kept::Broken(broken) => Turn::Broken(broken),
+    }
+}
+
+pub(crate) fn carry_out<D: Disk>(node: Node<D>, alloc: Global, decision: Decision) -> Turn<D>
+    requires { CanKeep node.party decision.change }
+    ensures { IsTurn D.told node decision result }
+{
+    node.view();
+    if decision.verdict == Verdict::Accept {
+        return keep(node, alloc, decision);
+    }
+    let Decision {
+        reply,
+        under,
+        verdict,
+        ..
+    } = decision;
+    Turn::Refused {
+        node,
+        verdict,
+        reply,
+        under,
     }
 }

@@ -1,4 +1,4 @@
 mod Alike
 mod Opened
-mod Telling
+mod Acted
 mod Beginning

@@ -18,25 +18,25 @@ use Rattle.x_party.specs.declared.outcome.Outcome.{Outcome}
 use Rattle.x_party.specs.declared.outcome.Outcome.TheVariants as outcome
 
 -- the decision refuses, and this is its verdict and its reply
-pub record IsAsDecided (d : Decision) (verdict : Verdict) (reply : Option (List ℕ)) : Type 0 where
+pub record IsAsDecided (d : Decision) (said : Verdict) (answer : Option (List ℕ)) : Type 0 where
   pub refuses : d.verdict ≢ Accept
-  pub verdict : verdict ≡ d.verdict
-  pub reply : reply ≡ d.reply
+  pub verdict : said ≡ d.verdict
+  pub reply : answer ≡ d.reply
 
 -- the decision accepts, and its change doesn't fit
-pub record IsTooLong (d : Decision) (fits : Type 0) (verdict : Verdict) (reply : Option (List ℕ)) : Type 0 where
+pub record IsTooLong (d : Decision) (fits : Type 0) (said : Verdict) (answer : Option (List ℕ)) : Type 0 where
   pub accepts : d.verdict ≡ Accept
   pub full : fits → ⊥
-  pub verdict : verdict ≡ JournalFull
-  pub reply : reply ≡ None
+  pub verdict : said ≡ JournalFull
+  pub reply : answer ≡ None
 
 -- the party for which the image stands accepts, its change fits, and the new image stands for the party after it
-pub record IsAccepted (image : List ℕ) (new : View) (i : Input) (moment : ℕ) (reply : Option (List ℕ)) : Type 0 where
+pub record IsAccepted (image : List ℕ) (new : View) (i : Input) (moment : ℕ) (answer : Option (List ℕ)) : Type 0 where
   pub party : Party
   pub stood : Stands image party
   pub accepts : (decision party i moment).verdict ≡ Accept
   pub fits : FitsImage image (decision party i moment).change
-  pub reply : reply ≡ (decision party i moment).reply
+  pub reply : answer ≡ (decision party i moment).reply
   pub stands : StandsFor new (after (decision party i moment) party)
 
 -- the party for which the image stands refuses, or its change doesn't fit, and it stays
@@ -48,10 +48,10 @@ pub record IsRefused (image : List ℕ) (new : View) (i : Input) (moment : ℕ) 
   pub stands : StandsFor new party
 
 -- no party stands on the disk
-pub record IsNobody (image : List ℕ) (verdict : Verdict) (reply : Option (List ℕ)) : Type 0 where
+pub record IsNobody (image : List ℕ) (said : Verdict) (answer : Option (List ℕ)) : Type 0 where
   pub blank : is_blank image ≡ true
-  pub verdict : verdict ≡ Blank
-  pub reply : reply ≡ None
+  pub verdict : said ≡ Blank
+  pub reply : answer ≡ None
 
 -- what became of an input that the party was told
 abbrev pub IsTold : View → View → Input → ℕ → Outcome → Type 0

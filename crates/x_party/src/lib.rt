@@ -6,11 +6,11 @@ mod acting;
 mod closing;
 mod opening;
 mod outcome;
-mod set_up;
-mod show;
-mod tell;
+mod setting_up;
+mod showing;
+mod telling;
 
 pub use outcome::Outcome;
-pub use set_up::set_up;
-pub use show::show;
-pub use tell::tell;
+pub use setting_up::set_up;
+pub use showing::show;
+pub use telling::tell;
