@@ -9,3 +9,6 @@ mod opening;
 mod taking;
 
 pub use node::{Node, Turn};
+
+#[cfg(test)]
+mod tests;

@@ -1,7 +1,6 @@
 -- A party acts on an input, and its disk is put back.
-use Rattle.std.proofs.Common.{◌≡◌, ◌⊎◌, inl, inr, ℕ, ◌+◌, ◌-◌, ◌≤◌, true, List, Option, Some, None, is_some, sym, ◌∙◌, ap, subst, arith}
-use Rattle.x_base.specs.declared.verdict.Verdict.{Verdict}
-use Rattle.x_disk.specs.Disk.{View, Tells, LeavesOnly}
+use Rattle.std.proofs.Common.{◌≡◌, inl, inr, ℕ, ◌-◌, true, List, Option, Some, is_some, sym, ◌∙◌, ap, subst, arith}
+use Rattle.x_disk.specs.Disk.{View, LeavesOnly}
 use Rattle.x_disk.specs.Shelf.{IsAlike}
 use Rattle.x_disk.proofs.Runs.{joined, weaker, ends_alike}
 use Rattle.key_journal.specs.Journal.{Holds}
@@ -12,8 +11,8 @@ use Rattle.party_state.specs.State.{Party}
 use Rattle.key_store.specs.Store.{Stands}
 use Rattle.node_core.specs.Deciding.{decision, after}
 use Rattle.node_core.specs.Turns.{IsOldOrNext}
-use Rattle.x_party.specs.Images.{StandsFor, FitsInto, FitsImage, OrBefore}
-use Rattle.x_party.specs.Outcomes.{IsAsDecided, IsTooLong, IsTold, IsSafe}
+use Rattle.x_party.specs.Images.{FitsInto, FitsImage, OrBefore}
+use Rattle.x_party.specs.Outcomes.{IsTold, IsSafe}
 use Rattle.x_party.specs.Steps.{IsOpened, IsNotOpened, Acts, HasActed, IsClosed}
 use Rattle.x_party.specs.declared.outcome.Outcome.{Outcome}
 use Rattle.x_party.specs.declared.outcome.Outcome.TheVariants as outcome

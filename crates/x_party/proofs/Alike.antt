@@ -1,5 +1,5 @@
 -- One disk tells what another does, step after step.
-use Rattle.std.proofs.Common.{◌≡◌, ◌≢◌, ℕ, List, Some, sym, ◌∙◌}
+use Rattle.std.proofs.Common.{◌≡◌, ℕ, List, sym, ◌∙◌}
 use Rattle.x_disk.specs.Disk.{View, LeavesOnly, LeavesNoMore, IsSound}
 use Rattle.x_disk.specs.Shelf.{IsAlike, OthersStay}
 use Rattle.x_disk.proofs.Runs.{began, weaker, begins_alike, ends_alike}

@@ -1,4 +1,6 @@
-mod Alike
-mod Opened
 mod Acted
+mod Alike
 mod Beginning
+mod Ended
+mod Opened
+mod Shown

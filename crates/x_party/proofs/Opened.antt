@@ -1,7 +1,6 @@
 -- A disk is fetched and opened, or put back.
-use Rattle.std.proofs.Common.{◌≡◌, ◌⊎◌, inl, inr, ℕ, ◌<◌, ◌≤◌, List, Some, None, sym, ◌∙◌, subst, arith, refl}
+use Rattle.std.proofs.Common.{◌≡◌, ◌⊎◌, inl, inr, ℕ, ◌<◌, ◌≤◌, List, Some, sym, ◌∙◌, subst, arith, refl}
 use Rattle.x_base.specs.Edge.{Rose}
-use Rattle.x_base.specs.declared.verdict.Verdict.TheVariants.{Blank}
 use Rattle.x_disk.specs.Disk.{View, LeavesOnly, LeavesNoMore, IsSound}
 use Rattle.x_disk.specs.Shelf.{IsAlike}
 use Rattle.x_disk.proofs.Runs.{weaker, begins_alike}
@@ -9,7 +8,6 @@ use Rattle.key_journal.specs.declared.cause.Cause.{Cause}
 use Rattle.key_journal.specs.declared.cause.Cause.TheVariants as cause
 use Rattle.party_state.specs.State.{Party}
 use Rattle.key_store.specs.Store.{Stands, IsStore, IsRefusal}
-use Rattle.x_party.specs.Images.{IsUntouched}
 use Rattle.x_party.specs.Steps.{IsOpened, IsNotOpened, HasNoParty, IsClosed, outcome_of}
 use Rattle.x_party.specs.declared.outcome.Outcome.{Outcome}
 use Rattle.x_party.specs.declared.outcome.Outcome.TheVariants as outcome
@@ -54,10 +52,7 @@ pub rose_some : (before after : ℕ) → Rose before after → 0 < after
 rose_some before after (inl less) = omega (arith, less)
 rose_some before after (inr most) = omega (arith, most)
 
-never : {A : Type 0} → outcome.Refused Blank None ≡ outcome.Fault → A
-never is = absurd (cc is)
-
-pub fault_cause : (reason : Cause) → outcome_of reason ≡ outcome.Fault → reason ≡ cause.Fault
+fault_cause : (reason : Cause) → outcome_of reason ≡ outcome.Fault → reason ≡ cause.Fault
 fault_cause cause.Blank is = absurd (cc is)
 fault_cause cause.NotEmpty is = absurd (cc is)
 fault_cause (cause.Damaged place) is = absurd (cc is)
@@ -70,6 +65,17 @@ fault_closed o result before after (inl is) shows fault = shows (sym is ∙ faul
 fault_closed o result before after (inr (inl is)) shows fault = is.1
 fault_closed o result before after (inr (inr is)) shows fault = let no : outcome.NoMemory ≡ outcome.Fault = sym is ∙ fault in absurd (cc no)
 
-pub rose_from : (first mid last : ℕ) → first ≤ mid → Rose mid last → Rose first last
+rose_from : (first mid last : ℕ) → first ≤ mid → Rose mid last → Rose first last
 rose_from first mid last le (inl less) = inl (omega (arith, le, less))
 rose_from first mid last le (inr most) = inr most
+
+-- a fault of the disk shows in the shelf's count as it is put back
+pub shown_fault : (o result : Outcome) (first mid last was is : ℕ) → first ≤ mid → (o ≡ outcome.Fault → Rose was is) → (0 < is → Rose mid last)
+    → IsClosed o mid last result → result ≡ outcome.Fault → Rose first last
+shown_fault o result first mid last was is le cause seen closed fault =
+    rose_from first mid last le (fault_closed o result mid last closed (λ same. seen (rose_some was is (cause same))) fault)
+
+pub open_fault : (reason : Cause) (result : Outcome) (first mid last was is : ℕ) → first ≤ mid → (reason ≡ cause.Fault → Rose was is) → (0 < is → Rose mid last)
+    → IsClosed (outcome_of reason) mid last result → result ≡ outcome.Fault → Rose first last
+open_fault reason result first mid last was is le cause seen closed fault =
+    shown_fault (outcome_of reason) result first mid last was is le (λ same. cause (fault_cause reason same)) seen closed fault

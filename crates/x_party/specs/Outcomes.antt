@@ -1,19 +1,18 @@
 -- What becomes of a party on a shelf (this project's profile). `old` and `new` are what the shelf tells of the
 -- party's disk before and after.
-use Rattle.std.specs.Prelude.{◌≡◌, ◌≢◌, ◌⊎◌, ℕ, ◌+◌, ◌-◌, ◌≤◌, true, false, List, Option, Some, None}
-use Rattle.x_base.specs.Edge.{Rose}
+use Rattle.std.specs.Prelude.{◌≡◌, ◌≢◌, ◌⊎◌, ℕ, true, false, List, Option, Some, None}
 use Rattle.x_base.specs.declared.verdict.Verdict.{Verdict}
 use Rattle.x_base.specs.declared.verdict.Verdict.TheVariants.{Accept, JournalFull, NotEmpty, Blank}
-use Rattle.x_disk.specs.Disk.{View, Tells, LeavesOnly, LeavesNoMore}
+use Rattle.x_disk.specs.Disk.{View, LeavesOnly, LeavesNoMore}
 use Rattle.key_journal.specs.Journal.{is_blank}
 use Rattle.party_state.specs.declared.command.Input.{Input}
 use Rattle.party_state.specs.declared.decision.Decision.{Decision}
 use Rattle.party_state.specs.State.{Party}
 use Rattle.party_state.specs.Show.{shown}
-use Rattle.key_store.specs.Store.{Stands, IsStore, IsFirstDamage, IsBlankOrFirst}
+use Rattle.key_store.specs.Store.{Stands, IsFirstDamage}
 use Rattle.node_core.specs.Deciding.{decision, after}
 use Rattle.node_core.specs.Turns.{IsOldOrNext}
-use Rattle.x_party.specs.Images.{StandsFor, FitsInto, FitsImage, IsUntouched, OrBefore}
+use Rattle.x_party.specs.Images.{StandsFor, FitsImage, IsUntouched, OrBefore}
 use Rattle.x_party.specs.declared.outcome.Outcome.{Outcome}
 use Rattle.x_party.specs.declared.outcome.Outcome.TheVariants as outcome
 

@@ -1,17 +1,16 @@
 -- The steps of a call: the disk is fetched and opened, the party acts, and the disk is put back (this project's profile).
-use Rattle.std.specs.Prelude.{◌≡◌, ◌⊎◌, ℕ, ◌-◌, ◌<◌, ◌≤◌, true, false, List, Option, Some, None, Result, Ok, Err}
+use Rattle.std.specs.Prelude.{◌≡◌, ◌⊎◌, ℕ, ◌≤◌, true, false, List, Some, None}
 use Rattle.x_base.specs.Edge.{Rose}
-use Rattle.x_base.specs.declared.verdict.Verdict.{Verdict}
 use Rattle.x_base.specs.declared.verdict.Verdict.TheVariants.{Accept, NotEmpty, Blank}
 use Rattle.x_disk.specs.Disk.{View, Tells, LeavesOnly, LeavesNoMore}
 use Rattle.key_journal.specs.declared.cause.Cause.{Cause}
 use Rattle.key_journal.specs.declared.cause.Cause.TheVariants as cause
-use Rattle.party_state.specs.declared.command.Input.{Input}
 use Rattle.party_state.specs.declared.decision.Decision.{Decision}
 use Rattle.party_state.specs.State.{Party}
+use Rattle.party_state.specs.Show.{shown}
 use Rattle.key_journal.specs.Journal.{is_blank}
 use Rattle.key_store.specs.Store.{Stands, IsStore, IsFirstDamage, IsBlankOrFirst}
-use Rattle.node_core.specs.Deciding.{decision, after}
+use Rattle.node_core.specs.Deciding.{after}
 use Rattle.node_core.specs.Turns.{IsOldOrNext}
 use Rattle.x_party.specs.Images.{StandsFor, FitsInto, IsUntouched}
 use Rattle.x_party.specs.Outcomes.{IsAsDecided, IsTooLong, IsNobody}
@@ -75,3 +74,11 @@ pub record HasBegun (now then : View) (p : Party) (o : Outcome) : Type 0 where
   pub begins : Begins now then p o
   pub any_moment : Tells now → LeavesOnly now then (λ c. IsBlankOrFirst p c ⊎ now.may_leave c)
   pub faults : now.faults ≤ then.faults
+
+-- the lines in which the party is shown, or no memory for them
+abbrev pub IsText : Party → Outcome → Type 0
+IsText p (outcome.Done reply) = reply ≡ Some (shown p)
+IsText p (outcome.Refused verdict reply) = ⊥
+IsText p (outcome.Damaged place) = ⊥
+IsText p outcome.Fault = ⊥
+IsText p outcome.NoMemory = Unit {0}

@@ -1,6 +1,7 @@
 // A party acts on an input.
 ghost use Rattle.std.specs.Prelude.{◌≡◌, ◌-◌};
 ghost use Rattle.node_core.specs.Deciding.{decision};
+ghost use Rattle.node_core.specs.Turns.{IsTurn};
 ghost use Rattle.x_party.specs.Steps.{HasActed};
 
 use crate::closing::outcome_of;
@@ -20,12 +21,7 @@ fn turn<D: Disk>(node: Node<D>, alloc: Global, input: Input, moment: u64) -> Tur
 }
 
 /// The disk afterwards, and what became of the input.
-pub(crate) fn act<D: Disk>(
-    node: Node<D>,
-    alloc: Global,
-    input: Input,
-    moment: u64,
-) -> (D, Outcome)
+pub(crate) fn act<D: Disk>(node: Node<D>, alloc: Global, input: Input, moment: u64) -> (D, Outcome)
     ensures { HasActed (D.told node.disk) (D.told result.0) (node.end - node.gate) node.party (decision node.party input moment) result.1 }
 {
     match turn(node, alloc, input, moment) {

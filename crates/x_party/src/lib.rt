@@ -14,3 +14,6 @@ pub use outcome::Outcome;
 pub use setting_up::set_up;
 pub use showing::show;
 pub use telling::tell;
+
+#[cfg(test)]
+mod tests;

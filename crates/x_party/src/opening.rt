@@ -32,7 +32,6 @@ pub(crate) fn fetch<H: Shelf>(shelf: &mut H, name: &Ident) -> Result<H::Disk, Ou
 }
 
 /// Fetches the party's disk and opens it. Where that fails, the disk is put back.
-#[tactic(auto, using(crate::proofs::Opened::opened, crate::proofs::Opened::not_fetched, crate::proofs::Opened::not_opened, crate::proofs::Opened::others_on, crate::proofs::Opened::fault_of))]
 pub(crate) fn open<H: Shelf>(
     alloc: Global,
     shelf: &mut H,

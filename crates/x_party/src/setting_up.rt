@@ -18,13 +18,7 @@ use x_base::{Ident, Role};
 use x_disk::{Disk, Shelf};
 use x_gen::Gen;
 
-fn begin<D: Disk>(
-    alloc: Global,
-    disk: D,
-    own: Ident,
-    role: Role,
-    generator: Gen,
-) -> (D, Outcome)
+fn begin<D: Disk>(alloc: Global, disk: D, own: Ident, role: Role, generator: Gen) -> (D, Outcome)
     ensures { HasBegun (D.told disk) (D.told result.0) (begun own role generator) result.1 }
 {
     match Store::create(alloc, disk, own, role, generator) {

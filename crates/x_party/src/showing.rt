@@ -1,17 +1,27 @@
 // A party is shown.
-ghost use Rattle.std.specs.Prelude.{◌≡◌, ◌≤◌, IfOk};
+ghost use Rattle.std.specs.Prelude.{◌≡◌, ◌≤◌};
 ghost use Rattle.x_base.specs.Edge.{Rose};
 ghost use Rattle.x_disk.specs.Shelf.{OthersStay};
 ghost use Rattle.x_party.specs.Images.{IsUntouched};
 ghost use Rattle.x_party.specs.Outcomes.{IsShow};
+ghost use Rattle.x_party.specs.Steps.{IsText};
 
 use crate::closing::close;
 use crate::opening::open;
 use crate::outcome::Outcome;
-use party_state::show_text;
+use party_state::{State, show_text};
 use std::alloc::Global;
 use x_base::Ident;
 use x_disk::Shelf;
+
+fn text_of(alloc: Global, state: &State) -> Outcome
+    ensures { IsText state.now result }
+{
+    match show_text(alloc, state) {
+        Ok(text) => Outcome::Done(Some(text)),
+        Err(_) => Outcome::NoMemory,
+    }
+}
 
 /// The lines in which the party is shown. Nothing is written, and the disk is put back, whatever comes.
 pub fn show<H: Shelf>(alloc: Global, shelf: &mut H, name: &Ident) -> Outcome
@@ -25,9 +35,6 @@ pub fn show<H: Shelf>(alloc: Global, shelf: &mut H, name: &Ident) -> Outcome
         Ok(node) => node,
         Err(outcome) => return outcome,
     };
-    let outcome = match show_text(alloc, node.view()) {
-        Ok(text) => Outcome::Done(Some(text)),
-        Err(_) => Outcome::NoMemory,
-    };
+    let outcome = text_of(alloc, node.view());
     close(shelf, name, node.into_disk(), outcome)
 }

@@ -15,7 +15,6 @@ use x_disk::Shelf;
 
 /// Tells the party an operator's command or a message that arrived, at a moment: it decides, keeps the change, and
 /// then the reply is handed out. The disk is put back, whatever comes.
-#[tactic(auto, using(crate::proofs::Acted::told_on, crate::proofs::Acted::safe_on, crate::proofs::Acted::told_failed, crate::proofs::Acted::safe_failed, crate::proofs::Opened::others_on, crate::proofs::Acted::fault_acted))]
 pub fn tell<H: Shelf>(
     alloc: Global,
     shelf: &mut H,
