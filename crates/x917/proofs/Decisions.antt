@@ -1,6 +1,6 @@
 -- What is decided of the bytes that were taken is decided of the input.
 use Rattle.std.proofs.Common.{◌≡◌, ◌≤◌, ◌<◌, ◌+◌, ◌++◌, ℕ, Bool, true, false, List, [], length, take, arith, refl, sym, ap, ◌∙◌, subst, Option, Some, None, IfSome, Result, Ok, Err, inl, inr}
-use Rattle.std.specs.Prelude.{◌⊎◌, ◌≢◌, IfOk, IfErr}
+use Rattle.std.specs.Prelude.{◌≢◌, IfOk, IfErr}
 use Rattle.std.proofs.lemmas.List.{append-nil, length-take, take_all, take_at}
 use Rattle.std.proofs.lemmas.Bool.{cases_lt}
 use Rattle.x_base.specs.Edge.{Rose, AppendsTo}
@@ -13,10 +13,9 @@ use Rattle.csm_feed.specs.declared.unheard.Unheard.TheVariants as unheard
 use Rattle.csm_feed.specs.Heard.{leading, behind, refused_place, Heard, readings}
 use Rattle.csm_feed.specs.Laws.{OneHearing}
 use Rattle.x917.specs.declared.status.Refusal.{Refusal}
-use Rattle.x917.specs.declared.status.Status.{Status}
 use Rattle.x917.specs.declared.status.Status.TheVariants as status
 use Rattle.x917.specs.Transfer.{Took, IsAtEnd, IsQuiet, WrotePrefix}
-use Rattle.x917.specs.Check.{taken, is_right, judged, refusal_of, decided_of, IsDecision, IsPossible, IsReply, status_of, reply_of, WroteReply, WroteSome}
+use Rattle.x917.specs.Check.{taken, is_right, judged, refusal_of, decided_of, IsDecision, IsPossible, IsReply, status_of, reply_of, WroteReply, WroteSome, IsExact}
 
 -- ---- of the bytes that were taken
 
@@ -115,7 +114,7 @@ judged_possible false p = refl
 -- ---- how `check` ends
 
 -- a message that is heard isn't among 2,049 bytes
-not_full : (end count : ℕ) (o : Option ℕ) → refused_place end count o ≡ None → count ≡ 2049 → ⊥
+pub not_full : (end count : ℕ) (o : Option ℕ) → refused_place end count o ≡ None → count ≡ 2049 → ⊥
 not_full end count (Some n) h e = absurd cc
 not_full end count None h e = let k : Some 2048 ≡ None = subst (λ (c : ℕ). refused_place end c None ≡ None) e h in absurd cc
 
@@ -151,27 +150,11 @@ pub part : (before after : Option (List ℕ)) (text : List ℕ) (p : Parsed) (w 
 part None after text p w v t h e d a = tt
 part (Some all) after text p w v t h e d a = (reply_of p, replied all text p (text_taken all text after t h e) d, a)
 
-refused : (before after : Option (List ℕ)) (text : List ℕ) (r : Refusal) → Took before after text → length text ≤ 2049
+pub refused : (before after : Option (List ℕ)) (text : List ℕ) (r : Refusal) → Took before after text → length text ≤ 2049
     → (length text < 2049 → IsAtEnd before after) → IsDecision text (Err r) → IfSome before (λ all. IsDecision all (Err r))
 refused None after text r t h e d = tt
 refused (Some all) after text r t h e d =
     of_input all (Err r) (subst (λ (b : List ℕ). IsDecision b (Err r)) (text_taken all text after t h e) d)
-
-abbrev refusal_in : Status → Refusal → Refusal
-refusal_in (status.Refused r) d = r
-refusal_in other d = d
-
-pub same_refusal : (r s : Refusal) → status.Refused r ≡ status.Refused s → r ≡ s
-same_refusal r s same = ap (λ (x : Status). refusal_in x r) same
-
-pub refused_for : (before after : Option (List ℕ)) (text : List ℕ) (r s : Refusal) → Took before after text → length text ≤ 2049
-    → (length text < 2049 → IsAtEnd before after) → IsDecision text (Err r) → status.Refused r ≡ status.Refused s → IfSome before (λ all. IsDecision all (Err s))
-refused_for before after text r s t h e d same =
-    subst (λ (x : Refusal). IfSome before (λ all. IsDecision all (Err x))) (same_refusal r s same) (refused before after text r t h e d)
-
--- where no count rose, the answer is what is decided, or want of memory
-abbrev pub IsExact : Option (List ℕ) → Status → Type 0
-IsExact before s = IfSome before (λ all. (decided : Result Parsed Refusal) → IsDecision all decided → (s ≡ status_of decided) ⊎ (s ≡ status.NoMemory))
 
 pub exact : (before after : Option (List ℕ)) (text : List ℕ) (r : Result Parsed Refusal) → Took before after text → length text ≤ 2049
     → (length text < 2049 → IsAtEnd before after) → ((other : Result Parsed Refusal) → IsDecision text other → r ≡ other) → IsExact before (status_of r)

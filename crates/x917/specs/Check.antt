@@ -1,5 +1,5 @@
 -- What `check` decides of an input, and what it writes: this project's profile.
-use Rattle.std.specs.Prelude.{◌≡◌, ◌++◌, ◌∷◌, ◌==◌, ℕ, Bool, true, List, [], take, Result, Ok, Err, Option, if◌then◌else◌}
+use Rattle.std.specs.Prelude.{◌≡◌, ◌++◌, ◌∷◌, ◌==◌, ℕ, Bool, true, List, [], take, Result, Ok, Err, Option, Some, IfSome, ◌⊎◌, if◌then◌else◌}
 use Rattle.x_base.specs.Edge.{AppendsTo}
 use Rattle.x_base.specs.declared.verdict.Verdict.TheVariants.{BadEdc}
 use Rattle.x_mac.specs.Code.{edc_of}
@@ -16,7 +16,7 @@ use Rattle.csm_write.specs.Canon.{canon}
 use Rattle.x917.specs.declared.status.Refusal.{Refusal}
 use Rattle.x917.specs.declared.status.Refusal.TheVariants.{Text, Trailing, Decided}
 use Rattle.x917.specs.declared.status.Status.{Status}
-use Rattle.x917.specs.declared.status.Status.TheVariants.{Done, Refused}
+use Rattle.x917.specs.declared.status.Status.TheVariants as status
 use Rattle.x917.specs.Transfer.{WrotePrefix}
 
 -- the bytes of an input that are taken
@@ -62,8 +62,8 @@ IsPossible (Decided verdict) = verdict ≡ BadEdc
 
 -- the status of what was decided
 abbrev pub status_of : Result Parsed Refusal → Status
-status_of (Ok parsed) = Done
-status_of (Err refusal) = Refused refusal
+status_of (Ok parsed) = status.Done
+status_of (Err refusal) = status.Refused refusal
 
 -- what closes the canonical text: a new error detection code, or the authentication code that came
 abbrev pub closing_of : Shut → Closing
@@ -87,3 +87,19 @@ WroteReply input before after = (reply : List ℕ) × IsReply input reply × App
 -- a prefix of the reply was written
 abbrev pub WroteSome : List ℕ → Option (List ℕ) → Option (List ℕ) → Type 0
 WroteSome input before after = (reply : List ℕ) × IsReply input reply × WrotePrefix before after reply
+
+-- how a `check` ends: what was left of the input before and after, and what was written
+abbrev pub IsChecked : Status → Option (List ℕ) → Option (List ℕ) → Option (List ℕ) → Option (List ℕ) → Type 0
+-- the input was read to its end and accepted, and the whole reply was written
+IsChecked status.Done left rest before after = IfSome left (λ all. (rest ≡ Some []) × WroteReply all before after)
+-- refused as it is decided of the input, and over any source for no other reason than these
+IsChecked (status.Refused refusal) left rest before after =
+    IsPossible refusal × IfSome left (λ all. IsDecision all (Err refusal)) × (after ≡ before)
+IsChecked status.ReadFault left rest before after = after ≡ before
+IsChecked status.WriteFault left rest before after = IfSome left (λ all. WroteSome all before after)
+IsChecked status.NoMemory left rest before after = after ≡ before
+IsChecked s left rest before after = ⊥
+
+-- what is decided of the input is the status, or no memory was left
+abbrev pub IsExact : Option (List ℕ) → Status → Type 0
+IsExact left s = IfSome left (λ all. (decided : Result Parsed Refusal) → IsDecision all decided → (s ≡ status_of decided) ⊎ (s ≡ status.NoMemory))

@@ -1,3 +1,6 @@
 pub mod Transfer
-pub mod Check
 pub mod Lines
+pub mod Check
+pub mod Ends
+pub mod Dues
+pub mod Obeys

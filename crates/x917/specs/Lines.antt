@@ -6,9 +6,9 @@ use Rattle.x_base.specs.declared.verdict.Verdict.TheVariants.{CountLow}
 use Rattle.csm_grammar.specs.declared.refusal.ReadRefusal.{ReadRefusal}
 use Rattle.csm_grammar.specs.declared.refusal.ReadRefusal.TheVariants.{NotCsm, TooLong, Unended, BadTag, UnknownTag, Repeated, Missing, Unwanted, BadContents, Unsupported, NoMemory}
 use Rattle.csm_grammar.specs.Places.{place_of}
+use Rattle.x_line.specs.Usage as usage
 use Rattle.x917.specs.declared.status.Refusal.{Refusal}
 use Rattle.x917.specs.declared.status.Refusal.TheVariants.{Text, Trailing, Decided}
-use Rattle.x917.specs.declared.status.UsageKind.TheVariants.{Line}
 use Rattle.x917.specs.declared.status.Status.{Status}
 use Rattle.x917.specs.declared.status.Status.TheVariants as status
 
@@ -39,9 +39,11 @@ abbrev pub line_of : Status → List ℕ
 line_of status.Done = []
 line_of (status.Refused (Text NoMemory)) = codes "x917: no memory\n"
 line_of (status.Refused refusal) = codes "x917: refused " ++ (refusal_text refusal ++ codes "\n")
-line_of (status.Usage Line) = codes "x917: usage 1\n"
+line_of (status.Usage kind) = codes "x917: usage " ++ (decimal (usage.number_of kind) ++ codes "\n")
 line_of status.ReadFault = codes "x917: read fault\n"
 line_of status.WriteFault = codes "x917: write fault\n"
+line_of status.DiskFault = codes "x917: disk fault\n"
+line_of (status.Damaged place) = codes "x917: damaged at " ++ (decimal place ++ codes "\n")
 line_of status.NoMemory = codes "x917: no memory\n"
 
 abbrev pub exit_code_of : Status → ℕ
@@ -51,4 +53,6 @@ exit_code_of (status.Refused refusal) = 1
 exit_code_of (status.Usage kind) = 2
 exit_code_of status.ReadFault = 3
 exit_code_of status.WriteFault = 4
+exit_code_of status.DiskFault = 5
+exit_code_of (status.Damaged place) = 6
 exit_code_of status.NoMemory = 9

@@ -35,7 +35,7 @@ fn judged(right: bool, parsed: Parsed) -> Result<Parsed, Refusal>
 }
 
 /// The refusal where no message is heard.
-fn refusal_of(unheard: Unheard) -> Refusal
+pub fn refusal_of(unheard: Unheard) -> Refusal
     ensures { result ≡ refusal_of unheard }
 {
     match unheard {

@@ -2,19 +2,26 @@
 #![tactic(auto)]
 
 mod check;
+mod checking;
+mod finish;
+mod party;
 mod status;
+mod take;
 #[cfg(test)]
 mod tests;
+mod told;
 mod top;
 mod transfer;
 
-use status::{Status, UsageKind, exit_code, status_line};
+use status::{Status, exit_code, status_line};
 use std::alloc::AllocGlobal;
 use std::io::Write;
 use std::process::ExitCode;
-use std::rt::Env;
+use std::rt::{Clock, Env};
 use std::{env, io};
 use x_base::{NoMemory, StdSink, StdSource, Words};
+use x_disk::FolderShelf;
+use x_line::UsageKind;
 
 /// The arguments without the program's name.
 fn words_of<R: Env + AllocGlobal>(rt: &R) -> io::Result<Result<Words, NoMemory>> {
@@ -27,11 +34,26 @@ fn words_of<R: Env + AllocGlobal>(rt: &R) -> io::Result<Result<Words, NoMemory>>
     Ok(Ok(words))
 }
 
+/// Microseconds since 1970.
+fn moment_of<R: Clock>(rt: &R) -> io::Result<u64> {
+    let since = rt.since_1970()?;
+    Ok(u64::try_from(since.as_micros()).unwrap_or(u64::MAX))
+}
+
 fn main(rt: HostRuntime) -> io::Result<ExitCode> {
     let mut source = StdSource::new(rt.stdin());
     let mut sink = StdSink::new(rt.stdout());
+    let mut shelf = FolderShelf::new(rt.clone()?, rt.alloc());
+    let moment = moment_of(&rt)?;
     let status = match words_of(&rt) {
-        Ok(Ok(words)) => top::run(rt.alloc(), &words, &mut source, &mut sink),
+        Ok(Ok(words)) => top::run(
+            rt.alloc(),
+            &words,
+            moment,
+            &mut source,
+            &mut sink,
+            &mut shelf,
+        ),
         Ok(Err(NoMemory)) => Status::NoMemory,
         Err(e) => match e.kind() {
             // A word that is no UTF-8.

@@ -5,6 +5,7 @@ ghost use Rattle.x917.specs.Lines.{read_number, refusal_text, line_of, exit_code
 use csm_grammar::ReadRefusal;
 use std::alloc::{AllocError, Global};
 use x_base::{NoMemory, Text, Verdict};
+use x_line::UsageKind;
 
 /// Why an input was refused.
 #[derive(Clone, Copy, Debug, PartialEq, Eq)]
@@ -17,23 +18,21 @@ pub enum Refusal {
     Decided(Verdict),
 }
 
-/// What is wrong with the words of the command.
-#[derive(Clone, Copy, Debug, PartialEq, Eq)]
-pub enum UsageKind {
-    /// They are no command line.
-    Line,
-}
-
 /// How a run ended.
 #[derive(Clone, Copy, Debug, PartialEq, Eq)]
 pub enum Status {
     Done,
     Refused(Refusal),
+    /// The words give no order.
     Usage(UsageKind),
     /// The source of the input failed.
     ReadFault,
     /// The sink of the output failed.
     WriteFault,
+    /// The shelf or a disk failed.
+    DiskFault,
+    /// The image of a party's disk stands for no party; the place is that of its first damage.
+    Damaged(u64),
     NoMemory,
 }
 
@@ -87,6 +86,19 @@ fn refusal_line(alloc: Global, refusal: &Refusal) -> Result<String, AllocError>
     format!(in alloc; "x917: refused {text}\n")
 }
 
+fn usage_line(alloc: Global, kind: &UsageKind) -> Result<String, AllocError>
+    ensures { IfOk result (λ s. string_bytes s ≡ line_of (Status.Usage kind.now)) }
+{
+    let number = kind.number();
+    format!(in alloc; "x917: usage {number}\n")
+}
+
+fn damaged_line(alloc: Global, place: u64) -> Result<String, AllocError>
+    ensures { IfOk result (λ s. string_bytes s ≡ line_of (Status.Damaged place)) }
+{
+    format!(in alloc; "x917: damaged at {place}\n")
+}
+
 /// The line of a status for standard error, with its line feed; empty at `Done`.
 pub fn status_line(alloc: Global, status: &Status) -> Result<Text, NoMemory>
     ensures { IfOk result (λ line. line ≡ line_of status.now) }
@@ -95,9 +107,11 @@ pub fn status_line(alloc: Global, status: &Status) -> Result<Text, NoMemory>
     match status {
         Status::Done => {}
         Status::Refused(refusal) => line.push(refusal_line(alloc, refusal)?.as_bytes())?,
-        Status::Usage(UsageKind::Line) => line.push(b"x917: usage 1\n")?,
+        Status::Usage(kind) => line.push(usage_line(alloc, kind)?.as_bytes())?,
         Status::ReadFault => line.push(b"x917: read fault\n")?,
         Status::WriteFault => line.push(b"x917: write fault\n")?,
+        Status::DiskFault => line.push(b"x917: disk fault\n")?,
+        Status::Damaged(place) => line.push(damaged_line(alloc, *place)?.as_bytes())?,
         Status::NoMemory => line.push(b"x917: no memory\n")?,
     }
     Ok(line)
@@ -114,6 +128,8 @@ pub fn exit_code(status: &Status) -> u8
         Status::Usage(_) => 2,
         Status::ReadFault => 3,
         Status::WriteFault => 4,
+        Status::DiskFault => 5,
+        Status::Damaged(_) => 6,
         Status::NoMemory => 9,
     }
 }

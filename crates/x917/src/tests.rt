@@ -5,6 +5,9 @@ use std::alloc::Global;
 use std::process::Abort;
 use std::test::Fail;
 use x_base::{MemorySink, MemorySource, NoMemory, Text, Words};
+use x_disk::MemoryShelf;
+
+mod parties;
 
 /// Inputs, and what is written.
 const WRITTEN: [(&str, &str); 11] = [
@@ -218,7 +221,8 @@ struct Answer {
 fn called(alloc: Global, words: &Words, input: Text, take: u32, put: u32) -> Result<Answer, Fail> {
     let mut source = MemorySource::new(input, vec![in alloc; take]?);
     let mut output = MemorySink::new(alloc, 200, vec![in alloc; put]?)?;
-    let status = run(alloc, words, &mut source, &mut output);
+    let mut shelf = MemoryShelf::new(alloc);
+    let status = run(alloc, words, 0, &mut source, &mut output, &mut shelf);
     let line = status_line(alloc, &status)?;
     Ok(Answer {
         output,

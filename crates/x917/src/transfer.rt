@@ -48,6 +48,7 @@ pub fn put_all<K: Sink>(sink: &mut K, text: &[u8]) -> Result<(), SinkFault>
     ensures whole { OnOk result (AppendsTo (K.written sink.old) (K.written sink.new) text.now) }
     ensures part { OnErr result (WrotePrefix (K.written sink.old) (K.written sink.new) text.now) }
     ensures fault { OnErr result (Rose (K.faults sink.old) (K.faults sink.new)) }
+    ensures later { K.faults sink.old ≤ K.faults sink.new }
 {
     let mut at = 0;
     while at < text.len() {

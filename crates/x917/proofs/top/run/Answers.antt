@@ -1,53 +1,14 @@
-use Rattle.std.proofs.Common.{subst, Ok, Err, List, ℕ, ◌≡◌, ◌∙◌}
-use Rattle.x_base.specs.Edge.{AppendsTo}
-use Rattle.x917.specs.Transfer.{WrotePrefix}
-use Rattle.x917.specs.Check.{IsDecision}
-use Rattle.x917.proofs.Decisions.{IsOnly, of_result, done, part, refused_for, exact_done, exact_refused}
+use Rattle.std.proofs.Common.{subst}
+use Rattle.x_line.specs.declared.order.Order.{Order}
+use Rattle.x917.specs.Obeys.{Expects}
+use Rattle.x917.proofs.Orders.{idle}
 use Rattle.x917.proofs.top.run.Goals as goal
 
-pub returns-in-Ok-Err-clause-refused : goal.returns-in-Ok-Err-clause-refused
-returns-in-Ok-Err-clause-refused g c = λ refusal same.
-    let i = c.in-Ok-Err.is in
-    let f = c.in-Ok-Err.field-0-is in
-    let e : c.judge.result ≡ Ok (Err c.in-Ok-Err.refusal) = cc in
-    refused_for _ _ c.in-Ok.input c.in-Ok-Err.refusal refusal c.in-Ok.ensures.took c.in-Ok.ensures.bound c.in-Ok.ensures.end
-    (subst (λ (t : List ℕ). IsDecision t (Err c.in-Ok-Err.refusal)) c.bytes.ensures
-    (of_result c.judge.result (Err c.in-Ok-Err.refusal) (IsDecision c.bytes.result.now) e c.judge.ensures.decides)) same
+pub returns-in-Ok-clause-complete : goal.returns-in-Ok-clause-complete
+returns-in-Ok-clause-complete g c = λ o is read_quiet put_quiet disk_quiet.
+    subst (λ (x : Order). Expects x c.args.moment (g.S.Source.left c.args.source.now) (g.H.Shelf.entry c.args.shelf.now) c.carry_out.result)
+    (c.law_one_order.ensures c.args.words.now c.in-Ok.order o c.in-Ok.ensures.order is) (c.carry_out.ensures.expects read_quiet put_quiet disk_quiet)
 
-pub returns-in-Ok-Err-clause-exact : goal.returns-in-Ok-Err-clause-exact
-returns-in-Ok-Err-clause-exact g c = λ w s k.
-    let i = c.in-Ok-Err.is in
-    let f = c.in-Ok-Err.field-0-is in
-    let e : c.judge.result ≡ Ok (Err c.in-Ok-Err.refusal) = cc in
-    exact_refused _ _ c.in-Ok.input c.in-Ok-Err.refusal c.in-Ok.ensures.took c.in-Ok.ensures.bound c.in-Ok.ensures.end
-    (subst (λ (t : List ℕ). IsOnly t (Err c.in-Ok-Err.refusal)) c.bytes.ensures
-    (of_result c.judge.result (Err c.in-Ok-Err.refusal) (IsOnly c.bytes.result.now) e c.judge.ensures.only))
-
-pub returns-in-Ok-put_all-clause-done : goal.returns-in-Ok-put_all-clause-done
-returns-in-Ok-put_all-clause-done g c = λ same.
-    let i = c.in-Ok-Ok.is in
-    let f = c.in-Ok-Ok.field-0-is in
-    let e : c.judge.result ≡ Ok (Ok c.in-Ok-Ok.parsed) = cc in
-    done _ _ c.in-Ok.input c.in-Ok-Ok.parsed _ _ c.in-Ok.ensures.took c.in-Ok.ensures.bound c.in-Ok.ensures.end
-    (subst (λ (t : List ℕ). IsDecision t (Ok c.in-Ok-Ok.parsed)) c.bytes.ensures
-    (of_result c.judge.result (Ok c.in-Ok-Ok.parsed) (IsDecision c.bytes.result.now) e c.judge.ensures.decides))
-    (subst (λ (t : List ℕ). AppendsTo (g.K.Sink.written c.args.sink.now) (g.K.Sink.written c.put_all.new.sink) t) (c.bytes-2.ensures ∙ c.in-Ok-reply.ensures) c.in-Ok-put_all.ensures.whole)
-
-pub returns-in-Ok-put_all-clause-exact : goal.returns-in-Ok-put_all-clause-exact
-returns-in-Ok-put_all-clause-exact g c = λ w s k.
-    let i = c.in-Ok-Ok.is in
-    let f = c.in-Ok-Ok.field-0-is in
-    let e : c.judge.result ≡ Ok (Ok c.in-Ok-Ok.parsed) = cc in
-    exact_done _ _ c.in-Ok.input c.in-Ok-Ok.parsed c.in-Ok.ensures.took c.in-Ok.ensures.bound c.in-Ok.ensures.end
-    (subst (λ (t : List ℕ). IsOnly t (Ok c.in-Ok-Ok.parsed)) c.bytes.ensures
-    (of_result c.judge.result (Ok c.in-Ok-Ok.parsed) (IsOnly c.bytes.result.now) e c.judge.ensures.only))
-
-pub returns-clause-part : goal.returns-clause-part
-returns-clause-part g c = λ same.
-    let i = c.in-Ok-Ok.is in
-    let f = c.in-Ok-Ok.field-0-is in
-    let e : c.judge.result ≡ Ok (Ok c.in-Ok-Ok.parsed) = cc in
-    part _ _ c.in-Ok.input c.in-Ok-Ok.parsed _ _ c.in-Ok.ensures.took c.in-Ok.ensures.bound c.in-Ok.ensures.end
-    (subst (λ (t : List ℕ). IsDecision t (Ok c.in-Ok-Ok.parsed)) c.bytes.ensures
-    (of_result c.judge.result (Ok c.in-Ok-Ok.parsed) (IsDecision c.bytes.result.now) e c.judge.ensures.decides))
-    (subst (λ (t : List ℕ). WrotePrefix (g.K.Sink.written c.args.sink.now) (g.K.Sink.written c.put_all.new.sink) t) (c.bytes-2.ensures ∙ c.in-Ok-reply.ensures) c.in-Err-put_all.ensures.part)
+pub returns-in-Err-NoMemory-clause-obeys : goal.returns-in-Err-NoMemory-clause-obeys
+returns-in-Err-NoMemory-clause-obeys g c = λ o is.
+    idle c.args.moment (g.S.Source.left c.args.source.now) (g.K.Sink.written c.args.sink.now) (g.H.Shelf.entry c.args.shelf.now) (λ name. g.met.H.Shelf.sound c.args.shelf.now name) o

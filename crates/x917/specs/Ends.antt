@@ -1,0 +1,47 @@
+-- How a call over a party ends (this project's profile).
+use Rattle.std.specs.Prelude.{◌≡◌, ◌⊎◌, ◌++◌, ℕ, List, Option, Some, None}
+use Rattle.x_base.specs.Edge.{Rose, AppendsTo}
+use Rattle.x_party.specs.declared.outcome.Outcome.{Outcome}
+use Rattle.x_party.specs.declared.outcome.Outcome.TheVariants as outcome
+use Rattle.x917.specs.declared.status.Refusal.TheVariants.{Decided}
+use Rattle.x917.specs.declared.status.Status.{Status}
+use Rattle.x917.specs.declared.status.Status.TheVariants as status
+use Rattle.x917.specs.Transfer.{WrotePrefix}
+
+-- the status of an outcome
+abbrev pub status_of_outcome : Outcome → Status
+status_of_outcome (outcome.Done reply) = status.Done
+status_of_outcome (outcome.Refused verdict reply) = status.Refused (Decided verdict)
+status_of_outcome (outcome.Damaged place) = status.Damaged place
+status_of_outcome outcome.Fault = status.DiskFault
+status_of_outcome outcome.NoMemory = status.NoMemory
+
+-- the text and its ending were written, or the sink failed and a prefix was; where there is no text, nothing is
+abbrev pub Puts : Option (List ℕ) → List ℕ → Status → Status → Option (List ℕ) → Option (List ℕ) → Type 0
+Puts None ending answer s before after = (s ≡ answer) × (after ≡ before)
+Puts (Some text) ending answer s before after = ((s ≡ answer) × AppendsTo before after (text ++ ending))
+    ⊎ ((s ≡ status.WriteFault) × WrotePrefix before after (text ++ ending))
+
+-- a call with this outcome ends so
+abbrev pub Ends : Outcome → List ℕ → Status → Option (List ℕ) → Option (List ℕ) → Type 0
+Ends (outcome.Done reply) ending s before after = Puts reply ending status.Done s before after
+Ends (outcome.Refused verdict reply) ending s before after = Puts reply ending (status.Refused (Decided verdict)) s before after
+Ends (outcome.Damaged place) ending s before after = (s ≡ status.Damaged place) × (after ≡ before)
+Ends outcome.Fault ending s before after = (s ≡ status.DiskFault) × (after ≡ before)
+Ends outcome.NoMemory ending s before after = (s ≡ status.NoMemory) × (after ≡ before)
+
+-- with these statuses nothing is written
+abbrev pub IsSilent : Status → Type 0
+IsSilent status.Done = ⊥
+IsSilent (status.Refused refusal) = ⊥
+IsSilent status.WriteFault = ⊥
+IsSilent s = Unit {0}
+
+-- a fault has its cause: over every source, sink and shelf a count of faults rose. The counts are those of the source, the
+-- sink and the shelf, before and after
+abbrev pub HasCause : Status → ℕ → ℕ → ℕ → ℕ → ℕ → ℕ → Type 0
+HasCause status.ReadFault read reads put puts disk disks = Rose read reads
+HasCause status.WriteFault read reads put puts disk disks = Rose put puts
+HasCause status.DiskFault read reads put puts disk disks = Rose disk disks
+HasCause (status.Usage kind) read reads put puts disk disks = ⊥
+HasCause s read reads put puts disk disks = Unit {0}

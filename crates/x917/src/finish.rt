@@ -1,0 +1,53 @@
+// A call over a party ends: the reply is written, and the status follows.
+ghost use Rattle.std.specs.Prelude.{◌≡◌, ◌≤◌, ◌⊎◌, ◌++◌, OnOk, OnErr};
+ghost use Rattle.x_base.specs.Edge.{Rose, AppendsTo};
+ghost use Rattle.x917.specs.Transfer.{WrotePrefix};
+ghost use Rattle.x917.specs.Ends.{Ends, Puts, IsSilent};
+
+use crate::status::{Refusal, Status};
+use crate::transfer::put_all;
+use x_base::{Sink, SinkFault, Text};
+use x_party::Outcome;
+
+/// Puts the text and then its ending, without memory.
+#[tactic(auto, using(crate::proofs::Endings::both_whole, crate::proofs::Endings::first_part, crate::proofs::Endings::second_part, crate::proofs::Endings::rose_later))]
+fn put_both<K: Sink>(sink: &mut K, text: &[u8], ending: &[u8]) -> Result<(), SinkFault>
+    ensures whole { OnOk result (AppendsTo (K.written sink.old) (K.written sink.new) (text.now ++ ending.now)) }
+    ensures part { OnErr result (WrotePrefix (K.written sink.old) (K.written sink.new) (text.now ++ ending.now)) }
+    ensures fault { OnErr result (Rose (K.faults sink.old) (K.faults sink.new)) }
+{
+    put_all(sink, text)?;
+    put_all(sink, ending)
+}
+
+/// Puts a text, where there is one; the status is the answer where that doesn't fail.
+fn put_text<K: Sink>(sink: &mut K, text: Option<Text>, ending: &[u8], answer: Status) -> Status
+    ensures puts { Puts text ending.now answer result (K.written sink.old) (K.written sink.new) }
+    ensures fault { (result ≡ answer) ⊎ Rose (K.faults sink.old) (K.faults sink.new) }
+{
+    let Some(text) = text else {
+        return answer;
+    };
+    match put_both(sink, text.bytes(), ending) {
+        Ok(()) => answer,
+        Err(_) => Status::WriteFault,
+    }
+}
+
+/// Writes the reply of an outcome and its ending, without memory.
+pub fn finish<K: Sink>(sink: &mut K, outcome: Outcome, ending: &[u8]) -> Status
+    ensures ends { Ends outcome ending.now result (K.written sink.old) (K.written sink.new) }
+    ensures write_fault { result ≡ Status.WriteFault → Rose (K.faults sink.old) (K.faults sink.new) }
+    ensures silent { IsSilent result → sink.new ≡ sink.old }
+{
+    match outcome {
+        Outcome::Done(text) => put_text(sink, text, ending, Status::Done),
+        Outcome::Refused(verdict, text) => {
+            let answer = Status::Refused(Refusal::Decided(verdict));
+            put_text(sink, text, ending, answer)
+        }
+        Outcome::Damaged(place) => Status::Damaged(place),
+        Outcome::Fault => Status::DiskFault,
+        Outcome::NoMemory => Status::NoMemory,
+    }
+}

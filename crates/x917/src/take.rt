@@ -1,0 +1,64 @@
+// A message arrives.
+ghost use Rattle.std.specs.Prelude.{◌≡◌, [], Some, IfSome, IfOk, IfErr};
+ghost use Rattle.x_base.specs.Edge.{Rose};
+ghost use Rattle.x_disk.specs.Shelf.{OthersStay};
+ghost use Rattle.x917.specs.Transfer.{TookAtMost, IsQuiet};
+ghost use Rattle.x917.specs.Ends.{IsSilent};
+ghost use Rattle.x917.specs.Dues.{IsHeard, FollowsBytes};
+ghost use Rattle.x917.specs.Obeys.{IsUnheard, IsTaken};
+
+use crate::check::refusal_of;
+use crate::party::command;
+use crate::status::Status;
+use crate::transfer::{GatherError, gather};
+use csm_feed::{hear, law_one_hearing};
+use csm_grammar::Arrival;
+use party_state::Input;
+use std::alloc::Global;
+use x_base::{Ident, NoMemory, Sink, Source};
+use x_disk::Shelf;
+
+/// Takes the bytes of an input and hears the message in them.
+fn listen<S: Source>(alloc: Global, source: &mut S) -> Result<Arrival, Status>
+    ensures heard { IfOk result (λ a. IfSome (S.left source.old) (λ all. IsHeard all a × (S.left source.new ≡ Some []))) }
+    ensures unheard { IfErr result (IsUnheard (S.left source.old)) }
+    ensures read_fault { IfErr result (λ s. s ≡ Status.ReadFault → Rose (S.faults source.old) (S.faults source.new)) }
+    ensures most { TookAtMost 2049 (S.left source.old) (S.left source.new) }
+{
+    let input = match gather(alloc, source) {
+        Ok(input) => input,
+        Err(GatherError::Fault) => return Err(Status::ReadFault),
+        Err(GatherError::NoMemory) => return Err(Status::NoMemory),
+    };
+    match hear(alloc, input.bytes()) {
+        Ok(Ok(arrival)) => Ok(arrival),
+        Ok(Err(unheard)) => Err(Status::Refused(refusal_of(unheard))),
+        Err(NoMemory) => Err(Status::NoMemory),
+    }
+}
+
+/// Takes a message, and tells it to a party.
+pub fn take<S: Source, K: Sink, H: Shelf>(
+    alloc: Global,
+    source: &mut S,
+    sink: &mut K,
+    shelf: &mut H,
+    party: &Ident,
+    moment: u64,
+) -> Status
+    ensures taken { IsTaken moment (S.left source.old) (S.left source.new) (H.entry shelf.old party.now) (H.entry shelf.new party.now) result (K.written sink.old) (K.written sink.new) }
+    ensures follows { IsQuiet (S.faults source.old) (S.faults source.new) → IsQuiet (K.faults sink.old) (K.faults sink.new) → IsQuiet (H.faults shelf.old) (H.faults shelf.new)
+        → IfSome (S.left source.old) (λ all. FollowsBytes all (H.entry shelf.old party.now) moment result) }
+    ensures others { OthersStay party.now (H.entry shelf.old) (H.entry shelf.new) }
+    ensures read_fault { result ≡ Status.ReadFault → Rose (S.faults source.old) (S.faults source.new) }
+    ensures write_fault { result ≡ Status.WriteFault → Rose (K.faults sink.old) (K.faults sink.new) }
+    ensures disk_fault { result ≡ Status.DiskFault → Rose (H.faults shelf.old) (H.faults shelf.new) }
+    ensures silent { IsSilent result → sink.new ≡ sink.old }
+    ensures most { TookAtMost 2049 (S.left source.old) (S.left source.new) }
+{
+    law_one_hearing();
+    match listen(alloc, source) {
+        Ok(arrival) => command(alloc, sink, shelf, party, Input::Arrived(arrival), moment),
+        Err(status) => status,
+    }
+}
