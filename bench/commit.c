@@ -1,6 +1,6 @@
 /* Times commands of x917 that change a party's file beside plain writes and syncs in C, in turns, in one run.
-   commit PROGRAM ROUNDS, in a folder where BANKA has a link to send to BANKB under:
-     a round is `start` and `drop`, each a process of its own, and, for the bytes by which each made the file grow,
+   commit PROGRAM TIMES ROUNDS, in a folder where BANKA has a link to send to BANKB under:
+     so many times, each time from BANKA's file as it was, so many rounds; a round is `start` and `drop`, each a process of its own, and, for the bytes by which each made the file grow,
      - a C process that opens a file of the same size, reads it, writes those bytes, syncs, writes one byte, syncs and ends;
      - the same with the two syncs (the file, the folder) with which the program opens a party's file;
      - two such pairs in this process, on a file that is kept open.
@@ -16,8 +16,8 @@
 #include <time.h>
 #include <unistd.h>
 
-/* A party holds 1,024 keys at most, and each round leaves one. */
-enum { KINDS = 4, ROUNDS = 1000, MOST = 2 * ROUNDS };
+/* A party holds 1,024 keys at most, and each round leaves one. FIRST is more than the file has at first. */
+enum { KINDS = 4, ROUNDS = 1000, MOST = 100000, FIRST = 65536 };
 
 extern char **environ;
 static const char *const names[KINDS] = {
@@ -122,16 +122,23 @@ static double held(int fd, const char *bytes, size_t count)
     return now() - begin;
 }
 
-/* A file of the same size as the party's. */
-static int copy_of_size(const char *path)
+/* A file of these bytes. */
+static int made(const char *path, const char *bytes, size_t size)
 {
-    size_t size = size_at("BANKA.x917");
-    char *bytes = calloc(size, 1);
     int fd = open(path, O_RDWR | O_CREAT | O_TRUNC | O_CLOEXEC, 0600);
-    must(bytes != NULL && fd >= 0, path);
-    must(pwrite(fd, bytes, size, 0) == (ssize_t)size && fsync(fd) == 0, path);
-    free(bytes);
+    must(fd >= 0 && pwrite(fd, bytes, size, 0) == (ssize_t)size && fsync(fd) == 0, path);
     return fd;
+}
+
+/* The party as it was. */
+static size_t first_bytes(char *bytes)
+{
+    int fd = open("BANKA.x917", O_RDONLY | O_CLOEXEC);
+    must(fd >= 0, "BANKA.x917");
+    ssize_t size = read(fd, bytes, FIRST);
+    must(size > 0 && size < FIRST, "BANKA.x917");
+    close(fd);
+    return (size_t)size;
 }
 
 /* One command, and the three others over as many bytes; who comes first takes turns. */
@@ -197,24 +204,31 @@ int main(int count, char **words)
         plain(words[2], strtoul(words[3], NULL, 10), words[1][0] == 'o');
         return 0;
     }
-    size_t rounds = count == 3 ? strtoul(words[2], NULL, 10) : 0;
-    if (rounds == 0 || rounds > ROUNDS) {
-        fprintf(stderr, "commit PROGRAM ROUNDS, of which there are 1 to %d\n", ROUNDS);
+    size_t times_over = count == 4 ? strtoul(words[2], NULL, 10) : 0;
+    size_t rounds = count == 4 ? strtoul(words[3], NULL, 10) : 0;
+    if (times_over == 0 || rounds < 2 || rounds > ROUNDS || times_over * rounds * 2 > MOST) {
+        fprintf(stderr, "commit PROGRAM TIMES ROUNDS, 2 to %d rounds\n", ROUNDS);
         return 2;
     }
-    /* A first command of each kind tells by how much the file grows. */
-    size_t grown[2], before = size_at("BANKA.x917");
-    by_program(words[1], "start");
-    grown[0] = size_at("BANKA.x917") - before;
-    by_program(words[1], "drop");
-    grown[1] = size_at("BANKA.x917") - before - grown[0];
-    copy_of_size("plain");
-    copy_of_size("opened");
-    int fd = copy_of_size("held");
-    for (size_t i = 0; i < rounds; i++) {
-        turn(words[0], words[1], "start", &grown[0], fd);
-        turn(words[0], words[1], "drop", &grown[1], fd);
+    static char bytes[FIRST];
+    size_t size = first_bytes(bytes), grown[2];
+    for (size_t i = 0; i < times_over; i++) {
+        close(made("BANKA.x917", bytes, size));
+        close(made("plain", bytes, size));
+        close(made("opened", bytes, size));
+        int fd = made("held", bytes, size);
+        /* A first command of each kind tells by how much the file grows. */
+        by_program(words[1], "start");
+        grown[0] = size_at("BANKA.x917") - size;
+        by_program(words[1], "drop");
+        grown[1] = size_at("BANKA.x917") - size - grown[0];
+        for (size_t j = 1; j < rounds; j++) {
+            turn(words[0], words[1], "start", &grown[0], fd);
+            turn(words[0], words[1], "drop", &grown[1], fd);
+        }
+        close(fd);
     }
+    printf("journals of up to %zu frames\n", 2 + 2 * rounds);
     report();
     return 0;
 }

@@ -1,10 +1,10 @@
 #!/bin/sh
 # Counts what a built program does to a party's file, command by command, and times its commits beside plain writes and
 # syncs in C in one run, in a new folder of the one that TMPDIR names (it should be on a disk, not in memory).
-# commit.sh [PROGRAM [ROUNDS]]; wants a C compiler, and strace for the counts.
+# Where the machine has other work to do, run it by `chrt -f 50`, so that waiting for a processor isn't measured.
+# commit.sh [PROGRAM]; wants a C compiler, and strace for the counts.
 here=$(cd "$(dirname "$0")/.." && pwd) || exit 1
 program=${1:-$here/crates/x917/out/x917}
-rounds=${2:-200}
 case $program in
 /*) ;;
 *) program=$PWD/$program ;;
@@ -60,5 +60,6 @@ if command -v strace >/dev/null; then
 else
     echo 'no strace: nothing is counted'
 fi
-"$work/commit" "$program" "$rounds" || exit 1
+"$work/commit" "$program" 20 20 || exit 1
+"$work/commit" "$program" 2 200 || exit 1
 [ "$wrong" = 0 ]

@@ -75,6 +75,11 @@ kill_at() {
     fi
 }
 
+# masked FILE: a reply without the digits that the moment and the drawn key give
+masked() {
+    sed -e 's#KD/[0-9A-F]\{16\}#KD/................#' -e 's#MAC/[0-9A-F]\{8\}#MAC/........#' "$1"
+}
+
 # fail_at CALL N ERROR EXIT LINE: the call answers the error
 fail_at() {
     fresh
@@ -88,7 +93,8 @@ fail_at() {
         [ ! -s ../output ] || violation "$3 at $1 $2: a reply is out"
         cmp -s ../shown ../new || cmp -s ../shown ../old || violation "$3 at $1 $2: another party"
     else
-        head -c "$(wc -c <../output)" ../reply | cmp -s - ../output || violation "$3 at $1 $2: no prefix of the reply"
+        masked ../output >../part
+        masked ../reply | head -c "$(wc -c <../part)" | cmp -s - ../part || violation "$3 at $1 $2: no prefix of the reply"
         cmp -s ../shown ../new || violation "$3 at $1 $2: the old party"
     fi
 }
