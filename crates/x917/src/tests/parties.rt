@@ -111,6 +111,29 @@ const ENDING: [Step; 7] = [
     ),
 ];
 
+/// BANKA's disk behind all of these, frame by frame in hexadecimal digits.
+const IMAGE_OF_BANKA: [&str; 9] = [
+    "0100583931372d4b455953544f524531",
+    "0100000023010001010542414e4b41010123456789abcdeffedcba98765432100000000000000001",
+    "0100000027010001020542414e4b42024b31010123456789abcdecfedcba9876543213000000000000000101",
+    "01000000cc01000409f5a9f00d0f18e82d020542414e4b42024b31010123456789abcdecfedcba9876543213000000000000000201040542414e4b420542414e4b410542414e4b41024b3100000000000000017fd0388551613b6101060542414e4b42030542414e4b410542414e4b41024b31000000000000000101024b3100004f43534d284d434c2f4b534d205243562f42414e4b42204f52472f42414e4b412049444b322f4b31204b442f43324135323930373536443934394634204354502f31204d41432f384632373043433629",
+    "0100000031010002040542414e4b420542414e4b410542414e4b41024b3100000000000000017fd0388551613b6102070542414e4b42",
+    "010000008d010002040542414e4b420542414e4b410542414e4b41024b3100000000000000017fd0388551613b6104060542414e4b42040542414e4b410542414e4b41024b310000000000000001004243534d284d434c2f44534d205243562f42414e4b42204f52472f42414e4b41204944442f42414e4b412e42414e4b412e4b312e31204d41432f463341394444393629",
+    "0100000031010002040542414e4b420542414e4b410542414e4b41024b3100000000000000017fd0388551613b6105070542414e4b42",
+    "010000000401000105",
+    "00",
+];
+
+/// BANKB's disk, likewise.
+const IMAGE_OF_BANKB: [&str; 6] = [
+    "0100583931372d4b455953544f524531",
+    "0100000023010001010542414e4b42010123456789abcdeffedcba98765432100000000000000001",
+    "0100000027010001020542414e4b41024b31020123456789abcdecfedcba9876543213000000000000000101",
+    "010000004e010002020542414e4b41024b31020123456789abcdecfedcba9876543213000000000000000201040542414e4b410542414e4b410542414e4b41024b3100000000000000017fd0388551613b6103",
+    "010000002a010001040542414e4b410542414e4b410542414e4b41024b3100000000000000017fd0388551613b6105",
+    "00",
+];
+
 /// An exchange is given up, and its message comes late.
 const LATE: [Step; 6] = [
     (
@@ -241,6 +264,27 @@ fn plays(alloc: Global, shelf: &mut MemoryShelf, steps: &[Step]) -> Result<bool,
     Ok(true)
 }
 
+/// Whether a party's disk holds these bytes.
+fn holds(
+    alloc: Global,
+    shelf: &mut MemoryShelf,
+    name: &[u8],
+    digits: &[&str],
+) -> Result<bool, DiskErr> {
+    let Ok(name) = Ident::read(name) else {
+        return Ok(false);
+    };
+    let mut disk = shelf.fetch(&name)?;
+    let length = disk.length()? as usize;
+    let mut image = vec![in alloc; 0u8; length]?;
+    disk.read(0, &mut image)?;
+    let mut wanted = String::new(alloc);
+    for piece in digits {
+        wanted.push_str(piece)?;
+    }
+    Ok(hex::encode(alloc, image)? == wanted)
+}
+
 #[test]
 fn two_banks_exchange_a_key_and_end_it(rt: HostRuntime) -> Result<(), Fail> {
     let alloc = rt.alloc();
@@ -249,6 +293,8 @@ fn two_banks_exchange_a_key_and_end_it(rt: HostRuntime) -> Result<(), Fail> {
     assert!(rt; plays(alloc, &mut shelf, &EXCHANGE)?);
     assert!(rt; plays(alloc, &mut shelf, &REPEATED)?);
     assert!(rt; plays(alloc, &mut shelf, &ENDING)?);
+    assert!(rt; holds(alloc, &mut shelf, b"BANKA", &IMAGE_OF_BANKA)?);
+    assert!(rt; holds(alloc, &mut shelf, b"BANKB", &IMAGE_OF_BANKB)?);
     Ok(())
 }
 
