@@ -1,12 +1,14 @@
 -- A message is heard of bytes that were taken.
-use Rattle.std.proofs.Common.{◌≡◌, inl, inr, ℕ, ◌+◌, ◌≤◌, ◌<◌, List, [], length, take, Option, Some, None, Result, Ok, Err, IfOk, IfSome, sym, ap, ◌∙◌, subst, arith}
+use Rattle.std.proofs.Common.{◌≡◌, ◌≢◌, inl, inr, ℕ, ◌+◌, ◌≤◌, ◌<◌, List, [], length, take, Option, Some, None, Result, Ok, Err, IfOk, IfSome, sym, ap, ◌∙◌, subst, arith}
 use Rattle.std.proofs.lemmas.Bool.{cases_lt}
 use Rattle.std.proofs.Math.Logic.{∥∥₁_prop}
 use Rattle.x_base.specs.Edge.{Rose}
 use Rattle.csm_grammar.specs.declared.arrival.Arrival.{Arrival}
 use Rattle.csm_grammar.specs.declared.parsed.Parsed.{Parsed}
 use Rattle.csm_grammar.specs.Reading.{IsArrival}
+use Rattle.csm_grammar.specs.declared.refusal.ReadRefusal.TheVariants as reason
 use Rattle.csm_feed.specs.declared.unheard.Unheard.{Unheard}
+use Rattle.csm_feed.specs.declared.unheard.Unheard.TheVariants as unheard
 use Rattle.csm_feed.specs.Heard.{leading, behind, Heard, readings}
 use Rattle.csm_feed.specs.Laws.{OneHearing}
 use Rattle.x_disk.specs.Disk.{View}
@@ -18,7 +20,7 @@ use Rattle.x917.specs.Transfer.{Took, IsAtEnd, IsQuiet}
 use Rattle.x917.specs.Check.{taken, refusal_of}
 use Rattle.x917.specs.Dues.{IsDue, Follows, IsHeard, FollowsBytes}
 use Rattle.x917.specs.Obeys.{IsUnheard}
-use Rattle.x917.proofs.Decisions.{text_taken, not_full}
+use Rattle.x917.proofs.Decisions.{text_taken, not_full, refused_possible}
 
 -- ---- listening
 
@@ -53,8 +55,8 @@ module _ (before after : Option (List ℕ)) (text bytes : List ℕ) (took : Took
   unheard_in None u t e heard = tt
   unheard_in (Some all) u t e heard = subst (λ (b : List ℕ). Heard b (Err u)) (text_taken all text after t bound e) heard
 
-  pub unheard_was : (u : Unheard) (f : Refusal) → r ≡ Err u → f ≡ refusal_of u → IsUnheard before (status.Refused f)
-  unheard_was u f is k = inr (u, ap status.Refused k, unheard_in before u took end (of_text (Err u) is))
+  pub unheard_was : (u : Unheard) (f : Refusal) → r ≡ Err u → f ≡ refusal_of u → u ≢ unheard.Text reason.NoMemory → IsUnheard before (status.Refused f)
+  unheard_was u f is k some = inr (u, ap status.Refused k, refused_possible u some, unheard_in before u took end (of_text (Err u) is))
 
 -- ---- what follows of it
 
@@ -90,7 +92,7 @@ module _ (one : OneHearing) where
   follows_unheard None old moment s read reads is cause quiet = tt
   follows_unheard (Some all) old moment s read reads (inl (inl fault)) cause quiet = absurd (quiet (cause fault))
   follows_unheard (Some all) old moment s read reads (inl (inr memory)) cause quiet = record { unheard = λ u k. inr memory; heard = λ a k image o now due. inr memory }
-  follows_unheard (Some all) old moment s read reads (inr (u, is, h)) cause quiet = record {
+  follows_unheard (Some all) old moment s read reads (inr (u, is, possible, h)) cause quiet = record {
     unheard = λ v k. (let e : Err u ≡ Err v = same_heard (taken all) (Err u) (Err v) h k in let q : u ≡ v = cc in inl (is ∙ ap (λ (x : Unheard). status.Refused (refusal_of x)) q));
     heard = λ a k. heard_or_not all a u k h;
   }

@@ -126,7 +126,7 @@ module _ (moment : ℕ) (left before : Option (List ℕ)) (e : List ℕ → View
   }
 
   idle_told : (x : Option Told) → ObeysTold x moment e e status.NoMemory before before
-  idle_told None = tt
+  idle_told None = refl
   idle_told (Some t) = record { outcome = outcome.NoMemory; told = tt; safe = safe (e t.party) (Ordered t.command) (sound t.party); ends = (refl, refl) }
 
   pub idle : (o : Order) → Obeys o moment status.NoMemory left left before before e e

@@ -19,7 +19,7 @@ use Rattle.x_party.specs.declared.outcome.Outcome.{Outcome}
 use Rattle.x917.specs.declared.told.Told.{Told}
 use Rattle.x917.specs.declared.status.Status.{Status}
 use Rattle.x917.specs.declared.status.Status.TheVariants as status
-use Rattle.x917.specs.Check.{IsChecked, IsExact, taken, refusal_of}
+use Rattle.x917.specs.Check.{IsChecked, IsExact, IsPossible, taken, refusal_of}
 use Rattle.x917.specs.Ends.{Ends}
 use Rattle.x917.specs.Dues.{IsDue, IsDueBegin, IsDueShow, Follows, IsHeard, FollowsBytes}
 
@@ -58,7 +58,7 @@ pub record IsListed (old new : View) (s : Status) (before after : Option (List �
 -- no message arrived: the source failed, or no memory was left, or the bytes are refused
 abbrev pub IsUnheard : Option (List ℕ) → Status → Type 0
 IsUnheard left s = ((s ≡ status.ReadFault) ⊎ (s ≡ status.NoMemory))
-    ⊎ ((u : Unheard) × (s ≡ status.Refused (refusal_of u)) × IfSome left (λ all. Heard (taken all) (Err u)))
+    ⊎ ((u : Unheard) × (s ≡ status.Refused (refusal_of u)) × IsPossible (refusal_of u) × IfSome left (λ all. Heard (taken all) (Err u)))
 
 -- bytes arrived: no message was heard, and nothing was changed or written; or it was told to the party
 abbrev pub IsTaken : ℕ → Option (List ℕ) → Option (List ℕ) → View → View → Status → Option (List ℕ) → Option (List ℕ) → Type 0
@@ -67,9 +67,9 @@ IsTaken moment left rest old new s before after = (IsUnheard left s × (after �
 
 abbrev pub ObeysTold : Option Told → ℕ → (List ℕ → View) → (List ℕ → View) → Status → Option (List ℕ) → Option (List ℕ) → Type 0
 ObeysTold (Some t) moment old new s before after = IsCommand (Ordered t.command) moment (old t.party) (new t.party) s before after
-ObeysTold None moment old new s before after = Unit {0}
+ObeysTold None moment old new s before after = s ≡ status.NoMemory
 
--- what each order does; no command line gives one that isn't named here or tells a party nothing
+-- what each order does; no command line gives one of a command that isn't built, which is only ever out of memory
 abbrev pub Obeys : Order → ℕ → Status → Option (List ℕ) → Option (List ℕ) → Option (List ℕ) → Option (List ℕ) → (List ℕ → View) → (List ℕ → View) → Type 0
 Obeys order.Check moment s left rest before after old new = IsChecked s left rest before after
 Obeys (order.Init party role key v) moment s left rest before after old new =

@@ -9,6 +9,11 @@ returns-in-Show-clause-expects g c = λ read_quiet put_quiet disk_quiet.
     subst (λ (o : Order). Expects o c.args.moment (g.S.Source.left c.args.source.now) (g.H.Shelf.entry c.args.shelf.now) c.list.result) (sym c.in-Show.is)
     (c.list.ensures.follows put_quiet disk_quiet)
 
+pub returns-in-Take-clause-expects : goal.returns-in-Take-clause-expects
+returns-in-Take-clause-expects g c = λ read_quiet put_quiet disk_quiet.
+    subst (λ (o : Order). Expects o c.args.moment (g.S.Source.left c.args.source.now) (g.H.Shelf.entry c.args.shelf.now) c.take.result) (sym c.in-Take.is)
+    (c.take.ensures.follows read_quiet put_quiet disk_quiet)
+
 pub returns-in-Some : goal.returns-in-Some
 returns-in-Some g c =
     let i = c.in-Some.is in
