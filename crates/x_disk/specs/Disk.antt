@@ -80,6 +80,12 @@ pub record LeavesOnly (old new : View) (P : List ℕ → Type 0) : Type 0 where
   -- for a run that began earlier
   pub before : (t : ℕ) (c : List ℕ) → t ≤ old.moment → new.left_since t c → old.left_since t c ⊎ P c
 
+-- nothing was written: what a read gives is as it was, and a crash at any moment leaves what it could leave before
+pub record IsUntouched (old new : View) : Type 0 where
+  pub now : new.now ≡ old.now
+  pub images : LeavesNoMore old new
+  pub any_moment : LeavesOnly old new old.may_leave
+
 -- `Fault` comes only where the disk's faults rose, and a want of memory leaves all as it was
 pub record HasCause {T : Type 0} (old new : View) (result : Result T DiskErr) : Type 0 where
   pub later : old.faults ≤ new.faults

@@ -34,6 +34,10 @@ with_fuse fuse v = record {
   passes = passes_of fuse;
 }
 
+-- with a fuse the disk covers what it covered before, for as many calls as the fuse can count
+abbrev pub StillCovers : View → View → Type 0
+StillCovers old new = (end bytes calls : ℕ) → calls < 2 ^ 64 → old.covers end bytes calls → new.covers end bytes calls
+
 -- what a counted call makes of the fuse; the count of faults ends at 2 ^ 64 of them
 pub record IsCall (old new : Fuse) : Type 0 where
   pub passes : (n : ℕ) → old ≡ Passes (suc n) → new ≡ Passes n
@@ -45,6 +49,11 @@ abbrev pub is_last : Fuse → Bool
 is_last (Passes zero) = true
 is_last (Passes (suc n)) = false
 is_last (Blown n) = false
+
+-- a counted call has failed
+abbrev pub is_blown : Fuse → Bool
+is_blown (Passes n) = false
+is_blown (Blown n) = true
 
 -- what a counted call is answered before the disk is asked
 pub record IsBurnt (old new : Fuse) (result : Result Unit DiskErr) : Type 0 where

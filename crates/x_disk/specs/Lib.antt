@@ -1,5 +1,6 @@
 pub mod Disk
 pub mod Fuse
+pub mod FusedShelf
 pub mod History
 pub mod HistoryLaw
 pub mod Record

@@ -2,7 +2,7 @@
 use Rattle.std.specs.Prelude.{◌≡◌, ◌≢◌, ℕ, List, refl}
 use Rattle.x_disk.specs.Disk.{View}
 
--- one disk tells what the other does, but for faults and the calls that pass
+-- one disk tells what the other does, but for faults and the calls that pass; what the first covers, the other does
 pub record IsAlike (v w : View) : Type 0 where
   pub now : w.now ≡ v.now
   pub stable : w.stable ≡ v.stable

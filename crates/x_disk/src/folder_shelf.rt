@@ -37,6 +37,8 @@ impl<R: Files + Clone + Drop> Shelf for FolderShelf<R> {
 
     ghost has_slot = { λ s name. Unit {0} };
 
+    ghost is_back = { λ s name. Unit {0} };
+
     ghost faults = { λ s. s.faults };
 
     ghost sound = { λ s name. untold_sound 0 };

@@ -14,13 +14,19 @@ pub(crate) enum Fuse {
 
 impl Fuse {
     ghost use Rattle.std.specs.Prelude.{◌≡◌};
-    ghost use Rattle.x_disk.specs.Fuse.{is_last, IsBurnt};
+    ghost use Rattle.x_disk.specs.Fuse.{is_blown, is_last, IsBurnt};
 
     /// Whether the next counted call is the one that fails.
     fn is_last(&self) -> bool
         ensures { result ≡ is_last self.now }
     {
         matches!(self, Fuse::Passes(0))
+    }
+
+    fn is_blown(&self) -> bool
+        ensures { result ≡ is_blown self.now }
+    {
+        matches!(self, Fuse::Blown(_))
     }
 
     /// Counts a call, which is made where this answers `Ok`.
@@ -58,6 +64,10 @@ impl<D: Disk> Model for Fused<D> {
 }
 
 impl<D: Disk> Fused<D> {
+    ghost use Rattle.std.specs.Prelude.{◌≡◌};
+    ghost use Rattle.x_disk.specs.declared.fused.Fuse.{Fuse};
+    ghost use Rattle.x_disk.specs.Fuse.{is_blown};
+
     /// The disk with a fuse for so many calls. Takes no memory.
     pub fn new(disk: D, calls: u64) -> Fused<D>
         ensures disk { result.disk ≡ disk }
@@ -67,6 +77,13 @@ impl<D: Disk> Fused<D> {
             disk,
             fuse: Fuse::Passes(calls),
         }
+    }
+
+    /// Whether the fuse has answered in place of a call.
+    pub(crate) fn has_blown(&self) -> bool
+        ensures { result ≡ is_blown self.now.fuse }
+    {
+        self.fuse.is_blown()
     }
 
     /// The disk without its fuse.

@@ -66,6 +66,7 @@ fn take_out(slots: &mut Vec<Slot>, name: &Ident) -> Result<Option<TornDisk>, All
 // Puts a disk into its slot, which it makes where there is none.
 fn put_in(slots: &mut Vec<Slot>, name: &Ident, disk: TornDisk) -> Result<(), AllocError>
     ensures disk { OnOk result (disk_at slots.new.items name.now ≡ disk) }
+    ensures slot { OnOk result (HasSlot slots.new.items name.now) }
     ensures err { OnErr result (slots.new.items ≡ slots.old.items) }
     ensures kept { HasSlot slots.old.items name.now → disk_at slots.new.items name.now ≡ disk }
     ensures slots { SlotsStay (HasSlot slots.old.items) (HasSlot slots.new.items) }
@@ -87,6 +88,8 @@ impl Shelf for MemoryShelf {
     ghost entry = { λ s. entry_at s.slots.items };
 
     ghost has_slot = { λ s. HasSlot s.slots.items };
+
+    ghost is_back = { λ s name. HasSlot s.slots.items name };
 
     ghost faults = { λ s. 0 };
 

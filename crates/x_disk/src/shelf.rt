@@ -1,5 +1,5 @@
 // A shelf of disks, each under an identity.
-ghost use Rattle.std.specs.Prelude.{◌≡◌, ◌<◌, ◌≤◌, ℕ, List, IfOk, OnOk, OnErr, IsErrOf};
+ghost use Rattle.std.specs.Prelude.{◌≡◌, ◌<◌, ◌≤◌, ◌⊎◌, ℕ, List, IfOk, OnOk, OnErr, IsErrOf};
 ghost use Rattle.x_base.specs.Edge.{Rose};
 ghost use Rattle.x_disk.specs.Disk.{View, IsSound};
 ghost use Rattle.x_disk.specs.Shelf.{IsAlike, OthersStay, AllStay, SlotsStay};
@@ -16,6 +16,10 @@ pub trait Shelf: Drop {
 
     // the identities whose disk has a place on the shelf
     ghost has_slot: { Self → List ℕ → Type 0 };
+
+    // what a put back that answers `Ok` gives of an identity, and no other clause does: so a caller over any shelf
+    // has it of no disk whose put back failed
+    ghost is_back: { Self → List ℕ → Type 0 };
 
     ghost faults: { Self → ℕ };
 
@@ -34,7 +38,9 @@ pub trait Shelf: Drop {
     /// Puts the disk there, also after an error where a place is made. The shelf's faults rise where the disk has faults.
     fn put_back(&mut self, name: &Ident, disk: Self::Disk) -> Result<(), DiskErr>
         ensures disk { OnOk result (IsAlike (Self.Disk.told disk) (entry self.new name.now)) }
-        ensures err { OnErr result ((has_slot self.old name.now → ⊥) → IsAlike (entry self.old name.now) (entry self.new name.now)) }
+        ensures back { OnOk result (is_back self.new name.now) }
+        ensures err { OnErr result (IsAlike (entry self.old name.now) (entry self.new name.now) ⊎ IsAlike (Self.Disk.told disk) (entry self.new name.now)) }
+        ensures no_memory { IsErrOf result DiskErr.NoMemory → (has_slot self.old name.now → ⊥) → IsAlike (entry self.old name.now) (entry self.new name.now) }
         ensures kept { has_slot self.old name.now → IsAlike (Self.Disk.told disk) (entry self.new name.now) }
         ensures slots { SlotsStay (has_slot self.old) (has_slot self.new) }
         ensures others { OthersStay name.now (entry self.old) (entry self.new) }

@@ -1,4 +1,4 @@
-use crate::{Disk, DiskErr, FolderShelf, Fused, MemoryShelf, Shelf, TornDisk};
+use crate::{Disk, DiskErr, FolderShelf, Fused, FusedShelf, MemoryShelf, Shelf, TornDisk};
 use std::fs;
 use std::os::unix::fs::MetadataExt;
 use std::test::Fail;
@@ -79,6 +79,36 @@ fn a_shelf_in_memory_keeps_its_disks(rt: HostRuntime) -> Result<(), Fail> {
     assert_eq!(rt; fetched_anew(&mut shelf, &name)?, *b"\0\0abc");
     let mut disk = shelf.fetch(&Ident::read(b"BANKB")?)?;
     assert_eq!(rt; disk.length()?, 0);
+    Ok(())
+}
+
+#[test]
+fn a_shelf_and_its_disks_fail_after_so_many_calls(rt: HostRuntime) -> Result<(), Fail> {
+    let name = Ident::read(b"BANKA")?;
+    for (shelf_calls, disk_calls, answer) in [
+        (4, 2, Ok(*b"\0\0abc")),
+        (3, 2, Err(DiskErr::Fault)),
+        (4, 1, Err(DiskErr::Fault)),
+    ] {
+        let inner = MemoryShelf::new(rt.alloc());
+        let mut shelf = FusedShelf::new(inner, shelf_calls, disk_calls);
+        assert_eq!(rt; fetched_anew(&mut shelf, &name), answer);
+    }
+    Ok(())
+}
+
+#[test]
+fn a_put_back_that_fails_keeps_the_disk(rt: HostRuntime) -> Result<(), Fail> {
+    let name = Ident::read(b"BANKA")?;
+    let mut shelf = FusedShelf::new(MemoryShelf::new(rt.alloc()), 1, 1);
+    let mut disk = shelf.fetch(&name)?;
+    disk.write_at(0, b"abc")?;
+    assert_eq!(rt; disk.sync(), Err(DiskErr::Fault));
+    assert_eq!(rt; shelf.put_back(&name, disk), Err(DiskErr::Fault));
+    assert!(rt; shelf.fetch(&name).is_err());
+    let mut inner = shelf.into_inner();
+    let mut disk = inner.fetch(&name)?;
+    assert_eq!(rt; bytes_of(&mut disk)?, *b"abc");
     Ok(())
 }
 

@@ -1,0 +1,20 @@
+-- A shelf that fails after so many calls, and whose disks do (this project's profile).
+use Rattle.std.specs.Prelude.{ℕ, ◌+◌, List}
+use Rattle.x_disk.specs.Disk.{View}
+use Rattle.x_disk.specs.Fuse.{with_fuse}
+use Rattle.x_disk.specs.declared.fused.Fuse.TheVariants.{Passes}
+
+-- a shelf, the calls that it and each fetched disk still pass, and its own faults
+pub record WithCalls (H : Type 0) : Type 0 where
+  pub inner : H
+  pub shelf_calls : ℕ
+  pub disk_calls : ℕ
+  pub faults : ℕ
+
+-- what the disks of the shelf tell, each with a fuse that is whole
+abbrev pub fused_entry : {H : Type 0} → (H → List ℕ → View) → WithCalls H → List ℕ → View
+fused_entry entry s name = with_fuse (Passes s.disk_calls) (entry s.inner name)
+
+-- the faults of the shelf and its own
+abbrev pub all_faults : {H : Type 0} → (H → ℕ) → WithCalls H → ℕ
+all_faults faults s = faults s.inner + s.faults

@@ -1,0 +1,151 @@
+// A shelf that fails after so many calls, and whose disks do.
+ghost use Rattle.std.specs.Prelude.{◌≡◌};
+
+use crate::{DiskErr, Fused, Shelf};
+use std::marker::Model;
+use x_base::Ident;
+
+/// A shelf whose calls of fetch and put back pass as often as was said. Every later one is counted and answers `Fault`;
+/// a put back of these keeps the disk all the same, after a fetch that passed. Each disk has a fuse while it is taken
+/// out, and a fuse that has blown is counted as the disk is put back.
+#[derive(Drop)]
+pub struct FusedShelf<H: Shelf> {
+    inner: H,
+    shelf_calls: u64,
+    disk_calls: u64,
+    faults: u64,
+}
+
+impl<H: Shelf> Model for FusedShelf<H> {
+    ghost use Rattle.x_disk.specs.FusedShelf.{WithCalls};
+
+    ghost Value = { WithCalls H };
+
+    ghost view = { λ s. record { inner = s.inner; shelf_calls = s.shelf_calls; disk_calls = s.disk_calls; faults = s.faults } };
+}
+
+impl<H: Shelf> FusedShelf<H> {
+    ghost use Rattle.std.specs.Prelude.{◌≡◌, ◌-◌, ◌<◌, ◌≤◌, IsErrOf, OnOk};
+    ghost use Rattle.x_base.specs.Edge.{Rose};
+
+    /// The shelf with so many calls that pass, and so many of each disk that is fetched. Takes no memory.
+    pub fn new(inner: H, shelf_calls: u64, disk_calls: u64) -> FusedShelf<H>
+        ensures inner { result.inner ≡ inner }
+        ensures shelf_calls { result.shelf_calls ≡ shelf_calls }
+        ensures disk_calls { result.disk_calls ≡ disk_calls }
+        ensures faults { result.faults ≡ 0 }
+    {
+        FusedShelf {
+            inner,
+            shelf_calls,
+            disk_calls,
+            faults: 0,
+        }
+    }
+
+    /// The shelf without its fuses.
+    pub fn into_inner(self) -> H
+        ensures { result ≡ self.inner }
+    {
+        self.inner
+    }
+
+    // Counts a fault.
+    fn add_fault(&mut self)
+        ensures inner { self.new.inner ≡ self.old.inner }
+        ensures shelf_calls { self.new.shelf_calls ≡ self.old.shelf_calls }
+        ensures disk_calls { self.new.disk_calls ≡ self.old.disk_calls }
+        ensures later { self.old.faults ≤ self.new.faults }
+        ensures faults { Rose self.old.faults self.new.faults }
+    {
+        self.faults = self.faults.saturating_add(1);
+    }
+
+    // Counts a call, which fails where none passes any more.
+    fn pass(&mut self) -> Result<(), DiskErr>
+        ensures inner { self.new.inner ≡ self.old.inner }
+        ensures shelf_calls { self.new.shelf_calls ≡ self.old.shelf_calls - 1 }
+        ensures disk_calls { self.new.disk_calls ≡ self.old.disk_calls }
+        ensures passes { OnOk result ((0 < self.old.shelf_calls) × (self.new.faults ≡ self.old.faults)) }
+        ensures fails { IsErrOf result DiskErr.Fault → (self.old.shelf_calls ≡ 0) × Rose self.old.faults self.new.faults }
+        ensures later { self.old.faults ≤ self.new.faults }
+        ensures only { IsErrOf result DiskErr.NoMemory → ⊥ }
+    {
+        if self.shelf_calls == 0 {
+            self.add_fault();
+            return Err(DiskErr::Fault);
+        }
+        self.shelf_calls -= 1;
+        Ok(())
+    }
+}
+
+impl<H: Shelf> Shelf for FusedShelf<H> {
+    ghost use Rattle.std.specs.Prelude.{◌≡◌, ◌-◌, ◌<◌, ◌≤◌, ◌⊎◌, false, true, Some, IfOk, OnOk, OnErr, IsErrOf};
+    ghost use Rattle.x_base.specs.Edge.{Rose};
+    ghost use Rattle.x_disk.specs.declared.fused.Fuse.TheVariants.{Passes};
+    ghost use Rattle.x_disk.specs.Fuse.{with_fuse, fused_sound, is_blown};
+    ghost use Rattle.x_disk.specs.FusedShelf.{fused_entry, all_faults};
+    ghost use Rattle.x_disk.specs.Shelf.{IsAlike, OthersStay, AllStay, SlotsStay};
+
+    type Disk = Fused<H::Disk>;
+
+    ghost entry = { λ s. fused_entry H.entry s };
+
+    ghost has_slot = { λ s. H.has_slot s.inner };
+
+    ghost is_back = { λ s. H.is_back s.inner };
+
+    ghost faults = { λ s. all_faults H.faults s };
+
+    ghost sound = { λ s name. fused_sound (Passes s.disk_calls) (H.entry s.inner name) (H.sound s.inner name) };
+
+    fn fetch(&mut self, name: &Ident) -> Result<Fused<H::Disk>, DiskErr>
+        ensures disk { IfOk result (λ disk. IsAlike (fused_entry H.entry self.old name.now) (with_fuse disk.fuse (H.Disk.told disk.disk))) }
+        ensures fresh { IfOk result (λ disk. (with_fuse disk.fuse (H.Disk.told disk.disk)).faults ≡ 0) }
+        ensures slot { OnOk result (H.has_slot self.new.inner name.now) }
+        ensures slots { SlotsStay (H.has_slot self.old.inner) (H.has_slot self.new.inner) }
+        ensures others { OnOk result (OthersStay name.now (fused_entry H.entry self.old) (fused_entry H.entry self.new)) }
+        ensures err { OnErr result (AllStay (fused_entry H.entry self.old) (fused_entry H.entry self.new)) }
+        ensures later { all_faults H.faults self.old ≤ all_faults H.faults self.new }
+        ensures cause { IsErrOf result DiskErr.Fault → Rose (all_faults H.faults self.old) (all_faults H.faults self.new) }
+        ensures no_memory { IsErrOf result DiskErr.NoMemory → all_faults H.faults self.new ≡ all_faults H.faults self.old }
+        ensures passes { IfOk result (λ disk. (with_fuse disk.fuse (H.Disk.told disk.disk)).passes ≡ Some self.old.disk_calls) }
+        ensures inner { 0 < self.old.shelf_calls → IsErrOf result DiskErr.Fault → Rose (H.faults self.old.inner) (H.faults self.new.inner) }
+        ensures own { 0 < self.old.shelf_calls → self.new.faults ≡ self.old.faults }
+        ensures fails { self.old.shelf_calls ≡ 0 → IsErrOf result DiskErr.Fault × Rose self.old.faults self.new.faults × (self.new.inner ≡ self.old.inner) }
+        ensures shelf_calls { self.new.shelf_calls ≡ self.old.shelf_calls - 1 }
+        ensures disk_calls { self.new.disk_calls ≡ self.old.disk_calls }
+    {
+        self.pass()?;
+        let disk = self.inner.fetch(name)?;
+        Ok(Fused::new(disk, self.disk_calls))
+    }
+
+    fn put_back(&mut self, name: &Ident, disk: Fused<H::Disk>) -> Result<(), DiskErr>
+        ensures disk { OnOk result (IsAlike (with_fuse disk.fuse (H.Disk.told disk.disk)) (fused_entry H.entry self.new name.now)) }
+        ensures back { OnOk result (H.is_back self.new.inner name.now) }
+        ensures err { OnErr result (IsAlike (fused_entry H.entry self.old name.now) (fused_entry H.entry self.new name.now)
+            ⊎ IsAlike (with_fuse disk.fuse (H.Disk.told disk.disk)) (fused_entry H.entry self.new name.now)) }
+        ensures no_memory { IsErrOf result DiskErr.NoMemory → (H.has_slot self.old.inner name.now → ⊥)
+            → IsAlike (fused_entry H.entry self.old name.now) (fused_entry H.entry self.new name.now) }
+        ensures kept { H.has_slot self.old.inner name.now → IsAlike (with_fuse disk.fuse (H.Disk.told disk.disk)) (fused_entry H.entry self.new name.now) }
+        ensures slots { SlotsStay (H.has_slot self.old.inner) (H.has_slot self.new.inner) }
+        ensures others { OthersStay name.now (fused_entry H.entry self.old) (fused_entry H.entry self.new) }
+        ensures later { all_faults H.faults self.old ≤ all_faults H.faults self.new }
+        ensures seen { 0 < (with_fuse disk.fuse (H.Disk.told disk.disk)).faults → Rose (all_faults H.faults self.old) (all_faults H.faults self.new) }
+        ensures cause { IsErrOf result DiskErr.Fault → Rose (all_faults H.faults self.old) (all_faults H.faults self.new) }
+        ensures inner { 0 < self.old.shelf_calls → IsErrOf result DiskErr.Fault → Rose (H.faults self.old.inner) (H.faults self.new.inner) }
+        ensures own { 0 < self.old.shelf_calls → is_blown disk.fuse ≡ false → self.new.faults ≡ self.old.faults }
+        ensures blown { is_blown disk.fuse ≡ true → Rose self.old.faults self.new.faults }
+        ensures fails { self.old.shelf_calls ≡ 0 → IsErrOf result DiskErr.Fault × Rose self.old.faults self.new.faults }
+        ensures shelf_calls { self.new.shelf_calls ≡ self.old.shelf_calls - 1 }
+        ensures disk_calls { self.new.disk_calls ≡ self.old.disk_calls }
+    {
+        if disk.has_blown() {
+            self.add_fault();
+        }
+        let answer = self.inner.put_back(name, disk.into_inner());
+        self.pass().and(answer)
+    }
+}
