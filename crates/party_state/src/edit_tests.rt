@@ -135,6 +135,6 @@ ANSWER BANK-C BANKB 4
 fn the_generator_goes_on(rt: HostRuntime) {
     let alloc = rt.alloc();
     let state = begun(&rt, alloc, b"BANKA", Role::Bank);
-    let state = with(&rt, alloc, state, Edit::SetGen(6));
+    let state = with(&rt, state, Edit::SetGen(6));
     assert_eq!(rt; state.generator().v, 6);
 }

@@ -34,9 +34,9 @@ fn links_are_searched(rt: HostRuntime) {
 // Before the one that can be used stand a link with a centre and one that isn't ready.
 fn three_links(rt: &impl Abort, alloc: Global) -> State {
     let state = begun(rt, alloc, b"BANKA", Role::Bank);
-    let state = with(rt, alloc, state, link(rt, b"C", Side::Sends, 1, true));
-    let state = with(rt, alloc, state, link(rt, b"K1", Side::Sends, 2, false));
-    with(rt, alloc, state, link(rt, b"K2", Side::Sends, 3, true))
+    let state = with(rt, state, link(rt, b"C", Side::Sends, 1, true));
+    let state = with(rt, state, link(rt, b"K1", Side::Sends, 2, false));
+    with(rt, state, link(rt, b"K2", Side::Sends, 3, true))
 }
 
 #[test]

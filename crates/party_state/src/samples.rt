@@ -114,12 +114,12 @@ pub(crate) fn begun(rt: &impl Abort, alloc: Global, own: &[u8], role: Role) -> S
 }
 
 /// The state after one edit.
-pub(crate) fn with(rt: &impl Abort, alloc: Global, state: State, edit: Edit) -> State
+pub(crate) fn with(rt: &impl Abort, state: State, edit: Edit) -> State
     requires fitting { IsFitting edit }
     requires goes_on { IsNoBegin edit }
 {
     let mut state = state;
-    state.edit(alloc, edit).expect(rt, "memory");
+    state.edit(edit).expect(rt, "memory");
     state
 }
 
@@ -133,27 +133,27 @@ fn after(rt: &impl Abort, alloc: Global, state: &State, edit: Edit) -> State
     apply(alloc, state, &change).expect(rt, "memory")
 }
 
-fn with_links(rt: &impl Abort, alloc: Global, state: State) -> State {
+fn with_links(rt: &impl Abort, state: State) -> State {
     let sends = link(rt, b"K1", Side::Sends, 100_000_000_000_000, true);
-    let state = with(rt, alloc, state, sends);
+    let state = with(rt, state, sends);
     let takes = link(rt, b"K-2", Side::Takes, 7, false);
-    with(rt, alloc, state, takes)
+    with(rt, state, takes)
 }
 
-fn with_key(rt: &impl Abort, alloc: Global, state: State, name: &[u8], status: KeyStatus) -> State {
-    with(rt, alloc, state, key(rt, name, status))
+fn with_key(rt: &impl Abort, state: State, name: &[u8], status: KeyStatus) -> State {
+    with(rt, state, key(rt, name, status))
 }
 
-fn with_keys(rt: &impl Abort, alloc: Global, state: State) -> State {
-    let state = with_key(rt, alloc, state, b"BANKA.BANKA.K1.007", KeyStatus::Pending);
-    let state = with_key(rt, alloc, state, b"BANKA.BANKA.K1.8", KeyStatus::Live);
-    let state = with_key(rt, alloc, state, b"BANKB.BANKB.K-2.8", KeyStatus::Held);
-    let state = with_key(rt, alloc, state, b"BANKA.BANKA.K1.9", KeyStatus::Closing);
-    with_key(rt, alloc, state, b"CKDX.BANKA.C.10", KeyStatus::Ended)
+fn with_keys(rt: &impl Abort, state: State) -> State {
+    let state = with_key(rt, state, b"BANKA.BANKA.K1.007", KeyStatus::Pending);
+    let state = with_key(rt, state, b"BANKA.BANKA.K1.8", KeyStatus::Live);
+    let state = with_key(rt, state, b"BANKB.BANKB.K-2.8", KeyStatus::Held);
+    let state = with_key(rt, state, b"BANKA.BANKA.K1.9", KeyStatus::Closing);
+    with_key(rt, state, b"CKDX.BANKA.C.10", KeyStatus::Ended)
 }
 
 fn with_exchange(rt: &impl Abort, alloc: Global, state: State, peer: &[u8], kind: Kind) -> State {
-    with(rt, alloc, state, exchange(rt, alloc, peer, kind))
+    with(rt, state, exchange(rt, alloc, peer, kind))
 }
 
 fn with_exchanges(rt: &impl Abort, alloc: Global, state: State) -> State {
@@ -169,9 +169,9 @@ fn with_exchanges(rt: &impl Abort, alloc: Global, state: State) -> State {
     with_exchange(rt, alloc, state, b"BANKD", ending(rt, b"BANKA.BANKA.K1.9"))
 }
 
-fn with_answers(rt: &impl Abort, alloc: Global, state: State) -> State {
-    let state = with(rt, alloc, state, answer(rt, b"BANKB", b"BANK-C", b"3"));
-    with(rt, alloc, state, answer(rt, b"BANK-C", b"BANKB", b"4"))
+fn with_answers(rt: &impl Abort, state: State) -> State {
+    let state = with(rt, state, answer(rt, b"BANKB", b"BANK-C", b"3"));
+    with(rt, state, answer(rt, b"BANK-C", b"BANKB", b"4"))
 }
 
 /// Whether the state is shown in these lines.
@@ -196,12 +196,12 @@ pub(crate) fn shows_after(
 
 /// A bank of two links.
 pub(crate) fn linked(rt: &impl Abort, alloc: Global) -> State {
-    with_links(rt, alloc, begun(rt, alloc, b"BANKA", Role::Bank))
+    with_links(rt, begun(rt, alloc, b"BANKA", Role::Bank))
 }
 
 /// A bank of five keys.
 pub(crate) fn keyed(rt: &impl Abort, alloc: Global) -> State {
-    with_keys(rt, alloc, begun(rt, alloc, b"BANKA", Role::Bank))
+    with_keys(rt, begun(rt, alloc, b"BANKA", Role::Bank))
 }
 
 /// A bank that waits for four peers.
@@ -211,11 +211,11 @@ pub(crate) fn waiting(rt: &impl Abort, alloc: Global) -> State {
 
 /// A distribution centre that answered two requests.
 pub(crate) fn answered(rt: &impl Abort, alloc: Global) -> State {
-    with_answers(rt, alloc, begun(rt, alloc, b"CKDX", Role::Distribution))
+    with_answers(rt, begun(rt, alloc, b"CKDX", Role::Distribution))
 }
 
 /// A bank with rows of every kind.
 pub(crate) fn whole(rt: &impl Abort, alloc: Global) -> State {
-    let state = with_exchanges(rt, alloc, with_keys(rt, alloc, linked(rt, alloc)));
-    with_answers(rt, alloc, state)
+    let state = with_exchanges(rt, alloc, with_keys(rt, linked(rt, alloc)));
+    with_answers(rt, state)
 }

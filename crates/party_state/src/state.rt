@@ -42,7 +42,7 @@ impl State {
     }
 
     /// Does an edit in place. Where there is no memory for it, all stays as it was.
-    pub fn edit(&mut self, _: Global, edit: Edit) -> Result<(), NoMemory>
+    pub fn edit(&mut self, edit: Edit) -> Result<(), NoMemory>
         requires fitting { IsFitting edit }
         requires goes_on { IsNoBegin edit }
         ensures done { OnOk result (self.new ≡ apply_edit edit self.old) }
