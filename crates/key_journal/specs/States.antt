@@ -1,7 +1,7 @@
 -- What the states of a journal tell.
-use Rattle.std.specs.Prelude.{◌≡◌, ◌≢◌, ◌⊎◌, ℕ, ◌+◌, ◌-◌, ◌<◌, ◌≤◌, ◌==◌, if◌then◌else◌, List, [], ◌∷◌, ◌++◌, length, slice_index, true, Bool, Some, Result, IsErrOf}
+use Rattle.std.specs.Prelude.{◌≡◌, ◌≢◌, ◌⊎◌, ℕ, ◌+◌, ◌-◌, ◌<◌, ◌≤◌, ◌==◌, if◌then◌else◌, List, [], ◌∷◌, ◌++◌, length, slice_index, true, false, Bool, Some, Result, IsErrOf}
 use Rattle.x_base.specs.Edge.{Rose}
-use Rattle.x_disk.specs.Disk.{View, IsTornAt, IsDurable}
+use Rattle.x_disk.specs.Disk.{View, IsTornAt, IsDurable, IsUntouched}
 use Rattle.x_disk.specs.declared.disk.DiskErr.{DiskErr}
 use Rattle.x_disk.specs.declared.disk.DiskErr.TheVariants.{Fault}
 use Rattle.key_journal.specs.Journal.{frame_of, frames, start, is_blank, Holds, gate_place, IsBody, Stages, Begins}
@@ -90,6 +90,10 @@ HasRoom v gate end = (bodies : List (List ℕ)) → HasBodies v bodies → end �
 pub record IsShut (image : List ℕ) : Type 0 where
   pub some : 1 ≤ length image
   pub shut : slice_index image 0 ≢ 1
+
+-- where the image isn't blank, nothing is written
+abbrev pub SparesNonBlank : View → View → Type 0
+SparesNonBlank old new = (image : List ℕ) → old.now ≡ Some image → is_blank image ≡ false → IsUntouched old new
 
 -- every Blank
 pub record IsEmpty (v : View) : Type 0 where

@@ -1,11 +1,11 @@
 // Making a journal on a blank disk.
 ghost use Rattle.std.specs.Prelude.{◌≡◌, ◌≢◌, ◌⊎◌, ◌+◌, ◌≤◌, [], ◌∷◌, ◌++◌, List, ℕ, length, take, true, false, Some, is_some, OnOk, IfOk, IfErr};
 ghost use Rattle.x_base.specs.Edge.{Rose};
-ghost use Rattle.x_disk.specs.Disk.{IsDurable, Tells, LeavesOnly, LeavesNoMore, overwrite};
+ghost use Rattle.x_disk.specs.Disk.{IsDurable, Tells, LeavesOnly, overwrite};
 ghost use Rattle.key_journal.specs.Journal.{frame_of, is_blank, magic, IsBody};
 ghost use Rattle.key_journal.specs.Opening.{IsFree};
 ghost use Rattle.key_journal.specs.Results.{empty_disk};
-ghost use Rattle.key_journal.specs.States.{HasBodies, IsFrame, IsBlankOrFirst, FaultsRose, HasFaults, HasRoom};
+ghost use Rattle.key_journal.specs.States.{HasBodies, IsFrame, IsBlankOrFirst, SparesNonBlank, FaultsRose, HasFaults, HasRoom};
 
 use crate::header::look;
 use crate::put::put;
@@ -56,7 +56,7 @@ pub fn prepare<D: Disk>(disk: D) -> Result<Blank<D>, Unmade<D>>
     ensures blank { IfOk result (λ _. (b : List ℕ) → (D.told disk).now ≡ Some b → is_blank b ≡ true) }
     ensures exact { IfErr result (λ u. (b : List ℕ) → (D.told disk).now ≡ Some b → IsFree u.cause ⊎ ((u.cause ≡ Cause.NotEmpty) × (is_blank b ≡ false))) }
     ensures names { IfErr result (λ u. IsFree u.cause ⊎ (u.cause ≡ Cause.NotEmpty)) }
-    ensures kept { IfErr result (λ u. u.cause ≡ Cause.NotEmpty → ((D.told u.disk).now ≡ (D.told disk).now) × LeavesNoMore (D.told disk) (D.told u.disk)) }
+    ensures spared { SparesNonBlank (D.told disk) (D.told (empty_disk result)) }
     ensures durable { IfOk result (λ s. IsDurable (D.told s.disk)) }
     ensures closed { IfOk result (λ s. (b : List ℕ) → (D.told s.disk).now ≡ Some b → is_blank b ≡ true) }
 

@@ -1,6 +1,7 @@
 // A journal that takes frames: at rest, and with a frame that doesn't count yet.
 ghost use Rattle.std.specs.Prelude.{◌≡◌, ◌⊎◌, ◌+◌, ◌-◌, ◌<◌, ◌≤◌, [], ◌∷◌, ◌++◌, List, ℕ, suc, length, Some, None, is_some, IfOk, IfErr, IsErr, IsTrue, ◌↔◌};
 ghost use Rattle.x_disk.specs.Disk.{IsDurable, LeavesOnly, Tells, one_less};
+ghost use Rattle.x_disk.specs.Fuse.{StillCovers};
 ghost use Rattle.x_disk.specs.Shelf.{IsAlike};
 ghost use Rattle.key_journal.specs.Journal.{frame_of, Holds, IsBody};
 ghost use Rattle.key_journal.specs.States.{HasBodies, HasStaged, IsFrame, IsOldOrNew, IsOldOrAlone, FaultsRose, HasRoom, other_start};
@@ -80,6 +81,7 @@ impl<D: Disk> Ready<D> {
         ensures passes { (⟦<Fused<D> as Disk>⟧.told result.disk).passes ≡ Some calls }
         ensures disk { IsAlike (⟦<Fused<D> as Disk>⟧.told result.disk) (D.told self.disk) }
         ensures faults { (⟦<Fused<D> as Disk>⟧.told result.disk).faults ≡ (D.told self.disk).faults }
+        ensures covers { StillCovers (D.told self.disk) (⟦<Fused<D> as Disk>⟧.told result.disk) }
         ensures place { (result.gate ≡ self.gate) × (result.end ≡ self.end) }
     {
         let Ready { disk, gate, end } = self;
