@@ -79,10 +79,6 @@ pub free_cause : (d : DiskErr) → IsFree (cause_of d)
 free_cause disk.Fault = tt
 free_cause disk.NoMemory = tt
 
-pub never_filled : (d : DiskErr) → cause_of d ≡ cause.NotEmpty → ⊥
-never_filled disk.Fault is = cc is
-never_filled disk.NoMemory is = cc is
-
 pub fault_of : (d : DiskErr) → cause_of d ≡ cause.Fault → d ≡ disk.Fault
 fault_of disk.Fault is = refl
 fault_of disk.NoMemory is = absurd (cc is)

@@ -44,7 +44,7 @@ pub(crate) fn first_party(alloc: Global, body: &[u8]) -> Result<Option<State>, N
         return Ok(None);
     };
     let mut state = first_state(alloc, own, role, generator)?;
-    if follow(alloc, &mut state, edits)? {
+    if follow(&mut state, edits)? {
         Ok(Some(state))
     } else {
         Ok(None)
@@ -57,7 +57,7 @@ pub(crate) fn next_party(alloc: Global, state: &mut State, body: &[u8]) -> Resul
     ensures no { IfOk result (λ goes. goes ≡ false → (p : Party) → IsStep body.now state.old p → ⊥) }
 {
     match decoded(alloc, body)? {
-        Some(change) => follow(alloc, state, change.into_edits()),
+        Some(change) => follow(state, change.into_edits()),
         None => Ok(false),
     }
 }

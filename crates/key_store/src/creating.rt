@@ -1,10 +1,10 @@
 // Making a store on a blank disk.
 ghost use Rattle.std.specs.Prelude.{◌≡◌, ◌⊎◌, ◌+◌, ◌≤◌, ◌∷◌, [], true, false, List, ℕ, length, Some, IfOk, IfErr, is_some};
 ghost use Rattle.x_base.specs.Edge.{Rose};
-ghost use Rattle.x_disk.specs.Disk.{LeavesOnly, LeavesNoMore, Tells};
+ghost use Rattle.x_disk.specs.Disk.{LeavesOnly, Tells};
 ghost use Rattle.key_journal.specs.Journal.{frame_of, is_blank, IsBody};
 ghost use Rattle.key_journal.specs.Opening.{IsFree};
-ghost use Rattle.key_journal.specs.States.{IsFrame};
+ghost use Rattle.key_journal.specs.States.{IsFrame, SparesNonBlank};
 ghost use Rattle.party_state.specs.State.{begun};
 ghost use Rattle.party_state.specs.declared.edit.Edit.TheVariants.{Begin};
 ghost use Rattle.key_store.specs.Code.{code_of, IsCode};
@@ -53,7 +53,7 @@ impl<D: Disk> Store<D> {
         ensures blank { IfOk result (λ s. (b : List ℕ) → (D.told disk).now ≡ Some b → is_blank b ≡ true) }
         ensures exact { IfErr result (λ u. (b : List ℕ) → (D.told disk).now ≡ Some b → IsFree u.cause ⊎ ((u.cause ≡ Cause.NotEmpty) × (is_blank b ≡ false))) }
         ensures names { IfErr result (λ u. IsFree u.cause ⊎ (u.cause ≡ Cause.NotEmpty)) }
-        ensures kept { IfErr result (λ u. u.cause ≡ Cause.NotEmpty → ((D.told u.disk).now ≡ (D.told disk).now) × LeavesNoMore (D.told disk) (D.told u.disk)) }
+        ensures spared { SparesNonBlank (D.told disk) (D.told (store_disk result)) }
 
         // A crash at any moment leaves a blank image, one that stands for the party, or what it could leave before.
         ensures any_moment { Tells (D.told disk) → LeavesOnly (D.told disk) (D.told (store_disk result)) (λ c. IsBlankOrFirst (begun own role generator) c ⊎ (D.told disk).may_leave c) }

@@ -5,16 +5,11 @@ ghost use Rattle.party_state.specs.Ranges.{IsFitting, AreFitting, IsNoBegin};
 ghost use Rattle.party_state.specs.Limits.{IsWithinLimits};
 ghost use Rattle.key_store.specs.Store.{GoOn};
 
-use party_state::{Edit, State};
-use std::alloc::Global;
+use party_state::{Edit, MOST_KEYS, MOST_LINKS, State};
 use x_base::NoMemory;
 
-const MOST_LINKS: usize = 64;
-
-const MOST_KEYS: usize = 1024;
-
 /// Does an edit, and answers whether it may stand here.
-fn follow_one(alloc: Global, state: &mut State, edit: Edit) -> Result<bool, NoMemory>
+fn follow_one(state: &mut State, edit: Edit) -> Result<bool, NoMemory>
     requires { IsFitting edit }
     ensures yes { IfOk result (λ goes. goes ≡ true → IsNoBegin edit × IsWithinLimits (apply_edit edit state.old) × (state.new ≡ apply_edit edit state.old)) }
     ensures no { IfOk result (λ goes. goes ≡ false → IsNoBegin edit → IsWithinLimits (apply_edit edit state.old) → ⊥) }
@@ -22,18 +17,18 @@ fn follow_one(alloc: Global, state: &mut State, edit: Edit) -> Result<bool, NoMe
     if matches!(&edit, Edit::Begin { .. }) {
         return Ok(false);
     }
-    state.edit(alloc, edit)?;
+    state.edit(edit)?;
     Ok(state.link_count() <= MOST_LINKS && state.key_count() <= MOST_KEYS)
 }
 
 /// Does edits in their order, and answers whether they go on.
-pub(crate) fn follow(alloc: Global, state: &mut State, edits: Vec<Edit>) -> Result<bool, NoMemory>
+pub(crate) fn follow(state: &mut State, edits: Vec<Edit>) -> Result<bool, NoMemory>
     requires { AreFitting edits.items }
     ensures yes { IfOk result (λ goes. goes ≡ true → GoOn edits.items state.old × (state.new ≡ apply edits.items state.old)) }
     ensures no { IfOk result (λ goes. goes ≡ false → GoOn edits.items state.old → ⊥) }
 {
     for edit in edits {
-        if !follow_one(alloc, state, edit)? {
+        if !follow_one(state, edit)? {
             return Ok(false);
         }
     }

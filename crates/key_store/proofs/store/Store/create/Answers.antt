@@ -7,7 +7,7 @@ use Rattle.party_state.specs.declared.edit.Edit.TheVariants.{Begin}
 use Rattle.key_store.specs.Code.{code_of}
 use Rattle.key_store.specs.Store.{IsStore, IsBlankOrFirst}
 use Rattle.key_store.proofs.Keeping.{rose_later}
-use Rattle.key_store.proofs.Making.{begins_first, untouched, looked, laid, made, free_cause, never_filled, fault_of}
+use Rattle.key_store.proofs.Making.{begins_first, untouched, looked, laid, made, free_cause, fault_of}
 use Rattle.key_store.proofs.store.Store.create.Goals as goal
 
 pub returns-in_default-clause-any_moment : goal.returns-in_default-clause-any_moment
@@ -70,6 +70,3 @@ returns-in-Ok-create-clause-stands g c =
 
 pub returns-in-Err-create-clause-names : goal.returns-in-Err-create-clause-names
 returns-in-Err-create-clause-names g c = inl (subst IsFree (sym c.give_up.ensures.cause) (free_cause c.in-Err-create.broken.cause))
-
-pub returns-in-Err-create-clause-kept : goal.returns-in-Err-create-clause-kept
-returns-in-Err-create-clause-kept g c = λ is. absurd (never_filled c.in-Err-create.broken.cause (sym c.give_up.ensures.cause ∙ is))
