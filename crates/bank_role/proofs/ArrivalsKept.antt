@@ -28,28 +28,27 @@ use Rattle.bank_role.specs.Storable.{IsStorable, CanKeep}
 use Rattle.bank_role.specs.Standing.{LinkStands, KeyStands}
 use Rattle.bank_role.specs.Exchanges.{record_of, sent_by, sent_in, sent_to, ending_by, ending_in, ending_with, new_label, new_link_at, new_link}
 use Rattle.bank_role.specs.declared.ksm.Carried.{Carried}
-use Rattle.bank_role.specs.Ksm.{ksm_tests, ksm_under}
+use Rattle.bank_role.specs.Ksm.{arriving, ksm_tests, ksm_under}
 use Rattle.bank_role.specs.Rsm.{rsm, rsm_with, rsm_to, answer_to}
 use Rattle.bank_role.proofs.Found.{link_stands, key_stands}
-use Rattle.bank_role.specs.Tests.{has_key_room}
 use Rattle.bank_role.proofs.Keeping.{link_room, key_room}
-use Rattle.bank_role.proofs.Storable.{AreTame, storable}
+use Rattle.bank_role.proofs.Storable.{can_put_key, key_fits, AreKeepable, storable}
 
 -- few edits, which the store can keep
 pub record AreFew (p : Party) (es : List Edit) : Type 0 where
-  pub tame : AreTame p es
+  pub keepable : AreKeepable p es
   pub few : length es ≤ 9
 
 -- the change of a row can be kept where its edits fit whenever it is accepted
-pub row_kept : (p : Party) (r : Row) → (is_accept r.verdict ≡ true → AreTame p r.edits) → length r.edits ≤ 9 → CanKeep p (change_of p r)
-row_kept p r tame few = go (is_accept r.verdict) refl
+pub row_kept : (p : Party) (r : Row) → (is_accept r.verdict ≡ true → AreKeepable p r.edits) → length r.edits ≤ 9 → CanKeep p (change_of p r)
+row_kept p r keepable few = go (is_accept r.verdict) refl
   where
     some_kept : (es : List Edit) → IsStorable p es → CanKeep p (some_edits es)
     some_kept [] s = tt
     some_kept (e ∷ es) s = s
 
     go : (b : Bool) → is_accept r.verdict ≡ b → CanKeep p (cond b (some_edits (differing p r.edits)) None)
-    go true e = some_kept (differing p r.edits) (storable p r.edits (tame e) few)
+    go true e = some_kept (differing p r.edits) (storable p r.edits (keepable e) few)
     go false e = tt
 
 -- a decision that is a row's
@@ -85,16 +84,16 @@ sent_stands p peer s h = by_exchange (exchange_with peer p) h
 
 -- the response to a key
 rsm_to_kept : (p : Party) (a : Arrival) (m : Rsm) (o : Option Sent) → IsParty p → sent_to p m.originator ≡ o → CanKeep p (change_of p (rsm_to p a m o))
-rsm_to_kept p a m None w h = row_kept p (rsm_to p a m None) (λ _. record { each = tt; turns = refl }) (omega arith)
+rsm_to_kept p a m None w h = row_kept p (rsm_to p a m None) (λ _. record { each = tt; order = refl }) (omega arith)
 rsm_to_kept p a m (Some s) w h = by_link (new_link p m.originator s.way) refl
   where
-    key : has_key_room p (record_key s.key) ≡ true
+    key : can_put_key p (record_key s.key) ≡ true
     key = key_room p s.key (sent_stands p m.originator s h)
 
     by_link : (l : Option LinkRec) → new_link p m.originator s.way ≡ l → CanKeep p (change_of p (rsm_to p a m (Some s)))
-    by_link None e = row_kept p (rsm_to p a m (Some s)) (λ _. rw e (record { each = (key, (tt, tt)); turns = refl })) (rw e (omega arith))
+    by_link None e = row_kept p (rsm_to p a m (Some s)) (λ _. rw e (record { each = (key, (tt, tt)); order = refl })) (rw e (omega arith))
     by_link (Some l) e = let st : LinkStands p l = new_link_stands p m.originator s.way l w e in
-        row_kept p (rsm_to p a m (Some s)) (λ _. rw e (record { each = ((st.range.next, link_room p l st), (key, (tt, tt))); turns = refl })) (rw e (omega arith))
+        row_kept p (rsm_to p a m (Some s)) (λ _. rw e (record { each = ((st.range.next, link_room p l st), (key, (tt, tt))); order = refl })) (rw e (omega arith))
 
 ending_stands : (p : Party) (peer : List ℕ) (k : KeyRec) → ending_with p peer ≡ Some k → KeyStands p k
 ending_stands p peer k h = by_exchange (exchange_with peer p) h
@@ -111,8 +110,8 @@ ending_stands p peer k h = by_exchange (exchange_with peer p) h
 
 -- the response to the end of a key
 answer_to_kept : (p : Party) (a : Arrival) (m : Rsm) (name : KeyName) (o : Option KeyRec) → ending_with p m.originator ≡ o → CanKeep p (change_of p (answer_to p a m name o))
-answer_to_kept p a m name None h = row_kept p (answer_to p a m name None) (λ _. record { each = tt; turns = refl }) (omega arith)
-answer_to_kept p a m name (Some k) h = row_kept p (answer_to p a m name (Some k)) (λ _. record { each = (key_room p k (ending_stands p m.originator k h), (tt, tt)); turns = refl }) (omega arith)
+answer_to_kept p a m name None h = row_kept p (answer_to p a m name None) (λ _. record { each = tt; order = refl }) (omega arith)
+answer_to_kept p a m name (Some k) h = row_kept p (answer_to p a m name (Some k)) (λ _. record { each = (key_room p k (ending_stands p m.originator k h), (tt, tt)); order = refl }) (omega arith)
 
 pub rsm_kept : (p : Party) (a : Arrival) (m : Rsm) (made : Result Decision NoMemory) → IsParty p → IfOk made (λ d. d ≡ decision_of p (rsm p a m)) → IfOk made (λ d. CanKeep p d.change)
 rsm_kept p a m made w e = made_kept p (rsm p a m) made (by_name m.idd) e
@@ -126,10 +125,10 @@ one_more : (n most : ℕ) → n ≤ most → n + 1 ≤ most + 1
 one_more n most h = omega arith
 
 pub ksm_kept : (p : Party) (a : Arrival) (m : Ksm) (c : Carried) (l : LinkRec) (made : Result Decision NoMemory) → LinkStands p l → IsCount c.ctp → IfOk made (λ d. d ≡ decision_of p (ksm_under p a m c (Some l))) → IfOk made (λ d. CanKeep p d.change)
-ksm_kept p a m c l made st i e = made_kept p (ksm_under p a m c (Some l)) made (row_kept p (ksm_under p a m c (Some l)) tame (omega arith)) e
+ksm_kept p a m c l made st i e = made_kept p (ksm_under p a m c (Some l)) made (row_kept p (ksm_under p a m c (Some l)) keepable (omega arith)) e
   where
     next : IsNext (c.ctp + 1)
     next = record { low = omega arith; high = one_more c.ctp 99999999999999 i.high }
 
-    tame : is_accept (ksm_under p a m c (Some l)).verdict ≡ true → AreTame p (ksm_under p a m c (Some l)).edits
-    tame t = let h : AllHeld (ksm_tests p a m c l) = held (ksm_tests p a m c l) refl t in record { each = ((next, link_room p l st), (h.1.1.1.1.1.1.0, tt)); turns = refl }
+    keepable : is_accept (ksm_under p a m c (Some l)).verdict ≡ true → AreKeepable p (ksm_under p a m c (Some l)).edits
+    keepable t = let h : AllHeld (ksm_tests p a m c l) = held (ksm_tests p a m c l) refl t in record { each = ((next, link_room p l st), (key_fits p (record { peer = m.originator; name = (arriving p l c.ctp).name }) h.1.1.1.1.1.1.0, tt)); order = refl }

@@ -13,7 +13,7 @@ use Rattle.bank_role.specs.Deciding.{decision_of, accepting, refusal_of}
 use Rattle.bank_role.specs.Errors.{answering}
 use Rattle.bank_role.specs.Replies.{AreWritten}
 use Rattle.bank_role.specs.Storable.{CanKeep}
-use Rattle.bank_role.proofs.Storable.{AreTame}
+use Rattle.bank_role.proofs.Storable.{AreKeepable}
 use Rattle.bank_role.proofs.ByRow.{by_accepted, by_answered}
 use Rattle.bank_role.proofs.Keeping.{accepted_kept}
 
@@ -29,7 +29,7 @@ pub accepts : (result : Result Decision NoMemory) (p : Party) (es fs : List Edit
 accepts (Ok d) p es fs w r h e a = h r a ∙ ap (λ (xs : List Edit). accepting p xs r) e
 accepts (Err x) p es fs w r h e a = _
 
-pub keeps : (result : Result Decision NoMemory) (p : Party) (es fs : List Edit) (w : Option Written) (r : Option Reply) → Accepts result p es w → es ≡ fs → AreWritten w r → AreTame p fs → length fs ≤ 9 → IfOk result (λ d. CanKeep p d.change)
+pub keeps : (result : Result Decision NoMemory) (p : Party) (es fs : List Edit) (w : Option Written) (r : Option Reply) → Accepts result p es w → es ≡ fs → AreWritten w r → AreKeepable p fs → length fs ≤ 9 → IfOk result (λ d. CanKeep p d.change)
 keeps (Ok d) p es fs w r h e a t few = let i : d ≡ accepting p fs r = h r a ∙ ap (λ (xs : List Edit). accepting p xs r) e in rw i (accepted_kept p fs r t few)
 keeps (Err x) p es fs w r h e a t few = _
 

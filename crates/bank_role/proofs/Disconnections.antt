@@ -14,7 +14,7 @@ use Rattle.party_state.specs.Rows.{Reply, Coded}
 use Rattle.bank_role.specs.Deciding.{decision_of, refusal_of, accepting}
 use Rattle.bank_role.specs.Replies.{AreWritten, IsWritten}
 use Rattle.bank_role.specs.declared.texts.Written.{Written}
-use Rattle.bank_role.specs.Ksm.{lead_under}
+use Rattle.bank_role.specs.Texts.{lead_under}
 use Rattle.bank_role.proofs.ByRow.{by_answered, by_accept_with}
 use Rattle.csm_grammar.specs.declared.message.Dsm.{Dsm}
 use Rattle.bank_role.specs.declared.dsm.Named.{Named}

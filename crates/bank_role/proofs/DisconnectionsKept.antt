@@ -14,7 +14,6 @@ use Rattle.party_state.specs.declared.edit.Edit.{Edit}
 use Rattle.party_state.specs.declared.edit.Edit.TheVariants.{PutKey, DropExchange}
 use Rattle.party_state.specs.Keys.{record_key, same_name}
 use Rattle.party_state.specs.State.{Party, exchange_with, is_ended}
-use Rattle.bank_role.specs.Tests.{has_key_room}
 use Rattle.bank_role.specs.Deciding.{decision_of}
 use Rattle.bank_role.specs.Storable.{CanKeep}
 use Rattle.bank_role.specs.Standing.{KeyStands}
@@ -22,6 +21,7 @@ use Rattle.bank_role.specs.Exchanges.{record_of, new_link, dropped}
 use Rattle.bank_role.specs.declared.dsm.Named.{Named}
 use Rattle.bank_role.specs.Dsm.{paired, closing_name, named_by, left_by, left_in, disconnected, dsm_on}
 use Rattle.bank_role.proofs.Found.{key_stands}
+use Rattle.bank_role.proofs.Storable.{can_put_key}
 use Rattle.bank_role.proofs.Keeping.{key_room}
 use Rattle.bank_role.proofs.ArrivalsKept.{AreFew, row_kept, made_kept}
 
@@ -41,15 +41,15 @@ with_key k gone = gone.0 ++ (PutKey (record k { status = Ended }) ∷ gone.1)
 disconnected_few : (p : Party) (peer : List ℕ) (k : KeyRec) → KeyStands p k → AreFew p (disconnected p peer k)
 disconnected_few p peer k st = by_status (is_ended k.status) (by_exchange (exchange_with peer p))
   where
-    room : has_key_room p (record_key k) ≡ true
+    room : can_put_key p (record_key k) ≡ true
     room = key_room p k st
 
     nothing : AreFew p (with_key k ([], []))
-    nothing = record { tame = record { each = (room, tt); turns = refl }; few = lit≤ tt }
+    nothing = record { keepable = record { each = (room, tt); order = refl }; few = lit≤ tt }
 
     by_link : (l : Option LinkRec) → AreFew p (with_key k (dropped l, DropExchange peer ∷ []))
-    by_link None = record { tame = record { each = (room, (tt, tt)); turns = refl }; few = lit≤ tt }
-    by_link (Some l) = record { tame = record { each = (tt, (room, (tt, tt))); turns = refl }; few = lit≤ tt }
+    by_link None = record { keepable = record { each = (room, (tt, tt)); order = refl }; few = lit≤ tt }
+    by_link (Some l) = record { keepable = record { each = (tt, (room, (tt, tt))); order = refl }; few = lit≤ tt }
 
     by_name : (b : Bool) (l : Option LinkRec) → AreFew p (with_key k (cond b (dropped l, DropExchange peer ∷ []) ([], [])))
     by_name true l = by_link l
@@ -66,11 +66,11 @@ disconnected_few p peer k st = by_status (is_ended k.status) (by_exchange (excha
     by_exchange (Some e) = by_kind e.kind
 
     by_status : (b : Bool) → AreFew p (with_key k (left_in p peer k.name (exchange_with peer p))) → AreFew p (cond b [] (with_key k (left_in p peer k.name (exchange_with peer p))))
-    by_status true f = record { tame = record { each = tt; turns = refl }; few = lit≤ tt }
+    by_status true f = record { keepable = record { each = tt; order = refl }; few = lit≤ tt }
     by_status false f = f
 
 pub dsm_kept : (p : Party) (a : Arrival) (m : Dsm) (o : Option Named) (made : Result Decision NoMemory) → o ≡ named_by p m → IfOk made (λ d. d ≡ decision_of p (dsm_on p a m o)) → IfOk made (λ d. CanKeep p d.change)
-dsm_kept p a m None made h e = made_kept p (dsm_on p a m None) made (row_kept p (dsm_on p a m None) (λ _. record { each = tt; turns = refl }) (lit≤ tt)) e
+dsm_kept p a m None made h e = made_kept p (dsm_on p a m None) made (row_kept p (dsm_on p a m None) (λ _. record { each = tt; order = refl }) (lit≤ tt)) e
 dsm_kept p a m (Some n) made h e =
     let f : AreFew p (disconnected p m.originator n.key) = disconnected_few p m.originator n.key (named_stands p m n (sym h)) in
-    made_kept p (dsm_on p a m (Some n)) made (row_kept p (dsm_on p a m (Some n)) (λ _. f.tame) f.few) e
+    made_kept p (dsm_on p a m (Some n)) made (row_kept p (dsm_on p a m (Some n)) (λ _. f.keepable) f.few) e

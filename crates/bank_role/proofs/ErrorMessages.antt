@@ -13,7 +13,7 @@ use Rattle.party_state.specs.Verdicts.{verdict_of, is_accept}
 use Rattle.party_state.specs.Rows.{Reply}
 use Rattle.bank_role.specs.Deciding.{decision_of, refusal_of, accepting}
 use Rattle.bank_role.specs.Replies.{AreWritten}
-use Rattle.bank_role.specs.Ksm.{lead_under}
+use Rattle.bank_role.specs.Texts.{lead_under}
 use Rattle.bank_role.proofs.ByRow.{by_answered, by_accept}
 use Rattle.csm_grammar.specs.declared.message.Esm.{Esm}
 use Rattle.bank_role.specs.declared.esm.Subject.{Subject}

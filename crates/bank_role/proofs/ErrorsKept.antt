@@ -22,7 +22,6 @@ use Rattle.party_state.specs.Keys.{link_key, same_link, record_key, sends}
 use Rattle.party_state.specs.Ranges.{IsLink, IsNext, IsParty}
 use Rattle.party_state.specs.State.{Party, centre_label, link_with, exchange_with}
 use Rattle.party_state.proofs.Each.{find_all}
-use Rattle.bank_role.specs.Tests.{has_key_room}
 use Rattle.bank_role.specs.Texts.{is_plain}
 use Rattle.bank_role.specs.Deciding.{change_of, decision_of}
 use Rattle.bank_role.specs.Storable.{CanKeep}
@@ -34,7 +33,7 @@ use Rattle.bank_role.specs.Exchanges.{record_of, new_link, dropped}
 use Rattle.bank_role.specs.Esm.{subject_by, subject_in, subject_with, way_link, subject_link, raised, subject_ended, esm_of, plain_esm, esm}
 use Rattle.bank_role.proofs.Found.{link_stands, key_stands}
 use Rattle.bank_role.proofs.Keeping.{link_room, key_room}
-use Rattle.bank_role.proofs.Storable.{AreTame, puts_link}
+use Rattle.bank_role.proofs.Storable.{can_put_key, AreKeepable, puts_link}
 use Rattle.bank_role.proofs.ArrivalsKept.{AreFew, row_kept, made_kept}
 
 -- the record of a key that an error message speaks of stands
@@ -90,38 +89,38 @@ greater_next n ctr i c = record { low = above n ctr i.low; high = below n ctr 99
     below : (n ctr most : ℕ) → n ≤ most + 1 → ctr ≤ most → max n ctr ≤ most + 1
     below n ctr most a b = omega arith
 
-raised_few : (p : Party) (l : Option LinkRec) (c : Option ℕ) (rest : List Edit) → IfSome l (LinkStands p) → IfSome c IsCount → AreTame p rest → list_any puts_link rest ≡ false → length rest ≤ 8 → AreFew p (raised l c ++ rest)
-raised_few p None c rest st i t n few = record { tame = t; few = omega arith }
-raised_few p (Some l) None rest st i t n few = record { tame = t; few = omega arith }
+raised_few : (p : Party) (l : Option LinkRec) (c : Option ℕ) (rest : List Edit) → IfSome l (LinkStands p) → IfSome c IsCount → AreKeepable p rest → list_any puts_link rest ≡ false → length rest ≤ 8 → AreFew p (raised l c ++ rest)
+raised_few p None c rest st i t n few = record { keepable = t; few = omega arith }
+raised_few p (Some l) None rest st i t n few = record { keepable = t; few = omega arith }
 raised_few p (Some l) (Some c) rest st i t n few = record {
-  tame = record { each = ((greater_next l.next c st.range.next i, link_room p l st), t.each); turns = rw n t.turns };
+  keepable = record { each = ((greater_next l.next c st.range.next i, link_room p l st), t.each); order = rw n t.order };
   few = omega arith;
 }
 
 -- an error message with an authentication code
 about_kept : (p : Party) (a : Arrival) (m : Esm) (o : Option Subject) → IsParty p → IfSome m.ctr IsCount → subject_with p m.originator ≡ o → CanKeep p (change_of p (esm_of p a m o))
-about_kept p a m None w i h = row_kept p (esm_of p a m None) (λ _. record { each = tt; turns = refl }) (lit≤ tt)
+about_kept p a m None w i h = row_kept p (esm_of p a m None) (λ _. record { each = tt; order = refl }) (lit≤ tt)
 about_kept p a m (Some s) w i h = kept (by_subject s (subject_stands p m.originator s h))
   where
     kept : AreFew p (esm_of p a m (Some s)).edits → CanKeep p (change_of p (esm_of p a m (Some s)))
-    kept f = row_kept p (esm_of p a m (Some s)) (λ _. f.tame) f.few
+    kept f = row_kept p (esm_of p a m (Some s)) (λ _. f.keepable) f.few
 
-    raised_with : (x : Subject) (rest : List Edit) → AreTame p rest → list_any puts_link rest ≡ false → length rest ≤ 8 → AreFew p (raised (subject_link p m.originator x) m.ctr ++ rest)
+    raised_with : (x : Subject) (rest : List Edit) → AreKeepable p rest → list_any puts_link rest ≡ false → length rest ≤ 8 → AreFew p (raised (subject_link p m.originator x) m.ctr ++ rest)
     raised_with x rest t n few = raised_few p (subject_link p m.originator x) m.ctr rest (told_stands p m.originator x w) i t n few
 
-    by_link : (x : Sent) (l : Option LinkRec) → has_key_room p (record_key x.key) ≡ true → AreFew p (raised (subject_link p m.originator (SentKey x)) m.ctr ++ ((dropped l ++ PutKey (record x.key { status = Ended }) ∷ []) ++ DropExchange m.originator ∷ []))
-    by_link x None room = raised_with (SentKey x) _ (record { each = (room, (tt, tt)); turns = refl }) refl (lit≤ tt)
-    by_link x (Some l) room = raised_with (SentKey x) _ (record { each = (tt, (room, (tt, tt))); turns = refl }) refl (lit≤ tt)
+    by_link : (x : Sent) (l : Option LinkRec) → can_put_key p (record_key x.key) ≡ true → AreFew p (raised (subject_link p m.originator (SentKey x)) m.ctr ++ ((dropped l ++ PutKey (record x.key { status = Ended }) ∷ []) ++ DropExchange m.originator ∷ []))
+    by_link x None room = raised_with (SentKey x) _ (record { each = (room, (tt, tt)); order = refl }) refl (lit≤ tt)
+    by_link x (Some l) room = raised_with (SentKey x) _ (record { each = (tt, (room, (tt, tt))); order = refl }) refl (lit≤ tt)
 
     by_subject : (x : Subject) → SubjectStands p x → AreFew p (raised (subject_link p m.originator x) m.ctr ++ (subject_ended p m.originator x ++ DropExchange m.originator ∷ []))
     by_subject (SentKey x) st = by_link x (new_link p m.originator x.way) (key_room p x.key st)
-    by_subject (Translated value cta) st = raised_with (Translated value cta) _ (record { each = (tt, tt); turns = refl }) refl (lit≤ tt)
+    by_subject (Translated value cta) st = raised_with (Translated value cta) _ (record { each = (tt, tt); order = refl }) refl (lit≤ tt)
 
 pub esm_kept : (p : Party) (a : Arrival) (m : Esm) (made : Result Decision NoMemory) → IsParty p → IfSome m.ctr IsCount → IfOk made (λ d. d ≡ decision_of p (esm p a m)) → IfOk made (λ d. CanKeep p d.change)
 esm_kept p a m made w i e = made_kept p (esm p a m) made (by_closing (is_plain a.parsed.shut) (about_kept p a m (subject_with p m.originator) w i refl)) e
   where
     plain : CanKeep p (change_of p (plain_esm p a m))
-    plain = row_kept p (plain_esm p a m) (λ _. record { each = tt; turns = refl }) (lit≤ tt)
+    plain = row_kept p (plain_esm p a m) (λ _. record { each = tt; order = refl }) (lit≤ tt)
 
     by_closing : (b : Bool) → CanKeep p (change_of p (esm_of p a m (subject_with p m.originator))) → CanKeep p (change_of p (cond b (plain_esm p a m) (esm_of p a m (subject_with p m.originator))))
     by_closing true k = plain

@@ -1,7 +1,9 @@
 -- The changes of the commands can be kept.
-use Rattle.std.proofs.Common.{◌≡◌, ℕ, ◌+◌, ◌≤◌, true, Option, Some, None, List, [], ◌∷◌, ◌++◌, length, refl, arith, lit≤}
+use Rattle.std.proofs.Common.{◌≡◌, ℕ, ◌+◌, ◌≤◌, true, Option, Some, None, Result, Ok, Err, IfOk, List, [], ◌∷◌, ◌++◌, length, refl, arith, lit≤}
 use Rattle.std.specs.Prelude.{IfSome}
 use Rattle.x_base.specs.Count.{IsCount}
+use Rattle.x_base.specs.declared.text.NoMemory.{NoMemory}
+use Rattle.party_state.specs.declared.decision.Decision.{Decision}
 use Rattle.party_state.specs.declared.link.LinkRec.{LinkRec}
 use Rattle.party_state.specs.declared.key.KeyRec.{KeyRec}
 use Rattle.party_state.specs.declared.exchange.Exchange.{Exchange}
@@ -11,7 +13,7 @@ use Rattle.party_state.specs.declared.key.KeyStatus.TheVariants.{Closing}
 use Rattle.party_state.specs.declared.exchange.Kind.{Kind}
 use Rattle.party_state.specs.declared.exchange.Kind.TheVariants as kind
 use Rattle.x_base.specs.declared.key_name.KeyName.{KeyName}
-use Rattle.party_state.specs.State.{Party}
+use Rattle.party_state.specs.State.{Party, exchange_with}
 use Rattle.party_state.specs.Keys.{record_key, link_key}
 use Rattle.party_state.specs.Rows.{Reply}
 use Rattle.party_state.specs.Verdicts.{verdict_of, is_accept, Held}
@@ -24,62 +26,63 @@ use Rattle.bank_role.specs.Tests.{has_key_room, has_link_room}
 use Rattle.bank_role.specs.Differing.{differing}
 use Rattle.bank_role.specs.Exchanges.{record_of, new_link, dropped}
 use Rattle.bank_role.specs.GivingUp.{ended, given_up, given_up_in}
-use Rattle.bank_role.specs.Deciding.{some_edits, accepting}
+use Rattle.bank_role.specs.Deciding.{some_edits, accepting, change_of, decision_of}
+use Rattle.bank_role.specs.Resend.{resend_of, resend}
 use Rattle.bank_role.specs.Storable.{IsStorable, CanKeep}
 use Rattle.bank_role.specs.Standing.{LinkStands, KeyStands}
-use Rattle.bank_role.proofs.Storable.{AreTame, storable}
+use Rattle.bank_role.proofs.Storable.{can_put_link, can_put_key, link_fits, key_fits, AreKeepable, storable}
 use Rattle.bank_role.proofs.Found.{key_stands}
 
-pub accepted_kept : (p : Party) (es : List Edit) (r : Option Reply) → AreTame p es → length es ≤ 9 → CanKeep p (accepting p es r).change
+pub accepted_kept : (p : Party) (es : List Edit) (r : Option Reply) → AreKeepable p es → length es ≤ 9 → CanKeep p (accepting p es r).change
 accepted_kept p es r t few = go (differing p es) (storable p es t few)
   where
     go : (ds : List Edit) → IsStorable p ds → IfSome (some_edits ds) (IsStorable p)
     go [] h = _
     go (d ∷ ds) h = h
 
-pub link_room : (p : Party) (l : LinkRec) → LinkStands p l → has_link_room p (link_key l) ≡ true
+pub link_room : (p : Party) (l : LinkRec) → LinkStands p l → can_put_link p (link_key l) ≡ true
 link_room p l s = let e = s.found in rw e refl
 
-pub key_room : (p : Party) (k : KeyRec) → KeyStands p k → has_key_room p (record_key k) ≡ true
+pub key_room : (p : Party) (k : KeyRec) → KeyStands p k → can_put_key p (record_key k) ≡ true
 key_room p k s = rw s refl
 
 -- a key that is sent
-pub sent_tame : (p : Party) (l : LinkRec) (k : KeyRec) (e : Exchange) (v n : ℕ) → LinkStands p l → IsCount l.next → n ≡ l.next → has_key_room p (record_key k) ≡ true → length e.text ≤ 1024
-    → AreTame p (SetGen v ∷ PutLink (record l { next = n + 1 }) ∷ PutKey k ∷ PutExchange e ∷ [])
-sent_tame p l k e v n s c i room short =
+pub sent_keepable : (p : Party) (l : LinkRec) (k : KeyRec) (e : Exchange) (v n : ℕ) → LinkStands p l → IsCount l.next → n ≡ l.next → has_key_room p (record_key k) ≡ true → length e.text ≤ 1024
+    → AreKeepable p (SetGen v ∷ PutLink (record l { next = n + 1 }) ∷ PutKey k ∷ PutExchange e ∷ [])
+sent_keepable p l k e v n s c i room short =
     let low = c.low in
     let high = c.high in
     record {
-      each = (tt, ((record { low = omega (arith, low, i); high = omega (arith, high, i) }, link_room p l s), (room, (short, tt))));
-      turns = refl;
+      each = (tt, ((record { low = omega (arith, low, i); high = omega (arith, high, i) }, link_room p l s), (key_fits p (record_key k) room, (short, tt))));
+      order = refl;
     }
 
 -- a link that is loaded
-pub loaded_tame : (p : Party) (l : LinkRec) → l.next ≡ 1 → has_link_room p (link_key l) ≡ true → AreTame p (PutLink l ∷ [])
-loaded_tame p l n room = record {
-  each = ((record { low = omega (arith, n); high = omega (arith, n) }, room), tt);
-  turns = refl;
+pub loaded_keepable : (p : Party) (l : LinkRec) → l.next ≡ 1 → has_link_room p (link_key l) ≡ true → AreKeepable p (PutLink l ∷ [])
+loaded_keepable p l n room = record {
+  each = ((record { low = omega (arith, n); high = omega (arith, n) }, link_fits p (link_key l) room), tt);
+  order = refl;
 }
 
 -- a key that is being closed
-pub ended_tame : (p : Party) (k : KeyRec) (e : Exchange) → KeyStands p k → length e.text ≤ 1024 → AreTame p (PutKey (record k { status = Closing }) ∷ PutExchange e ∷ [])
-ended_tame p k e s short = record { each = (key_room p k s, (short, tt)); turns = refl }
+pub ended_keepable : (p : Party) (k : KeyRec) (e : Exchange) → KeyStands p k → length e.text ≤ 1024 → AreKeepable p (PutKey (record k { status = Closing }) ∷ PutExchange e ∷ [])
+ended_keepable p k e s short = record { each = (key_room p k s, (short, tt)); order = refl }
 
 -- an exchange that is given up
-pub given_up_tame : (p : Party) (peer : List ℕ) (e : Exchange) → AreTame p (given_up_in p peer (Some e))
-given_up_tame p peer e = by_kind e.kind
+pub given_up_keepable : (p : Party) (peer : List ℕ) (e : Exchange) → AreKeepable p (given_up_in p peer (Some e))
+given_up_keepable p peer e = by_kind e.kind
   where
-    by_record : (l : Option LinkRec) (name : KeyName) (o : Option KeyRec) → record_of p peer name ≡ o → AreTame p (dropped l ++ ended o ++ DropExchange peer ∷ [])
-    by_record None name None h = record { each = (tt, tt); turns = refl }
-    by_record (Some l) name None h = record { each = (tt, (tt, tt)); turns = refl }
-    by_record None name (Some k) h = record { each = (key_room p k (key_stands p (record { peer = peer; name = name }) k h), (tt, tt)); turns = refl }
-    by_record (Some l) name (Some k) h = record { each = (tt, (key_room p k (key_stands p (record { peer = peer; name = name }) k h), (tt, tt))); turns = refl }
+    by_record : (l : Option LinkRec) (name : KeyName) (o : Option KeyRec) → record_of p peer name ≡ o → AreKeepable p (dropped l ++ ended o ++ DropExchange peer ∷ [])
+    by_record None name None h = record { each = (tt, tt); order = refl }
+    by_record (Some l) name None h = record { each = (tt, (tt, tt)); order = refl }
+    by_record None name (Some k) h = record { each = (key_room p k (key_stands p (record { peer = peer; name = name }) k h), (tt, tt)); order = refl }
+    by_record (Some l) name (Some k) h = record { each = (tt, (key_room p k (key_stands p (record { peer = peer; name = name }) k h), (tt, tt))); order = refl }
 
-    by_kind : (k : Kind) → AreTame p (given_up p peer k ++ DropExchange peer ∷ [])
+    by_kind : (k : Kind) → AreKeepable p (given_up p peer k ++ DropExchange peer ∷ [])
     by_kind (kind.KeySent name way) = by_record (new_link p peer way) name (record_of p peer name) refl
-    by_kind (kind.Asked ultimate) = record { each = (tt, tt); turns = refl }
-    by_kind (kind.Translating ultimate value cta) = record { each = (tt, tt); turns = refl }
-    by_kind (kind.Ending name) = record { each = (tt, tt); turns = refl }
+    by_kind (kind.Asked ultimate) = record { each = (tt, tt); order = refl }
+    by_kind (kind.Translating ultimate value cta) = record { each = (tt, tt); order = refl }
+    by_kind (kind.Ending name) = record { each = (tt, tt); order = refl }
 
 pub given_up_few : (p : Party) (peer : List ℕ) (e : Exchange) → length (given_up_in p peer (Some e)) ≤ 9
 given_up_few p peer e = by_kind e.kind
@@ -99,3 +102,12 @@ given_up_few p peer e = by_kind e.kind
 -- a link that is loaded has room
 pub load_room : (p : Party) (key : LinkKey) (pair : Pair) (v : Verdict) → v ≡ verdict_of (load_tests p key pair) → is_accept v ≡ true → has_link_room p key ≡ true
 load_room p key pair v e t = let h : Held (load_tests p key pair) = held (load_tests p key pair) refl (rw (← e) t) in h.1.1.1.0
+
+-- a text that is written again
+pub resend_kept : (p : Party) (peer : List ℕ) (made : Result Decision NoMemory) → IfOk made (λ d. d ≡ decision_of p (resend p peer)) → IfOk made (λ d. CanKeep p d.change)
+resend_kept p peer (Err f) e = tt
+resend_kept p peer (Ok d) e = rw e (by_exchange (exchange_with peer p))
+  where
+    by_exchange : (o : Option Exchange) → CanKeep p (change_of p (resend_of o))
+    by_exchange None = tt
+    by_exchange (Some x) = accepted_kept p [] None (record { each = tt; order = refl }) (lit≤ tt)

@@ -15,3 +15,7 @@ mod Storable
 pub mod DisconnectionsKept
 pub mod ErrorsKept
 pub mod Taking
+mod Closings
+pub mod Early
+pub mod Unchanged
+pub mod Apart

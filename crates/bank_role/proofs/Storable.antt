@@ -1,32 +1,53 @@
 -- Changes that the store can keep: what holds of a row's edits holds of those that differ.
-use Rattle.std.proofs.Common.{arith, ◌≡◌, ℕ, ◌+◌, ◌≤◌, ◌<◌, nat_lt, Bool, true, false, cond, not, ◌&&◌, ◌||◌, is_some, Option, Some, None, List, [], ◌∷◌, length, filter, refl, ◌∙◌}
+use Rattle.std.proofs.Common.{arith, ◌≡◌, ℕ, ◌+◌, ◌≤◌, ◌<◌, nat_lt, nat_le, Bool, true, false, cond, not, ◌&&◌, ◌||◌, is_some, Option, Some, None, List, [], ◌∷◌, length, filter, refl, ◌∙◌}
+use Rattle.std.proofs.lemmas.Bool.{leb-true, lt-ltb}
 use Rattle.std.proofs.lemmas.Bool.Decides.{nat_tests}
 use Rattle.std.specs.List.{AllByRecursion, list_any}
 use Rattle.std.proofs.lemmas.List.Elements.{All-from_recursion, All-filter, All-weaker}
 use Rattle.party_state.specs.declared.edit.Edit.{Edit}
 use Rattle.party_state.specs.declared.edit.Edit.TheVariants.{Begin, PutLink, DropLink, PutKey, DropEnded, PutExchange, DropExchange, PutAnswer, SetGen}
 use Rattle.party_state.specs.declared.key.KeyRec.{KeyRec}
+use Rattle.party_state.specs.declared.key.RecordKey.{RecordKey}
+use Rattle.party_state.specs.declared.link.LinkKey.{LinkKey}
 use Rattle.party_state.specs.Tables.{find_row, put_row}
 use Rattle.party_state.specs.Keys.{same_link, same_record, link_key, record_key}
-use Rattle.party_state.specs.State.{Party, apply_edit, is_ended}
+use Rattle.party_state.specs.State.{Party, apply_edit, link_with, record_with, is_ended}
 use Rattle.party_state.specs.Ranges.{IsNext, IsFitting, IsNoBegin}
 use Rattle.party_state.specs.Limits.{IsWithinLimits, StaysWithinLimits}
 use Rattle.party_state.proofs.Lengths.{length_put_found, length_put_absent, length_filter_most, length_drop_most}
-use Rattle.bank_role.specs.Tests.{has_link_room, has_key_room}
+use Rattle.bank_role.specs.Tests.{count_after, has_link_room, has_key_room}
 use Rattle.bank_role.specs.Differing.{differs, differing}
 use Rattle.bank_role.specs.Storable.{IsStorable}
 
+-- a put that replaces, or for which there is room
+abbrev pub can_put_link : Party → LinkKey → Bool
+can_put_link p key = is_some (link_with key p) || nat_lt (length p.links) 64
+
+abbrev pub can_put_key : Party → RecordKey → Bool
+can_put_key p key = is_some (record_with key p) || nat_lt (length p.keys) 1024
+
+-- it is one where no more stand afterwards than the limit
+replaces_or_fits : {R : Type 0} (o : Option R) (rows : List R) (n : ℕ) → nat_le (count_after o rows) n ≡ true → (is_some o || nat_lt (length rows) n) ≡ true
+replaces_or_fits (Some old) rows n h = refl
+replaces_or_fits None rows n h = let l : length rows + 1 ≤ n = leb-true (length rows + 1) n h in lt-ltb (length rows) n (omega arith)
+
+pub link_fits : (p : Party) (key : LinkKey) → has_link_room p key ≡ true → can_put_link p key ≡ true
+link_fits p key h = replaces_or_fits (link_with key p) p.links 64 h
+
+pub key_fits : (p : Party) (key : RecordKey) → has_key_room p key ≡ true → can_put_key p key ≡ true
+key_fits p key h = replaces_or_fits (record_with key p) p.keys 1024 h
+
 -- an edit that the store can keep at this party, whatever other tables become before
-abbrev pub IsTame : Party → Edit → Type 0
-IsTame p (Begin own role generator) = ⊥
-IsTame p (PutLink l) = IsNext l.next × (has_link_room p (link_key l) ≡ true)
-IsTame p (PutKey k) = has_key_room p (record_key k) ≡ true
-IsTame p (PutExchange e) = length e.text ≤ 1024
-IsTame p (DropLink peer label side) = Unit {0}
-IsTame p DropEnded = Unit {0}
-IsTame p (DropExchange peer) = Unit {0}
-IsTame p (PutAnswer a) = Unit {0}
-IsTame p (SetGen v) = Unit {0}
+abbrev pub IsKeepable : Party → Edit → Type 0
+IsKeepable p (Begin own role generator) = ⊥
+IsKeepable p (PutLink l) = IsNext l.next × (can_put_link p (link_key l) ≡ true)
+IsKeepable p (PutKey k) = can_put_key p (record_key k) ≡ true
+IsKeepable p (PutExchange e) = length e.text ≤ 1024
+IsKeepable p (DropLink peer label side) = Unit {0}
+IsKeepable p DropEnded = Unit {0}
+IsKeepable p (DropExchange peer) = Unit {0}
+IsKeepable p (PutAnswer a) = Unit {0}
+IsKeepable p (SetGen v) = Unit {0}
 
 abbrev pub puts_link : Edit → Bool
 puts_link (PutLink l) = true
@@ -49,13 +70,13 @@ moves_keys (Begin own role generator) = true
 moves_keys _ = false
 
 -- no link is put behind an edit of the links, and no key behind an edit of the keys
-abbrev pub in_turn : List Edit → Bool
-in_turn [] = true
-in_turn (e ∷ es) = not (moves_links e && list_any puts_link es) && (not (moves_keys e && list_any puts_key es) && in_turn es)
+abbrev pub puts_first : List Edit → Bool
+puts_first [] = true
+puts_first (e ∷ es) = not (moves_links e && list_any puts_link es) && (not (moves_keys e && list_any puts_key es) && puts_first es)
 
-pub record AreTame (p : Party) (es : List Edit) : Type 0 where
-  pub each : AllByRecursion (IsTame p) es
-  pub turns : in_turn es ≡ true
+pub record AreKeepable (p : Party) (es : List Edit) : Type 0 where
+  pub each : AllByRecursion (IsKeepable p) es
+  pub order : puts_first es ≡ true
 
 -- a table with room for one more row has none too many after a put
 length_put_room : {R K : Type 0} (key : R → K) (same : K → K → Bool) (n : ℕ) (x : R) (rs : List R) → (is_some (find_row key same (key x) rs) || nat_lt (length rs) n) ≡ true → length rs ≤ n → length (put_row key same x rs) ≤ n
@@ -66,7 +87,7 @@ length_put_room {R} key same n x rs room within = go (find_row key same (key x) 
     go None found room = let e : length (put_row key same x rs) ≡ length rs + 1 = length_put_absent key same x rs found in let l : length rs < n = grind (arith, nat_tests) in omega arith
 
 -- an edit keeps to the limits
-limits_edit : (p q : Party) (e : Edit) → IsTame p e → (puts_link e ≡ true → q.links ≡ p.links) → (puts_key e ≡ true → q.keys ≡ p.keys) → IsWithinLimits q → IsWithinLimits (apply_edit e q)
+limits_edit : (p q : Party) (e : Edit) → IsKeepable p e → (puts_link e ≡ true → q.links ≡ p.links) → (puts_key e ≡ true → q.keys ≡ p.keys) → IsWithinLimits q → IsWithinLimits (apply_edit e q)
 limits_edit p q (Begin own role generator) t ls ks w = absurd t
 limits_edit p q (PutLink l) t ls ks w = record { links = length_put_room link_key same_link 64 l q.links (rw (ls refl) t.1) w.links; keys = w.keys }
 limits_edit p q (PutKey k) t ls ks w = record { links = w.links; keys = length_put_room record_key same_record 1024 k q.keys (rw (ks refl) t) w.keys }
@@ -116,15 +137,15 @@ ahead : (a b : Bool) → a ≡ true → (a || b) ≡ true
 ahead true b h = refl
 ahead false b h = cc
 
-stays : (p : Party) (f : Edit → Bool) (es : List Edit) (q : Party) → AllByRecursion (IsTame p) es → in_turn es ≡ true → (list_any puts_link es ≡ true → q.links ≡ p.links) → (list_any puts_key es ≡ true → q.keys ≡ p.keys) → IsWithinLimits q → StaysWithinLimits (filter f es) q
-stays p f [] q t turns ls ks w = tt
-stays p f (e ∷ es) q t turns ls ks w =
-    let rest : in_turn es ≡ true = second _ _ (second (not (moves_links e && list_any puts_link es)) _ turns) in
+stays : (p : Party) (f : Edit → Bool) (es : List Edit) (q : Party) → AllByRecursion (IsKeepable p) es → puts_first es ≡ true → (list_any puts_link es ≡ true → q.links ≡ p.links) → (list_any puts_key es ≡ true → q.keys ≡ p.keys) → IsWithinLimits q → StaysWithinLimits (filter f es) q
+stays p f [] q t order ls ks w = tt
+stays p f (e ∷ es) q t order ls ks w =
+    let rest : puts_first es ≡ true = second _ _ (second (not (moves_links e && list_any puts_link es)) _ order) in
     let kept : IsWithinLimits (apply_edit e q) = limits_edit p q e t.0 (λ h. ls (ahead (puts_link e) (list_any puts_link es) h)) (λ h. ks (ahead (puts_key e) (list_any puts_key es) h)) w in
     go (f e) kept
     (stays p f es (apply_edit e q) t.1 rest
-    (λ h. links_stay e q (not_moved (moves_links e) (list_any puts_link es) _ turns h) ∙ ls (behind (puts_link e) (list_any puts_link es) h))
-    (λ h. keys_stay e q (not_moved (moves_keys e) (list_any puts_key es) (in_turn es) (second (not (moves_links e && list_any puts_link es)) _ turns) h) ∙ ks (behind (puts_key e) (list_any puts_key es) h))
+    (λ h. links_stay e q (not_moved (moves_links e) (list_any puts_link es) _ order h) ∙ ls (behind (puts_link e) (list_any puts_link es) h))
+    (λ h. keys_stay e q (not_moved (moves_keys e) (list_any puts_key es) (puts_first es) (second (not (moves_links e && list_any puts_link es)) _ order) h) ∙ ks (behind (puts_key e) (list_any puts_key es) h))
     kept)
     (stays p f es q t.1 rest (λ h. ls (behind (puts_link e) (list_any puts_link es) h)) (λ h. ks (behind (puts_key e) (list_any puts_key es) h)) w)
   where
@@ -132,7 +153,7 @@ stays p f (e ∷ es) q t turns ls ks w =
     go true kept after without = (kept, after)
     go false kept after without = without
 
-fits : (p : Party) (e : Edit) → IsTame p e → IsFitting e
+fits : (p : Party) (e : Edit) → IsKeepable p e → IsFitting e
 fits p (Begin own role generator) t = absurd t
 fits p (PutLink l) t = t.0
 fits p (PutKey k) t = tt
@@ -143,7 +164,7 @@ fits p (DropExchange peer) t = tt
 fits p (PutAnswer a) t = tt
 fits p (SetGen v) t = tt
 
-goes_on : (p : Party) (e : Edit) → IsTame p e → IsNoBegin e
+goes_on : (p : Party) (e : Edit) → IsKeepable p e → IsNoBegin e
 goes_on p (Begin own role generator) t = absurd t
 goes_on p (PutLink l) t = tt
 goes_on p (PutKey k) t = tt
@@ -155,11 +176,11 @@ goes_on p (PutAnswer a) t = tt
 goes_on p (SetGen v) t = tt
 
 -- the edits of a row that differ can be kept
-pub storable : (p : Party) (es : List Edit) → AreTame p es → length es ≤ 9 → IsStorable p (differing p es)
+pub storable : (p : Party) (es : List Edit) → AreKeepable p es → length es ≤ 9 → IsStorable p (differing p es)
 unfolding differing
 storable p es t few = record {
   few = omega (arith, length_filter_most (differs p) es);
-  goes_on = All-filter (differs p) IsNoBegin es (All-weaker (IsTame p) IsNoBegin (goes_on p) es (All-from_recursion (IsTame p) es t.each));
-  fitting = All-filter (differs p) IsFitting es (All-weaker (IsTame p) IsFitting (fits p) es (All-from_recursion (IsTame p) es t.each));
-  within = λ w. stays p (differs p) es p t.each t.turns (λ h. refl) (λ h. refl) w;
+  goes_on = All-filter (differs p) IsNoBegin es (All-weaker (IsKeepable p) IsNoBegin (goes_on p) es (All-from_recursion (IsKeepable p) es t.each));
+  fitting = All-filter (differs p) IsFitting es (All-weaker (IsKeepable p) IsFitting (fits p) es (All-from_recursion (IsKeepable p) es t.each));
+  within = λ w. stays p (differs p) es p t.each t.order (λ h. refl) (λ h. refl) w;
 }

@@ -1,7 +1,6 @@
 -- A key that a partner sends is accepted exactly where it can be taken.
-use Rattle.std.proofs.Common.{arith, ◌≡◌, ◌≢◌, ℕ, ◌+◌, ◌<◌, ◌↔◌, Bool, true, false, not, ◌||◌, nat_lt, nat_le, is_some, bytes_eq, Option, Some, None, Result, Ok, Err, IfOk, List, length, refl, ap, ◌∙◌}
+use Rattle.std.proofs.Common.{◌≡◌, ◌≢◌, ℕ, ◌+◌, ◌↔◌, Bool, true, false, not, ◌||◌, nat_le, bytes_eq, Option, Some, None, Result, Ok, Err, IfOk, List, length, refl, ap, ◌∙◌}
 use Rattle.std.proofs.lemmas.Bool.{leb-true, le-leb, both_ways, not-true, not_from_false, false_from_ne_true, and_parts, and_from, or_right}
-use Rattle.std.proofs.lemmas.Bool.Decides.{nat_tests}
 use Rattle.std.proofs.lemmas.Slice.Eq.{bytes_eq-Decides}
 use Rattle.x_base.specs.declared.text.NoMemory.{NoMemory}
 use Rattle.x_base.specs.declared.verdict.Verdict.TheVariants.{Accept}
@@ -13,14 +12,13 @@ use Rattle.party_state.specs.declared.command.Input.{Input}
 use Rattle.party_state.specs.declared.link.LinkRec.{LinkRec}
 use Rattle.party_state.specs.declared.key.KeyRec.{KeyRec}
 use Rattle.party_state.specs.declared.decision.Decision.{Decision}
-use Rattle.party_state.specs.declared.edit.Edit.TheVariants.{PutKey}
 use Rattle.party_state.specs.Keys.{record_key, same_record}
-use Rattle.party_state.specs.State.{Party, record_with, apply_edit}
+use Rattle.party_state.specs.State.{Party, record_with}
 use Rattle.party_state.specs.Verdicts.{verdict_of, Held}
 use Rattle.party_state.proofs.Lengths.{length_put_found, length_put_absent}
 use Rattle.party_state.proofs.Verdicts.{held_at_accept, accepted}
 use Rattle.bank_role.specs.declared.ksm.Carried.{Carried}
-use Rattle.bank_role.specs.Tests.{is_for, has_count, has_key_room}
+use Rattle.bank_role.specs.Tests.{is_for, has_count, count_after, has_key_room}
 use Rattle.bank_role.specs.Ksm.{link_in_use, ksm_front, ksm_tests, ksm_with, ksm_under}
 use Rattle.bank_role.specs.Rows.{message_row, row_of}
 use Rattle.bank_role.specs.Deciding.{decided}
@@ -49,22 +47,16 @@ not_low false b h t = absurd (cc)
 room_after : (p : Party) (k : KeyRec) → has_key_room p (record_key k) ≡ true → HasRoomFor p k
 room_after p k h = go (record_with (record_key k) p) refl h
   where
-    go : (o : Option KeyRec) → record_with (record_key k) p ≡ o → (is_some o || nat_lt (length p.keys) 1024) ≡ true → HasRoomFor p k
-    go (Some old) f r = let e : length (apply_edit (PutKey k) p).keys ≡ length p.keys = length_put_found record_key same_record k old p.keys f in omega arith
-    go None f r =
-        let e : length (apply_edit (PutKey k) p).keys ≡ length p.keys + 1 = length_put_absent record_key same_record k p.keys f in
-        let l : length p.keys < 1024 = grind (arith, nat_tests) in
-        omega arith
+    go : (o : Option KeyRec) → record_with (record_key k) p ≡ o → nat_le (count_after o p.keys) 1024 ≡ true → HasRoomFor p k
+    go (Some old) f r = rw (length_put_found record_key same_record k old p.keys f) (leb-true (length p.keys) 1024 r)
+    go None f r = rw (length_put_absent record_key same_record k p.keys f) (leb-true (length p.keys + 1) 1024 r)
 
 room_before : (p : Party) (k : KeyRec) → HasRoomFor p k → has_key_room p (record_key k) ≡ true
 room_before p k h = go (record_with (record_key k) p) refl
   where
-    go : (o : Option KeyRec) → record_with (record_key k) p ≡ o → (is_some o || nat_lt (length p.keys) 1024) ≡ true
-    go (Some old) f = refl
-    go None f =
-        let e : length (apply_edit (PutKey k) p).keys ≡ length p.keys + 1 = length_put_absent record_key same_record k p.keys f in
-        let l : length p.keys < 1024 = omega arith in
-        grind (arith, nat_tests)
+    go : (o : Option KeyRec) → record_with (record_key k) p ≡ o → nat_le (count_after o p.keys) 1024 ≡ true
+    go (Some old) f = le-leb (length p.keys) 1024 (rw (length_put_found record_key same_record k old p.keys f) at h)
+    go None f = le-leb (length p.keys + 1) 1024 (rw (length_put_absent record_key same_record k p.keys f) at h)
 
 -- under a link
 accepts_under : (p : Party) (a : Arrival) (m : Ksm) (idk2 : Option (List ℕ)) (c : Carried) (l : LinkRec) → link_in_use p m.originator idk2 ≡ Some l → verdict_of (ksm_tests p a m c l) ≡ Accept → CanTake p a m idk2 c
@@ -115,8 +107,11 @@ accepts_exactly p a m idk2 c = (accepts (link_in_use p m.originator idk2) refl, 
 brought : (p : Party) (i : Input) (a : Arrival) (m : Ksm) (idk2 : Option (List ℕ)) (c : Carried) (moment : ℕ) → Brings i a m idk2 c → row_of p i moment ≡ ksm_under p a m c (link_in_use p m.originator idk2)
 brought p i a m idk2 c moment b = ap (λ (j : Input). row_of p j moment) b.arrived ∙ ap (λ (n : Message). message_row p a n moment) b.message ∙ ap (λ (x : KsmBody). ksm_with p a m x) b.direct
 
-pub takes_keys : (p : Party) (i : Input) (moment : ℕ) (made : Result Decision NoMemory) → IfOk made (λ d. d ≡ decided p i moment) → IfOk made (λ d. TakesKeys p i d)
-takes_keys p i moment (Ok d) e = λ a m idk2 c b.
-    let same : d.verdict ≡ (ksm_under p a m c (link_in_use p m.originator idk2)).verdict = ap (λ (x : Decision). x.verdict) e ∙ ap (λ r. r.verdict) (brought p i a m idk2 c moment b) in
+pub takes : (p : Party) (i : Input) (moment : ℕ) → TakesKeys p i (decided p i moment)
+takes p i moment = λ a m idk2 c b.
+    let same : (decided p i moment).verdict ≡ (ksm_under p a m c (link_in_use p m.originator idk2)).verdict = ap (λ r. r.verdict) (brought p i a m idk2 c moment b) in
     rw same (accepts_exactly p a m idk2 c)
+
+pub takes_keys : (p : Party) (i : Input) (moment : ℕ) (made : Result Decision NoMemory) → IfOk made (λ d. d ≡ decided p i moment) → IfOk made (λ d. TakesKeys p i d)
+takes_keys p i moment (Ok d) e = rw e (takes p i moment)
 takes_keys p i moment (Err f) e = tt

@@ -51,6 +51,13 @@ differs p (DropExchange peer) = is_some (exchange_with peer p)
 differs p (PutAnswer a) = true
 differs p (SetGen v) = not (v == p.generator.v)
 
+-- an edit that differs at each party
+abbrev pub always_differs : Edit → Bool
+always_differs (Begin own role generator) = true
+always_differs (PutExchange e) = true
+always_differs (PutAnswer a) = true
+always_differs _ = false
+
 -- the edits that make a difference
 unfoldable pub differing : Party → List Edit → List Edit
 differing p es = filter (differs p) es

@@ -21,10 +21,9 @@ use Rattle.party_state.specs.State.{Party, exchange_with, is_ended}
 use Rattle.party_state.specs.Verdicts.{Test, verdict_of, passes}
 use Rattle.party_state.specs.Rows.{Row, Coded, OfDsm, refused}
 use Rattle.bank_role.specs.declared.dsm.Named.{Named}
-use Rattle.bank_role.specs.Texts.{no_extras, is_verified}
+use Rattle.bank_role.specs.Texts.{no_extras, is_verified, lead_under}
 use Rattle.bank_role.specs.Tests.{is_for}
 use Rattle.bank_role.specs.Exchanges.{record_of, new_link, dropped}
-use Rattle.bank_role.specs.Ksm.{lead_under}
 
 -- the key that ends, and the key whose code closes the message: that of IDA, or of IDD where IDA is absent
 abbrev pub paired : Option KeyRec → Option KeyRec → Option Named

@@ -22,10 +22,9 @@ use Rattle.party_state.specs.Verdicts.{Test, verdict_of, passes}
 use Rattle.party_state.specs.Rows.{Row, Accepted, OfEsm, refused}
 use Rattle.bank_role.specs.declared.esm.Subject.{Subject}
 use Rattle.bank_role.specs.declared.esm.Subject.TheVariants.{SentKey, Translated}
-use Rattle.bank_role.specs.Texts.{direct_name, is_verified, is_right, is_plain}
+use Rattle.bank_role.specs.Texts.{direct_name, is_verified, is_right, is_plain, lead_under}
 use Rattle.bank_role.specs.Tests.{answer_front}
 use Rattle.bank_role.specs.Exchanges.{sent_by, is_waiting, new_link, dropped}
-use Rattle.bank_role.specs.Ksm.{lead_under}
 
 -- what an error message from the peer speaks of: a key that was sent, or a key with a translation centre,
 -- by its value and its count at the centre

@@ -1,6 +1,6 @@
 -- A key service message arrives from a partner (ANSI X9.17, point to point): its key is held, and a
 -- response goes back under it; a refusal for a count or for want of room is answered by an error message.
-use Rattle.std.specs.Prelude.{ℕ, ◌+◌, false, cond, is_some, List, [], ◌∷◌, ◌++◌, Option, Some, None, option_map, bytes_eq, codes}
+use Rattle.std.specs.Prelude.{ℕ, ◌+◌, cond, is_some, List, [], ◌∷◌, ◌++◌, Option, Some, None, option_map, bytes_eq, codes}
 use Rattle.x_base.specs.declared.key_name.FullName.{FullName}
 use Rattle.x_base.specs.declared.party.Side.TheVariants.{Takes}
 use Rattle.x_base.specs.declared.verdict.Verdict.{Verdict}
@@ -21,8 +21,8 @@ use Rattle.party_state.specs.State.{Party, centre_label, link_with, first_link, 
 use Rattle.party_state.specs.Verdicts.{Test, verdict_of, passes}
 use Rattle.party_state.specs.Rows.{Row, Reply, Coded, OfKsm, refused}
 use Rattle.bank_role.specs.declared.ksm.Carried.{Carried}
-use Rattle.bank_role.specs.Texts.{direct_name, no_extras, is_verified}
-use Rattle.bank_role.specs.Tests.{is_for, count_tests, has_key_room}
+use Rattle.bank_role.specs.Texts.{direct_name, no_extras, is_verified, lead_under}
+use Rattle.bank_role.specs.Tests.{is_for, other_class, count_tests, has_key_room}
 
 -- the link in use: the one with that label, which isn't a centre's, or the first
 abbrev pub link_in_use : Party → List ℕ → Option (List ℕ) → Option LinkRec
@@ -94,22 +94,16 @@ ksm_under p a m c (Some l) =
       answer = coded_under under value (error_for p m.originator c.ctp (verdict_of (ksm_tests p a m c l)));
     }
 
-abbrev pub unserved : Party → Ksm → List ℕ → Row
-unserved p m known = refused (verdict_of ((is_for p m.receiver m.originator, verdict.NotForMe) ∷ (knows known p, verdict.UnknownPeer) ∷ (false, verdict.WrongClass) ∷ []))
-
 -- a new key-encrypting key, and a key through a centre, aren't served
 abbrev pub ksm_with : Party → Arrival → Ksm → KsmBody → Row
 ksm_with p a m (body.Direct idk2 None kd ctp) = ksm_under p a m (record { kd = kd; ctp = ctp }) (link_in_use p m.originator idk2)
-ksm_with p a m (body.Direct idk2 (Some new) kd ctp) = unserved p m m.originator
-ksm_with p a m (body.Centre centre kdu ctb) = unserved p m centre
+ksm_with p a m (body.Direct idk2 (Some new) kd ctp) = other_class p m.receiver m.originator m.originator
+ksm_with p a m (body.Centre centre kdu ctb) = other_class p m.receiver m.originator centre
 
 abbrev pub ksm : Party → Arrival → Ksm → Row
 ksm p a m = ksm_with p a m m.body
 
 -- the key under which its code is tested
-
-abbrev pub lead_under : Arrival → FullName → ℕ → Lead
-lead_under a under value = record { under = under; value = value; verified = is_verified a value }
 
 abbrev pub ksm_lead_under : Party → Arrival → Ksm → Carried → Option LinkRec → Option Lead
 ksm_lead_under p a m c None = None

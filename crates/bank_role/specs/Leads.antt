@@ -1,6 +1,8 @@
 -- The key under which the code of an arrival is tested, with its full name: none where the arrival is closed
 -- by an error detection code, or is refused before its code is looked at.
-use Rattle.std.specs.Prelude.{Option, None}
+use Rattle.std.specs.Prelude.{Bool, true, false, Option, None}
+use Rattle.x_base.specs.declared.verdict.Verdict.{Verdict}
+use Rattle.x_base.specs.declared.verdict.Verdict.TheVariants.{NotForMe, UnknownPeer, WrongClass, NoExchange, Outstanding, UnknownKk, UnknownKey}
 use Rattle.csm_grammar.specs.declared.message.Message.{Message}
 use Rattle.csm_grammar.specs.declared.message.Message.TheVariants as message
 use Rattle.csm_grammar.specs.declared.arrival.Arrival.{Arrival}
@@ -23,3 +25,14 @@ message_lead p a (message.Dsm m) = dsm_lead p a m
 
 abbrev pub lead_of : Party → Arrival → Option Lead
 lead_of p a = message_lead p a a.parsed.message
+
+-- a refusal before the code is looked at
+abbrev pub is_early : Verdict → Bool
+is_early NotForMe = true
+is_early UnknownPeer = true
+is_early WrongClass = true
+is_early NoExchange = true
+is_early Outstanding = true
+is_early UnknownKk = true
+is_early UnknownKey = true
+is_early _ = false

@@ -1,6 +1,6 @@
 -- The row of each input at a bank.
-use Rattle.std.specs.Prelude.{ℕ, false, List, [], ◌∷◌}
-use Rattle.x_base.specs.declared.verdict.Verdict.TheVariants.{NotForMe, UnknownPeer, WrongClass}
+use Rattle.std.specs.Prelude.{ℕ}
+use Rattle.x_base.specs.declared.verdict.Verdict.TheVariants.{WrongClass}
 use Rattle.csm_grammar.specs.declared.message.Message.{Message}
 use Rattle.csm_grammar.specs.declared.message.Message.TheVariants as message
 use Rattle.csm_grammar.specs.declared.arrival.Arrival.{Arrival}
@@ -8,10 +8,9 @@ use Rattle.party_state.specs.declared.command.Command.{Command}
 use Rattle.party_state.specs.declared.command.Command.TheVariants as command
 use Rattle.party_state.specs.declared.command.Input.{Input}
 use Rattle.party_state.specs.declared.command.Input.TheVariants as input
-use Rattle.party_state.specs.State.{Party, knows}
-use Rattle.party_state.specs.Verdicts.{verdict_of}
+use Rattle.party_state.specs.State.{Party}
 use Rattle.party_state.specs.Rows.{Row, refused}
-use Rattle.bank_role.specs.Tests.{is_for}
+use Rattle.bank_role.specs.Tests.{other_class}
 use Rattle.bank_role.specs.Load.{load}
 use Rattle.bank_role.specs.Start.{start}
 use Rattle.bank_role.specs.Ask.{ask}
@@ -35,18 +34,13 @@ command_row p (command.End peer name) moment = end p peer name
 command_row p (command.Drop peer) moment = drop p peer
 command_row p command.Purge moment = purge
 
--- a class that a bank doesn't serve, from a known party
-abbrev pub other_class : Party → List ℕ → List ℕ → Row
-other_class p receiver originator =
-    refused (verdict_of ((is_for p receiver originator, NotForMe) ∷ (knows originator p, UnknownPeer) ∷ (false, WrongClass) ∷ []))
-
 abbrev pub message_row : Party → Arrival → Message → ℕ → Row
 message_row p a (message.Rsi m) moment = rsi p a m moment
-message_row p a (message.Rfs m) moment = other_class p m.receiver m.originator
-message_row p a (message.Rtr m) moment = other_class p m.receiver m.originator
+message_row p a (message.Rfs m) moment = other_class p m.receiver m.originator m.originator
+message_row p a (message.Rtr m) moment = other_class p m.receiver m.originator m.originator
 message_row p a (message.Ksm m) moment = ksm p a m
 message_row p a (message.Rsm m) moment = rsm p a m
-message_row p a (message.Ers m) moment = other_class p m.receiver m.originator
+message_row p a (message.Ers m) moment = other_class p m.receiver m.originator m.originator
 message_row p a (message.Esm m) moment = esm p a m
 message_row p a (message.Dsm m) moment = dsm p a m
 

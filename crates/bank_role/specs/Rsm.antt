@@ -14,11 +14,10 @@ use Rattle.party_state.specs.Names.{full_name}
 use Rattle.party_state.specs.State.{Party}
 use Rattle.party_state.specs.Verdicts.{Test, verdict_of, passes}
 use Rattle.party_state.specs.Rows.{Row, OfRsm, OfAnswer, refused}
-use Rattle.bank_role.specs.Texts.{is_verified}
+use Rattle.bank_role.specs.Texts.{is_verified, lead_under}
 use Rattle.bank_role.specs.Tests.{answer_front}
 use Rattle.bank_role.specs.declared.exchanges.Sent.{Sent}
 use Rattle.bank_role.specs.Exchanges.{sent_to, ending_with, new_link, readied}
-use Rattle.bank_role.specs.Ksm.{lead_under}
 
 -- the answer to a key
 

@@ -1,6 +1,6 @@
 -- When the key is taken that a partner sends without a centre, and without a new key-encrypting key
 -- (ANSI X9.17, point to point; the bounds are this project's profile).
-use Rattle.std.specs.Prelude.{ℕ, ◌≡◌, ◌≢◌, ◌≤◌, ◌↔◌, max, IsTrue, List, length, Option, Some, None}
+use Rattle.std.specs.Prelude.{ℕ, ◌≡◌, ◌≢◌, ◌≤◌, ◌↔◌, IsTrue, List, length, Option, Some, None}
 use Rattle.x_base.specs.declared.verdict.Verdict.TheVariants.{Accept}
 use Rattle.csm_grammar.specs.declared.message.Message.TheVariants as message
 use Rattle.csm_grammar.specs.declared.message.KsmBody.TheVariants as body
@@ -28,9 +28,9 @@ pub record Brings (i : Input) (a : Arrival) (m : Ksm) (idk2 : Option (List ℕ))
 abbrev pub held_record : Party → Ksm → Carried → LinkRec → KeyRec
 held_record p m c l = record { peer = m.originator; name = (arriving p l c.ctp).name; value = carried_key l c; status = Held }
 
--- with this record 1,024 stand at most, or no more than before
+-- with this record 1,024 stand at most
 abbrev pub HasRoomFor : Party → KeyRec → Type 0
-HasRoomFor p k = length (apply_edit (PutKey k) p).keys ≤ max 1024 (length p.keys)
+HasRoomFor p k = length (apply_edit (PutKey k) p).keys ≤ 1024
 
 pub record CanTake (p : Party) (a : Arrival) (m : Ksm) (idk2 : Option (List ℕ)) (c : Carried) : Type 0 where
   pub receiver : m.receiver ≡ p.own

@@ -9,6 +9,7 @@ use Rattle.csm_grammar.specs.declared.parsed.Shut.TheVariants as shut
 use Rattle.csm_grammar.specs.declared.arrival.Arrival.{Arrival}
 use Rattle.csm_write.specs.declared.closing.Closing.TheVariants as closing
 use Rattle.csm_write.specs.Canon.{canon}
+use Rattle.party_state.specs.declared.decision.Lead.{Lead}
 use Rattle.party_state.specs.Rows.{Reply, Coded, Plain, Again}
 
 -- the text of a reply: canonical, but for one that is kept
@@ -45,6 +46,10 @@ is_edc_of auth (shut.Edc digits) = edc_of auth == digits
 -- the arrival's authentication code is made under this key
 unfoldable pub is_verified : Arrival → ℕ → Bool
 is_verified a value = is_mac_of value (auth_text a) a.parsed.shut
+
+-- a key, and whether the arrival's code is made under it
+abbrev pub lead_under : Arrival → FullName → ℕ → Lead
+lead_under a under value = record { under = under; value = value; verified = is_verified a value }
 
 -- its error detection code is right
 unfoldable pub is_right : Arrival → Bool

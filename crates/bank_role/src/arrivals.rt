@@ -2,32 +2,26 @@
 ghost use Rattle.std.specs.Prelude.{◌≡◌, IfOk};
 ghost use Rattle.bank_role.specs.Storable.{CanKeep};
 ghost use Rattle.bank_role.specs.Deciding.{decision_of};
-ghost use Rattle.bank_role.specs.Rows.{other_class, message_row};
+ghost use Rattle.bank_role.specs.Tests.{other_class};
+ghost use Rattle.bank_role.specs.Rows.{message_row};
 
-use crate::common_tests::is_for;
-use crate::decisions::refusal;
+use crate::common_tests::other_class;
 use crate::dsm::dsm;
 use crate::esm::esm;
 use crate::ksm::ksm;
 use crate::rsi::rsi;
 use crate::rsm::rsm;
-use crate::verdicts::verdict_of;
 use csm_grammar::{Arrival, Message};
 use party_state::{Decision, State};
 use std::alloc::Global;
-use x_base::{Ident, NoMemory, Verdict};
+use x_base::{Ident, NoMemory};
 
-/// A class that a bank doesn't serve.
-#[tactic(auto, using(crate::proofs::ByRow::by_refused))]
-fn other_class(state: &State, receiver: &Ident, originator: &Ident) -> Decision
-    ensures decision { result ≡ decision_of state.now (other_class state.now receiver.now originator.now) }
+/// A message of a class that a bank doesn't serve.
+fn unserved(state: &State, receiver: &Ident, originator: &Ident) -> Decision
+    ensures decision { result ≡ decision_of state.now (other_class state.now receiver.now originator.now originator.now) }
     ensures kept { CanKeep state.now result.change }
 {
-    refusal(verdict_of(&[
-        (is_for(state, receiver, originator), Verdict::NotForMe),
-        (state.knows(originator), Verdict::UnknownPeer),
-        (false, Verdict::WrongClass),
-    ]))
+    other_class(state, receiver, originator, originator)
 }
 
 /// What a bank decides of a message that arrives at a moment.
@@ -42,11 +36,11 @@ pub(crate) fn arrived(
 {
     match &arrival.parsed.message {
         Message::Rsi(message) => rsi(alloc, state, arrival, message, moment),
-        Message::Rfs(message) => Ok(other_class(state, &message.receiver, &message.originator)),
-        Message::Rtr(message) => Ok(other_class(state, &message.receiver, &message.originator)),
+        Message::Rfs(message) => Ok(unserved(state, &message.receiver, &message.originator)),
+        Message::Rtr(message) => Ok(unserved(state, &message.receiver, &message.originator)),
         Message::Ksm(message) => ksm(alloc, state, arrival, message),
         Message::Rsm(message) => rsm(alloc, state, arrival, message),
-        Message::Ers(message) => Ok(other_class(state, &message.receiver, &message.originator)),
+        Message::Ers(message) => Ok(unserved(state, &message.receiver, &message.originator)),
         Message::Esm(message) => esm(alloc, state, arrival, message),
         Message::Dsm(message) => dsm(alloc, state, arrival, message),
     }

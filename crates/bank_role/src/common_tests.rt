@@ -3,19 +3,14 @@ ghost use Rattle.std.specs.Prelude.{◌≡◌, ◌++◌, ◌∷◌, [], false, b
 ghost use Rattle.x_base.specs.declared.verdict.Verdict.TheVariants.{BadMac};
 ghost use Rattle.party_state.specs.State.{centre_label};
 ghost use Rattle.party_state.specs.Verdicts.{verdict_of};
-ghost use Rattle.bank_role.specs.Deciding.{refusal_of};
-ghost use Rattle.bank_role.specs.Tests.{is_for, answer_front, has_count, count_tests, has_key_room, has_link_room};
+ghost use Rattle.bank_role.specs.Storable.{CanKeep};
+ghost use Rattle.bank_role.specs.Deciding.{decision_of, refusal_of};
+ghost use Rattle.bank_role.specs.Tests.{is_for, other_class, answer_front, has_count, count_tests, has_key_room, has_link_room};
 
 use crate::decisions::refusal;
 use crate::verdicts::{verdict_after, verdict_of};
-use party_state::{Decision, LinkRec, State};
+use party_state::{Decision, LinkRec, MOST_KEYS, MOST_LINKS, State};
 use x_base::{Count, Ident, KeyName, LIMIT, Label, Side, Verdict};
-
-/// How many key records a party holds at most.
-const MOST_KEYS: usize = 1024;
-
-/// How many links a party holds at most.
-const MOST_LINKS: usize = 64;
 
 /// Whether the receiver is this party, and the originator isn't.
 pub(crate) fn is_for(state: &State, receiver: &Ident, originator: &Ident) -> bool
@@ -23,6 +18,24 @@ pub(crate) fn is_for(state: &State, receiver: &Ident, originator: &Ident) -> boo
 {
     let own = state.own();
     *receiver == own && *originator != own
+}
+
+/// A message that a bank doesn't serve. Its sender, or the centre that it names, is to be known.
+#[tactic(auto, using(crate::proofs::ByRow::by_refused))]
+pub(crate) fn other_class(
+    state: &State,
+    receiver: &Ident,
+    originator: &Ident,
+    known: &Ident,
+) -> Decision
+    ensures decision { result ≡ decision_of state.now (other_class state.now receiver.now originator.now known.now) }
+    ensures kept { CanKeep state.now result.change }
+{
+    refusal(verdict_of(&[
+        (is_for(state, receiver, originator), Verdict::NotForMe),
+        (state.knows(known), Verdict::UnknownPeer),
+        (false, Verdict::WrongClass),
+    ]))
 }
 
 /// Whether a count is left.
@@ -50,14 +63,20 @@ pub(crate) fn count_tests(link: &LinkRec, count: Count) -> [(bool, Verdict); 2]
 pub(crate) fn has_key_room(state: &State, peer: &Ident, name: &KeyName) -> bool
     ensures { result ≡ has_key_room state.now (record { peer = peer.now; name = name.now }) }
 {
-    state.key(peer, name).is_some() || state.key_count() < MOST_KEYS
+    match state.key(peer, name) {
+        Some(_) => state.key_count() <= MOST_KEYS,
+        None => state.key_count() < MOST_KEYS,
+    }
 }
 
 /// Whether 64 links stand at most after this one is put.
 pub(crate) fn has_link_room(state: &State, peer: &Ident, label: &Label, side: Side) -> bool
     ensures { result ≡ has_link_room state.now (record { peer = peer.now; label = label.now; side = side }) }
 {
-    state.link(peer, label, side).is_some() || state.link_count() < MOST_LINKS
+    match state.link(peer, label, side) {
+        Some(_) => state.link_count() <= MOST_LINKS,
+        None => state.link_count() < MOST_LINKS,
+    }
 }
 
 /// The tests of an answer before its code's: it is for this party, and belongs to an exchange that

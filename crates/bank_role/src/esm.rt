@@ -6,14 +6,13 @@ ghost use Rattle.party_state.specs.declared.edit.Edit.TheVariants.{DropExchange}
 ghost use Rattle.party_state.specs.Verdicts.{verdict_of};
 ghost use Rattle.bank_role.specs.Storable.{CanKeep};
 ghost use Rattle.bank_role.specs.Deciding.{decision_of};
-ghost use Rattle.bank_role.specs.Texts.{is_plain};
-ghost use Rattle.bank_role.specs.Ksm.{lead_under};
+ghost use Rattle.bank_role.specs.Texts.{lead_under, is_plain};
 ghost use Rattle.bank_role.specs.Esm.{subject_by, subject_with, subject_value, subject_name, way_link, subject_link, raised, subject_ended, esm_of, esm_lead_of, plain_tests, plain_esm, esm, esm_lead};
 
 use crate::common_tests::{answer_front, answer_verdict, not_answering};
 use crate::decisions::{accept, refusal};
 use crate::edits::{dropped, joined, list_of};
-use crate::exchanges::{Sent, is_waiting, new_link, record_of};
+use crate::exchanges::{Sent, is_waiting, new_link, sent_by};
 use crate::leads::lead_under;
 use crate::names::{centre_label, direct_name};
 use crate::texts::is_right;
@@ -35,9 +34,9 @@ fn subject_by(state: &State, peer: &Ident, kind: &Kind) -> Option<Subject>
     ensures { result ≡ subject_by state.now peer.now kind.now }
 {
     match kind {
-        Kind::KeySent { name, via } => {
-            let key = record_of(state, peer, name)?;
-            Some(Subject::SentKey(Sent { key, way: *via }))
+        Kind::KeySent { .. } => {
+            let sent = sent_by(state, peer, kind)?;
+            Some(Subject::SentKey(sent))
         }
         Kind::Translating { value, cta, .. } => Some(Subject::Translated(*value, *cta)),
         Kind::Asked { .. } | Kind::Ending { .. } => None,
@@ -278,6 +277,7 @@ pub(crate) fn esm(
     ensures decision { IfOk result (λ d. d ≡ decision_of state.now (esm state.now arrival.now message.now)) }
     ensures kept { IfOk result (λ d. CanKeep state.now d.change) }
 {
+    // Tells that the links that stand are in their ranges.
     state.law_party();
     // The value tells that it is a count.
     told(message);

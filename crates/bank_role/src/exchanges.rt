@@ -19,7 +19,8 @@ pub(crate) fn record_of(state: &State, peer: &Ident, name: &KeyName) -> Option<K
     state.key(peer, name).copied()
 }
 
-fn sent_by(state: &State, peer: &Ident, kind: &Kind) -> Option<Sent>
+/// The key that an exchange of this kind sent to the peer.
+pub(crate) fn sent_by(state: &State, peer: &Ident, kind: &Kind) -> Option<Sent>
     ensures { result ≡ sent_by state.now peer.now kind.now }
 {
     match kind {

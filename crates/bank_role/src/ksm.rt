@@ -5,15 +5,16 @@ ghost use Rattle.party_state.specs.declared.edit.Edit.TheVariants.{PutLink, PutK
 ghost use Rattle.party_state.specs.declared.key.KeyStatus.TheVariants.{Held};
 ghost use Rattle.party_state.specs.Ranges.{IsLink};
 ghost use Rattle.party_state.specs.Verdicts.{verdict_of};
-ghost use Rattle.bank_role.specs.Texts.{is_verified};
+ghost use Rattle.bank_role.specs.Texts.{is_verified, lead_under};
+ghost use Rattle.bank_role.specs.Tests.{other_class};
 ghost use Rattle.bank_role.specs.Replies.{IsWritten};
 ghost use Rattle.bank_role.specs.Standing.{LinkStands};
 ghost use Rattle.bank_role.specs.Storable.{CanKeep};
 ghost use Rattle.bank_role.specs.Deciding.{decision_of};
 ghost use Rattle.party_state.specs.Rows.Reply.{Coded};
-ghost use Rattle.bank_role.specs.Ksm.{link_in_use, arriving, carried_key, ksm_front, ksm_rest, ksm_tests, response, lead_under, ksm_under, unserved, ksm_with, ksm, ksm_lead_under, ksm_lead};
+ghost use Rattle.bank_role.specs.Ksm.{link_in_use, arriving, carried_key, ksm_front, ksm_rest, ksm_tests, response, ksm_under, ksm_with, ksm, ksm_lead_under, ksm_lead};
 
-use crate::common_tests::{count_tests, has_key_room, is_for, is_of_centre};
+use crate::common_tests::{count_tests, has_key_room, is_for, is_of_centre, other_class};
 use crate::decisions::{accept, refusal};
 use crate::edits::list_of;
 use crate::errors::error_answer;
@@ -199,17 +200,10 @@ fn ksm_under(
 
 /// A new key-encrypting key, or a key through a centre, which isn't served.
 fn unserved(state: &State, message: &Ksm, known: &Ident) -> Decision
-    ensures decision { result ≡ decision_of state.now (unserved state.now message.now known.now) }
+    ensures decision { result ≡ decision_of state.now (other_class state.now message.now.receiver message.now.originator known.now) }
     ensures kept { CanKeep state.now result.change }
 {
-    refusal(verdict_of(&[
-        (
-            is_for(state, &message.receiver, &message.originator),
-            Verdict::NotForMe,
-        ),
-        (state.knows(known), Verdict::UnknownPeer),
-        (false, Verdict::WrongClass),
-    ]))
+    other_class(state, &message.receiver, &message.originator, known)
 }
 
 fn ksm_direct(

@@ -1,7 +1,7 @@
 // The key under which the code of an arrival is tested.
 ghost use Rattle.std.specs.Prelude.{◌≡◌};
 ghost use Rattle.party_state.specs.Names.{full_name};
-ghost use Rattle.bank_role.specs.Ksm.{lead_under};
+ghost use Rattle.bank_role.specs.Texts.{lead_under};
 ghost use Rattle.bank_role.specs.Leads.{lead_of};
 
 use crate::dsm::dsm_lead;

@@ -16,6 +16,7 @@ mod esm;
 mod exchanges;
 mod giving_up;
 mod ksm;
+mod laws;
 mod leads;
 mod links;
 mod load;
@@ -29,4 +30,8 @@ mod texts;
 mod verdicts;
 
 pub use deciding::decide;
+pub use laws::{law_differing, law_lead, law_taking};
 pub use leads::lead;
+
+#[cfg(test)]
+mod tests;

@@ -12,6 +12,7 @@ pub(crate) fn first_link(state: &State, peer: &Ident, side: Side) -> Option<Link
     ensures link { result ≡ party.first_link peer.now side state.now }
     ensures stands { IfSome result (LinkStands state.now) }
 {
+    // Tells that the links that stand are in their ranges.
     state.law_party();
     state.first_link(peer, side).copied()
 }
@@ -22,6 +23,7 @@ pub(crate) fn link_with(state: &State, peer: &Ident, label: &Label, side: Side) 
     ensures link { result ≡ party.link_with (record { peer = peer.now; label = label.now; side = side }) state.now }
     ensures stands { IfSome result (LinkStands state.now) }
 {
+    // Tells that the links that stand are in their ranges.
     state.law_party();
     state.link(peer, label, side).copied()
 }

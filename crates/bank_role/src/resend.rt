@@ -10,11 +10,9 @@ use party_state::{Decision, State};
 use std::alloc::Global;
 use x_base::{Ident, NoMemory, Verdict};
 
-/// What a bank decides where the text of the exchange with a peer is to be written again.
 #[tactic(auto, using(crate::proofs::ByRow::by_refused, crate::proofs::ByRow::by_accepted))]
-pub(crate) fn resend(alloc: Global, state: &State, peer: &Ident) -> Result<Decision, NoMemory>
+fn resend_decided(alloc: Global, state: &State, peer: &Ident) -> Result<Decision, NoMemory>
     ensures decision { IfOk result (λ d. d ≡ decision_of state.now (resend state.now peer.now)) }
-    ensures kept { IfOk result (λ d. CanKeep state.now d.change) }
 {
     match state.exchange(peer) {
         Some(exchange) => {
@@ -23,4 +21,12 @@ pub(crate) fn resend(alloc: Global, state: &State, peer: &Ident) -> Result<Decis
         }
         None => Ok(refusal(Verdict::NoExchange)),
     }
+}
+
+/// What a bank decides where the text of the exchange with a peer is to be written again.
+pub(crate) fn resend(alloc: Global, state: &State, peer: &Ident) -> Result<Decision, NoMemory>
+    ensures decision { IfOk result (λ d. d ≡ decision_of state.now (resend state.now peer.now)) }
+    ensures kept { IfOk result (λ d. CanKeep state.now d.change) }
+{
+    resend_decided(alloc, state, peer)
 }

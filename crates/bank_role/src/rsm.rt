@@ -175,6 +175,7 @@ pub(crate) fn rsm(
     ensures decision { IfOk result (λ d. d ≡ decision_of state.now (rsm state.now arrival.now message.now)) }
     ensures kept { IfOk result (λ d. CanKeep state.now d.change) }
 {
+    // Tells that the links that stand are in their ranges.
     state.law_party();
     rsm_decided(alloc, state, arrival, message)
 }

@@ -31,6 +31,7 @@ impl Written {
         ensures written { IfOk result (λ w. IsWritten w (Coded message.now under key)) }
         ensures short { free_length message.now ≤ 64 → IfOk result (λ w. length w.text ≤ 1024) }
     {
+        // Tells that the text is short.
         law_canon_short();
         let text = write(alloc, message, &Closing::Mac(key))?;
         Ok(Written {

@@ -7,4 +7,4 @@ use Rattle.bank_role.proofs.ask.ask.Goals as goal
 pub returns-clause-kept : goal.returns-clause-kept
 returns-clause-kept c =
     keeps c.accept.result c.args.state.now c.new.result.items [] (Some c.in_ok-written.written) (Some (Plain (request c.args.state.now c.args.peer.now)))
-    c.accept.ensures c.new.ensures.items c.in_ok-written.ensures (record { each = tt; turns = refl }) (lit≤ tt)
+    c.accept.ensures c.new.ensures.items c.in_ok-written.ensures (record { each = tt; order = refl }) (lit≤ tt)

@@ -12,4 +12,4 @@ returns-clause-decision c =
 pub returns-clause-kept : goal.returns-clause-kept
 returns-clause-kept c =
     keeps c.accept.result c.args.state.now c.in_ok-list_of.field-0.items (DropEnded ∷ []) None None
-    c.accept.ensures c.in_ok-list_of.ensures tt (record { each = (tt, tt); turns = refl }) (lit≤ tt)
+    c.accept.ensures c.in_ok-list_of.ensures tt (record { each = (tt, tt); order = refl }) (lit≤ tt)

@@ -1,7 +1,7 @@
 use Rattle.std.proofs.Common.{Some, None}
 use Rattle.bank_role.specs.GivingUp.{given_up_in}
 use Rattle.bank_role.proofs.Decided.{keeps}
-use Rattle.bank_role.proofs.Keeping.{given_up_tame, given_up_few}
+use Rattle.bank_role.proofs.Keeping.{given_up_keepable, given_up_few}
 use Rattle.bank_role.proofs.giving_up.drop_exchange.Goals as goal
 
 pub returns-in_ok-edits-in-Some-clause-kept : goal.returns-in_ok-edits-in-Some-clause-kept
@@ -10,4 +10,4 @@ returns-in_ok-edits-in-Some-clause-kept c =
     let peer = c.args.peer.now in
     let e = c.in-Some.exchange.now in
     keeps c.accept.result p c.in_ok-edits-in-Some.edits.items (given_up_in p peer (Some e)) None None
-    c.accept.ensures c.in_ok-edits-in-Some.ensures tt (given_up_tame p peer e) (given_up_few p peer e)
+    c.accept.ensures c.in_ok-edits-in-Some.ensures tt (given_up_keepable p peer e) (given_up_few p peer e)

@@ -3,7 +3,7 @@ use Rattle.party_state.specs.Verdicts.{verdict_of, is_accept}
 use Rattle.bank_role.specs.Load.{load_tests}
 use Rattle.bank_role.specs.Tests.{has_link_room}
 use Rattle.bank_role.proofs.Decided.{keeps}
-use Rattle.bank_role.proofs.Keeping.{loaded_tame, load_room}
+use Rattle.bank_role.proofs.Keeping.{loaded_keepable, load_room}
 use Rattle.bank_role.proofs.load.load.Goals as goal
 
 pub returns-clause-kept : goal.returns-clause-kept
@@ -12,4 +12,4 @@ returns-clause-kept c =
     let v : c.verdict_of-verdict.result ≡ verdict_of (load_tests p (record { peer = c.args.peer.now; label = c.args.label.now; side = c.args.side }) c.args.pair) = cc in
     let t : is_accept c.verdict_of-verdict.result ≡ true = grind arith in
     let room : has_link_room p (record { peer = c.args.peer.now; label = c.args.label.now; side = c.args.side }) ≡ true = load_room p _ c.args.pair c.verdict_of-verdict.result v t in
-    keeps c.accept.result p c.in_ok-list_of.field-0.items _ None None c.accept.ensures c.in_ok-list_of.ensures tt (loaded_tame p _ refl room) (lit≤ tt)
+    keeps c.accept.result p c.in_ok-list_of.field-0.items _ None None c.accept.ensures c.in_ok-list_of.ensures tt (loaded_keepable p _ refl room) (lit≤ tt)

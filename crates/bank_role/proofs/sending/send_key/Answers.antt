@@ -3,7 +3,7 @@ use Rattle.x_base.specs.Count.{IsCount}
 use Rattle.bank_role.specs.Texts.{text_of}
 use Rattle.bank_role.specs.Sending.{data_key_reply, sent_edits}
 use Rattle.bank_role.proofs.Decided.{accepts, keeps}
-use Rattle.bank_role.proofs.Keeping.{sent_tame}
+use Rattle.bank_role.proofs.Keeping.{sent_keepable}
 use Rattle.bank_role.proofs.Spent.{sent_same}
 use Rattle.bank_role.proofs.sending.send_key.Goals as goal
 
@@ -25,4 +25,4 @@ returns-clause-kept c =
     let short : length (text_of (data_key_reply p l c.args.key)) ≤ 1024 = rw (← c.in_ok-written.ensures.written.text) c.in_ok-written.ensures.short in
     let count : IsCount l.next = subst IsCount c.requires.at_next c.value.ensures.count in
     keeps c.accept.result p c.in_ok-list_of.field-0.items (sent_edits p l c.args.key c.args.after.now.v) (Some c.in_ok-written.written) (Some (data_key_reply p l c.args.key))
-    c.accept.ensures e c.in_ok-written.ensures.written (sent_tame p l _ _ _ l.next c.requires.stands count refl c.requires.room short) (lit≤ tt)
+    c.accept.ensures e c.in_ok-written.ensures.written (sent_keepable p l _ _ _ l.next c.requires.stands count refl c.requires.room short) (lit≤ tt)
