@@ -1,5 +1,6 @@
 // A node over a disk that fails after so many calls.
 ghost use Rattle.std.specs.Prelude.{◌≡◌, Some};
+ghost use Rattle.x_disk.specs.Fuse.{StillCovers};
 ghost use Rattle.x_disk.specs.Shelf.{IsAlike};
 ghost use Rattle.key_store.specs.Store.{IsStore};
 
@@ -15,6 +16,7 @@ impl<D: Disk> Node<D> {
         ensures passes { (⟦<Fused<D> as Disk>⟧.told result.disk).passes ≡ Some calls }
         ensures disk { IsAlike (⟦<Fused<D> as Disk>⟧.told result.disk) (D.told self.disk) }
         ensures faults { (⟦<Fused<D> as Disk>⟧.told result.disk).faults ≡ (D.told self.disk).faults }
+        ensures covers { StillCovers (D.told self.disk) (⟦<Fused<D> as Disk>⟧.told result.disk) }
     {
         Node {
             store: self.store.fuse(calls),

@@ -4,10 +4,12 @@
 mod deciding;
 mod fusing;
 mod keeping;
+mod laws;
 mod node;
 mod opening;
 mod taking;
 
+pub use laws::law_taking;
 pub use node::{Node, Turn};
 
 #[cfg(test)]
