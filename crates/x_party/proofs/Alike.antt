@@ -1,11 +1,11 @@
 -- One disk tells what another does, step after step.
-use Rattle.std.proofs.Common.{◌≡◌, ℕ, List, sym, ◌∙◌}
-use Rattle.x_disk.specs.Disk.{View, LeavesOnly, LeavesNoMore, IsSound}
+use Rattle.std.proofs.Common.{◌≡◌, ℕ, ◌-◌, List, refl, sym, ◌∙◌, arith}
+use Rattle.x_disk.specs.Disk.{View, LeavesOnly, LeavesNoMore, IsSound, IsUntouched}
 use Rattle.x_disk.specs.Shelf.{IsAlike, OthersStay}
-use Rattle.x_disk.proofs.Runs.{began, weaker, begins_alike, ends_alike}
+use Rattle.x_disk.proofs.Runs.{began, joined, weaker, begins_alike, ends_alike}
 use Rattle.party_state.specs.State.{Party}
 use Rattle.key_store.specs.Store.{IsStore}
-use Rattle.x_party.specs.Images.{StandsFor, IsUntouched}
+use Rattle.x_party.specs.Images.{ReadsAs, StandsFor}
 
 pub alike_trans : (u v w : View) → IsAlike u v → IsAlike v w → IsAlike u w
 alike_trans u v w first second = record {
@@ -22,12 +22,9 @@ alike_trans u v w first second = record {
 pub others_on : (name : List ℕ) (old mid new : List ℕ → View) → OthersStay name old mid → OthersStay name mid new → OthersStay name old new
 others_on name old mid new first second = λ other apart. alike_trans (old other) (mid other) (new other) (first other apart) (second other apart)
 
-pub untouched_alike : (v w : View) → IsSound v → IsAlike v w → IsUntouched v w
-untouched_alike v w sound alike = record {
-  now = alike.now;
-  images = alike.images;
-  any_moment = ends_alike v v w v.may_leave (began v v.may_leave sound (λ c left. left)) alike;
-}
+-- no call was made
+pub untouched_self : (v : View) → IsSound v → IsUntouched v v
+untouched_self v sound = record { now = refl; images = λ c left. left; any_moment = began v v.may_leave sound (λ c left. left) }
 
 -- between a fetch and a put back nothing was written
 pub untouched_between : (old v w new : View) → IsAlike old v → w.now ≡ v.now → LeavesNoMore v w → LeavesOnly v w v.may_leave → IsAlike w new → IsUntouched old new
@@ -37,21 +34,32 @@ untouched_between old v w new out same images run back = record {
   any_moment = weaker old new v.may_leave old.may_leave (begins_alike old v new v.may_leave out (ends_alike v w new v.may_leave run back)) out.images;
 }
 
-pub untouched_then_alike : (old v new : View) → IsUntouched old v → IsAlike v new → IsUntouched old new
-untouched_then_alike old v new so_far back = record {
-  now = back.now ∙ so_far.now;
-  images = λ c left. so_far.images c (back.images c left);
-  any_moment = ends_alike old v new old.may_leave so_far.any_moment back;
+-- nor before it, and then the disk was put back
+pub untouched_on : (old v w new : View) → IsUntouched old v → IsUntouched v w → IsAlike w new → IsUntouched old new
+untouched_on old v w new first second back = record {
+  now = back.now ∙ (second.now ∙ first.now);
+  images = λ c left. first.images c (second.images c (back.images c left));
+  any_moment = joined old v new old.may_leave first.any_moment
+      (ends_alike v w new old.may_leave (weaker v w v.may_leave old.may_leave second.any_moment first.images) back);
 }
 
-pub stands_alike : (v w : View) (party : Party) → StandsFor v party → IsAlike v w → StandsFor w party
-stands_alike v w party stands alike = record {
+pub reads_alike : (v w : View) (party : Party) (room : ℕ) → ReadsAs v party room → w.now ≡ v.now → ReadsAs w party room
+reads_alike v w party room reads same = record {
+  stands = λ image now. reads.stands image (sym same ∙ now);
+  left = λ bodies has. reads.left bodies (record { image = has.image; now = sym same ∙ has.now; holds = has.holds });
+}
+
+pub stands_alike : (v w : View) (party : Party) (room : ℕ) → StandsFor v party room → IsAlike v w → StandsFor w party room
+stands_alike v w party room stands alike = record {
   durable = record {
     only = λ b c now left. stands.durable.only b c (sym alike.now ∙ now) (alike.images c left);
     stable = alike.stable ∙ (stands.durable.stable ∙ sym alike.now);
   };
-  now = λ image now. stands.now image (sym alike.now ∙ now);
+  reads = reads_alike v w party room stands.reads alike.now;
 }
 
-pub store_stands : (v : View) (gate end : ℕ) (party : Party) → IsStore v gate end party → StandsFor v party
-store_stands v gate end party store = record { durable = store.durable; now = store.stands }
+pub store_stands : (v : View) (gate end : ℕ) (party : Party) → IsStore v gate end party → StandsFor v party (end - gate)
+store_stands v gate end party store = record {
+  durable = store.durable;
+  reads = record { stands = store.stands; left = λ bodies has. omega (arith, store.room bodies has) };
+}

@@ -1,12 +1,16 @@
 -- A party is set up, and its disk is put back.
-use Rattle.std.proofs.Common.{◌≡◌, ◌⊎◌, inl, inr, ℕ, ◌≤◌, true, List, Some, None, is_some, refl, sym, ◌∙◌, ap, subst}
+use Rattle.std.proofs.Common.{◌≡◌, ◌⊎◌, inl, inr, ℕ, ◌+◌, ◌-◌, ◌≤◌, true, List, [], ◌∷◌, length, Some, None, is_some, refl, sym, ◌∙◌, subst, arith}
+use Rattle.x_base.specs.declared.party.Role.{Role}
+use Rattle.x_gen.specs.declared.generator.Gen.{Gen}
 use Rattle.x_disk.specs.Disk.{View, Tells, LeavesOnly}
 use Rattle.x_disk.specs.Shelf.{IsAlike}
-use Rattle.x_disk.proofs.Runs.{weaker, begins_alike, ends_alike}
-use Rattle.party_state.specs.State.{Party}
+use Rattle.party_state.specs.declared.edit.Edit.TheVariants.{Begin}
+use Rattle.party_state.specs.State.{Party, begun}
 use Rattle.key_journal.specs.Journal.{is_blank}
+use Rattle.key_journal.specs.States.{SparesNonBlank}
+use Rattle.key_store.specs.Code.{code_of}
 use Rattle.key_store.specs.Store.{Stored, IsStore, IsBlankOrFirst}
-use Rattle.x_party.specs.Images.{StandsFor, OrBefore}
+use Rattle.x_party.specs.Images.{StandsFor, first_room}
 use Rattle.x_party.specs.Outcomes.{IsSetUp}
 use Rattle.x_party.specs.Steps.{Begins, HasBegun, IsClosed}
 use Rattle.x_party.specs.declared.outcome.Outcome.{Outcome}
@@ -15,14 +19,16 @@ use Rattle.x_party.proofs.Alike.{stands_alike, store_stands}
 
 module _ (old v w new : View) (p : Party) (out : IsAlike old v) (back : IsAlike w new) where
   set_up_of : (o : Outcome) → Begins v w p o → IsSetUp old new p o
-  set_up_of (outcome.Done reply) begins = (begins.0, stands_alike w new p begins.1 back, λ image now. begins.2 image (out.now ∙ now))
-  set_up_of (outcome.Refused verdict reply) begins = (
-    begins.0,
-    begins.1,
-    λ image now.
-        let was = begins.2 image (out.now ∙ now) in
-        (was.0, back.now ∙ (was.1 ∙ out.now), λ c left. out.images c (was.2 c (back.images c left))),
-  )
+  set_up_of (outcome.Done reply) begins = record {
+    blank = λ image now. begins.blank image (out.now ∙ now);
+    reply = begins.reply;
+    stands = stands_alike w new p (first_room p) begins.stands back;
+  }
+  set_up_of (outcome.Refused verdict reply) begins = record {
+    not_blank = λ image now. begins.not_blank image (out.now ∙ now);
+    verdict = begins.verdict;
+    reply = begins.reply;
+  }
   set_up_of (outcome.Damaged place) begins = begins
   set_up_of outcome.Fault begins = tt
   set_up_of outcome.NoMemory begins = tt
@@ -32,21 +38,26 @@ module _ (old v w new : View) (p : Party) (out : IsAlike old v) (back : IsAlike 
   set_up_on o result before later begun (inr (inl fault)) = subst (IsSetUp old new p) (sym fault.0) tt
   set_up_on o result before later begun (inr (inr is)) = subst (IsSetUp old new p) (sym is) tt
 
-  pub begun_on : (o : Outcome) → HasBegun v w p o → Tells old → LeavesOnly old new (OrBefore old (IsBlankOrFirst p))
-  begun_on o begun tells = weaker old new (λ c. IsBlankOrFirst p c ⊎ v.may_leave c) (OrBefore old (IsBlankOrFirst p))
-      (begins_alike old v new (λ c. IsBlankOrFirst p c ⊎ v.may_leave c) out (ends_alike v w new (λ c. IsBlankOrFirst p c ⊎ v.may_leave c) (begun.any_moment (ap is_some out.now ∙ tells)) back))
-      (λ c one. either c one)
-    where
-      either : (c : List ℕ) → (IsBlankOrFirst p c) ⊎ v.may_leave c → OrBefore old (IsBlankOrFirst p) c
-      either c (inl it) = inl it
-      either c (inr left) = inr (out.images c left)
+module _ {D : Type 0} (told : D → View) (was : D) (new : Stored D) (own : List ℕ) (role : Role) (generator : Gen) where
+  first_stands : IsStore (told new.disk) new.gate new.end new.party → new.party ≡ begun own role generator
+      → (new.gate ≡ 21 + length (code_of (Begin own role generator ∷ []))) × (new.end ≡ 8388616)
+      → StandsFor (told new.disk) (begun own role generator) (first_room (begun own role generator))
+  first_stands store party place =
+      let left : new.end - new.gate ≡ first_room (begun own role generator) = omega (arith, place.0, place.1) in
+      subst (λ (p : Party). StandsFor (told new.disk) p (first_room (begun own role generator))) party
+      (subst (λ (n : ℕ). StandsFor (told new.disk) new.party n) left (store_stands (told new.disk) new.gate new.end new.party store))
 
-pub begun_done : {D : Type 0} (told : D → View) (was : D) (new : Stored D) (disk : D) (p : Party) → disk ≡ new.disk → IsStore (told new.disk) new.gate new.end new.party → new.party ≡ p
-    → ((image : List ℕ) → (told was).now ≡ Some image → is_blank image ≡ true)
-    → (Tells (told was) → LeavesOnly (told was) (told new.disk) (λ c. IsBlankOrFirst p c ⊎ (told was).may_leave c))
-    → (told was).faults ≤ (told new.disk).faults → HasBegun (told was) (told disk) p (outcome.Done None)
-begun_done told was new disk p is store party blank run faults = record {
-  begins = (refl, subst (λ d. StandsFor (told d) p) (sym is) (subst (λ (q : Party). StandsFor (told new.disk) q) party (store_stands (told new.disk) new.gate new.end new.party store)), blank);
-  any_moment = subst (λ d. Tells (told was) → LeavesOnly (told was) (told d) (λ c. IsBlankOrFirst p c ⊎ (told was).may_leave c)) (sym is) run;
-  faults = subst (λ d. (told was).faults ≤ (told d).faults) (sym is) faults;
-}
+  pub begun_done : (disk : D) → disk ≡ new.disk → IsStore (told new.disk) new.gate new.end new.party → new.party ≡ begun own role generator
+      → (new.gate ≡ 21 + length (code_of (Begin own role generator ∷ []))) × (new.end ≡ 8388616)
+      → ((image : List ℕ) → (told was).now ≡ Some image → is_blank image ≡ true) → SparesNonBlank (told was) (told new.disk)
+      → (Tells (told was) → LeavesOnly (told was) (told new.disk) (λ c. IsBlankOrFirst (begun own role generator) c ⊎ (told was).may_leave c))
+      → is_some (told new.disk).now ≡ is_some (told was).now → (told was).faults ≤ (told new.disk).faults
+      → HasBegun (told was) (told disk) (begun own role generator) (outcome.Done None)
+  begun_done disk is store party place blank spared run tells faults =
+      subst (λ (d : D). HasBegun (told was) (told d) (begun own role generator) (outcome.Done None)) (sym is) (record {
+        begins = record { blank = blank; reply = refl; stands = first_stands store party place };
+        spared = spared;
+        any_moment = run;
+        tells = tells;
+        faults = faults;
+      })

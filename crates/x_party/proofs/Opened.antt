@@ -1,7 +1,7 @@
 -- A disk is fetched and opened, or put back.
-use Rattle.std.proofs.Common.{◌≡◌, ◌⊎◌, inl, inr, ℕ, ◌<◌, ◌≤◌, List, Some, sym, ◌∙◌, subst, arith, refl}
+use Rattle.std.proofs.Common.{◌≡◌, inl, inr, ℕ, ◌<◌, ◌≤◌, List, Some, sym, ◌∙◌, subst, arith, refl}
 use Rattle.x_base.specs.Edge.{Rose}
-use Rattle.x_disk.specs.Disk.{View, LeavesOnly, LeavesNoMore, IsSound}
+use Rattle.x_disk.specs.Disk.{View, LeavesOnly, LeavesNoMore, IsUntouched}
 use Rattle.x_disk.specs.Shelf.{IsAlike}
 use Rattle.x_disk.proofs.Runs.{weaker, begins_alike}
 use Rattle.key_journal.specs.declared.cause.Cause.{Cause}
@@ -11,7 +11,7 @@ use Rattle.key_store.specs.Store.{Stands, IsStore, IsRefusal}
 use Rattle.x_party.specs.Steps.{IsOpened, IsNotOpened, HasNoParty, IsClosed, outcome_of}
 use Rattle.x_party.specs.declared.outcome.Outcome.{Outcome}
 use Rattle.x_party.specs.declared.outcome.Outcome.TheVariants as outcome
-use Rattle.x_party.proofs.Alike.{untouched_alike, untouched_between}
+use Rattle.x_party.proofs.Alike.{untouched_between}
 
 pub opened : (old v w : View) (gate end : ℕ) (party : Party) → IsAlike old v → IsStore w gate end party → w.now ≡ v.now → LeavesNoMore v w → LeavesOnly v w v.may_leave
     → ((image : List ℕ) (other : Party) → v.now ≡ Some image → Stands image other → party ≡ other) → IsOpened old w gate end party
@@ -25,28 +25,29 @@ opened old v w gate end party out store same images run exact = record {
   exact = λ image other now stands. exact image other (out.now ∙ now) stands;
 }
 
-pub not_fetched : (old new : View) (o : Outcome) → IsSound old → IsAlike old new → (o ≡ outcome.Fault) ⊎ (o ≡ outcome.NoMemory) → IsNotOpened old new o
-not_fetched old new o sound alike (inl is) = record { untouched = untouched_alike old new sound alike; refused = λ image now. subst (HasNoParty image) (sym is) tt }
-not_fetched old new o sound alike (inr is) = record { untouched = untouched_alike old new sound alike; refused = λ image now. subst (HasNoParty image) (sym is) tt }
+no_party : (old v new : View) (reason : Cause) → old.now ≡ v.now → IsUntouched old new → (reason ≡ cause.NotEmpty → ⊥)
+    → ((image : List ℕ) → v.now ≡ Some image → IsRefusal image reason) → HasNoParty old new (outcome_of reason)
+no_party old v new cause.Blank same untouched named refused =
+    record { blank = λ image now. refused image (sym same ∙ now); verdict = refl; reply = refl; untouched = untouched }
+no_party old v new cause.NotEmpty same untouched named refused = absurd (named refl)
+no_party old v new (cause.Damaged place) same untouched named refused = record { first = λ image now. refused image (sym same ∙ now); untouched = untouched }
+no_party old v new cause.Fault same untouched named refused = tt
+no_party old v new cause.NoMemory same untouched named refused = tt
 
-no_party : (image : List ℕ) (reason : Cause) → IsRefusal image reason → HasNoParty image (outcome_of reason)
-no_party image cause.Blank blank = record { blank = blank; verdict = refl; reply = refl }
-no_party image cause.NotEmpty never = absurd never
-no_party image (cause.Damaged place) damage = damage
-no_party image cause.Fault is = tt
-no_party image cause.NoMemory is = tt
-
-closed_party : (image : List ℕ) (o result : Outcome) (before after : ℕ) → IsClosed o before after result → HasNoParty image o → HasNoParty image result
-closed_party image o result before after (inl is) none = subst (HasNoParty image) (sym is) none
-closed_party image o result before after (inr (inl fault)) none = subst (HasNoParty image) (sym fault.0) tt
-closed_party image o result before after (inr (inr is)) none = subst (HasNoParty image) (sym is) tt
+closed_party : (old new : View) (o result : Outcome) (before after : ℕ) → IsClosed o before after result → HasNoParty old new o → HasNoParty old new result
+closed_party old new o result before after (inl is) none = subst (HasNoParty old new) (sym is) none
+closed_party old new o result before after (inr (inl fault)) none = subst (HasNoParty old new) (sym fault.0) tt
+closed_party old new o result before after (inr (inr is)) none = subst (HasNoParty old new) (sym is) tt
 
 pub not_opened : (old v w new : View) (reason : Cause) (o : Outcome) (before after : ℕ) → IsAlike old v → w.now ≡ v.now → LeavesNoMore v w → LeavesOnly v w v.may_leave
-    → ((image : List ℕ) → v.now ≡ Some image → IsRefusal image reason) → IsAlike w new → IsClosed (outcome_of reason) before after o → IsNotOpened old new o
-not_opened old v w new reason o before after out same images run refused back closed = record {
-  untouched = untouched_between old v w new out same images run back;
-  refused = λ image now. closed_party image (outcome_of reason) o before after closed (no_party image reason (refused image (out.now ∙ now)));
-}
+    → (reason ≡ cause.NotEmpty → ⊥) → ((image : List ℕ) → v.now ≡ Some image → IsRefusal image reason)
+    → IsAlike w new → IsClosed (outcome_of reason) before after o → IsNotOpened old new o
+not_opened old v w new reason o before after out same images run named refused back closed =
+    let untouched = untouched_between old v w new out same images run back in
+    record {
+      untouched = untouched;
+      refused = closed_party old new (outcome_of reason) o before after closed (no_party old v new reason (sym out.now) untouched named refused);
+    }
 
 pub rose_some : (before after : ℕ) → Rose before after → 0 < after
 rose_some before after (inl less) = omega (arith, less)

@@ -1,18 +1,31 @@
 -- What the image under a party stands for before and after a call (this project's profile). `old` and `new` are
 -- what the shelf tells of the party's disk.
-use Rattle.std.specs.Prelude.{◌≡◌, ◌⊎◌, ℕ, ◌+◌, ◌≤◌, List, length, Option, Some, None}
-use Rattle.x_disk.specs.Disk.{View, LeavesOnly, LeavesNoMore, IsDurable}
+use Rattle.std.specs.Prelude.{◌≡◌, ◌⊎◌, ℕ, ◌+◌, ◌-◌, ◌≤◌, List, [], ◌∷◌, length, Option, Some, None, is_some}
+use Rattle.x_disk.specs.Disk.{View, IsDurable}
 use Rattle.key_journal.specs.Journal.{Holds}
-use Rattle.key_journal.specs.States.{room_of}
+use Rattle.key_journal.specs.States.{HasBodies, room_of}
 use Rattle.party_state.specs.declared.edit.Edit.{Edit}
+use Rattle.party_state.specs.declared.edit.Edit.TheVariants.{Begin}
 use Rattle.party_state.specs.State.{Party}
 use Rattle.key_store.specs.Code.{code_of}
 use Rattle.key_store.specs.Store.{Stands}
 
--- each image that a crash may leave stands for this party
-pub record StandsFor (v : View) (party : Party) : Type 0 where
+-- where the disk tells, what a read gives stands for this party, and so much room is left
+pub record ReadsAs (v : View) (party : Party) (room : ℕ) : Type 0 where
+  pub stands : (image : List ℕ) → v.now ≡ Some image → Stands image party
+  pub left : (bodies : List (List ℕ)) → HasBodies v bodies → room_of bodies ≡ room
+
+-- the same of each image that a crash may leave
+pub record StandsFor (v : View) (party : Party) (room : ℕ) : Type 0 where
   pub durable : IsDurable v
-  pub now : (image : List ℕ) → v.now ≡ Some image → Stands image party
+  pub reads : ReadsAs v party room
+
+-- what a read gives stands for a party, and this holds of the party and its room
+pub record OfParty (v : View) (P : Party → ℕ → Type 0) : Type 0 where
+  pub party : Party
+  pub room : ℕ
+  pub reads : ReadsAs v party room
+  pub holds : P party room
 
 -- a change fits into so much room; none always does
 abbrev pub FitsInto : ℕ → Option (List Edit) → Type 0
@@ -23,11 +36,18 @@ FitsInto room (Some edits) = length (code_of edits) + 6 ≤ room
 abbrev pub FitsImage : List ℕ → Option (List Edit) → Type 0
 FitsImage image change = (bodies : List (List ℕ)) → Holds image bodies → FitsInto (room_of bodies) change
 
--- nothing was written: what a read gives is as it was, and a crash leaves what it could leave before
-pub record IsUntouched (old new : View) : Type 0 where
-  pub now : new.now ≡ old.now
-  pub images : LeavesNoMore old new
-  pub any_moment : LeavesOnly old new old.may_leave
+-- the room that is left after a change: five more than the length of its code is taken
+abbrev pub room_after : ℕ → Option (List Edit) → ℕ
+room_after room None = room
+room_after room (Some edits) = room - (length (code_of edits) + 5)
+
+-- the room that a party leaves of an empty area where it begins
+abbrev pub first_room : Party → ℕ
+first_room p = room_after 8388600 (Some (Begin p.own p.role p.generator ∷ []))
+
+-- a disk that told its bytes still tells them, and one that didn't still doesn't
+abbrev pub StillTells : View → View → Type 0
+StillTells old new = is_some new.now ≡ is_some old.now
 
 -- one of these, or what could be left before
 abbrev pub OrBefore : View → (List ℕ → Type 0) → List ℕ → Type 0

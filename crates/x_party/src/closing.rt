@@ -2,6 +2,7 @@
 ghost use Rattle.std.specs.Prelude.{◌≡◌, ◌<◌, ◌≤◌};
 ghost use Rattle.x_base.specs.Edge.{Rose};
 ghost use Rattle.x_disk.specs.Shelf.{IsAlike, OthersStay};
+ghost use Rattle.x_party.specs.Outcomes.{IsNoFailure};
 ghost use Rattle.x_party.specs.Steps.{IsClosed, outcome_of};
 
 use crate::outcome::Outcome;
@@ -32,6 +33,7 @@ pub(crate) fn close<H: Shelf>(
     requires slot { H.has_slot shelf.old name.now }
     ensures disk { IsAlike (H.Disk.told disk) (H.entry shelf.new name.now) }
     ensures outcome { IsClosed outcome (H.faults shelf.old) (H.faults shelf.new) result }
+    ensures back { IsNoFailure result → H.is_back shelf.new name.now }
     ensures others { OthersStay name.now (H.entry shelf.old) (H.entry shelf.new) }
     ensures later { H.faults shelf.old ≤ H.faults shelf.new }
     ensures seen { 0 < (H.Disk.told disk).faults → Rose (H.faults shelf.old) (H.faults shelf.new) }

@@ -1,8 +1,9 @@
 // The disk is fetched, and its party opened.
 ghost use Rattle.std.specs.Prelude.{◌≡◌, ◌⊎◌, ◌-◌, ◌<◌, ◌≤◌, IfOk, IfErr, OnOk, OnErr};
 ghost use Rattle.x_base.specs.Edge.{Rose};
+ghost use Rattle.x_disk.specs.Disk.{IsUntouched};
 ghost use Rattle.x_disk.specs.Shelf.{IsAlike, OthersStay};
-ghost use Rattle.x_party.specs.Images.{IsUntouched};
+ghost use Rattle.x_party.specs.Outcomes.{IsNoFailure};
 ghost use Rattle.x_party.specs.Steps.{IsOpened, IsNotOpened};
 
 use crate::closing::{close, outcome_of};
@@ -40,6 +41,7 @@ pub(crate) fn open<H: Shelf>(
     ensures node { IfOk result (λ n. IsOpened (H.entry shelf.old name.now) (H.Disk.told n.disk) n.gate n.end n.party) }
     ensures slot { OnOk result (H.has_slot shelf.new name.now) }
     ensures failed { IfErr result (IsNotOpened (H.entry shelf.old name.now) (H.entry shelf.new name.now)) }
+    ensures back { IfErr result (λ o. IsNoFailure o → H.is_back shelf.new name.now) }
     ensures others { OthersStay name.now (H.entry shelf.old) (H.entry shelf.new) }
     ensures fault { IfErr result (λ o. o ≡ Outcome.Fault → Rose (H.faults shelf.old) (H.faults shelf.new)) }
     ensures later { H.faults shelf.old ≤ H.faults shelf.new }

@@ -3,10 +3,11 @@ ghost use Rattle.std.specs.Prelude.{◌≡◌, ◌≤◌, ◌-◌};
 ghost use Rattle.x_base.specs.Edge.{Rose};
 ghost use Rattle.x_disk.specs.Disk.{Tells, LeavesOnly};
 ghost use Rattle.x_disk.specs.Shelf.{OthersStay};
+ghost use Rattle.key_journal.specs.States.{SparesNonBlank};
 ghost use Rattle.party_state.specs.State.{begun};
 ghost use Rattle.key_store.specs.Store.{IsBlankOrFirst};
-ghost use Rattle.x_party.specs.Images.{OrBefore};
-ghost use Rattle.x_party.specs.Outcomes.{IsSetUp};
+ghost use Rattle.x_party.specs.Images.{StillTells, OrBefore};
+ghost use Rattle.x_party.specs.Outcomes.{IsSetUp, IsNoFailure};
 ghost use Rattle.x_party.specs.Steps.{HasBegun};
 
 use crate::closing::{close, outcome_of};
@@ -36,7 +37,10 @@ pub fn set_up<H: Shelf>(
     generator: Gen,
 ) -> Outcome
     ensures set_up { IsSetUp (H.entry shelf.old own) (H.entry shelf.new own) (begun own role generator) result }
+    ensures spared { SparesNonBlank (H.entry shelf.old own) (H.entry shelf.new own) }
     ensures any_moment { Tells (H.entry shelf.old own) → LeavesOnly (H.entry shelf.old own) (H.entry shelf.new own) (OrBefore (H.entry shelf.old own) (IsBlankOrFirst (begun own role generator))) }
+    ensures tells { StillTells (H.entry shelf.old own) (H.entry shelf.new own) }
+    ensures back { IsNoFailure result → H.is_back shelf.new own }
     ensures others { OthersStay own (H.entry shelf.old) (H.entry shelf.new) }
     ensures fault { result ≡ Outcome.Fault → Rose (H.faults shelf.old) (H.faults shelf.new) }
     ensures later { H.faults shelf.old ≤ H.faults shelf.new }

@@ -1,9 +1,9 @@
 // A party is shown.
 ghost use Rattle.std.specs.Prelude.{◌≡◌, ◌≤◌};
 ghost use Rattle.x_base.specs.Edge.{Rose};
+ghost use Rattle.x_disk.specs.Disk.{IsUntouched};
 ghost use Rattle.x_disk.specs.Shelf.{OthersStay};
-ghost use Rattle.x_party.specs.Images.{IsUntouched};
-ghost use Rattle.x_party.specs.Outcomes.{IsShow};
+ghost use Rattle.x_party.specs.Outcomes.{IsShow, IsNoFailure};
 ghost use Rattle.x_party.specs.Steps.{IsText};
 
 use crate::closing::close;
@@ -27,6 +27,7 @@ fn text_of(alloc: Global, state: &State) -> Outcome
 pub fn show<H: Shelf>(alloc: Global, shelf: &mut H, name: &Ident) -> Outcome
     ensures shown { IsShow (H.entry shelf.old name.now) (H.entry shelf.new name.now) result }
     ensures untouched { IsUntouched (H.entry shelf.old name.now) (H.entry shelf.new name.now) }
+    ensures back { IsNoFailure result → H.is_back shelf.new name.now }
     ensures others { OthersStay name.now (H.entry shelf.old) (H.entry shelf.new) }
     ensures fault { result ≡ Outcome.Fault → Rose (H.faults shelf.old) (H.faults shelf.new) }
     ensures later { H.faults shelf.old ≤ H.faults shelf.new }

@@ -2,7 +2,7 @@
 ghost use Rattle.std.specs.Prelude.{◌≡◌, ◌≤◌};
 ghost use Rattle.x_base.specs.Edge.{Rose};
 ghost use Rattle.x_disk.specs.Shelf.{OthersStay};
-ghost use Rattle.x_party.specs.Outcomes.{IsTold, IsSafe};
+ghost use Rattle.x_party.specs.Outcomes.{IsTold, IsSafe, IsNoFailure};
 
 use crate::acting::act;
 use crate::closing::close;
@@ -24,6 +24,7 @@ pub fn tell<H: Shelf>(
 ) -> Outcome
     ensures told { IsTold (H.entry shelf.old name.now) (H.entry shelf.new name.now) input moment result }
     ensures safe { IsSafe (H.entry shelf.old name.now) (H.entry shelf.new name.now) input moment }
+    ensures back { IsNoFailure result → H.is_back shelf.new name.now }
     ensures others { OthersStay name.now (H.entry shelf.old) (H.entry shelf.new) }
     ensures fault { result ≡ Outcome.Fault → Rose (H.faults shelf.old) (H.faults shelf.new) }
     ensures later { H.faults shelf.old ≤ H.faults shelf.new }

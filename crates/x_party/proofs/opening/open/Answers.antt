@@ -16,7 +16,7 @@ returns-in-Err-clause-failed g c =
     let faults = g.H.Shelf.faults in
     not_opened (g.H.Shelf.entry c.args.shelf.now c.args.name.now) (told c.in_ok-disk.disk) (told c.in-Err.field-0.disk) (g.H.Shelf.entry c.close.new.shelf c.args.name.now)
     c.in-Err.field-0.cause c.close.result (faults c.fetch.new.shelf) (faults c.close.new.shelf) c.in_ok-disk.ensures.disk
-    c.in-Err.ensures.now c.in-Err.ensures.images c.in-Err.ensures.any_moment c.in-Err.ensures.refused c.close.ensures.disk
+    c.in-Err.ensures.now c.in-Err.ensures.images c.in-Err.ensures.any_moment c.in-Err.ensures.names c.in-Err.ensures.refused c.close.ensures.disk
     (subst (λ o. IsClosed o (faults c.fetch.new.shelf) (faults c.close.new.shelf) c.close.result) c.outcome_of.ensures c.close.ensures.outcome)
 
 pub returns-in-Err-clause-others : goal.returns-in-Err-clause-others
