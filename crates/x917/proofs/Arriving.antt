@@ -18,6 +18,7 @@ use Rattle.x917.specs.declared.status.Status.{Status}
 use Rattle.x917.specs.declared.status.Status.TheVariants as status
 use Rattle.x917.specs.Transfer.{Took, IsAtEnd, IsQuiet}
 use Rattle.x917.specs.Check.{taken, refusal_of}
+use Rattle.x917.specs.Ends.{IsOfParty}
 use Rattle.x917.specs.Dues.{IsDue, Follows, IsHeard, FollowsBytes}
 use Rattle.x917.specs.Obeys.{IsUnheard}
 use Rattle.x917.proofs.Decisions.{text_taken, not_full, refused_possible}
@@ -57,6 +58,15 @@ module _ (before after : Option (List ℕ)) (text bytes : List ℕ) (took : Took
 
   pub unheard_was : (u : Unheard) (f : Refusal) → r ≡ Err u → f ≡ refusal_of u → u ≢ unheard.Text reason.NoMemory → IsUnheard before (status.Refused f)
   unheard_was u f is k some = inr (u, ap status.Refused k, refused_possible u some, unheard_in before u took end (of_text (Err u) is))
+
+-- a status for which no party was told comes of none
+pub none_told : (left : Option (List ℕ)) (s : Status) → IsUnheard left s → IsOfParty s → ⊥
+none_told left s (inl (inl fault)) of = subst IsOfParty fault of
+none_told left s (inl (inr memory)) of = subst IsOfParty memory of
+none_told left s (inr (u, is, possible, heard)) of = go u (subst IsOfParty is of) where
+  go : (u : Unheard) → IsOfParty (status.Refused (refusal_of u)) → ⊥
+  go (unheard.Text refusal) of = of
+  go (unheard.Trailing place) of = of
 
 -- ---- what follows of it
 

@@ -7,11 +7,12 @@ use Rattle.x_disk.specs.Disk.{View}
 use Rattle.key_journal.specs.Journal.{is_blank}
 use Rattle.party_state.specs.declared.command.Input.{Input}
 use Rattle.party_state.specs.declared.decision.Decision.{Decision}
+use Rattle.party_state.specs.declared.edit.Edit.{Edit}
 use Rattle.party_state.specs.State.{Party}
 use Rattle.key_store.specs.Store.{Stands, IsFirstDamage}
 use Rattle.node_core.specs.Deciding.{decision}
-use Rattle.x_party.specs.Images.{FitsImage, IsUntouched}
-use Rattle.x_party.specs.Outcomes.{IsAsDecided, IsTooLong, IsNobody, IsRefused, IsShow, IsTold}
+use Rattle.x_party.specs.Images.{ReadsAs, OfParty, FitsInto, FitsImage}
+use Rattle.x_party.specs.Outcomes.{IsAsDecided, IsTooLong, IsRefused, IsNobody, IsShow, IsTold}
 use Rattle.x_party.specs.declared.outcome.Outcome.{Outcome}
 use Rattle.x_party.specs.declared.outcome.Outcome.TheVariants as outcome
 use Rattle.x917.specs.declared.status.Refusal.TheVariants.{Decided}
@@ -19,7 +20,7 @@ use Rattle.x917.specs.declared.status.Status.{Status}
 use Rattle.x917.specs.declared.status.Status.TheVariants as status
 use Rattle.x917.specs.Transfer.{IsQuiet}
 use Rattle.x917.specs.Ends.{status_of_outcome, Puts, Ends}
-use Rattle.x917.specs.Dues.{Accepts, Refuses, IsDue, IsDueShow, Follows}
+use Rattle.x917.specs.Dues.{Accepts, Refuses, FindsNobody, IsDue, IsDueShow, Follows}
 
 -- ---- the status of an outcome
 
@@ -56,23 +57,54 @@ module _ (old : View) (o : Outcome) (ending : List ℕ) (s : Status) (before aft
 blank_or : {A : Type 0} (image : List ℕ) → is_blank image ≡ true → is_blank image ≡ false → A
 blank_or image blank marked = let no : true ≡ false = sym blank ∙ marked in absurd cc
 
+nobody_due : (old new : View) (image : List ℕ) (verdict : Verdict) (reply : Option (List ℕ)) → old.now ≡ Some image → IsNobody old new verdict reply → FindsNobody image verdict reply
+nobody_due old new image verdict reply now none = record { blank = none.blank image now; said = none.verdict; written = none.reply }
+
 due_show : (old new : View) (o : Outcome) → IsShow old new o → (image : List ℕ) → old.now ≡ Some image → DueOr o (IsDueShow image o)
-due_show old new (outcome.Done reply) is image now = let k = is image now in inl (k.party, k.stood, k.text)
-due_show old new (outcome.Refused verdict reply) is image now = inl (is image now)
-due_show old new (outcome.Damaged place) is image now = inl (is image now)
+due_show old new (outcome.Done reply) is image now = inl (is.party, is.reads.stands image now, is.holds.text)
+due_show old new (outcome.Refused verdict reply) is image now = inl (nobody_due old new image verdict reply now is)
+due_show old new (outcome.Damaged place) is image now = inl (is.first image now)
 due_show old new outcome.Fault is image now = inr (inl refl)
 due_show old new outcome.NoMemory is image now = inr (inr refl)
 
-due_told : (old new : View) (i : Input) (moment : ℕ) (o : Outcome) → IsTold old new i moment o → (image : List ℕ) → old.now ≡ Some image → DueOr o (IsDue i moment image o)
-due_told old new i moment (outcome.Done reply) is image now =
-    let k = is image now in inl (record { party = k.party; stood = k.stood; accepted = k.accepts; fits = k.fits; written = k.reply })
-due_told old new i moment (outcome.Refused verdict reply) is image now = go (is image now) where
-  go : IsRefused image new i moment verdict reply ⊎ (IsNobody image verdict reply × IsUntouched old new) → DueOr (outcome.Refused verdict reply) (Refuses image i moment verdict reply ⊎ IsNobody image verdict reply)
-  go (inl k) = inl (inl (record { party = k.party; stood = k.stood; cause = k.cause }))
-  go (inr k) = inl (inr k.0)
-due_told old new i moment (outcome.Damaged place) is image now = inl (is image now).0
-due_told old new i moment outcome.Fault is image now = inr (inl refl)
-due_told old new i moment outcome.NoMemory is image now = inr (inr refl)
+-- the room that is left is that of the image
+module _ (old : View) (image : List ℕ) (party : Party) (room : ℕ) (reads : ReadsAs old party room) (now : old.now ≡ Some image) (change : Option (List Edit)) where
+  fits_image : FitsInto room change → FitsImage image change
+  fits_image fits = λ bodies holds. subst (λ (n : ℕ). FitsInto n change) (sym (reads.left bodies (record { image = image; now = now; holds = holds }))) fits
+
+  fits_room : FitsImage image change → FitsInto room change
+  fits_room fits =
+      let s = reads.stands image now in
+      subst (λ (n : ℕ). FitsInto n change) (reads.left s.bodies (record { image = image; now = now; holds = s.holds })) (fits s.bodies s.holds)
+
+module _ (old new : View) (i : Input) (moment : ℕ) (image : List ℕ) (now : old.now ≡ Some image) where
+  refused_due : (verdict : Verdict) (reply : Option (List ℕ))
+      → OfParty old (λ party room. IsRefused old new (decision party i moment) party room verdict reply) ⊎ IsNobody old new verdict reply
+      → Refuses image i moment verdict reply ⊎ FindsNobody image verdict reply
+  refused_due verdict reply (inr none) = inr (nobody_due old new image verdict reply now none)
+  refused_due verdict reply (inl k) = inl (record { party = k.party; stood = k.reads.stands image now; cause = go k.holds.cause }) where
+    go : IsAsDecided (decision k.party i moment) verdict reply ⊎ IsTooLong (decision k.party i moment) (FitsInto k.room (decision k.party i moment).change) verdict reply
+        → IsAsDecided (decision k.party i moment) verdict reply ⊎ IsTooLong (decision k.party i moment) (FitsImage image (decision k.party i moment).change) verdict reply
+    go (inl decided) = inl decided
+    go (inr f) = inr (record {
+      accepts = f.accepts;
+      full = λ fits. f.full (fits_room old image k.party k.room k.reads now (decision k.party i moment).change fits);
+      verdict = f.verdict;
+      reply = f.reply;
+    })
+
+  due_told : (o : Outcome) → IsTold old new i moment o → DueOr o (IsDue i moment image o)
+  due_told (outcome.Done reply) k = inl (record {
+    party = k.party;
+    stood = k.reads.stands image now;
+    accepted = k.holds.accepts;
+    fits = fits_image old image k.party k.room k.reads now (decision k.party i moment).change k.holds.fits;
+    written = k.holds.reply;
+  })
+  due_told (outcome.Refused verdict reply) is = inl (refused_due verdict reply is)
+  due_told (outcome.Damaged place) is = inl (is.first image now)
+  due_told outcome.Fault is = inr (inl refl)
+  due_told outcome.NoMemory is = inr (inr refl)
 
 -- ---- what a decision refuses
 
@@ -93,7 +125,7 @@ module _ (one_party : (image : List ℕ) (first second : Party) → Stands image
     (not_blank : (image : List ℕ) (party : Party) → Stands image party → is_blank image ≡ false)
     (undamaged : (image : List ℕ) (party : Party) (place : ℕ) → Stands image party → IsFirstDamage image place → ⊥)
     (one_damage : (image : List ℕ) (first second : ℕ) → IsFirstDamage image first → IsFirstDamage image second → first ≡ second) where
-  stands_or_not : {A : Type 0} (image : List ℕ) (p : Party) (v : Verdict) (r : Option (List ℕ)) → Stands image p → IsNobody image v r → A
+  stands_or_not : {A : Type 0} (image : List ℕ) (p : Party) (v : Verdict) (r : Option (List ℕ)) → Stands image p → FindsNobody image v r → A
   stands_or_not image p v r stands none = blank_or image none.blank (not_blank image p stands)
 
   one_show : (image : List ℕ) (a b : Outcome) → IsDueShow image a → IsDueShow image b → status_of_outcome a ≡ status_of_outcome b
@@ -103,7 +135,7 @@ module _ (one_party : (image : List ℕ) (first second : Party) → Stands image
   one_show image (outcome.Done r) outcome.Fault a b = absurd b
   one_show image (outcome.Done r) outcome.NoMemory a b = absurd b
   one_show image (outcome.Refused v r) (outcome.Done t) a b = stands_or_not image b.0 v r b.1 a
-  one_show image (outcome.Refused v r) (outcome.Refused w t) a b = ap (λ (x : Verdict). status.Refused (Decided x)) (a.verdict ∙ sym b.verdict)
+  one_show image (outcome.Refused v r) (outcome.Refused w t) a b = ap (λ (x : Verdict). status.Refused (Decided x)) (a.said ∙ sym b.said)
   one_show image (outcome.Refused v r) (outcome.Damaged place) a b = blank_or image a.blank b.not_blank
   one_show image (outcome.Refused v r) outcome.Fault a b = absurd b
   one_show image (outcome.Refused v r) outcome.NoMemory a b = absurd b
@@ -116,7 +148,7 @@ module _ (one_party : (image : List ℕ) (first second : Party) → Stands image
   one_show image outcome.NoMemory b a c = absurd a
 
   module _ (i : Input) (moment : ℕ) where
-    accepts_or : {A : Type 0} (image : List ℕ) (r t : Option (List ℕ)) (w : Verdict) → Accepts image i moment r → Refuses image i moment w t ⊎ IsNobody image w t → A
+    accepts_or : {A : Type 0} (image : List ℕ) (r t : Option (List ℕ)) (w : Verdict) → Accepts image i moment r → Refuses image i moment w t ⊎ FindsNobody image w t → A
     accepts_or image r t w a (inl b) =
         let same : a.party ≡ b.party = one_party image a.party b.party a.stood b.stood in
         refused_or (decision b.party i moment) (FitsImage image (decision b.party i moment).change) w t
@@ -124,17 +156,17 @@ module _ (one_party : (image : List ℕ) (first second : Party) → Stands image
         (subst (λ (p : Party). FitsImage image (decision p i moment).change) same a.fits) b.cause
     accepts_or image r t w a (inr b) = stands_or_not image a.party w t a.stood b
 
-    damaged_or : {A : Type 0} (image : List ℕ) (place : ℕ) (w : Verdict) (t : Option (List ℕ)) → IsFirstDamage image place → Refuses image i moment w t ⊎ IsNobody image w t → A
+    damaged_or : {A : Type 0} (image : List ℕ) (place : ℕ) (w : Verdict) (t : Option (List ℕ)) → IsFirstDamage image place → Refuses image i moment w t ⊎ FindsNobody image w t → A
     damaged_or image place w t a (inl b) = absurd (undamaged image b.party place b.stood a)
     damaged_or image place w t a (inr b) = blank_or image b.blank a.not_blank
 
-    both_refuse : (image : List ℕ) (v w : Verdict) (r t : Option (List ℕ)) → Refuses image i moment v r ⊎ IsNobody image v r → Refuses image i moment w t ⊎ IsNobody image w t → v ≡ w
+    both_refuse : (image : List ℕ) (v w : Verdict) (r t : Option (List ℕ)) → Refuses image i moment v r ⊎ FindsNobody image v r → Refuses image i moment w t ⊎ FindsNobody image w t → v ≡ w
     both_refuse image v w r t (inl a) (inl b) =
         same_verdict (decision a.party i moment) (FitsImage image (decision a.party i moment).change) v w r t a.cause
         (subst (λ (p : Party). Cause (decision p i moment) (FitsImage image (decision p i moment).change) w t) (one_party image b.party a.party b.stood a.stood) b.cause)
     both_refuse image v w r t (inl a) (inr b) = stands_or_not image a.party w t a.stood b
     both_refuse image v w r t (inr a) (inl b) = stands_or_not image b.party v r b.stood a
-    both_refuse image v w r t (inr a) (inr b) = a.verdict ∙ sym b.verdict
+    both_refuse image v w r t (inr a) (inr b) = a.said ∙ sym b.said
 
     one_told : (image : List ℕ) (a b : Outcome) → IsDue i moment image a → IsDue i moment image b → status_of_outcome a ≡ status_of_outcome b
     one_told image (outcome.Done r) (outcome.Done t) a b = refl
@@ -165,4 +197,4 @@ module _ (one_party : (image : List ℕ) (first second : Party) → Stands image
       → IsTold old new i moment o → Ends o ending s before after → (s ≡ status.WriteFault → Rose put puts) → (o ≡ outcome.Fault → Rose disk disks)
       → IsQuiet put puts → IsQuiet disk disks → Follows old (IsDue i moment) s
   follows_told old new i moment o ending s before after put puts disk disks is ends put_cause disk_cause put_quiet disk_quiet =
-      follows old o ending s before after put puts disk disks (IsDue i moment) (due_told old new i moment o is) (one_told i moment) ends put_cause disk_cause put_quiet disk_quiet
+      follows old o ending s before after put puts disk disks (IsDue i moment) (λ image now. due_told old new i moment image now o is) (one_told i moment) ends put_cause disk_cause put_quiet disk_quiet

@@ -37,6 +37,14 @@ IsSilent (status.Refused refusal) = ⊥
 IsSilent status.WriteFault = ⊥
 IsSilent s = Unit {0}
 
+-- the statuses that come of a party which answered; `WriteFault` comes behind its answer
+abbrev pub IsOfParty : Status → Type 0
+IsOfParty status.Done = Unit {0}
+IsOfParty (status.Refused (Decided verdict)) = Unit {0}
+IsOfParty (status.Damaged place) = Unit {0}
+IsOfParty status.WriteFault = Unit {0}
+IsOfParty s = ⊥
+
 -- a fault has its cause: over every source, sink and shelf a count of faults rose. The counts are those of the source, the
 -- sink and the shelf, before and after
 abbrev pub HasCause : Status → ℕ → ℕ → ℕ → ℕ → ℕ → ℕ → Type 0

@@ -1,8 +1,9 @@
 -- What an order does (this project's profile). `left` and `rest` are what the source has before and after, `before` and
 -- `after` what the sink has, `old` and `new` what the shelf tells of the disks.
 use Rattle.std.specs.Prelude.{◌≡◌, ◌⊎◌, ℕ, Bool, true, false, List, [], ◌∷◌, Err, Option, Some, None, IfSome, option_map}
-use Rattle.x_disk.specs.Disk.{View, Tells, LeavesOnly}
+use Rattle.x_disk.specs.Disk.{View, Tells, LeavesOnly, IsUntouched}
 use Rattle.x_disk.specs.Shelf.{IsAlike, OthersStay, AllStay}
+use Rattle.key_journal.specs.States.{SparesNonBlank}
 use Rattle.x_line.specs.declared.order.Order.{Order}
 use Rattle.x_line.specs.declared.order.Order.TheVariants as order
 use Rattle.csm_grammar.specs.declared.arrival.Arrival.{Arrival}
@@ -13,7 +14,7 @@ use Rattle.party_state.specs.declared.command.Input.{Input}
 use Rattle.party_state.specs.declared.command.Input.TheVariants.{Ordered, Arrived}
 use Rattle.party_state.specs.State.{Party, begun}
 use Rattle.key_store.specs.Store.{IsBlankOrFirst}
-use Rattle.x_party.specs.Images.{IsUntouched, OrBefore}
+use Rattle.x_party.specs.Images.{StillTells, OrBefore}
 use Rattle.x_party.specs.Outcomes.{IsSetUp, IsShow, IsTold, IsSafe}
 use Rattle.x_party.specs.declared.outcome.Outcome.{Outcome}
 use Rattle.x917.specs.declared.told.Told.{Told}
@@ -45,7 +46,9 @@ pub record IsCommand (i : Input) (moment : ℕ) (old new : View) (s : Status) (b
 pub record IsBegun (party : Party) (old new : View) (s : Status) (before after : Option (List ℕ)) : Type 0 where
   pub outcome : Outcome
   pub set_up : IsSetUp old new party outcome
+  pub spared : SparesNonBlank old new
   pub any_moment : Tells old → LeavesOnly old new (OrBefore old (IsBlankOrFirst party))
+  pub tells : StillTells old new
   pub ends : Ends outcome [] s before after
 
 -- a party was shown, and the lines were written
@@ -67,9 +70,9 @@ IsTaken moment left rest old new s before after = (IsUnheard left s × (after �
 
 abbrev pub ObeysTold : Option Told → ℕ → (List ℕ → View) → (List ℕ → View) → Status → Option (List ℕ) → Option (List ℕ) → Type 0
 ObeysTold (Some t) moment old new s before after = IsCommand (Ordered t.command) moment (old t.party) (new t.party) s before after
-ObeysTold None moment old new s before after = s ≡ status.NoMemory
+ObeysTold None moment old new s before after = ⊥
 
--- what each order does; no command line gives one of a command that isn't built, which is only ever out of memory
+-- what each order does; no command line gives one of a command that isn't built
 abbrev pub Obeys : Order → ℕ → Status → Option (List ℕ) → Option (List ℕ) → Option (List ℕ) → Option (List ℕ) → (List ℕ → View) → (List ℕ → View) → Type 0
 Obeys order.Check moment s left rest before after old new = IsChecked s left rest before after
 Obeys (order.Init party role key v) moment s left rest before after old new =

@@ -2,7 +2,8 @@
 ghost use Rattle.std.specs.Prelude.{◌≡◌, ◌≤◌, ◌⊎◌, ◌++◌, OnOk, OnErr};
 ghost use Rattle.x_base.specs.Edge.{Rose, AppendsTo};
 ghost use Rattle.x917.specs.Transfer.{WrotePrefix};
-ghost use Rattle.x917.specs.Ends.{Ends, Puts, IsSilent};
+ghost use Rattle.x_party.specs.Outcomes.{IsNoFailure};
+ghost use Rattle.x917.specs.Ends.{Ends, Puts, IsSilent, IsOfParty};
 
 use crate::status::{Refusal, Status};
 use crate::transfer::put_all;
@@ -37,6 +38,7 @@ fn put_text<K: Sink>(sink: &mut K, text: Option<Text>, ending: &[u8], answer: St
 /// Writes the reply of an outcome and its ending, without memory.
 pub fn finish<K: Sink>(sink: &mut K, outcome: Outcome, ending: &[u8]) -> Status
     ensures ends { Ends outcome ending.now result (K.written sink.old) (K.written sink.new) }
+    ensures answered { IsOfParty result → IsNoFailure outcome }
     ensures write_fault { result ≡ Status.WriteFault → Rose (K.faults sink.old) (K.faults sink.new) }
     ensures silent { IsSilent result → sink.new ≡ sink.old }
 {

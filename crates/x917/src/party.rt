@@ -4,7 +4,7 @@ ghost use Rattle.x_base.specs.Edge.{Rose};
 ghost use Rattle.x_disk.specs.Shelf.{OthersStay};
 ghost use Rattle.party_state.specs.State.{begun};
 ghost use Rattle.x917.specs.Transfer.{IsQuiet};
-ghost use Rattle.x917.specs.Ends.{IsSilent};
+ghost use Rattle.x917.specs.Ends.{IsSilent, IsOfParty};
 ghost use Rattle.x917.specs.Dues.{Follows, IsDue, IsDueBegin, IsDueShow};
 ghost use Rattle.x917.specs.Obeys.{IsBegun, IsListed, IsCommand};
 
@@ -29,6 +29,7 @@ pub fn begin<K: Sink, H: Shelf>(
 ) -> Status
     ensures begun { IsBegun (begun party role generator) (H.entry shelf.old party) (H.entry shelf.new party) result (K.written sink.old) (K.written sink.new) }
     ensures follows { IsQuiet (K.faults sink.old) (K.faults sink.new) → IsQuiet (H.faults shelf.old) (H.faults shelf.new) → Follows (H.entry shelf.old party) IsDueBegin result }
+    ensures back { IsOfParty result → H.is_back shelf.new party }
     ensures others { OthersStay party (H.entry shelf.old) (H.entry shelf.new) }
     ensures write_fault { result ≡ Status.WriteFault → Rose (K.faults sink.old) (K.faults sink.new) }
     ensures disk_fault { result ≡ Status.DiskFault → Rose (H.faults shelf.old) (H.faults shelf.new) }
@@ -42,6 +43,7 @@ pub fn begin<K: Sink, H: Shelf>(
 pub fn list<K: Sink, H: Shelf>(alloc: Global, sink: &mut K, shelf: &mut H, party: &Ident) -> Status
     ensures listed { IsListed (H.entry shelf.old party.now) (H.entry shelf.new party.now) result (K.written sink.old) (K.written sink.new) }
     ensures follows { IsQuiet (K.faults sink.old) (K.faults sink.new) → IsQuiet (H.faults shelf.old) (H.faults shelf.new) → Follows (H.entry shelf.old party.now) IsDueShow result }
+    ensures back { IsOfParty result → H.is_back shelf.new party.now }
     ensures others { OthersStay party.now (H.entry shelf.old) (H.entry shelf.new) }
     ensures write_fault { result ≡ Status.WriteFault → Rose (K.faults sink.old) (K.faults sink.new) }
     ensures disk_fault { result ≡ Status.DiskFault → Rose (H.faults shelf.old) (H.faults shelf.new) }
@@ -63,6 +65,7 @@ pub fn command<K: Sink, H: Shelf>(
 ) -> Status
     ensures command { IsCommand input moment (H.entry shelf.old party.now) (H.entry shelf.new party.now) result (K.written sink.old) (K.written sink.new) }
     ensures follows { IsQuiet (K.faults sink.old) (K.faults sink.new) → IsQuiet (H.faults shelf.old) (H.faults shelf.new) → Follows (H.entry shelf.old party.now) (IsDue input moment) result }
+    ensures back { IsOfParty result → H.is_back shelf.new party.now }
     ensures others { OthersStay party.now (H.entry shelf.old) (H.entry shelf.new) }
     ensures write_fault { result ≡ Status.WriteFault → Rose (K.faults sink.old) (K.faults sink.new) }
     ensures disk_fault { result ≡ Status.DiskFault → Rose (H.faults shelf.old) (H.faults shelf.new) }

@@ -3,7 +3,7 @@ ghost use Rattle.std.specs.Prelude.{◌≡◌, [], Some, IfSome, IfOk, IfErr};
 ghost use Rattle.x_base.specs.Edge.{Rose};
 ghost use Rattle.x_disk.specs.Shelf.{OthersStay};
 ghost use Rattle.x917.specs.Transfer.{TookAtMost, IsQuiet};
-ghost use Rattle.x917.specs.Ends.{IsSilent};
+ghost use Rattle.x917.specs.Ends.{IsSilent, IsOfParty};
 ghost use Rattle.x917.specs.Dues.{IsHeard, FollowsBytes};
 ghost use Rattle.x917.specs.Obeys.{IsUnheard, IsTaken};
 
@@ -49,6 +49,7 @@ pub fn take<S: Source, K: Sink, H: Shelf>(
     ensures taken { IsTaken moment (S.left source.old) (S.left source.new) (H.entry shelf.old party.now) (H.entry shelf.new party.now) result (K.written sink.old) (K.written sink.new) }
     ensures follows { IsQuiet (S.faults source.old) (S.faults source.new) → IsQuiet (K.faults sink.old) (K.faults sink.new) → IsQuiet (H.faults shelf.old) (H.faults shelf.new)
         → IfSome (S.left source.old) (λ all. FollowsBytes all (H.entry shelf.old party.now) moment result) }
+    ensures back { IsOfParty result → H.is_back shelf.new party.now }
     ensures others { OthersStay party.now (H.entry shelf.old) (H.entry shelf.new) }
     ensures read_fault { result ≡ Status.ReadFault → Rose (S.faults source.old) (S.faults source.new) }
     ensures write_fault { result ≡ Status.WriteFault → Rose (K.faults sink.old) (K.faults sink.new) }

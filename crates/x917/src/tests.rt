@@ -1,13 +1,15 @@
 // What the program writes and answers.
 use crate::status::{Status, exit_code, status_line};
 use crate::top::run;
-use std::alloc::Global;
+use std::alloc::{AllocError, Global};
 use std::process::Abort;
 use std::test::Fail;
 use x_base::{MemorySink, MemorySource, NoMemory, Text, Words};
-use x_disk::MemoryShelf;
+use x_disk::{MemoryShelf, Shelf};
 
+mod faults;
 mod parties;
+mod words;
 
 /// Inputs, and what is written.
 const WRITTEN: [(&str, &str); 11] = [
@@ -217,12 +219,24 @@ struct Answer {
     line: Text,
 }
 
-/// A call in which the source and the sink fail at these calls, counted from 1.
-fn called(alloc: Global, words: &Words, input: Text, take: u32, put: u32) -> Result<Answer, Fail> {
-    let mut source = MemorySource::new(input, vec![in alloc; take]?);
-    let mut output = MemorySink::new(alloc, 200, vec![in alloc; put]?)?;
-    let mut shelf = MemoryShelf::new(alloc);
-    let status = run(alloc, words, 0, &mut source, &mut output, &mut shelf);
+fn only(alloc: Global, number: u32) -> Result<Vec<u32>, AllocError> {
+    let mut list = Vec::new(alloc);
+    list.push(number)?;
+    Ok(list)
+}
+
+/// A call over a shelf, in which the source and the sink fail at these calls, counted from 1.
+fn called_over<H: Shelf>(
+    alloc: Global,
+    shelf: &mut H,
+    words: &Words,
+    input: Text,
+    take: u32,
+    put: u32,
+) -> Result<Answer, NoMemory> {
+    let mut source = MemorySource::new(input, only(alloc, take)?);
+    let mut output = MemorySink::new(alloc, 200, only(alloc, put)?)?;
+    let status = run(alloc, words, 0, &mut source, &mut output, shelf);
     let line = status_line(alloc, &status)?;
     Ok(Answer {
         output,
@@ -231,8 +245,13 @@ fn called(alloc: Global, words: &Words, input: Text, take: u32, put: u32) -> Res
     })
 }
 
-fn checked(alloc: Global, input: Text) -> Result<Answer, Fail> {
-    called(alloc, &words_of(alloc, &["check"])?, input, 0, 0)
+fn called(alloc: Global, words: &Words, input: Text) -> Result<Answer, NoMemory> {
+    let mut shelf = MemoryShelf::new(alloc);
+    called_over(alloc, &mut shelf, words, input, 0, 0)
+}
+
+fn checked(alloc: Global, input: Text) -> Result<Answer, NoMemory> {
+    called(alloc, &words_of(alloc, &["check"])?, input)
 }
 
 fn is_refused(rt: &impl Abort, alloc: Global, input: Text, line: &str) -> Result<(), Fail> {
@@ -301,21 +320,4 @@ fn lengths_have_their_limits(rt: HostRuntime) -> Result<(), Fail> {
     is_written(&rt, alloc, all, reply)?;
     let full = spread_out(alloc, PLAIN, 1997, "")?;
     is_refused(&rt, alloc, full, "x917: refused 38 at 2048\n")
-}
-
-#[test]
-fn faults_and_words_have_their_status(rt: HostRuntime) -> Result<(), Fail> {
-    let alloc = rt.alloc();
-    let check = words_of(alloc, &["check"])?;
-    let unread = called(alloc, &check, spread_out(alloc, PLAIN, 0, "")?, 2, 0)?;
-    assert_eq!(rt; unread.status, Status::ReadFault);
-    assert!(rt; unread.output.bytes().is_empty());
-    let unwritten = called(alloc, &check, spread_out(alloc, PLAIN, 0, "")?, 0, 1)?;
-    assert_eq!(rt; unwritten.status, Status::WriteFault);
-    assert!(rt; unwritten.output.bytes().is_empty());
-    let twice = words_of(alloc, &["check", "check"])?;
-    let unknown = called(alloc, &twice, spread_out(alloc, PLAIN, 0, "")?, 0, 0)?;
-    assert_eq!(rt; unknown.line.bytes(), b"x917: usage 1\n".as_slice());
-    assert_eq!(rt; exit_code(&unknown.status), 2);
-    Ok(())
 }

@@ -1,5 +1,5 @@
 // The top call.
-ghost use Rattle.std.specs.Prelude.{◌≡◌, ◌≢◌, ◌⊎◌, true, false, Some};
+ghost use Rattle.std.specs.Prelude.{◌≡◌, ◌≢◌, ◌⊎◌, true, false, Some, IfSome};
 ghost use Rattle.x_base.specs.Edge.{Rose};
 ghost use Rattle.x_line.specs.Commands.{is_built};
 ghost use Rattle.x_line.specs.Line.{is_line};
@@ -8,7 +8,7 @@ ghost use Rattle.x_line.specs.Usage.{usage_of};
 ghost use Rattle.x_line.specs.declared.order.Order.{Order};
 ghost use Rattle.x_line.specs.declared.usage.UsageKind.{UsageKind};
 ghost use Rattle.x917.specs.Transfer.{TookAtMost, IsQuiet};
-ghost use Rattle.x917.specs.Ends.{HasCause, IsSilent};
+ghost use Rattle.x917.specs.Ends.{HasCause, IsSilent, IsOfParty};
 ghost use Rattle.x917.specs.Obeys.{Obeys, Expects, OthersOf, party_of, is_reading};
 
 use crate::checking::check;
@@ -36,6 +36,7 @@ fn carry_out<S: Source, K: Sink, H: Shelf>(
     ensures obeys { Obeys order moment result (S.left source.old) (S.left source.new) (K.written sink.old) (K.written sink.new) (H.entry shelf.old) (H.entry shelf.new) }
     ensures expects { IsQuiet (S.faults source.old) (S.faults source.new) → IsQuiet (K.faults sink.old) (K.faults sink.new) → IsQuiet (H.faults shelf.old) (H.faults shelf.new)
         → Expects order moment (S.left source.old) (H.entry shelf.old) result }
+    ensures back { IsOfParty result → IfSome (party_of order) (H.is_back shelf.new) }
     ensures others { OthersOf (party_of order) (H.entry shelf.old) (H.entry shelf.new) }
     ensures cause { HasCause result (S.faults source.old) (S.faults source.new) (K.faults sink.old) (K.faults sink.new) (H.faults shelf.old) (H.faults shelf.new) }
     ensures silent { IsSilent result → sink.new ≡ sink.old }
@@ -80,6 +81,9 @@ pub fn run<S: Source, K: Sink, H: Shelf>(
 
     // Otherwise they stand for an order, and it is done as it says.
     ensures obeys { (order : Order) → IsOrder words.now order → Obeys order moment result (S.left source.old) (S.left source.new) (K.written sink.old) (K.written sink.new) (H.entry shelf.old) (H.entry shelf.new) }
+
+    // Where the party answered, its disk is back on the shelf: an error of the put back is the status.
+    ensures back { (order : Order) → IsOrder words.now order → IsOfParty result → IfSome (party_of order) (H.is_back shelf.new) }
 
     // Where no count of faults rises the answer is the one that is due, or want of memory.
     ensures complete { (order : Order) → IsOrder words.now order → IsQuiet (S.faults source.old) (S.faults source.new) → IsQuiet (K.faults sink.old) (K.faults sink.new) → IsQuiet (H.faults shelf.old) (H.faults shelf.new)

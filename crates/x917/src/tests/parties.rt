@@ -1,27 +1,27 @@
 // Parties on a shelf in memory.
-use crate::status::{Status, exit_code, status_line};
-use crate::top::run;
-use std::alloc::Global;
+use super::{Answer, called_over};
+use crate::status::{Status, exit_code};
+use std::alloc::{AllocError, Global};
 use std::test::Fail;
-use x_base::{Ident, MemorySink, MemorySource, NoMemory, Text, Words};
-use x_disk::{Disk, DiskErr, MemoryShelf, Shelf, TornDisk};
+use x_base::{Ident, NoMemory, Text, Words};
+use x_disk::{Disk, DiskErr, MemoryShelf, Shelf};
 
 /// A command line, the input, what is written, and the line that tells the status.
-type Step = (&'static str, &'static str, &'static str, &'static str);
+pub(crate) type Step = (&'static str, &'static str, &'static str, &'static str);
 
-const KSM: &str =
+pub(crate) const KSM: &str =
     "CSM(MCL/KSM RCV/BANKB ORG/BANKA IDK2/K1 KD/C2A5290756D949F4 CTP/1 MAC/8F270CC6)\n";
 
-const RSM: &str = "CSM(MCL/RSM RCV/BANKA ORG/BANKB MAC/BB510339)\n";
+pub(crate) const RSM: &str = "CSM(MCL/RSM RCV/BANKA ORG/BANKB MAC/BB510339)\n";
 
 const ESM: &str = "CSM(MCL/ESM RCV/BANKA ORG/BANKB CTP/1 CTR/2 ERF/C MAC/F6A791C9)\n";
 
-const DSM: &str = "CSM(MCL/DSM RCV/BANKB ORG/BANKA IDD/BANKA.BANKA.K1.1 MAC/F3A9DD96)\n";
+pub(crate) const DSM: &str = "CSM(MCL/DSM RCV/BANKB ORG/BANKA IDD/BANKA.BANKA.K1.1 MAC/F3A9DD96)\n";
 
 const ENDED: &str = "CSM(MCL/RSM RCV/BANKA ORG/BANKB IDD/BANKA.BANKA.K1.1 MAC/CB38EA3E)\n";
 
 /// Two banks that share a key-encrypting key.
-const BANKS: [Step; 5] = [
+pub(crate) const BANKS: [Step; 5] = [
     (
         "init --party BANKA --role bank --genkey 0123456789ABCDEFFEDCBA9876543210 --genseed 0000000000000001",
         "",
@@ -111,8 +111,8 @@ const ENDING: [Step; 7] = [
     ),
 ];
 
-/// BANKA's disk behind all of these, frame by frame in hexadecimal digits.
-const IMAGE_OF_BANKA: [&str; 9] = [
+/// BANKA's disk behind all of these in hexadecimal digits: the head, and a frame for each change.
+const IMAGE_OF_BANKA: [&str; 8] = [
     "0100583931372d4b455953544f524531",
     "0100000023010001010542414e4b41010123456789abcdeffedcba98765432100000000000000001",
     "0100000027010001020542414e4b42024b31010123456789abcdecfedcba9876543213000000000000000101",
@@ -121,21 +121,67 @@ const IMAGE_OF_BANKA: [&str; 9] = [
     "010000008d010002040542414e4b420542414e4b410542414e4b41024b3100000000000000017fd0388551613b6104060542414e4b42040542414e4b410542414e4b41024b310000000000000001004243534d284d434c2f44534d205243562f42414e4b42204f52472f42414e4b41204944442f42414e4b412e42414e4b412e4b312e31204d41432f463341394444393629",
     "0100000031010002040542414e4b420542414e4b410542414e4b41024b3100000000000000017fd0388551613b6105070542414e4b42",
     "010000000401000105",
-    "00",
 ];
 
 /// BANKB's disk, likewise.
-const IMAGE_OF_BANKB: [&str; 6] = [
+const IMAGE_OF_BANKB: [&str; 5] = [
     "0100583931372d4b455953544f524531",
     "0100000023010001010542414e4b42010123456789abcdeffedcba98765432100000000000000001",
     "0100000027010001020542414e4b41024b31020123456789abcdecfedcba9876543213000000000000000101",
     "010000004e010002020542414e4b41024b31020123456789abcdecfedcba9876543213000000000000000201040542414e4b410542414e4b410542414e4b41024b3100000000000000017fd0388551613b6103",
     "010000002a010001040542414e4b410542414e4b410542414e4b41024b3100000000000000017fd0388551613b6105",
-    "00",
+];
+
+/// The error message overtakes the answer: the key ends at BANKA, and BANKB keeps it.
+const OVERTAKEN: [Step; 7] = [
+    ("start --party BANKA --peer BANKB", "", KSM, ""),
+    ("take --party BANKB", KSM, RSM, ""),
+    (
+        "take --party BANKB",
+        KSM,
+        ESM,
+        "x917: refused 30 expected 2\n",
+    ),
+    ("take --party BANKA", ESM, "", ""),
+    ("take --party BANKA", RSM, "", "x917: refused 24\n"),
+    (
+        "show --party BANKA",
+        "",
+        "PARTY BANKA BANK\nLINK BANKB K1 OUT 2 READY\nKEY BANKB BANKA.BANKA.K1.1 ENDED\n",
+        "",
+    ),
+    (
+        "show --party BANKB",
+        "",
+        "PARTY BANKB BANK\nLINK BANKA K1 IN 2 READY\nKEY BANKA BANKA.BANKA.K1.1 HELD\n",
+        "",
+    ),
+];
+
+const RSI: &str = "CSM(MCL/RSI RCV/BANKA ORG/BANKB SVR/KD EDC/F320B0F1)\n";
+
+/// BANKB asks for a key, and gets the one that BANKA would have sent by itself.
+const ASKED: [Step; 6] = [
+    ("ask --party BANKB --peer BANKA", "", RSI, ""),
+    (
+        "take --party BANKA",
+        "CSM(MCL/RSI RCV/BANKA ORG/BANKB SVR/KD EDC/F320B0F0)",
+        "",
+        "x917: refused 29\n",
+    ),
+    ("take --party BANKA", RSI, KSM, ""),
+    ("take --party BANKB", KSM, RSM, ""),
+    ("take --party BANKA", RSM, "", ""),
+    (
+        "show --party BANKA",
+        "",
+        "PARTY BANKA BANK\nLINK BANKB K1 OUT 2 READY\nKEY BANKB BANKA.BANKA.K1.1 LIVE\n",
+        "",
+    ),
 ];
 
 /// An exchange is given up, and its message comes late.
-const LATE: [Step; 6] = [
+const LATE: [Step; 8] = [
     (
         "start --party BANKA --peer BANKB",
         "",
@@ -166,6 +212,18 @@ const LATE: [Step; 6] = [
         "CSM(MCL/ESM RCV/BANKA ORG/BANKB CTP/2 CTR/4 ERF/C MAC/A7BC43C6)",
         "",
         "x917: refused 28\n",
+    ),
+    (
+        "show --party BANKA",
+        "",
+        "PARTY BANKA BANK\nLINK BANKB K1 OUT 4 READY\nKEY BANKB BANKA.BANKA.K1.1 LIVE\nKEY BANKB BANKA.BANKA.K1.2 ENDED\nKEY BANKB BANKA.BANKA.K1.3 PENDING\nEXCHANGE BANKB KEYSENT BANKA.BANKA.K1.3\n",
+        "",
+    ),
+    (
+        "show --party BANKB",
+        "",
+        "PARTY BANKB BANK\nLINK BANKA K1 IN 4 READY\nKEY BANKA BANKA.BANKA.K1.1 HELD\nKEY BANKA BANKA.BANKA.K1.3 HELD\n",
+        "",
     ),
 ];
 
@@ -209,18 +267,12 @@ const LOADS: [Step; 6] = [
     ),
 ];
 
-/// Where no party stands, and where something is wrong with the words.
-const NOBODY: [Step; 10] = [
+/// Where no party stands.
+const NOBODY: [Step; 4] = [
     ("show --party BANKA", "", "", "x917: refused 37\n"),
     ("purge --party BANKA", "", "", "x917: refused 37\n"),
     ("take --party BANKA", KSM, "", "x917: refused 37\n"),
     ("take --party BANKA", "", "", "x917: refused 5 at 0\n"),
-    ("take", "", "", "x917: usage 4\n"),
-    ("start --party BANKA", "", "", "x917: usage 4\n"),
-    ("load --party BANKA", "", "", "x917: usage 4\n"),
-    ("start --party BANKA --key 1", "", "", "x917: usage 3\n"),
-    ("compact --party BANKA", "", "", "x917: usage 2\n"),
-    ("show --party banka", "", "", "x917: usage 5\n"),
 ];
 
 fn words_of(alloc: Global, line: &str) -> Result<Words, NoMemory> {
@@ -237,52 +289,95 @@ fn text_of(alloc: Global, bytes: &[u8]) -> Result<Text, NoMemory> {
     Ok(text)
 }
 
-/// Whether a call writes this and ends with this line, at the first moment.
-fn answers<H: Shelf>(
+/// A call over a shelf, in which the source and the sink fail at these calls, counted from 1.
+pub(crate) fn call<H: Shelf>(
     alloc: Global,
     shelf: &mut H,
     line: &str,
     input: &str,
-    output: &str,
-    told: &str,
-) -> Result<bool, NoMemory> {
+    take: u32,
+    put: u32,
+) -> Result<Answer, NoMemory> {
     let words = words_of(alloc, line)?;
-    let mut source = MemorySource::new(text_of(alloc, input.as_bytes())?, Vec::new(alloc));
-    let mut sink = MemorySink::new(alloc, 200, Vec::new(alloc))?;
-    let status = run(alloc, &words, 0, &mut source, &mut sink, shelf);
-    let end = status_line(alloc, &status)?;
-    Ok(sink.bytes() == output.as_bytes() && end.bytes() == told.as_bytes())
+    let input = text_of(alloc, input.as_bytes())?;
+    called_over(alloc, shelf, &words, input, take, put)
+}
+
+/// Whether it wrote this and ended with this line.
+pub(crate) fn is_answer(answer: &Answer, output: &str, told: &str) -> bool {
+    answer.output.bytes() == output.as_bytes() && answer.line.bytes() == told.as_bytes()
 }
 
 /// Whether each step is answered so.
-fn plays(alloc: Global, shelf: &mut MemoryShelf, steps: &[Step]) -> Result<bool, NoMemory> {
+pub(crate) fn plays<H: Shelf>(
+    alloc: Global,
+    shelf: &mut H,
+    steps: &[Step],
+) -> Result<bool, NoMemory> {
     for (line, input, output, told) in steps {
-        if !answers(alloc, shelf, line, input, output, told)? {
+        let answer = call(alloc, shelf, line, input, 0, 0)?;
+        if !is_answer(&answer, output, told) {
             return Ok(false);
         }
     }
     Ok(true)
 }
 
-/// Whether a party's disk holds these bytes.
-fn holds(
+/// The first pieces of a party's image, with the closed gate behind them; of none a disk without a byte.
+fn image_of(alloc: Global, party: &str, pieces: usize) -> Result<String, AllocError> {
+    let image = match party {
+        "BANKA" => IMAGE_OF_BANKA.as_slice(),
+        _ => IMAGE_OF_BANKB.as_slice(),
+    };
+    let mut digits = String::new(alloc);
+    for piece in image.iter().take(pieces) {
+        digits.push_str(piece)?;
+    }
+    if pieces > 0 {
+        digits.push_str("00")?;
+    }
+    Ok(digits)
+}
+
+/// Whether a party's disk holds so many pieces of its image.
+pub(crate) fn holds(
     alloc: Global,
     shelf: &mut MemoryShelf,
-    name: &[u8],
-    digits: &[&str],
+    party: &str,
+    pieces: usize,
 ) -> Result<bool, DiskErr> {
-    let Ok(name) = Ident::read(name) else {
+    let Ok(name) = Ident::read(party.as_bytes()) else {
         return Ok(false);
     };
     let mut disk = shelf.fetch(&name)?;
     let length = disk.length()? as usize;
     let mut image = vec![in alloc; 0u8; length]?;
     disk.read(0, &mut image)?;
-    let mut wanted = String::new(alloc);
-    for piece in digits {
-        wanted.push_str(piece)?;
+    Ok(hex::encode(alloc, image)? == image_of(alloc, party, pieces)?)
+}
+
+/// A shelf on which a party's disk holds these bytes.
+fn shelf_with(alloc: Global, party: &str, image: &[u8]) -> Result<MemoryShelf, DiskErr> {
+    let mut shelf = MemoryShelf::new(alloc);
+    let Ok(name) = Ident::read(party.as_bytes()) else {
+        return Err(DiskErr::Fault);
+    };
+    if image.len() > 1024 {
+        return Err(DiskErr::Fault);
     }
-    Ok(hex::encode(alloc, image)? == wanted)
+    let mut disk = shelf.fetch(&name)?;
+    disk.write_at(0, image)?;
+    disk.sync()?;
+    shelf.put_back(&name, disk)?;
+    Ok(shelf)
+}
+
+/// A shelf on which a party's disk holds so many pieces of its image.
+pub(crate) fn standing(alloc: Global, party: &str, pieces: usize) -> Result<MemoryShelf, DiskErr> {
+    let Ok(image) = hex::decode(alloc, image_of(alloc, party, pieces)?) else {
+        return Err(DiskErr::NoMemory);
+    };
+    shelf_with(alloc, party, &image)
 }
 
 #[test]
@@ -293,8 +388,8 @@ fn two_banks_exchange_a_key_and_end_it(rt: HostRuntime) -> Result<(), Fail> {
     assert!(rt; plays(alloc, &mut shelf, &EXCHANGE)?);
     assert!(rt; plays(alloc, &mut shelf, &REPEATED)?);
     assert!(rt; plays(alloc, &mut shelf, &ENDING)?);
-    assert!(rt; holds(alloc, &mut shelf, b"BANKA", &IMAGE_OF_BANKA)?);
-    assert!(rt; holds(alloc, &mut shelf, b"BANKB", &IMAGE_OF_BANKB)?);
+    assert!(rt; holds(alloc, &mut shelf, "BANKA", 8)?);
+    assert!(rt; holds(alloc, &mut shelf, "BANKB", 5)?);
     Ok(())
 }
 
@@ -309,6 +404,24 @@ fn a_late_message_is_refused(rt: HostRuntime) -> Result<(), Fail> {
 }
 
 #[test]
+fn an_error_message_overtakes_the_answer(rt: HostRuntime) -> Result<(), Fail> {
+    let alloc = rt.alloc();
+    let mut shelf = MemoryShelf::new(alloc);
+    assert!(rt; plays(alloc, &mut shelf, &BANKS)?);
+    assert!(rt; plays(alloc, &mut shelf, &OVERTAKEN)?);
+    Ok(())
+}
+
+#[test]
+fn a_key_is_asked_for(rt: HostRuntime) -> Result<(), Fail> {
+    let alloc = rt.alloc();
+    let mut shelf = MemoryShelf::new(alloc);
+    assert!(rt; plays(alloc, &mut shelf, &BANKS)?);
+    assert!(rt; plays(alloc, &mut shelf, &ASKED)?);
+    Ok(())
+}
+
+#[test]
 fn links_and_parties_are_kept_apart(rt: HostRuntime) -> Result<(), Fail> {
     let alloc = rt.alloc();
     let mut shelf = MemoryShelf::new(alloc);
@@ -317,151 +430,18 @@ fn links_and_parties_are_kept_apart(rt: HostRuntime) -> Result<(), Fail> {
     Ok(())
 }
 
-/// Whether a call over a source and a sink that fail at these calls ends with this line.
-fn fails(
-    alloc: Global,
-    shelf: &mut MemoryShelf,
-    line: &str,
-    take: u32,
-    put: u32,
-    told: &str,
-) -> Result<bool, Fail> {
-    let words = words_of(alloc, line)?;
-    let mut source = MemorySource::new(text_of(alloc, KSM.as_bytes())?, vec![in alloc; take]?);
-    let mut sink = MemorySink::new(alloc, 200, vec![in alloc; put]?)?;
-    let status = run(alloc, &words, 0, &mut source, &mut sink, shelf);
-    let end = status_line(alloc, &status)?;
-    Ok(sink.bytes().is_empty() && end.bytes() == told.as_bytes())
-}
-
-/// A reply that isn't written is written again by `resend`.
-#[test]
-fn a_fault_of_the_input_or_the_output_is_told(rt: HostRuntime) -> Result<(), Fail> {
-    let alloc = rt.alloc();
-    let mut shelf = MemoryShelf::new(alloc);
-    assert!(rt; plays(alloc, &mut shelf, &BANKS)?);
-    let start = "start --party BANKA --peer BANKB";
-    assert!(rt;
-        fails(
-            alloc,
-            &mut shelf,
-            "take --party BANKB",
-            2,
-            0,
-            "x917: read fault\n"
-        )?
-    );
-    assert!(rt; fails(alloc, &mut shelf, start, 0, 1, "x917: write fault\n")?);
-    assert!(rt;
-        answers(
-            alloc,
-            &mut shelf,
-            "resend --party BANKA --peer BANKB",
-            "",
-            KSM,
-            ""
-        )?
-    );
-    assert!(rt; answers(alloc, &mut shelf, "take --party BANKB", KSM, RSM, "")?);
-    Ok(())
-}
-
-/// A shelf on which BANKA's disk has the byte 1 and fifteen zeros.
-fn damaged(alloc: Global) -> Result<MemoryShelf, DiskErr> {
-    let mut shelf = MemoryShelf::new(alloc);
-    let Ok(name) = Ident::read(b"BANKA") else {
-        return Err(DiskErr::Fault);
-    };
-    let mut disk = shelf.fetch(&name)?;
-    disk.write_at(0, &[1, 0, 0, 0, 0, 0, 0, 0, 0, 0, 0, 0, 0, 0, 0, 0])?;
-    disk.sync()?;
-    shelf.put_back(&name, disk)?;
-    Ok(shelf)
-}
+/// A head whose magic is zeros.
+const DAMAGED: [Step; 2] = [
+    ("show --party BANKA", "", "", "x917: damaged at 2\n"),
+    ("purge --party BANKA", "", "", "x917: damaged at 2\n"),
+];
 
 #[test]
 fn damage_is_told_with_its_place(rt: HostRuntime) -> Result<(), Fail> {
     let alloc = rt.alloc();
-    let mut shelf = damaged(alloc)?;
-    assert!(rt;
-        answers(
-            alloc,
-            &mut shelf,
-            "show --party BANKA",
-            "",
-            "",
-            "x917: damaged at 2\n"
-        )?
-    );
-    assert!(rt;
-        answers(
-            alloc,
-            &mut shelf,
-            "purge --party BANKA",
-            "",
-            "",
-            "x917: damaged at 2\n"
-        )?
-    );
+    let image = [1, 0, 0, 0, 0, 0, 0, 0, 0, 0, 0, 0, 0, 0, 0, 0];
+    let mut shelf = shelf_with(alloc, "BANKA", &image)?;
+    assert!(rt; plays(alloc, &mut shelf, &DAMAGED)?);
     assert_eq!(rt; exit_code(&Status::Damaged(2)), 6);
-    Ok(())
-}
-
-/// A shelf that gives no disk and tells nothing.
-#[derive(Drop)]
-struct Jammed {
-    faults: u64,
-}
-
-impl Shelf for Jammed {
-    ghost use Rattle.std.specs.Prelude.{ℕ, List};
-    ghost use Rattle.x_disk.specs.Untold.{untold, untold_sound};
-
-    type Disk = TornDisk;
-
-    ghost entry = { λ s name. untold 0 };
-
-    ghost has_slot = { λ s name. ⊥ };
-
-    ghost faults = { λ s. s.faults };
-
-    ghost sound = { λ s name. untold_sound 0 };
-
-    fn fetch(&mut self, _name: &Ident) -> Result<TornDisk, DiskErr> {
-        self.faults = self.faults.saturating_add(1);
-        Err(DiskErr::Fault)
-    }
-
-    fn put_back(&mut self, _name: &Ident, _disk: TornDisk) -> Result<(), DiskErr> {
-        self.faults = self.faults.saturating_add(1);
-        Err(DiskErr::Fault)
-    }
-}
-
-#[test]
-fn a_fault_of_the_shelf_is_told(rt: HostRuntime) -> Result<(), Fail> {
-    let alloc = rt.alloc();
-    let mut shelf = Jammed { faults: 0 };
-    assert!(rt;
-        answers(
-            alloc,
-            &mut shelf,
-            "show --party BANKA",
-            "",
-            "",
-            "x917: disk fault\n"
-        )?
-    );
-    assert!(rt;
-        answers(
-            alloc,
-            &mut shelf,
-            "take --party BANKA",
-            KSM,
-            "",
-            "x917: disk fault\n"
-        )?
-    );
-    assert_eq!(rt; exit_code(&Status::DiskFault), 5);
     Ok(())
 }

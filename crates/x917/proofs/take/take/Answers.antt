@@ -1,5 +1,5 @@
 use Rattle.std.proofs.Common.{inr}
-use Rattle.x917.proofs.Arriving.{follows_heard, follows_unheard}
+use Rattle.x917.proofs.Arriving.{follows_heard, follows_unheard, none_told}
 use Rattle.x917.proofs.take.take.Goals as goal
 
 pub returns-in-Ok-clause-taken : goal.returns-in-Ok-clause-taken
@@ -14,3 +14,6 @@ pub returns-in-Err-clause-follows : goal.returns-in-Err-clause-follows
 returns-in-Err-clause-follows g c = λ read_quiet put_quiet disk_quiet.
     follows_unheard c.law_one_hearing.ensures (g.S.Source.left c.args.source.now) (g.H.Shelf.entry c.args.shelf.now c.args.party.now) c.args.moment c.in-Err.status
     (g.S.Source.faults c.args.source.now) (g.S.Source.faults c.listen.new.source) c.in-Err.ensures.unheard c.in-Err.ensures.read_fault read_quiet
+
+pub returns-in-Err-clause-back : goal.returns-in-Err-clause-back
+returns-in-Err-clause-back g c = λ of. absurd (none_told (g.S.Source.left c.args.source.now) c.in-Err.status c.in-Err.ensures.unheard of)

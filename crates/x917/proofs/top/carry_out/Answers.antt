@@ -1,7 +1,7 @@
 use Rattle.std.proofs.Common.{◌≡◌, Some, [], ◌∷◌, refl, sym, subst}
 use Rattle.x_line.specs.declared.order.Order.{Order}
 use Rattle.x917.specs.Obeys.{Expects, told_in}
-use Rattle.x917.proofs.Orders.{took_nothing, cause_ended, obeys_told, expects_told, others_told}
+use Rattle.x917.proofs.Orders.{took_nothing, cause_ended, obeys_told, expects_told, others_told, back_told}
 use Rattle.x917.proofs.top.carry_out.Goals as goal
 
 pub returns-in-Show-clause-expects : goal.returns-in-Show-clause-expects
@@ -30,6 +30,7 @@ returns-in-Some g c =
       obeys = obeys_told c.in-Some.told c.args.moment c.command.result left left before after old new c.args.order is done;
       expects = λ read_quiet put_quiet disk_quiet.
           expects_told c.in-Some.told c.args.moment c.command.result left left before after old new c.args.order is (c.command.ensures.follows put_quiet disk_quiet);
+      back = back_told c.in-Some.told c.args.moment c.command.result left left before after old new c.args.order (g.H.Shelf.is_back c.command.new.shelf) is c.command.ensures.back;
       others = others_told c.in-Some.told c.args.moment c.command.result left left before after old new c.args.order is c.command.ensures.others;
       cause = cause_ended reads reads (g.K.Sink.faults c.args.sink.now) (g.K.Sink.faults c.command.new.sink) (g.H.Shelf.faults c.args.shelf.now) (g.H.Shelf.faults c.command.new.shelf)
           done.outcome (10 ∷ []) c.command.result before after done.ends c.command.ensures.write_fault c.command.ensures.disk_fault;

@@ -1,0 +1,140 @@
+// Command lines, over a shelf on which no party stands.
+use super::parties::{call, is_answer};
+use crate::status::exit_code;
+use std::alloc::Global;
+use std::test::Fail;
+use x_base::NoMemory;
+use x_disk::MemoryShelf;
+
+/// Words that are no command line.
+const NO_LINE: [&str; 16] = [
+    "check check",
+    "--help",
+    "-h",
+    "check --help",
+    "check --version",
+    "-V",
+    "check --nothing",
+    "show --part BANKA",
+    "show -p BANKA",
+    "show --party",
+    "show --party BANKA --party BANKA",
+    "check --single --single",
+    "check --single=true",
+    "check -- x",
+    "load --label -K1",
+    "check help",
+];
+
+/// Words that name no command, or one that isn't built.
+const NO_COMMAND: [&str; 11] = [
+    "help",
+    "open",
+    "CHECK",
+    "-",
+    "",
+    "open --party BAN",
+    "replay",
+    "drill --seed 7 --events 400",
+    "compact --party BANKA",
+    "startkk --party BANKA",
+    "translate --party BANKA",
+];
+
+/// Commands with an option that they don't take, whatever else is wrong.
+const UNWANTED: [&str; 9] = [
+    "check --party BANKA",
+    "check --single",
+    "show --party BANKA --peer BANKB",
+    "start --party BANKA --key 1",
+    "init --party BANKA --events 3",
+    "take --seed 7",
+    "purge --party BANKA --label K1",
+    "load --party B --name x",
+    "show --single",
+];
+
+/// Commands that lack an option, whatever the others hold.
+const MISSING: [&str; 8] = [
+    "show",
+    "take",
+    "start --party BANKA",
+    "load --party BANKA",
+    "init --party BANKA --role bank --genkey 00",
+    "end --party BANKA --peer BANKB",
+    "ask --party BAN",
+    "resend --peer BANKB",
+];
+
+/// Values that aren't what the option holds.
+const BAD_VALUE: [&str; 13] = [
+    "show --party BAN",
+    "show --party banka",
+    "show --party=",
+    "show --party ABCDEFGHIJKLMNOPQ",
+    "init --party BANKA --role clerk --genkey 0123456789ABCDEFFEDCBA9876543210 --genseed 0000000000000001",
+    "init --party BANKA --role bank --genkey 0123456789ABCDEF --genseed 0000000000000001",
+    "init --party BANKA --role bank --genkey 0123456789ABCDEFFEDCBA9876543210 --genseed 000000000000001",
+    "load --party BANKA --peer BANKB --label K_1 --side out --key 0123456789ABCDEFFEDCBA9876543210",
+    "load --party BANKA --peer BANKB --label K1 --side up --key 0123456789ABCDEFFEDCBA9876543210",
+    "load --party BANKA --peer BANKB --label K1 --side out --key 01234567",
+    "end --party BANKA --peer BANKB --name BANKA.BANKA.K1",
+    "end --party BANKA --peer BANKB --name BANKA.BANKA.K1.0",
+    "start --party BANKA --peer BANKB --label ABCDEFGHIJKLMNOPQ",
+];
+
+/// Command lines that are read, and what is told of them.
+const READ: [(&str, &str); 7] = [
+    ("-- check", "x917: refused 5 at 0\n"),
+    ("check --", "x917: refused 5 at 0\n"),
+    ("--party BANKA show", "x917: refused 37\n"),
+    ("show --party=BANKA", "x917: refused 37\n"),
+    (
+        "start --party BANKA --peer BANKB --label=-K",
+        "x917: refused 37\n",
+    ),
+    (
+        "end --peer BANKB --name BANKA.BANKA.K1.00000000000007 --party BANKA",
+        "x917: refused 37\n",
+    ),
+    (
+        "load --party BANKA --peer BANKB --label K1 --side in --key 0123456789abcdef",
+        "x917: refused 37\n",
+    ),
+];
+
+/// Whether a call over an empty shelf writes nothing and ends with this line and this exit code.
+fn ends_with(alloc: Global, line: &str, told: &str, code: u8) -> Result<bool, NoMemory> {
+    let mut shelf = MemoryShelf::new(alloc);
+    let answer = call(alloc, &mut shelf, line, "", 0, 0)?;
+    Ok(is_answer(&answer, "", told) && exit_code(&answer.status) == code)
+}
+
+/// Whether each of the command lines is told as this kind.
+fn are_told(alloc: Global, lines: &[&str], told: &str) -> Result<bool, NoMemory> {
+    for line in lines {
+        if !ends_with(alloc, line, told, 2)? {
+            return Ok(false);
+        }
+    }
+    Ok(true)
+}
+
+#[test]
+fn what_is_wrong_with_the_words_is_told(rt: HostRuntime) -> Result<(), Fail> {
+    let alloc = rt.alloc();
+    assert!(rt; are_told(alloc, &NO_LINE, "x917: usage 1\n")?);
+    assert!(rt; are_told(alloc, &NO_COMMAND, "x917: usage 2\n")?);
+    assert!(rt; are_told(alloc, &UNWANTED, "x917: usage 3\n")?);
+    assert!(rt; are_told(alloc, &MISSING, "x917: usage 4\n")?);
+    assert!(rt; are_told(alloc, &BAD_VALUE, "x917: usage 5\n")?);
+    Ok(())
+}
+
+#[test]
+fn a_command_line_is_read_in_any_order(rt: HostRuntime) -> Result<(), Fail> {
+    for (line, told) in READ {
+        assert!(rt; ends_with(rt.alloc(), line, told, 1)?, "{line}");
+    }
+    Ok(())
+}
