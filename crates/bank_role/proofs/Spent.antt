@@ -61,10 +61,10 @@ drawn_sent result p front l (Some d) key after v i h e t =
     let j : d ≡ (key, after) = cc in
     decides_row result p (sending_drawn p front l (Some d)) v (rw j h) e t
 
-pub sent_same : (p : Party) (l : LinkRec) (key v n : ℕ) (name : KeyName) (text : List ℕ) → n ≡ l.next → name ≡ next_name p l → text ≡ text_of (data_key_reply p l key)
-    → (SetGen v ∷ PutLink (record l { next = n + 1 }) ∷ PutKey (record { peer = l.peer; name = name; value = key; status = Pending })
-    ∷ PutExchange (record { peer = l.peer; kind = kind.KeySent name (via.Direct l.label None); text = text }) ∷ []) ≡ sent_edits p l key v
-sent_same p l key v n name text a b t = rw (a, b, t) refl
+pub sent_same : (p : Party) (l used : LinkRec) (key v : ℕ) (sent : KeyRec) (name : KeyName) (text : List ℕ) → used ≡ record l { next = l.next + 1 }
+    → sent ≡ record { peer = l.peer; name = name; value = key; status = Pending } → name ≡ next_name p l → text ≡ text_of (data_key_reply p l key)
+    → (SetGen v ∷ PutLink used ∷ PutKey sent ∷ PutExchange (record { peer = l.peer; kind = kind.KeySent name (via.Direct l.label None); text = text }) ∷ []) ≡ sent_edits p l key v
+sent_same p l used key v sent name text a b c t = rw (a, b, c, t) refl
 
 pub ended_same : (p : Party) (k : KeyRec) (text : List ℕ) → text ≡ text_of (end_reply p k)
     → (PutKey (record k { status = Closing }) ∷ PutExchange (record { peer = k.peer; kind = kind.Ending k.name; text = text }) ∷ []) ≡ ended_edits p k

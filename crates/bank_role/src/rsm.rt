@@ -102,7 +102,7 @@ fn answer_for(
 {
     let lead = key_lead(state, arrival, key);
     let (receiver, originator) = (&message.receiver, &message.originator);
-    let named = *name == key.name;
+    let named = is_named(name, &Some(*key));
     let verdict = answer_verdict(state, receiver, originator, named, lead.verified);
     if !is_accept(&verdict) {
         return Ok(refusal(verdict));

@@ -1,5 +1,7 @@
 // A new data key under a link: drawn, encrypted at the link's next count, kept as pending, and sent.
-ghost use Rattle.std.specs.Prelude.{◌≡◌, ◌≤◌, true, length, IfOk};
+ghost use Rattle.std.specs.Prelude.{◌≡◌, ◌+◌, ◌≤◌, true, length, IfOk};
+ghost use Rattle.x_base.specs.Count.{IsCount};
+ghost use Rattle.party_state.specs.declared.key.KeyStatus.TheVariants.{Pending};
 ghost use Rattle.party_state.specs.Verdicts.{all_refuse};
 ghost use Rattle.bank_role.specs.Storable.{CanKeep};
 ghost use Rattle.bank_role.specs.Replies.{IsWritten};
@@ -67,6 +69,30 @@ fn data_key_text(
     Written::coded(alloc, &message, under, key)
 }
 
+/// The link behind its next count.
+fn used(link: &LinkRec, count: Count) -> LinkRec
+    requires { count ≡ link.now.next }
+    ensures used { result ≡ record link.now { next = link.now.next + 1 } }
+    ensures count { IsCount link.now.next }
+{
+    LinkRec {
+        next: count.value() + 1,
+        ..*link
+    }
+}
+
+/// The record of a key that is sent.
+fn pending(link: &LinkRec, name: KeyName, key: u64) -> KeyRec
+    ensures { result ≡ record { peer = link.now.peer; name = name; value = key; status = Pending } }
+{
+    KeyRec {
+        peer: link.peer,
+        name,
+        value: key,
+        status: KeyStatus::Pending,
+    }
+}
+
 /// A key that was drawn is sent.
 fn send_key(
     alloc: Global,
@@ -84,12 +110,6 @@ fn send_key(
 {
     let written = data_key_text(alloc, state, link, count, key)?;
     let name = next_name(state, link, count);
-    let record = KeyRec {
-        peer: link.peer,
-        name,
-        value: key,
-        status: KeyStatus::Pending,
-    };
     let label = link.label;
     let exchange = Exchange {
         peer: link.peer,
@@ -99,14 +119,10 @@ fn send_key(
         },
         text: written.text.copy(alloc)?,
     };
-    let used = LinkRec {
-        next: count.value() + 1,
-        ..*link
-    };
     let edits = [
         Edit::SetGen(after.v),
-        Edit::PutLink(used),
-        Edit::PutKey(record),
+        Edit::PutLink(used(link, count)),
+        Edit::PutKey(pending(link, name, key)),
         Edit::PutExchange(exchange),
     ];
     accept(alloc, state, list_of(alloc, edits)?, Some(written))
