@@ -8,6 +8,8 @@ use x_disk::TornDisk;
 use x_gen::Gen;
 use x_mac::Pair;
 
+mod stops;
+
 const PAIR: Pair = Pair {
     left: 0x0123456789ABCDEF,
     right: 0xFEDCBA9876543210,
