@@ -5,7 +5,10 @@ ghost use Rattle.std.specs.Prelude.{◌≡◌, ◌<◌};
 ghost use Rattle.csm_grammar.specs.Reading.{IsRead};
 ghost use Rattle.csm_grammar.specs.declared.parsed.Parsed.{Parsed};
 ghost use Rattle.x_des.specs.Des.{enciphered};
+ghost use Rattle.x_base.specs.Count.{IsCount};
 ghost use Rattle.x_mac.specs.Code.{code_of, mac_of};
+ghost use Rattle.x_seal.specs.Wrapped.{unwrap_of};
+ghost use Rattle.bench_c.specs.Chain.{chained};
 
 use key_journal::{Cause, Opened, open_disk};
 use std::alloc::Global;
@@ -23,11 +26,14 @@ pub extern "C" fn bench_encrypt(key: u64, block: u64) -> u64
 }
 
 /// A block encrypted so many times in a chain, under a fresh key.
+#[tactic(auto, unfolding(crate::specs::Chain::chained))]
 #[unsafe(no_mangle)]
-pub extern "C" fn bench_chain(key: u64, block: u64, times: u64) -> u64 {
+pub extern "C" fn bench_chain(key: u64, block: u64, times: u64) -> u64
+    ensures { result ≡ chained key block times }
+{
     let schedule = Schedule::new(key);
     let mut last = Block::new(block);
-    for _ in 0..times {
+    'chaining: for _ in 0..times {
         last = schedule.encrypt_block(&last);
     }
     last.word()
@@ -51,7 +57,10 @@ pub extern "C" fn bench_mac(key: u64, text: &[u8]) -> u32
 
 /// A key unwrapped under a fresh pair and a count, and 0 where the count is out of range.
 #[unsafe(no_mangle)]
-pub extern "C" fn bench_unwrap(left: u64, right: u64, count: u64, sealed: u64) -> u64 {
+pub extern "C" fn bench_unwrap(left: u64, right: u64, count: u64, sealed: u64) -> u64
+    ensures unwrapped { IsCount count → result ≡ unwrap_of (record { left = left; right = right }) count sealed }
+    ensures none { (IsCount count → ⊥) → result ≡ 0 }
+{
     match Count::of(count) {
         Some(count) => x_seal::unwrap(Pair { left, right }, count, sealed),
         None => 0,
