@@ -353,6 +353,7 @@ pub(crate) fn holds(
     let length = disk.length()? as usize;
     let mut image = vec![in alloc; 0u8; length]?;
     disk.read(0, &mut image)?;
+    shelf.put_back(&name, disk)?;
     Ok(hex::encode(alloc, image)? == image_of(alloc, party, pieces)?)
 }
 
