@@ -4,11 +4,7 @@
 # Where the machine has other work to do, run it by `chrt -f 50`, so that waiting for a processor isn't measured.
 # commit.sh [PROGRAM]; wants a C compiler, and strace for the counts.
 here=$(cd "$(dirname "$0")/.." && pwd) || exit 1
-program=${1:-$here/crates/x917/out/x917}
-case $program in
-/*) ;;
-*) program=$PWD/$program ;;
-esac
+program=$(realpath "${1:-$here/crates/x917/out/x917}") || exit 1
 work=$(mktemp -d) || exit 1
 trap 'rm -rf "$work"' EXIT
 "${CC:-cc}" -O2 -Wall -Wextra "$here/bench/commit.c" -o "$work/commit" || exit 1

@@ -5,11 +5,7 @@
 # A killed process leaves the system's memory of the file as it is: this is no loss of power.
 # kill.sh [PROGRAM]; wants Linux and strace.
 here=$(cd "$(dirname "$0")/.." && pwd) || exit 1
-program=${1:-$here/crates/x917/out/x917}
-case $program in
-/*) ;;
-*) program=$PWD/$program ;;
-esac
+program=$(realpath "${1:-$here/crates/x917/out/x917}") || exit 1
 work=$(mktemp -d) || exit 1
 trap 'rm -rf "$work"' EXIT
 mkdir "$work/before" "$work/run" && cd "$work/run" || exit 1

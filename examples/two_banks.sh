@@ -2,11 +2,7 @@
 # Two banks exchange, refuse, drop and end data keys, each over its own file in one temporary folder.
 # two_banks.sh [PROGRAM]: prints each command line and what comes of it.
 here=$(cd "$(dirname "$0")/.." && pwd) || exit 1
-program=${1:-$here/crates/x917/out/x917}
-case $program in
-/*) ;;
-*) program=$PWD/$program ;;
-esac
+program=$(realpath "${1:-$here/crates/x917/out/x917}") || exit 1
 work=$(mktemp -d) || exit 1
 trap 'rm -rf "$work"' EXIT
 cd "$work" || exit 1
