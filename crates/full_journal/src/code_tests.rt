@@ -2,7 +2,7 @@ ghost use Rattle.std.specs.Prelude.{IfOk, ◌≤◌, length};
 ghost use Rattle.party_state.specs.Ranges.{IsFitting};
 
 use key_journal::frame;
-use key_store::{CodeFault, decode, encode, law_short_code};
+use key_store::{CodeFault, decode, encode, law_decode_undoes, law_short_code};
 use party_state::{
     Answer, Change, Edit, Exchange, KeyRec, KeyStatus, Kind, LinkRec, Role, Side, Via,
 };
@@ -24,7 +24,8 @@ fn is_coded(alloc: Global, edit: Edit, bytes: &[u8]) -> Result<bool, CodeFault>
     let mut change = Change::new(alloc);
     change.push(edit)?;
     let code = encode(alloc, &change)?;
-    Ok(code.bytes() == bytes && decode(alloc, bytes)?.len() == 1)
+    let back = law_decode_undoes(alloc, &change)?;
+    Ok(code.bytes() == bytes && decode(alloc, bytes)?.len() == 1 && back.len() == 1)
 }
 
 // The same of an edit that puts an exchange of BANK with this kind and text.
