@@ -1,4 +1,4 @@
--- What one call of a source or a sink does: to the bytes where they are told, and to the count of
+-- What one call of a source or a sink does: to the bytes where they are shown, and to the count of
 -- faults (this project's profile).
 use Rattle.std.specs.Prelude.{◌≡◌, ◌≤◌, ◌<◌, ◌+◌, ◌^◌, ◌⊎◌, ◌++◌, ℕ, List, [], length, take, drop, Option, Some, IfSome}
 

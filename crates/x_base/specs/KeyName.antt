@@ -32,7 +32,7 @@ pub record NameOf (bytes : List ℕ) (name : KeyName) : Type 0 where
 abbrev pub parts_of : List ℕ → List (List ℕ)
 parts_of bytes = slice_split (λ b. b == 46) bytes
 
--- of four parts the first bad one is at fault; other than four are told as a bad identity
+-- of four parts the first bad one is at fault; other than four are a bad identity
 abbrev pub IsPartsFault : List (List ℕ) → NameFault → Type 0
 IsPartsFault (issuer ∷ originator ∷ label ∷ digits ∷ []) BadIdent = ¬ (IsIdent issuer × IsIdent originator)
 IsPartsFault (issuer ∷ originator ∷ label ∷ digits ∷ []) BadLabel = IsIdent issuer × IsIdent originator × ¬ (IsLabel label)

@@ -6,3 +6,4 @@ pub mod Padded
 pub mod Count
 pub mod KeyName
 pub mod Verdict
+pub mod Hashing

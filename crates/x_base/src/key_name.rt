@@ -11,6 +11,9 @@ use crate::text::{NoMemory, Text};
 use std::alloc::Global;
 use thiserror::Error;
 
+/// The most bytes of a written name.
+const LONGEST_WRITTEN: usize = 65;
+
 /// What is wrong with the first bad part of a key name.
 #[derive(Clone, Copy, Debug, PartialEq, Eq, Error)]
 pub enum NameFault {
@@ -171,7 +174,7 @@ impl KeyName {
         let originator = self.originator.bytes();
         let label = self.label.bytes();
         let digits = self.count.value().to_string(alloc)?;
-        let mut text = Text::new(alloc);
+        let mut text = Text::with_capacity(alloc, LONGEST_WRITTEN)?;
         push_part(&mut text, issuer)?;
         push_part(&mut text, originator)?;
         push_part(&mut text, label)?;

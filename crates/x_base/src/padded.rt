@@ -1,13 +1,15 @@
 // Up to sixteen bytes, copied by value.
-ghost use Rattle.std.specs.Prelude.{◌≡◌, ◌≤◌, nat_eq, length};
+ghost use Rattle.std.specs.Prelude.{◌≡◌, ◌≤◌, ◌∷◌, [], nat_eq, length};
+ghost use Rattle.x_base.specs.Hashing.{equal_bytes_hash_alike};
 ghost use Rattle.std.specs.Cmp.{partial_equiv_from_equiv};
 ghost use Rattle.std.specs.Cmp.Lexicographic.{pointwise, nat_list_eq_equiv};
 
 use crate::names::LONGEST;
+use std::hash::{Hash, Hasher};
 use std::marker::Model;
 
 /// Up to `LONGEST` bytes; zeros fill the rest.
-#[derive(Clone, Copy, Debug, Hash)]
+#[derive(Clone, Copy, Debug)]
 pub(crate) struct Padded {
     bytes: [u8; LONGEST],
     len: u8,
@@ -41,6 +43,17 @@ impl PartialEq for Padded {
 
 impl Eq for Padded {
     ghost laws = { nat_list_eq_equiv };
+}
+
+// One write of the bytes in use.
+impl Hash for Padded {
+    ghost hash_input = { λ bytes. bytes ∷ [] };
+
+    ghost respects_eq = { equal_bytes_hash_alike };
+
+    fn hash<H: Hasher>(&self, state: &mut H) {
+        state.write(self.bytes());
+    }
 }
 
 impl Padded {

@@ -16,7 +16,7 @@ pub struct SinkFault;
 
 /// Where the program's output goes.
 pub trait Sink {
-    // what was written, where told
+    // what was written, where the sink shows it
     ghost written: { Self → Option (List ℕ) };
 
     // a number that never falls
@@ -33,7 +33,7 @@ pub trait Sink {
         ensures climbs { faults self.old ≤ faults self.new };
 }
 
-/// A sink in memory of a fixed size, which tells what was written. It fails at the calls that it is
+/// A sink in memory of a fixed size, which shows what was written. It fails at the calls that it is
 /// made with, and where no room is left.
 #[derive(Debug, Drop)]
 pub struct MemorySink {
@@ -117,7 +117,7 @@ impl Sink for MemorySink {
     }
 }
 
-/// A sink over a writer of std, which tells no bytes: the trusted edge. A writer that takes nothing
+/// A sink over a writer of std, which shows no bytes: the trusted edge. A writer that takes nothing
 /// of a piece is a fault.
 #[derive(Drop)]
 pub struct StdSink<W> {

@@ -15,7 +15,7 @@ pub struct SourceFault;
 
 /// Where the program's input comes from.
 pub trait Source {
-    // the bytes not yet taken, where told
+    // the bytes not yet taken, where the source shows them
     ghost left: { Self → Option (List ℕ) };
 
     // a number that never falls
@@ -32,7 +32,7 @@ pub trait Source {
         ensures climbs { faults self.old ≤ faults self.new };
 }
 
-/// A source of bytes in memory, which it tells. It fails at the calls that it is made with.
+/// A source of bytes in memory, which it shows. It fails at the calls that it is made with.
 #[derive(Debug, Drop)]
 pub struct MemorySource {
     bytes: Text,
@@ -103,7 +103,7 @@ impl Source for MemorySource {
     }
 }
 
-/// A source over a reader of std, which tells no bytes: the trusted edge.
+/// A source over a reader of std, which shows no bytes: the trusted edge.
 #[derive(Drop)]
 pub struct StdSource<R> {
     reader: R,

@@ -28,7 +28,6 @@ fn identities_expand(rt: HostRuntime) -> Result<(), Fail> {
     ];
     for (bytes, left, right) in rows {
         let ident = Ident::read(bytes)?;
-        assert!(rt; ident.bytes() == bytes);
         assert_eq!(rt; ident.expand(), (left, right));
     }
     Ok(())

@@ -1,4 +1,4 @@
-ghost use Rattle.std.specs.Prelude.{◌≡◌, ◌++◌, [], IfOk, OnOk, OnErr, nat_eq};
+ghost use Rattle.std.specs.Prelude.{◌≡◌, ◌≤◌, ◌+◌, ◌++◌, [], length, take, drop, IfOk, OnOk, OnErr, nat_eq};
 ghost use Rattle.std.specs.Cmp.{partial_equiv_from_equiv};
 ghost use Rattle.std.specs.Cmp.Lexicographic.{pointwise, nat_list_eq_equiv};
 
@@ -59,6 +59,14 @@ impl Text {
         }
     }
 
+    /// The empty text, with room for so many bytes.
+    pub fn with_capacity(alloc: Global, bytes: usize) -> Result<Text, NoMemory>
+        ensures empty { IfOk result (λ text. text ≡ []) }
+    {
+        let bytes = Vec::with_capacity(alloc, bytes)?;
+        Ok(Text { alloc, bytes })
+    }
+
     /// Appends the bytes.
     pub fn push(&mut self, bytes: &[u8]) -> Result<(), NoMemory>
         ensures appends { OnOk result (self.new ≡ self.old ++ bytes.now) }
@@ -66,6 +74,14 @@ impl Text {
     {
         self.bytes.extend_from_slice(bytes)?;
         Ok(())
+    }
+
+    /// Puts the bytes in place of as many that stand there; it takes no memory.
+    pub fn overwrite(&mut self, at: usize, bytes: &[u8])
+        requires within { at + length bytes.now ≤ length self.old }
+        ensures replaced { self.new ≡ take at self.old ++ bytes.now ++ drop (at + length bytes.now) self.old }
+    {
+        self.bytes[at..at + bytes.len()].copy_from_slice(bytes);
     }
 
     /// The bytes of the text.

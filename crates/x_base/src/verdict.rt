@@ -34,7 +34,7 @@ pub enum Verdict {
     BadMac,
     /// The error detection code differs.
     BadEdc,
-    /// The count is below the expected one, which is told.
+    /// The count is below this one, the expected count.
     CountLow(u64),
     /// No count is left under the key-encrypting key.
     CountSpent,
@@ -51,7 +51,7 @@ pub enum Verdict {
 impl Verdict {
     ghost use Rattle.x_base.specs.Verdict.{number_of};
 
-    /// The number under which the verdict is told (this project's profile).
+    /// The number of the verdict in a status line (this project's profile).
     pub fn number(&self) -> u32
         ensures { result ≡ number_of self.now }
     {

@@ -2,9 +2,11 @@
 #![tactic(auto)]
 
 mod generator;
+mod laws;
 mod parity;
 #[cfg(test)]
 mod tests;
 
 pub use generator::{Gen, WeakDraws};
+pub use laws::{law_draws_odd, law_odd_stays};
 pub use parity::{is_weak, odd};

@@ -7,4 +7,6 @@ mod sealing;
 mod tests;
 
 pub use offsetting::{notarize, offset, spread};
-pub use sealing::{law_unseals, law_unwraps, seal, unseal, unwrap, unwrap_pair, wrap, wrap_pair};
+pub use sealing::{
+    law_keys_below, law_unseals, law_unwraps, seal, unseal, unwrap, unwrap_pair, wrap, wrap_pair,
+};

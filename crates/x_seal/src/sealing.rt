@@ -82,3 +82,12 @@ pub fn law_unseals()
     ensures unsealed { (kk : Pair) (from to : List ℕ) (count key : ℕ) → key < 2 ^ 64 → unseal_of kk from to count (seal_of kk from to count key) ≡ key }
     ensures sealed { (kk : Pair) (from to : List ℕ) (count sealed : ℕ) → sealed < 2 ^ 64 → seal_of kk from to count (unseal_of kk from to count sealed) ≡ sealed }
 {}
+
+/// What is wrapped, unwrapped, sealed or unsealed has 64 bits.
+#[tactic(auto, using(crate::proofs::Undoing::wrapped_below, crate::proofs::Undoing::unwrapped_below, crate::proofs::Undoing::sealed_below, crate::proofs::Undoing::unsealed_below))]
+pub fn law_keys_below()
+    ensures wrapped { (kk : Pair) (count key : ℕ) → wrap_of kk count key < 2 ^ 64 }
+    ensures unwrapped { (kk : Pair) (count sealed : ℕ) → unwrap_of kk count sealed < 2 ^ 64 }
+    ensures sealed { (kk : Pair) (from to : List ℕ) (count key : ℕ) → seal_of kk from to count key < 2 ^ 64 }
+    ensures unsealed { (kk : Pair) (from to : List ℕ) (count sealed : ℕ) → unseal_of kk from to count sealed < 2 ^ 64 }
+{}
