@@ -16,7 +16,8 @@ use Rattle.csm_grammar.specs.Tags.{same_tag}
 use Rattle.csm_grammar.specs.Values.{Value, AText, AName, AService, ANumber, APair, kind_of, value_of}
 use Rattle.csm_grammar.specs.Spelling.{Field, values_in, StandFor}
 use Rattle.csm_grammar.specs.Slotting.{slot_in}
-use Rattle.csm_grammar.specs.Building.{value_at, AreReady}
+use Rattle.csm_grammar.specs.Building.{AreReady}
+use Rattle.csm_grammar.specs.Denoting.{value_at}
 use Rattle.csm_grammar.proofs.TagLemmas.{same_tags}
 use Rattle.csm_grammar.proofs.Slots.{count_values}
 use Rattle.csm_grammar.proofs.Standing.{rsi, rsi_stands, rfs, rfs_stands, rtr, rtr_stands, rtr_with_key, rtr_with_key_stands, ksm, ksm_stands, ksm_double, ksm_double_stands, ksm_single, ksm_single_stands, ksm_centre, ksm_centre_stands, rsm, rsm_stands, ers, ers_stands, esm, esm_stands, dsm, dsm_stands}

@@ -16,7 +16,7 @@ use Rattle.csm_grammar.specs.Classes.{forms, class_text, class_forms, required, 
 use Rattle.csm_grammar.specs.Values.{Value, AText, kind_of, value_of}
 use Rattle.csm_grammar.specs.Spelling.{Field, tags_in, ComesAs, AreOfForm, values_in}
 use Rattle.csm_grammar.specs.Units.{Standing}
-use Rattle.csm_grammar.specs.Faults.{candidates, forms_left, absent, fields_from, shut_fault}
+use Rattle.csm_grammar.specs.Faults.{candidates, forms_left, absent, fields_from, unclosed_fault}
 use Rattle.csm_grammar.specs.Judging.{contents_at, form_left}
 use Rattle.csm_grammar.proofs.TagLemmas.{find_passes, same_tags}
 use Rattle.csm_grammar.proofs.Passing.{AllPass}
@@ -28,7 +28,7 @@ use Rattle.csm_grammar.proofs.Codes.{one_code}
 use Rattle.csm_grammar.proofs.Spelled.{faultless}
 use Rattle.csm_grammar.proofs.Found.{class_values}
 use Rattle.csm_grammar.proofs.Proper.{all_from, any_form, required_is_open}
-use Rattle.csm_grammar.proofs.Judging.{AtShut, shut_faultless}
+use Rattle.csm_grammar.proofs.Judging.{AtEnd, closed_faultless}
 
 found_all : {X : Type 0} (p q : X → Bool) (xs : List X) (x : X) → list_all q xs ≡ true → find p xs ≡ Some x → q x ≡ true
 found_all p q [] x a h = absurd cc
@@ -158,9 +158,9 @@ module _ (fs : List Field) (pass : AllPass [] fs) (w : IsWholeForm fs) where
       record { form = g.0; left = g.1; tags = tags; known = k; class = ap (values_in Mcl) t ∙ c; code = subst OneCode (sym w.text) (one_code gs w.code w.closes w.unclosed) }
 
 -- at `)` without a fault one form is left, and the fields have its tags
-pub ready : (b : List ℕ) (done : List Standing) (at : ℕ) → AtShut b done at → shut_fault (fields_from done) at ≡ None → IsReady (fields_from done)
+pub ready : (b : List ℕ) (done : List Standing) (at : ℕ) → AtEnd b done at → unclosed_fault (fields_from done) at ≡ None → IsReady (fields_from done)
 ready b done at a h =
-    let x = faultless b (shut_faultless b done at a h) in
+    let x = faultless b (closed_faultless b done at a h) in
     let e = x.fields ∙ ap fields_from a.are in
     let pass = subst (AllPass []) e x.pass in
     ready_fields (fields_from done) pass (whole_form (fields_from done) pass (subst (λ (fs : List Field). list_any is_closing (tags_in fs) ≡ true) e x.closes))

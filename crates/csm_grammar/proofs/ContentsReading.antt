@@ -18,7 +18,7 @@ use Rattle.csm_grammar.specs.Values.Kind.{OfKey, OfPair, OfCode, OfCount}
 abbrev hex_test : ℕ → Bool
 hex_test b = nat_lt (digit_value b) 16
 
-hex_append : (m n : ℕ) (x y : List ℕ) → length x ≡ m → length y ≡ n → length (x ++ y) ≡ m + n → is_hex (m + n) (x ++ y) ≡ (is_hex m x && is_hex n y)
+pub hex_append : (m n : ℕ) (x y : List ℕ) → length x ≡ m → length y ≡ n → length (x ++ y) ≡ m + n → is_hex (m + n) (x ++ y) ≡ (is_hex m x && is_hex n y)
 hex_append m n x y a b h = rw (eq-eqb (length (x ++ y)) (m + n) h, eq-eqb (length x) m a, eq-eqb (length y) n b) (list_all-append hex_test x y)
 
 one_at : (c : List ℕ) (i : ℕ) → i < length c → take 1 (drop i c) ≡ get_or c i 0 ∷ []
@@ -71,7 +71,7 @@ not_numbered : (b : Bool) (n : ℕ) → None ≡ value_if b (ANumber n) → b �
 not_numbered true n h = absurd cc
 not_numbered false n h = refl
 
-whole_pair : (c : List ℕ) → length c ≡ 32 → is_hex 32 c ≡ (is_hex 16 (take 16 c) && is_hex 16 (drop 16 c))
+pub whole_pair : (c : List ℕ) → length c ≡ 32 → is_hex 32 c ≡ (is_hex 16 (take 16 c) && is_hex 16 (drop 16 c))
 whole_pair c h =
     let a : length (take 16 c) ≡ 16 = omega (arith, length-take 16 c) in
     let b : length (drop 16 c) ≡ 16 = omega (arith, length-drop 16 c) in

@@ -19,11 +19,12 @@ use Rattle.csm_grammar.specs.Tags.{has_tag, count_tag, is_closing}
 use Rattle.csm_grammar.specs.Classes.{forms, class_text, need_of}
 use Rattle.csm_grammar.specs.Values.{Value, AText, ANumber, kind_of, value_of}
 use Rattle.csm_grammar.specs.Spelling.{Field, tags_in, ComesAs, AreOfForm, values_in}
-use Rattle.csm_grammar.specs.Faults.{forms_left, absent, missing_of, shut_fault}
+use Rattle.csm_grammar.specs.Faults.{forms_left, absent, missing_of, unclosed_fault}
 use Rattle.csm_grammar.specs.Judging.{form_left}
 use Rattle.csm_grammar.specs.FormSets.{has_form}
 use Rattle.csm_grammar.specs.Slotting.{slot_in, came, Keeps, absent_by, missing_by, code_tag}
-use Rattle.csm_grammar.specs.Building.{value_at, ArePresent, AreReady, IsBuilt, AreClosed, AreSound, IsShut, IsEnded}
+use Rattle.csm_grammar.specs.Building.{ArePresent, AreReady, IsBuilt, AreClosed, AreSound, IsCodeIn, IsEnded}
+use Rattle.csm_grammar.specs.Denoting.{value_at}
 use Rattle.csm_grammar.proofs.Slots.{count_values}
 use Rattle.csm_grammar.proofs.SlotLemmas.{came_has, absent_same, closed_has}
 use Rattle.csm_grammar.proofs.BuiltMessages.{values_behind, known_behind}
@@ -76,7 +77,7 @@ chosen_form slots left fs k =
     ∙ ap (find (λ f. is_none (absent_by (came slots) f))) k.forms
     ∙ find_same (λ f. is_none (absent_by (came slots) f)) (λ f. is_none (absent f (tags_in fs))) (forms_left fs (tags_in fs)) (λ f. ap is_none (absent_same (came slots) f (tags_in fs) (λ t. came_has slots left fs t k)))
 
-pub open_fault : (slots : List (Option (Bor (List ℕ)))) (left : ℕ) (fs : List Field) (place : ℕ) (b : Bool) (t : Tag) → Keeps slots left fs → b ≡ (came slots Mac || came slots Edc) → b ≡ false → t ≡ missing_of (forms_left fs (tags_in fs)) (tags_in fs) → shut_fault fs place ≡ Some (refusal.Missing t place)
+pub open_fault : (slots : List (Option (Bor (List ℕ)))) (left : ℕ) (fs : List Field) (place : ℕ) (b : Bool) (t : Tag) → Keeps slots left fs → b ≡ (came slots Mac || came slots Edc) → b ≡ false → t ≡ missing_of (forms_left fs (tags_in fs)) (tags_in fs) → unclosed_fault fs place ≡ Some (refusal.Missing t place)
 open_fault slots left fs place b t k h e m =
     let c : list_any is_closing (tags_in fs) ≡ false = sym (closed_has slots left fs k) ∙ sym h ∙ e in
     rw (c, m) refl
@@ -125,7 +126,7 @@ module _ (slots : List (Option (Bor (List ℕ)))) (left : ℕ) (fs : List Field)
   pub some_edc : came slots Mac ≡ false → IsSome (value_at slots Edc)
   some_edc i = known_slot slots left fs Edc s.keeps closed.known (let z : (false || came slots Edc) ≡ true = subst (λ (x : Bool). (x || came slots Edc) ≡ true) i (sym h ∙ e) in z)
 
-  pub closed_fault : (place : ℕ) → shut_fault fs place ≡ None
+  pub closed_fault : (place : ℕ) → unclosed_fault fs place ≡ None
   closed_fault place = rw (closes slots left fs b s.keeps h e) refl
 
   value_behind : (t : Tag) (v : Value) → value_at slots t ≡ Some v → values_in t fs ≡ Some v ∷ []
@@ -149,7 +150,7 @@ module _ (slots : List (Option (Bor (List ℕ)))) (left : ℕ) (fs : List Field)
     go (inl k) = nil_from_length _ (count_values Edc fs ∙ k.1)
     go (inr k) = absurd (let z = count_values Mac fs in let a = k.0 in omega (arith, z, a, one))
 
-  ready : (o : Option Form) (g : Form) (shut : Shut) → o ≡ find (λ f. has_form left f && is_none (absent_by (came slots) f)) forms → o ≡ Some g → IsShut slots shut → AreReady slots g fs shut
+  ready : (o : Option Form) (g : Form) (shut : Shut) → o ≡ find (λ f. has_form left f && is_none (absent_by (came slots) f)) forms → o ≡ Some g → IsCodeIn slots shut → AreReady slots g fs shut
   ready o g (shuts.Mac n) i j k = record {
     contents = s.keeps.contents;
     tags = of_form o g i j;
@@ -167,7 +168,7 @@ module _ (slots : List (Option (Bor (List ℕ)))) (left : ℕ) (fs : List Field)
     edc = value_behind Edc (ANumber n) k.1;
   }
 
-  pub ended : (o : Option Form) (g : Form) (m : Message) (shut : Shut) (place last : ℕ) → o ≡ find (λ f. has_form left f && is_none (absent_by (came slots) f)) forms → o ≡ Some g → IsBuilt slots g m → IsShut slots shut → IsEnded fs place last (record { message = m; shut = shut; auth_len = last; len = place + 1 })
+  pub ended : (o : Option Form) (g : Form) (m : Message) (shut : Shut) (place last : ℕ) → o ≡ find (λ f. has_form left f && is_none (absent_by (came slots) f)) forms → o ≡ Some g → IsBuilt slots g m → IsCodeIn slots shut → IsEnded fs place last (record { message = m; shut = shut; auth_len = last; len = place + 1 })
   ended o g m shut place last i j k n = record {
     faultless = closed_fault place;
     form = subst (λ (x : Form). AreOfForm x fs) (sym k.form_is) (of_form o g i j);

@@ -5,40 +5,40 @@ use Rattle.std.specs.List.{list_all, list_any, flat_map}
 use Rattle.std.proofs.lemmas.Bool.{eqb-true, and_parts, and_from, and_right, not-true}
 use Rattle.csm_grammar.specs.Values.{is_hex}
 use Rattle.csm_grammar.specs.Spelling.{is_separator, AreSeparators}
-use Rattle.csm_grammar.specs.Units.{Stretch, Standing, longer, stretches, shut_place, is_half, waits, put, units}
+use Rattle.csm_grammar.specs.Units.{Stretch, Standing, longer, stretches, end_place, is_half, waits, put, units}
 use Rattle.csm_grammar.specs.Judging.{is_plain, ArePlain}
 use Rattle.csm_grammar.proofs.Stretching.{stretch, standing}
 use Rattle.csm_grammar.proofs.Tokens.{IsToken, Spread, spread_text, AreSpread}
 
 -- stretches up to `)`
-abbrev pub AreShut : List Stretch → Type 0
-AreShut [] = ⊥
-AreShut (s ∷ []) = ArePlain s.text × (s.end ≡ 41)
-AreShut (s ∷ t ∷ ss) = ArePlain s.text × (is_separator s.end ≡ true) × AreShut (t ∷ ss)
+abbrev pub AreClosing : List Stretch → Type 0
+AreClosing [] = ⊥
+AreClosing (s ∷ []) = ArePlain s.text × (s.end ≡ 41)
+AreClosing (s ∷ t ∷ ss) = ArePlain s.text × (is_separator s.end ≡ true) × AreClosing (t ∷ ss)
 
-abbrev pub is_shut : List Stretch → Bool
-is_shut ss = list_any (λ s. s.end == 41) ss
+abbrev pub is_close : List Stretch → Bool
+is_close ss = list_any (λ s. s.end == 41) ss
 
 abbrev pub ended_text : List Stretch → List ℕ
 ended_text ss = flat_map (λ s. s.text ++ s.end ∷ []) ss
 
-pub shut_from_place : (ss : List Stretch) (q : ℕ) → shut_place ss ≡ Some q → is_shut ss ≡ true
-shut_from_place [] q h = absurd cc
-shut_from_place (s ∷ ss) q h = go (s.end == 41) (λ i. shut_from_place ss q i) h where
-  go : (b : Bool) → (shut_place ss ≡ Some q → is_shut ss ≡ true) → cond b (Some (s.place + length s.text)) (shut_place ss) ≡ Some q → (b || is_shut ss) ≡ true
+pub end_from_place : (ss : List Stretch) (q : ℕ) → end_place ss ≡ Some q → is_close ss ≡ true
+end_from_place [] q h = absurd cc
+end_from_place (s ∷ ss) q h = go (s.end == 41) (λ i. end_from_place ss q i) h where
+  go : (b : Bool) → (end_place ss ≡ Some q → is_close ss ≡ true) → cond b (Some (s.place + length s.text)) (end_place ss) ≡ Some q → (b || is_close ss) ≡ true
   go true more i = refl
   go false more i = more i
 
-pub place_from_none : (ss : List Stretch) → shut_place ss ≡ None → is_shut ss ≡ false
+pub place_from_none : (ss : List Stretch) → end_place ss ≡ None → is_close ss ≡ false
 place_from_none [] h = refl
 place_from_none (s ∷ ss) h = go (s.end == 41) (λ i. place_from_none ss i) h where
-  go : (b : Bool) → (shut_place ss ≡ None → is_shut ss ≡ false) → cond b (Some (s.place + length s.text)) (shut_place ss) ≡ None → (b || is_shut ss) ≡ false
+  go : (b : Bool) → (end_place ss ≡ None → is_close ss ≡ false) → cond b (Some (s.place + length s.text)) (end_place ss) ≡ None → (b || is_close ss) ≡ false
   go true more i = absurd cc
   go false more i = more i
 
 -- a text whose stretches are those, and what stands behind `)`
 pub record Ended (ss : List Stretch) (b : List ℕ) : Type 0 where
-  pub shut : AreShut ss
+  pub shut : AreClosing ss
   pub rest : List ℕ
   pub text : b ≡ ended_text ss ++ rest
 
@@ -51,18 +51,18 @@ plain_more p b bs [] h e = absurd e.shut
 plain_more p b bs (s ∷ []) h e = record { shut = (and_from _ _ h e.shut.0, e.shut.1); rest = e.rest; text = ap (λ (x : List ℕ). b ∷ x) e.text }
 plain_more p b bs (s ∷ t ∷ ss) h e = record { shut = (and_from _ _ h e.shut.0, e.shut.1, e.shut.2); rest = e.rest; text = ap (λ (x : List ℕ). b ∷ x) e.text }
 
-longer_shut : (p b : ℕ) (ss : List Stretch) → is_shut (longer p b ss) ≡ is_shut ss
-longer_shut p b [] = refl
-longer_shut p b (s ∷ ss) = refl
+longer_end : (p b : ℕ) (ss : List Stretch) → is_close (longer p b ss) ≡ is_close ss
+longer_end p b [] = refl
+longer_end p b (s ∷ ss) = refl
 
-ended_step : (p b : ℕ) (bs : List ℕ) (ss : List Stretch) (shut separator : Bool) → (b == 41) ≡ shut → is_separator b ≡ separator → (is_shut ss ≡ true → Ended ss bs)
-    → is_shut (cond shut (stretch p [] b ∷ []) (cond separator (stretch p [] b ∷ ss) (longer p b ss))) ≡ true
+ended_step : (p b : ℕ) (bs : List ℕ) (ss : List Stretch) (shut separator : Bool) → (b == 41) ≡ shut → is_separator b ≡ separator → (is_close ss ≡ true → Ended ss bs)
+    → is_close (cond shut (stretch p [] b ∷ []) (cond separator (stretch p [] b ∷ ss) (longer p b ss))) ≡ true
     → Ended (cond shut (stretch p [] b ∷ []) (cond separator (stretch p [] b ∷ ss) (longer p b ss))) (b ∷ bs)
 ended_step p b bs ss true separator e f more h = record { shut = (refl, eqb-true b 41 e); rest = bs; text = refl }
 ended_step p b bs ss false true e f more h = separator_more p b bs ss f (more (rw e at h))
-ended_step p b bs ss false false e f more h = plain_more p b bs ss (rw (e, f) refl) (more (sym (longer_shut p b ss) ∙ h))
+ended_step p b bs ss false false e f more h = plain_more p b bs ss (rw (e, f) refl) (more (sym (longer_end p b ss) ∙ h))
 
-pub ended : (p : ℕ) (b : List ℕ) → is_shut (stretches p b) ≡ true → Ended (stretches p b) b
+pub ended : (p : ℕ) (b : List ℕ) → is_close (stretches p b) ≡ true → Ended (stretches p b) b
 unfolding stretches
 ended p [] h = absurd cc
 ended p (b ∷ bs) h = ended_step p b bs (stretches (p + 1) bs) (b == 41) (is_separator b) refl refl (λ i. ended (p + 1) bs i) h
@@ -106,8 +106,8 @@ group_last t i = record {
 group_separator : (e : ℕ) (xs : List ℕ) → is_separator e ≡ true → Grouped xs → Grouped (e ∷ xs)
 group_separator e xs s g = record { front = e ∷ g.front; spreads = g.spreads; separators = and_from _ _ s g.separators; spread = g.spread; text = ap (λ (x : List ℕ). e ∷ x) g.text }
 
-group_shut : Grouped (41 ∷ [])
-group_shut = record { front = []; spreads = []; separators = refl; spread = tt; text = refl }
+group_end : Grouped (41 ∷ [])
+group_end = record { front = []; spreads = []; separators = refl; spread = tt; text = refl }
 
 -- one stretch that is judged alone
 group_put : (p : ℕ) (t : List ℕ) (e : ℕ) (us : List Standing) (xs : List ℕ) → ArePlain t → is_separator e ≡ true → NoHalf (put (stretch p t e) us) → (NoHalf us → Grouped xs) → Grouped (t ++ e ∷ xs)
@@ -117,7 +117,7 @@ group_put p (b ∷ bs) e us xs h s n more =
     group_token (b ∷ bs) e xs (inl (record { filled = (λ i. cc); plain = h; other = not-true _ k.0 })) s (more k.1)
 
 group_put_last : (p : ℕ) (t : List ℕ) (e : ℕ) → ArePlain t → NoHalf (put (stretch p t e) []) → Grouped (t ++ 41 ∷ [])
-group_put_last p [] e h n = group_shut
+group_put_last p [] e h n = group_end
 group_put_last p (b ∷ bs) e h n =
     let k = and_parts (not (is_half (b ∷ bs))) true n in
     group_last (b ∷ bs) (inl (record { filled = (λ i. cc); plain = h; other = not-true _ k.0 }))
@@ -134,7 +134,7 @@ stretch_front : (s : Stretch) (ss : List Stretch) → ended_text (s ∷ ss) ≡ 
 stretch_front s ss = append_assoc s.text (s.end ∷ []) (ended_text ss)
 
 -- two halves, and what follows
-group_halves : (s t : Stretch) (ss : List Stretch) → AreShut (s ∷ t ∷ ss) → (waits s && is_hex 4 t.text) ≡ true → (AreShut ss → Grouped (ended_text ss)) → Grouped (ended_text (s ∷ t ∷ ss))
+group_halves : (s t : Stretch) (ss : List Stretch) → AreClosing (s ∷ t ∷ ss) → (waits s && is_hex 4 t.text) ≡ true → (AreClosing ss → Grouped (ended_text ss)) → Grouped (ended_text (s ∷ t ∷ ss))
 group_halves s t [] h w more =
     let k : ended_text (s ∷ t ∷ []) ≡ (s.text ++ 32 ∷ t.text) ++ 41 ∷ [] =
     stretch_front s (t ∷ []) ∙ ap (λ (x : List ℕ). s.text ++ s.end ∷ x) (stretch_front t []) ∙ ap (λ (x : ℕ). s.text ++ x ∷ (t.text ++ t.end ∷ [])) (blank_end s _ w)
@@ -150,8 +150,8 @@ pub units_two : (s t : Stretch) (ss : List Stretch) (b : Bool) → (waits s && i
 unfolding units
 units_two s t ss b h = rw h refl
 
-group_two : (s t : Stretch) (ss : List Stretch) (b : Bool) → (waits s && is_hex 4 t.text) ≡ b → AreShut (s ∷ t ∷ ss) → NoHalf (units (s ∷ t ∷ ss))
-    → (AreShut ss → NoHalf (units ss) → Grouped (ended_text ss)) → (AreShut (t ∷ ss) → NoHalf (units (t ∷ ss)) → Grouped (ended_text (t ∷ ss))) → Grouped (ended_text (s ∷ t ∷ ss))
+group_two : (s t : Stretch) (ss : List Stretch) (b : Bool) → (waits s && is_hex 4 t.text) ≡ b → AreClosing (s ∷ t ∷ ss) → NoHalf (units (s ∷ t ∷ ss))
+    → (AreClosing ss → NoHalf (units ss) → Grouped (ended_text ss)) → (AreClosing (t ∷ ss) → NoHalf (units (t ∷ ss)) → Grouped (ended_text (t ∷ ss))) → Grouped (ended_text (s ∷ t ∷ ss))
 group_two s t ss true e h n after next =
     let k = rw (units_two s t ss true e) at n in
     group_halves s t ss h e (λ i. after i (and_parts _ _ k).1)
@@ -163,7 +163,7 @@ units_one : (s : Stretch) → s.end ≡ 41 → units (s ∷ []) ≡ put s []
 unfolding units
 units_one s h = rw (let w : waits s ≡ false = and_right _ _ (ap (λ (x : ℕ). x == 32) h) in w) refl
 
-pub grouped : (ss : List Stretch) → AreShut ss → NoHalf (units ss) → Grouped (ended_text ss)
+pub grouped : (ss : List Stretch) → AreClosing ss → NoHalf (units ss) → Grouped (ended_text ss)
 grouped [] h n = absurd h
 grouped (s ∷ []) h n =
     let k : NoHalf (put s []) = rw (units_one s h.1) at n in

@@ -8,14 +8,14 @@ use Rattle.csm_grammar.specs.declared.refusal.ReadRefusal.{ReadRefusal}
 use Rattle.csm_grammar.specs.declared.refusal.ReadRefusal.TheVariants as refusal
 use Rattle.csm_grammar.specs.Values.{is_hex}
 use Rattle.csm_grammar.specs.Spelling.{Field, is_separator, Spells}
-use Rattle.csm_grammar.specs.Units.{Stretch, Standing, longer, stretches, shut_place, waits, put, units, stretches_of, units_of}
-use Rattle.csm_grammar.specs.Faults.{or_else, differs, front_fault, field_of, fault_of, fields_from, first_fault, shut_fault, endless_fault, end_fault, fault_of_text}
+use Rattle.csm_grammar.specs.Units.{Stretch, Standing, longer, stretches, end_place, waits, put, units, stretches_of, units_of}
+use Rattle.csm_grammar.specs.Faults.{or_else, differs, front_fault, field_of, fault_of, fields_from, first_fault, unclosed_fault, endless_fault, end_fault, fault_of_text}
 use Rattle.csm_grammar.specs.Reading.{IsRead}
 use Rattle.csm_grammar.specs.Judging.{ArePlain}
 use Rattle.csm_grammar.specs.Laws.{FaultStays, UnendedStays}
 use Rattle.csm_grammar.proofs.Stretching.{stretch, stretch_none, unit_not_waiting}
 use Rattle.csm_grammar.proofs.Tokens.{no_units}
-use Rattle.csm_grammar.proofs.Grouping.{is_shut, units_two}
+use Rattle.csm_grammar.proofs.Grouping.{is_close, units_two}
 use Rattle.csm_grammar.proofs.Passing.{no_fault, fault_more}
 use Rattle.csm_grammar.proofs.Kept.{taken}
 use Rattle.csm_grammar.proofs.Reasons.{unended_parts}
@@ -35,19 +35,19 @@ stretches_more p (b ∷ bs) more =
     let k = stretches_more (p + 1) bs more in
     stretches_step p b (stretches (p + 1) bs) (stretches (p + 1) (bs ++ more)) k.0 (b == 41) (is_separator b) k.1
 
-shut_step : (p b : ℕ) (xs ys : List Stretch) (shut separator : Bool) → (b == 41) ≡ shut → (is_shut xs ≡ true → ys ≡ xs)
-    → is_shut (cond shut (stretch p [] b ∷ []) (cond separator (stretch p [] b ∷ xs) (longer p b xs))) ≡ true
+end_step : (p b : ℕ) (xs ys : List Stretch) (shut separator : Bool) → (b == 41) ≡ shut → (is_close xs ≡ true → ys ≡ xs)
+    → is_close (cond shut (stretch p [] b ∷ []) (cond separator (stretch p [] b ∷ xs) (longer p b xs))) ≡ true
     → cond shut (stretch p [] b ∷ []) (cond separator (stretch p [] b ∷ ys) (longer p b ys)) ≡ cond shut (stretch p [] b ∷ []) (cond separator (stretch p [] b ∷ xs) (longer p b xs))
-shut_step p b xs ys true separator e more h = refl
-shut_step p b xs ys false true e more h = ap (λ (ss : List Stretch). stretch p [] b ∷ ss) (more (rw e at h))
-shut_step p b [] ys false false e more h = absurd (false≢true h)
-shut_step p b (x ∷ xs) ys false false e more h = ap (longer p b) (more h)
+end_step p b xs ys true separator e more h = refl
+end_step p b xs ys false true e more h = ap (λ (ss : List Stretch). stretch p [] b ∷ ss) (more (rw e at h))
+end_step p b [] ys false false e more h = absurd (false≢true h)
+end_step p b (x ∷ xs) ys false false e more h = ap (longer p b) (more h)
 
 -- what stands behind `)` isn't looked at
-pub stretches_shut : (p : ℕ) (b more : List ℕ) → is_shut (stretches p b) ≡ true → stretches p (b ++ more) ≡ stretches p b
+pub stretches_end : (p : ℕ) (b more : List ℕ) → is_close (stretches p b) ≡ true → stretches p (b ++ more) ≡ stretches p b
 unfolding stretches
-stretches_shut p [] more h = absurd (false≢true h)
-stretches_shut p (b ∷ bs) more h = shut_step p b (stretches (p + 1) bs) (stretches (p + 1) (bs ++ more)) (b == 41) (is_separator b) refl (λ i. stretches_shut (p + 1) bs more i) h
+stretches_end p [] more h = absurd (false≢true h)
+stretches_end p (b ∷ bs) more h = end_step p b (stretches (p + 1) bs) (stretches (p + 1) (bs ++ more)) (b == 41) (is_separator b) refl (λ i. stretches_end (p + 1) bs more i) h
 
 put_more : (s : Stretch) (us vs : List Standing) → put s (us ++ vs) ≡ put s us ++ vs
 put_more s us vs = go s.text where
@@ -128,22 +128,22 @@ stretches_window b more h =
     let l = length-take 1024 b in
     (k.0, ap (λ (y : List ℕ). stretches 4 (drop 4 y)) k.1 ∙ ap (stretches 4) (drop-append-le 4 (take 1024 b) k.0 (omega arith)))
 
-place_from_shut : (ss : List Stretch) → is_shut ss ≡ true → (q : ℕ) × (shut_place ss ≡ Some q)
-place_from_shut [] h = absurd (false≢true h)
-place_from_shut (s ∷ ss) h = go (s.end == 41) h (λ i. place_from_shut ss i) where
-  go : (b : Bool) → (b || is_shut ss) ≡ true → (is_shut ss ≡ true → (q : ℕ) × (shut_place ss ≡ Some q)) → (q : ℕ) × (cond b (Some (s.place + length s.text)) (shut_place ss) ≡ Some q)
+place_from_end : (ss : List Stretch) → is_close ss ≡ true → (q : ℕ) × (end_place ss ≡ Some q)
+place_from_end [] h = absurd (false≢true h)
+place_from_end (s ∷ ss) h = go (s.end == 41) h (λ i. place_from_end ss i) where
+  go : (b : Bool) → (b || is_close ss) ≡ true → (is_close ss ≡ true → (q : ℕ) × (end_place ss ≡ Some q)) → (q : ℕ) × (cond b (Some (s.place + length s.text)) (end_place ss) ≡ Some q)
   go true i k = (s.place + length s.text, refl)
   go false i k = k i
 
-no_place : (ss : List Stretch) → is_shut ss ≡ false → shut_place ss ≡ None
+no_place : (ss : List Stretch) → is_close ss ≡ false → end_place ss ≡ None
 no_place [] h = refl
 no_place (s ∷ ss) h = go (s.end == 41) h (λ i. no_place ss i) where
-  go : (b : Bool) → (b || is_shut ss) ≡ false → (is_shut ss ≡ false → shut_place ss ≡ None) → cond b (Some (s.place + length s.text)) (shut_place ss) ≡ None
+  go : (b : Bool) → (b || is_close ss) ≡ false → (is_close ss ≡ false → end_place ss ≡ None) → cond b (Some (s.place + length s.text)) (end_place ss) ≡ None
   go true i k = absurd (true≢false i)
   go false i k = k i
 
 -- the answer of a text by its parts
-answer_is : (b : List ℕ) (tokens : Option ReadRefusal) (place : Option ℕ) → front_fault b ≡ None → first_fault [] (units_of b) ≡ tokens → shut_place (stretches_of b) ≡ place → fault_of_text b ≡ or_else tokens (end_fault place (fields_from (units_of b)) (length b))
+answer_is : (b : List ℕ) (tokens : Option ReadRefusal) (place : Option ℕ) → front_fault b ≡ None → first_fault [] (units_of b) ≡ tokens → end_place (stretches_of b) ≡ place → fault_of_text b ≡ or_else tokens (end_fault place (fields_from (units_of b)) (length b))
 unfolding fault_of_text
 answer_is b tokens place f t p = rw (f, t, p) refl
 
@@ -161,23 +161,23 @@ endless_long : (n : ℕ) → 1024 < n → endless_fault n ≡ refusal.TooLong 10
 endless_long n h = rw (lt-ltb 1024 n h) refl
 
 -- a text whose tokens and end are those of a shorter one
-same_answer : (b more : List ℕ) (at : ℕ) → front_fault b ≡ None → front_fault (b ++ more) ≡ None → stretches_of (b ++ more) ≡ stretches_of b → shut_place (stretches_of b) ≡ Some at → fault_of_text (b ++ more) ≡ fault_of_text b
+same_answer : (b more : List ℕ) (at : ℕ) → front_fault b ≡ None → front_fault (b ++ more) ≡ None → stretches_of (b ++ more) ≡ stretches_of b → end_place (stretches_of b) ≡ Some at → fault_of_text (b ++ more) ≡ fault_of_text b
 same_answer b more at f g e p =
     let fs : fields_from (units_of (b ++ more)) ≡ fields_from (units_of b) = ap (λ (ss : List Stretch). fields_from (units ss)) e in
     let t : first_fault [] (units_of (b ++ more)) ≡ first_fault [] (units_of b) = ap (λ (ss : List Stretch). first_fault [] (units ss)) e in
-    answer_is (b ++ more) (first_fault [] (units_of b)) (Some at) g t (ap shut_place e ∙ p)
-    ∙ ap (λ (gs : List Field). or_else (first_fault [] (units_of b)) (shut_fault gs at)) fs ∙ sym (answer_is b (first_fault [] (units_of b)) (Some at) f refl p)
+    answer_is (b ++ more) (first_fault [] (units_of b)) (Some at) g t (ap end_place e ∙ p)
+    ∙ ap (λ (gs : List Field). or_else (first_fault [] (units_of b)) (unclosed_fault gs at)) fs ∙ sym (answer_is b (first_fault [] (units_of b)) (Some at) f refl p)
 
-unshut_answer : (b more : List ℕ) (o : Option ReadRefusal) → first_fault [] (units_of b) ≡ o → NotUnended b → front_fault b ≡ None → front_fault (b ++ more) ≡ None → 4 ≤ length b → shut_place (stretches_of b) ≡ None → fault_of_text (b ++ more) ≡ fault_of_text b
+never_closed_answer : (b more : List ℕ) (o : Option ReadRefusal) → first_fault [] (units_of b) ≡ o → NotUnended b → front_fault b ≡ None → front_fault (b ++ more) ≡ None → 4 ≤ length b → end_place (stretches_of b) ≡ None → fault_of_text (b ++ more) ≡ fault_of_text b
 unfolding NotUnended
-unshut_answer b more (Some r) t n f g l p =
+never_closed_answer b more (Some r) t n f g l p =
     let x = stretches_window b more l in
     let y = stretches_more 4 (drop 4 (take 1024 b)) x.0 in
     let z = units_more (stretches_of b) y.0 in
     let u : units_of (b ++ more) ≡ units_of b ++ z.0 = ap units (x.1 ∙ y.1) ∙ z.1 in
     let s : first_fault [] (units_of (b ++ more)) ≡ Some r = ap (first_fault []) u ∙ fault_stays [] (units_of b) z.0 r t in
-    answer_is (b ++ more) (Some r) (shut_place (stretches_of (b ++ more))) g s refl ∙ sym (answer_is b (Some r) None f t p)
-unshut_answer b more None t n f g l p = go (cases_lt 1024 (length b)) where
+    answer_is (b ++ more) (Some r) (end_place (stretches_of (b ++ more))) g s refl ∙ sym (answer_is b (Some r) None f t p)
+never_closed_answer b more None t n f g l p = go (cases_lt 1024 (length b)) where
   a : fault_of_text b ≡ Some (endless_fault (length b))
   a = answer_is b None None f t p
 
@@ -187,7 +187,7 @@ unshut_answer b more None t n f g l p = go (cases_lt 1024 (length b)) where
       let w : take 1024 (b ++ more) ≡ take 1024 b = take-append-le 1024 b more (omega arith) in
       let e = ap (λ (y : List ℕ). stretches 4 (drop 4 y)) w in
       let k = length-append b more in
-      answer_is (b ++ more) None None g (ap (λ (ss : List Stretch). first_fault [] (units ss)) e ∙ t) (ap shut_place e ∙ p)
+      answer_is (b ++ more) None None g (ap (λ (ss : List Stretch). first_fault [] (units ss)) e ∙ t) (ap end_place e ∙ p)
       ∙ ap (λ (r : ReadRefusal). Some r) (endless_long (length (b ++ more)) (omega arith) ∙ sym (endless_long (length b) h)) ∙ sym a
 
 short_unended : (b : List ℕ) → front_fault b ≡ None → length b < 4 → fault_of_text b ≡ Some (refusal.Unended (length b))
@@ -196,7 +196,7 @@ short_unended b f h =
     let l = length-take 1024 b in
     let z : drop 4 (take 1024 b) ≡ [] = drop_all 4 (take 1024 b) (omega arith) in
     let e : stretches_of b ≡ [] = ap (stretches 4) z in
-    answer_is b None None f (ap (λ (ss : List Stretch). first_fault [] (units ss)) e ∙ ap (first_fault []) no_units ∙ no_fault []) (ap shut_place e)
+    answer_is b None None f (ap (λ (ss : List Stretch). first_fault [] (units ss)) e ∙ ap (first_fault []) no_units ∙ no_fault []) (ap end_place e)
     ∙ ap (λ (r : ReadRefusal). Some r) (endless_short (length b) (omega arith))
 
 -- the answer of bytes that aren't only unended stays
@@ -204,13 +204,13 @@ pub answer_stays : (b more : List ℕ) → b ≢ [] → ((n : ℕ) → fault_of_
 unfolding NotUnended
 answer_stays b more filled n = front (front_fault b) refl where
   long : front_fault b ≡ None → 4 ≤ length b → fault_of_text (b ++ more) ≡ fault_of_text b
-  long f l = shut (is_shut (stretches_of b)) refl where
-    shut : (c : Bool) → is_shut (stretches_of b) ≡ c → fault_of_text (b ++ more) ≡ fault_of_text b
+  long f l = shut (is_close (stretches_of b)) refl where
+    shut : (c : Bool) → is_close (stretches_of b) ≡ c → fault_of_text (b ++ more) ≡ fault_of_text b
     shut true e =
         let x = stretches_window b more l in
-        let p = place_from_shut (stretches_of b) e in
-        same_answer b more p.0 f (front_none b more f l) (x.1 ∙ stretches_shut 4 (drop 4 (take 1024 b)) x.0 e) p.1
-    shut false e = unshut_answer b more (first_fault [] (units_of b)) refl n f (front_none b more f l) l (no_place (stretches_of b) e)
+        let p = place_from_end (stretches_of b) e in
+        same_answer b more p.0 f (front_none b more f l) (x.1 ∙ stretches_end 4 (drop 4 (take 1024 b)) x.0 e) p.1
+    shut false e = never_closed_answer b more (first_fault [] (units_of b)) refl n f (front_none b more f l) l (no_place (stretches_of b) e)
 
   size : front_fault b ≡ None → (length b < 4) ⊎ (4 ≤ length b) → fault_of_text (b ++ more) ≡ fault_of_text b
   size f (inl h) = absurd (n (length b) (short_unended b f h))
@@ -245,5 +245,5 @@ unended_more b more l h s e =
     let same : stretches_of (b ++ more) ≡ stretches_of b =
     ap (λ (y : List ℕ). stretches 4 (drop 4 y)) (take_all 1024 (b ++ more) s) ∙ ap (stretches 4) (drop-append-le 4 b more l)
     ∙ stretches_plain 4 (drop 4 b) more h ∙ ap (λ (y : List ℕ). stretches 4 (drop 4 y)) (sym (take_all 1024 b (omega (arith, n, s)))) in
-    answer_is (b ++ more) None None (front_none b more parts.front l) (ap (λ (ss : List Stretch). first_fault [] (units ss)) same ∙ parts.tokens) (ap shut_place same ∙ parts.unshut)
+    answer_is (b ++ more) None None (front_none b more parts.front l) (ap (λ (ss : List Stretch). first_fault [] (units ss)) same ∙ parts.tokens) (ap end_place same ∙ parts.never_closed)
     ∙ ap (λ (r : ReadRefusal). Some r) (endless_short (length (b ++ more)) s)

@@ -10,11 +10,11 @@ use Rattle.csm_grammar.specs.declared.refusal.ReadRefusal.{ReadRefusal}
 use Rattle.csm_grammar.specs.Values.{is_hex}
 use Rattle.csm_grammar.specs.Messages.{form_of}
 use Rattle.csm_grammar.specs.Spelling.{AreSeparators, Field, AreOfForm, StandFor}
-use Rattle.csm_grammar.specs.Units.{Stretch, Standing, stretches, shut_place, is_half, waits, put, units, stretches_of, units_of}
-use Rattle.csm_grammar.specs.Faults.{or_else, field_of, fault_of, fields_from, front_fault, first_fault, shut_fault, endless_fault, fault_of_text}
+use Rattle.csm_grammar.specs.Units.{Stretch, Standing, stretches, end_place, is_half, waits, put, units, stretches_of, units_of}
+use Rattle.csm_grammar.specs.Faults.{or_else, field_of, fault_of, fields_from, front_fault, first_fault, unclosed_fault, endless_fault, fault_of_text}
 use Rattle.csm_grammar.specs.Judging.{ArePlain, IsEnd, stretches_from, Judged, IsNext, last_place}
 use Rattle.csm_grammar.specs.Reading.{IsRead}
-use Rattle.csm_grammar.proofs.Stretching.{stretch, standing, stretch_separator, stretch_shut, stretch_end, stretch_token, stretch_none, unit_empty, unit_not_waiting, gap_units, gap_shut}
+use Rattle.csm_grammar.proofs.Stretching.{stretch, standing, stretch_separator, stretch_closed, stretch_end, stretch_token, stretch_none, unit_empty, unit_not_waiting, gap_units, gap_end}
 use Rattle.csm_grammar.proofs.Tokens.{hex_plain, put_filled, joined, no_units}
 use Rattle.csm_grammar.proofs.Passing.{no_fault, fault_more}
 use Rattle.csm_grammar.proofs.Kept.{kept}
@@ -66,9 +66,9 @@ behind w front rest place h = sym (drop-drop (length front) place w) ∙ ap (dro
 
 -- the stretches from a place on, behind separators
 behind_gap : (w gap rest : List ℕ) (place : ℕ) → drop place w ≡ gap ++ rest → AreSeparators gap
-    → (units (stretches place (drop place w)) ≡ units (stretches (place + length gap) rest)) × (shut_place (stretches place (drop place w)) ≡ shut_place (stretches (place + length gap) rest))
+    → (units (stretches place (drop place w)) ≡ units (stretches (place + length gap) rest)) × (end_place (stretches place (drop place w)) ≡ end_place (stretches (place + length gap) rest))
 behind_gap w gap rest place h s =
-    (ap (λ (x : List ℕ). units (stretches place x)) h ∙ gap_units place gap rest s, ap (λ (x : List ℕ). shut_place (stretches place x)) h ∙ gap_shut place gap rest s)
+    (ap (λ (x : List ℕ). units (stretches place x)) h ∙ gap_units place gap rest s, ap (λ (x : List ℕ). end_place (stretches place x)) h ∙ gap_end place gap rest s)
 
 -- separators, a token, and what ends it: not half a code and a blank
 pub next_token : (b : List ℕ) (place : ℕ) (gap t : List ℕ) (e : ℕ) (rest : List ℕ) → drop place (take 1024 b) ≡ gap ++ (t ++ e ∷ rest) → AreSeparators gap → ArePlain t → t ≢ [] → IsEnd e → (is_half t && (e == 32)) ≡ false
@@ -84,7 +84,7 @@ next_token b place gap t e rest h s p f i w =
     let after : stretches r (drop r (take 1024 b)) ≡ stretch r [] e ∷ x.0 = ap (stretches r) d ∙ x.1 in
     record {
       units_are = g.0 ∙ ap units k ∙ unit_not_waiting (stretch q t e) x.0 w ∙ put_filled q e t (units x.0) f ∙ ap (λ (us : List Standing). standing q t ∷ us) (sym (ap units after ∙ unit_empty r e x.0));
-      shut = g.1 ∙ ap shut_place k ∙ ap (λ (n : ℕ). cond (e == 41) (Some n) (shut_place x.0)) (let l : q + length t ≡ r + 0 = omega arith in l) ∙ ap shut_place (sym after);
+      shut = g.1 ∙ ap end_place k ∙ ap (λ (n : ℕ). cond (e == 41) (Some n) (end_place x.0)) (let l : q + length t ≡ r + 0 = omega arith in l) ∙ ap end_place (sym after);
     }
 
 -- separators, the two halves of a code, and what ends them
@@ -107,7 +107,7 @@ next_halves b place gap first second e rest h s p f d i =
     ∙ ap (λ (ss : List Stretch). stretch q first 32 ∷ ss) k2 in
     record {
       units_are = g.0 ∙ ap units k1 ∙ joined q (q + length first + 1) e first second x.0 f d ∙ ap (λ (us : List Standing). standing q t ∷ us) (sym (ap units after ∙ unit_empty r e x.0));
-      shut = g.1 ∙ ap shut_place k1 ∙ ap (λ (n : ℕ). cond (e == 41) (Some n) (shut_place x.0)) (let m : q + length first + 1 + length second ≡ r + 0 = omega arith in m) ∙ ap shut_place (sym after);
+      shut = g.1 ∙ ap end_place k1 ∙ ap (λ (n : ℕ). cond (e == 41) (Some n) (end_place x.0)) (let m : q + length first + 1 + length second ≡ r + 0 = omega arith in m) ∙ ap end_place (sym after);
     }
 
 alone : (s t : Stretch) (ss : List Stretch) → is_hex 4 t.text ≡ false → units (s ∷ t ∷ ss) ≡ put s (units (t ∷ ss))
@@ -133,47 +133,47 @@ next_alone b place gap first other e rest h s p f o d i =
     ap (λ (ss : List Stretch). units (stretch q first 32 ∷ ss)) k2 ∙ alone (stretch q first 32) (stretch (r + 1) other e) x.0 d ∙ ap (λ (ss : List Stretch). put (stretch q first 32) (units ss)) (sym k2) in
     record {
       units_are = g.0 ∙ ap units k1 ∙ k3 ∙ put_filled q 32 first (units us) f ∙ ap (λ (vs : List Standing). standing q first ∷ vs) (sym (ap units after ∙ unit_empty r 32 us));
-      shut = g.1 ∙ ap shut_place k1 ∙ ap shut_place (sym after);
+      shut = g.1 ∙ ap end_place k1 ∙ ap end_place (sym after);
     }
 
 -- where `)` stands
-pub record AtShut (b : List ℕ) (done : List Standing) (at : ℕ) : Type 0 where
+pub record AtEnd (b : List ℕ) (done : List Standing) (at : ℕ) : Type 0 where
   pub are : units_of b ≡ done
-  pub place : shut_place (stretches_of b) ≡ Some at
+  pub place : end_place (stretches_of b) ≡ Some at
   pub tokens : first_fault [] (units_of b) ≡ None
   pub front : front_fault b ≡ None
 
-pub at_shut : (b : List ℕ) (place : ℕ) (done : List Standing) (gap rest : List ℕ) → Judged b place done → drop place (take 1024 b) ≡ gap ++ 41 ∷ rest → AreSeparators gap → AtShut b done (place + length gap)
-at_shut b place done gap rest j h s =
+pub at_end : (b : List ℕ) (place : ℕ) (done : List Standing) (gap rest : List ℕ) → Judged b place done → drop place (take 1024 b) ≡ gap ++ 41 ∷ rest → AreSeparators gap → AtEnd b done (place + length gap)
+at_end b place done gap rest j h s =
     let q = place + length gap in
     let g = behind_gap (take 1024 b) gap (41 ∷ rest) place h s in
-    let k = stretch_shut q rest in
+    let k = stretch_closed q rest in
     let us : units (stretches_from place b) ≡ [] = g.0 ∙ ap units k ∙ unit_empty q 41 [] ∙ no_units in
     record {
       are = j.are ∙ ap (λ (x : List Standing). done ++ x) us ∙ append-nil done;
-      place = j.shut ∙ g.1 ∙ ap shut_place k ∙ ap (λ (n : ℕ). Some n) (let l : q + 0 ≡ q = omega arith in l);
+      place = j.shut ∙ g.1 ∙ ap end_place k ∙ ap (λ (n : ℕ). Some n) (let l : q + 0 ≡ q = omega arith in l);
       tokens = j.faults ∙ ap (first_fault (fields_from done)) us ∙ no_fault (fields_from done);
       front = j.front;
     }
 
 -- the fault of `)` is the text's
-pub shut_refused : (b : List ℕ) (done : List Standing) (at : ℕ) (r : ReadRefusal) → AtShut b done at → shut_fault (fields_from done) at ≡ Some r → fault_of_text b ≡ Some r
+pub unclosed_refused : (b : List ℕ) (done : List Standing) (at : ℕ) (r : ReadRefusal) → AtEnd b done at → unclosed_fault (fields_from done) at ≡ Some r → fault_of_text b ≡ Some r
 unfolding fault_of_text
-shut_refused b done at r a h =
-    let k : shut_fault (fields_from (units_of b)) at ≡ Some r = ap (λ (us : List Standing). shut_fault (fields_from us) at) a.are ∙ h in
+unclosed_refused b done at r a h =
+    let k : unclosed_fault (fields_from (units_of b)) at ≡ Some r = ap (λ (us : List Standing). unclosed_fault (fields_from us) at) a.are ∙ h in
     rw (a.front, a.tokens, a.place) k
 
-pub shut_faultless : (b : List ℕ) (done : List Standing) (at : ℕ) → AtShut b done at → shut_fault (fields_from done) at ≡ None → fault_of_text b ≡ None
+pub closed_faultless : (b : List ℕ) (done : List Standing) (at : ℕ) → AtEnd b done at → unclosed_fault (fields_from done) at ≡ None → fault_of_text b ≡ None
 unfolding fault_of_text
-shut_faultless b done at a h =
-    let k : shut_fault (fields_from (units_of b)) at ≡ None = ap (λ (us : List Standing). shut_fault (fields_from us) at) a.are ∙ h in
+closed_faultless b done at a h =
+    let k : unclosed_fault (fields_from (units_of b)) at ≡ None = ap (λ (us : List Standing). unclosed_fault (fields_from us) at) a.are ∙ h in
     rw (a.front, a.tokens, a.place) k
 
 -- a message that the fields stand for is read
-pub message_read : (b : List ℕ) (done : List Standing) (at : ℕ) (m : Message) (shut : Shut) → AtShut b done at → shut_fault (fields_from done) at ≡ None → AreOfForm (form_of m) (fields_from done) → StandFor (fields_from done) m shut
+pub message_read : (b : List ℕ) (done : List Standing) (at : ℕ) (m : Message) (shut : Shut) → AtEnd b done at → unclosed_fault (fields_from done) at ≡ None → AreOfForm (form_of m) (fields_from done) → StandFor (fields_from done) m shut
     → IsRead b (record { message = m; shut = shut; auth_len = last_place done; len = at + 1 })
 message_read b done at m shut a h form stands =
-    let n = shut_faultless b done at a h in
+    let n = closed_faultless b done at a h in
     let x = faultless b n in
     let e = sym (ap fields_from a.are) ∙ sym x.fields in
     let r = read_of b x m shut (subst (AreOfForm (form_of m)) e form) (subst (λ (fs : List Field). StandFor fs m shut) e stands) in
@@ -185,11 +185,11 @@ message_read b done at m shut a h form stands =
     (subst (λ (n : ℕ). IsRead b (record { message = m; shut = shut; auth_len = n; len = r.len })) auth r.read)
 
 -- nothing is ended from a place on
-endless : (b : List ℕ) (place : ℕ) (done : List Standing) → Judged b place done → units (stretches_from place b) ≡ [] → shut_place (stretches_from place b) ≡ None → fault_of_text b ≡ Some (endless_fault (length b))
+endless : (b : List ℕ) (place : ℕ) (done : List Standing) → Judged b place done → units (stretches_from place b) ≡ [] → end_place (stretches_from place b) ≡ None → fault_of_text b ≡ Some (endless_fault (length b))
 unfolding fault_of_text
 endless b place done j u s =
     let tokens : first_fault [] (units_of b) ≡ None = j.faults ∙ ap (first_fault (fields_from done)) u ∙ no_fault (fields_from done) in
-    let none : shut_place (stretches_of b) ≡ None = j.shut ∙ s in
+    let none : end_place (stretches_of b) ≡ None = j.shut ∙ s in
     rw (j.front, tokens, none) refl
 
 -- separators, and bytes that nothing ends
@@ -197,7 +197,7 @@ pub end_refused : (b : List ℕ) (place : ℕ) (done : List Standing) (gap t : L
 end_refused b place done gap t j h s p =
     let g = behind_gap (take 1024 b) gap t place h s in
     let k = stretch_none (place + length gap) t p in
-    endless b place done j (g.0 ∙ ap units k ∙ no_units) (g.1 ∙ ap shut_place k)
+    endless b place done j (g.0 ∙ ap units k ∙ no_units) (g.1 ∙ ap end_place k)
 
 waiting : (s : Stretch) → waits s ≡ true → units (s ∷ []) ≡ []
 unfolding units
@@ -209,4 +209,4 @@ half_refused b place done gap first t j h s p f n =
     let q = place + length gap in
     let g = behind_gap (take 1024 b) gap (first ++ 32 ∷ t) place h s in
     let k = stretch_token q (q + length first) 32 first t (stretches (q + length first + 1) t) p refl (stretch_separator (q + length first) 32 t refl) ∙ ap (λ (ss : List Stretch). stretch q first 32 ∷ ss) (stretch_none (q + length first + 1) t n) in
-    endless b place done j (g.0 ∙ ap units k ∙ waiting (stretch q first 32) (and_from _ _ f refl)) (g.1 ∙ ap shut_place k)
+    endless b place done j (g.0 ∙ ap units k ∙ waiting (stretch q first 32) (and_from _ _ f refl)) (g.1 ∙ ap end_place k)

@@ -16,12 +16,12 @@ use Rattle.csm_grammar.specs.Classes.{class_text, forms}
 use Rattle.csm_grammar.specs.Values.{Value, AText, OfClass, kind_of, value_of, value_if}
 use Rattle.csm_grammar.specs.Messages.{form_of, shut_field, all_fields}
 use Rattle.csm_grammar.specs.Spelling.{AreSeparators, Field, field_text, Spelled, spelled_text, fields_in, tags_in, AreParted, AreOfForm, values_in, values_for, StandFor, Spells}
-use Rattle.csm_grammar.specs.Units.{stretches, shut_place, units, stretches_of, units_of}
+use Rattle.csm_grammar.specs.Units.{stretches, end_place, units, stretches_of, units_of}
 use Rattle.csm_grammar.specs.Faults.{differs, or_else, field_of, fault_of, fields_from, first_fault, front_fault, end_fault, fault_of_text}
 use Rattle.csm_grammar.specs.Judging.{last_place}
 use Rattle.csm_grammar.specs.Reading.{IsRead}
 use Rattle.csm_grammar.proofs.TagLemmas.{same_itself}
-use Rattle.csm_grammar.proofs.Stretching.{standing, gap_units, gap_shut}
+use Rattle.csm_grammar.proofs.Stretching.{standing, gap_units, gap_end}
 use Rattle.csm_grammar.proofs.Tokens.{IsToken, spread_text, AreSpread, standings, spread_units}
 use Rattle.csm_grammar.proofs.FieldLemmas.{field, field_written, fault_of_written}
 use Rattle.csm_grammar.proofs.ContentsLemmas.{token_of_field}
@@ -82,9 +82,9 @@ standing_faultless before p (s ∷ ss) h =
     ap (λ (o : Option Field). first_fault (before ++ option_to_list o) us) (field_written p s.field) ∙ standing_faultless (before ++ s.field ∷ []) (p + length (spread_text (spread_of s))) ss h.1 in
     fault_more before u us ∙ (λ i. or_else (a i) (b i))
 
-shut_closes : (shut : Shut) → is_closing (shut_field shut).tag ≡ true
-shut_closes (shuts.Mac n) = refl
-shut_closes (shuts.Edc n) = refl
+end_closes : (shut : Shut) → is_closing (shut_field shut).tag ≡ true
+end_closes (shuts.Mac n) = refl
+end_closes (shuts.Edc n) = refl
 
 head_class : (f : Field) (fs : List Field) → f.tag ≡ Mcl → values_in Mcl (f ∷ fs) ≡ value_of OfClass f.contents ∷ values_in Mcl fs
 head_class f fs h = subst (λ (g : Field). values_in Mcl (g ∷ fs) ≡ value_of OfClass f.contents ∷ values_in Mcl fs) (let k : field Mcl f.contents ≡ f = (λ i. field (sym h i) f.contents) in k) refl
@@ -119,7 +119,7 @@ proper m shut (s ∷ ss) l others form stands class code =
       begins = refl;
       class_first = first;
       class = class_of m shut s.field (fields_in ss ++ l.field ∷ []) first st;
-      closes = ap is_closing code ∙ shut_closes shut;
+      closes = ap is_closing code ∙ end_closes shut;
       unclosed = no_code gs l.field m shut fm st code;
     } where
       no_code : (gs : List Field) (c : Field) (m : Message) (shut : Shut) → AreOfForm (form_of m) (gs ++ c ∷ []) → StandFor (gs ++ c ∷ []) m shut → c.tag ≡ (shut_field shut).tag → list_any is_closing (tags_in gs) ≡ false
@@ -155,7 +155,7 @@ spelled_front front ss rest = sym (append_assoc front (flat_map spelled_text ss 
 -- the judged units of a text that begins with spelled fields
 pub record Units (b front : List ℕ) (ss : List Spelled) : Type 0 where
   pub units : units_of b ≡ standings (4 + length front) (map spread_of ss)
-  pub place : shut_place (stretches_of b) ≡ Some (4 + length front + length (flat_map spelled_text ss))
+  pub place : end_place (stretches_of b) ≡ Some (4 + length front + length (flat_map spelled_text ss))
 
 pub units_spelled : (b front rest : List ℕ) (ss : List Spelled) → b ≡ codes "CSM(" ++ (front ++ (flat_map spelled_text ss ++ 41 ∷ rest)) → length front + length (flat_map spelled_text ss) + 5 ≤ 1024 → AreSeparators front → are_known (fields_in ss) ≡ true → AreParted ss → Units b front ss
 units_spelled b front rest ss text short seps known parted =
@@ -170,7 +170,7 @@ units_spelled b front rest ss text short seps known parted =
     let k = spread_units (4 + length front) (map spread_of ss) rest2 (spread_from ss known parted) in
     record {
       units = ap (λ (x : List ℕ). units (stretches 4 x)) w ∙ gap_units 4 front _ seps ∙ k.0;
-      place = ap (λ (x : List ℕ). shut_place (stretches 4 x)) w ∙ gap_shut 4 front _ seps ∙ k.1 ∙ ap (λ (x : List ℕ). Some (4 + length front + length x)) (spread_same ss);
+      place = ap (λ (x : List ℕ). end_place (stretches 4 x)) w ∙ gap_end 4 front _ seps ∙ k.1 ∙ ap (λ (x : List ℕ). Some (4 + length front + length x)) (spread_same ss);
     }
 
 differs_no_more : (place : ℕ) (xs : List ℕ) → differs place xs [] ≡ None
@@ -190,7 +190,7 @@ pub record Kept (b : List ℕ) (p : Parsed) : Type 0 where
   pub form : AreOfForm (form_of p.message) (fields_from (units_of b))
   pub proper : (gs : List Field) × (c : Field) × (fields_from (units_of b) ≡ gs ++ c ∷ []) × IsProper (form_of p.message) gs c
   pub at : ℕ
-  pub place : shut_place (stretches_of b) ≡ Some at
+  pub place : end_place (stretches_of b) ≡ Some at
   pub len : p.len ≡ at + 1
   pub auth : p.auth_len ≡ last_place (units_of b)
 

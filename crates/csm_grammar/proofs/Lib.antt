@@ -40,3 +40,8 @@ pub mod BuiltMessages
 pub mod EndLemmas
 pub mod ReadSteps
 pub mod Within
+pub mod Allowed
+pub mod Typed
+pub mod Denoting
+pub mod Parts
+pub mod Arrived

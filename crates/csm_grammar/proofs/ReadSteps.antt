@@ -11,20 +11,20 @@ use Rattle.csm_grammar.specs.declared.refusal.ReadRefusal.TheVariants as refusal
 use Rattle.csm_grammar.specs.declared.tag.Tag.TheVariants.{Mac, Edc}
 use Rattle.csm_grammar.specs.Tags.{count_tag}
 use Rattle.csm_grammar.specs.Spelling.{Field, tags_in, is_separator}
-use Rattle.csm_grammar.specs.Units.{Standing, stretches, shut_place, put, units, stretches_of, units_of}
+use Rattle.csm_grammar.specs.Units.{Standing, stretches, end_place, put, units, stretches_of, units_of}
 use Rattle.csm_grammar.specs.Faults.{differs, front_fault, field_of, fault_of, fields_from, first_fault, endless_fault, fault_of_text}
 use Rattle.csm_grammar.specs.Judging.{is_plain, stretches_from, Judged, IsNext, last_place}
 use Rattle.csm_grammar.specs.Reading.{IsRead, IsFault, Found, Only, Faulted, Faults}
 use Rattle.csm_grammar.specs.Slotting.{Keeps}
 use Rattle.csm_grammar.specs.Scanning.{IsUnit, RunsOut}
 use Rattle.csm_grammar.specs.Building.{AreClosed, AreSound, Ends, IsAnswer, IsReading}
-use Rattle.csm_grammar.proofs.Stretching.{stretch, standing, stretch_separator, unit_empty, separator_shut}
+use Rattle.csm_grammar.proofs.Stretching.{stretch, standing, stretch_separator, unit_empty, separator_end}
 use Rattle.csm_grammar.proofs.Tokens.{put_filled, no_units}
 use Rattle.csm_grammar.proofs.FieldLemmas.{is_field}
 use Rattle.csm_grammar.proofs.Passing.{no_fault}
 use Rattle.csm_grammar.proofs.Making.{OneCode, by_mac, by_edc}
 use Rattle.csm_grammar.proofs.Choosing.{IsReady, ready}
-use Rattle.csm_grammar.proofs.Judging.{begin, token_refused, token_judged, field_judged, AtShut, at_shut, shut_refused, message_read}
+use Rattle.csm_grammar.proofs.Judging.{begin, token_refused, token_judged, field_judged, AtEnd, at_end, unclosed_refused, message_read}
 use Rattle.csm_grammar.proofs.Kept.{kept}
 use Rattle.csm_grammar.proofs.Sole.{sole}
 
@@ -70,7 +70,7 @@ unit_next b place n text u h e =
     let behind : drop n w ≡ drop (place + n) (take 1024 b) = drop-drop n place (take 1024 b) in
     record {
       units_are = u.first place ∙ ap (λ (t : List ℕ). put (stretch place t (get_or w n 0)) (units (stretches (place + n) (drop n w)))) (sym e) ∙ put_filled place (get_or w n 0) text _ filled ∙ ap (λ (x : List ℕ). standing place text ∷ units (stretches (place + n) x)) behind;
-      shut = u.shut place ∙ ap (λ (x : List ℕ). shut_place (stretches (place + n) x)) behind;
+      shut = u.shut place ∙ ap (λ (x : List ℕ). end_place (stretches (place + n) x)) behind;
     }
 
 pub token_fault : (b : List ℕ) (place last n : ℕ) (text : List ℕ) (slots : List (Option (Bor (List ℕ)))) (left : ℕ) (r : ReadRefusal) (i : IsReading b place last slots left) → IsNext b place (standing place text) (place + n) → fault_of (fields_from i.done) (standing place text) ≡ Some r → IsFault b r
@@ -100,7 +100,7 @@ gap_judged b place done j h s =
       front = j.front;
       are = j.are ∙ ap (λ (x : List Standing). done ++ x) us;
       faults = j.faults ∙ ap (first_fault (fields_from done)) us;
-      shut = j.shut ∙ ap shut_place k ∙ rw (separator_shut (get_or w place 0) s) refl;
+      shut = j.shut ∙ ap end_place k ∙ rw (separator_end (get_or w place 0) s) refl;
     }
 
 ended_by : (e : ℕ) → is_plain e ≡ false → (e ≡ 41 → ⊥) → is_separator e ≡ true
@@ -118,12 +118,12 @@ gap_taken b place last slots left i h p n = record {
   within = omega arith;
 }
 
-pub shut_here : (b : List ℕ) (place : ℕ) (done : List Standing) → Judged b place done → place < length (take 1024 b) → get_or (take 1024 b) place 0 ≡ 41 → AtShut b done place
-shut_here b place done j h e =
+pub end_here : (b : List ℕ) (place : ℕ) (done : List Standing) → Judged b place done → place < length (take 1024 b) → get_or (take 1024 b) place 0 ≡ 41 → AtEnd b done place
+end_here b place done j h e =
     let w = take 1024 b in
-    let a = at_shut b place done [] (drop (place + 1) w) j (cons_at w place h ∙ ap (λ (x : ℕ). x ∷ drop (place + 1) w) e) refl in
+    let a = at_end b place done [] (drop (place + 1) w) j (cons_at w place h ∙ ap (λ (x : ℕ). x ∷ drop (place + 1) w) e) refl in
     let z : place + 0 ≡ place = omega arith in
-    subst (AtShut b done) z a
+    subst (AtEnd b done) z a
 
 code_cases : (fs : List Field) → OneCode fs → ((count_tag Mac (tags_in fs) ≡ 1) × (count_tag Edc (tags_in fs) ≡ 0)) ⊎ ((count_tag Mac (tags_in fs) ≡ 0) × (count_tag Edc (tags_in fs) ≡ 1))
 code_cases fs (by_mac m e) = inl (m, e)
@@ -135,24 +135,24 @@ closed_fields fs r = record { form = r.form; left = r.left; tags = r.tags; known
 pub sound_here : (b : List ℕ) (place last : ℕ) (slots : List (Option (Bor (List ℕ)))) (left : ℕ) (i : IsReading b place last slots left) → place < length (take 1024 b) → get_or (take 1024 b) place 0 ≡ 41 → AreSound slots left (fields_from i.done)
 sound_here b place last slots left i h e = record {
   keeps = i.keeps;
-  closed = λ c. closed_fields (fields_from i.done) (ready b i.done place (shut_here b place i.done i.judged h e) (rw c refl));
+  closed = λ c. closed_fields (fields_from i.done) (ready b i.done place (end_here b place i.done i.judged h e) (rw c refl));
 }
 
 pub end_answer : (b : List ℕ) (place last : ℕ) (slots : List (Option (Bor (List ℕ)))) (left : ℕ) (i : IsReading b place last slots left) (r : Result Parsed ReadRefusal) → place < length (take 1024 b) → get_or (take 1024 b) place 0 ≡ 41 → Ends (fields_from i.done) place last r → IsAnswer b r
 end_answer b place last slots left i (Ok p) h e k =
-    let m = message_read b i.done place p.message p.shut (shut_here b place i.done i.judged h e) k.faultless k.form k.stands in
+    let m = message_read b i.done place p.message p.shut (end_here b place i.done i.judged h e) k.faultless k.form k.stands in
     let auth : last_place i.done ≡ p.auth_len = sym i.last_is ∙ sym k.auth_len in
     subst (λ (n : ℕ). IsRead b (record { message = p.message; shut = p.shut; auth_len = p.auth_len; len = n })) (sym k.len)
     (subst (λ (n : ℕ). IsRead b (record { message = p.message; shut = p.shut; auth_len = n; len = place + 1 })) auth m)
-end_answer b place last slots left i (Err r) h e (inl k) = inl (shut_refused b i.done place r (shut_here b place i.done i.judged h e) k)
+end_answer b place last slots left i (Err r) h e (inl k) = inl (unclosed_refused b i.done place r (end_here b place i.done i.judged h e) k)
 end_answer b place last slots left i (Err r) h e (inr k) = inr k
 
 -- nothing is ended from a place on
-endless_from : (b : List ℕ) (place : ℕ) (done : List Standing) → Judged b place done → units (stretches_from place b) ≡ [] → shut_place (stretches_from place b) ≡ None → IsFault b (endless_fault (length b))
+endless_from : (b : List ℕ) (place : ℕ) (done : List Standing) → Judged b place done → units (stretches_from place b) ≡ [] → end_place (stretches_from place b) ≡ None → IsFault b (endless_fault (length b))
 unfolding fault_of_text
 endless_from b place done j u s =
     let tokens : first_fault [] (units_of b) ≡ None = j.faults ∙ ap (first_fault (fields_from done)) u ∙ no_fault (fields_from done) in
-    let none : shut_place (stretches_of b) ≡ None = j.shut ∙ s in
+    let none : end_place (stretches_of b) ≡ None = j.shut ∙ s in
     rw (j.front, tokens, none) refl
 
 pub endless_answer : (b : List ℕ) (place last : ℕ) (slots : List (Option (Bor (List ℕ)))) (left : ℕ) (i : IsReading b place last slots left) → RunsOut (drop place (take 1024 b)) → IsFault b (endless_fault (length b))
@@ -166,7 +166,7 @@ pub short_answer : (b : List ℕ) → front_fault b ≡ None → length (take 10
 short_answer b h k =
     let e : drop 4 (take 1024 b) ≡ [] = nil_from_length _ (let z = length-drop 4 (take 1024 b) in omega arith) in
     let s : stretches_from 4 b ≡ [] = ap (stretches 4) e ∙ no_stretches in
-    endless_from b 4 [] (begin b h) (ap units s ∙ no_units) (ap shut_place s)
+    endless_from b 4 [] (begin b h) (ap units s ∙ no_units) (ap end_place s)
 
 pub reading_begins : (b : List ℕ) (slots : List (Option (Bor (List ℕ)))) (left : ℕ) → front_fault b ≡ None → 4 ≤ length (take 1024 b) → Keeps slots left [] → IsReading b 4 0 slots left
 reading_begins b slots left h k s = record { done = []; judged = begin b h; keeps = s; last_is = refl; within = k }

@@ -10,8 +10,8 @@ use Rattle.csm_grammar.specs.declared.refusal.ReadRefusal.TheVariants as refusal
 use Rattle.csm_grammar.specs.Tags.{tag_name, same_tag, has_tag, is_closing, is_unsupported}
 use Rattle.csm_grammar.specs.Values.{kind_of, value_of}
 use Rattle.csm_grammar.specs.Spelling.{Field, tags_in}
-use Rattle.csm_grammar.specs.Units.{Standing, shut_place, stretches_of, units_of}
-use Rattle.csm_grammar.specs.Faults.{refuse, or_else, differs, front_fault, is_tagged, lacking, forms_left, field_of, fault_of, fault_of_field, fields_from, first_fault, missing_of, shut_fault, endless_fault, end_fault, fault_of_text}
+use Rattle.csm_grammar.specs.Units.{Standing, end_place, stretches_of, units_of}
+use Rattle.csm_grammar.specs.Faults.{refuse, or_else, differs, front_fault, is_tagged, lacking, forms_left, field_of, fault_of, fault_of_field, fields_from, first_fault, missing_of, unclosed_fault, endless_fault, end_fault, fault_of_text}
 use Rattle.csm_grammar.specs.Laws.{EndsAs}
 use Rattle.csm_grammar.proofs.Passing.{no_fault, fault_more}
 
@@ -87,15 +87,15 @@ tokens_give : (before : List Field) (us : List Standing) → GivesOther (first_f
 tokens_give before [] = subst GivesOther (sym (no_fault before)) other_none
 tokens_give before (u ∷ us) = subst GivesOther (sym (fault_more before u us)) (other_or_else _ _ (token_gives before u) (tokens_give (before ++ option_to_list (field_of u)) us))
 
-shut_gives : (before : List Field) (place : ℕ) → GivesOther (shut_fault before place)
+end_gives : (before : List Field) (place : ℕ) → GivesOther (unclosed_fault before place)
 unfolding is_last
-shut_gives before place = other_refuse (not (list_any is_closing (tags_in before))) (refusal.Missing (missing_of (forms_left before (tags_in before)) (tags_in before)) place) None refl other_none
+end_gives before place = other_refuse (not (list_any is_closing (tags_in before))) (refusal.Missing (missing_of (forms_left before (tags_in before)) (tags_in before)) place) None refl other_none
 
 -- a last reason is that of the end
 last_end : (place : Option ℕ) (fs : List Field) (n : ℕ) (r : ReadRefusal) → end_fault place fs n ≡ Some r → is_last r ≡ true → r ≡ endless_fault n
 unfolding GivesOther
 last_end None fs n r h k = cc
-last_end (Some at) fs n r h k = absurd (false≢true (sym (shut_gives fs at r h) ∙ k))
+last_end (Some at) fs n r h k = absurd (false≢true (sym (end_gives fs at r h) ∙ k))
 
 last_or_else : (o p : Option ReadRefusal) (r : ReadRefusal) → GivesOther o → or_else o p ≡ Some r → is_last r ≡ true → p ≡ Some r
 unfolding GivesOther
@@ -107,7 +107,7 @@ unfolding fault_of_text
 last_is b r h k =
     let t = last_or_else (front_fault b) _ r (front_gives b) h k in
     let e = last_or_else (first_fault [] (units_of b)) _ r (tokens_give [] (units_of b)) t k in
-    last_end (shut_place (stretches_of b)) (fields_from (units_of b)) (length b) r e k
+    last_end (end_place (stretches_of b)) (fields_from (units_of b)) (length b) r e k
 
 too_long : (n : ℕ) → 1024 < n → endless_fault n ≡ refusal.TooLong 1024
 too_long n h = rw (lt-ltb 1024 n h) refl
@@ -141,20 +141,20 @@ none_before (Some s) p r g h k = absurd (false≢true (sym (g r h) ∙ k))
 open_end : (place : Option ℕ) (fs : List Field) (n : ℕ) (r : ReadRefusal) → end_fault place fs n ≡ Some r → is_last r ≡ true → place ≡ None
 unfolding GivesOther
 open_end None fs n r h k = refl
-open_end (Some at) fs n r h k = absurd (false≢true (sym (shut_gives fs at r h) ∙ k))
+open_end (Some at) fs n r h k = absurd (false≢true (sym (end_gives fs at r h) ∙ k))
 
 -- the parts of a text that only doesn't end
 pub record Open (b : List ℕ) : Type 0 where
   pub front : front_fault b ≡ None
   pub tokens : first_fault [] (units_of b) ≡ None
-  pub unshut : shut_place (stretches_of b) ≡ None
+  pub never_closed : end_place (stretches_of b) ≡ None
 
 last_parts : (b : List ℕ) (r : ReadRefusal) → fault_of_text b ≡ Some r → is_last r ≡ true → Open b
 unfolding fault_of_text
 last_parts b r h k =
     let f = none_before (front_fault b) _ r (front_gives b) h k in
     let t = none_before (first_fault [] (units_of b)) _ r (tokens_give [] (units_of b)) f.1 k in
-    record { front = f.0; tokens = t.0; unshut = open_end (shut_place (stretches_of b)) (fields_from (units_of b)) (length b) r t.1 k }
+    record { front = f.0; tokens = t.0; never_closed = open_end (end_place (stretches_of b)) (fields_from (units_of b)) (length b) r t.1 k }
 
 pub unended_parts : (b : List ℕ) (n : ℕ) → fault_of_text b ≡ Some (refusal.Unended n) → Open b
 unfolding is_last

@@ -100,8 +100,8 @@ same_code (shuts.Mac a) (shuts.Edc b) h k = absurd cc
 same_code (shuts.Edc a) (shuts.Mac b) h k = absurd cc
 same_code (shuts.Edc a) (shuts.Edc b) h k = let e : a ≡ b = cc in ap (λ (n : ℕ). shuts.Edc n) e
 
-pub same_shut : (fs : List Field) (m n : Message) (s t : Shut) → StandFor fs m s → StandFor fs n t → s ≡ t
-same_shut fs m n s t h k =
+pub same_end : (fs : List Field) (m n : Message) (s t : Shut) → StandFor fs m s → StandFor fs n t → s ≡ t
+same_end fs m n s t h k =
     let at : (x : Tag) → is_closing x ≡ true → values_for x (shut_field s ∷ []) ≡ values_for x (shut_field t ∷ []) =
     λ x c. sym (closing_values x m s c) ∙ somes _ _ (sym (h x) ∙ k x) ∙ closing_values x n t c in
     same_code s t (at Mac refl) (at Edc refl)
@@ -147,7 +147,7 @@ sole b p q r s =
     (subst (λ (gs : List Field). IsProper (form_of q.message) gs y.proper.1) (sym e.0) y.proper.3)
     (subst (λ (fs : List Field). StandFor fs p.message p.shut) x.proper.2 x.stands)
     (subst (λ (gs : List Field). StandFor (gs ++ y.proper.1 ∷ []) q.message q.shut) (sym e.0) (subst (λ (fs : List Field). StandFor fs q.message q.shut) y.proper.2 y.stands)) in
-    let u = same_shut (fields_from (units_of b)) p.message q.message p.shut q.shut x.stands y.stands in
+    let u = same_end (fields_from (units_of b)) p.message q.message p.shut q.shut x.stands y.stands in
     let a : p.auth_len ≡ q.auth_len = x.auth ∙ sym y.auth in
     let t : x.at ≡ y.at = (let z : Some x.at ≡ Some y.at = sym x.place ∙ y.place in cc) in
     let n : p.len ≡ q.len = x.len ∙ ap (λ (k : ℕ). k + 1) t ∙ sym y.len in

@@ -7,11 +7,11 @@ use Rattle.std.proofs.lemmas.List.{take-append-drop, length-take, drop-take}
 use Rattle.csm_grammar.specs.declared.refusal.ReadRefusal.{ReadRefusal}
 use Rattle.csm_grammar.specs.Tags.{is_closing}
 use Rattle.csm_grammar.specs.Spelling.{AreSeparators, Field, field_text, Spelled, spelled_text, fields_in, tags_in, AreParted}
-use Rattle.csm_grammar.specs.Units.{stretches, shut_place, units, stretches_of, units_of}
+use Rattle.csm_grammar.specs.Units.{stretches, end_place, units, stretches_of, units_of}
 use Rattle.csm_grammar.specs.Faults.{front_fault, fields_from, first_fault, end_fault, fault_of_text}
-use Rattle.csm_grammar.proofs.Stretching.{gap_units, gap_shut}
+use Rattle.csm_grammar.proofs.Stretching.{gap_units, gap_end}
 use Rattle.csm_grammar.proofs.Tokens.{Spread, spread_text, AreSpread, standings, spread_units}
-use Rattle.csm_grammar.proofs.Grouping.{shut_from_place, ended, grouped}
+use Rattle.csm_grammar.proofs.Grouping.{end_from_place, ended, grouped}
 use Rattle.csm_grammar.proofs.FieldLemmas.{refuse_none}
 use Rattle.csm_grammar.proofs.Passing.{or_else_none, AllPass, passed}
 
@@ -80,14 +80,14 @@ pub record Faultless (b : List ℕ) : Type 0 where
   pub closes : list_any is_closing (tags_in (fields_in spelled)) ≡ true
   pub text : b ≡ codes "CSM(" ++ (front ++ (flat_map spelled_text spelled ++ 41 ∷ rest))
   pub short : length front + length (flat_map spelled_text spelled) + 5 ≤ 1024
-  pub place : shut_place (stretches_of b) ≡ Some (4 + length front + length (flat_map spelled_text spelled))
+  pub place : end_place (stretches_of b) ≡ Some (4 + length front + length (flat_map spelled_text spelled))
   pub units : units_of b ≡ standings (4 + length front) (map spread_of spelled)
 
 -- the three tests of a text
 pub record Tests (b : List ℕ) : Type 0 where
   pub front : front_fault b ≡ None
   pub tokens : first_fault [] (units_of b) ≡ None
-  pub end : end_fault (shut_place (stretches_of b)) (fields_from (units_of b)) (length b) ≡ None
+  pub end : end_fault (end_place (stretches_of b)) (fields_from (units_of b)) (length b) ≡ None
 
 pub tests : (b : List ℕ) → fault_of_text b ≡ None → Tests b
 unfolding fault_of_text
@@ -109,11 +109,11 @@ pub is_ended : (place : Option ℕ) (fs : List Field) (n : ℕ) → end_fault pl
 is_ended None fs n h = absurd cc
 is_ended (Some at) fs n h = record { at = at; here = refl; closes = not-false _ (refuse_none (not (list_any is_closing (tags_in fs))) _ None h).0 }
 
-some_follow : (b : List ℕ) (at : ℕ) → shut_place (stretches 4 (drop 4 (take 1024 b))) ≡ Some at → drop 4 b ≢ []
+some_follow : (b : List ℕ) (at : ℕ) → end_place (stretches 4 (drop 4 (take 1024 b))) ≡ Some at → drop 4 b ≢ []
 unfolding stretches
 some_follow b at h e =
     let w : drop 4 (take 1024 b) ≡ [] = drop-take 4 1020 b ∙ ap (take 1020) e in
-    let n : shut_place (stretches 4 []) ≡ Some at = subst (λ (x : List ℕ). shut_place (stretches 4 x) ≡ Some at) w h in
+    let n : end_place (stretches 4 []) ≡ Some at = subst (λ (x : List ℕ). end_place (stretches 4 x) ≡ Some at) w h in
     cc
 
 assemble : (b front rest : List ℕ) (ss : List Spelled) → b ≡ codes "CSM(" ++ drop 4 b → take 1020 (drop 4 b) ≡ front ++ (flat_map spelled_text ss ++ 41 ∷ rest)
@@ -136,15 +136,15 @@ pub faultless : (b : List ℕ) → fault_of_text b ≡ None → Faultless b
 faultless b h =
     let t = tests b h in
     let p = passed [] (units_of b) t.tokens in
-    let e = is_ended (shut_place (stretches_of b)) (fields_from (units_of b)) (length b) t.end in
-    let s = ended 4 (drop 4 (take 1024 b)) (shut_from_place (stretches_of b) e.at e.here) in
+    let e = is_ended (end_place (stretches_of b)) (fields_from (units_of b)) (length b) t.end in
+    let s = ended 4 (drop 4 (take 1024 b)) (end_from_place (stretches_of b) e.at e.here) in
     let g = grouped (stretches_of b) s.shut p.half in
     let fs = flat_map spread_text g.spreads in
     let w : drop 4 (take 1024 b) ≡ g.front ++ (fs ++ 41 ∷ s.rest) =
     s.text ∙ ap (λ (x : List ℕ). x ++ s.rest) g.text ∙ append_assoc g.front (fs ++ 41 ∷ []) s.rest ∙ ap (λ (x : List ℕ). g.front ++ x) (append_assoc fs (41 ∷ []) s.rest) in
     let k = spread_units (4 + length g.front) g.spreads s.rest g.spread in
     let us = ap (λ (x : List ℕ). units (stretches 4 x)) w ∙ gap_units 4 g.front (fs ++ 41 ∷ s.rest) g.separators ∙ k.0 in
-    let at = ap (λ (x : List ℕ). shut_place (stretches 4 x)) w ∙ gap_shut 4 g.front (fs ++ 41 ∷ s.rest) g.separators ∙ k.1 in
+    let at = ap (λ (x : List ℕ). end_place (stretches 4 x)) w ∙ gap_end 4 g.front (fs ++ 41 ∷ s.rest) g.separators ∙ k.1 in
     let o = of_fields g.spreads (fields_from (units_of b)) (sym (texts_standing (4 + length g.front) g.spreads) ∙ ap (map (λ u. u.text)) (sym us) ∙ p.texts) in
     let flat : fs ≡ flat_map spelled_text o.spelled = ap (flat_map spread_text) (sym o.spread) ∙ spread_same o.spelled in
     let x : take 1020 (drop 4 b) ≡ g.front ++ (flat_map spelled_text o.spelled ++ 41 ∷ s.rest) =

@@ -5,7 +5,7 @@ use Rattle.std.specs.List.{list_all}
 use Rattle.std.proofs.lemmas.Bool.{eqb-true, and_parts, and_from, or_parts, or_from, not-true, not_from_false, false_from_ne_true, false≢true}
 use Rattle.csm_grammar.specs.Spelling.{is_separator, AreSeparators}
 use Rattle.csm_grammar.specs.Judging.{is_plain, ArePlain, IsEnd}
-use Rattle.csm_grammar.specs.Units.{Stretch, Standing, longer, stretches, shut_place, waits, put, units}
+use Rattle.csm_grammar.specs.Units.{Stretch, Standing, longer, stretches, end_place, waits, put, units}
 
 abbrev pub stretch : ℕ → List ℕ → ℕ → Stretch
 stretch p t e = record { place = p; text = t; end = e }
@@ -13,8 +13,8 @@ stretch p t e = record { place = p; text = t; end = e }
 abbrev pub standing : ℕ → List ℕ → Standing
 standing p t = record { place = p; text = t }
 
-pub separator_shut : (b : ℕ) → is_separator b ≡ true → (b == 41) ≡ false
-separator_shut b h = false_from_ne_true (b == 41) (λ e. false≢true (subst (λ (x : ℕ). is_separator x ≡ true) (eqb-true b 41 e) h))
+pub separator_end : (b : ℕ) → is_separator b ≡ true → (b == 41) ≡ false
+separator_end b h = false_from_ne_true (b == 41) (λ e. false≢true (subst (λ (x : ℕ). is_separator x ≡ true) (eqb-true b 41 e) h))
 
 -- a byte that passes a test which no separator and no `)` passes
 pub plain_from : (p : ℕ → Bool) → p 41 ≡ false → p 32 ≡ false → p 13 ≡ false → p 10 ≡ false → (b : ℕ) → p b ≡ true → is_plain b ≡ true
@@ -34,14 +34,14 @@ stretch_plain p b bs h = let k = or_parts (b == 41) (is_separator b) (not-true _
 
 pub stretch_separator : (p b : ℕ) (bs : List ℕ) → is_separator b ≡ true → stretches p (b ∷ bs) ≡ stretch p [] b ∷ stretches (p + 1) bs
 unfolding stretches
-stretch_separator p b bs h = rw (separator_shut b h, h) refl
+stretch_separator p b bs h = rw (separator_end b h, h) refl
 
-pub stretch_shut : (p : ℕ) (bs : List ℕ) → stretches p (41 ∷ bs) ≡ stretch p [] 41 ∷ []
+pub stretch_closed : (p : ℕ) (bs : List ℕ) → stretches p (41 ∷ bs) ≡ stretch p [] 41 ∷ []
 unfolding stretches
-stretch_shut p bs = refl
+stretch_closed p bs = refl
 
 pub stretch_end : (p e : ℕ) (bs : List ℕ) → IsEnd e → (ss : List Stretch) × (stretches p (e ∷ bs) ≡ stretch p [] e ∷ ss)
-stretch_end p e bs (inl h) = ([], subst (λ (x : ℕ). stretches p (x ∷ bs) ≡ stretch p [] x ∷ []) (sym h) (stretch_shut p bs))
+stretch_end p e bs (inl h) = ([], subst (λ (x : ℕ). stretches p (x ∷ bs) ≡ stretch p [] x ∷ []) (sym h) (stretch_closed p bs))
 stretch_end p e bs (inr h) = (stretches (p + 1) bs, stretch_separator p e bs h)
 
 -- bytes that are ended
@@ -79,10 +79,10 @@ gap_units p (b ∷ bs) rest h =
     ap units (stretch_separator p b (bs ++ rest) g.0) ∙ unit_empty p b (stretches (p + 1) (bs ++ rest))
     ∙ gap_units (p + 1) bs rest g.1 ∙ ap (λ (x : ℕ). units (stretches x rest)) k
 
-pub gap_shut : (p : ℕ) (gap rest : List ℕ) → AreSeparators gap → shut_place (stretches p (gap ++ rest)) ≡ shut_place (stretches (p + length gap) rest)
-gap_shut p [] rest h = let k : p ≡ p + 0 = omega arith in ap (λ (x : ℕ). shut_place (stretches x rest)) k
-gap_shut p (b ∷ bs) rest h =
+pub gap_end : (p : ℕ) (gap rest : List ℕ) → AreSeparators gap → end_place (stretches p (gap ++ rest)) ≡ end_place (stretches (p + length gap) rest)
+gap_end p [] rest h = let k : p ≡ p + 0 = omega arith in ap (λ (x : ℕ). end_place (stretches x rest)) k
+gap_end p (b ∷ bs) rest h =
     let g = and_parts (is_separator b) (list_all is_separator bs) h in
     let k : p + 1 + length bs ≡ p + length (b ∷ bs) = omega arith in
-    ap shut_place (stretch_separator p b (bs ++ rest) g.0) ∙ rw (separator_shut b g.0) refl
-    ∙ gap_shut (p + 1) bs rest g.1 ∙ ap (λ (x : ℕ). shut_place (stretches x rest)) k
+    ap end_place (stretch_separator p b (bs ++ rest) g.0) ∙ rw (separator_end b g.0) refl
+    ∙ gap_end (p + 1) bs rest g.1 ∙ ap (λ (x : ℕ). end_place (stretches x rest)) k

@@ -1,9 +1,9 @@
 -- A token is taken behind the fields before it.
 use Rattle.std.proofs.Common.{◌≡◌, ℕ, Bool, true, false, List, [], ◌∷◌, ◌++◌, length, map, Option, Some, None, refl, sym, ◌∙◌, ap, subst, inl, inr}
-use Rattle.std.specs.Prelude.{◌&&◌, ◌==◌, nat_le, option_to_list, is_some, if◌then◌else◌}
+use Rattle.std.specs.Prelude.{◌&&◌, ◌==◌, nat_le, option_to_list, is_some, is_none, ◌+◌, if◌then◌else◌}
 use Rattle.std.specs.List.{filter, list_all, list_any}
 use Rattle.std.specs.Borrow.{Bor}
-use Rattle.std.proofs.lemmas.Bool.{cases_Bool, both_ways, not-false, or_left}
+use Rattle.std.proofs.lemmas.Bool.{cases_Bool, true≢false, both_ways, not-false, or_left}
 use Rattle.std.proofs.lemmas.List.{map-append, append-nil}
 use Rattle.std.proofs.lemmas.List.Elements.{filter-append}
 use Rattle.std.proofs.lemmas.List.Folds.{list_all-append}
@@ -16,7 +16,8 @@ use Rattle.csm_grammar.specs.Tags.{tag_name, same_tag, has_tag, tag_of}
 use Rattle.csm_grammar.specs.Classes.{allows, class_forms}
 use Rattle.csm_grammar.specs.Spelling.{Field, tags_in}
 use Rattle.csm_grammar.specs.Units.{tag_text, contents_text}
-use Rattle.csm_grammar.specs.Faults.{is_tag_byte, field_of, candidates, forms_left, fault_of, fault_of_field}
+use Rattle.csm_grammar.specs.Values.{Value, kind_of, value_of}
+use Rattle.csm_grammar.specs.Faults.{contents_fault, is_tag_byte, field_of, candidates, forms_left, fault_of, fault_of_field}
 use Rattle.csm_grammar.specs.FormSets.{forms_in}
 use Rattle.csm_grammar.specs.Slotting.{slot_in, BeginsWithClass, Keeps}
 use Rattle.csm_grammar.proofs.TagLemmas.{each_tag, same_tags, same_itself, name_of_tag}
@@ -24,6 +25,15 @@ use Rattle.csm_grammar.proofs.FieldLemmas.{is_field}
 use Rattle.csm_grammar.proofs.Passing.{Passes, passes_from}
 use Rattle.csm_grammar.proofs.SetLemmas.{filter_twice, filter_same}
 use Rattle.csm_grammar.proofs.SlotLemmas.{came_has}
+
+pub good_contents : (t : Tag) (place : ℕ) (c : List ℕ) → is_some (value_of (kind_of t) c) ≡ true → contents_fault t place c ≡ None
+good_contents t place c h = go (value_of (kind_of t) c) h where
+  go : (o : Option Value) → is_some o ≡ true → (if is_none o then Some (refusal.BadContents t (place + (length (tag_name t) + 1))) else None) ≡ None
+  go None e = absurd (true≢false (sym e))
+  go (Some v) e = refl
+
+pub bad_contents : (t : Tag) (place : ℕ) (c : List ℕ) (r : ReadRefusal) → value_of (kind_of t) c ≡ None → r ≡ refusal.BadContents t (place + (length (tag_name t) + 1)) → contents_fault t place c ≡ Some r
+bad_contents t place c r h e = rw (h, e) refl
 
 abbrev is_name : List ℕ → Bool
 is_name n = (nat_le 1 (length n) && nat_le (length n) 4) && list_all is_tag_byte n

@@ -6,9 +6,9 @@ use Rattle.std.specs.Char.{digit_value}
 use Rattle.std.proofs.lemmas.Bool.{and_parts, and_left}
 use Rattle.csm_grammar.specs.Values.{is_hex}
 use Rattle.csm_grammar.specs.Spelling.{AreSeparators}
-use Rattle.csm_grammar.specs.Units.{Stretch, Standing, stretches, shut_place, is_half, waits, put, units}
+use Rattle.csm_grammar.specs.Units.{Stretch, Standing, stretches, end_place, is_half, waits, put, units}
 use Rattle.csm_grammar.specs.Judging.{ArePlain, IsEnd}
-use Rattle.csm_grammar.proofs.Stretching.{stretch, standing, all_plain_from, stretch_separator, stretch_shut, stretch_end, stretch_token, unit_empty, unit_not_waiting, gap_units, gap_shut}
+use Rattle.csm_grammar.proofs.Stretching.{stretch, standing, all_plain_from, stretch_separator, stretch_closed, stretch_end, stretch_token, unit_empty, unit_not_waiting, gap_units, gap_end}
 
 -- a token that is judged alone
 pub record IsWhole (t : List ℕ) : Type 0 where
@@ -39,17 +39,17 @@ pub joined : (p q e : ℕ) (first second : List ℕ) (ss : List Stretch) → is_
 unfolding units
 joined p q e first second ss h d = rw (h, d) refl
 
-whole_units : (p q e : ℕ) (t rest : List ℕ) → IsWhole t → IsEnd e → q ≡ p + length t → (units (stretches p (t ++ e ∷ rest)) ≡ standing p t ∷ units (stretches q (e ∷ rest))) × (shut_place (stretches p (t ++ e ∷ rest)) ≡ shut_place (stretches q (e ∷ rest)))
+whole_units : (p q e : ℕ) (t rest : List ℕ) → IsWhole t → IsEnd e → q ≡ p + length t → (units (stretches p (t ++ e ∷ rest)) ≡ standing p t ∷ units (stretches q (e ∷ rest))) × (end_place (stretches p (t ++ e ∷ rest)) ≡ end_place (stretches q (e ∷ rest)))
 whole_units p q e t rest w i k =
     let x = stretch_end q e rest i in
     let s = stretch_token p q e t rest x.0 w.plain k x.1 in
     let n : waits (stretch p t e) ≡ false = and_left _ _ w.other in (
       ap units s ∙ unit_not_waiting (stretch p t e) x.0 n ∙ put_filled p e t (units x.0) w.filled ∙ ap (λ (us : List Standing). standing p t ∷ us) (sym (ap units x.1 ∙ unit_empty q e x.0)),
-      ap shut_place s ∙ ap (λ (n : ℕ). cond (e == 41) (Some n) (shut_place x.0)) (let j : p + length t ≡ q + 0 = omega arith in j) ∙ ap shut_place (sym x.1),
+      ap end_place s ∙ ap (λ (n : ℕ). cond (e == 41) (Some n) (end_place x.0)) (let j : p + length t ≡ q + 0 = omega arith in j) ∙ ap end_place (sym x.1),
     )
 
 halves_units : (p q e : ℕ) (first second rest : List ℕ) → is_half first ≡ true → ArePlain first → is_hex 4 second ≡ true → IsEnd e → q ≡ p + length (first ++ 32 ∷ second)
-    → (units (stretches p (first ++ 32 ∷ (second ++ e ∷ rest))) ≡ standing p (first ++ 32 ∷ second) ∷ units (stretches q (e ∷ rest))) × (shut_place (stretches p (first ++ 32 ∷ (second ++ e ∷ rest))) ≡ shut_place (stretches q (e ∷ rest)))
+    → (units (stretches p (first ++ 32 ∷ (second ++ e ∷ rest))) ≡ standing p (first ++ 32 ∷ second) ∷ units (stretches q (e ∷ rest))) × (end_place (stretches p (first ++ 32 ∷ (second ++ e ∷ rest))) ≡ end_place (stretches q (e ∷ rest)))
 halves_units p q e first second rest h f d i k =
     let x = stretch_end q e rest i in
     let lengths : length (first ++ 32 ∷ second) ≡ length first + length (32 ∷ second) = length-append first (32 ∷ second) in
@@ -58,17 +58,17 @@ halves_units p q e first second rest h f d i k =
     let r = stretch_separator (p + length first) 32 (second ++ e ∷ rest) refl in
     let t = stretch_token p (p + length first) 32 first (second ++ e ∷ rest) (stretches (p + length first + 1) (second ++ e ∷ rest)) f refl r ∙ ap (λ (ss : List Stretch). stretch p first 32 ∷ ss) s in (
       ap units t ∙ joined p (p + length first + 1) e first second x.0 h d ∙ ap (λ (us : List Standing). standing p (first ++ 32 ∷ second) ∷ us) (sym (ap units x.1 ∙ unit_empty q e x.0)),
-      ap shut_place t ∙ ap (λ (n : ℕ). cond (e == 41) (Some n) (shut_place x.0)) (let l : p + length first + 1 + length second ≡ q + 0 = omega arith in l) ∙ ap shut_place (sym x.1),
+      ap end_place t ∙ ap (λ (n : ℕ). cond (e == 41) (Some n) (end_place x.0)) (let l : p + length first + 1 + length second ≡ q + 0 = omega arith in l) ∙ ap end_place (sym x.1),
     )
 
 -- a token and what ends it
-pub token_units : (p q e : ℕ) (t rest : List ℕ) → IsToken t → IsEnd e → q ≡ p + length t → (units (stretches p (t ++ e ∷ rest)) ≡ standing p t ∷ units (stretches q (e ∷ rest))) × (shut_place (stretches p (t ++ e ∷ rest)) ≡ shut_place (stretches q (e ∷ rest)))
+pub token_units : (p q e : ℕ) (t rest : List ℕ) → IsToken t → IsEnd e → q ≡ p + length t → (units (stretches p (t ++ e ∷ rest)) ≡ standing p t ∷ units (stretches q (e ∷ rest))) × (end_place (stretches p (t ++ e ∷ rest)) ≡ end_place (stretches q (e ∷ rest)))
 token_units p q e t rest (inl w) i k = whole_units p q e t rest w i k
 token_units p q e t rest (inr h) i k =
     let a : t ++ e ∷ rest ≡ h.first ++ 32 ∷ (h.second ++ e ∷ rest) = ap (λ (x : List ℕ). x ++ e ∷ rest) h.text ∙ append_assoc h.first (32 ∷ h.second) (e ∷ rest) in
     let g = halves_units p q e h.first h.second rest h.half h.plain h.digits i (k ∙ ap (λ (x : List ℕ). p + length x) h.text) in (
       ap (λ (x : List ℕ). units (stretches p x)) a ∙ g.0 ∙ ap (λ (x : List ℕ). standing p x ∷ units (stretches q (e ∷ rest))) (sym h.text),
-      ap (λ (x : List ℕ). shut_place (stretches p x)) a ∙ g.1,
+      ap (λ (x : List ℕ). end_place (stretches p x)) a ∙ g.1,
     )
 
 -- a token, and the separators behind it
@@ -122,10 +122,10 @@ unfolding units
 no_units = refl
 
 pub spread_units : (p : ℕ) (ss : List Spread) (rest : List ℕ) → AreSpread ss
-    → (units (stretches p (flat_map spread_text ss ++ 41 ∷ rest)) ≡ standings p ss) × (shut_place (stretches p (flat_map spread_text ss ++ 41 ∷ rest)) ≡ Some (p + length (flat_map spread_text ss)))
+    → (units (stretches p (flat_map spread_text ss ++ 41 ∷ rest)) ≡ standings p ss) × (end_place (stretches p (flat_map spread_text ss ++ 41 ∷ rest)) ≡ Some (p + length (flat_map spread_text ss)))
 spread_units p [] rest h =
-    let s = stretch_shut p rest in
-    (ap units s ∙ unit_empty p 41 [] ∙ no_units, ap shut_place s)
+    let s = stretch_closed p rest in
+    (ap units s ∙ unit_empty p 41 [] ∙ no_units, ap end_place s)
 spread_units p (s ∷ ss) rest h =
     let b = behind s ss rest h in
     let q = p + length s.token in
@@ -134,10 +134,10 @@ spread_units p (s ∷ ss) rest h =
     let k = token_units p q b.end s.token b.others b.token b.ends refl in
     let t : flat_map spread_text (s ∷ ss) ++ 41 ∷ rest ≡ s.token ++ b.end ∷ b.others = spread_front s ss rest ∙ ap (λ (x : List ℕ). s.token ++ x) b.text in
     let g = gap_units q s.gap xs b.separators in
-    let gs = gap_shut q s.gap xs b.separators in
+    let gs = gap_end q s.gap xs b.separators in
     let l = length-append s.token s.gap in
     let fl : length (flat_map spread_text (s ∷ ss)) ≡ length (spread_text s) + length (flat_map spread_text ss) = length-append (spread_text s) (flat_map spread_text ss) in
     let n : q + length s.gap ≡ p + length (spread_text s) = omega arith in (
       ap (λ (x : List ℕ). units (stretches p x)) t ∙ k.0 ∙ ap (λ (us : List Standing). standing p s.token ∷ us) (ap (λ (x : List ℕ). units (stretches q x)) (sym b.text) ∙ g ∙ more.0 ∙ ap (λ (m : ℕ). standings m ss) n),
-      ap (λ (x : List ℕ). shut_place (stretches p x)) t ∙ k.1 ∙ ap (λ (x : List ℕ). shut_place (stretches q x)) (sym b.text) ∙ gs ∙ more.1 ∙ ap (λ (m : ℕ). Some m) (let j : q + length s.gap + length (flat_map spread_text ss) ≡ p + length (flat_map spread_text (s ∷ ss)) = omega arith in j),
+      ap (λ (x : List ℕ). end_place (stretches p x)) t ∙ k.1 ∙ ap (λ (x : List ℕ). end_place (stretches q x)) (sym b.text) ∙ gs ∙ more.1 ∙ ap (λ (m : ℕ). Some m) (let j : q + length s.gap + length (flat_map spread_text ss) ≡ p + length (flat_map spread_text (s ∷ ss)) = omega arith in j),
     )

@@ -10,7 +10,7 @@ use Rattle.std.proofs.lemmas.List.{length-take, length-drop, take-append-drop, d
 use Rattle.csm_grammar.specs.Tags.{tag_name}
 use Rattle.csm_grammar.specs.declared.tag.Tag.TheVariants.{Mac, Edc}
 use Rattle.csm_grammar.specs.Values.{is_hex}
-use Rattle.csm_grammar.specs.Units.{Stretch, Standing, stretches, shut_place, is_half, waits, put, units, tag_text, contents_text}
+use Rattle.csm_grammar.specs.Units.{Stretch, Standing, stretches, end_place, is_half, waits, put, units, tag_text, contents_text}
 use Rattle.csm_grammar.specs.Judging.{is_plain, IsEnd}
 use Rattle.csm_grammar.specs.Scanning.{IsRun, IsUnit, RunsOut}
 use Rattle.csm_grammar.proofs.Stretching.{stretch, standing, stretch_separator, stretch_end, stretch_token, stretch_none, unit_empty, unit_not_waiting}
@@ -117,13 +117,13 @@ fronted p b n r =
       there = ap (stretches (p + n)) c.behind ∙ x.1;
     }
 
-shut_front : (p q e : ℕ) (t : List ℕ) (ss : List Stretch) → q ≡ p + length t → shut_place (stretch p t e ∷ ss) ≡ shut_place (stretch q [] e ∷ ss)
-shut_front p q e t ss h = ap (λ (k : ℕ). cond (e == 41) (Some k) (shut_place ss)) (let j : p + length t ≡ q + 0 = omega arith in j)
+end_front : (p q e : ℕ) (t : List ℕ) (ss : List Stretch) → q ≡ p + length t → end_place (stretch p t e ∷ ss) ≡ end_place (stretch q [] e ∷ ss)
+end_front p q e t ss h = ap (λ (k : ℕ). cond (e == 41) (Some k) (end_place ss)) (let j : p + length t ≡ q + 0 = omega arith in j)
 
-fronted_shut : (p : ℕ) (b : List ℕ) (n : ℕ) → IsRun b n → shut_place (stretches p b) ≡ shut_place (stretches (p + n) (drop n b))
-fronted_shut p b n r =
+fronted_end : (p : ℕ) (b : List ℕ) (n : ℕ) → IsRun b n → end_place (stretches p b) ≡ end_place (stretches (p + n) (drop n b))
+fronted_end p b n r =
     let f = fronted p b n r in
-    ap shut_place f.here ∙ shut_front p (p + n) (get_or b n 0) (take n b) f.more (ap (λ (k : ℕ). p + k) (sym (cut b n r).size)) ∙ ap shut_place (sym f.there)
+    ap end_place f.here ∙ end_front p (p + n) (get_or b n 0) (take n b) f.more (ap (λ (k : ℕ). p + k) (sym (cut b n r).size)) ∙ ap end_place (sym f.there)
 
 fronted_units : (p : ℕ) (b : List ℕ) (n : ℕ) (f : Fronted p b n) → units (stretches (p + n) (drop n b)) ≡ units f.more
 fronted_units p b n f = ap units f.there ∙ unit_empty (p + n) (get_or b n 0) f.more
@@ -134,7 +134,7 @@ unit_alone b n r w = record {
   within = r.within;
   ended = r.ended;
   first = λ p. let f = fronted p b n r in ap units f.here ∙ unit_not_waiting (stretch p (take n b) (get_or b n 0)) f.more w ∙ ap (put (stretch p (take n b) (get_or b n 0))) (sym (fronted_units p b n f));
-  shut = λ p. fronted_shut p b n r;
+  shut = λ p. fronted_end p b n r;
 }
 
 no_units : units [] ≡ []
@@ -159,7 +159,7 @@ tail_is a b xs ys h = cc
 pub runs_out : (b : List ℕ) → list_all is_plain b ≡ true → RunsOut b
 runs_out b h = record {
   none = λ p. ap units (stretch_none p b h) ∙ no_units;
-  open_ = λ p. ap shut_place (stretch_none p b h);
+  open_ = λ p. ap end_place (stretch_none p b h);
 }
 
 -- two runs with a blank between them
@@ -191,7 +191,7 @@ half_runs_out b n r w h =
     let front : (q : ℕ) → stretches q b ≡ stretch q (take n b) 32 ∷ [] = λ q. blank_first q b n r e ∙ ap (λ (ss : List Stretch). stretch q (take n b) 32 ∷ ss) (stretch_none (q + n + 1) (drop (n + 1) b) h) in
     record {
       none = λ q. ap units (front q) ∙ waiting (stretch q (take n b) 32) (and_from _ _ p.0 refl);
-      open_ = λ q. ap shut_place (front q);
+      open_ = λ q. ap end_place (front q);
     }
 
 -- the second run isn't the other half
@@ -209,7 +209,7 @@ half_alone b n m r w s d =
           let same : f.more ≡ rest = tail_is _ _ f.more rest (sym f.here ∙ t.here) in
           ap units t.here ∙ not_other (stretch q (take n b) 32) (stretch (q + n + 1) (take m (drop (n + 1) b)) (get_or (drop (n + 1) b) m 0)) t.more d
           ∙ ap (λ (x : ℕ). put (stretch q (take n b) x) (units rest)) (sym e) ∙ ap (λ (us : List Standing). put (stretch q (take n b) (get_or b n 0)) us) (ap units (sym same) ∙ sym (fronted_units q b n f));
-      shut = λ q. fronted_shut q b n r;
+      shut = λ q. fronted_end q b n r;
     }
 
 joined_text : (b : List ℕ) (n m : ℕ) → n < length b → get_or b n 0 ≡ 32 → take (n + 1 + m) b ≡ take n b ++ 32 ∷ take m (drop (n + 1) b)
@@ -245,5 +245,5 @@ half_joined b n m r w s d =
       shut = λ q.
           let t = two q b n m r e s in
           let size : q + n + 1 + m ≡ q + n + 1 + length (take m (drop (n + 1) b)) = omega (arith, length-take m (drop (n + 1) b)) in
-          ap shut_place t.here ∙ shut_front (q + n + 1) (q + n + 1 + m) (get_or (drop (n + 1) b) m 0) (take m (drop (n + 1) b)) t.more size ∙ ap shut_place (sym (there q t));
+          ap end_place t.here ∙ end_front (q + n + 1) (q + n + 1 + m) (get_or (drop (n + 1) b) m 0) (take m (drop (n + 1) b)) t.more size ∙ ap end_place (sym (there q t));
     }

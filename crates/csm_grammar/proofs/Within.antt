@@ -11,8 +11,8 @@ use Rattle.csm_grammar.specs.declared.refusal.ReadRefusal.TheVariants as refusal
 use Rattle.csm_grammar.specs.Tags.{tag_name, tag_of, same_tag, has_tag, is_closing, is_unsupported}
 use Rattle.csm_grammar.specs.Values.{kind_of, value_of, is_hex}
 use Rattle.csm_grammar.specs.Spelling.{Field, tags_in, is_separator}
-use Rattle.csm_grammar.specs.Units.{Stretch, Standing, longer, stretches, shut_place, put, waits, units, stretches_of, units_of, tag_text, contents_text}
-use Rattle.csm_grammar.specs.Faults.{refuse, or_else, differs, front_fault, is_tagged, lacking, forms_left, field_of, fault_of, fault_of_field, fields_from, first_fault, missing_of, shut_fault, endless_fault, end_fault, fault_of_text}
+use Rattle.csm_grammar.specs.Units.{Stretch, Standing, longer, stretches, end_place, put, waits, units, stretches_of, units_of, tag_text, contents_text}
+use Rattle.csm_grammar.specs.Faults.{refuse, or_else, differs, front_fault, is_tagged, lacking, forms_left, field_of, fault_of, fault_of_field, fields_from, first_fault, missing_of, unclosed_fault, endless_fault, end_fault, fault_of_text}
 use Rattle.csm_grammar.specs.Places.{place_of}
 use Rattle.csm_grammar.proofs.Passing.{no_fault, fault_more}
 use Rattle.csm_grammar.proofs.Stretching.{stretch}
@@ -166,11 +166,11 @@ units_within n p (s ∷ t ∷ ss) h = go (waits s && is_hex 4 t.text) (units_wit
   go true i k = (two_within n p s t ss h, i)
   go false i k = put_within n s (units (t ∷ ss)) (first_within n p s (t ∷ ss) h) k
 
-shut_within : (n p : ℕ) (ss : List Stretch) (place : ℕ) → Chained n p ss → shut_place ss ≡ Some place → place ≤ n
+end_place_within : (n p : ℕ) (ss : List Stretch) (place : ℕ) → Chained n p ss → end_place ss ≡ Some place → place ≤ n
 unfolding Chained
-shut_within n p [] place h e = absurd cc
-shut_within n p (s ∷ ss) place h e = go (s.end == 41) e (shut_within n (p + (length s.text + 1)) ss place h.1) where
-  go : (c : Bool) → cond c (Some (s.place + length s.text)) (shut_place ss) ≡ Some place → (shut_place ss ≡ Some place → place ≤ n) → place ≤ n
+end_place_within n p [] place h e = absurd cc
+end_place_within n p (s ∷ ss) place h e = go (s.end == 41) e (end_place_within n (p + (length s.text + 1)) ss place h.1) where
+  go : (c : Bool) → cond c (Some (s.place + length s.text)) (end_place ss) ≡ Some place → (end_place ss ≡ Some place → place ≤ n) → place ≤ n
   go true i k = let j : s.place + length s.text ≡ place = cc in let l = first_within n p s ss h in omega (arith, j, l)
   go false i k = k i
 
@@ -195,15 +195,15 @@ tail_within b = go (drop 4 (take 1024 b)) refl where
       let t = length-take 1024 b in
       inl (omega (arith, size, d, t))
 
-tail_units : (b : List ℕ) → (4 + length (drop 4 (take 1024 b)) ≤ length b) ⊎ (drop 4 (take 1024 b) ≡ []) → AllWithin (length b) (units_of b) × ((place : ℕ) → shut_place (stretches_of b) ≡ Some place → place ≤ length b)
+tail_units : (b : List ℕ) → (4 + length (drop 4 (take 1024 b)) ≤ length b) ⊎ (drop 4 (take 1024 b) ≡ []) → AllWithin (length b) (units_of b) × ((place : ℕ) → end_place (stretches_of b) ≡ Some place → place ≤ length b)
 unfolding units stretches AllWithin
 tail_units b (inl h) =
     let c = chained (length b) 4 (drop 4 (take 1024 b)) h in
-    (units_within (length b) 4 (stretches_of b) c, λ place e. shut_within (length b) 4 (stretches_of b) place c e)
-tail_units b (inr h) = (subst (λ (x : List ℕ). AllWithin (length b) (units (stretches 4 x))) (sym h) tt, λ place e. let k = ap (λ (x : List ℕ). shut_place (stretches 4 x)) (sym h) ∙ e in absurd cc)
+    (units_within (length b) 4 (stretches_of b) c, λ place e. end_place_within (length b) 4 (stretches_of b) place c e)
+tail_units b (inr h) = (subst (λ (x : List ℕ). AllWithin (length b) (units (stretches 4 x))) (sym h) tt, λ place e. let k = ap (λ (x : List ℕ). end_place (stretches 4 x)) (sym h) ∙ e in absurd cc)
 
 pub fault_within : (b : List ℕ) (r : ReadRefusal) → fault_of_text b ≡ Some r → place_of r ≤ length b
 unfolding fault_of_text Within
 fault_within b r h =
     let t = tail_units b (tail_within b) in
-    within_or_else (length b) _ _ (front_within b) (within_or_else (length b) _ _ (tokens_within (length b) [] (units_of b) t.0) (end_within (length b) (shut_place (stretches_of b)) (fields_from (units_of b)) t.1)) r h
+    within_or_else (length b) _ _ (front_within b) (within_or_else (length b) _ _ (tokens_within (length b) [] (units_of b) t.0) (end_within (length b) (end_place (stretches_of b)) (fields_from (units_of b)) t.1)) r h

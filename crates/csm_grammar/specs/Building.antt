@@ -16,16 +16,13 @@ use Rattle.csm_grammar.specs.Messages.{form_of}
 use Rattle.csm_grammar.specs.Spelling.{Field, tags_in, AreOfForm, values_in, StandFor}
 use Rattle.csm_grammar.specs.Judging.{form_left, Judged, last_place}
 use Rattle.csm_grammar.specs.Units.{Standing}
-use Rattle.csm_grammar.specs.Faults.{fields_from, shut_fault}
+use Rattle.csm_grammar.specs.Faults.{fields_from, unclosed_fault}
 use Rattle.csm_grammar.specs.Reading.{IsRead, IsFault}
 use Rattle.csm_grammar.specs.declared.parsed.Parsed.{Parsed}
 use Rattle.csm_grammar.specs.declared.refusal.ReadRefusal.{ReadRefusal}
 use Rattle.csm_grammar.specs.declared.refusal.ReadRefusal.TheVariants as refusal
 use Rattle.csm_grammar.specs.Slotting.{slot_in, came, Keeps}
-
--- the value of the contents behind a tag
-abbrev pub value_at : List (Option (Bor (List ℕ))) → Tag → Option Value
-value_at slots t = option_and_then (value_of (kind_of t)) (slot_in slots t)
+use Rattle.csm_grammar.specs.Denoting.{value_at}
 
 -- all that a form requires beside its code
 abbrev pub ArePresent : List (Option (Bor (List ℕ))) → Form → Type 0
@@ -74,20 +71,20 @@ pub record AreSound (slots : List (Option (Bor (List ℕ)))) (left : ℕ) (fs : 
   pub closed : list_any is_closing (tags_in fs) ≡ true → AreClosed fs
 
 -- the code in the slots
-abbrev pub IsShut : List (Option (Bor (List ℕ))) → Shut → Type 0
-IsShut slots (shuts.Mac n) = value_at slots Mac ≡ Some (ANumber n)
-IsShut slots (shuts.Edc n) = (came slots Mac ≡ false) × (value_at slots Edc ≡ Some (ANumber n))
+abbrev pub IsCodeIn : List (Option (Bor (List ℕ))) → Shut → Type 0
+IsCodeIn slots (shuts.Mac n) = value_at slots Mac ≡ Some (ANumber n)
+IsCodeIn slots (shuts.Edc n) = (came slots Mac ≡ false) × (value_at slots Edc ≡ Some (ANumber n))
 
 -- what is read at `)`, behind fields whose last stands at a place
 pub record IsEnded (fs : List Field) (place last : ℕ) (p : Parsed) : Type 0 where
-  pub faultless : shut_fault fs place ≡ None
+  pub faultless : unclosed_fault fs place ≡ None
   pub form : AreOfForm (form_of p.message) fs
   pub stands : StandFor fs p.message p.shut
   pub auth_len : p.auth_len ≡ last
   pub len : p.len ≡ place + 1
 
 abbrev pub Ends : List Field → ℕ → ℕ → Result Parsed ReadRefusal → Type 0
-Ends fs place last result = MatchResult result (IsEnded fs place last) (λ r. (shut_fault fs place ≡ Some r) ⊎ (r ≡ refusal.NoMemory))
+Ends fs place last result = MatchResult result (IsEnded fs place last) (λ r. (unclosed_fault fs place ≡ Some r) ⊎ (r ≡ refusal.NoMemory))
 
 -- what a reader answers
 abbrev pub IsAnswer : List ℕ → Result Parsed ReadRefusal → Type 0

@@ -10,7 +10,7 @@ use Rattle.csm_grammar.specs.Tags.{tag_name, tag_of, same_tag, has_tag, is_closi
 use Rattle.csm_grammar.specs.Classes.{forms, class_forms, required, closing, allows}
 use Rattle.csm_grammar.specs.Values.{kind_of, value_of, is_capital_or_digit}
 use Rattle.csm_grammar.specs.Spelling.{Field, tags_in}
-use Rattle.csm_grammar.specs.Units.{Standing, tag_text, contents_text, shut_place, stretches_of, units_of}
+use Rattle.csm_grammar.specs.Units.{Standing, tag_text, contents_text, end_place, stretches_of, units_of}
 
 -- the fault where the test holds, otherwise what follows
 abbrev pub refuse : Bool → ReadRefusal → Option ReadRefusal → Option ReadRefusal
@@ -59,6 +59,10 @@ abbrev pub lacking : List Form → List Tag → Option Tag
 lacking [] ts = None
 lacking (f ∷ fs) ts = if list_any (λ g. is_none (absent g ts)) (f ∷ fs) then None else absent f ts
 
+-- the fault of contents that stand for nothing
+abbrev pub contents_fault : Tag → ℕ → List ℕ → Option ReadRefusal
+contents_fault t place contents = refuse (is_none (value_of (kind_of t) contents)) (refusal.BadContents t (place + (length (tag_name t) + 1))) None
+
 -- the faults of a field, in their order, behind those before it
 abbrev pub fault_of_field : List Field → ℕ → Field → Option ReadRefusal
 fault_of_field before place f =
@@ -67,7 +71,7 @@ fault_of_field before place f =
     (refuse (has_tag f.tag (tags_in before)) (refusal.Repeated f.tag place)
     (refuse (list_any is_closing (tags_in before) || (length (forms_left before (f.tag ∷ tags_in before)) == 0)) (refusal.Unwanted f.tag place)
     (or_else (if is_closing f.tag then option_map (λ t. refusal.Missing t place) (lacking (forms_left before (f.tag ∷ tags_in before)) (tags_in before)) else None)
-    (refuse (is_none (value_of (kind_of f.tag) f.contents)) (refusal.BadContents f.tag (place + (length (tag_name f.tag) + 1))) None)))))
+    (contents_fault f.tag place f.contents)))))
 
 -- the fault of a token
 abbrev pub fault_of : List Field → Standing → Option ReadRefusal
@@ -95,8 +99,8 @@ missing_of (f ∷ fs) ts = unwrap_or (absent f ts) (closing_of (closing f)) wher
   closing_of (t ∷ ts) = t
 
 -- the fault of `)`
-abbrev pub shut_fault : List Field → ℕ → Option ReadRefusal
-shut_fault before place = refuse (not (list_any is_closing (tags_in before))) (refusal.Missing (missing_of (forms_left before (tags_in before)) (tags_in before)) place) None
+abbrev pub unclosed_fault : List Field → ℕ → Option ReadRefusal
+unclosed_fault before place = refuse (not (list_any is_closing (tags_in before))) (refusal.Missing (missing_of (forms_left before (tags_in before)) (tags_in before)) place) None
 
 -- no end came within the first 1,024 bytes
 abbrev pub endless_fault : ℕ → ReadRefusal
@@ -104,9 +108,9 @@ endless_fault n = if nat_lt 1024 n then refusal.TooLong 1024 else refusal.Unende
 
 abbrev pub end_fault : Option ℕ → List Field → ℕ → Option ReadRefusal
 end_fault None before n = Some (endless_fault n)
-end_fault (Some place) before n = shut_fault before place
+end_fault (Some place) before n = unclosed_fault before place
 
 -- the fault of a text: that of the first judged unit which has one, of the front, the tokens, and
 -- `)` or the end
 unfoldable pub fault_of_text : List ℕ → Option ReadRefusal
-fault_of_text b = or_else (front_fault b) (or_else (first_fault [] (units_of b)) (end_fault (shut_place (stretches_of b)) (fields_from (units_of b)) (length b)))
+fault_of_text b = or_else (front_fault b) (or_else (first_fault [] (units_of b)) (end_fault (end_place (stretches_of b)) (fields_from (units_of b)) (length b)))

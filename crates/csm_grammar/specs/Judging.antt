@@ -5,7 +5,7 @@ use Rattle.csm_grammar.specs.declared.tag.Tag.{Tag}
 use Rattle.csm_grammar.specs.declared.form.Form.{Form}
 use Rattle.csm_grammar.specs.Tags.{same_tag}
 use Rattle.csm_grammar.specs.Spelling.{Field, is_separator, tags_in}
-use Rattle.csm_grammar.specs.Units.{Standing, Stretch, stretches, shut_place, units, stretches_of, units_of}
+use Rattle.csm_grammar.specs.Units.{Standing, Stretch, stretches, end_place, units, stretches_of, units_of}
 use Rattle.csm_grammar.specs.Faults.{absent, forms_left, front_fault, first_fault, fields_from}
 
 -- any byte but `)` and a separator
@@ -28,12 +28,12 @@ pub record Judged (b : List ℕ) (place : ℕ) (done : List Standing) : Type 0 w
   pub front : front_fault b ≡ None
   pub are : units_of b ≡ done ++ units (stretches_from place b)
   pub faults : first_fault [] (units_of b) ≡ first_fault (fields_from done) (units (stretches_from place b))
-  pub shut : shut_place (stretches_of b) ≡ shut_place (stretches_from place b)
+  pub shut : end_place (stretches_of b) ≡ end_place (stretches_from place b)
 
 -- `u` is the next token from a place on, and what follows begins at the other place
 pub record IsNext (b : List ℕ) (place : ℕ) (u : Standing) (after : ℕ) : Type 0 where
   pub units_are : units (stretches_from place b) ≡ u ∷ units (stretches_from after b)
-  pub shut : shut_place (stretches_from place b) ≡ shut_place (stretches_from after b)
+  pub shut : end_place (stretches_from place b) ≡ end_place (stretches_from after b)
 
 -- the place of the last token
 abbrev pub last_place : List Standing → ℕ

@@ -9,9 +9,12 @@ pub mod Reading
 pub mod Judging
 pub mod Places
 pub mod Laws
+pub mod Kinds
+pub mod Arrivals
 pub mod Letters
 pub mod Halves
 pub mod FormSets
 pub mod Scanning
 pub mod Slotting
+pub mod Denoting
 pub mod Building

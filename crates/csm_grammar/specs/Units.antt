@@ -27,9 +27,9 @@ stretches place (b ∷ bs) =
     else longer place b (stretches (place + 1) bs)
 
 -- the place of `)`
-abbrev pub shut_place : List Stretch → Option ℕ
-shut_place [] = None
-shut_place (s ∷ ss) = if s.end == 41 then Some (s.place + length s.text) else shut_place ss
+abbrev pub end_place : List Stretch → Option ℕ
+end_place [] = None
+end_place (s ∷ ss) = if s.end == 41 then Some (s.place + length s.text) else end_place ss
 
 -- a token, or the two halves of a code, and its place
 pub record Standing : Type 0 where

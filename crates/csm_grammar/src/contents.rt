@@ -1,10 +1,11 @@
 // What the contents of a field stand for (ANSI X9.17).
-ghost use Rattle.std.specs.Prelude.{◌≡◌, ◌++◌, option_map, is_some, take, drop, MatchOption};
+ghost use Rattle.std.specs.Prelude.{◌≡◌, ◌++◌, option_map, is_some, false, take, drop, MatchOption};
 ghost use Rattle.std.specs.List.{list_all};
 ghost use Rattle.std.specs.Str.Parse.{digits_value};
 ghost use Rattle.csm_grammar.specs.Halves.{IsHalved};
 ghost use Rattle.csm_grammar.specs.Values.{value_of, kind_of, value_if, is_hex, is_capital_or_digit, is_reason_byte, is_text_byte};
 ghost use Rattle.csm_grammar.specs.Values.Value.{AText, AName, AService, ANumber, APair};
+ghost use Rattle.csm_grammar.specs.Denoting.{is_number, IsDenoted};
 ghost use Rattle.csm_grammar.specs.Values.Kind.{OfClass, OfIdent, OfService, OfName, OfLabel, OfPair, OfKey, OfCount, OfReason, OfText, OfCode};
 
 use crate::message::Service;
@@ -186,7 +187,7 @@ macro_rules! reads {
 }
 
 /// Whether the contents of the tag stand for something.
-pub fn is_contents(tag: Tag, contents: &[u8]) -> bool
+fn is_contents(tag: Tag, contents: &[u8]) -> bool
     ensures { result ≡ is_some (value_of (kind_of tag) contents.now) }
 {
     reads!(tag, contents;
@@ -194,4 +195,68 @@ pub fn is_contents(tag: Tag, contents: &[u8]) -> bool
         Idd by name, Ida by name, Idk1 by label, Idk2 by label, DoubleKk by pair, Kk by key,
         Kd by key, Kdu by key, Ctp by count, Cta by count, Ctb by count, Ctr by count,
         Erf by reason, Iv by text, Edk by text, P by text, Mac by code, Edc by code)
+}
+
+fn key_denoted(contents: &[u8]) -> Option<u64>
+    ensures { IsDenoted OfKey contents.now result }
+{
+    key(contents)
+}
+
+fn count_denoted(contents: &[u8]) -> Option<u64>
+    ensures { IsDenoted OfCount contents.now result }
+{
+    match count(contents) {
+        Some(count) => Some(count.value()),
+        None => None,
+    }
+}
+
+fn code_denoted(contents: &[u8]) -> Option<u64>
+    ensures { IsDenoted OfCode contents.now result }
+{
+    match code(contents) {
+        Some(code) => Some(code as u64),
+        None => None,
+    }
+}
+
+fn other_denoted(tag: Tag, contents: &[u8]) -> Option<u64>
+    requires { is_number (kind_of tag) ≡ false }
+    ensures { IsDenoted (kind_of tag) contents.now result }
+{
+    if is_contents(tag, contents) {
+        Some(0)
+    } else {
+        None
+    }
+}
+
+/// The number that the contents of the tag stand for, or 0 where they stand for another value.
+pub fn denoted(tag: Tag, contents: &[u8]) -> Option<u64>
+    ensures { IsDenoted (kind_of tag) contents.now result }
+{
+    match tag {
+        Tag::Kk | Tag::Kd | Tag::Kdu => key_denoted(contents),
+        Tag::Ctp | Tag::Cta | Tag::Ctb | Tag::Ctr => count_denoted(contents),
+        Tag::Mac | Tag::Edc => code_denoted(contents),
+        Tag::Mcl
+        | Tag::Rcv
+        | Tag::Org
+        | Tag::Svr
+        | Tag::Idu
+        | Tag::Idc
+        | Tag::Idd
+        | Tag::Ida
+        | Tag::Idk1
+        | Tag::Idk2
+        | Tag::DoubleKk
+        | Tag::Erf
+        | Tag::Iv
+        | Tag::Edk
+        | Tag::P
+        | Tag::Kku
+        | Tag::DoubleKku
+        | Tag::Nos => other_denoted(tag, contents),
+    }
 }

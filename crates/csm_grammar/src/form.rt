@@ -5,21 +5,32 @@ ghost use Rattle.csm_grammar.specs.Slotting.{code_tag};
 
 use crate::tag::Tag;
 
-/// A form of a class: one set of tags that a message of the class may have. F1 is that of RSI, F2
-/// of RFS, F3 and F4 of RTR, F5 to F8 of KSM, F9 of RSM, F10 of ERS, F11 of ESM, F12 of DSM.
+/// A form of a class: one set of tags that a message of the class may have.
 #[derive(Clone, Copy, Debug, PartialEq, Eq)]
 pub enum Form {
+    /// Request for service initiation (RSI).
     F1,
+    /// Request for service (RFS).
     F2,
+    /// Response to request (RTR) without a key for its receiver.
     F3,
+    /// Response to request (RTR) with a key for its receiver.
     F4,
+    /// Key service message (KSM) with a data key alone.
     F5,
+    /// Key service message (KSM) with a new double-length key-encrypting key.
     F6,
+    /// Key service message (KSM) with a new single-length key-encrypting key.
     F7,
+    /// Key service message (KSM) through a centre.
     F8,
+    /// Response service message (RSM).
     F9,
+    /// Error recovery service (ERS).
     F10,
+    /// Error service message (ESM).
     F11,
+    /// Disconnect service message (DSM).
     F12,
 }
 

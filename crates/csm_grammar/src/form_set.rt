@@ -7,14 +7,14 @@ ghost use Rattle.csm_grammar.specs.FormSets.{forms_in, has_form};
 use crate::form::Form;
 use crate::tag::Tag;
 
-/// A set of forms, a bit for each, F1 the lowest.
+/// A set of forms, a bit for each: that of RSI is the lowest, that of DSM the highest.
 #[derive(Clone, Copy)]
 pub struct FormSet {
     bits: u16,
     ghost small: { bits < 4096 },
 }
 
-// for each tag the forms that have it: F12 is the leftmost bit, F1 the last
+// for each tag the forms that have it: DSM is the leftmost bit, RSI the last
 const ALLOWING: [u16; 27] = [
     0b1111_1111_1111,
     0b1111_1111_1111,

@@ -1,4 +1,5 @@
 // What is promised of every text, whatever reads it.
+ghost use Rattle.csm_grammar.specs.Arrivals.{ReadAllows, SaidTyped, AllArrived};
 ghost use Rattle.csm_grammar.specs.Laws.{OneAnswer, FaultEnds, FaultWithin, FaultStays, UnendedStays, ReadStays, OneMeaning, ReadSays, WrittenRead};
 
 /// For each text either exactly one prefix is a spelling, or exactly one reason and place is a
@@ -55,4 +56,21 @@ pub fn law_read_says()
 /// back, whatever follows.
 pub fn law_written_read()
     ensures { WrittenRead }
+{}
+
+/// A message is closed by a code that its form allows.
+#[tactic(auto, using(crate::proofs::Allowed::read_allows))]
+pub fn law_read_allows()
+    ensures { ReadAllows }
+{}
+
+/// The values that a message gets from its text are of the kinds of their tags.
+pub fn law_said_typed()
+    ensures { SaidTyped }
+{}
+
+/// An arrival is read of its text, which says its message; its form allows its code, and its values
+/// are of the kinds of their tags.
+pub fn law_arrived()
+    ensures { AllArrived }
 {}

@@ -2,11 +2,8 @@
 #![tactic(auto)]
 
 mod arrival;
-mod assembling;
-mod before;
-mod building;
 mod contents;
-mod ending;
+mod fields;
 mod form;
 mod form_set;
 mod laws;
@@ -19,14 +16,14 @@ mod separators;
 mod tag;
 #[cfg(test)]
 mod tests;
-mod token_faults;
 mod units;
 
 pub use arrival::Arrival;
 pub use form::{Form, Need};
 pub use laws::{
-    law_fault_ends, law_fault_stays, law_fault_within, law_one_answer, law_one_meaning,
-    law_read_says, law_read_stays, law_unended_stays, law_written_read,
+    law_arrived, law_fault_ends, law_fault_stays, law_fault_within, law_one_answer,
+    law_one_meaning, law_read_allows, law_read_says, law_read_stays, law_said_typed,
+    law_unended_stays, law_written_read,
 };
 pub use message::{
     Dsm, Ers, Esm, Extras, Ksm, KsmBody, Message, NewKk, Rfs, Rsi, Rsm, Rtr, Service,

@@ -3,7 +3,7 @@ ghost use Rattle.csm_grammar.specs.Faults.{front_fault, endless_fault};
 ghost use Rattle.csm_grammar.specs.Reading.{Found, Only, Faulted, Faults};
 ghost use Rattle.csm_grammar.specs.Building.{IsAnswer};
 
-use crate::before::Before;
+use crate::fields::Fields;
 use crate::parsed::Parsed;
 use crate::refusal::ReadRefusal;
 use crate::units::unit_len;
@@ -77,18 +77,18 @@ fn answer(alloc: Global, bytes: &[u8]) -> Result<Parsed, ReadRefusal>
     if judged.len() < 4 {
         return Err(endless(bytes.len()));
     }
-    let mut before = Before::new();
+    let mut fields = Fields::new();
     let mut place = 4;
     let mut last = 0;
     while let Some(len) = unit_len(behind(judged, place)) {
         if len > 0 {
-            if let Err(fault) = before.take(place, token(judged, place, len)) {
+            if let Err(fault) = fields.take(place, token(judged, place, len)) {
                 return Err(fault);
             }
             last = place;
             place += len;
         } else if judged[place] == b')' {
-            return before.end(alloc, last, place);
+            return fields.end(alloc, last, place);
         } else {
             place += 1;
         }

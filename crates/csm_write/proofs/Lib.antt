@@ -5,3 +5,4 @@ pub mod Standing
 pub mod Codes
 pub mod Reading
 pub mod Lengths
+pub mod Saying

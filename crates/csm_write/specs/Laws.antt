@@ -3,6 +3,7 @@ use Rattle.std.specs.Prelude.{◌≡◌, ℕ, List, ◌++◌, length}
 use Rattle.csm_grammar.specs.declared.message.Message.{Message}
 use Rattle.csm_grammar.specs.declared.parsed.Parsed.{Parsed}
 use Rattle.csm_grammar.specs.Reading.{IsRead}
+use Rattle.csm_grammar.specs.Spelling.{Says}
 use Rattle.csm_write.specs.declared.closing.Closing.{Closing}
 use Rattle.csm_write.specs.declared.closing.Closing.TheVariants as closings
 use Rattle.csm_write.specs.Canon.{auth_of, shut_of, canon}
@@ -26,3 +27,11 @@ CanonReadsBack = (m : Message) (c : Closing) → AreTyped m c → Writable m c �
 
 abbrev pub CanonRewrites : Type 0
 CanonRewrites = (m : Message) (c : Closing) → AreTyped m c → Writable m c → Rewrites c (canon m c)
+
+-- the authenticated text says the message, and no other
+pub record OwnMeaning (m : Message) : Type 0 where
+  pub says : Says (auth_of m) m
+  pub alone : (n : Message) → Says (auth_of m) n → m ≡ n
+
+abbrev pub AuthSays : Type 0
+AuthSays = (m : Message) (c : Closing) → AreTyped m c → Writable m c → OwnMeaning m

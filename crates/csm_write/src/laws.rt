@@ -1,7 +1,7 @@
 // What is promised of every canonical text.
-ghost use Rattle.csm_write.specs.Laws.{CanonReadsBack, CanonRewrites};
+ghost use Rattle.csm_write.specs.Laws.{AuthSays, CanonReadsBack, CanonRewrites};
 
-use csm_grammar::{law_one_answer, law_written_read};
+use csm_grammar::{law_one_answer, law_one_meaning, law_read_says, law_written_read};
 
 /// The canonical text of a writable message is read as this message, whatever follows.
 pub fn law_canon_reads_back()
@@ -16,4 +16,13 @@ pub fn law_canon_rewrites()
 {
     law_one_answer();
     law_canon_reads_back();
+}
+
+/// The authenticated text of a writable message says this message and no other.
+pub fn law_auth_says()
+    ensures { AuthSays }
+{
+    law_canon_reads_back();
+    law_read_says();
+    law_one_meaning();
 }

@@ -12,6 +12,6 @@ mod writer;
 mod writing;
 
 pub use closing::Closing;
-pub use laws::{law_canon_reads_back, law_canon_rewrites};
+pub use laws::{law_auth_says, law_canon_reads_back, law_canon_rewrites};
 pub use shortness::law_canon_short;
 pub use writing::write;

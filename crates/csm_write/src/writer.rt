@@ -18,6 +18,9 @@ use std::alloc::Global;
 use std::marker::Model;
 use x_base::{Count, Ident, KeyName, Label, NoMemory, Text};
 
+/// The bytes for which a text has room from the start: those of every message without IV, EDK and P.
+const ROOM: usize = 256;
+
 /// A text that is being written.
 #[derive(Drop)]
 pub struct Writer {
@@ -47,13 +50,11 @@ fn service_text(service: Service) -> &'static [u8]
 }
 
 impl Writer {
-    pub fn new(alloc: Global) -> Writer
-        ensures { result ≡ [] }
+    pub fn new(alloc: Global) -> Result<Writer, NoMemory>
+        ensures { IfOk result (λ w. w ≡ []) }
     {
-        Writer {
-            alloc,
-            text: Text::new(alloc),
-        }
+        let text = Text::with_capacity(alloc, ROOM)?;
+        Ok(Writer { alloc, text })
     }
 
     pub fn push(&mut self, bytes: &[u8]) -> Result<(), NoMemory>

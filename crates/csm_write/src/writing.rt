@@ -29,7 +29,7 @@ fn written(alloc: Global, message: &Message, closing: &Closing) -> Result<Text, 
     ensures canonical { IfOk result (λ text. text ≡ canon message.now closing.now) }
     ensures typed { OnOk result (AreTyped message.now closing.now) }
 {
-    let mut writer = Writer::new(alloc);
+    let mut writer = Writer::new(alloc)?;
     writer.push(b"CSM(")?;
     writer.class(class(message))?;
     writer.fields(message)?;

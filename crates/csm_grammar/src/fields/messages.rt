@@ -1,0 +1,221 @@
+// A message of the fields that came.
+ghost use Rattle.std.specs.Prelude.{◌≡◌, IfOk};
+ghost use Rattle.csm_grammar.specs.declared.form.Form.TheVariants.{F1, F2, F3, F4, F5, F6, F7, F8, F9, F10, F11, F12};
+ghost use Rattle.csm_grammar.specs.declared.tag.Tag.TheVariants.{Erf};
+ghost use Rattle.csm_grammar.specs.Values.Value.{AText};
+ghost use Rattle.csm_grammar.specs.Building.{AreExtras, ArePresent, IsBuilt};
+ghost use Rattle.csm_grammar.specs.Denoting.{value_at};
+
+use crate::fields::Fields;
+use crate::form::Form;
+use crate::message::{Dsm, Ers, Esm, Extras, Ksm, KsmBody, Message, NewKk, Rfs, Rsi, Rsm, Rtr};
+use crate::tag::Tag;
+use std::alloc::Global;
+use x_base::{NoMemory, Text};
+
+impl Fields<'_> {
+    fn rsi(&self) -> Message
+        requires { ArePresent self.now.slots F1 }
+        ensures { IsBuilt self.now.slots F1 result }
+    {
+        Message::Rsi(Rsi {
+            receiver: self.ident(Tag::Rcv),
+            originator: self.ident(Tag::Org),
+            service: self.service(Tag::Svr),
+            ultimate: self.ident_if_any(Tag::Idu),
+        })
+    }
+
+    fn rfs(&self) -> Message
+        requires { ArePresent self.now.slots F2 }
+        ensures { IsBuilt self.now.slots F2 result }
+    {
+        Message::Rfs(Rfs {
+            receiver: self.ident(Tag::Rcv),
+            originator: self.ident(Tag::Org),
+            ultimate: self.ident(Tag::Idu),
+            kd: self.key(Tag::Kd),
+            cta: self.count(Tag::Cta),
+        })
+    }
+
+    fn rtr(&self, extras: Extras) -> Message
+        requires present { ArePresent self.now.slots F3 }
+        requires extras { AreExtras self.now.slots extras }
+        ensures { IsBuilt self.now.slots F3 result }
+    {
+        Message::Rtr(Rtr {
+            receiver: self.ident(Tag::Rcv),
+            originator: self.ident(Tag::Org),
+            ultimate: self.ident(Tag::Idu),
+            kd: None,
+            kdu: self.key(Tag::Kdu),
+            ctb: self.count(Tag::Ctb),
+            extras,
+        })
+    }
+
+    fn rtr_with_key(&self, extras: Extras) -> Message
+        requires present { ArePresent self.now.slots F4 }
+        requires extras { AreExtras self.now.slots extras }
+        ensures { IsBuilt self.now.slots F4 result }
+    {
+        Message::Rtr(Rtr {
+            receiver: self.ident(Tag::Rcv),
+            originator: self.ident(Tag::Org),
+            ultimate: self.ident(Tag::Idu),
+            kd: Some((self.key(Tag::Kd), self.count(Tag::Cta))),
+            kdu: self.key(Tag::Kdu),
+            ctb: self.count(Tag::Ctb),
+            extras,
+        })
+    }
+
+    fn ksm(&self, extras: Extras) -> Message
+        requires present { ArePresent self.now.slots F5 }
+        requires extras { AreExtras self.now.slots extras }
+        ensures { IsBuilt self.now.slots F5 result }
+    {
+        Message::Ksm(Ksm {
+            receiver: self.ident(Tag::Rcv),
+            originator: self.ident(Tag::Org),
+            body: KsmBody::Direct {
+                idk2: self.label_if_any(Tag::Idk2),
+                new: None,
+                kd: self.key(Tag::Kd),
+                ctp: self.count(Tag::Ctp),
+            },
+            extras,
+        })
+    }
+
+    fn ksm_with_pair(&self, extras: Extras) -> Message
+        requires present { ArePresent self.now.slots F6 }
+        requires extras { AreExtras self.now.slots extras }
+        ensures { IsBuilt self.now.slots F6 result }
+    {
+        let (left, right) = self.pair();
+        Message::Ksm(Ksm {
+            receiver: self.ident(Tag::Rcv),
+            originator: self.ident(Tag::Org),
+            body: KsmBody::Direct {
+                idk2: self.label_if_any(Tag::Idk2),
+                new: Some((self.label(Tag::Idk1), NewKk::Double(left, right))),
+                kd: self.key(Tag::Kd),
+                ctp: self.count(Tag::Ctp),
+            },
+            extras,
+        })
+    }
+
+    fn ksm_with_key(&self, extras: Extras) -> Message
+        requires present { ArePresent self.now.slots F7 }
+        requires extras { AreExtras self.now.slots extras }
+        ensures { IsBuilt self.now.slots F7 result }
+    {
+        Message::Ksm(Ksm {
+            receiver: self.ident(Tag::Rcv),
+            originator: self.ident(Tag::Org),
+            body: KsmBody::Direct {
+                idk2: self.label_if_any(Tag::Idk2),
+                new: Some((self.label(Tag::Idk1), NewKk::Single(self.key(Tag::Kk)))),
+                kd: self.key(Tag::Kd),
+                ctp: self.count(Tag::Ctp),
+            },
+            extras,
+        })
+    }
+
+    fn ksm_of_centre(&self, extras: Extras) -> Message
+        requires present { ArePresent self.now.slots F8 }
+        requires extras { AreExtras self.now.slots extras }
+        ensures { IsBuilt self.now.slots F8 result }
+    {
+        Message::Ksm(Ksm {
+            receiver: self.ident(Tag::Rcv),
+            originator: self.ident(Tag::Org),
+            body: KsmBody::Centre {
+                centre: self.ident(Tag::Idc),
+                kdu: self.key(Tag::Kdu),
+                ctb: self.count(Tag::Ctb),
+            },
+            extras,
+        })
+    }
+
+    fn rsm(&self, extras: Extras) -> Message
+        requires present { ArePresent self.now.slots F9 }
+        requires extras { AreExtras self.now.slots extras }
+        ensures { IsBuilt self.now.slots F9 result }
+    {
+        Message::Rsm(Rsm {
+            receiver: self.ident(Tag::Rcv),
+            originator: self.ident(Tag::Org),
+            idd: self.name_if_any(Tag::Idd),
+            extras,
+        })
+    }
+
+    fn ers(&self, erf: Text) -> Message
+        requires present { ArePresent self.now.slots F10 }
+        requires erf { value_at self.now.slots Erf ≡ Some (AText erf) }
+        ensures { IsBuilt self.now.slots F10 result }
+    {
+        Message::Ers(Ers {
+            receiver: self.ident(Tag::Rcv),
+            originator: self.ident(Tag::Org),
+            ultimate: self.ident(Tag::Idu),
+            ctr: self.count(Tag::Ctr),
+            erf,
+        })
+    }
+
+    fn esm(&self, erf: Text) -> Message
+        requires present { ArePresent self.now.slots F11 }
+        requires erf { value_at self.now.slots Erf ≡ Some (AText erf) }
+        ensures { IsBuilt self.now.slots F11 result }
+    {
+        Message::Esm(Esm {
+            receiver: self.ident(Tag::Rcv),
+            originator: self.ident(Tag::Org),
+            erf,
+            ctp: self.count_if_any(Tag::Ctp),
+            cta: self.count_if_any(Tag::Cta),
+            ctb: self.count_if_any(Tag::Ctb),
+            ctr: self.count_if_any(Tag::Ctr),
+        })
+    }
+
+    fn dsm(&self) -> Message
+        requires { ArePresent self.now.slots F12 }
+        ensures { IsBuilt self.now.slots F12 result }
+    {
+        Message::Dsm(Dsm {
+            receiver: self.ident(Tag::Rcv),
+            originator: self.ident(Tag::Org),
+            idd: self.name(Tag::Idd),
+            ida: self.name_if_any(Tag::Ida),
+        })
+    }
+
+    /// The message of the form.
+    pub fn message(&self, alloc: Global, form: Form) -> Result<Message, NoMemory>
+        requires { ArePresent self.now.slots form }
+        ensures { IfOk result (IsBuilt self.now.slots form) }
+    {
+        match form {
+            Form::F1 => Ok(self.rsi()),
+            Form::F2 => Ok(self.rfs()),
+            Form::F3 => Ok(self.rtr(self.extras(alloc)?)),
+            Form::F4 => Ok(self.rtr_with_key(self.extras(alloc)?)),
+            Form::F5 => Ok(self.ksm(self.extras(alloc)?)),
+            Form::F6 => Ok(self.ksm_with_pair(self.extras(alloc)?)),
+            Form::F7 => Ok(self.ksm_with_key(self.extras(alloc)?)),
+            Form::F8 => Ok(self.ksm_of_centre(self.extras(alloc)?)),
+            Form::F9 => Ok(self.rsm(self.extras(alloc)?)),
+            Form::F10 => Ok(self.ers(self.reason(alloc)?)),
+            Form::F11 => Ok(self.esm(self.reason(alloc)?)),
+            Form::F12 => Ok(self.dsm()),
+        }
+    }
+}
