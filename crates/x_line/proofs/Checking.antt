@@ -4,15 +4,15 @@ use Rattle.std.proofs.lemmas.Bool.{and_from}
 use Rattle.std.specs.Prelude.{◌&&◌, ◌||◌, not, find, if◌then◌else◌}
 use Rattle.std.specs.List.{list_all}
 use Rattle.clap.specs.Words.{Row}
-use Rattle.x_line.specs.declared.commands.Command.{Command}
+use Rattle.x_line.specs.declared.order_kind.OrderKind.{OrderKind}
 use Rattle.x_line.specs.declared.opt.Opt.{Opt}
-use Rattle.x_line.specs.Given.{is_given, is_valid}
+use Rattle.x_line.specs.LineValues.{is_given, is_valid}
 use Rattle.x_line.specs.Needs.{is_required, need_of}
 use Rattle.x_line.specs.Options.{options}
 use Rattle.x_line.specs.Orders.{is_whole}
 use Rattle.x_line.specs.Usage.{bad_of, first_fault, missing_of, options_fault, rows_fault}
 use Rattle.x_line.specs.declared.usage.UsageKind.TheVariants as kind
-use Rattle.x_line.specs.Given.{command_of}
+use Rattle.x_line.specs.LineValues.{named_kind}
 use Rattle.x_line.specs.Usage.{unwanted_of}
 
 none_found : (t : Bool) (x : Opt) (o : Option Opt) → (if t then Some x else o) ≡ None → (t ≡ false) × (o ≡ None)
@@ -33,7 +33,7 @@ all_whole g r v (x ∷ xs) m b =
     let q = none_found (g x && not (v x)) x _ b in
     and_from (not (r x) || v x) _ (one (g x) (r x) (v x) p.0 q.0) (all_whole g r v xs p.1 q.1)
 
-pub whole : (c : Command) (rows : List Row) → missing_of c rows ≡ None → bad_of rows ≡ None → is_whole c rows ≡ true
+pub whole : (c : OrderKind) (rows : List Row) → missing_of c rows ≡ None → bad_of rows ≡ None → is_whole c rows ≡ true
 whole c rows m b = all_whole (λ o. is_given o rows) (λ o. is_required (need_of c o)) (λ o. is_valid o rows) options m b
 
 options_not_line : (u m b : Option Opt) → first_fault u m b ≡ Some kind.Line → ⊥
@@ -42,10 +42,10 @@ options_not_line None (Some o) b h = cc
 options_not_line None None (Some o) h = cc
 options_not_line None None None h = cc
 
--- what clap takes is never told as no command line
+-- what clap takes is never answered as no command line
 pub not_line : (rows : List Row) → rows_fault rows ≡ Some kind.Line → ⊥
-not_line rows h = go (command_of rows) h
+not_line rows h = go (named_kind rows) h
   where
-    go : (o : Option Command) → options_fault o rows ≡ Some kind.Line → ⊥
+    go : (o : Option OrderKind) → options_fault o rows ≡ Some kind.Line → ⊥
     go None h = cc
     go (Some c) h = options_not_line (unwanted_of c rows) (missing_of c rows) (bad_of rows) h

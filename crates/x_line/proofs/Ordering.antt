@@ -2,18 +2,19 @@
 use Rattle.std.proofs.Common.{◌≡◌, ◌∙◌, ℕ, Bool, true, false, List, Option, Some, None, refl, sym, ap}
 use Rattle.std.specs.Prelude.{◌&&◌, is_some}
 use Rattle.clap.specs.Words.{Row}
-use Rattle.x_line.specs.declared.commands.Command.{Command}
-use Rattle.x_line.specs.declared.commands.Command.TheVariants as command
+use Rattle.x_line.specs.declared.order_kind.OrderKind.{OrderKind}
+use Rattle.x_line.specs.declared.order_kind.OrderKind.TheVariants as kinds
 use Rattle.x_line.specs.declared.opt.Opt.{Opt}
 use Rattle.x_line.specs.declared.opt.Opt.TheVariants as opt
 use Rattle.x_line.specs.declared.order.Order.{Order}
 use Rattle.x_line.specs.declared.order.Order.TheVariants as order
-use Rattle.x_line.specs.Given.{command_of, given, is_given}
+use Rattle.x_line.specs.LineValues.{named_kind, given, is_given}
 use Rattle.x_line.specs.Laws.{HasOrder, OneOrder}
 use Rattle.x_line.specs.Line.{is_line, rows_of_line}
-use Rattle.x_line.specs.Orders.{HasValues, IsOrder, Says, is_whole, ordered}
+use Rattle.x_line.specs.Orders.{HasValues, IsOrder, Says, is_whole, kind_of}
 use Rattle.x_line.specs.Usage.{bad_of, first_fault, missing_of, options_fault, rows_fault, unwanted_of}
-use Rattle.x_line.specs.Values.{events_of, ident_of, key_of, label_of, name_of, one_or_two_of, pair_of, role_of, seed_of, side_of}
+use Rattle.x_line.specs.Values.{events_of, one_or_two_of, role_of, side_of}
+use Rattle.x_values.specs.Words.{ident_of, key_name_of, key_of, label_of, number_of, pair_of}
 use Rattle.x_line.proofs.Checking.{whole}
 
 -- ---- one order at most
@@ -29,28 +30,28 @@ abbrev for_peer : List Row → (List ℕ → List ℕ → Option Order) → Opti
 for_peer rows f = with (given ident_of opt.Party rows) (λ p. with (given ident_of opt.Peer rows) (f p))
 
 -- the order that the values make
-abbrev made : Command → List Row → Option Order
-made command.Check rows = Some order.Check
-made command.Replay rows = Some order.Replay
-made command.Init rows = with (given ident_of opt.Party rows) (λ p. with (given role_of opt.Role rows) (λ r.
+abbrev made : OrderKind → List Row → Option Order
+made kinds.Check rows = Some order.Check
+made kinds.Replay rows = Some order.Replay
+made kinds.Init rows = with (given ident_of opt.Party rows) (λ p. with (given role_of opt.Role rows) (λ r.
     with (given pair_of opt.Genkey rows) (λ k. with (given key_of opt.Genseed rows) (λ v. Some (order.Init p r k v)))))
-made command.Load rows = for_peer rows (λ p q. with (given label_of opt.Label rows) (λ l.
+made kinds.Load rows = for_peer rows (λ p q. with (given label_of opt.Label rows) (λ l.
     with (given side_of opt.Side rows) (λ s. with (given one_or_two_of opt.Key rows) (λ k. Some (order.Load p q l s k)))))
-made command.Start rows = for_peer rows (λ p q. Some (order.Start p q (given label_of opt.Label rows)))
-made command.StartKk rows = for_peer rows (λ p q. with (given label_of opt.New rows) (λ n.
+made kinds.Start rows = for_peer rows (λ p q. Some (order.Start p q (given label_of opt.Label rows)))
+made kinds.StartKk rows = for_peer rows (λ p q. with (given label_of opt.New rows) (λ n.
     Some (order.StartKk p q n (given label_of opt.Label rows) (is_given opt.Single rows))))
-made command.Ask rows = for_peer rows (λ p q. Some (order.Ask p q (given ident_of opt.Ultimate rows)))
-made command.Translate rows = for_peer rows (λ p q. with (given ident_of opt.Ultimate rows) (λ u. Some (order.Translate p q u)))
-made command.Take rows = for_party rows order.Take
-made command.Purge rows = for_party rows order.Purge
-made command.Show rows = for_party rows order.Show
-made command.Compact rows = for_party rows order.Compact
-made command.Resend rows = for_peer rows (λ p q. Some (order.Resend p q))
-made command.Drop rows = for_peer rows (λ p q. Some (order.Drop p q))
-made command.End rows = for_peer rows (λ p q. with (given name_of opt.Name rows) (λ n. Some (order.End p q n)))
-made command.Drill rows = with (given seed_of opt.Seed rows) (λ s. with (given events_of opt.Events rows) (λ e. Some (order.Drill s e)))
+made kinds.Ask rows = for_peer rows (λ p q. Some (order.Ask p q (given ident_of opt.Ultimate rows)))
+made kinds.Translate rows = for_peer rows (λ p q. with (given ident_of opt.Ultimate rows) (λ u. Some (order.Translate p q u)))
+made kinds.Take rows = for_party rows order.Take
+made kinds.Purge rows = for_party rows order.Purge
+made kinds.Show rows = for_party rows order.Show
+made kinds.Compact rows = for_party rows order.Compact
+made kinds.Resend rows = for_peer rows (λ p q. Some (order.Resend p q))
+made kinds.Drop rows = for_peer rows (λ p q. Some (order.Drop p q))
+made kinds.End rows = for_peer rows (λ p q. with (given key_name_of opt.Name rows) (λ n. Some (order.End p q n)))
+made kinds.Drill rows = with (given number_of opt.Seed rows) (λ s. with (given events_of opt.Events rows) (λ e. Some (order.Drill s e)))
 
-made_is : (rows : List Row) (o : Order) → HasValues rows o → made (ordered o) rows ≡ Some o
+made_is : (rows : List Row) (o : Order) → HasValues rows o → made (kind_of o) rows ≡ Some o
 made_is rows order.Check h = refl
 made_is rows order.Replay h = refl
 made_is rows (order.Init p r k v) h = rw (h.0, h.1, h.2, h.3) refl
@@ -70,8 +71,8 @@ made_is rows (order.Drill s e) h = rw (h.0, h.1) refl
 
 same : (rows : List Row) (a b : Order) → Says rows a → Says rows b → a ≡ b
 same rows a b h k =
-    let command : ordered a ≡ ordered b = cc (h.0, k.0) in
-    let e : Some a ≡ Some b = sym (made_is rows a h.1) ∙ ap (λ (c : Command). made c rows) command ∙ made_is rows b k.1 in
+    let command : kind_of a ≡ kind_of b = cc (h.0, k.0) in
+    let e : Some a ≡ Some b = sym (made_is rows a h.1) ∙ ap (λ (c : OrderKind). made c rows) command ∙ made_is rows b k.1 in
     cc
 
 pub one_order : OneOrder
@@ -89,62 +90,62 @@ first : {A : Type 0} (o : Option A) (rest : Bool) → (is_some o && rest) ≡ tr
 first (Some x) rest h = record { value = x; is = refl; more = h }
 first None rest h = absurd cc
 
-abbrev Made : Command → List Row → Type 0
-Made c rows = (o : Order) × (ordered o ≡ c) × HasValues rows o
+abbrev Made : OrderKind → List Row → Type 0
+Made c rows = (o : Order) × (kind_of o ≡ c) × HasValues rows o
 
-has_made : (c : Command) (rows : List Row) → is_whole c rows ≡ true → Made c rows
-has_made command.Check rows h = (order.Check, refl, tt)
-has_made command.Replay rows h = (order.Replay, refl, tt)
-has_made command.Init rows h =
+has_made : (c : OrderKind) (rows : List Row) → is_whole c rows ≡ true → Made c rows
+has_made kinds.Check rows h = (order.Check, refl, tt)
+has_made kinds.Replay rows h = (order.Replay, refl, tt)
+has_made kinds.Init rows h =
     let p = first (given ident_of opt.Party rows) _ h in
     let r = first (given role_of opt.Role rows) _ p.more in
     let k = first (given pair_of opt.Genkey rows) _ r.more in
     let v = first (given key_of opt.Genseed rows) _ k.more in
     (order.Init p.value r.value k.value v.value, refl, (p.is, r.is, k.is, v.is))
-has_made command.Load rows h =
+has_made kinds.Load rows h =
     let p = first (given ident_of opt.Party rows) _ h in
     let q = first (given ident_of opt.Peer rows) _ p.more in
     let l = first (given label_of opt.Label rows) _ q.more in
     let s = first (given side_of opt.Side rows) _ l.more in
     let k = first (given one_or_two_of opt.Key rows) _ s.more in
     (order.Load p.value q.value l.value s.value k.value, refl, (p.is, q.is, l.is, s.is, k.is))
-has_made command.Start rows h =
+has_made kinds.Start rows h =
     let p = first (given ident_of opt.Party rows) _ h in
     let q = first (given ident_of opt.Peer rows) _ p.more in
     (order.Start p.value q.value (given label_of opt.Label rows), refl, (p.is, q.is, refl))
-has_made command.StartKk rows h =
+has_made kinds.StartKk rows h =
     let p = first (given ident_of opt.Party rows) _ h in
     let q = first (given ident_of opt.Peer rows) _ p.more in
     let n = first (given label_of opt.New rows) _ q.more in
     (order.StartKk p.value q.value n.value (given label_of opt.Label rows) (is_given opt.Single rows), refl, (p.is, q.is, n.is, refl, refl))
-has_made command.Ask rows h =
+has_made kinds.Ask rows h =
     let p = first (given ident_of opt.Party rows) _ h in
     let q = first (given ident_of opt.Peer rows) _ p.more in
     (order.Ask p.value q.value (given ident_of opt.Ultimate rows), refl, (p.is, q.is, refl))
-has_made command.Translate rows h =
+has_made kinds.Translate rows h =
     let p = first (given ident_of opt.Party rows) _ h in
     let q = first (given ident_of opt.Peer rows) _ p.more in
     let u = first (given ident_of opt.Ultimate rows) _ q.more in
     (order.Translate p.value q.value u.value, refl, (p.is, q.is, u.is))
-has_made command.Take rows h = let p = first (given ident_of opt.Party rows) _ h in (order.Take p.value, refl, p.is)
-has_made command.Purge rows h = let p = first (given ident_of opt.Party rows) _ h in (order.Purge p.value, refl, p.is)
-has_made command.Show rows h = let p = first (given ident_of opt.Party rows) _ h in (order.Show p.value, refl, p.is)
-has_made command.Compact rows h = let p = first (given ident_of opt.Party rows) _ h in (order.Compact p.value, refl, p.is)
-has_made command.Resend rows h =
+has_made kinds.Take rows h = let p = first (given ident_of opt.Party rows) _ h in (order.Take p.value, refl, p.is)
+has_made kinds.Purge rows h = let p = first (given ident_of opt.Party rows) _ h in (order.Purge p.value, refl, p.is)
+has_made kinds.Show rows h = let p = first (given ident_of opt.Party rows) _ h in (order.Show p.value, refl, p.is)
+has_made kinds.Compact rows h = let p = first (given ident_of opt.Party rows) _ h in (order.Compact p.value, refl, p.is)
+has_made kinds.Resend rows h =
     let p = first (given ident_of opt.Party rows) _ h in
     let q = first (given ident_of opt.Peer rows) _ p.more in
     (order.Resend p.value q.value, refl, (p.is, q.is))
-has_made command.Drop rows h =
+has_made kinds.Drop rows h =
     let p = first (given ident_of opt.Party rows) _ h in
     let q = first (given ident_of opt.Peer rows) _ p.more in
     (order.Drop p.value q.value, refl, (p.is, q.is))
-has_made command.End rows h =
+has_made kinds.End rows h =
     let p = first (given ident_of opt.Party rows) _ h in
     let q = first (given ident_of opt.Peer rows) _ p.more in
-    let n = first (given name_of opt.Name rows) _ q.more in
+    let n = first (given key_name_of opt.Name rows) _ q.more in
     (order.End p.value q.value n.value, refl, (p.is, q.is, n.is))
-has_made command.Drill rows h =
-    let s = first (given seed_of opt.Seed rows) _ h in
+has_made kinds.Drill rows h =
+    let s = first (given number_of opt.Seed rows) _ h in
     let e = first (given events_of opt.Events rows) _ s.more in
     (order.Drill s.value e.value, refl, (s.is, e.is))
 
@@ -155,15 +156,15 @@ none_wrong None None (Some o) h = absurd cc
 none_wrong None None None h = (refl, refl)
 
 said : (rows : List Row) → rows_fault rows ≡ None → (o : Order) × Says rows o
-said rows h = go (command_of rows) refl
+said rows h = go (named_kind rows) refl
   where
-    go : (c : Option Command) → command_of rows ≡ c → (o : Order) × Says rows o
-    go None e = let bad : options_fault None rows ≡ None = ap (λ (c : Option Command). options_fault c rows) (sym e) ∙ h in absurd cc
+    go : (c : Option OrderKind) → named_kind rows ≡ c → (o : Order) × Says rows o
+    go None e = let bad : options_fault None rows ≡ None = ap (λ (c : Option OrderKind). options_fault c rows) (sym e) ∙ h in absurd cc
     go (Some c) e =
-        let none : options_fault (Some c) rows ≡ None = ap (λ (c : Option Command). options_fault c rows) (sym e) ∙ h in
+        let none : options_fault (Some c) rows ≡ None = ap (λ (c : Option OrderKind). options_fault c rows) (sym e) ∙ h in
         let p = none_wrong (unwanted_of c rows) (missing_of c rows) (bad_of rows) none in
         let m = has_made c rows (whole c rows p.0 p.1) in
-        (m.0, (e ∙ ap (λ (c : Command). Some c) (sym m.1), m.2))
+        (m.0, (e ∙ ap (λ (c : OrderKind). Some c) (sym m.1), m.2))
 
 pub has_order : HasOrder
 has_order words h = go (is_line words) refl

@@ -1,9 +1,9 @@
 pub mod Options
 pub mod Line
-pub mod Commands
+pub mod OrderKinds
 pub mod Needs
 pub mod Values
-pub mod Given
+pub mod LineValues
 pub mod Usage
 pub mod Orders
 pub mod Laws

@@ -1,4 +1,4 @@
--- The command line as clap is told of it: one positional, options of one value each, and a flag
+-- The command line as clap is to read it: one positional, options of one value each, and a flag
 -- (this project's profile).
 use Rattle.std.specs.Prelude.{Bool, true, List, fold, Some, codes}
 use Rattle.clap.specs.Words.{App, Row, Rule, Text, matches_of, new_app, new_rule, takes, with_rule}

@@ -1,65 +1,65 @@
 -- Which options each command requires, may have and refuses: this project's profile.
 use Rattle.std.specs.Prelude.{Bool, true, false}
-use Rattle.x_line.specs.declared.commands.Command.{Command}
-use Rattle.x_line.specs.declared.commands.Command.TheVariants as command
-use Rattle.x_line.specs.declared.needs.Need.{Need}
-use Rattle.x_line.specs.declared.needs.Need.TheVariants as need
+use Rattle.x_line.specs.declared.order_kind.OrderKind.{OrderKind}
+use Rattle.x_line.specs.declared.order_kind.OrderKind.TheVariants as kinds
+use Rattle.x_line.specs.declared.need.Need.{Need}
+use Rattle.x_line.specs.declared.need.Need.TheVariants as need
 use Rattle.x_line.specs.declared.opt.Opt.{Opt}
 use Rattle.x_line.specs.declared.opt.Opt.TheVariants as opt
 
-abbrev pub need_of : Command → Opt → Need
-need_of command.Check o = need.Refused
-need_of command.Replay o = need.Refused
-need_of command.Init opt.Party = need.Required
-need_of command.Init opt.Role = need.Required
-need_of command.Init opt.Genkey = need.Required
-need_of command.Init opt.Genseed = need.Required
-need_of command.Init o = need.Refused
-need_of command.Load opt.Party = need.Required
-need_of command.Load opt.Peer = need.Required
-need_of command.Load opt.Label = need.Required
-need_of command.Load opt.Side = need.Required
-need_of command.Load opt.Key = need.Required
-need_of command.Load o = need.Refused
-need_of command.Start opt.Party = need.Required
-need_of command.Start opt.Peer = need.Required
-need_of command.Start opt.Label = need.Optional
-need_of command.Start o = need.Refused
-need_of command.StartKk opt.Party = need.Required
-need_of command.StartKk opt.Peer = need.Required
-need_of command.StartKk opt.New = need.Required
-need_of command.StartKk opt.Label = need.Optional
-need_of command.StartKk opt.Single = need.Optional
-need_of command.StartKk o = need.Refused
-need_of command.Ask opt.Party = need.Required
-need_of command.Ask opt.Peer = need.Required
-need_of command.Ask opt.Ultimate = need.Optional
-need_of command.Ask o = need.Refused
-need_of command.Translate opt.Party = need.Required
-need_of command.Translate opt.Peer = need.Required
-need_of command.Translate opt.Ultimate = need.Required
-need_of command.Translate o = need.Refused
-need_of command.Take opt.Party = need.Required
-need_of command.Take o = need.Refused
-need_of command.Purge opt.Party = need.Required
-need_of command.Purge o = need.Refused
-need_of command.Show opt.Party = need.Required
-need_of command.Show o = need.Refused
-need_of command.Compact opt.Party = need.Required
-need_of command.Compact o = need.Refused
-need_of command.Resend opt.Party = need.Required
-need_of command.Resend opt.Peer = need.Required
-need_of command.Resend o = need.Refused
-need_of command.Drop opt.Party = need.Required
-need_of command.Drop opt.Peer = need.Required
-need_of command.Drop o = need.Refused
-need_of command.End opt.Party = need.Required
-need_of command.End opt.Peer = need.Required
-need_of command.End opt.Name = need.Required
-need_of command.End o = need.Refused
-need_of command.Drill opt.Seed = need.Required
-need_of command.Drill opt.Events = need.Required
-need_of command.Drill o = need.Refused
+abbrev pub need_of : OrderKind → Opt → Need
+need_of kinds.Check o = need.Refused
+need_of kinds.Replay o = need.Refused
+need_of kinds.Init opt.Party = need.Required
+need_of kinds.Init opt.Role = need.Required
+need_of kinds.Init opt.Genkey = need.Required
+need_of kinds.Init opt.Genseed = need.Required
+need_of kinds.Init o = need.Refused
+need_of kinds.Load opt.Party = need.Required
+need_of kinds.Load opt.Peer = need.Required
+need_of kinds.Load opt.Label = need.Required
+need_of kinds.Load opt.Side = need.Required
+need_of kinds.Load opt.Key = need.Required
+need_of kinds.Load o = need.Refused
+need_of kinds.Start opt.Party = need.Required
+need_of kinds.Start opt.Peer = need.Required
+need_of kinds.Start opt.Label = need.Optional
+need_of kinds.Start o = need.Refused
+need_of kinds.StartKk opt.Party = need.Required
+need_of kinds.StartKk opt.Peer = need.Required
+need_of kinds.StartKk opt.New = need.Required
+need_of kinds.StartKk opt.Label = need.Optional
+need_of kinds.StartKk opt.Single = need.Optional
+need_of kinds.StartKk o = need.Refused
+need_of kinds.Ask opt.Party = need.Required
+need_of kinds.Ask opt.Peer = need.Required
+need_of kinds.Ask opt.Ultimate = need.Optional
+need_of kinds.Ask o = need.Refused
+need_of kinds.Translate opt.Party = need.Required
+need_of kinds.Translate opt.Peer = need.Required
+need_of kinds.Translate opt.Ultimate = need.Required
+need_of kinds.Translate o = need.Refused
+need_of kinds.Take opt.Party = need.Required
+need_of kinds.Take o = need.Refused
+need_of kinds.Purge opt.Party = need.Required
+need_of kinds.Purge o = need.Refused
+need_of kinds.Show opt.Party = need.Required
+need_of kinds.Show o = need.Refused
+need_of kinds.Compact opt.Party = need.Required
+need_of kinds.Compact o = need.Refused
+need_of kinds.Resend opt.Party = need.Required
+need_of kinds.Resend opt.Peer = need.Required
+need_of kinds.Resend o = need.Refused
+need_of kinds.Drop opt.Party = need.Required
+need_of kinds.Drop opt.Peer = need.Required
+need_of kinds.Drop o = need.Refused
+need_of kinds.End opt.Party = need.Required
+need_of kinds.End opt.Peer = need.Required
+need_of kinds.End opt.Name = need.Required
+need_of kinds.End o = need.Refused
+need_of kinds.Drill opt.Seed = need.Required
+need_of kinds.Drill opt.Events = need.Required
+need_of kinds.Drill o = need.Refused
 
 abbrev pub is_refused : Need → Bool
 is_refused need.Refused = true

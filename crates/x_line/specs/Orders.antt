@@ -1,39 +1,40 @@
 -- The order that a command line stands for: this project's profile.
-use Rattle.std.specs.Prelude.{◌≡◌, ◌||◌, not, Bool, List, Some, None}
+use Rattle.std.specs.Prelude.{◌≡◌, ◌||◌, not, Bool, true, List, Option, Some, None}
 use Rattle.std.specs.List.{list_all}
 use Rattle.clap.specs.Words.{Row, Text}
-use Rattle.x_line.specs.declared.commands.Command.{Command}
-use Rattle.x_line.specs.declared.commands.Command.TheVariants as command
+use Rattle.x_line.specs.declared.order_kind.OrderKind.{OrderKind}
+use Rattle.x_line.specs.declared.order_kind.OrderKind.TheVariants as kinds
 use Rattle.x_line.specs.declared.opt.Opt.TheVariants as opt
 use Rattle.x_line.specs.declared.order.Order.{Order}
 use Rattle.x_line.specs.declared.order.Order.TheVariants as order
 use Rattle.x_line.specs.declared.usage.LineFault.{LineFault}
 use Rattle.x_line.specs.declared.usage.LineFault.TheVariants as fault
-use Rattle.x_line.specs.Given.{command_of, given, is_given, is_valid}
+use Rattle.x_line.specs.LineValues.{named_kind, given, is_given, is_valid}
 use Rattle.x_line.specs.Line.{rows_of_line}
 use Rattle.x_line.specs.Needs.{is_required, need_of}
 use Rattle.x_line.specs.Options.{options}
 use Rattle.x_line.specs.Usage.{usage_of}
-use Rattle.x_line.specs.Values.{events_of, ident_of, key_of, label_of, name_of, one_or_two_of, pair_of, role_of, seed_of, side_of}
+use Rattle.x_line.specs.Values.{events_of, one_or_two_of, role_of, side_of}
+use Rattle.x_values.specs.Words.{ident_of, key_name_of, key_of, label_of, number_of, pair_of}
 
--- the command of an order
-abbrev pub ordered : Order → Command
-ordered order.Check = command.Check
-ordered order.Replay = command.Replay
-ordered (order.Init party role key v) = command.Init
-ordered (order.Load party peer label side pair) = command.Load
-ordered (order.Start party peer label) = command.Start
-ordered (order.StartKk party peer new label single) = command.StartKk
-ordered (order.Ask party peer ultimate) = command.Ask
-ordered (order.Translate party peer ultimate) = command.Translate
-ordered (order.Take party) = command.Take
-ordered (order.Purge party) = command.Purge
-ordered (order.Show party) = command.Show
-ordered (order.Compact party) = command.Compact
-ordered (order.Resend party peer) = command.Resend
-ordered (order.Drop party peer) = command.Drop
-ordered (order.End party peer name) = command.End
-ordered (order.Drill seed events) = command.Drill
+-- of which kind an order is
+abbrev pub kind_of : Order → OrderKind
+kind_of order.Check = kinds.Check
+kind_of order.Replay = kinds.Replay
+kind_of (order.Init party role key v) = kinds.Init
+kind_of (order.Load party peer label side pair) = kinds.Load
+kind_of (order.Start party peer label) = kinds.Start
+kind_of (order.StartKk party peer new label single) = kinds.StartKk
+kind_of (order.Ask party peer ultimate) = kinds.Ask
+kind_of (order.Translate party peer ultimate) = kinds.Translate
+kind_of (order.Take party) = kinds.Take
+kind_of (order.Purge party) = kinds.Purge
+kind_of (order.Show party) = kinds.Show
+kind_of (order.Compact party) = kinds.Compact
+kind_of (order.Resend party peer) = kinds.Resend
+kind_of (order.Drop party peer) = kinds.Drop
+kind_of (order.End party peer name) = kinds.End
+kind_of (order.Drill seed events) = kinds.Drill
 
 -- each value of the order is what the value of its option stands for; one that may be left out is
 -- there where its option is
@@ -67,13 +68,13 @@ HasValues rows (order.Resend party peer) =
 HasValues rows (order.Drop party peer) =
     (given ident_of opt.Party rows ≡ Some party) × (given ident_of opt.Peer rows ≡ Some peer)
 HasValues rows (order.End party peer name) = (given ident_of opt.Party rows ≡ Some party)
-    × (given ident_of opt.Peer rows ≡ Some peer) × (given name_of opt.Name rows ≡ Some name)
+    × (given ident_of opt.Peer rows ≡ Some peer) × (given key_name_of opt.Name rows ≡ Some name)
 HasValues rows (order.Drill seed events) =
-    (given seed_of opt.Seed rows ≡ Some seed) × (given events_of opt.Events rows ≡ Some events)
+    (given number_of opt.Seed rows ≡ Some seed) × (given events_of opt.Events rows ≡ Some events)
 
 -- the order says what the command line gives
 abbrev pub Says : List Row → Order → Type 0
-Says rows o = (command_of rows ≡ Some (ordered o)) × HasValues rows o
+Says rows o = (named_kind rows ≡ Some (kind_of o)) × HasValues rows o
 
 -- the words stand for the order: nothing is wrong with them, and it says what they give
 abbrev pub IsOrder : List Text → Order → Type 0
@@ -84,6 +85,11 @@ abbrev pub IsFault : List Text → LineFault → Type 0
 IsFault words (fault.Usage kind) = usage_of words ≡ Some kind
 IsFault words fault.NoMemory = Unit {0}
 
--- all that the command requires is given and stands for something
-abbrev pub is_whole : Command → List Row → Bool
-is_whole c rows = list_all (λ o. not (is_required (need_of c o)) || is_valid o rows) options
+-- all that this kind of order requires is given and stands for something
+abbrev pub is_whole : OrderKind → List Row → Bool
+is_whole k rows = list_all (λ o. not (is_required (need_of k o)) || is_valid o rows) options
+
+-- an order of this kind with the values that the line gives, and none only where one is missing
+abbrev pub IsMade : OrderKind → List Row → Option Order → Type 0
+IsMade k rows (Some o) = (kind_of o ≡ k) × HasValues rows o
+IsMade k rows None = ¬ (is_whole k rows ≡ true)

@@ -1,4 +1,4 @@
-// The command line, as clap is told of it.
+// The command line, as clap is to read it.
 ghost use Rattle.std.specs.Prelude.{◌≡◌, IfOk, false, fold};
 ghost use Rattle.clap.specs.Words.{app_of, rule_of};
 ghost use Rattle.x_line.specs.Line.{option_rule, with_option, x917_app};

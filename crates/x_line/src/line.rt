@@ -2,7 +2,7 @@ ghost use Rattle.std.specs.Prelude.{◌≡◌, Err, IfOk, OnOk, true, false, opt
 ghost use Rattle.clap.specs.Words.{first_of};
 ghost use Rattle.x_line.specs.Line.{is_line, rows_of_line};
 ghost use Rattle.x_line.specs.Options.{name_of};
-ghost use Rattle.x_line.specs.Given.{is_given, is_true, word_of};
+ghost use Rattle.x_line.specs.LineValues.{is_given, is_true, word_of};
 
 use crate::declared::declared;
 use crate::opt::Opt;

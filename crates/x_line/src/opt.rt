@@ -34,7 +34,7 @@ pub enum Opt {
     Single,
 }
 
-/// The options in the order in which faults are told.
+/// The options in the order in which the first at fault is sought.
 pub(crate) const OPTIONS: [Opt; 14] = [
     Opt::Party,
     Opt::Role,

@@ -1,7 +1,19 @@
-use x_base::{Ident, KeyName, Label, Role, Side};
+ghost use Rattle.std.specs.Prelude.{◌≡◌, Err, true, false, IfOk, IfErr};
+ghost use Rattle.x_line.specs.OrderKinds.{is_built};
+ghost use Rattle.x_line.specs.LineValues.{named_kind};
+ghost use Rattle.x_line.specs.Line.{is_line};
+ghost use Rattle.x_line.specs.Orders.{IsFault, IsOrder, Says, is_whole, kind_of};
+ghost use Rattle.x_line.specs.Usage.{rows_fault};
+
+use crate::line::{Line, Unread};
+use crate::line_order::order_of;
+use crate::order_kind::OrderKind;
+use crate::usage::{LineFault, UsageKind, bad_value, missing, unwanted};
+use std::alloc::Global;
+use x_base::{Ident, KeyName, Label, Role, Side, Words};
 use x_mac::Pair;
 
-/// What the program is told to do. Keys are as they were written, without a change of parity.
+/// What the program is to do. Keys are as they were written, without a change of parity.
 #[derive(Clone, Copy, Debug, PartialEq, Eq)]
 pub enum Order {
     /// Read a message and write its canonical text.
@@ -86,4 +98,59 @@ pub enum Order {
         seed: u64,
         events: u32,
     },
+}
+
+/// The kind of order of the line, where nothing is wrong with its options.
+#[tactic(auto, using(crate::proofs::Checking::whole))]
+fn checked(line: &Line<'_>) -> Result<OrderKind, UsageKind>
+    ensures kind { IfOk result (λ k. named_kind line.now ≡ Some k) }
+    ensures whole { IfOk result (λ k. is_whole k line.now ≡ true) }
+    ensures none { IfOk result (λ _. rows_fault line.now ≡ None) }
+    ensures fault { IfErr result (λ kind. rows_fault line.now ≡ Some kind) }
+{
+    let Some(kind) = line.kind() else {
+        return Err(UsageKind::Command);
+    };
+    if let Some(opt) = unwanted(kind, line) {
+        return Err(UsageKind::Unwanted(opt));
+    }
+    if let Some(opt) = missing(kind, line) {
+        return Err(UsageKind::Missing(opt));
+    }
+    if let Some(opt) = bad_value(line) {
+        return Err(UsageKind::BadValue(opt));
+    }
+    Ok(kind)
+}
+
+/// The order that the line gives.
+fn said(line: &Line<'_>) -> Result<Order, UsageKind>
+    ensures says { IfOk result (λ o. Says line.now o) }
+    ensures none { IfOk result (λ _. rows_fault line.now ≡ None) }
+    ensures fault { IfErr result (λ kind. rows_fault line.now ≡ Some kind) }
+{
+    let kind = checked(line)?;
+    match order_of(kind, line) {
+        Some(order) => Ok(order),
+        None => unreachable!(),
+    }
+}
+
+/// Reads the words of a command line, which are those behind the program's name.
+#[tactic(auto, using(crate::proofs::Checking::not_line))]
+pub fn read_order(alloc: Global, words: &Words) -> Result<Order, LineFault>
+    ensures order { IfOk result (λ order. IsOrder words.now order) }
+    ensures built { IfOk result (λ order. is_built (kind_of order) ≡ true) }
+    ensures fault { IfErr result (λ fault. IsFault words.now fault) }
+    ensures line { result ≡ Err (LineFault.Usage UsageKind.Line) → is_line words.now ≡ false }
+{
+    let line = match Line::read(alloc, words) {
+        Ok(line) => line,
+        Err(Unread::Refused) => return Err(LineFault::Usage(UsageKind::Line)),
+        Err(Unread::NoMemory) => return Err(LineFault::NoMemory),
+    };
+    match said(&line) {
+        Ok(order) => Ok(order),
+        Err(kind) => Err(LineFault::Usage(kind)),
+    }
 }

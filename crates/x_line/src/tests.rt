@@ -1,243 +1,89 @@
 use super::*;
-use crate::values;
 use std::alloc::Global;
 use std::test::Fail;
 use x_base::{Ident, KeyName, Label, Role, Side, Words};
 use x_mac::Pair;
 
-// No command lines.
-const NO_LINES: [&[&str]; 16] = [
-    &[],
-    &["check", "extra"],
-    &["check", "help"],
-    &["check", "--", "x"],
-    &["check", "--party"],
-    &["check", "--nothing"],
-    &["check", "--par", "BANKA"],
-    &["check", "-p", "BANKA"],
-    &["show", "--party", "BANKA", "--party", "BANKA"],
-    &["check", "--single", "--single"],
-    &["check", "--single=true"],
-    &["--help"],
-    &["check", "-h"],
-    &["check", "--version"],
-    &["-V"],
-    &[
-        "start", "--party", "BANKA", "--peer", "BANKB", "--label", "-K",
-    ],
-];
-
-// Words that name no built command.
-const NO_COMMANDS: [&[&str]; 11] = [
-    &["help"],
-    &["-"],
-    &[""],
-    &["Check"],
-    &["starts"],
-    &["--party", "BANKA", "--key", "1", "stop"],
-    &["replay"],
-    &[
-        "startkk", "--party", "BANKA", "--peer", "BANKB", "--new", "K2",
-    ],
-    &[
-        "translate",
-        "--party",
-        "BANKA",
-        "--peer",
-        "CKTX",
-        "--ultimate",
-        "BANKB",
-    ],
-    &["compact", "--party", "BANKA"],
-    &["drill", "--seed", "7", "--events", "400"],
-];
-
-const UNWANTED: [(&[&str], Opt); 9] = [
-    (&["check", "--party="], Opt::Party),
-    (&["check", "--party=a=b"], Opt::Party),
-    (&["--label=-K", "check"], Opt::Label),
-    (&["check", "--single"], Opt::Single),
+// Command lines, their words parted by blanks, and what is wrong with them.
+const FAULTS: [(&str, UsageKind); 16] = [
+    ("check extra", UsageKind::Line),
+    ("check --party", UsageKind::Line),
+    ("check --par BANKA", UsageKind::Line),
+    ("show --party BANKA --party BANKA", UsageKind::Line),
+    ("check --single=true", UsageKind::Line),
     (
-        &["start", "--party", "BANKA", "--key", "0123456789ABCDEF"],
-        Opt::Key,
+        "start --party BANKA --peer BANKB --label -K",
+        UsageKind::Line,
     ),
-    (&["show", "--role", "bank", "--new", "K2"], Opt::Role),
+    ("--help", UsageKind::Line),
+    ("check --version", UsageKind::Line),
+    ("help", UsageKind::Command),
+    ("Check", UsageKind::Command),
+    ("--party BANKA --key 1 stop", UsageKind::Command),
     (
-        &["take", "--single", "--events", "1", "--party", "x"],
-        Opt::Events,
+        "startkk --party BANKA --peer BANKB --new K2",
+        UsageKind::Command,
+    ),
+    ("check --party=", UsageKind::Unwanted(Opt::Party)),
+    (
+        "take --single --events 1 --party x",
+        UsageKind::Unwanted(Opt::Events),
     ),
     (
-        &["init", "--new", "K", "--peer", "x", "--name", "x"],
-        Opt::Peer,
+        "init --role x --genkey x --genseed x",
+        UsageKind::Missing(Opt::Party),
     ),
     (
-        &["end", "--genseed", "1", "--ultimate", "x", "--seed", "1"],
-        Opt::Genseed,
+        "load --party A --peer B --label k --side x",
+        UsageKind::Missing(Opt::Key),
     ),
 ];
 
-const MISSING: [(&[&str], Opt); 9] = [
-    (&["start", "--party", "BANKA"], Opt::Peer),
-    (&["load", "--party", "BANKA"], Opt::Peer),
-    (&["start"], Opt::Party),
+// Command lines each of which has one bad value or more, and the option of the first one.
+const BAD_VALUES: [(&str, Opt); 11] = [
+    ("show --party=", Opt::Party),
+    ("take --party BANKa", Opt::Party),
     (
-        &["init", "--role", "x", "--genkey", "x", "--genseed", "x"],
-        Opt::Party,
-    ),
-    (&["init", "--party", "BANKA", "--genseed", "x"], Opt::Role),
-    (
-        &[
-            "load", "--party", "A", "--peer", "B", "--label", "k", "--side", "x",
-        ],
-        Opt::Key,
-    ),
-    (&["end", "--party", "BANKA", "--peer", "BANKB"], Opt::Name),
-    (&["ask", "--ultimate", "BANKB"], Opt::Party),
-    (&["purge"], Opt::Party),
-];
-
-const PAIR: &str = "0123456789abcdefFEDCBA9876543210";
-
-const BAD_VALUES: [(&[&str], Opt); 14] = [
-    (&["show", "--party="], Opt::Party),
-    (&["show", "--party", ""], Opt::Party),
-    (&["take", "--party", "BANKa"], Opt::Party),
-    (
-        &[
-            "init",
-            "--party",
-            "BANKA",
-            "--role",
-            "BANK",
-            "--genkey",
-            PAIR,
-            "--genseed",
-            "",
-        ],
+        "init --party BANKA --role BANK --genkey x --genseed x",
         Opt::Role,
     ),
     (
-        &[
-            "init",
-            "--party",
-            "BANKA",
-            "--role",
-            "bank",
-            "--genkey",
-            "0123456789abcdef",
-            "--genseed",
-            "x",
-        ],
+        "init --party BANKA --role bank --genkey 0123456789abcdef --genseed x",
         Opt::Genkey,
     ),
     (
-        &[
-            "init",
-            "--party",
-            "BANKA",
-            "--role",
-            "bank",
-            "--genkey",
-            PAIR,
-            "--genseed",
-            PAIR,
-        ],
+        "init --party BANKA --role bank --genkey 0123456789abcdefFEDCBA9876543210 --genseed 0",
         Opt::Genseed,
     ),
+    ("start --party BANKA --peer B --label k", Opt::Peer),
+    ("start --party BANKA --peer BANKB --label=", Opt::Label),
     (
-        &["start", "--party", "BANKA", "--peer", "B", "--label", "k"],
-        Opt::Peer,
-    ),
-    (
-        &["start", "--party", "BANKA", "--peer", "BANKB", "--label="],
-        Opt::Label,
-    ),
-    (
-        &[
-            "load", "--party", "BANKA", "--peer", "BANKB", "--label", "K1", "--side", "Sends",
-            "--key", PAIR,
-        ],
+        "load --party BANKA --peer BANKB --label K1 --side Sends --key x",
         Opt::Side,
     ),
     (
-        &[
-            "load",
-            "--party",
-            "BANKA",
-            "--peer",
-            "BANKB",
-            "--label",
-            "K1",
-            "--side",
-            "in",
-            "--key",
-            "0123456789abcdef01234567",
-        ],
+        "load --party BANKA --peer BANKB --label K1 --side in --key 0123456789abcdef01234567",
         Opt::Key,
     ),
     (
-        &[
-            "load",
-            "--party",
-            "BANKA",
-            "--peer",
-            "BANKB",
-            "--label",
-            "K1",
-            "--side",
-            "in",
-            "--key",
-            "0123456789abcdeg",
-        ],
-        Opt::Key,
-    ),
-    (
-        &[
-            "ask",
-            "--party",
-            "BANKA",
-            "--peer",
-            "CKDX",
-            "--ultimate",
-            "bankb",
-        ],
+        "ask --party BANKA --peer CKDX --ultimate bankb",
         Opt::Ultimate,
     ),
     (
-        &[
-            "end",
-            "--party",
-            "BANKA",
-            "--peer",
-            "BANKB",
-            "--name",
-            "BANKA.BANKA.K1",
-        ],
-        Opt::Name,
-    ),
-    (
-        &[
-            "end",
-            "--party",
-            "BANKA",
-            "--peer",
-            "BANKB",
-            "--name",
-            "BANKA.BANKA.K1.0",
-        ],
+        "end --party BANKA --peer BANKB --name BANKA.BANKA.K1.0",
         Opt::Name,
     ),
 ];
 
-fn words_of(alloc: Global, line: &[&str]) -> Result<Words, Fail> {
+fn words_of(alloc: Global, line: &str) -> Result<Words, Fail> {
     let mut words = Words::new(alloc);
-    for word in line {
+    for word in line.split(' ') {
         words.push(word)?;
     }
     Ok(words)
 }
 
-fn kind_told(alloc: Global, line: &[&str]) -> Result<Option<UsageKind>, Fail> {
+fn kind_of_fault(alloc: Global, line: &str) -> Result<Option<UsageKind>, Fail> {
     let words = words_of(alloc, line)?;
     match read_order(alloc, &words) {
         Err(LineFault::Usage(kind)) => Ok(Some(kind)),
@@ -245,7 +91,7 @@ fn kind_told(alloc: Global, line: &[&str]) -> Result<Option<UsageKind>, Fail> {
     }
 }
 
-fn gives(alloc: Global, line: &[&str], expected: Order) -> Result<bool, Fail> {
+fn gives(alloc: Global, line: &str, expected: Order) -> Result<bool, Fail> {
     let words = words_of(alloc, line)?;
     match read_order(alloc, &words) {
         Ok(order) => Ok(order == expected),
@@ -254,77 +100,43 @@ fn gives(alloc: Global, line: &[&str], expected: Order) -> Result<bool, Fail> {
 }
 
 #[test]
-fn lines_are_told(rt: HostRuntime) -> Result<(), Fail> {
-    for line in NO_LINES {
-        assert!(rt; kind_told(rt.alloc(), line)? == Some(UsageKind::Line));
+fn faults_are_found(rt: HostRuntime) -> Result<(), Fail> {
+    let mut wrong = None;
+    for (row, (line, kind)) in FAULTS.iter().enumerate() {
+        if kind_of_fault(rt.alloc(), line)? != Some(*kind) {
+            wrong = Some(row);
+        }
     }
-    Ok(())
-}
-
-#[test]
-fn commands_are_told(rt: HostRuntime) -> Result<(), Fail> {
-    for line in NO_COMMANDS {
-        assert!(rt; kind_told(rt.alloc(), line)? == Some(UsageKind::Command));
+    assert_eq!(rt; wrong, None);
+    for (row, (line, opt)) in BAD_VALUES.iter().enumerate() {
+        if kind_of_fault(rt.alloc(), line)? != Some(UsageKind::BadValue(*opt)) {
+            wrong = Some(row);
+        }
     }
-    Ok(())
-}
-
-#[test]
-fn unwanted_options_are_told(rt: HostRuntime) -> Result<(), Fail> {
-    for (line, opt) in UNWANTED {
-        assert!(rt; kind_told(rt.alloc(), line)? == Some(UsageKind::Unwanted(opt)));
-    }
-    Ok(())
-}
-
-#[test]
-fn missing_options_are_told(rt: HostRuntime) -> Result<(), Fail> {
-    for (line, opt) in MISSING {
-        assert!(rt; kind_told(rt.alloc(), line)? == Some(UsageKind::Missing(opt)));
-    }
-    Ok(())
-}
-
-#[test]
-fn bad_values_are_told(rt: HostRuntime) -> Result<(), Fail> {
-    for (line, opt) in BAD_VALUES {
-        assert!(rt; kind_told(rt.alloc(), line)? == Some(UsageKind::BadValue(opt)));
-    }
+    assert_eq!(rt; wrong, None);
+    assert_eq!(rt; UsageKind::Missing(Opt::Peer).number(), 4);
     Ok(())
 }
 
 #[test]
 fn orders_are_read(rt: HostRuntime) -> Result<(), Fail> {
     let party = Ident::read(b"BANKA")?;
-    let peer = Ident::read(b"BANKB")?;
-    let label = Label::read(b"K1")?;
-    let rows: [(&[&str], Order); 12] = [
-        (&["check"], Order::Check),
-        (&["--", "check"], Order::Check),
-        (&["check", "--"], Order::Check),
-        (&["show", "--party=BANKA"], Order::Show { party }),
-        (&["--party", "BANKA", "take"], Order::Take { party }),
-        (&["purge", "--party", "BANKA"], Order::Purge { party }),
+    let peer = Ident::read(b"CKDX")?;
+    let label = Label::read(b"C")?;
+    let name = KeyName::read(b"CKDX.BANKA.C.7")?;
+    let left = 0x0123456789ABCDEF;
+    let right = 0xFEDCBA9876543210;
+    let key = Pair { left, right };
+    let rows = [
+        ("-- check", Order::Check),
+        ("--party BANKA take", Order::Take { party }),
+        ("show --party=BANKA", Order::Show { party }),
         (
-            &["resend", "--party", "BANKA", "--peer", "BANKB"],
-            Order::Resend { party, peer },
-        ),
-        (
-            &["drop", "--peer", "BANKB", "--party", "BANKA"],
+            "drop --peer CKDX --party BANKA",
             Order::Drop { party, peer },
         ),
         (
-            &["start", "--party", "BANKA", "--peer", "BANKB"],
-            Order::Start {
-                party,
-                peer,
-                label: None,
-            },
-        ),
-        (
-            &[
-                "start", "--label", "K1", "--party", "BANKA", "--peer", "BANKB",
-            ],
+            "start --label C --party BANKA --peer CKDX",
             Order::Start {
                 party,
                 peer,
@@ -332,7 +144,7 @@ fn orders_are_read(rt: HostRuntime) -> Result<(), Fail> {
             },
         ),
         (
-            &["ask", "--party", "BANKA", "--peer", "BANKB"],
+            "ask --party BANKA --peer CKDX",
             Order::Ask {
                 party,
                 peer,
@@ -340,83 +152,16 @@ fn orders_are_read(rt: HostRuntime) -> Result<(), Fail> {
             },
         ),
         (
-            &[
-                "ask",
-                "--party",
-                "BANKA",
-                "--peer",
-                "BANKB",
-                "--ultimate",
-                "BANKA",
-            ],
-            Order::Ask {
-                party,
-                peer,
-                ultimate: Some(party),
-            },
-        ),
-    ];
-    for (line, order) in rows {
-        assert!(rt; gives(rt.alloc(), line, order)?);
-    }
-    Ok(())
-}
-
-#[test]
-fn keys_and_names_are_read(rt: HostRuntime) -> Result<(), Fail> {
-    let party = Ident::read(b"BANKA")?;
-    let peer = Ident::read(b"CKDX")?;
-    let label = Label::read(b"C")?;
-    let name = KeyName::read(b"CKDX.BANKA.C.7")?;
-    let left = 0x0123456789ABCDEF;
-    let right = 0xFEDCBA9876543210;
-    let rows: [(&[&str], Order); 4] = [
-        (
-            &[
-                "init",
-                "--party",
-                "BANKA",
-                "--role",
-                "translation",
-                "--genkey",
-                PAIR,
-                "--genseed",
-                "00000000000000fF",
-            ],
+            "init --party BANKA --role translation --genkey 0123456789abcdefFEDCBA9876543210 --genseed 00000000000000fF",
             Order::Init {
                 party,
                 role: Role::Translation,
-                key: Pair { left, right },
+                key,
                 v: 255,
             },
         ),
         (
-            &[
-                "load", "--party", "BANKA", "--peer", "CKDX", "--label", "C", "--side", "in",
-                "--key", PAIR,
-            ],
-            Order::Load {
-                party,
-                peer,
-                label,
-                side: Side::Takes,
-                pair: Pair { left, right },
-            },
-        ),
-        (
-            &[
-                "load",
-                "--party",
-                "BANKA",
-                "--peer",
-                "CKDX",
-                "--label",
-                "C",
-                "--side",
-                "out",
-                "--key",
-                "FEDCBA9876543210",
-            ],
+            "load --party BANKA --peer CKDX --label C --side out --key FEDCBA9876543210",
             Order::Load {
                 party,
                 peer,
@@ -426,54 +171,16 @@ fn keys_and_names_are_read(rt: HostRuntime) -> Result<(), Fail> {
             },
         ),
         (
-            &[
-                "end",
-                "--party",
-                "BANKA",
-                "--peer",
-                "CKDX",
-                "--name",
-                "CKDX.BANKA.C.007",
-            ],
+            "end --party BANKA --peer CKDX --name CKDX.BANKA.C.007",
             Order::End { party, peer, name },
         ),
     ];
-    for (line, order) in rows {
-        assert!(rt; gives(rt.alloc(), line, order)?);
+    let mut wrong = None;
+    for (row, (line, order)) in rows.iter().enumerate() {
+        if !gives(rt.alloc(), line, *order)? {
+            wrong = Some(row);
+        }
     }
+    assert_eq!(rt; wrong, None);
     Ok(())
-}
-
-#[test]
-fn numbers_are_read(rt: HostRuntime) {
-    let seeds = [
-        ("0", Some(0)),
-        ("00000000000000000007", Some(7)),
-        ("18446744073709551615", Some(u64::MAX)),
-        ("18446744073709551616", None),
-        ("000000000000000000007", None),
-        ("+7", None),
-        ("", None),
-    ];
-    for (text, seed) in seeds {
-        assert_eq!(rt; values::seed(text), seed);
-    }
-    let events = [
-        ("1", Some(1)),
-        ("10000", Some(10_000)),
-        ("10001", None),
-        ("0", None),
-        ("07", None),
-        ("+7", None),
-        ("", None),
-    ];
-    for (text, number) in events {
-        assert_eq!(rt; values::events(text), number);
-    }
-}
-
-#[test]
-fn kinds_have_numbers(rt: HostRuntime) {
-    assert_eq!(rt; UsageKind::Line.number(), 1);
-    assert_eq!(rt; UsageKind::Missing(Opt::Peer).number(), 4);
 }

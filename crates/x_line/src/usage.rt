@@ -1,12 +1,12 @@
 ghost use Rattle.std.specs.Prelude.{◌≡◌};
 ghost use Rattle.x_line.specs.Usage.{bad_of, missing_of, number_of, unwanted_of};
 
-use crate::commands::Command;
 use crate::line::Line;
 use crate::opt::{OPTIONS, Opt};
+use crate::order_kind::OrderKind;
 use thiserror::Error;
 
-/// What is wrong with the words; the first in this order is told.
+/// What is wrong with the words; the first in this order is given.
 #[derive(Clone, Copy, Debug, PartialEq, Eq)]
 pub enum UsageKind {
     /// The words are no command line; asking for help or a version is none either.
@@ -22,7 +22,7 @@ pub enum UsageKind {
 }
 
 impl UsageKind {
-    /// The number under which the kind is told, 1 to 5 (this project's profile).
+    /// The number of the kind in a status line, 1 to 5 (this project's profile).
     pub fn number(&self) -> u32
         ensures { result ≡ number_of self.now }
     {
@@ -48,23 +48,23 @@ pub enum LineFault {
 }
 
 /// The first option that is given and that the command doesn't take.
-pub(crate) fn unwanted(command: Command, line: &Line<'_>) -> Option<Opt>
-    ensures { result ≡ unwanted_of command line.now }
+pub(crate) fn unwanted(kind: OrderKind, line: &Line<'_>) -> Option<Opt>
+    ensures { result ≡ unwanted_of kind line.now }
 {
     OPTIONS
         .iter()
         .copied()
-        .find(|opt| line.is_given(*opt) && command.is_refusing(*opt))
+        .find(|opt| line.is_given(*opt) && kind.is_refusing(*opt))
 }
 
 /// The first option that isn't given and that the command can't do without.
-pub(crate) fn missing(command: Command, line: &Line<'_>) -> Option<Opt>
-    ensures { result ≡ missing_of command line.now }
+pub(crate) fn missing(kind: OrderKind, line: &Line<'_>) -> Option<Opt>
+    ensures { result ≡ missing_of kind line.now }
 {
     OPTIONS
         .iter()
         .copied()
-        .find(|opt| !line.is_given(*opt) && command.is_requiring(*opt))
+        .find(|opt| !line.is_given(*opt) && kind.is_requiring(*opt))
 }
 
 /// The first option that is given and whose value stands for nothing.

@@ -4,10 +4,13 @@ use Rattle.std.specs.Prelude.{nat_le, nat_lt}
 use Rattle.std.specs.Char.{is_ascii_digit}
 use Rattle.std.specs.List.{list_all}
 use Rattle.std.specs.Result.{OkIff, result_ok}
+use Rattle.std.specs.Str.{IsUtf8}
 use Rattle.std.specs.Str.Parse.{digits_value, ParsesUnsigned}
 use Rattle.std.proofs.lemmas.Bool.{le-leb, leb-true, lt-ltb, ltb-true}
 use Rattle.std.proofs.lemmas.Str.Parse.{IsDigitsTest, IsNumeralModel, numerals_by_value, parse_digits}
-use Rattle.x_line.specs.Values.{decimal_of}
+use Rattle.std.proofs.lemmas.Str.{IsUtf8-from_ascii}
+use Rattle.std.proofs.lemmas.Fmt.{IsAscii-from_digits}
+use Rattle.x_values.specs.Words.{decimal_of}
 
 abbrev AreDigits : List ℕ → Type 0
 AreDigits ds = list_all is_ascii_digit ds ≡ true
@@ -27,6 +30,9 @@ read_from ds (Err e) d h = none (nat_le 1 (length ds)) (nat_lt (digits_value 10 
     none false b p q = rw p refl
     none true false p q = rw (p, d, q) refl
     none true true p q = absurd (h (leb-true 1 (length ds) p, ltb-true (digits_value 10 ds) (2 ^ 64) q))
+
+pub digits_utf8 : (ds : List ℕ) → list_all is_ascii_digit ds ≡ true → IsUtf8 ds
+digits_utf8 ds e = IsUtf8-from_ascii ds (IsAscii-from_digits ds (own.to ds e))
 
 -- digits are read where there are any and their number fits
 pub decimal_read : {E : Type 0} (ds : List ℕ) (r : Result ℕ E) → list_all is_ascii_digit ds ≡ true → ParsesUnsigned 64 10 ds r → result_ok r ≡ decimal_of ds

@@ -1,33 +1,34 @@
 // What the options of a command line stand for.
 ghost use Rattle.std.specs.Prelude.{◌≡◌};
-ghost use Rattle.x_line.specs.Given.{command_of, given, is_valid};
-ghost use Rattle.x_line.specs.Values.{events_of, ident_of, key_of, label_of, name_of, one_or_two_of, pair_of, role_of, seed_of, side_of};
+ghost use Rattle.x_line.specs.LineValues.{named_kind, given, is_valid};
+ghost use Rattle.x_line.specs.Values.{events_of, one_or_two_of, role_of, side_of};
+ghost use Rattle.x_values.specs.Words.{ident_of, key_name_of, key_of, label_of, number_of, pair_of};
 
-use crate::commands::Command;
 use crate::line::Line;
 use crate::opt::Opt;
+use crate::order_kind::OrderKind;
 use crate::values;
 use x_base::{Ident, KeyName, Label, Role, Side};
 use x_mac::Pair;
 
 impl Line<'_> {
-    /// The built command that the line names.
-    pub(crate) fn command(&self) -> Option<Command>
-        ensures { result ≡ command_of self.now }
+    /// The built kind of order that the line names.
+    pub(crate) fn kind(&self) -> Option<OrderKind>
+        ensures { result ≡ named_kind self.now }
     {
-        Command::named(self.word()?)
+        OrderKind::named(self.word()?)
     }
 
     pub(crate) fn ident(&self, opt: Opt) -> Option<Ident>
         ensures { result ≡ given ident_of opt self.now }
     {
-        values::ident(self.text(opt)?)
+        x_values::ident(self.text(opt)?.as_bytes())
     }
 
     pub(crate) fn label(&self, opt: Opt) -> Option<Label>
         ensures { result ≡ given label_of opt self.now }
     {
-        values::label(self.text(opt)?)
+        x_values::label(self.text(opt)?.as_bytes())
     }
 
     pub(crate) fn role(&self) -> Option<Role>
@@ -40,14 +41,14 @@ impl Line<'_> {
     pub(crate) fn generator_pair(&self) -> Option<Pair>
         ensures { result ≡ given pair_of Opt.Genkey self.now }
     {
-        values::pair(self.text(Opt::Genkey)?.as_bytes())
+        x_values::pair(self.text(Opt::Genkey)?.as_bytes())
     }
 
     /// The generator's seed V.
     pub(crate) fn generator_seed(&self) -> Option<u64>
         ensures { result ≡ given key_of Opt.Genseed self.now }
     {
-        values::key(self.text(Opt::Genseed)?.as_bytes())
+        x_values::key(self.text(Opt::Genseed)?.as_bytes())
     }
 
     pub(crate) fn side(&self) -> Option<Side>
@@ -64,21 +65,21 @@ impl Line<'_> {
     }
 
     pub(crate) fn name(&self) -> Option<KeyName>
-        ensures { result ≡ given name_of Opt.Name self.now }
+        ensures { result ≡ given key_name_of Opt.Name self.now }
     {
-        values::name(self.text(Opt::Name)?)
+        x_values::key_name(self.text(Opt::Name)?.as_bytes())
     }
 
     pub(crate) fn seed(&self) -> Option<u64>
-        ensures { result ≡ given seed_of Opt.Seed self.now }
+        ensures { result ≡ given number_of Opt.Seed self.now }
     {
-        values::seed(self.text(Opt::Seed)?)
+        x_values::number(self.text(Opt::Seed)?.as_bytes())
     }
 
     pub(crate) fn events(&self) -> Option<u32>
         ensures { result ≡ given events_of Opt.Events self.now }
     {
-        values::events(self.text(Opt::Events)?)
+        values::events(self.text(Opt::Events)?.as_bytes())
     }
 
     /// Whether the value of the option stands for something; a flag has none.

@@ -2,21 +2,21 @@
 use Rattle.std.specs.Prelude.{Bool, true, false, List, Option, Some, None, is_some, option_and_then, codes}
 use Rattle.std.specs.Str.{bytes_eq}
 use Rattle.clap.specs.Words.{Row, Text, first_of}
-use Rattle.x_line.specs.declared.commands.Command.{Command}
+use Rattle.x_line.specs.declared.order_kind.OrderKind.{OrderKind}
 use Rattle.x_line.specs.declared.opt.Opt.{Opt}
 use Rattle.x_line.specs.declared.opt.Opt.TheVariants as opt
-use Rattle.x_line.specs.Commands.{named}
+use Rattle.x_line.specs.OrderKinds.{named}
 use Rattle.x_line.specs.Options.{name_of}
-use Rattle.x_line.specs.Values.{events_of, ident_of, key_of, label_of, one_or_two_of, pair_of, role_of, seed_of, side_of}
-use Rattle.x_line.specs.Values as values
+use Rattle.x_line.specs.Values.{events_of, one_or_two_of, role_of, side_of}
+use Rattle.x_values.specs.Words.{ident_of, key_name_of, key_of, label_of, number_of, pair_of}
 
 -- the word in the place of the command
 abbrev pub word_of : List Row → Option Text
 word_of rows = first_of (codes "command") rows
 
--- the built command that it names
-abbrev pub command_of : List Row → Option Command
-command_of rows = option_and_then named (word_of rows)
+-- the built kind of order that it names
+abbrev pub named_kind : List Row → Option OrderKind
+named_kind rows = option_and_then named (word_of rows)
 
 -- the text that clap has for a flag says that the flag was given
 abbrev pub is_true : Option Text → Bool
@@ -44,7 +44,7 @@ is_valid opt.Side rows = is_some (given side_of opt.Side rows)
 is_valid opt.Key rows = is_some (given one_or_two_of opt.Key rows)
 is_valid opt.New rows = is_some (given label_of opt.New rows)
 is_valid opt.Ultimate rows = is_some (given ident_of opt.Ultimate rows)
-is_valid opt.Name rows = is_some (given values.name_of opt.Name rows)
-is_valid opt.Seed rows = is_some (given seed_of opt.Seed rows)
+is_valid opt.Name rows = is_some (given key_name_of opt.Name rows)
+is_valid opt.Seed rows = is_some (given number_of opt.Seed rows)
 is_valid opt.Events rows = is_some (given events_of opt.Events rows)
 is_valid opt.Single rows = true

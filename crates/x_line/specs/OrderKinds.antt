@@ -1,0 +1,41 @@
+-- The kinds of order, and which of them the program can carry out already: this project's profile.
+use Rattle.std.specs.Prelude.{ℕ, ◌&&◌, Bool, true, false, List, [], ◌∷◌, Option, find, codes}
+use Rattle.std.specs.Str.{bytes_eq}
+use Rattle.x_line.specs.declared.order_kind.OrderKind.{OrderKind}
+use Rattle.x_line.specs.declared.order_kind.OrderKind.TheVariants as kinds
+
+abbrev pub order_kinds : List OrderKind
+order_kinds = kinds.Check ∷ kinds.Replay ∷ kinds.Init ∷ kinds.Load ∷ kinds.Start
+    ∷ kinds.StartKk ∷ kinds.Ask ∷ kinds.Translate ∷ kinds.Take ∷ kinds.Purge
+    ∷ kinds.Show ∷ kinds.Compact ∷ kinds.Resend ∷ kinds.Drop ∷ kinds.End
+    ∷ kinds.Drill ∷ []
+
+abbrev pub name_of_kind : OrderKind → List ℕ
+name_of_kind kinds.Check = codes "check"
+name_of_kind kinds.Replay = codes "replay"
+name_of_kind kinds.Init = codes "init"
+name_of_kind kinds.Load = codes "load"
+name_of_kind kinds.Start = codes "start"
+name_of_kind kinds.StartKk = codes "startkk"
+name_of_kind kinds.Ask = codes "ask"
+name_of_kind kinds.Translate = codes "translate"
+name_of_kind kinds.Take = codes "take"
+name_of_kind kinds.Purge = codes "purge"
+name_of_kind kinds.Show = codes "show"
+name_of_kind kinds.Compact = codes "compact"
+name_of_kind kinds.Resend = codes "resend"
+name_of_kind kinds.Drop = codes "drop"
+name_of_kind kinds.End = codes "end"
+name_of_kind kinds.Drill = codes "drill"
+
+-- all but these
+abbrev pub is_built : OrderKind → Bool
+is_built kinds.Replay = false
+is_built kinds.StartKk = false
+is_built kinds.Translate = false
+is_built kinds.Drill = false
+is_built k = true
+
+-- the built kind that a command line names so
+abbrev pub named : List ℕ → Option OrderKind
+named name = find (λ k. is_built k && bytes_eq (name_of_kind k) name) order_kinds

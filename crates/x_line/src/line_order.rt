@@ -1,0 +1,123 @@
+// The order that a line gives where the values of its options stand for something.
+ghost use Rattle.x_line.specs.Orders.{IsMade};
+
+use crate::line::Line;
+use crate::opt::Opt;
+use crate::order::Order;
+use crate::order_kind::OrderKind;
+
+fn init(line: &Line<'_>) -> Option<Order>
+    ensures { IsMade OrderKind.Init line.now result }
+{
+    Some(Order::Init {
+        party: line.ident(Opt::Party)?,
+        role: line.role()?,
+        key: line.generator_pair()?,
+        v: line.generator_seed()?,
+    })
+}
+
+fn load(line: &Line<'_>) -> Option<Order>
+    ensures { IsMade OrderKind.Load line.now result }
+{
+    Some(Order::Load {
+        party: line.ident(Opt::Party)?,
+        peer: line.ident(Opt::Peer)?,
+        label: line.label(Opt::Label)?,
+        side: line.side()?,
+        pair: line.loaded_pair()?,
+    })
+}
+
+fn start(line: &Line<'_>) -> Option<Order>
+    ensures { IsMade OrderKind.Start line.now result }
+{
+    Some(Order::Start {
+        party: line.ident(Opt::Party)?,
+        peer: line.ident(Opt::Peer)?,
+        label: line.label(Opt::Label),
+    })
+}
+
+fn start_kk(line: &Line<'_>) -> Option<Order>
+    ensures { IsMade OrderKind.StartKk line.now result }
+{
+    Some(Order::StartKk {
+        party: line.ident(Opt::Party)?,
+        peer: line.ident(Opt::Peer)?,
+        new: line.label(Opt::New)?,
+        label: line.label(Opt::Label),
+        single: line.is_given(Opt::Single),
+    })
+}
+
+fn ask(line: &Line<'_>) -> Option<Order>
+    ensures { IsMade OrderKind.Ask line.now result }
+{
+    Some(Order::Ask {
+        party: line.ident(Opt::Party)?,
+        peer: line.ident(Opt::Peer)?,
+        ultimate: line.ident(Opt::Ultimate),
+    })
+}
+
+fn translate(line: &Line<'_>) -> Option<Order>
+    ensures { IsMade OrderKind.Translate line.now result }
+{
+    Some(Order::Translate {
+        party: line.ident(Opt::Party)?,
+        peer: line.ident(Opt::Peer)?,
+        ultimate: line.ident(Opt::Ultimate)?,
+    })
+}
+
+fn end(line: &Line<'_>) -> Option<Order>
+    ensures { IsMade OrderKind.End line.now result }
+{
+    Some(Order::End {
+        party: line.ident(Opt::Party)?,
+        peer: line.ident(Opt::Peer)?,
+        name: line.name()?,
+    })
+}
+
+fn drill(line: &Line<'_>) -> Option<Order>
+    ensures { IsMade OrderKind.Drill line.now result }
+{
+    Some(Order::Drill {
+        seed: line.seed()?,
+        events: line.events()?,
+    })
+}
+
+/// The order of this kind with the values that the line gives, where it gives all.
+pub(crate) fn order_of(kind: OrderKind, line: &Line<'_>) -> Option<Order>
+    ensures { IsMade kind line.now result }
+{
+    let party = line.ident(Opt::Party);
+    let peer = line.ident(Opt::Peer);
+    match kind {
+        OrderKind::Check => Some(Order::Check),
+        OrderKind::Replay => Some(Order::Replay),
+        OrderKind::Init => init(line),
+        OrderKind::Load => load(line),
+        OrderKind::Start => start(line),
+        OrderKind::StartKk => start_kk(line),
+        OrderKind::Ask => ask(line),
+        OrderKind::Translate => translate(line),
+        OrderKind::Take => Some(Order::Take { party: party? }),
+        OrderKind::Purge => Some(Order::Purge { party: party? }),
+        OrderKind::Show => Some(Order::Show { party: party? }),
+        OrderKind::Compact => Some(Order::Compact { party: party? }),
+        OrderKind::Resend => Some(Order::Resend {
+            party: party?,
+            peer: peer?,
+        }),
+        OrderKind::Drop => Some(Order::Drop {
+            party: party?,
+            peer: peer?,
+        }),
+        OrderKind::End => end(line),
+        OrderKind::Drill => drill(line),
+    }
+}

@@ -1,0 +1,57 @@
+ghost use Rattle.std.specs.Prelude.{◌≡◌};
+ghost use Rattle.x_line.specs.Needs.{is_refused, is_required, need_of};
+
+use crate::opt::Opt;
+use crate::order_kind::OrderKind;
+
+/// What a kind of order makes of an option.
+#[derive(Clone, Copy, Debug, PartialEq, Eq)]
+pub(crate) enum Need {
+    Required,
+    Optional,
+    Refused,
+}
+
+impl OrderKind {
+    /// The table of kinds of order and options.
+    fn need(self, opt: Opt) -> Need
+        ensures { result ≡ need_of self opt }
+    {
+        match (self, opt) {
+            (OrderKind::Init, Opt::Party | Opt::Role | Opt::Genkey | Opt::Genseed) =>
+                Need::Required,
+            (OrderKind::Load, Opt::Party | Opt::Peer | Opt::Label | Opt::Side | Opt::Key) => {
+                Need::Required
+            }
+            (OrderKind::Start, Opt::Party | Opt::Peer) => Need::Required,
+            (OrderKind::Start, Opt::Label) => Need::Optional,
+            (OrderKind::StartKk, Opt::Party | Opt::Peer | Opt::New) => Need::Required,
+            (OrderKind::StartKk, Opt::Label | Opt::Single) => Need::Optional,
+            (OrderKind::Ask, Opt::Party | Opt::Peer) => Need::Required,
+            (OrderKind::Ask, Opt::Ultimate) => Need::Optional,
+            (OrderKind::Translate, Opt::Party | Opt::Peer | Opt::Ultimate) => Need::Required,
+            (
+                OrderKind::Take | OrderKind::Purge | OrderKind::Show | OrderKind::Compact,
+                Opt::Party,
+            ) => { Need::Required }
+            (OrderKind::Resend | OrderKind::Drop, Opt::Party | Opt::Peer) => Need::Required,
+            (OrderKind::End, Opt::Party | Opt::Peer | Opt::Name) => Need::Required,
+            (OrderKind::Drill, Opt::Seed | Opt::Events) => Need::Required,
+            _ => Need::Refused,
+        }
+    }
+
+    /// Whether such an order doesn't take the option.
+    pub(crate) fn is_refusing(self, opt: Opt) -> bool
+        ensures { result ≡ is_refused (need_of self opt) }
+    {
+        matches!(self.need(opt), Need::Refused)
+    }
+
+    /// Whether such an order can't do without the option.
+    pub(crate) fn is_requiring(self, opt: Opt) -> bool
+        ensures { result ≡ is_required (need_of self opt) }
+    {
+        matches!(self.need(opt), Need::Required)
+    }
+}
