@@ -1,5 +1,6 @@
 -- An image that isn't blank stands for one list of bodies or has one first damage.
 use Rattle.std.proofs.Common.{◌≡◌, ◌⊎◌, inl, inr, ℕ, zero, suc, ◌+◌, ◌*◌, ◌/◌, ◌%◌, ◌≤◌, ◌<◌, ◌==◌, nat_lt, nat_le, ◌&&◌, if◌then◌else◌, Bool, true, false, List, [], ◌∷◌, ◌++◌, length, get_or, take, drop, bytes_eq, Option, Some, None, Ok, Err, refl, sym, ◌∙◌, ap, subst, arith, append_assoc}
+use Rattle.key_journal.specs.Layout.{area_size, largest_body}
 use mathlib.Core.Logic.{◌≢◌}
 use Rattle.std.proofs.lemmas.List.{drop_more, append-nil}
 use Rattle.std.proofs.lemmas.Bool.Decides.{nat_tests}
@@ -29,7 +30,7 @@ one_first (b ∷ bs) (c ∷ cs) r s all_b all_c is =
     ]
 
 -- damage at a gate ends each list of frames that begins with those before it
-damage_ends : (image : List ℕ) (bodies all rest : List (List ℕ)) (gate last : ℕ) → all ≡ bodies ++ rest → Begins image bodies gate → Begins image all last → found_at image gate (start image + 8388600) ≡ Err (cause.Damaged gate) → gate ≡ last
+damage_ends : (image : List ℕ) (bodies all rest : List (List ℕ)) (gate last : ℕ) → all ≡ bodies ++ rest → Begins image bodies gate → Begins image all last → found_at image gate (start image + area_size) ≡ Err (cause.Damaged gate) → gate ≡ last
 damage_ends image bodies all [] gate last whole b a damage =
     let same : all ≡ bodies = whole ∙ append-nil bodies in
     let long : length (frames all) ≡ length (frames bodies) = ap (λ (bs : List (List ℕ)). length (frames bs)) same in
@@ -43,7 +44,7 @@ damage_ends image bodies all (body ∷ rest) gate last whole b a damage =
     let front : drop gate image ≡ 1 ∷ (four_bytes (length body) ++ (body ++ tail)) =
     same_back (frames bodies) (drop gate image) (frames (body ∷ rest) ++ drop last image) all_behind ∙ ap (λ (l : List ℕ). 1 ∷ (four_bytes (length body) ++ l)) (append_assoc body (frames rest) (drop last image)) in
     let within = a.within (some_of all bodies body rest whole) in
-    let found = frame_found image body tail gate (start image + 8388600) is_body front (omega (arith, within, a.place, b.place, long)) (omega (arith, a.room, b.place, long)) in
+    let found = frame_found image body tail gate (start image + area_size) is_body front (omega (arith, within, a.place, b.place, long)) (omega (arith, a.room, b.place, long)) in
     let both : Ok (Some body) ≡ Err (cause.Damaged gate) = sym found ∙ damage in
     absurd (cc both)
   where
@@ -77,7 +78,7 @@ sound_or_damaged image bodies place h d = either d.damage
   where
     gate : IsDamagedGate image place → ⊥
     gate x =
-        let reads = undamaged image x.bodies bodies place (start image + 8388600) x.begins h refl in
+        let reads = undamaged image x.bodies bodies place (start image + area_size) x.begins h refl in
         let both : Ok reads.body ≡ Err (cause.Damaged place) = sym reads.is ∙ x.damage in
         cc both
 
@@ -115,11 +116,11 @@ open_parts gate size x is = (grind (arith, nat_tests), grind (arith, nat_tests))
 
 pub record IsWhole (n gate size end : ℕ) : Type 0 where
   pub some : 1 ≤ n
-  pub small : n ≤ 4194304
+  pub small : n ≤ largest_body
   pub in_file : gate + 6 + n ≤ size
   pub in_area : gate + 6 + n ≤ end
 
-whole_parts : (n gate size end : ℕ) → (nat_le 1 n && nat_le n 4194304) && (nat_le (gate + 6 + n) size && nat_le (gate + 6 + n) end) ≡ true → IsWhole n gate size end
+whole_parts : (n gate size end : ℕ) → (nat_le 1 n && nat_le n largest_body) && (nat_le (gate + 6 + n) size && nat_le (gate + 6 + n) end) ≡ true → IsWhole n gate size end
 whole_parts n gate size end is = record { some = grind (arith, nat_tests); small = grind (arith, nat_tests); in_file = grind (arith, nat_tests); in_area = grind (arith, nat_tests) }
 
 head_at : (image : List ℕ) (gate : ℕ) → AreBytes image → gate + 5 ≤ length image → get_or image gate 0 ≡ 1 → take 5 (drop gate image) ≡ 1 ∷ four_bytes (stated image gate)
@@ -136,9 +137,9 @@ found_torn b gate end opened whole =
 abbrev Outcome : List ℕ → Type 0
 Outcome image = ((bodies : List (List ℕ)) × Holds image bodies) ⊎ ((place : ℕ) × IsDamagedGate image place)
 
-shut_gate : (image : List ℕ) (bodies : List (List ℕ)) (gate : ℕ) → Begins image bodies gate → is_open image gate ≡ false → Outcome image
-shut_gate image [] gate b shut = inr (gate, record { bodies = []; begins = b; damage = found_first image gate (start image + 8388600) shut (omega (arith, b.place)) })
-shut_gate image (body ∷ bodies) gate b shut = inl (body ∷ bodies, all_read image (body ∷ bodies) gate b shut (omega arith))
+ended_gate : (image : List ℕ) (bodies : List (List ℕ)) (gate : ℕ) → Begins image bodies gate → is_open image gate ≡ false → Outcome image
+ended_gate image [] gate b not_open = inr (gate, record { bodies = []; begins = b; damage = found_first image gate (start image + area_size) not_open (omega (arith, b.place)) })
+ended_gate image (body ∷ bodies) gate b not_open = inl (body ∷ bodies, all_read image (body ∷ bodies) gate b not_open (omega arith))
 
 -- a whole frame lies at the gate, and the next gate further on
 record Onward (image : List ℕ) (gate : ℕ) : Type 0 where
@@ -148,15 +149,15 @@ record Onward (image : List ℕ) (gate : ℕ) : Type 0 where
   further : gate < next
   within : next < length image
 
-onward : (image : List ℕ) (bodies : List (List ℕ)) (gate : ℕ) → AreBytes image → Begins image bodies gate → is_open image gate ≡ true → is_whole image gate (start image + 8388600) ≡ true → Onward image gate
+onward : (image : List ℕ) (bodies : List (List ℕ)) (gate : ℕ) → AreBytes image → Begins image bodies gate → is_open image gate ≡ true → is_whole image gate (start image + area_size) ≡ true → Onward image gate
 onward image bodies gate bytes b opened is =
     let n = stated image gate in
-    let whole = whole_parts n gate (length image) (start image + 8388600) is in
+    let whole = whole_parts n gate (length image) (start image + area_size) is in
     let head = head_at image gate bytes (omega (arith, whole.in_file)) (open_parts gate (length image) (get_or image gate 0) opened).1 in
     record {
       bodies = bodies ++ take n (drop (gate + 5) image) ∷ [];
       next = gate + (5 + n);
-      begins = begins_more image bodies gate (gate + (5 + n)) (start image + 8388600) n (take n (drop (gate + 5) image)) b refl head whole.some whole.small whole.in_file whole.in_area refl refl;
+      begins = begins_more image bodies gate (gate + (5 + n)) (start image + area_size) n (take n (drop (gate + 5) image)) b refl head whole.some whole.small whole.in_file whole.in_area refl refl;
       further = omega arith;
       within = omega (arith, whole.in_file);
     }
@@ -164,13 +165,13 @@ onward image bodies gate bytes b opened is =
 step : (image : List ℕ) (bodies : List (List ℕ)) (gate : ℕ) → AreBytes image → Begins image bodies gate → Outcome image ⊎ Onward image gate
 step image bodies gate bytes b = by_gate (is_open image gate) refl
   where
-    by_whole : (t : Bool) → is_whole image gate (start image + 8388600) ≡ t → is_open image gate ≡ true → Outcome image ⊎ Onward image gate
+    by_whole : (t : Bool) → is_whole image gate (start image + area_size) ≡ t → is_open image gate ≡ true → Outcome image ⊎ Onward image gate
     by_whole true whole opened = inr (onward image bodies gate bytes b opened whole)
-    by_whole false torn opened = inl (inr (gate, record { bodies = bodies; begins = b; damage = found_torn image gate (start image + 8388600) opened torn }))
+    by_whole false torn opened = inl (inr (gate, record { bodies = bodies; begins = b; damage = found_torn image gate (start image + area_size) opened torn }))
 
     by_gate : (t : Bool) → is_open image gate ≡ t → Outcome image ⊎ Onward image gate
-    by_gate true opened = by_whole (is_whole image gate (start image + 8388600)) refl opened
-    by_gate false shut = inl (shut_gate image bodies gate b shut)
+    by_gate true opened = by_whole (is_whole image gate (start image + area_size)) refl opened
+    by_gate false not_open = inl (ended_gate image bodies gate b not_open)
 
 walk : (fuel : ℕ) (image : List ℕ) (bodies : List (List ℕ)) (gate : ℕ) → AreBytes image → Begins image bodies gate → length image ≤ gate + fuel → Outcome image
 walk zero image bodies gate bytes b enough = elim (step image bodies gate bytes b) [
@@ -224,7 +225,7 @@ first_refusal image place reason d refused = either d.damage
 -- a list of frames doesn't end in an image with a damage
 pub unended : (v : View) (size gate end : ℕ) (ended : Bool) → IsOpen v size gate end ended → ((b : List ℕ) → v.now ≡ Some b → (is_open b gate ≡ false) × (gate ≢ start b))
     → (place : ℕ) (b : List ℕ) → v.now ≡ Some b → IsDamagedAt b place → ⊥
-unended v size gate end ended o shut place b now d =
+unended v size gate end ended o not_open place b now d =
     let r = o.journal b now in
-    let closed = shut b now in
+    let closed = not_open b now in
     sound_or_damaged b r.bodies place (all_read b r.bodies gate r.begins closed.0 (some_before b r.bodies gate r.begins closed.1)) d

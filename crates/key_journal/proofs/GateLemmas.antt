@@ -1,5 +1,6 @@
 -- What lies at the gates behind the first frames of an image.
 use Rattle.std.proofs.Common.{◌≡◌, ◌⊎◌, inl, inr, ℕ, ◌+◌, ◌%◌, ◌/◌, ◌<◌, ◌==◌, nat_le, ◌&&◌, Bool, true, false, List, [], ◌∷◌, ◌++◌, length, get_or, take, drop, Some, None, Ok, refl, sym, ◌∙◌, ap, subst, arith, append_assoc, append-nil, length-append}
+use Rattle.key_journal.specs.Layout.{area_size, largest_body}
 use Rattle.std.proofs.lemmas.List.{take_at}
 use Rattle.std.proofs.Math.Seq.{drop-drop}
 use Rattle.key_journal.specs.Journal.{four_bytes, frames, AreBodies, is_blank, has_magic, start, gate_place, Holds, Begins}
@@ -45,7 +46,7 @@ pub either_begins : (image : List ℕ) (bs cs : List (List ℕ)) (g h : ℕ) →
 either_begins image bs cs g h b c = either_first bs cs (drop g image) (drop h image) b.all c.all (sym (behind image bs g b) ∙ behind image cs h c)
 
 -- behind the first bodies the next one lies
-pub found_next : (image : List ℕ) (bodies rest : List (List ℕ)) (body : List ℕ) (gate last end : ℕ) → Begins image bodies gate → Begins image (bodies ++ body ∷ rest) last → end ≡ start image + 8388600
+pub found_next : (image : List ℕ) (bodies rest : List (List ℕ)) (body : List ℕ) (gate last end : ℕ) → Begins image bodies gate → Begins image (bodies ++ body ∷ rest) last → end ≡ start image + area_size
     → found_at image gate end ≡ Ok (Some body)
 found_next image bodies rest body gate last end b h is_end =
     let n = length body in
@@ -58,7 +59,7 @@ found_next image bodies rest body gate last end b h is_end =
     let inside : last < length image = h.within (omega (arith, length-append bodies (body ∷ rest))) in
     let number = stated_is image gate n (body ++ tail) is_body.small front in
     let opened = open_by gate (length image) (get_or image gate 0) (omega (arith, inside, long, b.place, h.place)) (ap (λ (m : ℕ). get_or image m 0) (omega arith) ∙ get_at image (1 ∷ (four_bytes n ++ (body ++ tail))) gate 0 front) in
-    let within = ap (λ (m : ℕ). (nat_le 1 m && nat_le m 4194304) && (nat_le (gate + 6 + m) (length image) && nat_le (gate + 6 + m) end)) number
+    let within = ap (λ (m : ℕ). (nat_le 1 m && nat_le m largest_body) && (nat_le (gate + 6 + m) (length image) && nat_le (gate + 6 + m) end)) number
     ∙ whole_by n gate (length image) end is_body.some is_body.small (omega (arith, inside, long, b.place, h.place)) (omega (arith, is_end, b.place, h.room, long)) in
     let text : take (stated image gate) (drop (gate + 5) image) ≡ body =
     ap (λ (m : ℕ). take m (drop (gate + 5) image)) number ∙ ap (λ (l : List ℕ). take n l) (sym (drop-drop 5 gate image) ∙ ap (λ (l : List ℕ). drop 5 l) front) ∙ take_at body tail n refl in
@@ -67,9 +68,32 @@ found_next image bodies rest body gate last end b h is_end =
     ∙ ap (λ (l : List ℕ). found_by true true (gate == start image) gate l) text
 
 pub next_at : (image : List ℕ) (bodies rest : List (List ℕ)) (body : List ℕ) (gate last : ℕ) → Begins image bodies gate → Begins image (bodies ++ body ∷ rest) last
-    → found_at image gate (start image + 8388600) ≡ Ok (Some body)
-next_at image bodies rest body gate last b h = found_next image bodies rest body gate last (start image + 8388600) b h refl
+    → found_at image gate (start image + area_size) ≡ Ok (Some body)
+next_at image bodies rest body gate last b h = found_next image bodies rest body gate last (start image + area_size) b h refl
 
 -- behind all of them none
-pub none_at : (image : List ℕ) (bodies : List (List ℕ)) (gate : ℕ) → Begins image bodies gate → Holds image bodies → found_at image gate (start image + 8388600) ≡ Ok None
-none_at image bodies gate b h = found_none image bodies gate (start image + 8388600) b (subst (λ (l : List (List ℕ)). Holds image l) (sym (append-nil bodies)) h)
+pub none_at : (image : List ℕ) (bodies : List (List ℕ)) (gate : ℕ) → Begins image bodies gate → Holds image bodies → found_at image gate (start image + area_size) ≡ Ok None
+none_at image bodies gate b h = found_none image bodies gate (start image + area_size) b (subst (λ (l : List (List ℕ)). Holds image l) (sym (append-nil bodies)) h)
+
+bodies_front : (bodies rest : List (List ℕ)) → AreBodies (bodies ++ rest) → AreBodies bodies
+bodies_front [] rest all = tt
+bodies_front (b ∷ bodies) rest all = (all.0, bodies_front bodies rest all.1)
+
+-- an image that begins with some bodies begins with the first of them
+pub begins_front : (image : List ℕ) (bodies rest : List (List ℕ)) (last : ℕ) → Begins image (bodies ++ rest) last → Begins image bodies (gate_place image bodies)
+begins_front image bodies rest last b =
+    let tail = frames rest ++ drop last image in
+    let is : drop (start image) image ≡ frames bodies ++ tail = behind image (bodies ++ rest) last b ∙ frames-append bodies rest (drop last image) in
+    let long : length (frames (bodies ++ rest)) ≡ length (frames bodies) + length (frames rest ++ []) =
+    ap length (sym (append-nil (frames (bodies ++ rest))) ∙ frames-append bodies rest []) ∙ length-append (frames bodies) (frames rest ++ []) in
+    record {
+      opened = b.opened;
+      magic = b.magic;
+      all = bodies_front bodies rest b.all;
+      place = refl;
+      front = ap (λ (l : List ℕ). take (length (frames bodies)) l) is ∙ take_at (frames bodies) tail (length (frames bodies)) refl;
+      room = omega (arith, b.room, long);
+      within = λ some.
+          let inside : last < length image = b.within (omega (arith, some, length-append bodies rest)) in
+          omega (arith, inside, b.place, long);
+    }

@@ -1,5 +1,6 @@
 -- What images stand for after a write behind the last gate, and after that gate is opened.
 use Rattle.std.proofs.Common.{◌≡◌, ◌⊎◌, inl, inr, ℕ, suc, ◌+◌, ◌-◌, ◌≤◌, ◌<◌, ◌==◌, if◌then◌else◌, List, [], ◌∷◌, ◌++◌, length, get_or, take, drop, replicate, refl, sym, ◌∙◌, ap, subst, arith, append_assoc, length-append, length-drop, take-append-drop}
+use Rattle.key_journal.specs.Layout.{area_size, second_start}
 use mathlib.Core.Logic.{◌≢◌}
 use Rattle.std.proofs.Math.Seq.{take-append-add}
 use Rattle.std.proofs.lemmas.List.{take_at, drop_at, drop_more, append-nil, take-take, drop-take, drop-append-le, get_or-take, length-take-le, length-take}
@@ -8,7 +9,7 @@ use Rattle.std.proofs.lemmas.Bool.Decides.{nat_tests}
 use Rattle.x_disk.specs.Disk.{IsTornAt, overwrite}
 use Rattle.key_journal.specs.Journal.{magic, four_bytes, frame_of, frames, IsBody, AreBodies, start, Holds, gate_place, Stages}
 
-pub start_in : (image : List ℕ) → (16 ≤ start image) × (start image ≤ 8388616)
+pub start_in : (image : List ℕ) → (16 ≤ start image) × (start image ≤ second_start)
 start_in image = elim (cases_eq (get_or image 1 0) 1) [
   | inl is ↦ grind (arith, nat_tests)
   | inr not ↦ grind (arith, nat_tests)
@@ -20,7 +21,7 @@ pub record Whole (image : List ℕ) (bodies : List (List ℕ)) : Type 0 where
   pub tail : List ℕ
   pub closed : gate ≢ 1
   pub whole : drop (start image) image ≡ frames bodies ++ gate ∷ tail
-  pub room : length (frames bodies) + 1 ≤ 8388600
+  pub room : length (frames bodies) + 1 ≤ area_size
 
 -- the area is the front of what lies from its beginning on
 pub record AreaParts (size : ℕ) (behind fr : List ℕ) (gate : ℕ) (rest : List ℕ) : Type 0 where
@@ -38,8 +39,8 @@ area_parts size behind fr gate rest is =
 pub whole_of : (image : List ℕ) (bodies : List (List ℕ)) → Holds image bodies → Whole image bodies
 whole_of image bodies h =
     let a = h.area in
-    let parts = area_parts 8388600 (drop (start image) image) (frames bodies) a.gate a.rest a.whole in
-    record { gate = a.gate; tail = a.rest ++ drop 8388600 (drop (start image) image); closed = a.closed; whole = parts.whole; room = parts.room }
+    let parts = area_parts area_size (drop (start image) image) (frames bodies) a.gate a.rest a.whole in
+    record { gate = a.gate; tail = a.rest ++ drop area_size (drop (start image) image); closed = a.closed; whole = parts.whole; room = parts.room }
 
 pub area_is : (size k : ℕ) (fr : List ℕ) (gate : ℕ) (tail behind : List ℕ) → behind ≡ fr ++ gate ∷ tail → size ≡ length fr + suc k → take size behind ≡ fr ++ gate ∷ take k tail
 area_is size k fr gate tail behind is room =
@@ -55,10 +56,10 @@ pub record SameHead (image c : List ℕ) : Type 0 where
 pub head_start : (image c : List ℕ) → SameHead image c → start c ≡ start image
 head_start image c same =
     let at : get_or c 1 0 ≡ get_or image 1 0 = sym (get_or-take 16 c 1 0 (omega arith)) ∙ ap (λ (l : List ℕ). get_or l 1 0) same.head ∙ get_or-take 16 image 1 0 (omega arith) in
-    ap (λ (n : ℕ). if n == 1 then 8388616 else 16) at
+    ap (λ (n : ℕ). if n == 1 then second_start else 16) at
 
 pub holds_by : (c : List ℕ) (bodies : List (List ℕ)) (gate : ℕ) (tail : List ℕ) → take 1 c ≡ 1 ∷ [] → take 14 (drop 2 c) ≡ magic → gate ≢ 1 → drop (start c) c ≡ frames bodies ++ gate ∷ tail
-    → length (frames bodies) + 1 ≤ 8388600 → 0 < length bodies → AreBodies bodies → Holds c bodies
+    → length (frames bodies) + 1 ≤ area_size → 0 < length bodies → AreBodies bodies → Holds c bodies
 holds_by c bodies gate tail opened is closed whole room some all = record {
   opened = opened;
   magic = is;
@@ -66,14 +67,14 @@ holds_by c bodies gate tail opened is closed whole room some all = record {
     some = some;
     all = all;
     gate = gate;
-    rest = take (8388600 - (length (frames bodies) + 1)) tail;
+    rest = take (area_size - (length (frames bodies) + 1)) tail;
     closed = closed;
-    whole = area_is 8388600 (8388600 - (length (frames bodies) + 1)) (frames bodies) gate tail (drop (start c) c) whole (rest_of 8388600 (length (frames bodies)) room);
+    whole = area_is area_size (area_size - (length (frames bodies) + 1)) (frames bodies) gate tail (drop (start c) c) whole (rest_of area_size (length (frames bodies)) room);
   };
 }
 
 pub holds_of : (image c : List ℕ) (bodies more : List (List ℕ)) (gate : ℕ) (tail : List ℕ) → Holds image bodies → SameHead image c → gate ≢ 1
-    → drop (start image) c ≡ frames more ++ gate ∷ tail → length (frames more) + 1 ≤ 8388600 → 0 < length more → AreBodies more → Holds c more
+    → drop (start image) c ≡ frames more ++ gate ∷ tail → length (frames more) + 1 ≤ area_size → 0 < length more → AreBodies more → Holds c more
 holds_of image c bodies more gate tail h same closed is room some all =
     holds_by c more gate tail (sym (take-take 1 16 c (omega arith)) ∙ ap (λ (l : List ℕ). take 1 l) same.head ∙ take-take 1 16 image (omega arith) ∙ h.opened)
     (sym (drop-take 2 14 c) ∙ ap (λ (l : List ℕ). drop 2 l) same.head ∙ drop-take 2 14 image ∙ h.magic) closed (ap (λ (n : ℕ). drop n c) (head_start image c same) ∙ is) room some all
@@ -150,10 +151,10 @@ module _ (image : List ℕ) (bodies : List (List ℕ)) (body : List ℕ) (staged
   head : (gate : ℕ) (c : List ℕ) → GateIs gate image c e → SameHead image c
   head gate c is = same_head e image c (omega (arith, start_in image)) is.front
 
-  pub gate_shut : (gate : ℕ) (c : List ℕ) → GateIs gate image c e → gate ≢ 1 → Holds c bodies
-  gate_shut gate c is shut =
+  pub gate_not_open : (gate : ℕ) (c : List ℕ) → GateIs gate image c e → gate ≢ 1 → Holds c bodies
+  gate_not_open gate c is not_open =
       let w = whole_of image bodies staged.holds in
-      holds_of image c bodies bodies gate (drop (e + 1) image) staged.holds (head gate c is) shut (behind_gate gate image c bodies staged.holds long is) w.room staged.holds.area.some staged.holds.area.all
+      holds_of image c bodies bodies gate (drop (e + 1) image) staged.holds (head gate c is) not_open (behind_gate gate image c bodies staged.holds long is) w.room staged.holds.area.some staged.holds.area.all
 
   pub gate_open : (c : List ℕ) → GateIs 1 image c e → Holds c (bodies ++ body ∷ [])
   gate_open c is =
@@ -172,7 +173,7 @@ module _ (image : List ℕ) (bodies : List (List ℕ)) (body : List ℕ) (staged
       let is : GateIs gate image c e = record { front = front; back = drop_more c e 0 (omega (arith, torn.no_shorter, long)) ∙ ap (λ (l : List ℕ). gate ∷ l) torn.after } in
       elim (cases_eq gate 1) [
         | inl open_gate ↦ inr (gate_open c (subst (λ (g : ℕ). GateIs g image c e) open_gate is))
-        | inr shut ↦ inl (gate_shut gate c is shut)
+        | inr not_open ↦ inl (gate_not_open gate c is not_open)
       ]
 
 pub overwrite_in : (at : ℕ) (bytes old : List ℕ) → at ≤ length old → overwrite at bytes old ≡ take at old ++ (bytes ++ drop (at + length bytes) old)
@@ -205,7 +206,7 @@ frame_torn image bodies n c h torn =
     same_front image c bodies h (sym (take-take (e + 1) (length image) c (gate_in image bodies h)) ∙ torn.before)
 
 -- the frame is written
-pub frame_written : (image : List ℕ) (bodies : List (List ℕ)) (body : List ℕ) → Holds image bodies → IsBody body → gate_place image bodies + length (frame_of body) + 1 ≤ start image + 8388600
+pub frame_written : (image : List ℕ) (bodies : List (List ℕ)) (body : List ℕ) → Holds image bodies → IsBody body → gate_place image bodies + length (frame_of body) + 1 ≤ start image + area_size
     → Stages (overwrite (gate_place image bodies + 1) (frame_of body) image) bodies body
 frame_written image bodies body h is_body fits =
     let at = gate_place image bodies + 1 in
@@ -231,5 +232,5 @@ start_kept at bytes image low le =
     let front : take at (overwrite at bytes image) ≡ take at image = ap (λ (l : List ℕ). take at l) is ∙ take_at (take at image) (bytes ++ drop (at + length bytes) image) at (length-take-le at image le) in
     head_start image (overwrite at bytes image) (same_head at image (overwrite at bytes image) low front)
 
-pub fits_area : (image : List ℕ) (bodies : List (List ℕ)) → Holds image bodies → length (frames bodies) + 1 ≤ 8388600
+pub fits_area : (image : List ℕ) (bodies : List (List ℕ)) → Holds image bodies → length (frames bodies) + 1 ≤ area_size
 fits_area image bodies h = (whole_of image bodies h).room

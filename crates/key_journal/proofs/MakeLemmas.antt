@@ -1,5 +1,6 @@
 -- What images a journal passes through while it is made.
 use Rattle.std.proofs.Common.{◌≡◌, ◌⊎◌, inl, inr, ℕ, ◌+◌, ◌-◌, ◌≤◌, ◌==◌, nat_le, true, ◌||◌, not, List, [], ◌∷◌, ◌++◌, length, get_or, take, drop, Option, Some, None, is_some, refl, sym, ◌∙◌, ap, subst, arith, append_assoc, length-append}
+use Rattle.key_journal.specs.Layout.{area_size, second_start, first_start}
 use mathlib.Core.Logic.{◌≢◌}
 use Rattle.std.proofs.lemmas.List.{take_at, append-nil, take-take, length-take-le}
 use Rattle.std.proofs.lemmas.Bool.{cases_eq}
@@ -7,7 +8,7 @@ use Rattle.std.proofs.lemmas.Bool.Decides.{nat_tests}
 use Rattle.x_disk.specs.Disk.{View, IsTornAt, IsDurable, IsWritten, LeavesOnly, Tells, overwrite}
 use Rattle.x_disk.proofs.Runs.{weaker, joined}
 use Rattle.key_journal.specs.Journal.{magic, four_bytes, frame_of, frames, IsBody, is_blank, start, Holds}
-use Rattle.key_journal.specs.States.{IsShut, IsEmpty, IsAt, IsReady, HasBodies, MayTear, IsBlankOrFirst}
+use Rattle.key_journal.specs.States.{HasClosedGate, IsEmpty, IsAt, IsReady, HasBodies, MayTear, IsBlankOrFirst}
 use Rattle.key_journal.proofs.ImageLemmas.{area_is, rest_of, overwrite_in, length-frame_of}
 use Rattle.key_journal.proofs.StepLemmas.{told_before, torn_from_now}
 
@@ -26,12 +27,12 @@ some_gate [] [] some same = some
 some_gate (x ∷ d) b some same = omega arith
 
 -- a closed gate makes an image blank
-pub blank_gate : (b c : List ℕ) → IsShut b → take 1 c ≡ take 1 b → is_blank c ≡ true
-blank_gate b [] shut same = refl
-blank_gate [] (y ∷ c) shut same = absurd (omega (arith, shut.some))
-blank_gate (x ∷ b) (y ∷ c) shut same =
+pub blank_gate : (b c : List ℕ) → HasClosedGate b → take 1 c ≡ take 1 b → is_blank c ≡ true
+blank_gate b [] not_open same = refl
+blank_gate [] (y ∷ c) not_open same = absurd (omega (arith, not_open.some))
+blank_gate (x ∷ b) (y ∷ c) not_open same =
     let first : y ≡ x = cc in
-    blank_by (length (y ∷ c)) y (λ one. shut.shut (sym first ∙ one))
+    blank_by (length (y ∷ c)) y (λ one. not_open.closed (sym first ∙ one))
   where
     blank_by : (n y : ℕ) → y ≢ 1 → nat_le n 1 || not (y == 1) ≡ true
     blank_by n y not_one = grind (arith, nat_tests)
@@ -39,21 +40,21 @@ blank_gate (x ∷ b) (y ∷ c) shut same =
 pub short_blank : (c : List ℕ) → length c ≤ 1 → is_blank c ≡ true
 short_blank c short = grind (arith, nat_tests)
 
-pub shut_blank : (c : List ℕ) → 1 ≤ length c → is_blank c ≡ true → 2 ≤ length c → IsShut c
-shut_blank c some is long = record { some = some; shut = λ one. by_first (length c) (get_or c 0 0) long one is }
+pub closed_blank : (c : List ℕ) → 1 ≤ length c → is_blank c ≡ true → 2 ≤ length c → HasClosedGate c
+closed_blank c some is long = record { some = some; closed = λ one. by_first (length c) (get_or c 0 0) long one is }
   where
     by_first : (n y : ℕ) → 2 ≤ n → y ≡ 1 → nat_le n 1 || not (y == 1) ≡ true → ⊥
     by_first n y long one is = grind (arith, nat_tests)
 
 -- prepare, on a file of at most one byte
-pub shut_written : (old new : View) (size : ℕ) → IsDurable new → IsWritten 0 (0 ∷ []) old new → is_some new.now ≡ is_some old.now → IsEmpty new
-shut_written old new size durable written tells = record {
+pub closed_written : (old new : View) (size : ℕ) → IsDurable new → IsWritten 0 (0 ∷ []) old new → is_some new.now ≡ is_some old.now → IsEmpty new
+closed_written old new size durable written tells = record {
   durable = durable;
-  shut = λ image now.
+  closed = λ image now.
       let was = told_before old.now new.now image tells now in
       let there : Some (overwrite 0 (0 ∷ []) was.0) ≡ Some image = sym (written was.0 was.1) ∙ now in
       let same : 0 ∷ drop 1 was.0 ≡ image = cc there in
-      subst IsShut same (record { some = omega arith; shut = omega arith });
+      subst HasClosedGate same (record { some = omega arith; closed = omega arith });
 }
 
 pub prepare_moment : (old mid new : View) → (P : List ℕ → Type 0) → LeavesOnly old mid P → IsDurable mid → (b : List ℕ) → mid.now ≡ Some b → length b ≤ 1 → LeavesOnly mid new (MayTear mid 0 1)
@@ -94,9 +95,9 @@ holds_first body tail is = record {
     some = omega arith;
     all = (is, tt);
     gate = 0;
-    rest = take (8388600 - (length (frames (body ∷ [])) + 1)) tail;
+    rest = take (area_size - (length (frames (body ∷ [])) + 1)) tail;
     closed = omega arith;
-    whole = area_is 8388600 (8388600 - (length (frames (body ∷ [])) + 1)) (frames (body ∷ [])) 0 tail (1 ∷ (frame_of body ++ tail)) (alone_front body tail) (rest_of 8388600 (length (frames (body ∷ []))) (omega (arith, is.small, length-append body [])));
+    whole = area_is area_size (area_size - (length (frames (body ∷ [])) + 1)) (frames (body ∷ [])) 0 tail (1 ∷ (frame_of body ++ tail)) (alone_front body tail) (rest_of area_size (length (frames (body ∷ []))) (omega (arith, is.small, length-append body [])));
   };
 }
 
@@ -118,7 +119,7 @@ made_torn body b c is some torn =
     let all : c ≡ get_or c 0 0 ∷ rest = head_cons c rest long back in
     elim (cases_eq (get_or c 0 0) 1) [
       | inl one ↦ inr (subst (λ (x : List ℕ). Holds x (body ∷ [])) (sym (all ∙ ap (λ (g : ℕ). g ∷ rest) one)) (holds_first body l.0 is))
-      | inr shut ↦ inl (blank_gate c c (record { some = long; shut = shut }) refl)
+      | inr not_open ↦ inl (blank_gate c c (record { some = long; closed = not_open }) refl)
     ]
 
 pub made_written : (body b : List ℕ) → IsBody body → 1 ≤ length b → Holds (overwrite 0 (1 ∷ []) (laid (frame_of body) b)) (body ∷ [])
@@ -141,8 +142,8 @@ module _ (old mid new : View) (frame body : List ℕ) where
   pub lay_moment : IsEmpty old → Tells old → ((b : List ℕ) → old.now ≡ Some b → IsDurable old → 1 ≤ length b → LeavesOnly old mid (λ c. take 1 c ≡ take 1 b)) → LeavesOnly old mid (IsBlankOrFirst body)
   lay_moment empty tells run =
       let b = some_of old.now tells in
-      let shut = empty.shut b.0 b.1 in
-      weaker old mid (λ c. take 1 c ≡ take 1 b.0) (IsBlankOrFirst body) (run b.0 b.1 empty.durable shut.some) (λ c same. inl (blank_gate b.0 c shut same))
+      let not_open = empty.closed b.0 b.1 in
+      weaker old mid (λ c. take 1 c ≡ take 1 b.0) (IsBlankOrFirst body) (run b.0 b.1 empty.durable not_open.some) (λ c same. inl (blank_gate b.0 c not_open same))
 
   pub made_moment : IsEmpty old → Tells old → LeavesOnly old mid (IsBlankOrFirst body) → IsDurable mid → ((b : List ℕ) → old.now ≡ Some b → mid.now ≡ Some (laid frame b)) → LeavesOnly mid new (MayTear mid 0 1)
       → frame ≡ frame_of body → IsBody body → LeavesOnly old new (IsBlankOrFirst body)
@@ -150,7 +151,7 @@ module _ (old mid new : View) (frame body : List ℕ) where
       let b = some_of old.now tells in
       let now : mid.now ≡ Some (laid (frame_of body) b.0) = written b.0 b.1 ∙ ap (λ (f : List ℕ). Some (laid f b.0)) is in
       joined old mid new (IsBlankOrFirst body) first
-      (weaker mid new (MayTear mid 0 1) (IsBlankOrFirst body) second (λ c torn. made_torn body b.0 c is_body (empty.shut b.0 b.1).some (torn_from_now mid 0 1 (laid (frame_of body) b.0) c durable now torn)))
+      (weaker mid new (MayTear mid 0 1) (IsBlankOrFirst body) second (λ c torn. made_torn body b.0 c is_body (empty.closed b.0 b.1).some (torn_from_now mid 0 1 (laid (frame_of body) b.0) c durable now torn)))
 
   made_at : (b : List ℕ) → old.now ≡ Some b → IsEmpty old → ((b : List ℕ) → old.now ≡ Some b → mid.now ≡ Some (laid frame b)) → IsWritten 0 (1 ∷ []) mid new → frame ≡ frame_of body → new.now ≡ Some (overwrite 0 (1 ∷ []) (laid (frame_of body) b))
   made_at b was empty written opened is = opened (laid (frame_of body) b) (written b was ∙ ap (λ (f : List ℕ). Some (laid f b)) is)
@@ -158,10 +159,10 @@ module _ (old mid new : View) (frame body : List ℕ) where
   pub made_bodies : IsEmpty old → Tells old → ((b : List ℕ) → old.now ≡ Some b → mid.now ≡ Some (laid frame b)) → IsWritten 0 (1 ∷ []) mid new → frame ≡ frame_of body → IsBody body → HasBodies new (body ∷ [])
   made_bodies empty tells written opened is is_body =
       let b = some_of old.now tells in
-      record { image = overwrite 0 (1 ∷ []) (laid (frame_of body) b.0); now = made_at b.0 b.1 empty written opened is; holds = made_written body b.0 is_body (empty.shut b.0 b.1).some }
+      record { image = overwrite 0 (1 ∷ []) (laid (frame_of body) b.0); now = made_at b.0 b.1 empty written opened is; holds = made_written body b.0 is_body (empty.closed b.0 b.1).some }
 
   pub made_ready : IsEmpty old → ((b : List ℕ) → old.now ≡ Some b → mid.now ≡ Some (laid frame b)) → IsWritten 0 (1 ∷ []) mid new → is_some mid.now ≡ is_some old.now → is_some new.now ≡ is_some mid.now
-      → frame ≡ frame_of body → IsBody body → IsDurable new → IsReady new (16 + length frame) 8388616
+      → frame ≡ frame_of body → IsBody body → IsDurable new → IsReady new (first_start + length frame) second_start
   made_ready empty written opened tells tells_too is is_body durable = record {
     room = omega (arith, size, is_body.small);
     within = omega arith;
@@ -169,11 +170,11 @@ module _ (old mid new : View) (frame body : List ℕ) where
     journal = λ image now.
         let mid_was = told_before mid.now new.now image tells_too now in
         let was = told_before old.now mid.now mid_was.0 tells mid_was.1 in
-        let some = (empty.shut was.0 was.1).some in
+        let some = (empty.closed was.0 was.1).some in
         let there : Some (overwrite 0 (1 ∷ []) (laid (frame_of body) was.0)) ≡ Some image = sym (made_at was.0 was.1 empty written opened is) ∙ now in
         let same : overwrite 0 (1 ∷ []) (laid (frame_of body) was.0) ≡ image = cc there in
         let first : start (overwrite 0 (1 ∷ []) (laid (frame_of body) was.0)) ≡ 16 = made_start body was.0 some in
-        subst (λ (l : List ℕ). IsAt l (16 + length frame) 8388616) same (record {
+        subst (λ (l : List ℕ). IsAt l (first_start + length frame) second_start) same (record {
           bodies = body ∷ [];
           holds = made_written body was.0 is_body some;
           place = omega (arith, first, size, length-append body []);
@@ -184,9 +185,9 @@ module _ (old mid new : View) (frame body : List ℕ) where
       size : length frame ≡ length body + 5
       size = ap length is ∙ length-frame_of body
 
--- an image whose gate is shut is blank
-pub shut_is_blank : (image : List ℕ) → IsShut image → is_blank image ≡ true
-shut_is_blank image is = by_gate (length image) (get_or image 0 0) is.shut
+-- an image whose gate isn't open is blank
+pub closed_is_blank : (image : List ℕ) → HasClosedGate image → is_blank image ≡ true
+closed_is_blank image is = by_gate (length image) (get_or image 0 0) is.closed
   where
     by_gate : (n x : ℕ) → x ≢ 1 → nat_le n 1 || not (x == 1) ≡ true
     by_gate n x not_open = grind (arith, nat_tests)

@@ -1,10 +1,11 @@
 -- What a header says of its image, and what is known of a journal that is read.
 use Rattle.std.proofs.Common.{◌≡◌, ◌⊎◌, inl, inr, ℕ, ◌+◌, ◌-◌, ◌≤◌, ◌<◌, ◌==◌, nat_le, ◌||◌, min, if◌then◌else◌, Bool, true, false, not, List, [], ◌∷◌, ◌++◌, length, get_or, take, drop, bytes_eq, Option, Some, None, Ok, Err, refl, sym, ◌∙◌, ap, subst, arith, length-append, length-drop}
+use Rattle.key_journal.specs.Layout.{area_size, second_start, first_start}
 use mathlib.Core.Logic.{◌≢◌}
 use Rattle.std.proofs.Math.Seq.{drop-drop, take-add}
 use Rattle.std.proofs.lemmas.List.{take_at, get_or-take, take-take, drop-take, take_min, length-take, length-take-le}
 use Rattle.std.proofs.lemmas.Bool.Decides.{nat_tests}
-use Rattle.x_disk.specs.Disk.{View, IsDurable, IsStill}
+use Rattle.x_disk.specs.Disk.{View, IsDurable, IsStill, disk_size}
 use Rattle.key_journal.specs.Journal.{magic, four_bytes, is_blank, has_magic, start, Holds, Begins}
 use Rattle.key_journal.specs.Judged.{judged_at, IsSized}
 use Rattle.key_journal.specs.Opening.{IsHeaderOf, IsRefused, IsOpened, IsOpen, IsDamagedAt, refusal_of, is_open, is_whole, stated, found_at}
@@ -30,7 +31,7 @@ header_read size held buf zeros all b long is full filled read =
 pub long_enough : (b : List ℕ) → refusal_of b ≡ None → 2 ≤ length b
 long_enough b is = (not_blank b (refused_by (is_blank b) (has_magic b) is).0).0
 
-pub opened_state : (v : View) (size gate end : ℕ) → IsDurable v → (gate ≡ 16) ⊎ (gate ≡ 8388616) → end ≡ gate + 8388600 → ((b : List ℕ) → v.now ≡ Some b → size ≡ length b)
+pub opened_state : (v : View) (size gate end : ℕ) → IsDurable v → (gate ≡ first_start) ⊎ (gate ≡ second_start) → end ≡ gate + area_size → ((b : List ℕ) → v.now ≡ Some b → size ≡ length b)
     → ((b : List ℕ) → v.now ≡ Some b → refusal_of b ≡ None) → ((b : List ℕ) → v.now ≡ Some b → gate ≡ start b) → IsOpen v size gate end false
 opened_state v size gate end durable bounds last long fine first = record {
   durable = durable;
@@ -46,7 +47,7 @@ opened_state v size gate end durable bounds last long fine first = record {
   };
 }
   where
-    either : (gate ≡ 16) ⊎ (gate ≡ 8388616) → end ≤ 16777216
+    either : (gate ≡ first_start) ⊎ (gate ≡ second_start) → end ≤ disk_size
     either (inl low) = omega (arith, last, low)
     either (inr high) = omega (arith, last, high)
 
@@ -57,8 +58,8 @@ ready_state v size gate end ended o done = record {
   durable = o.durable;
   journal = λ image now.
       let r = o.journal image now in
-      let shut = r.closed done in
-      record { bodies = r.bodies; holds = all_read image r.bodies gate r.begins shut.0 shut.1; place = r.begins.place; last = r.last };
+      let not_open = r.closed done in
+      record { bodies = r.bodies; holds = all_read image r.bodies gate r.begins not_open.0 not_open.1; place = r.begins.place; last = r.last };
 }
 
 -- what is still, stays on the disk
@@ -154,16 +155,16 @@ pub closed_is : (b : List ℕ) (gate end : ℕ) → kind.Closed ≡ judged_at b 
 closed_is b gate end is = closed_by (is_open b gate) (is_whole b gate end) (stated b gate) (sym is)
 
 pub found_end : (b : List ℕ) (gate end : ℕ) → is_open b gate ≡ false → gate ≢ start b → found_at b gate end ≡ Ok None
-found_end b gate end shut not =
-    ap (λ (t : Bool). found_by t (is_whole b gate end) (gate == start b) gate (take (stated b gate) (drop (gate + 5) b))) shut
+found_end b gate end not_open not =
+    ap (λ (t : Bool). found_by t (is_whole b gate end) (gate == start b) gate (take (stated b gate) (drop (gate + 5) b))) not_open
     ∙ ap (λ (t : Bool). found_by false (is_whole b gate end) t gate (take (stated b gate) (drop (gate + 5) b))) (differ gate (start b) not)
   where
     differ : (m n : ℕ) → m ≢ n → (m == n) ≡ false
     differ m n not = grind (arith, nat_tests)
 
 pub found_first : (b : List ℕ) (gate end : ℕ) → is_open b gate ≡ false → gate ≡ start b → found_at b gate end ≡ Err (cause.Damaged gate)
-found_first b gate end shut first =
-    ap (λ (t : Bool). found_by t (is_whole b gate end) (gate == start b) gate (take (stated b gate) (drop (gate + 5) b))) shut
+found_first b gate end not_open first =
+    ap (λ (t : Bool). found_by t (is_whole b gate end) (gate == start b) gate (take (stated b gate) (drop (gate + 5) b))) not_open
     ∙ ap (λ (t : Bool). found_by false (is_whole b gate end) t gate (take (stated b gate) (drop (gate + 5) b))) (same gate (start b) first)
   where
     same : (m n : ℕ) → m ≡ n → (m == n) ≡ true
@@ -188,9 +189,9 @@ module _ (v : View) (size gate end : ℕ) (ended : Bool) (o : IsOpen v size gate
   pub ended_at : ended ≡ true → (b : List ℕ) → v.now ≡ Some b → (is_open b gate ≡ false) × (gate ≢ start b)
   ended_at done b now =
       let r = o.journal b now in
-      let shut = r.closed done in
-      let long = frames_some r.bodies shut.1 in
-      (shut.0, λ first. absurd (omega (arith, r.begins.place, long, first)))
+      let not_open = r.closed done in
+      let long = frames_some r.bodies not_open.1 in
+      (not_open.0, λ first. absurd (omega (arith, r.begins.place, long, first)))
 
   -- damage isn't found in an image that stands for bodies
   pub undamaged_at : (bodies : List (List ℕ)) → HasBodies v bodies → ((b : List ℕ) → v.now ≡ Some b → found_at b gate end ≡ Err (cause.Damaged gate)) → ⊥
@@ -229,8 +230,8 @@ module _ (v : View) (size gate end : ℕ) (ended : Bool) (o : IsOpen v size gate
         };
   }
 
-  pub closed_state : (new : View) (size_too : ℕ) → IsStill v new → size_too ≡ size → ((b : List ℕ) → v.now ≡ Some b → is_open b gate ≡ false) → gate + 8388600 ≢ end → IsOpen new size_too gate end true
-  closed_state new size_too still same shut not_first = record {
+  pub closed_state : (new : View) (size_too : ℕ) → IsStill v new → size_too ≡ size → ((b : List ℕ) → v.now ≡ Some b → is_open b gate ≡ false) → gate + area_size ≢ end → IsOpen new size_too gate end true
+  closed_state new size_too still same not_open not_first = record {
     durable = still_durable v new still o.durable;
     within = o.within;
     first = o.first;
@@ -243,19 +244,19 @@ module _ (v : View) (size gate end : ℕ) (ended : Bool) (o : IsOpen v size gate
           bodies = r.bodies;
           begins = r.begins;
           last = r.last;
-          closed = λ done. (shut b was, some_in_front b r.bodies r.begins r.last);
+          closed = λ done. (not_open b was, some_in_front b r.bodies r.begins r.last);
         };
   }
     where
-      some_in_front : (b : List ℕ) (bodies : List (List ℕ)) → Begins b bodies gate → end ≡ start b + 8388600 → 0 < length bodies
+      some_in_front : (b : List ℕ) (bodies : List (List ℕ)) → Begins b bodies gate → end ≡ start b + area_size → 0 < length bodies
       some_in_front b [] begins last = absurd (not_first (omega (arith, begins.place, last)))
       some_in_front b (x ∷ bodies) begins last = omega arith
 
   -- the area's first gate, by its place
-  pub first_gate : (b : List ℕ) → v.now ≡ Some b → gate + 8388600 ≡ end → gate ≡ start b
+  pub first_gate : (b : List ℕ) → v.now ≡ Some b → gate + area_size ≡ end → gate ≡ start b
   first_gate b now is = let r = o.journal b now in omega (arith, r.last, is)
 
-  pub later_gate : (b : List ℕ) → v.now ≡ Some b → gate + 8388600 ≢ end → gate ≢ start b
+  pub later_gate : (b : List ℕ) → v.now ≡ Some b → gate + area_size ≢ end → gate ≢ start b
   later_gate b now not first = let r = o.journal b now in not (omega (arith, r.last, first))
 
 -- a gate that isn't the area's first has a frame before it
@@ -265,8 +266,8 @@ some_before image (x ∷ bodies) gate begins not = omega arith
 
 -- the list of frames that ended at this gate is the image's
 pub all_of : (old new : View) (bodies : List (List ℕ)) (gate : ℕ) → new.now ≡ old.now → ((b : List ℕ) → old.now ≡ Some b → (is_open b gate ≡ false) × (gate ≢ start b)) → HasRead old bodies gate → HasBodies new bodies
-all_of old new bodies gate now shut read =
-    let closed = shut read.image read.now in
+all_of old new bodies gate now not_open read =
+    let closed = not_open read.image read.now in
     record { image = read.image; now = now ∙ read.now; holds = all_read read.image bodies gate read.begins closed.0 (some_before read.image bodies gate read.begins closed.1) }
 
 pub none_of : (o : Option Cause) → ((x : Cause) → o ≡ Some x → ⊥) → o ≡ None

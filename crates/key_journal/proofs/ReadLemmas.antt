@@ -1,5 +1,6 @@
 -- How the frames of an image are read one after the other.
 use Rattle.std.proofs.Common.{◌≡◌, ◌⊎◌, inl, inr, ℕ, ◌+◌, ◌*◌, ◌/◌, ◌%◌, ◌-◌, ◌≤◌, ◌<◌, ◌==◌, nat_lt, nat_le, min, if◌then◌else◌, Bool, true, false, ◌&&◌, not, List, [], ◌∷◌, ◌++◌, length, get_or, take, drop, Option, Some, None, Result, Ok, Err, refl, sym, ◌∙◌, ap, subst, arith, append_assoc, length-append, length-drop, take-append-drop}
+use Rattle.key_journal.specs.Layout.{area_size, largest_body}
 use mathlib.Core.Logic.{◌≢◌}
 use Rattle.std.proofs.lemmas.List.{take_at, drop_at, drop_more, get_or-take, get_or-drop, get_or_past, length-take-le}
 use Rattle.std.proofs.Math.Seq.{drop-drop}
@@ -48,8 +49,8 @@ behind image bodies gate b =
     sym (take-append-drop (length (frames bodies)) (drop (start image) image)) ∙ ap (λ (l : List ℕ). l ++ drop (length (frames bodies)) (drop (start image) image)) b.front
     ∙ ap (λ (l : List ℕ). frames bodies ++ l) (drop-drop (length (frames bodies)) (start image) image ∙ ap (λ (n : ℕ). drop n image) (omega (arith, b.place)))
 
-pub begins_more : (image : List ℕ) (bodies : List (List ℕ)) (gate next end n : ℕ) (body : List ℕ) → Begins image bodies gate → end ≡ start image + 8388600 → take 5 (drop gate image) ≡ 1 ∷ four_bytes n
-    → 1 ≤ n → n ≤ 4194304 → gate + 6 + n ≤ length image → gate + 6 + n ≤ end → body ≡ take n (drop (gate + 5) image) → next ≡ gate + (5 + n) → Begins image (bodies ++ body ∷ []) next
+pub begins_more : (image : List ℕ) (bodies : List (List ℕ)) (gate next end n : ℕ) (body : List ℕ) → Begins image bodies gate → end ≡ start image + area_size → take 5 (drop gate image) ≡ 1 ∷ four_bytes n
+    → 1 ≤ n → n ≤ largest_body → gate + 6 + n ≤ length image → gate + 6 + n ≤ end → body ≡ take n (drop (gate + 5) image) → next ≡ gate + (5 + n) → Begins image (bodies ++ body ∷ []) next
 begins_more image bodies gate next end n body b last head some small in_file in_area is place =
     let size : length body ≡ n = ap length is ∙ length-take-le n (drop (gate + 5) image) (omega (arith, in_file, length-drop (gate + 5) image)) in
     let rest = drop (gate + 5 + n) image in
@@ -70,10 +71,10 @@ begins_more image bodies gate next end n body b last head some small in_file in_
     }
 
 closed_gate : (image : List ℕ) (gate : ℕ) → gate < length image → is_open image gate ≡ false → get_or image gate 0 ≢ 1
-closed_gate image gate within shut = grind (arith, nat_tests)
+closed_gate image gate within closed = grind (arith, nat_tests)
 
 pub all_read : (image : List ℕ) (bodies : List (List ℕ)) (gate : ℕ) → Begins image bodies gate → is_open image gate ≡ false → 0 < length bodies → Holds image bodies
-all_read image bodies gate b shut some =
+all_read image bodies gate b not_open some =
     let within = b.within some in
     let at_gate : drop gate image ≡ get_or image gate 0 ∷ drop (gate + 1) image = drop_more image gate 0 within in
     let all : drop (start image) image ≡ frames bodies ++ get_or image gate 0 ∷ drop (gate + 1) image = behind image bodies gate b ∙ ap (λ (l : List ℕ). frames bodies ++ l) at_gate in
@@ -84,13 +85,13 @@ all_read image bodies gate b shut some =
         some = some;
         all = b.all;
         gate = get_or image gate 0;
-        rest = take (8388600 - (length (frames bodies) + 1)) (drop (gate + 1) image);
-        closed = closed_gate image gate within shut;
-        whole = area_is 8388600 (8388600 - (length (frames bodies) + 1)) (frames bodies) (get_or image gate 0) (drop (gate + 1) image) (drop (start image) image) all (rest_of 8388600 (length (frames bodies)) b.room);
+        rest = take (area_size - (length (frames bodies) + 1)) (drop (gate + 1) image);
+        closed = closed_gate image gate within not_open;
+        whole = area_is area_size (area_size - (length (frames bodies) + 1)) (frames bodies) (get_or image gate 0) (drop (gate + 1) image) (drop (start image) image) all (rest_of area_size (length (frames bodies)) b.room);
       };
     }
 
-pub same_length : (m n : ℕ) → m ≤ 4194304 → n ≤ 4194304 → m / 65536 % 256 ≡ n / 65536 % 256 → m / 256 % 256 ≡ n / 256 % 256 → m % 256 ≡ n % 256 → m ≡ n
+pub same_length : (m n : ℕ) → m ≤ largest_body → n ≤ largest_body → m / 65536 % 256 ≡ n / 65536 % 256 → m / 256 % 256 ≡ n / 256 % 256 → m % 256 ≡ n % 256 → m ≡ n
 same_length m n le_m le_n high mid low = omega arith
 
 pub same_parts : (xs ys us vs : List ℕ) → length xs ≡ length ys → xs ++ us ≡ ys ++ vs → (xs ≡ ys) × (us ≡ vs)
@@ -101,16 +102,16 @@ same_parts xs ys us vs long is = (
 
 -- two lists of frames from one place on: the one that ends at a closed gate is the longer
 longer : (bs all : List (List ℕ)) (g : ℕ) (r s : List ℕ) → AreBodies bs → AreBodies all → g ≢ 1 → frames bs ++ r ≡ frames all ++ g ∷ s → AreFirst bs all
-longer [] all g r s all_b all_a shut is = record { rest = all; whole = refl }
-longer (b ∷ bs) [] g r s all_b all_a shut is = let one : g ≡ 1 = cc in absurd (shut one)
-longer (b ∷ bs) (c ∷ all) g r s all_b all_a shut is =
+longer [] all g r s all_b all_a not_open is = record { rest = all; whole = refl }
+longer (b ∷ bs) [] g r s all_b all_a not_open is = let one : g ≡ 1 = cc in absurd (not_open one)
+longer (b ∷ bs) (c ∷ all) g r s all_b all_a not_open is =
     let high : length b / 65536 % 256 ≡ length c / 65536 % 256 = cc in
     let mid : length b / 256 % 256 ≡ length c / 256 % 256 = cc in
     let low : length b % 256 ≡ length c % 256 = cc in
     let tails : (b ++ frames bs) ++ r ≡ (c ++ frames all) ++ g ∷ s = cc in
     let parts = same_parts b c (frames bs ++ r) (frames all ++ g ∷ s) (same_length (length b) (length c) all_b.0.small all_a.0.small high mid low) (sym (append_assoc b (frames bs) r) ∙ tails ∙ append_assoc c (frames all) (g ∷ s)) in
     let first : b ≡ c = parts.0 in
-    let more = longer bs all g r s all_b.1 all_a.1 shut parts.1 in
+    let more = longer bs all g r s all_b.1 all_a.1 not_open parts.1 in
     record { rest = more.rest; whole = ap (λ (x : List ℕ). x ∷ all) (sym first) ∙ ap (λ (l : List (List ℕ)). b ∷ l) more.whole }
 
 pub first_bodies : (image : List ℕ) (bodies all : List (List ℕ)) (gate : ℕ) → Begins image bodies gate → Holds image all → AreFirst bodies all
@@ -137,10 +138,10 @@ at_gate image bodies rest gate b h =
 pub get_at : (image front : List ℕ) (gate i : ℕ) → drop gate image ≡ front → get_or image (gate + i) 0 ≡ get_or front i 0
 get_at image front gate i is = sym (get_or-drop gate image i 0) ∙ ap (λ (l : List ℕ). get_or l i 0) is
 
-number_of : (n : ℕ) → n ≤ 4194304 → n / 16777216 % 256 * 16777216 + n / 65536 % 256 * 65536 + n / 256 % 256 * 256 + n % 256 ≡ n
+number_of : (n : ℕ) → n ≤ largest_body → n / 16777216 % 256 * 16777216 + n / 65536 % 256 * 65536 + n / 256 % 256 * 256 + n % 256 ≡ n
 number_of n le = omega arith
 
-pub stated_is : (image : List ℕ) (gate n : ℕ) (tail : List ℕ) → n ≤ 4194304 → drop gate image ≡ 1 ∷ (four_bytes n ++ tail) → stated image gate ≡ n
+pub stated_is : (image : List ℕ) (gate n : ℕ) (tail : List ℕ) → n ≤ largest_body → drop gate image ≡ 1 ∷ (four_bytes n ++ tail) → stated image gate ≡ n
 stated_is image gate n tail small is =
     let a = get_at image (1 ∷ (four_bytes n ++ tail)) gate 1 is in
     let b = get_at image (1 ∷ (four_bytes n ++ tail)) gate 2 is in
@@ -168,10 +169,10 @@ pub record Reads (image : List ℕ) (gate end : ℕ) : Type 0 where
 pub open_by : (gate size x : ℕ) → gate < size → x ≡ 1 → nat_lt gate size && (x == 1) ≡ true
 open_by gate size x within is = grind (arith, nat_tests)
 
-shut_by : (gate size x : ℕ) → x ≢ 1 → nat_lt gate size && (x == 1) ≡ false
-shut_by gate size x not = grind (arith, nat_tests)
+not_open_by : (gate size x : ℕ) → x ≢ 1 → nat_lt gate size && (x == 1) ≡ false
+not_open_by gate size x not = grind (arith, nat_tests)
 
-pub whole_by : (n gate size end : ℕ) → 1 ≤ n → n ≤ 4194304 → gate + 6 + n ≤ size → gate + 6 + n ≤ end → (nat_le 1 n && nat_le n 4194304) && (nat_le (gate + 6 + n) size && nat_le (gate + 6 + n) end) ≡ true
+pub whole_by : (n gate size end : ℕ) → 1 ≤ n → n ≤ largest_body → gate + 6 + n ≤ size → gate + 6 + n ≤ end → (nat_le 1 n && nat_le n largest_body) && (nat_le (gate + 6 + n) size && nat_le (gate + 6 + n) end) ≡ true
 whole_by n gate size end some small in_file in_area = grind (arith, nat_tests)
 
 apart_by : (gate first : ℕ) → first < gate → (gate == first) ≡ false
@@ -192,7 +193,7 @@ frame_found image body tail gate end is_body front in_file in_area =
     let n = length body in
     let number = stated_is image gate n (body ++ tail) is_body.small front in
     let opened = open_by gate (length image) (get_or image gate 0) (omega (arith, in_file)) (ap (λ (m : ℕ). get_or image m 0) (omega arith) ∙ get_at image (1 ∷ (four_bytes n ++ (body ++ tail))) gate 0 front) in
-    let within = ap (λ (m : ℕ). (nat_le 1 m && nat_le m 4194304) && (nat_le (gate + 6 + m) (length image) && nat_le (gate + 6 + m) end)) number ∙ whole_by n gate (length image) end is_body.some is_body.small in_file in_area in
+    let within = ap (λ (m : ℕ). (nat_le 1 m && nat_le m largest_body) && (nat_le (gate + 6 + m) (length image) && nat_le (gate + 6 + m) end)) number ∙ whole_by n gate (length image) end is_body.some is_body.small in_file in_area in
     let text : take (stated image gate) (drop (gate + 5) image) ≡ body =
     ap (λ (m : ℕ). take m (drop (gate + 5) image)) number ∙ ap (λ (l : List ℕ). take n l) (sym (drop-drop 5 gate image) ∙ ap (λ (l : List ℕ). drop 5 l) front) ∙ take_at body tail n refl in
     ap (λ (t : Bool). found_by t (is_whole image gate end) (gate == start image) gate (take (stated image gate) (drop (gate + 5) image))) opened
@@ -205,12 +206,12 @@ found_none image bodies gate end b h =
     let w = whole_of image (bodies ++ []) h in
     let front = at_gate image bodies [] gate b h in
     let some : 0 < length bodies = omega (arith, h.area.some, length-append bodies []) in
-    let shut = shut_by gate (length image) (get_or image gate 0) (λ one. w.closed (sym (get_at image (w.gate ∷ w.tail) gate 0 front) ∙ ap (λ (n : ℕ). get_or image n 0) (omega arith) ∙ one)) in
+    let not_open = not_open_by gate (length image) (get_or image gate 0) (λ one. w.closed (sym (get_at image (w.gate ∷ w.tail) gate 0 front) ∙ ap (λ (n : ℕ). get_or image n 0) (omega arith) ∙ one)) in
     let apart = apart_by gate (start image) (omega (arith, b.place, frames_some bodies some)) in
-    ap (λ (t : Bool). found_by t (is_whole image gate end) (gate == start image) gate (take (stated image gate) (drop (gate + 5) image))) shut
+    ap (λ (t : Bool). found_by t (is_whole image gate end) (gate == start image) gate (take (stated image gate) (drop (gate + 5) image))) not_open
     ∙ ap (λ (t : Bool). found_by false (is_whole image gate end) t gate (take (stated image gate) (drop (gate + 5) image))) apart
 
-reads_rest : (image : List ℕ) (bodies rest : List (List ℕ)) (gate end : ℕ) → Begins image bodies gate → Holds image (bodies ++ rest) → end ≡ start image + 8388600 → Reads image gate end
+reads_rest : (image : List ℕ) (bodies rest : List (List ℕ)) (gate end : ℕ) → Begins image bodies gate → Holds image (bodies ++ rest) → end ≡ start image + area_size → Reads image gate end
 reads_rest image bodies [] gate end b h last = record { body = None; is = found_none image bodies gate end b h }
 reads_rest image bodies (body ∷ rest) gate end b h last =
     let w = whole_of image (bodies ++ body ∷ rest) h in
@@ -224,7 +225,7 @@ reads_rest image bodies (body ∷ rest) gate end b h last =
       is = frame_found image body tail gate end (second_body bodies body rest h.area.all) front (omega (arith, size)) (omega (arith, last, b.place, w.room, room_of bodies body rest));
     }
 
-pub undamaged : (image : List ℕ) (bodies all : List (List ℕ)) (gate end : ℕ) → Begins image bodies gate → Holds image all → end ≡ start image + 8388600 → Reads image gate end
+pub undamaged : (image : List ℕ) (bodies all : List (List ℕ)) (gate end : ℕ) → Begins image bodies gate → Holds image all → end ≡ start image + area_size → Reads image gate end
 undamaged image bodies all gate end b h last =
     let first = first_bodies image bodies all gate b h in
     reads_rest image bodies first.rest gate end b (subst (λ (l : List (List ℕ)). Holds image l) first.whole h) last
@@ -245,12 +246,12 @@ front_is image front gate size k i long is count enough small = elim (cases_lt_l
 
 abbrev judge_by : ℕ → ℕ → ℕ → ℕ → ℕ → Judged
 judge_by first n gate end size = if first == 1
-    then (if (nat_le 1 n && nat_le n 4194304) && (nat_le (gate + 6 + n) size && nat_le (gate + 6 + n) end) then kind.Frame n else kind.Damaged)
+    then (if (nat_le 1 n && nat_le n largest_body) && (nat_le (gate + 6 + n) size && nat_le (gate + 6 + n) end) then kind.Frame n else kind.Damaged)
     else kind.Closed
 
 abbrev judged_by : Bool → ℕ → ℕ → ℕ → ℕ → ℕ → Judged
 judged_by inside first n gate end size = if inside && (first == 1)
-    then (if (nat_le 1 n && nat_le n 4194304) && (nat_le (gate + 6 + n) size && nat_le (gate + 6 + n) end) then kind.Frame n else kind.Damaged)
+    then (if (nat_le 1 n && nat_le n largest_body) && (nat_le (gate + 6 + n) size && nat_le (gate + 6 + n) end) then kind.Frame n else kind.Damaged)
     else kind.Closed
 
 pub judged_same : (image front : List ℕ) (gate end size : ℕ) → size ≡ length image → gate < size → front ≡ take (length front) (drop gate image) → min 5 (size - gate) ≤ length front → judged front gate end size ≡ judged_at image gate end

@@ -1,5 +1,6 @@
 -- What a write that is on the disk makes of a journal at rest.
 use Rattle.std.proofs.Common.{◌≡◌, ℕ, ◌+◌, ◌≤◌, List, [], ◌∷◌, ◌++◌, length, Option, Some, None, is_some, refl, sym, ◌∙◌, ap, subst, arith}
+use Rattle.key_journal.specs.Layout.{area_size}
 use Rattle.x_disk.specs.Disk.{View, IsTornAt, overwrite, IsDurable, IsWritten, LeavesOnly}
 use Rattle.x_disk.proofs.Runs.{weaker}
 use Rattle.key_journal.specs.Journal.{frame_of, frames, start, Holds, gate_place, IsBody, Stages}
@@ -17,7 +18,7 @@ pub torn_from_now : (old : View) (at n : ℕ) (image c : List ℕ) → IsDurable
 torn_from_now old at n image c durable now torn = subst (λ (l : List ℕ). IsTornAt at n l c) (durable.only image torn.0 now torn.1) torn.2
 
 module _ (old new : View) (gate end : ℕ) where
-  ready_place : IsReady old gate end → (bodies : List (List ℕ)) (image : List ℕ) → old.now ≡ Some image → Holds image bodies → (gate ≡ gate_place image bodies) × (end ≡ start image + 8388600)
+  ready_place : IsReady old gate end → (bodies : List (List ℕ)) (image : List ℕ) → old.now ≡ Some image → Holds image bodies → (gate ≡ gate_place image bodies) × (end ≡ start image + area_size)
   ready_place ready bodies image now holds =
       let at = ready.journal image now in
       let same = same_holds image at.bodies bodies at.holds holds in (
@@ -31,7 +32,7 @@ module _ (old new : View) (gate end : ℕ) where
       weaker old new (MayTear old (gate + 1) n) (λ c. Holds c bodies) run
       (λ c torn. frame_torn has.image bodies n c has.holds (subst (λ (g : ℕ). IsTornAt (g + 1) n has.image c) place.0 (torn_from_now old (gate + 1) n has.image c ready.durable has.now torn)))
 
-  stage_image : (bodies : List (List ℕ)) (body image : List ℕ) → Holds image bodies → IsBody body → gate + 1 + length (frame_of body) ≤ end → gate ≡ gate_place image bodies → end ≡ start image + 8388600
+  stage_image : (bodies : List (List ℕ)) (body image : List ℕ) → Holds image bodies → IsBody body → gate + 1 + length (frame_of body) ≤ end → gate ≡ gate_place image bodies → end ≡ start image + area_size
       → Stages (overwrite (gate + 1) (frame_of body) image) bodies body
   stage_image bodies body image holds is_body fits place last =
       subst (λ (g : ℕ). Stages (overwrite (g + 1) (frame_of body) image) bodies body) (sym place) (frame_written image bodies body holds is_body (omega (arith, fits, place, last)))

@@ -1,11 +1,12 @@
 -- What images a journal passes through while its other area is written and then selected.
 use Rattle.std.proofs.Common.{◌≡◌, ◌⊎◌, inl, inr, ℕ, zero, suc, ◌+◌, ◌-◌, ◌≤◌, ◌==◌, if◌then◌else◌, List, [], ◌∷◌, ◌++◌, length, get_or, take, drop, replicate, Some, is_some, refl, sym, ◌∙◌, ap, subst, arith, append_assoc, length-append}
+use Rattle.key_journal.specs.Layout.{area_size, second_start, first_start}
 use mathlib.Core.Logic.{◌≢◌}
 use Rattle.std.proofs.Math.Seq.{drop-drop}
 use Rattle.std.proofs.lemmas.List.{drop_at, take-take, drop-take, take-append-le, get_or-drop, length-take-le, length-replicate}
 use Rattle.std.proofs.lemmas.Bool.{cases_eq}
 use Rattle.std.proofs.lemmas.Bool.Decides.{nat_tests}
-use Rattle.x_disk.specs.Disk.{View, IsTornAt, IsDurable, IsWritten, LeavesOnly, IsSound, Tells, overwrite}
+use Rattle.x_disk.specs.Disk.{View, IsTornAt, IsDurable, IsWritten, LeavesOnly, IsSound, Tells, overwrite, disk_size}
 use Rattle.x_disk.proofs.Runs.{weaker, joined}
 use Rattle.key_journal.specs.Journal.{magic, frame_of, frames, IsBody, start, Holds, gate_place}
 use Rattle.key_journal.specs.States.{HasBodies, IsAt, IsReady, MayTear, IsOldOrAlone, other_start, selector_of}
@@ -60,7 +61,7 @@ beside_area other frame b =
 
 -- the areas lie beside each other
 pub record Apart (image : List ℕ) (other : ℕ) : Type 0 where
-  pub which : ((start image ≡ 16) × (other ≡ 8388616)) ⊎ ((start image ≡ 8388616) × (other ≡ 16))
+  pub which : ((start image ≡ first_start) × (other ≡ second_start)) ⊎ ((start image ≡ second_start) × (other ≡ first_start))
 
 -- the same bytes from a place on are the same from each later one
 behind_same : (s m : ℕ) (b c : List ℕ) → m ≤ s → drop m c ≡ drop m b → drop s c ≡ drop s b
@@ -69,10 +70,10 @@ behind_same s m b c le is =
     ap (λ (k : ℕ). drop k c) (sym sum) ∙ sym (drop-drop (s - m) m c) ∙ ap (λ (l : List ℕ). drop (s - m) l) is ∙ drop-drop (s - m) m b ∙ ap (λ (k : ℕ). drop k b) sum
 
 -- a torn write in the other area leaves the selected one
-pub other_torn : (image : List ℕ) (bodies : List (List ℕ)) (other n : ℕ) (c : List ℕ) → Holds image bodies → Apart image other → n ≤ 8388600 → IsTornAt other n image c → Holds c bodies
+pub other_torn : (image : List ℕ) (bodies : List (List ℕ)) (other n : ℕ) (c : List ℕ) → Holds image bodies → Apart image other → n ≤ area_size → IsTornAt other n image c → Holds c bodies
 other_torn image bodies other n c h apart small torn = either apart.which
   where
-    either : ((start image ≡ 16) × (other ≡ 8388616)) ⊎ ((start image ≡ 8388616) × (other ≡ 16)) → Holds c bodies
+    either : ((start image ≡ first_start) × (other ≡ second_start)) ⊎ ((start image ≡ second_start) × (other ≡ first_start)) → Holds c bodies
     either (inl low) =
         let g = gate_place image bodies + 1 in
         let le : g ≤ other = omega (arith, fits_area image bodies h, low.0, low.1) in
@@ -140,20 +141,20 @@ selected_new image c bodies other body h same is =
     holds_by c (body ∷ []) 0 h.tail (same.gate ∙ h.holds.opened) (selector_magic image c bodies h.holds same) (omega arith)
     (ap (λ (k : ℕ). drop k c) is ∙ selector_area other image c (omega (arith, is, start_in c)) same ∙ h.area ∙ front) (omega (arith, h.is_body.small, length-append body [])) (omega arith) (h.is_body, tt)
 
-start_one : (c : List ℕ) → get_or c 1 0 ≡ 1 → start c ≡ 8388616
-start_one c is = ap (λ (n : ℕ). if n == 1 then 8388616 else 16) is
+start_one : (c : List ℕ) → get_or c 1 0 ≡ 1 → start c ≡ second_start
+start_one c is = ap (λ (n : ℕ). if n == 1 then second_start else 16) is
 
 start_else : (c : List ℕ) → get_or c 1 0 ≢ 1 → start c ≡ 16
 start_else c not = by_byte (get_or c 1 0) not
   where
-    by_byte : (n : ℕ) → n ≢ 1 → ◌≡◌ {A = ℕ} (if n == 1 then 8388616 else 16) 16
+    by_byte : (n : ℕ) → n ≢ 1 → ◌≡◌ {A = ℕ} (if n == 1 then second_start else 16) 16
     by_byte n not = grind (arith, nat_tests)
 
 -- a crash in the write of the selector
 selected : (image c : List ℕ) (bodies : List (List ℕ)) (other : ℕ) (body : List ℕ) → HasBeside image bodies other body → SameButSelector image c → Holds c bodies ⊎ Holds c (body ∷ [])
 selected image c bodies other body h same = either h.apart.which (cases_eq (get_or c 1 0) 1)
   where
-    either : ((start image ≡ 16) × (other ≡ 8388616)) ⊎ ((start image ≡ 8388616) × (other ≡ 16)) → (get_or c 1 0 ≡ 1) ⊎ (get_or c 1 0 ≢ 1) → Holds c bodies ⊎ Holds c (body ∷ [])
+    either : ((start image ≡ first_start) × (other ≡ second_start)) ⊎ ((start image ≡ second_start) × (other ≡ first_start)) → (get_or c 1 0 ≡ 1) ⊎ (get_or c 1 0 ≢ 1) → Holds c bodies ⊎ Holds c (body ∷ [])
     either (inl low) (inl one) = inr (selected_new image c bodies other body h same (start_one c one ∙ sym low.1))
     either (inl low) (inr low_area) = inl (selected_old image c bodies h.holds same (start_else c low_area ∙ sym low.0))
     either (inr high) (inl one) = inl (selected_old image c bodies h.holds same (start_one c one ∙ sym high.0))
@@ -162,26 +163,26 @@ selected image c bodies other body h same = either h.apart.which (cases_eq (get_
 selector_torn : (image c : List ℕ) → 1 ≤ length image → IsTornAt 1 1 image c → SameButSelector image c
 selector_torn image c some torn = record { gate = sym (take-take 1 (length image) c some) ∙ torn.before; behind = torn.after }
 
-start_is : (image : List ℕ) → (start image ≡ 16) ⊎ (start image ≡ 8388616)
+start_is : (image : List ℕ) → (start image ≡ first_start) ⊎ (start image ≡ second_start)
 start_is image = elim (cases_eq (get_or image 1 0) 1) [
   | inl one ↦ inr (start_one image one)
   | inr not ↦ inl (start_else image not)
 ]
 
-apart_by : (image : List ℕ) (end : ℕ) → end ≡ start image + 8388600 → Apart image (other_start end)
+apart_by : (image : List ℕ) (end : ℕ) → end ≡ start image + area_size → Apart image (other_start end)
 apart_by image end last = record { which = either (start_is image) }
   where
-    either : (start image ≡ 16) ⊎ (start image ≡ 8388616) → ((start image ≡ 16) × (other_start end ≡ 8388616)) ⊎ ((start image ≡ 8388616) × (other_start end ≡ 16))
-    either (inl low) = let is : end ≡ 8388616 = omega (arith, last, low) in inl (low, ap other_start is)
-    either (inr high) = let is : end ≡ 16777216 = omega (arith, last, high) in inr (high, ap other_start is)
+    either : (start image ≡ first_start) ⊎ (start image ≡ second_start) → ((start image ≡ first_start) × (other_start end ≡ second_start)) ⊎ ((start image ≡ second_start) × (other_start end ≡ first_start))
+    either (inl low) = let is : end ≡ second_start = omega (arith, last, low) in inl (low, ap other_start is)
+    either (inr high) = let is : end ≡ disk_size = omega (arith, last, high) in inr (high, ap other_start is)
 
-pub other_in : (end : ℕ) → (16 ≤ other_start end) × (other_start end ≤ 8388616)
-other_in end = elim (cases_eq end 8388616) [
-  | inl is ↦ let it : other_start end ≡ 8388616 = ap other_start is in (omega (arith, it), omega (arith, it))
+pub other_in : (end : ℕ) → (16 ≤ other_start end) × (other_start end ≤ second_start)
+other_in end = elim (cases_eq end second_start) [
+  | inl is ↦ let it : other_start end ≡ second_start = ap other_start is in (omega (arith, it), omega (arith, it))
   | inr not ↦ let it : other_start end ≡ 16 = other_else end not in (omega (arith, it), omega (arith, it))
 ]
   where
-    other_else : (n : ℕ) → n ≢ 8388616 → other_start n ≡ 16
+    other_else : (n : ℕ) → n ≢ second_start → other_start n ≡ 16
     other_else n not = grind (arith, nat_tests)
 
 -- the selector is written
@@ -194,20 +195,20 @@ selector_same byte image some = record {
 selector_is : (byte : ℕ) (image : List ℕ) → get_or (overwrite 1 (byte ∷ []) image) 1 0 ≡ byte
 selector_is byte image = sym (get_or-drop 1 (overwrite 1 (byte ∷ []) image) 0 0) ∙ ap (λ (l : List ℕ). get_or l 0 0) (overwrite_back 1 (byte ∷ []) image)
 
-selector_start : (image : List ℕ) (other : ℕ) → (other ≡ 8388616) ⊎ (other ≡ 16) → start (overwrite 1 (selector_of other ∷ []) image) ≡ other
+selector_start : (image : List ℕ) (other : ℕ) → (other ≡ second_start) ⊎ (other ≡ first_start) → start (overwrite 1 (selector_of other ∷ []) image) ≡ other
 selector_start image other (inl high) = start_one (overwrite 1 (selector_of other ∷ []) image) (selector_is (selector_of other) image ∙ ap selector_of high) ∙ sym high
 selector_start image other (inr low) =
     let byte : get_or (overwrite 1 (selector_of other ∷ []) image) 1 0 ≡ 0 = selector_is (selector_of other) image ∙ ap selector_of low in
     start_else (overwrite 1 (selector_of other ∷ []) image) (λ one. absurd (omega (arith, byte, one))) ∙ sym low
 
 module _ (old mid new : View) (gate end other : ℕ) (is_other : other ≡ other_start end) (frame body : List ℕ) where
-  apart : (image : List ℕ) → end ≡ start image + 8388600 → Apart image other
+  apart : (image : List ℕ) → end ≡ start image + area_size → Apart image other
   apart image last = subst (λ (o : ℕ). Apart image o) (sym is_other) (apart_by image end last)
 
   abbrev Laid : Type 0
   Laid = (b : List ℕ) → old.now ≡ Some b → mid.now ≡ Some (beside other frame b)
 
-  frame_size : IsBody body → frame ≡ frame_of body → (length frame ≡ length body + 5) × (1 + length frame ≤ 8388600)
+  frame_size : IsBody body → frame ≡ frame_of body → (length frame ≡ length body + 5) × (1 + length frame ≤ area_size)
   frame_size is_body is =
       let size : length frame ≡ length body + 5 = ap length is ∙ length-frame_of body in
       (size, omega (arith, size, is_body.small))
@@ -259,7 +260,7 @@ module _ (old mid new : View) (gate end other : ℕ) (is_other : other ≡ other
         first,
       )
     where
-      which : {s o : ℕ} → ((s ≡ 16) × (o ≡ 8388616)) ⊎ ((s ≡ 8388616) × (o ≡ 16)) → (o ≡ 8388616) ⊎ (o ≡ 16)
+      which : {s o : ℕ} → ((s ≡ first_start) × (o ≡ second_start)) ⊎ ((s ≡ second_start) × (o ≡ first_start)) → (o ≡ second_start) ⊎ (o ≡ first_start)
       which (inl low) = inl low.1
       which (inr high) = inr high.1
 
@@ -275,7 +276,7 @@ module _ (old mid new : View) (gate end other : ℕ) (is_other : other ≡ other
       }
 
   pub switch_ready : IsReady old gate end → IsSound mid → IsBody body → frame ≡ frame_of body → LeavesOnly old mid (MayTear old other (1 + length frame)) → Laid → IsWritten 1 (selector_of other ∷ []) mid new
-      → is_some mid.now ≡ is_some old.now → is_some new.now ≡ is_some mid.now → IsDurable new → IsReady new (other + length frame) (other + 8388600)
+      → is_some mid.now ≡ is_some old.now → is_some new.now ≡ is_some mid.now → IsDurable new → IsReady new (other + length frame) (other + area_size)
   switch_ready ready sound is_body is run laid written tells tells_too durable = record {
     room = omega (arith, frame_size is_body is);
     within = omega (arith, (other_in end).1, is_other);
@@ -288,6 +289,10 @@ module _ (old mid new : View) (gate end other : ℕ) (is_other : other ≡ other
         let done = switch_image ready sound is_body is run laid at.bodies (record { image = was.0; now = was.1; holds = at.holds }) in
         let there : Some c ≡ Some image = sym (written (beside other frame was.0) (laid was.0 was.1)) ∙ now in
         let same : c ≡ image = cc there in
-        subst (λ (l : List ℕ). IsAt l (other + length frame) (other + 8388600)) same
+        subst (λ (l : List ℕ). IsAt l (other + length frame) (other + area_size)) same
         (record { bodies = body ∷ []; holds = done.0; place = omega (arith, done.1, (frame_size is_body is).0, length-append body []); last = omega (arith, done.1) });
   }
+
+-- the image at the last sync is one that a crash may leave
+pub stable_has : (old new : View) (P : List ℕ → Type 0) → IsSound new → LeavesOnly old new P → (image : List ℕ) → new.stable ≡ Some image → P image
+stable_has old new P sound run image is = run.each image (sound.counts_now old.moment image run.later (sound.stable_among image is))

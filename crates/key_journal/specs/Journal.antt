@@ -1,5 +1,6 @@
 -- What the image of a journal stands for (this project's profile).
 use Rattle.std.specs.Prelude.{◌≡◌, ◌≢◌, ℕ, ◌+◌, ◌/◌, ◌%◌, ◌<◌, ◌≤◌, ◌==◌, nat_le, if◌then◌else◌, Bool, not, ◌||◌, List, [], ◌∷◌, ◌++◌, length, slice_index, take, drop, bytes_eq}
+use Rattle.key_journal.specs.Layout.{area_size, second_start, first_start, largest_body}
 
 -- `X917-KEYSTORE1`
 abbrev pub magic : List ℕ
@@ -20,7 +21,7 @@ frames (body ∷ bodies) = 1 ∷ four_bytes (length body) ++ body ++ frames bodi
 
 pub record IsBody (body : List ℕ) : Type 0 where
   pub some : 1 ≤ length body
-  pub small : length body ≤ 4194304
+  pub small : length body ≤ largest_body
 
 abbrev pub AreBodies : List (List ℕ) → Type 0
 AreBodies [] = Unit {0}
@@ -34,10 +35,10 @@ has_magic image = bytes_eq (take 14 (drop 2 image)) magic
 
 -- where the selected area begins
 abbrev pub start : List ℕ → ℕ
-start image = if slice_index image 1 == 1 then 8388616 else 16
+start image = if slice_index image 1 == 1 then second_start else first_start
 
 abbrev pub area_of : List ℕ → List ℕ
-area_of image = take 8388600 (drop (start image) image)
+area_of image = take area_size (drop (start image) image)
 
 -- an area of these bodies, and then a gate that isn't open
 pub record IsArea (bodies : List (List ℕ)) (area : List ℕ) : Type 0 where
@@ -63,7 +64,7 @@ pub record Stages (image : List ℕ) (bodies : List (List ℕ)) (body : List ℕ
   pub holds : Holds image bodies
   pub is_body : IsBody body
   pub behind : take (length body + 5) (drop (gate_place image bodies + 1) image) ≡ frame_of body
-  pub fits : length (frames bodies) + 6 + length body ≤ 8388600
+  pub fits : length (frames bodies) + 6 + length body ≤ area_size
 
 -- the selected area begins with the frames of these bodies, and their last gate is at this place
 pub record Begins (image : List ℕ) (bodies : List (List ℕ)) (gate : ℕ) : Type 0 where
@@ -72,5 +73,5 @@ pub record Begins (image : List ℕ) (bodies : List (List ℕ)) (gate : ℕ) : T
   pub all : AreBodies bodies
   pub place : gate ≡ gate_place image bodies
   pub front : take (length (frames bodies)) (drop (start image) image) ≡ frames bodies
-  pub room : length (frames bodies) + 1 ≤ 8388600
+  pub room : length (frames bodies) + 1 ≤ area_size
   pub within : 0 < length bodies → gate < length image

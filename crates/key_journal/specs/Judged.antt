@@ -1,5 +1,6 @@
 -- What the bytes from a gate on say.
 use Rattle.std.specs.Prelude.{ℕ, ◌≤◌, ◌+◌, ◌*◌, ◌==◌, nat_le, if◌then◌else◌, ◌&&◌, List, slice_index}
+use Rattle.key_journal.specs.Layout.{largest_body}
 use Rattle.key_journal.specs.Opening.{is_open, is_whole, stated}
 use Rattle.key_journal.specs.declared.judge.Judged.{Judged}
 use Rattle.key_journal.specs.declared.judge.Judged.TheVariants as kind
@@ -10,7 +11,7 @@ number front = slice_index front 1 * 16777216 + slice_index front 2 * 65536 + sl
 
 abbrev pub judged : List ℕ → ℕ → ℕ → ℕ → Judged
 judged front gate end size = if slice_index front 0 == 1
-    then (if (nat_le 1 (number front) && nat_le (number front) 4194304) && (nat_le (gate + 6 + number front) size && nat_le (gate + 6 + number front) end)
+    then (if (nat_le 1 (number front) && nat_le (number front) largest_body) && (nat_le (gate + 6 + number front) size && nat_le (gate + 6 + number front) end)
     then kind.Frame (number front) else kind.Damaged)
     else kind.Closed
 
@@ -22,7 +23,7 @@ IfBody kind.Damaged P = Unit {0}
 -- the frame behind the gate lies within the file and the area
 pub record IsSized (gate end size n : ℕ) : Type 0 where
   pub some : 1 ≤ n
-  pub small : n ≤ 4194304
+  pub small : n ≤ largest_body
   pub in_file : gate + 6 + n ≤ size
   pub in_area : gate + 6 + n ≤ end
 

@@ -1,6 +1,9 @@
 pub mod Causes
 pub mod Journal
 pub mod Judged
+pub mod Layout
 pub mod Opening
+pub mod Reading
 pub mod Results
 pub mod States
+pub mod Writing

@@ -1,8 +1,11 @@
 -- What opening a journal finds (this project's profile).
 use Rattle.std.specs.Prelude.{◌≡◌, ◌⊎◌, ℕ, ◌+◌, ◌*◌, ◌<◌, ◌≤◌, ◌==◌, nat_lt, nat_le, min, if◌then◌else◌, Bool, true, false, ◌&&◌, List, [], length, slice_index, take, drop, Option, Some, None, Result, Ok, Err}
+use Rattle.key_journal.specs.Layout.{area_size, largest_body}
 use Rattle.x_base.specs.Edge.{Rose}
-use Rattle.x_disk.specs.Disk.{View, IsDurable}
+use Rattle.x_disk.specs.Disk.{View, IsStill, IsDurable, disk_size}
 use Rattle.key_journal.specs.Journal.{is_blank, has_magic, start, Holds, Begins}
+use Rattle.x_disk.specs.declared.disk.DiskErr.{DiskErr}
+use Rattle.key_journal.specs.States.{HasFaults}
 use Rattle.key_journal.specs.declared.cause.Cause.{Cause}
 use Rattle.key_journal.specs.declared.cause.Cause.TheVariants as cause
 
@@ -20,7 +23,7 @@ stated image gate = slice_index image (gate + 1) * 16777216 + slice_index image 
 
 -- the length is in its range, and the body and the next gate lie within the file and the area
 abbrev pub is_whole : List ℕ → ℕ → ℕ → Bool
-is_whole image gate end = (nat_le 1 (stated image gate) && nat_le (stated image gate) 4194304)
+is_whole image gate end = (nat_le 1 (stated image gate) && nat_le (stated image gate) largest_body)
     && (nat_le (gate + 6 + stated image gate) (length image) && nat_le (gate + 6 + stated image gate) end)
 
 -- what lies at a gate of the area that ends at this place: a body, the end of the list, or damage
@@ -33,7 +36,7 @@ found_at image gate end = if is_open image gate
 pub record IsDamagedGate (image : List ℕ) (gate : ℕ) : Type 0 where
   pub bodies : List (List ℕ)
   pub begins : Begins image bodies gate
-  pub damage : found_at image gate (start image + 8388600) ≡ Err (cause.Damaged gate)
+  pub damage : found_at image gate (start image + area_size) ≡ Err (cause.Damaged gate)
 
 -- the first damage of an image that isn't blank: its magic, or a gate behind sound frames
 pub record IsDamagedAt (image : List ℕ) (place : ℕ) : Type 0 where
@@ -75,7 +78,7 @@ pub record IsOpened (old new : View) (gate end : ℕ) (ended : Bool) : Type 0 wh
   pub fresh : ended ≡ false
   pub exact : (image : List ℕ) → old.now ≡ Some image → refusal_of image ≡ None
   pub begins : (image : List ℕ) → old.now ≡ Some image → Begins image [] gate
-  pub last : (image : List ℕ) → old.now ≡ Some image → end ≡ start image + 8388600
+  pub last : (image : List ℕ) → old.now ≡ Some image → end ≡ start image + area_size
 
 -- an answer of `next` is what lies at the gate, or a cause that no image gives
 abbrev pub IsFound : Result (Option (List ℕ)) Cause → Result (Option (List ℕ)) Cause → Type 0
@@ -93,14 +96,14 @@ pub record IsWindow (v : View) (size from held : ℕ) (buffer : List ℕ) : Type
 pub record IsReadTo (image : List ℕ) (gate end : ℕ) (ended : Bool) : Type 0 where
   pub bodies : List (List ℕ)
   pub begins : Begins image bodies gate
-  pub last : end ≡ start image + 8388600
+  pub last : end ≡ start image + area_size
   pub closed : ended ≡ true → (is_open image gate ≡ false) × (0 < length bodies)
 
 -- every Opened
 pub record IsOpen (v : View) (size gate end : ℕ) (ended : Bool) : Type 0 where
   pub durable : IsDurable v
-  pub within : end ≤ 16777216
-  pub first : end ≤ gate + 8388600
+  pub within : end ≤ disk_size
+  pub first : end ≤ gate + area_size
   pub room : gate < end
   pub long : (image : List ℕ) → v.now ≡ Some image → size ≡ length image
   pub journal : (image : List ℕ) → v.now ≡ Some image → IsReadTo image gate end ended
@@ -111,3 +114,9 @@ pub record Window (D : Type 0) : Type 0 where
   pub size : ℕ
   pub from : ℕ
   pub held : ℕ
+
+-- the file stays as it was
+pub record KeepsFile {D T : Type 0} (told : D → View) (old new : Window D) (result : Result T DiskErr) : Type 0 where
+  pub size : new.size ≡ old.size
+  pub still : IsStill (told old.disk) (told new.disk)
+  pub cause : HasFaults (told old.disk) (told new.disk) result

@@ -1,7 +1,8 @@
 -- What the states of a journal tell.
 use Rattle.std.specs.Prelude.{◌≡◌, ◌≢◌, ◌⊎◌, ℕ, ◌+◌, ◌-◌, ◌<◌, ◌≤◌, ◌==◌, if◌then◌else◌, List, [], ◌∷◌, ◌++◌, length, slice_index, true, false, Bool, Some, Result, IsErrOf}
+use Rattle.key_journal.specs.Layout.{area_size, second_start, first_start}
 use Rattle.x_base.specs.Edge.{Rose}
-use Rattle.x_disk.specs.Disk.{View, IsTornAt, IsDurable, IsUntouched}
+use Rattle.x_disk.specs.Disk.{View, IsTornAt, IsDurable, IsUntouched, disk_size}
 use Rattle.x_disk.specs.declared.disk.DiskErr.{DiskErr}
 use Rattle.x_disk.specs.declared.disk.DiskErr.TheVariants.{Fault}
 use Rattle.key_journal.specs.Journal.{frame_of, frames, start, is_blank, Holds, gate_place, IsBody, Stages, Begins}
@@ -80,37 +81,37 @@ pub record IsFrame (frame : List ℕ) : Type 0 where
 
 -- the room of an area with these bodies: what is left behind their last gate, and that gate
 abbrev pub room_of : List (List ℕ) → ℕ
-room_of bodies = 8388600 - length (frames bodies)
+room_of bodies = area_size - length (frames bodies)
 
 -- where the disk tells what the journal stands for, the area's end lies so far behind the last gate
 abbrev pub HasRoom : View → ℕ → ℕ → Type 0
 HasRoom v gate end = (bodies : List (List ℕ)) → HasBodies v bodies → end ≡ gate + room_of bodies
 
 -- byte 0 is there and isn't 1
-pub record IsShut (image : List ℕ) : Type 0 where
+pub record HasClosedGate (image : List ℕ) : Type 0 where
   pub some : 1 ≤ length image
-  pub shut : slice_index image 0 ≢ 1
+  pub closed : slice_index image 0 ≢ 1
 
 -- where the image isn't blank, nothing is written
-abbrev pub SparesNonBlank : View → View → Type 0
-SparesNonBlank old new = (image : List ℕ) → old.now ≡ Some image → is_blank image ≡ false → IsUntouched old new
+abbrev pub WritesOnlyToBlank : View → View → Type 0
+WritesOnlyToBlank old new = (image : List ℕ) → old.now ≡ Some image → is_blank image ≡ false → IsUntouched old new
 
 -- every Blank
 pub record IsEmpty (v : View) : Type 0 where
   pub durable : IsDurable v
-  pub shut : (image : List ℕ) → v.now ≡ Some image → IsShut image
+  pub closed : (image : List ℕ) → v.now ≡ Some image → HasClosedGate image
 
 -- the image stands for some bodies, and its closed gate is at this place
 pub record IsAt (image : List ℕ) (gate end : ℕ) : Type 0 where
   pub bodies : List (List ℕ)
   pub holds : Holds image bodies
   pub place : gate ≡ gate_place image bodies
-  pub last : end ≡ start image + 8388600
+  pub last : end ≡ start image + area_size
 
 -- every Ready
 pub record IsReady (v : View) (gate end : ℕ) : Type 0 where
   pub room : gate < end
-  pub within : end ≤ 16777216
+  pub within : end ≤ disk_size
   pub durable : IsDurable v
   pub journal : (image : List ℕ) → v.now ≡ Some image → IsAt image gate end
 
@@ -121,13 +122,13 @@ pub record IsAtWith (image : List ℕ) (gate next end : ℕ) : Type 0 where
   pub stages : Stages image bodies body
   pub place : gate ≡ gate_place image bodies
   pub after : next ≡ gate + length body + 5
-  pub last : end ≡ start image + 8388600
+  pub last : end ≡ start image + area_size
 
 -- every Staged
 pub record IsStaged (v : View) (gate next end : ℕ) : Type 0 where
   pub room : gate < next
   pub fits : next < end
-  pub within : end ≤ 16777216
+  pub within : end ≤ disk_size
   pub durable : IsDurable v
   pub journal : (image : List ℕ) → v.now ≡ Some image → IsAtWith image gate next end
 
@@ -145,8 +146,8 @@ IsOldOrAlone bodies body image = Holds image bodies ⊎ Holds image (body ∷ []
 
 -- where the other area begins, by the end of the selected one
 abbrev pub other_start : ℕ → ℕ
-other_start end = if end == 8388616 then 8388616 else 16
+other_start end = if end == second_start then second_start else first_start
 
 -- the byte that selects the area that begins here
 abbrev pub selector_of : ℕ → ℕ
-selector_of start = if start == 8388616 then 1 else 0
+selector_of start = if start == second_start then 1 else 0

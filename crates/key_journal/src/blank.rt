@@ -1,13 +1,13 @@
 // Making a journal on a blank disk.
-ghost use Rattle.std.specs.Prelude.{◌≡◌, ◌≢◌, ◌⊎◌, ◌+◌, ◌≤◌, [], ◌∷◌, ◌++◌, List, ℕ, length, take, true, false, Some, is_some, OnOk, IfOk, IfErr};
-ghost use Rattle.x_base.specs.Edge.{Rose};
-ghost use Rattle.x_disk.specs.Disk.{IsDurable, Tells, LeavesOnly, overwrite};
-ghost use Rattle.key_journal.specs.Journal.{frame_of, is_blank, magic, IsBody};
-ghost use Rattle.key_journal.specs.Opening.{IsFree};
-ghost use Rattle.key_journal.specs.Results.{empty_disk};
-ghost use Rattle.key_journal.specs.States.{HasBodies, IsFrame, IsBlankOrFirst, SparesNonBlank, FaultsRose, HasFaults, HasRoom};
+ghost use Rattle.std.specs.Prelude.{◌≡◌, ◌+◌, ◌≤◌, [], ◌∷◌, ◌++◌, List, ℕ, length, take, Some, is_some, OnOk};
+ghost use Rattle.x_disk.specs.Disk.{IsDurable, LeavesOnly, overwrite, disk_size};
+ghost use Rattle.key_journal.specs.Journal.{magic};
+ghost use Rattle.key_journal.specs.States.{IsFrame, HasFaults};
+ghost use Rattle.key_journal.specs.Writing.{IsFirstFrame};
+ghost use Rattle.key_journal.specs.Reading.{IsPrepared};
 
 use crate::header::look;
+use crate::layout::{FIRST_START, SECOND_START};
 use crate::put::put;
 use crate::{Broken, Cause, Ready, Unmade};
 use std::marker::Model;
@@ -34,7 +34,7 @@ const HEAD: [u8; 16] = *b"\0X917-KEYSTORE1\x01";
 
 // Writes all but the file's gate.
 fn lay<D: Disk>(disk: &mut D, frame: &[u8]) -> Result<(), DiskErr>
-    requires { 17 + length frame.now ≤ 16777216 }
+    requires { 17 + length frame.now ≤ disk_size }
     ensures durable { OnOk result (IsDurable (D.told disk.new)) }
     ensures written { OnOk result ((b : List ℕ) → (D.told disk.old).now ≡ Some b
         → (D.told disk.new).now ≡ Some (overwrite 17 frame.now (overwrite 1 (0 ∷ magic ++ 1 ∷ []) b))) }
@@ -53,19 +53,7 @@ fn lay<D: Disk>(disk: &mut D, frame: &[u8]) -> Result<(), DiskErr>
 /// Syncs and looks at the image; where that is blank, its gate is made to stand closed. Comes with `NotEmpty` exactly where
 /// the image isn't blank.
 pub fn prepare<D: Disk>(disk: D) -> Result<Blank<D>, Unmade<D>>
-    ensures blank { IfOk result (λ _. (b : List ℕ) → (D.told disk).now ≡ Some b → is_blank b ≡ true) }
-    ensures exact { IfErr result (λ u. (b : List ℕ) → (D.told disk).now ≡ Some b → IsFree u.cause ⊎ ((u.cause ≡ Cause.NotEmpty) × (is_blank b ≡ false))) }
-    ensures names { IfErr result (λ u. IsFree u.cause ⊎ (u.cause ≡ Cause.NotEmpty)) }
-    ensures spared { SparesNonBlank (D.told disk) (D.told (empty_disk result)) }
-    ensures durable { IfOk result (λ s. IsDurable (D.told s.disk)) }
-    ensures closed { IfOk result (λ s. (b : List ℕ) → (D.told s.disk).now ≡ Some b → is_blank b ≡ true) }
-
-    // A crash at any moment leaves a blank image, or what it could leave before.
-    ensures any_moment { Tells (D.told disk) → LeavesOnly (D.told disk) (D.told (empty_disk result)) (λ c. (is_blank c ≡ true) ⊎ (D.told disk).may_leave c) }
-
-    ensures fault { IfErr result (λ u. u.cause ≡ Cause.Fault → Rose (D.told disk).faults (D.told u.disk).faults) }
-    ensures faults { (D.told disk).faults ≤ (D.told (empty_disk result)).faults }
-    ensures tells { is_some (D.told (empty_disk result)).now ≡ is_some (D.told disk).now }
+    ensures { IsPrepared D.told disk result }
 {
     let mut disk = disk;
     let header = match look(&mut disk) {
@@ -101,20 +89,7 @@ impl<D: Disk> Blank<D> {
     /// Makes a journal with this frame's body alone: writes all but the file's gate, syncs, opens the gate, and syncs.
     pub fn create(self, frame: &[u8]) -> Result<Ready<D>, Broken<D>>
         requires { IsFrame frame.now }
-
-        ensures created { IfOk result (λ s. (body : List ℕ) → IsBody body → frame.now ≡ frame_of body → Tells (D.told self.disk)
-            → HasBodies (D.told s.disk) (body ∷ [])) }
-        ensures room { IfOk result (λ s. HasRoom (D.told s.disk) s.gate s.end) }
-        ensures place { IfOk result (λ s. (s.gate ≡ 16 + length frame.now) × (s.end ≡ 8388616)) }
-        ensures durable { IfOk result (λ s. IsDurable (D.told s.disk)) }
-
-        // A crash at any moment leaves a blank image, or one that stands for the body.
-        ensures any_moment { (body : List ℕ) → IsBody body → frame.now ≡ frame_of body → Tells (D.told self.disk)
-            → LeavesOnly (D.told self.disk) (D.told (ready_disk result)) (IsBlankOrFirst body) }
-
-        ensures cause { IfErr result (λ b. FaultsRose (D.told self.disk) (D.told b.disk) b.cause) }
-        ensures faults { (D.told self.disk).faults ≤ (D.told (ready_disk result)).faults }
-        ensures tells { is_some (D.told (ready_disk result)).now ≡ is_some (D.told self.disk).now }
+        ensures { IsFirstFrame D.told self frame.now result }
     {
         let Blank { mut disk } = self;
         match lay(&mut disk, frame) {
@@ -122,7 +97,7 @@ impl<D: Disk> Blank<D> {
             Err(cause) => return Err(Broken { disk, cause }),
         }
         match put(&mut disk, 0, &[1]) {
-            Ok(()) => Ok(Ready::new(disk, 16 + frame.len() as u64, 8_388_616)),
+            Ok(()) => Ok(Ready::new(disk, FIRST_START + frame.len() as u64, SECOND_START)),
             Err(cause) => Err(Broken { disk, cause }),
         }
     }

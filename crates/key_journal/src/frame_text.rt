@@ -1,5 +1,5 @@
 // The text of a frame.
-ghost use Rattle.std.specs.Prelude.{◌≡◌, IfOk, length};
+ghost use Rattle.std.specs.Prelude.{◌≡◌, IfOk, OnOk, drop};
 ghost use Rattle.key_journal.specs.Journal.{frame_of, IsBody};
 ghost use Rattle.key_journal.specs.States.{IsFrame};
 
@@ -13,9 +13,20 @@ pub fn frame(alloc: Global, body: &[u8]) -> Result<Text, NoMemory>
     ensures text { IfOk result (λ t. t ≡ frame_of body.now) }
     ensures frame { IfOk result IsFrame }
 {
-    let mut text = Text::new(alloc);
-    text.push(&(body.len() as u32).to_be_bytes())?;
+    let mut text = Text::with_capacity(alloc, body.len() + 5)?;
+    text.push(&[0; 4])?;
     text.push(body)?;
-    text.push(&[0])?;
+    close_frame(&mut text)?;
     Ok(text)
+}
+
+/// Makes of four bytes and the body behind them the text of the body's frame. Takes one byte more, for the gate.
+pub fn close_frame(text: &mut Text) -> Result<(), NoMemory>
+    requires { IsBody (drop 4 text.old) }
+    ensures text { OnOk result (text.new ≡ frame_of (drop 4 text.old)) }
+    ensures frame { OnOk result (IsFrame text.new) }
+{
+    let length = (text.bytes().len() - 4) as u32;
+    text.overwrite(0, &length.to_be_bytes());
+    text.push(&[0])
 }

@@ -1,11 +1,13 @@
 // The first sixteen bytes of a journal's file.
 ghost use Rattle.std.specs.Prelude.{◌≡◌, ◌⊎◌, ◌≤◌, List, ℕ, length, Some, OnOk, IfOk, IfSome};
+ghost use Rattle.key_journal.specs.Layout.{second_start, first_start};
 ghost use Rattle.x_disk.specs.Disk.{IsDurable, LeavesOnly, LeavesNoMore};
 ghost use Rattle.key_journal.specs.Journal.{is_blank, has_magic, start};
 ghost use Rattle.key_journal.specs.Opening.{IsHeaderOf, refusal_of};
 ghost use Rattle.key_journal.specs.States.{HasFaults};
 
 use crate::Cause;
+use crate::layout::{FIRST_START, SECOND_START};
 use x_disk::{Disk, DiskErr};
 
 const MAGIC: [u8; 14] = *b"X917-KEYSTORE1";
@@ -64,9 +66,13 @@ impl Header {
 
     /// Where the selected area begins.
     pub(crate) fn start(&self) -> u64
-        ensures bounds { (result ≡ 16) ⊎ (result ≡ 8388616) }
+        ensures bounds { (result ≡ first_start) ⊎ (result ≡ second_start) }
         ensures start { (b : List ℕ) → IsHeaderOf self.now.length self.now.bytes b → 2 ≤ length b → result ≡ start b }
     {
-        if self.bytes[1] == 1 { 8_388_616 } else { 16 }
+        if self.bytes[1] == 1 {
+            SECOND_START
+        } else {
+            FIRST_START
+        }
     }
 }

@@ -1,5 +1,6 @@
 // What holds of every image.
 ghost use Rattle.std.specs.Prelude.{◌≡◌, ◌⊎◌, ◌+◌, ◌∷◌, ◌++◌, List, ℕ, true, false, Some, None, Ok};
+ghost use Rattle.key_journal.specs.Layout.{area_size};
 ghost use Rattle.key_journal.specs.Journal.{is_blank, has_magic, start, gate_place, Holds, Begins};
 ghost use Rattle.key_journal.specs.Opening.{AreBytes, IsDamagedAt, IsJudged, found_at};
 ghost use Rattle.key_journal.specs.States.{AreFirst};
@@ -27,7 +28,8 @@ pub fn law_gates()
     ensures head { (image : List ℕ) (bodies : List (List ℕ)) → Holds image bodies → (is_blank image ≡ false) × (has_magic image ≡ true) }
     ensures begins { (image : List ℕ) (bodies : List (List ℕ)) → Holds image bodies → Begins image bodies (gate_place image bodies) }
     ensures either { (image : List ℕ) (first second : List (List ℕ)) (g h : ℕ) → Begins image first g → Begins image second h → AreFirst first second ⊎ AreFirst second first }
+    ensures front { (image : List ℕ) (bodies rest : List (List ℕ)) (last : ℕ) → Begins image (bodies ++ rest) last → Begins image bodies (gate_place image bodies) }
     ensures next { (image : List ℕ) (bodies rest : List (List ℕ)) (body : List ℕ) (gate last : ℕ) → Begins image bodies gate → Begins image (bodies ++ body ∷ rest) last
-        → found_at image gate (start image + 8388600) ≡ Ok (Some body) }
-    ensures end { (image : List ℕ) (bodies : List (List ℕ)) (gate : ℕ) → Begins image bodies gate → Holds image bodies → found_at image gate (start image + 8388600) ≡ Ok None }
+        → found_at image gate (start image + area_size) ≡ Ok (Some body) }
+    ensures end { (image : List ℕ) (bodies : List (List ℕ)) (gate : ℕ) → Begins image bodies gate → Holds image bodies → found_at image gate (start image + area_size) ≡ Ok None }
 {}

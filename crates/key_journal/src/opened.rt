@@ -1,14 +1,12 @@
 // Opening a journal and reading its bodies.
-ghost use Rattle.std.specs.Prelude.{◌≡◌, ◌⊎◌, ◌+◌, ◌<◌, ◌≤◌, [], ◌∷◌, ◌++◌, List, ℕ, length, true, Some, None, option_map, OnOk, OnErr, IfOk, IfErr, IfSome, MatchResult, IsErrOf};
-ghost use Rattle.x_base.specs.Edge.{Rose};
-ghost use Rattle.x_disk.specs.Disk.{IsDurable, IsStill, LeavesOnly, LeavesNoMore};
-ghost use Rattle.key_journal.specs.Journal.{IsBody};
-ghost use Rattle.key_journal.specs.Opening.{IsOpened, IsRefused, IsFound, IsFree, IsDamagedAt, found_at};
-ghost use Rattle.key_journal.specs.Results.{opened_disk};
-ghost use Rattle.key_journal.specs.States.{HasBodies, HasRead, HasRoom, AreFirst};
+ghost use Rattle.std.specs.Prelude.{◌≡◌, true};
+ghost use Rattle.x_disk.specs.Disk.{IsDurable};
+ghost use Rattle.key_journal.specs.States.{HasRoom};
+ghost use Rattle.key_journal.specs.Reading.{IsOpening, IsReadOn};
 
 use crate::header::look;
 use crate::judge::Judged;
+use crate::layout::AREA_SIZE;
 use crate::reader::Reader;
 use crate::{Broken, Cause, Ready, Unmade};
 use std::alloc::Global;
@@ -36,23 +34,10 @@ impl<D: Disk> Model for Opened<D> {
     ghost invariant = { λ o. IsOpen (D.told o.reader.disk) o.reader.size o.gate o.end o.ended };
 }
 
-const AREA: u64 = 8_388_600;
-
 /// Syncs and reads the header. Comes with `Blank` exactly where the image is blank, and with `Damaged(2)` exactly where it
 /// isn't and its magic doesn't stand.
 pub fn open_disk<D: Disk>(disk: D) -> Result<Opened<D>, Unmade<D>>
-    ensures opened { IfOk result (λ o. IsOpened (D.told disk) (D.told o.disk) o.gate o.end o.ended) }
-    ensures refused { IfErr result (λ u. IsRefused (D.told disk) (D.told u.disk) u.cause) }
-
-    ensures undamaged { (bodies : List (List ℕ)) → HasBodies (D.told disk) bodies → IfErr result (λ u. IsFree u.cause) }
-    ensures damaged { IfErr result (λ u. (place : ℕ) → u.cause ≡ Cause.Damaged place → (b : List ℕ) → (D.told disk).now ≡ Some b → IsDamagedAt b place) }
-    ensures first_damage { IfErr result (λ u. (place : ℕ) (b : List ℕ) → (D.told disk).now ≡ Some b → IsDamagedAt b place → IsFree u.cause ⊎ (u.cause ≡ Cause.Damaged place)) }
-
-    // A crash at any moment leaves what it could leave before.
-    ensures any_moment { LeavesOnly (D.told disk) (D.told (opened_disk result)) (D.told disk).may_leave }
-    ensures images { LeavesNoMore (D.told disk) (D.told (opened_disk result)) }
-
-    ensures faults { (D.told disk).faults ≤ (D.told (opened_disk result)).faults }
+    ensures { IsOpening D.told disk result }
 {
     let mut disk = disk;
     let header = match look(&mut disk) {
@@ -71,7 +56,7 @@ pub fn open_disk<D: Disk>(disk: D) -> Result<Opened<D>, Unmade<D>>
     Ok(Opened {
         reader: Reader::new(disk, header.length),
         gate,
-        end: gate + AREA,
+        end: gate + AREA_SIZE,
         ended: false,
     })
 }
@@ -81,14 +66,7 @@ impl<D: Disk> Broken<D> {
 
     /// Opens the journal anew: `open_disk` over its disk.
     pub fn reopen(self) -> Result<Opened<D>, Unmade<D>>
-        ensures opened { IfOk result (λ o. IsOpened (D.told self.disk) (D.told o.disk) o.gate o.end o.ended) }
-        ensures refused { IfErr result (λ u. IsRefused (D.told self.disk) (D.told u.disk) u.cause) }
-        ensures undamaged { (bodies : List (List ℕ)) → HasBodies (D.told self.disk) bodies → IfErr result (λ u. IsFree u.cause) }
-        ensures damaged { IfErr result (λ u. (place : ℕ) → u.cause ≡ Cause.Damaged place → (b : List ℕ) → (D.told self.disk).now ≡ Some b → IsDamagedAt b place) }
-        ensures first_damage { IfErr result (λ u. (place : ℕ) (b : List ℕ) → (D.told self.disk).now ≡ Some b → IsDamagedAt b place → IsFree u.cause ⊎ (u.cause ≡ Cause.Damaged place)) }
-        ensures any_moment { LeavesOnly (D.told self.disk) (D.told (opened_disk result)) (D.told self.disk).may_leave }
-        ensures images { LeavesNoMore (D.told self.disk) (D.told (opened_disk result)) }
-        ensures faults { (D.told self.disk).faults ≤ (D.told (opened_disk result)).faults }
+        ensures { IsOpening D.told self.disk result }
     {
         open_disk(self.give_up().disk)
     }
@@ -99,28 +77,7 @@ impl<D: Disk> Opened<D> {
     /// the gate is open and its frame is damaged, or where the area's first gate isn't open. After an error the next call
     /// begins at the same gate.
     pub fn next(&mut self, alloc: Global) -> Result<Option<Text>, Cause>
-        ensures exact { (b : List ℕ) → (D.told self.old.disk).now ≡ Some b → IsFound (found_at b self.old.gate self.old.end) result }
-        ensures body { IfOk result (λ o. IfSome o IsBody) }
-        ensures more { IfOk result (λ o. IfSome o (λ body. (bodies : List (List ℕ)) → HasRead (D.told self.old.disk) bodies self.old.gate
-            → HasRead (D.told self.new.disk) (bodies ++ body ∷ []) self.new.gate)) }
-        ensures all { IfOk result (λ o. o ≡ None → (bodies : List (List ℕ)) → HasRead (D.told self.old.disk) bodies self.old.gate → HasBodies (D.told self.new.disk) bodies) }
-        ensures only { IfOk result (λ o. o ≡ None → (bodies all : List (List ℕ)) → HasRead (D.told self.old.disk) bodies self.old.gate → HasBodies (D.told self.old.disk) all → all ≡ bodies) }
-        ensures ended { IfOk result (λ o. o ≡ None → self.new.ended ≡ true) }
-        ensures onward { IfOk result (λ o. IfSome o (λ body. (self.new.gate ≡ self.old.gate + 5 + length body) × (self.new.gate < self.new.end))) }
-        ensures undamaged { (bodies : List (List ℕ)) → HasBodies (D.told self.old.disk) bodies → IfErr result IsFree }
-        ensures damaged { IfErr result (λ c. (place : ℕ) → c ≡ Cause.Damaged place → (b : List ℕ) → (D.told self.old.disk).now ≡ Some b → IsDamagedAt b place) }
-
-        // An image with a damage is read on until there, and that is what is told of it.
-        ensures unended { IfOk result (λ o. o ≡ None → (place : ℕ) (b : List ℕ) → (D.told self.old.disk).now ≡ Some b → IsDamagedAt b place → ⊥) }
-        ensures first_damage { IfErr result (λ c. (place : ℕ) (b : List ℕ) → (D.told self.old.disk).now ≡ Some b → IsDamagedAt b place → IsFree c ⊎ (c ≡ Cause.Damaged place)) }
-
-        ensures first { (bodies all : List (List ℕ)) → HasRead (D.told self.new.disk) bodies self.new.gate → HasBodies (D.told self.new.disk) all → AreFirst bodies all }
-        ensures again { OnErr result ((self.new.gate ≡ self.old.gate) × (self.new.ended ≡ self.old.ended)) }
-        ensures end { self.new.end ≡ self.old.end }
-        ensures still { IsStill (D.told self.old.disk) (D.told self.new.disk) }
-        ensures names { IfErr result (λ c. IsFree c ⊎ (c ≡ Cause.Damaged self.old.gate)) }
-        ensures fault { IfErr result (λ c. c ≡ Cause.Fault → Rose (D.told self.old.disk).faults (D.told self.new.disk).faults) }
-        ensures faults { (D.told self.old.disk).faults ≤ (D.told self.new.disk).faults }
+        ensures { IsReadOn D.told self.old self.new result }
     {
         if self.ended {
             return Ok(None);
@@ -133,7 +90,7 @@ impl<D: Disk> Opened<D> {
             }
             Judged::Damaged => Err(Cause::Damaged(self.gate)),
             Judged::Closed => {
-                if self.gate + AREA == self.end {
+                if self.gate + AREA_SIZE == self.end {
                     return Err(Cause::Damaged(self.gate));
                 }
                 self.ended = true;

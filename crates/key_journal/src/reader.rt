@@ -1,8 +1,9 @@
 // Reading a file through a window of a few thousand bytes.
 ghost use Rattle.std.specs.Prelude.{◌≡◌, ◌+◌, ◌-◌, ◌≤◌, ◌∷◌, min, List, ℕ, length, take, drop, Some, OnOk, IfOk};
-ghost use Rattle.x_disk.specs.Disk.{IsStill};
+ghost use Rattle.x_disk.specs.Disk.{IsStill, disk_size};
 ghost use Rattle.key_journal.specs.Journal.{four_bytes};
 ghost use Rattle.key_journal.specs.Judged.{judged_at, IsSized, IfBody};
+ghost use Rattle.key_journal.specs.Opening.{KeepsFile};
 ghost use Rattle.key_journal.specs.States.{HasFaults};
 
 use crate::judge::{Judged, judge};
@@ -78,9 +79,7 @@ impl<D: Disk> Reader<D> {
         requires wanted { wanted ≤ 4096 }
         ensures from { OnOk result (self.new.from ≤ at) }
         ensures held { OnOk result (at + min wanted (self.new.size - at) ≤ self.new.from + self.new.held) }
-        ensures size { self.new.size ≡ self.old.size }
-        ensures still { IsStill (D.told self.old.disk) (D.told self.new.disk) }
-        ensures cause { HasFaults (D.told self.old.disk) (D.told self.new.disk) result }
+        ensures file { KeepsFile D.told self.old self.new result }
     {
         let needed = wanted.min(self.size - at);
         if self.from <= at && at + needed <= self.from + self.held as u64 {
@@ -94,9 +93,7 @@ impl<D: Disk> Reader<D> {
         requires { at ≤ self.old.size }
         ensures from { OnOk result (self.new.from ≡ at) }
         ensures held { OnOk result (self.new.held ≡ min (self.new.size - at) 4096) }
-        ensures size { self.new.size ≡ self.old.size }
-        ensures still { IsStill (D.told self.old.disk) (D.told self.new.disk) }
-        ensures cause { HasFaults (D.told self.old.disk) (D.told self.new.disk) result }
+        ensures file { KeepsFile D.told self.old self.new result }
     {
         let held = (self.size - at).min(WINDOW as u64) as usize;
         self.held = 0;
@@ -118,13 +115,11 @@ impl<D: Disk> Reader<D> {
 
     /// What lies at the gate of an area that ends at this place.
     pub(crate) fn judge_at(&mut self, gate: u64, end: u64) -> Result<Judged, DiskErr>
-        requires { gate ≤ 16777216 }
+        requires { gate ≤ disk_size }
         ensures value { IfOk result (λ j. (b : List ℕ) → (D.told self.old.disk).now ≡ Some b → j ≡ judged_at b gate end) }
         ensures sized { IfOk result (λ j. IfBody j (λ n. IsSized gate end self.old.size n)) }
         ensures bytes { IfOk result (λ j. IfBody j (λ n. (b : List ℕ) → (D.told self.old.disk).now ≡ Some b → take 5 (drop gate b) ≡ 1 ∷ four_bytes n)) }
-        ensures size { self.new.size ≡ self.old.size }
-        ensures still { IsStill (D.told self.old.disk) (D.told self.new.disk) }
-        ensures cause { HasFaults (D.told self.old.disk) (D.told self.new.disk) result }
+        ensures file { KeepsFile D.told self.old self.new result }
     {
         if self.size <= gate {
             return Ok(Judged::Closed);
@@ -136,12 +131,10 @@ impl<D: Disk> Reader<D> {
     /// The `n` bytes from this place on.
     pub(crate) fn body(&mut self, alloc: Global, at: u64, n: u64) -> Result<Text, DiskErr>
         requires within { at + n ≤ self.old.size }
-        requires small { at + n ≤ 16777216 }
+        requires small { at + n ≤ disk_size }
         ensures length { IfOk result (λ t. length t ≡ n) }
         ensures bytes { IfOk result (λ t. (b : List ℕ) → (D.told self.old.disk).now ≡ Some b → t ≡ take n (drop at b)) }
-        ensures size { self.new.size ≡ self.old.size }
-        ensures still { IsStill (D.told self.old.disk) (D.told self.new.disk) }
-        ensures cause { HasFaults (D.told self.old.disk) (D.told self.new.disk) result }
+        ensures file { KeepsFile D.told self.old self.new result }
     {
         let mut text = Text::new(alloc);
         let mut done = 0;

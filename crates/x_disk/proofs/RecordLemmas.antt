@@ -5,8 +5,8 @@ use Rattle.x_disk.specs.Disk.{overwrite}
 use Rattle.x_disk.specs.History.{Step, Write, Sync, PowerOff, State, state_of, after_step, all_bytes, left_by}
 use Rattle.x_disk.specs.HistoryLaw.{replay-push, length-overwrite, overwrite_elsewhere}
 use Rattle.x_disk.specs.Record.{steps_of, lengths, ranges_of, Represents}
-use Rattle.x_disk.specs.declared.torn.Entry.{Entry}
-use Rattle.x_disk.specs.declared.torn.Entry.TheVariants as E
+use Rattle.x_disk.specs.declared.disk_record.Entry.{Entry}
+use Rattle.x_disk.specs.declared.disk_record.Entry.TheVariants as E
 
 abbrev blank : State
 blank = record { now = []; stable = []; pending = [] }

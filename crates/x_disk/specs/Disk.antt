@@ -15,6 +15,10 @@ pub record View : Type 1 where
   pub covers : ℕ → ℕ → ℕ → Type 0  -- memory is reserved for writes that end at or below a place, of so many bytes in all, and for so many calls
   pub passes : Option ℕ  -- the calls that still pass before one fails
 
+-- a disk takes so many bytes
+abbrev pub disk_size : ℕ
+disk_size = 16777216
+
 -- the disk tells its bytes
 abbrev pub Tells : View → Type 0
 Tells v = is_some v.now ≡ true

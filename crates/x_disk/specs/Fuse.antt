@@ -1,7 +1,9 @@
 -- What a fuse adds to what its disk tells (this project's profile).
-use Rattle.std.specs.Prelude.{◌≡◌, ℕ, zero, suc, ◌+◌, ◌<◌, ◌≤◌, ◌^◌, Bool, true, false, Option, Some, None, Result, Err, OnOk, IsErr, IsErrOf}
+use Rattle.std.specs.Prelude.{List, length, ◌≡◌, ℕ, zero, suc, ◌+◌, ◌<◌, ◌≤◌, ◌^◌, Bool, true, false, Option, Some, None, Result, Err, OnOk, IsErr, IsErrOf}
 use Rattle.std.proofs.Common.{arith}
-use Rattle.x_disk.specs.Disk.{View, IsSound, one_less}
+use Rattle.x_base.specs.Edge.{Rose}
+use Rattle.x_disk.specs.Disk.{View, IsSound, IsWritten, one_less}
+use Rattle.x_disk.specs.Shelf.{IsAlike}
 use Rattle.x_disk.specs.declared.disk.DiskErr.{DiskErr}
 use Rattle.x_disk.specs.declared.disk.DiskErr.TheVariants.{Fault, NoMemory}
 use Rattle.x_disk.specs.declared.fused.Fuse.{Fuse}
@@ -34,15 +36,39 @@ with_fuse fuse v = record {
   passes = passes_of fuse;
 }
 
+-- what a disk with a fuse tells
+abbrev pub fused_view : {D : Type 0} → (D → View) → WithFuse D → View
+fused_view told f = with_fuse f.fuse (told f.disk)
+
 -- with a fuse the disk covers what it covered before, for as many calls as the fuse can count
 abbrev pub StillCovers : View → View → Type 0
 StillCovers old new = (end bytes calls : ℕ) → calls < 2 ^ 64 → old.covers end bytes calls → new.covers end bytes calls
+
+-- a disk with a fuse for so many calls tells what it told without
+pub record IsFusedView (calls : ℕ) (old new : View) : Type 0 where
+  pub passes : new.passes ≡ Some calls
+  pub disk : IsAlike new old
+  pub faults : new.faults ≡ old.faults
+  pub covers : StillCovers old new
 
 -- what a counted call makes of the fuse; the count of faults ends at 2 ^ 64 of them
 pub record IsCall (old new : Fuse) : Type 0 where
   pub passes : (n : ℕ) → old ≡ Passes (suc n) → new ≡ Passes n
   pub blows : old ≡ Passes 0 → new ≡ Blown 0
   pub counts : (n : ℕ) → old ≡ Blown n → n < 18446744073709551615 → new ≡ Blown (n + 1)
+
+-- a call of length, read or sync: where the fuse answers, nothing is done
+pub record IsFusedCall {D T : Type 0} (old new : WithFuse D) (result : Result T DiskErr) : Type 0 where
+  pub fuse : IsCall old.fuse new.fuse
+  pub blown : (n : ℕ) → old.fuse ≡ Blown n → IsErr result × (new.disk ≡ old.disk)
+  pub last : old.fuse ≡ Passes 0 → IsErr result × (new.disk ≡ old.disk)
+
+-- a write: where the fuse answers for the first time it is made, and pending, unless the disk fails or wants memory
+pub record IsFusedWrite {D : Type 0} (told : D → View) (at : ℕ) (bytes : List ℕ) (old new : WithFuse D) (result : Result Unit DiskErr) : Type 0 where
+  pub fuse : IsCall old.fuse new.fuse
+  pub blown : (n : ℕ) → old.fuse ≡ Blown n → IsErr result × (new.disk ≡ old.disk)
+  pub begun : old.fuse ≡ Passes 0 → (end n calls : ℕ) → (told old.disk).covers end n (suc calls) → at + length bytes ≤ end → length bytes ≤ n
+      → (Rose (told old.disk).faults (told new.disk).faults → ⊥) → IsWritten at bytes (told old.disk) (told new.disk)
 
 -- the next call is the one that fails
 abbrev pub is_last : Fuse → Bool

@@ -2,6 +2,7 @@
 use Rattle.std.specs.Prelude.{ℕ, ◌+◌, List}
 use Rattle.x_disk.specs.Disk.{View}
 use Rattle.x_disk.specs.Fuse.{with_fuse}
+use Rattle.x_disk.specs.Shelf.{ShelfView, shelf_view}
 use Rattle.x_disk.specs.declared.fused.Fuse.TheVariants.{Passes}
 
 -- a shelf, the calls that it and each fetched disk still pass, and its own faults
@@ -18,3 +19,7 @@ fused_entry entry s name = with_fuse (Passes s.disk_calls) (entry s.inner name)
 -- the faults of the shelf and its own
 abbrev pub all_faults : {H : Type 0} → (H → ℕ) → WithCalls H → ℕ
 all_faults faults s = faults s.inner + s.faults
+
+-- what the shelf tells
+abbrev pub fused_shelf_view : {H : Type 0} → (H → List ℕ → View) → (H → List ℕ → Type 0) → (H → List ℕ → Type 0) → (H → ℕ) → WithCalls H → ShelfView
+fused_shelf_view entry has_slot is_back faults = shelf_view (fused_entry entry) (λ s. has_slot s.inner) (λ s. is_back s.inner) (all_faults faults)

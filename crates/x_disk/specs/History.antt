@@ -1,5 +1,5 @@
 -- A disk in memory, as the list of what was done to it (this project's profile).
-use Rattle.std.specs.Prelude.{ℕ, zero, suc, ◌+◌, ◌*◌, ◌/◌, ◌%◌, ◌^◌, ◌<◌, ◌≤◌, ◌≡◌, if◌then◌else◌, Bool, false, ◌&&◌, ◌||◌, nat_lt, nat_le, List, [], ◌∷◌, ◌++◌, length, get_or, take, Some, None}
+use Rattle.std.specs.Prelude.{Result, OnOk, OnErr, ℕ, zero, suc, ◌+◌, ◌*◌, ◌/◌, ◌%◌, ◌^◌, ◌<◌, ◌≤◌, ◌≡◌, if◌then◌else◌, Bool, false, ◌&&◌, ◌||◌, nat_lt, nat_le, List, [], ◌∷◌, ◌++◌, length, get_or, take, Some, None}
 use Rattle.x_disk.specs.Disk.{View, overwrite}
 
 pub data Step : Type 0 where
@@ -14,6 +14,11 @@ pub record History : Type 0 where
 
 abbrev pub and_then : History → Step → History
 and_then h x = record { room = h.room; steps = h.steps ++ x ∷ [] }
+
+-- a step is added, or nothing changes
+pub record IsAdded {E : Type 0} (x : Step) (old new : History) (result : Result Unit E) : Type 0 where
+  pub ok : OnOk result (new ≡ and_then old x)
+  pub err : OnErr result (new ≡ old)
 
 pub record State : Type 0 where
   pub now : List ℕ  -- the bytes that a read gives

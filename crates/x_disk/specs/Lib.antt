@@ -1,4 +1,5 @@
 pub mod Disk
+pub mod Calls
 pub mod Fuse
 pub mod FusedShelf
 pub mod History

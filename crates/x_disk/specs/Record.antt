@@ -1,8 +1,8 @@
 -- How a disk in memory keeps its record.
 use Rattle.std.specs.Prelude.{◌≡◌, ℕ, ◌+◌, ◌/◌, ◌≤◌, List, [], ◌∷◌, length, take, drop}
 use Rattle.x_disk.specs.History.{Step, Write, Sync, PowerOff, state_of}
-use Rattle.x_disk.specs.declared.torn.Entry.{Entry}
-use Rattle.x_disk.specs.declared.torn.Entry.TheVariants as E
+use Rattle.x_disk.specs.declared.disk_record.Entry.{Entry}
+use Rattle.x_disk.specs.declared.disk_record.Entry.TheVariants as E
 
 -- the steps of these entries, the bytes of whose writes lie one after the other
 abbrev pub steps_of : List Entry → List ℕ → List Step

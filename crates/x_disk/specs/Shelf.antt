@@ -1,6 +1,9 @@
--- What a shelf tells (this project's profile).
-use Rattle.std.specs.Prelude.{◌≡◌, ◌≢◌, ℕ, List, refl}
+-- What a shelf tells, and what its calls do to that (this project's profile).
+use Rattle.std.specs.Prelude.{◌≡◌, ◌≢◌, ◌⊎◌, ◌<◌, ◌≤◌, ℕ, List, Result, IfOk, OnOk, OnErr, IsErrOf, refl}
+use Rattle.x_base.specs.Edge.{Rose}
 use Rattle.x_disk.specs.Disk.{View}
+use Rattle.x_disk.specs.declared.disk.DiskErr.{DiskErr}
+use Rattle.x_disk.specs.declared.disk.DiskErr.TheVariants.{Fault, NoMemory}
 
 -- one disk tells what the other does, but for faults and the calls that pass; what the first covers, the other does
 pub record IsAlike (v w : View) : Type 0 where
@@ -27,3 +30,38 @@ SlotsStay old new = (name : List ℕ) → old name → new name
 
 pub alike_refl : (v : View) → IsAlike v v
 alike_refl v = record { now = refl; stable = refl; moment = refl; images = λ c is. is; images_stay = λ c is. is; since = λ t c is. is; since_stays = λ t c is. is; covers = λ e b k is. is }
+
+-- all that a shelf tells
+pub record ShelfView : Type 1 where
+  pub entry : List ℕ → View  -- what the disk under a name tells
+  pub has_slot : List ℕ → Type 0  -- the disk under a name has a place
+  pub is_back : List ℕ → Type 0  -- the disk under a name was put back
+  pub faults : ℕ
+
+abbrev pub shelf_view : {H : Type 0} → (H → List ℕ → View) → (H → List ℕ → Type 0) → (H → List ℕ → Type 0) → (H → ℕ) → H → ShelfView
+shelf_view entry has_slot is_back faults s = record { entry = entry s; has_slot = has_slot s; is_back = is_back s; faults = faults s }
+
+-- the disk under a name is taken out, and has a slot from then on
+pub record IsFetched {D : Type 0} (told : D → View) (name : List ℕ) (old new : ShelfView) (result : Result D DiskErr) : Type 0 where
+  pub disk : IfOk result (λ disk. IsAlike (old.entry name) (told disk))
+  pub fresh : IfOk result (λ disk. (told disk).faults ≡ 0)
+  pub slot : OnOk result (new.has_slot name)
+  pub slots : SlotsStay old.has_slot new.has_slot
+  pub others : OnOk result (OthersStay name old.entry new.entry)
+  pub err : OnErr result (AllStay old.entry new.entry)
+  pub later : old.faults ≤ new.faults
+  pub cause : IsErrOf result Fault → Rose old.faults new.faults
+  pub no_memory : IsErrOf result NoMemory → new.faults ≡ old.faults
+
+-- this is put under a name, also after an error where that has a slot
+pub record IsPutBack (put : View) (name : List ℕ) (old new : ShelfView) (result : Result Unit DiskErr) : Type 0 where
+  pub disk : OnOk result (IsAlike put (new.entry name))
+  pub back : OnOk result (new.is_back name)
+  pub err : OnErr result (IsAlike (old.entry name) (new.entry name) ⊎ IsAlike put (new.entry name))
+  pub no_memory : IsErrOf result NoMemory → (old.has_slot name → ⊥) → IsAlike (old.entry name) (new.entry name)
+  pub kept : old.has_slot name → IsAlike put (new.entry name)
+  pub slots : SlotsStay old.has_slot new.has_slot
+  pub others : OthersStay name old.entry new.entry
+  pub later : old.faults ≤ new.faults
+  pub seen : 0 < put.faults → Rose old.faults new.faults
+  pub cause : IsErrOf result Fault → Rose old.faults new.faults

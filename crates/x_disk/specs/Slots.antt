@@ -3,6 +3,7 @@ use Rattle.std.specs.Prelude.{◌≡◌, ◌≢◌, ◌⊎◌, ℕ, if◌then◌
 use Rattle.x_disk.specs.Disk.{View, IsSound}
 use Rattle.x_disk.specs.History.{History, view_of}
 use Rattle.x_disk.specs.HistoryLaw.{history_sound}
+use Rattle.x_disk.specs.Shelf.{ShelfView}
 use Rattle.x_disk.specs.declared.slot.Slot.{Slot}
 
 -- an empty disk, with nothing reserved
@@ -44,3 +45,7 @@ OthersSame name old new = (other : List ℕ) → other ≢ name → disk_at new 
 
 abbrev pub AllSame : List Slot → List Slot → Type 0
 AllSame old new = (name : List ℕ) → disk_at new name ≡ disk_at old name
+
+-- what the shelf tells
+abbrev pub memory_view : List Slot → ShelfView
+memory_view slots = record { entry = entry_at slots; has_slot = HasSlot slots; is_back = HasSlot slots; faults = 0 }

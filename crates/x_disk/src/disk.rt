@@ -1,7 +1,8 @@
 // A disk, and what each of its calls does to what it tells.
-ghost use Rattle.std.specs.Prelude.{◌≡◌, ◌+◌, ◌≤◌, List, ℕ, length, take, drop, Some, is_some, IfOk, OnOk, OnErr};
+ghost use Rattle.std.specs.Prelude.{◌≡◌, ◌+◌, ◌≤◌, List, ℕ, length, Some};
 ghost use Rattle.x_disk.specs.declared.disk.DiskErr.TheVariants.{NoMemory};
-ghost use Rattle.x_disk.specs.Disk.{View, IsTornAt, Follows, LeavesNoMore, IsDurable, IsStill, IsKept, KeepsCover, IsWritten, Ticks, Elapses, HasCause, IsCounted, IsCovered, IsCoveredSync, IsSound};
+ghost use Rattle.x_disk.specs.Disk.{View, IsSound, disk_size};
+ghost use Rattle.x_disk.specs.Calls.{IsMeasured, IsFilled, IsWriting, IsSyncing, IsPowerOff};
 
 use std::alloc::{AllocError, AllocFailed};
 use thiserror::Error;
@@ -50,59 +51,26 @@ pub trait Disk: Drop {
 
     /// The number of bytes.
     fn length(&mut self) -> Result<u64, DiskErr>
-        ensures value { IfOk result (λ n. (b : List ℕ) → (told self.old).now ≡ Some b → n ≡ length b) }
-        ensures still { IsStill (told self.old) (told self.new) }
-        ensures covered { OnOk result (KeepsCover (told self.old) (told self.new)) }
-        ensures cause { HasCause (told self.old) (told self.new) result }
-        ensures counted { IsCounted (told self.old) (told self.new) result };
+        ensures { IsMeasured (told self.old) (told self.new) result };
 
     /// Reads the bytes from this place on, which have to lie within the length.
     fn read(&mut self, at: u64, buf: &mut [u8]) -> Result<(), DiskErr>
         requires { (b : List ℕ) → (told self.old).now ≡ Some b → at + length buf.old ≤ length b }
-        ensures value { OnOk result ((b : List ℕ) → (told self.old).now ≡ Some b → buf.new ≡ take (length buf.old) (drop at b)) }
-        ensures still { IsStill (told self.old) (told self.new) }
-        ensures covered { OnOk result (KeepsCover (told self.old) (told self.new)) }
-        ensures cause { HasCause (told self.old) (told self.new) result }
-        ensures counted { IsCounted (told self.old) (told self.new) result };
+        ensures { IsFilled at buf.old buf.new (told self.old) (told self.new) result };
 
     /// Writes these bytes over what is there and past the end; a gap before them reads as zeros.
     fn write_at(&mut self, at: u64, bytes: &[u8]) -> Result<(), DiskErr>
-        requires { at + length bytes.now ≤ 16777216 }
-        ensures written { OnOk result (IsWritten at bytes.now (told self.old) (told self.new)) }
-        ensures stable { (told self.new).stable ≡ (told self.old).stable }
-        ensures tells { is_some (told self.new).now ≡ is_some (told self.old).now }
-        ensures crash { Follows (IsTornAt at (length bytes.now)) (told self.old) (told self.new) }
-        ensures time { Elapses (told self.old) (told self.new) }
-        ensures clock { OnOk result (Ticks (told self.old) (told self.new)) }
-        ensures cause { HasCause (told self.old) (told self.new) result }
-        ensures counted { IsCounted (told self.old) (told self.new) result }
-        ensures covered { IsCovered (at + length bytes.now) (length bytes.now) (told self.old) (told self.new) result };
+        requires { at + length bytes.now ≤ disk_size }
+        ensures { IsWriting at bytes.now (told self.old) (told self.new) result };
 
     /// Makes what a read gives the one image that a crash leaves.
     fn sync(&mut self) -> Result<(), DiskErr>
-        ensures durable { OnOk result (IsDurable (told self.new)) }
-        ensures stable { OnErr result ((told self.new).stable ≡ (told self.old).stable) }
-        ensures now { (told self.new).now ≡ (told self.old).now }
-        ensures crash { LeavesNoMore (told self.old) (told self.new) }
-        ensures time { Elapses (told self.old) (told self.new) }
-        ensures clock { OnOk result (Ticks (told self.old) (told self.new)) }
-        ensures cause { HasCause (told self.old) (told self.new) result }
-        ensures counted { IsCounted (told self.old) (told self.new) result }
-        ensures covered { IsCoveredSync (told self.old) (told self.new) result };
+        ensures { IsSyncing (told self.old) (told self.new) result };
 
     /// The power goes: one of the images is left as what a read gives, with 0 that of the last sync and with 1 what a
     /// read gave.
     fn power_off(&mut self, choice: u64) -> Result<(), DiskErr>
-        ensures durable { OnOk result (IsDurable (told self.new)) }
-        ensures crash { LeavesNoMore (told self.old) (told self.new) }
-        ensures stable { OnOk result (choice ≡ 0 → (told self.new).now ≡ (told self.old).stable) }
-        ensures now { OnOk result (choice ≡ 1 → (told self.new).now ≡ (told self.old).now) }
-        ensures tells { is_some (told self.new).now ≡ is_some (told self.old).now }
-        ensures as_before { OnErr result (IsKept (told self.old) (told self.new)) }
-        ensures time { Elapses (told self.old) (told self.new) }
-        ensures clock { OnOk result (Ticks (told self.old) (told self.new)) }
-        ensures passes { (told self.new).passes ≡ (told self.old).passes }
-        ensures cause { HasCause (told self.old) (told self.new) result };
+        ensures { IsPowerOff choice (told self.old) (told self.new) result };
 
     // what holds of every disk
     ghost sound: { (disk : Self) → IsSound (told disk) };

@@ -95,60 +95,36 @@ impl<D: Disk> Fused<D> {
 }
 
 impl<D: Disk> Disk for Fused<D> {
-    ghost use Rattle.std.specs.Prelude.{◌≡◌, ◌+◌, ◌≤◌, ℕ, suc, List, length, take, drop, Some, is_some, IfOk, OnOk, OnErr, IsErr};
-    ghost use Rattle.x_base.specs.Edge.{Rose};
-    ghost use Rattle.x_disk.specs.declared.fused.Fuse.TheVariants.{Passes, Blown};
-    ghost use Rattle.x_disk.specs.Disk.{IsTornAt, Follows, LeavesNoMore, IsDurable, IsStill, IsKept, KeepsCover, IsWritten, Ticks, Elapses, HasCause, IsCounted, IsCovered, IsCoveredSync};
-    ghost use Rattle.x_disk.specs.Fuse.{with_fuse, fused_sound, IsCall};
+    ghost use Rattle.std.specs.Prelude.{◌≡◌, ◌+◌, ◌≤◌, ℕ, List, length, Some};
+    ghost use Rattle.x_disk.specs.Disk.{disk_size};
+    ghost use Rattle.x_disk.specs.Calls.{IsMeasured, IsFilled, IsWriting, IsSyncing, IsPowerOff};
+    ghost use Rattle.x_disk.specs.Fuse.{IsFusedCall, IsFusedWrite, fused_view, fused_sound};
 
-    ghost told = { λ f. with_fuse f.fuse (D.told f.disk) };
+    ghost told = { fused_view D.told };
 
     ghost sound = { λ f. fused_sound f.fuse (D.told f.disk) (D.sound f.disk) };
 
     fn length(&mut self) -> Result<u64, DiskErr>
-        ensures value { IfOk result (λ n. (b : List ℕ) → (with_fuse self.old.fuse (D.told self.old.disk)).now ≡ Some b → n ≡ length b) }
-        ensures still { IsStill (with_fuse self.old.fuse (D.told self.old.disk)) (with_fuse self.new.fuse (D.told self.new.disk)) }
-        ensures covered { OnOk result (KeepsCover (with_fuse self.old.fuse (D.told self.old.disk)) (with_fuse self.new.fuse (D.told self.new.disk))) }
-        ensures cause { HasCause (with_fuse self.old.fuse (D.told self.old.disk)) (with_fuse self.new.fuse (D.told self.new.disk)) result }
-        ensures counted { IsCounted (with_fuse self.old.fuse (D.told self.old.disk)) (with_fuse self.new.fuse (D.told self.new.disk)) result }
-        ensures fuse { IsCall self.old.fuse self.new.fuse }
-        ensures blown { (n : ℕ) → self.old.fuse ≡ Blown n → IsErr result × (self.new.disk ≡ self.old.disk) }
-        ensures last { self.old.fuse ≡ Passes 0 → IsErr result × (self.new.disk ≡ self.old.disk) }
+        ensures call { IsMeasured (fused_view D.told self.old) (fused_view D.told self.new) result }
+        ensures fuse { IsFusedCall self.old self.new result }
     {
         self.fuse.burn()?;
         self.disk.length()
     }
 
     fn read(&mut self, at: u64, buf: &mut [u8]) -> Result<(), DiskErr>
-        requires { (b : List ℕ) → (with_fuse self.old.fuse (D.told self.old.disk)).now ≡ Some b → at + length buf.old ≤ length b }
-        ensures value { OnOk result ((b : List ℕ) → (with_fuse self.old.fuse (D.told self.old.disk)).now ≡ Some b → buf.new ≡ take (length buf.old) (drop at b)) }
-        ensures still { IsStill (with_fuse self.old.fuse (D.told self.old.disk)) (with_fuse self.new.fuse (D.told self.new.disk)) }
-        ensures covered { OnOk result (KeepsCover (with_fuse self.old.fuse (D.told self.old.disk)) (with_fuse self.new.fuse (D.told self.new.disk))) }
-        ensures cause { HasCause (with_fuse self.old.fuse (D.told self.old.disk)) (with_fuse self.new.fuse (D.told self.new.disk)) result }
-        ensures counted { IsCounted (with_fuse self.old.fuse (D.told self.old.disk)) (with_fuse self.new.fuse (D.told self.new.disk)) result }
-        ensures fuse { IsCall self.old.fuse self.new.fuse }
-        ensures blown { (n : ℕ) → self.old.fuse ≡ Blown n → IsErr result × (self.new.disk ≡ self.old.disk) }
-        ensures last { self.old.fuse ≡ Passes 0 → IsErr result × (self.new.disk ≡ self.old.disk) }
+        requires { (b : List ℕ) → (fused_view D.told self.old).now ≡ Some b → at + length buf.old ≤ length b }
+        ensures call { IsFilled at buf.old buf.new (fused_view D.told self.old) (fused_view D.told self.new) result }
+        ensures fuse { IsFusedCall self.old self.new result }
     {
         self.fuse.burn()?;
         self.disk.read(at, buf)
     }
 
     fn write_at(&mut self, at: u64, bytes: &[u8]) -> Result<(), DiskErr>
-        requires { at + length bytes.now ≤ 16777216 }
-        ensures written { OnOk result (IsWritten at bytes.now (with_fuse self.old.fuse (D.told self.old.disk)) (with_fuse self.new.fuse (D.told self.new.disk))) }
-        ensures stable { (with_fuse self.new.fuse (D.told self.new.disk)).stable ≡ (with_fuse self.old.fuse (D.told self.old.disk)).stable }
-        ensures tells { is_some (with_fuse self.new.fuse (D.told self.new.disk)).now ≡ is_some (with_fuse self.old.fuse (D.told self.old.disk)).now }
-        ensures crash { Follows (IsTornAt at (length bytes.now)) (with_fuse self.old.fuse (D.told self.old.disk)) (with_fuse self.new.fuse (D.told self.new.disk)) }
-        ensures time { Elapses (with_fuse self.old.fuse (D.told self.old.disk)) (with_fuse self.new.fuse (D.told self.new.disk)) }
-        ensures clock { OnOk result (Ticks (with_fuse self.old.fuse (D.told self.old.disk)) (with_fuse self.new.fuse (D.told self.new.disk))) }
-        ensures cause { HasCause (with_fuse self.old.fuse (D.told self.old.disk)) (with_fuse self.new.fuse (D.told self.new.disk)) result }
-        ensures counted { IsCounted (with_fuse self.old.fuse (D.told self.old.disk)) (with_fuse self.new.fuse (D.told self.new.disk)) result }
-        ensures covered { IsCovered (at + length bytes.now) (length bytes.now) (with_fuse self.old.fuse (D.told self.old.disk)) (with_fuse self.new.fuse (D.told self.new.disk)) result }
-        ensures fuse { IsCall self.old.fuse self.new.fuse }
-        ensures blown { (n : ℕ) → self.old.fuse ≡ Blown n → IsErr result × (self.new.disk ≡ self.old.disk) }
-        ensures begun { self.old.fuse ≡ Passes 0 → (end n calls : ℕ) → (D.told self.old.disk).covers end n (suc calls) → at + length bytes.now ≤ end → length bytes.now ≤ n
-            → (Rose (D.told self.old.disk).faults (D.told self.new.disk).faults → ⊥) → IsWritten at bytes.now (D.told self.old.disk) (D.told self.new.disk) }
+        requires { at + length bytes.now ≤ disk_size }
+        ensures call { IsWriting at bytes.now (fused_view D.told self.old) (fused_view D.told self.new) result }
+        ensures fuse { IsFusedWrite D.told at bytes.now self.old self.new result }
     {
         let last = self.fuse.is_last();
         match self.fuse.burn() {
@@ -164,34 +140,15 @@ impl<D: Disk> Disk for Fused<D> {
     }
 
     fn sync(&mut self) -> Result<(), DiskErr>
-        ensures durable { OnOk result (IsDurable (with_fuse self.new.fuse (D.told self.new.disk))) }
-        ensures stable { OnErr result ((with_fuse self.new.fuse (D.told self.new.disk)).stable ≡ (with_fuse self.old.fuse (D.told self.old.disk)).stable) }
-        ensures now { (with_fuse self.new.fuse (D.told self.new.disk)).now ≡ (with_fuse self.old.fuse (D.told self.old.disk)).now }
-        ensures crash { LeavesNoMore (with_fuse self.old.fuse (D.told self.old.disk)) (with_fuse self.new.fuse (D.told self.new.disk)) }
-        ensures time { Elapses (with_fuse self.old.fuse (D.told self.old.disk)) (with_fuse self.new.fuse (D.told self.new.disk)) }
-        ensures clock { OnOk result (Ticks (with_fuse self.old.fuse (D.told self.old.disk)) (with_fuse self.new.fuse (D.told self.new.disk))) }
-        ensures cause { HasCause (with_fuse self.old.fuse (D.told self.old.disk)) (with_fuse self.new.fuse (D.told self.new.disk)) result }
-        ensures counted { IsCounted (with_fuse self.old.fuse (D.told self.old.disk)) (with_fuse self.new.fuse (D.told self.new.disk)) result }
-        ensures covered { IsCoveredSync (with_fuse self.old.fuse (D.told self.old.disk)) (with_fuse self.new.fuse (D.told self.new.disk)) result }
-        ensures fuse { IsCall self.old.fuse self.new.fuse }
-        ensures blown { (n : ℕ) → self.old.fuse ≡ Blown n → IsErr result × (self.new.disk ≡ self.old.disk) }
-        ensures last { self.old.fuse ≡ Passes 0 → IsErr result × (self.new.disk ≡ self.old.disk) }
+        ensures call { IsSyncing (fused_view D.told self.old) (fused_view D.told self.new) result }
+        ensures fuse { IsFusedCall self.old self.new result }
     {
         self.fuse.burn()?;
         self.disk.sync()
     }
 
     fn power_off(&mut self, choice: u64) -> Result<(), DiskErr>
-        ensures durable { OnOk result (IsDurable (with_fuse self.new.fuse (D.told self.new.disk))) }
-        ensures crash { LeavesNoMore (with_fuse self.old.fuse (D.told self.old.disk)) (with_fuse self.new.fuse (D.told self.new.disk)) }
-        ensures stable { OnOk result (choice ≡ 0 → (with_fuse self.new.fuse (D.told self.new.disk)).now ≡ (with_fuse self.old.fuse (D.told self.old.disk)).stable) }
-        ensures now { OnOk result (choice ≡ 1 → (with_fuse self.new.fuse (D.told self.new.disk)).now ≡ (with_fuse self.old.fuse (D.told self.old.disk)).now) }
-        ensures tells { is_some (with_fuse self.new.fuse (D.told self.new.disk)).now ≡ is_some (with_fuse self.old.fuse (D.told self.old.disk)).now }
-        ensures as_before { OnErr result (IsKept (with_fuse self.old.fuse (D.told self.old.disk)) (with_fuse self.new.fuse (D.told self.new.disk))) }
-        ensures time { Elapses (with_fuse self.old.fuse (D.told self.old.disk)) (with_fuse self.new.fuse (D.told self.new.disk)) }
-        ensures clock { OnOk result (Ticks (with_fuse self.old.fuse (D.told self.old.disk)) (with_fuse self.new.fuse (D.told self.new.disk))) }
-        ensures passes { (with_fuse self.new.fuse (D.told self.new.disk)).passes ≡ (with_fuse self.old.fuse (D.told self.old.disk)).passes }
-        ensures cause { HasCause (with_fuse self.old.fuse (D.told self.old.disk)) (with_fuse self.new.fuse (D.told self.new.disk)) result }
+        ensures call { IsPowerOff choice (fused_view D.told self.old) (fused_view D.told self.new) result }
         ensures fuse { self.new.fuse ≡ self.old.fuse }
     {
         self.disk.power_off(choice)

@@ -81,12 +81,12 @@ impl<H: Shelf> FusedShelf<H> {
 }
 
 impl<H: Shelf> Shelf for FusedShelf<H> {
-    ghost use Rattle.std.specs.Prelude.{◌≡◌, ◌-◌, ◌<◌, ◌≤◌, ◌⊎◌, false, true, Some, IfOk, OnOk, OnErr, IsErrOf};
+    ghost use Rattle.std.specs.Prelude.{◌≡◌, ◌-◌, ◌<◌, false, true, Some, IfOk, IsErrOf};
     ghost use Rattle.x_base.specs.Edge.{Rose};
     ghost use Rattle.x_disk.specs.declared.fused.Fuse.TheVariants.{Passes};
-    ghost use Rattle.x_disk.specs.Fuse.{with_fuse, fused_sound, is_blown};
-    ghost use Rattle.x_disk.specs.FusedShelf.{fused_entry, all_faults};
-    ghost use Rattle.x_disk.specs.Shelf.{IsAlike, OthersStay, AllStay, SlotsStay};
+    ghost use Rattle.x_disk.specs.Fuse.{fused_view, fused_sound, is_blown};
+    ghost use Rattle.x_disk.specs.FusedShelf.{fused_entry, all_faults, fused_shelf_view};
+    ghost use Rattle.x_disk.specs.Shelf.{IsFetched, IsPutBack};
 
     type Disk = Fused<H::Disk>;
 
@@ -101,16 +101,8 @@ impl<H: Shelf> Shelf for FusedShelf<H> {
     ghost sound = { λ s name. fused_sound (Passes s.disk_calls) (H.entry s.inner name) (H.sound s.inner name) };
 
     fn fetch(&mut self, name: &Ident) -> Result<Fused<H::Disk>, DiskErr>
-        ensures disk { IfOk result (λ disk. IsAlike (fused_entry H.entry self.old name.now) (with_fuse disk.fuse (H.Disk.told disk.disk))) }
-        ensures fresh { IfOk result (λ disk. (with_fuse disk.fuse (H.Disk.told disk.disk)).faults ≡ 0) }
-        ensures slot { OnOk result (H.has_slot self.new.inner name.now) }
-        ensures slots { SlotsStay (H.has_slot self.old.inner) (H.has_slot self.new.inner) }
-        ensures others { OnOk result (OthersStay name.now (fused_entry H.entry self.old) (fused_entry H.entry self.new)) }
-        ensures err { OnErr result (AllStay (fused_entry H.entry self.old) (fused_entry H.entry self.new)) }
-        ensures later { all_faults H.faults self.old ≤ all_faults H.faults self.new }
-        ensures cause { IsErrOf result DiskErr.Fault → Rose (all_faults H.faults self.old) (all_faults H.faults self.new) }
-        ensures no_memory { IsErrOf result DiskErr.NoMemory → all_faults H.faults self.new ≡ all_faults H.faults self.old }
-        ensures passes { IfOk result (λ disk. (with_fuse disk.fuse (H.Disk.told disk.disk)).passes ≡ Some self.old.disk_calls) }
+        ensures call { IsFetched (fused_view H.Disk.told) name.now (fused_shelf_view H.entry H.has_slot H.is_back H.faults self.old) (fused_shelf_view H.entry H.has_slot H.is_back H.faults self.new) result }
+        ensures passes { IfOk result (λ disk. (fused_view H.Disk.told disk).passes ≡ Some self.old.disk_calls) }
         ensures inner { 0 < self.old.shelf_calls → IsErrOf result DiskErr.Fault → Rose (H.faults self.old.inner) (H.faults self.new.inner) }
         ensures own { 0 < self.old.shelf_calls → self.new.faults ≡ self.old.faults }
         ensures fails { self.old.shelf_calls ≡ 0 → IsErrOf result DiskErr.Fault × Rose self.old.faults self.new.faults × (self.new.inner ≡ self.old.inner) }
@@ -123,18 +115,7 @@ impl<H: Shelf> Shelf for FusedShelf<H> {
     }
 
     fn put_back(&mut self, name: &Ident, disk: Fused<H::Disk>) -> Result<(), DiskErr>
-        ensures disk { OnOk result (IsAlike (with_fuse disk.fuse (H.Disk.told disk.disk)) (fused_entry H.entry self.new name.now)) }
-        ensures back { OnOk result (H.is_back self.new.inner name.now) }
-        ensures err { OnErr result (IsAlike (fused_entry H.entry self.old name.now) (fused_entry H.entry self.new name.now)
-            ⊎ IsAlike (with_fuse disk.fuse (H.Disk.told disk.disk)) (fused_entry H.entry self.new name.now)) }
-        ensures no_memory { IsErrOf result DiskErr.NoMemory → (H.has_slot self.old.inner name.now → ⊥)
-            → IsAlike (fused_entry H.entry self.old name.now) (fused_entry H.entry self.new name.now) }
-        ensures kept { H.has_slot self.old.inner name.now → IsAlike (with_fuse disk.fuse (H.Disk.told disk.disk)) (fused_entry H.entry self.new name.now) }
-        ensures slots { SlotsStay (H.has_slot self.old.inner) (H.has_slot self.new.inner) }
-        ensures others { OthersStay name.now (fused_entry H.entry self.old) (fused_entry H.entry self.new) }
-        ensures later { all_faults H.faults self.old ≤ all_faults H.faults self.new }
-        ensures seen { 0 < (with_fuse disk.fuse (H.Disk.told disk.disk)).faults → Rose (all_faults H.faults self.old) (all_faults H.faults self.new) }
-        ensures cause { IsErrOf result DiskErr.Fault → Rose (all_faults H.faults self.old) (all_faults H.faults self.new) }
+        ensures call { IsPutBack (fused_view H.Disk.told disk) name.now (fused_shelf_view H.entry H.has_slot H.is_back H.faults self.old) (fused_shelf_view H.entry H.has_slot H.is_back H.faults self.new) result }
         ensures inner { 0 < self.old.shelf_calls → IsErrOf result DiskErr.Fault → Rose (H.faults self.old.inner) (H.faults self.new.inner) }
         ensures own { 0 < self.old.shelf_calls → is_blown disk.fuse ≡ false → self.new.faults ≡ self.old.faults }
         ensures blown { is_blown disk.fuse ≡ true → Rose self.old.faults self.new.faults }

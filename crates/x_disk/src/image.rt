@@ -1,11 +1,11 @@
 // The bytes of a disk in memory: how they are written over, copied and torn.
 ghost use Rattle.std.specs.Prelude.{◌≡◌, ◌+◌, ◌≤◌, ◌-◌, ◌++◌, max, length, take, drop, replicate, OnOk, OnErr, IsOk};
 ghost use Rattle.std.specs.Vec.{vec_capacity};
-ghost use Rattle.x_disk.specs.Disk.{overwrite};
+ghost use Rattle.x_disk.specs.Disk.{overwrite, disk_size};
 ghost use Rattle.x_disk.specs.History.{State, covers_place, torn_byte, torn_or, torn_from, left_by};
 ghost use Rattle.x_disk.specs.Record.{ranges_of};
 
-use crate::torn::Entry;
+use crate::disk_record::Entry;
 use std::alloc::AllocError;
 
 // Fills it up with zeros to this length, if it is shorter.
@@ -31,7 +31,7 @@ fn paste(bytes: &mut [u8], at: usize, new: &[u8])
 
 /// Writes over what is there and past the end.
 pub(crate) fn write_over(bytes: &mut Vec<u8>, at: usize, new: &[u8]) -> Result<(), AllocError>
-    requires { at + length new.now ≤ 16777216 }
+    requires { at + length new.now ≤ disk_size }
     ensures ok { OnOk result (bytes.new.items ≡ overwrite at new.now bytes.old.items) }
     ensures err { OnErr result (bytes.new.items ≡ bytes.old.items) }
     ensures capacity { vec_capacity bytes.old ≤ vec_capacity bytes.new }

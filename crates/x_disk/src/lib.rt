@@ -2,6 +2,9 @@
 #![tactic(auto)]
 
 mod disk;
+mod disk_record;
+#[cfg(test)]
+mod failing_files;
 mod files;
 mod folder_shelf;
 mod fused;

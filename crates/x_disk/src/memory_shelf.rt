@@ -1,8 +1,8 @@
 // A shelf of disks in memory.
 ghost use Rattle.std.specs.Prelude.{◌≡◌, ◌<◌, ◌≤◌, ℕ, List, length, unwrap_or, None, IfSome, IfNone, IfOk, OnOk, OnErr};
-ghost use Rattle.x_disk.specs.Slots.{fresh, disk_at, entry_at, entry_sound, HasSlot, NoneOf, IsFirst, OthersSame, AllSame};
+ghost use Rattle.x_disk.specs.Slots.{fresh, disk_at, entry_at, entry_sound, memory_view, HasSlot, NoneOf, IsFirst, OthersSame, AllSame};
 ghost use Rattle.x_disk.specs.History.{view_of};
-ghost use Rattle.x_disk.specs.Shelf.{IsAlike, SlotsStay};
+ghost use Rattle.x_disk.specs.Shelf.{IsAlike, IsFetched, SlotsStay};
 
 use crate::slot::Slot;
 use crate::{DiskErr, Shelf, TornDisk};
@@ -95,7 +95,11 @@ impl Shelf for MemoryShelf {
 
     ghost sound = { λ s name. entry_sound s.slots.items name };
 
-    fn fetch(&mut self, name: &Ident) -> Result<TornDisk, DiskErr> {
+    /// A disk that isn't there is made, empty and with nothing reserved.
+    fn fetch(&mut self, name: &Ident) -> Result<TornDisk, DiskErr>
+        ensures call { IsFetched view_of name.now (memory_view self.old.slots.items) (memory_view self.new.slots.items) result }
+        ensures exact { IfOk result (λ disk. disk ≡ disk_at self.old.slots.items name.now) }
+    {
         match take_out(&mut self.slots, name)? {
             Some(disk) => Ok(disk),
             None => Ok(TornDisk::new(self.alloc, 0)?),

@@ -1,8 +1,7 @@
 // A shelf of disks, each under an identity.
-ghost use Rattle.std.specs.Prelude.{◌≡◌, ◌<◌, ◌≤◌, ◌⊎◌, ℕ, List, IfOk, OnOk, OnErr, IsErrOf};
-ghost use Rattle.x_base.specs.Edge.{Rose};
+ghost use Rattle.std.specs.Prelude.{ℕ, List};
 ghost use Rattle.x_disk.specs.Disk.{View, IsSound};
-ghost use Rattle.x_disk.specs.Shelf.{IsAlike, OthersStay, AllStay, SlotsStay};
+ghost use Rattle.x_disk.specs.Shelf.{IsFetched, IsPutBack, shelf_view};
 
 use crate::{Disk, DiskErr};
 use x_base::Ident;
@@ -25,28 +24,11 @@ pub trait Shelf: Drop {
 
     /// Takes the disk out, and makes a place for it.
     fn fetch(&mut self, name: &Ident) -> Result<Self::Disk, DiskErr>
-        ensures disk { IfOk result (λ disk. IsAlike (entry self.old name.now) (Self.Disk.told disk)) }
-        ensures fresh { IfOk result (λ disk. (Self.Disk.told disk).faults ≡ 0) }
-        ensures slot { OnOk result (has_slot self.new name.now) }
-        ensures slots { SlotsStay (has_slot self.old) (has_slot self.new) }
-        ensures others { OnOk result (OthersStay name.now (entry self.old) (entry self.new)) }
-        ensures err { OnErr result (AllStay (entry self.old) (entry self.new)) }
-        ensures later { faults self.old ≤ faults self.new }
-        ensures cause { IsErrOf result DiskErr.Fault → Rose (faults self.old) (faults self.new) }
-        ensures no_memory { IsErrOf result DiskErr.NoMemory → faults self.new ≡ faults self.old };
+        ensures { IsFetched Self.Disk.told name.now (shelf_view entry has_slot is_back faults self.old) (shelf_view entry has_slot is_back faults self.new) result };
 
     /// Puts the disk there, also after an error where a place is made. The shelf's faults rise where the disk has faults.
     fn put_back(&mut self, name: &Ident, disk: Self::Disk) -> Result<(), DiskErr>
-        ensures disk { OnOk result (IsAlike (Self.Disk.told disk) (entry self.new name.now)) }
-        ensures back { OnOk result (is_back self.new name.now) }
-        ensures err { OnErr result (IsAlike (entry self.old name.now) (entry self.new name.now) ⊎ IsAlike (Self.Disk.told disk) (entry self.new name.now)) }
-        ensures no_memory { IsErrOf result DiskErr.NoMemory → (has_slot self.old name.now → ⊥) → IsAlike (entry self.old name.now) (entry self.new name.now) }
-        ensures kept { has_slot self.old name.now → IsAlike (Self.Disk.told disk) (entry self.new name.now) }
-        ensures slots { SlotsStay (has_slot self.old) (has_slot self.new) }
-        ensures others { OthersStay name.now (entry self.old) (entry self.new) }
-        ensures later { faults self.old ≤ faults self.new }
-        ensures seen { 0 < (Self.Disk.told disk).faults → Rose (faults self.old) (faults self.new) }
-        ensures cause { IsErrOf result DiskErr.Fault → Rose (faults self.old) (faults self.new) };
+        ensures { IsPutBack (Self.Disk.told disk) name.now (shelf_view entry has_slot is_back faults self.old) (shelf_view entry has_slot is_back faults self.new) result };
 
     // what holds of every disk on the shelf
     ghost sound: { (shelf : Self) (name : List ℕ) → IsSound (entry shelf name) };

@@ -1,3 +1,5 @@
+use crate::failing_files::{Failing, FailingFiles};
+use crate::files::FileDisk;
 use crate::{Disk, DiskErr, FolderShelf, Fused, FusedShelf, MemoryShelf, Shelf, TornDisk};
 use std::fs;
 use std::os::unix::fs::MetadataExt;
@@ -92,7 +94,11 @@ fn a_shelf_and_its_disks_fail_after_so_many_calls(rt: HostRuntime) -> Result<(),
     ] {
         let inner = MemoryShelf::new(rt.alloc());
         let mut shelf = FusedShelf::new(inner, shelf_calls, disk_calls);
-        assert_eq!(rt; fetched_anew(&mut shelf, &name), answer);
+        assert_eq!(rt;
+            fetched_anew(&mut shelf, &name),
+            answer,
+            "with {shelf_calls} and {disk_calls} calls"
+        );
     }
     Ok(())
 }
@@ -118,6 +124,12 @@ fn a_shelf_over_the_folder_keeps_its_disks(rt: HostRuntime) -> Result<(), Fail> 
     let name = Ident::read(b"TEST-SHELF")?;
     let mut shelf = FolderShelf::new(rt.clone()?, rt.alloc());
     assert_eq!(rt; fetched_anew(&mut shelf, &name)?, *b"\0\0abc");
+    let mut disk = shelf.fetch(&name)?;
+    disk.power_off(0)?;
+    let mut bytes = [9; 5];
+    disk.read(0, &mut bytes)?;
+    assert_eq!(rt; bytes, *b"\0\0abc");
+    assert_eq!(rt; disk.read(4, &mut bytes), Err(DiskErr::Fault));
     fs::remove_file(&rt, "TEST-SHELF.x917")?;
     Ok(())
 }
@@ -142,19 +154,22 @@ fn a_file_is_made_by_its_first_write_for_its_owner(rt: HostRuntime) -> Result<()
 }
 
 #[test]
-fn a_file_gives_back_what_was_written(rt: HostRuntime) -> Result<(), Fail> {
-    let _ = fs::remove_file(&rt, "TEST-FILE.x917");
-    let name = Ident::read(b"TEST-FILE")?;
-    let mut shelf = FolderShelf::new(rt.clone()?, rt.alloc());
-    let mut disk = shelf.fetch(&name)?;
-    disk.write_at(2, b"abc")?;
-    disk.sync()?;
-    disk.power_off(0)?;
-    assert_eq!(rt; disk.length()?, 5);
-    let mut bytes = [9; 5];
-    disk.read(0, &mut bytes)?;
-    assert_eq!(rt; bytes, *b"\0\0abc");
-    assert_eq!(rt; disk.read(4, &mut bytes), Err(DiskErr::Fault));
-    fs::remove_file(&rt, "TEST-FILE.x917")?;
+fn a_sync_fails_where_that_of_the_file_or_of_its_folder_does(rt: HostRuntime) -> Result<(), Fail> {
+    for (failing, answer) in [
+        (Failing::Nothing, Ok(())),
+        (Failing::File, Err(DiskErr::Fault)),
+        (Failing::Folder, Err(DiskErr::Fault)),
+    ] {
+        let mut path = String::new(rt.alloc());
+        path.push_str("TEST-SYNC.x917")?;
+        let rt_failing = FailingFiles {
+            rt: rt.clone()?,
+            failing,
+        };
+        let mut disk = FileDisk::new(rt_failing, path, None);
+        disk.write_at(0, b"abc")?;
+        assert_eq!(rt; disk.sync(), answer, "with {failing:?}");
+    }
+    fs::remove_file(&rt, "TEST-SYNC.x917")?;
     Ok(())
 }

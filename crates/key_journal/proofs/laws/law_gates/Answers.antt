@@ -1,4 +1,4 @@
-use Rattle.key_journal.proofs.GateLemmas.{begins_all, either_begins, next_at, none_at}
+use Rattle.key_journal.proofs.GateLemmas.{begins_all, begins_front, either_begins, next_at, none_at}
 use Rattle.key_journal.proofs.laws.law_gates.Goals as goal
 
 pub returns-clause-begins : goal.returns-clause-begins
@@ -12,3 +12,6 @@ returns-clause-next c = next_at
 
 pub returns-clause-end : goal.returns-clause-end
 returns-clause-end c = none_at
+
+pub returns-clause-front : goal.returns-clause-front
+returns-clause-front c = begins_front

@@ -1,11 +1,11 @@
-use Rattle.std.proofs.Common.{◌≡◌, ◌-◌, ℕ, List, [], ◌∷◌, ◌++◌, length, take, drop, ◌∙◌, ap, subst, sym, arith}
+use Rattle.std.proofs.Common.{rules, ◌≡◌, ◌-◌, ℕ, List, [], ◌∷◌, ◌++◌, length, take, drop, ◌∙◌, ap, subst, sym, arith}
 use Rattle.std.proofs.lemmas.List.{take_rest}
 use Rattle.x_disk.specs.History.{Step, PowerOff, History, and_then, left_by}
 use Rattle.x_disk.specs.Record.{steps_of, ranges_of, Represents}
-use Rattle.x_disk.specs.declared.torn.Entry.{Entry}
-use Rattle.x_disk.specs.declared.torn.Entry.TheVariants as E
+use Rattle.x_disk.specs.declared.disk_record.Entry.{Entry}
+use Rattle.x_disk.specs.declared.disk_record.Entry.TheVariants as E
 use Rattle.x_disk.proofs.RecordLemmas.{steps-power_off, represents_power_off}
-use Rattle.x_disk.proofs.torn.TornDisk.add_power_off.Goals as goal
+use Rattle.x_disk.proofs.disk_record.DiskRecord.add_power_off.Goals as goal
 
 pub invariant_of-self-2 : goal.invariant_of-self-2
 invariant_of-self-2 c =
@@ -34,10 +34,12 @@ invariant_of-self-2 c =
       },
     )
 
-pub returns-clause-ok : goal.returns-clause-ok
-returns-clause-ok c =
-    let i = c.self.inside in
-    let entries = c.in_ok-push.ensures.items ∙ ap (λ (l : List Entry). l ++ E.PowerOff c.args.choice ∷ []) c.reserve.ensures.items in
-    let steps : steps_of c.push.new.self.items i.payload.items ≡ steps_of i.entries.items i.payload.items ++ PowerOff c.args.choice ∷ [] =
-    ap (λ (l : List Entry). steps_of l i.payload.items) entries ∙ steps-power_off i.entries.items i.payload.items c.args.choice in
-    ap (λ (l : List Step). let h : History = record { room = i.room; steps = l } in h) steps ∙ ap (λ (h : History). and_then h (PowerOff c.args.choice)) c.self.view_is
+pub returns : goal.returns
+returns c = record {
+  ok = let i = c.self.inside in
+      let entries = c.in_ok-push.ensures.items ∙ ap (λ (l : List Entry). l ++ E.PowerOff c.args.choice ∷ []) c.reserve.ensures.items in
+      let steps : steps_of c.push.new.self.items i.payload.items ≡ steps_of i.entries.items i.payload.items ++ PowerOff c.args.choice ∷ [] =
+      ap (λ (l : List Entry). steps_of l i.payload.items) entries ∙ steps-power_off i.entries.items i.payload.items c.args.choice in
+      ap (λ (l : List Step). let h : History = record { room = i.room; steps = l } in h) steps ∙ ap (λ (h : History). and_then h (PowerOff c.args.choice)) c.self.view_is;
+  err = search rules;
+}

@@ -1,10 +1,10 @@
-use Rattle.std.proofs.Common.{◌≡◌, ℕ, suc, List, [], ◌∷◌, ◌++◌, length, ◌∙◌, ap, subst, sym, arith}
+use Rattle.std.proofs.Common.{rules, ◌≡◌, ℕ, suc, List, [], ◌∷◌, ◌++◌, length, ◌∙◌, ap, subst, sym, arith}
 use Rattle.x_disk.specs.History.{Step, Sync, History, and_then, IsReserved}
 use Rattle.x_disk.specs.Record.{steps_of, Represents}
-use Rattle.x_disk.specs.declared.torn.Entry.{Entry}
-use Rattle.x_disk.specs.declared.torn.Entry.TheVariants as E
+use Rattle.x_disk.specs.declared.disk_record.Entry.{Entry}
+use Rattle.x_disk.specs.declared.disk_record.Entry.TheVariants as E
 use Rattle.x_disk.proofs.RecordLemmas.{steps-sync, represents_sync, length-steps}
-use Rattle.x_disk.proofs.torn.TornDisk.add_sync.Goals as goal
+use Rattle.x_disk.proofs.disk_record.DiskRecord.add_sync.Goals as goal
 
 pub returns-in_err-reserve-clause-covered : goal.returns-in_err-reserve-clause-covered
 returns-in_err-reserve-clause-covered c = λ end n calls covers.
@@ -30,10 +30,12 @@ invariant_of-self-2 c =
       },
     )
 
-pub returns-clause-ok : goal.returns-clause-ok
-returns-clause-ok c =
-    let i = c.self.inside in
-    let entries = c.in_ok-push.ensures.items ∙ ap (λ (l : List Entry). l ++ E.Sync ∷ []) c.reserve.ensures.items in
-    let steps : steps_of c.push.new.self.items i.payload.items ≡ steps_of i.entries.items i.payload.items ++ Sync ∷ [] =
-    ap (λ (l : List Entry). steps_of l i.payload.items) entries ∙ steps-sync i.entries.items i.payload.items in
-    ap (λ (l : List Step). let h : History = record { room = i.room; steps = l } in h) steps ∙ ap (λ (h : History). and_then h Sync) c.self.view_is
+pub returns-clause-added : goal.returns-clause-added
+returns-clause-added c = record {
+  ok = let i = c.self.inside in
+      let entries = c.in_ok-push.ensures.items ∙ ap (λ (l : List Entry). l ++ E.Sync ∷ []) c.reserve.ensures.items in
+      let steps : steps_of c.push.new.self.items i.payload.items ≡ steps_of i.entries.items i.payload.items ++ Sync ∷ [] =
+      ap (λ (l : List Entry). steps_of l i.payload.items) entries ∙ steps-sync i.entries.items i.payload.items in
+      ap (λ (l : List Step). let h : History = record { room = i.room; steps = l } in h) steps ∙ ap (λ (h : History). and_then h Sync) c.self.view_is;
+  err = search rules;
+}

@@ -1,10 +1,10 @@
-use Rattle.std.proofs.Common.{◌≡◌, ℕ, suc, List, [], ◌∷◌, ◌++◌, length, ◌∙◌, ap, subst, sym, arith}
+use Rattle.std.proofs.Common.{rules, ◌≡◌, ℕ, suc, List, [], ◌∷◌, ◌++◌, length, ◌∙◌, ap, subst, sym, arith}
 use Rattle.x_disk.specs.History.{Step, Write, History, and_then, IsReserved}
 use Rattle.x_disk.specs.Record.{steps_of, Represents}
-use Rattle.x_disk.specs.declared.torn.Entry.{Entry}
-use Rattle.x_disk.specs.declared.torn.Entry.TheVariants as E
+use Rattle.x_disk.specs.declared.disk_record.Entry.{Entry}
+use Rattle.x_disk.specs.declared.disk_record.Entry.TheVariants as E
 use Rattle.x_disk.proofs.RecordLemmas.{steps-push, represents_write, length-steps, bytes-steps}
-use Rattle.x_disk.proofs.torn.TornDisk.add_write.Goals as goal
+use Rattle.x_disk.proofs.disk_record.DiskRecord.add_write.Goals as goal
 
 pub returns-in_err-reserve-clause-covered : goal.returns-in_err-reserve-clause-covered
 returns-in_err-reserve-clause-covered c = λ end n calls covers le small.
@@ -33,13 +33,15 @@ invariant_of-self-2 c =
       },
     )
 
-pub returns-clause-ok : goal.returns-clause-ok
-returns-clause-ok c =
-    let i = c.self.inside in
-    let entry = E.Write c.args.at (length c.args.bytes.now) in
-    let entries = c.in_ok-push.ensures.items ∙ ap (λ (l : List Entry). l ++ entry ∷ []) c.reserve.ensures.items in
-    let payload = c.in_ok-extend_from_slice.ensures.items ∙ ap (λ (l : List ℕ). l ++ c.args.bytes.now) c.reserve-2.ensures.items in
-    let steps : steps_of c.push.new.self.items c.extend_from_slice.new.self.items ≡ steps_of i.entries.items i.payload.items ++ Write c.args.at c.args.bytes.now ∷ [] =
-    ap (λ (l : List Entry). steps_of l c.extend_from_slice.new.self.items) entries ∙ ap (λ (l : List ℕ). steps_of (i.entries.items ++ entry ∷ []) l) payload
-    ∙ steps-push i.entries.items i.payload.items c.args.at c.args.bytes.now c.self.invariant.0.size in
-    ap (λ (l : List Step). let h : History = record { room = i.room; steps = l } in h) steps ∙ ap (λ (h : History). and_then h (Write c.args.at c.args.bytes.now)) c.self.view_is
+pub returns-clause-added : goal.returns-clause-added
+returns-clause-added c = record {
+  ok = let i = c.self.inside in
+      let entry = E.Write c.args.at (length c.args.bytes.now) in
+      let entries = c.in_ok-push.ensures.items ∙ ap (λ (l : List Entry). l ++ entry ∷ []) c.reserve.ensures.items in
+      let payload = c.in_ok-extend_from_slice.ensures.items ∙ ap (λ (l : List ℕ). l ++ c.args.bytes.now) c.reserve-2.ensures.items in
+      let steps : steps_of c.push.new.self.items c.extend_from_slice.new.self.items ≡ steps_of i.entries.items i.payload.items ++ Write c.args.at c.args.bytes.now ∷ [] =
+      ap (λ (l : List Entry). steps_of l c.extend_from_slice.new.self.items) entries ∙ ap (λ (l : List ℕ). steps_of (i.entries.items ++ entry ∷ []) l) payload
+      ∙ steps-push i.entries.items i.payload.items c.args.at c.args.bytes.now c.self.invariant.0.size in
+      ap (λ (l : List Step). let h : History = record { room = i.room; steps = l } in h) steps ∙ ap (λ (h : History). and_then h (Write c.args.at c.args.bytes.now)) c.self.view_is;
+  err = search rules;
+}

@@ -1,0 +1,123 @@
+// The record of a disk in memory: what a read gives, the image of the last sync, and all steps.
+use crate::image::{copy_from, settle, write_over};
+use std::alloc::{AllocError, Global};
+use std::marker::Model;
+use x_base::NoMemory;
+
+/// A step of the record. The bytes of a write lie in the payload, behind those of the writes before it.
+#[derive(Clone, Copy, Drop)]
+pub(crate) enum Entry {
+    Write { at: u64, len: u64 },
+    Sync,
+    PowerOff { choice: u64 },
+}
+
+/// What was done to a disk in memory, and the bytes that came of it.
+#[derive(Drop)]
+pub(crate) struct DiskRecord {
+    room: usize,
+    bytes: Vec<u8>,
+    stable: Vec<u8>,
+    // below this place nothing was written since the last sync
+    clean: usize,
+    entries: Vec<Entry>,
+    payload: Vec<u8>,
+    // the first entry after the last sync or power-off
+    first: usize,
+}
+
+impl Model for DiskRecord {
+    ghost use Rattle.std.specs.Vec.{vec_capacity};
+    ghost use Rattle.x_disk.specs.History.{History};
+    ghost use Rattle.x_disk.specs.Record.{steps_of, Represents, HasRoom};
+
+    ghost Value = { History };
+
+    ghost view = { λ d. record { room = d.room; steps = steps_of d.entries.items d.payload.items } };
+
+    ghost invariant = { λ d. Represents d.bytes.items d.stable.items d.clean d.entries.items d.payload.items d.first
+        × HasRoom d.room (vec_capacity d.bytes) (vec_capacity d.stable) (vec_capacity d.payload) (vec_capacity d.entries) };
+}
+
+impl DiskRecord {
+    ghost use Rattle.std.specs.Prelude.{◌≡◌, ◌+◌, ◌≤◌, ℕ, List, suc, [], length, take, drop, IfOk, IsOk};
+    ghost use Rattle.x_disk.specs.Disk.{disk_size};
+    ghost use Rattle.x_disk.specs.History.{Write, Sync, PowerOff, IsAdded, IsReserved, state_of};
+
+    /// The record of an empty disk. Reserves `room` bytes each for what a read gives, for the image of the last sync and for
+    /// the bytes of the writes, and places for `room / 16` steps; beyond that it grows.
+    pub(crate) fn new(alloc: Global, room: usize) -> Result<DiskRecord, NoMemory>
+        ensures { IfOk result (λ d. d ≡ record { room = room; steps = [] }) }
+    {
+        Ok(DiskRecord {
+            room,
+            bytes: Vec::with_capacity(alloc, room)?,
+            stable: Vec::with_capacity(alloc, room)?,
+            clean: 0,
+            entries: Vec::with_capacity(alloc, room / 16)?,
+            payload: Vec::with_capacity(alloc, room)?,
+            first: 0,
+        })
+    }
+
+    /// The number of bytes that a read gives.
+    pub(crate) fn length(&self) -> u64
+        ensures { result ≡ length (state_of self.now.steps).now }
+    {
+        self.bytes.len() as u64
+    }
+
+    /// The bytes from this place on, which have to lie within the length.
+    pub(crate) fn read(&self, at: u64, buf: &mut [u8])
+        requires { at + length buf.old ≤ length (state_of self.now.steps).now }
+        ensures { buf.new ≡ take (length buf.old) (drop at (state_of self.now.steps).now) }
+    {
+        let at = at as usize;
+        buf.copy_from_slice(&self.bytes[at..at + buf.len()]);
+    }
+
+    pub(crate) fn add_write(&mut self, at: u64, bytes: &[u8]) -> Result<(), AllocError>
+        requires { at + length bytes.now ≤ disk_size }
+        ensures added { IsAdded (Write at bytes.now) self.old self.new result }
+        ensures covered { (end n calls : ℕ) → IsReserved self.old end n (suc calls) → at + length bytes.now ≤ end → length bytes.now ≤ n → IsOk result }
+    {
+        self.entries.reserve(1)?;
+        self.payload.reserve(bytes.len())?;
+        write_over(&mut self.bytes, at as usize, bytes)?;
+        self.payload.extend_from_slice(bytes)?;
+        self.entries.push(Entry::Write {
+            at,
+            len: bytes.len() as u64,
+        })?;
+        self.clean = self.clean.min(at as usize);
+        Ok(())
+    }
+
+    pub(crate) fn add_sync(&mut self) -> Result<(), AllocError>
+        ensures added { IsAdded Sync self.old self.new result }
+        ensures covered { (end n calls : ℕ) → IsReserved self.old end n (suc calls) → IsOk result }
+    {
+        self.entries.reserve(1)?;
+        copy_from(&mut self.stable, &self.bytes, self.clean)?;
+        self.entries.push(Entry::Sync)?;
+        self.first = self.entries.len();
+        self.clean = self.bytes.len();
+        Ok(())
+    }
+
+    pub(crate) fn add_power_off(&mut self, choice: u64) -> Result<(), AllocError>
+        ensures { IsAdded (PowerOff choice) self.old self.new result }
+    {
+        self.entries.reserve(1)?;
+        settle(
+            &mut self.bytes,
+            &mut self.stable,
+            &self.entries[self.first..],
+            choice,
+        )?;
+        self.entries.push(Entry::PowerOff { choice })?;
+        self.first = self.entries.len();
+        self.clean = self.bytes.len();
+        Ok(())
+    }
+}
