@@ -9,7 +9,7 @@ use Rattle.party_state.specs.declared.edit.Edit.{Edit}
 use Rattle.party_state.specs.declared.edit.Edit.TheVariants.{Begin, PutLink, DropLink, PutKey, DropEnded, PutExchange, DropExchange, PutAnswer, SetGen}
 use Rattle.party_state.specs.Keys.{same_link, same_record, same_answer, link_key, record_key, exchange_key, answer_key}
 use Rattle.party_state.specs.State.{Party, begun, is_ended, apply_edit, apply}
-use Rattle.party_state.specs.Ranges.{IsGen, IsLink, IsRecord, IsExchange, IsAnswer, InRange, AreInRange, IsFitting, AreFitting, IsNoBegin, HasNoBegin, IsParty}
+use Rattle.party_state.specs.Ranges.{IsGen, IsLink, IsRecord, IsExchange, IsCentreAnswer, InRange, AreInRange, IsFitting, AreFitting, IsNoBegin, HasNoBegin, IsParty}
 use Rattle.party_state.proofs.Keys.{test_idents, test_links, test_records, test_answers}
 use Rattle.party_state.proofs.Each.{all_put, all_drop}
 use Rattle.party_state.proofs.Distinct.{distinct_put, distinct_drop, distinct_filter}
@@ -21,7 +21,7 @@ apply_append (e ∷ es) fs p = apply_append es fs (apply_edit e p)
 
 -- a party that begins
 pub party_new : (own : List ℕ) (role : Role) (g : Gen) → IsIdent own → IsGen g → IsParty (begun own role g)
-party_new own role g i r = record { own = i; generator = r; links = All-nil IsLink; keys = All-nil IsRecord; exchanges = All-nil IsExchange; answers = All-nil IsAnswer; links_once = tt; keys_once = tt; exchanges_once = tt; answers_once = tt }
+party_new own role g i r = record { own = i; generator = r; links = All-nil IsLink; keys = All-nil IsRecord; exchanges = All-nil IsExchange; answers = All-nil IsCentreAnswer; links_once = tt; keys_once = tt; exchanges_once = tt; answers_once = tt }
 
 -- a party after an edit
 pub party_edit : (e : Edit) (p : Party) → InRange e → IsParty p → IsParty (apply_edit e p)
@@ -32,7 +32,7 @@ party_edit (PutKey k) p r i = record { own = i.own; generator = i.generator; lin
 party_edit DropEnded p r i = record { own = i.own; generator = i.generator; links = i.links; keys = All-filter (λ (k : KeyRec). not (is_ended k.status)) IsRecord p.keys i.keys; exchanges = i.exchanges; answers = i.answers; links_once = i.links_once; keys_once = distinct_filter record_key same_record (λ (k : KeyRec). not (is_ended k.status)) p.keys i.keys_once; exchanges_once = i.exchanges_once; answers_once = i.answers_once }
 party_edit (PutExchange e) p r i = record { own = i.own; generator = i.generator; links = i.links; keys = i.keys; exchanges = all_put IsExchange exchange_key bytes_eq e p.exchanges r i.exchanges; answers = i.answers; links_once = i.links_once; keys_once = i.keys_once; exchanges_once = distinct_put exchange_key bytes_eq test_idents e p.exchanges i.exchanges_once; answers_once = i.answers_once }
 party_edit (DropExchange peer) p r i = record { own = i.own; generator = i.generator; links = i.links; keys = i.keys; exchanges = all_drop IsExchange exchange_key bytes_eq peer p.exchanges i.exchanges; answers = i.answers; links_once = i.links_once; keys_once = i.keys_once; exchanges_once = distinct_drop exchange_key bytes_eq peer p.exchanges i.exchanges_once; answers_once = i.answers_once }
-party_edit (PutAnswer a) p r i = record { own = i.own; generator = i.generator; links = i.links; keys = i.keys; exchanges = i.exchanges; answers = all_put IsAnswer answer_key same_answer a p.answers r i.answers; links_once = i.links_once; keys_once = i.keys_once; exchanges_once = i.exchanges_once; answers_once = distinct_put answer_key same_answer test_answers a p.answers i.answers_once }
+party_edit (PutAnswer a) p r i = record { own = i.own; generator = i.generator; links = i.links; keys = i.keys; exchanges = i.exchanges; answers = all_put IsCentreAnswer answer_key same_answer a p.answers r i.answers; links_once = i.links_once; keys_once = i.keys_once; exchanges_once = i.exchanges_once; answers_once = distinct_put answer_key same_answer test_answers a p.answers i.answers_once }
 party_edit (SetGen v) p r i = record { own = i.own; generator = record { key = i.generator.key; v = r }; links = i.links; keys = i.keys; exchanges = i.exchanges; answers = i.answers; links_once = i.links_once; keys_once = i.keys_once; exchanges_once = i.exchanges_once; answers_once = i.answers_once }
 
 -- a party after a list of edits

@@ -1,5 +1,5 @@
 -- How many rows a table has after a row is put, dropped or filtered out.
-use Rattle.std.proofs.Common.{arith, ◌≡◌, ◌≤◌, ◌+◌, Bool, true, false, cond, not, Some, None, List, [], ◌∷◌, ◌++◌, length, filter, refl, ap}
+use Rattle.std.proofs.Common.{arith, ◌≡◌, ◌≤◌, ◌+◌, Bool, true, false, cond, not, Option, Some, None, is_some, List, [], ◌∷◌, ◌++◌, length, filter, refl, ap}
 use Rattle.party_state.specs.Tables.{find_row, put_row, drop_row, Distinct}
 use Rattle.party_state.proofs.Tables.{IsTest}
 
@@ -59,3 +59,11 @@ length_drop_found {R} {K} key same law k x (r ∷ rs) d h = go (same k (key r)) 
     go : (b : Bool) → same k (key r) ≡ b → cond b (Some r) (find_row key same k rs) ≡ Some x → (find_row key same k rs ≡ Some x → length (drop_row key same k rs) + 1 ≡ length rs) → length (cond (not b) (r ∷ drop_row key same k rs) (drop_row key same k rs)) + 1 ≡ length (r ∷ rs)
     go true e h ih = let i : k ≡ key r = (law.decides k (key r)).0 e in let n : find_row key same k rs ≡ None = rw i d.0 in let l : length (drop_row key same k rs) ≡ length rs = ap length (drop_absent key same k rs n) in omega arith
     go false e h ih = let l : length (drop_row key same k rs) + 1 ≡ length rs = ih h in omega arith
+
+-- one row more where none stood under its key
+pub length_put : {R K : Type 0} (key : R → K) (same : K → K → Bool) (x : R) (rs : List R) → length (put_row key same x rs) ≡ length rs + cond (is_some (find_row key same (key x) rs)) 0 1
+length_put {R} key same x rs = go (find_row key same (key x) rs) refl
+  where
+    go : (o : Option R) → find_row key same (key x) rs ≡ o → length (put_row key same x rs) ≡ length rs + cond (is_some o) 0 1
+    go (Some y) found = let same_length : length (put_row key same x rs) ≡ length rs = length_put_found key same x y rs found in omega arith
+    go None found = length_put_absent key same x rs found

@@ -1,6 +1,7 @@
 mod Entries
 mod Rows
 mod Steps
+mod Room
 mod Forms
 mod Lines
 pub mod Tables

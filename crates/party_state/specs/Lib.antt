@@ -2,6 +2,7 @@ pub mod Tables
 pub mod Keys
 pub mod Keyed
 pub mod State
+pub mod Rooms
 pub mod Prepared
 pub mod Ranges
 pub mod Formed

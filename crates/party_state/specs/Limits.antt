@@ -1,12 +1,18 @@
 -- How much a party holds (this project's profile).
-use Rattle.std.specs.Prelude.{◌≤◌, List, [], ◌∷◌, length}
+use Rattle.std.specs.Prelude.{ℕ, ◌≤◌, List, [], ◌∷◌, length}
 use Rattle.party_state.specs.declared.edit.Edit.{Edit}
 use Rattle.party_state.specs.State.{Party, apply_edit}
 
--- 64 links and 1,024 key records at most
+abbrev pub most_links : ℕ
+most_links = 64
+
+abbrev pub most_keys : ℕ
+most_keys = 1024
+
+-- at most so many links and key records
 pub record IsWithinLimits (p : Party) : Type 0 where
-  pub links : length p.links ≤ 64
-  pub keys : length p.keys ≤ 1024
+  pub links : length p.links ≤ most_links
+  pub keys : length p.keys ≤ most_keys
 
 -- the limits hold after each edit
 abbrev pub StaysWithinLimits : List Edit → Party → Type 0

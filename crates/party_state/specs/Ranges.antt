@@ -32,16 +32,20 @@ pub record IsGen (g : Gen) : Type 0 where
   pub key : IsPair g.key
   pub v : IsWord g.v
 
+-- one past the last count
+abbrev pub largest_next : ℕ
+largest_next = 100000000000000
+
 -- the next count of a link: a count, or one past the last
-pub record IsNext (n : ℕ) : Type 0 where
+pub record IsNextCount (n : ℕ) : Type 0 where
   pub low : 1 ≤ n
-  pub high : n ≤ 100000000000000
+  pub high : n ≤ largest_next
 
 pub record IsLink (l : LinkRec) : Type 0 where
   pub peer : IsIdent l.peer
   pub label : IsLabel l.label
   pub pair : IsPair l.pair
-  pub next : IsNext l.next
+  pub next : IsNextCount l.next
 
 pub record IsRecord (k : KeyRec) : Type 0 where
   pub peer : IsIdent k.peer
@@ -59,12 +63,16 @@ IsKind (kind.Translating ultimate value cta) = IsIdent ultimate × IsWord value 
 IsKind (kind.KeySent name v) = IsKeyName name × IsVia v
 IsKind (kind.Ending name) = IsKeyName name
 
+-- how many bytes the text of an exchange has at most
+abbrev pub longest_text : ℕ
+longest_text = 1024
+
 pub record IsExchange (e : Exchange) : Type 0 where
   pub peer : IsIdent e.peer
   pub kind : IsKind e.kind
-  pub text : length e.text ≤ 1024
+  pub text : length e.text ≤ longest_text
 
-pub record IsAnswer (a : Answer) : Type 0 where
+pub record IsCentreAnswer (a : Answer) : Type 0 where
   pub requester : IsIdent a.requester
   pub ultimate : IsIdent a.ultimate
   pub cta : IsCount a.cta
@@ -79,7 +87,7 @@ InRange (PutKey k) = IsRecord k
 InRange DropEnded = Unit {0}
 InRange (PutExchange e) = IsExchange e
 InRange (DropExchange peer) = IsIdent peer
-InRange (PutAnswer a) = IsAnswer a
+InRange (PutAnswer a) = IsCentreAnswer a
 InRange (SetGen v) = IsWord v
 
 abbrev pub AreInRange : List Edit → Type 0
@@ -87,8 +95,8 @@ AreInRange es = All InRange es
 
 -- what the types of an edit leave open: the next count of a link, and the length of a text
 abbrev pub IsFitting : Edit → Type 0
-IsFitting (PutLink l) = IsNext l.next
-IsFitting (PutExchange e) = length e.text ≤ 1024
+IsFitting (PutLink l) = IsNextCount l.next
+IsFitting (PutExchange e) = length e.text ≤ longest_text
 IsFitting e = Unit {0}
 
 abbrev pub AreFitting : List Edit → Type 0
@@ -109,7 +117,7 @@ pub record IsParty (p : Party) : Type 0 where
   pub links : All IsLink p.links
   pub keys : All IsRecord p.keys
   pub exchanges : All IsExchange p.exchanges
-  pub answers : All IsAnswer p.answers
+  pub answers : All IsCentreAnswer p.answers
   pub links_once : Distinct link_key same_link p.links
   pub keys_once : Distinct record_key same_record p.keys
   pub exchanges_once : Distinct exchange_key bytes_eq p.exchanges

@@ -20,11 +20,11 @@ pub struct Answer {
 
 impl Row<AnswerKey> for Answer {
     ghost use Rattle.party_state.specs.Keys.{answer_key};
-    ghost use Rattle.party_state.specs.Ranges.{IsAnswer};
+    ghost use Rattle.party_state.specs.Ranges.{IsCentreAnswer};
 
     ghost row_key = { answer_key };
 
-    ghost IsRow = { IsAnswer };
+    ghost IsRow = { IsCentreAnswer };
 
     fn row_key(&self) -> AnswerKey {
         AnswerKey {

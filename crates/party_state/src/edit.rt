@@ -106,6 +106,14 @@ impl Change {
         }
     }
 
+    /// No edits, with room for that many.
+    pub fn with_capacity(alloc: Global, edits: usize) -> Result<Change, NoMemory>
+        ensures { IfOk result (λ change. change ≡ []) }
+    {
+        let edits = Vec::with_capacity(alloc, edits)?;
+        Ok(Change { edits })
+    }
+
     /// Appends an edit.
     pub fn push(&mut self, edit: Edit) -> Result<(), NoMemory>
         ensures appends { OnOk result (self.new ≡ self.old ++ edit ∷ []) }

@@ -7,7 +7,7 @@ use x_base::{Count, Ident, KeyName, Label, NoMemory, Text};
 /// The way a key was sent.
 #[derive(Clone, Copy, Debug, PartialEq, Eq)]
 pub enum Via {
-    /// Under the link with this label, with a new key-encrypting key where a new label is told.
+    /// Under the link with this label, with a new key-encrypting key where a new label is given.
     Direct { label: Label, new: Option<Label> },
     /// Through a key distribution centre, which answered at this count.
     Distribution { centre: Ident, cta: Count },
@@ -33,7 +33,7 @@ pub enum Kind {
         name: KeyName,
         via: Via,
     },
-    /// The end of a key was told.
+    /// The peer was asked to end a key.
     Ending {
         name: KeyName,
     },

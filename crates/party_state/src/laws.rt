@@ -1,4 +1,4 @@
-// What is known of verdicts and of parties, told by calls that do nothing.
+// What is known of verdicts and of parties, stated by calls that do nothing.
 ghost use Rattle.std.specs.Prelude.{◌≡◌, ◌↔◌, ◌++◌, Bool, true, false, cond, Some, None, List, ℕ, bytes_eq};
 ghost use Rattle.x_base.specs.Names.{IsIdent};
 ghost use Rattle.x_base.specs.declared.party.Role.{Role as TheRole};
@@ -16,13 +16,14 @@ ghost use Rattle.party_state.specs.declared.answer.Answer.{Answer as TheAnswer};
 ghost use Rattle.party_state.specs.Keys.{same_link, same_record, same_answer, link_key, record_key, exchange_key, answer_key};
 ghost use Rattle.party_state.specs.Ranges.{IsGen, AreInRange, IsParty};
 ghost use Rattle.party_state.specs.State.{Party, begun, apply, apply_edit, link_with, record_with, exchange_with, answer_with, is_ended};
-ghost use Rattle.party_state.specs.Verdicts.{Test, verdict_of, Held, all_refuse};
+ghost use Rattle.party_state.specs.Verdicts.{Test, verdict_of, Held, is_accept, all_refuse};
 
 /// A verdict is Accept exactly where each test held.
-#[tactic(auto, using(crate::proofs::Verdicts::held_at_accept, crate::proofs::Verdicts::accepted))]
+#[tactic(auto, using(crate::proofs::Verdicts::held, crate::proofs::Verdicts::held_at_accept, crate::proofs::Verdicts::accepted))]
 pub fn law_accept()
     ensures held { (ts : List Test) → all_refuse ts ≡ true → verdict_of ts ≡ Accept → Held ts }
     ensures accepted { (ts : List Test) → Held ts → verdict_of ts ≡ Accept }
+    ensures tested { (ts : List Test) → all_refuse ts ≡ true → is_accept (verdict_of ts) ≡ true → Held ts }
 {}
 
 /// A party that begins is in range, and stays so after edits that are.

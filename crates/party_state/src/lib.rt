@@ -14,12 +14,14 @@ mod limits;
 mod link;
 mod lookups;
 mod names;
-mod party;
+mod parts;
 mod prepared;
 mod ranges;
+mod rooms;
 mod show;
 mod state;
 mod table;
+mod table_laws;
 
 pub use answer::{Answer, AnswerKey};
 pub use command::{Command, Input};
@@ -28,11 +30,14 @@ pub use edit::{Change, Edit};
 pub use exchange::{Exchange, Kind, Via};
 pub use key::{KeyRec, KeyStatus, RecordKey};
 pub use laws::{law_accept, law_drop, law_edits, law_party, law_put};
-pub use limits::{MOST_KEYS, MOST_LINKS};
+pub use limits::{LARGEST_NEXT, LONGEST_TEXT, MOST_KEYS, MOST_LINKS};
 pub use link::{LinkKey, LinkRec};
 pub use prepared::{Prepared, apply};
 pub use show::show_text;
 pub use state::{State, first_state};
+pub use table_laws::{
+    law_counts, law_first_link, law_found, law_found_in_range, law_same, law_stands,
+};
 pub use x_base::{Role, Side};
 
 #[cfg(test)]
@@ -41,9 +46,5 @@ mod edit_tests;
 mod lookup_tests;
 #[cfg(test)]
 mod samples;
-#[cfg(test)]
-mod show_tests;
-#[cfg(test)]
-mod state_tests;
 #[cfg(test)]
 mod tests;

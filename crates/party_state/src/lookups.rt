@@ -2,7 +2,7 @@ ghost use Rattle.std.specs.Prelude.{◌≡◌, ◌&&◌, not, bytes_eq, length, 
 ghost use Rattle.std.specs.List.{find, list_any};
 ghost use Rattle.x_base.specs.Names.{IsIdent};
 ghost use Rattle.party_state.specs.declared.link.LinkRec.{LinkRec as TheLink};
-ghost use Rattle.party_state.specs.Ranges.{IsGen, IsLink, IsRecord, IsExchange, IsAnswer};
+ghost use Rattle.party_state.specs.Ranges.{IsGen, IsLink, IsRecord, IsExchange, IsCentreAnswer};
 ghost use Rattle.party_state.specs.State as party;
 
 use crate::answer::{Answer, AnswerKey};
@@ -10,7 +10,8 @@ use crate::compare::{are_same, can_be_used, expand_alike, is_alias};
 use crate::exchange::Exchange;
 use crate::key::{KeyRec, RecordKey};
 use crate::link::{LinkKey, LinkRec};
-use crate::ranges::law_generator;
+use crate::parts::Parts;
+use crate::ranges::{law_generator, law_ident};
 use crate::state::State;
 use crate::table::Table;
 use x_base::{Ident, KeyName, Label, Role, Side};
@@ -40,8 +41,8 @@ impl State {
         ensures own { result ≡ self.now.own }
         ensures ident { IsIdent self.now.own }
     {
-        let parts = &self.parts;
-        parts.own.bytes();
+        let parts: &Parts = &self.parts;
+        law_ident(&parts.own);
         parts.own
     }
 
@@ -49,7 +50,7 @@ impl State {
     pub fn role(&self) -> Role
         ensures { result ≡ self.now.role }
     {
-        let parts = &self.parts;
+        let parts: &Parts = &self.parts;
         parts.role
     }
 
@@ -58,7 +59,7 @@ impl State {
         ensures generator { result ≡ self.now.generator }
         ensures in_range { IsGen self.now.generator }
     {
-        let parts = &self.parts;
+        let parts: &Parts = &self.parts;
         law_generator(&parts.generator);
         parts.generator
     }
@@ -68,7 +69,7 @@ impl State {
         ensures found { option_map (λ l. l.now) result ≡ party.link_with (record { peer = peer.now; label = label.now; side = side }) self.now }
         ensures in_range { IfSome result (λ l. IsLink l.now) }
     {
-        let parts = &self.parts;
+        let parts: &Parts = &self.parts;
         parts.links.find(&LinkKey {
             peer: *peer,
             label: *label,
@@ -81,7 +82,7 @@ impl State {
         ensures found { option_map (λ k. k.now) result ≡ party.record_with (record { peer = peer.now; name = name.now }) self.now }
         ensures in_range { IfSome result (λ k. IsRecord k.now) }
     {
-        let parts = &self.parts;
+        let parts: &Parts = &self.parts;
         parts.keys.find(&RecordKey {
             peer: *peer,
             name: *name,
@@ -93,16 +94,16 @@ impl State {
         ensures found { option_map (λ e. e.now) result ≡ party.exchange_with peer.now self.now }
         ensures in_range { IfSome result (λ e. IsExchange e.now) }
     {
-        let parts = &self.parts;
+        let parts: &Parts = &self.parts;
         parts.exchanges.find(peer)
     }
 
     /// The last key that was sent to that requester for that ultimate recipient.
     pub fn answer(&self, requester: &Ident, ultimate: &Ident) -> Option<&Answer>
         ensures found { option_map (λ a. a.now) result ≡ party.answer_with (record { requester = requester.now; ultimate = ultimate.now }) self.now }
-        ensures in_range { IfSome result (λ a. IsAnswer a.now) }
+        ensures in_range { IfSome result (λ a. IsCentreAnswer a.now) }
     {
-        let parts = &self.parts;
+        let parts: &Parts = &self.parts;
         parts.answers.find(&AnswerKey {
             requester: *requester,
             ultimate: *ultimate,
@@ -114,9 +115,8 @@ impl State {
         ensures found { option_map (λ l. l.now) result ≡ party.first_link peer.now side self.now }
         ensures in_range { IfSome result (λ l. IsLink l.now) }
     {
-        let parts = &self.parts;
-        // The length tells that each link is in its range.
-        parts.links.len();
+        let parts: &Parts = &self.parts;
+        parts.links.law_rows();
         first_usable(&parts.links, peer, side)
     }
 
@@ -124,7 +124,7 @@ impl State {
     pub fn knows(&self, peer: &Ident) -> bool
         ensures { result ≡ party.knows peer.now self.now }
     {
-        let parts = &self.parts;
+        let parts: &Parts = &self.parts;
         parts.links.rows().any(|link| *peer == link.peer)
     }
 
@@ -132,7 +132,7 @@ impl State {
     pub fn has_pair(&self, pair: Pair) -> bool
         ensures { result ≡ party.has_pair pair self.now }
     {
-        let parts = &self.parts;
+        let parts: &Parts = &self.parts;
         parts.links.rows().any(|link| are_same(&pair, &link.pair))
     }
 
@@ -141,7 +141,7 @@ impl State {
     pub fn aliases(&self, peer: &Ident) -> bool
         ensures { result ≡ party.aliases peer.now self.now }
     {
-        let parts = &self.parts;
+        let parts: &Parts = &self.parts;
         expand_alike(peer, &parts.own) || names_alias(&parts.links, peer)
     }
 
@@ -149,7 +149,7 @@ impl State {
     pub fn link_count(&self) -> usize
         ensures { result ≡ length self.now.links }
     {
-        let parts = &self.parts;
+        let parts: &Parts = &self.parts;
         parts.links.len()
     }
 
@@ -157,7 +157,7 @@ impl State {
     pub fn key_count(&self) -> usize
         ensures { result ≡ length self.now.keys }
     {
-        let parts = &self.parts;
+        let parts: &Parts = &self.parts;
         parts.keys.len()
     }
 
@@ -165,7 +165,7 @@ impl State {
     pub fn exchange_count(&self) -> usize
         ensures { result ≡ length self.now.exchanges }
     {
-        let parts = &self.parts;
+        let parts: &Parts = &self.parts;
         parts.exchanges.len()
     }
 
@@ -173,7 +173,7 @@ impl State {
     pub fn answer_count(&self) -> usize
         ensures { result ≡ length self.now.answers }
     {
-        let parts = &self.parts;
+        let parts: &Parts = &self.parts;
         parts.answers.len()
     }
 
@@ -182,7 +182,7 @@ impl State {
         ensures found { option_map (λ l. l.now) result ≡ slice_get self.now.links i }
         ensures in_range { IfSome result (λ l. IsLink l.now) }
     {
-        let parts = &self.parts;
+        let parts: &Parts = &self.parts;
         parts.links.at(i)
     }
 
@@ -191,7 +191,7 @@ impl State {
         ensures found { option_map (λ k. k.now) result ≡ slice_get self.now.keys i }
         ensures in_range { IfSome result (λ k. IsRecord k.now) }
     {
-        let parts = &self.parts;
+        let parts: &Parts = &self.parts;
         parts.keys.at(i)
     }
 
@@ -200,16 +200,16 @@ impl State {
         ensures found { option_map (λ e. e.now) result ≡ slice_get self.now.exchanges i }
         ensures in_range { IfSome result (λ e. IsExchange e.now) }
     {
-        let parts = &self.parts;
+        let parts: &Parts = &self.parts;
         parts.exchanges.at(i)
     }
 
     /// Answer `i`, from 0, and `None` exactly where there is no such answer.
     pub fn answer_at(&self, i: usize) -> Option<&Answer>
         ensures found { option_map (λ a. a.now) result ≡ slice_get self.now.answers i }
-        ensures in_range { IfSome result (λ a. IsAnswer a.now) }
+        ensures in_range { IfSome result (λ a. IsCentreAnswer a.now) }
     {
-        let parts = &self.parts;
+        let parts: &Parts = &self.parts;
         parts.answers.at(i)
     }
 }

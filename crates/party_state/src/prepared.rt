@@ -1,9 +1,10 @@
-ghost use Rattle.std.specs.Prelude.{◌≡◌, ◌≤◌, length, IfOk, IfErr};
+ghost use Rattle.std.specs.Prelude.{◌≡◌, IfOk, IfErr};
 ghost use Rattle.party_state.specs.Ranges.{AreFitting, HasNoBegin};
+ghost use Rattle.party_state.specs.Rooms.{HasSpaceFor};
 ghost use Rattle.party_state.specs.State.{apply as after};
 
 use crate::edit::{Change, Edit};
-use crate::party::Parts;
+use crate::parts::Parts;
 use crate::state::State;
 use std::alloc::Global;
 use std::marker::Model;
@@ -13,23 +14,40 @@ use x_base::NoMemory;
 /// and the edits.
 #[derive(Drop)]
 pub struct Prepared {
-    parts: Parts,
+    parts: Box<Parts>,
     edits: Vec<Edit>,
 }
 
 impl Model for Prepared {
-    ghost use Rattle.std.specs.Prelude.{◌≤◌, length};
     ghost use Rattle.party_state.specs.Ranges.{AreFitting, HasNoBegin};
+    ghost use Rattle.party_state.specs.Rooms.{HasSpaceFor};
     ghost use Rattle.party_state.specs.Prepared.{PreparedParty};
 
     ghost Value = { PreparedParty };
 
-    ghost view = { λ p. record { party = p.parts.0; edits = p.edits.items } };
+    ghost view = { λ p. record { party = p.parts.value.0; edits = p.edits.items } };
 
-    ghost invariant = { λ p. (length p.edits.items ≤ p.parts.1) × AreFitting p.edits.items × HasNoBegin p.edits.items };
+    ghost invariant = { λ p. HasSpaceFor p.edits.items p.parts.value.1 × AreFitting p.edits.items × HasNoBegin p.edits.items };
 }
 
 impl State {
+    /// Takes all memory that the change wants, which goes into what is prepared. Where there is none, the same state
+    /// comes back.
+    pub fn prepare_owned(self, change: Change) -> Result<Prepared, State>
+        requires fitting { AreFitting change }
+        requires goes_on { HasNoBegin change }
+        ensures party { IfOk result (λ p. p.party ≡ self) }
+        ensures edits { IfOk result (λ p. p.edits ≡ change) }
+        ensures same { IfErr result (λ s. s ≡ self) }
+    {
+        let State { mut parts } = self;
+        let edits = change.into_edits();
+        match parts.reserve(edits.as_slice()) {
+            Ok(()) => Ok(Prepared { parts, edits }),
+            Err(NoMemory) => Err(State { parts }),
+        }
+    }
+
     /// Takes all memory that the change wants. Where there is none, the same state comes back.
     pub fn prepare(self, alloc: Global, change: &Change) -> Result<Prepared, State>
         requires fitting { AreFitting change.now }
@@ -38,21 +56,16 @@ impl State {
         ensures edits { IfOk result (λ p. p.edits ≡ change.now) }
         ensures same { IfErr result (λ s. s ≡ self) }
     {
-        let State { mut parts } = self;
-        let Ok(copy) = change.copy(alloc) else {
-            return Err(State { parts });
-        };
-        let edits = copy.into_edits();
-        match parts.reserve(edits.len()) {
-            Ok(()) => Ok(Prepared { parts, edits }),
-            Err(NoMemory) => Err(State { parts }),
+        match change.copy(alloc) {
+            Ok(copy) => self.prepare_owned(copy),
+            Err(NoMemory) => Err(self),
         }
     }
 }
 
 /// Does the edits in their order.
 fn do_edits(parts: &mut Parts, edits: Vec<Edit>)
-    requires room { length edits.items ≤ parts.old.1 }
+    requires room { HasSpaceFor edits.items parts.old.1 }
     requires fitting { AreFitting edits.items }
     requires goes_on { HasNoBegin edits.items }
     ensures { parts.new.0 ≡ after edits.items parts.old.0 }

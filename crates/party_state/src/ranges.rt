@@ -1,7 +1,9 @@
-// What the types of a party's parts fix, told by calls that do nothing.
+// What the types of a party's parts fix, stated by calls that do nothing.
 ghost use Rattle.std.specs.Prelude.{◌≤◌, length};
+ghost use Rattle.x_base.specs.Count.{IsCount};
 ghost use Rattle.x_base.specs.KeyName.{IsKeyName};
-ghost use Rattle.party_state.specs.Ranges.{IsPair, IsGen, IsNext, IsLink, IsRecord, IsVia, IsKind, IsExchange, IsAnswer};
+ghost use Rattle.x_base.specs.Names.{IsIdent, IsLabel};
+ghost use Rattle.party_state.specs.Ranges.{IsPair, IsGen, IsNextCount, IsLink, IsRecord, IsVia, IsKind, IsExchange, IsCentreAnswer, longest_text};
 ghost use Rattle.party_state.specs.Formed.{IsFormed};
 
 use crate::answer::Answer;
@@ -9,9 +11,27 @@ use crate::edit::Edit;
 use crate::exchange::{Exchange, Kind, Via};
 use crate::key::KeyRec;
 use crate::link::LinkRec;
-use x_base::KeyName;
+use x_base::{Count, Ident, KeyName, Label};
 use x_gen::Gen;
 use x_mac::Pair;
+
+pub(crate) fn law_ident(ident: &Ident)
+    ensures { IsIdent ident.now }
+{
+    ident.bytes();
+}
+
+fn law_label(label: &Label)
+    ensures { IsLabel label.now }
+{
+    label.bytes();
+}
+
+fn law_count(count: &Count)
+    ensures { IsCount count.now }
+{
+    count.value();
+}
 
 pub(crate) fn law_pair(pair: &Pair)
     ensures { IsPair pair.now }
@@ -30,24 +50,24 @@ pub(crate) fn law_generator(generator: &Gen)
 pub(crate) fn law_name(name: &KeyName)
     ensures { IsKeyName name.now }
 {
-    name.issuer.bytes();
-    name.originator.bytes();
-    name.label.bytes();
-    name.count.value();
+    law_ident(&name.issuer);
+    law_ident(&name.originator);
+    law_label(&name.label);
+    law_count(&name.count);
 }
 
 pub(crate) fn law_link(link: &LinkRec)
-    ensures { IsNext link.now.next → IsLink link.now }
+    ensures { IsNextCount link.now.next → IsLink link.now }
 {
-    link.peer.bytes();
-    link.label.bytes();
+    law_ident(&link.peer);
+    law_label(&link.label);
     law_pair(&link.pair);
 }
 
 pub(crate) fn law_record(key: &KeyRec)
     ensures { IsRecord key.now }
 {
-    key.peer.bytes();
+    law_ident(&key.peer);
     law_name(&key.name);
     let _value = key.value;
 }
@@ -57,17 +77,17 @@ fn law_via(via: &Via)
 {
     match via {
         Via::Direct { label, new } => {
-            label.bytes();
+            law_label(label);
             if let Some(new) = new {
-                new.bytes();
+                law_label(new);
             }
         }
         Via::Distribution { centre, cta } => {
-            centre.bytes();
-            cta.value();
+            law_ident(centre);
+            law_count(cta);
         }
         Via::Translation { centre } => {
-            centre.bytes();
+            law_ident(centre);
         }
     }
 }
@@ -77,16 +97,16 @@ fn law_kind(kind: &Kind)
 {
     match kind {
         Kind::Asked { ultimate } => {
-            ultimate.bytes();
+            law_ident(ultimate);
         }
         Kind::Translating {
             ultimate,
             value,
             cta,
         } => {
-            ultimate.bytes();
+            law_ident(ultimate);
             let _value = *value;
-            cta.value();
+            law_count(cta);
         }
         Kind::KeySent { name, via } => {
             law_name(name);
@@ -97,18 +117,18 @@ fn law_kind(kind: &Kind)
 }
 
 pub(crate) fn law_exchange(exchange: &Exchange)
-    ensures { length exchange.now.text ≤ 1024 → IsExchange exchange.now }
+    ensures { length exchange.now.text ≤ longest_text → IsExchange exchange.now }
 {
-    exchange.peer.bytes();
+    law_ident(&exchange.peer);
     law_kind(&exchange.kind);
 }
 
 pub(crate) fn law_answer(answer: &Answer)
-    ensures { IsAnswer answer.now }
+    ensures { IsCentreAnswer answer.now }
 {
-    answer.requester.bytes();
-    answer.ultimate.bytes();
-    answer.cta.value();
+    law_ident(&answer.requester);
+    law_ident(&answer.ultimate);
+    law_count(&answer.cta);
     let _value = answer.value;
 }
 
@@ -118,19 +138,19 @@ pub(crate) fn law_edit(edit: &Edit)
 {
     match edit {
         Edit::Begin { own, generator, .. } => {
-            own.bytes();
+            law_ident(own);
             law_generator(generator);
         }
         Edit::PutLink(link) => law_link(link),
         Edit::DropLink { peer, label, .. } => {
-            peer.bytes();
-            label.bytes();
+            law_ident(peer);
+            law_label(label);
         }
         Edit::PutKey(key) => law_record(key),
         Edit::DropEnded => (),
         Edit::PutExchange(exchange) => law_exchange(exchange),
         Edit::DropExchange { peer } => {
-            peer.bytes();
+            law_ident(peer);
         }
         Edit::PutAnswer(answer) => law_answer(answer),
         Edit::SetGen(v) => {

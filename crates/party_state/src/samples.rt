@@ -1,5 +1,5 @@
 // Parties for tests. A call here tells nothing of the state that it makes: a test sees what it asks.
-ghost use Rattle.party_state.specs.Ranges.{IsFitting, IsNext, IsNoBegin};
+ghost use Rattle.party_state.specs.Ranges.{IsFitting, IsNextCount, IsNoBegin};
 
 use super::*;
 use std::alloc::Global;
@@ -30,7 +30,7 @@ fn count(rt: &impl Abort, digits: &[u8]) -> Count {
 }
 
 pub(crate) fn link(rt: &impl Abort, name: &[u8], side: Side, next: u64, ready: bool) -> Edit
-    requires { IsNext next }
+    requires { IsNextCount next }
     ensures fitting { IsFitting result }
     ensures goes_on { IsNoBegin result }
 {
@@ -85,7 +85,7 @@ pub(crate) fn asked(rt: &impl Abort, ultimate: &[u8]) -> Kind {
     }
 }
 
-pub(crate) fn translating(rt: &impl Abort, ultimate: &[u8], cta: &[u8]) -> Kind {
+fn translating(rt: &impl Abort, ultimate: &[u8], cta: &[u8]) -> Kind {
     Kind::Translating {
         ultimate: ident(rt, ultimate),
         value: 5,
@@ -93,7 +93,7 @@ pub(crate) fn translating(rt: &impl Abort, ultimate: &[u8], cta: &[u8]) -> Kind 
     }
 }
 
-pub(crate) fn key_sent(rt: &impl Abort, bytes: &[u8]) -> Kind {
+fn key_sent(rt: &impl Abort, bytes: &[u8]) -> Kind {
     Kind::KeySent {
         name: name(rt, bytes),
         via: Via::Translation {
@@ -124,7 +124,7 @@ pub(crate) fn with(rt: &impl Abort, state: State, edit: Edit) -> State
 }
 
 /// The state after a change of one edit.
-fn after(rt: &impl Abort, alloc: Global, state: &State, edit: Edit) -> State
+pub(crate) fn after(rt: &impl Abort, alloc: Global, state: &State, edit: Edit) -> State
     requires fitting { IsFitting edit }
     requires goes_on { IsNoBegin edit }
 {
@@ -174,48 +174,30 @@ fn with_answers(rt: &impl Abort, state: State) -> State {
     with(rt, state, answer(rt, b"BANK-C", b"BANKB", b"4"))
 }
 
-/// Whether the state is shown in these lines.
-pub(crate) fn shows(rt: &impl Abort, alloc: Global, state: &State, lines: &[u8]) -> bool {
-    let text = show_text(alloc, state).expect(rt, "memory");
-    text.bytes() == lines
-}
-
-/// Whether the state is shown in these lines after an edit.
-pub(crate) fn shows_after(
+/// Whether the state is shown in these lines, one piece after another.
+pub(crate) fn shows(
     rt: &impl Abort,
     alloc: Global,
     state: &State,
-    edit: Edit,
-    lines: &[u8],
-) -> bool
-    requires fitting { IsFitting edit }
-    requires goes_on { IsNoBegin edit }
-{
-    shows(rt, alloc, &after(rt, alloc, state, edit), lines)
+    party: &[u8],
+    pieces: &[&[u8]],
+) -> bool {
+    let mut lines = Text::new(alloc);
+    lines.push(party).expect(rt, "memory");
+    for piece in pieces {
+        lines.push(*piece).expect(rt, "memory");
+    }
+    let text = show_text(alloc, state).expect(rt, "memory");
+    text.bytes() == lines.bytes()
 }
 
-/// A bank of two links.
-pub(crate) fn linked(rt: &impl Abort, alloc: Global) -> State {
-    with_links(rt, begun(rt, alloc, b"BANKA", Role::Bank))
-}
-
-/// A bank of five keys.
-pub(crate) fn keyed(rt: &impl Abort, alloc: Global) -> State {
-    with_keys(rt, begun(rt, alloc, b"BANKA", Role::Bank))
-}
-
-/// A bank that waits for four peers.
-pub(crate) fn waiting(rt: &impl Abort, alloc: Global) -> State {
-    with_exchanges(rt, alloc, begun(rt, alloc, b"BANKA", Role::Bank))
-}
-
-/// A distribution centre that answered two requests.
-pub(crate) fn answered(rt: &impl Abort, alloc: Global) -> State {
-    with_answers(rt, begun(rt, alloc, b"CKDX", Role::Distribution))
+/// The first that is false.
+pub(crate) fn first_wrong(right: &[bool]) -> Option<usize> {
+    right.iter().position(|right| !*right)
 }
 
 /// A bank with rows of every kind.
 pub(crate) fn whole(rt: &impl Abort, alloc: Global) -> State {
-    let state = with_exchanges(rt, alloc, with_keys(rt, linked(rt, alloc)));
-    with_answers(rt, state)
+    let state = with_links(rt, begun(rt, alloc, b"BANKA", Role::Bank));
+    with_answers(rt, with_exchanges(rt, alloc, with_keys(rt, state)))
 }

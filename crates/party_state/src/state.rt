@@ -4,7 +4,7 @@ ghost use Rattle.party_state.specs.State.{begun, apply_edit};
 ghost use Rattle.party_state.specs.State as party;
 
 use crate::edit::{Change, Edit};
-use crate::party::Parts;
+use crate::parts::Parts;
 use std::alloc::Global;
 use std::marker::Model;
 use x_base::{Ident, NoMemory, Role};
@@ -13,7 +13,7 @@ use x_gen::Gen;
 /// A party's state.
 #[derive(Drop)]
 pub struct State {
-    pub(crate) parts: Parts,
+    pub(crate) parts: Box<Parts>,
 }
 
 impl Model for State {
@@ -21,16 +21,24 @@ impl Model for State {
 
     ghost Value = { Party };
 
-    ghost view = { λ s. s.parts.0 };
+    ghost view = { λ s. s.parts.value.0 };
+}
+
+/// The state of these parts.
+fn boxed(alloc: Global, parts: Parts) -> Result<State, NoMemory>
+    ensures { IfOk result (λ s. s ≡ parts.0) }
+{
+    match Box::new(alloc, parts) {
+        Ok(parts) => Ok(State { parts }),
+        Err(_) => Err(NoMemory),
+    }
 }
 
 /// The state of a party that begins.
 pub fn first_state(alloc: Global, own: Ident, role: Role, generator: Gen) -> Result<State, NoMemory>
     ensures { IfOk result (λ s. s ≡ begun own role generator) }
 {
-    Ok(State {
-        parts: Parts::new(alloc, own, role, generator),
-    })
+    boxed(alloc, Parts::new(alloc, own, role, generator))
 }
 
 impl State {
@@ -57,8 +65,6 @@ impl State {
     pub(crate) fn copy(&self, alloc: Global) -> Result<State, NoMemory>
         ensures { IfOk result (λ copy. copy ≡ self.now) }
     {
-        Ok(State {
-            parts: self.parts.copy(alloc)?,
-        })
+        boxed(alloc, self.parts.copy(alloc)?)
     }
 }

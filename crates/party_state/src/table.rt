@@ -77,11 +77,17 @@ impl<K: Eq + Hash + Copy, R: Row<K>> Table<K, R> {
 
     /// How many rows there are.
     pub(crate) fn len(&self) -> usize
-        ensures len { result ≡ length self.now.0 }
+        ensures { result ≡ length self.now.0 }
+    {
+        self.map.len()
+    }
+
+    /// No two rows have one key, and each is a row of the table. It does nothing.
+    pub(crate) fn law_rows(&self)
         ensures once { Distinct R.row_key K.eq self.now.0 }
         ensures rows { All R.IsRow self.now.0 }
     {
-        self.map.len()
+        let _rows = self.map.len();
     }
 
     /// The rows, in their order.
@@ -97,7 +103,9 @@ impl<K: Eq + Hash + Copy, R: Row<K>> Table<K, R> {
         ensures same { self.new.0 ≡ self.old.0 }
         ensures room { OnOk result (rows ≤ self.new.1) }
     {
-        self.map.reserve(rows)?;
+        if rows > 0 {
+            self.map.reserve(rows)?;
+        }
         Ok(())
     }
 
@@ -121,7 +129,7 @@ impl<K: Eq + Hash + Copy, R: Row<K>> Table<K, R> {
         ensures rows { self.new.0 ≡ drop_row R.row_key K.eq key.now self.old.0 }
         ensures room { self.old.1 ≤ self.new.1 }
     {
-        // The length tells that no key stands twice.
+        // The length shows that no key stands twice.
         let _rows = self.map.len();
         self.map.shift_remove(key);
     }
@@ -145,8 +153,7 @@ impl<K: Eq + Hash + Copy, R: Row<K>> Table<K, R> {
         requires within { i < length self.now.0 }
         ensures { OnOk result (copy.new.0 ≡ take (i + 1) self.now.0) }
     {
-        // The length tells that no key stands twice.
-        let _rows = self.len();
+        self.law_rows();
         match self.at(i) {
             Some(row) => copy.put(row.copied(alloc)?),
             None => Ok(()),

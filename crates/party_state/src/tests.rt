@@ -1,73 +1,16 @@
-ghost use Rattle.std.specs.Prelude.{◌≡◌, OnOk};
-ghost use Rattle.party_state.specs.Ranges.{IsFitting, AreFitting, IsNoBegin, HasNoBegin};
+ghost use Rattle.party_state.specs.Ranges.{AreFitting, HasNoBegin};
 
 use super::*;
 use std::alloc::Global;
 use std::test::Fail;
-use x_base::{Ident, KeyName, Label, NoMemory, Text};
+use x_base::{Ident, KeyName, NoMemory, Text};
 use x_gen::Gen;
 use x_mac::Pair;
-
-const GENERATOR: Gen = Gen {
-    key: Pair {
-        left: 0x0123456789ABCDEF,
-        right: 0xFEDCBA9876543210,
-    },
-    v: 1,
-};
 
 const PAIR: Pair = Pair {
     left: 0x1122334455667788,
     right: 0x8877665544332211,
 };
-
-// Appends an edit to a change that a state can take.
-#[tactic(auto, using(crate::proofs::Edits::fitting_push, crate::proofs::Edits::no_begin_push))]
-fn add(change: &mut Change, edit: Edit) -> Result<(), NoMemory>
-    requires fitting { IsFitting edit }
-    requires goes_on { IsNoBegin edit }
-    requires all_fitting { AreFitting change.old }
-    requires all_go_on { HasNoBegin change.old }
-    ensures all_fitting { OnOk result (AreFitting change.new) }
-    ensures all_go_on { OnOk result (HasNoBegin change.new) }
-{
-    change.push(edit)
-}
-
-fn sending(peer: Ident, label: Label, next: u64) -> LinkRec
-    ensures { result.next ≡ next }
-{
-    LinkRec {
-        peer,
-        label,
-        side: Side::Sends,
-        pair: PAIR,
-        next,
-        ready: true,
-    }
-}
-
-fn next_after(alloc: Global, state: &State, change: &Change) -> Result<Option<u64>, NoMemory>
-    requires fitting { AreFitting change.now }
-    requires goes_on { HasNoBegin change.now }
-{
-    let after = apply(alloc, state, change)?;
-    Ok(after.link_at(0).map(|link| link.next))
-}
-
-#[test]
-fn links_are_put_in_place(rt: HostRuntime) -> Result<(), Fail> {
-    let alloc = rt.alloc();
-    let peer = Ident::read(b"BANKB")?;
-    let label = Label::read(b"K1")?;
-    let mut change = Change::new(alloc);
-    add(&mut change, Edit::PutLink(sending(peer, label, 1)))?;
-    add(&mut change, Edit::PutLink(sending(peer, label, 2)))?;
-    let state = first_state(alloc, peer, Role::Bank, GENERATOR)?;
-    assert!(rt; next_after(alloc, &state, &change)? == Some(2));
-    assert_eq!(rt; state.link_count(), 0);
-    Ok(())
-}
 
 #[test]
 fn changes_are_copied(rt: HostRuntime) -> Result<(), Fail> {
@@ -106,5 +49,41 @@ fn full_names_tell_the_recipient(rt: HostRuntime) -> Result<(), Fail> {
     };
     assert!(rt; key(twice).full_name(&once).recipient == twice);
     assert!(rt; key(once).full_name(&twice).recipient == twice);
+    Ok(())
+}
+
+fn bank(alloc: Global, own: Ident) -> Result<State, NoMemory> {
+    first_state(alloc, own, Role::Bank, Gen { key: PAIR, v: 1 })
+}
+
+fn seed_after(alloc: Global, state: State, change: &Change) -> Result<u64, NoMemory>
+    requires fitting { AreFitting change.now }
+    requires goes_on { HasNoBegin change.now }
+{
+    match state.prepare(alloc, change) {
+        Ok(prepared) => Ok(prepared.finish().generator().v),
+        Err(_) => Err(NoMemory),
+    }
+}
+
+fn seed_before(alloc: Global, state: State, change: &Change) -> Result<u64, NoMemory>
+    requires fitting { AreFitting change.now }
+    requires goes_on { HasNoBegin change.now }
+{
+    match state.prepare(alloc, change) {
+        Ok(prepared) => Ok(prepared.cancel().generator().v),
+        Err(_) => Err(NoMemory),
+    }
+}
+
+#[test]
+fn a_prepared_change_is_done(rt: HostRuntime) -> Result<(), Fail> {
+    let alloc = rt.alloc();
+    let own = Ident::read(b"BANKA")?;
+    let mut change = Change::new(alloc);
+    change.push(Edit::SetGen(5))?;
+    change.push(Edit::SetGen(6))?;
+    assert_eq!(rt; seed_before(alloc, bank(alloc, own)?, &change)?, 1);
+    assert_eq!(rt; seed_after(alloc, bank(alloc, own)?, &change)?, 6);
     Ok(())
 }

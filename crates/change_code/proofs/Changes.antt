@@ -1,0 +1,116 @@
+-- Lists of edits, and changes.
+use Rattle.std.proofs.Common.{◌≡◌, ℕ, zero, suc, ◌+◌, ◌<◌, ◌≤◌, ◌^◌, nat_eq, Bool, true, false, List, [], ◌∷◌, ◌++◌, length, take, Option, Some, None, Ok, Err, option_map, refl, sym, ap, ◌∙◌, subst, arith, append_assoc, append-nil, add-one, length-append}
+use Rattle.std.specs.List.{All, slice_get, flat_map}
+use Rattle.std.proofs.lemmas.List.Concat.{flat_map-append}
+use Rattle.std.proofs.lemmas.List.Elements.{All-push, All-head, All-tail}
+use Rattle.party_state.specs.declared.edit.Edit.{Edit}
+use Rattle.party_state.specs.Ranges.{InRange, AreInRange, IsFitting, AreFitting}
+use Rattle.change_code.specs.Code.{two, edit_code, edits_code, code_in, IsCodeIn, IsCode}
+use Rattle.change_code.specs.Reading.{Form, Lacks, StartsWith, IsDecoded, edit_form, edits_form}
+use Rattle.change_code.specs.declared.fault.CodeFault.{CodeFault}
+use Rattle.change_code.specs.declared.fault.CodeFault.TheVariants.{Bad, NoMemory}
+use Rattle.change_code.proofs.Joining.{Apart}
+use Rattle.change_code.proofs.Numbers.{two_apart, two_long}
+use Rattle.change_code.proofs.EditForms.{edit_apart}
+
+pub fits_at : (edits : List Edit) (i : ℕ) (edit : Edit) → AreFitting edits → slice_get edits i ≡ Some edit → IsFitting edit
+fits_at [] i edit all is = absurd (cc is)
+fits_at (e ∷ edits) zero edit all is = let same : e ≡ edit = cc is in subst IsFitting same (All-head IsFitting e edits all)
+fits_at (e ∷ edits) (suc i) edit all is = fits_at edits i edit (All-tail IsFitting e edits all) is
+
+-- the code of one edit more
+pub one_more : (edits : List Edit) (i : ℕ) (edit : Edit) → slice_get edits i ≡ Some edit → edits_code (take (suc i) edits) ≡ edits_code (take i edits) ++ edit_code edit
+one_more [] i edit is = absurd (cc is)
+one_more (e ∷ edits) zero edit is = let same : e ≡ edit = cc is in append-nil (edit_code e) ∙ ap edit_code same
+one_more (e ∷ edits) (suc i) edit is = ap (λ (l : List ℕ). edit_code e ++ l) (one_more edits i edit is) ∙ sym (append_assoc (edit_code e) (edits_code (take i edits)) (edit_code edit))
+
+pub put_one : (out new front : List ℕ) (edits : List Edit) (i : ℕ) (edit : Edit) → slice_get edits i ≡ Some edit → new ≡ out ++ edit_code edit
+    → out ≡ front ++ edits_code (take i edits) → new ≡ front ++ edits_code (take (i + 1) edits)
+put_one out new front edits i edit at is was =
+    rw add-one
+    (is ∙ (ap (λ (l : List ℕ). l ++ edit_code edit) was ∙ (append_assoc front (edits_code (take i edits)) (edit_code edit) ∙ ap (λ (l : List ℕ). front ++ l) (sym (one_more edits i edit at)))))
+
+-- behind fewer edits than there are another one stands
+next_edit : (done edits : List Edit) (rest more : List ℕ) → AreInRange done → AreInRange edits → length done < length edits → edits_code done ++ rest ≡ edits_code edits ++ more
+    → (edit : Edit) × (after : List ℕ) × InRange edit × (rest ≡ edit_code edit ++ after)
+next_edit [] [] rest more some all few is = absurd (omega arith)
+next_edit [] (e ∷ edits) rest more some all few is = (e, edits_code edits ++ more, All-head InRange e edits all, is ∙ append_assoc (edit_code e) (edits_code edits) more)
+next_edit (d ∷ done) [] rest more some all few is = absurd (omega arith)
+next_edit (d ∷ done) (e ∷ edits) rest more some all few is =
+    let same = edit_apart.same d e (edits_code done ++ rest) (edits_code edits ++ more) (All-head InRange d done some) (All-head InRange e edits all)
+    (sym (append_assoc (edit_code d) (edits_code done) rest) ∙ (is ∙ append_assoc (edit_code e) (edits_code edits) more)) in
+    next_edit done edits rest more (All-tail InRange d done some) (All-tail InRange e edits all) (omega arith) same.1
+
+-- equally many edits with one code are the same
+same_edits : (done edits : List Edit) (rest more : List ℕ) → AreInRange done → AreInRange edits → length done ≡ length edits → edits_code done ++ rest ≡ edits_code edits ++ more
+    → (done ≡ edits) × (rest ≡ more)
+same_edits [] [] rest more some all count is = (refl, is)
+same_edits [] (e ∷ edits) rest more some all count is = absurd (omega arith)
+same_edits (d ∷ done) [] rest more some all count is = absurd (omega arith)
+same_edits (d ∷ done) (e ∷ edits) rest more some all count is =
+    let same = edit_apart.same d e (edits_code done ++ rest) (edits_code edits ++ more) (All-head InRange d done some) (All-head InRange e edits all)
+    (sym (append_assoc (edit_code d) (edits_code done) rest) ∙ (is ∙ append_assoc (edit_code e) (edits_code edits) more)) in
+    let others = same_edits done edits rest more (All-tail InRange d done some) (All-tail InRange e edits all) (omega arith) same.1 in
+    (ap (λ (x : Edit). x ∷ done) same.0 ∙ ap (λ (l : List Edit). e ∷ l) others.0, others.1)
+
+-- an edit is missing
+pub lacks_edit : (n i : ℕ) (old rest : List ℕ) (done : List Edit) → i < n → StartsWith (edits_form i) old rest done → Lacks edit_form rest → Lacks (edits_form n) old
+lacks_edit n i old rest done few begins lacks = record {
+  none = λ edits more fits is.
+      let next = next_edit done edits rest more begins.fits.1 fits.1 (omega (arith, begins.fits.0, fits.0)) (sym begins.is ∙ is) in
+      lacks.none next.0 next.1 next.2 next.3;
+}
+
+pushed : (done : List Edit) (edit : Edit) → edits_code (done ++ edit ∷ []) ≡ edits_code done ++ edit_code edit
+pushed done edit = flat_map-append edit_code done (edit ∷ []) ∙ ap (λ (l : List ℕ). edits_code done ++ l) (append-nil (edit_code edit))
+
+-- an edit is there
+pub begins_edit : (i : ℕ) (old rest more : List ℕ) (done : List Edit) (edit : Edit) → StartsWith (edits_form i) old rest done → StartsWith edit_form rest more edit → StartsWith (edits_form (i + 1)) old more (done ++ edit ∷ [])
+begins_edit i old rest more done edit before begins = record {
+  fits = (omega (arith, before.fits.0, length-append done (edit ∷ [])), All-push InRange done edit before.fits.1 begins.fits);
+  is = before.is ∙ (ap (λ (l : List ℕ). edits_code done ++ l) begins.is ∙ (sym (append_assoc (edits_code done) (edit_code edit) more) ∙ ap (λ (l : List ℕ). l ++ more) (sym (pushed done edit))));
+}
+
+two_changes : (format : ℕ) (bytes : List ℕ) (first second : List Edit) → IsCodeIn format bytes first → IsCodeIn format bytes second → first ≡ second
+two_changes format bytes first second one other =
+    let tails : two (length first) ++ edits_code first ≡ two (length second) ++ edits_code second = cc (sym one.is ∙ other.is) in
+    let counts = two_apart (length first) (length second) (edits_code first) (edits_code second) (omega (arith, one.few)) (omega (arith, other.few)) tails in
+    let ends : edits_code first ++ [] ≡ edits_code second ++ [] = append-nil (edits_code first) ∙ (counts.1 ∙ sym (append-nil (edits_code second))) in
+    (same_edits first second [] [] one.in_range other.in_range counts.0 ends).0
+
+pub one_change : (bytes : List ℕ) (first second : List Edit) → IsCode bytes first → IsCode bytes second → first ≡ second
+one_change bytes first second one other = two_changes 1 bytes first second one other
+
+pub one_code : (first second : List ℕ) (edits : List Edit) → IsCode first edits → IsCode second edits → first ≡ second
+one_code first second edits one other = one.is ∙ sym other.is
+
+pub refused_edit : (fault : CodeFault) (n i : ℕ) (old rest more after : List ℕ) (done : List Edit) → i < n → StartsWith (edits_form i) old rest done → IsDecoded edit_form rest more (Err fault)
+    → IsDecoded (edits_form n) old after (Err fault)
+refused_edit Bad n i old rest more after done few begins lacks = lacks_edit n i old rest done few begins lacks
+refused_edit NoMemory n i old rest more after done few begins lacks = tt
+
+abbrev pub IsNone : List ℕ → Type 0
+IsNone bytes = (format : ℕ) (edits : List Edit) → IsCodeIn format (format ∷ bytes) edits → ⊥
+
+behind : (format : ℕ) (bytes : List ℕ) (edits : List Edit) → IsCodeIn format (format ∷ bytes) edits → bytes ≡ two (length edits) ++ edits_code edits
+behind format bytes edits code = cc code.is
+
+pub none_short : (bytes : List ℕ) → length bytes < 2 → IsNone bytes
+none_short bytes few format edits code =
+    omega (arith, few, ap length (behind format bytes edits code), length-append (two (length edits)) (edits_code edits), two_long (length edits))
+
+same_count : (bytes rest : List ℕ) (n format : ℕ) (edits : List Edit) → n < 2 ^ 16 → bytes ≡ two n ++ rest → IsCodeIn format (format ∷ bytes) edits → (n ≡ length edits) × (rest ≡ edits_code edits)
+same_count bytes rest n format edits small is code = two_apart n (length edits) rest (edits_code edits) small (omega (arith, code.few)) (sym is ∙ behind format bytes edits code)
+
+pub none_lacking : (fault : CodeFault) (bytes rest more : List ℕ) (n : ℕ) → n < 2 ^ 16 → bytes ≡ two n ++ rest → IsDecoded (edits_form n) rest more (Err fault) → fault ≡ Bad → IsNone bytes
+none_lacking NoMemory bytes rest more n small is lacks bad format edits code = cc bad
+none_lacking Bad bytes rest more n small is lacks bad format edits code =
+    let same = same_count bytes rest n format edits small is code in
+    lacks.none edits [] (sym same.0, code.in_range) (same.1 ∙ sym (append-nil (edits_code edits)))
+
+pub none_longer : (bytes rest more : List ℕ) (n : ℕ) (done : List Edit) → n < 2 ^ 16 → bytes ≡ two n ++ rest → StartsWith (edits_form n) rest more done → nat_eq (length more) 0 ≡ false → IsNone bytes
+none_longer bytes rest more n done small is begins some format edits code =
+    let same = same_count bytes rest n format edits small is code in
+    let both = same_edits done edits more [] begins.fits.1 code.in_range (begins.fits.0 ∙ same.0) (sym begins.is ∙ (same.1 ∙ sym (append-nil (edits_code edits)))) in
+    let never : true ≡ false = subst (λ (k : ℕ). nat_eq k 0 ≡ false) (ap length both.1) some in
+    cc never

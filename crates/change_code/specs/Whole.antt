@@ -1,0 +1,26 @@
+-- A party as one change (this project's profile).
+use Rattle.std.specs.Prelude.{ℕ, ◌⊎◌, ◌<◌, List, ◌∷◌, ◌++◌, length, map}
+use Rattle.party_state.specs.State.{Party}
+use Rattle.party_state.specs.declared.edit.Edit.{Edit}
+use Rattle.party_state.specs.declared.edit.Edit.TheVariants.{Begin, PutLink, PutKey, PutExchange, PutAnswer}
+use Rattle.change_code.specs.Code.{most_edits, code_of_change}
+
+-- the puts of a party's rows: its links, keys, exchanges and answers, each in the order of its list
+abbrev pub row_edits : Party → List Edit
+row_edits p = map PutLink p.links ++ (map PutKey p.keys ++ (map PutExchange p.exchanges ++ map PutAnswer p.answers))
+
+-- the change that makes the party from nothing: it begins, and its rows are put
+abbrev pub whole_edits : Party → List Edit
+whole_edits p = Begin p.own p.role p.generator ∷ row_edits p
+
+-- the code of that change
+abbrev pub whole_of : Party → List ℕ
+whole_of p = code_of_change (whole_edits p)
+
+-- how many bytes a body has at most
+abbrev pub longest_body : ℕ
+longest_body = 4194304
+
+-- the change has too many edits, or its code too many bytes
+abbrev pub IsTooLarge : Party → Type 0
+IsTooLarge p = (most_edits < length (whole_edits p)) ⊎ (longest_body < length (whole_of p))

@@ -1,0 +1,144 @@
+// A party as one change.
+ghost use Rattle.std.specs.Prelude.{◌≡◌, ◌≤◌, ◌<◌, ◌+◌, ◌++◌, ℕ, List, length, map, take, OnOk, IfOk, IfErr};
+ghost use Rattle.party_state.specs.declared.edit.Edit.TheVariants.{PutLink, PutKey, PutExchange, PutAnswer};
+ghost use Rattle.change_code.specs.Code.{edits_code, IsCode};
+ghost use Rattle.change_code.specs.Whole.{row_edits, whole_edits, whole_of, IsTooLarge};
+
+use crate::encoding::{
+    FORMAT, MOST_EDITS, put_answer_edit, put_begin, put_exchange_edit, put_key_edit, put_link_edit,
+};
+use crate::fault::WholeFault;
+use crate::writing::put_half_word;
+use party_state::State;
+use std::alloc::Global;
+use x_base::{NoMemory, Text};
+
+/// The most bytes that a body may have.
+const LONGEST_BODY: usize = 4_194_304;
+
+fn put_link_at(out: &mut Text, state: &State, i: usize) -> Result<(), NoMemory>
+    requires { i < length state.now.links }
+    ensures { OnOk result ((front : List ℕ) → out.old ≡ front ++ edits_code (take i (map PutLink state.now.links)) → out.new ≡ front ++ edits_code (take (i + 1) (map PutLink state.now.links))) }
+{
+    match state.link_at(i) {
+        Some(link) => put_link_edit(out, link),
+        None => unreachable!(),
+    }
+}
+
+fn put_links(out: &mut Text, state: &State) -> Result<(), NoMemory>
+    ensures { OnOk result (out.new ≡ out.old ++ edits_code (map PutLink state.now.links)) }
+{
+    for i in 0..state.link_count() {
+        put_link_at(out, state, i)?;
+    }
+    Ok(())
+}
+
+fn put_key_at(out: &mut Text, state: &State, i: usize) -> Result<(), NoMemory>
+    requires { i < length state.now.keys }
+    ensures { OnOk result ((front : List ℕ) → out.old ≡ front ++ edits_code (take i (map PutKey state.now.keys)) → out.new ≡ front ++ edits_code (take (i + 1) (map PutKey state.now.keys))) }
+{
+    match state.key_at(i) {
+        Some(key) => put_key_edit(out, key),
+        None => unreachable!(),
+    }
+}
+
+fn put_keys(out: &mut Text, state: &State) -> Result<(), NoMemory>
+    ensures { OnOk result (out.new ≡ out.old ++ edits_code (map PutKey state.now.keys)) }
+{
+    for i in 0..state.key_count() {
+        put_key_at(out, state, i)?;
+    }
+    Ok(())
+}
+
+fn put_exchange_at(out: &mut Text, state: &State, i: usize) -> Result<(), NoMemory>
+    requires { i < length state.now.exchanges }
+    ensures { OnOk result ((front : List ℕ) → out.old ≡ front ++ edits_code (take i (map PutExchange state.now.exchanges)) → out.new ≡ front ++ edits_code (take (i + 1) (map PutExchange state.now.exchanges))) }
+{
+    match state.exchange_at(i) {
+        Some(exchange) => put_exchange_edit(out, exchange),
+        None => unreachable!(),
+    }
+}
+
+fn put_exchanges(out: &mut Text, state: &State) -> Result<(), NoMemory>
+    ensures { OnOk result (out.new ≡ out.old ++ edits_code (map PutExchange state.now.exchanges)) }
+{
+    for i in 0..state.exchange_count() {
+        put_exchange_at(out, state, i)?;
+    }
+    Ok(())
+}
+
+fn put_answer_at(out: &mut Text, state: &State, i: usize) -> Result<(), NoMemory>
+    requires { i < length state.now.answers }
+    ensures { OnOk result ((front : List ℕ) → out.old ≡ front ++ edits_code (take i (map PutAnswer state.now.answers)) → out.new ≡ front ++ edits_code (take (i + 1) (map PutAnswer state.now.answers))) }
+{
+    match state.answer_at(i) {
+        Some(answer) => put_answer_edit(out, answer),
+        None => unreachable!(),
+    }
+}
+
+fn put_answers(out: &mut Text, state: &State) -> Result<(), NoMemory>
+    ensures { OnOk result (out.new ≡ out.old ++ edits_code (map PutAnswer state.now.answers)) }
+{
+    for i in 0..state.answer_count() {
+        put_answer_at(out, state, i)?;
+    }
+    Ok(())
+}
+
+fn put_rows(out: &mut Text, state: &State) -> Result<(), NoMemory>
+    ensures { OnOk result (out.new ≡ out.old ++ edits_code (row_edits state.now)) }
+{
+    put_links(out, state)?;
+    put_keys(out, state)?;
+    put_exchanges(out, state)?;
+    put_answers(out, state)
+}
+
+/// How many edits make the party from nothing.
+fn edit_count(state: &State) -> u128
+    ensures { result ≡ length (whole_edits state.now) }
+{
+    1 + state.link_count() as u128
+        + state.key_count() as u128
+        + state.exchange_count() as u128
+        + state.answer_count() as u128
+}
+
+fn whole_code(alloc: Global, state: &State, edits: u16) -> Result<Text, NoMemory>
+    requires { edits ≡ length (whole_edits state.now) }
+    ensures { IfOk result (λ text. text ≡ whole_of state.now) }
+{
+    let mut out = Text::new(alloc);
+    out.push(&[FORMAT])?;
+    put_half_word(&mut out, edits)?;
+    put_begin(&mut out, &state.own(), state.role(), state.generator())?;
+    put_rows(&mut out, state)?;
+    Ok(out)
+}
+
+/// The body of a compaction: the code of the one change that makes the party from nothing. Comes with `TooLarge` exactly
+/// where that change has more than 65,535 edits or its code more than 4,194,304 bytes.
+pub fn whole(alloc: Global, state: &State) -> Result<Text, WholeFault>
+    ensures whole { IfOk result (λ text. text ≡ whole_of state.now) }
+    ensures code { OnOk result (IsCode (whole_of state.now) (whole_edits state.now)) }
+    ensures fits { OnOk result (IsTooLarge state.now → ⊥) }
+    ensures too_large { IfErr result (λ fault. fault ≡ WholeFault.TooLarge → IsTooLarge state.now) }
+{
+    state.law_party();
+    let edits = edit_count(state);
+    if edits > MOST_EDITS as u128 {
+        return Err(WholeFault::TooLarge);
+    }
+    let text = whole_code(alloc, state, edits as u16)?;
+    if text.bytes().len() > LONGEST_BODY {
+        return Err(WholeFault::TooLarge);
+    }
+    Ok(text)
+}

@@ -1,0 +1,23 @@
+//! The code of a change of a party's state.
+#![tactic(auto)]
+
+#[cfg(test)]
+mod code_tests;
+mod compaction;
+mod decoding;
+mod edits;
+mod encoding;
+mod exchanges;
+mod fault;
+mod laws;
+mod pieces;
+mod reader;
+mod room;
+mod rows;
+mod writing;
+
+pub use compaction::whole;
+pub use decoding::decode;
+pub use encoding::{MOST_EDITS, encode, encode_behind};
+pub use fault::{CodeFault, WholeFault};
+pub use laws::{law_decode_undoes, law_one_change, law_one_code, law_short_code, law_whole};
