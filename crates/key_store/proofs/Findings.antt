@@ -1,5 +1,6 @@
 -- An image is blank, stands for one party or has one first damage, and no two of these.
 use Rattle.std.proofs.Common.{◌≡◌, ◌⊎◌, inl, inr, ℕ, ◌+◌, Bool, true, false, List, [], ◌∷◌, ◌++◌, Option, Some, None, Result, Ok, Err, refl, sym, ◌∙◌, ap, subst, append_assoc, append-nil}
+use Rattle.key_journal.specs.Layout.{area_size}
 use Rattle.key_journal.specs.Journal.{Holds, Begins, is_blank, has_magic, start, gate_place}
 use Rattle.key_journal.specs.Opening.{found_at}
 use Rattle.key_journal.specs.States.{AreFirst}
@@ -8,7 +9,7 @@ use Rattle.key_journal.specs.declared.cause.Cause.TheVariants as cause
 use Rattle.party_state.specs.State.{Party}
 use Rattle.key_store.specs.Store.{Fold, Stands, AreSound, IsUnsound, IsDamagedFrame, IsFirstDamage, found}
 use Rattle.key_store.proofs.Folding.{one_fold}
-use Rattle.key_store.proofs.Spared.{fold_at}
+use Rattle.key_store.proofs.NeverRefused.{fold_at}
 
 -- what a body of a fold finds in front of it
 follows : (bodies rest : List (List ℕ)) (body : List ℕ) (party : Party) → Fold (bodies ++ body ∷ rest) party → AreSound bodies → IsUnsound bodies body → ⊥
@@ -48,7 +49,7 @@ sound_some [] rest body sound = sound
 sound_some (x ∷ xs) rest body sound = sound
 
 module _ (next : (image : List ℕ) (bodies rest : List (List ℕ)) (body : List ℕ) (gate last : ℕ) → Begins image bodies gate → Begins image (bodies ++ body ∷ rest) last
-    → found_at image gate (start image + 8388600) ≡ Ok (Some body)) where
+    → found_at image gate (start image + area_size) ≡ Ok (Some body)) where
   -- the bodies of one go on behind those of the other
   same_place_of : (image : List ℕ) (p q : ℕ) (d : IsDamagedFrame image p) (e : IsDamagedFrame image q) (rest : List (List ℕ)) → e.bodies ≡ d.bodies ++ rest → p ≡ q
   same_place_of image p q d e [] whole =
@@ -77,7 +78,7 @@ module _ (next : (image : List ℕ) (bodies rest : List (List ℕ)) (body : List
   ]
 
   module _ (begins : (image : List ℕ) (bodies : List (List ℕ)) → Holds image bodies → Begins image bodies (gate_place image bodies))
-      (end : (image : List ℕ) (bodies : List (List ℕ)) (gate : ℕ) → Begins image bodies gate → Holds image bodies → found_at image gate (start image + 8388600) ≡ Ok None) where
+      (end : (image : List ℕ) (bodies : List (List ℕ)) (gate : ℕ) → Begins image bodies gate → Holds image bodies → found_at image gate (start image + area_size) ≡ Ok None) where
     sound_of_all : (image : List ℕ) (place : ℕ) (d : IsDamagedFrame image place) (all rest : List (List ℕ)) (party : Party) → Holds image all → Fold all party → all ≡ d.bodies ++ rest → ⊥
     sound_of_all image place d all [] party holds fold whole =
         sound_end image place d.bodies (end image d.bodies place d.begins (subst (λ (l : List (List ℕ)). Holds image l) (whole ∙ append-nil d.bodies) holds)) d.damage

@@ -11,9 +11,9 @@ use Rattle.party_state.specs.Limits.{IsWithinLimits}
 use Rattle.party_state.specs.State.{Party, begun, apply, apply_edit}
 use Rattle.party_state.specs.declared.edit.Edit.{Edit}
 use Rattle.party_state.specs.declared.edit.Edit.TheVariants.{Begin, PutLink, DropLink, PutKey, DropEnded, PutExchange, DropExchange, PutAnswer, SetGen}
-use Rattle.key_store.specs.Code.{IsCode}
+use Rattle.change_code.specs.Code.{IsCode}
 use Rattle.key_store.specs.Store.{GoOn, IsFirst, IsStep, Lead, Fold}
-use Rattle.key_store.proofs.Changes.{one_change}
+use Rattle.change_code.proofs.Changes.{one_change}
 
 lead_on : (old mid new : Party) (bodies : List (List ℕ)) (body : List ℕ) → Lead old bodies mid → IsStep body mid new → Lead old (bodies ++ body ∷ []) new
 lead_on old mid new [] body is next = (new, subst (λ (p : Party). IsStep body p new) is next, refl)

@@ -1,5 +1,6 @@
 -- Reading the frames of a journal one after the other.
 use Rattle.std.proofs.Common.{◌≡◌, ◌⊎◌, inl, inr, ⊎_elim, ℕ, ◌+◌, ◌<◌, Bool, true, false, List, [], ◌∷◌, ◌++◌, length, Option, Some, None, Result, Ok, Err, refl, sym, ◌∙◌, ap, subst, arith}
+use Rattle.key_journal.specs.Layout.{area_size}
 use Rattle.x_disk.specs.Disk.{View}
 use Rattle.key_journal.specs.Journal.{Holds, Begins, is_blank, has_magic, start}
 use Rattle.key_journal.specs.Opening.{IsFree, IsFound, found_at, refusal_of}
@@ -24,7 +25,7 @@ unsound_of [] party body fold never = absurd fold
 unsound_of (b ∷ bodies) party body fold never = λ old new other next. never new (subst (λ (p : Party). IsStep body p new) (one_fold (b ∷ bodies) old party other fold) next)
 
 -- a frame that is damaged in itself
-stop_frame : (image : List ℕ) (bodies : List (List ℕ)) (gate end : ℕ) (reason : Cause) → Begins image bodies gate → AreSound bodies → end ≡ start image + 8388600
+stop_frame : (image : List ℕ) (bodies : List (List ℕ)) (gate end : ℕ) (reason : Cause) → Begins image bodies gate → AreSound bodies → end ≡ start image + area_size
     → IsFound (found_at image gate end) (Err reason) → IsFree reason ⊎ (reason ≡ cause.Damaged gate) → IsFree reason ⊎ ((reason ≡ cause.Damaged gate) × IsDamagedFrame image gate)
 stop_frame image bodies gate end reason begins sound last (inl free) names = inl free
 stop_frame image bodies gate end reason begins sound last (inr is) (inl free) = inl free
@@ -34,7 +35,7 @@ stop_frame image bodies gate end reason begins sound last (inr is) (inr there) =
 )
 
 -- a body that can't follow
-stop_body : (image : List ℕ) (bodies : List (List ℕ)) (body : List ℕ) (gate end : ℕ) → Begins image bodies gate → AreSound bodies → end ≡ start image + 8388600
+stop_body : (image : List ℕ) (bodies : List (List ℕ)) (body : List ℕ) (gate end : ℕ) → Begins image bodies gate → AreSound bodies → end ≡ start image + area_size
     → found_at image gate end ≡ Ok (Some body) → IsUnsound bodies body → IsDamagedFrame image gate
 stop_body image bodies body gate end begins sound last is unsound = record {
   bodies = bodies;

@@ -9,7 +9,7 @@ use Rattle.key_journal.specs.declared.cause.Cause.{Cause}
 use Rattle.key_journal.specs.declared.cause.Cause.TheVariants as cause
 use Rattle.party_state.specs.State.{Party}
 use Rattle.key_store.specs.Store.{Stands, IsStore, IsRefusal}
-use Rattle.key_store.specs.Loading.{Unread, Stops, StopsSomewhere, StandsOnly, Spares}
+use Rattle.key_store.specs.Loading.{Unread, Stops, StopsSomewhere, StandsOnly, NeverRefused}
 use Rattle.key_store.proofs.Frames.{free_refusal}
 use Rattle.key_store.proofs.Keeping.{rose_later}
 
@@ -28,8 +28,8 @@ module _ (u v : View) (reason : Cause) (same : v.now ≡ u.now) where
   pub stops_on : (gate : ℕ) → Stops v gate reason → StopsSomewhere u reason
   stops_on gate stops image now = elim (stops image (same ∙ now)) [ inl free ↦ inl free | inr there ↦ inr (gate, there.0, there.1) ]
 
-  pub spares_on : Spares v reason → Spares u reason
-  spares_on spares image party now stands = spares image party (same ∙ now) stands
+  pub never_refused_on : NeverRefused v reason → NeverRefused u reason
+  never_refused_on never_refused image party now stands = never_refused image party (same ∙ now) stands
 
 -- what a crash leaves after calls that change nothing
 pub left_on : (u v w : View) (P : List ℕ → Type 0) → LeavesOnly u v P → IsStill v w → LeavesOnly u w P
@@ -84,8 +84,8 @@ refused_later u v gate end ended reason opened stops image now =
     ]
 
 -- an image that stands isn't refused at once
-pub spared_at_once : (u : View) (reason : Cause) → ((bodies : List (List ℕ)) → HasBodies u bodies → IsFree reason) → Spares u reason
-spared_at_once u reason undamaged image party now stands = undamaged stands.bodies (record { image = image; now = now; holds = stands.holds })
+pub never_refused_at_once : (u : View) (reason : Cause) → ((bodies : List (List ℕ)) → HasBodies u bodies → IsFree reason) → NeverRefused u reason
+never_refused_at_once u reason undamaged image party now stands = undamaged stands.bodies (record { image = image; now = now; holds = stands.holds })
 
 -- an image stands for no other party than the one that was loaded
 pub loaded_exact : (u w : View) (party : Party) → w.now ≡ u.now → StandsOnly w party → (image : List ℕ) (other : Party) → u.now ≡ Some image → Stands image other → party ≡ other

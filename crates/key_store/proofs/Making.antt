@@ -1,9 +1,8 @@
 -- A store is made: what a crash leaves, and what stands behind it.
-use Rattle.std.proofs.Common.{◌≡◌, ◌⊎◌, inl, inr, ℕ, ◌+◌, ◌≤◌, List, [], ◌∷◌, ◌++◌, length, Bool, true, false, Option, Some, None, is_some, refl, sym, ◌∙◌, ap, subst, arith, length-append, nat_le, IsTrue}
+use Rattle.std.proofs.Common.{◌≡◌, ◌⊎◌, inl, inr, ℕ, ◌+◌, ◌*◌, ◌≤◌, List, [], ◌∷◌, ◌++◌, length, Bool, true, false, Option, Some, None, is_some, refl, sym, ◌∙◌, ap, subst, arith}
+use Rattle.key_journal.specs.Layout.{largest_body}
 use Rattle.std.proofs.lemmas.List.Elements.{All-nil}
-use Rattle.x_base.specs.Names.{IsIdent}
 use Rattle.x_base.specs.declared.party.Role.{Role}
-use Rattle.x_base.specs.declared.party.Role.TheVariants as role
 use Rattle.x_gen.specs.declared.generator.Gen.{Gen}
 use Rattle.x_disk.specs.Disk.{View, Tells, LeavesOnly, IsDurable, IsSound}
 use Rattle.x_disk.proofs.Runs.{began, joined, weaker}
@@ -19,21 +18,16 @@ use Rattle.party_state.specs.State.{Party, begun, apply}
 use Rattle.party_state.specs.Ranges.{IsNoBegin}
 use Rattle.party_state.specs.declared.edit.Edit.{Edit}
 use Rattle.party_state.specs.declared.edit.Edit.TheVariants.{Begin}
-use Rattle.key_store.specs.Code.{code_of, IsCode, eight, two, role_code}
+use Rattle.change_code.specs.Code.{code_of_change, IsCode}
 use Rattle.key_store.specs.Store.{IsFirst, Fold, Stands, IsStore, IsBlankOrFirst}
-use Rattle.key_store.proofs.Numbers.{eight_long, two_long}
 use Rattle.key_store.proofs.Keeping.{told_before}
 use Rattle.key_store.proofs.Within.{within_fold}
 
-short_role : (r : Role) → length (role_code r) ≡ 1
-short_role role.Bank = refl
-short_role role.Distribution = refl
-short_role role.Translation = refl
+-- a change of one edit has a short code
+pub begin_short : (edits : List Edit) → length (code_of_change edits) ≤ 3 + 1200 * length edits → length edits ≤ 1 → length (code_of_change edits) ≤ largest_body
+begin_short edits law few = omega (arith, law, few)
 
-pub begin_short : (own : List ℕ) (r : Role) (g : Gen) → length own ≤ 16 → length (code_of (Begin own r g ∷ [])) ≤ 4194304
-begin_short own r g few = simp length-append (omega (arith, few, two_long 1, short_role r, eight_long g.key.left, eight_long g.key.right, eight_long g.v))
-
-pub begins_first : (own : List ℕ) (r : Role) (g : Gen) → IsCode (code_of (Begin own r g ∷ [])) (Begin own r g ∷ []) → Fold (code_of (Begin own r g ∷ []) ∷ []) (begun own r g)
+pub begins_first : (own : List ℕ) (r : Role) (g : Gen) → IsCode (code_of_change (Begin own r g ∷ [])) (Begin own r g ∷ []) → Fold (code_of_change (Begin own r g ∷ []) ∷ []) (begun own r g)
 begins_first own r g code = (
   begun own r g,
   record { own = own; role = r; generator = g; edits = []; code = code; go_on = record { goes_on = All-nil IsNoBegin; within = tt }; after = refl },

@@ -1,5 +1,7 @@
-pub mod Code
+pub mod Creating
+pub mod Keeping
 pub mod Kept
+pub mod Loaded
 pub mod Loading
-pub mod Reading
 pub mod Store
+pub mod Compacting

@@ -1,6 +1,9 @@
 -- How far a journal was read, and what that makes of a party (this project's profile).
-use Rattle.std.specs.Prelude.{◌≡◌, ◌⊎◌, ℕ, ◌+◌, true, false, List, [], Some}
-use Rattle.x_disk.specs.Disk.{View}
+use Rattle.std.specs.Prelude.{◌≡◌, ◌⊎◌, ℕ, ◌+◌, true, false, List, [], Some, ◌≤◌, Result, IfErr}
+use Rattle.key_journal.specs.Layout.{area_size}
+use Rattle.x_base.specs.Edge.{Rose}
+use Rattle.x_disk.specs.Disk.{View, IsStill}
+use Rattle.key_journal.specs.States.{Reading}
 use Rattle.key_journal.specs.Journal.{Begins, is_blank, has_magic, start}
 use Rattle.key_journal.specs.Opening.{IsFree}
 use Rattle.key_journal.specs.declared.cause.Cause.{Cause}
@@ -11,14 +14,14 @@ use Rattle.key_store.specs.Store.{Fold, Stands, IsDamagedFrame}
 -- the image is a journal, of which no frame was read yet
 pub record IsUnread (image : List ℕ) (gate end : ℕ) : Type 0 where
   pub begins : Begins image [] gate
-  pub last : end ≡ start image + 8388600
+  pub last : end ≡ start image + area_size
 
 -- the frames up to this gate were read, and fold to this party
 pub record IsReadTo (image : List ℕ) (gate end : ℕ) (party : Party) : Type 0 where
   pub bodies : List (List ℕ)
   pub begins : Begins image bodies gate
   pub fold : Fold bodies party
-  pub last : end ≡ start image + 8388600
+  pub last : end ≡ start image + area_size
 
 -- the same of what a read gives
 abbrev pub Unread : View → ℕ → ℕ → Type 0
@@ -40,5 +43,13 @@ abbrev pub StandsOnly : View → Party → Type 0
 StandsOnly v party = (image : List ℕ) → v.now ≡ Some image → Stands image party × ((other : Party) → Stands image other → party ≡ other)
 
 -- an image that stands gives no such reason
-abbrev pub Spares : View → Cause → Type 0
-Spares v reason = (image : List ℕ) (party : Party) → v.now ≡ Some image → Stands image party → IsFree reason
+abbrev pub NeverRefused : View → Cause → Type 0
+NeverRefused v reason = (image : List ℕ) (party : Party) → v.now ≡ Some image → Stands image party → IsFree reason
+
+-- reading leaves the journal as it is, and a cause has its reason
+pub record LeavesJournal {D T : Type 0} (told : D → View) (old new : Reading D) (result : Result T Cause) : Type 0 where
+  pub still : IsStill (told old.disk) (told new.disk)
+  pub faults : (told old.disk).faults ≤ (told new.disk).faults
+  pub fault : IfErr result (λ reason. reason ≡ cause.Fault → Rose (told old.disk).faults (told new.disk).faults)
+  -- no cause is that the disk isn't empty
+  pub names : IfErr result (λ reason. reason ≡ cause.NotEmpty → ⊥)

@@ -1,5 +1,6 @@
 -- What the image of a store stands for (this project's profile).
 use Rattle.std.specs.Prelude.{◌≡◌, ◌⊎◌, ℕ, ◌+◌, ◌-◌, ◌<◌, ◌≤◌, Bool, true, false, List, [], ◌∷◌, ◌++◌, length, Option, Some, None, Result, Ok, Err}
+use Rattle.key_journal.specs.Layout.{area_size}
 use Rattle.x_base.specs.declared.party.Role.{Role}
 use Rattle.x_gen.specs.declared.generator.Gen.{Gen}
 use Rattle.x_disk.specs.Disk.{View, IsDurable}
@@ -13,7 +14,7 @@ use Rattle.party_state.specs.Ranges.{HasNoBegin}
 use Rattle.party_state.specs.Limits.{IsWithinLimits, StaysWithinLimits}
 use Rattle.party_state.specs.declared.edit.Edit.{Edit}
 use Rattle.party_state.specs.declared.edit.Edit.TheVariants.{Begin}
-use Rattle.key_store.specs.Code.{IsCode, code_of}
+use Rattle.change_code.specs.Code.{IsCode, code_of_change}
 
 -- the edits go on from this party: none begins another, and after none a limit is passed
 pub record GoOn (edits : List Edit) (party : Party) : Type 0 where
@@ -65,7 +66,7 @@ IsUnsound (body ∷ bodies) next = (old new : Party) → Fold (body ∷ bodies) 
 
 -- what lies at a gate of the selected area
 abbrev pub found : List ℕ → ℕ → Result (Option (List ℕ)) Cause
-found image gate = found_at image gate (start image + 8388600)
+found image gate = found_at image gate (start image + area_size)
 
 -- the frames before this gate are sound, and its own frame isn't: by its length and extent, or by its body
 pub record IsDamagedFrame (image : List ℕ) (gate : ℕ) : Type 0 where
@@ -78,6 +79,12 @@ pub record IsDamagedFrame (image : List ℕ) (gate : ℕ) : Type 0 where
 pub record IsFirstDamage (image : List ℕ) (place : ℕ) : Type 0 where
   pub not_blank : is_blank image ≡ false
   pub damage : ((has_magic image ≡ false) × (place ≡ 2)) ⊎ ((has_magic image ≡ true) × IsDamagedFrame image place)
+
+-- the image is none of what an image can be: blank, one that stands for a party, or one with a first damage
+pub record IsNothing (image : List ℕ) : Type 0 where
+  pub not_blank : is_blank image ≡ false
+  pub no_party : (party : Party) → Stands image party → ⊥
+  pub undamaged : (place : ℕ) → IsFirstDamage image place → ⊥
 
 -- why no party is loaded from an image
 abbrev pub IsRefusal : List ℕ → Cause → Type 0
@@ -109,9 +116,16 @@ pub record IsStore (v : View) (gate end : ℕ) (party : Party) : Type 0 where
   pub within : IsWithinLimits party
   pub room : (bodies : List (List ℕ)) → HasBodies v bodies → end ≡ gate + room_of bodies
 
--- one of the two
-abbrev pub IsOldOrNew : Party → List Edit → List ℕ → Type 0
-IsOldOrNew party edits image = Stands image party ⊎ Stands image (apply edits party)
+-- the image stands for this party, and so much room is left
+pub record StandsWith (image : List ℕ) (party : Party) (room : ℕ) : Type 0 where
+  pub bodies : List (List ℕ)
+  pub holds : Holds image bodies
+  pub fold : Fold bodies party
+  pub left : room_of bodies ≡ room
+
+-- the party before the edits and its room, or the party after them and what they leave of the room
+abbrev pub IsOldOrNew : Party → ℕ → List Edit → List ℕ → Type 0
+IsOldOrNew party room edits image = StandsWith image party room ⊎ StandsWith image (apply edits party) (room - (length (code_of_change edits) + 5))
 
 -- no journal yet, or the party that begins
 abbrev pub IsBlankOrFirst : Party → List ℕ → Type 0

@@ -1,12 +1,11 @@
 // What the bodies of a journal make of a party.
 ghost use Rattle.std.specs.Prelude.{◌≡◌, true, false, Some, None, IfOk, IfSome};
 ghost use Rattle.party_state.specs.State.{Party};
-ghost use Rattle.key_store.specs.Code.{IsCode, IsNoCode};
+ghost use Rattle.change_code.specs.Code.{IsCode, IsNoCode};
 ghost use Rattle.key_store.specs.Store.{IsFirst, IsStep};
 
-use crate::decoding::decode;
-use crate::fault::CodeFault;
 use crate::follow::follow;
+use change_code::{CodeFault, decode};
 use party_state::{Change, Edit, State, first_state};
 use std::alloc::Global;
 use x_base::NoMemory;

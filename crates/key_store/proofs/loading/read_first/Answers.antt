@@ -3,13 +3,13 @@ use Rattle.std.proofs.lemmas.Result.{err_from_is_err_and}
 use Rattle.key_journal.specs.Opening.{IsFound, found_at}
 use Rattle.key_journal.specs.declared.cause.Cause.TheVariants as cause
 use Rattle.key_store.specs.Store.{IsFirst}
-use Rattle.key_store.specs.Loading.{ReadTo, Stops, Spares}
+use Rattle.key_store.specs.Loading.{ReadTo, Stops, NeverRefused}
 use Rattle.key_store.proofs.Frames.{first_unsound, first_read}
-use Rattle.key_store.proofs.Spared.{spared, spared_first}
+use Rattle.key_store.proofs.NeverRefused.{is_never_refused, never_refused_first}
 use Rattle.key_store.proofs.loading.read_first.Goals as goal
 
-pub returns-in_err-body-clause-spares : goal.returns-in_err-body-clause-spares
-returns-in_err-body-clause-spares g c = let p = err_from_is_err_and c.from_residual.result c.from_residual.ensures.1 in rw (p.1, p.2) (spared (g.D.Disk.told c.args.opened.now.disk) c.in_err-body.field-0.0 c.in_err-body.ensures.undamaged)
+pub returns-in_err-body-clause-never_refused : goal.returns-in_err-body-clause-never_refused
+returns-in_err-body-clause-never_refused g c = let p = err_from_is_err_and c.from_residual.result c.from_residual.ensures.1 in rw (p.1, p.2) (is_never_refused (g.D.Disk.told c.args.opened.now.disk) c.in_err-body.field-0.0 c.in_err-body.ensures.undamaged)
 
 pub returns-in-Ok-Some-clause-read : goal.returns-in-Ok-Some-clause-read
 returns-in-Ok-Some-clause-read g c =
@@ -28,9 +28,9 @@ returns-in-Ok-None-clause-stops g c =
     (subst (λ (o : Option (List ℕ)). (b : List ℕ) → v.now ≡ Some b → IsFound (found_at b c.args.opened.now.gate c.args.opened.now.end) (Ok o)) c.in-Some.is c.in_ok-body.ensures.exact)
     (λ p is. c.in-Ok-None.ensures.no c.in-Ok-None.field-0-is p (subst (λ (b : List ℕ). IsFirst b p) (sym c.bytes.ensures) is)))
 
-pub returns-in-Ok-None-clause-spares : goal.returns-in-Ok-None-clause-spares
-returns-in-Ok-None-clause-spares g c =
+pub returns-in-Ok-None-clause-never_refused : goal.returns-in-Ok-None-clause-never_refused
+returns-in-Ok-None-clause-never_refused g c =
     let told = g.D.Disk.told in
     let more = rw c.in-Some.is at c.in_ok-body.ensures.more in
-    spared_first (told c.args.opened.now.disk) (told c.next.new.self.disk) c.args.opened.now.gate c.next.new.self.gate c.in-Some.body c.next.ensures.still.now more c.next.ensures.first (cause.Damaged c.gate-gate.result) c.args.opened.now.end c.requires
+    never_refused_first (told c.args.opened.now.disk) (told c.next.new.self.disk) c.args.opened.now.gate c.next.new.self.gate c.in-Some.body c.next.ensures.still.now more c.next.ensures.first (cause.Damaged c.gate-gate.result) c.args.opened.now.end c.requires
     (λ p is. c.in-Ok-None.ensures.no c.in-Ok-None.field-0-is p (subst (λ (b : List ℕ). IsFirst b p) (sym c.bytes.ensures) is))

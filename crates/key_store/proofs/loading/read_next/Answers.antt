@@ -3,13 +3,13 @@ use Rattle.std.proofs.lemmas.Result.{err_from_is_err_and}
 use Rattle.key_journal.specs.Opening.{IsFound, found_at}
 use Rattle.key_journal.specs.declared.cause.Cause.TheVariants as cause
 use Rattle.key_store.specs.Store.{IsStep}
-use Rattle.key_store.specs.Loading.{ReadTo, Stops, Spares}
+use Rattle.key_store.specs.Loading.{ReadTo, Stops, NeverRefused}
 use Rattle.key_store.proofs.Frames.{next_stops, next_unsound, next_none, next_read}
-use Rattle.key_store.proofs.Spared.{spared, spared_next}
+use Rattle.key_store.proofs.NeverRefused.{is_never_refused, never_refused_next}
 use Rattle.key_store.proofs.loading.read_next.Goals as goal
 
-pub returns-in_err-body-clause-spares : goal.returns-in_err-body-clause-spares
-returns-in_err-body-clause-spares g c = let p = err_from_is_err_and c.from_residual.result c.from_residual.ensures.1 in rw (p.1, p.2) (spared (g.D.Disk.told c.args.opened.now.disk) c.in_err-body.field-0.0 c.in_err-body.ensures.undamaged)
+pub returns-in_err-body-clause-never_refused : goal.returns-in_err-body-clause-never_refused
+returns-in_err-body-clause-never_refused g c = let p = err_from_is_err_and c.from_residual.result c.from_residual.ensures.1 in rw (p.1, p.2) (is_never_refused (g.D.Disk.told c.args.opened.now.disk) c.in_err-body.field-0.0 c.in_err-body.ensures.undamaged)
 
 pub returns-in_err-body-clause-stops : goal.returns-in_err-body-clause-stops
 returns-in_err-body-clause-stops g c =
@@ -43,9 +43,9 @@ returns-in-Ok-false-clause-stops g c =
     (subst (λ (o : Option (List ℕ)). (b : List ℕ) → v.now ≡ Some b → IsFound (found_at b c.args.opened.now.gate c.args.opened.now.end) (Ok o)) c.in-Some.is c.in_ok-body.ensures.exact)
     (λ p is. c.in-Ok-false.ensures.no c.in-Ok-false.field-0-test p (subst (λ (b : List ℕ). IsStep b c.args.state.now p) (sym c.bytes.ensures) is)))
 
-pub returns-in-Ok-false-clause-spares : goal.returns-in-Ok-false-clause-spares
-returns-in-Ok-false-clause-spares g c =
+pub returns-in-Ok-false-clause-never_refused : goal.returns-in-Ok-false-clause-never_refused
+returns-in-Ok-false-clause-never_refused g c =
     let told = g.D.Disk.told in
     let more = rw c.in-Some.is at c.in_ok-body.ensures.more in
-    spared_next (told c.args.opened.now.disk) (told c.next.new.self.disk) c.args.opened.now.gate c.next.new.self.gate c.in-Some.body c.next.ensures.still.now more c.next.ensures.first (cause.Damaged c.gate-gate.result) c.args.opened.now.end c.args.state.now c.requires
+    never_refused_next (told c.args.opened.now.disk) (told c.next.new.self.disk) c.args.opened.now.gate c.next.new.self.gate c.in-Some.body c.next.ensures.still.now more c.next.ensures.first (cause.Damaged c.gate-gate.result) c.args.opened.now.end c.args.state.now c.requires
     (λ p is. c.in-Ok-false.ensures.no c.in-Ok-false.field-0-test p (subst (λ (b : List ℕ). IsStep b c.args.state.now p) (sym c.bytes.ensures) is))

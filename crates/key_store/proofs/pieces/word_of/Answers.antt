@@ -1,7 +1,0 @@
-use Rattle.key_store.specs.Code.{eight}
-use Rattle.std.proofs.lemmas.Nat.{be_bytes_8}
-use Rattle.key_store.proofs.pieces.word_of.Goals as goal
-
-pub returns : goal.returns
-unfolding eight
-returns c = be_bytes_8 c.args.bytes.now c.from_be_bytes.result c.told-bytes c.fits-bytes c.from_be_bytes.ensures

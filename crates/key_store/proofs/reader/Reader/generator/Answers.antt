@@ -1,9 +1,0 @@
-use Rattle.key_store.specs.Reading.{word_form, pair_form, gen_form}
-use Rattle.key_store.proofs.Joining.{both, lacks_second, lacks_as}
-use Rattle.key_store.proofs.Names.{gen_shape, pair_apart}
-use Rattle.key_store.proofs.reader.Reader.generator.Goals as goal
-
-pub returns-in_err-v : goal.returns-in_err-v
-returns-in_err-v c =
-    rw c.from_residual-in_err-v.ensures
-    (lacks_as gen_form (both pair_form word_form) _ gen_shape (lacks_second pair_form word_form _ _ _ pair_apart c.in_ok-key.ensures c.in_err-v.ensures))

@@ -1,7 +1,0 @@
-use Rattle.std.proofs.Common.{refl}
-use Rattle.key_store.specs.Reading.{label_form}
-use Rattle.key_store.proofs.Names.{read_name}
-use Rattle.key_store.proofs.reader.Reader.label.Goals as goal
-
-pub returns : goal.returns
-returns c = rw c.ok.ensures.value (read_name label_form _ _ c.in_ok-short.field-0.now c.read.result (λ x. refl) c.in_ok-short.ensures c.read.ensures.value c.read.ensures.found)
