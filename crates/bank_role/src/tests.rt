@@ -1,6 +1,6 @@
 // What banks decide, step by step, against the texts that other programs write.
-ghost use Rattle.party_state.specs.Ranges.{IsNext};
-ghost use Rattle.bank_role.specs.Storable.{CanKeep};
+ghost use Rattle.party_state.specs.Ranges.{IsNextCount};
+ghost use Rattle.role_base.specs.Storable.{CanKeep};
 
 use crate::decide;
 use csm_grammar::Arrival;
@@ -13,10 +13,10 @@ use x_base::{Ident, KeyName, Label, Text};
 use x_gen::Gen;
 use x_mac::Pair;
 
-mod asking;
 mod leads;
 mod limits;
 mod loading;
+mod refusals;
 mod sessions;
 
 const GENERATOR: Gen = Gen {
@@ -33,9 +33,14 @@ const PAIR: Pair = Pair {
     right: 0xFEDCBA9876543213,
 };
 
-/// What a bank is told by its operator, or by its partner's message.
+/// The first message of BANKA, and the response to it.
+const KSM: &str = "CSM(MCL/KSM RCV/BANKB ORG/BANKA IDK2/K1 KD/C2A5290756D949F4 CTP/1 MAC/8F270CC6)";
+
+const RSM: &str = "CSM(MCL/RSM RCV/BANKA ORG/BANKB MAC/BB510339)";
+
+/// What the operator asks, or a message that arrives.
 #[derive(Clone, Copy)]
-enum Told {
+enum Act {
     Start,
     Ask,
     Resend,
@@ -45,12 +50,12 @@ enum Told {
     Take(&'static str),
 }
 
-/// What is told, the number of the verdict, and the text that is written.
-type Step = (Told, u32, &'static str);
+/// A moment, an act, the number of the verdict, and the text that is written.
+type Step = (u64, Act, u32, &'static str);
 
 /// A bank with one link, with its partner.
 fn bank(alloc: Global, own: &[u8], peer: &[u8], side: Side, next: u64) -> Option<State>
-    requires { IsNext next }
+    requires { IsNextCount next }
 {
     let link = LinkRec {
         peer: Ident::read(peer).ok()?,
@@ -76,21 +81,21 @@ fn taker(alloc: Global) -> Option<State> {
     bank(alloc, b"BANKB", b"BANKA", Side::Takes, 1)
 }
 
-fn input_of(alloc: Global, peer: Ident, told: Told) -> Option<Input> {
-    let command = match told {
-        Told::Start => Command::Start { peer, label: None },
-        Told::Ask => Command::Ask {
+fn input_of(alloc: Global, peer: Ident, act: Act) -> Option<Input> {
+    let command = match act {
+        Act::Start => Command::Start { peer, label: None },
+        Act::Ask => Command::Ask {
             peer,
             ultimate: None,
         },
-        Told::Resend => Command::Resend { peer },
-        Told::Drop => Command::Drop { peer },
-        Told::Purge => Command::Purge,
-        Told::End(name) => Command::End {
+        Act::Resend => Command::Resend { peer },
+        Act::Drop => Command::Drop { peer },
+        Act::Purge => Command::Purge,
+        Act::End(name) => Command::End {
             peer,
             name: KeyName::read(name.as_bytes()).ok()?,
         },
-        Told::Take(text) => {
+        Act::Take(text) => {
             let arrival = Arrival::read(alloc, text.as_bytes()).ok()?;
             return Some(Input::Arrived(arrival));
         }
@@ -116,8 +121,16 @@ fn changed(alloc: Global, state: State, change: Option<Change>) -> Option<State>
     }
 }
 
-/// The state after an input that gets this verdict and this answer, and none where it doesn't.
-fn step(alloc: Global, state: State, input: &Input, number: u32, text: &str) -> Option<State> {
+/// The state after an input at a moment that gets this verdict and this answer, and none where it
+/// doesn't.
+fn step(
+    alloc: Global,
+    state: State,
+    moment: u64,
+    input: &Input,
+    number: u32,
+    text: &str,
+) -> Option<State> {
     if state.role() != Role::Bank {
         return None;
     }
@@ -126,22 +139,36 @@ fn step(alloc: Global, state: State, input: &Input, number: u32, text: &str) -> 
         reply,
         verdict,
         ..
-    } = decide(alloc, &state, input, 0).ok()?;
+    } = decide(alloc, &state, input, moment).ok()?;
     if verdict.number() != number || !writes(&reply, text) {
         return None;
     }
     changed(alloc, state, change)
 }
 
-/// The state after all these steps, and none where one of them is answered otherwise.
-fn played(alloc: Global, state: State, steps: &[Step]) -> Option<State> {
-    let peer = state.link_at(0)?.peer;
-    let mut state = state;
-    for (told, number, text) in steps {
-        let input = input_of(alloc, peer, *told)?;
-        state = step(alloc, state, &input, *number, text)?;
+/// The state after a step that is answered so.
+fn after(alloc: Global, state: State, peer: Ident, row: Step) -> Option<State> {
+    let (moment, act, number, text) = row;
+    let input = input_of(alloc, peer, act)?;
+    step(alloc, state, moment, &input, number, text)
+}
+
+/// The state after all these steps, or the first that is answered otherwise.
+fn played(alloc: Global, bank: Option<State>, steps: &[Step]) -> Result<State, usize> {
+    let Some(mut state) = bank else {
+        return Err(0);
+    };
+    let Some(link) = state.link_at(0) else {
+        return Err(0);
+    };
+    let peer = link.peer;
+    for (i, row) in steps.iter().enumerate() {
+        match after(alloc, state, peer, *row) {
+            Some(next) => state = next,
+            None => return Err(i),
+        }
     }
-    Some(state)
+    Ok(state)
 }
 
 /// Whether a state is shown in these lines.
@@ -152,11 +179,17 @@ fn shows(alloc: Global, state: &State, lines: &str) -> bool {
     }
 }
 
-/// Whether a bank answers these steps so, and is shown in these lines afterwards.
-fn ends(alloc: Global, bank: Option<State>, steps: &[Step], lines: &str) -> bool {
-    let Some(bank) = bank else { return false };
+/// The first of these steps that a bank answers otherwise, or their number where it is shown in
+/// other lines afterwards.
+fn wrong_at(alloc: Global, bank: Option<State>, steps: &[Step], lines: &str) -> Option<usize> {
     match played(alloc, bank, steps) {
-        Some(state) => shows(alloc, &state, lines),
-        None => false,
+        Ok(state) => {
+            if shows(alloc, &state, lines) {
+                None
+            } else {
+                Some(steps.len())
+            }
+        }
+        Err(i) => Some(i),
     }
 }

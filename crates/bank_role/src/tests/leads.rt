@@ -1,18 +1,17 @@
 // The key under which the code of an arrival is tested, and the key under which a text is closed.
-use super::{Step, Told, input_of, played, sender, taker};
-use crate::{decide, lead};
+use super::{Act, KSM, RSM, Step, input_of, played, sender, taker};
+use crate::{decide, decide_led, lead};
 use csm_grammar::Arrival;
-use party_state::{Lead, Role, State};
+use party_state::{Input, Lead, Role, State};
 use std::alloc::Global;
 use x_base::{FullName, Ident, KeyName, Verdict};
 
-const KSM: &str = "CSM(MCL/KSM RCV/BANKB ORG/BANKA IDK2/K1 KD/C2A5290756D949F4 CTP/1 MAC/8F270CC6)";
-
-const RSM: &str = "CSM(MCL/RSM RCV/BANKA ORG/BANKB MAC/BB510339)";
-
 const DSM: &str = "CSM(MCL/DSM RCV/BANKB ORG/BANKA IDD/BANKA.BANKA.K1.1 MAC/F3A9DD96)";
 
-/// The name of the key that BANKA sends first, in full.
+/// The value of the key that BANKA sends first.
+const VALUE: u64 = 0x7FD0388551613B61;
+
+/// The name of that key, in full.
 fn first_key() -> Option<FullName> {
     Some(FullName {
         name: KeyName::read(b"BANKA.BANKA.K1.1").ok()?,
@@ -20,96 +19,102 @@ fn first_key() -> Option<FullName> {
     })
 }
 
-/// Whether the code of a message is tested under the first key, and is right or isn't.
-fn is_tested(alloc: Global, state: &State, text: &str, verified: bool) -> bool {
+/// A message, and whether its code is right under the first key; none where it is tested under none.
+type Tested = (&'static str, Option<bool>);
+
+fn lead_of(verified: Option<bool>) -> Option<Lead> {
+    Some(Lead {
+        under: first_key()?,
+        value: VALUE,
+        verified: verified?,
+    })
+}
+
+/// Whether a message is tested so, and whether the decision that is handed the key is that of
+/// `decide`.
+fn is_tested(alloc: Global, state: &State, row: Tested) -> bool {
+    let (text, verified) = row;
     let Ok(arrival) = Arrival::read(alloc, text.as_bytes()) else {
         return false;
     };
-    match (lead(state, &arrival), first_key()) {
-        (Some(found), Some(under)) => {
-            found
-                == Lead {
-                    under,
-                    value: 0x7FD0388551613B61,
-                    verified,
-                }
-        }
-        _ => false,
+    let found = lead(state, &arrival);
+    if found != lead_of(verified) || state.role() != Role::Bank {
+        return false;
     }
-}
-
-/// Whether the code of a message is tested under no key.
-fn is_untested(alloc: Global, state: &State, text: &str) -> bool {
-    match Arrival::read(alloc, text.as_bytes()) {
-        Ok(arrival) => lead(state, &arrival).is_none(),
+    let Ok(led) = decide_led(alloc, state, &arrival, &found, 0) else {
+        return false;
+    };
+    match decide(alloc, state, &Input::Arrived(arrival), 0) {
+        Ok(decision) => decision.verdict == led.verdict,
         Err(_) => false,
     }
 }
 
-/// Messages that come before BANKB has taken the key, and whether their code is right.
-const AT_TAKER: [(&str, bool); 2] = [
-    (KSM, true),
-    (
-        "CSM(MCL/KSM RCV/BANKB ORG/BANKA IDK2/K1 KD/C2A5290756D949F4 CTP/1 MAC/8F270CC7)",
-        false,
-    ),
-];
-
-#[test]
-fn a_key_is_tested_under_itself(rt: HostRuntime) {
-    let alloc = rt.alloc();
-    let state = taker(alloc).expect(&rt, "a bank");
-    for (text, verified) in AT_TAKER {
-        assert!(rt; is_tested(alloc, &state, text, verified), "at {text}");
+/// The first message that is tested otherwise.
+fn wrong_test(alloc: Global, state: &State, rows: &[Tested]) -> Option<usize> {
+    for (i, row) in rows.iter().enumerate() {
+        if !is_tested(alloc, state, *row) {
+            return Some(i);
+        }
     }
-    assert!(rt; is_untested(alloc, &state, RSM));
-    assert!(rt; is_untested(alloc, &state, DSM));
+    None
 }
 
+/// Messages that come before BANKB has taken the key.
+const AT_TAKER: [Tested; 4] = [
+    (KSM, Some(true)),
+    (
+        "CSM(MCL/KSM RCV/BANKB ORG/BANKA IDK2/K1 KD/C2A5290756D949F4 CTP/1 MAC/8F270CC7)",
+        Some(false),
+    ),
+    (RSM, None),
+    (DSM, None),
+];
+
 /// Messages that come while BANKA waits for the answer.
-const AT_SENDER: [(&str, bool); 4] = [
-    (RSM, true),
-    ("CSM(MCL/RSM RCV/BANKA ORG/BANKB MAC/BB510338)", false),
+const AT_SENDER: [Tested; 6] = [
+    (RSM, Some(true)),
+    ("CSM(MCL/RSM RCV/BANKA ORG/BANKB MAC/BB510338)", Some(false)),
     (
         "CSM(MCL/ESM RCV/BANKA ORG/BANKB CTP/1 CTR/2 ERF/C MAC/F6A791C9)",
-        true,
+        Some(true),
     ),
     (
         "CSM(MCL/ESM RCV/BANKA ORG/BANKB CTP/1 CTR/2 ERF/C MAC/E6A791C9)",
-        false,
+        Some(false),
+    ),
+    (KSM, None),
+    (
+        "CSM(MCL/ESM RCV/BANKA ORG/BANKB CTP/1 CTR/2 ERF/C EDC/C50D9649)",
+        None,
     ),
 ];
 
-const STARTED: [Step; 1] = [(Told::Start, 0, KSM)];
+const STARTED: [Step; 1] = [(0, Act::Start, 0, KSM)];
 
-const EXCHANGED: [Step; 2] = [(Told::Start, 0, KSM), (Told::Take(RSM), 0, "")];
+const EXCHANGED: [Step; 2] = [(0, Act::Start, 0, KSM), (0, Act::Take(RSM), 0, "")];
 
-const TAKEN: [Step; 1] = [(Told::Take(KSM), 0, RSM)];
+const TAKEN: [Step; 1] = [(0, Act::Take(KSM), 0, RSM)];
 
 #[test]
-fn an_answer_is_tested_under_the_key_that_was_sent(rt: HostRuntime) {
+fn a_code_is_tested_under_its_key(rt: HostRuntime) {
     let alloc = rt.alloc();
-    let state = sender(alloc).expect(&rt, "a bank");
-    let state = played(alloc, state, &STARTED).expect(&rt, "a key is sent");
-    for (text, verified) in AT_SENDER {
-        assert!(rt; is_tested(alloc, &state, text, verified), "at {text}");
-    }
-    assert!(rt; is_untested(alloc, &state, KSM));
-    assert!(rt;
-        is_untested(
-            alloc,
-            &state,
-            "CSM(MCL/ESM RCV/BANKA ORG/BANKB CTP/1 CTR/2 ERF/C EDC/C50D9649)"
-        )
-    );
+    let takes = taker(alloc).expect(&rt, "a bank");
+    assert_eq!(rt; wrong_test(alloc, &takes, &AT_TAKER), None);
+    let sends = played(alloc, sender(alloc), &STARTED).ok();
+    let sends = sends.expect(&rt, "a key is sent");
+    assert_eq!(rt; wrong_test(alloc, &sends, &AT_SENDER), None);
+    let holds = played(alloc, taker(alloc), &TAKEN).ok();
+    let holds = holds.expect(&rt, "a key is taken");
+    assert_eq!(rt; wrong_test(alloc, &holds, &[(DSM, Some(true))]), None);
 }
 
 /// Whether a bank accepts this, and writes a text that is closed under this key, or under none.
-fn is_closed_under(alloc: Global, state: &State, told: Told, key: Option<FullName>) -> bool {
+fn is_closed_under(alloc: Global, state: &State, act: Act, key: Option<FullName>) -> bool {
     let Some(link) = state.link_at(0) else {
         return false;
     };
-    let Some(input) = input_of(alloc, link.peer, told) else {
+    let Some(input) = input_of(alloc, link.peer, act) else {
         return false;
     };
     if state.role() != Role::Bank {
@@ -124,22 +129,18 @@ fn is_closed_under(alloc: Global, state: &State, told: Told, key: Option<FullNam
 }
 
 #[test]
-fn a_response_is_closed_under_the_key_that_came(rt: HostRuntime) {
+fn a_text_is_closed_under_its_key(rt: HostRuntime) {
     let alloc = rt.alloc();
-    let state = taker(alloc).expect(&rt, "a bank");
-    assert!(rt; is_closed_under(alloc, &state, Told::Take(KSM), first_key()));
-    let state = played(alloc, state, &TAKEN).expect(&rt, "a key is taken");
-    assert!(rt; is_tested(alloc, &state, DSM, true));
-    assert!(rt; is_closed_under(alloc, &state, Told::Take(DSM), first_key()));
-}
-
-#[test]
-fn a_command_closes_a_text_under_its_key(rt: HostRuntime) {
-    let alloc = rt.alloc();
-    let state = sender(alloc).expect(&rt, "a bank");
-    assert!(rt; is_closed_under(alloc, &state, Told::Start, first_key()));
-    assert!(rt; is_closed_under(alloc, &state, Told::Ask, None));
-    let state = played(alloc, state, &EXCHANGED).expect(&rt, "a key is exchanged");
-    let end = Told::End("BANKA.BANKA.K1.1");
-    assert!(rt; is_closed_under(alloc, &state, end, first_key()));
+    let takes = taker(alloc).expect(&rt, "a bank");
+    assert!(rt; is_closed_under(alloc, &takes, Act::Take(KSM), first_key()));
+    let sends = sender(alloc).expect(&rt, "a bank");
+    assert!(rt; is_closed_under(alloc, &sends, Act::Start, first_key()));
+    assert!(rt; is_closed_under(alloc, &sends, Act::Ask, None));
+    let held = played(alloc, taker(alloc), &TAKEN).ok();
+    let held = held.expect(&rt, "a key is taken");
+    assert!(rt; is_closed_under(alloc, &held, Act::Take(DSM), first_key()));
+    let live = played(alloc, sender(alloc), &EXCHANGED).ok();
+    let live = live.expect(&rt, "a key is exchanged");
+    let end = Act::End("BANKA.BANKA.K1.1");
+    assert!(rt; is_closed_under(alloc, &live, end, first_key()));
 }

@@ -1,5 +1,5 @@
 // Counts that are used up, and tables that are full.
-use super::{Step, Told, bank, ends, played, sender};
+use super::{Act, KSM as FIRST_KSM, Step, bank, played, sender, wrong_at};
 use party_state::{Edit, KeyRec, KeyStatus, Side, State};
 use std::alloc::Global;
 use x_base::{Count, Ident, KeyName};
@@ -9,29 +9,14 @@ const PAST: u64 = 100_000_000_000_000;
 
 const LAST_SENT: [Step; 3] = [
     (
-        Told::Start,
+        0,
+        Act::Start,
         0,
         "CSM(MCL/KSM RCV/BANKB ORG/BANKA IDK2/K1 KD/82874D599E96CA7C CTP/99999999999999 MAC/21284D24)",
     ),
-    (Told::Drop, 0, ""),
-    (Told::Start, 31, ""),
+    (0, Act::Drop, 0, ""),
+    (0, Act::Start, 31, ""),
 ];
-
-#[test]
-fn no_key_is_sent_past_the_last_count(rt: HostRuntime) {
-    let alloc = rt.alloc();
-    let last = bank(alloc, b"BANKA", b"BANKB", Side::Sends, PAST - 1);
-    let lines = "PARTY BANKA BANK
-LINK BANKB K1 OUT 100000000000000 READY
-KEY BANKB BANKA.BANKA.K1.99999999999999 ENDED
-";
-    assert!(rt; ends(alloc, last, &LAST_SENT, lines));
-    let past = bank(alloc, b"BANKA", b"BANKB", Side::Sends, PAST);
-    let lines = "PARTY BANKA BANK
-LINK BANKB K1 OUT 100000000000000 READY
-";
-    assert!(rt; ends(alloc, past, &[(Told::Start, 31, "")], lines));
-}
 
 /// The last message, closed under 0123456789ABCDEF.
 const LAST_KSM: &str =
@@ -39,24 +24,26 @@ const LAST_KSM: &str =
 
 const LAST_TAKEN: [Step; 4] = [
     (
-        Told::Take(LAST_KSM),
+        0,
+        Act::Take(LAST_KSM),
         0,
         "CSM(MCL/RSM RCV/BANKA ORG/BANKB MAC/7E9C1BAA)",
     ),
     (
-        Told::Take(LAST_KSM),
+        0,
+        Act::Take(LAST_KSM),
         31,
         "CSM(MCL/ESM RCV/BANKA ORG/BANKB CTP/99999999999999 ERF/S MAC/BBF8E807)",
     ),
     (
-        Told::Take(
-            "CSM(MCL/KSM RCV/BANKB ORG/BANKA IDK2/K1 KD/C2A5290756D949F4 CTP/1 MAC/8F270CC6)",
-        ),
+        0,
+        Act::Take(FIRST_KSM),
         31,
         "CSM(MCL/ESM RCV/BANKA ORG/BANKB CTP/1 ERF/S MAC/E38E877F)",
     ),
     (
-        Told::Take(
+        0,
+        Act::Take(
             "CSM(MCL/KSM RCV/BANKB ORG/BANKA IDK2/K1 KD/C2A5290756D949F4 CTP/1 MAC/8F270CC7)",
         ),
         28,
@@ -65,14 +52,20 @@ const LAST_TAKEN: [Step; 4] = [
 ];
 
 #[test]
-fn no_key_is_taken_past_the_last_count(rt: HostRuntime) {
+fn no_key_goes_past_the_last_count(rt: HostRuntime) {
     let alloc = rt.alloc();
+    let last = bank(alloc, b"BANKA", b"BANKB", Side::Sends, PAST - 1);
+    let lines = "PARTY BANKA BANK
+LINK BANKB K1 OUT 100000000000000 READY
+KEY BANKB BANKA.BANKA.K1.99999999999999 ENDED
+";
+    assert_eq!(rt; wrong_at(alloc, last, &LAST_SENT, lines), None);
     let last = bank(alloc, b"BANKB", b"BANKA", Side::Takes, PAST - 1);
     let lines = "PARTY BANKB BANK
 LINK BANKA K1 IN 100000000000000 READY
 KEY BANKA BANKA.BANKA.K1.99999999999999 HELD
 ";
-    assert!(rt; ends(alloc, last, &LAST_TAKEN, lines));
+    assert_eq!(rt; wrong_at(alloc, last, &LAST_TAKEN, lines), None);
 }
 
 /// The state with the record of the key of BANKA that went at a count, which has ended.
@@ -105,32 +98,38 @@ fn full(alloc: Global, bank: Option<State>) -> Option<State> {
 }
 
 const SENT: [Step; 3] = [
-    (Told::Start, 20, ""),
-    (Told::Purge, 0, ""),
+    (0, Act::Start, 20, ""),
+    (0, Act::Purge, 0, ""),
     (
-        Told::Start,
+        0,
+        Act::Start,
         0,
         "CSM(MCL/KSM RCV/BANKB ORG/BANKA IDK2/K1 KD/B16C1E7E4E2151F8 CTP/1025 MAC/AE4EDB39)",
     ),
 ];
 
 /// The message at this count, closed under 0123456789ABCDEF.
-const KSM: &str =
+const LATER_KSM: &str =
     "CSM(MCL/KSM RCV/BANKB ORG/BANKA IDK2/K1 KD/15EBB3CC080C461D CTP/1025 MAC/15B56116)";
 
 const TAKEN: [Step; 3] = [
     (
-        Told::Take(KSM),
+        0,
+        Act::Take(LATER_KSM),
         20,
         "CSM(MCL/ESM RCV/BANKA ORG/BANKB CTP/1025 ERF/F MAC/C0188579)",
     ),
-    (Told::Purge, 0, ""),
+    (0, Act::Purge, 0, ""),
     (
-        Told::Take(KSM),
+        0,
+        Act::Take(LATER_KSM),
         0,
         "CSM(MCL/RSM RCV/BANKA ORG/BANKB MAC/7E9C1BAA)",
     ),
 ];
+
+/// A key in the place of another, which needs no room.
+const REPLACED: [Step; 1] = [(0, Act::Start, 0, FIRST_KSM)];
 
 #[test]
 fn a_full_bank_has_no_room_for_a_key(rt: HostRuntime) {
@@ -141,25 +140,13 @@ LINK BANKB K1 OUT 1026 READY
 KEY BANKB BANKA.BANKA.K1.1025 PENDING
 EXCHANGE BANKB KEYSENT BANKA.BANKA.K1.1025
 ";
-    assert!(rt; ends(alloc, sends, &SENT, lines));
+    assert_eq!(rt; wrong_at(alloc, sends, &SENT, lines), None);
     let takes = full(alloc, bank(alloc, b"BANKB", b"BANKA", Side::Takes, 1025));
     let lines = "PARTY BANKB BANK
 LINK BANKA K1 IN 1026 READY
 KEY BANKA BANKA.BANKA.K1.1025 HELD
 ";
-    assert!(rt; ends(alloc, takes, &TAKEN, lines));
-}
-
-/// A key in the place of another, which needs no room.
-const REPLACED: [Step; 1] = [(
-    Told::Start,
-    0,
-    "CSM(MCL/KSM RCV/BANKB ORG/BANKA IDK2/K1 KD/C2A5290756D949F4 CTP/1 MAC/8F270CC6)",
-)];
-
-#[test]
-fn a_full_bank_replaces_a_record(rt: HostRuntime) {
-    let alloc = rt.alloc();
-    let state = full(alloc, sender(alloc)).expect(&rt, "1,024 records");
-    assert!(rt; played(alloc, state, &REPLACED).is_some());
+    assert_eq!(rt; wrong_at(alloc, takes, &TAKEN, lines), None);
+    let first = full(alloc, sender(alloc));
+    assert!(rt; played(alloc, first, &REPLACED).is_ok());
 }

@@ -1,5 +1,5 @@
 // Loading keys that both ends were given.
-use super::{GENERATOR, PAIR, shows, step};
+use super::{GENERATOR, PAIR, step};
 use party_state::{Command, Input, Role, Side, State, first_state};
 use std::alloc::Global;
 use x_base::{Ident, Label};
@@ -44,30 +44,36 @@ fn loaded(alloc: Global, state: State, load: Load) -> Option<State> {
         side: Side::Sends,
         pair,
     };
-    step(alloc, state, &Input::Ordered(command), number, "")
+    step(alloc, state, 0, &Input::Ordered(command), number, "")
 }
 
-/// The state after all these keys are loaded, each with its verdict.
-fn all_loaded(alloc: Global, state: State, loads: &[Load]) -> Option<State> {
-    let mut state = state;
-    for load in loads {
-        state = loaded(alloc, state, *load)?;
+/// The state after all these keys are loaded, each with its verdict, or the first that gets another.
+fn all_loaded(alloc: Global, bank: Option<State>, loads: &[Load]) -> Result<State, usize> {
+    let Some(mut state) = bank else {
+        return Err(0);
+    };
+    for (i, load) in loads.iter().enumerate() {
+        match loaded(alloc, state, *load) {
+            Some(next) => state = next,
+            None => return Err(i),
+        }
     }
-    Some(state)
+    Ok(state)
 }
 
-#[test]
-fn a_key_is_loaded_once(rt: HostRuntime) {
-    let alloc = rt.alloc();
-    let state = begun(alloc).expect(&rt, "a bank");
-    let state = all_loaded(alloc, state, &LOADS).expect(&rt, "these verdicts");
-    assert!(rt;
-        shows(
-            alloc,
-            &state,
-            "PARTY BANKA BANK\nLINK ABAB K1 OUT 1 READY\n"
-        )
-    );
+/// The first of these keys that gets another verdict, or their number where another number of links
+/// stands afterwards.
+fn wrong_load(alloc: Global, bank: Option<State>, loads: &[Load], links: usize) -> Option<usize> {
+    match all_loaded(alloc, bank, loads) {
+        Ok(state) => {
+            if state.link_count() == links {
+                None
+            } else {
+                Some(loads.len())
+            }
+        }
+        Err(i) => Some(i),
+    }
 }
 
 /// The state with one more link, the one with this number.
@@ -81,7 +87,7 @@ fn with_link(alloc: Global, state: State, number: u8) -> Option<State> {
             right: 0,
         },
     };
-    step(alloc, state, &Input::Ordered(command), 0, "")
+    step(alloc, state, 0, &Input::Ordered(command), 0, "")
 }
 
 /// A bank with 64 links.
@@ -101,9 +107,8 @@ const NO_ROOM: [Load; 4] = [
 ];
 
 #[test]
-fn a_full_bank_has_no_room_for_a_link(rt: HostRuntime) {
+fn a_key_is_loaded_once(rt: HostRuntime) {
     let alloc = rt.alloc();
-    let state = full(alloc).expect(&rt, "64 links");
-    let state = all_loaded(alloc, state, &NO_ROOM).expect(&rt, "these verdicts");
-    assert_eq!(rt; state.link_count(), 64);
+    assert_eq!(rt; wrong_load(alloc, begun(alloc), &LOADS, 1), None);
+    assert_eq!(rt; wrong_load(alloc, full(alloc), &NO_ROOM, 64), None);
 }

@@ -1,140 +1,133 @@
-// Sessions of two banks, told as each of them sees it.
-use super::{Step, Told, ends, sender, taker};
+// A session of two banks with messages that are rare: a key service message without IDK2, one with
+// IV, EDK and P, error messages with an error detection code, and a disconnection with IDA.
+use super::{Act, KSM, RSM, Step, sender, taker, wrong_at};
 
-const KSM: &str = "CSM(MCL/KSM RCV/BANKB ORG/BANKA IDK2/K1 KD/C2A5290756D949F4 CTP/1 MAC/8F270CC6)";
+const FIRST_RSM: &str = "CSM(MCL/RSM RCV/BANKA ORG/BANKB MAC/312B1C9E)";
 
-const RSM: &str = "CSM(MCL/RSM RCV/BANKA ORG/BANKB MAC/BB510339)";
+const SECOND_RSM: &str = "CSM(MCL/RSM RCV/BANKA ORG/BANKB MAC/439EC0ED)";
 
-const ESM: &str = "CSM(MCL/ESM RCV/BANKA ORG/BANKB CTP/1 CTR/2 ERF/C MAC/F6A791C9)";
+const ESM: &str = "CSM(MCL/ESM RCV/BANKA ORG/BANKB CTP/2 CTR/9 ERF/C EDC/634B4951)";
 
-const DSM: &str = "CSM(MCL/DSM RCV/BANKB ORG/BANKA IDD/BANKA.BANKA.K1.1 MAC/F3A9DD96)";
+const DSM: &str =
+    "CSM(MCL/DSM RCV/BANKA ORG/BANKB IDD/BANKA.BANKA.K1.1 IDA/BANKA.BANKA.K1.2 MAC/112438E9)";
 
-const ENDED: &str = "CSM(MCL/RSM RCV/BANKA ORG/BANKB IDD/BANKA.BANKA.K1.1 MAC/CB38EA3E)";
+const ENDED: &str = "CSM(MCL/RSM RCV/BANKB ORG/BANKA IDD/BANKA.BANKA.K1.1 MAC/ED9FAFB5)";
 
-const SECOND_KSM: &str =
-    "CSM(MCL/KSM RCV/BANKB ORG/BANKA IDK2/K1 KD/20E2F5F31394D5D9 CTP/2 MAC/F5545A49)";
-
-const SECOND_ESM: &str = "CSM(MCL/ESM RCV/BANKA ORG/BANKB CTP/2 CTR/4 ERF/C MAC/A7BC43C6)";
-
-const THIRD_KSM: &str =
-    "CSM(MCL/KSM RCV/BANKB ORG/BANKA IDK2/K1 KD/3F0F96D46FE734C8 CTP/3 MAC/2AA34074)";
-
-const THIRD_RSM: &str = "CSM(MCL/RSM RCV/BANKA ORG/BANKB MAC/BA117E63)";
-
-const SENT: [Step; 2] = [(Told::Start, 0, KSM), (Told::Take(RSM), 0, "")];
-
-const TAKEN: [Step; 1] = [(Told::Take(KSM), 0, RSM)];
-
-#[test]
-fn a_key_is_exchanged(rt: HostRuntime) {
-    let alloc = rt.alloc();
-    let lines = "PARTY BANKA BANK
-LINK BANKB K1 OUT 2 READY
-KEY BANKB BANKA.BANKA.K1.1 LIVE
-";
-    assert!(rt; ends(alloc, sender(alloc), &SENT, lines));
-    let lines = "PARTY BANKB BANK
-LINK BANKA K1 IN 2 READY
-KEY BANKA BANKA.BANKA.K1.1 HELD
-";
-    assert!(rt; ends(alloc, taker(alloc), &TAKEN, lines));
-}
-
-const SENT_AND_TOLD: [Step; 3] = [
-    (Told::Start, 0, KSM),
-    (Told::Take(RSM), 0, ""),
-    (Told::Take(ESM), 24, ""),
+const AT_SENDER: [Step; 11] = [
+    (
+        1,
+        Act::Start,
+        0,
+        "CSM(MCL/KSM RCV/BANKB ORG/BANKA IDK2/K1 KD/B7DD0C55CA1A2A5D CTP/1 MAC/56B4BF2A)",
+    ),
+    (1, Act::Take(FIRST_RSM), 0, ""),
+    (
+        2,
+        Act::Start,
+        0,
+        "CSM(MCL/KSM RCV/BANKB ORG/BANKA IDK2/K1 KD/E0FEF8749B2DA5F4 CTP/2 MAC/AD53A224)",
+    ),
+    (2, Act::Take(ESM), 0, ""),
+    (
+        2,
+        Act::Take("CSM(MCL/ESM RCV/BANKA ORG/BANKB CTP/2 CTR/9 ERF/C EDC/0634B495)"),
+        29,
+        "",
+    ),
+    (2, Act::Take(SECOND_RSM), 0, ""),
+    (2, Act::Take(ESM), 24, ""),
+    (
+        3,
+        Act::Take(
+            "CSM(MCL/DSM RCV/BANKA ORG/BANKB IDD/BANKA.BANKA.K1.1 IDA/BANKA.BANKA.K1.2 MAC/A5A0226F)",
+        ),
+        28,
+        "",
+    ),
+    (3, Act::Take(DSM), 0, ENDED),
+    (3, Act::Take(DSM), 0, ENDED),
+    (
+        3,
+        Act::Take(
+            "CSM(MCL/DSM RCV/BANKA ORG/BANKB IDD/BANKA.BANKA.K1.2 IDA/BANKA.BANKA.K1.7 MAC/A4B64782)",
+        ),
+        27,
+        "",
+    ),
 ];
 
-const TAKEN_TWICE: [Step; 2] = [(Told::Take(KSM), 0, RSM), (Told::Take(KSM), 30, ESM)];
-
-#[test]
-fn a_repeated_message_is_refused_and_answered(rt: HostRuntime) {
-    let alloc = rt.alloc();
-    let lines = "PARTY BANKA BANK
-LINK BANKB K1 OUT 2 READY
-KEY BANKB BANKA.BANKA.K1.1 LIVE
-";
-    assert!(rt; ends(alloc, sender(alloc), &SENT_AND_TOLD, lines));
-    let lines = "PARTY BANKB BANK
-LINK BANKA K1 IN 2 READY
-KEY BANKA BANKA.BANKA.K1.1 HELD
-";
-    assert!(rt; ends(alloc, taker(alloc), &TAKEN_TWICE, lines));
-}
-
-const TOLD_FIRST: [Step; 3] = [
-    (Told::Start, 0, KSM),
-    (Told::Take(ESM), 0, ""),
-    (Told::Take(RSM), 24, ""),
+const AT_TAKER: [Step; 2] = [
+    (
+        1,
+        Act::Take("CSM(MCL/KSM RCV/BANKB ORG/BANKA KD/B7DD0C55CA1A2A5D CTP/1 MAC/2BACCF14)"),
+        0,
+        FIRST_RSM,
+    ),
+    (
+        2,
+        Act::Take(
+            "CSM(MCL/KSM RCV/BANKB ORG/BANKA IDK2/K1 KD/E0FEF8749B2DA5F4 CTP/2 IV/a-b EDK/19850101.12 P/x*y MAC/9B94FCF4)",
+        ),
+        0,
+        SECOND_RSM,
+    ),
 ];
 
 #[test]
-fn an_error_message_overtakes_the_answer(rt: HostRuntime) {
+fn rare_messages_are_taken(rt: HostRuntime) {
+    let alloc = rt.alloc();
+    let lines = "PARTY BANKA BANK
+LINK BANKB K1 OUT 3 READY
+KEY BANKB BANKA.BANKA.K1.1 ENDED
+KEY BANKB BANKA.BANKA.K1.2 LIVE
+";
+    assert_eq!(rt; wrong_at(alloc, sender(alloc), &AT_SENDER, lines), None);
+    let lines = "PARTY BANKB BANK
+LINK BANKA K1 IN 3 READY
+KEY BANKA BANKA.BANKA.K1.1 HELD
+KEY BANKA BANKA.BANKA.K1.2 HELD
+";
+    assert_eq!(rt; wrong_at(alloc, taker(alloc), &AT_TAKER, lines), None);
+}
+
+/// A disconnection by BANKB, and what BANKA answers.
+const BY_TAKER: &str = "CSM(MCL/DSM RCV/BANKA ORG/BANKB IDD/BANKA.BANKA.K1.1 MAC/F6B4C791)";
+
+const ANSWERED: &str = "CSM(MCL/RSM RCV/BANKB ORG/BANKA IDD/BANKA.BANKA.K1.1 MAC/7E4A2A1D)";
+
+/// It overtakes the response to the key.
+const OVERTAKEN: [Step; 3] = [
+    (0, Act::Start, 0, KSM),
+    (0, Act::Take(BY_TAKER), 0, ANSWERED),
+    (0, Act::Take(RSM), 24, ""),
+];
+
+/// It crosses BANKA's own.
+const CROSSED: [Step; 5] = [
+    (0, Act::Start, 0, KSM),
+    (0, Act::Take(RSM), 0, ""),
+    (
+        0,
+        Act::End("BANKA.BANKA.K1.1"),
+        0,
+        "CSM(MCL/DSM RCV/BANKB ORG/BANKA IDD/BANKA.BANKA.K1.1 MAC/F3A9DD96)",
+    ),
+    (0, Act::Take(BY_TAKER), 0, ANSWERED),
+    (
+        0,
+        Act::Take("CSM(MCL/RSM RCV/BANKA ORG/BANKB IDD/BANKA.BANKA.K1.1 MAC/CB38EA3E)"),
+        24,
+        "",
+    ),
+];
+
+#[test]
+fn a_disconnection_ends_an_exchange(rt: HostRuntime) {
     let alloc = rt.alloc();
     let lines = "PARTY BANKA BANK
 LINK BANKB K1 OUT 2 READY
 KEY BANKB BANKA.BANKA.K1.1 ENDED
 ";
-    assert!(rt; ends(alloc, sender(alloc), &TOLD_FIRST, lines));
-}
-
-const DROPPED: [Step; 6] = [
-    (Told::Start, 0, KSM),
-    (Told::Take(RSM), 0, ""),
-    (Told::Start, 0, SECOND_KSM),
-    (Told::Drop, 0, ""),
-    (Told::Start, 0, THIRD_KSM),
-    (Told::Take(SECOND_ESM), 28, ""),
-];
-
-const LATE: [Step; 3] = [
-    (Told::Take(KSM), 0, RSM),
-    (Told::Take(THIRD_KSM), 0, THIRD_RSM),
-    (Told::Take(SECOND_KSM), 30, SECOND_ESM),
-];
-
-#[test]
-fn the_message_of_a_dropped_exchange_comes_late(rt: HostRuntime) {
-    let alloc = rt.alloc();
-    let lines = "PARTY BANKA BANK
-LINK BANKB K1 OUT 4 READY
-KEY BANKB BANKA.BANKA.K1.1 LIVE
-KEY BANKB BANKA.BANKA.K1.2 ENDED
-KEY BANKB BANKA.BANKA.K1.3 PENDING
-EXCHANGE BANKB KEYSENT BANKA.BANKA.K1.3
-";
-    assert!(rt; ends(alloc, sender(alloc), &DROPPED, lines));
-    let lines = "PARTY BANKB BANK
-LINK BANKA K1 IN 4 READY
-KEY BANKA BANKA.BANKA.K1.1 HELD
-KEY BANKA BANKA.BANKA.K1.3 HELD
-";
-    assert!(rt; ends(alloc, taker(alloc), &LATE, lines));
-}
-
-const DISCONNECTED: [Step; 6] = [
-    (Told::Start, 0, KSM),
-    (Told::Take(RSM), 0, ""),
-    (Told::End("BANKA.BANKA.K1.1"), 0, DSM),
-    (Told::Take(RSM), 24, ""),
-    (Told::Resend, 0, DSM),
-    (Told::Take(ENDED), 0, ""),
-];
-
-const TOLD_OF_THE_END: [Step; 2] = [(Told::Take(KSM), 0, RSM), (Told::Take(DSM), 0, ENDED)];
-
-#[test]
-fn a_key_is_disconnected(rt: HostRuntime) {
-    let alloc = rt.alloc();
-    let lines = "PARTY BANKA BANK
-LINK BANKB K1 OUT 2 READY
-KEY BANKB BANKA.BANKA.K1.1 ENDED
-";
-    assert!(rt; ends(alloc, sender(alloc), &DISCONNECTED, lines));
-    let lines = "PARTY BANKB BANK
-LINK BANKA K1 IN 2 READY
-KEY BANKA BANKA.BANKA.K1.1 ENDED
-";
-    assert!(rt; ends(alloc, taker(alloc), &TOLD_OF_THE_END, lines));
+    assert_eq!(rt; wrong_at(alloc, sender(alloc), &OVERTAKEN, lines), None);
+    assert_eq!(rt; wrong_at(alloc, sender(alloc), &CROSSED, lines), None);
 }

@@ -1,12 +1,7 @@
-use Rattle.bank_role.proofs.Apart.{left_out_of_row}
-use Rattle.bank_role.proofs.Unchanged.{unchanged, same_after}
+use Rattle.bank_role.specs.Rows.{row_of}
+use Rattle.bank_role.proofs.Apart.{row_apart}
 use Rattle.bank_role.proofs.laws.law_differing.Goals as goal
 
-pub returns-clause-unchanged : goal.returns-clause-unchanged
-returns-clause-unchanged c = unchanged
-
-pub returns-clause-needed : goal.returns-clause-needed
-returns-clause-needed c = same_after
-
 pub returns-clause-left_out : goal.returns-clause-left_out
-returns-clause-left_out c = left_out_of_row
+returns-clause-left_out c = λ p i moment.
+    c.law_differing.ensures.left_out p (row_of p i moment).edits (row_apart c.law_apart.ensures c.law_apart-2.ensures p i moment)

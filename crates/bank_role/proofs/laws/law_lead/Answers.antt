@@ -1,5 +1,4 @@
-use Rattle.bank_role.proofs.Early.{lead_none}
 use Rattle.bank_role.proofs.laws.law_lead.Goals as goal
 
 pub returns : goal.returns
-returns c = lead_none
+returns c = c.law_lead.ensures

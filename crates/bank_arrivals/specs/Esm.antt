@@ -1,0 +1,120 @@
+-- An error service message arrives (ANSI X9.17): what was sent is given up, and the count goes on where it
+-- is named. One whose code is an error detection code changes nothing.
+use Rattle.std.specs.Prelude.{ℕ, Bool, false, bytes_eq, max, cond, is_some, List, [], ◌∷◌, ◌++◌, Option, Some, None, option_map}
+use Rattle.x_base.specs.declared.key_name.FullName.{FullName}
+use Rattle.x_base.specs.declared.verdict.Verdict.TheVariants.{BadMac, BadEdc}
+use Rattle.csm_grammar.specs.declared.message.Esm.{Esm}
+use Rattle.csm_grammar.specs.declared.arrival.Arrival.{Arrival}
+use Rattle.party_state.specs.declared.link.LinkRec.{LinkRec}
+use Rattle.party_state.specs.declared.key.KeyStatus.TheVariants.{Ended}
+use Rattle.party_state.specs.declared.exchange.Via.{Via}
+use Rattle.party_state.specs.declared.exchange.Via.TheVariants as via
+use Rattle.party_state.specs.declared.exchange.Kind.{Kind}
+use Rattle.party_state.specs.declared.exchange.Kind.TheVariants as kind
+use Rattle.party_state.specs.declared.exchange.Exchange.{Exchange}
+use Rattle.party_state.specs.declared.edit.Edit.{Edit}
+use Rattle.party_state.specs.declared.edit.Edit.TheVariants.{PutLink, PutKey, DropExchange}
+use Rattle.party_state.specs.declared.decision.Lead.{Lead}
+use Rattle.party_state.specs.Keys.{sends}
+use Rattle.party_state.specs.Names.{full_name}
+use Rattle.party_state.specs.State.{Party, centre_label, link_with, exchange_with}
+use Rattle.party_state.specs.Verdicts.{Test, verdict_of, passes}
+use Rattle.party_state.specs.Rows.{Row, Accepted, OfEsm, refused}
+use Rattle.bank_arrivals.specs.declared.esm.Subject.{Subject}
+use Rattle.bank_arrivals.specs.declared.esm.Subject.TheVariants.{SentKey, Translated}
+use Rattle.role_base.specs.Texts.{direct_name, is_verified, is_right, is_plain, lead_under}
+use Rattle.role_base.specs.Conditions.{answer_front}
+use Rattle.role_base.specs.Exchanges.{sent_by, is_waiting, new_link, dropped}
+
+-- what an error message from the peer speaks of: a key that was sent, or a key with a translation centre,
+-- by its value and its count at the centre
+
+abbrev pub subject_by : Party → List ℕ → Kind → Option Subject
+subject_by p peer (kind.KeySent name way) = option_map SentKey (sent_by p peer (kind.KeySent name way))
+subject_by p peer (kind.Translating ultimate value cta) = Some (Translated value cta)
+subject_by p peer (kind.Asked ultimate) = None
+subject_by p peer (kind.Ending name) = None
+
+abbrev pub subject_in : Party → List ℕ → Option Exchange → Option Subject
+subject_in p peer None = None
+subject_in p peer (Some e) = subject_by p peer e.kind
+
+abbrev pub subject_with : Party → List ℕ → Option Subject
+subject_with p peer = subject_in p peer (exchange_with peer p)
+
+abbrev pub subject_value : Subject → ℕ
+subject_value (SentKey s) = s.key.value
+subject_value (Translated value cta) = value
+
+-- the full name of its key
+abbrev pub subject_name : Party → List ℕ → Subject → FullName
+subject_name p peer (SentKey s) = full_name p.own s.key
+subject_name p peer (Translated value cta) = record { name = direct_name p.own centre_label cta; recipient = peer }
+
+-- a new key-encrypting key has the label of the link under which it went
+abbrev pub is_renewed : List ℕ → Option (List ℕ) → Bool
+is_renewed label None = false
+is_renewed label (Some new) = bytes_eq new label
+
+-- the link under which a key went, unless it goes with a new key-encrypting key
+abbrev pub way_link : Party → List ℕ → Via → Option LinkRec
+way_link p peer (via.Direct label new) = cond (is_renewed label new) None (link_with (sends peer label) p)
+way_link p peer (via.Distribution centre cta) = None
+way_link p peer (via.Translation centre) = None
+
+-- the link whose count the partner names
+abbrev pub subject_link : Party → List ℕ → Subject → Option LinkRec
+subject_link p peer (SentKey s) = way_link p peer s.way
+subject_link p peer (Translated value cta) = link_with (sends peer centre_label) p
+
+abbrev pub raised : Option LinkRec → Option ℕ → List Edit
+raised (Some l) (Some ctr) = PutLink (record l { next = max l.next ctr }) ∷ []
+raised (Some l) None = []
+raised None ctr = []
+
+abbrev pub subject_ended : Party → List ℕ → Subject → List Edit
+subject_ended p peer (SentKey s) = dropped (new_link p peer s.way) ++ PutKey (record s.key { status = Ended }) ∷ []
+subject_ended p peer (Translated value cta) = []
+
+abbrev pub subject_accepted : Party → Subject → Option Accepted
+subject_accepted p (SentKey s) = Some (record { class = OfEsm; under = full_name p.own s.key })
+subject_accepted p (Translated value cta) = None
+
+abbrev pub esm_front : Party → Esm → Option Subject → List Test
+esm_front p m found = answer_front p m.receiver m.originator (is_some found)
+
+abbrev pub esm_of : Party → Arrival → Esm → Option Subject → Row
+esm_of p a m None = refused (verdict_of (esm_front p m None))
+esm_of p a m (Some s) = record {
+  verdict = verdict_of (esm_front p m (Some s) ++ (is_verified a (subject_value s), BadMac) ∷ []);
+  edits = raised (subject_link p m.originator s) m.ctr ++ (subject_ended p m.originator s ++ DropExchange m.originator ∷ []);
+  reply = None;
+  uses = [];
+  makes = None;
+  accepts = subject_accepted p s;
+  answer = None;
+}
+
+abbrev pub esm_lead_of : Party → Arrival → Esm → Option Subject → Option Lead
+esm_lead_of p a m None = None
+esm_lead_of p a m (Some s) = cond (passes (esm_front p m (Some s))) (Some (lead_under a (subject_name p m.originator s) (subject_value s))) None
+
+abbrev pub plain_tests : Party → Arrival → Esm → List Test
+plain_tests p a m = answer_front p m.receiver m.originator (is_waiting p m.originator) ++ (is_right a, BadEdc) ∷ []
+
+abbrev pub plain_esm : Party → Arrival → Esm → Row
+plain_esm p a m = record {
+  verdict = verdict_of (plain_tests p a m);
+  edits = [];
+  reply = None;
+  uses = [];
+  makes = None;
+  accepts = None;
+  answer = None;
+}
+
+abbrev pub esm : Party → Arrival → Esm → Row
+esm p a m = cond (is_plain a.parsed.shut) (plain_esm p a m) (esm_of p a m (subject_with p m.originator))
+
+abbrev pub esm_lead : Party → Arrival → Esm → Option Lead
+esm_lead p a m = cond (is_plain a.parsed.shut) None (esm_lead_of p a m (subject_with p m.originator))

@@ -1,0 +1,36 @@
+-- A request for service initiation arrives (ANSI X9.17): a data key goes back under the first link.
+use Rattle.std.specs.Prelude.{ℕ, Bool, true, false, ◌&&◌, is_none, is_some, List, [], ◌∷◌, Option, Some, None}
+use Rattle.x_base.specs.declared.party.Side.TheVariants.{Sends}
+use Rattle.x_base.specs.declared.verdict.Verdict.TheVariants.{NotForMe, UnknownPeer, WrongClass, Outstanding, UnknownKk, BadEdc}
+use Rattle.csm_grammar.specs.declared.message.Service.{Service}
+use Rattle.csm_grammar.specs.declared.message.Service.TheVariants as service
+use Rattle.csm_grammar.specs.declared.message.Rsi.{Rsi}
+use Rattle.csm_grammar.specs.declared.arrival.Arrival.{Arrival}
+use Rattle.party_state.specs.declared.link.LinkRec.{LinkRec}
+use Rattle.party_state.specs.State.{Party, first_link, exchange_with, knows}
+use Rattle.party_state.specs.Verdicts.{Test, verdict_of}
+use Rattle.party_state.specs.Rows.{Row, refused}
+use Rattle.role_base.specs.Texts.{is_right}
+use Rattle.role_base.specs.Conditions.{is_for}
+use Rattle.role_base.specs.Sending.{sending}
+
+abbrev pub is_data_key : Service → Bool
+is_data_key service.Kd = true
+is_data_key service.KdKd = false
+is_data_key service.Kk = false
+is_data_key service.DoubleKk = false
+is_data_key service.KkKd = false
+is_data_key service.DoubleKkKd = false
+
+abbrev pub rsi_tests : Party → Arrival → Rsi → Option LinkRec → List Test
+rsi_tests p a m found =
+    (is_for p m.receiver m.originator, NotForMe) ∷ (knows m.originator p, UnknownPeer)
+    ∷ (is_data_key m.service && is_none m.ultimate, WrongClass) ∷ (is_none (exchange_with m.originator p), Outstanding)
+    ∷ (is_some found, UnknownKk) ∷ (is_right a, BadEdc) ∷ []
+
+abbrev pub rsi_under : Party → Arrival → Rsi → Option LinkRec → ℕ → Row
+rsi_under p a m None moment = refused (verdict_of (rsi_tests p a m None))
+rsi_under p a m (Some l) moment = sending p (rsi_tests p a m (Some l)) l moment
+
+abbrev pub rsi : Party → Arrival → Rsi → ℕ → Row
+rsi p a m moment = rsi_under p a m (first_link m.originator Sends p) moment

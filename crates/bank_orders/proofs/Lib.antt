@@ -1,0 +1,2 @@
+pub mod OrdersKept
+pub mod OrdersApart

@@ -1,0 +1,45 @@
+// What an operator asks of a bank.
+ghost use Rattle.std.specs.Prelude.{◌≡◌, IfOk};
+ghost use Rattle.role_base.specs.Storable.{CanKeep};
+ghost use Rattle.role_base.specs.Deciding.{decision_of};
+ghost use Rattle.bank_orders.specs.Orders.{command_row};
+
+use crate::ask::ask;
+use crate::ending::{end, purge};
+use crate::giving_up::drop_exchange;
+use crate::load::load;
+use crate::resend::resend;
+use crate::start::start;
+use party_state::{Command, Decision, State};
+use role_base::refusal;
+use std::alloc::Global;
+use x_base::{NoMemory, Verdict};
+
+/// What a bank decides of a command at a moment. It sends no key-encrypting keys and asks no
+/// translation centre.
+#[tactic(auto, using(role_base::proofs::ByRow::by_refused))]
+pub fn command(
+    alloc: Global,
+    state: &State,
+    command: &Command,
+    moment: u64,
+) -> Result<Decision, NoMemory>
+    ensures decision { IfOk result (λ d. d ≡ decision_of state.now (command_row state.now command.now moment)) }
+    ensures kept { IfOk result (λ d. CanKeep state.now d.change) }
+{
+    match command {
+        Command::Load {
+            peer,
+            label,
+            side,
+            pair,
+        } => load(alloc, state, peer, label, *side, *pair),
+        Command::Start { peer, label } => start(alloc, state, peer, label, moment),
+        Command::StartKk { .. } | Command::Translate { .. } => Ok(refusal(Verdict::WrongClass)),
+        Command::Ask { peer, ultimate } => ask(alloc, state, peer, ultimate),
+        Command::Resend { peer } => resend(alloc, state, peer),
+        Command::End { peer, name } => end(alloc, state, peer, name),
+        Command::Drop { peer } => drop_exchange(alloc, state, peer),
+        Command::Purge => purge(alloc, state),
+    }
+}

@@ -1,0 +1,69 @@
+// Giving an exchange up.
+ghost use Rattle.std.specs.Prelude.{◌≡◌, IfOk};
+ghost use Rattle.role_base.specs.Storable.{CanKeep};
+ghost use Rattle.role_base.specs.Deciding.{decision_of};
+ghost use Rattle.bank_orders.specs.GivingUp.{ended, given_up, given_up_in, drop};
+
+use party_state::{Decision, Edit, Exchange, KeyRec, KeyStatus, Kind, State};
+use role_base::{accept, dropped, joined, list_of, new_link, record_of, refusal};
+use std::alloc::Global;
+use x_base::{Ident, NoMemory, Verdict};
+
+/// The key ends.
+fn ended(alloc: Global, key: Option<KeyRec>) -> Result<Vec<Edit>, NoMemory>
+    ensures { IfOk result (λ edits. edits.items ≡ ended key) }
+{
+    match key {
+        Some(key) => {
+            let status = KeyStatus::Ended;
+            list_of(alloc, [Edit::PutKey(KeyRec { status, ..key })])
+        }
+        None => Ok(Vec::new(alloc)),
+    }
+}
+
+/// What becomes of what the exchange names.
+fn given_up(alloc: Global, state: &State, peer: &Ident, kind: &Kind) -> Result<Vec<Edit>, NoMemory>
+    ensures { IfOk result (λ edits. edits.items ≡ given_up state.now peer.now kind.now) }
+{
+    match kind {
+        Kind::KeySent { name, via } => {
+            let link = dropped(alloc, new_link(state, peer, via))?;
+            joined(link, ended(alloc, record_of(state, peer, name))?)
+        }
+        Kind::Asked { .. } | Kind::Translating { .. } | Kind::Ending { .. } => {
+            Ok(Vec::new(alloc))
+        }
+    }
+}
+
+fn given_up_in(
+    alloc: Global,
+    state: &State,
+    peer: &Ident,
+    exchange: &Exchange,
+) -> Result<Vec<Edit>, NoMemory>
+    ensures { IfOk result (λ edits. edits.items ≡ given_up_in state.now peer.now (Some exchange.now)) }
+{
+    let gone = list_of(alloc, [Edit::DropExchange { peer: *peer }])?;
+    joined(given_up(alloc, state, peer, &exchange.kind)?, gone)
+}
+
+/// What a bank decides where the exchange with a peer is to be given up.
+#[tactic(auto, using(role_base::proofs::ByRow::by_refused, role_base::proofs::ByRow::by_accepted))]
+pub(crate) fn drop_exchange(
+    alloc: Global,
+    state: &State,
+    peer: &Ident,
+) -> Result<Decision, NoMemory>
+    ensures decision { IfOk result (λ d. d ≡ decision_of state.now (drop state.now peer.now)) }
+    ensures kept { IfOk result (λ d. CanKeep state.now d.change) }
+{
+    match state.exchange(peer) {
+        Some(exchange) => {
+            let edits = given_up_in(alloc, state, peer, exchange)?;
+            accept(alloc, state, edits, None)
+        }
+        None => Ok(refusal(Verdict::NoExchange)),
+    }
+}

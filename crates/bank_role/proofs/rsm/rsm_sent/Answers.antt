@@ -1,9 +1,0 @@
-use Rattle.std.proofs.Common.{◌∙◌}
-use Rattle.bank_role.proofs.Responses.{rsm_refuses, rsm_accepts}
-use Rattle.bank_role.proofs.rsm.rsm_sent.Goals as goal
-
-pub returns-then-not-is_accept : goal.returns-then-not-is_accept
-returns-then-not-is_accept c = c.refusal.ensures ∙ rsm_refuses c.args.state.now c.args.arrival.now c.args.message.now c.args.sent.now c.key_lead-lead.result c.answer_verdict-verdict.result c.answer_verdict-verdict.ensures c.key_lead-lead.ensures (cc)
-
-pub returns : goal.returns
-returns c = rsm_accepts c.args.state.now c.args.arrival.now c.args.message.now c.args.sent.now c.key_lead-lead.result c.answer_verdict-verdict.result c.in_ok-edits.edits.items c.accept.result c.answer_verdict-verdict.ensures c.key_lead-lead.ensures (cc) c.in_ok-edits.ensures c.accept.ensures

@@ -1,0 +1,43 @@
+-- The changes of the commands can be kept.
+use Rattle.std.proofs.Common.{◌≡◌, ℕ, ◌+◌, ◌≤◌, true, Option, List, [], ◌∷◌, length, refl, arith}
+use Rattle.std.specs.Prelude.{IfSome}
+use Rattle.x_base.specs.Count.{IsCount}
+use Rattle.party_state.specs.declared.link.LinkRec.{LinkRec}
+use Rattle.party_state.specs.declared.key.KeyRec.{KeyRec}
+use Rattle.party_state.specs.declared.exchange.Exchange.{Exchange}
+use Rattle.party_state.specs.declared.edit.Edit.{Edit}
+use Rattle.party_state.specs.declared.edit.Edit.TheVariants.{PutLink, PutKey, PutExchange, SetGen}
+use Rattle.party_state.specs.State.{Party}
+use Rattle.party_state.specs.Keys.{record_key, link_key}
+use Rattle.party_state.specs.Rows.{Reply}
+use Rattle.party_state.specs.Ranges.{longest_text}
+use Rattle.role_base.specs.Conditions.{has_key_room}
+use Rattle.role_base.specs.Differing.{differing}
+use Rattle.role_base.specs.Deciding.{some_edits, accepting}
+use Rattle.role_base.specs.Storable.{IsStorable, CanKeep, can_put_link, can_put_key, AreKeepable}
+use Rattle.role_base.specs.Standing.{LinkStands, KeyStands}
+use Rattle.role_base.proofs.Storable.{key_fits, storable}
+
+pub accepted_kept : (p : Party) (es : List Edit) (r : Option Reply) → AreKeepable p es → length es ≤ 9 → CanKeep p (accepting p es r).change
+accepted_kept p es r t few = go (differing p es) (storable p es t few)
+  where
+    go : (ds : List Edit) → IsStorable p ds → IfSome (some_edits ds) (IsStorable p)
+    go [] h = _
+    go (d ∷ ds) h = h
+
+pub link_room : (p : Party) (l : LinkRec) → LinkStands p l → can_put_link p (link_key l) ≡ true
+link_room p l s = let e = s.found in rw e refl
+
+pub key_room : (p : Party) (k : KeyRec) → KeyStands p k → can_put_key p (record_key k) ≡ true
+key_room p k s = rw s refl
+
+-- a key that is sent
+pub sent_keepable : (p : Party) (l : LinkRec) (k : KeyRec) (e : Exchange) (v n : ℕ) → LinkStands p l → IsCount l.next → n ≡ l.next → has_key_room p (record_key k) ≡ true → length e.text ≤ longest_text
+    → AreKeepable p (SetGen v ∷ PutLink (record l { next = n + 1 }) ∷ PutKey k ∷ PutExchange e ∷ [])
+sent_keepable p l k e v n s c i room short =
+    let low = c.low in
+    let high = c.high in
+    record {
+      each = (tt, ((record { low = omega (arith, low, i); high = omega (arith, high, i) }, link_room p l s), (key_fits p (record_key k) room, (short, tt))));
+      order = refl;
+    }

@@ -1,0 +1,12 @@
+pub mod Failing
+pub mod Filtering
+pub mod ByRow
+pub mod Found
+pub mod Storable
+pub mod Keeping
+pub mod Kept
+pub mod Decided
+pub mod Spent
+pub mod Unchanged
+pub mod LeftOut
+pub mod SendingApart

@@ -1,0 +1,44 @@
+-- The tests that several rows have in common (this project's profile).
+use Rattle.std.specs.Prelude.{ℕ, ◌+◌, Bool, false, not, ◌&&◌, ◌||◌, nat_le, Option, Some, None, List, [], ◌∷◌, length, bytes_eq}
+use Rattle.x_base.specs.declared.verdict.Verdict.TheVariants.{NotForMe, UnknownPeer, WrongClass, NoExchange, CountLow, CountSpent}
+use Rattle.party_state.specs.declared.link.LinkKey.{LinkKey}
+use Rattle.party_state.specs.declared.link.LinkRec.{LinkRec}
+use Rattle.party_state.specs.declared.key.RecordKey.{RecordKey}
+use Rattle.party_state.specs.State.{Party, link_with, record_with, knows}
+use Rattle.party_state.specs.Verdicts.{Test, verdict_of}
+use Rattle.party_state.specs.Rows.{Row, refused}
+use Rattle.party_state.specs.Limits.{most_links, most_keys}
+
+-- the receiver is this party, and the originator isn't
+abbrev pub is_for : Party → List ℕ → List ℕ → Bool
+is_for p receiver originator = bytes_eq receiver p.own && not (bytes_eq originator p.own)
+
+-- a message that a bank doesn't serve, whose sender, or the centre that it names, is to be known
+abbrev pub other_class : Party → List ℕ → List ℕ → List ℕ → Row
+other_class p receiver originator known =
+    refused (verdict_of ((is_for p receiver originator, NotForMe) ∷ (knows known p, UnknownPeer) ∷ (false, WrongClass) ∷ []))
+
+-- an answer is for this party, and belongs to an exchange that stands
+abbrev pub answer_front : Party → List ℕ → List ℕ → Bool → List Test
+answer_front p receiver originator stands = (is_for p receiver originator, NotForMe) ∷ (stands, NoExchange) ∷ []
+
+-- a count is left
+abbrev pub has_count : LinkRec → Bool
+has_count l = nat_le l.next 99999999999999
+
+-- a count that arrived, against the expected one
+abbrev pub count_tests : LinkRec → ℕ → List Test
+count_tests l count = (not (has_count l) || nat_le l.next count, CountLow l.next) ∷ (has_count l, CountSpent) ∷ []
+
+-- how many rows stand after one is put, which takes the place of the one that was found
+abbrev pub count_after : {R : Type 0} → Option R → List R → ℕ
+count_after None rows = length rows + 1
+count_after (Some old) rows = length rows
+
+-- 1,024 key records stand at most after this one is put
+abbrev pub has_key_room : Party → RecordKey → Bool
+has_key_room p key = nat_le (count_after (record_with key p) p.keys) most_keys
+
+-- 64 links stand at most after this one is put
+abbrev pub has_link_room : Party → LinkKey → Bool
+has_link_room p key = nat_le (count_after (link_with key p) p.links) most_links

@@ -1,0 +1,11 @@
+pub mod Texts
+pub mod Conditions
+pub mod Exchanges
+pub mod Sending
+pub mod Differing
+pub mod Failing
+pub mod Standing
+pub mod Replies
+pub mod Deciding
+pub mod Errors
+pub mod Storable

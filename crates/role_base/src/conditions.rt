@@ -1,0 +1,119 @@
+// The tests that several rows have in common.
+ghost use Rattle.std.specs.Prelude.{◌≡◌, ◌++◌, ◌∷◌, [], false, bytes_eq};
+ghost use Rattle.x_base.specs.declared.verdict.Verdict.TheVariants.{BadMac};
+ghost use Rattle.party_state.specs.State.{centre_label};
+ghost use Rattle.party_state.specs.Verdicts.{verdict_of};
+ghost use Rattle.role_base.specs.Storable.{CanKeep};
+ghost use Rattle.role_base.specs.Deciding.{decision_of, refusal_of};
+ghost use Rattle.role_base.specs.Conditions.{is_for, other_class, answer_front, has_count, count_tests, has_key_room, has_link_room};
+
+use crate::decisions::refusal;
+use crate::verdicts::{verdict_after, verdict_of};
+use party_state::{Decision, LinkRec, MOST_KEYS, MOST_LINKS, State};
+use x_base::{Count, Ident, KeyName, LIMIT, Label, Side, Verdict};
+
+/// Whether the receiver is this party, and the originator isn't.
+pub fn is_for(state: &State, receiver: &Ident, originator: &Ident) -> bool
+    ensures { result ≡ is_for state.now receiver.now originator.now }
+{
+    let own = state.own();
+    *receiver == own && *originator != own
+}
+
+/// A message that a bank doesn't serve. Its sender, or the centre that it names, is to be known.
+#[tactic(auto, using(crate::proofs::ByRow::by_refused))]
+pub fn other_class(state: &State, receiver: &Ident, originator: &Ident, known: &Ident) -> Decision
+    ensures decision { result ≡ decision_of state.now (other_class state.now receiver.now originator.now known.now) }
+    ensures kept { CanKeep state.now result.change }
+{
+    refusal(verdict_of(&[
+        (is_for(state, receiver, originator), Verdict::NotForMe),
+        (state.knows(known), Verdict::UnknownPeer),
+        (false, Verdict::WrongClass),
+    ]))
+}
+
+/// Whether a count is left.
+pub fn has_count(link: &LinkRec) -> bool
+    ensures { result ≡ has_count link.now }
+{
+    link.next <= LIMIT
+}
+
+/// The tests of a count that arrived, against the expected one.
+pub fn count_tests(link: &LinkRec, count: Count) -> [(bool, Verdict); 2]
+    ensures { result ≡ count_tests link.now count }
+{
+    let left = has_count(link);
+    [
+        (
+            !left || link.next <= count.value(),
+            Verdict::CountLow(link.next),
+        ),
+        (left, Verdict::CountSpent),
+    ]
+}
+
+/// Whether 1,024 key records stand at most after this one is put.
+pub fn has_key_room(state: &State, peer: &Ident, name: &KeyName) -> bool
+    ensures { result ≡ has_key_room state.now (record { peer = peer.now; name = name.now }) }
+{
+    match state.key(peer, name) {
+        Some(_) => state.key_count() <= MOST_KEYS,
+        None => state.key_count() < MOST_KEYS,
+    }
+}
+
+/// Whether 64 links stand at most after this one is put.
+pub fn has_link_room(state: &State, peer: &Ident, label: &Label, side: Side) -> bool
+    ensures { result ≡ has_link_room state.now (record { peer = peer.now; label = label.now; side = side }) }
+{
+    match state.link(peer, label, side) {
+        Some(_) => state.link_count() <= MOST_LINKS,
+        None => state.link_count() < MOST_LINKS,
+    }
+}
+
+/// The tests of an answer before its code's: it is for this party, and belongs to an exchange that
+/// stands.
+pub fn answer_front(
+    state: &State,
+    receiver: &Ident,
+    originator: &Ident,
+    stands: bool,
+) -> [(bool, Verdict); 2]
+    ensures { result ≡ answer_front state.now receiver.now originator.now stands }
+{
+    [
+        (is_for(state, receiver, originator), Verdict::NotForMe),
+        (stands, Verdict::NoExchange),
+    ]
+}
+
+/// Whether the label is that of the links with centres.
+pub fn is_of_centre(label: &Label) -> bool
+    ensures { result ≡ bytes_eq label.now centre_label }
+{
+    label.bytes() == b"C".as_slice()
+}
+
+/// The verdict of an answer, where its code was tested.
+pub fn answer_verdict(
+    state: &State,
+    receiver: &Ident,
+    originator: &Ident,
+    stands: bool,
+    verified: bool,
+) -> Verdict
+    ensures { result ≡ verdict_of (answer_front state.now receiver.now originator.now stands ++ (verified, BadMac) ∷ []) }
+{
+    let front = answer_front(state, receiver, originator, stands);
+    verdict_after(&front, &[(verified, Verdict::BadMac)])
+}
+
+/// Refused, since it answers no exchange.
+pub fn not_answering(state: &State, receiver: &Ident, originator: &Ident) -> Decision
+    ensures { result ≡ refusal_of (verdict_of (answer_front state.now receiver.now originator.now false)) }
+{
+    refusal(verdict_of(&answer_front(state, receiver, originator, false)))
+}

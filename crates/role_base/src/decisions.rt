@@ -1,0 +1,84 @@
+// Decisions, from a verdict or from edits and a reply.
+ghost use Rattle.std.specs.Prelude.{◌≡◌, ◌++◌, true, false, IfOk, Option, None, List};
+ghost use Rattle.party_state.specs.State.{Party};
+ghost use Rattle.party_state.specs.Verdicts.{Test, verdict_of, passes, all_refuse};
+ghost use Rattle.party_state.specs.Rows.{Reply, Row};
+ghost use Rattle.role_base.specs.Differing.{differing};
+ghost use Rattle.role_base.specs.Deciding.{decision_of, refusal_of, accepting, some_edits};
+ghost use Rattle.role_base.specs.Replies.{AreWritten};
+
+use crate::differing::differs;
+use crate::texts::Written;
+use crate::verdicts::verdict_of;
+use party_state::{Change, Decision, Edit, State};
+use std::alloc::Global;
+use x_base::{NoMemory, Verdict};
+
+/// Refused, with nothing written.
+pub fn refusal(verdict: Verdict) -> Decision
+    ensures { result ≡ refusal_of verdict }
+{
+    Decision {
+        change: None,
+        reply: None,
+        under: None,
+        verdict,
+    }
+}
+
+/// Refused, since one of the tests fails that stand before a code's.
+pub fn early_refusal(front: &[(bool, Verdict)]) -> Decision
+    requires refuse { all_refuse front.now ≡ true }
+    requires fails { passes front.now ≡ false }
+    ensures { (p : Party) (r : Row) (rest : List Test) → r.verdict ≡ verdict_of (front.now ++ rest) → r.answer ≡ None → result ≡ decision_of p r }
+{
+    refusal(verdict_of(front))
+}
+
+/// Those of the edits that make a difference.
+#[tactic(auto, using(crate::proofs::Filtering::differing_none, crate::proofs::Filtering::differing_more, crate::proofs::Filtering::differing_same))]
+fn differing(alloc: Global, state: &State, edits: Vec<Edit>) -> Result<Change, NoMemory>
+    ensures { IfOk result (λ change. change ≡ differing state.now edits.items) }
+{
+    let mut change = Change::with_capacity(alloc, edits.len())?;
+    for edit in edits {
+        if differs(state, &edit) {
+            change.push(edit)?;
+        }
+    }
+    Ok(change)
+}
+
+/// The change, where it has edits.
+#[tactic(auto, using(crate::proofs::Filtering::no_edits, crate::proofs::Filtering::with_edits))]
+fn some_edits(change: Change) -> Option<Change>
+    ensures { result ≡ some_edits change }
+{
+    if change.is_empty() {
+        None
+    } else {
+        Some(change)
+    }
+}
+
+/// Accepted, with those of the edits that make a difference, and the reply.
+pub fn accept(
+    alloc: Global,
+    state: &State,
+    edits: Vec<Edit>,
+    reply: Option<Written>,
+) -> Result<Decision, NoMemory>
+    ensures { IfOk result (λ d. (r : Option Reply) → AreWritten reply r → d ≡ accepting state.now edits.items r) }
+{
+    let change = some_edits(differing(alloc, state, edits)?);
+    let (reply, under) = match reply {
+        Some(written) => (Some(written.text), written.under),
+        None => (None, None),
+    };
+    Ok(Decision {
+        change,
+        reply,
+        under,
+        verdict: Verdict::Accept,
+    })
+}

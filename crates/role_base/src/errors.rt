@@ -1,0 +1,88 @@
+// The error service message that answers a refused key service message.
+ghost use Rattle.std.specs.Prelude.{◌≡◌, IfOk, option_map};
+ghost use Rattle.party_state.specs.Rows.Reply.{Coded};
+ghost use Rattle.role_base.specs.Errors.{error_letter, expected_count, error_message, error_for, coded_under};
+ghost use Rattle.role_base.specs.Errors.{TellsCount, answering};
+
+use crate::decisions::refusal;
+use crate::texts::Written;
+use csm_grammar::{Esm, Message};
+use party_state::{Decision, Lead, State};
+use std::alloc::Global;
+use x_base::{Count, Ident, NoMemory, Text, Verdict};
+
+/// The letter of a refusal that is answered.
+fn error_letter(verdict: &Verdict) -> Option<&'static [u8]>
+    ensures { option_map (λ letter. letter.now) result ≡ error_letter verdict.now }
+{
+    match verdict {
+        Verdict::CountLow(_) => Some(b"C"),
+        Verdict::CountSpent => Some(b"S"),
+        Verdict::LabelTaken => Some(b"L"),
+        Verdict::SameKey => Some(b"K"),
+        Verdict::LinksFull => Some(b"N"),
+        Verdict::KeysFull => Some(b"F"),
+        _ => None,
+    }
+}
+
+/// The expected count, where it is named.
+fn expected_count(verdict: &Verdict) -> Option<Count>
+    requires { TellsCount verdict.now }
+    ensures { result ≡ expected_count verdict.now }
+{
+    match verdict {
+        Verdict::CountLow(expected) => Count::of(*expected),
+        _ => None,
+    }
+}
+
+fn error_for(
+    alloc: Global,
+    state: &State,
+    originator: Ident,
+    ctp: Count,
+    verdict: &Verdict,
+) -> Result<Option<Message>, NoMemory>
+    requires { TellsCount verdict.now }
+    ensures { IfOk result (λ m. m ≡ error_for state.now originator ctp verdict.now) }
+{
+    let Some(letter) = error_letter(verdict) else {
+        return Ok(None);
+    };
+    let mut erf = Text::new(alloc);
+    erf.push(letter)?;
+    Ok(Some(Message::Esm(Esm {
+        receiver: originator,
+        originator: state.own(),
+        erf,
+        ctp: Some(ctp),
+        cta: None,
+        ctb: None,
+        ctr: expected_count(verdict),
+    })))
+}
+
+/// Refused, and answered under the key that came where the verdict is one that is answered.
+pub fn error_answer(
+    alloc: Global,
+    state: &State,
+    originator: Ident,
+    ctp: Count,
+    verdict: Verdict,
+    lead: &Lead,
+) -> Result<Decision, NoMemory>
+    requires { TellsCount verdict }
+    ensures { IfOk result (λ d. d ≡ answering verdict (coded_under lead.now.under lead.now.value (error_for state.now originator ctp verdict))) }
+{
+    let Some(message) = error_for(alloc, state, originator, ctp, &verdict)? else {
+        return Ok(refusal(verdict));
+    };
+    let written = Written::coded(alloc, &message, lead.under, lead.value)?;
+    Ok(Decision {
+        change: None,
+        reply: Some(written.text),
+        under: written.under,
+        verdict,
+    })
+}

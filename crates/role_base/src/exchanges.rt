@@ -1,0 +1,96 @@
+// What the exchange with a peer is about.
+ghost use Rattle.std.specs.Prelude.{◌≡◌};
+ghost use Rattle.role_base.specs.Exchanges.{record_of, sent_by, sent_to, ending_by, ending_with, stands_by, is_waiting, new_label, new_link};
+
+use party_state::{Exchange, KeyRec, Kind, LinkRec, State, Via};
+use x_base::{Ident, KeyName, Label, Side};
+
+/// A key that was sent to a peer, and the way.
+#[derive(Clone, Copy)]
+pub struct Sent {
+    pub key: KeyRec,
+    pub way: Via,
+}
+
+/// The record of a key shared with the peer.
+pub fn record_of(state: &State, peer: &Ident, name: &KeyName) -> Option<KeyRec>
+    ensures { result ≡ record_of state.now peer.now name.now }
+{
+    state.key(peer, name).copied()
+}
+
+/// The key that an exchange of this kind sent to the peer.
+pub fn sent_by(state: &State, peer: &Ident, kind: &Kind) -> Option<Sent>
+    ensures { result ≡ sent_by state.now peer.now kind.now }
+{
+    match kind {
+        Kind::KeySent { name, via } => {
+            let key = record_of(state, peer, name)?;
+            Some(Sent { key, way: *via })
+        }
+        Kind::Asked { .. } | Kind::Translating { .. } | Kind::Ending { .. } => None,
+    }
+}
+
+/// The key that was sent to the peer and isn't answered yet.
+pub fn sent_to(state: &State, peer: &Ident) -> Option<Sent>
+    ensures { result ≡ sent_to state.now peer.now }
+{
+    let exchange = state.exchange(peer)?;
+    sent_by(state, peer, &exchange.kind)
+}
+
+fn ending_by(state: &State, peer: &Ident, kind: &Kind) -> Option<KeyRec>
+    ensures { result ≡ ending_by state.now peer.now kind.now }
+{
+    match kind {
+        Kind::Ending { name } => record_of(state, peer, name),
+        Kind::Asked { .. } | Kind::Translating { .. } | Kind::KeySent { .. } => None,
+    }
+}
+
+/// The key whose end was sent to the peer and isn't answered yet.
+pub fn ending_with(state: &State, peer: &Ident) -> Option<KeyRec>
+    ensures { result ≡ ending_with state.now peer.now }
+{
+    let exchange = state.exchange(peer)?;
+    ending_by(state, peer, &exchange.kind)
+}
+
+fn stands_by(state: &State, peer: &Ident, kind: &Kind) -> bool
+    ensures { result ≡ stands_by state.now peer.now kind.now }
+{
+    match kind {
+        Kind::KeySent { name, .. } | Kind::Ending { name } => {
+            record_of(state, peer, name).is_some()
+        }
+        Kind::Asked { .. } | Kind::Translating { .. } => true,
+    }
+}
+
+/// Whether an exchange with the peer stands, and the record that it names.
+pub fn is_waiting(state: &State, peer: &Ident) -> bool
+    ensures { result ≡ is_waiting state.now peer.now }
+{
+    match state.exchange(peer) {
+        Some(exchange) => stands_by(state, peer, &exchange.kind),
+        None => false,
+    }
+}
+
+fn new_label(way: &Via) -> Option<Label>
+    ensures { result ≡ new_label way.now }
+{
+    match way {
+        Via::Direct { new, .. } => *new,
+        Via::Distribution { .. } | Via::Translation { .. } => None,
+    }
+}
+
+/// The link of a new key-encrypting key that went this way.
+pub fn new_link(state: &State, peer: &Ident, way: &Via) -> Option<LinkRec>
+    ensures { result ≡ new_link state.now peer.now way.now }
+{
+    let label = new_label(way)?;
+    state.link(peer, &label, Side::Sends).copied()
+}

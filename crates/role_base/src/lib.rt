@@ -1,0 +1,33 @@
+//! What the roles share: verdicts of tests, texts, names, what an exchange is about, the edits that
+//! make a difference, and decisions (ANSI X9.17; the order of the tests is this project's profile).
+#![tactic(auto)]
+
+mod conditions;
+mod decisions;
+mod differing;
+mod edits;
+mod errors;
+mod exchanges;
+mod laws;
+mod leads;
+mod links;
+mod names;
+mod sending;
+mod texts;
+mod verdicts;
+
+pub use conditions::{
+    answer_front, answer_verdict, count_tests, has_count, has_key_room, has_link_room, is_for,
+    is_of_centre, not_answering, other_class,
+};
+pub use decisions::{accept, early_refusal, refusal};
+pub use edits::{dropped, joined, list_of, readied};
+pub use errors::error_answer;
+pub use exchanges::{Sent, ending_with, is_waiting, new_link, record_of, sent_by, sent_to};
+pub use laws::law_differing;
+pub use leads::{key_lead, lead_under};
+pub use links::{first_link, link_with};
+pub use names::{centre_label, direct_name, no_extras};
+pub use sending::send;
+pub use texts::{Written, is_right, is_verified};
+pub use verdicts::{is_accept, passes, verdict_after, verdict_of};

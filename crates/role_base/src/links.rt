@@ -1,0 +1,29 @@
+// Links that stand.
+ghost use Rattle.std.specs.Prelude.{◌≡◌, IfSome};
+ghost use Rattle.party_state.specs.State as party;
+ghost use Rattle.role_base.specs.Standing.{LinkStands};
+
+use party_state::{LinkRec, State};
+use x_base::{Ident, Label, Side};
+
+/// The first link with that peer on that side that is ready and isn't one with a centre.
+#[tactic(auto, using(crate::proofs::Found::first_stands))]
+pub fn first_link(state: &State, peer: &Ident, side: Side) -> Option<LinkRec>
+    ensures link { result ≡ party.first_link peer.now side state.now }
+    ensures stands { IfSome result (LinkStands state.now) }
+{
+    // Tells that the links that stand are in their ranges.
+    state.law_party();
+    state.first_link(peer, side).copied()
+}
+
+/// The link with that peer, label and side.
+#[tactic(auto, using(crate::proofs::Found::link_stands))]
+pub fn link_with(state: &State, peer: &Ident, label: &Label, side: Side) -> Option<LinkRec>
+    ensures link { result ≡ party.link_with (record { peer = peer.now; label = label.now; side = side }) state.now }
+    ensures stands { IfSome result (LinkStands state.now) }
+{
+    // Tells that the links that stand are in their ranges.
+    state.law_party();
+    state.link(peer, label, side).copied()
+}

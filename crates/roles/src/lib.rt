@@ -1,0 +1,10 @@
+//! What a party decides, by its role.
+#![tactic(auto)]
+
+mod deciding;
+mod laws;
+mod leads;
+
+pub use deciding::decide;
+pub use laws::law_taking;
+pub use leads::{decide_led, lead};
