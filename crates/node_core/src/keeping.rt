@@ -1,11 +1,12 @@
 // A decision is carried out: its change is kept, and then the reply is handed out.
 ghost use Rattle.std.specs.Prelude.{◌≡◌};
 ghost use Rattle.x_base.specs.declared.verdict.Verdict.TheVariants.{Accept};
-ghost use Rattle.bank_role.specs.Storable.{CanKeep};
+ghost use Rattle.role_base.specs.Storable.{CanKeep};
 ghost use Rattle.node_core.specs.Turns.{IsTurn};
 
 use crate::node::{Node, Turn};
-use key_store::{Kept, law_short_code};
+use change_code::law_short_code;
+use key_store::Kept;
 use party_state::Decision;
 use std::alloc::Global;
 use x_base::Verdict;

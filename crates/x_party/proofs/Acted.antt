@@ -1,22 +1,37 @@
 -- A party acts on an input, and its disk is put back.
 use Rattle.std.proofs.Common.{◌≡◌, inl, inr, ℕ, ◌-◌, true, List, Option, Some, is_some, sym, ◌∙◌, ap, subst}
+use Rattle.x_base.specs.Edge.{Rose}
 use Rattle.x_disk.specs.Disk.{View, LeavesOnly, IsUntouched}
 use Rattle.x_disk.specs.Shelf.{IsAlike}
 use Rattle.x_disk.proofs.Runs.{joined, weaker, ends_alike}
 use Rattle.party_state.specs.declared.edit.Edit.{Edit}
+use Rattle.party_state.specs.declared.decision.Decision.{Decision}
 use Rattle.party_state.specs.declared.command.Input.{Input}
 use Rattle.party_state.specs.State.{Party}
-use Rattle.node_core.specs.Deciding.{decision, after}
-use Rattle.node_core.specs.Turns.{IsOldOrNext}
-use Rattle.x_party.specs.Images.{ReadsAs, FitsInto, FitsImage, room_after, OrBefore}
-use Rattle.x_party.specs.Outcomes.{IsToKeep, IsTold, IsSafe}
-use Rattle.x_party.specs.Steps.{IsOpened, Acts, HasActed, IsClosed}
+use Rattle.key_store.specs.Store.{StandsWith}
+use Rattle.roles.specs.Deciding.{decision}
+use Rattle.node_core.specs.Deciding.{after}
+use Rattle.node_core.specs.Turns.{IsOldOrNext, FitsInto, room_after}
+use Rattle.x_party.specs.Images.{ReadsAs, FitsImage, OrBefore}
+use Rattle.x_party.specs.Outcomes.{IsToKeep, TakesTurn, IsSafe, IsSafeCall}
+use Rattle.x_party.specs.Steps.{IsOpened, IsNotOpened, IsAct, Acts, HasActed, IsClosed}
 use Rattle.x_party.specs.declared.outcome.Outcome.{Outcome}
 use Rattle.x_party.specs.declared.outcome.Outcome.TheVariants as outcome
 use Rattle.x_party.proofs.Alike.{reads_alike, stands_alike, store_stands, untouched_on}
 
 tells_of : (now : Option (List ℕ)) (image : List ℕ) → now ≡ Some image → is_some now ≡ true
 tells_of now image is = ap is_some is
+
+pub acted_fault : (now then : View) (room : ℕ) (p : Party) (d : Decision) (o : Outcome) → Acts now then room p d o → o ≡ outcome.Fault → Rose now.faults then.faults
+acted_fault now then room p d o acts is = subst (Acts now then room p d) is acts
+
+-- a party that isn't opened has no turn
+pub not_turned : (old new : View) (i : Input) (moment : ℕ) (o : Outcome) → IsNotOpened old new o → TakesTurn old new i moment o
+not_turned old new i moment (outcome.Done reply under) none = absurd none.refused
+not_turned old new i moment (outcome.Refused verdict reply under) none = inr none.refused
+not_turned old new i moment (outcome.Damaged place) none = none.refused
+not_turned old new i moment outcome.Fault none = tt
+not_turned old new i moment outcome.NoMemory none = tt
 
 module _ (old v : View) (gate end : ℕ) (p : Party) (opened : IsOpened old v gate end p) where
   pub reads : ReadsAs old p (end - gate)
@@ -26,9 +41,35 @@ module _ (old v : View) (gate end : ℕ) (p : Party) (opened : IsOpened old v ga
   fits_image image change now fits = λ bodies holds.
       subst (λ (n : ℕ). FitsInto n change) (sym (reads.left bodies (record { image = image; now = now; holds = holds }))) fits
 
+  -- what holds of every answer of a call in which the party acted so
+  module _ (w new : View) (back : IsAlike w new) (did here : Type 0) (leaves : Party → ℕ → List ℕ → Type 0) (writes : List ℕ → Party → Type 0)
+      (act : IsAct v w did (leaves p (end - gate)) here) (writes_here : (image : List ℕ) → old.now ≡ Some image → here → writes image p) where
+    moment_on : (image : List ℕ) → old.now ≡ Some image → LeavesOnly old new (OrBefore old (leaves p (end - gate)))
+    moment_on image now =
+        let P = OrBefore old (leaves p (end - gate)) in
+        joined old v new P (weaker old v old.may_leave P opened.untouched.any_moment (λ c left. inr left))
+        (weaker v new (leaves p (end - gate)) P
+        (ends_alike v w new (leaves p (end - gate)) (act.any_moment (tells_of v.now image (opened.untouched.now ∙ now))) back) (λ c one. inl one))
+
+    same_room : (image : List ℕ) (other : Party) (left : ℕ) → old.now ≡ Some image → StandsWith image other left → end - gate ≡ left
+    same_room image other left now stands = sym (reads.left stands.bodies (record { image = image; now = now; holds = stands.holds })) ∙ stands.left
+
+    pub safe_call : IsSafeCall old new leaves writes
+    safe_call = record {
+      party = λ image other left now stands.
+          subst (λ (n : ℕ). LeavesOnly old new (OrBefore old (leaves other n))) (same_room image other left now stands)
+          (subst (λ (q : Party). LeavesOnly old new (OrBefore old (leaves q (end - gate))))
+          (opened.exact image other now (record { bodies = stands.bodies; holds = stands.holds; fold = stands.fold })) (moment_on image now));
+      still = λ image other now stands.
+          subst (λ (q : Party). (writes image q → ⊥) → IsUntouched old new) (opened.exact image other now stands)
+          (λ none. untouched_on old v w new opened.untouched (act.still (λ is. none (writes_here image now is))) back);
+      nobody = λ image now none. absurd (none p (reads.stands image now));
+      tells = ap is_some back.now ∙ (act.tells ∙ ap is_some opened.untouched.now);
+    }
+
   module _ (w new : View) (i : Input) (moment : ℕ) (back : IsAlike w new) where
-    told_of : (o : Outcome) → Acts v w (end - gate) p (decision p i moment) o → IsTold old new i moment o
-    told_of (outcome.Done reply) acts = record {
+    turned_of : (o : Outcome) → Acts v w (end - gate) p (decision p i moment) o → TakesTurn old new i moment o
+    turned_of (outcome.Done reply under) acts = record {
       party = p;
       room = end - gate;
       reads = reads;
@@ -36,11 +77,12 @@ module _ (old v : View) (gate end : ℕ) (p : Party) (opened : IsOpened old v ga
         accepts = acts.accepts;
         fits = acts.fits;
         reply = acts.reply;
+        under = acts.under;
         stands = stands_alike w new (after (decision p i moment) p) (room_after (end - gate) (decision p i moment).change) acts.stands back;
         unchanged = λ none. untouched_on old v w new opened.untouched (acts.unchanged none) back;
       };
     }
-    told_of (outcome.Refused verdict reply) acts = inl (record {
+    turned_of (outcome.Refused verdict reply under) acts = inl (record {
       party = p;
       room = end - gate;
       reads = reads;
@@ -50,41 +92,24 @@ module _ (old v : View) (gate end : ℕ) (p : Party) (opened : IsOpened old v ga
         untouched = untouched_on old v w new opened.untouched acts.untouched back;
       };
     })
-    told_of (outcome.Damaged place) acts = absurd acts
-    told_of outcome.Fault acts = tt
-    told_of outcome.NoMemory acts = tt
+    turned_of (outcome.Damaged place) acts = absurd acts
+    turned_of outcome.Fault acts = tt
+    turned_of outcome.NoMemory acts = tt
 
-    told_closed : (o result : Outcome) (before later : ℕ) → IsTold old new i moment o → IsClosed o before later result → IsTold old new i moment result
-    told_closed o result before later told (inl is) = subst (IsTold old new i moment) (sym is) told
-    told_closed o result before later told (inr (inl fault)) = subst (IsTold old new i moment) (sym fault.0) tt
-    told_closed o result before later told (inr (inr is)) = subst (IsTold old new i moment) (sym is) tt
+    turned_closed : (o result : Outcome) (before later : ℕ) → TakesTurn old new i moment o → IsClosed o before later result → TakesTurn old new i moment result
+    turned_closed o result before later turned (inl is) = subst (TakesTurn old new i moment) (sym is) turned
+    turned_closed o result before later turned (inr (inl fault)) = subst (TakesTurn old new i moment) (sym fault.0) tt
+    turned_closed o result before later turned (inr (inr is)) = subst (TakesTurn old new i moment) (sym is) tt
 
-    pub told_on : (o result : Outcome) (before later : ℕ) → HasActed v w (end - gate) p (decision p i moment) o → IsClosed o before later result → IsTold old new i moment result
-    told_on o result before later acted closed = told_closed o result before later (told_of o acted.acts) closed
+    pub turned_on : (o result : Outcome) (before later : ℕ) → HasActed v w (end - gate) p (decision p i moment) o → IsClosed o before later result → TakesTurn old new i moment result
+    turned_on o result before later acted closed = turned_closed o result before later (turned_of o acted.acts) closed
 
-    module _ (o : Outcome) (acted : HasActed v w (end - gate) p (decision p i moment) o) where
-      moment_on : (image : List ℕ) → old.now ≡ Some image → LeavesOnly old new (OrBefore old (IsOldOrNext p (decision p i moment)))
-      moment_on image now =
-          let P = OrBefore old (IsOldOrNext p (decision p i moment)) in
-          joined old v new P (weaker old v old.may_leave P opened.untouched.any_moment (λ c left. inr left))
-          (weaker v new (IsOldOrNext p (decision p i moment)) P
-          (ends_alike v w new (IsOldOrNext p (decision p i moment)) (acted.any_moment (tells_of v.now image (opened.untouched.now ∙ now))) back) (λ c one. inl one))
-
-      still_on : (image : List ℕ) → old.now ≡ Some image → (IsToKeep (decision p i moment) (FitsImage image (decision p i moment).change) → ⊥) → IsUntouched old new
-      still_on image now none = untouched_on old v w new opened.untouched (acted.still (λ keep. none (record {
-        accepts = keep.accepts;
-        edits = keep.edits;
-        change = keep.change;
-        enough = fits_image image (decision p i moment).change now keep.enough;
-      }))) back
-
-      pub safe_on : IsSafe old new i moment
-      safe_on = record {
-        party = λ image other now stands. subst (λ (q : Party). LeavesOnly old new (OrBefore old (IsOldOrNext q (decision q i moment)))) (opened.exact image other now stands)
-            (moment_on image now);
-        still = λ image other now stands.
-            subst (λ (q : Party). (IsToKeep (decision q i moment) (FitsImage image (decision q i moment).change) → ⊥) → IsUntouched old new) (opened.exact image other now stands)
-            (still_on image now);
-        nobody = λ image now none. absurd (none p (reads.stands image now));
-        tells = ap is_some back.now ∙ (acted.tells ∙ ap is_some opened.untouched.now);
-      }
+    pub safe_on : (o : Outcome) → HasActed v w (end - gate) p (decision p i moment) o → IsSafe old new i moment
+    safe_on o acted = safe_call w new back (Acts v w (end - gate) p (decision p i moment) o) (IsToKeep (decision p i moment) (FitsInto (end - gate) (decision p i moment).change))
+        (λ other left. IsOldOrNext other left (decision other i moment)) (λ image other. IsToKeep (decision other i moment) (FitsImage image (decision other i moment).change))
+        acted (λ image now keep. record {
+          accepts = keep.accepts;
+          edits = keep.edits;
+          change = keep.change;
+          enough = fits_image image (decision p i moment).change now keep.enough;
+        })

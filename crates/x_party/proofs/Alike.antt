@@ -1,10 +1,10 @@
 -- One disk tells what another does, step after step.
-use Rattle.std.proofs.Common.{◌≡◌, ℕ, ◌-◌, List, refl, sym, ◌∙◌, arith}
+use Rattle.std.proofs.Common.{◌≡◌, ℕ, ◌-◌, List, refl, sym, ◌∙◌, subst, arith}
 use Rattle.x_disk.specs.Disk.{View, LeavesOnly, LeavesNoMore, IsSound, IsUntouched}
 use Rattle.x_disk.specs.Shelf.{IsAlike, OthersStay}
 use Rattle.x_disk.proofs.Runs.{began, joined, weaker, begins_alike, ends_alike}
 use Rattle.party_state.specs.State.{Party}
-use Rattle.key_store.specs.Store.{IsStore}
+use Rattle.key_store.specs.Store.{Stored, IsStore}
 use Rattle.x_party.specs.Images.{ReadsAs, StandsFor}
 
 pub alike_trans : (u v w : View) → IsAlike u v → IsAlike v w → IsAlike u w
@@ -63,3 +63,11 @@ store_stands v gate end party store = record {
   durable = store.durable;
   reads = record { stands = store.stands; left = λ bodies has. omega (arith, store.room bodies has) };
 }
+
+-- a store that stayed: no call was made over its disk, and it stands for the same party with the same room
+module _ {D : Type 0} (told : D → View) (old new : Stored D) (is : new ≡ old) where
+  pub same_disk : IsSound (told old.disk) → IsUntouched (told old.disk) (told new.disk)
+  same_disk sound = subst (λ (s : Stored D). IsUntouched (told old.disk) (told s.disk)) (sym is) (untouched_self (told old.disk) sound)
+
+  pub old_stands : IsStore (told new.disk) new.gate new.end new.party → StandsFor (told new.disk) old.party (old.end - old.gate)
+  old_stands store = subst (λ (s : Stored D). StandsFor (told new.disk) s.party (s.end - s.gate)) is (store_stands (told new.disk) new.gate new.end new.party store)

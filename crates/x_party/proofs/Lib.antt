@@ -1,6 +1,9 @@
 mod Acted
 mod Alike
-mod Beginning
+mod AlwaysDue
+mod Compacted
+mod Created
 mod Ended
+mod Following
 mod Opened
 mod Shown

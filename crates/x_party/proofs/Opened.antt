@@ -1,5 +1,5 @@
 -- A disk is fetched and opened, or put back.
-use Rattle.std.proofs.Common.{◌≡◌, inl, inr, ℕ, ◌<◌, ◌≤◌, List, Some, sym, ◌∙◌, subst, arith, refl}
+use Rattle.std.proofs.Common.{◌≡◌, ◌⊎◌, inl, inr, ℕ, ◌<◌, ◌≤◌, List, Some, sym, ◌∙◌, subst, arith, refl}
 use Rattle.x_base.specs.Edge.{Rose}
 use Rattle.x_disk.specs.Disk.{View, LeavesOnly, LeavesNoMore, IsUntouched}
 use Rattle.x_disk.specs.Shelf.{IsAlike}
@@ -8,6 +8,7 @@ use Rattle.key_journal.specs.declared.cause.Cause.{Cause}
 use Rattle.key_journal.specs.declared.cause.Cause.TheVariants as cause
 use Rattle.party_state.specs.State.{Party}
 use Rattle.key_store.specs.Store.{Stands, IsStore, IsRefusal}
+use Rattle.x_party.specs.Outcomes.{IsNoFailure}
 use Rattle.x_party.specs.Steps.{IsOpened, IsNotOpened, HasNoParty, IsClosed, outcome_of}
 use Rattle.x_party.specs.declared.outcome.Outcome.{Outcome}
 use Rattle.x_party.specs.declared.outcome.Outcome.TheVariants as outcome
@@ -28,7 +29,7 @@ opened old v w gate end party out store same images run exact = record {
 no_party : (old v new : View) (reason : Cause) → old.now ≡ v.now → IsUntouched old new → (reason ≡ cause.NotEmpty → ⊥)
     → ((image : List ℕ) → v.now ≡ Some image → IsRefusal image reason) → HasNoParty old new (outcome_of reason)
 no_party old v new cause.Blank same untouched named refused =
-    record { blank = λ image now. refused image (sym same ∙ now); verdict = refl; reply = refl; untouched = untouched }
+    record { blank = λ image now. refused image (sym same ∙ now); verdict = refl; reply = refl; under = refl; untouched = untouched }
 no_party old v new cause.NotEmpty same untouched named refused = absurd (named refl)
 no_party old v new (cause.Damaged place) same untouched named refused = record { first = λ image now. refused image (sym same ∙ now); untouched = untouched }
 no_party old v new cause.Fault same untouched named refused = tt
@@ -48,6 +49,11 @@ not_opened old v w new reason o before after out same images run named refused b
       untouched = untouched;
       refused = closed_party old new (outcome_of reason) o before after closed (no_party old v new reason (sym out.now) untouched named refused);
     }
+
+-- a failure puts nothing back
+pub failed_back : (o : Outcome) (back : Type 0) → (o ≡ outcome.Fault) ⊎ (o ≡ outcome.NoMemory) → IsNoFailure o → back
+failed_back o back (inl fault) answered = absurd (subst IsNoFailure fault answered)
+failed_back o back (inr memory) answered = absurd (subst IsNoFailure memory answered)
 
 pub rose_some : (before after : ℕ) → Rose before after → 0 < after
 rose_some before after (inl less) = omega (arith, less)

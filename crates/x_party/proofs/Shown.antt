@@ -3,30 +3,42 @@ use Rattle.std.proofs.Common.{◌≡◌, inl, inr, ℕ, ◌-◌, sym, subst}
 use Rattle.x_disk.specs.Disk.{View}
 use Rattle.x_disk.specs.Shelf.{IsAlike}
 use Rattle.party_state.specs.State.{Party}
-use Rattle.x_party.specs.Outcomes.{IsShow}
-use Rattle.x_party.specs.Steps.{IsOpened, IsClosed, IsText}
+use Rattle.x_party.specs.Outcomes.{ShowsParty}
+use Rattle.x_party.specs.Steps.{IsOpened, IsNotOpened, IsClosed, IsText}
 use Rattle.x_party.specs.declared.outcome.Outcome.{Outcome}
 use Rattle.x_party.specs.declared.outcome.Outcome.TheVariants as outcome
 use Rattle.x_party.proofs.Acted.{reads}
 use Rattle.x_party.proofs.Alike.{stands_alike, store_stands}
 
+pub text_fault : (p : Party) (o : Outcome) {A : Type 0} → IsText p o → o ≡ outcome.Fault → A
+text_fault p o text is = absurd (subst (IsText p) is text)
+
+-- a party that isn't opened isn't shown
+pub not_shown : (old new : View) (o : Outcome) → IsNotOpened old new o → ShowsParty old new o
+not_shown old new (outcome.Done reply under) none = absurd none.refused
+not_shown old new (outcome.Refused verdict reply under) none = none.refused
+not_shown old new (outcome.Damaged place) none = none.refused
+not_shown old new outcome.Fault none = tt
+not_shown old new outcome.NoMemory none = tt
+
 module _ {D : Type 0} (told : D → View) (old new : View) (opened_disk disk : D) (gate end : ℕ) (p : Party) (opened : IsOpened old (told opened_disk) gate end p) (is : disk ≡ opened_disk) (back : IsAlike (told disk) new) where
-  shown_of : (o : Outcome) → IsText p o → IsShow old new o
-  shown_of (outcome.Done reply) text = record {
+  shown_of : (o : Outcome) → IsText p o → ShowsParty old new o
+  shown_of (outcome.Done reply under) text = record {
     party = p;
     room = end - gate;
     reads = reads old (told opened_disk) gate end p opened;
     holds = record {
-      text = text;
+      text = text.0;
+      under = text.1;
       stands = stands_alike (told opened_disk) new p (end - gate) (store_stands (told opened_disk) gate end p opened.store) (subst (λ d. IsAlike (told d) new) is back);
     };
   }
-  shown_of (outcome.Refused verdict reply) text = absurd text
+  shown_of (outcome.Refused verdict reply under) text = absurd text
   shown_of (outcome.Damaged place) text = absurd text
   shown_of outcome.Fault text = absurd text
   shown_of outcome.NoMemory text = tt
 
-  pub shown_on : (o result : Outcome) (before later : ℕ) → IsText p o → IsClosed o before later result → IsShow old new result
-  shown_on o result before later text (inl same) = subst (IsShow old new) (sym same) (shown_of o text)
-  shown_on o result before later text (inr (inl fault)) = subst (IsShow old new) (sym fault.0) tt
-  shown_on o result before later text (inr (inr same)) = subst (IsShow old new) (sym same) tt
+  pub shown_on : (o result : Outcome) (before later : ℕ) → IsText p o → IsClosed o before later result → ShowsParty old new result
+  shown_on o result before later text (inl same) = subst (ShowsParty old new) (sym same) (shown_of o text)
+  shown_on o result before later text (inr (inl fault)) = subst (ShowsParty old new) (sym fault.0) tt
+  shown_on o result before later text (inr (inr same)) = subst (ShowsParty old new) (sym same) tt

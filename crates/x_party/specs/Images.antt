@@ -2,13 +2,14 @@
 -- what the shelf tells of the party's disk.
 use Rattle.std.specs.Prelude.{◌≡◌, ◌⊎◌, ℕ, ◌+◌, ◌-◌, ◌≤◌, List, [], ◌∷◌, length, Option, Some, None, is_some}
 use Rattle.x_disk.specs.Disk.{View, IsDurable}
+use Rattle.key_journal.specs.Layout.{area_size}
 use Rattle.key_journal.specs.Journal.{Holds}
 use Rattle.key_journal.specs.States.{HasBodies, room_of}
 use Rattle.party_state.specs.declared.edit.Edit.{Edit}
 use Rattle.party_state.specs.declared.edit.Edit.TheVariants.{Begin}
 use Rattle.party_state.specs.State.{Party}
-use Rattle.key_store.specs.Code.{code_of}
 use Rattle.key_store.specs.Store.{Stands}
+use Rattle.node_core.specs.Turns.{FitsInto, room_after}
 
 -- where the disk tells, what a read gives stands for this party, and so much room is left
 pub record ReadsAs (v : View) (party : Party) (room : ℕ) : Type 0 where
@@ -27,23 +28,13 @@ pub record OfParty (v : View) (P : Party → ℕ → Type 0) : Type 0 where
   pub reads : ReadsAs v party room
   pub holds : P party room
 
--- a change fits into so much room; none always does
-abbrev pub FitsInto : ℕ → Option (List Edit) → Type 0
-FitsInto room None = Unit {0}
-FitsInto room (Some edits) = length (code_of edits) + 6 ≤ room
-
 -- a change fits into the room of an image
 abbrev pub FitsImage : List ℕ → Option (List Edit) → Type 0
 FitsImage image change = (bodies : List (List ℕ)) → Holds image bodies → FitsInto (room_of bodies) change
 
--- the room that is left after a change: five more than the length of its code is taken
-abbrev pub room_after : ℕ → Option (List Edit) → ℕ
-room_after room None = room
-room_after room (Some edits) = room - (length (code_of edits) + 5)
-
--- the room that a party leaves of an empty area where it begins
+-- the room that a party leaves of an empty area where it is created
 abbrev pub first_room : Party → ℕ
-first_room p = room_after 8388600 (Some (Begin p.own p.role p.generator ∷ []))
+first_room p = room_after area_size (Some (Begin p.own p.role p.generator ∷ []))
 
 -- a disk that told its bytes still tells them, and one that didn't still doesn't
 abbrev pub StillTells : View → View → Type 0

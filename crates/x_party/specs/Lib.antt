@@ -1,3 +1,4 @@
 pub mod Images
 pub mod Outcomes
 pub mod Steps
+pub mod Dues

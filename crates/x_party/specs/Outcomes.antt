@@ -1,19 +1,26 @@
 -- What becomes of a party on a shelf (this project's profile). `old` and `new` are what the shelf tells of the
 -- party's disk before and after.
-use Rattle.std.specs.Prelude.{◌≡◌, ◌≢◌, ◌⊎◌, ℕ, true, false, List, Option, Some, None}
+use Rattle.std.specs.Prelude.{◌≡◌, ◌≢◌, ◌⊎◌, ◌≤◌, ℕ, true, false, List, Option, Some, None}
+use Rattle.x_base.specs.Edge.{Rose}
+use Rattle.x_base.specs.declared.key_name.FullName.{FullName}
 use Rattle.x_base.specs.declared.verdict.Verdict.{Verdict}
 use Rattle.x_base.specs.declared.verdict.Verdict.TheVariants.{Accept, JournalFull, NotEmpty, Blank}
 use Rattle.x_disk.specs.Disk.{View, LeavesOnly, IsUntouched}
+use Rattle.x_disk.specs.Shelf.{OthersStay}
 use Rattle.key_journal.specs.Journal.{is_blank}
 use Rattle.party_state.specs.declared.command.Input.{Input}
 use Rattle.party_state.specs.declared.decision.Decision.{Decision}
 use Rattle.party_state.specs.declared.edit.Edit.{Edit}
 use Rattle.party_state.specs.State.{Party}
 use Rattle.party_state.specs.Show.{shown}
-use Rattle.key_store.specs.Store.{Stands, IsFirstDamage}
-use Rattle.node_core.specs.Deciding.{decision, after}
-use Rattle.node_core.specs.Turns.{IsOldOrNext}
-use Rattle.x_party.specs.Images.{StandsFor, OfParty, FitsInto, FitsImage, room_after, first_room, StillTells, OrBefore}
+use Rattle.change_code.specs.Whole.{IsTooLarge}
+use Rattle.key_store.specs.Store.{Stands, StandsWith, IsFirstDamage}
+use Rattle.key_store.specs.Compacting.{room_of_whole, IsOldOrWhole}
+use Rattle.roles.specs.Deciding.{decision}
+use Rattle.node_core.specs.Compactions.{AnswersNothing}
+use Rattle.node_core.specs.Deciding.{after}
+use Rattle.node_core.specs.Turns.{IsOldOrNext, IsAsDecided, IsTooLong, FitsInto, room_after}
+use Rattle.x_party.specs.Images.{StandsFor, OfParty, FitsImage, first_room, StillTells, OrBefore}
 use Rattle.x_party.specs.declared.outcome.Outcome.{Outcome}
 use Rattle.x_party.specs.declared.outcome.Outcome.TheVariants as outcome
 
@@ -23,18 +30,13 @@ IsNoFailure outcome.Fault = ⊥
 IsNoFailure outcome.NoMemory = ⊥
 IsNoFailure other = Unit {0}
 
--- the decision refuses, and this is its verdict and its reply
-pub record IsAsDecided (d : Decision) (said : Verdict) (answer : Option (List ℕ)) : Type 0 where
-  pub refuses : d.verdict ≢ Accept
-  pub verdict : said ≡ d.verdict
-  pub reply : answer ≡ d.reply
-
--- the decision accepts, and its change doesn't fit
-pub record IsTooLong (d : Decision) (fits : Type 0) (said : Verdict) (answer : Option (List ℕ)) : Type 0 where
-  pub accepts : d.verdict ≡ Accept
-  pub full : fits → ⊥
-  pub verdict : said ≡ JournalFull
-  pub reply : answer ≡ None
+-- what a call over one party leaves of the shelf: the disk is back where it didn't fail, the other parties' disks stay, and
+-- a fault comes only where the shelf's count of faults rose
+pub record LeavesShelf (name : List ℕ) (o : Outcome) (is_back : Type 0) (old new : List ℕ → View) (before after : ℕ) : Type 0 where
+  pub back : IsNoFailure o → is_back
+  pub others : OthersStay name old new
+  pub fault : o ≡ outcome.Fault → Rose before after
+  pub later : before ≤ after
 
 -- the decision accepts, and makes a change, which fits
 pub record IsToKeep (d : Decision) (fits : Type 0) : Type 0 where
@@ -44,25 +46,27 @@ pub record IsToKeep (d : Decision) (fits : Type 0) : Type 0 where
   pub enough : fits
 
 -- accepted: its change fits, and the new image stands for the party after it, with the room that the change leaves
-pub record IsAccepted (old new : View) (d : Decision) (party : Party) (room : ℕ) (answer : Option (List ℕ)) : Type 0 where
+pub record IsAccepted (old new : View) (d : Decision) (party : Party) (room : ℕ) (answer : Option (List ℕ)) (name : Option FullName) : Type 0 where
   pub accepts : d.verdict ≡ Accept
   pub fits : FitsInto room d.change
   pub reply : answer ≡ d.reply
+  pub under : name ≡ d.under
   pub stands : StandsFor new (after d party) (room_after room d.change)
   -- without a change nothing is written
   pub unchanged : d.change ≡ None → IsUntouched old new
 
 -- refused, or its change doesn't fit: party and room stay, and nothing is written
-pub record IsRefused (old new : View) (d : Decision) (party : Party) (room : ℕ) (said : Verdict) (answer : Option (List ℕ)) : Type 0 where
-  pub cause : IsAsDecided d said answer ⊎ IsTooLong d (FitsInto room d.change) said answer
+pub record IsRefused (old new : View) (d : Decision) (party : Party) (room : ℕ) (said : Verdict) (answer : Option (List ℕ)) (name : Option FullName) : Type 0 where
+  pub cause : IsAsDecided d said answer name ⊎ IsTooLong d (FitsInto room d.change) said answer name
   pub stands : StandsFor new party room
   pub untouched : IsUntouched old new
 
 -- no party stands on the disk, and nothing is written
-pub record IsNobody (old new : View) (said : Verdict) (answer : Option (List ℕ)) : Type 0 where
+pub record IsNobody (old new : View) (said : Verdict) (answer : Option (List ℕ)) (name : Option FullName) : Type 0 where
   pub blank : (image : List ℕ) → old.now ≡ Some image → is_blank image ≡ true
   pub verdict : said ≡ Blank
   pub reply : answer ≡ None
+  pub under : name ≡ None
   pub untouched : IsUntouched old new
 
 -- the image isn't blank and stands for no party, and nothing is written
@@ -70,56 +74,92 @@ pub record IsDamaged (old new : View) (place : ℕ) : Type 0 where
   pub first : (image : List ℕ) → old.now ≡ Some image → IsFirstDamage image place
   pub untouched : IsUntouched old new
 
--- what became of an input that the party was told
-abbrev pub IsTold : View → View → Input → ℕ → Outcome → Type 0
-IsTold old new i moment (outcome.Done reply) = OfParty old (λ party room. IsAccepted old new (decision party i moment) party room reply)
-IsTold old new i moment (outcome.Refused verdict reply) =
-    OfParty old (λ party room. IsRefused old new (decision party i moment) party room verdict reply) ⊎ IsNobody old new verdict reply
-IsTold old new i moment (outcome.Damaged place) = IsDamaged old new place
-IsTold old new i moment outcome.Fault = Unit {0}
-IsTold old new i moment outcome.NoMemory = Unit {0}
+-- what became of a party's turn with an input
+abbrev pub TakesTurn : View → View → Input → ℕ → Outcome → Type 0
+TakesTurn old new i moment (outcome.Done reply under) = OfParty old (λ party room. IsAccepted old new (decision party i moment) party room reply under)
+TakesTurn old new i moment (outcome.Refused verdict reply under) =
+    OfParty old (λ party room. IsRefused old new (decision party i moment) party room verdict reply under) ⊎ IsNobody old new verdict reply under
+TakesTurn old new i moment (outcome.Damaged place) = IsDamaged old new place
+TakesTurn old new i moment outcome.Fault = Unit {0}
+TakesTurn old new i moment outcome.NoMemory = Unit {0}
 
--- what holds of every answer
-pub record IsSafe (old new : View) (i : Input) (moment : ℕ) : Type 0 where
-  -- a crash at any moment leaves the party before the decision or the one after it, or what it could leave before
-  pub party : (image : List ℕ) (party : Party) → old.now ≡ Some image → Stands image party
-      → LeavesOnly old new (OrBefore old (IsOldOrNext party (decision party i moment)))
-  -- where the party makes no change that fits, nothing is written
-  pub still : (image : List ℕ) (party : Party) → old.now ≡ Some image → Stands image party
-      → (IsToKeep (decision party i moment) (FitsImage image (decision party i moment).change) → ⊥) → IsUntouched old new
+-- what holds of every answer of a call over a party: what a crash leaves of a party with its room, and when anything is
+-- written
+pub record IsSafeCall (old new : View) (leaves : Party → ℕ → List ℕ → Type 0) (writes : List ℕ → Party → Type 0) : Type 0 where
+  -- a crash at any moment leaves one of these, or what it could leave before
+  pub party : (image : List ℕ) (party : Party) (room : ℕ) → old.now ≡ Some image → StandsWith image party room
+      → LeavesOnly old new (OrBefore old (leaves party room))
+  -- otherwise nothing is written
+  pub still : (image : List ℕ) (party : Party) → old.now ≡ Some image → Stands image party → (writes image party → ⊥) → IsUntouched old new
   -- nor where the image stands for no party
   pub nobody : (image : List ℕ) → old.now ≡ Some image → ((party : Party) → Stands image party → ⊥) → IsUntouched old new
   pub tells : StillTells old new
 
+-- a turn: a crash leaves the party before the decision or the one after it, each with its room; and where the party makes no
+-- change that fits, nothing is written
+abbrev pub IsSafe : View → View → Input → ℕ → Type 0
+IsSafe old new i moment = IsSafeCall old new (λ party room. IsOldOrNext party room (decision party i moment))
+    (λ image party. IsToKeep (decision party i moment) (FitsImage image (decision party i moment).change))
+
+-- the party fits into one frame: it stays, with the room of its compaction
+pub record IsCompacted (new : View) (party : Party) (answer : Option (List ℕ)) (name : Option FullName) : Type 0 where
+  pub fits : IsTooLarge party → ⊥
+  pub nothing : AnswersNothing answer name
+  pub stands : StandsFor new party (room_of_whole party)
+
+-- it is too large for one frame: party and room stay, and nothing is written
+pub record IsNotCompacted (old new : View) (party : Party) (room : ℕ) (said : Verdict) (answer : Option (List ℕ)) (name : Option FullName) : Type 0 where
+  pub too_large : IsTooLarge party
+  pub verdict : said ≡ JournalFull
+  pub nothing : AnswersNothing answer name
+  pub stands : StandsFor new party room
+  pub untouched : IsUntouched old new
+
+-- what became of compacting the party
+abbrev pub CompactsParty : View → View → Outcome → Type 0
+CompactsParty old new (outcome.Done reply under) = OfParty old (λ party room. IsCompacted new party reply under)
+CompactsParty old new (outcome.Refused verdict reply under) =
+    OfParty old (λ party room. IsNotCompacted old new party room verdict reply under) ⊎ IsNobody old new verdict reply under
+CompactsParty old new (outcome.Damaged place) = IsDamaged old new place
+CompactsParty old new outcome.Fault = Unit {0}
+CompactsParty old new outcome.NoMemory = Unit {0}
+
+-- a compaction: a crash leaves the party, with its room or with that of its compaction; and one that is too large isn't written
+abbrev pub IsSafeCompaction : View → View → Type 0
+IsSafeCompaction old new = IsSafeCall old new (λ party room. IsOldOrWhole party room) (λ image party. IsTooLarge party → ⊥)
+
 -- the image was blank, and the new one stands for the party that begins
-pub record IsMade (old new : View) (party : Party) (answer : Option (List ℕ)) : Type 0 where
+pub record IsCreated (old new : View) (party : Party) (answer : Option (List ℕ)) (name : Option FullName) : Type 0 where
   pub blank : (image : List ℕ) → old.now ≡ Some image → is_blank image ≡ true
   pub reply : answer ≡ None
+  pub under : name ≡ None
   pub stands : StandsFor new party (first_room party)
 
 -- the image isn't blank
-pub record IsNotEmpty (old : View) (said : Verdict) (answer : Option (List ℕ)) : Type 0 where
+pub record IsNotEmpty (old : View) (said : Verdict) (answer : Option (List ℕ)) (name : Option FullName) : Type 0 where
   pub not_blank : (image : List ℕ) → old.now ≡ Some image → is_blank image ≡ false
   pub verdict : said ≡ NotEmpty
   pub reply : answer ≡ None
+  pub under : name ≡ None
 
--- what became of setting this party up
-abbrev pub IsSetUp : View → View → Party → Outcome → Type 0
-IsSetUp old new party (outcome.Done reply) = IsMade old new party reply
-IsSetUp old new party (outcome.Refused verdict reply) = IsNotEmpty old verdict reply
-IsSetUp old new party (outcome.Damaged place) = ⊥
-IsSetUp old new party outcome.Fault = Unit {0}
-IsSetUp old new party outcome.NoMemory = Unit {0}
+-- what became of creating this party
+abbrev pub CreatesParty : View → View → Party → Outcome → Type 0
+CreatesParty old new party (outcome.Done reply under) = IsCreated old new party reply under
+CreatesParty old new party (outcome.Refused verdict reply under) = IsNotEmpty old verdict reply under
+CreatesParty old new party (outcome.Damaged place) = ⊥
+CreatesParty old new party outcome.Fault = Unit {0}
+CreatesParty old new party outcome.NoMemory = Unit {0}
 
 -- the party is shown, and stays
-pub record IsShown (new : View) (party : Party) (room : ℕ) (reply : Option (List ℕ)) : Type 0 where
+pub record IsShown (new : View) (party : Party) (room : ℕ) (reply : Option (List ℕ)) (name : Option FullName) : Type 0 where
   pub text : reply ≡ Some (shown party)
+  pub under : name ≡ None
   pub stands : StandsFor new party room
 
 -- what became of showing the party
-abbrev pub IsShow : View → View → Outcome → Type 0
-IsShow old new (outcome.Done reply) = OfParty old (λ party room. IsShown new party room reply)
-IsShow old new (outcome.Refused verdict reply) = IsNobody old new verdict reply
-IsShow old new (outcome.Damaged place) = IsDamaged old new place
-IsShow old new outcome.Fault = Unit {0}
-IsShow old new outcome.NoMemory = Unit {0}
+abbrev pub ShowsParty : View → View → Outcome → Type 0
+ShowsParty old new (outcome.Done reply under) = OfParty old (λ party room. IsShown new party room reply under)
+ShowsParty old new (outcome.Refused verdict reply under) = IsNobody old new verdict reply under
+ShowsParty old new (outcome.Damaged place) = IsDamaged old new place
+ShowsParty old new outcome.Fault = Unit {0}
+ShowsParty old new outcome.NoMemory = Unit {0}

@@ -3,31 +3,36 @@ use Rattle.std.specs.Prelude.{◌≡◌, ◌⊎◌, ℕ, ◌≤◌, List, Some, 
 use Rattle.x_base.specs.Edge.{Rose}
 use Rattle.x_base.specs.declared.verdict.Verdict.TheVariants.{NotEmpty, Blank}
 use Rattle.x_disk.specs.Disk.{View, Tells, LeavesOnly, IsUntouched}
+use Rattle.key_journal.specs.Causes.{cause_of}
 use Rattle.key_journal.specs.declared.cause.Cause.{Cause}
 use Rattle.key_journal.specs.declared.cause.Cause.TheVariants as cause
 use Rattle.party_state.specs.declared.decision.Decision.{Decision}
 use Rattle.party_state.specs.State.{Party}
 use Rattle.party_state.specs.Show.{shown}
-use Rattle.key_journal.specs.States.{SparesNonBlank}
+use Rattle.key_journal.specs.States.{WritesOnlyToBlank}
+use Rattle.change_code.specs.Whole.{IsTooLarge}
 use Rattle.key_store.specs.Store.{Stands, IsStore, IsBlankOrFirst}
-use Rattle.node_core.specs.Turns.{IsOldOrNext}
-use Rattle.x_party.specs.Images.{FitsInto, StillTells}
-use Rattle.x_party.specs.Outcomes.{IsToKeep, IsAccepted, IsRefused, IsNobody, IsDamaged, IsMade, IsNotEmpty}
+use Rattle.key_store.specs.Compacting.{IsOldOrWhole}
+use Rattle.node_core.specs.Turns.{IsOldOrNext, FitsInto}
+use Rattle.node_core.specs.declared.node.Turn.{Turn}
+use Rattle.node_core.specs.declared.node.Turn.TheVariants as turn
+use Rattle.x_party.specs.Images.{StillTells}
+use Rattle.x_party.specs.Outcomes.{IsToKeep, IsAccepted, IsRefused, IsNobody, IsDamaged, IsCreated, IsNotEmpty, IsCompacted, IsNotCompacted}
 use Rattle.x_party.specs.declared.outcome.Outcome.{Outcome}
 use Rattle.x_party.specs.declared.outcome.Outcome.TheVariants as outcome
 
 -- the outcome where a disk isn't opened, or no party is set up on it
 abbrev pub outcome_of : Cause → Outcome
-outcome_of cause.Blank = outcome.Refused Blank None
-outcome_of cause.NotEmpty = outcome.Refused NotEmpty None
+outcome_of cause.Blank = outcome.Refused Blank None None
+outcome_of cause.NotEmpty = outcome.Refused NotEmpty None None
 outcome_of (cause.Damaged place) = outcome.Damaged place
 outcome_of cause.Fault = outcome.Fault
 outcome_of cause.NoMemory = outcome.NoMemory
 
 -- why no party is opened
 abbrev pub HasNoParty : View → View → Outcome → Type 0
-HasNoParty old new (outcome.Done reply) = ⊥
-HasNoParty old new (outcome.Refused verdict reply) = IsNobody old new verdict reply
+HasNoParty old new (outcome.Done reply under) = ⊥
+HasNoParty old new (outcome.Refused verdict reply under) = IsNobody old new verdict reply under
 HasNoParty old new (outcome.Damaged place) = IsDamaged old new place
 HasNoParty old new outcome.Fault = Unit {0}
 HasNoParty old new outcome.NoMemory = Unit {0}
@@ -45,42 +50,64 @@ pub record IsNotOpened (old new : View) (o : Outcome) : Type 0 where
 
 -- what the party did with an input
 abbrev pub Acts : View → View → ℕ → Party → Decision → Outcome → Type 0
-Acts now then room p d (outcome.Done reply) = IsAccepted now then d p room reply
-Acts now then room p d (outcome.Refused verdict reply) = IsRefused now then d p room verdict reply
+Acts now then room p d (outcome.Done reply under) = IsAccepted now then d p room reply under
+Acts now then room p d (outcome.Refused verdict reply under) = IsRefused now then d p room verdict reply under
 Acts now then room p d (outcome.Damaged place) = ⊥
 Acts now then room p d outcome.Fault = Rose now.faults then.faults
 Acts now then room p d outcome.NoMemory = Unit {0}
 
-pub record HasActed (now then : View) (room : ℕ) (p : Party) (d : Decision) (o : Outcome) : Type 0 where
-  pub acts : Acts now then room p d o
-  pub any_moment : Tells now → LeavesOnly now then (IsOldOrNext p d)
-  pub still : (IsToKeep d (FitsInto room d.change) → ⊥) → IsUntouched now then
+-- an open party acted: what it did, what a crash leaves at any moment, and when anything is written
+pub record IsAct (now then : View) (did : Type 0) (leaves : List ℕ → Type 0) (writes : Type 0) : Type 0 where
+  pub acts : did
+  pub any_moment : Tells now → LeavesOnly now then leaves
+  pub still : (writes → ⊥) → IsUntouched now then
   pub tells : StillTells now then
   pub faults : now.faults ≤ then.faults
+
+abbrev pub HasActed : View → View → ℕ → Party → Decision → Outcome → Type 0
+HasActed now then room p d o = IsAct now then (Acts now then room p d o) (IsOldOrNext p room d) (IsToKeep d (FitsInto room d.change))
+
+-- what the party's compaction did
+abbrev pub Compacts : View → View → ℕ → Party → Outcome → Type 0
+Compacts now then room p (outcome.Done reply under) = IsCompacted then p reply under
+Compacts now then room p (outcome.Refused verdict reply under) = IsNotCompacted now then p room verdict reply under
+Compacts now then room p (outcome.Damaged place) = ⊥
+Compacts now then room p outcome.Fault = Rose now.faults then.faults
+Compacts now then room p outcome.NoMemory = Unit {0}
+
+abbrev pub HasCompacted : View → View → ℕ → Party → Outcome → Type 0
+HasCompacted now then room p o = IsAct now then (Compacts now then room p o) (IsOldOrWhole p room) (IsTooLarge p → ⊥)
+
+-- the outcome of what became of a node
+abbrev pub outcome_of_turn : {D : Type 0} → Turn D → Outcome
+outcome_of_turn (turn.Done node reply under) = outcome.Done reply under
+outcome_of_turn (turn.Refused node verdict reply under) = outcome.Refused verdict reply under
+outcome_of_turn (turn.Broken b) = outcome_of (cause_of b.cause)
+outcome_of_turn (turn.NoMemory node) = outcome.NoMemory
 
 -- the outcome, or an error of the put back in its place
 abbrev pub IsClosed : Outcome → ℕ → ℕ → Outcome → Type 0
 IsClosed o before after result = (result ≡ o) ⊎ (((result ≡ outcome.Fault) × Rose before after) ⊎ (result ≡ outcome.NoMemory))
 
--- what beginning a party did
-abbrev pub Begins : View → View → Party → Outcome → Type 0
-Begins now then p (outcome.Done reply) = IsMade now then p reply
-Begins now then p (outcome.Refused verdict reply) = IsNotEmpty now verdict reply
-Begins now then p (outcome.Damaged place) = ⊥
-Begins now then p outcome.Fault = Rose now.faults then.faults
-Begins now then p outcome.NoMemory = Unit {0}
+-- what creating a party did
+abbrev pub MakesParty : View → View → Party → Outcome → Type 0
+MakesParty now then p (outcome.Done reply under) = IsCreated now then p reply under
+MakesParty now then p (outcome.Refused verdict reply under) = IsNotEmpty now verdict reply under
+MakesParty now then p (outcome.Damaged place) = ⊥
+MakesParty now then p outcome.Fault = Rose now.faults then.faults
+MakesParty now then p outcome.NoMemory = Unit {0}
 
-pub record HasBegun (now then : View) (p : Party) (o : Outcome) : Type 0 where
-  pub begins : Begins now then p o
-  pub spared : SparesNonBlank now then
+pub record HasCreated (now then : View) (p : Party) (o : Outcome) : Type 0 where
+  pub makes : MakesParty now then p o
+  pub nothing_written : WritesOnlyToBlank now then
   pub any_moment : Tells now → LeavesOnly now then (λ c. IsBlankOrFirst p c ⊎ now.may_leave c)
   pub tells : StillTells now then
   pub faults : now.faults ≤ then.faults
 
 -- the lines in which the party is shown, or no memory for them
 abbrev pub IsText : Party → Outcome → Type 0
-IsText p (outcome.Done reply) = reply ≡ Some (shown p)
-IsText p (outcome.Refused verdict reply) = ⊥
+IsText p (outcome.Done reply under) = (reply ≡ Some (shown p)) × (under ≡ None)
+IsText p (outcome.Refused verdict reply under) = ⊥
 IsText p (outcome.Damaged place) = ⊥
 IsText p outcome.Fault = ⊥
 IsText p outcome.NoMemory = Unit {0}

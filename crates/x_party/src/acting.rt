@@ -1,8 +1,8 @@
-// A party acts on an input.
+// A party acts on an input, or is compacted.
 ghost use Rattle.std.specs.Prelude.{◌≡◌, ◌-◌};
-ghost use Rattle.node_core.specs.Deciding.{decision};
-ghost use Rattle.node_core.specs.Turns.{IsTurn};
-ghost use Rattle.x_party.specs.Steps.{HasActed};
+ghost use Rattle.roles.specs.Deciding.{decision};
+ghost use Rattle.node_core.specs.Turns.{turn_disk};
+ghost use Rattle.x_party.specs.Steps.{HasActed, HasCompacted, outcome_of_turn};
 
 use crate::closing::outcome_of;
 use crate::outcome::Outcome;
@@ -11,12 +11,24 @@ use party_state::Input;
 use std::alloc::Global;
 use x_disk::Disk;
 
-fn turn<D: Disk>(node: Node<D>, alloc: Global, input: Input, moment: u64) -> Turn<D>
-    ensures { IsTurn D.told node (decision node.party input moment) result }
+/// The disk afterwards, and what became of the node.
+fn ended<D: Disk>(turn: Turn<D>) -> (D, Outcome)
+    ensures disk { result.0 ≡ turn_disk turn }
+    ensures outcome { result.1 ≡ outcome_of_turn turn }
 {
-    match input {
-        Input::Ordered(command) => node.order(alloc, command, moment),
-        Input::Arrived(arrival) => node.take(alloc, arrival, moment),
+    match turn {
+        Turn::Done { node, reply, under } => (node.into_disk(), Outcome::Done { reply, under }),
+        Turn::Refused {
+            node,
+            verdict,
+            reply,
+            under,
+        } => (node.into_disk(), Outcome::refused(verdict, reply, under)),
+        Turn::Broken(broken) => {
+            let unmade = broken.give_up();
+            (unmade.disk, outcome_of(unmade.cause))
+        }
+        Turn::NoMemory(node) => (node.into_disk(), Outcome::NoMemory),
     }
 }
 
@@ -24,18 +36,14 @@ fn turn<D: Disk>(node: Node<D>, alloc: Global, input: Input, moment: u64) -> Tur
 pub(crate) fn act<D: Disk>(node: Node<D>, alloc: Global, input: Input, moment: u64) -> (D, Outcome)
     ensures { HasActed (D.told node.disk) (D.told result.0) (node.end - node.gate) node.party (decision node.party input moment) result.1 }
 {
-    match turn(node, alloc, input, moment) {
-        Turn::Done { node, reply, .. } => (node.into_disk(), Outcome::Done(reply)),
-        Turn::Refused {
-            node,
-            verdict,
-            reply,
-            ..
-        } => (node.into_disk(), Outcome::Refused(verdict, reply)),
-        Turn::Broken(broken) => {
-            let unmade = broken.give_up();
-            (unmade.disk, outcome_of(unmade.cause))
-        }
-        Turn::NoMemory(node) => (node.into_disk(), Outcome::NoMemory),
-    }
+    let turned = node.turn(alloc, input, moment);
+    ended(turned)
+}
+
+/// The disk afterwards, and what became of the compaction.
+pub(crate) fn act_compact<D: Disk>(node: Node<D>, alloc: Global) -> (D, Outcome)
+    ensures { HasCompacted (D.told node.disk) (D.told result.0) (node.end - node.gate) node.party result.1 }
+{
+    let turned = node.compact(alloc);
+    ended(turned)
 }

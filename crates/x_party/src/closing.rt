@@ -10,13 +10,13 @@ use key_journal::Cause;
 use x_base::{Ident, Verdict};
 use x_disk::{DiskErr, Shelf};
 
-/// The outcome where a disk isn't opened, or no party is set up on it.
+/// The outcome where a disk isn't opened, or no party is created on it.
 pub(crate) fn outcome_of(cause: Cause) -> Outcome
     ensures { result ≡ outcome_of cause }
 {
     match cause {
-        Cause::Blank => Outcome::Refused(Verdict::Blank, None),
-        Cause::NotEmpty => Outcome::Refused(Verdict::NotEmpty, None),
+        Cause::Blank => Outcome::refused(Verdict::Blank, None, None),
+        Cause::NotEmpty => Outcome::refused(Verdict::NotEmpty, None, None),
         Cause::Damaged(place) => Outcome::Damaged(place),
         Cause::Fault => Outcome::Fault,
         Cause::NoMemory => Outcome::NoMemory,

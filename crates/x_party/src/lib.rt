@@ -1,19 +1,20 @@
-//! A party on a shelf: it is set up, shown, or told a command or a message. Its disk is fetched, and put back
-//! whatever comes.
+//! A party on a shelf: it is created, shown, compacted, or has a turn with a command or a message. Its disk is fetched, and
+//! put back whatever comes.
 #![tactic(auto)]
 
 mod acting;
 mod closing;
+mod compacting;
+mod creating;
+mod laws;
 mod opening;
 mod outcome;
-mod setting_up;
 mod showing;
-mod telling;
+mod turning;
 
+pub use compacting::compact;
+pub use creating::create;
+pub use laws::law_always_due;
 pub use outcome::Outcome;
-pub use setting_up::set_up;
 pub use showing::show;
-pub use telling::tell;
-
-#[cfg(test)]
-mod tests;
+pub use turning::turn;

@@ -3,7 +3,7 @@ ghost use Rattle.std.specs.Prelude.{◌≡◌, ◌⊎◌, ◌-◌, ◌<◌, ◌�
 ghost use Rattle.x_base.specs.Edge.{Rose};
 ghost use Rattle.x_disk.specs.Disk.{IsUntouched};
 ghost use Rattle.x_disk.specs.Shelf.{IsAlike, OthersStay};
-ghost use Rattle.x_party.specs.Outcomes.{IsNoFailure};
+ghost use Rattle.x_party.specs.Outcomes.{LeavesShelf};
 ghost use Rattle.x_party.specs.Steps.{IsOpened, IsNotOpened};
 
 use crate::closing::{close, outcome_of};
@@ -41,9 +41,8 @@ pub(crate) fn open<H: Shelf>(
     ensures node { IfOk result (λ n. IsOpened (H.entry shelf.old name.now) (H.Disk.told n.disk) n.gate n.end n.party) }
     ensures slot { OnOk result (H.has_slot shelf.new name.now) }
     ensures failed { IfErr result (IsNotOpened (H.entry shelf.old name.now) (H.entry shelf.new name.now)) }
-    ensures back { IfErr result (λ o. IsNoFailure o → H.is_back shelf.new name.now) }
+    ensures shelf { IfErr result (λ o. LeavesShelf name.now o (H.is_back shelf.new name.now) (H.entry shelf.old) (H.entry shelf.new) (H.faults shelf.old) (H.faults shelf.new)) }
     ensures others { OthersStay name.now (H.entry shelf.old) (H.entry shelf.new) }
-    ensures fault { IfErr result (λ o. o ≡ Outcome.Fault → Rose (H.faults shelf.old) (H.faults shelf.new)) }
     ensures later { H.faults shelf.old ≤ H.faults shelf.new }
 {
     let disk = fetch(shelf, name)?;

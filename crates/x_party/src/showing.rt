@@ -1,14 +1,13 @@
 // A party is shown.
-ghost use Rattle.std.specs.Prelude.{◌≡◌, ◌≤◌};
-ghost use Rattle.x_base.specs.Edge.{Rose};
 ghost use Rattle.x_disk.specs.Disk.{IsUntouched};
-ghost use Rattle.x_disk.specs.Shelf.{OthersStay};
-ghost use Rattle.x_party.specs.Outcomes.{IsShow, IsNoFailure};
+ghost use Rattle.x_party.specs.Outcomes.{ShowsParty, LeavesShelf};
+ghost use Rattle.x_party.specs.Dues.{IsDueShow, GivesDue};
 ghost use Rattle.x_party.specs.Steps.{IsText};
 
 use crate::closing::close;
 use crate::opening::open;
 use crate::outcome::Outcome;
+use key_store::law_one_finding;
 use party_state::{State, show_text};
 use std::alloc::Global;
 use x_base::Ident;
@@ -18,20 +17,22 @@ fn text_of(alloc: Global, state: &State) -> Outcome
     ensures { IsText state.now result }
 {
     match show_text(alloc, state) {
-        Ok(text) => Outcome::Done(Some(text)),
+        Ok(text) => Outcome::Done {
+            reply: Some(text),
+            under: None,
+        },
         Err(_) => Outcome::NoMemory,
     }
 }
 
 /// The lines in which the party is shown. Nothing is written, and the disk is put back, whatever comes.
 pub fn show<H: Shelf>(alloc: Global, shelf: &mut H, name: &Ident) -> Outcome
-    ensures shown { IsShow (H.entry shelf.old name.now) (H.entry shelf.new name.now) result }
+    ensures shown { ShowsParty (H.entry shelf.old name.now) (H.entry shelf.new name.now) result }
+    ensures due { GivesDue (H.entry shelf.old name.now) IsDueShow result }
     ensures untouched { IsUntouched (H.entry shelf.old name.now) (H.entry shelf.new name.now) }
-    ensures back { IsNoFailure result → H.is_back shelf.new name.now }
-    ensures others { OthersStay name.now (H.entry shelf.old) (H.entry shelf.new) }
-    ensures fault { result ≡ Outcome.Fault → Rose (H.faults shelf.old) (H.faults shelf.new) }
-    ensures later { H.faults shelf.old ≤ H.faults shelf.new }
+    ensures shelf { LeavesShelf name.now result (H.is_back shelf.new name.now) (H.entry shelf.old) (H.entry shelf.new) (H.faults shelf.old) (H.faults shelf.new) }
 {
+    law_one_finding();
     let node = match open(alloc, shelf, name) {
         Ok(node) => node,
         Err(outcome) => return outcome,

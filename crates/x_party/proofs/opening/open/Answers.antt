@@ -1,4 +1,4 @@
-use Rattle.std.proofs.Common.{subst}
+use Rattle.std.proofs.Common.{subst, arith}
 use Rattle.x_party.specs.Steps.{IsClosed}
 use Rattle.x_party.proofs.Alike.{others_on}
 use Rattle.x_party.proofs.Opened.{opened, not_opened, open_fault}
@@ -24,10 +24,16 @@ returns-in-Err-clause-others g c =
     let entry = g.H.Shelf.entry in
     others_on c.args.name.now (entry c.args.shelf.now) (entry c.fetch.new.shelf) (entry c.close.new.shelf) c.fetch.ensures.others c.close.ensures.others
 
-pub returns-in-Err-clause-fault : goal.returns-in-Err-clause-fault
-returns-in-Err-clause-fault g c =
+pub returns-in-Err-clause-shelf : goal.returns-in-Err-clause-shelf
+returns-in-Err-clause-shelf g c =
     let told = g.H.Disk.Disk.told in
+    let entry = g.H.Shelf.entry in
     let faults = g.H.Shelf.faults in
-    open_fault c.in-Err.field-0.cause c.close.result (faults c.args.shelf.now) (faults c.fetch.new.shelf) (faults c.close.new.shelf)
-    (told c.in_ok-disk.disk).faults (told c.in-Err.field-0.disk).faults c.fetch.ensures.later c.in-Err.ensures.fault c.close.ensures.seen
-    (subst (λ o. IsClosed o (faults c.fetch.new.shelf) (faults c.close.new.shelf) c.close.result) c.outcome_of.ensures c.close.ensures.outcome)
+    record {
+      back = c.close.ensures.back;
+      others = others_on c.args.name.now (entry c.args.shelf.now) (entry c.fetch.new.shelf) (entry c.close.new.shelf) c.fetch.ensures.others c.close.ensures.others;
+      fault = open_fault c.in-Err.field-0.cause c.close.result (faults c.args.shelf.now) (faults c.fetch.new.shelf) (faults c.close.new.shelf)
+          (told c.in_ok-disk.disk).faults (told c.in-Err.field-0.disk).faults c.fetch.ensures.later c.in-Err.ensures.fault c.close.ensures.seen
+          (subst (λ o. IsClosed o (faults c.fetch.new.shelf) (faults c.close.new.shelf) c.close.result) c.outcome_of.ensures c.close.ensures.outcome);
+      later = omega (arith, c.fetch.ensures.later, c.close.ensures.later);
+    }

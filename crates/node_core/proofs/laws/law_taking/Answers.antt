@@ -1,5 +1,0 @@
-use Rattle.node_core.proofs.AtBank.{takes_at_bank}
-use Rattle.node_core.proofs.laws.law_taking.Goals as goal
-
-pub returns : goal.returns
-returns c = λ p i moment. takes_at_bank p i moment (c.law_taking.ensures p i moment)

@@ -1,0 +1,8 @@
+use Rattle.party_state.specs.declared.command.Input.TheVariants.{Arrived}
+use Rattle.roles.specs.Deciding.{decision}
+use Rattle.node_core.proofs.Turning.{no_memory}
+use Rattle.node_core.proofs.node.Node.take_led.Goals as goal
+
+pub returns : goal.returns
+returns g c =
+    no_memory g.D.Disk.told c.args.self (decision c.args.self.party (Arrived c.args.arrival) c.args.moment) (g.met.D.Disk.sound c.args.self.disk) c.view.ensures.stands

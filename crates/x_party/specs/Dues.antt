@@ -1,0 +1,90 @@
+-- The outcome that is due of a call over a party, by the image of the party's disk (this project's profile).
+use Rattle.std.specs.Prelude.{◌≡◌, ◌⊎◌, ℕ, true, false, List, Option, Some, None}
+use Rattle.x_base.specs.declared.key_name.FullName.{FullName}
+use Rattle.x_base.specs.declared.verdict.Verdict.{Verdict}
+use Rattle.x_base.specs.declared.verdict.Verdict.TheVariants.{Accept, JournalFull, NotEmpty, Blank}
+use Rattle.x_disk.specs.Disk.{View}
+use Rattle.key_journal.specs.Journal.{is_blank}
+use Rattle.party_state.specs.declared.command.Input.{Input}
+use Rattle.party_state.specs.State.{Party}
+use Rattle.party_state.specs.Show.{shown}
+use Rattle.change_code.specs.Whole.{IsTooLarge}
+use Rattle.key_store.specs.Store.{Stands, IsFirstDamage}
+use Rattle.roles.specs.Deciding.{decision}
+use Rattle.node_core.specs.Compactions.{AnswersNothing}
+use Rattle.node_core.specs.Turns.{IsAsDecided, IsTooLong}
+use Rattle.x_party.specs.Images.{FitsImage}
+use Rattle.x_party.specs.declared.outcome.Outcome.{Outcome}
+use Rattle.x_party.specs.declared.outcome.Outcome.TheVariants as outcome
+
+-- the party for which the image stands accepts, and its change fits
+pub record Accepts (image : List ℕ) (i : Input) (moment : ℕ) (reply : Option (List ℕ)) (under : Option FullName) : Type 0 where
+  pub party : Party
+  pub stood : Stands image party
+  pub accepted : (decision party i moment).verdict ≡ Accept
+  pub fits : FitsImage image (decision party i moment).change
+  pub written : reply ≡ (decision party i moment).reply
+  pub named : under ≡ (decision party i moment).under
+
+-- it refuses, or its change doesn't fit
+pub record Refuses (image : List ℕ) (i : Input) (moment : ℕ) (verdict : Verdict) (reply : Option (List ℕ)) (under : Option FullName) : Type 0 where
+  pub party : Party
+  pub stood : Stands image party
+  pub cause : IsAsDecided (decision party i moment) verdict reply under
+      ⊎ IsTooLong (decision party i moment) (FitsImage image (decision party i moment).change) verdict reply under
+
+-- no party stands on the disk
+pub record FindsNobody (image : List ℕ) (verdict : Verdict) (reply : Option (List ℕ)) (under : Option FullName) : Type 0 where
+  pub blank : is_blank image ≡ true
+  pub said : verdict ≡ Blank
+  pub written : reply ≡ None
+  pub named : under ≡ None
+
+-- the outcome that is due of a party's turn with an input
+abbrev pub IsDue : Input → ℕ → List ℕ → Outcome → Type 0
+IsDue i moment image (outcome.Done reply under) = Accepts image i moment reply under
+IsDue i moment image (outcome.Refused verdict reply under) = Refuses image i moment verdict reply under ⊎ FindsNobody image verdict reply under
+IsDue i moment image (outcome.Damaged place) = IsFirstDamage image place
+IsDue i moment image outcome.Fault = ⊥
+IsDue i moment image outcome.NoMemory = ⊥
+
+-- where a party is created
+abbrev pub IsDueCreation : List ℕ → Outcome → Type 0
+IsDueCreation image (outcome.Done reply under) = (reply ≡ None) × (under ≡ None) × (is_blank image ≡ true)
+IsDueCreation image (outcome.Refused verdict reply under) = (verdict ≡ NotEmpty) × (reply ≡ None) × (under ≡ None) × (is_blank image ≡ false)
+IsDueCreation image other = ⊥
+
+-- where a party is shown
+abbrev pub IsDueShow : List ℕ → Outcome → Type 0
+IsDueShow image (outcome.Done reply under) = (party : Party) × Stands image party × (reply ≡ Some (shown party)) × (under ≡ None)
+IsDueShow image (outcome.Refused verdict reply under) = FindsNobody image verdict reply under
+IsDueShow image (outcome.Damaged place) = IsFirstDamage image place
+IsDueShow image outcome.Fault = ⊥
+IsDueShow image outcome.NoMemory = ⊥
+
+-- the party for which the image stands fits into one frame
+pub record FitsOneFrame (image : List ℕ) (reply : Option (List ℕ)) (under : Option FullName) : Type 0 where
+  pub party : Party
+  pub stood : Stands image party
+  pub fits : IsTooLarge party → ⊥
+  pub nothing : AnswersNothing reply under
+
+-- it is too large for one
+pub record PassesOneFrame (image : List ℕ) (verdict : Verdict) (reply : Option (List ℕ)) (under : Option FullName) : Type 0 where
+  pub party : Party
+  pub stood : Stands image party
+  pub too_large : IsTooLarge party
+  pub said : verdict ≡ JournalFull
+  pub nothing : AnswersNothing reply under
+
+-- where a party is compacted
+abbrev pub IsDueCompaction : List ℕ → Outcome → Type 0
+IsDueCompaction image (outcome.Done reply under) = FitsOneFrame image reply under
+IsDueCompaction image (outcome.Refused verdict reply under) = PassesOneFrame image verdict reply under ⊎ FindsNobody image verdict reply under
+IsDueCompaction image (outcome.Damaged place) = IsFirstDamage image place
+IsDueCompaction image outcome.Fault = ⊥
+IsDueCompaction image outcome.NoMemory = ⊥
+
+-- the outcome is the one that is due by the image, or a fault or want of memory came in its place
+abbrev pub GivesDue : View → (List ℕ → Outcome → Type 0) → Outcome → Type 0
+GivesDue old due o = (image : List ℕ) (other : Outcome) → old.now ≡ Some image → due image other → (o ≡ other) ⊎ ((o ≡ outcome.Fault) ⊎ (o ≡ outcome.NoMemory))

@@ -1,0 +1,30 @@
+// A party is compacted.
+ghost use Rattle.x_party.specs.Outcomes.{CompactsParty, IsSafeCompaction, LeavesShelf};
+ghost use Rattle.x_party.specs.Dues.{IsDueCompaction, GivesDue};
+
+use crate::acting::act_compact;
+use crate::closing::close;
+use crate::opening::open;
+use crate::outcome::Outcome;
+use key_store::law_one_finding;
+use std::alloc::Global;
+use x_base::Ident;
+use x_disk::Shelf;
+
+/// Writes the party as one frame into the other area of its journal, so that it has room again. The party stays,
+/// whatever comes, and the disk is put back.
+pub fn compact<H: Shelf>(alloc: Global, shelf: &mut H, name: &Ident) -> Outcome
+    ensures compacted { CompactsParty (H.entry shelf.old name.now) (H.entry shelf.new name.now) result }
+    ensures safe { IsSafeCompaction (H.entry shelf.old name.now) (H.entry shelf.new name.now) }
+    ensures due { GivesDue (H.entry shelf.old name.now) IsDueCompaction result }
+    ensures shelf { LeavesShelf name.now result (H.is_back shelf.new name.now) (H.entry shelf.old) (H.entry shelf.new) (H.faults shelf.old) (H.faults shelf.new) }
+{
+    law_one_finding();
+    match open(alloc, shelf, name) {
+        Ok(node) => {
+            let (disk, outcome) = act_compact(node, alloc);
+            close(shelf, name, disk, outcome)
+        }
+        Err(outcome) => outcome,
+    }
+}
