@@ -7,7 +7,7 @@ use Rattle.party_state.specs.Limits.{IsWithinLimits, StaysWithinLimits}
 use Rattle.party_state.specs.Ranges.{IsFitting, AreFitting, IsNoBegin, HasNoBegin}
 use Rattle.party_state.specs.declared.edit.Edit.{Edit}
 use Rattle.party_state.specs.declared.edit.Edit.TheVariants.{SetGen}
-use Rattle.key_store.specs.Code.{two, eight, edit_code, edits_code, code_of}
+use Rattle.change_code.specs.Code.{two, eight, edit_code, edits_code, code_of_change}
 use Rattle.full_journal.specs.Seeds.{IsSeed, AreSeeds}
 
 pub seeds_fit : (edits : List Edit) → AreSeeds edits → AreFitting edits
@@ -51,7 +51,7 @@ seeds_long (edit ∷ edits) all =
     let both = length-append (edit_code edit) (edits_code edits) in
     omega (arith, one, more, both)
 
-pub seeds_short : (edits : List Edit) → AreSeeds edits → length (code_of edits) ≤ 4194304
+pub seeds_short : (edits : List Edit) → AreSeeds edits → length (code_of_change edits) ≤ 4194304
 seeds_short edits are =
     let head = length-append (two (length edits)) (edits_code edits) in
     let number = two_long (length edits) in

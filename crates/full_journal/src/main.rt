@@ -1,12 +1,10 @@
-//! Fills a party's journal with the largest changes, until no more fits.
+//! Fills a party's journal with the largest changes until no more fits, compacts the party, and fills its journal again.
 #![tactic(auto)]
-
-#[cfg(test)]
-mod code_tests;
 
 ghost use Rattle.std.specs.Prelude.{IfOk};
 ghost use Rattle.full_journal.specs.Seeds.{AreSeeds};
 
+use change_code::MOST_EDITS;
 use key_journal::Cause;
 use key_store::{Kept, Store};
 use party_state::{Change, Edit, Role};
@@ -47,11 +45,15 @@ fn begun(alloc: Global) -> Result<Store<TornDisk>, Cause> {
     }
 }
 
-/// What a change came to: whether it was said to fit, and whether it was kept.
+/// What is told, line by line.
 #[derive(Clone, Copy)]
-struct Step {
-    fits: bool,
-    kept: bool,
+enum Line {
+    /// Whether a change was said to fit, and whether it was kept.
+    Change { number: u32, fits: bool, kept: bool },
+    /// Whether the party was compacted.
+    Compaction { done: bool },
+    /// The room that is left.
+    Room(u64),
 }
 
 /// Whether a change fits.
@@ -60,6 +62,16 @@ fn fits(alloc: Global, store: &Store<TornDisk>, change: &Change) -> Result<bool,
     requires { AreSeeds change.now }
 {
     store.fits(alloc, change).map_err(|_| Cause::NoMemory)
+}
+
+/// The store afterwards, and whether it was done.
+fn ended(kept: Kept<TornDisk>) -> Result<(Store<TornDisk>, bool), Cause> {
+    match kept {
+        Kept::Done(store) => Ok((store, true)),
+        Kept::Full(store) => Ok((store, false)),
+        Kept::NoMemory(_) => Err(Cause::NoMemory),
+        Kept::Broken(broken) => Err(broken.give_up().cause),
+    }
 }
 
 /// Keeps a change where it fits, and answers whether it was kept.
@@ -72,41 +84,65 @@ fn keep(
     requires { AreSeeds change.now }
 {
     let _state = store.view();
-    match store.keep(alloc, change) {
-        Kept::Done(store) => Ok((store, true)),
-        Kept::Full(store) => Ok((store, false)),
-        Kept::NoMemory(_) => Err(Cause::NoMemory),
-        Kept::Broken(broken) => Err(broken.give_up().cause),
-    }
+    ended(store.keep(alloc, change))
 }
 
-/// The steps, and the length of the disk behind them.
-fn filled(alloc: Global, change: &Change) -> Result<(Vec<Step>, u64), Cause>
+fn tell(lines: &mut Vec<Line>, line: Line) -> Result<(), Cause> {
+    lines.push(line).map_err(|_| Cause::NoMemory)
+}
+
+/// Makes the change fifteen times, and tells of each and of the room that is left.
+fn fill(
+    alloc: Global,
+    store: Store<TornDisk>,
+    change: &Change,
+    lines: &mut Vec<Line>,
+) -> Result<Store<TornDisk>, Cause>
     requires { AreSeeds change.now }
 {
-    let mut store = begun(alloc)?;
-    let mut steps = Vec::new(alloc);
-    for _ in 0..15 {
+    let mut store = store;
+    for number in 1..16 {
         let fits = fits(alloc, &store, change)?;
         let (next, kept) = keep(alloc, store, change)?;
         store = next;
-        steps
-            .push(Step { fits, kept })
-            .map_err(|_| Cause::NoMemory)?;
+        tell(lines, Line::Change { number, fits, kept })?;
     }
-    Ok((steps, store.into_disk().length()?))
+    tell(lines, Line::Room(store.room()))?;
+    Ok(store)
+}
+
+/// Fills a journal, compacts the party and fills its journal again: the lines, and the length of the disk behind them.
+fn filled(alloc: Global, change: &Change) -> Result<(Vec<Line>, u64), Cause>
+    requires { AreSeeds change.now }
+{
+    let mut lines = Vec::new(alloc);
+    let store = fill(alloc, begun(alloc)?, change, &mut lines)?;
+    let (store, done) = ended(store.compact(alloc))?;
+    tell(&mut lines, Line::Compaction { done })?;
+    tell(&mut lines, Line::Room(store.room()))?;
+    let store = fill(alloc, store, change, &mut lines)?;
+    Ok((lines, store.into_disk().length()?))
+}
+
+fn word(done: bool) -> &'static str {
+    if done { "Done" } else { "Full" }
 }
 
 fn main(rt: HostRuntime) -> io::Result<()> {
     let alloc = rt.alloc();
-    let Ok(change) = seeds(alloc, 65_535) else {
+    let Ok(change) = seeds(alloc, MOST_EDITS) else {
         return println!(rt; "no memory");
     };
     match filled(alloc, &change) {
-        Ok((steps, length)) => {
-            for (place, step) in steps.iter().enumerate() {
-                let answer = if step.kept { "Done" } else { "Full" };
-                println!(rt; "{}: fits {}, {answer}", place + 1, step.fits)?;
+        Ok((lines, length)) => {
+            for line in lines.iter() {
+                match *line {
+                    Line::Change { number, fits, kept } => {
+                        println!(rt; "{number}: fits {fits}, {}", word(kept))?
+                    }
+                    Line::Compaction { done } => println!(rt; "compaction: {}", word(done))?,
+                    Line::Room(room) => println!(rt; "room {room}")?,
+                }
             }
             println!(rt; "length {length}")
         }

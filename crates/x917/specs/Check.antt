@@ -17,11 +17,11 @@ use Rattle.x917.specs.declared.status.Refusal.{Refusal}
 use Rattle.x917.specs.declared.status.Refusal.TheVariants.{Text, Trailing, Decided}
 use Rattle.x917.specs.declared.status.Status.{Status}
 use Rattle.x917.specs.declared.status.Status.TheVariants as status
-use Rattle.x917.specs.Transfer.{WrotePrefix}
+use Rattle.x917.specs.Transfer.{WrotePrefix, input_limit}
 
 -- the bytes of an input that are taken
 abbrev pub taken : List ℕ → List ℕ
-taken input = take 2049 input
+taken input = take input_limit input
 
 -- the authenticated text of the message in the bytes, as it was received
 abbrev pub auth_text : List ℕ → Parsed → List ℕ

@@ -1,6 +1,8 @@
 -- How a call over a party ends (this project's profile).
 use Rattle.std.specs.Prelude.{◌≡◌, ◌⊎◌, ◌++◌, ℕ, List, Option, Some, None}
 use Rattle.x_base.specs.Edge.{Rose, AppendsTo}
+use Rattle.x_disk.specs.Disk.{View}
+use Rattle.x_disk.specs.Shelf.{OthersStay}
 use Rattle.x_party.specs.declared.outcome.Outcome.{Outcome}
 use Rattle.x_party.specs.declared.outcome.Outcome.TheVariants as outcome
 use Rattle.x917.specs.declared.status.Refusal.TheVariants.{Decided}
@@ -10,8 +12,8 @@ use Rattle.x917.specs.Transfer.{WrotePrefix}
 
 -- the status of an outcome
 abbrev pub status_of_outcome : Outcome → Status
-status_of_outcome (outcome.Done reply) = status.Done
-status_of_outcome (outcome.Refused verdict reply) = status.Refused (Decided verdict)
+status_of_outcome (outcome.Done reply under) = status.Done
+status_of_outcome (outcome.Refused verdict reply under) = status.Refused (Decided verdict)
 status_of_outcome (outcome.Damaged place) = status.Damaged place
 status_of_outcome outcome.Fault = status.DiskFault
 status_of_outcome outcome.NoMemory = status.NoMemory
@@ -24,8 +26,8 @@ Puts (Some text) ending answer s before after = ((s ≡ answer) × AppendsTo bef
 
 -- a call with this outcome ends so
 abbrev pub Ends : Outcome → List ℕ → Status → Option (List ℕ) → Option (List ℕ) → Type 0
-Ends (outcome.Done reply) ending s before after = Puts reply ending status.Done s before after
-Ends (outcome.Refused verdict reply) ending s before after = Puts reply ending (status.Refused (Decided verdict)) s before after
+Ends (outcome.Done reply under) ending s before after = Puts reply ending status.Done s before after
+Ends (outcome.Refused verdict reply under) ending s before after = Puts reply ending (status.Refused (Decided verdict)) s before after
 Ends (outcome.Damaged place) ending s before after = (s ≡ status.Damaged place) × (after ≡ before)
 Ends outcome.Fault ending s before after = (s ≡ status.DiskFault) × (after ≡ before)
 Ends outcome.NoMemory ending s before after = (s ≡ status.NoMemory) × (after ≡ before)
@@ -44,6 +46,23 @@ IsOfParty (status.Refused (Decided verdict)) = Unit {0}
 IsOfParty (status.Damaged place) = Unit {0}
 IsOfParty status.WriteFault = Unit {0}
 IsOfParty s = ⊥
+
+-- a fault comes only where a count of faults rose. The counts are those of the source, the sink and the shelf, before and
+-- after
+pub record HasFaults (s : Status) (read reads put puts disk disks : ℕ) : Type 0 where
+  pub read_fault : s ≡ status.ReadFault → Rose read reads
+  pub write_fault : s ≡ status.WriteFault → Rose put puts
+  pub disk_fault : s ≡ status.DiskFault → Rose disk disks
+
+-- what a call over one party leaves, and why it failed: where the party answered its disk is back on the shelf, the disks of
+-- the other parties stay, with a silent status nothing is written, and a fault comes only where a count of faults rose. The
+-- counts are those of the sink and the shelf, before and after
+pub record LeavesRest (party : List ℕ) (s : Status) (is_back unwritten : Type 0) (old new : List ℕ → View) (put puts disk disks : ℕ) : Type 0 where
+  pub back : IsOfParty s → is_back
+  pub others : OthersStay party old new
+  pub silent : IsSilent s → unwritten
+  pub write_fault : s ≡ status.WriteFault → Rose put puts
+  pub disk_fault : s ≡ status.DiskFault → Rose disk disks
 
 -- a fault has its cause: over every source, sink and shelf a count of faults rose. The counts are those of the source, the
 -- sink and the shelf, before and after

@@ -3,9 +3,13 @@
 use Rattle.std.specs.Prelude.{◌≡◌, ◌⊎◌, ℕ, Bool, true, false, List, [], ◌∷◌, Err, Option, Some, None, IfSome, option_map}
 use Rattle.x_disk.specs.Disk.{View, Tells, LeavesOnly, IsUntouched}
 use Rattle.x_disk.specs.Shelf.{IsAlike, OthersStay, AllStay}
-use Rattle.key_journal.specs.States.{SparesNonBlank}
+use Rattle.key_journal.specs.States.{WritesOnlyToBlank}
 use Rattle.x_line.specs.declared.order.Order.{Order}
 use Rattle.x_line.specs.declared.order.Order.TheVariants as order
+use Rattle.x_line.specs.declared.usage.UsageKind.{UsageKind}
+use Rattle.x_line.specs.declared.usage.UsageKind.TheVariants.{Line}
+use Rattle.x_line.specs.Line.{is_line}
+use Rattle.x_line.specs.Usage.{usage_of}
 use Rattle.csm_grammar.specs.declared.arrival.Arrival.{Arrival}
 use Rattle.csm_feed.specs.declared.unheard.Unheard.{Unheard}
 use Rattle.csm_feed.specs.Heard.{Heard}
@@ -15,47 +19,55 @@ use Rattle.party_state.specs.declared.command.Input.TheVariants.{Ordered, Arrive
 use Rattle.party_state.specs.State.{Party, begun}
 use Rattle.key_store.specs.Store.{IsBlankOrFirst}
 use Rattle.x_party.specs.Images.{StillTells, OrBefore}
-use Rattle.x_party.specs.Outcomes.{IsSetUp, IsShow, IsTold, IsSafe}
+use Rattle.x_party.specs.Outcomes.{CreatesParty, ShowsParty, CompactsParty, TakesTurn, IsSafe, IsSafeCompaction}
+use Rattle.x_party.specs.Dues.{IsDue, IsDueCompaction, IsDueCreation, IsDueShow}
 use Rattle.x_party.specs.declared.outcome.Outcome.{Outcome}
-use Rattle.x917.specs.declared.told.Told.{Told}
+use Rattle.x917.specs.declared.party_command.PartyCommand.{PartyCommand}
 use Rattle.x917.specs.declared.status.Status.{Status}
 use Rattle.x917.specs.declared.status.Status.TheVariants as status
 use Rattle.x917.specs.Check.{IsChecked, IsExact, IsPossible, taken, refusal_of}
-use Rattle.x917.specs.Ends.{Ends}
-use Rattle.x917.specs.Dues.{IsDue, IsDueBegin, IsDueShow, Follows, IsHeard, FollowsBytes}
+use Rattle.x917.specs.Ends.{Ends, IsOfParty}
+use Rattle.x917.specs.Dues.{Follows, IsHeard, FollowsBytes}
 
--- the command that an order tells a party
-abbrev pub told_in : Order → Option Told
-told_in (order.Load party peer label side pair) = Some (record { party = party; command = command.Load peer label side pair })
-told_in (order.Start party peer label) = Some (record { party = party; command = command.Start peer label })
-told_in (order.Ask party peer ultimate) = Some (record { party = party; command = command.Ask peer ultimate })
-told_in (order.Resend party peer) = Some (record { party = party; command = command.Resend peer })
-told_in (order.End party peer name) = Some (record { party = party; command = command.End peer name })
-told_in (order.Drop party peer) = Some (record { party = party; command = command.Drop peer })
-told_in (order.Purge party) = Some (record { party = party; command = command.Purge })
-told_in o = None
+-- the command that an order gives to a party
+abbrev pub command_of : Order → Option PartyCommand
+command_of (order.Load party peer label side pair) = Some (record { party = party; command = command.Load peer label side pair })
+command_of (order.Start party peer label) = Some (record { party = party; command = command.Start peer label })
+command_of (order.Ask party peer ultimate) = Some (record { party = party; command = command.Ask peer ultimate })
+command_of (order.Resend party peer) = Some (record { party = party; command = command.Resend peer })
+command_of (order.End party peer name) = Some (record { party = party; command = command.End peer name })
+command_of (order.Drop party peer) = Some (record { party = party; command = command.Drop peer })
+command_of (order.Purge party) = Some (record { party = party; command = command.Purge })
+command_of o = None
 
--- a party was told an input, and its reply was written, with a line feed
-pub record IsCommand (i : Input) (moment : ℕ) (old new : View) (s : Status) (before after : Option (List ℕ)) : Type 0 where
+-- a party had its turn with an input, and its reply was written, with a line feed
+pub record IsPartyTurn (i : Input) (moment : ℕ) (old new : View) (s : Status) (before after : Option (List ℕ)) : Type 0 where
   pub outcome : Outcome
-  pub told : IsTold old new i moment outcome
+  pub turned : TakesTurn old new i moment outcome
   pub safe : IsSafe old new i moment
   pub ends : Ends outcome (10 ∷ []) s before after
 
--- a party was set up, and nothing was written
-pub record IsBegun (party : Party) (old new : View) (s : Status) (before after : Option (List ℕ)) : Type 0 where
+-- a party was created, and nothing was written
+pub record IsCreation (party : Party) (old new : View) (s : Status) (before after : Option (List ℕ)) : Type 0 where
   pub outcome : Outcome
-  pub set_up : IsSetUp old new party outcome
-  pub spared : SparesNonBlank old new
+  pub created : CreatesParty old new party outcome
+  pub nothing_written : WritesOnlyToBlank old new
   pub any_moment : Tells old → LeavesOnly old new (OrBefore old (IsBlankOrFirst party))
   pub tells : StillTells old new
   pub ends : Ends outcome [] s before after
 
 -- a party was shown, and the lines were written
-pub record IsListed (old new : View) (s : Status) (before after : Option (List ℕ)) : Type 0 where
+pub record IsListing (old new : View) (s : Status) (before after : Option (List ℕ)) : Type 0 where
   pub outcome : Outcome
-  pub shows : IsShow old new outcome
+  pub shows : ShowsParty old new outcome
   pub untouched : IsUntouched old new
+  pub ends : Ends outcome [] s before after
+
+-- a party was compacted, and nothing was written
+pub record IsCompacting (old new : View) (s : Status) (before after : Option (List ℕ)) : Type 0 where
+  pub outcome : Outcome
+  pub compacted : CompactsParty old new outcome
+  pub safe : IsSafeCompaction old new
   pub ends : Ends outcome [] s before after
 
 -- no message arrived: the source failed, or no memory was left, or the bytes are refused
@@ -63,43 +75,46 @@ abbrev pub IsUnheard : Option (List ℕ) → Status → Type 0
 IsUnheard left s = ((s ≡ status.ReadFault) ⊎ (s ≡ status.NoMemory))
     ⊎ ((u : Unheard) × (s ≡ status.Refused (refusal_of u)) × IsPossible (refusal_of u) × IfSome left (λ all. Heard (taken all) (Err u)))
 
--- bytes arrived: no message was heard, and nothing was changed or written; or it was told to the party
+-- bytes arrived: no message was heard, and nothing was changed or written; or the party had its turn with it
 abbrev pub IsTaken : ℕ → Option (List ℕ) → Option (List ℕ) → View → View → Status → Option (List ℕ) → Option (List ℕ) → Type 0
 IsTaken moment left rest old new s before after = (IsUnheard left s × (after ≡ before) × IsAlike old new)
-    ⊎ ((arrival : Arrival) × IfSome left (λ all. IsHeard all arrival × (rest ≡ Some [])) × IsCommand (Arrived arrival) moment old new s before after)
+    ⊎ ((arrival : Arrival) × IfSome left (λ all. IsHeard all arrival × (rest ≡ Some [])) × IsPartyTurn (Arrived arrival) moment old new s before after)
 
-abbrev pub ObeysTold : Option Told → ℕ → (List ℕ → View) → (List ℕ → View) → Status → Option (List ℕ) → Option (List ℕ) → Type 0
-ObeysTold (Some t) moment old new s before after = IsCommand (Ordered t.command) moment (old t.party) (new t.party) s before after
-ObeysTold None moment old new s before after = ⊥
+abbrev pub ObeysCommand : Option PartyCommand → ℕ → (List ℕ → View) → (List ℕ → View) → Status → Option (List ℕ) → Option (List ℕ) → Type 0
+ObeysCommand (Some t) moment old new s before after = IsPartyTurn (Ordered t.command) moment (old t.party) (new t.party) s before after
+ObeysCommand None moment old new s before after = ⊥
 
 -- what each order does; no command line gives one of a command that isn't built
 abbrev pub Obeys : Order → ℕ → Status → Option (List ℕ) → Option (List ℕ) → Option (List ℕ) → Option (List ℕ) → (List ℕ → View) → (List ℕ → View) → Type 0
 Obeys order.Check moment s left rest before after old new = IsChecked s left rest before after
 Obeys (order.Init party role key v) moment s left rest before after old new =
-    IsBegun (begun party role (record { key = key; v = v })) (old party) (new party) s before after
-Obeys (order.Show party) moment s left rest before after old new = IsListed (old party) (new party) s before after
+    IsCreation (begun party role (record { key = key; v = v })) (old party) (new party) s before after
+Obeys (order.Show party) moment s left rest before after old new = IsListing (old party) (new party) s before after
+Obeys (order.Compact party) moment s left rest before after old new = IsCompacting (old party) (new party) s before after
 Obeys (order.Take party) moment s left rest before after old new = IsTaken moment left rest (old party) (new party) s before after
-Obeys o moment s left rest before after old new = ObeysTold (told_in o) moment old new s before after
+Obeys o moment s left rest before after old new = ObeysCommand (command_of o) moment old new s before after
 
-abbrev pub ExpectsTold : Option Told → ℕ → (List ℕ → View) → Status → Type 0
-ExpectsTold (Some t) moment old s = Follows (old t.party) (IsDue (Ordered t.command) moment) s
-ExpectsTold None moment old s = Unit {0}
+abbrev pub ExpectsCommand : Option PartyCommand → ℕ → (List ℕ → View) → Status → Type 0
+ExpectsCommand (Some t) moment old s = Follows (old t.party) (IsDue (Ordered t.command) moment) s
+ExpectsCommand None moment old s = Unit {0}
 
 -- where no count of faults rises: the status is the one that is due, or no memory was left
 abbrev pub Expects : Order → ℕ → Option (List ℕ) → (List ℕ → View) → Status → Type 0
 Expects order.Check moment left old s = IsExact left s
-Expects (order.Init party role key v) moment left old s = Follows (old party) IsDueBegin s
+Expects (order.Init party role key v) moment left old s = Follows (old party) IsDueCreation s
 Expects (order.Show party) moment left old s = Follows (old party) IsDueShow s
+Expects (order.Compact party) moment left old s = Follows (old party) IsDueCompaction s
 Expects (order.Take party) moment left old s = IfSome left (λ all. FollowsBytes all (old party) moment s)
-Expects o moment left old s = ExpectsTold (told_in o) moment old s
+Expects o moment left old s = ExpectsCommand (command_of o) moment old s
 
 -- the party of an order
 abbrev pub party_of : Order → Option (List ℕ)
 party_of order.Check = None
 party_of (order.Init party role key v) = Some party
 party_of (order.Show party) = Some party
+party_of (order.Compact party) = Some party
 party_of (order.Take party) = Some party
-party_of o = option_map (λ (t : Told). t.party) (told_in o)
+party_of o = option_map (λ (t : PartyCommand). t.party) (command_of o)
 
 -- the disks of the other parties stay
 abbrev pub OthersOf : Option (List ℕ) → (List ℕ → View) → (List ℕ → View) → Type 0
@@ -111,3 +126,17 @@ abbrev pub is_reading : Order → Bool
 is_reading order.Check = true
 is_reading (order.Take party) = true
 is_reading o = false
+
+-- what an order leaves: where the party answered, its disk is back on the shelf; the disks of the other parties stay, and the
+-- source where it isn't read
+pub record LeavesOthers (o : Order) (s : Status) (is_back : List ℕ → Type 0) (stays : Type 0) (old new : List ℕ → View) : Type 0 where
+  pub back : IsOfParty s → IfSome (party_of o) is_back
+  pub others : OthersOf (party_of o) old new
+  pub unread : is_reading o ≡ false → stays
+
+-- the words are judged first: the status says what is wrong with them, or no memory was left, and then nothing is touched
+pub record JudgesWords (words : List (List ℕ)) (s : Status) (stays : Type 0) : Type 0 where
+  pub usage : (kind : UsageKind) → s ≡ status.Usage kind → usage_of words ≡ Some kind
+  pub wrong : (kind : UsageKind) → usage_of words ≡ Some kind → (s ≡ status.Usage kind) ⊎ (s ≡ status.NoMemory)
+  pub line : s ≡ status.Usage Line → is_line words ≡ false
+  pub untouched : (kind : UsageKind) → usage_of words ≡ Some kind → stays

@@ -3,6 +3,10 @@
 use Rattle.std.specs.Prelude.{◌≡◌, ◌≤◌, ◌++◌, ℕ, List, [], length, take, Option, Some, None, IfSome}
 use Rattle.x_base.specs.Edge.{Rose}
 
+-- how many bytes of an input are taken at most
+abbrev pub input_limit : ℕ
+input_limit = 2049
+
 -- the text was taken from the front of what was left
 abbrev pub Took : Option (List ℕ) → Option (List ℕ) → List ℕ → Type 0
 Took None after text = Unit {0}

@@ -43,10 +43,10 @@ pub fn finish<K: Sink>(sink: &mut K, outcome: Outcome, ending: &[u8]) -> Status
     ensures silent { IsSilent result → sink.new ≡ sink.old }
 {
     match outcome {
-        Outcome::Done(text) => put_text(sink, text, ending, Status::Done),
-        Outcome::Refused(verdict, text) => {
+        Outcome::Done { reply, .. } => put_text(sink, reply, ending, Status::Done),
+        Outcome::Refused { verdict, reply, .. } => {
             let answer = Status::Refused(Refusal::Decided(verdict));
-            put_text(sink, text, ending, answer)
+            put_text(sink, reply, ending, answer)
         }
         Outcome::Damaged(place) => Status::Damaged(place),
         Outcome::Fault => Status::DiskFault,

@@ -2,14 +2,14 @@
 #![tactic(auto)]
 
 mod check;
-mod checking;
 mod finish;
+mod judgement;
 mod party;
+mod party_command;
 mod status;
 mod take;
 #[cfg(test)]
 mod tests;
-mod told;
 mod top;
 mod transfer;
 

@@ -1,14 +1,13 @@
 // A message arrives.
 ghost use Rattle.std.specs.Prelude.{◌≡◌, [], Some, IfSome, IfOk, IfErr};
 ghost use Rattle.x_base.specs.Edge.{Rose};
-ghost use Rattle.x_disk.specs.Shelf.{OthersStay};
-ghost use Rattle.x917.specs.Transfer.{TookAtMost, IsQuiet};
-ghost use Rattle.x917.specs.Ends.{IsSilent, IsOfParty};
+ghost use Rattle.x917.specs.Transfer.{TookAtMost, IsQuiet, input_limit};
+ghost use Rattle.x917.specs.Ends.{LeavesRest};
 ghost use Rattle.x917.specs.Dues.{IsHeard, FollowsBytes};
 ghost use Rattle.x917.specs.Obeys.{IsUnheard, IsTaken};
 
-use crate::check::refusal_of;
-use crate::party::command;
+use crate::judgement::refusal_of;
+use crate::party::turn;
 use crate::status::Status;
 use crate::transfer::{GatherError, gather};
 use csm_feed::{hear, law_one_hearing};
@@ -23,7 +22,7 @@ fn listen<S: Source>(alloc: Global, source: &mut S) -> Result<Arrival, Status>
     ensures heard { IfOk result (λ a. IfSome (S.left source.old) (λ all. IsHeard all a × (S.left source.new ≡ Some []))) }
     ensures unheard { IfErr result (IsUnheard (S.left source.old)) }
     ensures read_fault { IfErr result (λ s. s ≡ Status.ReadFault → Rose (S.faults source.old) (S.faults source.new)) }
-    ensures most { TookAtMost 2049 (S.left source.old) (S.left source.new) }
+    ensures most { TookAtMost input_limit (S.left source.old) (S.left source.new) }
 {
     let input = match gather(alloc, source) {
         Ok(input) => input,
@@ -37,7 +36,7 @@ fn listen<S: Source>(alloc: Global, source: &mut S) -> Result<Arrival, Status>
     }
 }
 
-/// Takes a message, and tells it to a party.
+/// Takes a message: a party's turn with it.
 pub fn take<S: Source, K: Sink, H: Shelf>(
     alloc: Global,
     source: &mut S,
@@ -49,17 +48,13 @@ pub fn take<S: Source, K: Sink, H: Shelf>(
     ensures taken { IsTaken moment (S.left source.old) (S.left source.new) (H.entry shelf.old party.now) (H.entry shelf.new party.now) result (K.written sink.old) (K.written sink.new) }
     ensures follows { IsQuiet (S.faults source.old) (S.faults source.new) → IsQuiet (K.faults sink.old) (K.faults sink.new) → IsQuiet (H.faults shelf.old) (H.faults shelf.new)
         → IfSome (S.left source.old) (λ all. FollowsBytes all (H.entry shelf.old party.now) moment result) }
-    ensures back { IsOfParty result → H.is_back shelf.new party.now }
-    ensures others { OthersStay party.now (H.entry shelf.old) (H.entry shelf.new) }
+    ensures rest { LeavesRest party.now result (H.is_back shelf.new party.now) (sink.new ≡ sink.old) (H.entry shelf.old) (H.entry shelf.new) (K.faults sink.old) (K.faults sink.new) (H.faults shelf.old) (H.faults shelf.new) }
     ensures read_fault { result ≡ Status.ReadFault → Rose (S.faults source.old) (S.faults source.new) }
-    ensures write_fault { result ≡ Status.WriteFault → Rose (K.faults sink.old) (K.faults sink.new) }
-    ensures disk_fault { result ≡ Status.DiskFault → Rose (H.faults shelf.old) (H.faults shelf.new) }
-    ensures silent { IsSilent result → sink.new ≡ sink.old }
-    ensures most { TookAtMost 2049 (S.left source.old) (S.left source.new) }
+    ensures most { TookAtMost input_limit (S.left source.old) (S.left source.new) }
 {
     law_one_hearing();
     match listen(alloc, source) {
-        Ok(arrival) => command(alloc, sink, shelf, party, Input::Arrived(arrival), moment),
+        Ok(arrival) => turn(alloc, sink, shelf, party, Input::Arrived(arrival), moment),
         Err(status) => status,
     }
 }

@@ -1,29 +1,28 @@
 // What the program writes and answers.
+use crate::moment_of;
 use crate::status::{Status, exit_code, status_line};
 use crate::top::run;
 use std::alloc::{AllocError, Global};
-use std::process::Abort;
+use std::io;
 use std::test::Fail;
+use std::time::{Clock, Duration};
 use x_base::{MemorySink, MemorySource, NoMemory, Text, Words};
 use x_disk::{MemoryShelf, Shelf};
 
 mod faults;
 mod parties;
+mod texts;
 mod words;
+
+use texts::{PLAIN, RSI};
 
 /// Inputs, and what is written.
 const WRITTEN: [(&str, &str); 11] = [
-    (
-        "CSM(MCL/RSI RCV/BANKB ORG/BANKA SVR/KD EDC/6C5A8EFC)",
-        "CSM(MCL/RSI RCV/BANKB ORG/BANKA SVR/KD EDC/6C5A8EFC)\n",
-    ),
-    (
-        "CSM(MCL/RSI RCV/BANKB ORG/BANKA SVR/KD EDC/6C5A8EFC)\n",
-        "CSM(MCL/RSI RCV/BANKB ORG/BANKA SVR/KD EDC/6C5A8EFC)\n",
-    ),
+    (PLAIN, RSI),
+    (RSI, RSI),
     (
         " \r\nCSM(MCL/RSI RCV/BANKB ORG/BANKA SVR/KD EDC/6C5A8EFC)",
-        "CSM(MCL/RSI RCV/BANKB ORG/BANKA SVR/KD EDC/6C5A8EFC)\n",
+        RSI,
     ),
     (
         "CSM(MCL/RSM\r\nRCV/BANKA ORG/BANKB MAC/1a2b 3C4D )",
@@ -190,7 +189,18 @@ const REFUSED_LAST: [(&str, &str); 15] = [
     ("CSM(MCL/RSI RCV/BANKB)", "x917: refused 11 at 21\n"),
 ];
 
-const PLAIN: &str = "CSM(MCL/RSI RCV/BANKB ORG/BANKA SVR/KD EDC/6C5A8EFC)";
+/// The same message at the edges of the lengths: its front, so many blanks, its rest, what is written and what the line says.
+const LENGTHS: [(&str, u32, &str, &str, &str); 7] = [
+    (SHORT, 973, "EDC/CE1318E5)", RSI, ""),
+    (SHORT, 974, "EDC/CE1318E5)", "", "x917: refused 6 at 1024\n"),
+    ("CSM(", 1020, "", "", "x917: refused 7 at 1024\n"),
+    ("CSM(", 1021, "", "", "x917: refused 6 at 1024\n"),
+    ("", 2049, "", "", "x917: refused 5 at 2049\n"),
+    (PLAIN, 1996, "", RSI, ""),
+    (PLAIN, 1997, "", "", "x917: refused 38 at 2048\n"),
+];
+
+const SHORT: &str = "CSM(MCL/RSI RCV/BANKB ORG/BANKA SVR/KD";
 
 fn words_of(alloc: Global, list: &[&str]) -> Result<Words, NoMemory> {
     let mut words = Words::new(alloc);
@@ -245,79 +255,88 @@ fn called_over<H: Shelf>(
     })
 }
 
-fn called(alloc: Global, words: &Words, input: Text) -> Result<Answer, NoMemory> {
+/// Whether `check` of the input writes this and ends with this line and its exit code.
+fn is_checked(alloc: Global, input: Text, output: &str, line: &str) -> Result<bool, NoMemory> {
     let mut shelf = MemoryShelf::new(alloc);
-    called_over(alloc, &mut shelf, words, input, 0, 0)
+    let words = words_of(alloc, &["check"])?;
+    let answer = called_over(alloc, &mut shelf, &words, input, 0, 0)?;
+    let code = if line.is_empty() { 0 } else { 1 };
+    Ok(
+        answer.output.bytes() == output.as_bytes()
+            && answer.line.bytes() == line.as_bytes()
+            && exit_code(&answer.status) == code,
+    )
 }
 
-fn checked(alloc: Global, input: Text) -> Result<Answer, NoMemory> {
-    called(alloc, &words_of(alloc, &["check"])?, input)
+/// The first input that isn't written so.
+fn wrong_output(alloc: Global, rows: &[(&str, &str)]) -> Result<Option<usize>, NoMemory> {
+    for (row, (input, output)) in rows.iter().enumerate() {
+        if !is_checked(alloc, spread_out(alloc, input, 0, "")?, output, "")? {
+            return Ok(Some(row));
+        }
+    }
+    Ok(None)
 }
 
-fn is_refused(rt: &impl Abort, alloc: Global, input: Text, line: &str) -> Result<(), Fail> {
-    let answer = checked(alloc, input)?;
-    assert!(rt; answer.output.bytes().is_empty());
-    assert_eq!(rt; answer.line.bytes(), line.as_bytes());
-    assert_eq!(rt; exit_code(&answer.status), 1);
-    Ok(())
-}
-
-fn is_written(rt: &impl Abort, alloc: Global, input: Text, output: &str) -> Result<(), Fail> {
-    let answer = checked(alloc, input)?;
-    assert_eq!(rt; answer.output.bytes(), output.as_bytes());
-    assert!(rt; answer.line.bytes().is_empty());
-    assert_eq!(rt; exit_code(&answer.status), 0);
-    Ok(())
+/// The first input that isn't refused so.
+fn wrong_line(alloc: Global, rows: &[(&str, &str)]) -> Result<Option<usize>, NoMemory> {
+    for (row, (input, line)) in rows.iter().enumerate() {
+        if !is_checked(alloc, spread_out(alloc, input, 0, "")?, "", line)? {
+            return Ok(Some(row));
+        }
+    }
+    Ok(None)
 }
 
 #[test]
 fn messages_are_written_canonically(rt: HostRuntime) -> Result<(), Fail> {
-    for (input, output) in WRITTEN {
-        let input = spread_out(rt.alloc(), input, 0, "")?;
-        is_written(&rt, rt.alloc(), input, output)?;
-    }
+    assert_eq!(rt; wrong_output(rt.alloc(), &WRITTEN)?, None);
     Ok(())
 }
 
 #[test]
 fn the_first_fault_is_told(rt: HostRuntime) -> Result<(), Fail> {
-    for (input, line) in REFUSED_FIRST {
-        let input = spread_out(rt.alloc(), input, 0, "")?;
-        is_refused(&rt, rt.alloc(), input, line)?;
-    }
-    for (input, line) in REFUSED_NEXT {
-        let input = spread_out(rt.alloc(), input, 0, "")?;
-        is_refused(&rt, rt.alloc(), input, line)?;
-    }
+    assert_eq!(rt; wrong_line(rt.alloc(), &REFUSED_FIRST)?, None);
+    assert_eq!(rt; wrong_line(rt.alloc(), &REFUSED_NEXT)?, None);
+    assert_eq!(rt; wrong_line(rt.alloc(), &REFUSED_LAST)?, None);
     Ok(())
 }
 
-#[test]
-fn faults_of_contents_are_told(rt: HostRuntime) -> Result<(), Fail> {
-    for (input, line) in REFUSED_LAST {
-        let input = spread_out(rt.alloc(), input, 0, "")?;
-        is_refused(&rt, rt.alloc(), input, line)?;
+fn wrong_length(alloc: Global) -> Result<Option<usize>, NoMemory> {
+    for (row, (front, blanks, rest, output, line)) in LENGTHS.iter().enumerate() {
+        if !is_checked(
+            alloc,
+            spread_out(alloc, front, *blanks, rest)?,
+            output,
+            line,
+        )? {
+            return Ok(Some(row));
+        }
     }
-    Ok(())
+    Ok(None)
 }
 
 #[test]
 fn lengths_have_their_limits(rt: HostRuntime) -> Result<(), Fail> {
-    let alloc = rt.alloc();
-    let reply = "CSM(MCL/RSI RCV/BANKB ORG/BANKA SVR/KD EDC/6C5A8EFC)\n";
-    let front = "CSM(MCL/RSI RCV/BANKB ORG/BANKA SVR/KD";
-    let most = spread_out(alloc, front, 973, "EDC/CE1318E5)")?;
-    is_written(&rt, alloc, most, reply)?;
-    let more = spread_out(alloc, front, 974, "EDC/CE1318E5)")?;
-    is_refused(&rt, alloc, more, "x917: refused 6 at 1024\n")?;
-    let unended = spread_out(alloc, "CSM(", 1020, "")?;
-    is_refused(&rt, alloc, unended, "x917: refused 7 at 1024\n")?;
-    let long = spread_out(alloc, "CSM(", 1021, "")?;
-    is_refused(&rt, alloc, long, "x917: refused 6 at 1024\n")?;
-    let blank = spread_out(alloc, "", 2049, "")?;
-    is_refused(&rt, alloc, blank, "x917: refused 5 at 2049\n")?;
-    let all = spread_out(alloc, PLAIN, 1996, "")?;
-    is_written(&rt, alloc, all, reply)?;
-    let full = spread_out(alloc, PLAIN, 1997, "")?;
-    is_refused(&rt, alloc, full, "x917: refused 38 at 2048\n")
+    assert_eq!(rt; wrong_length(rt.alloc())?, None);
+    Ok(())
+}
+
+/// A clock that stands at one time.
+struct Stopped;
+
+impl Clock for Stopped {
+    fn monotonic(&self) -> io::Result<Duration> {
+        Ok(Duration::new(7, 0))
+    }
+
+    fn since_1970(&self) -> io::Result<Duration> {
+        Ok(Duration::new(1_764_190_243, 123_456_789))
+    }
+}
+
+#[test]
+fn the_moment_is_in_microseconds(rt: HostRuntime) -> Result<(), Fail> {
+    assert_eq!(rt; moment_of(&Stopped)?, 1_764_190_243_123_456);
+    Ok(())
 }

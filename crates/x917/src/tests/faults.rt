@@ -1,21 +1,11 @@
 // Disks, shelves, sources and sinks that fail.
-use super::PLAIN;
-use super::parties::{DSM, KSM, RSM, call, holds, is_answer, standing};
+use super::parties::{call, holds, is_answer, standing};
+use super::texts::{DISK_FAULT, DSM, ESM, KSM, PLAIN, READ_FAULT, RSI, RSM, START, WRITE_FAULT};
 use crate::status::{Status, exit_code};
 use std::alloc::Global;
 use std::test::Fail;
 use x_base::{Ident, NoMemory};
 use x_disk::{Disk, DiskErr, FusedShelf, MemoryShelf, Shelf};
-
-const DISK_FAULT: &str = "x917: disk fault\n";
-
-const READ_FAULT: &str = "x917: read fault\n";
-
-const WRITE_FAULT: &str = "x917: write fault\n";
-
-const START: &str = "start --party BANKA --peer BANKB";
-
-const RSI: &str = "CSM(MCL/RSI RCV/BANKB ORG/BANKA SVR/KD EDC/6C5A8EFC)\n";
 
 /// Replies without their line feed.
 const KSM_UNENDED: &str =
@@ -54,6 +44,8 @@ struct Case {
     before: &'static str,
     /// What `show` writes after it.
     after: &'static str,
+    /// What the same command writes next, and the line of its status.
+    again: (&'static str, &'static str),
 }
 
 /// From the party's beginning to a key that is sent.
@@ -66,6 +58,7 @@ const SENDING: [Case; 6] = [
         output: "",
         before: "",
         after: BEGUN,
+        again: ("", "x917: refused 18\n"),
     },
     Case {
         party: "BANKA",
@@ -75,6 +68,7 @@ const SENDING: [Case; 6] = [
         output: "",
         before: BEGUN,
         after: LOADED,
+        again: ("", "x917: refused 32\n"),
     },
     Case {
         party: "BANKA",
@@ -84,6 +78,7 @@ const SENDING: [Case; 6] = [
         output: RSI,
         before: LOADED,
         after: LOADED,
+        again: (RSI, ""),
     },
     Case {
         party: "BANKA",
@@ -93,6 +88,7 @@ const SENDING: [Case; 6] = [
         output: KSM,
         before: LOADED,
         after: SENT,
+        again: ("", "x917: refused 25\n"),
     },
     Case {
         party: "BANKA",
@@ -102,6 +98,7 @@ const SENDING: [Case; 6] = [
         output: KSM,
         before: SENT,
         after: SENT,
+        again: (KSM, ""),
     },
     Case {
         party: "BANKA",
@@ -111,6 +108,7 @@ const SENDING: [Case; 6] = [
         output: "",
         before: SENT,
         after: ENDED,
+        again: ("", "x917: refused 24\n"),
     },
 ];
 
@@ -124,6 +122,7 @@ const HAVING: [Case; 5] = [
         output: RSM,
         before: "PARTY BANKB BANK\nLINK BANKA K1 IN 1 READY\n",
         after: "PARTY BANKB BANK\nLINK BANKA K1 IN 2 READY\nKEY BANKA BANKA.BANKA.K1.1 HELD\n",
+        again: (ESM, "x917: refused 30 expected 2\n"),
     },
     Case {
         party: "BANKA",
@@ -133,6 +132,7 @@ const HAVING: [Case; 5] = [
         output: "",
         before: SENT,
         after: LIVE,
+        again: ("", "x917: refused 24\n"),
     },
     Case {
         party: "BANKA",
@@ -142,6 +142,7 @@ const HAVING: [Case; 5] = [
         output: LIVE,
         before: LIVE,
         after: LIVE,
+        again: (LIVE, ""),
     },
     Case {
         party: "BANKA",
@@ -151,6 +152,7 @@ const HAVING: [Case; 5] = [
         output: DSM,
         before: LIVE,
         after: CLOSING,
+        again: ("", "x917: refused 25\n"),
     },
     Case {
         party: "BANKA",
@@ -160,6 +162,7 @@ const HAVING: [Case; 5] = [
         output: "",
         before: ENDED,
         after: PURGED,
+        again: ("", ""),
     },
 ];
 
@@ -213,9 +216,30 @@ fn end_of<H: Shelf>(alloc: Global, shelf: &mut H, case: &Case) -> Result<End, No
     Ok(End::Otherwise)
 }
 
-/// Whether a command over a disk that fails after more and more calls is stopped until it is done, with fewer than 20
-/// calls, and leaves the party as it was or as it is to be, where the power goes with this choice.
-fn is_stopped(alloc: Global, case: &Case, choice: u64) -> Result<bool, DiskErr> {
+/// Whether the party is as it was before the command and the command is done now, or as it is to be after it and the command
+/// is answered as the same one again.
+fn is_answered(
+    alloc: Global,
+    shelf: &mut MemoryShelf,
+    case: &Case,
+    is_after: bool,
+) -> Result<bool, NoMemory> {
+    let (shown, output, line) = if is_after {
+        (case.after, case.again.0, case.again.1)
+    } else {
+        (case.before, case.output, "")
+    };
+    if !shows(alloc, shelf, case.party, shown)? {
+        return Ok(false);
+    }
+    let answer = call(alloc, shelf, case.line, case.input, 0, 0)?;
+    Ok(is_answer(&answer, output, line))
+}
+
+/// How many stops leave the party as it is to be, where a command's disk fails after more and more calls, fewer than 20, until
+/// the command is done, and the power goes each time with this choice. Nothing where something else comes.
+fn stops_after(alloc: Global, case: &Case, choice: u64) -> Result<Option<u64>, DiskErr> {
+    let mut after: u64 = 0;
     for calls in 0..20 {
         let shelf = standing(alloc, case.party, case.pieces)?;
         let mut fused = FusedShelf::new(shelf, u64::MAX, calls);
@@ -223,24 +247,48 @@ fn is_stopped(alloc: Global, case: &Case, choice: u64) -> Result<bool, DiskErr> 
         let mut shelf = fused.into_inner();
         power_goes(&mut shelf, case.party, choice)?;
         let is_after = shows(alloc, &mut shelf, case.party, case.after)?;
+        if !is_answered(alloc, &mut shelf, case, is_after)? {
+            return Ok(None);
+        }
         match end {
-            End::Done => return Ok(calls > 0 && is_after),
-            End::Stopped if is_after || shows(alloc, &mut shelf, case.party, case.before)? => {}
-            _ => return Ok(false),
+            End::Done if calls > 0 && is_after => return Ok(Some(after)),
+            End::Stopped if is_after => after = after.saturating_add(1),
+            End::Stopped => {}
+            _ => return Ok(None),
         }
     }
-    Ok(false)
+    Ok(None)
+}
+
+/// Whether as many stops as can leave the party as it is to be. Where nothing changes each one does. With choice 0 none
+/// does, with choice 1 those in the write of the gate and in its sync, with any other choice some of these two.
+fn is_stopped(alloc: Global, case: &Case, choice: u64) -> Result<bool, DiskErr> {
+    let Some(after) = stops_after(alloc, case, choice)? else {
+        return Ok(false);
+    };
+    let is_right = match choice {
+        0 => after == 0,
+        1 => after == 2,
+        _ => after <= 2,
+    };
+    Ok(is_right || case.before == case.after)
+}
+
+/// The first of the commands that isn't stopped so.
+fn wrong_stop(alloc: Global, cases: &[Case], choice: u64) -> Result<Option<usize>, DiskErr> {
+    for (row, case) in cases.iter().enumerate() {
+        if !is_stopped(alloc, case, choice)? {
+            return Ok(Some(row));
+        }
+    }
+    Ok(None)
 }
 
 #[test]
 fn a_command_is_stopped_by_its_disk(rt: HostRuntime) -> Result<(), Fail> {
     for choice in [0, 1, 7919] {
-        for case in SENDING {
-            assert!(rt; is_stopped(rt.alloc(), &case, choice)?, "{}", case.line);
-        }
-        for case in HAVING {
-            assert!(rt; is_stopped(rt.alloc(), &case, choice)?, "{}", case.line);
-        }
+        assert_eq!(rt; wrong_stop(rt.alloc(), &SENDING, choice)?, None);
+        assert_eq!(rt; wrong_stop(rt.alloc(), &HAVING, choice)?, None);
     }
     Ok(())
 }

@@ -1,4 +1,5 @@
 // Parties on a shelf in memory.
+use super::texts::{DSM, ENDED, ESM, KSM, PLAIN_ESM, RSM, START};
 use super::{Answer, called_over};
 use crate::status::{Status, exit_code};
 use std::alloc::{AllocError, Global};
@@ -8,17 +9,6 @@ use x_disk::{Disk, DiskErr, MemoryShelf, Shelf};
 
 /// A command line, the input, what is written, and the line that tells the status.
 pub(crate) type Step = (&'static str, &'static str, &'static str, &'static str);
-
-pub(crate) const KSM: &str =
-    "CSM(MCL/KSM RCV/BANKB ORG/BANKA IDK2/K1 KD/C2A5290756D949F4 CTP/1 MAC/8F270CC6)\n";
-
-pub(crate) const RSM: &str = "CSM(MCL/RSM RCV/BANKA ORG/BANKB MAC/BB510339)\n";
-
-const ESM: &str = "CSM(MCL/ESM RCV/BANKA ORG/BANKB CTP/1 CTR/2 ERF/C MAC/F6A791C9)\n";
-
-pub(crate) const DSM: &str = "CSM(MCL/DSM RCV/BANKB ORG/BANKA IDD/BANKA.BANKA.K1.1 MAC/F3A9DD96)\n";
-
-const ENDED: &str = "CSM(MCL/RSM RCV/BANKA ORG/BANKB IDD/BANKA.BANKA.K1.1 MAC/CB38EA3E)\n";
 
 /// Two banks that share a key-encrypting key.
 pub(crate) const BANKS: [Step; 5] = [
@@ -56,7 +46,7 @@ pub(crate) const BANKS: [Step; 5] = [
 
 /// They exchange a data key.
 const EXCHANGE: [Step; 5] = [
-    ("start --party BANKA --peer BANKB", "", KSM, ""),
+    (START, "", KSM, ""),
     ("take --party BANKB", KSM, RSM, ""),
     ("take --party BANKA", RSM, "", ""),
     (
@@ -134,7 +124,7 @@ const IMAGE_OF_BANKB: [&str; 5] = [
 
 /// The error message overtakes the answer: the key ends at BANKA, and BANKB keeps it.
 const OVERTAKEN: [Step; 7] = [
-    ("start --party BANKA --peer BANKB", "", KSM, ""),
+    (START, "", KSM, ""),
     ("take --party BANKB", KSM, RSM, ""),
     (
         "take --party BANKB",
@@ -158,18 +148,18 @@ const OVERTAKEN: [Step; 7] = [
     ),
 ];
 
-const RSI: &str = "CSM(MCL/RSI RCV/BANKA ORG/BANKB SVR/KD EDC/F320B0F1)\n";
+const ASKING: &str = "CSM(MCL/RSI RCV/BANKA ORG/BANKB SVR/KD EDC/F320B0F1)\n";
 
 /// BANKB asks for a key, and gets the one that BANKA would have sent by itself.
 const ASKED: [Step; 6] = [
-    ("ask --party BANKB --peer BANKA", "", RSI, ""),
+    ("ask --party BANKB --peer BANKA", "", ASKING, ""),
     (
         "take --party BANKA",
         "CSM(MCL/RSI RCV/BANKA ORG/BANKB SVR/KD EDC/F320B0F0)",
         "",
         "x917: refused 29\n",
     ),
-    ("take --party BANKA", RSI, KSM, ""),
+    ("take --party BANKA", ASKING, KSM, ""),
     ("take --party BANKB", KSM, RSM, ""),
     ("take --party BANKA", RSM, "", ""),
     (
@@ -183,14 +173,14 @@ const ASKED: [Step; 6] = [
 /// An exchange is given up, and its message comes late.
 const LATE: [Step; 8] = [
     (
-        "start --party BANKA --peer BANKB",
+        START,
         "",
         "CSM(MCL/KSM RCV/BANKB ORG/BANKA IDK2/K1 KD/20E2F5F31394D5D9 CTP/2 MAC/F5545A49)\n",
         "",
     ),
     ("drop --party BANKA --peer BANKB", "", "", ""),
     (
-        "start --party BANKA --peer BANKB",
+        START,
         "",
         "CSM(MCL/KSM RCV/BANKB ORG/BANKA IDK2/K1 KD/3F0F96D46FE734C8 CTP/3 MAC/2AA34074)\n",
         "",
@@ -223,6 +213,25 @@ const LATE: [Step; 8] = [
         "show --party BANKB",
         "",
         "PARTY BANKB BANK\nLINK BANKA K1 IN 4 READY\nKEY BANKA BANKA.BANKA.K1.1 HELD\nKEY BANKA BANKA.BANKA.K1.3 HELD\n",
+        "",
+    ),
+];
+
+/// An error message that is closed by its error detection code changes nothing.
+const PLAINLY_CLOSED: [Step; 5] = [
+    ("take --party BANKA", PLAIN_ESM, "", "x917: refused 24\n"),
+    (START, "", KSM, ""),
+    ("take --party BANKA", PLAIN_ESM, "", ""),
+    (
+        "take --party BANKA",
+        "CSM(MCL/ESM RCV/BANKA ORG/BANKB CTP/2 CTR/9 ERF/C EDC/0634B495)",
+        "",
+        "x917: refused 29\n",
+    ),
+    (
+        "show --party BANKA",
+        "",
+        "PARTY BANKA BANK\nLINK BANKB K1 OUT 2 READY\nKEY BANKB BANKA.BANKA.K1.1 PENDING\nEXCHANGE BANKB KEYSENT BANKA.BANKA.K1.1\n",
         "",
     ),
 ];
@@ -308,19 +317,19 @@ pub(crate) fn is_answer(answer: &Answer, output: &str, told: &str) -> bool {
     answer.output.bytes() == output.as_bytes() && answer.line.bytes() == told.as_bytes()
 }
 
-/// Whether each step is answered so.
-pub(crate) fn plays<H: Shelf>(
+/// The first step that isn't answered so.
+pub(crate) fn wrong_step<H: Shelf>(
     alloc: Global,
     shelf: &mut H,
     steps: &[Step],
-) -> Result<bool, NoMemory> {
-    for (line, input, output, told) in steps {
+) -> Result<Option<usize>, NoMemory> {
+    for (row, (line, input, output, told)) in steps.iter().enumerate() {
         let answer = call(alloc, shelf, line, input, 0, 0)?;
         if !is_answer(&answer, output, told) {
-            return Ok(false);
+            return Ok(Some(row));
         }
     }
-    Ok(true)
+    Ok(None)
 }
 
 /// The first pieces of a party's image, with the closed gate behind them; of none a disk without a byte.
@@ -385,10 +394,10 @@ pub(crate) fn standing(alloc: Global, party: &str, pieces: usize) -> Result<Memo
 fn two_banks_exchange_a_key_and_end_it(rt: HostRuntime) -> Result<(), Fail> {
     let alloc = rt.alloc();
     let mut shelf = MemoryShelf::new(alloc);
-    assert!(rt; plays(alloc, &mut shelf, &BANKS)?);
-    assert!(rt; plays(alloc, &mut shelf, &EXCHANGE)?);
-    assert!(rt; plays(alloc, &mut shelf, &REPEATED)?);
-    assert!(rt; plays(alloc, &mut shelf, &ENDING)?);
+    assert_eq!(rt; wrong_step(alloc, &mut shelf, &BANKS)?, None);
+    assert_eq!(rt; wrong_step(alloc, &mut shelf, &EXCHANGE)?, None);
+    assert_eq!(rt; wrong_step(alloc, &mut shelf, &REPEATED)?, None);
+    assert_eq!(rt; wrong_step(alloc, &mut shelf, &ENDING)?, None);
     assert!(rt; holds(alloc, &mut shelf, "BANKA", 8)?);
     assert!(rt; holds(alloc, &mut shelf, "BANKB", 5)?);
     Ok(())
@@ -398,27 +407,24 @@ fn two_banks_exchange_a_key_and_end_it(rt: HostRuntime) -> Result<(), Fail> {
 fn a_late_message_is_refused(rt: HostRuntime) -> Result<(), Fail> {
     let alloc = rt.alloc();
     let mut shelf = MemoryShelf::new(alloc);
-    assert!(rt; plays(alloc, &mut shelf, &BANKS)?);
-    assert!(rt; plays(alloc, &mut shelf, &EXCHANGE)?);
-    assert!(rt; plays(alloc, &mut shelf, &LATE)?);
+    assert_eq!(rt; wrong_step(alloc, &mut shelf, &BANKS)?, None);
+    assert_eq!(rt; wrong_step(alloc, &mut shelf, &EXCHANGE)?, None);
+    assert_eq!(rt; wrong_step(alloc, &mut shelf, &LATE)?, None);
     Ok(())
 }
 
-#[test]
-fn an_error_message_overtakes_the_answer(rt: HostRuntime) -> Result<(), Fail> {
-    let alloc = rt.alloc();
+/// The first step that isn't answered so by two banks that share a key-encrypting key.
+fn wrong_between_banks(alloc: Global, steps: &[Step]) -> Result<Option<usize>, NoMemory> {
     let mut shelf = MemoryShelf::new(alloc);
-    assert!(rt; plays(alloc, &mut shelf, &BANKS)?);
-    assert!(rt; plays(alloc, &mut shelf, &OVERTAKEN)?);
-    Ok(())
+    let _ = wrong_step(alloc, &mut shelf, &BANKS)?;
+    wrong_step(alloc, &mut shelf, steps)
 }
 
 #[test]
-fn a_key_is_asked_for(rt: HostRuntime) -> Result<(), Fail> {
-    let alloc = rt.alloc();
-    let mut shelf = MemoryShelf::new(alloc);
-    assert!(rt; plays(alloc, &mut shelf, &BANKS)?);
-    assert!(rt; plays(alloc, &mut shelf, &ASKED)?);
+fn each_message_finds_its_exchange(rt: HostRuntime) -> Result<(), Fail> {
+    assert_eq!(rt; wrong_between_banks(rt.alloc(), &OVERTAKEN)?, None);
+    assert_eq!(rt; wrong_between_banks(rt.alloc(), &ASKED)?, None);
+    assert_eq!(rt; wrong_between_banks(rt.alloc(), &PLAINLY_CLOSED)?, None);
     Ok(())
 }
 
@@ -426,8 +432,8 @@ fn a_key_is_asked_for(rt: HostRuntime) -> Result<(), Fail> {
 fn links_and_parties_are_kept_apart(rt: HostRuntime) -> Result<(), Fail> {
     let alloc = rt.alloc();
     let mut shelf = MemoryShelf::new(alloc);
-    assert!(rt; plays(alloc, &mut shelf, &NOBODY)?);
-    assert!(rt; plays(alloc, &mut shelf, &LOADS)?);
+    assert_eq!(rt; wrong_step(alloc, &mut shelf, &NOBODY)?, None);
+    assert_eq!(rt; wrong_step(alloc, &mut shelf, &LOADS)?, None);
     Ok(())
 }
 
@@ -442,7 +448,7 @@ fn damage_is_told_with_its_place(rt: HostRuntime) -> Result<(), Fail> {
     let alloc = rt.alloc();
     let image = [1, 0, 0, 0, 0, 0, 0, 0, 0, 0, 0, 0, 0, 0, 0, 0];
     let mut shelf = shelf_with(alloc, "BANKA", &image)?;
-    assert!(rt; plays(alloc, &mut shelf, &DAMAGED)?);
+    assert_eq!(rt; wrong_step(alloc, &mut shelf, &DAMAGED)?, None);
     assert_eq!(rt; exit_code(&Status::Damaged(2)), 6);
     Ok(())
 }

@@ -27,7 +27,7 @@ const NO_LINE: [&str; 16] = [
 ];
 
 /// Words that name no command, or one that isn't built.
-const NO_COMMAND: [&str; 11] = [
+const NO_COMMAND: [&str; 10] = [
     "help",
     "open",
     "CHECK",
@@ -36,13 +36,12 @@ const NO_COMMAND: [&str; 11] = [
     "open --party BAN",
     "replay",
     "drill --seed 7 --events 400",
-    "compact --party BANKA",
     "startkk --party BANKA",
     "translate --party BANKA",
 ];
 
 /// Commands with an option that they don't take, whatever else is wrong.
-const UNWANTED: [&str; 9] = [
+const UNWANTED: [&str; 10] = [
     "check --party BANKA",
     "check --single",
     "show --party BANKA --peer BANKB",
@@ -50,13 +49,15 @@ const UNWANTED: [&str; 9] = [
     "init --party BANKA --events 3",
     "take --seed 7",
     "purge --party BANKA --label K1",
+    "compact --party BANKA --peer BANKB",
     "load --party B --name x",
     "show --single",
 ];
 
 /// Commands that lack an option, whatever the others hold.
-const MISSING: [&str; 8] = [
+const MISSING: [&str; 9] = [
     "show",
+    "compact",
     "take",
     "start --party BANKA",
     "load --party BANKA",
@@ -110,31 +111,39 @@ fn ends_with(alloc: Global, line: &str, told: &str, code: u8) -> Result<bool, No
     Ok(is_answer(&answer, "", told) && exit_code(&answer.status) == code)
 }
 
-/// Whether each of the command lines is told as this kind.
-fn are_told(alloc: Global, lines: &[&str], told: &str) -> Result<bool, NoMemory> {
-    for line in lines {
+/// The first of the command lines that isn't told as this kind.
+fn wrong_kind(alloc: Global, lines: &[&str], told: &str) -> Result<Option<usize>, NoMemory> {
+    for (row, line) in lines.iter().enumerate() {
         if !ends_with(alloc, line, told, 2)? {
-            return Ok(false);
+            return Ok(Some(row));
         }
     }
-    Ok(true)
+    Ok(None)
 }
 
 #[test]
 fn what_is_wrong_with_the_words_is_told(rt: HostRuntime) -> Result<(), Fail> {
     let alloc = rt.alloc();
-    assert!(rt; are_told(alloc, &NO_LINE, "x917: usage 1\n")?);
-    assert!(rt; are_told(alloc, &NO_COMMAND, "x917: usage 2\n")?);
-    assert!(rt; are_told(alloc, &UNWANTED, "x917: usage 3\n")?);
-    assert!(rt; are_told(alloc, &MISSING, "x917: usage 4\n")?);
-    assert!(rt; are_told(alloc, &BAD_VALUE, "x917: usage 5\n")?);
+    assert_eq!(rt; wrong_kind(alloc, &NO_LINE, "x917: usage 1\n")?, None);
+    assert_eq!(rt; wrong_kind(alloc, &NO_COMMAND, "x917: usage 2\n")?, None);
+    assert_eq!(rt; wrong_kind(alloc, &UNWANTED, "x917: usage 3\n")?, None);
+    assert_eq!(rt; wrong_kind(alloc, &MISSING, "x917: usage 4\n")?, None);
+    assert_eq!(rt; wrong_kind(alloc, &BAD_VALUE, "x917: usage 5\n")?, None);
     Ok(())
+}
+
+/// The first of the command lines that are read that isn't answered so.
+fn wrong_reading(alloc: Global) -> Result<Option<usize>, NoMemory> {
+    for (row, (line, told)) in READ.iter().enumerate() {
+        if !ends_with(alloc, line, told, 1)? {
+            return Ok(Some(row));
+        }
+    }
+    Ok(None)
 }
 
 #[test]
 fn a_command_line_is_read_in_any_order(rt: HostRuntime) -> Result<(), Fail> {
-    for (line, told) in READ {
-        assert!(rt; ends_with(rt.alloc(), line, told, 1)?, "{line}");
-    }
+    assert_eq!(rt; wrong_reading(rt.alloc())?, None);
     Ok(())
 }

@@ -1,21 +1,21 @@
-// The command that an order tells a party.
+// The command that an order gives to a party.
 ghost use Rattle.std.specs.Prelude.{◌≡◌};
-ghost use Rattle.x917.specs.Obeys.{told_in};
+ghost use Rattle.x917.specs.Obeys.{command_of};
 
 use party_state::Command;
 use x_base::Ident;
 use x_line::Order;
 
-/// A command, and the party that is told it.
+/// A command, and the party that is to obey it.
 #[derive(Clone, Copy, Debug, PartialEq, Eq)]
-pub struct Told {
+pub struct PartyCommand {
     pub party: Ident,
     pub command: Command,
 }
 
-/// The command of an order that is told to a party.
-pub fn told_in(order: Order) -> Option<Told>
-    ensures { result ≡ told_in order }
+/// The command of an order to a party.
+pub fn command_of(order: Order) -> Option<PartyCommand>
+    ensures { result ≡ command_of order }
 {
     let (party, command) = match order {
         Order::Load {
@@ -45,5 +45,5 @@ pub fn told_in(order: Order) -> Option<Told>
         Order::Purge { party } => (party, Command::Purge),
         _ => return None,
     };
-    Some(Told { party, command })
+    Some(PartyCommand { party, command })
 }

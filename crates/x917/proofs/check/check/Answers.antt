@@ -3,7 +3,7 @@ use Rattle.x_base.specs.Edge.{AppendsTo}
 use Rattle.x917.specs.Transfer.{WrotePrefix}
 use Rattle.x917.specs.Check.{IsDecision, IsPossible}
 use Rattle.x917.proofs.Decisions.{IsOnly, of_result, done, part, refused, exact_done, exact_refused}
-use Rattle.x917.proofs.checking.check.Goals as goal
+use Rattle.x917.proofs.check.check.Goals as goal
 
 pub returns-in-Ok-Err-clause-checked : goal.returns-in-Ok-Err-clause-checked
 returns-in-Ok-Err-clause-checked g c =

@@ -1,7 +1,7 @@
 use Rattle.std.proofs.Common.{◌≡◌, ◌∙◌, ℕ, Bool, List, Ok, Err, ap}
 use Rattle.x917.specs.Check.{is_right, judged}
 use Rattle.x917.proofs.Decisions.{arrival_was, refused_was, decided_once}
-use Rattle.x917.proofs.check.judge.Goals as goal
+use Rattle.x917.proofs.judgement.judge.Goals as goal
 
 pub returns-in-Ok-clause-decides : goal.returns-in-Ok-clause-decides
 returns-in-Ok-clause-decides c =
