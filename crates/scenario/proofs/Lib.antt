@@ -1,0 +1,5 @@
+pub mod Cutting
+pub mod Judging
+pub mod Tabling
+pub mod Walking
+pub mod Drilling

@@ -1,0 +1,16 @@
+use Rattle.std.proofs.Common.{sym, ◌∙◌}
+use Rattle.scenario.proofs.Walking.{is_first_bad, one_more}
+use Rattle.scenario.proofs.reading.read.Goals as goal
+
+pub returns-in-Ok-false : goal.returns-in-Ok-false
+returns-in-Ok-false c =
+    is_first_bad c.args.bytes.now c.loop-rest.rest.now c.first_row.result.2.now c.loop-rest.lines c.loop-rest.draft
+    (record { line = c.first_row.result.0.now; ended = c.first_row.result.1 })
+    c.loop-rest.invariant c.first_row.ensures.rows c.first_row.ensures.size (sym c.in-Ok-false.field-0-test ∙ c.in-Ok-false.ensures.told)
+
+pub loop-rest-preserved : goal.loop-rest-preserved
+loop-rest-preserved c =
+    one_more c.args.bytes.now c.loop-rest.rest.now c.first_row.result.2.now c.loop-rest.lines c.loop-rest.draft c.take.new.draft
+    (record { line = c.first_row.result.0.now; ended = c.first_row.result.1 })
+    c.loop-rest.invariant c.first_row.ensures.rows c.first_row.ensures.size (sym c.in-Ok-true.field-0-test ∙ c.in-Ok-true.ensures.told)
+    (c.in-Ok-true.ensures.lines c.in-Ok-true.field-0-test) (c.in-Ok-true.ensures.draft c.in-Ok-true.field-0-test)
