@@ -1,0 +1,127 @@
+// The list of facts, in which each is found by its name.
+ghost use Rattle.std.specs.Prelude.{◌≡◌, [], ◌∷◌, ◌++◌, length, cond, Some, OnOk, OnErr, option_map, slice_get, bytes_eq};
+ghost use Rattle.indexmap.specs.IndexMap.{get};
+ghost use Rattle.x_base.specs.declared.key_name.FullName.{FullName as TheFullName};
+ghost use Rattle.fact_book.specs.Book.{Reaches, facts_of};
+ghost use Rattle.fact_book.specs.Facts.{has_named, same_full_name};
+
+use crate::entry::{Entry, NamedText};
+use indexmap::IndexMap;
+use std::alloc::Global;
+use std::marker::Model;
+use x_base::{FullName, NoMemory, Text};
+
+/// Facts in the order in which they were added, seen as their list.
+#[derive(Drop)]
+pub struct FactBook {
+    alloc: Global,
+    entries: Vec<Entry>,
+    latest: IndexMap<FullName, usize>,
+}
+
+impl Model for FactBook {
+    ghost use Rattle.std.specs.Prelude.{List};
+    ghost use Rattle.indexmap.specs.IndexMap.{get};
+    ghost use Rattle.fact_book.specs.declared.entry.NamedText.{NamedText};
+    ghost use Rattle.fact_book.specs.Book.{IsBook, facts_of};
+    ghost use Rattle.fact_book.specs.Facts.{same_full_name};
+
+    ghost Value = { List NamedText };
+
+    ghost view = { λ b. facts_of b.entries.items };
+
+    ghost invariant = { λ b. IsBook b.entries.items (get same_full_name b.latest) };
+}
+
+/// The entry at a place.
+fn entry_at(entries: &[Entry], place: usize) -> Option<&Entry>
+    ensures { option_map (λ e. e.now) result ≡ slice_get entries.now place }
+{
+    entries.get(place)
+}
+
+fn has_text(fact: &NamedText, text: &[u8]) -> bool
+    ensures { result ≡ bytes_eq fact.now.text text.now }
+{
+    fact.text.bytes() == text
+}
+
+/// Whether a fact has this text, of those that have one name: the one at the place, and those before it.
+fn is_reached(entries: &[Entry], from: Option<usize>, under: &FullName, text: &[u8]) -> bool
+    requires reaches { Reaches entries.now under.now from }
+    ensures { result ≡ has_named (facts_of entries.now) under.now text.now }
+{
+    let mut at = from;
+    'earlier: while let Some(place) = at {
+        let Some(entry) = entry_at(entries, place) else {
+            return false;
+        };
+        if has_text(&entry.fact, text) {
+            return true;
+        }
+        at = entry.earlier;
+    }
+    false
+}
+
+/// Puts an entry behind the others, as the latest of its name.
+fn put(
+    entries: &mut Vec<Entry>,
+    latest: &mut IndexMap<FullName, usize>,
+    under: FullName,
+    entry: Entry,
+) -> Result<(), NoMemory>
+    ensures added { OnOk result (entries.new.items ≡ entries.old.items ++ entry ∷ []) }
+    ensures latest { OnOk result ((other : TheFullName) → get same_full_name latest.new other ≡ cond (same_full_name under other) (Some (length entries.old.items)) (get same_full_name latest.old other)) }
+    ensures kept { OnErr result (entries.new.items ≡ entries.old.items) }
+    ensures same { OnErr result (latest.new.entries ≡ latest.old.entries) }
+{
+    latest.reserve(1)?;
+    let place = entries.len();
+    match entries.push(entry) {
+        Ok(()) => {}
+        Err(_) => return Err(NoMemory),
+    }
+    match latest.insert(under, place) {
+        Ok(_) => Ok(()),
+        Err(_) => Err(NoMemory),
+    }
+}
+
+impl FactBook {
+    /// No facts, which takes no memory.
+    pub fn new(alloc: Global) -> FactBook
+        ensures { result ≡ [] }
+    {
+        FactBook {
+            alloc,
+            entries: Vec::new(alloc),
+            latest: IndexMap::new(alloc),
+        }
+    }
+
+    /// Adds a fact: the key of this name made the code of this authenticated text.
+    pub fn add(&mut self, under: FullName, text: &[u8]) -> Result<(), NoMemory>
+        ensures added { OnOk result (self.new ≡ self.old ++ record { under = under; text = text.now } ∷ []) }
+        ensures kept { OnErr result (self.new ≡ self.old) }
+    {
+        let mut copy = Text::new(self.alloc);
+        copy.push(text)?;
+        let earlier = self.latest.get(&under).copied();
+        let fact = NamedText { under, text: copy };
+        put(
+            &mut self.entries,
+            &mut self.latest,
+            under,
+            Entry { fact, earlier },
+        )?;
+        Ok(())
+    }
+
+    /// Whether this fact was added. It takes no memory, and looks at the facts of this name alone.
+    pub fn has(&self, under: &FullName, text: &[u8]) -> bool
+        ensures { result ≡ has_named self.now under.now text.now }
+    {
+        is_reached(&self.entries, self.latest.get(under).copied(), under, text)
+    }
+}

@@ -1,0 +1,321 @@
+-- Agreement: a centre is asked, and its answer arrives.
+use Rattle.csm_grammar.proofs.Lawful.{one_meaning}
+use Rattle.world_laws.proofs.Agreeing.Moves.{Backed}
+use Rattle.std.proofs.Common.{arith, ◌≡◌, ◌≢◌, ◌⊎◌, inl, inr, ℕ, ◌≤◌, ◌+◌, true, false, Option, Some, None, List, [], ◌∷◌, ◌++◌, refl, sym, ◌∙◌, ap, subst, bytes_eq}
+use Rattle.std.proofs.lemmas.List.Elements.{Contains-append_left}
+use Rattle.x_base.specs.declared.key_name.KeyName.{KeyName}
+use Rattle.x_base.specs.declared.key_name.FullName.{FullName}
+use Rattle.x_mac.specs.declared.pair.Pair.{Pair}
+use Rattle.x_seal.specs.Wrapped.{unwrap_of, unseal_of}
+use Rattle.csm_grammar.specs.declared.message.Message.TheVariants as message
+use Rattle.csm_grammar.specs.declared.message.Rtr.{Rtr}
+use Rattle.csm_grammar.specs.Spelling.{Says}
+use Rattle.csm_write.specs.Canon.{auth_of}
+use Rattle.party_state.specs.declared.link.LinkKey.{LinkKey}
+use Rattle.party_state.specs.declared.link.LinkRec.{LinkRec}
+use Rattle.party_state.specs.declared.key.KeyRec.{KeyRec}
+use Rattle.party_state.specs.declared.exchange.Exchange.{Exchange}
+use Rattle.party_state.specs.declared.exchange.Kind.TheVariants as kind
+use Rattle.party_state.specs.Tables.{find_row, put_row}
+use Rattle.party_state.specs.Keys.{same_record, record_key, exchange_key, sends, takes}
+use Rattle.party_state.specs.State.{Party, centre_label, link_with, record_with, exchange_with, apply}
+use Rattle.party_state.specs.Rows.{Row, Coded, Plain}
+use Rattle.party_state.proofs.Keys.{test_idents}
+use Rattle.party_state.proofs.Tables.{one_found}
+use Rattle.x_base.specs.declared.verdict.Verdict.TheVariants.{UnknownKk}
+use Rattle.standard_rows.specs.Waiting.{Waiting, waiting_with}
+use Rattle.world_laws.specs.World.{Member, Fact, member_at}
+use Rattle.world_laws.specs.Steps.{facts_of}
+use Rattle.world_laws.specs.Honest.{HasFact}
+use Rattle.world_laws.specs.Starts.{HasOtherEnd}
+use Rattle.world_laws.proofs.Links.Growth.{PartyGrows}
+use Rattle.world_laws.proofs.Links.Waiting.{new_of}
+use Rattle.party_state.specs.Tables.{drop_row}
+use Rattle.party_state.proofs.Tables.{find_put_same}
+use Rattle.party_state.specs.declared.exchange.Via.{Via}
+use Rattle.standard_rows.specs.Waiting.{waiting_by, waiting_in}
+use Rattle.world_laws.proofs.Agreeing.Waiting.{AllSent}
+use Rattle.world_laws.proofs.Links.Growth.{PartyGrows}
+use Rattle.world_laws.proofs.Agreeing.Moves.{RepliesOk, FreshReply, AcceptsOk, Agreeing}
+use Rattle.world_laws.proofs.Agreeing.Lists.{Lists, after, lists_after}
+use Rattle.world_laws.proofs.Agreeing.Known.{Known}
+use Rattle.world_laws.proofs.Agreeing.KeyRecords.{unmoved}
+use Rattle.world_laws.proofs.Agreeing.Waiting.{AllSent}
+use Rattle.world_laws.proofs.Agreeing.Agreed.{Agreed}
+use Rattle.x_gen.specs.declared.generator.Gen.{Gen}
+use Rattle.x_gen.specs.Gen.{good_draw}
+use Rattle.x_seal.specs.Wrapped.{unwrap_of}
+use Rattle.party_state.specs.declared.exchange.Via.TheVariants as via
+use Rattle.party_state.specs.Keys.{link_key, same_link}
+use Rattle.party_state.specs.Verdicts.{Held as TestsHold, verdict_of, is_accept}
+use Rattle.party_state.proofs.Verdicts.{held}
+use Rattle.role_base.specs.Texts.{text_of}
+use Rattle.world_laws.proofs.Links.Growth.{change_grows}
+use Rattle.world_laws.proofs.Links.Found.{LinkAt, link_at}
+use Rattle.world_laws.proofs.Links.Putting.{put_at}
+use Rattle.world_laws.proofs.Counting.Sound.{IsSound}
+use Rattle.x_seal.proofs.Undoing.{unwraps}
+use Rattle.world_laws.proofs.Texts.Drawn.{drawn_below}
+use Rattle.world_laws.proofs.Agreeing.Known.{Mine, counted, issued, mine, theirs}
+use Rattle.world_laws.proofs.Agreeing.KeyRecords.{brought as came, one, unmoved}
+use Rattle.world_laws.proofs.Agreeing.Facts.{KsmFact}
+use Rattle.world_laws.proofs.Agreeing.Exchanges.{put_same, ex_drop, ex_put, waiting_some, waits_from, waits_put, waits_both, news_put, news_both, sent_both, sent_other}
+use Rattle.world_laws.proofs.Agreeing.Backs.{backed}
+use Rattle.world_laws.proofs.Agreeing.Steps.{other_of, pairs_or_same, some_is, fact_says, here, there, after_is, still_agreeing, refused_agreeing}
+use Rattle.std.proofs.lemmas.List.Elements.{Contains-append_left}
+use Rattle.party_state.specs.Tables.{drop_row}
+use Rattle.party_state.specs.declared.exchange.Via.{Via}
+use Rattle.party_state.specs.Verdicts.{passes}
+use Rattle.party_state.specs.declared.decision.Lead.{Lead}
+use Rattle.csm_grammar.specs.declared.arrival.Arrival.{Arrival}
+use Rattle.x_seal.specs.Wrapped.{unseal_of}
+use Rattle.role_base.specs.Texts.{auth_text, lead_under}
+use Rattle.role_base.specs.Exchanges.{new_label}
+use Rattle.bank_orders.specs.Ask.{ask}
+use Rattle.x_base.specs.declared.verdict.Verdict.TheVariants.{UnknownKk}
+use Rattle.standard_rows.specs.Waiting.{Waiting, waiting_with, waiting_by, waiting_in}
+use Rattle.standard_rows.specs.Asking.{centre_front, centre_request, ask_centre, ask_of, translate_tests, translate_reply, translate_drawn, translate_under}
+use Rattle.standard_rows.specs.Answers.{centre_name, centre_ksm, passed_reply, passed_record, brought_front, brought_value, brought_tests, brought, brought_under, brought_lead, translated_front, translated_tests, translated, translated_under, translated_lead, rtr_with, rtr_lead_with}
+use Rattle.world_laws.proofs.Sound.Answers.{brought_low}
+use Rattle.world_laws.proofs.Agreeing.Known.{IsUsed, Issued, Known}
+use Rattle.world_laws.proofs.Agreeing.Facts.{RtrFact, RtrForm, RtrApart, WaitsAt, kdu_value}
+use Rattle.world_laws.proofs.Agreeing.Lists.{facts_after}
+
+abbrev passed_exchange : Party → Rtr → ℕ → Via → Exchange
+passed_exchange p m value way = record { peer = m.ultimate; kind = kind.KeySent (centre_name p m) way; text = text_of (passed_reply p m value) }
+
+abbrev translate_exchange : Party → List ℕ → List ℕ → LinkRec → ℕ → Exchange
+translate_exchange p centre u l key = record { peer = centre; kind = kind.Translating u key l.next; text = text_of (translate_reply p centre u l key) }
+
+abbrev pub HonestAs : List Fact → Arrival → Option Lead → Type 0
+HonestAs fs a o = (l : Lead) → o ≡ Some l → l.verified ≡ true → HasFact fs l.under (auth_text a)
+
+module _ (v : Lists) (p : List ℕ) (x : Member) (room : ℕ) (at : member_at p v.members ≡ Some x) (i : Agreed v) where
+  sent : AllSent x.party
+  sent = i.sent p x at
+
+  pub ask_agreeing : (text : List ℕ) (peer : List ℕ) (o : Option (List ℕ)) → Agreeing v x room text (ask_of x.party peer o)
+  ask_agreeing text peer None = still_agreeing v p x room at i text (ask x.party peer None) refl tt tt tt
+  ask_agreeing text peer (Some u) = record {
+    back = backed v.members x.party (ask_centre x.party peer u).edits (tt, tt);
+    news = news_put x.party (apply (ask_centre x.party peer u).edits x.party) (record { peer = peer; kind = kind.Asked u; text = text_of (Plain (centre_request x.party peer u)) }) refl refl;
+    keys = unmoved refl;
+    exchanges = sent_other x.party (apply (ask_centre x.party peer u).edits x.party) (record { peer = peer; kind = kind.Asked u; text = text_of (Plain (centre_request x.party peer u)) }) refl refl refl refl sent;
+    waits = waits_put x.party (apply (ask_centre x.party peer u).edits x.party) (record { peer = peer; kind = kind.Asked u; text = text_of (Plain (centre_request x.party peer u)) }) refl refl;
+    replies = tt;
+    new = tt;
+    accepts = tt;
+  }
+
+  pub translate_agreeing : (o : Option LinkKey) (text : List ℕ) (centre u : List ℕ) (l : LinkRec) (moment : ℕ) (drawn : Option (ℕ × Gen)) → good_draw x.party.generator moment ≡ drawn → link_with (sends centre centre_label) x.party ≡ Some l → IsSound o x.party text (translate_drawn x.party centre u l drawn) → Agreeing v x room text (translate_drawn x.party centre u l drawn)
+  translate_agreeing o text centre u l moment None drew e sound = refused_agreeing v p x room at i text (verdict_of (centre_front x.party centre u ++ translate_tests x.party l None))
+  translate_agreeing o text centre u l moment (Some d) drew e sound = record {
+    back = backed v.members x.party (translate_drawn x.party centre u l (Some d)).edits (tt, (inr (inr (l, at_key, refl, refl)), (tt, tt)));
+    news = news_put x.party (apply (translate_drawn x.party centre u l (Some d)).edits x.party) (translate_exchange x.party centre u l d.0) refl refl;
+    keys = unmoved refl;
+    exchanges = sent_other x.party (apply (translate_drawn x.party centre u l (Some d)).edits x.party) (translate_exchange x.party centre u l d.0) refl refl refl refl sent;
+    waits = waits_from x.party (apply (translate_drawn x.party centre u l (Some d)).edits x.party) (λ q g n j s. elim (ex_put x.party.exchanges (translate_exchange x.party centre u l d.0) q g j) [
+      | inl a ↦ inr (l, subst (λ (z : List ℕ). link_with (sends z centre_label) x.party ≡ Some l) (sym a.0) e, at_count n (ap (λ (z : Exchange). waiting_by z.kind) a.1 ∙ s))
+      | inr a ↦ inl a.0
+    ]);
+    replies = record {
+      value = d.0;
+      waits = record {
+        party = after x room (translate_drawn x.party centre u l (Some d));
+        at = after_is v p x room at i o (translate_drawn x.party centre u l (Some d)) grown;
+        link = record l { next = l.next + 1 };
+        found = put_at (sends centre centre_label) (record l { next = l.next + 1 }) x.party.links la.key;
+        ready = i.centres p x centre l at e;
+        below = omega arith;
+        value_is = λ t j k. with_value t (sym (ap waiting_in (find_put_same exchange_key bytes_eq test_idents (translate_exchange x.party centre u l d.0) x.party.exchanges)) ∙ j);
+      };
+      opened = unwraps l.pair l.next d.0 (drawn_below x.party.generator moment d drew);
+    };
+    new = tt;
+    accepts = tt;
+  }
+    where
+      la : LinkAt x.party (sends centre centre_label) l
+      la = link_at x.party (sends centre centre_label) l e
+
+      at_key : link_with (link_key l) x.party ≡ Some l
+      at_key = rw la.key e
+
+      grown : PartyGrows o x.party (apply (translate_drawn x.party centre u l (Some d)).edits x.party)
+      grown = change_grows o (translate_drawn x.party centre u l (Some d)).edits x.party sound.edits
+
+      at_count : (n : Waiting) → Some (record { ultimate = u; value = d.0; cta = l.next }) ≡ Some n → l.next ≤ n.cta
+      at_count n h = let k : l.next ≡ n.cta = ap (λ (z : Waiting). z.cta) (some_is (record { ultimate = u; value = d.0; cta = l.next }) n h) in omega (arith, k)
+
+      with_value : (n : Waiting) → Some (record { ultimate = u; value = d.0; cta = l.next }) ≡ Some n → n.value ≡ d.0
+      with_value n h = sym (ap (λ (z : Waiting). z.value) (some_is (record { ultimate = u; value = d.0; cta = l.next }) n h))
+
+  pub translate_row_agreeing : (o : Option LinkKey) (text : List ℕ) (centre u : List ℕ) (found : Option LinkRec) (moment : ℕ) → link_with (sends centre centre_label) x.party ≡ found → IsSound o x.party text (translate_under x.party centre u found moment) → Agreeing v x room text (translate_under x.party centre u found moment)
+  translate_row_agreeing o text centre u None moment e sound = refused_agreeing v p x room at i text (verdict_of (centre_front x.party centre u ++ (false, UnknownKk) ∷ []))
+  translate_row_agreeing o text centre u (Some l) moment e sound = translate_agreeing o text centre u l moment (good_draw x.party.generator moment) refl e sound
+
+  -- the key goes on
+  passed_agreeing : (o : Option LinkKey) (text : List ℕ) (r : Row) (m : Rtr) (value : ℕ) (way : Via) (u : FullName) → new_label way ≡ None → PartyGrows o x.party (apply r.edits x.party) → Backed v.members x.party (apply r.edits x.party) → (apply r.edits x.party).keys ≡ put_row record_key same_record (passed_record x.party m value) x.party.keys → (apply r.edits x.party).exchanges ≡ put_row exchange_key bytes_eq (passed_exchange x.party m value way) (drop_row exchange_key bytes_eq m.originator x.party.exchanges)
+      → r.reply ≡ Some (Coded (message.Ksm (centre_ksm x.party m)) (record { name = centre_name x.party m; recipient = m.ultimate }) value) → r.accepts ≡ None → m.receiver ≡ x.party.own → m.originator ≢ x.party.own → Says text (message.Rtr m) → (f : HasFact v.facts u text) → (IsUsed x.party m f.fact.under m.kd → ⊥) → IsUsed (apply r.edits x.party) m f.fact.under m.kd → ((b : RtrFact v.members f.fact m) → value ≡ kdu_value b.link m) → Agreeing v x room text r
+  passed_agreeing o text r m value way u way_new grown back keys_is ex_is reply_is accepts_is mine_is other said f unused used value_is = record {
+    back = back;
+    news = news_both x.party (apply r.edits x.party) m.originator (passed_exchange x.party m value way) ex_is (way_new);
+    keys = one (passed_record x.party m value) keys_is (record { put = came refl other not_before; live = λ no own. absurd no; known = mine (sym own_on) past; gone = λ n j held. absurd (not_there n j) });
+    exchanges = sent_both x.party (apply r.edits x.party) m.originator (passed_exchange x.party m value way) (passed_record x.party m value) own_on ex_is keys_is (inr refl) (λ name q. (let n : centre_name x.party m ≡ name = some_is (centre_name x.party m) name q in (sym n, ap (λ (z : KeyName). z.originator) (sym n), refl, refl))) sent;
+    waits = waits_both x.party (apply r.edits x.party) m.originator (passed_exchange x.party m value way) ex_is refl;
+    replies = subst (RepliesOk (lists_after v x room text r) x.party.own) (sym reply_is) the_fact;
+    new = subst (FreshReply x.party) (sym reply_is) tt;
+    accepts = subst (AcceptsOk (lists_after v x room text r) x.party.own text) (sym accepts_is) tt;
+  }
+    where
+      own_on : (apply r.edits x.party).own ≡ x.party.own
+      own_on = grown.own
+
+      said_f : Says f.fact.text (message.Rtr m)
+      said_f = subst (λ (z : List ℕ). Says z (message.Rtr m)) (sym f.text_is) said
+
+      b : RtrFact v.members f.fact m
+      b = fact_says v p x room at i u text f (message.Rtr m) said
+
+      not_before : Issued v.facts x.party (record_key (passed_record x.party m value)) → ⊥
+      not_before j = go (pairs_or_same RtrApart v.facts j.fact f.fact i.apart j.stands f.stands)
+        where
+          go : (j.fact ≡ f.fact) ⊎ (RtrApart j.fact f.fact ⊎ RtrApart f.fact j.fact) → ⊥
+          go (inl e) =
+              let k : message.Rtr j.rtr ≡ message.Rtr m = one_meaning f.fact.text (message.Rtr j.rtr) (message.Rtr m) (subst (λ (g : Fact). Says g.text (message.Rtr j.rtr)) e j.said) said_f in
+              let same : j.rtr ≡ m = cc in
+              unused (subst (λ (q : Rtr). IsUsed x.party q f.fact.under q.kd) same (subst (λ (g : Fact). IsUsed x.party j.rtr g.under j.rtr.kd) e j.used))
+          go (inr (inl a)) = a j.rtr m j.said said_f j.centre j.ultimate j.count
+          go (inr (inr a)) = a m j.rtr said_f j.said (sym j.centre) (sym j.ultimate) (sym j.count)
+
+      past : Mine (facts_after v.facts x r.reply) (apply r.edits x.party) (record_key (passed_record x.party m value))
+      past = issued (λ e. other (e ∙ own_on)) (record { rtr = m; fact = f.fact; stands = Contains-append_left v.facts (facts_of x.party.own r.reply) f.fact f.stands; said = said_f; centre = refl; ultimate = refl; count = refl; used = used })
+
+      not_there : (n : KeyRec) → record_with (record_key (passed_record x.party m value)) x.party ≡ Some n → ⊥
+      not_there n j = known_not (i.known p x at (record_key (passed_record x.party m value)) n j)
+        where
+          mine_not : Mine v.facts x.party (record_key (passed_record x.party m value)) → ⊥
+          mine_not (counted o l g rd below) = other o
+          mine_not (issued o a) = not_before a
+
+          known_not : Known v x.party (record_key (passed_record x.party m value)) → ⊥
+          known_not (mine o a) = mine_not a
+          known_not (theirs o g a) = o refl
+
+      the_fact : KsmFact (lists_after v x room text r) (record { under = record { name = centre_name x.party m; recipient = m.ultimate }; text = auth_of (message.Ksm (centre_ksm x.party m)); maker = x.party.own }) (centre_ksm x.party m)
+      the_fact = record {
+        label = centre_label;
+        under = refl;
+        issuer = b.party;
+        at_issuer = there v p x room at i o r m.originator b.party grown other b.at;
+        link = b.link;
+        found = b.found;
+        ready = b.ready;
+        party = after x room r;
+        at = after_is v p x room at i o r grown;
+        past = past;
+        value = λ n j. (let q : passed_record x.party m value ≡ n = put_same x.party (apply r.edits x.party) (record_key (passed_record x.party m value)) (passed_record x.party m value) n keys_is refl j in
+            ap (λ (z : KeyRec). z.value) (sym q) ∙ (value_is b ∙ ap (λ (o : List ℕ). unseal_of b.link.pair o m.ultimate m.ctb m.kdu) mine_is));
+        waits = λ e new j nm w. absurd (elim (ex_put (drop_row exchange_key bytes_eq m.originator x.party.exchanges) (passed_exchange x.party m value way) m.ultimate e (rw (← ex_is) j)) [
+          | inl a ↦ (let q : new_of e.kind ≡ None = ap (λ (z : Exchange). new_of z.kind) (sym a.1) ∙ way_new in cc)
+          | inr a ↦ a.1 refl
+        ]);
+      }
+
+  -- with the key
+  brought_agreeing : (o : Option LinkKey) (a : Arrival) (m : Rtr) (k : ℕ × ℕ) (found : Option LinkRec) → Says (auth_text a) (message.Rtr m) → m.kd ≡ Some k → link_with (takes m.originator centre_label) x.party ≡ found → HonestAs v.facts a (brought_lead x.party a m k found) → is_accept (brought x.party a m k found).verdict ≡ true → IsSound o x.party (auth_text a) (brought x.party a m k found) → Agreeing v x room (auth_text a) (brought x.party a m k found)
+  brought_agreeing o a m k None said kd_is e honest h sound = refused_agreeing v p x room at i (auth_text a) (verdict_of (brought_front x.party m None))
+  brought_agreeing o a m k (Some l) said kd_is e honest h sound = passed_agreeing o (auth_text a) (brought x.party a m k (Some l)) m (brought_value l k) (via.Distribution m.originator k.1) (brought_under x.party m k.1) refl (change_grows o (brought x.party a m k (Some l)).edits x.party sound.edits) (backed v.members x.party (brought x.party a m k (Some l)).edits (inr (inr (l, at_key, refl, refl)), (tt, (tt, (tt, tt))))) refl refl refl refl mine_is.0 mine_is.1 said fact (λ u. unused (subst (IsUsed x.party m fact.fact.under) kd_is u)) (subst (IsUsed (apply (brought x.party a m k (Some l)).edits x.party) m fact.fact.under) (sym kd_is) (up, at_up, omega arith)) value_is
+    where
+      up : LinkRec
+      up = record l { next = k.1 + 1 }
+
+      la : LinkAt x.party (takes m.originator centre_label) l
+      la = link_at x.party (takes m.originator centre_label) l e
+
+      at_key : link_with (link_key l) x.party ≡ Some l
+      at_key = rw la.key e
+
+      t : TestsHold (brought_tests x.party a m k l)
+      t = held (brought_tests x.party a m k l) refl h
+
+      mine_is : (m.receiver ≡ x.party.own) × (m.originator ≢ x.party.own)
+      mine_is = other_of x.party m.receiver m.originator t.0
+
+      front : passes (brought_front x.party m (Some l)) ≡ true
+      front = rw (t.0, t.1.0, t.1.1.0, t.1.1.1.0) refl
+
+      fact : HasFact v.facts (brought_under x.party m k.1) (auth_text a)
+      fact = honest (lead_under a (brought_under x.party m k.1) (brought_value l k)) (rw front refl) t.1.1.1.1.1.0
+
+      at_up : find_row link_key same_link (takes m.originator centre_label) (put_row link_key same_link (record l { next = k.1 + 1 }) x.party.links) ≡ Some (record l { next = k.1 + 1 })
+      at_up = put_at (takes m.originator centre_label) (record l { next = k.1 + 1 }) x.party.links la.key
+
+      unused : IsUsed x.party m fact.fact.under (Some k) → ⊥
+      unused u =
+          let low : l.next ≤ k.1 = brought_low x.party a m k l h in
+          let n : u.0.next ≡ l.next = ap (λ (y : LinkRec). y.next) (one_found u.0 l u.1 e) in
+          omega (arith, low, u.2, n)
+
+      value_is : (b : RtrFact v.members fact.fact m) → brought_value l k ≡ kdu_value b.link m
+      value_is b =
+          let form : RtrForm v.members b.party.party fact.fact.under m (kdu_value b.link m) (Some k) = subst (RtrForm v.members b.party.party fact.fact.under m (kdu_value b.link m)) kd_is b.form in
+          let ends : HasOtherEnd v.members m.receiver (takes m.originator centre_label) form.0 = i.ends m.originator b.party m.receiver centre_label form.0 b.at form.1 form.2 in
+          let y_is : ends.member ≡ x = here v p x room at i m.receiver ends.member mine_is.0 ends.at in
+          let link : ends.link ≡ l = one_found ends.link l (subst (λ (z : Member). link_with (takes m.originator centre_label) z.party ≡ Some ends.link) y_is ends.found) e in
+          ap (λ (q : Pair). unwrap_of q k.1 k.0) (ap (λ (y : LinkRec). y.pair) (sym link) ∙ ends.pair) ∙ form.3
+
+  -- without it
+  translated_agreeing : (o : Option LinkKey) (a : Arrival) (m : Rtr) (found : Option Waiting) → Says (auth_text a) (message.Rtr m) → m.kd ≡ None → waiting_with x.party m.originator ≡ found → HonestAs v.facts a (translated_lead x.party a m found) → is_accept (translated x.party a m found).verdict ≡ true → IsSound o x.party (auth_text a) (translated x.party a m found) → Agreeing v x room (auth_text a) (translated x.party a m found)
+  translated_agreeing o a m None said kd_is e honest h sound = refused_agreeing v p x room at i (auth_text a) (verdict_of (translated_front x.party m None))
+  translated_agreeing o a m (Some n) said kd_is e honest h sound = passed_agreeing o (auth_text a) (translated x.party a m (Some n)) m n.value (via.Translation m.originator) (translated_under x.party m n) refl (change_grows o (translated x.party a m (Some n)).edits x.party sound.edits) (backed v.members x.party (translated x.party a m (Some n)).edits (tt, (tt, (tt, tt)))) refl refl refl refl mine_is.0 mine_is.1 said fact (λ u. unused (subst (IsUsed x.party m fact.fact.under) kd_is u)) (subst (IsUsed (apply (translated x.party a m (Some n)).edits x.party) m fact.fact.under) (sym kd_is) used) value_is
+    where
+      t : TestsHold (translated_tests x.party a m n)
+      t = held (translated_tests x.party a m n) refl h
+
+      mine_is : (m.receiver ≡ x.party.own) × (m.originator ≢ x.party.own)
+      mine_is = other_of x.party m.receiver m.originator t.0
+
+      front : passes (translated_front x.party m (Some n)) ≡ true
+      front = rw (t.0, t.1.0, t.1.1.0, t.1.1.1.0) refl
+
+      fact : HasFact v.facts (translated_under x.party m n) (auth_text a)
+      fact = honest (lead_under a (translated_under x.party m n) n.value) (rw front refl) t.1.1.1.1.0
+
+      count : n.cta ≡ fact.fact.under.name.count
+      count = ap (λ (z : FullName). z.name.count) (sym fact.under_is)
+
+      b : RtrFact v.members fact.fact m
+      b = fact_says v p x room at i (translated_under x.party m n) (auth_text a) fact (message.Rtr m) said
+
+      waits_of : (b : RtrFact v.members fact.fact m) → WaitsAt v.members m.receiver m.originator fact.fact.under.name.count (kdu_value b.link m)
+      waits_of b = subst (RtrForm v.members b.party.party fact.fact.under m (kdu_value b.link m)) kd_is b.form
+
+      value_is : (b : RtrFact v.members fact.fact m) → n.value ≡ kdu_value b.link m
+      value_is b =
+          let w = waits_of b in
+          let y_is : w.party ≡ x = here v p x room at i m.receiver w.party mine_is.0 w.at in
+          w.value_is n (subst (λ (z : Member). waiting_with z.party m.originator ≡ Some n) (sym y_is) e) count
+
+      unused : IsUsed x.party m fact.fact.under None → ⊥
+      unused u = u.4 n e count
+
+      used : IsUsed (apply (translated x.party a m (Some n)).edits x.party) m fact.fact.under None
+      used =
+          let w = waits_of b in
+          let y_is : w.party ≡ x = here v p x room at i m.receiver w.party mine_is.0 w.at in
+          let found : link_with (sends m.originator centre_label) x.party ≡ Some w.link = subst (λ (z : Member). link_with (sends m.originator centre_label) z.party ≡ Some w.link) y_is w.found in
+          (w.link, found, w.ready, w.below, λ q j. absurd (none q j))
+        where
+          none : (q : Waiting) → waiting_with (apply (translated x.party a m (Some n)).edits x.party) m.originator ≡ Some q → ⊥
+          none q j = (let s = waiting_some (exchange_with m.originator (apply (translated x.party a m (Some n)).edits x.party)) q j in go s.0 s.1 s.2)
+            where
+              go : (g : Exchange) → exchange_with m.originator (apply (translated x.party a m (Some n)).edits x.party) ≡ Some g → waiting_by g.kind ≡ Some q → ⊥
+              go g stands k = elim (ex_put (drop_row exchange_key bytes_eq m.originator x.party.exchanges) (passed_exchange x.party m n.value (via.Translation m.originator)) m.originator g stands) [
+                | inl d ↦ (let f : waiting_by (passed_exchange x.party m n.value (via.Translation m.originator)).kind ≡ Some q = ap (λ (z : Exchange). waiting_by z.kind) d.1 ∙ k in cc)
+                | inr d ↦ (ex_drop x.party.exchanges m.originator m.originator g d.0).1 refl
+              ]
+
+  pub rtr_agreeing : (o : Option LinkKey) (a : Arrival) (m : Rtr) (kd : Option (ℕ × ℕ)) → m.kd ≡ kd → Says (auth_text a) (message.Rtr m) → HonestAs v.facts a (rtr_lead_with x.party a m kd) → is_accept (rtr_with x.party a m kd).verdict ≡ true → IsSound o x.party (auth_text a) (rtr_with x.party a m kd) → Agreeing v x room (auth_text a) (rtr_with x.party a m kd)
+  rtr_agreeing o a m (Some k) e said honest h sound = brought_agreeing o a m k (link_with (takes m.originator centre_label) x.party) said e refl honest h sound
+  rtr_agreeing o a m None e said honest h sound = translated_agreeing o a m (waiting_with x.party m.originator) said e refl honest h sound

@@ -1,0 +1,173 @@
+-- A row that stands keeps what is known of the facts.
+use Rattle.std.proofs.lemmas.List.Quantifiers.{all_pairs_push}
+use Rattle.std.proofs.Common.{append-nil}
+use Rattle.std.proofs.Common.{arith, ◌≡◌, inl, inr, ℕ, Option, Some, None, List, ◌++◌, refl, sym, ◌∙◌, ap, subst, bytes_eq}
+use Rattle.x_base.specs.declared.key_name.KeyName.{KeyName}
+use Rattle.x_base.specs.declared.key_name.FullName.{FullName}
+use Rattle.x_mac.specs.declared.pair.Pair.{Pair}
+use Rattle.x_seal.specs.Wrapped.{unwrap_of, unseal_of}
+use Rattle.csm_grammar.specs.declared.message.Message.{Message}
+use Rattle.csm_grammar.specs.declared.message.Message.TheVariants as message
+use Rattle.csm_grammar.specs.declared.message.Rtr.{Rtr}
+use Rattle.csm_grammar.specs.declared.message.Rfs.{Rfs}
+use Rattle.csm_grammar.specs.declared.message.Rsm.{Rsm}
+use Rattle.csm_grammar.specs.declared.message.Ksm.{Ksm}
+use Rattle.csm_grammar.specs.Spelling.{Says}
+use Rattle.csm_write.specs.Canon.{auth_of}
+use Rattle.party_state.specs.declared.link.LinkKey.{LinkKey}
+use Rattle.party_state.specs.declared.link.LinkRec.{LinkRec}
+use Rattle.party_state.specs.declared.key.KeyRec.{KeyRec}
+use Rattle.party_state.specs.declared.exchange.Exchange.{Exchange}
+use Rattle.party_state.specs.Keys.{sends}
+use Rattle.party_state.specs.State.{Party, centre_label, link_with, record_with, exchange_with, apply}
+use Rattle.party_state.specs.Rows.{Row, Reply, Coded, Plain, Again, OfKsm, OfDsm}
+use Rattle.party_state.proofs.Keys.{test_idents}
+use Rattle.party_state.proofs.Tables.{one_found}
+use Rattle.standard_rows.specs.Keys.{body_issuer, body_value}
+use Rattle.standard_rows.specs.Waiting.{Waiting, waiting_with}
+use Rattle.world_laws.specs.World.{Member, Fact, own_of, member_at}
+use Rattle.world_laws.specs.Steps.{facts_of}
+use Rattle.world_laws.proofs.Links.Growth.{LinkGrows}
+use Rattle.world_laws.proofs.Links.Waiting.{new_of}
+use Rattle.world_laws.proofs.Texts.Own.{IsOwn}
+use Rattle.std.proofs.Common.{AllPairs, All, get_or}
+use Rattle.std.proofs.lemmas.List.Elements.{All-weaker, All-push}
+use Rattle.party_state.proofs.Tables.{find_key}
+use Rattle.world_laws.proofs.Links.Putting.{some_none}
+use Rattle.world_laws.proofs.Counting.Sound.{IsSound}
+use Rattle.world_laws.proofs.Texts.Own.{own_means}
+use Rattle.world_laws.proofs.Agreeing.Lists.{Lists, members_after, facts_after, acceptances_after, lists_after, Goes, WaitsMove}
+use Rattle.world_laws.proofs.Agreeing.Waiting.{sent_name_by, mine_not_new, NewFits}
+use Rattle.world_laws.proofs.Agreeing.Known.{Mine, mine_on}
+use Rattle.world_laws.proofs.Agreeing.KeyRecords.{StandsBefore, before, mine_stands, IsPut}
+use Rattle.world_laws.proofs.Agreeing.Facts.{ksm_key, KsmFact, WaitsAt, RfsFact, kdu_value, RtrForm, RtrFact, RsmOk, MessageOk, FactOk, RtrApart}
+use Rattle.world_laws.proofs.Agreeing.Moves.{RepliesOk, FreshMessage, FreshReply, OwnReply, Agreeing}
+use Rattle.world_laws.proofs.Agreeing.Agreed.{Forward, Agreed}
+use Rattle.world_laws.proofs.Agreeing.Members.{carried_on, forward, at_own, more}
+
+module _ (o : Option LinkKey) (v : Lists) (p : List ℕ) (x : Member) (room : ℕ) (text : List ℕ) (r : Row) (found : member_at p v.members ≡ Some x) (sound : IsSound o x.party text r) (own_reply : OwnReply r.reply) (row : Agreeing v x room text r) (i : Agreed v) where
+  pub ksm_on : (f : Fact) (k : Ksm) → KsmFact v f k → KsmFact (lists_after v x room text r) f k
+  ksm_on f k b =
+      let g = forward o v p x room text r found sound own_reply row i (body_issuer k.originator k.body) b.issuer b.at_issuer in
+      let l = g.2.goes.ready (sends k.receiver b.label) b.link b.found b.ready in
+      let h = forward o v p x room text r found sound own_reply row i k.originator b.party b.at in
+      record {
+        label = b.label;
+        under = b.under;
+        issuer = g.0;
+        at_issuer = g.1;
+        link = l.0;
+        found = l.1;
+        ready = l.2.ready b.ready;
+        party = h.0;
+        at = h.1;
+        past = mine_on v.facts (facts_of x.party.own r.reply) b.party.party h.0.party (ksm_key k b.label) h.2.goes h.2.waits b.past;
+        value = λ m j. value_on h.2 l.0 l.2 m j;
+        waits = λ e new j n w. subst (λ (q : Pair). NewFits h.0.party k.receiver q k.body new) (sym l.2.pair) (fits_on h.0 h.2 e new j n w);
+      }
+    where
+      fits_on : (y : Member) → Forward v (lists_after v x room text r) x (apply r.edits x.party) b.party y → (e : Exchange) (new : List ℕ) → exchange_with k.receiver y.party ≡ Some e → sent_name_by e.kind ≡ Some (ksm_key k b.label).name → new_of e.kind ≡ Some new → NewFits y.party k.receiver b.link.pair k.body new
+      fits_on y h e new j n w = elim (h.news k.receiver e (ksm_key k b.label).name new j n w) [
+        | inl old ↦ (let u = b.waits e new old n w in record {
+          kk = u.kk;
+          carried = u.carried;
+          label = u.label;
+          pair_is = λ l at. elim (h.sending k.receiver new l at) [
+            | inl z ↦ z.2 ∙ u.pair_is z.0 z.1
+            | inr z ↦ absurd (some_none {x = e} old z)
+          ];
+        })
+        | inr s ↦ absurd (mine_not_new v.facts b.party.party (ksm_key k b.label) b.past s)
+      ]
+
+      own : k.originator ≡ b.party.party.own
+      own = find_key own_of bytes_eq test_idents k.originator b.party v.members b.at
+
+      value_on : {y : Member} → Forward v (lists_after v x room text r) x (apply r.edits x.party) b.party y → (l : LinkRec) → LinkGrows b.link l → (m : KeyRec) → record_with (ksm_key k b.label) y.party ≡ Some m → m.value ≡ body_value l.pair k.originator k.receiver k.body
+      value_on h l g m j = elim (h.keys (ksm_key k b.label) m j) [
+        | inl old ↦ b.value m old ∙ carried_on b.link l k.originator k.receiver k.body g
+        | inr put ↦ put_on put.0 put.1 g
+      ]
+        where
+          put_on : b.party ≡ x → IsPut v (lists_after v x room text r) x.party (apply r.edits x.party) (ksm_key k b.label) m → LinkGrows b.link l → m.value ≡ body_value l.pair k.originator k.receiver k.body
+          put_on same put g = stands (mine_stands v x.party (ksm_key k b.label) m put.key (own ∙ ap (λ (z : Member). z.party.own) same) (subst (λ (z : Member). Mine v.facts z.party (ksm_key k b.label)) same b.past) put.fine.put)
+            where
+              stands : StandsBefore x.party m → m.value ≡ body_value l.pair k.originator k.receiver k.body
+              stands (before u at value ended) =
+                  let at_b : record_with (ksm_key k b.label) b.party.party ≡ Some u = rw (put.key, same) at in
+                  value ∙ (b.value u at_b ∙ carried_on b.link l k.originator k.receiver k.body g)
+
+  pub waits_on : (bank centre : List ℕ) (cta value : ℕ) (b : WaitsAt v.members bank centre cta value) → (d : WaitsAt (members_after v.members x room r) bank centre cta value) × (d.link.pair ≡ b.link.pair)
+  waits_on bank centre cta value b =
+      let h = forward o v p x room text r found sound own_reply row i bank b.party b.at in
+      let l = h.2.goes.ready (sends centre centre_label) b.link b.found b.ready in
+      (record { party = h.0; at = h.1; link = l.0; found = l.1; ready = l.2.ready b.ready; below = omega (arith, b.below, l.2.next); value_is = λ t j e. waits h.0.party h.2.waits t j e }, l.2.pair)
+    where
+      waits : (t : Party) → WaitsMove b.party.party t → (a : Waiting) → waiting_with t centre ≡ Some a → a.cta ≡ cta → a.value ≡ value
+      waits t w a j e = elim (w centre a j) [
+        | inl old ↦ b.value_is a old e
+        | inr n ↦ (let q : b.link.next ≡ n.0.next = ap (λ (y : LinkRec). y.next) (one_found b.link n.0 b.found n.1) in absurd (omega (arith, b.below, n.2, e, q)))
+      ]
+
+  pub rfs_on : (f : Fact) (m : Rfs) → RfsFact v.members f m → RfsFact (members_after v.members x room r) f m
+  rfs_on f m b = let d = waits_on m.originator m.receiver m.cta b.value b.waits in record { value = b.value; waits = d.0; opened = ap (λ (q : Pair). unwrap_of q m.cta m.kd) d.1 ∙ b.opened }
+
+  pub form_on : (s t : Party) (u : FullName) (m : Rtr) (value : ℕ) (kd : Option (ℕ × ℕ)) → Goes s t → RtrForm v.members s u m value kd → RtrForm (members_after v.members x room r) t u m value kd
+  form_on s t u m value (Some k) g b = let l = g.ready (sends m.receiver centre_label) b.0 b.1 b.2 in (l.0, l.1, l.2.ready b.2, ap (λ (q : Pair). unwrap_of q k.1 k.0) l.2.pair ∙ b.3)
+  form_on s t u m value None g b = (waits_on m.receiver m.originator u.name.count value b).0
+
+  pub rtr_on : (f : Fact) (m : Rtr) → RtrFact v.members f m → RtrFact (members_after v.members x room r) f m
+  rtr_on f m b =
+      let h = forward o v p x room text r found sound own_reply row i m.originator b.party b.at in
+      let l = h.2.goes.ready (sends m.ultimate centre_label) b.link b.found b.ready in
+      let same : kdu_value b.link m ≡ kdu_value l.0 m = ap (λ (q : Pair). unseal_of q m.receiver m.ultimate m.ctb m.kdu) (sym l.2.pair) in
+      record { party = h.0; at = h.1; link = l.0; found = l.1; ready = l.2.ready b.ready; below = omega (arith, b.below, l.2.next); form = subst (λ (n : ℕ). RtrForm (members_after v.members x room r) h.0.party f.under m n m.kd) same (form_on b.party.party h.0.party f.under m (kdu_value b.link m) m.kd h.2.goes b.form) }
+
+  pub fact_on : (f : Fact) → FactOk v f → FactOk (lists_after v x room text r) f
+  fact_on f ok m said = go m (ok m said)
+    where
+      rsm_on : (n : Rsm) (o : Option KeyName) → RsmOk v.acceptances f n o → RsmOk (acceptances_after v.acceptances x text r) f n o
+      rsm_on n None b = more o v p x room text r found sound own_reply row i OfKsm n.originator f.under b
+      rsm_on n (Some q) b = more o v p x room text r found sound own_reply row i OfDsm n.originator f.under b
+
+      go : (m : Message) → MessageOk v f m → MessageOk (lists_after v x room text r) f m
+      go (message.Rsi m) b = tt
+      go (message.Rfs m) b = rfs_on f m b
+      go (message.Rtr m) b = rtr_on f m b
+      go (message.Ksm k) b = ksm_on f k b
+      go (message.Rsm n) b = rsm_on n n.idd b
+      go (message.Ers m) b = tt
+      go (message.Dsm m) b = tt
+      go (message.Esm m) b = tt
+
+  pub facts_on : All (FactOk (lists_after v x room text r)) (facts_after v.facts x r.reply)
+  facts_on = go r.reply own_reply row.replies
+    where
+      old : All (FactOk (lists_after v x room text r)) v.facts
+      old = All-weaker (FactOk v) (FactOk (lists_after v x room text r)) fact_on v.facts i.facts
+
+      go : (o : Option Reply) → OwnReply o → RepliesOk (lists_after v x room text r) x.party.own o → All (FactOk (lists_after v x room text r)) (v.facts ++ facts_of x.party.own o)
+      go None w new = rw append-nil old
+      go (Some (Plain m)) w new = rw append-nil old
+      go (Some (Again text)) w new = rw append-nil old
+      go (Some (Coded y under value)) w new = All-push (FactOk (lists_after v x room text r)) v.facts (record { under = under; text = auth_of y; maker = x.party.own }) old (λ m said. subst (MessageOk (lists_after v x room text r) (record { under = under; text = auth_of y; maker = x.party.own })) (own_means y m w said) new)
+
+  pub apart_on : AllPairs RtrApart (facts_after v.facts x r.reply)
+  apart_on = go r.reply own_reply row.new
+    where
+      cross : (y : Message) (f g : Fact) → IsOwn y → g.text ≡ auth_of y → FactOk v f → FreshMessage x.party y → RtrApart f g
+      cross y f g w e ok new m n said_f said_g org ultimate count =
+          let y_is : y ≡ message.Rtr n = own_means y (message.Rtr n) w (subst (λ (z : List ℕ). Says z (message.Rtr n)) e said_g) in
+          let fresh : FreshMessage x.party (message.Rtr n) = subst (FreshMessage x.party) y_is new in
+          let b : RtrFact v.members f m = ok (message.Rtr m) said_f in
+          let party : b.party ≡ x = one_found b.party x b.at (at_own o v p x room text r found sound own_reply row i m.originator (org ∙ fresh.0)) in
+          let at : link_with (sends n.ultimate centre_label) x.party ≡ Some b.link = subst (λ (q : List ℕ). link_with (sends q centre_label) x.party ≡ Some b.link) ultimate (subst (λ (z : Member). link_with (sends m.ultimate centre_label) z.party ≡ Some b.link) party b.found) in
+          let next : b.link.next ≡ fresh.1.0.next = ap (λ (l : LinkRec). l.next) (one_found b.link fresh.1.0 at fresh.1.1) in
+          omega (arith, b.below, fresh.1.2, next, count)
+
+      go : (o : Option Reply) → OwnReply o → FreshReply x.party o → AllPairs RtrApart (v.facts ++ facts_of x.party.own o)
+      go None w new = rw append-nil i.apart
+      go (Some (Plain m)) w new = rw append-nil i.apart
+      go (Some (Again text)) w new = rw append-nil i.apart
+      go (Some (Coded y under value)) w new = all_pairs_push RtrApart v.facts (record { under = under; text = auth_of y; maker = x.party.own }) i.apart (λ k d l. cross y (get_or v.facts k d) (record { under = under; text = auth_of y; maker = x.party.own }) w refl (i.facts k d l) new)
+      -- Acceptances

@@ -1,0 +1,122 @@
+-- How key records change: why one may be put, and what stays of the others.
+use Rattle.std.proofs.Common.{arith, ◌≡◌, ◌≢◌, ◌⊎◌, inl, inr, ℕ, ◌≤◌, Bool, true, false, not, cond, Some, List, refl, sym, ◌∙◌, ap, subst, filter}
+use Rattle.x_base.specs.declared.key_name.FullName.{FullName}
+use Rattle.party_state.specs.declared.link.LinkRec.{LinkRec}
+use Rattle.party_state.specs.declared.key.RecordKey.{RecordKey}
+use Rattle.party_state.specs.declared.key.KeyRec.{KeyRec}
+use Rattle.party_state.specs.declared.key.KeyStatus.{KeyStatus}
+use Rattle.party_state.specs.declared.key.KeyStatus.TheVariants.{Pending, Live, Held, Closing, Ended}
+use Rattle.party_state.specs.Tables.{Distinct, find_row, put_row}
+use Rattle.party_state.specs.Keys.{same_record, record_key, sends}
+use Rattle.party_state.specs.Names.{full_name}
+use Rattle.party_state.specs.State.{Party, link_with, record_with, is_ended}
+use Rattle.party_state.specs.Rows.{OfKsm, OfDsm, OfAnswer}
+use Rattle.party_state.proofs.Keys.{test_records}
+use Rattle.party_state.proofs.Tables.{one_found, find_put, filter_keeps}
+use Rattle.party_state.proofs.Distinct.{filter_back}
+use Rattle.world_laws.specs.World.{Acceptance}
+use Rattle.world_laws.specs.Laws.{IsHeld, HasAccepted}
+use Rattle.world_laws.proofs.Agreeing.Lists.{Counts, Lists, to_peer, to_own}
+use Rattle.world_laws.proofs.Agreeing.Known.{Issued, Mine, counted, issued, Known, mine, theirs, full_theirs}
+
+-- an end of the key was accepted
+abbrev pub Gone : List Acceptance → List ℕ → FullName → Type 0
+Gone accs p u = HasAccepted accs OfDsm p u ⊎ HasAccepted accs OfAnswer p u
+
+abbrev pub NotTaken : List Acceptance → List ℕ → RecordKey → Type 0
+NotTaken accs own k = ¬ (HasAccepted accs OfKsm own (to_own k own))
+
+-- why a record may be put: it stands, or its name is new
+pub data KeyPut (v : Lists) (s : Party) (m : KeyRec) : Type 0 where
+  changed : (k : KeyRec) → record_with (record_key m) s ≡ Some k → m.value ≡ k.value → (k.status ≡ Ended → m.status ≡ Ended) → KeyPut v s m
+  fresh : (l : LinkRec) → link_with (sends m.peer m.name.label) s ≡ Some l → l.next ≤ m.name.count → m.name.originator ≡ s.own → m.name.issuer ≡ s.own → KeyPut v s m
+  taken : m.name.originator ≢ s.own → NotTaken v.acceptances s.own (record_key m) → KeyPut v s m
+  brought : m.name.originator ≡ s.own → m.name.issuer ≢ s.own → ¬ (Issued v.facts s (record_key m)) → KeyPut v s m
+
+-- a name of the party's own that is past isn't put anew
+pub data StandsBefore (s : Party) (m : KeyRec) : Type 0 where
+  before : (k : KeyRec) → record_with (record_key m) s ≡ Some k → m.value ≡ k.value → (k.status ≡ Ended → m.status ≡ Ended) → StandsBefore s m
+
+pub mine_stands : (v : Lists) (s : Party) (k : RecordKey) (m : KeyRec) → k ≡ record_key m → k.name.originator ≡ s.own → Mine v.facts s k → KeyPut v s m → StandsBefore s m
+mine_stands v s k m e own p (changed u at value ended) = before u at value ended
+mine_stands v s k m e own (counted i l h r below) (fresh j at low o i') =
+    let peer : k.peer ≡ m.peer = ap (λ (n : RecordKey). n.peer) e in
+    let label : k.name.label ≡ m.name.label = ap (λ (n : RecordKey). n.name.label) e in
+    let count : k.name.count ≡ m.name.count = ap (λ (n : RecordKey). n.name.count) e in
+    let at_j : link_with (sends k.peer k.name.label) s ≡ Some j = rw (peer, label) at in
+    let next : l.next ≡ j.next = ap (λ (y : LinkRec). y.next) (one_found l j h at_j) in
+    absurd (omega (arith, below, low, next, count))
+mine_stands v s k m e own (issued other i) (fresh j at low o i') = absurd (other (ap (λ (n : RecordKey). n.name.issuer) e ∙ i'))
+mine_stands v s k m e own p (taken other not_before) = absurd (other (sym (ap (λ (n : RecordKey). n.name.originator) e) ∙ own))
+mine_stands v s k m e own (counted i l h r below) (brought o other not_before) = absurd (other (sym (ap (λ (n : RecordKey). n.name.issuer) e) ∙ i))
+mine_stands v s k m e own (issued other i) (brought o other' not_before) = absurd (not_before (subst (Issued v.facts s) e i))
+
+-- nor is any other name that is past
+pub known_stands : (v : Lists) (s : Party) (k : RecordKey) (m : KeyRec) → k ≡ record_key m → Known v s k → KeyPut v s m → StandsBefore s m
+known_stands v s k m e (mine own p) put = mine_stands v s k m e own p put
+known_stands v s k m e (theirs o peer a) (changed u at value ended) = before u at value ended
+known_stands v s k m e (theirs o peer a) (fresh l j low own i) = absurd (o (ap (λ (z : RecordKey). z.name.originator) e ∙ own))
+known_stands v s k m e (theirs o peer a) (taken other not_before) = absurd (not_before (subst (λ (z : RecordKey). HasAccepted v.acceptances OfKsm s.own (to_own z s.own)) e a))
+known_stands v s k m e (theirs o peer a) (brought own i not_before) = absurd (o (ap (λ (z : RecordKey). z.name.originator) e ∙ own))
+
+pub record KeyFine (v w : Lists) (s t : Party) (m : KeyRec) : Type 0 where
+  pub put : KeyPut v s m
+  pub live : Counts m.status → m.name.originator ≡ s.own → HasAccepted w.acceptances OfKsm m.peer (to_peer (record_key m))
+  pub known : Known w t (record_key m)
+  pub gone : (k : KeyRec) → record_with (record_key m) s ≡ Some k → IsHeld k.status → IsHeld m.status ⊎ Gone w.acceptances s.own (full_name s.own m)
+
+pub data KeysMove (v w : Lists) (s t : Party) : Type 0 where
+  unmoved : t.keys ≡ s.keys → KeysMove v w s t
+  one : (m : KeyRec) → t.keys ≡ put_row record_key same_record m s.keys → KeyFine v w s t m → KeysMove v w s t
+  purged : t.keys ≡ filter (λ (k : KeyRec). not (is_ended k.status)) s.keys → KeysMove v w s t
+
+pub record IsPut (v w : Lists) (s t : Party) (k : RecordKey) (r : KeyRec) : Type 0 where
+  pub key : k ≡ record_key r
+  pub fine : KeyFine v w s t r
+
+pub key_cases : (v w : Lists) (s t : Party) → Distinct record_key same_record s.keys → KeysMove v w s t → (k : RecordKey) (r : KeyRec) → record_with k t ≡ Some r → (record_with k s ≡ Some r) ⊎ IsPut v w s t k r
+key_cases v w s t d (unmoved e) k r h = inl (rw (← e) h)
+key_cases v w s t d (purged e) k r h = inl (filter_back record_key same_record test_records (λ (y : KeyRec). not (is_ended y.status)) k r s.keys d (rw (← e) h))
+key_cases v w s t d (one m e fine) k r h = go (same_record k (record_key m)) refl
+  where
+    at_put : (b : Bool) → same_record k (record_key m) ≡ b → cond b (Some m) (find_row record_key same_record k s.keys) ≡ Some r
+    at_put b i = rw (← i, ← find_put record_key same_record test_records k m s.keys, ← e) h
+
+    go : (b : Bool) → same_record k (record_key m) ≡ b → (record_with k s ≡ Some r) ⊎ IsPut v w s t k r
+    go true i =
+        let is : m ≡ r = (let j = at_put true i in cc) in
+        let key : k ≡ record_key m = (test_records.decides k (record_key m)).0 i in
+        inr (subst (λ (n : KeyRec). IsPut v w s t k n) is (record { key = key; fine = fine }))
+    go false i = inl (at_put false i)
+
+pub held_not_ended : (x : KeyStatus) → IsHeld x → not (is_ended x) ≡ true
+held_not_ended Pending h = refl
+held_not_ended Live h = refl
+held_not_ended Held h = refl
+held_not_ended Closing h = refl
+held_not_ended Ended h = absurd h
+
+-- another's key that was accepted is held on with its value, or gone
+pub held_forward : (v w : Lists) (s t : Party) → KeysMove v w s t → (k : RecordKey) (r : KeyRec) → record_with k s ≡ Some r → IsHeld r.status → k.name.originator ≢ s.own → k.peer ≡ k.name.originator → HasAccepted v.acceptances OfKsm s.own (to_own k s.own) → ((q : KeyRec) × (record_with k t ≡ Some q) × IsHeld q.status × (q.value ≡ r.value)) ⊎ Gone w.acceptances s.own (to_own k s.own)
+held_forward v w s t (unmoved e) k r h held other peer a = inl (r, rw e h, held, refl)
+held_forward v w s t (purged e) k r h held other peer a = inl (r, rw e (filter_keeps record_key same_record (λ (y : KeyRec). not (is_ended y.status)) k r s.keys (held_not_ended r.status held) h), held, refl)
+held_forward v w s t (one m e fine) k r h held other peer a = go (same_record k (record_key m)) refl
+  where
+    at_put : (b : Bool) → same_record k (record_key m) ≡ b → record_with k t ≡ cond b (Some m) (find_row record_key same_record k s.keys)
+    at_put b i = rw (← i, e) (find_put record_key same_record test_records k m s.keys)
+
+    put : k ≡ record_key m → record_with k t ≡ Some m → StandsBefore s m → ((q : KeyRec) × (record_with k t ≡ Some q) × IsHeld q.status × (q.value ≡ r.value)) ⊎ Gone w.acceptances s.own (to_own k s.own)
+    put key at (before u i value ended) =
+        let i_k : record_with (record_key m) s ≡ Some r = rw (← key) h in
+        let is : u ≡ r = one_found u r i i_k in
+        let u_held : IsHeld u.status = subst (λ (z : KeyRec). IsHeld z.status) (sym is) held in
+        let other_m : m.name.originator ≢ s.own = (λ o. other (ap (λ (z : RecordKey). z.name.originator) key ∙ o)) in
+        let full_is : full_name s.own m ≡ to_own k s.own = full_theirs s.own (record_key m) other_m ∙ ap (λ (z : RecordKey). to_own z s.own) (sym key) in
+        elim (fine.gone u i u_held) [
+          | inl x ↦ inl (m, at, x, value ∙ ap (λ (z : KeyRec). z.value) is)
+          | inr x ↦ inr (subst (Gone w.acceptances s.own) full_is x)
+        ]
+
+    go : (b : Bool) → same_record k (record_key m) ≡ b → ((q : KeyRec) × (record_with k t ≡ Some q) × IsHeld q.status × (q.value ≡ r.value)) ⊎ Gone w.acceptances s.own (to_own k s.own)
+    go true i = let key : k ≡ record_key m = (test_records.decides k (record_key m)).0 i in put key (at_put true i) (known_stands v s k m key (theirs other peer a) fine.put)
+    go false i = inl (r, at_put false i ∙ h, held, refl)

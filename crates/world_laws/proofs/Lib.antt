@@ -1,0 +1,11 @@
+pub mod Roles
+pub mod Texts
+pub mod Links
+pub mod Lists
+pub mod Counting
+pub mod Sound
+pub mod Rows
+pub mod Agreeing
+pub mod Speaking
+pub mod Nodes
+pub mod LiveKeys

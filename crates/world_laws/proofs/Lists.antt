@@ -1,0 +1,4 @@
+-- The lists of the world.
+pub mod Pairs
+pub mod Births
+pub mod Members

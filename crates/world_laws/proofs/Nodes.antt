@@ -1,0 +1,8 @@
+-- The turns of nodes.
+pub mod Longer
+pub mod Honesty
+pub mod Going
+pub mod GoingRows
+pub mod Binding
+pub mod Compactions
+pub mod Named

@@ -1,0 +1,6 @@
+pub mod Wellformed
+pub mod Commands
+pub mod Arrivals
+pub mod Centres
+pub mod Errors
+pub mod Answers

@@ -1,0 +1,10 @@
+pub mod World
+pub mod Hearing
+pub mod Rooms
+pub mod Events
+pub mod Steps
+pub mod Honest
+pub mod Starts
+pub mod Laws
+pub mod Nodes
+pub mod Reached

@@ -1,0 +1,32 @@
+-- A run in which a key becomes live (this project's profile).
+use Rattle.std.specs.Prelude.{◌≡◌, List, Some}
+use Rattle.party_state.specs.declared.key.RecordKey.{RecordKey}
+use Rattle.party_state.specs.declared.key.KeyRec.{KeyRec}
+use Rattle.party_state.specs.declared.key.KeyStatus.TheVariants.{Live}
+use Rattle.party_state.specs.State.{record_with}
+use Rattle.world_laws.specs.World.{Member, World, member_at}
+use Rattle.world_laws.specs.Events.{Event, AreEvents}
+use Rattle.world_laws.specs.Steps.{run}
+use Rattle.world_laws.specs.Honest.{HonestRun}
+use Rattle.world_laws.specs.Starts.{IsStart}
+use Rattle.world_laws.specs.Laws.{HoldsKey}
+
+-- a key is live at its originator, and its partner holds it
+pub record HasLiveKey (w : World) : Type 0 where
+  pub member : Member
+  pub at : member_at member.party.own w.members ≡ Some member
+  pub key : RecordKey
+  pub mine : key.name.originator ≡ member.party.own
+  pub entry : KeyRec
+  pub found : record_with key member.party ≡ Some entry
+  pub live : entry.status ≡ Live
+  pub held : HoldsKey w.members key.peer (record { peer = member.party.own; name = key.name }) entry.value
+
+-- an honest run from a start that ends so
+pub record LiveRun : Type 0 where
+  pub start : World
+  pub events : List Event
+  pub is_start : IsStart start
+  pub are_events : AreEvents events
+  pub honest : HonestRun 1 start events
+  pub live : HasLiveKey (run 1 start events)
