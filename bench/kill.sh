@@ -95,11 +95,13 @@ fail_at() {
     fi
 }
 
-# subject NAME PARTY WORDS: a command in ../before, with ../input as its input
+# subject NAME PARTY WORDS [stays]: a command in ../before, with ../input as its input, that changes the party or leaves
+# it as it is
 subject() {
     name=$1
     party=$2
     words=$3
+    wanted=${4:-changes}
     stands_new=0
     fresh
     shown
@@ -109,7 +111,8 @@ subject() {
     shown
     mv ../shown ../new
     calls >../calls
-    { [ "$code" = 0 ] && ! cmp -s ../old ../new; } || { echo "$name: not done: exit $code"; cat ../error; exit 1; }
+    if cmp -s ../old ../new; then came=stays; else came=changes; fi
+    { [ "$code" = 0 ] && [ "$came" = "$wanted" ]; } || { echo "$name: not done: exit $code"; cat ../error; exit 1; }
     while read -r call n kind; do
         kill_at "$call" "$n"
     done <../calls
@@ -160,5 +163,7 @@ subject 'take (response)' BANKA 'take --party BANKA'
 keep
 : >../input
 subject end BANKA 'end --party BANKA --peer BANKB --name BANKA.BANKA.K1.1'
+keep
+subject compact BANKA 'compact --party BANKA' stays
 echo "$tried tried, $violations violations"
 [ "$violations" = 0 ]

@@ -10,8 +10,12 @@ ghost use Rattle.x_mac.specs.Code.{code_of, mac_of};
 ghost use Rattle.x_seal.specs.Wrapped.{unwrap_of};
 ghost use Rattle.bench_c.specs.Chain.{chained};
 
-use key_journal::{Cause, Opened, open_disk};
+mod images;
+mod turns;
+
+use images::{disk_of, image_into, open_again, read_back, shown};
 use std::alloc::Global;
+use turns::{exchanges, linked_banks};
 use x_base::Count;
 use x_des::{Block, Schedule};
 use x_disk::{Disk, TornDisk};
@@ -78,41 +82,61 @@ pub extern "C" fn bench_read(alloc: Global, text: &[u8]) -> usize
     }
 }
 
-// The number of bodies from here on.
-fn read_through(alloc: Global, opened: &mut Opened<TornDisk>) -> Result<u64, Cause> {
-    for number in 0..u64::MAX {
-        if opened.next(alloc)?.is_none() {
-            return Ok(number);
-        }
-    }
-    Ok(u64::MAX)
-}
-
-fn read_back(alloc: Global, image: &[u8], times: u64) -> Result<u64, Cause> {
-    let Ok(mut disk) = TornDisk::new(alloc, 0) else {
-        return Err(Cause::NoMemory);
-    };
-    if image.len() > 16_777_216 {
-        return Err(Cause::Damaged(16_777_216));
-    }
-    disk.write_at(0, image)?;
-    let mut number = 0;
-    for _ in 0..times {
-        let mut opened = match open_disk(disk) {
-            Ok(opened) => opened,
-            Err(unmade) => return Err(unmade.cause),
-        };
-        number = read_through(alloc, &mut opened)?;
-        disk = opened.into_disk();
-    }
-    Ok(number)
-}
-
 /// The number of bodies of an image in memory, which is opened and read to its end so many times; 0 where it can't be.
 #[unsafe(no_mangle)]
 pub extern "C" fn bench_journal(alloc: Global, image: &[u8], times: u64) -> u64 {
-    match read_back(alloc, image, times) {
-        Ok(number) => number,
-        Err(_) => 0,
+    match disk_of(alloc, image) {
+        Some(disk) => read_back(alloc, disk, times).unwrap_or(0),
+        None => 0,
     }
+}
+
+fn image_after<D: Disk>(
+    alloc: Global,
+    disk: D,
+    other: D,
+    sent: u64,
+    ended: u64,
+    image: &mut [u8],
+) -> Option<usize> {
+    let both = exchanges(alloc, linked_banks(alloc, disk, other)?, sent, false)?;
+    let both = exchanges(alloc, both, ended, true)?;
+    image_into(&mut both.first.into_disk(), image).ok()
+}
+
+/// Two banks in memory exchange so many keys, and end the first of them, so many, each in three turns. The length of the
+/// sender's image, which is put in front of the bytes; 0 where a turn isn't done or the image doesn't fit.
+#[unsafe(no_mangle)]
+pub extern "C" fn bench_turns(alloc: Global, sent: u64, ended: u64, image: &mut [u8]) -> usize {
+    let (Ok(disk), Ok(other)) = (TornDisk::new(alloc, 0), TornDisk::new(alloc, 0)) else {
+        return 0;
+    };
+    image_after(alloc, disk, other, sent, ended, image).unwrap_or(0)
+}
+
+/// How often a party is opened of an image in memory: so many times, and 0 where it can't be.
+#[unsafe(no_mangle)]
+pub extern "C" fn bench_open(alloc: Global, image: &[u8], times: u64) -> u64 {
+    match disk_of(alloc, image) {
+        Some(disk) => open_again(alloc, disk, times).unwrap_or(0),
+        None => 0,
+    }
+}
+
+/// The length of the lines in which the party of an image is shown, which are put in front of the bytes; 0 where it can't be
+/// opened or they don't fit.
+#[unsafe(no_mangle)]
+pub extern "C" fn bench_show(alloc: Global, image: &[u8], lines: &mut [u8]) -> usize {
+    let Some(disk) = disk_of(alloc, image) else {
+        return 0;
+    };
+    let Some(text) = shown(alloc, disk) else {
+        return 0;
+    };
+    let length = text.bytes().len();
+    if length > lines.len() {
+        return 0;
+    }
+    lines[..length].copy_from_slice(text.bytes());
+    length
 }

@@ -1,0 +1,57 @@
+#!/usr/bin/env python3
+"""Times `x917 compact` of a bank with 1,000 keys beside a C process that writes and syncs the same bytes, and `show` of
+that bank before and after, and of one that begins, each a process of its own, in turns, in one run.
+compaction.py [PROGRAM]; wants a C compiler. The new folder is one of TMPDIR's, which should be on a disk."""
+import os, shutil, subprocess, sys, tempfile, time
+
+here = os.path.dirname(os.path.dirname(os.path.abspath(__file__)))
+program = os.path.abspath(sys.argv[1] if len(sys.argv) > 1 else os.path.join(here, "crates/x917/out/x917"))
+PAIR = "0123456789ABCDEFFEDCBA9876543210"
+KEYS, ROUNDS = 1000, 40
+
+
+def x917(*words):
+    return subprocess.run([program, *words], stdin=subprocess.DEVNULL, capture_output=True, check=True).stdout
+
+
+def timed(words):
+    begin = time.perf_counter()
+    subprocess.run(words, stdin=subprocess.DEVNULL, stdout=subprocess.DEVNULL, stderr=subprocess.DEVNULL, check=True)
+    return (time.perf_counter() - begin) * 1e3
+
+
+def median(times):
+    return sorted(times)[len(times) // 2]
+
+
+work = tempfile.mkdtemp()
+os.chdir(work)
+plain = os.path.join(work, "plain")
+subprocess.run(["cc", "-O2", "-Wall", "-Wextra", os.path.join(here, "bench/compaction.c"), "-o", plain], check=True)
+for party in ("BANKA", "BANKC"):
+    x917("init", "--party", party, "--role", "bank", "--genkey", PAIR, "--genseed", "0000000000000001")
+x917("load", "--party", "BANKA", "--peer", "BANKB", "--label", "K1", "--side", "out", "--key", PAIR)
+for _ in range(KEYS):
+    x917("start", "--party", "BANKA", "--peer", "BANKB")
+    x917("drop", "--party", "BANKA", "--peer", "BANKB")
+shown = x917("show", "--party", "BANKA")
+shutil.copy("BANKA.x917", "before")
+x917("compact", "--party", "BANKA")
+assert x917("show", "--party", "BANKA") == shown, "the party isn't the one that was"
+shutil.copy("BANKA.x917", "after")
+frame = os.path.getsize("after") - 8388616
+compacts, plains, befores, afters, begun = [], [], [], [], []
+for _ in range(ROUNDS):
+    shutil.copy("before", "BANKA.x917")
+    befores.append(timed([program, "show", "--party", "BANKA"]))
+    compacts.append(timed([program, "compact", "--party", "BANKA"]))
+    afters.append(timed([program, "show", "--party", "BANKA"]))
+    begun.append(timed([program, "show", "--party", "BANKC"]))
+    shutil.copy("before", "plainly")
+    plains.append(timed([plain, "plainly", str(frame)]))
+print(f"{KEYS} keys, {os.path.getsize('before')} bytes before, a frame of {frame} bytes")
+for name, times in (("x917 compact", compacts), ("C process: the same bytes and syncs", plains), ("show before", befores),
+                    ("show after", afters), ("show of a bank that begins", begun)):
+    print(f"{name:36} median {median(times):.2f} ms, least {min(times):.2f} ms")
+print(f"compact / C: {median(compacts) / median(plains):.2f}")
+shutil.rmtree(work)
