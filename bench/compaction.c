@@ -1,5 +1,6 @@
 /* A process that does to a file what a compaction does, plainly: opens it, syncs it and its folder, reads it, writes so
-   many bytes at the other half, syncs, writes the selector, syncs. compaction FILE BYTES */
+   many bytes at the other half, syncs, writes the selector, syncs; of no bytes it only opens and reads.
+   compaction FILE BYTES */
 #define _GNU_SOURCE
 #include <fcntl.h>
 #include <stdio.h>
@@ -30,9 +31,11 @@ int main(int count, char **words)
     struct stat s;
     must(fstat(fd, &s) == 0, "fstat");
     char *read_back = malloc((size_t)s.st_size);
-    char *written = malloc(bytes);
+    char *written = malloc(bytes + 1);
     must(read_back != NULL && written != NULL, "malloc");
     must(pread(fd, read_back, (size_t)s.st_size, 0) == s.st_size, "read");
+    if (bytes == 0)
+        return 0;
     memset(written, 1, bytes);
     must(pwrite(fd, written, bytes, OTHER_HALF) == (ssize_t)bytes && fsync(fd) == 0, "write");
     must(pwrite(fd, "\1", 1, 1) == 1 && fsync(fd) == 0, "select");

@@ -1,13 +1,13 @@
 #!/usr/bin/env python3
-"""Times `x917 compact` of a bank with 1,000 keys beside a C process that writes and syncs the same bytes, and `show` of
-that bank before and after, and of one that begins, each a process of its own, in turns, in one run.
-compaction.py [PROGRAM]; wants a C compiler. The new folder is one of TMPDIR's, which should be on a disk."""
+"""Times `x917 compact` of a bank with 1,000 keys, `show` of that bank before and after, and of one that begins, beside C
+processes that read the same file and write and sync the same bytes, or write nothing, in turns, in one run.
+Where the machine has other work to do, run it by `chrt -f 50`. compaction.py [PROGRAM]; wants a C compiler. The new folder is one of TMPDIR's, which should be on a disk."""
 import os, shutil, subprocess, sys, tempfile, time
 
 here = os.path.dirname(os.path.dirname(os.path.abspath(__file__)))
 program = os.path.abspath(sys.argv[1] if len(sys.argv) > 1 else os.path.join(here, "crates/x917/out/x917"))
 PAIR = "0123456789ABCDEFFEDCBA9876543210"
-KEYS, ROUNDS = 1000, 40
+KEYS, ROUNDS = 1000, 200
 
 
 def x917(*words):
@@ -40,7 +40,7 @@ x917("compact", "--party", "BANKA")
 assert x917("show", "--party", "BANKA") == shown, "the party isn't the one that was"
 shutil.copy("BANKA.x917", "after")
 frame = os.path.getsize("after") - 8388616
-compacts, plains, befores, afters, begun = [], [], [], [], []
+compacts, plains, opened, befores, afters, begun = [], [], [], [], [], []
 for _ in range(ROUNDS):
     shutil.copy("before", "BANKA.x917")
     befores.append(timed([program, "show", "--party", "BANKA"]))
@@ -48,10 +48,13 @@ for _ in range(ROUNDS):
     afters.append(timed([program, "show", "--party", "BANKA"]))
     begun.append(timed([program, "show", "--party", "BANKC"]))
     shutil.copy("before", "plainly")
+    opened.append(timed([plain, "plainly", "0"]))
     plains.append(timed([plain, "plainly", str(frame)]))
 print(f"{KEYS} keys, {os.path.getsize('before')} bytes before, a frame of {frame} bytes")
-for name, times in (("x917 compact", compacts), ("C process: the same bytes and syncs", plains), ("show before", befores),
+for name, times in (("x917 compact", compacts), ("C process: the same bytes and syncs", plains),
+                    ("C process: nothing written", opened), ("show before", befores),
                     ("show after", afters), ("show of a bank that begins", begun)):
     print(f"{name:36} median {median(times):.2f} ms, least {min(times):.2f} ms")
-print(f"compact / C: {median(compacts) / median(plains):.2f}")
+own, plainly = median(compacts) - median(befores), median(plains) - median(opened)
+print(f"writing and syncing alone: {own:.2f} ms of compact behind show, {plainly:.2f} ms in C")
 shutil.rmtree(work)
