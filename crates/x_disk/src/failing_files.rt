@@ -1,40 +1,59 @@
-// Files of a real folder whose syncs fail.
+// Files of a real folder, at which a call fails.
+use crate::LockingFiles;
 use std::alloc::Allocator;
+use std::cell::Cell;
 use std::fs::{Metadata, OpenFile, OpenOptions};
 use std::io;
 use std::io::{ErrorKind, Read, Seek, SeekFrom, Write};
 use std::rt::Files;
 
-/// Whose sync fails.
+/// What fails.
 #[derive(Clone, Copy, Debug, PartialEq, Eq)]
 pub(crate) enum Failing {
     Nothing,
+    /// The sync of the file.
     File,
+    /// The sync of its folder.
     Folder,
+    /// The lock, which another command has.
+    Lock,
+    /// The name, which stands for another file.
+    Name,
 }
 
-/// A runtime over whose files a sync may fail.
+/// A runtime at whose files a call fails.
 #[derive(Drop)]
 pub(crate) struct FailingFiles<R> {
     pub rt: R,
     pub failing: Failing,
 }
 
-/// A file whose sync may fail.
+/// A file whose sync may fail. Before it is locked, reads and writes fail.
 #[derive(Drop)]
 pub(crate) struct FailingFile<F> {
     file: F,
     fails: bool,
+    locked: Cell<bool>,
+}
+
+fn fault() -> io::Error {
+    io::Error::from(ErrorKind::Other)
 }
 
 impl<F: Read> Read for FailingFile<F> {
     fn read(&mut self, buf: &mut [u8]) -> io::Result<usize> {
+        if !self.locked.get() {
+            return Err(fault());
+        }
         self.file.read(buf)
     }
 }
 
 impl<F: Write> Write for FailingFile<F> {
     fn write(&mut self, buf: &[u8]) -> io::Result<usize> {
+        if !self.locked.get() {
+            return Err(fault());
+        }
         self.file.write(buf)
     }
 
@@ -60,7 +79,7 @@ impl<F: OpenFile> OpenFile for FailingFile<F> {
 
     fn sync_all(&self) -> io::Result<()> {
         if self.fails {
-            return Err(io::Error::from(ErrorKind::Other));
+            return Err(fault());
         }
         self.file.sync_all()
     }
@@ -78,11 +97,15 @@ impl<R: Files> Files for FailingFiles<R> {
     fn open_file(&self, how: &OpenOptions, path: &str) -> io::Result<FailingFile<R::File>> {
         let file = self.rt.open_file(how, path)?;
         let fails = match self.failing {
-            Failing::Nothing => false,
             Failing::File => path != ".",
             Failing::Folder => path == ".",
+            _ => false,
         };
-        Ok(FailingFile { file, fails })
+        Ok(FailingFile {
+            file,
+            fails,
+            locked: Cell::new(false),
+        })
     }
 
     fn open_dir(&self, path: &str) -> io::Result<R::Dir> {
@@ -90,7 +113,10 @@ impl<R: Files> Files for FailingFiles<R> {
     }
 
     fn metadata(&self, path: &str) -> io::Result<Metadata> {
-        self.rt.metadata(path)
+        match self.failing {
+            Failing::Name => self.rt.metadata("."),
+            _ => self.rt.metadata(path),
+        }
     }
 
     fn symlink_metadata(&self, path: &str) -> io::Result<Metadata> {
@@ -119,5 +145,16 @@ impl<R: Files> Files for FailingFiles<R> {
 
     fn remove_dir_all<B: Allocator>(&self, alloc: B, path: &str) -> io::Result<()> {
         self.rt.remove_dir_all(alloc, path)
+    }
+}
+
+impl<R: LockingFiles> LockingFiles for FailingFiles<R> {
+    fn try_lock(&self, file: &FailingFile<R::File>) -> io::Result<()> {
+        if self.failing == Failing::Lock {
+            return Err(fault());
+        }
+        self.rt.try_lock(&file.file)?;
+        file.locked.set(true);
+        Ok(())
     }
 }

@@ -3,17 +3,16 @@ ghost use Rattle.std.specs.Prelude.{◌≡◌, ◌≤◌, ◌+◌, true, OnErr, 
 ghost use Rattle.x_base.specs.Edge.{Rose};
 ghost use Rattle.x_disk.specs.Untold.{untold, untold_sound};
 
-use crate::{Disk, DiskErr};
+use crate::{Disk, DiskErr, LockingFiles};
 use std::fs::{OpenFile, OpenOptions};
 use std::io;
 use std::io::{ErrorKind, Read, Seek, SeekFrom, Write};
-use std::os::unix::fs::OpenOptionsExt;
-use std::rt::Files;
+use std::os::unix::fs::{MetadataExt, OpenOptionsExt};
 
-/// A file of the current folder. Each error of the system is counted as a fault. Once a sync has failed, every later one
-/// fails.
+/// A file of the current folder, whose lock it has as long as it is there. Each error of the system is counted as a fault.
+/// Once a sync has failed, every later one fails.
 #[derive(Drop)]
-pub struct FileDisk<R: Files> {
+pub struct FileDisk<R: LockingFiles> {
     rt: R,
     path: String,
     // none where the file isn't there
@@ -25,11 +24,27 @@ pub struct FileDisk<R: Files> {
     faults: u64,
 }
 
-pub(crate) fn open_if_there<R: Files>(rt: &R, path: &str) -> io::Result<Option<R::File>> {
+/// The file with its lock, or none where it isn't there. Where another command has the lock, it is an error.
+pub(crate) fn open_if_there<R: LockingFiles>(rt: &R, path: &str) -> io::Result<Option<R::File>> {
     match OpenOptions::new().read(true).write(true).open(rt, path) {
-        Ok(file) => Ok(Some(file)),
+        Ok(file) => {
+            lock(rt, path, &file)?;
+            Ok(Some(file))
+        }
         Err(e) if e.kind() == ErrorKind::NotFound => Ok(None),
         Err(e) => Err(e),
+    }
+}
+
+// Takes the lock, and sees that the name still stands for this file: another one that took its place is another lock.
+fn lock<R: LockingFiles>(rt: &R, path: &str, file: &R::File) -> io::Result<()> {
+    rt.try_lock(file)?;
+    let opened = file.metadata()?;
+    let named = rt.metadata(path)?;
+    if opened.dev() == named.dev() && opened.ino() == named.ino() {
+        Ok(())
+    } else {
+        Err(io::Error::from(ErrorKind::NotFound))
     }
 }
 
@@ -57,11 +72,11 @@ fn write_to<F: Write + Seek>(file: &mut F, at: u64, bytes: &[u8]) -> io::Result<
 }
 
 // Makes the entry of a new file last.
-fn sync_folder<R: Files>(rt: &R) -> io::Result<()> {
+fn sync_folder<R: LockingFiles>(rt: &R) -> io::Result<()> {
     OpenOptions::new().read(true).open(rt, ".")?.sync_all()
 }
 
-impl<R: Files> FileDisk<R> {
+impl<R: LockingFiles> FileDisk<R> {
     pub(crate) fn new(rt: R, path: String, file: Option<R::File>) -> FileDisk<R>
         ensures { result.faults ≡ 0 }
     {
@@ -81,7 +96,8 @@ impl<R: Files> FileDisk<R> {
         self.faults
     }
 
-    // The first write makes the file, which its owner alone may read and write.
+    // The first write makes the file, which its owner alone may read and write, and locks it before a byte is written. Where
+    // another command has made it in the meantime, it is an error.
     fn write_file(&mut self, at: u64, bytes: &[u8]) -> io::Result<()>
         ensures { self.new.faults ≡ self.old.faults }
     {
@@ -91,9 +107,10 @@ impl<R: Files> FileDisk<R> {
         let mut file = OpenOptions::new()
             .read(true)
             .write(true)
-            .create(true)
+            .create_new(true)
             .mode(0o600)
             .open(&self.rt, self.path.as_str())?;
+        lock(&self.rt, self.path.as_str(), &file)?;
         self.folder_synced = false;
         let outcome = write_to(&mut file, at, bytes);
         self.file = Some(file);
@@ -132,6 +149,8 @@ impl<R: Files> FileDisk<R> {
         ensures faults { self.new.faults ≡ self.old.faults }
         ensures failed { self.new.sync_failed ≡ self.old.sync_failed }
     {
+        // closed first, so that its lock can be taken anew
+        self.file = None;
         self.file = open_if_there(&self.rt, self.path.as_str())?;
         self.folder_synced = false;
         Ok(())
@@ -153,7 +172,7 @@ pub(crate) fn counted<T: Drop>(faults: &mut u64, outcome: io::Result<T>) -> Resu
     }
 }
 
-impl<R: Files + Drop> Disk for FileDisk<R> {
+impl<R: LockingFiles + Drop> Disk for FileDisk<R> {
     ghost told = { λ d. untold d.faults };
 
     ghost sound = { λ d. untold_sound d.faults };

@@ -3,12 +3,13 @@ ghost use Rattle.std.specs.Prelude.{◌≡◌, ◌≤◌};
 ghost use Rattle.x_disk.specs.Untold.{untold, untold_sound};
 
 use crate::files::{FileDisk, counted, open_if_there};
-use crate::{DiskErr, Shelf};
+use crate::{DiskErr, LockingFiles, Shelf};
 use std::alloc::{AllocError, Global};
-use std::rt::Files;
 use x_base::Ident;
 
-/// The files `IDENT.x917` of the current folder. Faults of the disks that are put back are counted here.
+/// The files `IDENT.x917` of the current folder. A file that is there is locked from the fetch to the put back, a new one
+/// from its first write; a fetch where another command has the lock is a fault. Faults of the disks that are put back are
+/// counted here.
 #[derive(Drop)]
 pub struct FolderShelf<R> {
     rt: R,
@@ -16,7 +17,7 @@ pub struct FolderShelf<R> {
     faults: u64,
 }
 
-impl<R: Files + Clone + Drop> FolderShelf<R> {
+impl<R: LockingFiles + Clone + Drop> FolderShelf<R> {
     pub fn new(rt: R, alloc: Global) -> FolderShelf<R>
         ensures { ⟦<FolderShelf<R> as Shelf>⟧.faults result ≡ 0 }
     {
@@ -28,7 +29,7 @@ impl<R: Files + Clone + Drop> FolderShelf<R> {
     }
 }
 
-impl<R: Files + Clone + Drop> Shelf for FolderShelf<R> {
+impl<R: LockingFiles + Clone + Drop> Shelf for FolderShelf<R> {
     ghost use Rattle.std.specs.Prelude.{ℕ, List};
 
     type Disk = FileDisk<R>;

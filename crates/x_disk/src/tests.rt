@@ -118,18 +118,32 @@ fn a_put_back_that_fails_keeps_the_disk(rt: HostRuntime) -> Result<(), Fail> {
     Ok(())
 }
 
+// The power of a disk goes: whether another shelf gets the disk before, after, and once it is put back, and what is read.
+fn fetched_beside<H: Shelf>(
+    shelf: &mut H,
+    other: &mut H,
+    name: &Ident,
+) -> Result<([bool; 3], [u8; 5]), DiskErr> {
+    let mut disk = shelf.fetch(name)?;
+    let before = other.fetch(name).is_ok();
+    disk.power_off(0)?;
+    let after = other.fetch(name).is_ok();
+    let bytes = bytes_of(&mut disk)?;
+    shelf.put_back(name, disk)?;
+    Ok(([before, after, other.fetch(name).is_ok()], bytes))
+}
+
 #[test]
 fn a_shelf_over_the_folder_keeps_its_disks(rt: HostRuntime) -> Result<(), Fail> {
     let _ = fs::remove_file(&rt, "TEST-SHELF.x917");
     let name = Ident::read(b"TEST-SHELF")?;
     let mut shelf = FolderShelf::new(rt.clone()?, rt.alloc());
-    assert_eq!(rt; fetched_anew(&mut shelf, &name)?, *b"\0\0abc");
-    let mut disk = shelf.fetch(&name)?;
-    disk.power_off(0)?;
-    let mut bytes = [9; 5];
-    disk.read(0, &mut bytes)?;
-    assert_eq!(rt; bytes, *b"\0\0abc");
-    assert_eq!(rt; disk.read(4, &mut bytes), Err(DiskErr::Fault));
+    let mut other = FolderShelf::new(rt.clone()?, rt.alloc());
+    assert_eq!(rt; fetched_anew(&mut shelf, &name), Ok(*b"\0\0abc"));
+    assert_eq!(rt;
+        fetched_beside(&mut shelf, &mut other, &name),
+        Ok(([false, false, true], *b"\0\0abc"))
+    );
     fs::remove_file(&rt, "TEST-SHELF.x917")?;
     Ok(())
 }
@@ -139,26 +153,36 @@ fn a_file_is_made_by_its_first_write_for_its_owner(rt: HostRuntime) -> Result<()
     let _ = fs::remove_file(&rt, "TEST-FOLDER.x917");
     let name = Ident::read(b"TEST-FOLDER")?;
     let mut shelf = FolderShelf::new(rt.clone()?, rt.alloc());
-    let mut disk = shelf.fetch(&name)?;
-    assert_eq!(rt; disk.length()?, 0);
-    disk.sync()?;
-    assert!(rt; !fs::exists(&rt, "TEST-FOLDER.x917")?);
-    disk.write_at(2, b"abc")?;
-    assert_eq!(rt;
-        fs::metadata(&rt, "TEST-FOLDER.x917")?.mode() & 0o777,
-        0o600
-    );
-    shelf.put_back(&name, disk)?;
+    let mut other = FolderShelf::new(rt.clone()?, rt.alloc());
+    let mut disk = shelf.fetch(&name).expect(&rt, "no disk");
+    let mut late = other.fetch(&name).expect(&rt, "no disk");
+    assert_eq!(rt; (disk.length(), disk.sync()), (Ok(0), Ok(())));
+    assert!(rt; !fs::exists(&rt, "TEST-FOLDER.x917").expect(&rt, "no folder"));
+    assert_eq!(rt; disk.write_at(2, b"abc"), Ok(()));
+    assert_eq!(rt; disk.read(4, &mut [9; 5]), Err(DiskErr::Fault));
+    assert_eq!(rt; late.write_at(0, b"a"), Err(DiskErr::Fault));
+    let made = fs::metadata(&rt, "TEST-FOLDER.x917").expect(&rt, "no file");
+    assert_eq!(rt; made.mode() & 0o777, 0o600);
     fs::remove_file(&rt, "TEST-FOLDER.x917")?;
     Ok(())
 }
 
+// Writes and syncs a disk, lets its power go, and reads it.
+fn written<D: Disk>(disk: &mut D) -> Result<[u8; 3], DiskErr> {
+    disk.write_at(0, b"abc")?;
+    disk.sync()?;
+    disk.power_off(0)?;
+    bytes_of(disk)
+}
+
 #[test]
-fn a_sync_fails_where_that_of_the_file_or_of_its_folder_does(rt: HostRuntime) -> Result<(), Fail> {
-    for (failing, answer) in [
-        (Failing::Nothing, Ok(())),
-        (Failing::File, Err(DiskErr::Fault)),
-        (Failing::Folder, Err(DiskErr::Fault)),
+fn a_new_file_is_locked_and_then_written_and_synced(rt: HostRuntime) -> Result<(), Fail> {
+    for (failing, answer, left) in [
+        (Failing::Nothing, Ok(*b"abc"), 3),
+        (Failing::File, Err(DiskErr::Fault), 3),
+        (Failing::Folder, Err(DiskErr::Fault), 3),
+        (Failing::Lock, Err(DiskErr::Fault), 0),
+        (Failing::Name, Err(DiskErr::Fault), 0),
     ] {
         let mut path = String::new(rt.alloc());
         path.push_str("TEST-SYNC.x917")?;
@@ -167,9 +191,10 @@ fn a_sync_fails_where_that_of_the_file_or_of_its_folder_does(rt: HostRuntime) ->
             failing,
         };
         let mut disk = FileDisk::new(rt_failing, path, None);
-        disk.write_at(0, b"abc")?;
-        assert_eq!(rt; disk.sync(), answer, "with {failing:?}");
+        assert_eq!(rt; written(&mut disk), answer, "with {failing:?}");
+        let made = fs::metadata(&rt, "TEST-SYNC.x917").expect(&rt, "no file");
+        assert_eq!(rt; made.len(), left, "with {failing:?}");
+        fs::remove_file(&rt, "TEST-SYNC.x917").expect(&rt, "no file");
     }
-    fs::remove_file(&rt, "TEST-SYNC.x917")?;
     Ok(())
 }
