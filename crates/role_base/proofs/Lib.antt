@@ -10,3 +10,9 @@ pub mod Spent
 pub mod Unchanged
 pub mod LeftOut
 pub mod SendingApart
+pub mod Loaded
+pub mod Early
+pub mod Given
+pub mod Counted
+pub mod Addressed
+pub mod Unled

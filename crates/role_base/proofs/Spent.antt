@@ -30,7 +30,8 @@ use Rattle.role_base.proofs.Decided.{refuses, decides_row}
 pub not_counted : (l : LinkRec) → IsNextCount l.next → (IsCount l.next → ⊥) → has_count l ≡ false
 not_counted l n none = false_from_ne_true (nat_le l.next 99999999999999) (λ t. none (record { low = n.low; high = leb-true l.next 99999999999999 t }))
 
-spent_first : (front us : List Test) (b : Bool) (v : Verdict) → b ≡ false → v ≡ verdict_of (front ++ (false, CountSpent) ∷ []) → v ≡ verdict_of (front ++ (b, CountSpent) ∷ us)
+-- a count that is spent is told before the tests behind it
+pub spent_first : (front us : List Test) (b : Bool) (v : Verdict) → b ≡ false → v ≡ verdict_of (front ++ (false, CountSpent) ∷ []) → v ≡ verdict_of (front ++ (b, CountSpent) ∷ us)
 spent_first front us true v h e = cc
 spent_first front us false v h e = e ∙ sym (stopped front us CountSpent)
 

@@ -1,6 +1,10 @@
 -- The tests that several rows have in common (this project's profile).
-use Rattle.std.specs.Prelude.{ℕ, ◌+◌, Bool, false, not, ◌&&◌, ◌||◌, nat_le, Option, Some, None, List, [], ◌∷◌, length, bytes_eq}
+use Rattle.std.specs.Prelude.{ℕ, ◌+◌, Bool, true, false, not, ◌&&◌, ◌||◌, nat_le, Option, Some, None, List, [], ◌∷◌, length, bytes_eq}
 use Rattle.x_base.specs.declared.verdict.Verdict.TheVariants.{NotForMe, UnknownPeer, WrongClass, NoExchange, CountLow, CountSpent}
+use Rattle.csm_grammar.specs.declared.message.Service.{Service}
+use Rattle.csm_grammar.specs.declared.message.Service.TheVariants as service
+use Rattle.csm_grammar.specs.declared.message.KsmBody.{KsmBody}
+use Rattle.csm_grammar.specs.declared.message.KsmBody.TheVariants as body
 use Rattle.party_state.specs.declared.link.LinkKey.{LinkKey}
 use Rattle.party_state.specs.declared.link.LinkRec.{LinkRec}
 use Rattle.party_state.specs.declared.key.RecordKey.{RecordKey}
@@ -13,10 +17,24 @@ use Rattle.party_state.specs.Limits.{most_links, most_keys}
 abbrev pub is_for : Party → List ℕ → List ℕ → Bool
 is_for p receiver originator = bytes_eq receiver p.own && not (bytes_eq originator p.own)
 
--- a message that a bank doesn't serve, whose sender, or the centre that it names, is to be known
+-- a message that isn't served, whose sender, or the centre that it names, is to be known
 abbrev pub other_class : Party → List ℕ → List ℕ → List ℕ → Row
 other_class p receiver originator known =
     refused (verdict_of ((is_for p receiver originator, NotForMe) ∷ (knows known p, UnknownPeer) ∷ (false, WrongClass) ∷ []))
+
+-- a request for a data key
+abbrev pub is_data_key : Service → Bool
+is_data_key service.Kd = true
+is_data_key service.KdKd = false
+is_data_key service.Kk = false
+is_data_key service.DoubleKk = false
+is_data_key service.KkKd = false
+is_data_key service.DoubleKkKd = false
+
+-- who shares the key-encrypting key under which a key comes: its originator, or the centre
+abbrev pub body_issuer : List ℕ → KsmBody → List ℕ
+body_issuer originator (body.Direct idk2 new kd ctp) = originator
+body_issuer originator (body.Centre centre kdu ctb) = centre
 
 -- an answer is for this party, and belongs to an exchange that stands
 abbrev pub answer_front : Party → List ℕ → List ℕ → Bool → List Test

@@ -1,5 +1,5 @@
 -- A refusal that is answered by an error message (ANSI X9.17).
-use Rattle.std.specs.Prelude.{ℕ, List, Option, Some, None, option_map, codes}
+use Rattle.std.specs.Prelude.{ℕ, Bool, true, false, List, Option, Some, None, option_map, codes}
 use Rattle.x_base.specs.Count.{IsCount}
 use Rattle.x_base.specs.declared.key_name.FullName.{FullName}
 use Rattle.x_base.specs.declared.verdict.Verdict.{Verdict}
@@ -9,6 +9,7 @@ use Rattle.csm_grammar.specs.declared.message.Message.TheVariants as message
 use Rattle.party_state.specs.declared.decision.Decision.{Decision}
 use Rattle.party_state.specs.State.{Party}
 use Rattle.party_state.specs.Rows.{Reply, Coded}
+use Rattle.role_base.specs.declared.errors.Counts.{Counts}
 use Rattle.role_base.specs.Texts.{text_of}
 use Rattle.role_base.specs.Deciding.{name_of}
 
@@ -21,10 +22,10 @@ TellsCount v = Unit {0}
 abbrev pub answering : Verdict → Option Reply → Decision
 answering v answer = record { change = None; reply = option_map text_of answer; under = name_of answer; verdict = v }
 
--- the error message, with the refused count, and the expected one where it is named
-abbrev pub error_message : Party → List ℕ → ℕ → List ℕ → Option ℕ → Message
-error_message p originator ctp erf ctr =
-    message.Esm (record { receiver = originator; originator = p.own; erf = erf; ctp = Some ctp; cta = None; ctb = None; ctr = ctr })
+-- the error message, with the refused counts, and the expected one where it is named
+abbrev pub error_message : Party → List ℕ → Counts → List ℕ → Option ℕ → Message
+error_message p originator c erf ctr =
+    message.Esm (record { receiver = originator; originator = p.own; erf = erf; ctp = c.ctp; cta = c.cta; ctb = c.ctb; ctr = ctr })
 
 -- the letter of a refusal that is answered
 abbrev pub error_letter : Verdict → Option (List ℕ)
@@ -42,9 +43,20 @@ expected_count (verdict.CountLow expected) = Some expected
 expected_count v = None
 
 -- the answer to a refusal, by its verdict
-abbrev pub error_for : Party → List ℕ → ℕ → Verdict → Option Message
-error_for p originator ctp v = option_map (λ erf. error_message p originator ctp erf (expected_count v)) (error_letter v)
+abbrev pub error_for : Party → List ℕ → Counts → Verdict → Option Message
+error_for p originator c v = option_map (λ erf. error_message p originator c erf (expected_count v)) (error_letter v)
 
 abbrev pub coded_under : FullName → ℕ → Option Message → Option Reply
 coded_under under value None = None
 coded_under under value (Some m) = Some (Coded m under value)
+
+-- a refusal before the code is looked at
+abbrev pub is_early : Verdict → Bool
+is_early verdict.NotForMe = true
+is_early verdict.UnknownPeer = true
+is_early verdict.WrongClass = true
+is_early verdict.NoExchange = true
+is_early verdict.Outstanding = true
+is_early verdict.UnknownKk = true
+is_early verdict.UnknownKey = true
+is_early _ = false

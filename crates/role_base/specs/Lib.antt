@@ -9,3 +9,4 @@ pub mod Replies
 pub mod Deciding
 pub mod Errors
 pub mod Storable
+pub mod Load

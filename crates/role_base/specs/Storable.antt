@@ -49,11 +49,12 @@ abbrev pub puts_key : Edit → Bool
 puts_key (PutKey k) = true
 puts_key _ = false
 
-abbrev pub moves_links : Edit → Bool
-moves_links (PutLink l) = true
-moves_links (DropLink peer label side) = true
-moves_links (Begin own role generator) = true
-moves_links _ = false
+-- fewer or more links may stand after it: all but a put that replaces
+abbrev pub moves_links : Party → Edit → Bool
+moves_links p (PutLink l) = not (is_some (link_with (link_key l) p))
+moves_links p (DropLink peer label side) = true
+moves_links p (Begin own role generator) = true
+moves_links p _ = false
 
 abbrev pub moves_keys : Edit → Bool
 moves_keys (PutKey k) = true
@@ -61,14 +62,14 @@ moves_keys DropEnded = true
 moves_keys (Begin own role generator) = true
 moves_keys _ = false
 
--- no link is put behind an edit of the links, and no key behind an edit of the keys
-abbrev pub puts_first : List Edit → Bool
-puts_first [] = true
-puts_first (e ∷ es) = not (moves_links e && list_any puts_link es) && (not (moves_keys e && list_any puts_key es) && puts_first es)
+-- no link is put behind an edit that moves the links, and no key behind an edit of the keys
+abbrev pub puts_first : Party → List Edit → Bool
+puts_first p [] = true
+puts_first p (e ∷ es) = not (list_any puts_link es && moves_links p e) && (not (moves_keys e && list_any puts_key es) && puts_first p es)
 
 pub record AreKeepable (p : Party) (es : List Edit) : Type 0 where
   pub each : AllByRecursion (IsKeepable p) es
-  pub order : puts_first es ≡ true
+  pub order : puts_first p es ≡ true
 
 -- few edits, which the store can keep
 pub record AreFew (p : Party) (es : List Edit) : Type 0 where

@@ -5,10 +5,11 @@ ghost use Rattle.party_state.specs.State.{centre_label};
 ghost use Rattle.party_state.specs.Verdicts.{verdict_of};
 ghost use Rattle.role_base.specs.Storable.{CanKeep};
 ghost use Rattle.role_base.specs.Deciding.{decision_of, refusal_of};
-ghost use Rattle.role_base.specs.Conditions.{is_for, other_class, answer_front, has_count, count_tests, has_key_room, has_link_room};
+ghost use Rattle.role_base.specs.Conditions.{is_for, other_class, is_data_key, body_issuer, answer_front, has_count, count_tests, has_key_room, has_link_room};
 
 use crate::decisions::refusal;
 use crate::verdicts::{verdict_after, verdict_of};
+use csm_grammar::{KsmBody, Service};
 use party_state::{Decision, LinkRec, MOST_KEYS, MOST_LINKS, State};
 use x_base::{Count, Ident, KeyName, LIMIT, Label, Side, Verdict};
 
@@ -20,7 +21,7 @@ pub fn is_for(state: &State, receiver: &Ident, originator: &Ident) -> bool
     *receiver == own && *originator != own
 }
 
-/// A message that a bank doesn't serve. Its sender, or the centre that it names, is to be known.
+/// A message that isn't served. Its sender, or the centre that it names, is to be known.
 #[tactic(auto, using(crate::proofs::ByRow::by_refused))]
 pub fn other_class(state: &State, receiver: &Ident, originator: &Ident, known: &Ident) -> Decision
     ensures decision { result ≡ decision_of state.now (other_class state.now receiver.now originator.now known.now) }
@@ -31,6 +32,27 @@ pub fn other_class(state: &State, receiver: &Ident, originator: &Ident, known: &
         (state.knows(known), Verdict::UnknownPeer),
         (false, Verdict::WrongClass),
     ]))
+}
+
+/// Whether the request is for a data key.
+pub fn is_data_key(service: Service) -> bool
+    ensures { result ≡ is_data_key service }
+{
+    match service {
+        Service::Kd => true,
+        Service::KdKd | Service::Kk | Service::DoubleKk | Service::KkKd | Service::DoubleKkKd =>
+            false,
+    }
+}
+
+/// Who shares the key-encrypting key under which a key comes: its originator, or the centre.
+pub fn body_issuer(originator: &Ident, body: &KsmBody) -> Ident
+    ensures { result ≡ body_issuer originator.now body.now }
+{
+    match body {
+        KsmBody::Direct { .. } => *originator,
+        KsmBody::Centre { centre, .. } => *centre,
+    }
 }
 
 /// Whether a count is left.

@@ -1,4 +1,4 @@
-// The error service message that answers a refused key service message.
+// The error service message that answers a refused message with a key.
 ghost use Rattle.std.specs.Prelude.{◌≡◌, IfOk, option_map};
 ghost use Rattle.party_state.specs.Rows.Reply.{Coded};
 ghost use Rattle.role_base.specs.Errors.{error_letter, expected_count, error_message, error_for, coded_under};
@@ -10,6 +10,14 @@ use csm_grammar::{Esm, Message};
 use party_state::{Decision, Lead, State};
 use std::alloc::Global;
 use x_base::{Count, Ident, NoMemory, Text, Verdict};
+
+/// The counts that an error message names, each under the tag of the message that it answers.
+#[derive(Clone, Copy)]
+pub struct Counts {
+    pub ctp: Option<Count>,
+    pub cta: Option<Count>,
+    pub ctb: Option<Count>,
+}
 
 /// The letter of a refusal that is answered.
 fn error_letter(verdict: &Verdict) -> Option<&'static [u8]>
@@ -41,11 +49,11 @@ fn error_for(
     alloc: Global,
     state: &State,
     originator: Ident,
-    ctp: Count,
+    counts: Counts,
     verdict: &Verdict,
 ) -> Result<Option<Message>, NoMemory>
     requires { TellsCount verdict.now }
-    ensures { IfOk result (λ m. m ≡ error_for state.now originator ctp verdict.now) }
+    ensures { IfOk result (λ m. m ≡ error_for state.now originator counts verdict.now) }
 {
     let Some(letter) = error_letter(verdict) else {
         return Ok(None);
@@ -56,9 +64,9 @@ fn error_for(
         receiver: originator,
         originator: state.own(),
         erf,
-        ctp: Some(ctp),
-        cta: None,
-        ctb: None,
+        ctp: counts.ctp,
+        cta: counts.cta,
+        ctb: counts.ctb,
         ctr: expected_count(verdict),
     })))
 }
@@ -68,14 +76,14 @@ pub fn error_answer(
     alloc: Global,
     state: &State,
     originator: Ident,
-    ctp: Count,
+    counts: Counts,
     verdict: Verdict,
     lead: &Lead,
 ) -> Result<Decision, NoMemory>
     requires { TellsCount verdict }
-    ensures { IfOk result (λ d. d ≡ answering verdict (coded_under lead.now.under lead.now.value (error_for state.now originator ctp verdict))) }
+    ensures { IfOk result (λ d. d ≡ answering verdict (coded_under lead.now.under lead.now.value (error_for state.now originator counts verdict))) }
 {
-    let Some(message) = error_for(alloc, state, originator, ctp, &verdict)? else {
+    let Some(message) = error_for(alloc, state, originator, counts, &verdict)? else {
         return Ok(refusal(verdict));
     };
     let written = Written::coded(alloc, &message, lead.under, lead.value)?;

@@ -11,23 +11,25 @@ mod exchanges;
 mod laws;
 mod leads;
 mod links;
+mod loading;
 mod names;
 mod sending;
 mod texts;
 mod verdicts;
 
 pub use conditions::{
-    answer_front, answer_verdict, count_tests, has_count, has_key_room, has_link_room, is_for,
-    is_of_centre, not_answering, other_class,
+    answer_front, answer_verdict, body_issuer, count_tests, has_count, has_key_room, has_link_room,
+    is_data_key, is_for, is_of_centre, not_answering, other_class,
 };
 pub use decisions::{accept, early_refusal, refusal};
 pub use edits::{dropped, joined, list_of, readied};
-pub use errors::error_answer;
+pub use errors::{Counts, error_answer};
 pub use exchanges::{Sent, ending_with, is_waiting, new_link, record_of, sent_by, sent_to};
 pub use laws::law_differing;
 pub use leads::{key_lead, lead_under};
 pub use links::{first_link, link_with};
+pub use loading::{load, odd_pair};
 pub use names::{centre_label, direct_name, no_extras};
-pub use sending::send;
+pub use sending::{next_name, pending, send, used};
 pub use texts::{Written, is_right, is_verified};
 pub use verdicts::{is_accept, passes, verdict_after, verdict_of};

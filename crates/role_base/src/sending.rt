@@ -25,7 +25,7 @@ use x_gen::Gen;
 use x_seal::wrap;
 
 /// The name of the key that goes next under a link, at its next count.
-fn next_name(state: &State, link: &LinkRec, count: Count) -> KeyName
+pub fn next_name(state: &State, link: &LinkRec, count: Count) -> KeyName
     requires { count ≡ link.now.next }
     ensures { result ≡ next_name state.now link.now }
 {
@@ -71,7 +71,7 @@ fn data_key_text(
 }
 
 /// The link behind its next count.
-fn used(link: &LinkRec, count: Count) -> LinkRec
+pub fn used(link: &LinkRec, count: Count) -> LinkRec
     requires { count ≡ link.now.next }
     ensures used { result ≡ record link.now { next = link.now.next + 1 } }
     ensures count { IsCount link.now.next }
@@ -83,7 +83,7 @@ fn used(link: &LinkRec, count: Count) -> LinkRec
 }
 
 /// The record of a key that is sent.
-fn pending(link: &LinkRec, name: KeyName, key: u64) -> KeyRec
+pub fn pending(link: &LinkRec, name: KeyName, key: u64) -> KeyRec
     ensures { result ≡ record { peer = link.now.peer; name = name; value = key; status = Pending } }
 {
     KeyRec {

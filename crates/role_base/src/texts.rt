@@ -44,8 +44,11 @@ impl Written {
     /// The text of a message, closed by its error detection code.
     #[tactic(auto, unfolding(crate::specs::Texts::text_of))]
     pub fn plain(alloc: Global, message: &Message) -> Result<Written, NoMemory>
-        ensures { IfOk result (λ w. IsWritten w (Plain message.now)) }
+        ensures written { IfOk result (λ w. IsWritten w (Plain message.now)) }
+        ensures short { free_length message.now ≤ 64 → IfOk result (λ w. length w.text ≤ longest_text) }
     {
+        // Tells that the text is short.
+        law_canon_short();
         let text = write(alloc, message, &Closing::Edc)?;
         Ok(Written { text, under: None })
     }

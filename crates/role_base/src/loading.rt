@@ -1,0 +1,70 @@
+// Loading a key-encrypting key that both ends were given.
+ghost use Rattle.std.specs.Prelude.{◌≡◌, IfOk};
+ghost use Rattle.role_base.specs.Storable.{CanKeep};
+ghost use Rattle.role_base.specs.Deciding.{decision_of};
+ghost use Rattle.role_base.specs.Load.{odd_pair, load_tests, load};
+
+use crate::conditions::has_link_room;
+use crate::decisions::{accept, refusal};
+use crate::edits::list_of;
+use crate::verdicts::{is_accept, verdict_of};
+use party_state::{Decision, Edit, LinkRec, State};
+use std::alloc::Global;
+use x_base::{Ident, Label, NoMemory, Side, Verdict};
+use x_gen::odd;
+use x_mac::Pair;
+
+/// Both halves with odd parity.
+pub fn odd_pair(pair: Pair) -> Pair
+    ensures { result ≡ odd_pair pair }
+{
+    Pair {
+        left: odd(pair.left),
+        right: odd(pair.right),
+    }
+}
+
+fn load_tests(
+    state: &State,
+    peer: &Ident,
+    label: &Label,
+    side: Side,
+    pair: Pair,
+) -> [(bool, Verdict); 4]
+    ensures { result ≡ load_tests state.now (record { peer = peer.now; label = label.now; side = side }) pair }
+{
+    [
+        (state.link(peer, label, side).is_none(), Verdict::LabelTaken),
+        (!state.has_pair(odd_pair(pair)), Verdict::SameKey),
+        (!state.aliases(peer), Verdict::Alias),
+        (has_link_room(state, peer, label, side), Verdict::LinksFull),
+    ]
+}
+
+/// What is decided where a key-encrypting key is loaded.
+#[tactic(auto, using(crate::proofs::ByRow::by_refused, crate::proofs::ByRow::by_accepted))]
+pub fn load(
+    alloc: Global,
+    state: &State,
+    peer: &Ident,
+    label: &Label,
+    side: Side,
+    pair: Pair,
+) -> Result<Decision, NoMemory>
+    ensures decision { IfOk result (λ d. d ≡ decision_of state.now (load state.now peer.now label.now side pair)) }
+    ensures kept { IfOk result (λ d. CanKeep state.now d.change) }
+{
+    let verdict = verdict_of(&load_tests(state, peer, label, side, pair));
+    if !is_accept(&verdict) {
+        return Ok(refusal(verdict));
+    }
+    let link = LinkRec {
+        peer: *peer,
+        label: *label,
+        side,
+        pair: odd_pair(pair),
+        next: 1,
+        ready: true,
+    };
+    accept(alloc, state, list_of(alloc, [Edit::PutLink(link)])?, None)
+}
