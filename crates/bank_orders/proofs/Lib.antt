@@ -1,2 +1,4 @@
 pub mod OrdersKept
 pub mod OrdersApart
+mod KkSent
+mod CentresAsked

@@ -1,43 +1,27 @@
 -- The changes of the commands can be kept.
-use Rattle.std.proofs.Common.{◌≡◌, ℕ, ◌+◌, ◌≤◌, true, Option, Some, None, Result, Ok, Err, IfOk, List, [], ◌∷◌, ◌++◌, length, refl, arith, lit≤}
+use Rattle.std.proofs.Common.{◌≡◌, ℕ, ◌≤◌, Option, Some, None, Result, Ok, Err, IfOk, List, [], ◌∷◌, ◌++◌, length, refl, lit≤}
 use Rattle.x_base.specs.declared.text.NoMemory.{NoMemory}
 use Rattle.party_state.specs.declared.decision.Decision.{Decision}
 use Rattle.party_state.specs.declared.link.LinkRec.{LinkRec}
 use Rattle.party_state.specs.declared.key.KeyRec.{KeyRec}
 use Rattle.party_state.specs.declared.exchange.Exchange.{Exchange}
-use Rattle.party_state.specs.declared.edit.Edit.TheVariants.{PutLink, PutKey, PutExchange, DropExchange}
+use Rattle.party_state.specs.declared.edit.Edit.TheVariants.{PutKey, PutExchange, DropExchange}
 use Rattle.party_state.specs.declared.key.KeyStatus.TheVariants.{Closing}
 use Rattle.party_state.specs.declared.exchange.Kind.{Kind}
 use Rattle.party_state.specs.declared.exchange.Kind.TheVariants as kind
 use Rattle.x_base.specs.declared.key_name.KeyName.{KeyName}
 use Rattle.party_state.specs.State.{Party, exchange_with}
-use Rattle.party_state.specs.Keys.{link_key}
-use Rattle.party_state.specs.Verdicts.{verdict_of, is_accept, Held}
-use Rattle.party_state.specs.declared.link.LinkKey.{LinkKey}
 use Rattle.party_state.specs.Ranges.{longest_text}
-use Rattle.party_state.proofs.Verdicts.{held}
-use Rattle.x_base.specs.declared.verdict.Verdict.{Verdict}
-use Rattle.x_mac.specs.declared.pair.Pair.{Pair}
-use Rattle.bank_orders.specs.Load.{load_tests}
-use Rattle.role_base.specs.Conditions.{has_link_room}
 use Rattle.role_base.specs.Exchanges.{record_of, new_link, dropped}
 use Rattle.bank_orders.specs.GivingUp.{ended, given_up, given_up_in}
 use Rattle.role_base.specs.Deciding.{change_of, decision_of}
 use Rattle.bank_orders.specs.Resend.{resend_of, resend}
 use Rattle.role_base.specs.Storable.{CanKeep, AreKeepable}
 use Rattle.role_base.specs.Standing.{KeyStands}
-use Rattle.role_base.proofs.Storable.{link_fits}
 use Rattle.role_base.proofs.Found.{key_stands}
 use Rattle.role_base.proofs.Keeping.{key_room, accepted_kept}
 use Rattle.role_base.specs.Texts.{text_of}
 use Rattle.bank_orders.specs.Ending.{end_reply, ended_edits}
-
--- a link that is loaded
-pub loaded_keepable : (p : Party) (l : LinkRec) → l.next ≡ 1 → has_link_room p (link_key l) ≡ true → AreKeepable p (PutLink l ∷ [])
-loaded_keepable p l n room = record {
-  each = ((record { low = omega (arith, n); high = omega (arith, n) }, link_fits p (link_key l) room), tt);
-  order = refl;
-}
 
 -- a key that is being closed
 pub ended_keepable : (p : Party) (k : KeyRec) (e : Exchange) → KeyStands p k → length e.text ≤ longest_text → AreKeepable p (PutKey (record k { status = Closing }) ∷ PutExchange e ∷ [])
@@ -73,10 +57,6 @@ given_up_few p peer e = by_kind e.kind
     by_kind (kind.Asked ultimate) = lit≤ tt
     by_kind (kind.Translating ultimate value cta) = lit≤ tt
     by_kind (kind.Ending name) = lit≤ tt
-
--- a link that is loaded has room
-pub load_room : (p : Party) (key : LinkKey) (pair : Pair) (v : Verdict) → v ≡ verdict_of (load_tests p key pair) → is_accept v ≡ true → has_link_room p key ≡ true
-load_room p key pair v e t = let h : Held (load_tests p key pair) = held (load_tests p key pair) refl (rw (← e) t) in h.1.1.1.0
 
 -- a text that is written again
 pub resend_kept : (p : Party) (peer : List ℕ) (made : Result Decision NoMemory) → IfOk made (λ d. d ≡ decision_of p (resend p peer)) → IfOk made (λ d. CanKeep p d.change)

@@ -1,6 +1,8 @@
-pub mod Load
 pub mod Start
+pub mod Draws
+pub mod StartKk
 pub mod Ask
+pub mod Translate
 pub mod Resend
 pub mod GivingUp
 pub mod Ending

@@ -22,7 +22,7 @@ fn labelled_link(state: &State, peer: &Ident, label: &Label) -> Option<LinkRec>
 }
 
 /// The link to send under: the one with that label, or the first.
-fn sending_link(state: &State, peer: &Ident, label: &Option<Label>) -> Option<LinkRec>
+pub(crate) fn sending_link(state: &State, peer: &Ident, label: &Option<Label>) -> Option<LinkRec>
     ensures link { result ≡ sending_link state.now peer.now label.now }
     ensures stands { IfSome result (LinkStands state.now) }
 {
@@ -32,7 +32,12 @@ fn sending_link(state: &State, peer: &Ident, label: &Option<Label>) -> Option<Li
     }
 }
 
-fn start_tests(state: &State, peer: &Ident, found: &Option<LinkRec>) -> [(bool, Verdict); 3]
+/// The tests before those of the link.
+pub(crate) fn start_tests(
+    state: &State,
+    peer: &Ident,
+    found: &Option<LinkRec>,
+) -> [(bool, Verdict); 3]
     ensures { result ≡ start_tests state.now peer.now found.now }
 {
     [

@@ -2,7 +2,7 @@ use Rattle.std.proofs.Common.{Some, [], refl, lit≤}
 use Rattle.party_state.specs.Rows.{Plain}
 use Rattle.bank_orders.specs.Ask.{request}
 use Rattle.role_base.proofs.Decided.{keeps}
-use Rattle.bank_orders.proofs.ask.ask.Goals as goal
+use Rattle.bank_orders.proofs.ask.ask_peer.Goals as goal
 
 pub returns-clause-kept : goal.returns-clause-kept
 returns-clause-kept c =
