@@ -1,0 +1,11 @@
+pub mod NewKeys
+pub mod Counts
+pub mod Unanswered
+pub mod KeyService
+pub mod KeysKept
+pub mod CentreAnswers
+pub mod Early
+pub mod KeysApart
+pub mod Rooms
+pub mod Taking
+pub mod Passes

@@ -1,0 +1,42 @@
+-- A new key-encrypting key: its first count, and the tests for it among the others.
+use Rattle.std.proofs.Common.{arith, ◌≡◌, ℕ, true, Bool, Option, Some, None, List, [], ◌∷◌, ◌++◌, refl}
+use Rattle.x_base.specs.Count.{IsCount}
+use Rattle.x_base.specs.declared.verdict.Verdict.TheVariants.{BadMac, KeysFull}
+use Rattle.csm_grammar.specs.declared.message.Ksm.{Ksm}
+use Rattle.csm_grammar.specs.declared.message.KsmBody.{KsmBody}
+use Rattle.csm_grammar.specs.declared.message.NewKk.{NewKk}
+use Rattle.csm_grammar.specs.declared.arrival.Arrival.{Arrival}
+use Rattle.party_state.specs.declared.link.LinkRec.{LinkRec}
+use Rattle.party_state.specs.State.{Party}
+use Rattle.party_state.specs.Verdicts.{Held, all_refuse}
+use Rattle.party_state.proofs.Verdicts.{held_after}
+use Rattle.role_base.specs.Conditions.{count_tests, has_key_room}
+use Rattle.role_base.proofs.Early.{none_early}
+use Rattle.bank_keys.specs.Ksm.{body_count, body_name, body_new, body_tests, new_tests}
+
+-- the first count is one
+pub first_counts : IsCount 1
+first_counts = record { low = omega arith; high = omega arith }
+
+refuses : (p : Party) (originator : List ℕ) (l : LinkRec) (count : ℕ) (n : Option (List ℕ × NewKk)) (room : Bool) → all_refuse (new_tests p originator l count n ++ (room, KeysFull) ∷ []) ≡ true
+refuses p originator l count None room = refl
+refuses p originator l count (Some n) room = refl
+
+-- none of the tests behind those in front is early
+pub behind_late : (p : Party) (originator : List ℕ) (l : LinkRec) (count : ℕ) (n : Option (List ℕ × NewKk)) (code room : Bool) → none_early ((code, BadMac) ∷ (count_tests l count ++ (new_tests p originator l count n ++ (room, KeysFull) ∷ []))) ≡ true
+behind_late p originator l count None code room = refl
+behind_late p originator l count (Some n) code room = refl
+
+-- all tests refuse
+
+abbrev pub has_room : Party → Ksm → KsmBody → LinkRec → Bool
+has_room p m b l = has_key_room p (record { peer = m.originator; name = (body_name p m.originator b l).name })
+
+pub all_refusing : (p : Party) (a : Arrival) (m : Ksm) (b : KsmBody) (l : LinkRec) → all_refuse (body_tests p a m b l) ≡ true
+all_refusing p a m b l = refuses p m.originator l (body_count b) (body_new b) (has_room p m b l)
+
+-- where all held, those for a new key-encrypting key did, and the key has room
+pub new_held : (p : Party) (a : Arrival) (m : Ksm) (b : KsmBody) (l : LinkRec) → Held (body_tests p a m b l) → Held (new_tests p m.originator l (body_count b) (body_new b)) × (has_room p m b l ≡ true)
+new_held p a m b l h =
+    let both : Held (new_tests p m.originator l (body_count b) (body_new b)) × Held ((has_room p m b l, KeysFull) ∷ []) = held_after (new_tests p m.originator l (body_count b) (body_new b)) ((has_room p m b l, KeysFull) ∷ []) h.1.1.1.1.1.1 in
+    (both.0, both.1.0)

@@ -1,0 +1,5 @@
+use Rattle.bank_keys.proofs.Taking.{takes_keys}
+use Rattle.bank_keys.proofs.laws.law_taking.Goals as goal
+
+pub returns : goal.returns
+returns c = takes_keys

@@ -1,0 +1,145 @@
+-- A key service message arrives (ANSI X9.17): from a partner, without or with a new key-encrypting key, or with a key
+-- of a centre. Its key is held, a new key-encrypting key is ready for taking, and a response goes back under the key;
+-- a refusal for a count, a label, a pair or want of room is answered by an error message. One row has all three.
+use Rattle.std.specs.Prelude.{ℕ, ◌+◌, true, not, ◌&&◌, is_none, is_some, cond, List, [], ◌∷◌, ◌++◌, Option, Some, None, option_map, bytes_eq}
+use Rattle.x_base.specs.declared.key_name.FullName.{FullName}
+use Rattle.x_base.specs.declared.party.Side.TheVariants.{Takes}
+use Rattle.x_base.specs.declared.verdict.Verdict.{Verdict}
+use Rattle.x_base.specs.declared.verdict.Verdict.TheVariants as verdict
+use Rattle.x_mac.specs.declared.pair.Pair.{Pair}
+use Rattle.x_seal.specs.Wrapped.{unwrap_of, unseal_of}
+use Rattle.csm_grammar.specs.declared.message.Message.{Message}
+use Rattle.csm_grammar.specs.declared.message.Message.TheVariants as message
+use Rattle.csm_grammar.specs.declared.message.KsmBody.{KsmBody}
+use Rattle.csm_grammar.specs.declared.message.KsmBody.TheVariants as body
+use Rattle.csm_grammar.specs.declared.message.Ksm.{Ksm}
+use Rattle.csm_grammar.specs.declared.message.NewKk.{NewKk}
+use Rattle.csm_grammar.specs.declared.message.NewKk.TheVariants as new_kk
+use Rattle.csm_grammar.specs.declared.arrival.Arrival.{Arrival}
+use Rattle.party_state.specs.declared.link.LinkRec.{LinkRec}
+use Rattle.party_state.specs.declared.key.KeyRec.{KeyRec}
+use Rattle.party_state.specs.declared.key.KeyStatus.TheVariants.{Held}
+use Rattle.party_state.specs.declared.edit.Edit.{Edit}
+use Rattle.party_state.specs.declared.edit.Edit.TheVariants.{PutLink, PutKey}
+use Rattle.party_state.specs.declared.decision.Lead.{Lead}
+use Rattle.party_state.specs.Keys.{takes}
+use Rattle.party_state.specs.State.{Party, centre_label, link_with, first_link, has_pair, knows}
+use Rattle.party_state.specs.Verdicts.{Test, verdict_of, passes}
+use Rattle.party_state.specs.Rows.{Row, Coded, OfKsm, refused}
+use Rattle.role_base.specs.declared.errors.Counts.{Counts}
+use Rattle.role_base.specs.Texts.{direct_name, no_extras, is_verified, lead_under}
+use Rattle.role_base.specs.Conditions.{is_for, body_issuer, count_tests, has_key_room, has_link_room}
+use Rattle.role_base.specs.Load.{odd_pair}
+use Rattle.role_base.specs.Errors.{error_message, error_letter, expected_count, coded_under}
+
+-- a key without a centre
+
+-- the link in use: the one with that label, which isn't a centre's, or the first
+abbrev pub link_in_use : Party → List ℕ → Option (List ℕ) → Option LinkRec
+link_in_use p originator None = first_link originator Takes p
+link_in_use p originator (Some label) = cond (bytes_eq label centre_label) None (link_with (takes originator label) p)
+
+-- the full name of the key that arrives under a link
+abbrev pub arriving : Party → LinkRec → ℕ → FullName
+arriving p l ctp = record { name = direct_name l.peer l.label ctp; recipient = p.own }
+
+abbrev pub response : Party → List ℕ → Message
+response p originator = message.Rsm (record { receiver = originator; originator = p.own; idd = None; extras = no_extras })
+
+-- what each form brings: the link in use, the count, and the full name of the key
+
+abbrev pub body_link : Party → List ℕ → KsmBody → Option LinkRec
+body_link p originator (body.Direct idk2 new kd ctp) = link_in_use p originator idk2
+body_link p originator (body.Centre centre kdu ctb) = link_with (takes centre centre_label) p
+
+abbrev pub body_count : KsmBody → ℕ
+body_count (body.Direct idk2 new kd ctp) = ctp
+body_count (body.Centre centre kdu ctb) = ctb
+
+abbrev pub body_name : Party → List ℕ → KsmBody → LinkRec → FullName
+body_name p originator (body.Direct idk2 new kd ctp) l = arriving p l ctp
+body_name p originator (body.Centre centre kdu ctb) l = record { name = record { issuer = centre; originator = originator; label = centre_label; count = ctb }; recipient = p.own }
+
+-- the new key-encrypting key that a text brings under a pair at a count, with odd parity; a single key is both halves
+abbrev pub opened_kk : Pair → ℕ → NewKk → Pair
+opened_kk pair count (new_kk.Double left right) = odd_pair (record { left = unwrap_of pair count left; right = unwrap_of pair count right })
+opened_kk pair count (new_kk.Single key) = odd_pair (record { left = unwrap_of pair count key; right = unwrap_of pair count key })
+
+abbrev pub body_new : KsmBody → Option (List ℕ × NewKk)
+body_new (body.Direct idk2 new kd ctp) = new
+body_new (body.Centre centre kdu ctb) = None
+
+-- the key that a text brings from an originator to a receiver, under the pair of the link in use
+abbrev pub body_value : Pair → List ℕ → List ℕ → KsmBody → ℕ
+body_value pair originator receiver (body.Direct idk2 None kd ctp) = unwrap_of pair ctp kd
+body_value pair originator receiver (body.Direct idk2 (Some new) kd ctp) = unwrap_of (opened_kk pair ctp new.1) 1 kd
+body_value pair originator receiver (body.Centre centre kdu ctb) = unseal_of pair originator receiver ctb kdu
+
+abbrev pub body_front : Party → Ksm → KsmBody → Option LinkRec → List Test
+body_front p m b found =
+    (is_for p m.receiver m.originator, verdict.NotForMe) ∷ (knows (body_issuer m.originator b) p, verdict.UnknownPeer) ∷ (is_some found, verdict.UnknownKk) ∷ []
+
+-- the link of a new key-encrypting key, and the tests for it
+
+abbrev pub taken_link : List ℕ → LinkRec → ℕ → List ℕ × NewKk → LinkRec
+taken_link originator l count new = record { peer = originator; label = new.0; side = Takes; pair = opened_kk l.pair count new.1; next = 2; ready = true }
+
+abbrev pub taken_edits : List ℕ → LinkRec → ℕ → Option (List ℕ × NewKk) → List Edit
+taken_edits originator l count None = []
+taken_edits originator l count (Some new) = PutLink (taken_link originator l count new) ∷ []
+
+abbrev pub new_tests : Party → List ℕ → LinkRec → ℕ → Option (List ℕ × NewKk) → List Test
+new_tests p originator l count None = []
+new_tests p originator l count (Some new) =
+    (not (bytes_eq new.0 centre_label) && is_none (link_with (takes originator new.0) p), verdict.LabelTaken)
+    ∷ (not (has_pair (opened_kk l.pair count new.1) p), verdict.SameKey) ∷ (has_link_room p (takes originator new.0), verdict.LinksFull) ∷ []
+
+-- the key that is held
+abbrev pub body_record : Party → Ksm → KsmBody → LinkRec → KeyRec
+body_record p m b l = record { peer = m.originator; name = (body_name p m.originator b l).name; value = body_value l.pair m.originator p.own b; status = Held }
+
+abbrev pub body_rest : Party → Ksm → KsmBody → LinkRec → List Test
+body_rest p m b l =
+    count_tests l (body_count b) ++ (new_tests p m.originator l (body_count b) (body_new b) ++ (has_key_room p (record { peer = m.originator; name = (body_name p m.originator b l).name }), verdict.KeysFull) ∷ [])
+
+abbrev pub body_tests : Party → Arrival → Ksm → KsmBody → LinkRec → List Test
+body_tests p a m b l = body_front p m b (Some l) ++ (is_verified a (body_value l.pair m.originator p.own b), verdict.BadMac) ∷ body_rest p m b l
+
+abbrev pub body_edits : Party → Ksm → KsmBody → LinkRec → List Edit
+body_edits p m b l = PutLink (record l { next = body_count b + 1 }) ∷ (taken_edits m.originator l (body_count b) (body_new b) ++ PutKey (body_record p m b l) ∷ [])
+
+-- the refused count, under the tag of the message
+abbrev pub body_counts : KsmBody → Counts
+body_counts (body.Direct idk2 new kd ctp) = record { ctp = Some ctp; cta = None; ctb = None }
+body_counts (body.Centre centre kdu ctb) = record { ctp = None; cta = None; ctb = Some ctb }
+
+-- the error message to a refusal that is answered
+abbrev pub body_message : Party → List ℕ → KsmBody → List ℕ → Option ℕ → Message
+body_message p originator b erf ctr = error_message p originator (body_counts b) erf ctr
+
+abbrev pub body_error : Party → List ℕ → KsmBody → Verdict → Option Message
+body_error p originator b v = option_map (λ erf. body_message p originator b erf (expected_count v)) (error_letter v)
+
+abbrev pub key_row : Party → Arrival → Ksm → KsmBody → Option LinkRec → Row
+key_row p a m b None = refused (verdict_of (body_front p m b None))
+key_row p a m b (Some l) = record {
+  verdict = verdict_of (body_tests p a m b l);
+  edits = body_edits p m b l;
+  reply = Some (Coded (response p m.originator) (body_name p m.originator b l) (body_value l.pair m.originator p.own b));
+  uses = [];
+  makes = None;
+  accepts = Some (record { class = OfKsm; under = body_name p m.originator b l });
+  answer = coded_under (body_name p m.originator b l) (body_value l.pair m.originator p.own b) (body_error p m.originator b (verdict_of (body_tests p a m b l)));
+}
+
+abbrev pub key_arrives : Party → Arrival → Ksm → Row
+key_arrives p a m = key_row p a m m.body (body_link p m.originator m.body)
+
+-- the key under which its code is tested
+
+abbrev pub key_lead_with : Party → Arrival → Ksm → KsmBody → Option LinkRec → Option Lead
+key_lead_with p a m b None = None
+key_lead_with p a m b (Some l) = cond (passes (body_front p m b (Some l))) (Some (lead_under a (body_name p m.originator b l) (body_value l.pair m.originator p.own b))) None
+
+abbrev pub key_lead : Party → Arrival → Ksm → Option Lead
+key_lead p a m = key_lead_with p a m m.body (body_link p m.originator m.body)

@@ -1,0 +1,5 @@
+pub mod Ksm
+pub mod Waiting
+pub mod Rtr
+pub mod Taking
+pub mod Passing

@@ -1,0 +1,56 @@
+-- When the key of a key service message is taken (ANSI X9.17; the bounds are this project's profile).
+use Rattle.std.specs.Prelude.{ℕ, ◌≡◌, ◌≢◌, ◌≤◌, ◌↔◌, IsTrue, false, IfSome, List, length, Some, None}
+use Rattle.x_base.specs.declared.verdict.Verdict.TheVariants.{Accept}
+use Rattle.csm_grammar.specs.declared.message.Message.TheVariants as message
+use Rattle.csm_grammar.specs.declared.message.Ksm.{Ksm}
+use Rattle.csm_grammar.specs.declared.message.NewKk.{NewKk}
+use Rattle.csm_grammar.specs.declared.arrival.Arrival.{Arrival}
+use Rattle.party_state.specs.declared.command.Input.{Input}
+use Rattle.party_state.specs.declared.command.Input.TheVariants as input
+use Rattle.party_state.specs.declared.link.LinkRec.{LinkRec}
+use Rattle.party_state.specs.declared.key.KeyRec.{KeyRec}
+use Rattle.party_state.specs.declared.decision.Decision.{Decision}
+use Rattle.party_state.specs.declared.edit.Edit.TheVariants.{PutLink, PutKey}
+use Rattle.party_state.specs.Keys.{takes}
+use Rattle.party_state.specs.State.{Party, centre_label, link_with, has_pair, knows, apply_edit}
+use Rattle.party_state.specs.Limits.{most_links, most_keys}
+use Rattle.role_base.specs.Texts.{is_verified}
+use Rattle.role_base.specs.Conditions.{body_issuer}
+use Rattle.bank_keys.specs.Ksm.{body_link, body_count, body_new, body_value, body_record, opened_kk, taken_link}
+
+-- the input is a key service message that arrived
+pub record Brings (i : Input) (a : Arrival) (m : Ksm) : Type 0 where
+  pub arrived : i ≡ input.Arrived a
+  pub message : a.parsed.message ≡ message.Ksm m
+
+-- with this record 1,024 stand at most
+abbrev pub HasRoomFor : Party → KeyRec → Type 0
+HasRoomFor p k = length (apply_edit (PutKey k) p).keys ≤ most_keys
+
+-- a new key-encrypting key that comes at this count can be taken, under this label
+pub record CanAdd (p : Party) (originator : List ℕ) (l : LinkRec) (count : ℕ) (new : List ℕ × NewKk) : Type 0 where
+  -- the label is no centre's, and free
+  pub label : new.0 ≢ centre_label
+  pub free : link_with (takes originator new.0) p ≡ None
+  -- no link has the pair
+  pub other : has_pair (opened_kk l.pair count new.1) p ≡ false
+  -- with its link 64 stand at most
+  pub room : length (apply_edit (PutLink (taken_link originator l count new)) p).links ≤ most_links
+
+pub record CanTake (p : Party) (a : Arrival) (m : Ksm) : Type 0 where
+  pub receiver : m.receiver ≡ p.own
+  pub originator : m.originator ≢ p.own
+  pub known : IsTrue (knows (body_issuer m.originator m.body) p)
+  pub link : LinkRec
+  pub in_use : body_link p m.originator m.body ≡ Some link
+  -- the code is made under the key that came
+  pub code : IsTrue (is_verified a (body_value link.pair m.originator p.own m.body))
+  -- the count is not below the expected one, which is a count
+  pub fresh : link.next ≤ body_count m.body
+  pub left : link.next ≤ 99999999999999
+  pub added : IfSome (body_new m.body) (CanAdd p m.originator link (body_count m.body))
+  pub room : HasRoomFor p (body_record p m m.body link)
+
+-- a key that a key service message brings is accepted exactly where it can be taken
+abbrev pub TakesKeys : Party → Input → Decision → Type 0
+TakesKeys p i d = (a : Arrival) (m : Ksm) → Brings i a m → (d.verdict ≡ Accept) ↔ CanTake p a m

@@ -1,0 +1,17 @@
+//! What a bank takes of keys (ANSI X9.17): key service messages of every form, and the answers of
+//! centres, whose keys go on to their ultimate recipients.
+#![tactic(auto)]
+
+mod bodies;
+mod from_distribution;
+mod from_translation;
+mod key_service;
+mod laws;
+mod passing;
+mod responses;
+mod waits;
+
+pub use key_service::{ksm, ksm_lead};
+pub use laws::{law_apart, law_lead, law_passing, law_taking};
+pub use responses::{rtr, rtr_lead};
+pub use waits::Waiting;
