@@ -2,11 +2,6 @@
 use Rattle.std.proofs.Common.{◌≡◌, ℕ, Bool, true, false, cond, is_some, Option, Some, None, List, [], ◌∷◌, ◌++◌, refl, ap, ◌∙◌}
 use Rattle.x_base.specs.declared.key_name.KeyName.{KeyName}
 use Rattle.x_gen.specs.Gen.{good_draw}
-use Rattle.csm_grammar.specs.declared.message.Message.{Message}
-use Rattle.csm_grammar.specs.declared.message.Message.TheVariants as message
-use Rattle.csm_grammar.specs.declared.message.KsmBody.{KsmBody}
-use Rattle.csm_grammar.specs.declared.message.KsmBody.TheVariants as body
-use Rattle.csm_grammar.specs.declared.message.Ksm.{Ksm}
 use Rattle.csm_grammar.specs.declared.message.Rsm.{Rsm}
 use Rattle.csm_grammar.specs.declared.message.Esm.{Esm}
 use Rattle.csm_grammar.specs.declared.message.Dsm.{Dsm}
@@ -31,17 +26,17 @@ use Rattle.party_state.specs.State.{Party, apply_edit, centre_label, link_with, 
 use Rattle.party_state.proofs.Keys.{test_links}
 use Rattle.party_state.proofs.Tables.{find_key, find_put}
 use Rattle.role_base.specs.declared.exchanges.Sent.{Sent}
-use Rattle.bank_arrivals.specs.declared.esm.Subject.{Subject}
-use Rattle.bank_arrivals.specs.declared.esm.Subject.TheVariants.{SentKey, Translated}
-use Rattle.bank_arrivals.specs.declared.dsm.Named.{Named}
+use Rattle.bank_arrivals.specs.declared.asking_again.Retry.{Retry}
+use Rattle.bank_arrivals.specs.declared.error_message.Subject.{Subject}
+use Rattle.bank_arrivals.specs.declared.error_message.Subject.TheVariants.{SentKey, Translated}
+use Rattle.bank_arrivals.specs.declared.disconnection.Named.{Named}
 use Rattle.role_base.specs.Texts.{is_plain}
 use Rattle.role_base.specs.Exchanges.{sent_to, ending_with, new_link, readied, dropped}
-use Rattle.bank_arrivals.specs.Rsi.{rsi_tests, rsi_under}
-use Rattle.bank_arrivals.specs.Ksm.{link_in_use, ksm_under, ksm_with}
-use Rattle.bank_arrivals.specs.Rsm.{rsm_to, answer_to, rsm_with}
-use Rattle.bank_arrivals.specs.Esm.{subject_with, is_renewed, way_link, raised, esm_of, plain_esm}
-use Rattle.bank_arrivals.specs.Dsm.{named_by, left_by, left_in, dsm_on}
-use Rattle.bank_arrivals.specs.Arrivals.{message_row}
+use Rattle.bank_arrivals.specs.Rsi.{rsi_tests, rsi_under, rsi}
+use Rattle.bank_arrivals.specs.Rsm.{rsm_to, answer_to, rsm_with, rsm}
+use Rattle.bank_arrivals.specs.Esm.{subject_with, is_renewed, way_link, raised, error_of, error_with, error}
+use Rattle.bank_arrivals.specs.AskingAgain.{retry_in, asked_again}
+use Rattle.bank_arrivals.specs.Dsm.{named_by, left_by, left_in, dsm_on, dsm}
 
 -- a link that stands, and is put again, stands as before
 
@@ -55,21 +50,15 @@ still_there p l x k f e = ap (λ (o : Option LinkRec). is_some o) (find_put link
         rw there refl
     go false s = refl
 
-rsi_apart : (p : Party) (a : Arrival) (m : Rsi) (moment : ℕ) (o : Option LinkRec) → AreApart p (rsi_under p a m o moment).edits
-rsi_apart p a m moment None = tt
-rsi_apart p a m moment (Some l) = sending_apart p (rsi_tests p a m (Some l)) l (good_draw p.generator moment)
+under_apart : (p : Party) (a : Arrival) (m : Rsi) (moment : ℕ) (o : Option LinkRec) → AreApart p (rsi_under p a m o moment).edits
+under_apart p a m moment None = tt
+under_apart p a m moment (Some l) = sending_apart p (rsi_tests p a m (Some l)) l (good_draw p.generator moment)
 
-ksm_apart : (p : Party) (a : Arrival) (m : Ksm) (b : KsmBody) → AreApart p (ksm_with p a m b).edits
-ksm_apart p a m (body.Direct idk2 None kd ctp) = by_link (link_in_use p m.originator idk2)
-  where
-    by_link : (o : Option LinkRec) → AreApart p (ksm_under p a m (record { kd = kd; ctp = ctp }) o).edits
-    by_link None = tt
-    by_link (Some l) = ((refl, tt), (tt, tt))
-ksm_apart p a m (body.Direct idk2 (Some new) kd ctp) = tt
-ksm_apart p a m (body.Centre centre kdu ctb) = tt
+pub rsi_apart : (p : Party) (a : Arrival) (m : Rsi) (moment : ℕ) → AreApart p (rsi p a m moment).edits
+rsi_apart p a m moment = under_apart p a m moment (first_link m.originator Sends p)
 
-rsm_apart : (p : Party) (a : Arrival) (m : Rsm) (o : Option KeyName) → AreApart p (rsm_with p a m o).edits
-rsm_apart p a m None = by_sent (sent_to p m.originator)
+named_apart : (p : Party) (a : Arrival) (m : Rsm) (o : Option KeyName) → AreApart p (rsm_with p a m o).edits
+named_apart p a m None = by_sent (sent_to p m.originator)
   where
     by_new : (l : Option LinkRec) (k : KeyRec) → AreApart p (readied l ++ PutKey k ∷ DropExchange m.originator ∷ [])
     by_new None k = ((refl, tt), (tt, tt))
@@ -78,57 +67,81 @@ rsm_apart p a m None = by_sent (sent_to p m.originator)
     by_sent : (o : Option Sent) → AreApart p (rsm_to p a m o).edits
     by_sent None = tt
     by_sent (Some s) = by_new (new_link p m.originator s.way) _
-rsm_apart p a m (Some name) = by_record (ending_with p m.originator)
+named_apart p a m (Some name) = by_record (ending_with p m.originator)
   where
     by_record : (o : Option KeyRec) → AreApart p (answer_to p a m name o).edits
     by_record None = tt
     by_record (Some k) = ((refl, tt), (tt, tt))
 
+pub rsm_apart : (p : Party) (a : Arrival) (m : Rsm) → AreApart p (rsm p a m).edits
+rsm_apart p a m = named_apart p a m m.idd
+
 -- where an error message tells a count, the link that goes is there as before
-esm_apart : (p : Party) (a : Arrival) (m : Esm) (o : Option Subject) → AreApart p (esm_of p a m o).edits
-esm_apart p a m None = tt
-esm_apart p a m (Some (Translated value cta)) = by_link (link_with (sends m.originator centre_label) p) m.ctr
+error_apart : (p : Party) (a : Arrival) (m : Esm) (o : Option Subject) (again : Option Retry) → AreApart p (error_of p a m o again).edits
+error_apart p a m None again = tt
+error_apart p a m (Some (Translated value cta)) again = by_link (link_with (sends m.originator centre_label) p) m.ctr again
   where
-    by_link : (l : Option LinkRec) (ctr : Option ℕ) → AreApart p (raised l ctr ++ DropExchange m.originator ∷ [])
-    by_link None ctr = (tt, tt)
-    by_link (Some l) None = (tt, tt)
-    by_link (Some l) (Some n) = ((refl, tt), (tt, tt))
-esm_apart p a m (Some (SentKey s)) = by_way s.way
+    by_link : (l : Option LinkRec) (ctr : Option ℕ) (t : Option Retry) → AreApart p (raised l ctr ++ DropExchange m.originator ∷ asked_again p m value t)
+    by_link None ctr None = (tt, tt)
+    by_link None ctr (Some t) = ((refl, tt), (tt, tt))
+    by_link (Some l) None None = (tt, tt)
+    by_link (Some l) None (Some t) = ((refl, tt), (tt, tt))
+    by_link (Some l) (Some n) None = ((refl, tt), (tt, tt))
+    by_link (Some l) (Some n) (Some t) = ((refl, (refl, tt)), ((refl, tt), (tt, tt)))
+error_apart p a m (Some (SentKey s)) again = by_way s.way
   where
     ends : KeyRec
     ends = record s.key { status = Ended }
 
-    unraised : (new : Option LinkRec) → AreApart p ((dropped new ++ PutKey ends ∷ []) ++ DropExchange m.originator ∷ [])
-    unraised None = ((refl, tt), (tt, tt))
-    unraised (Some new) = ((refl, (refl, tt)), ((refl, tt), (tt, tt)))
+    -- the link that goes, the key that ends, and what is asked again
+    behind : Option LinkRec → Option Retry → List Edit
+    behind new t = (dropped new ++ PutKey ends ∷ []) ++ DropExchange m.originator ∷ asked_again p m s.key.value t
 
-    raised_first : (new : Option LinkRec) (l x : LinkRec) → link_with (link_key l) p ≡ Some l → link_key x ≡ link_key l → AreApart p (PutLink x ∷ ((dropped new ++ PutKey ends ∷ []) ++ DropExchange m.originator ∷ []))
-    raised_first None l x f e = ((refl, (refl, tt)), ((refl, tt), (tt, tt)))
-    raised_first (Some new) l x f e = ((still_there p l x (link_key new) f e, (refl, (refl, tt))), ((refl, (refl, tt)), ((refl, tt), (tt, tt))))
+    unraised : (new : Option LinkRec) (t : Option Retry) → AreApart p (behind new t)
+    unraised None None = ((refl, tt), (tt, tt))
+    unraised None (Some t) = ((refl, (refl, tt)), ((refl, tt), (tt, tt)))
+    unraised (Some new) None = ((refl, (refl, tt)), ((refl, tt), (tt, tt)))
+    unraised (Some new) (Some t) = ((refl, (refl, (refl, tt))), ((refl, (refl, tt)), ((refl, tt), (tt, tt))))
 
-    by_link : (new : Option LinkRec) (label : List ℕ) (o : Option LinkRec) → link_with (sends m.originator label) p ≡ o → (ctr : Option ℕ) → AreApart p (raised o ctr ++ ((dropped new ++ PutKey ends ∷ []) ++ DropExchange m.originator ∷ []))
-    by_link new label None f ctr = unraised new
-    by_link new label (Some l) f None = unraised new
+    raised_first : (new : Option LinkRec) (t : Option Retry) (l x : LinkRec) → link_with (link_key l) p ≡ Some l → link_key x ≡ link_key l → AreApart p (PutLink x ∷ behind new t)
+    raised_first None None l x f e = ((refl, (refl, tt)), ((refl, tt), (tt, tt)))
+    raised_first None (Some t) l x f e = ((refl, (refl, (refl, tt))), ((refl, (refl, tt)), ((refl, tt), (tt, tt))))
+    raised_first (Some new) None l x f e = ((still_there p l x (link_key new) f e, (refl, (refl, tt))), ((refl, (refl, tt)), ((refl, tt), (tt, tt))))
+    raised_first (Some new) (Some t) l x f e = ((still_there p l x (link_key new) f e, (refl, (refl, (refl, tt)))), ((refl, (refl, (refl, tt))), ((refl, (refl, tt)), ((refl, tt), (tt, tt)))))
+
+    by_link : (new : Option LinkRec) (label : List ℕ) (o : Option LinkRec) → link_with (sends m.originator label) p ≡ o → (ctr : Option ℕ) → AreApart p (raised o ctr ++ behind new again)
+    by_link new label None f ctr = unraised new again
+    by_link new label (Some l) f None = unraised new again
     by_link new label (Some l) f (Some n) =
         let k : sends m.originator label ≡ link_key l = find_key link_key same_link test_links (sends m.originator label) l p.links f in
-        raised_first new l _ (rw k at f) refl
+        raised_first new again l _ (rw k at f) refl
 
-    by_label : (new : Option LinkRec) (label : List ℕ) (b : Bool) → AreApart p (raised (cond b None (link_with (sends m.originator label) p)) m.ctr ++ ((dropped new ++ PutKey ends ∷ []) ++ DropExchange m.originator ∷ []))
-    by_label new label true = unraised new
+    by_label : (new : Option LinkRec) (label : List ℕ) (b : Bool) → AreApart p (raised (cond b None (link_with (sends m.originator label) p)) m.ctr ++ behind new again)
+    by_label new label true = unraised new again
     by_label new label false = by_link new label (link_with (sends m.originator label) p) refl m.ctr
 
-    by_way : (w : Via) → AreApart p (raised (way_link p m.originator w) m.ctr ++ ((dropped (new_link p m.originator w) ++ PutKey ends ∷ []) ++ DropExchange m.originator ∷ []))
+    by_way : (w : Via) → AreApart p (raised (way_link p m.originator w) m.ctr ++ behind (new_link p m.originator w) again)
     by_way (via.Direct label new) = by_label (new_link p m.originator (via.Direct label new)) label (is_renewed label new)
-    by_way (via.Distribution centre cta) = unraised None
-    by_way (via.Translation centre) = unraised None
+    by_way (via.Distribution centre cta) = unraised None again
+    by_way (via.Translation centre) = unraised None again
+
+pub esm_apart : (p : Party) (a : Arrival) (m : Esm) → AreApart p (error p a m).edits
+esm_apart p a m = go (is_plain a.parsed.shut)
+  where
+    again : Option Retry
+    again = retry_in p (subject_with p m.originator) m.ctr
+
+    go : (b : Bool) → AreApart p (error_with p a m b again).edits
+    go true = tt
+    go false = error_apart p a m (subject_with p m.originator) again
 
 -- a key that is put, with what goes before it and behind it
 abbrev around : KeyRec → List Edit × List Edit → List Edit
 around k gone = gone.0 ++ (PutKey k ∷ gone.1)
 
-dsm_apart : (p : Party) (a : Arrival) (m : Dsm) (o : Option Named) → AreApart p (dsm_on p a m o).edits
-dsm_apart p a m None = tt
-dsm_apart p a m (Some n) = by_status (is_ended n.key.status)
+on_apart : (p : Party) (a : Arrival) (m : Dsm) (o : Option Named) → AreApart p (dsm_on p a m o).edits
+on_apart p a m None = tt
+on_apart p a m (Some n) = by_status (is_ended n.key.status)
   where
     ends : KeyRec
     ends = record n.key { status = Ended }
@@ -159,19 +172,5 @@ dsm_apart p a m (Some n) = by_status (is_ended n.key.status)
     by_status true = tt
     by_status false = by_exchange (exchange_with m.originator p)
 
-message_apart : (p : Party) (a : Arrival) (m : Message) (moment : ℕ) → AreApart p (message_row p a m moment).edits
-message_apart p a (message.Rsi m) moment = rsi_apart p a m moment (first_link m.originator Sends p)
-message_apart p a (message.Rfs m) moment = tt
-message_apart p a (message.Rtr m) moment = tt
-message_apart p a (message.Ksm m) moment = ksm_apart p a m m.body
-message_apart p a (message.Rsm m) moment = rsm_apart p a m m.idd
-message_apart p a (message.Ers m) moment = tt
-message_apart p a (message.Esm m) moment = go (is_plain a.parsed.shut)
-  where
-    go : (b : Bool) → AreApart p (cond b (plain_esm p a m) (esm_of p a m (subject_with p m.originator))).edits
-    go true = tt
-    go false = esm_apart p a m (subject_with p m.originator)
-message_apart p a (message.Dsm m) moment = dsm_apart p a m (named_by p m)
-
-pub arrival_apart : (p : Party) (a : Arrival) (moment : ℕ) → AreApart p (message_row p a a.parsed.message moment).edits
-arrival_apart p a moment = message_apart p a a.parsed.message moment
+pub dsm_apart : (p : Party) (a : Arrival) (m : Dsm) → AreApart p (dsm p a m).edits
+dsm_apart p a m = on_apart p a m (named_by p m)

@@ -17,7 +17,7 @@ use Rattle.role_base.specs.declared.texts.Written.{Written}
 use Rattle.role_base.specs.Texts.{lead_under}
 use Rattle.role_base.proofs.ByRow.{by_answered, by_accept_with}
 use Rattle.csm_grammar.specs.declared.message.Dsm.{Dsm}
-use Rattle.bank_arrivals.specs.declared.dsm.Named.{Named}
+use Rattle.bank_arrivals.specs.declared.disconnection.Named.{Named}
 use Rattle.bank_arrivals.specs.Dsm.{dsm_front, disconnected, dsm_response, dsm_on}
 
 pub dsm_refuses : (p : Party) (a : Arrival) (m : Dsm) (n : Named) (l : Lead) (v : Verdict) → v ≡ verdict_of (dsm_front p m true ++ (l.verified, BadMac) ∷ []) → l ≡ lead_under a (full_name p.own n.by) n.by.value → is_accept v ≡ false → refusal_of v ≡ decision_of p (dsm_on p a m (Some n))

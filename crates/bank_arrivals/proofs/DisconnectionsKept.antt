@@ -18,7 +18,7 @@ use Rattle.role_base.specs.Deciding.{decision_of}
 use Rattle.role_base.specs.Storable.{CanKeep, can_put_key, AreFew}
 use Rattle.role_base.specs.Standing.{KeyStands}
 use Rattle.role_base.specs.Exchanges.{record_of, new_link, dropped}
-use Rattle.bank_arrivals.specs.declared.dsm.Named.{Named}
+use Rattle.bank_arrivals.specs.declared.disconnection.Named.{Named}
 use Rattle.bank_arrivals.specs.Dsm.{paired, code_name, named_by, left_by, left_in, disconnected, dsm_on}
 use Rattle.role_base.proofs.Found.{key_stands}
 use Rattle.role_base.proofs.Keeping.{key_room}

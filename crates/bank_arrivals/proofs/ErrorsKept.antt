@@ -1,5 +1,6 @@
 -- The change of an error message can be kept.
 use Rattle.std.proofs.Common.{◌≡◌, ℕ, ◌+◌, ◌≤◌, max, Bool, true, false, cond, Option, Some, None, Result, IfOk, IfSome, List, [], ◌∷◌, ◌++◌, length, option_map, refl, arith, lit≤}
+use Rattle.std.specs.Prelude.{bytes_eq}
 use Rattle.std.specs.List.{list_any}
 use Rattle.x_base.specs.Count.{IsCount}
 use Rattle.x_base.specs.declared.text.NoMemory.{NoMemory}
@@ -18,47 +19,52 @@ use Rattle.party_state.specs.declared.exchange.Kind.TheVariants as kind
 use Rattle.party_state.specs.declared.exchange.Exchange.{Exchange}
 use Rattle.party_state.specs.declared.edit.Edit.{Edit}
 use Rattle.party_state.specs.declared.edit.Edit.TheVariants.{PutKey, DropExchange}
-use Rattle.party_state.specs.Keys.{link_key, same_link, record_key, sends}
-use Rattle.party_state.specs.Ranges.{IsLink, IsNextCount, IsParty}
+use Rattle.party_state.specs.Keys.{link_key, same_link, record_key, exchange_key, sends}
+use Rattle.party_state.specs.Ranges.{IsLink, IsNextCount, IsParty, IsVia, IsKind, IsExchange, longest_text}
 use Rattle.party_state.specs.State.{Party, centre_label, link_with, exchange_with}
 use Rattle.party_state.proofs.Each.{find_all}
-use Rattle.role_base.specs.Texts.{is_plain}
+use Rattle.csm_write.specs.Shortness.{CanonShort}
+use Rattle.party_state.specs.Rows.{Row}
+use Rattle.role_base.specs.Texts.{text_of, is_plain}
 use Rattle.role_base.specs.Deciding.{change_of, decision_of}
 use Rattle.role_base.specs.Storable.{CanKeep, can_put_key, AreKeepable, puts_link, AreFew}
 use Rattle.role_base.specs.Standing.{LinkStands, KeyStands}
 use Rattle.role_base.specs.declared.exchanges.Sent.{Sent}
-use Rattle.bank_arrivals.specs.declared.esm.Subject.{Subject}
-use Rattle.bank_arrivals.specs.declared.esm.Subject.TheVariants.{SentKey, Translated}
+use Rattle.bank_arrivals.specs.declared.asking_again.Retry.{Retry}
+use Rattle.bank_arrivals.specs.declared.error_message.Subject.{Subject}
+use Rattle.bank_arrivals.specs.declared.error_message.Subject.TheVariants.{SentKey, Translated}
 use Rattle.role_base.specs.Exchanges.{record_of, new_link, dropped}
-use Rattle.bank_arrivals.specs.Esm.{subject_by, subject_in, subject_with, is_renewed, way_link, subject_link, raised, subject_ended, esm_of, plain_esm, esm}
+use Rattle.bank_arrivals.specs.AskingAgain.{retry_by, retry_of, retry_in, ers_reply, asked_again}
+use Rattle.bank_arrivals.specs.Esm.{subject_by, subject_in, subject_with, is_renewed, way_link, subject_link, raised, error_row, error_of, plain_esm, error}
+use Rattle.bank_arrivals.proofs.AskingShort.{IsHeard, IsRetry, is_retry, ers_short}
 use Rattle.role_base.proofs.Found.{link_stands, key_stands}
 use Rattle.role_base.proofs.Keeping.{link_room, key_room}
 use Rattle.role_base.proofs.Kept.{row_kept, made_kept}
 
--- the record of a key that an error message speaks of stands
+-- the record of a key that an error message speaks of stands, and its way is in its range
 abbrev SubjectStands : Party → Subject → Type 0
-SubjectStands p (SentKey s) = KeyStands p s.key
+SubjectStands p (SentKey s) = KeyStands p s.key × IsVia s.way
 SubjectStands p (Translated value cta) = Unit {0}
 
-subject_stands : (p : Party) (peer : List ℕ) (s : Subject) → subject_with p peer ≡ Some s → SubjectStands p s
-subject_stands p peer s h = by_exchange (exchange_with peer p) h
+subject_stands : (p : Party) (peer : List ℕ) (s : Subject) → IsParty p → subject_with p peer ≡ Some s → SubjectStands p s
+subject_stands p peer s w h = by_exchange (exchange_with peer p) refl h
   where
-    by_record : (name : KeyName) (way : Via) (o : Option KeyRec) → record_of p peer name ≡ o → option_map SentKey (option_map (λ (k : KeyRec). let t : Sent = record { key = k; way = way } in t) o) ≡ Some s → SubjectStands p s
-    by_record name way None f h = absurd (cc)
-    by_record name way (Some k) f h =
+    by_record : (name : KeyName) (way : Via) (o : Option KeyRec) → IsVia way → record_of p peer name ≡ o → option_map SentKey (option_map (λ (k : KeyRec). let t : Sent = record { key = k; way = way } in t) o) ≡ Some s → SubjectStands p s
+    by_record name way None i f h = absurd (cc)
+    by_record name way (Some k) i f h =
         let t : Sent = record { key = k; way = way } in
         let e : s ≡ SentKey t = cc in
-        rw e (key_stands p (record { peer = peer; name = name }) k f)
+        rw e (key_stands p (record { peer = peer; name = name }) k f, i)
 
-    by_kind : (x : Kind) → subject_by p peer x ≡ Some s → SubjectStands p s
-    by_kind (kind.KeySent name way) h = by_record name way (record_of p peer name) refl h
-    by_kind (kind.Translating ultimate value cta) h = let e : s ≡ Translated value cta = cc in rw e tt
-    by_kind (kind.Asked ultimate) h = absurd (cc)
-    by_kind (kind.Ending name) h = absurd (cc)
+    by_kind : (x : Kind) → IsKind x → subject_by p peer x ≡ Some s → SubjectStands p s
+    by_kind (kind.KeySent name way) i h = by_record name way (record_of p peer name) i.1 refl h
+    by_kind (kind.Translating ultimate value cta) i h = let e : s ≡ Translated value cta = cc in rw e tt
+    by_kind (kind.Asked ultimate) i h = absurd (cc)
+    by_kind (kind.Ending name) i h = absurd (cc)
 
-    by_exchange : (o : Option Exchange) → subject_in p peer o ≡ Some s → SubjectStands p s
-    by_exchange None h = absurd (cc)
-    by_exchange (Some e) h = by_kind e.kind h
+    by_exchange : (o : Option Exchange) → exchange_with peer p ≡ o → subject_in p peer o ≡ Some s → SubjectStands p s
+    by_exchange None f h = absurd (cc)
+    by_exchange (Some e) f h = by_kind e.kind (find_all IsExchange exchange_key bytes_eq peer e p.exchanges w.exchanges f).kind h
 
 -- a link that is looked up stands
 looked_up : (p : Party) (k : LinkKey) → IsParty p → IfSome (link_with k p) (LinkStands p)
@@ -100,31 +106,44 @@ raised_few p (Some l) (Some c) rest st i t n few = record {
   few = omega arith;
 }
 
+-- where a centre is asked again, its text is short
+abbrev IsShort : Party → Esm → ℕ → Option Retry → Type 0
+IsShort p m value again = IfSome again (λ t. length (text_of (ers_reply p m value t)) ≤ longest_text)
+
+asked_short : CanonShort → (p : Party) (m : Esm) (value : ℕ) (again : Option Retry) → IsParty p → IsHeard m → IfSome again IsRetry → IsShort p m value again
+asked_short short p m value None w i r = tt
+asked_short short p m value (Some t) w i r = ers_short short p m value t w.own i r
+
 -- an error message with an authentication code
-about_kept : (p : Party) (a : Arrival) (m : Esm) (o : Option Subject) → IsParty p → IfSome m.ctr IsCount → subject_with p m.originator ≡ o → CanKeep p (change_of p (esm_of p a m o))
-about_kept p a m None w i h = row_kept p (esm_of p a m None) (λ _. record { each = tt; order = refl }) (lit≤ tt)
-about_kept p a m (Some s) w i h = kept (by_subject s (subject_stands p m.originator s h))
+about_kept : CanonShort → (p : Party) (a : Arrival) (m : Esm) (o : Option Subject) → IsParty p → IsHeard m → IfSome m.ctr IsCount → subject_with p m.originator ≡ o → CanKeep p (change_of p (error_of p a m o (retry_in p o m.ctr)))
+about_kept short p a m None w g i h = row_kept p (error_of p a m None None) (λ _. record { each = tt; order = refl }) (lit≤ tt)
+about_kept short p a m (Some s) w g i h = kept (by_subject s (subject_stands p m.originator s w h))
   where
-    kept : AreFew p (esm_of p a m (Some s)).edits → CanKeep p (change_of p (esm_of p a m (Some s)))
-    kept f = row_kept p (esm_of p a m (Some s)) (λ _. f.keepable) f.few
+    kept : AreFew p (error_row p a m s (retry_of p s m.ctr)).edits → CanKeep p (change_of p (error_row p a m s (retry_of p s m.ctr)))
+    kept f = row_kept p (error_row p a m s (retry_of p s m.ctr)) (λ _. f.keepable) f.few
 
     raised_with : (x : Subject) (rest : List Edit) → AreKeepable p rest → list_any puts_link rest ≡ false → length rest ≤ 8 → AreFew p (raised (subject_link p m.originator x) m.ctr ++ rest)
     raised_with x rest t n few = raised_few p (subject_link p m.originator x) m.ctr rest (counted_stands p m.originator x w) i t n few
 
-    by_link : (x : Sent) (l : Option LinkRec) → can_put_key p (record_key x.key) ≡ true → AreFew p (raised (subject_link p m.originator (SentKey x)) m.ctr ++ ((dropped l ++ PutKey (record x.key { status = Ended }) ∷ []) ++ DropExchange m.originator ∷ []))
-    by_link x None room = raised_with (SentKey x) _ (record { each = (room, (tt, tt)); order = refl }) refl (lit≤ tt)
-    by_link x (Some l) room = raised_with (SentKey x) _ (record { each = (tt, (room, (tt, tt))); order = refl }) refl (lit≤ tt)
+    by_link : (x : Sent) (l : Option LinkRec) (t : Option Retry) → can_put_key p (record_key x.key) ≡ true → IsShort p m x.key.value t → AreFew p (raised (subject_link p m.originator (SentKey x)) m.ctr ++ ((dropped l ++ PutKey (record x.key { status = Ended }) ∷ []) ++ DropExchange m.originator ∷ asked_again p m x.key.value t))
+    by_link x None None room c = raised_with (SentKey x) _ (record { each = (room, (tt, tt)); order = refl }) refl (lit≤ tt)
+    by_link x None (Some t) room c = raised_with (SentKey x) _ (record { each = (room, (tt, (c, tt))); order = refl }) refl (lit≤ tt)
+    by_link x (Some l) None room c = raised_with (SentKey x) _ (record { each = (tt, (room, (tt, tt))); order = refl }) refl (lit≤ tt)
+    by_link x (Some l) (Some t) room c = raised_with (SentKey x) _ (record { each = (tt, (room, (tt, (c, tt)))); order = refl }) refl (lit≤ tt)
 
-    by_subject : (x : Subject) → SubjectStands p x → AreFew p (raised (subject_link p m.originator x) m.ctr ++ (subject_ended p m.originator x ++ DropExchange m.originator ∷ []))
-    by_subject (SentKey x) st = by_link x (new_link p m.originator x.way) (key_room p x.key st)
+    by_subject : (x : Subject) → SubjectStands p x → AreFew p (error_row p a m x (retry_of p x m.ctr)).edits
+    by_subject (SentKey x) st = by_link x (new_link p m.originator x.way) (retry_by p x.way m.ctr) (key_room p x.key st.0) (asked_short short p m x.key.value (retry_by p x.way m.ctr) w g (is_retry p x.way m.ctr st.1 i))
     by_subject (Translated value cta) st = raised_with (Translated value cta) _ (record { each = (tt, tt); order = refl }) refl (lit≤ tt)
 
-pub esm_kept : (p : Party) (a : Arrival) (m : Esm) (made : Result Decision NoMemory) → IsParty p → IfSome m.ctr IsCount → IfOk made (λ d. d ≡ decision_of p (esm p a m)) → IfOk made (λ d. CanKeep p d.change)
-esm_kept p a m made w i e = made_kept p (esm p a m) made (by_closing (is_plain a.parsed.shut) (about_kept p a m (subject_with p m.originator) w i refl)) e
+pub esm_kept : CanonShort → (p : Party) (a : Arrival) (m : Esm) (made : Result Decision NoMemory) → IsParty p → IsHeard m → IfSome m.ctr IsCount → IfOk made (λ d. d ≡ decision_of p (error p a m)) → IfOk made (λ d. CanKeep p d.change)
+esm_kept short p a m made w g i e = made_kept p (error p a m) made (by_closing (is_plain a.parsed.shut) (about_kept short p a m (subject_with p m.originator) w g i refl)) e
   where
     plain : CanKeep p (change_of p (plain_esm p a m))
     plain = row_kept p (plain_esm p a m) (λ _. record { each = tt; order = refl }) (lit≤ tt)
 
-    by_closing : (b : Bool) → CanKeep p (change_of p (esm_of p a m (subject_with p m.originator))) → CanKeep p (change_of p (cond b (plain_esm p a m) (esm_of p a m (subject_with p m.originator))))
+    about : Row
+    about = error_of p a m (subject_with p m.originator) (retry_in p (subject_with p m.originator) m.ctr)
+
+    by_closing : (b : Bool) → CanKeep p (change_of p about) → CanKeep p (change_of p (cond b (plain_esm p a m) about))
     by_closing true k = plain
     by_closing false k = k

@@ -1,12 +1,12 @@
-pub mod Counts
 pub mod Responses
 pub mod ErrorMessages
 pub mod Disconnections
-pub mod KeyService
-pub mod ArrivalsKept
+pub mod ResponsesKept
 pub mod DisconnectionsKept
+pub mod AskingShort
 pub mod ErrorsKept
-pub mod Taking
 pub mod Early
 pub mod ArrivalsApart
-pub mod Led
+pub mod About
+pub mod HeardErrors
+pub mod Heard

@@ -20,7 +20,7 @@ use Rattle.party_state.specs.Names.{full_name}
 use Rattle.party_state.specs.State.{Party, exchange_with, is_ended}
 use Rattle.party_state.specs.Verdicts.{Test, verdict_of, passes}
 use Rattle.party_state.specs.Rows.{Row, Coded, OfDsm, refused}
-use Rattle.bank_arrivals.specs.declared.dsm.Named.{Named}
+use Rattle.bank_arrivals.specs.declared.disconnection.Named.{Named}
 use Rattle.role_base.specs.Texts.{no_extras, is_verified, lead_under}
 use Rattle.role_base.specs.Conditions.{is_for}
 use Rattle.role_base.specs.Exchanges.{record_of, new_link, dropped}

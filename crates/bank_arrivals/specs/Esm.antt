@@ -1,5 +1,6 @@
 -- An error service message arrives (ANSI X9.17): what was sent is given up, and the count goes on where it
--- is named. One whose code is an error detection code changes nothing.
+-- is named. Where it is about a key of a distribution centre, the centre is asked again. One whose code is an
+-- error detection code changes nothing.
 use Rattle.std.specs.Prelude.{ℕ, Bool, false, bytes_eq, max, cond, is_some, List, [], ◌∷◌, ◌++◌, Option, Some, None, option_map}
 use Rattle.x_base.specs.declared.key_name.FullName.{FullName}
 use Rattle.x_base.specs.declared.verdict.Verdict.TheVariants.{BadMac, BadEdc}
@@ -20,11 +21,13 @@ use Rattle.party_state.specs.Names.{full_name}
 use Rattle.party_state.specs.State.{Party, centre_label, link_with, exchange_with}
 use Rattle.party_state.specs.Verdicts.{Test, verdict_of, passes}
 use Rattle.party_state.specs.Rows.{Row, Accepted, OfEsm, refused}
-use Rattle.bank_arrivals.specs.declared.esm.Subject.{Subject}
-use Rattle.bank_arrivals.specs.declared.esm.Subject.TheVariants.{SentKey, Translated}
+use Rattle.bank_arrivals.specs.declared.asking_again.Retry.{Retry}
+use Rattle.bank_arrivals.specs.declared.error_message.Subject.{Subject}
+use Rattle.bank_arrivals.specs.declared.error_message.Subject.TheVariants.{SentKey, Translated}
 use Rattle.role_base.specs.Texts.{direct_name, is_verified, is_right, is_plain, lead_under}
 use Rattle.role_base.specs.Conditions.{answer_front}
 use Rattle.role_base.specs.Exchanges.{sent_by, is_waiting, new_link, dropped}
+use Rattle.bank_arrivals.specs.AskingAgain.{retry_in, asked_again, again_reply}
 
 -- what an error message from the peer speaks of: a key that was sent, or a key with a translation centre,
 -- by its value and its count at the centre
@@ -83,17 +86,20 @@ subject_accepted p (Translated value cta) = None
 abbrev pub esm_front : Party → Esm → Option Subject → List Test
 esm_front p m found = answer_front p m.receiver m.originator (is_some found)
 
-abbrev pub esm_of : Party → Arrival → Esm → Option Subject → Row
-esm_of p a m None = refused (verdict_of (esm_front p m None))
-esm_of p a m (Some s) = record {
+abbrev pub error_row : Party → Arrival → Esm → Subject → Option Retry → Row
+error_row p a m s again = record {
   verdict = verdict_of (esm_front p m (Some s) ++ (is_verified a (subject_value s), BadMac) ∷ []);
-  edits = raised (subject_link p m.originator s) m.ctr ++ (subject_ended p m.originator s ++ DropExchange m.originator ∷ []);
-  reply = None;
+  edits = raised (subject_link p m.originator s) m.ctr ++ (subject_ended p m.originator s ++ DropExchange m.originator ∷ asked_again p m (subject_value s) again);
+  reply = again_reply p m (subject_value s) again;
   uses = [];
   makes = None;
   accepts = subject_accepted p s;
   answer = None;
 }
+
+abbrev pub error_of : Party → Arrival → Esm → Option Subject → Option Retry → Row
+error_of p a m None again = refused (verdict_of (esm_front p m None))
+error_of p a m (Some s) again = error_row p a m s again
 
 abbrev pub esm_lead_of : Party → Arrival → Esm → Option Subject → Option Lead
 esm_lead_of p a m None = None
@@ -113,8 +119,11 @@ plain_esm p a m = record {
   answer = None;
 }
 
-abbrev pub esm : Party → Arrival → Esm → Row
-esm p a m = cond (is_plain a.parsed.shut) (plain_esm p a m) (esm_of p a m (subject_with p m.originator))
+abbrev pub error_with : Party → Arrival → Esm → Bool → Option Retry → Row
+error_with p a m plain again = cond plain (plain_esm p a m) (error_of p a m (subject_with p m.originator) again)
+
+abbrev pub error : Party → Arrival → Esm → Row
+error p a m = error_with p a m (is_plain a.parsed.shut) (retry_in p (subject_with p m.originator) m.ctr)
 
 abbrev pub esm_lead : Party → Arrival → Esm → Option Lead
 esm_lead p a m = cond (is_plain a.parsed.shut) None (esm_lead_of p a m (subject_with p m.originator))

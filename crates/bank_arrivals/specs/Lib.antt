@@ -1,8 +1,6 @@
 pub mod Rsi
-pub mod Ksm
 pub mod Rsm
+pub mod AskingAgain
 pub mod Esm
 pub mod Dsm
-pub mod Arrivals
-pub mod Leads
-pub mod Taking
+pub mod Heard

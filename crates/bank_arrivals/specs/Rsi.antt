@@ -1,9 +1,7 @@
 -- A request for service initiation arrives (ANSI X9.17): a data key goes back under the first link.
-use Rattle.std.specs.Prelude.{ℕ, Bool, true, false, ◌&&◌, is_none, is_some, List, [], ◌∷◌, Option, Some, None}
+use Rattle.std.specs.Prelude.{ℕ, ◌&&◌, is_none, is_some, List, [], ◌∷◌, Option, Some, None}
 use Rattle.x_base.specs.declared.party.Side.TheVariants.{Sends}
 use Rattle.x_base.specs.declared.verdict.Verdict.TheVariants.{NotForMe, UnknownPeer, WrongClass, Outstanding, UnknownKk, BadEdc}
-use Rattle.csm_grammar.specs.declared.message.Service.{Service}
-use Rattle.csm_grammar.specs.declared.message.Service.TheVariants as service
 use Rattle.csm_grammar.specs.declared.message.Rsi.{Rsi}
 use Rattle.csm_grammar.specs.declared.arrival.Arrival.{Arrival}
 use Rattle.party_state.specs.declared.link.LinkRec.{LinkRec}
@@ -11,16 +9,8 @@ use Rattle.party_state.specs.State.{Party, first_link, exchange_with, knows}
 use Rattle.party_state.specs.Verdicts.{Test, verdict_of}
 use Rattle.party_state.specs.Rows.{Row, refused}
 use Rattle.role_base.specs.Texts.{is_right}
-use Rattle.role_base.specs.Conditions.{is_for}
+use Rattle.role_base.specs.Conditions.{is_for, is_data_key}
 use Rattle.role_base.specs.Sending.{sending}
-
-abbrev pub is_data_key : Service → Bool
-is_data_key service.Kd = true
-is_data_key service.KdKd = false
-is_data_key service.Kk = false
-is_data_key service.DoubleKk = false
-is_data_key service.KkKd = false
-is_data_key service.DoubleKkKd = false
 
 abbrev pub rsi_tests : Party → Arrival → Rsi → Option LinkRec → List Test
 rsi_tests p a m found =

@@ -1,18 +1,19 @@
-//! What a bank decides of the service messages that arrive (ANSI X9.17, point to point).
+//! What a bank decides of requests, responses, error messages and disconnections that arrive (ANSI
+//! X9.17).
 #![tactic(auto)]
 
-mod arrivals;
-mod dsm;
-mod esm;
-mod ksm;
+mod asking_again;
+mod disconnection;
+mod error_edits;
+mod error_message;
 mod laws;
-mod leads;
-mod rsi;
-mod rsm;
+mod plain_esm;
+mod request;
+mod response;
 
-pub use arrivals::arrived;
-pub use dsm::Named;
-pub use esm::Subject;
-pub use ksm::Carried;
-pub use laws::{law_apart, law_lead, law_taking};
-pub use leads::lead;
+pub use asking_again::Retry;
+pub use disconnection::{Named, dsm, dsm_lead};
+pub use error_message::{Subject, esm, esm_lead};
+pub use laws::{law_apart, law_heard, law_lead};
+pub use request::rsi;
+pub use response::{rsm, rsm_lead};

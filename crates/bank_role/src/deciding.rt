@@ -2,11 +2,13 @@ ghost use Rattle.std.specs.Prelude.{◌≡◌, IfOk};
 ghost use Rattle.x_base.specs.declared.party.Role.TheVariants.{Bank};
 ghost use Rattle.party_state.specs.declared.command.Input.TheVariants.{Arrived};
 ghost use Rattle.role_base.specs.Storable.{CanKeep};
-ghost use Rattle.bank_arrivals.specs.Leads.{lead_of};
-ghost use Rattle.bank_arrivals.specs.Taking.{TakesKeys};
+ghost use Rattle.bank_keys.specs.Taking.{TakesKeys};
+ghost use Rattle.bank_role.specs.Leads.{lead_of};
 ghost use Rattle.bank_role.specs.Deciding.{decided};
 
-use bank_arrivals::{arrived, law_taking, lead};
+use crate::arrivals::arrived;
+use crate::laws::law_taking;
+use crate::leading::lead;
 use bank_orders::command;
 use csm_grammar::Arrival;
 use party_state::{Decision, Input, Lead, State};
@@ -49,8 +51,8 @@ fn decided(alloc: Global, state: &State, input: &Input, moment: u64) -> Result<D
     }
 }
 
-/// What a bank decides of a command or of a message that arrives, at a moment (ANSI X9.17, point
-/// to point; the order of the tests is this project's profile).
+/// What a bank decides of a command or of a message that arrives, at a moment (ANSI X9.17; the
+/// order of the tests is this project's profile).
 ///
 /// The change has the edits that make a difference. The only error is want of memory.
 pub fn decide(

@@ -13,9 +13,12 @@ use x_base::{Ident, KeyName, Label, Text};
 use x_gen::Gen;
 use x_mac::Pair;
 
+mod centre_leads;
+mod centres;
 mod leads;
 mod limits;
 mod loading;
+mod new_keys;
 mod refusals;
 mod sessions;
 
@@ -42,7 +45,15 @@ const RSM: &str = "CSM(MCL/RSM RCV/BANKA ORG/BANKB MAC/BB510339)";
 #[derive(Clone, Copy)]
 enum Act {
     Start,
+    /// Under the link of this label.
+    StartUnder(&'static str),
+    /// A new key-encrypting key of this label, single or not, under the link of the first one.
+    StartKk(&'static str, &'static str, bool),
     Ask,
+    /// For this ultimate recipient.
+    AskFor(&'static str),
+    /// The peer is a translation centre.
+    Translate(&'static str),
     Resend,
     Drop,
     Purge,
@@ -52,6 +63,57 @@ enum Act {
 
 /// A moment, an act, the number of the verdict, and the text that is written.
 type Step = (u64, Act, u32, &'static str);
+
+/// A bank with one link.
+#[derive(Clone, Copy)]
+struct Place {
+    own: &'static str,
+    peer: &'static str,
+    label: &'static str,
+    side: Side,
+    pair: Pair,
+}
+
+const SENDER: Place = Place {
+    own: "BANKA",
+    peer: "BANKB",
+    label: "K1",
+    side: Side::Sends,
+    pair: PAIR,
+};
+
+const TAKER: Place = Place {
+    own: "BANKB",
+    peer: "BANKA",
+    label: "K1",
+    side: Side::Takes,
+    pair: PAIR,
+};
+
+/// A bank, what happens there, and the lines that show it afterwards.
+type Case = (Place, &'static [Step], &'static str);
+
+/// A bank with this link.
+fn linked(alloc: Global, own: &[u8], link: LinkRec) -> Option<State>
+    requires { IsNextCount link.next }
+{
+    let own = Ident::read(own).ok()?;
+    let mut state = first_state(alloc, own, Role::Bank, GENERATOR).ok()?;
+    state.edit(Edit::PutLink(link)).ok()?;
+    Some(state)
+}
+
+fn placed(alloc: Global, place: &Place) -> Option<State> {
+    let link = LinkRec {
+        peer: ident_of(place.peer)?,
+        label: label_of(place.label)?,
+        side: place.side,
+        pair: place.pair,
+        next: 1,
+        ready: true,
+    };
+    linked(alloc, place.own.as_bytes(), link)
+}
 
 /// A bank with one link, with its partner.
 fn bank(alloc: Global, own: &[u8], peer: &[u8], side: Side, next: u64) -> Option<State>
@@ -65,10 +127,7 @@ fn bank(alloc: Global, own: &[u8], peer: &[u8], side: Side, next: u64) -> Option
         next,
         ready: true,
     };
-    let own = Ident::read(own).ok()?;
-    let mut state = first_state(alloc, own, Role::Bank, GENERATOR).ok()?;
-    state.edit(Edit::PutLink(link)).ok()?;
-    Some(state)
+    linked(alloc, own, link)
 }
 
 /// The bank that sends keys.
@@ -81,12 +140,42 @@ fn taker(alloc: Global) -> Option<State> {
     bank(alloc, b"BANKB", b"BANKA", Side::Takes, 1)
 }
 
+fn label_of(label: &str) -> Option<Label> {
+    Label::read(label.as_bytes()).ok()
+}
+
+fn ident_of(name: &str) -> Option<Ident> {
+    Ident::read(name.as_bytes()).ok()
+}
+
+fn start_kk(peer: Ident, label: &str, new: &str, single: bool) -> Option<Command> {
+    Some(Command::StartKk {
+        peer,
+        label: Some(label_of(label)?),
+        new: label_of(new)?,
+        single,
+    })
+}
+
 fn input_of(alloc: Global, peer: Ident, act: Act) -> Option<Input> {
     let command = match act {
         Act::Start => Command::Start { peer, label: None },
+        Act::StartUnder(label) => Command::Start {
+            peer,
+            label: Some(label_of(label)?),
+        },
+        Act::StartKk(label, new, single) => start_kk(peer, label, new, single)?,
         Act::Ask => Command::Ask {
             peer,
             ultimate: None,
+        },
+        Act::AskFor(name) => Command::Ask {
+            peer,
+            ultimate: Some(ident_of(name)?),
+        },
+        Act::Translate(name) => Command::Translate {
+            centre: peer,
+            ultimate: ident_of(name)?,
         },
         Act::Resend => Command::Resend { peer },
         Act::Drop => Command::Drop { peer },
@@ -192,4 +281,16 @@ fn wrong_at(alloc: Global, bank: Option<State>, steps: &[Step], lines: &str) -> 
         }
         Err(i) => Some(i),
     }
+}
+
+/// The first of these cases that goes otherwise, and its first step that does, or their number where
+/// the bank is shown in other lines afterwards.
+fn wrong_case(alloc: Global, cases: &[Case]) -> Option<(usize, usize)> {
+    for (i, case) in cases.iter().enumerate() {
+        let (place, steps, lines) = *case;
+        if let Some(step) = wrong_at(alloc, placed(alloc, &place), steps, lines) {
+            return Some((i, step));
+        }
+    }
+    None
 }

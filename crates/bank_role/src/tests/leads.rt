@@ -9,7 +9,7 @@ use x_base::{FullName, Ident, KeyName, Verdict};
 const DSM: &str = "CSM(MCL/DSM RCV/BANKB ORG/BANKA IDD/BANKA.BANKA.K1.1 MAC/F3A9DD96)";
 
 /// The value of the key that BANKA sends first.
-const VALUE: u64 = 0x7FD0388551613B61;
+pub(super) const VALUE: u64 = 0x7FD0388551613B61;
 
 /// The name of that key, in full.
 fn first_key() -> Option<FullName> {
@@ -110,7 +110,12 @@ fn a_code_is_tested_under_its_key(rt: HostRuntime) {
 }
 
 /// Whether a bank accepts this, and writes a text that is closed under this key, or under none.
-fn is_closed_under(alloc: Global, state: &State, act: Act, key: Option<FullName>) -> bool {
+pub(super) fn is_closed_under(
+    alloc: Global,
+    state: &State,
+    act: Act,
+    key: Option<FullName>,
+) -> bool {
     let Some(link) = state.link_at(0) else {
         return false;
     };

@@ -1,5 +1,8 @@
 // Counts that are used up, and tables that are full.
-use super::{Act, KSM as FIRST_KSM, Step, bank, played, sender, wrong_at};
+ghost use Rattle.std.specs.Prelude.{◌≤◌};
+
+use super::new_keys::DROPPED;
+use super::{Act, KSM as FIRST_KSM, Step, bank, played, sender, taker, wrong_at};
 use party_state::{Edit, KeyRec, KeyStatus, Side, State};
 use std::alloc::Global;
 use x_base::{Count, Ident, KeyName};
@@ -7,7 +10,7 @@ use x_base::{Count, Ident, KeyName};
 /// One past the last count.
 const PAST: u64 = 100_000_000_000_000;
 
-const LAST_SENT: [Step; 3] = [
+const LAST_SENT: [Step; 4] = [
     (
         0,
         Act::Start,
@@ -16,13 +19,14 @@ const LAST_SENT: [Step; 3] = [
     ),
     (0, Act::Drop, 0, ""),
     (0, Act::Start, 31, ""),
+    (0, Act::StartKk("K1", "K2", false), 31, ""),
 ];
 
 /// The last message, closed under 0123456789ABCDEF.
 const LAST_KSM: &str =
     "CSM(MCL/KSM RCV/BANKB ORG/BANKA IDK2/K1 KD/B3090B5C8F887392 CTP/99999999999999 MAC/AD743368)";
 
-const LAST_TAKEN: [Step; 4] = [
+const LAST_TAKEN: [Step; 5] = [
     (
         0,
         Act::Take(LAST_KSM),
@@ -48,6 +52,12 @@ const LAST_TAKEN: [Step; 4] = [
         ),
         28,
         "",
+    ),
+    (
+        0,
+        Act::Take(DROPPED),
+        31,
+        "CSM(MCL/ESM RCV/BANKA ORG/BANKB CTP/1 ERF/S MAC/B1E77376)",
     ),
 ];
 
@@ -88,17 +98,20 @@ fn with_ended(alloc: Global, state: State, count: u64) -> Option<State> {
     Some(state)
 }
 
-/// The bank with the records of 1,024 keys, which have ended.
-fn full(alloc: Global, bank: Option<State>) -> Option<State> {
+/// The bank with the records of 1,024 keys, which have ended, the first at this count.
+fn full(alloc: Global, bank: Option<State>, first: u64) -> Option<State>
+    requires { first ≤ 2 }
+{
     let mut state = bank?;
-    for count in 1..1025 {
-        state = with_ended(alloc, state, count)?;
+    for more in 0..1024 {
+        state = with_ended(alloc, state, first + more)?;
     }
     Some(state)
 }
 
-const SENT: [Step; 3] = [
+const SENT: [Step; 4] = [
     (0, Act::Start, 20, ""),
+    (0, Act::StartKk("K1", "K2", false), 20, ""),
     (0, Act::Purge, 0, ""),
     (
         0,
@@ -128,25 +141,35 @@ const TAKEN: [Step; 3] = [
     ),
 ];
 
+/// A key with a new key-encrypting key, for which there is no room.
+const NOT_TAKEN: [Step; 1] = [(
+    0,
+    Act::Take(DROPPED),
+    20,
+    "CSM(MCL/ESM RCV/BANKA ORG/BANKB CTP/1 ERF/F MAC/E6C836DC)",
+)];
+
 /// A key in the place of another, which needs no room.
 const REPLACED: [Step; 1] = [(0, Act::Start, 0, FIRST_KSM)];
 
 #[test]
 fn a_full_bank_has_no_room_for_a_key(rt: HostRuntime) {
     let alloc = rt.alloc();
-    let sends = full(alloc, bank(alloc, b"BANKA", b"BANKB", Side::Sends, 1025));
+    let sends = full(alloc, bank(alloc, b"BANKA", b"BANKB", Side::Sends, 1025), 1);
     let lines = "PARTY BANKA BANK
 LINK BANKB K1 OUT 1026 READY
 KEY BANKB BANKA.BANKA.K1.1025 PENDING
 EXCHANGE BANKB KEYSENT BANKA.BANKA.K1.1025
 ";
     assert_eq!(rt; wrong_at(alloc, sends, &SENT, lines), None);
-    let takes = full(alloc, bank(alloc, b"BANKB", b"BANKA", Side::Takes, 1025));
+    let takes = full(alloc, bank(alloc, b"BANKB", b"BANKA", Side::Takes, 1025), 1);
     let lines = "PARTY BANKB BANK
 LINK BANKA K1 IN 1026 READY
 KEY BANKA BANKA.BANKA.K1.1025 HELD
 ";
     assert_eq!(rt; wrong_at(alloc, takes, &TAKEN, lines), None);
-    let first = full(alloc, sender(alloc));
+    let takes = full(alloc, taker(alloc), 2);
+    assert!(rt; played(alloc, takes, &NOT_TAKEN).is_ok());
+    let first = full(alloc, sender(alloc), 1);
     assert!(rt; played(alloc, first, &REPLACED).is_ok());
 }

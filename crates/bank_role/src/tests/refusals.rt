@@ -67,7 +67,7 @@ const AT_TAKER: [Step; 16] = [
         Act::Take(
             "CSM(MCL/KSM RCV/BANKB ORG/BANKC IDC/BANKA KDU/0123456789ABCDEF CTB/1 MAC/00000000)",
         ),
-        23,
+        26,
         "",
     ),
     (

@@ -1,6 +1,6 @@
 // A session of two banks with messages that are rare: a key service message without IDK2, one with
 // IV, EDK and P, error messages with an error detection code, and a disconnection with IDA.
-use super::{Act, KSM, RSM, Step, sender, taker, wrong_at};
+use super::{Act, Case, KSM, RSM, SENDER, Step, TAKER, sender, taker, wrong_at, wrong_case};
 
 const FIRST_RSM: &str = "CSM(MCL/RSM RCV/BANKA ORG/BANKB MAC/312B1C9E)";
 
@@ -73,6 +73,38 @@ const AT_TAKER: [Step; 2] = [
     ),
 ];
 
+/// The first message with other blanks, lower case and a leading zero, with the code of that text.
+const RESPELLED: [Step; 1] = [(
+    0,
+    Act::Take("CSM(MCL/KSM  RCV/BANKB ORG/BANKA IDK2/K1 KD/c2a5290756d949f4 CTP/01 MAC/3641FA6A)"),
+    0,
+    RSM,
+)];
+
+/// The count that is named is above the next one.
+const RAISED: [Step; 2] = [
+    (0, Act::Start, 0, KSM),
+    (
+        0,
+        Act::Take("CSM(MCL/ESM RCV/BANKA ORG/BANKB CTP/1 CTR/9 ERF/C MAC/09709D40)"),
+        0,
+        "",
+    ),
+];
+
+const CASES: [Case; 2] = [
+    (
+        TAKER,
+        &RESPELLED,
+        "PARTY BANKB BANK\nLINK BANKA K1 IN 2 READY\nKEY BANKA BANKA.BANKA.K1.1 HELD\n",
+    ),
+    (
+        SENDER,
+        &RAISED,
+        "PARTY BANKA BANK\nLINK BANKB K1 OUT 9 READY\nKEY BANKB BANKA.BANKA.K1.1 ENDED\n",
+    ),
+];
+
 #[test]
 fn rare_messages_are_taken(rt: HostRuntime) {
     let alloc = rt.alloc();
@@ -88,6 +120,7 @@ KEY BANKA BANKA.BANKA.K1.1 HELD
 KEY BANKA BANKA.BANKA.K1.2 HELD
 ";
     assert_eq!(rt; wrong_at(alloc, taker(alloc), &AT_TAKER, lines), None);
+    assert_eq!(rt; wrong_case(alloc, &CASES), None);
 }
 
 /// A disconnection by BANKB, and what BANKA answers.

@@ -1,5 +1,14 @@
-use Rattle.bank_arrivals.proofs.ArrivalsApart.{arrival_apart}
+use Rattle.bank_arrivals.proofs.ArrivalsApart.{rsi_apart, rsm_apart, esm_apart, dsm_apart}
 use Rattle.bank_arrivals.proofs.laws.law_apart.Goals as goal
 
-pub returns : goal.returns
-returns c = arrival_apart
+pub returns-clause-rsi : goal.returns-clause-rsi
+returns-clause-rsi c = rsi_apart
+
+pub returns-clause-rsm : goal.returns-clause-rsm
+returns-clause-rsm c = rsm_apart
+
+pub returns-clause-esm : goal.returns-clause-esm
+returns-clause-esm c = esm_apart
+
+pub returns-clause-dsm : goal.returns-clause-dsm
+returns-clause-dsm c = dsm_apart

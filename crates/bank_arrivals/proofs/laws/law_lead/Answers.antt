@@ -1,5 +1,14 @@
-use Rattle.bank_arrivals.proofs.Early.{lead_none}
+use Rattle.bank_arrivals.proofs.Early.{rsi_closed, rsm_missing, esm_missing, dsm_missing}
 use Rattle.bank_arrivals.proofs.laws.law_lead.Goals as goal
 
-pub returns : goal.returns
-returns c = lead_none c.law_arrived.ensures
+pub returns-clause-rsi : goal.returns-clause-rsi
+returns-clause-rsi c = rsi_closed c.law_arrived.ensures
+
+pub returns-clause-rsm : goal.returns-clause-rsm
+returns-clause-rsm c = rsm_missing c.law_arrived.ensures
+
+pub returns-clause-esm : goal.returns-clause-esm
+returns-clause-esm c = esm_missing
+
+pub returns-clause-dsm : goal.returns-clause-dsm
+returns-clause-dsm c = dsm_missing c.law_arrived.ensures

@@ -1,0 +1,117 @@
+-- What an exchange is about, where it was looked up; and a record that is put in place of another.
+use Rattle.std.specs.Prelude.{bytes_eq}
+use Rattle.std.proofs.Common.{◌≡◌, ◌≢◌, ℕ, true, Option, Some, None, List, option_map, refl, sym, ap, ◌∙◌}
+use Rattle.x_base.specs.declared.key_name.KeyName.{KeyName}
+use Rattle.party_state.specs.declared.link.LinkRec.{LinkRec}
+use Rattle.party_state.specs.declared.key.KeyRec.{KeyRec}
+use Rattle.party_state.specs.declared.key.RecordKey.{RecordKey}
+use Rattle.party_state.specs.declared.exchange.Via.{Via}
+use Rattle.party_state.specs.declared.exchange.Kind.{Kind}
+use Rattle.party_state.specs.declared.exchange.Kind.TheVariants as kind
+use Rattle.party_state.specs.declared.exchange.Exchange.{Exchange}
+use Rattle.party_state.specs.Keys.{record_key, same_record, link_key, same_link, exchange_key, sends}
+use Rattle.party_state.specs.State.{Party, exchange_with, apply_edit}
+use Rattle.party_state.specs.declared.edit.Edit.TheVariants.{PutLink, PutKey, DropExchange}
+use Rattle.party_state.proofs.Keys.{test_idents, test_links, test_records}
+use Rattle.party_state.proofs.Tables.{find_key, find_put, find_drop_same}
+use Rattle.role_base.specs.declared.exchanges.Sent.{Sent}
+use Rattle.role_base.specs.Exchanges.{record_of, sent_by, sent_in, sent_to, ending_by, ending_in, ending_with}
+use Rattle.bank_arrivals.specs.declared.error_message.Subject.{Subject}
+use Rattle.bank_arrivals.specs.declared.error_message.Subject.TheVariants.{SentKey, Translated}
+use Rattle.bank_arrivals.specs.Esm.{subject_by, subject_in, subject_with}
+use Rattle.role_base.specs.Conditions.{is_for}
+use Rattle.role_base.proofs.Addressed.{for_me}
+use Rattle.bank_arrivals.specs.Heard.{IsAbout, HasKey, HasLink, IsTo}
+
+-- a record that is put in place of the one that stands
+pub put_found : (p : Party) (peer : List ℕ) (name : KeyName) (k x : KeyRec) → HasKey p peer name k → record_key x ≡ record_key k → HasKey (apply_edit (PutKey x) p) peer name x
+put_found p peer name k x h e =
+    let key : RecordKey = record { peer = peer; name = name } in
+    let i : key ≡ record_key x = find_key record_key same_record test_records key k p.keys h ∙ sym e in
+    let s : same_record key (record_key x) ≡ true = (test_records.decides key (record_key x)).1 i in
+    find_put record_key same_record test_records key x p.keys ∙ rw s refl
+
+-- the same of a link
+pub put_link_found : (p : Party) (peer label : List ℕ) (l x : LinkRec) → HasLink p peer label l → link_key x ≡ link_key l → HasLink (apply_edit (PutLink x) p) peer label x
+put_link_found p peer label l x h e =
+    let i : sends peer label ≡ link_key x = find_key link_key same_link test_links (sends peer label) l p.links h ∙ sym e in
+    let s : same_link (sends peer label) (link_key x) ≡ true = (test_links.decides (sends peer label) (link_key x)).1 i in
+    find_put link_key same_link test_links (sends peer label) x p.links ∙ rw s refl
+
+-- the exchange that is dropped
+pub gone : (p : Party) (peer : List ℕ) → exchange_with peer (apply_edit (DropExchange peer) p) ≡ None
+gone p peer = find_drop_same exchange_key bytes_eq test_idents peer p.exchanges
+
+-- who a message is for
+pub is_to : (p : Party) (receiver originator : List ℕ) → is_for p receiver originator ≡ true → IsTo p receiver originator
+is_to p receiver originator h = let w : (receiver ≡ p.own) × (originator ≢ p.own) = for_me p receiver originator h in record { receiver = w.0; originator = w.1 }
+
+-- a key that was sent
+pub record FoundSent (p : Party) (peer : List ℕ) (s : Sent) : Type 0 where
+  pub name : KeyName
+  pub sent : IsAbout p peer (kind.KeySent name s.way)
+  pub stands : HasKey p peer name s.key
+
+sent_named : (p : Party) (peer : List ℕ) (s : Sent) (name : KeyName) (way : Via) (o : Option KeyRec) → IsAbout p peer (kind.KeySent name way) → record_of p peer name ≡ o → option_map (λ (k : KeyRec). let t : Sent = record { key = k; way = way } in t) o ≡ Some s → FoundSent p peer s
+sent_named p peer s name way None a f h = absurd (cc)
+sent_named p peer s name way (Some k) a f h =
+    let t : Sent = record { key = k; way = way } in
+    let e : s ≡ t = cc in
+    rw e (record { name = name; sent = a; stands = f })
+
+sent_kind : (p : Party) (peer : List ℕ) (s : Sent) (x : Kind) → IsAbout p peer x → sent_by p peer x ≡ Some s → FoundSent p peer s
+sent_kind p peer s (kind.KeySent name way) a h = sent_named p peer s name way (record_of p peer name) a refl h
+sent_kind p peer s (kind.Asked ultimate) a h = absurd (cc)
+sent_kind p peer s (kind.Translating ultimate value cta) a h = absurd (cc)
+sent_kind p peer s (kind.Ending name) a h = absurd (cc)
+
+about : (p : Party) (peer : List ℕ) (e : Exchange) → exchange_with peer p ≡ Some e → IsAbout p peer e.kind
+about p peer e f = ap (λ (o : Option Exchange). option_map (λ (x : Exchange). x.kind) o) f
+
+pub found_sent : (p : Party) (peer : List ℕ) (s : Sent) → sent_to p peer ≡ Some s → FoundSent p peer s
+found_sent p peer s h = go (exchange_with peer p) refl h
+  where
+    go : (o : Option Exchange) → exchange_with peer p ≡ o → sent_in p peer o ≡ Some s → FoundSent p peer s
+    go None f h = absurd (cc)
+    go (Some e) f h = sent_kind p peer s e.kind (about p peer e f) h
+
+-- a key whose end was sent
+pub record FoundEnding (p : Party) (peer : List ℕ) (k : KeyRec) : Type 0 where
+  pub name : KeyName
+  pub ending : IsAbout p peer (kind.Ending name)
+  pub stands : HasKey p peer name k
+
+pub found_ending : (p : Party) (peer : List ℕ) (k : KeyRec) → ending_with p peer ≡ Some k → FoundEnding p peer k
+found_ending p peer k h = go (exchange_with peer p) refl h
+  where
+    by_kind : (x : Kind) → IsAbout p peer x → ending_by p peer x ≡ Some k → FoundEnding p peer k
+    by_kind (kind.Ending name) a h = record { name = name; ending = a; stands = h }
+    by_kind (kind.KeySent name way) a h = absurd (cc)
+    by_kind (kind.Asked ultimate) a h = absurd (cc)
+    by_kind (kind.Translating ultimate value cta) a h = absurd (cc)
+
+    go : (o : Option Exchange) → exchange_with peer p ≡ o → ending_in p peer o ≡ Some k → FoundEnding p peer k
+    go None f h = absurd (cc)
+    go (Some e) f h = by_kind e.kind (about p peer e f) h
+
+-- what an error message speaks of
+abbrev pub FoundSubject : Party → List ℕ → Subject → Type 0
+FoundSubject p peer (SentKey s) = FoundSent p peer s
+FoundSubject p peer (Translated value cta) = (u : List ℕ) × IsAbout p peer (kind.Translating u value cta)
+
+pub found_subject : (p : Party) (peer : List ℕ) (s : Subject) → subject_with p peer ≡ Some s → FoundSubject p peer s
+found_subject p peer s h = go (exchange_with peer p) refl h
+  where
+    by_sent : (x : Kind) (o : Option Sent) → IsAbout p peer x → sent_by p peer x ≡ o → option_map SentKey o ≡ Some s → FoundSubject p peer s
+    by_sent x None a f h = absurd (cc)
+    by_sent x (Some t) a f h = let e : s ≡ SentKey t = cc in rw e (sent_kind p peer t x a f)
+
+    by_kind : (x : Kind) → IsAbout p peer x → subject_by p peer x ≡ Some s → FoundSubject p peer s
+    by_kind (kind.KeySent name way) a h = by_sent (kind.KeySent name way) (sent_by p peer (kind.KeySent name way)) a refl h
+    by_kind (kind.Translating ultimate value cta) a h = let e : s ≡ Translated value cta = cc in rw e (ultimate, a)
+    by_kind (kind.Asked ultimate) a h = absurd (cc)
+    by_kind (kind.Ending name) a h = absurd (cc)
+
+    go : (o : Option Exchange) → exchange_with peer p ≡ o → subject_in p peer o ≡ Some s → FoundSubject p peer s
+    go None f h = absurd (cc)
+    go (Some e) f h = by_kind e.kind (about p peer e f) h

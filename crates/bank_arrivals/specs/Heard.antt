@@ -1,0 +1,126 @@
+-- What a response, an error message or a disconnection says that a bank accepts (ANSI X9.17): which key it is about,
+-- that its code is made under that key, and what becomes of the key and of links. "After" is the party with the edits
+-- of the row.
+use Rattle.std.specs.Prelude.{ℕ, ◌≡◌, ◌≢◌, max, IsTrue, true, List, Option, Some, None, option_map}
+use Rattle.x_base.specs.declared.key_name.KeyName.{KeyName}
+use Rattle.csm_grammar.specs.declared.message.Message.TheVariants as message
+use Rattle.csm_grammar.specs.declared.message.Rsm.{Rsm}
+use Rattle.csm_grammar.specs.declared.message.Esm.{Esm}
+use Rattle.csm_grammar.specs.declared.message.Dsm.{Dsm}
+use Rattle.csm_grammar.specs.declared.arrival.Arrival.{Arrival}
+use Rattle.party_state.specs.declared.link.LinkRec.{LinkRec}
+use Rattle.party_state.specs.declared.key.KeyRec.{KeyRec}
+use Rattle.party_state.specs.declared.key.KeyStatus.TheVariants.{Live, Ended}
+use Rattle.party_state.specs.declared.exchange.Via.{Via}
+use Rattle.party_state.specs.declared.exchange.Via.TheVariants as via
+use Rattle.party_state.specs.declared.exchange.Kind.{Kind}
+use Rattle.party_state.specs.declared.exchange.Kind.TheVariants as kind
+use Rattle.party_state.specs.declared.exchange.Exchange.{Exchange}
+use Rattle.party_state.specs.State.{Party, centre_label, exchange_with, link_with, record_with}
+use Rattle.party_state.specs.Keys.{sends}
+use Rattle.party_state.specs.Names.{full_name}
+use Rattle.party_state.specs.Rows.{Row, Coded}
+use Rattle.role_base.specs.Texts.{is_verified}
+use Rattle.bank_arrivals.specs.Dsm.{code_name}
+
+-- the exchange with the peer is of this kind
+abbrev pub IsAbout : Party → List ℕ → Kind → Type 0
+IsAbout p peer k = option_map (λ (e : Exchange). e.kind) (exchange_with peer p) ≡ Some k
+
+-- the record of the key of this name that is shared with the peer
+abbrev pub HasKey : Party → List ℕ → KeyName → KeyRec → Type 0
+HasKey p peer name k = record_with (record { peer = peer; name = name }) p ≡ Some k
+
+-- the link for sending to the peer that has this label
+abbrev pub HasLink : Party → List ℕ → List ℕ → LinkRec → Type 0
+HasLink p peer label l = link_with (sends peer label) p ≡ Some l
+
+-- a message is for the party, and not from it
+pub record IsTo (p : Party) (rcv org : List ℕ) : Type 0 where
+  pub receiver : rcv ≡ p.own
+  pub originator : org ≢ p.own
+
+-- a response: the key that was sent is live, and a new key-encrypting key that was sent with it is ready
+pub record HeardResponse (p after : Party) (a : Arrival) (m : Rsm) : Type 0 where
+  pub to : IsTo p m.receiver m.originator
+  pub name : KeyName
+  pub way : Via
+  pub key : KeyRec
+  pub sent : IsAbout p m.originator (kind.KeySent name way)
+  pub stands : HasKey p m.originator name key
+  pub code : IsTrue (is_verified a key.value)
+  pub live : HasKey after m.originator name (record key { status = Live })
+  pub ready : (label new : List ℕ) (l : LinkRec) → way ≡ via.Direct label (Some new) → HasLink p m.originator new l → HasLink after m.originator new (record l { ready = true })
+  pub over : exchange_with m.originator after ≡ None
+
+-- a response that names a key: its end is done
+pub record HeardEnd (p after : Party) (a : Arrival) (m : Rsm) (idd : KeyName) : Type 0 where
+  pub to : IsTo p m.receiver m.originator
+  pub key : KeyRec
+  pub ending : IsAbout p m.originator (kind.Ending idd)
+  pub stands : HasKey p m.originator idd key
+  pub code : IsTrue (is_verified a key.value)
+  pub ended : HasKey after m.originator idd (record key { status = Ended })
+  pub over : exchange_with m.originator after ≡ None
+
+-- a centre can be asked again: it gave the key, the message tells a count, and no exchange with the centre stands
+pub record MayAskAgain (p : Party) (m : Esm) (way : Via) : Type 0 where
+  pub centre : List ℕ
+  pub cta : ℕ
+  pub ctr : ℕ
+  pub given : way ≡ via.Distribution centre cta
+  pub told : m.ctr ≡ Some ctr
+  pub free : exchange_with centre p ≡ None
+
+-- the centre is asked for the same ultimate recipient, with the count and the reason that it told, under the key
+pub record AsksAgain (p after : Party) (m : Esm) (key : KeyRec) (r : Row) (centre : List ℕ) (cta ctr : ℕ) : Type 0 where
+  pub written : r.reply ≡ Some (Coded
+      (message.Ers (record { receiver = centre; originator = p.own; ultimate = m.originator; ctr = ctr; erf = m.erf }))
+      (record { name = record { issuer = centre; originator = centre; label = centre_label; count = cta }; recipient = p.own })
+      key.value)
+  pub waits : IsAbout after centre (kind.Asked m.originator)
+
+-- an error message: the key that was sent ends. Where it went under a link, and not with a new key-encrypting key of
+-- the same label, the next count of the link is CTR, if that is larger; a new key-encrypting key goes
+pub record HeardError (p after : Party) (a : Arrival) (m : Esm) (r : Row) : Type 0 where
+  pub to : IsTo p m.receiver m.originator
+  pub name : KeyName
+  pub way : Via
+  pub key : KeyRec
+  pub sent : IsAbout p m.originator (kind.KeySent name way)
+  pub stands : HasKey p m.originator name key
+  pub code : IsTrue (is_verified a key.value)
+  pub ended : HasKey after m.originator name (record key { status = Ended })
+  pub over : exchange_with m.originator after ≡ None
+  pub counted : (label : List ℕ) (new : Option (List ℕ)) (l : LinkRec) (ctr : ℕ) → way ≡ via.Direct label new → new ≢ Some label → HasLink p m.originator label l → m.ctr ≡ Some ctr
+      → HasLink after m.originator label (record l { next = max l.next ctr })
+  pub given_up : (label new : List ℕ) → way ≡ via.Direct label (Some new) → link_with (sends m.originator new) after ≡ None
+  pub again : (t : MayAskAgain p m way) → AsksAgain p after m key r t.centre t.cta t.ctr
+  pub silent : (MayAskAgain p m way → ⊥) → r.reply ≡ None
+
+-- an error message of a translation centre: the key that is with it is given up
+pub record HeardCentre (p after : Party) (a : Arrival) (m : Esm) (r : Row) : Type 0 where
+  pub to : IsTo p m.receiver m.originator
+  pub ultimate : List ℕ
+  pub value : ℕ
+  pub cta : ℕ
+  pub waiting : IsAbout p m.originator (kind.Translating ultimate value cta)
+  pub code : IsTrue (is_verified a value)
+  pub over : exchange_with m.originator after ≡ None
+  pub counted : (l : LinkRec) (ctr : ℕ) → HasLink p m.originator centre_label l → m.ctr ≡ Some ctr → HasLink after m.originator centre_label (record l { next = max l.next ctr })
+  pub silent : r.reply ≡ None
+
+-- a disconnection: the key that it names ends, if it hadn't ended before, and the response names it; its code is made
+-- under the key of IDA, or of IDD where IDA is absent
+pub record HeardDisconnection (p after : Party) (a : Arrival) (m : Dsm) (r : Row) : Type 0 where
+  pub to : IsTo p m.receiver m.originator
+  pub key : KeyRec
+  pub by : KeyRec
+  pub stands : HasKey p m.originator m.idd key
+  pub closing : HasKey p m.originator (code_name m.idd m.ida) by
+  pub code : IsTrue (is_verified a by.value)
+  pub ended : HasKey after m.originator m.idd (record key { status = Ended })
+  pub before : key.status ≡ Ended → after ≡ p
+  pub written : r.reply ≡ Some (Coded
+      (message.Rsm (record { receiver = m.originator; originator = p.own; idd = Some m.idd; extras = record { iv = None; edk = None; p = None } }))
+      (full_name p.own key) key.value)

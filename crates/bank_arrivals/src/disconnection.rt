@@ -1,0 +1,244 @@
+// A disconnect service message arrives: the key ends, and a response that names it goes back.
+ghost use Rattle.std.specs.Prelude.{◌≡◌, ◌++◌, ◌∷◌, [], true, IfOk};
+ghost use Rattle.x_base.specs.declared.verdict.Verdict.TheVariants.{BadMac};
+ghost use Rattle.party_state.specs.Names.{full_name};
+ghost use Rattle.party_state.specs.Rows.Reply.{Coded};
+ghost use Rattle.party_state.specs.Verdicts.{verdict_of};
+ghost use Rattle.role_base.specs.Replies.{IsWritten};
+ghost use Rattle.role_base.specs.Texts.{lead_under};
+ghost use Rattle.role_base.specs.Storable.{CanKeep};
+ghost use Rattle.party_state.specs.State.{exchange_with};
+ghost use Rattle.role_base.specs.Deciding.{decision_of};
+ghost use Rattle.bank_arrivals.specs.Dsm.{named_by, dsm_front, left_by, left_in, disconnected, dsm_response, dsm_on, dsm, dsm_lead_on, dsm_lead};
+
+use csm_grammar::{Arrival, Dsm, Message, Rsm};
+use party_state::{Decision, Edit, KeyRec, KeyStatus, Kind, Lead, State};
+use role_base::{
+    Written, accept, dropped, early_refusal, is_accept, is_for, joined, key_lead, list_of,
+    new_link, no_extras, passes, record_of, refusal, verdict_after, verdict_of,
+};
+use std::alloc::Global;
+use x_base::{Ident, KeyName, NoMemory, Verdict};
+
+/// The key that ends, and the key whose code closes the message.
+#[derive(Clone, Copy)]
+pub struct Named {
+    pub key: KeyRec,
+    pub by: KeyRec,
+}
+
+/// The keys that a message names: the second is that of IDA, or of IDD where IDA is absent.
+fn named_by(state: &State, message: &Dsm) -> Option<Named>
+    ensures { result ≡ named_by state.now message.now }
+{
+    let key = record_of(state, &message.originator, &message.idd)?;
+    let by = match &message.ida {
+        None => key,
+        Some(ida) => record_of(state, &message.originator, ida)?,
+    };
+    Some(Named { key, by })
+}
+
+/// The tests before the code's.
+fn dsm_front(state: &State, message: &Dsm, stands: bool) -> [(bool, Verdict); 2]
+    ensures { result ≡ dsm_front state.now message.now stands }
+{
+    [
+        (
+            is_for(state, &message.receiver, &message.originator),
+            Verdict::NotForMe,
+        ),
+        (stands, Verdict::UnknownKey),
+    ]
+}
+
+fn dsm_verdict(state: &State, message: &Dsm, verified: bool) -> Verdict
+    ensures { result ≡ verdict_of (dsm_front state.now message.now true ++ (verified, BadMac) ∷ []) }
+{
+    verdict_after(
+        &dsm_front(state, message, true),
+        &[(verified, Verdict::BadMac)],
+    )
+}
+
+fn dsm_response(state: &State, key: &KeyRec) -> Message
+    ensures { result ≡ dsm_response state.now key.now }
+{
+    Message::Rsm(Rsm {
+        receiver: key.peer,
+        originator: state.own(),
+        idd: Some(key.name),
+        extras: no_extras(),
+    })
+}
+
+/// The edits before and behind that of the key, for an exchange that names it.
+fn left_by(
+    alloc: Global,
+    state: &State,
+    peer: Ident,
+    name: &KeyName,
+    kind: &Kind,
+) -> Result<(Vec<Edit>, Vec<Edit>), NoMemory>
+    ensures { IfOk result (λ edits. (edits.0.items, edits.1.items) ≡ left_by state.now peer name.now kind.now) }
+{
+    let none = Vec::new(alloc);
+    match kind {
+        Kind::KeySent { name: sent, via } => {
+            if *name != *sent {
+                return Ok((none, Vec::new(alloc)));
+            }
+            let gone = dropped(alloc, new_link(state, &peer, via))?;
+            Ok((gone, list_of(alloc, [Edit::DropExchange { peer }])?))
+        }
+        Kind::Ending { name: ending } => {
+            if *name != *ending {
+                return Ok((none, Vec::new(alloc)));
+            }
+            Ok((none, list_of(alloc, [Edit::DropExchange { peer }])?))
+        }
+        Kind::Asked { .. } | Kind::Translating { .. } => Ok((none, Vec::new(alloc))),
+    }
+}
+
+fn left_in(
+    alloc: Global,
+    state: &State,
+    peer: Ident,
+    name: &KeyName,
+) -> Result<(Vec<Edit>, Vec<Edit>), NoMemory>
+    ensures { IfOk result (λ edits. (edits.0.items, edits.1.items) ≡ left_in state.now peer name.now (exchange_with peer state.now)) }
+{
+    match state.exchange(&peer) {
+        Some(exchange) => left_by(alloc, state, peer, name, &exchange.kind),
+        None => Ok((Vec::new(alloc), Vec::new(alloc))),
+    }
+}
+
+/// The key ends, unless it ended already.
+fn disconnected(
+    alloc: Global,
+    state: &State,
+    peer: Ident,
+    key: &KeyRec,
+) -> Result<Vec<Edit>, NoMemory>
+    ensures { IfOk result (λ edits. edits.items ≡ disconnected state.now peer key.now) }
+{
+    if key.status == KeyStatus::Ended {
+        return Ok(Vec::new(alloc));
+    }
+    let (before, behind) = left_in(alloc, state, peer, &key.name)?;
+    let status = KeyStatus::Ended;
+    let ended = list_of(alloc, [Edit::PutKey(KeyRec { status, ..*key })])?;
+    joined(before, joined(ended, behind)?)
+}
+
+/// The response, under the key that ends.
+fn dsm_reply(alloc: Global, state: &State, key: &KeyRec) -> Result<Written, NoMemory>
+    ensures { IfOk result (λ w. IsWritten w (Coded (dsm_response state.now key.now) (full_name state.now.own key.now) key.now.value)) }
+{
+    let response = dsm_response(state, key);
+    Written::coded(alloc, &response, key.full_name(&state.own()), key.value)
+}
+
+/// What is decided where the tests before the code's hold.
+#[tactic(auto, using(crate::proofs::Disconnections::dsm_refuses, crate::proofs::Disconnections::dsm_accepts))]
+fn dsm_led(
+    alloc: Global,
+    state: &State,
+    arrival: &Arrival,
+    message: &Dsm,
+    named: &Named,
+    lead: &Lead,
+) -> Result<Decision, NoMemory>
+    requires { lead.now ≡ lead_under arrival.now (full_name state.now.own named.now.by) named.now.by.value }
+    ensures { IfOk result (λ d. d ≡ decision_of state.now (dsm_on state.now arrival.now message.now (Some named.now))) }
+{
+    let verdict = dsm_verdict(state, message, lead.verified);
+    if !is_accept(&verdict) {
+        return Ok(refusal(verdict));
+    }
+    let edits = disconnected(alloc, state, message.originator, &named.key)?;
+    let written = dsm_reply(alloc, state, &named.key)?;
+    accept(alloc, state, edits, Some(written))
+}
+
+fn dsm_of(
+    alloc: Global,
+    state: &State,
+    arrival: &Arrival,
+    message: &Dsm,
+    named: &Named,
+    lead: &Option<Lead>,
+) -> Result<Decision, NoMemory>
+    requires { lead.now ≡ dsm_lead_on state.now arrival.now message.now (Some named.now) }
+    ensures { IfOk result (λ d. d ≡ decision_of state.now (dsm_on state.now arrival.now message.now (Some named.now))) }
+{
+    match lead {
+        Some(lead) => dsm_led(alloc, state, arrival, message, named, lead),
+        None => Ok(early_refusal(&dsm_front(state, message, true))),
+    }
+}
+
+fn dsm_on(
+    alloc: Global,
+    state: &State,
+    arrival: &Arrival,
+    message: &Dsm,
+    found: &Option<Named>,
+    lead: &Option<Lead>,
+) -> Result<Decision, NoMemory>
+    requires { lead.now ≡ dsm_lead_on state.now arrival.now message.now found.now }
+    ensures { IfOk result (λ d. d ≡ decision_of state.now (dsm_on state.now arrival.now message.now found.now)) }
+{
+    match found {
+        Some(named) => dsm_of(alloc, state, arrival, message, named, lead),
+        None => Ok(refusal(verdict_of(&dsm_front(state, message, false)))),
+    }
+}
+
+fn dsm_lead_on(
+    state: &State,
+    arrival: &Arrival,
+    message: &Dsm,
+    found: Option<Named>,
+) -> Option<Lead>
+    ensures { result ≡ dsm_lead_on state.now arrival.now message.now found }
+{
+    let named = found?;
+    if passes(&dsm_front(state, message, true)) {
+        Some(key_lead(state, arrival, &named.by))
+    } else {
+        None
+    }
+}
+
+/// What is decided of a disconnection, with the key under which its code is tested. The only error is want of
+/// memory.
+pub fn dsm(
+    alloc: Global,
+    state: &State,
+    arrival: &Arrival,
+    message: &Dsm,
+    lead: &Option<Lead>,
+) -> Result<Decision, NoMemory>
+    requires { lead.now ≡ dsm_lead state.now arrival.now message.now }
+    ensures decision { IfOk result (λ d. d ≡ decision_of state.now (dsm state.now arrival.now message.now)) }
+    ensures kept { IfOk result (λ d. CanKeep state.now d.change) }
+{
+    dsm_on(
+        alloc,
+        state,
+        arrival,
+        message,
+        &named_by(state, message),
+        lead,
+    )
+}
+
+/// The key under which the code of a disconnection is tested. It takes no memory.
+pub fn dsm_lead(state: &State, arrival: &Arrival, message: &Dsm) -> Option<Lead>
+    ensures { result ≡ dsm_lead state.now arrival.now message.now }
+{
+    dsm_lead_on(state, arrival, message, named_by(state, message))
+}
