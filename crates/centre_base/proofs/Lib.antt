@@ -1,0 +1,2 @@
+pub mod OrdersApart
+pub mod Early

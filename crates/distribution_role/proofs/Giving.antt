@@ -1,0 +1,125 @@
+-- What an accepted request gives to both banks, and what the centre keeps of it.
+use Rattle.std.proofs.Common.{◌≡◌, ◌≢◌, ℕ, ◌+◌, ◌<◌, ◌^◌, max, true, false, not, Option, Some, None, List, [], ◌∷◌, ◌++◌, option_map, refl, sym, ap, subst, ◌∙◌, bytes_eq}
+use Rattle.std.proofs.lemmas.Bool.{both_ways, and_parts}
+use Rattle.x_base.specs.declared.verdict.Verdict.TheVariants.{Accept, WeakDraws}
+use Rattle.x_mac.specs.declared.pair.Pair.{Pair}
+use Rattle.x_gen.specs.declared.generator.Gen.{Gen}
+use Rattle.x_gen.specs.Gen.{good_draw}
+use Rattle.x_gen.specs.Laws.{DrawsOdd}
+use Rattle.x_seal.specs.Wrapped.{wrap_of, unwrap_of, seal_of, unseal_of}
+use Rattle.csm_grammar.specs.declared.arrival.Arrival.{Arrival}
+use Rattle.csm_grammar.specs.declared.message.Message.{Message}
+use Rattle.csm_grammar.specs.declared.message.Rsi.{Rsi}
+use Rattle.csm_grammar.specs.declared.message.Ers.{Ers}
+use Rattle.party_state.specs.declared.answer.Answer.{Answer}
+use Rattle.party_state.specs.declared.link.LinkKey.{LinkKey}
+use Rattle.party_state.specs.declared.link.LinkRec.{LinkRec}
+use Rattle.party_state.specs.Tables.{find_row, put_row}
+use Rattle.party_state.specs.Keys.{same_link, link_key, same_answer, answer_key, sends}
+use Rattle.party_state.specs.State.{Party, centre_label, link_with, answer_with}
+use Rattle.party_state.specs.Verdicts.{Test, Held}
+use Rattle.party_state.specs.Rows.{Row}
+use Rattle.party_state.proofs.Keys.{test_links, test_answers}
+use Rattle.party_state.proofs.Tables.{find_key, find_put_other, find_put_same}
+use Rattle.party_state.proofs.Verdicts.{held_at_accept}
+use Rattle.role_base.specs.Conditions.{is_data_key}
+use Rattle.role_base.proofs.Addressed.{others}
+use Rattle.distribution_role.specs.Answering.{rtr_of, answering}
+use Rattle.distribution_role.specs.Requests.{rsi_tests, rsi_between, rsi_for}
+use Rattle.distribution_role.specs.Recovery.{ers_front, ers_tests, ers_between}
+use Rattle.distribution_role.specs.Rows.{distribution_message}
+use Rattle.distribution_role.specs.Giving.{GivesKey, GivesAsked, GivesAgain}
+use Rattle.distribution_role.proofs.AnswersApart.{other_bank}
+
+-- decryption undoes encryption, and a drawn key has 64 bits
+pub record Undone : Type 0 where
+  pub unwrapped : (kk : Pair) (count key : ℕ) → key < 2 ^ 64 → unwrap_of kk count (wrap_of kk count key) ≡ key
+  pub unsealed : (kk : Pair) (from to : List ℕ) (count key : ℕ) → key < 2 ^ 64 → unseal_of kk from to count (seal_of kk from to count key) ≡ key
+  pub odd : DrawsOdd
+
+gives : Undone → (p : Party) (r u : List ℕ) (ts : List Test) (l b : LinkRec) (n moment : ℕ) (d : ℕ × Gen) → good_draw p.generator moment ≡ Some d → d.0 < 2 ^ 64 → u ≢ r → link_with (sends r centre_label) p ≡ Some l → link_with (sends u centre_label) p ≡ Some b
+    → GivesKey p (answering p r u ts l (record b { next = n }) (Some d)) moment r u l b n
+gives laws p r u ts l b n moment d drawn below ne f g =
+    let used : LinkRec = record l { next = l.next + 1 } in
+    let sent : LinkRec = record b { next = n + 1 } in
+    let answer : Answer = record { requester = r; ultimate = u; cta = l.next; value = d.0 } in
+    let i : sends r centre_label ≡ link_key l = find_key link_key same_link test_links (sends r centre_label) l p.links f in
+    let j : sends u centre_label ≡ link_key b = find_key link_key same_link test_links (sends u centre_label) b p.links g in
+    let apart : same_link (sends r centre_label) (link_key sent) ≡ false = ap (λ (k : LinkKey). same_link (sends r centre_label) k) (sym j) ∙ other_bank u r (λ e. ne (sym e)) in
+    let from : find_row link_key same_link (sends r centre_label) (put_row link_key same_link sent (put_row link_key same_link used p.links)) ≡ Some used =
+    find_put_other link_key same_link test_links (sends r centre_label) sent (put_row link_key same_link used p.links) apart
+    ∙ (ap (λ (k : LinkKey). find_row link_key same_link k (put_row link_key same_link used p.links)) i ∙ find_put_same link_key same_link test_links used p.links) in
+    let to : find_row link_key same_link (sends u centre_label) (put_row link_key same_link sent (put_row link_key same_link used p.links)) ≡ Some sent =
+    ap (λ (k : LinkKey). find_row link_key same_link k (put_row link_key same_link sent (put_row link_key same_link used p.links))) j ∙ find_put_same link_key same_link test_links sent (put_row link_key same_link used p.links) in
+    record {
+      key = d.0;
+      after = d.1;
+      drawn = drawn;
+      goes_on = refl;
+      rtr = rtr_of p r u l (record b { next = n }) d.0;
+      kd = wrap_of l.pair l.next d.0;
+      reply = refl;
+      receiver = refl;
+      sender = refl;
+      ultimate = refl;
+      carried = refl;
+      for_requester = laws.unwrapped l.pair l.next d.0 below;
+      count = refl;
+      for_ultimate = laws.unsealed b.pair r u n d.0 below;
+      from_next = ap (λ (o : Option LinkRec). option_map (λ (x : LinkRec). x.next) o) from;
+      to_next = ap (λ (o : Option LinkRec). option_map (λ (x : LinkRec). x.next) o) to;
+      kept = find_put_same answer_key same_answer test_answers answer p.answers;
+    }
+
+-- a request
+
+asked : Undone → (p : Party) (a : Arrival) (m : Rsi) (u : List ℕ) (moment : ℕ) (l b : LinkRec) (o : Option (ℕ × Gen)) → link_with (sends m.originator centre_label) p ≡ Some l → link_with (sends u centre_label) p ≡ Some b → good_draw p.generator moment ≡ o
+    → (rsi_between p a m u (Some l) (Some b) o).verdict ≡ Accept → GivesKey p (rsi_between p a m u (Some l) (Some b) o) moment m.originator u l b b.next
+asked laws p a m u moment l b None f g d e =
+    let h : Held (rsi_tests p a m u l b ++ (false, WeakDraws) ∷ []) = held_at_accept (rsi_tests p a m u l b ++ (false, WeakDraws) ∷ []) refl e in
+    absurd (both_ways false refl h.1.1.1.1.1.1.0)
+asked laws p a m u moment l b (Some x) f g d e =
+    let h : Held (rsi_tests p a m u l b ++ (true, WeakDraws) ∷ []) = held_at_accept (rsi_tests p a m u l b ++ (true, WeakDraws) ∷ []) refl e in
+    gives laws p m.originator u (rsi_tests p a m u l b) l b b.next moment x d (laws.odd p.generator moment x d).below (others u m.originator (and_parts (is_data_key m.service) (not (bytes_eq u m.originator)) h.1.1.0).1) f g
+
+pub gives_asked : Undone → GivesAsked
+gives_asked laws p a m u moment l b said asks f g e =
+    let drawn : Option (ℕ × Gen) = good_draw p.generator moment in
+    let row : distribution_message p a a.parsed.message moment ≡ rsi_between p a m u (Some l) (Some b) drawn =
+    ap (λ (n : Message). distribution_message p a n moment) said
+    ∙ (ap (λ (o : Option (List ℕ)). rsi_for p a m o moment) asks
+    ∙ (ap (λ (o : Option LinkRec). rsi_between p a m u o (link_with (sends u centre_label) p) drawn) f ∙ ap (λ (o : Option LinkRec). rsi_between p a m u (Some l) o drawn) g)) in
+    let accepted : (rsi_between p a m u (Some l) (Some b) drawn).verdict ≡ Accept = sym (ap (λ (r : Row). r.verdict) row) ∙ e in
+    subst (λ (r : Row). GivesKey p r moment m.originator u l b b.next) (sym row) (asked laws p a m u moment l b drawn f g refl accepted)
+
+-- one that comes again
+
+again : Undone → (p : Party) (a : Arrival) (m : Ers) (moment : ℕ) (t : Answer) (l b : LinkRec) (o : Option (ℕ × Gen)) → link_with (sends m.originator centre_label) p ≡ Some l → link_with (sends m.ultimate centre_label) p ≡ Some b → good_draw p.generator moment ≡ o
+    → (ers_between p a m (Some t) (Some l) (Some b) o).verdict ≡ Accept → GivesKey p (ers_between p a m (Some t) (Some l) (Some b) o) moment m.originator m.ultimate l b (max b.next m.ctr)
+again laws p a m moment t l b None f g d e =
+    let h : Held (ers_tests p a m t l b ++ (false, WeakDraws) ∷ []) = held_at_accept (ers_tests p a m t l b ++ (false, WeakDraws) ∷ []) refl e in
+    absurd (both_ways false refl h.1.1.1.1.1.1.1.0)
+again laws p a m moment t l b (Some x) f g d e =
+    let h : Held (ers_tests p a m t l b ++ (true, WeakDraws) ∷ []) = held_at_accept (ers_tests p a m t l b ++ (true, WeakDraws) ∷ []) refl e in
+    gives laws p m.originator m.ultimate (ers_tests p a m t l b) l b (max b.next m.ctr) moment x d (laws.odd p.generator moment x d).below (others m.ultimate m.originator h.1.1.0) f g
+
+pub gives_again : Undone → GivesAgain
+gives_again laws p a m moment l b said f g e = by_answer (answer_with (record { requester = m.originator; ultimate = m.ultimate }) p) (row (answer_with (record { requester = m.originator; ultimate = m.ultimate }) p) refl)
+  where
+    drawn : Option (ℕ × Gen)
+    drawn = good_draw p.generator moment
+
+    row : (t : Option Answer) → answer_with (record { requester = m.originator; ultimate = m.ultimate }) p ≡ t → distribution_message p a a.parsed.message moment ≡ ers_between p a m t (Some l) (Some b) drawn
+    row t i =
+        ap (λ (n : Message). distribution_message p a n moment) said
+        ∙ (ap (λ (x : Option Answer). ers_between p a m x (link_with (sends m.originator centre_label) p) (link_with (sends m.ultimate centre_label) p) drawn) i
+        ∙ (ap (λ (o : Option LinkRec). ers_between p a m t o (link_with (sends m.ultimate centre_label) p) drawn) f ∙ ap (λ (o : Option LinkRec). ers_between p a m t (Some l) o drawn) g))
+
+    by_answer : (t : Option Answer) → distribution_message p a a.parsed.message moment ≡ ers_between p a m t (Some l) (Some b) drawn → GivesKey p (distribution_message p a a.parsed.message moment) moment m.originator m.ultimate l b (max b.next m.ctr)
+    by_answer None i =
+        let refused : (ers_between p a m None (Some l) (Some b) drawn).verdict ≡ Accept = sym (ap (λ (r : Row). r.verdict) i) ∙ e in
+        let h : Held (ers_front p m false false) = held_at_accept (ers_front p m false false) refl refused in
+        absurd (both_ways false refl h.1.1.1.0)
+    by_answer (Some t) i =
+        let accepted : (ers_between p a m (Some t) (Some l) (Some b) drawn).verdict ≡ Accept = sym (ap (λ (r : Row). r.verdict) i) ∙ e in
+        subst (λ (r : Row). GivesKey p r moment m.originator m.ultimate l b (max b.next m.ctr)) (sym i) (again laws p a m moment t l b drawn f g refl accepted)

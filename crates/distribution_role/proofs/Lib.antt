@@ -1,0 +1,7 @@
+pub mod Answered
+pub mod AnswersKept
+pub mod AnswersApart
+pub mod Early
+pub mod Serving
+pub mod Giving
+pub mod Raised

@@ -1,0 +1,50 @@
+// What is known of a distribution centre's rows, by calls that do nothing.
+ghost use Rattle.std.specs.Prelude.{◌≡◌, ◌↔◌, ◌⊎◌, ℕ, true, None};
+ghost use Rattle.csm_grammar.specs.declared.arrival.Arrival.{Arrival as TheArrival};
+ghost use Rattle.party_state.specs.declared.command.Input.{Input as TheInput};
+ghost use Rattle.party_state.specs.State.{Party};
+ghost use Rattle.party_state.specs.Verdicts.{is_accept};
+ghost use Rattle.role_base.specs.Texts.{is_plain};
+ghost use Rattle.role_base.specs.Differing.{AreApart};
+ghost use Rattle.role_base.specs.Errors.{is_early};
+ghost use Rattle.distribution_role.specs.Rows.{distribution_message, distribution_lead, distribution_row};
+ghost use Rattle.distribution_role.specs.Serving.{AnswersRequests, AnswersAgain};
+ghost use Rattle.distribution_role.specs.Giving.{GivesAsked, GivesAgain};
+
+use csm_grammar::law_arrived;
+use x_gen::law_draws_odd;
+use x_seal::{law_unseals, law_unwraps};
+
+/// No edit of an accepted row changes whether a later one makes a difference: the two links that an
+/// answer puts are not one link.
+pub fn law_apart()
+    ensures { (p : Party) (i : TheInput) (moment : ℕ) → is_accept (distribution_row p i moment).verdict ≡ true → AreApart p (distribution_row p i moment).edits }
+{
+    centre_base::law_apart();
+}
+
+/// There is no key to test the code of an arrival under exactly where the arrival is closed by an
+/// error detection code, or is refused before its code is looked at.
+pub fn law_lead()
+    ensures { (p : Party) (a : TheArrival) (moment : ℕ) →
+        ((distribution_lead p a a.parsed.message ≡ None) ↔ ((is_plain a.parsed.shut ≡ true) ⊎ (is_early (distribution_message p a a.parsed.message moment).verdict ≡ true))) }
+{
+    law_arrived();
+}
+
+/// A request, and one that comes again, are accepted exactly where they can be answered.
+pub fn law_answers()
+    ensures requests { AnswersRequests }
+    ensures again { AnswersAgain }
+{}
+
+/// An accepted request gives the key that is drawn to both banks, at the next counts of their links,
+/// or at the count that the ultimate recipient expects, and the centre keeps it.
+pub fn law_gives()
+    ensures requests { GivesAsked }
+    ensures again { GivesAgain }
+{
+    law_unwraps();
+    law_unseals();
+    law_draws_odd();
+}

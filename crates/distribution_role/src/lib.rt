@@ -1,0 +1,20 @@
+//! What a key distribution centre decides (ANSI X9.17): it answers requests for data keys, also
+//! those that come again, with keys that it draws (the order of the tests is this project's
+//! profile).
+#![tactic(auto)]
+
+mod answering;
+mod arrivals;
+mod deciding;
+mod laws;
+mod leads;
+mod recovery;
+mod requests;
+
+pub use answering::Links;
+pub use deciding::{decide, decide_led};
+pub use laws::{law_answers, law_apart, law_gives, law_lead};
+pub use leads::lead;
+
+#[cfg(test)]
+mod tests;

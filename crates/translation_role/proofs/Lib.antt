@@ -1,0 +1,5 @@
+pub mod Translated
+pub mod TranslatedKept
+pub mod TranslatedApart
+pub mod Early
+pub mod Serving

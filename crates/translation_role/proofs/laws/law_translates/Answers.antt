@@ -1,0 +1,8 @@
+use Rattle.translation_role.proofs.Serving.{translates_exactly, returns_keys}
+use Rattle.translation_role.proofs.laws.law_translates.Goals as goal
+
+pub returns-clause-exactly : goal.returns-clause-exactly
+returns-clause-exactly c = translates_exactly
+
+pub returns-clause-returned : goal.returns-clause-returned
+returns-clause-returned c = returns_keys (record { unsealed = c.law_unseals.ensures.unsealed; below = c.law_keys_below.ensures.unwrapped })

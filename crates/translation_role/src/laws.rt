@@ -1,0 +1,47 @@
+// What is known of a translation centre's rows, by calls that do nothing.
+ghost use Rattle.std.specs.Prelude.{◌≡◌, ◌↔◌, ◌⊎◌, true, None};
+ghost use Rattle.csm_grammar.specs.declared.arrival.Arrival.{Arrival as TheArrival};
+ghost use Rattle.party_state.specs.declared.command.Input.{Input as TheInput};
+ghost use Rattle.party_state.specs.State.{Party};
+ghost use Rattle.role_base.specs.Texts.{is_plain};
+ghost use Rattle.role_base.specs.Differing.{AreApart};
+ghost use Rattle.role_base.specs.Errors.{is_early};
+ghost use Rattle.translation_role.specs.Rows.{translation_message, translation_lead, translation_row};
+ghost use Rattle.translation_role.specs.Serving.{TranslatesExactly, ReturnsKeys, AnswersLow, AnswersSpent};
+
+use csm_grammar::law_arrived;
+use x_seal::{law_keys_below, law_unseals};
+
+/// No edit of a row changes whether a later one makes a difference: the two links that a translation
+/// puts have different sides.
+pub fn law_apart()
+    ensures { (p : Party) (i : TheInput) → AreApart p (translation_row p i).edits }
+{
+    centre_base::law_apart();
+}
+
+/// There is no key to test the code of an arrival under exactly where the arrival is closed by an
+/// error detection code, or is refused before its code is looked at.
+pub fn law_lead()
+    ensures { (p : Party) (a : TheArrival) →
+        ((translation_lead p a a.parsed.message ≡ None) ↔ ((is_plain a.parsed.shut ≡ true) ⊎ (is_early (translation_message p a a.parsed.message).verdict ≡ true))) }
+{
+    law_arrived();
+}
+
+/// A request for service is accepted exactly where it can be answered; then the key that it carries
+/// goes back for the ultimate recipient, at the next count of its link, and both counts are used.
+pub fn law_translates()
+    ensures exactly { TranslatesExactly }
+    ensures returned { ReturnsKeys }
+{
+    law_unseals();
+    law_keys_below();
+}
+
+/// A request that is refused for a count is answered by an error message that names it, closed under
+/// the key that the request carries.
+pub fn law_refused_counts()
+    ensures low { AnswersLow }
+    ensures spent { AnswersSpent }
+{}
