@@ -1,1 +1,2 @@
-pub mod AtBank
+pub mod ByRole
+pub mod Taking

@@ -1,3 +1,4 @@
 pub mod Rows
 pub mod Deciding
 pub mod Leads
+pub mod Taking

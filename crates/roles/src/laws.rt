@@ -1,15 +1,60 @@
-// What is known of every party, by a call that does nothing.
-ghost use Rattle.std.specs.Prelude.{◌≡◌, ℕ};
-ghost use Rattle.x_base.specs.declared.party.Role.TheVariants.{Bank};
+// What is known of every party, by calls that do nothing.
+ghost use Rattle.std.specs.Prelude.{◌≡◌, ◌↔◌, ◌⊎◌, ℕ, true, false, None};
+ghost use Rattle.csm_grammar.specs.declared.arrival.Arrival.{Arrival as TheArrival};
 ghost use Rattle.party_state.specs.declared.command.Input.{Input as TheInput};
-ghost use Rattle.party_state.specs.State.{Party};
-ghost use Rattle.bank_arrivals.specs.Taking.{TakesKeys};
+ghost use Rattle.party_state.specs.declared.command.Input.TheVariants.{Arrived};
+ghost use Rattle.party_state.specs.declared.edit.Edit.{Edit as TheEdit};
+ghost use Rattle.party_state.specs.Keys.{link_key, same_link};
+ghost use Rattle.party_state.specs.Tables.{Distinct};
+ghost use Rattle.party_state.specs.State.{Party, apply_edit, apply};
+ghost use Rattle.party_state.specs.Verdicts.{is_accept};
+ghost use Rattle.role_base.specs.Texts.{is_plain};
+ghost use Rattle.role_base.specs.Errors.{is_early};
+ghost use Rattle.role_base.specs.Differing.{differs, always_differs, differing};
+ghost use Rattle.roles.specs.Rows.{row_at};
+ghost use Rattle.roles.specs.Leads.{lead_at};
 ghost use Rattle.roles.specs.Deciding.{decision};
+ghost use Rattle.roles.specs.Taking.{TakesAsBank, PassesAsBank};
 
-/// At a bank, a key that a partner sends without a centre and without a new key-encrypting key is
-/// accepted exactly where it can be taken.
+/// There is no key to test the code of an arrival under exactly where the arrival is closed by an
+/// error detection code, or is refused before its code is looked at.
+pub fn law_lead()
+    ensures { (p : Party) (a : TheArrival) (moment : ℕ) →
+        ((lead_at p a ≡ None) ↔ ((is_plain a.parsed.shut ≡ true) ⊎ (is_early (decision p (Arrived a) moment).verdict ≡ true))) }
+{
+    bank_role::law_lead();
+    distribution_role::law_lead();
+    translation_role::law_lead();
+}
+
+/// An edit that makes no difference changes nothing. One that changes nothing makes no difference,
+/// but for an exchange or an answer that is put, and a party that begins, which always do. Where the
+/// edits of an accepted row that make none are left out, the others give the same party, if it has
+/// each link once.
+pub fn law_differing()
+    ensures unchanged { (p : Party) (e : TheEdit) → differs p e ≡ false → apply_edit e p ≡ p }
+    ensures needed { (p : Party) (e : TheEdit) → always_differs e ≡ false → apply_edit e p ≡ p → differs p e ≡ false }
+    ensures left_out { (p : Party) (i : TheInput) (moment : ℕ) → Distinct link_key same_link p.links → is_accept (row_at p i moment).verdict ≡ true →
+        apply (differing p (row_at p i moment).edits) p ≡ apply (row_at p i moment).edits p }
+{
+    role_base::law_differing();
+    bank_role::law_differing();
+    distribution_role::law_apart();
+    translation_role::law_apart();
+}
+
+/// A key that a key service message brings, from a partner or a centre, alone or with a new
+/// key-encrypting key, is accepted exactly where the party is a bank and can take it.
 pub fn law_taking()
-    ensures { (p : Party) (i : TheInput) (moment : ℕ) → p.role ≡ Bank → TakesKeys p i (decision p i moment) }
+    ensures { (p : Party) (i : TheInput) (moment : ℕ) → TakesAsBank p i (decision p i moment) }
 {
     bank_role::law_taking();
+}
+
+/// A centre's answer is accepted exactly where the party is a bank and its key can go on to the
+/// ultimate recipient.
+pub fn law_passing()
+    ensures { (p : Party) (i : TheInput) (moment : ℕ) → PassesAsBank p i (decision p i moment) }
+{
+    bank_role::law_passing();
 }

@@ -4,8 +4,9 @@ ghost use Rattle.party_state.specs.declared.command.Input.TheVariants.{Arrived};
 ghost use Rattle.role_base.specs.Storable.{CanKeep};
 ghost use Rattle.roles.specs.Deciding.{decision};
 ghost use Rattle.roles.specs.Leads.{lead_at};
+ghost use Rattle.roles.specs.Taking.{TakesAsBank, PassesAsBank};
 
-use crate::deciding::unserved;
+use crate::laws::{law_passing, law_taking};
 use csm_grammar::Arrival;
 use party_state::{Decision, Lead, State};
 use std::alloc::Global;
@@ -18,14 +19,13 @@ pub fn lead(state: &State, arrival: &Arrival) -> Option<Lead>
 {
     match state.role() {
         Role::Bank => bank_role::lead(state, arrival),
-        Role::Distribution | Role::Translation => None,
+        Role::Distribution => distribution_role::lead(state, arrival),
+        Role::Translation => translation_role::lead(state, arrival),
     }
 }
 
-/// What a party decides of a message that arrives, where its caller has asked for the key under
-/// which the code is tested: so the code is tested once. The only error is want of memory.
 #[tactic(auto, unfolding(crate::specs::Deciding::decision))]
-pub fn decide_led(
+fn decided_led(
     alloc: Global,
     state: &State,
     arrival: &Arrival,
@@ -38,6 +38,28 @@ pub fn decide_led(
 {
     match state.role() {
         Role::Bank => bank_role::decide_led(alloc, state, arrival, lead, moment),
-        Role::Distribution | Role::Translation => Ok(unserved(state)),
+        Role::Distribution => distribution_role::decide_led(alloc, state, arrival, lead, moment),
+        Role::Translation => translation_role::decide_led(alloc, state, arrival, lead, moment),
     }
+}
+
+/// What a party decides of a message that arrives, where its caller has asked for the key under
+/// which the code is tested: so the code is tested once. The only error is want of memory.
+pub fn decide_led(
+    alloc: Global,
+    state: &State,
+    arrival: &Arrival,
+    lead: &Option<Lead>,
+    moment: u64,
+) -> Result<Decision, NoMemory>
+    requires { lead.now ≡ lead_at state.now arrival.now }
+    ensures decision { IfOk result (λ d. d ≡ decision state.now (Arrived arrival.now) moment) }
+    ensures kept { IfOk result (λ d. CanKeep state.now d.change) }
+    ensures complete { IfOk result (λ d. TakesAsBank state.now (Arrived arrival.now) d) }
+    ensures passed_on { IfOk result (λ d. PassesAsBank state.now (Arrived arrival.now) d) }
+{
+    // Tell which keys are taken, and which go on.
+    law_taking();
+    law_passing();
+    decided_led(alloc, state, arrival, lead, moment)
 }
