@@ -31,8 +31,6 @@ name_of_kind kinds.Drill = codes "drill"
 -- all but these
 abbrev pub is_built : OrderKind → Bool
 is_built kinds.Replay = false
-is_built kinds.StartKk = false
-is_built kinds.Translate = false
 is_built kinds.Drill = false
 is_built k = true
 

@@ -70,8 +70,7 @@ impl OrderKind {
         ensures { result ≡ is_built self }
     {
         match self {
-            OrderKind::Replay | OrderKind::StartKk | OrderKind::Translate | OrderKind::Drill =>
-                false,
+            OrderKind::Replay | OrderKind::Drill => false,
             _ => true,
         }
     }

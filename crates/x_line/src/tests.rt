@@ -20,10 +20,7 @@ const FAULTS: [(&str, UsageKind); 16] = [
     ("help", UsageKind::Command),
     ("Check", UsageKind::Command),
     ("--party BANKA --key 1 stop", UsageKind::Command),
-    (
-        "startkk --party BANKA --peer BANKB --new K2",
-        UsageKind::Command,
-    ),
+    ("replay", UsageKind::Command),
     ("check --party=", UsageKind::Unwanted(Opt::Party)),
     (
         "take --single --events 1 --party x",
@@ -34,13 +31,13 @@ const FAULTS: [(&str, UsageKind); 16] = [
         UsageKind::Missing(Opt::Party),
     ),
     (
-        "load --party A --peer B --label k --side x",
-        UsageKind::Missing(Opt::Key),
+        "startkk --single --party A --peer B --label k",
+        UsageKind::Missing(Opt::New),
     ),
 ];
 
 // Command lines each of which has one bad value or more, and the option of the first one.
-const BAD_VALUES: [(&str, Opt); 11] = [
+const BAD_VALUES: [(&str, Opt); 13] = [
     ("show --party=", Opt::Party),
     ("take --party BANKa", Opt::Party),
     (
@@ -66,7 +63,15 @@ const BAD_VALUES: [(&str, Opt); 11] = [
         Opt::Key,
     ),
     (
+        "startkk --party BANKA --peer BANKB --new k2 --label K1",
+        Opt::New,
+    ),
+    (
         "ask --party BANKA --peer CKDX --ultimate bankb",
+        Opt::Ultimate,
+    ),
+    (
+        "translate --party BANKA --peer CKTX --ultimate B",
         Opt::Ultimate,
     ),
     (
@@ -122,7 +127,9 @@ fn faults_are_found(rt: HostRuntime) -> Result<(), Fail> {
 fn orders_are_read(rt: HostRuntime) -> Result<(), Fail> {
     let party = Ident::read(b"BANKA")?;
     let peer = Ident::read(b"CKDX")?;
+    let ultimate = Ident::read(b"BANKB")?;
     let label = Label::read(b"C")?;
+    let new = Label::read(b"K2")?;
     let name = KeyName::read(b"CKDX.BANKA.C.7")?;
     let left = 0x0123456789ABCDEF;
     let right = 0xFEDCBA9876543210;
@@ -149,6 +156,42 @@ fn orders_are_read(rt: HostRuntime) -> Result<(), Fail> {
                 party,
                 peer,
                 ultimate: None,
+            },
+        ),
+        (
+            "ask --ultimate BANKB --party BANKA --peer CKDX",
+            Order::Ask {
+                party,
+                peer,
+                ultimate: Some(ultimate),
+            },
+        ),
+        (
+            "translate --party BANKA --peer CKDX --ultimate BANKB",
+            Order::Translate {
+                party,
+                peer,
+                ultimate,
+            },
+        ),
+        (
+            "startkk --party BANKA --peer CKDX --new K2",
+            Order::StartKk {
+                party,
+                peer,
+                new,
+                label: None,
+                single: false,
+            },
+        ),
+        (
+            "startkk --single --new K2 --label C --peer CKDX --party BANKA",
+            Order::StartKk {
+                party,
+                peer,
+                new,
+                label: Some(label),
+                single: true,
             },
         ),
         (
