@@ -6,3 +6,4 @@ pub mod GoingRows
 pub mod Binding
 pub mod Compactions
 pub mod Named
+pub mod Calls

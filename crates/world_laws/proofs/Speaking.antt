@@ -4,3 +4,4 @@ pub mod Arrivals
 pub mod Centres
 pub mod Errors
 pub mod Answers
+pub mod Makers

@@ -17,6 +17,11 @@ pub data Action : Type 0 where
 pub data Completion : Type 0 where
   Whole CutOld CutNew : Completion
 
+abbrev pub IsCutOff : Completion → Type 0
+IsCutOff Whole = ⊥
+IsCutOff CutOld = Unit {0}
+IsCutOff CutNew = Unit {0}
+
 -- what happens, at which party and moment
 pub record Event : Type 0 where
   pub party : List ℕ

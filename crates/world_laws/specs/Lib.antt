@@ -6,5 +6,7 @@ pub mod Steps
 pub mod Honest
 pub mod Starts
 pub mod Laws
+pub mod Facts
 pub mod Nodes
+pub mod Calls
 pub mod Reached

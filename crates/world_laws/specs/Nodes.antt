@@ -9,9 +9,9 @@ use Rattle.node_core.specs.Deciding.{after}
 use Rattle.node_core.specs.Turns.{room_after}
 use Rattle.node_core.specs.declared.node.Turn.{Turn}
 use Rattle.node_core.specs.declared.node.Turn.TheVariants.{Done, Refused, Broken, NoMemory}
-use Rattle.world_laws.specs.World.{Member, World, member_at}
+use Rattle.world_laws.specs.World.{Member, World, HasMember, member_at}
 use Rattle.roles.specs.Rows.{row_at}
-use Rattle.world_laws.specs.Events.{Completion, Whole}
+use Rattle.world_laws.specs.Events.{Completion, Whole, IsCutOff}
 use Rattle.world_laws.specs.Steps.{received_text, world_after_row, world_with_answer, world_with_room, world_after_input, world_after_compaction}
 
 -- the reply that was handed out is written
@@ -55,10 +55,14 @@ MayBeCut (Broken b) = Unit {0}
 MayBeCut (NoMemory node) = ⊥
 
 -- the image stands for the member after the event that is cut off, with its room
-pub record IsCutEvent {D : Type 0} (old : Stored D) (i : Input) (moment : ℕ) (image : List ℕ) : Type 0 where
+pub record IsCutInput (x : Member) (i : Input) (moment : ℕ) (image : List ℕ) : Type 0 where
   pub completion : Completion
-  pub stands : (n : ℕ) (w : World) → member_at old.party.own w.members ≡ Some (member_of old)
-      → (y : Member) × (member_at old.party.own (world_after_input n w (member_of old) i moment completion).members ≡ Some y) × StandsWith image y.party y.room
+  pub cut : IsCutOff completion
+  pub stands : (n : ℕ) (w : World) → member_at x.party.own w.members ≡ Some x
+      → HasMember (world_after_input n w x i moment completion) x.party.own (StandsWith image)
+
+abbrev pub IsCutEvent : {D : Type 0} → Stored D → Input → ℕ → List ℕ → Type 0
+IsCutEvent old i moment image = IsCutInput (member_of old) i moment image
 
 -- a compaction that is done is the whole event, with the room that the node has afterwards; where it is refused or no
 -- memory was left, nothing changes
@@ -69,7 +73,11 @@ IsCompactionEvent old (Broken b) = Unit {0}
 IsCompactionEvent old (NoMemory node) = node ≡ old
 
 -- the image stands for the member after the compaction that is cut off, with its room
-pub record IsCompactionCutEvent {D : Type 0} (old : Stored D) (image : List ℕ) : Type 0 where
+pub record IsCutCompaction (x : Member) (image : List ℕ) : Type 0 where
   pub completion : Completion
-  pub stands : (w : World) → member_at old.party.own w.members ≡ Some (member_of old)
-      → (y : Member) × (member_at old.party.own (world_after_compaction w (member_of old) completion).members ≡ Some y) × StandsWith image y.party y.room
+  pub cut : IsCutOff completion
+  pub stands : (w : World) → member_at x.party.own w.members ≡ Some x
+      → HasMember (world_after_compaction w x completion) x.party.own (StandsWith image)
+
+abbrev pub IsCompactionCutEvent : {D : Type 0} → Stored D → List ℕ → Type 0
+IsCompactionCutEvent old image = IsCutCompaction (member_of old) image

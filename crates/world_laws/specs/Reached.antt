@@ -1,10 +1,11 @@
 -- A run in which a key becomes live (this project's profile).
-use Rattle.std.specs.Prelude.{◌≡◌, List, Some}
+use Rattle.std.specs.Prelude.{◌≡◌, List, Some, Contains}
+use Rattle.x_base.specs.declared.party.Role.{Role}
 use Rattle.party_state.specs.declared.key.RecordKey.{RecordKey}
 use Rattle.party_state.specs.declared.key.KeyRec.{KeyRec}
 use Rattle.party_state.specs.declared.key.KeyStatus.TheVariants.{Live}
 use Rattle.party_state.specs.State.{record_with}
-use Rattle.world_laws.specs.World.{Member, World, member_at}
+use Rattle.world_laws.specs.World.{Member, Birth, World, member_at}
 use Rattle.world_laws.specs.Events.{Event, AreEvents}
 use Rattle.world_laws.specs.Steps.{run}
 use Rattle.world_laws.specs.Honest.{HonestRun}
@@ -30,3 +31,35 @@ pub record LiveRun : Type 0 where
   pub are_events : AreEvents events
   pub honest : HonestRun 1 start events
   pub live : HasLiveKey (run 1 start events)
+
+-- what kind of key it is
+
+abbrev pub LiveKind : Type 1
+LiveKind = (w : World) → HasLiveKey w → Type 0
+
+-- a centre of this role issued it
+pub record IsIssuedBy (role : Role) (w : World) (l : HasLiveKey w) : Type 0 where
+  pub centre : Member
+  pub at : member_at l.key.name.issuer w.members ≡ Some centre
+  pub role_is : centre.party.role ≡ role
+
+-- it went under a key-encrypting key that was made in the run
+pub record IsUnderNewKk (w : World) (l : HasLiveKey w) : Type 0 where
+  pub birth : Birth
+  pub stands : Contains w.births birth
+  pub originator : birth.originator ≡ l.member.party.own
+  pub recipient : birth.recipient ≡ l.key.peer
+  pub label : birth.label ≡ l.key.name.label
+
+pub record EndsWithLive (Kind : LiveKind) (w : World) : Type 0 where
+  pub live : HasLiveKey w
+  pub kind : Kind w live
+
+-- an honest run from a start that ends with a live key of this kind
+pub record LiveRunOf (Kind : LiveKind) : Type 0 where
+  pub start : World
+  pub events : List Event
+  pub is_start : IsStart start
+  pub are_events : AreEvents events
+  pub honest : HonestRun 1 start events
+  pub end : EndsWithLive Kind (run 1 start events)

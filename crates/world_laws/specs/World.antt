@@ -1,5 +1,5 @@
 -- A network of parties: what each holds, and what was written, used and accepted so far (this project's profile).
-use Rattle.std.specs.Prelude.{ℕ, Option, List, bytes_eq}
+use Rattle.std.specs.Prelude.{◌≡◌, ℕ, Option, Some, List, bytes_eq}
 use Rattle.x_base.specs.declared.key_name.FullName.{FullName}
 use Rattle.party_state.specs.State.{Party}
 use Rattle.party_state.specs.Rows.{Sealed, Class}
@@ -60,3 +60,9 @@ own_of m = m.party.own
 -- the member with this identity
 abbrev pub member_at : List ℕ → List Member → Option Member
 member_at p ms = find_row own_of bytes_eq p ms
+
+-- the network has a member of this name, and this holds of its party and its room
+pub record HasMember (w : World) (own : List ℕ) (P : Party → ℕ → Type 0) : Type 0 where
+  pub member : Member
+  pub at : member_at own w.members ≡ Some member
+  pub holds : P member.party member.room

@@ -1,9 +1,13 @@
 // That a key becomes live, told by a call that does nothing.
-ghost use Rattle.world_laws.specs.Reached.{LiveRun};
+ghost use Rattle.x_base.specs.declared.party.Role.TheVariants.{Distribution, Translation};
+ghost use Rattle.world_laws.specs.Reached.{LiveRun, LiveRunOf, IsIssuedBy, IsUnderNewKk};
 
-/// There is an honest run from a start in which a key becomes live, and its partner holds it: so the
-/// laws of honest runs don't hold for want of runs.
-#[tactic(auto, using(crate::proofs::LiveKeys::LiveRuns::live_run))]
+/// There are honest runs from a start in which a key becomes live, and its partner holds it: between two banks, under a
+/// key-encrypting key that was made in the run, and through a centre of either kind. So the laws of honest runs don't hold
+/// for want of runs.
 pub fn law_reached()
-    ensures { LiveRun }
+    ensures direct { LiveRun }
+    ensures under_new_kk { LiveRunOf IsUnderNewKk }
+    ensures distributed { LiveRunOf (IsIssuedBy Distribution) }
+    ensures translated { LiveRunOf (IsIssuedBy Translation) }
 {}

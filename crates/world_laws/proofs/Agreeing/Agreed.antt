@@ -9,6 +9,7 @@ use Rattle.party_state.specs.State.{Party, centre_label, link_with, record_with,
 use Rattle.party_state.proofs.Keys.{test_records}
 use Rattle.world_laws.specs.World.{Member, member_at}
 use Rattle.world_laws.specs.Starts.{HasOtherEnd}
+use Rattle.world_laws.specs.Facts.{IsMadeBySender, KsmApart}
 use Rattle.std.proofs.Common.{AllPairs, All}
 use Rattle.party_state.proofs.Distinct.{distinct_put, distinct_filter}
 use Rattle.world_laws.proofs.Agreeing.Lists.{Lists, Goes, WaitsMove}
@@ -47,5 +48,7 @@ pub record Agreed (v : Lists) : Type 0 where
   pub sent : (p : List ℕ) (x : Member) → member_at p v.members ≡ Some x → AllSent x.party
   pub facts : All (FactOk v) v.facts
   pub apart : AllPairs RtrApart v.facts
+  pub names : AllPairs KsmApart v.facts
+  pub made : All IsMadeBySender v.facts
   pub accepted : All (AcceptedOk v) v.acceptances
   pub live : LiveAccepted v

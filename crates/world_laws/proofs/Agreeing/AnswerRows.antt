@@ -1,7 +1,7 @@
--- Agreement: a centre is asked, and its answer arrives.
+-- Agreement: a centre's answer arrives.
 use Rattle.csm_grammar.proofs.Lawful.{one_meaning}
 use Rattle.world_laws.proofs.Agreeing.Moves.{Backed}
-use Rattle.std.proofs.Common.{arith, ◌≡◌, ◌≢◌, ◌⊎◌, inl, inr, ℕ, ◌≤◌, ◌+◌, true, false, Option, Some, None, List, [], ◌∷◌, ◌++◌, refl, sym, ◌∙◌, ap, subst, bytes_eq}
+use Rattle.std.proofs.Common.{arith, ◌≡◌, ◌≢◌, ◌⊎◌, inl, inr, ℕ, ◌≤◌, ◌+◌, true, Option, Some, None, List, refl, sym, ◌∙◌, ap, subst, bytes_eq}
 use Rattle.std.proofs.lemmas.List.Elements.{Contains-append_left}
 use Rattle.x_base.specs.declared.key_name.KeyName.{KeyName}
 use Rattle.x_base.specs.declared.key_name.FullName.{FullName}
@@ -19,11 +19,10 @@ use Rattle.party_state.specs.declared.exchange.Kind.TheVariants as kind
 use Rattle.party_state.specs.Tables.{find_row, put_row}
 use Rattle.party_state.specs.Keys.{same_record, record_key, exchange_key, sends, takes}
 use Rattle.party_state.specs.State.{Party, centre_label, link_with, record_with, exchange_with, apply}
-use Rattle.party_state.specs.Rows.{Row, Coded, Plain}
-use Rattle.party_state.proofs.Keys.{test_idents}
+use Rattle.party_state.specs.Rows.{Row, Coded}
 use Rattle.party_state.proofs.Tables.{one_found}
-use Rattle.x_base.specs.declared.verdict.Verdict.TheVariants.{UnknownKk}
-use Rattle.standard_rows.specs.Waiting.{Waiting, waiting_with}
+use Rattle.bank_keys.specs.declared.waits.Waiting.{Waiting}
+use Rattle.bank_keys.specs.Waiting.{waiting_with}
 use Rattle.world_laws.specs.World.{Member, Fact, member_at}
 use Rattle.world_laws.specs.Steps.{facts_of}
 use Rattle.world_laws.specs.Honest.{HasFact}
@@ -31,19 +30,15 @@ use Rattle.world_laws.specs.Starts.{HasOtherEnd}
 use Rattle.world_laws.proofs.Links.Growth.{PartyGrows}
 use Rattle.world_laws.proofs.Links.Waiting.{new_of}
 use Rattle.party_state.specs.Tables.{drop_row}
-use Rattle.party_state.proofs.Tables.{find_put_same}
 use Rattle.party_state.specs.declared.exchange.Via.{Via}
-use Rattle.standard_rows.specs.Waiting.{waiting_by, waiting_in}
+use Rattle.bank_keys.specs.Waiting.{waiting_by}
 use Rattle.world_laws.proofs.Agreeing.Waiting.{AllSent}
 use Rattle.world_laws.proofs.Links.Growth.{PartyGrows}
 use Rattle.world_laws.proofs.Agreeing.Moves.{RepliesOk, FreshReply, AcceptsOk, Agreeing}
 use Rattle.world_laws.proofs.Agreeing.Lists.{Lists, after, lists_after}
 use Rattle.world_laws.proofs.Agreeing.Known.{Known}
-use Rattle.world_laws.proofs.Agreeing.KeyRecords.{unmoved}
 use Rattle.world_laws.proofs.Agreeing.Waiting.{AllSent}
 use Rattle.world_laws.proofs.Agreeing.Agreed.{Agreed}
-use Rattle.x_gen.specs.declared.generator.Gen.{Gen}
-use Rattle.x_gen.specs.Gen.{good_draw}
 use Rattle.x_seal.specs.Wrapped.{unwrap_of}
 use Rattle.party_state.specs.declared.exchange.Via.TheVariants as via
 use Rattle.party_state.specs.Keys.{link_key, same_link}
@@ -54,14 +49,12 @@ use Rattle.world_laws.proofs.Links.Growth.{change_grows}
 use Rattle.world_laws.proofs.Links.Found.{LinkAt, link_at}
 use Rattle.world_laws.proofs.Links.Putting.{put_at}
 use Rattle.world_laws.proofs.Counting.Sound.{IsSound}
-use Rattle.x_seal.proofs.Undoing.{unwraps}
-use Rattle.world_laws.proofs.Texts.Drawn.{drawn_below}
 use Rattle.world_laws.proofs.Agreeing.Known.{Mine, counted, issued, mine, theirs}
-use Rattle.world_laws.proofs.Agreeing.KeyRecords.{brought as came, one, unmoved}
+use Rattle.world_laws.proofs.Agreeing.KeyRecords.{brought as came, one}
 use Rattle.world_laws.proofs.Agreeing.Facts.{KsmFact}
-use Rattle.world_laws.proofs.Agreeing.Exchanges.{put_same, ex_drop, ex_put, waiting_some, waits_from, waits_put, waits_both, news_put, news_both, sent_both, sent_other}
+use Rattle.world_laws.proofs.Agreeing.Exchanges.{put_same, ex_drop, ex_put, waiting_some, waits_both, news_both, sent_both}
 use Rattle.world_laws.proofs.Agreeing.Backs.{backed}
-use Rattle.world_laws.proofs.Agreeing.Steps.{other_of, pairs_or_same, some_is, fact_says, here, there, after_is, still_agreeing, refused_agreeing}
+use Rattle.world_laws.proofs.Agreeing.Steps.{other_of, pairs_or_same, some_is, fact_says, here, there, after_is, refused_agreeing}
 use Rattle.std.proofs.lemmas.List.Elements.{Contains-append_left}
 use Rattle.party_state.specs.Tables.{drop_row}
 use Rattle.party_state.specs.declared.exchange.Via.{Via}
@@ -71,11 +64,9 @@ use Rattle.csm_grammar.specs.declared.arrival.Arrival.{Arrival}
 use Rattle.x_seal.specs.Wrapped.{unseal_of}
 use Rattle.role_base.specs.Texts.{auth_text, lead_under}
 use Rattle.role_base.specs.Exchanges.{new_label}
-use Rattle.bank_orders.specs.Ask.{ask}
-use Rattle.x_base.specs.declared.verdict.Verdict.TheVariants.{UnknownKk}
-use Rattle.standard_rows.specs.Waiting.{Waiting, waiting_with, waiting_by, waiting_in}
-use Rattle.standard_rows.specs.Asking.{centre_front, centre_request, ask_centre, ask_of, translate_tests, translate_reply, translate_drawn, translate_under}
-use Rattle.standard_rows.specs.Answers.{centre_name, centre_ksm, passed_reply, passed_record, brought_front, brought_value, brought_tests, brought, brought_under, brought_lead, translated_front, translated_tests, translated, translated_under, translated_lead, rtr_with, rtr_lead_with}
+use Rattle.bank_keys.specs.declared.waits.Waiting.{Waiting}
+use Rattle.bank_keys.specs.Waiting.{waiting_with, waiting_by}
+use Rattle.bank_keys.specs.Rtr.{centre_name, centre_ksm, passed_reply, passed_record, brought_front, brought_value, brought_tests, brought, brought_under, brought_lead, translated_front, translated_tests, translated, translated_under, translated_lead, rtr_with, rtr_lead_with}
 use Rattle.world_laws.proofs.Sound.Answers.{brought_low}
 use Rattle.world_laws.proofs.Agreeing.Known.{IsUsed, Issued, Known}
 use Rattle.world_laws.proofs.Agreeing.Facts.{RtrFact, RtrForm, RtrApart, WaitsAt, kdu_value}
@@ -84,75 +75,12 @@ use Rattle.world_laws.proofs.Agreeing.Lists.{facts_after}
 abbrev passed_exchange : Party → Rtr → ℕ → Via → Exchange
 passed_exchange p m value way = record { peer = m.ultimate; kind = kind.KeySent (centre_name p m) way; text = text_of (passed_reply p m value) }
 
-abbrev translate_exchange : Party → List ℕ → List ℕ → LinkRec → ℕ → Exchange
-translate_exchange p centre u l key = record { peer = centre; kind = kind.Translating u key l.next; text = text_of (translate_reply p centre u l key) }
-
 abbrev pub HonestAs : List Fact → Arrival → Option Lead → Type 0
 HonestAs fs a o = (l : Lead) → o ≡ Some l → l.verified ≡ true → HasFact fs l.under (auth_text a)
 
 module _ (v : Lists) (p : List ℕ) (x : Member) (room : ℕ) (at : member_at p v.members ≡ Some x) (i : Agreed v) where
   sent : AllSent x.party
   sent = i.sent p x at
-
-  pub ask_agreeing : (text : List ℕ) (peer : List ℕ) (o : Option (List ℕ)) → Agreeing v x room text (ask_of x.party peer o)
-  ask_agreeing text peer None = still_agreeing v p x room at i text (ask x.party peer None) refl tt tt tt
-  ask_agreeing text peer (Some u) = record {
-    back = backed v.members x.party (ask_centre x.party peer u).edits (tt, tt);
-    news = news_put x.party (apply (ask_centre x.party peer u).edits x.party) (record { peer = peer; kind = kind.Asked u; text = text_of (Plain (centre_request x.party peer u)) }) refl refl;
-    keys = unmoved refl;
-    exchanges = sent_other x.party (apply (ask_centre x.party peer u).edits x.party) (record { peer = peer; kind = kind.Asked u; text = text_of (Plain (centre_request x.party peer u)) }) refl refl refl refl sent;
-    waits = waits_put x.party (apply (ask_centre x.party peer u).edits x.party) (record { peer = peer; kind = kind.Asked u; text = text_of (Plain (centre_request x.party peer u)) }) refl refl;
-    replies = tt;
-    new = tt;
-    accepts = tt;
-  }
-
-  pub translate_agreeing : (o : Option LinkKey) (text : List ℕ) (centre u : List ℕ) (l : LinkRec) (moment : ℕ) (drawn : Option (ℕ × Gen)) → good_draw x.party.generator moment ≡ drawn → link_with (sends centre centre_label) x.party ≡ Some l → IsSound o x.party text (translate_drawn x.party centre u l drawn) → Agreeing v x room text (translate_drawn x.party centre u l drawn)
-  translate_agreeing o text centre u l moment None drew e sound = refused_agreeing v p x room at i text (verdict_of (centre_front x.party centre u ++ translate_tests x.party l None))
-  translate_agreeing o text centre u l moment (Some d) drew e sound = record {
-    back = backed v.members x.party (translate_drawn x.party centre u l (Some d)).edits (tt, (inr (inr (l, at_key, refl, refl)), (tt, tt)));
-    news = news_put x.party (apply (translate_drawn x.party centre u l (Some d)).edits x.party) (translate_exchange x.party centre u l d.0) refl refl;
-    keys = unmoved refl;
-    exchanges = sent_other x.party (apply (translate_drawn x.party centre u l (Some d)).edits x.party) (translate_exchange x.party centre u l d.0) refl refl refl refl sent;
-    waits = waits_from x.party (apply (translate_drawn x.party centre u l (Some d)).edits x.party) (λ q g n j s. elim (ex_put x.party.exchanges (translate_exchange x.party centre u l d.0) q g j) [
-      | inl a ↦ inr (l, subst (λ (z : List ℕ). link_with (sends z centre_label) x.party ≡ Some l) (sym a.0) e, at_count n (ap (λ (z : Exchange). waiting_by z.kind) a.1 ∙ s))
-      | inr a ↦ inl a.0
-    ]);
-    replies = record {
-      value = d.0;
-      waits = record {
-        party = after x room (translate_drawn x.party centre u l (Some d));
-        at = after_is v p x room at i o (translate_drawn x.party centre u l (Some d)) grown;
-        link = record l { next = l.next + 1 };
-        found = put_at (sends centre centre_label) (record l { next = l.next + 1 }) x.party.links la.key;
-        ready = i.centres p x centre l at e;
-        below = omega arith;
-        value_is = λ t j k. with_value t (sym (ap waiting_in (find_put_same exchange_key bytes_eq test_idents (translate_exchange x.party centre u l d.0) x.party.exchanges)) ∙ j);
-      };
-      opened = unwraps l.pair l.next d.0 (drawn_below x.party.generator moment d drew);
-    };
-    new = tt;
-    accepts = tt;
-  }
-    where
-      la : LinkAt x.party (sends centre centre_label) l
-      la = link_at x.party (sends centre centre_label) l e
-
-      at_key : link_with (link_key l) x.party ≡ Some l
-      at_key = rw la.key e
-
-      grown : PartyGrows o x.party (apply (translate_drawn x.party centre u l (Some d)).edits x.party)
-      grown = change_grows o (translate_drawn x.party centre u l (Some d)).edits x.party sound.edits
-
-      at_count : (n : Waiting) → Some (record { ultimate = u; value = d.0; cta = l.next }) ≡ Some n → l.next ≤ n.cta
-      at_count n h = let k : l.next ≡ n.cta = ap (λ (z : Waiting). z.cta) (some_is (record { ultimate = u; value = d.0; cta = l.next }) n h) in omega (arith, k)
-
-      with_value : (n : Waiting) → Some (record { ultimate = u; value = d.0; cta = l.next }) ≡ Some n → n.value ≡ d.0
-      with_value n h = sym (ap (λ (z : Waiting). z.value) (some_is (record { ultimate = u; value = d.0; cta = l.next }) n h))
-
-  pub translate_row_agreeing : (o : Option LinkKey) (text : List ℕ) (centre u : List ℕ) (found : Option LinkRec) (moment : ℕ) → link_with (sends centre centre_label) x.party ≡ found → IsSound o x.party text (translate_under x.party centre u found moment) → Agreeing v x room text (translate_under x.party centre u found moment)
-  translate_row_agreeing o text centre u None moment e sound = refused_agreeing v p x room at i text (verdict_of (centre_front x.party centre u ++ (false, UnknownKk) ∷ []))
-  translate_row_agreeing o text centre u (Some l) moment e sound = translate_agreeing o text centre u l moment (good_draw x.party.generator moment) refl e sound
 
   -- the key goes on
   passed_agreeing : (o : Option LinkKey) (text : List ℕ) (r : Row) (m : Rtr) (value : ℕ) (way : Via) (u : FullName) → new_label way ≡ None → PartyGrows o x.party (apply r.edits x.party) → Backed v.members x.party (apply r.edits x.party) → (apply r.edits x.party).keys ≡ put_row record_key same_record (passed_record x.party m value) x.party.keys → (apply r.edits x.party).exchanges ≡ put_row exchange_key bytes_eq (passed_exchange x.party m value way) (drop_row exchange_key bytes_eq m.originator x.party.exchanges)
@@ -164,7 +92,7 @@ module _ (v : Lists) (p : List ℕ) (x : Member) (room : ℕ) (at : member_at p 
     exchanges = sent_both x.party (apply r.edits x.party) m.originator (passed_exchange x.party m value way) (passed_record x.party m value) own_on ex_is keys_is (inr refl) (λ name q. (let n : centre_name x.party m ≡ name = some_is (centre_name x.party m) name q in (sym n, ap (λ (z : KeyName). z.originator) (sym n), refl, refl))) sent;
     waits = waits_both x.party (apply r.edits x.party) m.originator (passed_exchange x.party m value way) ex_is refl;
     replies = subst (RepliesOk (lists_after v x room text r) x.party.own) (sym reply_is) the_fact;
-    new = subst (FreshReply x.party) (sym reply_is) tt;
+    new = subst (FreshReply v.facts x.party) (sym reply_is) (refl, inr (other, not_before));
     accepts = subst (AcceptsOk (lists_after v x room text r) x.party.own text) (sym accepts_is) tt;
   }
     where

@@ -51,8 +51,11 @@ use Rattle.x_base.specs.declared.verdict.Verdict.TheVariants.{WeakDraws}
 use Rattle.party_state.specs.declared.answer.Answer.{Answer}
 use Rattle.csm_grammar.specs.declared.message.Rsi.{Rsi}
 use Rattle.csm_grammar.specs.declared.message.Ers.{Ers}
-use Rattle.standard_rows.specs.Distribution.{request_front, rsi_front, rsi_tests, rsi_between, rsi_for, ers_front, ers_tests, ers_between, answering}
-use Rattle.standard_rows.specs.Translation.{rfs_value, rfs_under, rfs_answer, rfs_front, rfs_tests, rfs_between, rfs_lead_between}
+use Rattle.centre_base.specs.Requests.{request_front}
+use Rattle.distribution_role.specs.Requests.{rsi_front, rsi_tests, rsi_between, rsi_for}
+use Rattle.distribution_role.specs.Recovery.{ers_front, ers_tests, ers_between}
+use Rattle.distribution_role.specs.Answering.{answering}
+use Rattle.translation_role.specs.Service.{rfs_value, rfs_under, rfs_answer, rfs_front, rfs_tests, rfs_between, rfs_lead_between}
 use Rattle.world_laws.proofs.Links.Growth.{link_stays}
 use Rattle.x_seal.proofs.Undoing.{unwrapped_below}
 use Rattle.world_laws.proofs.Sound.Centres.{BothUp, both_up, rsi_apart, ers_apart, rfs_fine}
@@ -82,7 +85,7 @@ module _ (v : Lists) (p : List ℕ) (x : Member) (room : ℕ) (at : member_at p 
           found = both.second;
           ready = same ∙ i.centres p x u b0 at at_b;
           below = omega arith;
-          form = (record a { next = a.next + 1 }, both.first, i.centres p x requester a at at_a, unwraps a.pair a.next d.0 below ∙ sym (unseals b.pair requester u b.next d.0 below));
+          form = (record a { next = a.next + 1 }, both.first, i.centres p x requester a at at_a, unwraps a.pair a.next d.0 below ∙ sym (unseals b.pair requester u b.next d.0 below), omega arith);
         };
         new = (refl, (b0, at_b, low));
         accepts = tt;

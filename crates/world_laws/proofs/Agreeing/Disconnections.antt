@@ -53,7 +53,7 @@ use Rattle.party_state.specs.Keys.{same_name}
 use Rattle.party_state.proofs.Keys.{test_names}
 use Rattle.party_state.proofs.Tables.{put_stands}
 use Rattle.csm_grammar.specs.declared.message.Dsm.{Dsm}
-use Rattle.bank_arrivals.specs.declared.dsm.Named.{Named}
+use Rattle.bank_arrivals.specs.declared.disconnection.Named.{Named}
 use Rattle.role_base.specs.Exchanges.{record_of}
 use Rattle.bank_arrivals.specs.Dsm.{paired, code_name, named_by, dsm_front, left_by, left_in, disconnected, dsm_on}
 use Rattle.world_laws.proofs.Links.Waiting.{Waits}

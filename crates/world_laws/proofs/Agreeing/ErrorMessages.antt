@@ -40,10 +40,12 @@ use Rattle.role_base.specs.Texts.{auth_text}
 use Rattle.role_base.specs.Exchanges.{new_link, dropped}
 use Rattle.party_state.specs.Rows.{OfEsm}
 use Rattle.csm_grammar.specs.declared.message.Esm.{Esm}
-use Rattle.bank_arrivals.specs.declared.esm.Subject.{Subject}
-use Rattle.bank_arrivals.specs.declared.esm.Subject.TheVariants.{SentKey, Translated}
+use Rattle.bank_arrivals.specs.declared.error_message.Subject.{Subject}
+use Rattle.bank_arrivals.specs.declared.error_message.Subject.TheVariants.{SentKey, Translated}
 use Rattle.bank_arrivals.specs.Esm.{subject_with, subject_link, raised, esm_front, plain_esm}
-use Rattle.standard_rows.specs.Errors.{Retry, ers_reply, asked_again, again_reply, error_row, error_of, error_with, retry_in}
+use Rattle.bank_arrivals.specs.declared.asking_again.Retry.{Retry}
+use Rattle.bank_arrivals.specs.AskingAgain.{ers_reply, asked_again, again_reply, retry_in}
+use Rattle.bank_arrivals.specs.Esm.{error_row, error_of, error_with}
 use Rattle.world_laws.proofs.Links.Waiting.{Waits}
 use Rattle.world_laws.proofs.Sound.Arrivals.{error_passes}
 use Rattle.world_laws.proofs.Sound.Exchanges.{subject_sent}
@@ -98,7 +100,7 @@ module _ (v : Lists) (p : List ℕ) (x : Member) (room : ℕ) (at : member_at p 
   again_ok a m value w None = tt
   again_ok a m value w (Some r) = tt
 
-  again_new : (m : Esm) (value : ℕ) (r : Option Retry) → FreshReply x.party (again_reply x.party m value r)
+  again_new : (m : Esm) (value : ℕ) (r : Option Retry) → FreshReply v.facts x.party (again_reply x.party m value r)
   again_new m value None = tt
   again_new m value (Some r) = tt
 

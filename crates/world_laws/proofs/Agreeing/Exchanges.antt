@@ -13,7 +13,7 @@ use Rattle.party_state.specs.Keys.{same_record, record_key, exchange_key, sends}
 use Rattle.party_state.specs.State.{Party, centre_label, link_with, record_with, exchange_with}
 use Rattle.party_state.proofs.Keys.{test_idents, test_records}
 use Rattle.party_state.proofs.Tables.{one_found, find_put}
-use Rattle.standard_rows.specs.Waiting.{Waiting}
+use Rattle.bank_keys.specs.declared.waits.Waiting.{Waiting}
 use Rattle.world_laws.proofs.Links.Waiting.{new_of}
 use Rattle.std.specs.Prelude.{option_map}
 use Rattle.party_state.specs.Tables.{drop_row}
@@ -21,7 +21,7 @@ use Rattle.party_state.proofs.Tables.{find_key, find_put_same, find_drop}
 use Rattle.party_state.specs.declared.exchange.Via.{Via}
 use Rattle.role_base.specs.declared.exchanges.Sent.{Sent}
 use Rattle.role_base.specs.Exchanges.{record_of, sent_by, sent_in, sent_to, ending_by, ending_in, ending_with}
-use Rattle.standard_rows.specs.Waiting.{waiting_by, waiting_in}
+use Rattle.bank_keys.specs.Waiting.{waiting_by, waiting_in}
 use Rattle.world_laws.proofs.Agreeing.Lists.{WaitsMove}
 use Rattle.world_laws.proofs.Agreeing.Waiting.{NewsMove, sent_name_by, SentOk, AllSent}
 

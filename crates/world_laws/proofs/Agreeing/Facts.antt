@@ -20,8 +20,10 @@ use Rattle.party_state.specs.declared.exchange.Exchange.{Exchange}
 use Rattle.party_state.specs.Keys.{sends, takes}
 use Rattle.party_state.specs.State.{Party, centre_label, link_with, record_with, exchange_with}
 use Rattle.party_state.specs.Rows.{OfKsm, OfDsm, OfAnswer}
-use Rattle.standard_rows.specs.Keys.{body_issuer, body_count, body_value, body_new, opened_kk}
-use Rattle.standard_rows.specs.Waiting.{Waiting, waiting_with}
+use Rattle.role_base.specs.Conditions.{body_issuer}
+use Rattle.bank_keys.specs.Ksm.{body_count, body_value, body_new, opened_kk}
+use Rattle.bank_keys.specs.declared.waits.Waiting.{Waiting}
+use Rattle.bank_keys.specs.Waiting.{waiting_with}
 use Rattle.world_laws.specs.World.{Member, Fact, Acceptance, member_at}
 use Rattle.world_laws.specs.Honest.{HasFact}
 use Rattle.world_laws.specs.Laws.{IsHeld, HasAccepted, partner_of, IsEndedAt}
@@ -72,7 +74,7 @@ abbrev pub kdu_value : LinkRec → Rtr → ℕ
 kdu_value l m = unseal_of l.pair m.receiver m.ultimate m.ctb m.kdu
 
 abbrev pub RtrForm : List Member → Party → FullName → Rtr → ℕ → Option (ℕ × ℕ) → Type 0
-RtrForm ps s u m value (Some k) = (a : LinkRec) × (link_with (sends m.receiver centre_label) s ≡ Some a) × (a.ready ≡ true) × (unwrap_of a.pair k.1 k.0 ≡ value)
+RtrForm ps s u m value (Some k) = (a : LinkRec) × (link_with (sends m.receiver centre_label) s ≡ Some a) × (a.ready ≡ true) × (unwrap_of a.pair k.1 k.0 ≡ value) × (k.1 < a.next)
 RtrForm ps s u m value None = WaitsAt ps m.receiver m.originator u.name.count value
 
 -- an RTR's fact ties what it carries for both to one value

@@ -23,10 +23,13 @@ use Rattle.party_state.specs.State.{Party, centre_label, link_with, record_with,
 use Rattle.party_state.specs.Rows.{Row, Reply, Coded, Plain, Again, OfKsm, OfDsm}
 use Rattle.party_state.proofs.Keys.{test_idents}
 use Rattle.party_state.proofs.Tables.{one_found}
-use Rattle.standard_rows.specs.Keys.{body_issuer, body_value}
-use Rattle.standard_rows.specs.Waiting.{Waiting, waiting_with}
+use Rattle.role_base.specs.Conditions.{body_issuer}
+use Rattle.bank_keys.specs.Ksm.{body_value}
+use Rattle.bank_keys.specs.declared.waits.Waiting.{Waiting}
+use Rattle.bank_keys.specs.Waiting.{waiting_with}
 use Rattle.world_laws.specs.World.{Member, Fact, own_of, member_at}
 use Rattle.world_laws.specs.Steps.{facts_of}
+use Rattle.world_laws.specs.Facts.{IsMadeBySender, KsmApart, sender_of}
 use Rattle.world_laws.proofs.Links.Growth.{LinkGrows}
 use Rattle.world_laws.proofs.Links.Waiting.{new_of}
 use Rattle.world_laws.proofs.Texts.Own.{IsOwn}
@@ -36,16 +39,16 @@ use Rattle.party_state.proofs.Tables.{find_key}
 use Rattle.world_laws.proofs.Links.Putting.{some_none}
 use Rattle.world_laws.proofs.Counting.Sound.{IsSound}
 use Rattle.world_laws.proofs.Texts.Own.{own_means}
-use Rattle.world_laws.proofs.Agreeing.Lists.{Lists, members_after, facts_after, acceptances_after, lists_after, Goes, WaitsMove}
+use Rattle.world_laws.proofs.Agreeing.Lists.{Lists, to_peer, members_after, facts_after, acceptances_after, lists_after, Goes, WaitsMove}
 use Rattle.world_laws.proofs.Agreeing.Waiting.{sent_name_by, mine_not_new, NewFits}
-use Rattle.world_laws.proofs.Agreeing.Known.{Mine, mine_on}
+use Rattle.world_laws.proofs.Agreeing.Known.{Mine, counted, issued, mine_on}
 use Rattle.world_laws.proofs.Agreeing.KeyRecords.{StandsBefore, before, mine_stands, IsPut}
 use Rattle.world_laws.proofs.Agreeing.Facts.{ksm_key, KsmFact, WaitsAt, RfsFact, kdu_value, RtrForm, RtrFact, RsmOk, MessageOk, FactOk, RtrApart}
-use Rattle.world_laws.proofs.Agreeing.Moves.{RepliesOk, FreshMessage, FreshReply, OwnReply, Agreeing}
+use Rattle.world_laws.proofs.Agreeing.Moves.{RepliesOk, NewName, FreshMessage, FreshReply, OwnText, Agreeing}
 use Rattle.world_laws.proofs.Agreeing.Agreed.{Forward, Agreed}
 use Rattle.world_laws.proofs.Agreeing.Members.{carried_on, forward, at_own, more}
 
-module _ (o : Option LinkKey) (v : Lists) (p : List ℕ) (x : Member) (room : ℕ) (text : List ℕ) (r : Row) (found : member_at p v.members ≡ Some x) (sound : IsSound o x.party text r) (own_reply : OwnReply r.reply) (row : Agreeing v x room text r) (i : Agreed v) where
+module _ (o : Option LinkKey) (v : Lists) (p : List ℕ) (x : Member) (room : ℕ) (text : List ℕ) (r : Row) (found : member_at p v.members ≡ Some x) (sound : IsSound o x.party text r) (own_reply : OwnText x.party.own r.reply) (row : Agreeing v x room text r) (i : Agreed v) where
   pub ksm_on : (f : Fact) (k : Ksm) → KsmFact v f k → KsmFact (lists_after v x room text r) f k
   ksm_on f k b =
       let g = forward o v p x room text r found sound own_reply row i (body_issuer k.originator k.body) b.issuer b.at_issuer in
@@ -113,7 +116,7 @@ module _ (o : Option LinkKey) (v : Lists) (p : List ℕ) (x : Member) (room : �
   rfs_on f m b = let d = waits_on m.originator m.receiver m.cta b.value b.waits in record { value = b.value; waits = d.0; opened = ap (λ (q : Pair). unwrap_of q m.cta m.kd) d.1 ∙ b.opened }
 
   pub form_on : (s t : Party) (u : FullName) (m : Rtr) (value : ℕ) (kd : Option (ℕ × ℕ)) → Goes s t → RtrForm v.members s u m value kd → RtrForm (members_after v.members x room r) t u m value kd
-  form_on s t u m value (Some k) g b = let l = g.ready (sends m.receiver centre_label) b.0 b.1 b.2 in (l.0, l.1, l.2.ready b.2, ap (λ (q : Pair). unwrap_of q k.1 k.0) l.2.pair ∙ b.3)
+  form_on s t u m value (Some k) g b = let l = g.ready (sends m.receiver centre_label) b.0 b.1 b.2 in (l.0, l.1, l.2.ready b.2, ap (λ (q : Pair). unwrap_of q k.1 k.0) l.2.pair ∙ b.3, omega (arith, b.4, l.2.next))
   form_on s t u m value None g b = (waits_on m.receiver m.originator u.name.count value b).0
 
   pub rtr_on : (f : Fact) (m : Rtr) → RtrFact v.members f m → RtrFact (members_after v.members x room r) f m
@@ -146,28 +149,61 @@ module _ (o : Option LinkKey) (v : Lists) (p : List ℕ) (x : Member) (room : �
       old : All (FactOk (lists_after v x room text r)) v.facts
       old = All-weaker (FactOk v) (FactOk (lists_after v x room text r)) fact_on v.facts i.facts
 
-      go : (o : Option Reply) → OwnReply o → RepliesOk (lists_after v x room text r) x.party.own o → All (FactOk (lists_after v x room text r)) (v.facts ++ facts_of x.party.own o)
+      go : (o : Option Reply) → OwnText x.party.own o → RepliesOk (lists_after v x room text r) x.party.own o → All (FactOk (lists_after v x room text r)) (v.facts ++ facts_of x.party.own o)
       go None w new = rw append-nil old
       go (Some (Plain m)) w new = rw append-nil old
       go (Some (Again text)) w new = rw append-nil old
-      go (Some (Coded y under value)) w new = All-push (FactOk (lists_after v x room text r)) v.facts (record { under = under; text = auth_of y; maker = x.party.own }) old (λ m said. subst (MessageOk (lists_after v x room text r) (record { under = under; text = auth_of y; maker = x.party.own })) (own_means y m w said) new)
+      go (Some (Coded y under value)) w new = All-push (FactOk (lists_after v x room text r)) v.facts (record { under = under; text = auth_of y; maker = x.party.own }) old (λ m said. subst (MessageOk (lists_after v x room text r) (record { under = under; text = auth_of y; maker = x.party.own })) (own_means y m w.0 said) new)
 
   pub apart_on : AllPairs RtrApart (facts_after v.facts x r.reply)
   apart_on = go r.reply own_reply row.new
     where
-      cross : (y : Message) (f g : Fact) → IsOwn y → g.text ≡ auth_of y → FactOk v f → FreshMessage x.party y → RtrApart f g
-      cross y f g w e ok new m n said_f said_g org ultimate count =
+      cross : (y : Message) (under : FullName) (f g : Fact) → IsOwn y → g.text ≡ auth_of y → FactOk v f → FreshMessage v.facts x.party under y → RtrApart f g
+      cross y under f g w e ok new m n said_f said_g org ultimate count =
           let y_is : y ≡ message.Rtr n = own_means y (message.Rtr n) w (subst (λ (z : List ℕ). Says z (message.Rtr n)) e said_g) in
-          let fresh : FreshMessage x.party (message.Rtr n) = subst (FreshMessage x.party) y_is new in
+          let fresh : FreshMessage v.facts x.party under (message.Rtr n) = subst (FreshMessage v.facts x.party under) y_is new in
           let b : RtrFact v.members f m = ok (message.Rtr m) said_f in
           let party : b.party ≡ x = one_found b.party x b.at (at_own o v p x room text r found sound own_reply row i m.originator (org ∙ fresh.0)) in
           let at : link_with (sends n.ultimate centre_label) x.party ≡ Some b.link = subst (λ (q : List ℕ). link_with (sends q centre_label) x.party ≡ Some b.link) ultimate (subst (λ (z : Member). link_with (sends m.ultimate centre_label) z.party ≡ Some b.link) party b.found) in
           let next : b.link.next ≡ fresh.1.0.next = ap (λ (l : LinkRec). l.next) (one_found b.link fresh.1.0 at fresh.1.1) in
           omega (arith, b.below, fresh.1.2, next, count)
 
-      go : (o : Option Reply) → OwnReply o → FreshReply x.party o → AllPairs RtrApart (v.facts ++ facts_of x.party.own o)
+      go : (o : Option Reply) → OwnText x.party.own o → FreshReply v.facts x.party o → AllPairs RtrApart (v.facts ++ facts_of x.party.own o)
       go None w new = rw append-nil i.apart
       go (Some (Plain m)) w new = rw append-nil i.apart
       go (Some (Again text)) w new = rw append-nil i.apart
-      go (Some (Coded y under value)) w new = all_pairs_push RtrApart v.facts (record { under = under; text = auth_of y; maker = x.party.own }) i.apart (λ k d l. cross y (get_or v.facts k d) (record { under = under; text = auth_of y; maker = x.party.own }) w refl (i.facts k d l) new)
-      -- Acceptances
+      go (Some (Coded y under value)) w new = all_pairs_push RtrApart v.facts (record { under = under; text = auth_of y; maker = x.party.own }) i.apart (λ k d l. cross y under (get_or v.facts k d) (record { under = under; text = auth_of y; maker = x.party.own }) w.0 refl (i.facts k d l) new)
+
+  -- a name that is past isn't a new one
+  not_new : (u : FullName) → NewName v.facts x.party u → Mine v.facts x.party (record { peer = u.recipient; name = u.name }) → ⊥
+  not_new u (inl sent) m = mine_not_new v.facts x.party (record { peer = u.recipient; name = u.name }) m sent
+  not_new u (inr far) (counted own l h ready below) = far.0 own
+  not_new u (inr far) (issued other j) = far.1 j
+
+  pub names_on : AllPairs KsmApart (facts_after v.facts x r.reply)
+  names_on = go r.reply own_reply row.new
+    where
+      cross : (y : Message) (under : FullName) (f g : Fact) → IsOwn y → g.text ≡ auth_of y → g.under ≡ under → FactOk v f → FreshMessage v.facts x.party under y → KsmApart f g
+      cross y under f g w e u ok new m n said_f said_g same =
+          let y_is : y ≡ message.Ksm n = own_means y (message.Ksm n) w (subst (λ (z : List ℕ). Says z (message.Ksm n)) e said_g) in
+          let fresh : FreshMessage v.facts x.party under (message.Ksm n) = subst (FreshMessage v.facts x.party under) y_is new in
+          let b : KsmFact v f m = ok (message.Ksm m) said_f in
+          let key_is : to_peer (ksm_key m b.label) ≡ under = sym b.under ∙ (same ∙ u) in
+          let party : b.party ≡ x = one_found b.party x b.at (at_own o v p x room text r found sound own_reply row i m.originator (ap (λ (z : FullName). z.name.originator) key_is ∙ fresh.0)) in
+          let past : Mine v.facts x.party (ksm_key m b.label) = subst (λ (z : Member). Mine v.facts z.party (ksm_key m b.label)) party b.past in
+          not_new under fresh.1 (subst (λ (z : FullName). Mine v.facts x.party (record { peer = z.recipient; name = z.name })) key_is past)
+
+      go : (o : Option Reply) → OwnText x.party.own o → FreshReply v.facts x.party o → AllPairs KsmApart (v.facts ++ facts_of x.party.own o)
+      go None w new = rw append-nil i.names
+      go (Some (Plain m)) w new = rw append-nil i.names
+      go (Some (Again text)) w new = rw append-nil i.names
+      go (Some (Coded y under value)) w new = all_pairs_push KsmApart v.facts (record { under = under; text = auth_of y; maker = x.party.own }) i.names (λ k d l. cross y under (get_or v.facts k d) (record { under = under; text = auth_of y; maker = x.party.own }) w.0 refl refl (i.facts k d l) new)
+
+  pub made_on : All IsMadeBySender (facts_after v.facts x r.reply)
+  made_on = go r.reply own_reply
+    where
+      go : (o : Option Reply) → OwnText x.party.own o → All IsMadeBySender (v.facts ++ facts_of x.party.own o)
+      go None w = rw append-nil i.made
+      go (Some (Plain m)) w = rw append-nil i.made
+      go (Some (Again text)) w = rw append-nil i.made
+      go (Some (Coded y under value)) w = All-push IsMadeBySender v.facts (record { under = under; text = auth_of y; maker = x.party.own }) i.made (λ m said. sym (ap sender_of (sym (own_means y m w.0 said)) ∙ w.1))

@@ -4,11 +4,11 @@ use Rattle.std.proofs.lemmas.List.Elements.{All-nil}
 use Rattle.std.proofs.lemmas.List.Elements.{All-same}
 use Rattle.std.proofs.Common.{append-nil}
 use Rattle.x_base.specs.declared.verdict.Verdict.TheVariants as verdict
-use Rattle.standard_rows.specs.Keys.{body_value}
+use Rattle.bank_keys.specs.Ksm.{body_value}
 use Rattle.csm_write.specs.Canon.{auth_of}
 use Rattle.party_state.proofs.Keys.{test_idents, test_records}
 use Rattle.party_state.proofs.Tables.{find_key, put_stands}
-use Rattle.party_state.specs.Keys.{same_record, record_key, exchange_key, sends}
+use Rattle.party_state.specs.Keys.{same_record, record_key, exchange_key, sends, takes}
 use Rattle.party_state.specs.Names.{full_name}
 use Rattle.party_state.specs.Rows.{Row, Reply, Coded, Plain, Again, OfKsm, OfDsm, refused}
 use Rattle.party_state.specs.State.{Party, centre_label, record_with, apply}
@@ -34,7 +34,13 @@ use Rattle.x_mac.specs.declared.pair.Pair.{Pair}
 use Rattle.party_state.specs.declared.command.Input.{Input}
 use Rattle.party_state.specs.declared.command.Input.TheVariants as input
 use Rattle.world_laws.proofs.Texts.Names.{IsNamed}
-use Rattle.world_laws.proofs.Agreeing.Moves.{OwnReply}
+use Rattle.world_laws.proofs.Agreeing.Moves.{OwnReply, OwnText}
+use Rattle.world_laws.proofs.Speaking.Makers.{SentBy, row_self}
+use Rattle.world_laws.proofs.Agreeing.Standing.{AllNewStand, row_stand}
+use Rattle.world_laws.proofs.Agreeing.StandingRows.{row_news}
+use Rattle.world_laws.proofs.Agreeing.MeetingCounts.{AllMet, AllBegun, CountsMove, sending_counts, met_on, begun_on}
+use Rattle.world_laws.proofs.Agreeing.CountRows.{row_counts}
+use Rattle.world_laws.specs.Facts.{IsMadeBySender}
 use Rattle.std.proofs.Common.{suc}
 use Rattle.world_laws.specs.World.{World}
 use Rattle.world_laws.specs.Rooms.{fits, is_change, can_compact, room_after_compaction}
@@ -67,6 +73,9 @@ use Rattle.world_laws.proofs.Agreeing.Roles.{row_agrees, row_speaks, row_tells}
 pub record AgreedAt (w : World) : Type 0 where
   pub agreed : Agreed (lists_of w)
   pub named : Each (λ x. IsNamed x.party) w.members
+  pub stand : Each (λ x. AllNewStand x.party) w.members
+  pub met : AllMet w.members
+  pub begun : AllBegun w.members
 
 -- a row that changes nothing, with this reply
 abbrev answer_row : Row → Row
@@ -81,31 +90,37 @@ answer_replies v own (Some (Coded m under value)) e = subst (MessageOk v (record
 answer_replies v own (Some (Plain m)) e = absurd e
 answer_replies v own (Some (Again text)) e = absurd e
 
-answer_new : (s : Party) (o : Option Reply) → TellsEsm o → FreshReply s o
-answer_new s None e = tt
-answer_new s (Some (Coded m under value)) e = subst (FreshMessage s) (sym e.1) tt
-answer_new s (Some (Plain m)) e = tt
-answer_new s (Some (Again text)) e = tt
+answer_new : (fs : List Fact) (s : Party) (o : Option Reply) → TellsEsm o → FreshReply fs s o
+answer_new fs s None e = tt
+answer_new fs s (Some (Coded m under value)) e = subst (FreshMessage fs s under) (sym e.1) tt
+answer_new fs s (Some (Plain m)) e = tt
+answer_new fs s (Some (Again text)) e = tt
 
-answer_own : (o : Option Reply) → TellsEsm o → OwnReply o
-answer_own None e = tt
-answer_own (Some (Coded m under value)) e = e.2
-answer_own (Some (Plain m)) e = tt
-answer_own (Some (Again text)) e = tt
+answer_own : (own : List ℕ) (o : Option Reply) → TellsEsm o → SentBy own o → OwnText own o
+answer_own own None e by = tt
+answer_own own (Some (Coded m under value)) e by = (e.2, by)
+answer_own own (Some (Plain m)) e by = tt
+answer_own own (Some (Again text)) e by = tt
+
+own_text : (own : List ℕ) (o : Option Reply) → OwnReply o → SentBy own o → OwnText own o
+own_text own None e by = tt
+own_text own (Some (Coded m under value)) e by = (e, by)
+own_text own (Some (Plain m)) e by = tt
+own_text own (Some (Again text)) e by = tt
 
 -- with another room and the answer to a refused text, all goes on
-room_agreed : (w : World) (p : List ℕ) (x : Member) (room : ℕ) (r : Row) → member_at p w.members ≡ Some x → TellsEsm r.answer → Agreed (lists_of w) → Agreed (record { members = put_row own_of bytes_eq (record { party = x.party; room = room }) w.members; facts = facts_after w.facts x r.answer; acceptances = w.acceptances })
-room_agreed w p x room r found tells i =
+room_agreed : (w : World) (p : List ℕ) (x : Member) (room : ℕ) (r : Row) → member_at p w.members ≡ Some x → TellsEsm r.answer → SentBy x.party.own r.answer → Agreed (lists_of w) → Agreed (record { members = put_row own_of bytes_eq (record { party = x.party; room = room }) w.members; facts = facts_after w.facts x r.answer; acceptances = w.acceptances })
+room_agreed w p x room r found tells by i =
     let v : Lists = lists_of w in
-    let row : Agreeing (lists_of w) x room [] (answer_row r) = still_agreeing (lists_of w) p x room found i [] (answer_row r) refl (answer_replies (lists_after (lists_of w) x room [] (answer_row r)) x.party.own r.answer tells) (answer_new x.party r.answer tells) tt in
-    let k : Agreed (lists_after (lists_of w) x room [] (answer_row r)) = kept_agreed None (lists_of w) p x room [] (answer_row r) found (quiet_row x.party [] r) (answer_own r.answer tells) row i in
+    let row : Agreeing (lists_of w) x room [] (answer_row r) = still_agreeing (lists_of w) p x room found i [] (answer_row r) refl (answer_replies (lists_after (lists_of w) x room [] (answer_row r)) x.party.own r.answer tells) (answer_new w.facts x.party r.answer tells) tt in
+    let k : Agreed (lists_after (lists_of w) x room [] (answer_row r)) = kept_agreed None (lists_of w) p x room [] (answer_row r) found (quiet_row x.party [] r) (answer_own x.party.own r.answer tells by) row i in
     subst (λ (accs : List Acceptance). Agreed (record { members = put_row own_of bytes_eq (record { party = x.party; room = room }) w.members; facts = facts_after w.facts x r.answer; acceptances = accs })) (append-nil w.acceptances) k
 
-answer_agreed : (w : World) (p : List ℕ) (x : Member) (r : Row) → member_at p w.members ≡ Some x → TellsEsm r.answer → Agreed (lists_of w) → Agreed (record { members = w.members; facts = facts_after w.facts x r.answer; acceptances = w.acceptances })
-answer_agreed w p x r found tells i =
+answer_agreed : (w : World) (p : List ℕ) (x : Member) (r : Row) → member_at p w.members ≡ Some x → TellsEsm r.answer → SentBy x.party.own r.answer → Agreed (lists_of w) → Agreed (record { members = w.members; facts = facts_after w.facts x r.answer; acceptances = w.acceptances })
+answer_agreed w p x r found tells by i =
     let own : p ≡ x.party.own = find_key own_of bytes_eq test_idents p x w.members found in
     let stands : put_row own_of bytes_eq x w.members ≡ w.members = put_stands own_of bytes_eq x w.members (subst (λ (q : List ℕ). member_at q w.members ≡ Some x) own found) in
-    subst (λ (ms : List Member). Agreed (record { members = ms; facts = facts_after w.facts x r.answer; acceptances = w.acceptances })) stands (room_agreed w p x x.room r found tells i)
+    subst (λ (ms : List Member). Agreed (record { members = ms; facts = facts_after w.facts x r.answer; acceptances = w.acceptances })) stands (room_agreed w p x x.room r found tells by i)
 
 -- the member after a row is the one that its edits that differ make
 moved_is : (x : Member) (r : Row) → apply (differing x.party r.edits) x.party ≡ apply r.edits x.party → after x (member_after x r).room r ≡ member_after x r
@@ -121,26 +136,33 @@ module _ (n : ℕ) (w : World) (p : List ℕ) (x : Member) (moment : ℕ) (j : I
   tells : TellsEsm (row_at x.party j moment).answer
   tells = row_tells x.party named j moment e (c.links p x found)
 
+  counts : is_accept (row_at x.party j moment).verdict ≡ true → CountsMove w.members x.party (row_at x.party j moment)
+  counts h = row_counts (lists_of w) p x x.room found i.agreed (c.links p x found) j moment e honest h
+
   kept_at : is_accept (row_at x.party j moment).verdict ≡ true → AgreedAt (world_after_row n w x.party.own (received_text j) (row_at x.party j moment) (member_after x (row_at x.party j moment)))
   kept_at h =
       let g : SoundRow x.party (received_text j) (row_at x.party j moment) = row_is_sound x.party j moment e (c.links p x found) (c.waits p x found) h in
       let s : Speaks (row_at x.party j moment) = row_speaks x.party named j moment e (c.links p x found) h in
-      let left : apply (differing x.party (row_at x.party j moment).edits) x.party ≡ apply (row_at x.party j moment).edits x.party = row_left_out x.party j moment e (c.links p x found) h in
+      let left : apply (differing x.party (row_at x.party j moment).edits) x.party ≡ apply (row_at x.party j moment).edits x.party = row_left_out x.party j moment (c.links p x found) h in
       let y : after x (member_after x (row_at x.party j moment)).room (row_at x.party j moment) ≡ member_after x (row_at x.party j moment) = moved_is x (row_at x.party j moment) left in
       let a : Agreeing (lists_of w) x (member_after x (row_at x.party j moment)).room (received_text j) (row_at x.party j moment) = row_agrees n w p x (member_after x (row_at x.party j moment)).room found c i.agreed g.new j moment e honest h g.sound in
-      let k : Agreed (lists_after (lists_of w) x (member_after x (row_at x.party j moment)).room (received_text j) (row_at x.party j moment)) = kept_agreed g.new (lists_of w) p x (member_after x (row_at x.party j moment)).room (received_text j) (row_at x.party j moment) found g.sound s.reply a i.agreed in
+      let k : Agreed (lists_after (lists_of w) x (member_after x (row_at x.party j moment)).room (received_text j) (row_at x.party j moment)) = kept_agreed g.new (lists_of w) p x (member_after x (row_at x.party j moment)).room (received_text j) (row_at x.party j moment) found g.sound (own_text x.party.own (row_at x.party j moment).reply s.reply (row_self x.party j moment).reply) a i.agreed in
       let grown : PartyGrows g.new x.party (apply (row_at x.party j moment).edits x.party) = change_grows g.new (row_at x.party j moment).edits x.party g.sound.edits in
       let own : (member_after x (row_at x.party j moment)).party.own ≡ x.party.own = ap (λ (q : Party). q.own) left ∙ grown.own in
       record {
         agreed = subst (λ (m : Member). Agreed (record { members = put_row own_of bytes_eq m w.members; facts = facts_after w.facts x (row_at x.party j moment).reply; acceptances = acceptances_after w.acceptances x (received_text j) (row_at x.party j moment) })) y k;
         named = each_on w.members p x (member_after x (row_at x.party j moment)) found own (λ m. IsNamed m.party) i.named (λ q. subst IsNamed (sym left) (change_named (row_at x.party j moment).edits x.party s.names q));
+        stand = each_on w.members p x (member_after x (row_at x.party j moment)) found own (λ m. AllNewStand m.party) i.stand
+            (λ q. subst AllNewStand (sym left) (row_stand (lists_of w) (lists_after (lists_of w) x (member_after x (row_at x.party j moment)).room (received_text j) (row_at x.party j moment)) x.party (row_at x.party j moment).edits (row_news x.party j moment) a.keys (i.agreed.sent p x found) q));
+        met = subst (λ (m : Member). AllMet (put_row own_of bytes_eq m w.members)) y (met_on g.new (lists_of w) p x (member_after x (row_at x.party j moment)).room (received_text j) (row_at x.party j moment) found g.sound (own_text x.party.own (row_at x.party j moment).reply s.reply (row_self x.party j moment).reply) a i.agreed (counts h) i.met i.begun);
+        begun = subst (λ (m : Member). AllBegun (put_row own_of bytes_eq m w.members)) y (begun_on g.new (lists_of w) p x (member_after x (row_at x.party j moment)).room (received_text j) (row_at x.party j moment) found g.sound (own_text x.party.own (row_at x.party j moment).reply s.reply (row_self x.party j moment).reply) a i.agreed (counts h) i.met i.begun);
       }
 
   answered_at : AgreedAt (world_with_text (world_with_answer w x.party.own (row_at x.party j moment)) (row_at x.party j moment).answer)
-  answered_at = record { agreed = answer_agreed w p x (row_at x.party j moment) found tells i.agreed; named = i.named }
+  answered_at = record { agreed = answer_agreed w p x (row_at x.party j moment) found tells (row_self x.party j moment).answer i.agreed; named = i.named; stand = i.stand; met = i.met; begun = i.begun }
 
   told_at : (v : World) → AgreedAt v → (o : Option Reply) → AgreedAt (world_with_text v o)
-  told_at v a o = record { agreed = a.agreed; named = a.named }
+  told_at v a o = record { agreed = a.agreed; named = a.named; stand = a.stand; met = a.met; begun = a.begun }
 
   pub turned_agreed : (how : Completion) → AgreedAt (world_by_row n w x (received_text j) (row_at x.party j moment) how)
   turned_agreed Whole = go (is_accept (row_at x.party j moment).verdict) refl (fits x.room (differing x.party (row_at x.party j moment).edits))
@@ -160,9 +182,18 @@ module _ (n : ℕ) (w : World) (p : List ℕ) (x : Member) (moment : ℕ) (j : I
 -- a compaction
 room_at : (w : World) (p : List ℕ) (x : Member) (room : ℕ) → member_at p w.members ≡ Some x → AgreedAt w → AgreedAt (world_with_room w x room)
 room_at w p x room found i = record {
-  agreed = subst (λ (fs : List Fact). Agreed (record { members = put_row own_of bytes_eq (record { party = x.party; room = room }) w.members; facts = fs; acceptances = w.acceptances })) (append-nil w.facts) (room_agreed w p x room (refused verdict.WrongClass) found tt i.agreed);
+  agreed = subst (λ (fs : List Fact). Agreed (record { members = put_row own_of bytes_eq (record { party = x.party; room = room }) w.members; facts = fs; acceptances = w.acceptances })) (append-nil w.facts) (room_agreed w p x room (refused verdict.WrongClass) found tt tt i.agreed);
   named = each_on w.members p x (record { party = x.party; room = room }) found refl (λ m. IsNamed m.party) i.named (λ q. q);
+  stand = each_on w.members p x (record { party = x.party; room = room }) found refl (λ m. AllNewStand m.party) i.stand (λ q. q);
+  met = met_on None (lists_of w) p x room [] (answer_row (refused verdict.WrongClass)) found (quiet_row x.party [] (refused verdict.WrongClass)) tt row i.agreed counts i.met i.begun;
+  begun = begun_on None (lists_of w) p x room [] (answer_row (refused verdict.WrongClass)) found (quiet_row x.party [] (refused verdict.WrongClass)) tt row i.agreed counts i.met i.begun;
 }
+  where
+    row : Agreeing (lists_of w) x room [] (answer_row (refused verdict.WrongClass))
+    row = still_agreeing (lists_of w) p x room found i.agreed [] (answer_row (refused verdict.WrongClass)) refl tt tt tt
+
+    counts : CountsMove w.members x.party (answer_row (refused verdict.WrongClass))
+    counts = sending_counts w.members x.party (answer_row (refused verdict.WrongClass)) tt refl
 
 compacted_agreed : (w : World) (p : List ℕ) (x : Member) (how : Completion) → member_at p w.members ≡ Some x → AgreedAt w → AgreedAt (world_after_compaction w x how)
 compacted_agreed w p x how found i = by how
@@ -205,13 +236,22 @@ start_agreed w s = record {
     sent = λ p x h peer e name f k. (let none = subst (λ (es : List Exchange). find_row exchange_key bytes_eq peer es ≡ Some e) (s.only_links p x h).exchanges f in absurd (cc));
     facts = All-same (FactOk (lists_of w)) w.facts [] s.no_history.facts (All-nil (FactOk (lists_of w)));
     apart = rw s.no_history.facts (λ i j d l m. absurd (omega arith));
+    names = rw s.no_history.facts (λ i j d l m. absurd (omega arith));
+    made = All-same IsMadeBySender w.facts [] s.no_history.facts (All-nil IsMadeBySender);
     accepted = All-same (AcceptedOk (lists_of w)) w.acceptances [] s.no_history.acceptances (All-nil (AcceptedOk (lists_of w)));
     live = λ p x k r h f own is. (let none = subst (λ (ks : List KeyRec). find_row record_key same_record k ks ≡ Some r) (s.only_links p x h).keys f in absurd (cc));
   };
   named = λ p x h. party_named x.party (s.parties p x h) (s.only_links p x h).keys (s.only_links p x h).exchanges;
+  stand = λ p x h peer e name new f k l. (let none = subst (λ (es : List Exchange). find_row exchange_key bytes_eq peer es ≡ Some e) (s.only_links p x h).exchanges f in absurd (cc));
+  met = λ q y peer label m h f. (let e = s.takes_ends q y peer label m h f in
+      let one = (s.unused q y h (takes peer label) m f).next in
+      let other = s.unused peer e.member e.at (sends q label) e.link e.found in
+      let same = other.next in
+      inl (record { member = e.member; at = e.at; link = e.link; found = e.found; ready = other.ready; next = omega (arith, one, same) }));
+  begun = λ q y peer label l h f r. absurd (let ready = (s.unused q y h (sends peer label) l f).ready in cc);
 }
 
-end_agreed : (start : World) (events : List Event) → IsStart start → AreEvents events → HonestRun 1 start events → AgreedAt (run 1 start events)
+pub end_agreed : (start : World) (events : List Event) → IsStart start → AreEvents events → HonestRun 1 start events → AgreedAt (run 1 start events)
 end_agreed start events s d honest = run_agreed events 1 start d honest (bare_counted start (start_bare start s)) (start_agreed start s)
 
 -- the laws

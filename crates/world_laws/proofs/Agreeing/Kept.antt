@@ -12,7 +12,7 @@ use Rattle.party_state.specs.Names.{full_name}
 use Rattle.party_state.specs.State.{link_with, record_with, apply}
 use Rattle.party_state.specs.Rows.{Row, OfKsm, OfDsm, OfAnswer, Accepted}
 use Rattle.party_state.proofs.Keys.{test_records}
-use Rattle.standard_rows.specs.Keys.{body_count, body_value, opened_kk}
+use Rattle.bank_keys.specs.Ksm.{body_count, body_value, opened_kk}
 use Rattle.world_laws.specs.World.{Member, Acceptance, member_at}
 use Rattle.world_laws.specs.Steps.{facts_of, acceptances_of}
 use Rattle.world_laws.specs.Laws.{HasAccepted, partner_of, IsEndedAt}
@@ -24,12 +24,12 @@ use Rattle.world_laws.proofs.Agreeing.Lists.{Lists, after, members_after, accept
 use Rattle.world_laws.proofs.Agreeing.Known.{Known, fact_more, one_key}
 use Rattle.world_laws.proofs.Agreeing.KeyRecords.{Gone, StandsBefore, before, known_stands, IsPut, held_forward}
 use Rattle.world_laws.proofs.Agreeing.Facts.{Keeps, TakenKsm, DsmOk, AcceptedOk}
-use Rattle.world_laws.proofs.Agreeing.Moves.{AcceptsOk, OwnReply, Agreeing}
+use Rattle.world_laws.proofs.Agreeing.Moves.{AcceptsOk, OwnText, Agreeing}
 use Rattle.world_laws.proofs.Agreeing.Agreed.{Agreed}
 use Rattle.world_laws.proofs.Agreeing.Members.{gone_at, carried_on, goes, cases, back, at_after, at_own, ends_on, centres_on, more, tables_on, sent_on, known_own, known_same, known_here, live_on}
-use Rattle.world_laws.proofs.Agreeing.FactsKept.{facts_on, apart_on}
+use Rattle.world_laws.proofs.Agreeing.FactsKept.{facts_on, apart_on, names_on, made_on}
 
-module _ (o : Option LinkKey) (v : Lists) (p : List ℕ) (x : Member) (room : ℕ) (text : List ℕ) (r : Row) (found : member_at p v.members ≡ Some x) (sound : IsSound o x.party text r) (own_reply : OwnReply r.reply) (row : Agreeing v x room text r) (i : Agreed v) where
+module _ (o : Option LinkKey) (v : Lists) (p : List ℕ) (x : Member) (room : ℕ) (text : List ℕ) (r : Row) (found : member_at p v.members ≡ Some x) (sound : IsSound o x.party text r) (own_reply : OwnText x.party.own r.reply) (row : Agreeing v x room text r) (i : Agreed v) where
   gone_more : (q : List ℕ) (u : FullName) → Gone v.acceptances q u → Gone (acceptances_after v.acceptances x text r) q u
   gone_more q u (inl a) = inl (more o v p x room text r found sound own_reply row i OfDsm q u a)
   gone_more q u (inr a) = inr (more o v p x room text r found sound own_reply row i OfAnswer q u a)
@@ -144,6 +144,8 @@ module _ (o : Option LinkKey) (v : Lists) (p : List ℕ) (x : Member) (room : �
     sent = sent_on o v p x room text r found sound own_reply row i;
     facts = facts_on o v p x room text r found sound own_reply row i;
     apart = apart_on o v p x room text r found sound own_reply row i;
+    names = names_on o v p x room text r found sound own_reply row i;
+    made = made_on o v p x room text r found sound own_reply row i;
     accepted = accepted_on;
     live = live_on o v p x room text r found sound own_reply row i;
   }

@@ -14,7 +14,8 @@ use Rattle.party_state.specs.State.{Party, centre_label, link_with, record_with}
 use Rattle.party_state.specs.Rows.{Class, OfKsm}
 use Rattle.party_state.proofs.Keys.{test_idents}
 use Rattle.party_state.proofs.Tables.{one_found}
-use Rattle.standard_rows.specs.Waiting.{Waiting, waiting_with}
+use Rattle.bank_keys.specs.declared.waits.Waiting.{Waiting}
+use Rattle.bank_keys.specs.Waiting.{waiting_with}
 use Rattle.world_laws.specs.World.{Member, Fact, Acceptance}
 use Rattle.world_laws.specs.Honest.{HasFact}
 use Rattle.world_laws.specs.Laws.{HasAccepted}

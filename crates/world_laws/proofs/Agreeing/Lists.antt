@@ -12,7 +12,8 @@ use Rattle.party_state.specs.Tables.{put_row}
 use Rattle.party_state.specs.Keys.{sends}
 use Rattle.party_state.specs.State.{Party, centre_label, link_with, apply}
 use Rattle.party_state.specs.Rows.{Row, Reply}
-use Rattle.standard_rows.specs.Waiting.{Waiting, waiting_with}
+use Rattle.bank_keys.specs.declared.waits.Waiting.{Waiting}
+use Rattle.bank_keys.specs.Waiting.{waiting_with}
 use Rattle.world_laws.specs.World.{Member, Fact, Acceptance, World, own_of}
 use Rattle.world_laws.specs.Steps.{facts_of, acceptances_of}
 use Rattle.world_laws.proofs.Links.Growth.{LinkGrows, PartyGrows, link_stays}

@@ -11,7 +11,7 @@ use Rattle.party_state.specs.declared.key.RecordKey.{RecordKey}
 use Rattle.party_state.specs.Keys.{takes}
 use Rattle.party_state.specs.State.{link_with}
 use Rattle.party_state.proofs.Tables.{one_found}
-use Rattle.standard_rows.specs.Keys.{body_issuer}
+use Rattle.role_base.specs.Conditions.{body_issuer}
 use Rattle.world_laws.specs.World.{Member, Acceptance, member_at}
 use Rattle.world_laws.specs.Starts.{HasOtherEnd}
 use Rattle.std.proofs.lemmas.List.Elements.{All-contains}

@@ -11,7 +11,7 @@ use Rattle.party_state.specs.Tables.{Distinct}
 use Rattle.party_state.specs.Keys.{same_record, record_key, sends, takes}
 use Rattle.party_state.specs.State.{Party, centre_label, link_with, record_with, exchange_with, apply}
 use Rattle.party_state.specs.Rows.{Row, Class, OfKsm}
-use Rattle.standard_rows.specs.Keys.{body_value}
+use Rattle.bank_keys.specs.Ksm.{body_value}
 use Rattle.world_laws.specs.World.{Member, Acceptance, member_at}
 use Rattle.world_laws.specs.Steps.{facts_of, acceptances_of}
 use Rattle.world_laws.specs.Starts.{HasOtherEnd}
@@ -25,7 +25,7 @@ use Rattle.world_laws.proofs.Agreeing.Waiting.{news_stay, AllSent}
 use Rattle.world_laws.proofs.Agreeing.Known.{Known, KeysKnown, known_on, class_more}
 use Rattle.world_laws.proofs.Agreeing.KeyRecords.{Gone, IsPut, key_cases}
 use Rattle.world_laws.proofs.Agreeing.Facts.{LiveAccepted}
-use Rattle.world_laws.proofs.Agreeing.Moves.{OwnReply, Agreeing}
+use Rattle.world_laws.proofs.Agreeing.Moves.{OwnText, Agreeing}
 use Rattle.world_laws.proofs.Agreeing.Agreed.{keys_on, Forward, CentresReady, ReadyEnds, Agreed}
 
 pub gone_at : (accs : List Acceptance) (p q : List ℕ) (u v : FullName) → p ≡ q → u ≡ v → Gone accs p u → Gone accs q v
@@ -35,7 +35,7 @@ gone_at accs p q u v e f g = subst (λ (z : FullName). Gone accs q z) f (subst (
 pub carried_on : (l m : LinkRec) (org to : List ℕ) (b : KsmBody) → LinkGrows l m → body_value l.pair org to b ≡ body_value m.pair org to b
 carried_on l m org to b g = ap (λ (q : Pair). body_value q org to b) (sym g.pair)
 
-module _ (o : Option LinkKey) (v : Lists) (p : List ℕ) (x : Member) (room : ℕ) (text : List ℕ) (r : Row) (found : member_at p v.members ≡ Some x) (sound : IsSound o x.party text r) (own_reply : OwnReply r.reply) (row : Agreeing v x room text r) (i : Agreed v) where
+module _ (o : Option LinkKey) (v : Lists) (p : List ℕ) (x : Member) (room : ℕ) (text : List ℕ) (r : Row) (found : member_at p v.members ≡ Some x) (sound : IsSound o x.party text r) (own_reply : OwnText x.party.own r.reply) (row : Agreeing v x room text r) (i : Agreed v) where
   pub grown : PartyGrows o x.party (apply r.edits x.party)
   grown = change_grows o r.edits x.party sound.edits
 

@@ -1,5 +1,6 @@
 -- What agreement asks of an accepted row.
-use Rattle.std.proofs.Common.{◌≡◌, ◌⊎◌, ℕ, ◌≤◌, true, Option, Some, None, List}
+use Rattle.std.proofs.Common.{◌≡◌, ◌≢◌, ◌⊎◌, ℕ, ◌≤◌, true, Option, Some, None, List}
+use Rattle.x_base.specs.declared.key_name.FullName.{FullName}
 use Rattle.csm_grammar.specs.declared.message.Message.{Message}
 use Rattle.csm_grammar.specs.declared.message.Message.TheVariants as message
 use Rattle.csm_write.specs.Canon.{auth_of}
@@ -7,12 +8,14 @@ use Rattle.party_state.specs.declared.link.LinkRec.{LinkRec}
 use Rattle.party_state.specs.Keys.{sends, takes}
 use Rattle.party_state.specs.State.{Party, centre_label, link_with, apply}
 use Rattle.party_state.specs.Rows.{Row, Reply, Coded, Plain, Again, Accepted}
-use Rattle.world_laws.specs.World.{Member}
+use Rattle.world_laws.specs.World.{Member, Fact}
+use Rattle.world_laws.specs.Facts.{sender_of}
 use Rattle.world_laws.specs.Starts.{HasOtherEnd}
 use Rattle.world_laws.proofs.Texts.Own.{IsOwn}
 use Rattle.world_laws.proofs.Agreeing.Lists.{Lists, lists_after, WaitsMove}
 use Rattle.world_laws.proofs.Agreeing.KeyRecords.{KeysMove}
-use Rattle.world_laws.proofs.Agreeing.Waiting.{AllSent, NewsMove}
+use Rattle.world_laws.proofs.Agreeing.Waiting.{AllSent, NewSent, NewsMove}
+use Rattle.world_laws.proofs.Agreeing.Known.{Issued}
 use Rattle.world_laws.proofs.Agreeing.Facts.{MessageOk, AcceptedOk}
 
 abbrev pub RepliesOk : Lists → List ℕ → Option Reply → Type 0
@@ -21,16 +24,21 @@ RepliesOk w own (Some (Coded m under value)) = MessageOk w (record { under = und
 RepliesOk w own (Some (Plain m)) = Unit {0}
 RepliesOk w own (Some (Again text)) = Unit {0}
 
--- an RTR's count is one that its link had not reached
-abbrev pub FreshMessage : Party → Message → Type 0
-FreshMessage s (message.Rtr m) = (m.originator ≡ s.own) × ((l : LinkRec) × (link_with (sends m.ultimate centre_label) s ≡ Some l) × (l.next ≤ m.ctb))
-FreshMessage s m = Unit {0}
+-- a name that no fact has: its count is one that a link had not reached, or no answer of a centre for it was taken
+abbrev pub NewName : List Fact → Party → FullName → Type 0
+NewName fs s u = NewSent s u.recipient u.name ⊎ ((u.name.issuer ≢ s.own) × (Issued fs s (record { peer = u.recipient; name = u.name }) → ⊥))
 
-abbrev pub FreshReply : Party → Option Reply → Type 0
-FreshReply s None = Unit {0}
-FreshReply s (Some (Coded m under value)) = FreshMessage s m
-FreshReply s (Some (Plain m)) = Unit {0}
-FreshReply s (Some (Again text)) = Unit {0}
+-- an RTR's count is one that its link had not reached, and a KSM's name is new
+abbrev pub FreshMessage : List Fact → Party → FullName → Message → Type 0
+FreshMessage fs s u (message.Ksm m) = (u.name.originator ≡ s.own) × NewName fs s u
+FreshMessage fs s u (message.Rtr m) = (m.originator ≡ s.own) × ((l : LinkRec) × (link_with (sends m.ultimate centre_label) s ≡ Some l) × (l.next ≤ m.ctb))
+FreshMessage fs s u m = Unit {0}
+
+abbrev pub FreshReply : List Fact → Party → Option Reply → Type 0
+FreshReply fs s None = Unit {0}
+FreshReply fs s (Some (Coded m under value)) = FreshMessage fs s under m
+FreshReply fs s (Some (Plain m)) = Unit {0}
+FreshReply fs s (Some (Again text)) = Unit {0}
 
 abbrev pub AcceptsOk : Lists → List ℕ → List ℕ → Option Accepted → Type 0
 AcceptsOk w own text None = Unit {0}
@@ -48,7 +56,7 @@ pub record Agreeing (v : Lists) (x : Member) (room : ℕ) (text : List ℕ) (r :
   pub exchanges : AllSent (apply r.edits x.party)
   pub waits : WaitsMove x.party (apply r.edits x.party)
   pub replies : RepliesOk (lists_after v x room text r) x.party.own r.reply
-  pub new : FreshReply x.party r.reply
+  pub new : FreshReply v.facts x.party r.reply
   pub accepts : AcceptsOk (lists_after v x room text r) x.party.own text r.accepts
 
 -- a text that a row writes under a key says its message, and nothing else
@@ -57,3 +65,10 @@ OwnReply None = Unit {0}
 OwnReply (Some (Coded m under value)) = IsOwn m
 OwnReply (Some (Plain m)) = Unit {0}
 OwnReply (Some (Again text)) = Unit {0}
+
+-- and that names this party as its originator
+abbrev pub OwnText : List ℕ → Option Reply → Type 0
+OwnText own None = Unit {0}
+OwnText own (Some (Coded m under value)) = IsOwn m × (sender_of m ≡ own)
+OwnText own (Some (Plain m)) = Unit {0}
+OwnText own (Some (Again text)) = Unit {0}

@@ -3,10 +3,10 @@ use Rattle.world_laws.proofs.Roles.Inputs.{IsInput}
 use Rattle.csm_grammar.proofs.Arrived.{arrival_says}
 use Rattle.role_base.specs.Texts.{is_plain}
 use Rattle.csm_grammar.specs.declared.message.Message.TheVariants as message
-use Rattle.standard_rows.specs.Draws.{kk_drawn}
-use Rattle.standard_rows.specs.Errors.{retry_in}
-use Rattle.standard_rows.specs.Keys.{body_link, body_name, body_front, body_edits, key_row, key_lead_with}
-use Rattle.standard_rows.specs.StartKk.{start_kk_under}
+use Rattle.bank_orders.specs.Draws.{kk_drawn}
+use Rattle.bank_arrivals.specs.AskingAgain.{retry_in}
+use Rattle.bank_keys.specs.Ksm.{body_link, body_name, body_front, body_edits, key_row, key_lead_with}
+use Rattle.bank_orders.specs.StartKk.{start_kk_under}
 use Rattle.bank_arrivals.specs.Dsm.{named_by}
 use Rattle.bank_arrivals.specs.Esm.{subject_with}
 use Rattle.role_base.specs.Exchanges.{record_of}
@@ -48,8 +48,13 @@ use Rattle.party_state.specs.State.{answer_with, first_link}
 use Rattle.bank_arrivals.specs.Rsi.{rsi_tests as bank_rsi_tests, rsi_under}
 use Rattle.bank_orders.specs.Start.{sending_link}
 use Rattle.bank_orders.specs.Resend.{resend_of}
-use Rattle.standard_rows.specs.Keys.{body_front, body_link}
-use Rattle.standard_rows.specs.Rows.{row_by, bank_command, bank_message, centre_command, distribution_message, translation_message}
+use Rattle.bank_keys.specs.Ksm.{body_front, body_link}
+use Rattle.roles.specs.Rows.{row_by}
+use Rattle.bank_orders.specs.Orders.{command_row}
+use Rattle.bank_role.specs.Rows.{message_row}
+use Rattle.centre_base.specs.Orders.{centre_command}
+use Rattle.distribution_role.specs.Rows.{distribution_message}
+use Rattle.translation_role.specs.Rows.{translation_message}
 use Rattle.world_laws.specs.Events.{IsCommand}
 use Rattle.world_laws.proofs.Links.Found.{first_at, FirstAt, sending_at}
 use Rattle.x_gen.specs.Gen.{good_draw}
@@ -57,8 +62,10 @@ use Rattle.world_laws.specs.Steps.{received_text}
 use Rattle.world_laws.proofs.Counting.Counts.{CountedAt, AcceptedBelow, ksm_apart}
 use Rattle.world_laws.proofs.Counting.Sound.{IsSound, Moves, moves}
 use Rattle.world_laws.proofs.Links.Waiting.{Waits}
-use Rattle.standard_rows.specs.Rows.{lead_by, bank_lead, translation_lead}
-use Rattle.standard_rows.specs.Keys.{key_lead_with}
+use Rattle.roles.specs.Leads.{lead_by}
+use Rattle.bank_role.specs.Leads.{message_lead}
+use Rattle.translation_role.specs.Rows.{translation_lead}
+use Rattle.bank_keys.specs.Ksm.{key_lead_with}
 use Rattle.world_laws.proofs.Agreeing.Lists.{lists_of}
 use Rattle.world_laws.proofs.Agreeing.Moves.{Agreeing}
 use Rattle.world_laws.proofs.Agreeing.Agreed.{Agreed}
@@ -66,8 +73,10 @@ use Rattle.world_laws.proofs.Sound.Commands.{sending_sound}
 use Rattle.world_laws.proofs.Agreeing.Steps.{still_agreeing, refused_agreeing}
 use Rattle.world_laws.proofs.Agreeing.SendingRows.{kk_draw_sound, sending_agreeing, kk_agreeing}
 use Rattle.world_laws.proofs.Agreeing.EndingRows.{drop_agreeing, end_agreeing, purge_agreeing}
-use Rattle.world_laws.proofs.Agreeing.AnswerRows.{HonestAs, ask_agreeing, translate_row_agreeing, rtr_agreeing}
-use Rattle.world_laws.proofs.Agreeing.KeyRows.{taken_agreeing, rsm_row_agreeing}
+use Rattle.world_laws.proofs.Agreeing.AnswerRows.{HonestAs, rtr_agreeing}
+use Rattle.world_laws.proofs.Agreeing.AskingRows.{ask_agreeing, translate_row_agreeing}
+use Rattle.world_laws.proofs.Agreeing.KeyRows.{taken_agreeing}
+use Rattle.world_laws.proofs.Agreeing.ResponseRows.{rsm_row_agreeing}
 use Rattle.world_laws.proofs.Agreeing.Disconnections.{dsm_agreeing}
 use Rattle.world_laws.proofs.Agreeing.ErrorMessages.{error_row_agreeing, asks_for}
 use Rattle.world_laws.proofs.Agreeing.CentreRows.{rsi_row_agreeing, ers_agreeing, rfs_agreeing}
@@ -104,7 +113,7 @@ module _ (n : ℕ) (w : World) (p : List ℕ) (x : Member) (room : ℕ) (at : me
   resend_row None = still_agreeing (lists_of w) p x room at i [] (resend_of None) refl tt tt tt
   resend_row (Some f) = still_agreeing (lists_of w) p x room at i [] (resend_of (Some f)) refl tt tt tt
 
-  pub command_agrees : (o : Option LinkKey) (k : Command) (moment : ℕ) → IsCommand k → is_accept (bank_command x.party k moment).verdict ≡ true → IsSound o x.party [] (bank_command x.party k moment) → Agreeing (lists_of w) x room [] (bank_command x.party k moment)
+  pub command_agrees : (o : Option LinkKey) (k : Command) (moment : ℕ) → IsCommand k → is_accept (command_row x.party k moment).verdict ≡ true → IsSound o x.party [] (command_row x.party k moment) → Agreeing (lists_of w) x room [] (command_row x.party k moment)
   command_agrees o (command.Load peer label side pair) moment e h sound = absurd e
   command_agrees o (command.Start peer label) moment e h sound = start_row o peer label (sending_link x.party peer label) moment refl sound
   command_agrees o (command.StartKk peer label new single) moment e h sound = kk_row o peer new single label (sending_link x.party peer label) moment refl h sound
@@ -129,13 +138,13 @@ module _ (n : ℕ) (w : World) (p : List ℕ) (x : Member) (room : ℕ) (at : me
       not_before g = (ksm_apart o n w p x (record { party = apply (body_edits x.party m b l) x.party; room = room }) (auth_text a) (key_row x.party a m b (Some l)) at moved c.links g.acceptance (record { class = OfKsm; under = body_name x.party m.originator b l })
           (All-contains (AcceptedBelow w.members) w.acceptances g.acceptance c.accepted g.stands) moved.accepts g.class_is refl g.party_is).0 g.under_is
 
-  pub message_agrees : (o : Option LinkKey) (a : Arrival) (m : Message) (moment : ℕ) → Says (auth_text a) m → HonestAs w.facts a (bank_lead x.party a m) → is_accept (bank_message x.party a m moment).verdict ≡ true → IsSound o x.party (auth_text a) (bank_message x.party a m moment) → Agreeing (lists_of w) x room (auth_text a) (bank_message x.party a m moment)
+  pub message_agrees : (o : Option LinkKey) (a : Arrival) (m : Message) (moment : ℕ) → Says (auth_text a) m → HonestAs w.facts a (message_lead x.party a m) → is_accept (message_row x.party a m moment).verdict ≡ true → IsSound o x.party (auth_text a) (message_row x.party a m moment) → Agreeing (lists_of w) x room (auth_text a) (message_row x.party a m moment)
   message_agrees o a (message.Rsi m) moment said honest h sound = rsi_row a m (first_link m.originator Sends x.party) moment refl
-  message_agrees o a (message.Rfs m) moment said honest h sound = still_agreeing (lists_of w) p x room at i (auth_text a) (bank_message x.party a (message.Rfs m) moment) refl tt tt tt
+  message_agrees o a (message.Rfs m) moment said honest h sound = still_agreeing (lists_of w) p x room at i (auth_text a) (message_row x.party a (message.Rfs m) moment) refl tt tt tt
   message_agrees o a (message.Rtr m) moment said honest h sound = rtr_agreeing (lists_of w) p x room at i o a m m.kd refl said honest h sound
   message_agrees o a (message.Ksm m) moment said honest h sound = key_row_agrees o a m m.body (body_link x.party m.originator m.body) said refl refl honest h sound
   message_agrees o a (message.Rsm m) moment said honest h sound = rsm_row_agreeing (lists_of w) p x room at i links o a m m.idd refl said honest h sound
-  message_agrees o a (message.Ers m) moment said honest h sound = still_agreeing (lists_of w) p x room at i (auth_text a) (bank_message x.party a (message.Ers m) moment) refl tt tt tt
+  message_agrees o a (message.Ers m) moment said honest h sound = still_agreeing (lists_of w) p x room at i (auth_text a) (message_row x.party a (message.Ers m) moment) refl tt tt tt
   message_agrees o a (message.Esm m) moment said honest h sound = error_row_agreeing (lists_of w) p x room at i waits o a m (is_plain a.parsed.shut) (retry_in x.party (subject_with x.party m.originator) m.ctr) (asks_for x.party (subject_with x.party m.originator) m.ctr) sound
   message_agrees o a (message.Dsm m) moment said honest h sound = dsm_agreeing (lists_of w) p x room at i waits o a m (named_by x.party m) refl sound
 

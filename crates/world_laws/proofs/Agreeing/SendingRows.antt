@@ -18,7 +18,7 @@ use Rattle.party_state.specs.Keys.{same_record, record_key, exchange_key, sends}
 use Rattle.party_state.specs.State.{Party, link_with, record_with, apply}
 use Rattle.party_state.proofs.Keys.{test_idents, test_records}
 use Rattle.party_state.proofs.Tables.{one_found}
-use Rattle.standard_rows.specs.Keys.{opened_kk}
+use Rattle.bank_keys.specs.Ksm.{opened_kk}
 use Rattle.world_laws.specs.World.{Member, member_at}
 use Rattle.world_laws.proofs.Links.Growth.{PartyGrows}
 use Rattle.world_laws.proofs.Links.Waiting.{new_of}
@@ -54,8 +54,9 @@ use Rattle.world_laws.proofs.Agreeing.Waiting.{NewFits, NewSent}
 use Rattle.world_laws.proofs.Agreeing.Exchanges.{ex_put, waits_put, news_put, sent_put}
 use Rattle.world_laws.proofs.Agreeing.Backs.{backed}
 use Rattle.world_laws.proofs.Agreeing.Steps.{some_is, after_is, refused_agreeing}
-use Rattle.standard_rows.specs.Draws.{KkDrawn, key_drawn, right_drawn, left_drawn, kk_drawn}
-use Rattle.standard_rows.specs.StartKk.{sealed_kk, kk_tests, kk_reply, kk_edits, fresh_link, kk_sending}
+use Rattle.bank_orders.specs.declared.draws.KkDrawn.{KkDrawn}
+use Rattle.bank_orders.specs.Draws.{key_drawn, right_drawn, left_drawn, kk_drawn}
+use Rattle.bank_orders.specs.StartKk.{sealed_kk, kk_tests, kk_reply, kk_edits, fresh_link, kk_sending}
 use Rattle.world_laws.proofs.Sound.NewKks.{kk_up, kk_fresh, kk_at, kk_at_key}
 
 abbrev pub sent_record : Party → LinkRec → ℕ → KeyRec
@@ -67,7 +68,7 @@ sent_exchange p l key = record { peer = l.peer; kind = kind.KeySent (next_name p
 abbrev sent_ksm : Party → LinkRec → ℕ → Ksm
 sent_ksm p l key = record { receiver = l.peer; originator = p.own; body = body.Direct (Some l.label) None (wrap_of l.pair l.next key) l.next; extras = no_extras }
 
-abbrev kk_exchange : Party → LinkRec → List ℕ → Bool → KkDrawn → Exchange
+abbrev pub kk_exchange : Party → LinkRec → List ℕ → Bool → KkDrawn → Exchange
 kk_exchange p l new single d = record { peer = l.peer; kind = kind.KeySent (next_name p l) (via.Direct l.label (Some new)); text = text_of (kk_reply p l new single d) }
 
 abbrev kk_ksm : Party → LinkRec → List ℕ → Bool → KkDrawn → Ksm
@@ -149,7 +150,7 @@ module _ (v : Lists) (p : List ℕ) (x : Member) (room : ℕ) (at : member_at p 
     exchanges = sent_put x.party (apply (sending_drawn x.party front l (Some d)).edits x.party) (sent_exchange x.party l d.0) (sent_record x.party l d.0) refl refl refl refl (λ name q. (let n : next_name x.party l ≡ name = some_is (next_name x.party l) name q in (sym n, ap (λ (m : KeyName). m.originator) (sym n), refl))) (i.sent p x at);
     waits = waits_put x.party (apply (sending_drawn x.party front l (Some d)).edits x.party) (sent_exchange x.party l d.0) refl refl;
     replies = the_fact;
-    new = tt;
+    new = (refl, inl (record { link = l; found = at_l; low = omega arith; issuer = refl }));
     accepts = tt;
   }
     where
@@ -200,7 +201,7 @@ module _ (v : Lists) (p : List ℕ) (x : Member) (room : ℕ) (at : member_at p 
     exchanges = sent_put x.party (apply (kk_edits x.party l new single d) x.party) (kk_exchange x.party l new single d) (sent_record x.party l d.key) refl refl refl refl (λ name q. (let m : next_name x.party l ≡ name = some_is (next_name x.party l) name q in (sym m, ap (λ (z : KeyName). z.originator) (sym m), refl))) (i.sent p x at);
     waits = waits_put x.party (apply (kk_edits x.party l new single d) x.party) (kk_exchange x.party l new single d) refl refl;
     replies = the_fact;
-    new = tt;
+    new = (refl, inl (record { link = l; found = at_l; low = omega arith; issuer = refl }));
     accepts = tt;
   }
     where

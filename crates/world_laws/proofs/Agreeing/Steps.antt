@@ -123,7 +123,7 @@ module _ (v : Lists) (p : List ℕ) (x : Member) (room : ℕ) (at : member_at p 
   ended_fine o text r peer y g w h = status_fine o text r y.key Ended g w h.at (λ e. refl) (λ no own. absurd no) (λ held. absurd (pending_not_held y.key.status (sent_own x.party peer y (i.sent p x at) h).1 held))
 
   -- nothing changes, and nothing of which agreement speaks is told
-  pub still_agreeing : (text : List ℕ) (r : Row) → r.edits ≡ [] → RepliesOk (lists_after v x room text r) x.party.own r.reply → FreshReply x.party r.reply → AcceptsOk (lists_after v x room text r) x.party.own text r.accepts → Agreeing v x room text r
+  pub still_agreeing : (text : List ℕ) (r : Row) → r.edits ≡ [] → RepliesOk (lists_after v x room text r) x.party.own r.reply → FreshReply v.facts x.party r.reply → AcceptsOk (lists_after v x room text r) x.party.own text r.accepts → Agreeing v x room text r
   still_agreeing text r e a b c = record {
     back = λ peer label m h is. inl (m, subst (λ (es : List Edit). link_with (sends peer label) (apply es x.party) ≡ Some m) e h, is, refl);
     news = subst (λ (es : List Edit). NewsMove x.party (apply es x.party)) (sym e) (news_stay x.party x.party refl);

@@ -14,7 +14,7 @@ use Rattle.party_state.specs.declared.exchange.Kind.TheVariants as kind
 use Rattle.party_state.specs.Keys.{sends}
 use Rattle.party_state.specs.State.{Party, link_with, record_with, exchange_with}
 use Rattle.party_state.proofs.Tables.{one_found}
-use Rattle.standard_rows.specs.Keys.{body_count, body_new, opened_kk}
+use Rattle.bank_keys.specs.Ksm.{body_count, body_new, opened_kk}
 use Rattle.world_laws.specs.World.{Fact}
 use Rattle.world_laws.proofs.Links.Waiting.{new_of}
 use Rattle.world_laws.proofs.Agreeing.Known.{Mine, counted, issued}

@@ -1,14 +1,11 @@
 -- Each accepted row, at each role, and the member that it makes.
 use Rattle.std.proofs.Common.{List}
 use Rattle.party_state.specs.Rows.{Row}
-use Rattle.standard_rows.specs.Rows as standard
 use Rattle.world_laws.proofs.Roles.Inputs.{IsInput}
 use Rattle.world_laws.proofs.Counting.Sound.{SoundRow, SomeMoves}
 use Rattle.world_laws.proofs.Sound.Centres.{centre_command_sound, distribution_sound, translation_sound}
-use Rattle.role_base.proofs.LeftOut.{left_out}
-use Rattle.world_laws.proofs.Rows.Apart.{LeftOut}
-use Rattle.world_laws.proofs.Rows.LeftOut.{left_out_by, error_with_left}
-use Rattle.std.proofs.Common.{◌≡◌, ℕ, true, None, sym, subst, []}
+use Rattle.world_laws.proofs.Rows.LeftOut.{LeftOut, left_out_by}
+use Rattle.std.proofs.Common.{◌≡◌, ℕ, true, None}
 use Rattle.x_base.specs.declared.party.Role.{Role}
 use Rattle.x_base.specs.declared.party.Role.TheVariants.{Bank, Distribution, Translation}
 use Rattle.csm_grammar.proofs.Arrived.{arrival_says}
@@ -17,45 +14,32 @@ use Rattle.party_state.specs.declared.command.Input.TheVariants as input
 use Rattle.party_state.specs.State.{Party, apply}
 use Rattle.party_state.specs.Verdicts.{is_accept}
 use Rattle.role_base.specs.Differing.{differing}
-use Rattle.roles.specs.Rows.{row_at}
+use Rattle.roles.specs.Rows.{row_by, row_at}
 use Rattle.world_laws.specs.Steps.{received_text}
 use Rattle.world_laws.proofs.Links.Found.{HasLinks}
 use Rattle.world_laws.proofs.Links.Waiting.{Waits}
 use Rattle.world_laws.proofs.Counting.Sound.{IsSound, moves}
 use Rattle.world_laws.proofs.Sound.Commands.{command_sound}
-use Rattle.world_laws.proofs.Sound.Arrivals.{message_sound, error_sound}
-use Rattle.world_laws.proofs.Counting.Quiet.{refused_sound}
-use Rattle.world_laws.proofs.Roles.Served.{ServedBy, as_standard, unserved, unretried, served}
-use Rattle.role_base.specs.Texts.{is_plain}
+use Rattle.world_laws.proofs.Sound.Arrivals.{message_sound}
 
 plain_sound : {p : Party} {text : List ℕ} {r : Row} → IsSound None p text r → SoundRow p text r
 plain_sound {p} {text} {r} g = record { new = None; sound = g }
 
-standard_sound : (r : Role) (p : Party) (i : Input) (moment : ℕ) → IsInput i → HasLinks p → Waits p → is_accept (standard.row_by r p i moment).verdict ≡ true → SoundRow p (received_text i) (standard.row_by r p i moment)
-standard_sound Bank p (input.Ordered c) moment e d n h = command_sound p c moment e d n h
-standard_sound Bank p (input.Arrived a) moment e d n h = message_sound p a a.parsed.message moment d n (arrival_says a) h
-standard_sound Distribution p (input.Ordered c) moment e d n h = plain_sound (centre_command_sound p c e)
-standard_sound Distribution p (input.Arrived a) moment e d n h = plain_sound (distribution_sound p a a.parsed.message moment h)
-standard_sound Translation p (input.Ordered c) moment e d n h = plain_sound (centre_command_sound p c e)
-standard_sound Translation p (input.Arrived a) moment e d n h = plain_sound (translation_sound p a a.parsed.message h)
+role_sound : (r : Role) (p : Party) (i : Input) (moment : ℕ) → IsInput i → HasLinks p → Waits p → is_accept (row_by r p i moment).verdict ≡ true → SoundRow p (received_text i) (row_by r p i moment)
+role_sound Bank p (input.Ordered c) moment e d n h = command_sound p c moment e d n h
+role_sound Bank p (input.Arrived a) moment e d n h = message_sound p a a.parsed.message moment d n (arrival_says a) h
+role_sound Distribution p (input.Ordered c) moment e d n h = plain_sound (centre_command_sound p c e)
+role_sound Distribution p (input.Arrived a) moment e d n h = plain_sound (distribution_sound p a a.parsed.message moment h)
+role_sound Translation p (input.Ordered c) moment e d n h = plain_sound (centre_command_sound p c e)
+role_sound Translation p (input.Arrived a) moment e d n h = plain_sound (translation_sound p a a.parsed.message h)
 
 -- of the party that the edits give
 pub row_is_sound : (p : Party) (i : Input) (moment : ℕ) → IsInput i → HasLinks p → Waits p → is_accept (row_at p i moment).verdict ≡ true → SoundRow p (received_text i) (row_at p i moment)
-row_is_sound p i moment e d n h = go (served p i moment)
-  where
-    go : ServedBy p.role p i moment → SoundRow p (received_text i) (row_at p i moment)
-    go (as_standard r l) = subst (SoundRow p (received_text i)) (sym r) (standard_sound p.role p i moment e d n (subst (λ (z : Row). is_accept z.verdict ≡ true) r h))
-    go (unserved v r) = subst (SoundRow p (received_text i)) (sym r) (plain_sound (refused_sound p (received_text i) v))
-    go (unretried a m is said r) = subst (λ (z : Input). SoundRow p (received_text z) (row_at p i moment)) (sym is) (subst (SoundRow p (received_text (input.Arrived a))) (sym r) (plain_sound (error_sound p a m (is_plain a.parsed.shut) None n)))
+row_is_sound p i moment e d n h = role_sound p.role p i moment e d n h
 
-pub row_left_out : (p : Party) (i : Input) (moment : ℕ) → IsInput i → HasLinks p → is_accept (row_at p i moment).verdict ≡ true → LeftOut p (row_at p i moment)
-row_left_out p i moment e d h = go (served p i moment)
-  where
-    go : ServedBy p.role p i moment → LeftOut p (row_at p i moment)
-    go (as_standard r l) = subst (LeftOut p) (sym r) (left_out_by p.role p i moment e d (subst (λ (z : Row). is_accept z.verdict ≡ true) r h))
-    go (unserved v r) = subst (LeftOut p) (sym r) (left_out p [] tt)
-    go (unretried a m is said r) = subst (LeftOut p) (sym r) (error_with_left p a m (is_plain a.parsed.shut) None)
+pub row_left_out : (p : Party) (i : Input) (moment : ℕ) → HasLinks p → is_accept (row_at p i moment).verdict ≡ true → LeftOut p (row_at p i moment)
+row_left_out p i moment d h = left_out_by p.role p i moment d h
 
 -- and of the one that the edits that differ give
 pub row_moves : (p : Party) (i : Input) (moment : ℕ) → IsInput i → HasLinks p → Waits p → is_accept (row_at p i moment).verdict ≡ true → SomeMoves p (apply (differing p (row_at p i moment).edits) p) (received_text i) (row_at p i moment)
-row_moves p i moment e d n h = let g = row_is_sound p i moment e d n h in record { new = g.new; moves = moves g.new p (apply (differing p (row_at p i moment).edits) p) (received_text i) (row_at p i moment) (row_left_out p i moment e d h) g.sound }
+row_moves p i moment e d n h = let g = row_is_sound p i moment e d n h in record { new = g.new; moves = moves g.new p (apply (differing p (row_at p i moment).edits) p) (received_text i) (row_at p i moment) (row_left_out p i moment d h) g.sound }

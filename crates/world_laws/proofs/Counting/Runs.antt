@@ -83,7 +83,7 @@ pub record AtEnd (w : World) : Type 0 where
   pub number : ℕ
   pub counted : CountedAt number w
 
-run_counted : (es : List Event) (n : ℕ) (w : World) → AreEvents es → CountedAt n w → AtEnd (run n w es)
+pub run_counted : (es : List Event) (n : ℕ) (w : World) → AreEvents es → CountedAt n w → AtEnd (run n w es)
 run_counted [] n w d i = record { number = n; counted = i }
 run_counted (e ∷ es) n w d i = run_counted es (suc n) (step n w e) d.1 (step_counted n w e d.0 i)
 

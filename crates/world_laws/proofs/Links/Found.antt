@@ -12,7 +12,7 @@ use Rattle.party_state.proofs.Keys.{test_idents, test_links, test_sides}
 use Rattle.party_state.proofs.Tables.{find_key}
 use Rattle.party_state.proofs.Distinct.{first_found, first_passes}
 use Rattle.bank_orders.specs.Start.{if_ready, sending_link}
-use Rattle.bank_arrivals.specs.Ksm.{link_in_use}
+use Rattle.bank_keys.specs.Ksm.{link_in_use}
 use Rattle.world_laws.proofs.Links.Growth.{LinkGrows, PartyGrows}
 
 abbrev pub HasLinks : Party → Type 0

@@ -1,5 +1,5 @@
 -- The link, the count and the name under which a key service message brings its key.
-use Rattle.standard_rows.specs.Keys.{body_link, body_count, body_name}
+use Rattle.bank_keys.specs.Ksm.{body_link, body_count, body_name}
 use Rattle.std.proofs.Common.{◌≡◌, ℕ, Option, Some, List, refl, sym, ap, subst, inl, inr}
 use Rattle.x_base.specs.declared.key_name.FullName.{FullName}
 use Rattle.csm_grammar.specs.declared.message.KsmBody.{KsmBody}

@@ -1,17 +1,26 @@
 -- One event whose row is accepted, and whose change fits.
-use Rattle.std.proofs.Common.{arith, ◌≡◌, ◌≤◌, ◌+◌, ℕ, Bool, true, cond, List, [], ◌∷◌, refl, ◌∙◌, ap}
+use Rattle.std.proofs.Common.{arith, ◌≡◌, ◌≤◌, ◌+◌, ℕ, suc, Bool, true, cond, Some, List, [], ◌∷◌, Contains, refl, sym, ◌∙◌, ap, subst}
 use Rattle.std.proofs.lemmas.Bool.{le-leb}
+use Rattle.x_base.specs.declared.key_name.FullName.{FullName}
+use Rattle.csm_grammar.specs.declared.arrival.Arrival.{Arrival}
 use Rattle.party_state.specs.declared.command.Input.{Input}
+use Rattle.party_state.specs.declared.decision.Lead.{Lead}
 use Rattle.party_state.specs.declared.edit.Edit.{Edit}
 use Rattle.party_state.specs.State.{Party, apply}
 use Rattle.party_state.specs.Verdicts.{is_accept}
 use Rattle.party_state.specs.Rows.{Row}
 use Rattle.role_base.specs.Differing.{differing}
-use Rattle.world_laws.specs.World.{World, Member}
+use Rattle.role_base.specs.Texts.{auth_text, lead_under}
+use Rattle.world_laws.specs.World.{World, Member, Fact, member_at}
 use Rattle.roles.specs.Rows.{row_at}
+use Rattle.roles.specs.Leads.{lead_at}
 use Rattle.world_laws.specs.Rooms.{code_length, fits, room_after}
-use Rattle.world_laws.specs.Events.{Whole}
-use Rattle.world_laws.specs.Steps.{received_text, member_after, world_after_row, world_with_answer, world_with_text, world_by_row, world_after_input}
+use Rattle.world_laws.specs.Events.{Event, Whole}
+use Rattle.world_laws.specs.Steps.{received_text, member_after, world_after_row, world_with_answer, world_with_text, world_by_row, world_after_input, step, run}
+use Rattle.world_laws.specs.Honest.{HonestAt, HonestArrival, HonestRun}
+use Rattle.world_laws.proofs.Roles.Inputs.{IsInput}
+use Rattle.world_laws.proofs.Counting.Roles.{row_left_out}
+use Rattle.world_laws.proofs.Links.Found.{HasLinks}
 
 pub fits_large : (es : List Edit) (room : ℕ) → code_length es + 6 ≤ room → fits room es ≡ true
 fits_large [] room h = refl
@@ -35,3 +44,34 @@ accepted_step n w x i moment r p row h f is =
     ap (λ (z : Row). world_by_row n w x (received_text i) z Whole) row
     ∙ (by_tests n w x (received_text i) r h f
     ∙ ap (λ (q : Party). world_with_text (world_after_row n w x.party.own (received_text i) r (record { party = q; room = room_after x.room (differing x.party r.edits) })) r.reply) is)
+
+-- the member and the network after an accepted row, by all of its edits
+abbrev pub next_member : Member → Row → Member
+next_member x r = record { party = apply r.edits x.party; room = room_after x.room (differing x.party r.edits) }
+
+abbrev pub next_world : ℕ → World → Member → Input → Row → World
+next_world n w x i r = world_with_text (world_after_row n w x.party.own (received_text i) r (next_member x r)) r.reply
+
+pub row_step : (n : ℕ) (w : World) (x : Member) (i : Input) (moment : ℕ) (r : Row) → IsInput i → HasLinks x.party → row_at x.party i moment ≡ r → is_accept r.verdict ≡ true
+    → code_length (differing x.party r.edits) + 6 ≤ x.room → world_after_input n w x i moment Whole ≡ next_world n w x i r
+row_step n w x i moment r input links row h room =
+    let there : is_accept (row_at x.party i moment).verdict ≡ true = ap (λ (z : Row). is_accept z.verdict) row ∙ h in
+    accepted_step n w x i moment r (apply r.edits x.party) row h (fits_large (differing x.party r.edits) x.room room)
+    (ap (λ (z : Row). apply (differing x.party z.edits) x.party) (sym row) ∙ (row_left_out x.party i moment links there ∙ ap (λ (z : Row). apply z.edits x.party) row))
+
+-- a run goes on by an honest event
+pub honest_on : (n : ℕ) (w v : World) (e : Event) (es : List Event) → step n w e ≡ v → HonestAt w.facts (member_at e.party w.members) e.action → HonestRun (suc n) v es → HonestRun n w (e ∷ es)
+honest_on n w v e es is h rest = (h, subst (λ (z : World). HonestRun (suc n) z es) (sym is) rest)
+
+pub run_on : (n : ℕ) (w v u : World) (e : Event) (es : List Event) → step n w e ≡ v → run (suc n) v es ≡ u → run n w (e ∷ es) ≡ u
+run_on n w v u e es is rest = ap (λ (z : World). run (suc n) z es) is ∙ rest
+
+-- the lead of an arrival, whose code agrees, is that of a fact
+pub fact_at : (facts : List Fact) (p : Party) (a : Arrival) (under : FullName) (value : ℕ) (text maker : List ℕ) → lead_at p a ≡ Some (lead_under a under value) → Contains facts (record { under = under; text = text; maker = maker })
+    → auth_text a ≡ text → HonestArrival facts p a
+fact_at facts p a under value text maker lead stands is l e verified =
+    let same : lead_under a under value ≡ l = some_same (lead_under a under value) l (sym lead ∙ e) in
+    record { fact = record { under = under; text = text; maker = maker }; stands = stands; under_is = ap (λ (z : Lead). z.under) same; text_is = sym is }
+  where
+    some_same : (x y : Lead) → Some x ≡ Some y → x ≡ y
+    some_same x y q = cc

@@ -26,7 +26,7 @@ use Rattle.roles.specs.Rows.{row_at}
 use Rattle.world_laws.specs.Rooms.{fits, room_after, is_change}
 use Rattle.world_laws.specs.Events.{Whole, CutOld, CutNew}
 use Rattle.world_laws.specs.Steps.{received_text, texts_of, member_after, world_after_row, world_with_answer, world_with_text, world_by_row, world_after_input}
-use Rattle.world_laws.specs.Nodes.{member_of, world_with_reply, IsAcceptedEvent, IsRefusedEvent, IsNoEvent, IsWholeEvent, MayBeCut, IsCutEvent}
+use Rattle.world_laws.specs.Nodes.{member_of, world_with_reply, IsAcceptedEvent, IsRefusedEvent, IsNoEvent, IsWholeEvent, MayBeCut, IsCutInput, IsCutEvent}
 use Rattle.world_laws.proofs.Lists.Members.{after_at}
 use Rattle.world_laws.proofs.Nodes.Going.{own_stays}
 use Rattle.world_laws.proofs.Nodes.GoingRows.{row_goes, differing_goes}
@@ -165,6 +165,57 @@ whole_turn {D} told old i moment t is = by_answer t is
 
 -- what a crash leaves
 
+module _ (p : Party) (left : ℕ) (i : Input) (moment : ℕ) where
+  own_now : (apply (differing p (row_at p i moment).edits) p).own ≡ p.own
+  own_now = own_stays (differing p (row_at p i moment).edits) p (differing_goes p (row_at p i moment).edits (row_goes p i moment))
+
+  -- the party's name stays
+  pub own_after : (decision p i moment).verdict ≡ Accept → (after (decision p i moment) p).own ≡ p.own
+  own_after = subst (λ (d : Decision). d.verdict ≡ Accept → (after d p).own ≡ p.own) (sym (decides_row p i moment))
+      (λ accepts. ap (λ (q : Party). q.own) (after_so p left (received_text i) (row_at p i moment) (ap is_accept accepts)) ∙ own_now)
+
+  pub cut_input : (image : List ℕ) → FitsInto left (decision p i moment).change → IsOldOrNext p left (decision p i moment) image → IsCutInput (record { party = p; room = left }) i moment image
+  cut_input image = subst (λ (d : Decision). FitsInto left d.change → IsOldOrNext p left d image → IsCutInput x i moment image) (sym (decides_row p i moment)) by_row
+    where
+      x : Member
+      x = record { party = p; room = left }
+
+      r : Row
+      r = row_at p i moment
+
+      stays : StandsWith image p left → IsCutInput x i moment image
+      stays s = record { completion = CutOld; cut = tt; stands = λ n w at. record { member = x; at = at; holds = s } }
+
+      by_edits : is_accept r.verdict ≡ true → (es : List Edit) → differing p r.edits ≡ es → FitsInto left (some_edits es) → StandsWith image (apply es p) (turns.room_after left (some_edits es)) → IsCutInput x i moment image
+      by_edits accept [] e f s = stays s
+      by_edits accept (y ∷ ys) e f s =
+          let changes : is_change (differing p r.edits) ≡ true = rw e refl in
+          let fits_now : fits left (differing p r.edits) ≡ true = ap (fits left) e ∙ fits_so left (y ∷ ys) f in
+          record {
+            completion = CutNew;
+            cut = tt;
+            stands = λ n w at. record {
+              member = member_after x r;
+              at = cut_new p left (received_text i) r accept changes fits_now own_now n w at;
+              holds = subst (λ (es : List Edit). StandsWith image (apply es p) (room_after left es)) (sym e) s;
+            };
+          }
+
+      by_verdict : (b : Bool) → is_accept r.verdict ≡ b → FitsInto left (decision_of p r).change → StandsWith image (after (decision_of p r) p) (turns.room_after left (decision_of p r).change) → IsCutInput x i moment image
+      by_verdict true accept f s =
+          let change = change_so p left (received_text i) r accept in
+          let party = after_so p left (received_text i) r accept in
+          by_edits accept (differing p r.edits) refl (subst (FitsInto left) change f)
+          (subst (λ (c : Option (List Edit)). StandsWith image (apply (differing p r.edits) p) (turns.room_after left c)) change
+          (subst (λ (q : Party). StandsWith image q (turns.room_after left (decision_of p r).change)) party s))
+      by_verdict false refuse f s =
+          let none : (decision_of p r).change ≡ None = rw refuse refl in
+          stays (subst (λ (c : Option (List Edit)). StandsWith image (apply (unwrap_or c []) p) (turns.room_after left c)) none s)
+
+      by_row : FitsInto left (decision_of p r).change → IsOldOrNext p left (decision_of p r) image → IsCutInput x i moment image
+      by_row f (inl s) = stays s
+      by_row f (inr s) = by_verdict (is_accept r.verdict) refl f s
+
 fits_of : {D : Type 0} (told : D → View) (old : Stored D) (d : Decision) (t : Turn D) → IsAnswer told old d t → MayBeCut t → FitsInto (room old) d.change
 fits_of told old d (turn.Done node reply under) a may = a.fits
 fits_of told old d (turn.Refused node said reply under) a may = absurd may
@@ -172,46 +223,4 @@ fits_of told old d (turn.Broken b) a may = subst (FitsInto (room old)) (sym a.ch
 fits_of told old d (turn.NoMemory node) a may = absurd may
 
 pub cut_turn : {D : Type 0} (told : D → View) (old : Stored D) (i : Input) (moment : ℕ) (t : Turn D) (image : List ℕ) → IsTurn told old (decision old.party i moment) t → MayBeCut t → IsOldOrNext old.party (room old) (decision old.party i moment) image → IsCutEvent old i moment image
-cut_turn {D} told old i moment t image is may left = by_row (fits_of told old d t (subst (λ (e : Decision). IsAnswer told old e t) same is.answer) may) (subst (λ (e : Decision). IsOldOrNext old.party (room old) e image) same left)
-  where
-    d : Decision
-    d = decision_of old.party (row_at old.party i moment)
-
-    same : decision old.party i moment ≡ decision_of old.party (row_at old.party i moment)
-    same = decides_row old.party i moment
-
-    stays : StandsWith image old.party (room old) → IsCutEvent old i moment image
-    stays s = record { completion = CutOld; stands = λ n w at. (member_of old, at, s) }
-
-    own : (apply (differing old.party (row_at old.party i moment).edits) old.party).own ≡ old.party.own
-    own = own_stays (differing old.party (row_at old.party i moment).edits) old.party (differing_goes old.party (row_at old.party i moment).edits (row_goes old.party i moment))
-
-    by_edits : is_accept (row_at old.party i moment).verdict ≡ true → (es : List Edit) → differing old.party (row_at old.party i moment).edits ≡ es → FitsInto (room old) (some_edits es) → StandsWith image (apply es old.party) (turns.room_after (room old) (some_edits es)) → IsCutEvent old i moment image
-    by_edits accept [] e f s = stays s
-    by_edits accept (x ∷ xs) e f s =
-        let changes : is_change (differing old.party (row_at old.party i moment).edits) ≡ true = rw e refl in
-        let fits_now : fits (room old) (differing old.party (row_at old.party i moment).edits) ≡ true = ap (fits (room old)) e ∙ fits_so (room old) (x ∷ xs) f in
-        record {
-          completion = CutNew;
-          stands = λ n w at. (
-            member_after (member_of old) (row_at old.party i moment),
-            cut_new old.party (room old) (received_text i) (row_at old.party i moment) accept changes fits_now own n w at,
-            subst (λ (es : List Edit). StandsWith image (apply es old.party) (room_after (room old) es)) (sym e) s,
-          );
-        }
-
-    by_verdict : (b : Bool) → is_accept (row_at old.party i moment).verdict ≡ b → FitsInto (room old) (decision_of old.party (row_at old.party i moment)).change
-        → StandsWith image (after (decision_of old.party (row_at old.party i moment)) old.party) (turns.room_after (room old) (decision_of old.party (row_at old.party i moment)).change) → IsCutEvent old i moment image
-    by_verdict true accept f s =
-        let change = change_so old.party (room old) (received_text i) (row_at old.party i moment) accept in
-        let party = after_so old.party (room old) (received_text i) (row_at old.party i moment) accept in
-        by_edits accept (differing old.party (row_at old.party i moment).edits) refl (subst (FitsInto (room old)) change f)
-        (subst (λ (c : Option (List Edit)). StandsWith image (apply (differing old.party (row_at old.party i moment).edits) old.party) (turns.room_after (room old) c)) change
-        (subst (λ (p : Party). StandsWith image p (turns.room_after (room old) (decision_of old.party (row_at old.party i moment)).change)) party s))
-    by_verdict false refuse f s =
-        let none : (decision_of old.party (row_at old.party i moment)).change ≡ None = rw refuse refl in
-        stays (subst (λ (c : Option (List Edit)). StandsWith image (apply (unwrap_or c []) old.party) (turns.room_after (room old) c)) none s)
-
-    by_row : FitsInto (room old) (decision_of old.party (row_at old.party i moment)).change → IsOldOrNext old.party (room old) (decision_of old.party (row_at old.party i moment)) image → IsCutEvent old i moment image
-    by_row f (inl s) = stays s
-    by_row f (inr s) = by_verdict (is_accept (row_at old.party i moment).verdict) refl f s
+cut_turn told old i moment t image is may left = cut_input old.party (room old) i moment image (fits_of told old (decision old.party i moment) t is.answer may) left

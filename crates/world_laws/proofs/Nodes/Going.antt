@@ -4,14 +4,19 @@ use Rattle.csm_grammar.specs.declared.message.Rtr.{Rtr}
 use Rattle.party_state.specs.Keys.{sends, takes}
 use Rattle.party_state.specs.State.{link_with, centre_label}
 use Rattle.bank_arrivals.specs.Esm.{subject_value}
-use Rattle.standard_rows.specs.Draws.{KkDrawn, kk_drawn}
-use Rattle.standard_rows.specs.StartKk.{kk_sending, start_kk_under}
-use Rattle.standard_rows.specs.Keys.{body_link, body_count, body_new, body_record, taken_edits, key_row}
-use Rattle.standard_rows.specs.Waiting.{Waiting, waiting_with}
-use Rattle.standard_rows.specs.Asking.{translate_drawn, translate_under}
-use Rattle.standard_rows.specs.Answers.{brought, translated, rtr_with}
-use Rattle.standard_rows.specs.Errors.{Retry, asked_again, error_of, retry_in}
-use Rattle.standard_rows.specs.Rows.{bank_command, bank_message}
+use Rattle.bank_orders.specs.declared.draws.KkDrawn.{KkDrawn}
+use Rattle.bank_orders.specs.Draws.{kk_drawn}
+use Rattle.bank_orders.specs.StartKk.{kk_sending, start_kk_under}
+use Rattle.bank_keys.specs.Ksm.{body_link, body_count, body_new, body_record, taken_edits, key_row}
+use Rattle.bank_keys.specs.declared.waits.Waiting.{Waiting}
+use Rattle.bank_keys.specs.Waiting.{waiting_with}
+use Rattle.bank_orders.specs.Translate.{translate_drawn, translate_under}
+use Rattle.bank_keys.specs.Rtr.{brought, translated, rtr_with}
+use Rattle.bank_arrivals.specs.declared.asking_again.Retry.{Retry}
+use Rattle.bank_arrivals.specs.AskingAgain.{asked_again, retry_in}
+use Rattle.bank_arrivals.specs.Esm.{error_of}
+use Rattle.bank_orders.specs.Orders.{command_row}
+use Rattle.bank_role.specs.Rows.{message_row}
 use Rattle.role_base.specs.Texts.{is_plain}
 use Rattle.std.proofs.Common.{◌≡◌, ℕ, Bool, true, false, cond, Option, Some, None, List, [], ◌∷◌, ◌++◌, refl, ◌∙◌}
 use Rattle.std.specs.List.{AllByRecursion}
@@ -43,9 +48,9 @@ use Rattle.party_state.specs.Ranges.{IsNoBegin}
 use Rattle.party_state.specs.State.{Party, apply_edit, apply, first_link, exchange_with, is_ended}
 use Rattle.party_state.specs.Verdicts.{Test}
 use Rattle.role_base.specs.declared.exchanges.Sent.{Sent}
-use Rattle.bank_arrivals.specs.declared.esm.Subject.{Subject}
-use Rattle.bank_arrivals.specs.declared.esm.Subject.TheVariants.{SentKey, Translated}
-use Rattle.bank_arrivals.specs.declared.dsm.Named.{Named}
+use Rattle.bank_arrivals.specs.declared.error_message.Subject.{Subject}
+use Rattle.bank_arrivals.specs.declared.error_message.Subject.TheVariants.{SentKey, Translated}
+use Rattle.bank_arrivals.specs.declared.disconnection.Named.{Named}
 use Rattle.role_base.specs.Texts.{is_plain}
 use Rattle.role_base.specs.Exchanges.{record_of, sent_to, ending_with, new_link, readied, dropped}
 use Rattle.role_base.specs.Sending.{sending_drawn}
@@ -133,7 +138,7 @@ translate_goes p centre u (Some l) moment = go (good_draw p.generator moment)
     go None = tt
     go (Some d) = (ok, (ok, (ok, tt)))
 
-pub command_goes : (p : Party) (c : Command) (moment : ℕ) → GoesOn (bank_command p c moment).edits
+pub command_goes : (p : Party) (c : Command) (moment : ℕ) → GoesOn (command_row p c moment).edits
 command_goes p (command.Load peer label side pair) moment = (ok, tt)
 command_goes p (command.Start peer label) moment = go (sending_link p peer label)
   where
@@ -236,7 +241,7 @@ dsm_goes p a m (Some n) = by_status (is_ended n.key.status)
     by_status true = tt
     by_status false = (let g = by_exchange (exchange_with m.originator p) in joined _ _ g.0 (ok, g.1))
 
-pub message_goes : (p : Party) (a : Arrival) (m : Message) (moment : ℕ) → GoesOn (bank_message p a m moment).edits
+pub message_goes : (p : Party) (a : Arrival) (m : Message) (moment : ℕ) → GoesOn (message_row p a m moment).edits
 message_goes p a (message.Rsi m) moment = rsi_goes p a m moment (first_link m.originator Sends p)
 message_goes p a (message.Rfs m) moment = tt
 message_goes p a (message.Rtr m) moment = rtr_goes p a m m.kd

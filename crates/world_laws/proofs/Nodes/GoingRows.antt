@@ -1,21 +1,21 @@
 -- No row begins a party.
-use Rattle.std.proofs.Common.{filter, max, bytes_eq, subst, sym}
+use Rattle.std.proofs.Common.{filter, max, bytes_eq}
 use Rattle.x_base.specs.declared.verdict.Verdict.TheVariants.{WrongClass}
 use Rattle.csm_grammar.specs.declared.message.Ers.{Ers}
 use Rattle.party_state.specs.declared.answer.Answer.{Answer}
 use Rattle.party_state.specs.Keys.{sends, takes}
 use Rattle.party_state.specs.State.{link_with, centre_label, answer_with}
 use Rattle.party_state.specs.Rows.{refused}
-use Rattle.bank_orders.specs.Load.{load}
+use Rattle.role_base.specs.Load.{load}
 use Rattle.role_base.specs.Differing.{differs, differing}
-use Rattle.standard_rows.specs.Distribution.{answering, rsi_tests as centre_tests, rsi_between, rsi_for, ers_tests, ers_between}
-use Rattle.standard_rows.specs.Translation.{rfs_between}
-use Rattle.standard_rows.specs.Rows.{bank_command, bank_message, centre_command, distribution_message, translation_message}
-use Rattle.standard_rows.specs.Rows as standard
-use Rattle.role_base.specs.Texts.{is_plain}
-use Rattle.party_state.specs.Rows.{Row}
-use Rattle.world_laws.proofs.Roles.Served.{ServedBy, as_standard, unserved, unretried, served}
-use Rattle.roles.specs.Rows.{row_at}
+use Rattle.distribution_role.specs.Answering.{answering}
+use Rattle.distribution_role.specs.Requests.{rsi_tests as centre_tests, rsi_between, rsi_for}
+use Rattle.distribution_role.specs.Recovery.{ers_tests, ers_between}
+use Rattle.translation_role.specs.Service.{rfs_between}
+use Rattle.centre_base.specs.Orders.{centre_command}
+use Rattle.distribution_role.specs.Rows.{distribution_message}
+use Rattle.translation_role.specs.Rows.{translation_message}
+use Rattle.roles.specs.Rows.{row_by, row_at}
 use Rattle.std.proofs.Common.{ℕ, Bool, true, false, cond, Option, Some, None, List, [], ◌∷◌}
 use Rattle.x_base.specs.declared.party.Role.{Role}
 use Rattle.x_base.specs.declared.party.Role.TheVariants.{Bank, Distribution, Translation}
@@ -33,9 +33,7 @@ use Rattle.party_state.specs.declared.command.Input.{Input}
 use Rattle.party_state.specs.declared.command.Input.TheVariants as input
 use Rattle.party_state.specs.State.{Party}
 use Rattle.party_state.specs.Verdicts.{Test}
-use Rattle.role_base.specs.Texts.{is_plain}
-use Rattle.bank_arrivals.specs.Esm.{subject_with}
-use Rattle.world_laws.proofs.Nodes.Going.{GoesOn, ok, command_goes, esm_goes, message_goes}
+use Rattle.world_laws.proofs.Nodes.Going.{GoesOn, ok, command_goes, message_goes}
 
 answering_goes : (p : Party) (requester u : List ℕ) (tests : List Test) (a b : LinkRec) (d : Option (ℕ × Gen)) → GoesOn (answering p requester u tests a b d).edits
 answering_goes p requester u tests a b None = tt
@@ -96,7 +94,7 @@ centre_goes p (command.End peer name) = tt
 centre_goes p (command.Drop peer) = tt
 centre_goes p command.Purge = tt
 
-role_goes : (r : Role) (p : Party) (i : Input) (moment : ℕ) → GoesOn (standard.row_by r p i moment).edits
+role_goes : (r : Role) (p : Party) (i : Input) (moment : ℕ) → GoesOn (row_by r p i moment).edits
 role_goes Bank p (input.Ordered c) moment = command_goes p c moment
 role_goes Bank p (input.Arrived a) moment = message_goes p a a.parsed.message moment
 role_goes Distribution p (input.Ordered c) moment = centre_goes p c
@@ -105,12 +103,7 @@ role_goes Translation p (input.Ordered c) moment = centre_goes p c
 role_goes Translation p (input.Arrived a) moment = translation_goes p a a.parsed.message
 
 pub row_goes : (p : Party) (i : Input) (moment : ℕ) → GoesOn (row_at p i moment).edits
-row_goes p i moment = go (served p i moment)
-  where
-    go : ServedBy p.role p i moment → GoesOn (row_at p i moment).edits
-    go (as_standard r l) = subst (λ (z : Row). GoesOn z.edits) (sym r) (role_goes p.role p i moment)
-    go (unserved v r) = subst (λ (z : Row). GoesOn z.edits) (sym r) tt
-    go (unretried a m is said r) = subst (λ (z : Row). GoesOn z.edits) (sym r) (esm_goes p a m (is_plain a.parsed.shut) (subject_with p m.originator) None)
+row_goes p i moment = role_goes p.role p i moment
 
 -- also where those that make no difference are left out
 filter_goes : (p : Party) (es : List Edit) → GoesOn es → GoesOn (filter (differs p) es)

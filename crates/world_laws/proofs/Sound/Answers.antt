@@ -12,8 +12,9 @@ use Rattle.world_laws.proofs.Links.Found.{LinkAt}
 use Rattle.world_laws.proofs.Counting.Sound.{IsSound}
 use Rattle.csm_grammar.specs.declared.message.Rtr.{Rtr}
 use Rattle.party_state.specs.Verdicts.{verdict_of}
-use Rattle.standard_rows.specs.Waiting.{Waiting, waiting_with}
-use Rattle.standard_rows.specs.Answers.{brought_front, brought_tests, brought, translated_front, translated, rtr_with}
+use Rattle.bank_keys.specs.declared.waits.Waiting.{Waiting}
+use Rattle.bank_keys.specs.Waiting.{waiting_with}
+use Rattle.bank_keys.specs.Rtr.{brought_front, brought_tests, brought, translated_front, translated, rtr_with}
 use Rattle.world_laws.proofs.Links.Found.{link_at}
 use Rattle.world_laws.proofs.Counting.Quiet.{refused_sound, quiet_sound, passes_sound}
 use Rattle.world_laws.proofs.Sound.Keys.{count_low}

@@ -1,9 +1,11 @@
 -- The rows of the messages that arrive at a bank.
 use Rattle.std.specs.List.{AllByRecursion}
 use Rattle.party_state.specs.Rows.{Row}
-use Rattle.standard_rows.specs.Keys.{body_link}
-use Rattle.standard_rows.specs.Errors.{Retry, asked_again, error_row, error_of, error_with, retry_in}
-use Rattle.standard_rows.specs.Rows.{bank_message}
+use Rattle.bank_keys.specs.Ksm.{body_link}
+use Rattle.bank_arrivals.specs.declared.asking_again.Retry.{Retry}
+use Rattle.bank_arrivals.specs.AskingAgain.{asked_again, retry_in}
+use Rattle.bank_arrivals.specs.Esm.{error_row, error_of, error_with}
+use Rattle.bank_role.specs.Rows.{message_row}
 use Rattle.world_laws.proofs.Counting.Sound.{SoundRow}
 use Rattle.world_laws.proofs.Counting.Quiet.{IsQuiet, all_fine, all_calm, no_free}
 use Rattle.world_laws.proofs.Sound.Keys.{key_row_sound}
@@ -29,9 +31,9 @@ use Rattle.party_state.specs.Keys.{link_key, same_name}
 use Rattle.party_state.specs.State.{Party, link_with, first_link, apply, apply_edit, exchange_with, is_ended}
 use Rattle.party_state.specs.Verdicts.{verdict_of, is_accept}
 use Rattle.role_base.specs.declared.exchanges.Sent.{Sent}
-use Rattle.bank_arrivals.specs.declared.esm.Subject.{Subject}
-use Rattle.bank_arrivals.specs.declared.esm.Subject.TheVariants.{SentKey, Translated}
-use Rattle.bank_arrivals.specs.declared.dsm.Named.{Named}
+use Rattle.bank_arrivals.specs.declared.error_message.Subject.{Subject}
+use Rattle.bank_arrivals.specs.declared.error_message.Subject.TheVariants.{SentKey, Translated}
+use Rattle.bank_arrivals.specs.declared.disconnection.Named.{Named}
 use Rattle.role_base.specs.Texts.{auth_text, is_plain}
 use Rattle.role_base.specs.Exchanges.{new_link, sent_to, ending_with, readied, dropped}
 use Rattle.bank_arrivals.specs.Rsi.{rsi_tests, rsi_under}
@@ -181,7 +183,7 @@ dsm_sound p a m (Some n) w = passes_sound p (auth_text a) (dsm_on p a m (Some n)
 abbrev plain_sound : {p : Party} {text : List ℕ} {r : Row} → IsSound None p text r → SoundRow p text r
 plain_sound {p} {text} {r} g = record { new = None; sound = g }
 
-pub message_sound : (p : Party) (a : Arrival) (m : Message) (moment : ℕ) → HasLinks p → Waits p → Says (auth_text a) m → is_accept (bank_message p a m moment).verdict ≡ true → SoundRow p (auth_text a) (bank_message p a m moment)
+pub message_sound : (p : Party) (a : Arrival) (m : Message) (moment : ℕ) → HasLinks p → Waits p → Says (auth_text a) m → is_accept (message_row p a m moment).verdict ≡ true → SoundRow p (auth_text a) (message_row p a m moment)
 message_sound p a (message.Rsi m) moment d n said h = plain_sound (rsi_sound p a m moment (first_link m.originator Sends p) d refl)
 message_sound p a (message.Rfs m) moment d n said h = plain_sound (refused_sound p (auth_text a) _)
 message_sound p a (message.Rtr m) moment d n said h = plain_sound (rtr_sound p a m m.kd h)

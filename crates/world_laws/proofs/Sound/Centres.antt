@@ -1,5 +1,5 @@
 -- The rows of the centres: what the laws that need no honesty ask.
-use Rattle.bank_arrivals.specs.Rsi.{is_data_key}
+use Rattle.role_base.specs.Conditions.{is_data_key}
 use Rattle.party_state.proofs.Verdicts.{blocked}
 use Rattle.std.proofs.Common.{arith, ◌≡◌, ◌≢◌, ℕ, ◌+◌, ◌≤◌, inl, not, true, false, Option, Some, None, List, [], ◌∷◌, ◌++◌, refl, sym, ◌∙◌, ap, subst, bytes_eq}
 use Rattle.std.proofs.lemmas.Bool.{and_parts}
@@ -32,9 +32,14 @@ use Rattle.party_state.specs.declared.command.Command.TheVariants as command
 use Rattle.party_state.specs.State.{answer_with}
 use Rattle.party_state.specs.Verdicts.{Test, verdict_of, all_refuse}
 use Rattle.party_state.proofs.Verdicts.{held_after}
-use Rattle.standard_rows.specs.Distribution.{request_front, rsi_front, rsi_tests, rsi_between, rsi_for, ers_front, ers_tests, ers_between, answering}
-use Rattle.standard_rows.specs.Translation.{rfs_front, rfs_tests, rfs_between}
-use Rattle.standard_rows.specs.Rows.{centre_command, distribution_message, translation_message}
+use Rattle.centre_base.specs.Requests.{request_front}
+use Rattle.distribution_role.specs.Requests.{rsi_front, rsi_tests, rsi_between, rsi_for}
+use Rattle.distribution_role.specs.Recovery.{ers_front, ers_tests, ers_between}
+use Rattle.distribution_role.specs.Answering.{answering}
+use Rattle.translation_role.specs.Service.{rfs_front, rfs_tests, rfs_between}
+use Rattle.centre_base.specs.Orders.{centre_command}
+use Rattle.distribution_role.specs.Rows.{distribution_message}
+use Rattle.translation_role.specs.Rows.{translation_message}
 use Rattle.world_laws.specs.Events.{IsCommand}
 use Rattle.world_laws.proofs.Links.Growth.{link_on, link_stays}
 use Rattle.world_laws.proofs.Links.Found.{link_at}

@@ -2,8 +2,9 @@
 use Rattle.party_state.specs.Rows.{Row}
 use Rattle.party_state.specs.State.{centre_label}
 use Rattle.party_state.specs.Verdicts.{is_accept}
-use Rattle.standard_rows.specs.Asking.{ask_centre, ask_of, translate_drawn, translate_under}
-use Rattle.standard_rows.specs.Rows.{bank_command}
+use Rattle.bank_orders.specs.Ask.{ask_centre, ask_of}
+use Rattle.bank_orders.specs.Translate.{translate_drawn, translate_under}
+use Rattle.bank_orders.specs.Orders.{command_row}
 use Rattle.std.proofs.Common.{true}
 use Rattle.world_laws.proofs.Links.Found.{LinkAt, link_at}
 use Rattle.world_laws.proofs.Links.Putting.{put_at}
@@ -30,7 +31,7 @@ use Rattle.party_state.proofs.Tables.{find_put_same}
 use Rattle.role_base.specs.Exchanges.{record_of, new_link, dropped}
 use Rattle.role_base.specs.Sending.{sending_tests, sending_drawn}
 use Rattle.bank_orders.specs.Start.{sending_link, start_tests, start_under}
-use Rattle.bank_orders.specs.Ask.{ask}
+use Rattle.bank_orders.specs.Ask.{ask_peer}
 use Rattle.bank_orders.specs.Resend.{resend_of}
 use Rattle.bank_orders.specs.GivingUp.{ended, given_up, given_up_in, drop}
 use Rattle.bank_orders.specs.Ending.{end_record, purge}
@@ -62,10 +63,6 @@ sending_sound p text front peer l (Some drawn) s =
 start_sound : (p : Party) (text : List ℕ) (peer : List ℕ) (o : Option LinkRec) (moment : ℕ) → ((l : LinkRec) → o ≡ Some l → SendingAt p peer l) → IsSound None p text (start_under p peer o moment)
 start_sound p text peer None moment f = refused_sound p text (verdict_of (start_tests p peer None))
 start_sound p text peer (Some l) moment f = sending_sound p text (start_tests p peer (Some l)) peer l (good_draw p.generator moment) (f l refl)
-
-ask_sound : (p : Party) (text : List ℕ) (peer : List ℕ) (o : Option (List ℕ)) → IsSound None p text (ask p peer o)
-ask_sound p text peer None = quiet_sound p text (ask p peer None) tt refl (λ a e. absurd (cc))
-ask_sound p text peer (Some ultimate) = quiet_sound p text (ask p peer (Some ultimate)) tt refl (λ a e. absurd (cc))
 
 resend_sound : (p : Party) (text : List ℕ) (o : Option Exchange) → IsSound None p text (resend_of o)
 resend_sound p text None = quiet_sound p text (resend_of None) tt refl (λ a e. absurd (cc))
@@ -99,7 +96,7 @@ abbrev plain_sound : {p : Party} {text : List ℕ} {r : Row} → IsSound None p 
 plain_sound {p} {text} {r} g = record { new = None; sound = g }
 
 ask_of_sound : (p : Party) (text : List ℕ) (peer : List ℕ) (o : Option (List ℕ)) → IsSound None p text (ask_of p peer o)
-ask_of_sound p text peer None = ask_sound p text peer None
+ask_of_sound p text peer None = quiet_sound p text (ask_peer p peer) tt refl (λ a e. absurd (cc))
 ask_of_sound p text peer (Some u) = quiet_sound p text (ask_centre p peer u) (refl, tt) refl (λ a e. absurd (cc))
 
 translate_sound : (p : Party) (text : List ℕ) (centre u : List ℕ) (o : Option LinkRec) (moment : ℕ) → link_with (sends centre centre_label) p ≡ o → IsSound None p text (translate_under p centre u o moment)
@@ -124,7 +121,7 @@ translate_sound p text centre u (Some l) moment e = by_draw (good_draw p.generat
       accepts = tt;
     }
 
-pub command_sound : (p : Party) (c : Command) (moment : ℕ) → IsCommand c → HasLinks p → Waits p → is_accept (bank_command p c moment).verdict ≡ true → SoundRow p [] (bank_command p c moment)
+pub command_sound : (p : Party) (c : Command) (moment : ℕ) → IsCommand c → HasLinks p → Waits p → is_accept (command_row p c moment).verdict ≡ true → SoundRow p [] (command_row p c moment)
 command_sound p (command.Load peer label side pair) moment i d n h = absurd i
 command_sound p (command.Start peer label) moment i d n h = plain_sound (start_sound p [] peer (sending_link p peer label) moment (λ l h. sending_at p peer label l d h))
 command_sound p (command.StartKk peer label new single) moment i d n h = start_kk_sound p [] peer new single (sending_link p peer label) moment (λ l h. sending_at p peer label l d h) h

@@ -15,8 +15,8 @@ use Rattle.party_state.specs.State.{Party, centre_label, link_with, record_with,
 use Rattle.party_state.proofs.Keys.{test_records}
 use Rattle.party_state.proofs.Tables.{find_key}
 use Rattle.role_base.specs.declared.exchanges.Sent.{Sent}
-use Rattle.bank_arrivals.specs.declared.esm.Subject.{Subject}
-use Rattle.bank_arrivals.specs.declared.esm.Subject.TheVariants.{SentKey, Translated}
+use Rattle.bank_arrivals.specs.declared.error_message.Subject.{Subject}
+use Rattle.bank_arrivals.specs.declared.error_message.Subject.TheVariants.{SentKey, Translated}
 use Rattle.role_base.specs.Exchanges.{record_of, sent_by, sent_in, sent_to, ending_by, ending_in, ending_with, new_link, new_label, new_link_at}
 use Rattle.bank_arrivals.specs.Esm.{subject_by, subject_in, subject_with, way_link, subject_link, is_renewed}
 use Rattle.world_laws.proofs.Links.Found.{LinkAt, link_at}

@@ -37,7 +37,7 @@ use Rattle.world_laws.proofs.Counting.Sound.{KsmFine, IsSound, change_links}
 use Rattle.world_laws.proofs.Counting.Quiet.{pairs_none}
 use Rattle.party_state.specs.Verdicts.{verdict_of, all_refuse}
 use Rattle.party_state.proofs.Verdicts.{held_after}
-use Rattle.standard_rows.specs.Keys.{body_link, body_count, body_new, body_name, body_front, body_record, body_tests, body_edits, new_tests, taken_edits, taken_link, key_row}
+use Rattle.bank_keys.specs.Ksm.{body_link, body_count, body_new, body_name, body_front, body_record, body_tests, body_edits, new_tests, taken_edits, taken_link, key_row}
 use Rattle.world_laws.proofs.Links.Putting.{free_parts}
 use Rattle.world_laws.proofs.Links.Found.{link_at}
 use Rattle.world_laws.proofs.Links.Taken.{name_link, ksm_link_grows, ksm_name_stays}

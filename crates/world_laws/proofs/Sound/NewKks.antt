@@ -20,8 +20,9 @@ use Rattle.world_laws.proofs.Links.Growth.{next_up}
 use Rattle.world_laws.proofs.Links.Found.{SendingAt}
 use Rattle.world_laws.proofs.Links.Waiting.{new_of, WaitsFor, Waits, change_waits}
 use Rattle.world_laws.proofs.Counting.Sound.{IsSound}
-use Rattle.standard_rows.specs.Draws.{KkDrawn, kk_drawn}
-use Rattle.standard_rows.specs.StartKk.{kk_tests, kk_edits, fresh_link, kk_sending, start_kk_under}
+use Rattle.bank_orders.specs.declared.draws.KkDrawn.{KkDrawn}
+use Rattle.bank_orders.specs.Draws.{kk_drawn}
+use Rattle.bank_orders.specs.StartKk.{kk_tests, kk_edits, fresh_link, kk_sending, start_kk_under}
 use Rattle.bank_orders.specs.Start.{start_tests}
 use Rattle.party_state.specs.Verdicts.{verdict_of}
 use Rattle.world_laws.proofs.Links.Putting.{put_at, none_is, some_none, free_parts}

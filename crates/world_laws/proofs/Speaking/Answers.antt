@@ -3,14 +3,20 @@ use Rattle.world_laws.proofs.Roles.Inputs.{IsInput}
 use Rattle.csm_grammar.proofs.Arrived.{arrival_says}
 use Rattle.role_base.specs.Texts.{is_plain}
 use Rattle.csm_grammar.specs.declared.message.Message.TheVariants as message
-use Rattle.standard_rows.specs.Answers.{brought, translated, rtr_with}
-use Rattle.standard_rows.specs.Asking.{translate_drawn, translate_under}
-use Rattle.standard_rows.specs.Distribution.{rsi_tests as centre_tests, rsi_between, rsi_for, ers_tests, ers_between, answering}
-use Rattle.standard_rows.specs.Draws.{KkDrawn, kk_drawn}
-use Rattle.standard_rows.specs.Errors.{error_of, error_with, retry_in, Retry}
-use Rattle.standard_rows.specs.Keys.{body_link}
-use Rattle.standard_rows.specs.StartKk.{kk_sending, start_kk_under}
-use Rattle.standard_rows.specs.Waiting.{Waiting, waiting_with}
+use Rattle.bank_keys.specs.Rtr.{brought, translated, rtr_with}
+use Rattle.bank_orders.specs.Translate.{translate_drawn, translate_under}
+use Rattle.distribution_role.specs.Requests.{rsi_tests as centre_tests, rsi_between, rsi_for}
+use Rattle.distribution_role.specs.Recovery.{ers_tests, ers_between}
+use Rattle.distribution_role.specs.Answering.{answering}
+use Rattle.bank_orders.specs.declared.draws.KkDrawn.{KkDrawn}
+use Rattle.bank_orders.specs.Draws.{kk_drawn}
+use Rattle.bank_arrivals.specs.Esm.{error_of, error_with}
+use Rattle.bank_arrivals.specs.AskingAgain.{retry_in}
+use Rattle.bank_arrivals.specs.declared.asking_again.Retry.{Retry}
+use Rattle.bank_keys.specs.Ksm.{body_link}
+use Rattle.bank_orders.specs.StartKk.{kk_sending, start_kk_under}
+use Rattle.bank_keys.specs.declared.waits.Waiting.{Waiting}
+use Rattle.bank_keys.specs.Waiting.{waiting_with}
 use Rattle.bank_arrivals.specs.Dsm.{named_by, dsm_on}
 use Rattle.bank_orders.specs.Ending.{end_record}
 use Rattle.bank_arrivals.specs.Esm.{subject_with}
@@ -19,8 +25,8 @@ use Rattle.bank_arrivals.specs.Rsm.{rsm_to, answer_to, rsm_with}
 use Rattle.role_base.specs.Sending.{sending_drawn}
 use Rattle.bank_orders.specs.Start.{start_tests, start_under}
 use Rattle.role_base.specs.Texts.{auth_text}
-use Rattle.bank_arrivals.specs.declared.dsm.Named.{Named}
-use Rattle.bank_arrivals.specs.declared.esm.Subject.{Subject}
+use Rattle.bank_arrivals.specs.declared.disconnection.Named.{Named}
+use Rattle.bank_arrivals.specs.declared.error_message.Subject.{Subject}
 use Rattle.role_base.specs.declared.exchanges.Sent.{Sent}
 use Rattle.csm_grammar.specs.Spelling.{Says}
 use Rattle.csm_grammar.specs.declared.arrival.Arrival.{Arrival}
@@ -55,8 +61,13 @@ use Rattle.party_state.specs.State.{answer_with, first_link}
 use Rattle.bank_arrivals.specs.Rsi.{rsi_tests as bank_rsi_tests, rsi_under}
 use Rattle.bank_orders.specs.Start.{sending_link}
 use Rattle.bank_orders.specs.Resend.{resend_of}
-use Rattle.standard_rows.specs.Keys.{body_link}
-use Rattle.standard_rows.specs.Rows.{row_by, bank_command, bank_message, centre_command, distribution_message, translation_message}
+use Rattle.bank_keys.specs.Ksm.{body_link}
+use Rattle.roles.specs.Rows.{row_by}
+use Rattle.bank_orders.specs.Orders.{command_row}
+use Rattle.bank_role.specs.Rows.{message_row}
+use Rattle.centre_base.specs.Orders.{centre_command}
+use Rattle.distribution_role.specs.Rows.{distribution_message}
+use Rattle.translation_role.specs.Rows.{translation_message}
 use Rattle.world_laws.specs.Events.{IsCommand}
 use Rattle.world_laws.proofs.Texts.Names.{IsNamed}
 use Rattle.x_gen.specs.Gen.{good_draw}
@@ -71,7 +82,7 @@ module _ (p : Party) (i : IsNamed p) where
   sending_none front l None = refl
   sending_none front l (Some d) = refl
 
-  command_none : (c : Command) (moment : ℕ) → (bank_command p c moment).answer ≡ None
+  command_none : (c : Command) (moment : ℕ) → (command_row p c moment).answer ≡ None
   command_none (command.Load peer label side pair) moment = refl
   command_none (command.Start peer label) moment = go (sending_link p peer label)
     where
@@ -151,15 +162,15 @@ module _ (p : Party) (i : IsNamed p) where
   dsm_none a m None = refl
   dsm_none a m (Some n) = refl
 
-  bank_tells : (a : Arrival) (m : Message) (moment : ℕ) → HasLinks p → Says (auth_text a) m → TellsEsm (bank_message p a m moment).answer
-  bank_tells a (message.Rsi m) moment d said = none_tells (bank_message p a (message.Rsi m) moment).answer (rsi_none a m moment (first_link m.originator Sends p))
+  bank_tells : (a : Arrival) (m : Message) (moment : ℕ) → HasLinks p → Says (auth_text a) m → TellsEsm (message_row p a m moment).answer
+  bank_tells a (message.Rsi m) moment d said = none_tells (message_row p a (message.Rsi m) moment).answer (rsi_none a m moment (first_link m.originator Sends p))
   bank_tells a (message.Rfs m) moment d said = tt
-  bank_tells a (message.Rtr m) moment d said = none_tells (bank_message p a (message.Rtr m) moment).answer (rtr_none a m m.kd)
+  bank_tells a (message.Rtr m) moment d said = none_tells (message_row p a (message.Rtr m) moment).answer (rtr_none a m m.kd)
   bank_tells a (message.Ksm m) moment d said = key_tells p i a m m.body (body_link p m.originator m.body) d refl refl said
-  bank_tells a (message.Rsm m) moment d said = none_tells (bank_message p a (message.Rsm m) moment).answer (rsm_none a m m.idd)
+  bank_tells a (message.Rsm m) moment d said = none_tells (message_row p a (message.Rsm m) moment).answer (rsm_none a m m.idd)
   bank_tells a (message.Ers m) moment d said = tt
-  bank_tells a (message.Esm m) moment d said = none_tells (bank_message p a (message.Esm m) moment).answer (esm_none a m (is_plain a.parsed.shut) (retry_in p (subject_with p m.originator) m.ctr))
-  bank_tells a (message.Dsm m) moment d said = none_tells (bank_message p a (message.Dsm m) moment).answer (dsm_none a m (named_by p m))
+  bank_tells a (message.Esm m) moment d said = none_tells (message_row p a (message.Esm m) moment).answer (esm_none a m (is_plain a.parsed.shut) (retry_in p (subject_with p m.originator) m.ctr))
+  bank_tells a (message.Dsm m) moment d said = none_tells (message_row p a (message.Dsm m) moment).answer (dsm_none a m (named_by p m))
 
   answering_none : (requester u : List ℕ) (tests : List Test) (a b : LinkRec) (d : Option (ℕ × Gen)) → (answering p requester u tests a b d).answer ≡ None
   answering_none requester u tests a b None = refl
@@ -212,7 +223,7 @@ module _ (p : Party) (i : IsNamed p) where
   centre_none command.Purge e = tt
 
   pub role_tells : (r : Role) (j : Input) (moment : ℕ) → IsInput j → HasLinks p → TellsEsm (row_by r p j moment).answer
-  role_tells role.Bank (input.Ordered c) moment e d = none_tells (bank_command p c moment).answer (command_none c moment)
+  role_tells role.Bank (input.Ordered c) moment e d = none_tells (command_row p c moment).answer (command_none c moment)
   role_tells role.Bank (input.Arrived a) moment e d = bank_tells a a.parsed.message moment d (arrival_says a)
   role_tells role.Distribution (input.Ordered c) moment e d = centre_none c e
   role_tells role.Distribution (input.Arrived a) moment e d = distribution_tells a a.parsed.message moment

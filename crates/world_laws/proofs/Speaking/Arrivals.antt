@@ -8,18 +8,21 @@ use Rattle.csm_grammar.specs.declared.message.KsmBody.TheVariants as body
 use Rattle.csm_grammar.specs.declared.message.Message.TheVariants as message
 use Rattle.party_state.specs.declared.exchange.Kind.TheVariants as kind
 use Rattle.party_state.specs.declared.exchange.Via.TheVariants as via
-use Rattle.standard_rows.specs.Answers.{centre_ksm, passed_record, brought_value, brought, translated, rtr_with}
-use Rattle.standard_rows.specs.Errors.{Retry, retry_by, asked_again, again_reply, error_of, error_with, retry_in}
-use Rattle.standard_rows.specs.Keys.{body_count, body_new, body_link, body_name, body_record, taken_edits, key_row}
-use Rattle.standard_rows.specs.Waiting.{Waiting, waiting_with}
+use Rattle.bank_keys.specs.Rtr.{centre_ksm, passed_record, brought_value, brought, translated, rtr_with}
+use Rattle.bank_arrivals.specs.declared.asking_again.Retry.{Retry}
+use Rattle.bank_arrivals.specs.AskingAgain.{retry_by, asked_again, again_reply, retry_in}
+use Rattle.bank_arrivals.specs.Esm.{error_of, error_with}
+use Rattle.bank_keys.specs.Ksm.{body_count, body_new, body_link, body_name, body_record, taken_edits, key_row}
+use Rattle.bank_keys.specs.declared.waits.Waiting.{Waiting}
+use Rattle.bank_keys.specs.Waiting.{waiting_with}
 use Rattle.bank_arrivals.specs.Dsm.{paired, code_name, named_by, left_by, left_in, dsm_on}
 use Rattle.bank_arrivals.specs.Esm.{subject_with, subject_link, raised}
 use Rattle.role_base.specs.Exchanges.{record_of, sent_to, ending_with, new_link, new_link_at, new_label, readied, dropped}
 use Rattle.bank_arrivals.specs.Rsm.{rsm_to, answer_to, rsm_with}
 use Rattle.role_base.specs.Texts.{auth_text}
-use Rattle.bank_arrivals.specs.declared.dsm.Named.{Named}
-use Rattle.bank_arrivals.specs.declared.esm.Subject.{Subject}
-use Rattle.bank_arrivals.specs.declared.esm.Subject.TheVariants.{SentKey, Translated}
+use Rattle.bank_arrivals.specs.declared.disconnection.Named.{Named}
+use Rattle.bank_arrivals.specs.declared.error_message.Subject.{Subject}
+use Rattle.bank_arrivals.specs.declared.error_message.Subject.TheVariants.{SentKey, Translated}
 use Rattle.role_base.specs.declared.exchanges.Sent.{Sent}
 use Rattle.csm_grammar.specs.Spelling.{Says}
 use Rattle.csm_grammar.specs.declared.arrival.Arrival.{Arrival}
@@ -54,8 +57,8 @@ use Rattle.x_base.specs.Names.{IsIdent}
 use Rattle.x_base.specs.Count.{IsCount}
 use Rattle.party_state.specs.declared.edit.Edit.TheVariants.{PutKey, DropExchange}
 use Rattle.party_state.specs.State.{first_link}
-use Rattle.standard_rows.specs.Keys.{body_link, body_record}
-use Rattle.standard_rows.specs.Rows.{bank_message}
+use Rattle.bank_keys.specs.Ksm.{body_link, body_record}
+use Rattle.bank_role.specs.Rows.{message_row}
 use Rattle.world_laws.proofs.Sound.Exchanges.{subject_link_at}
 use Rattle.world_laws.proofs.Texts.Names.{LinkNamed, RecordNamed, IsNamed, NamesFine, record_named, exchange_named, KindNamed, WayNamed}
 use Rattle.world_laws.proofs.Texts.Own.{IsOwn}
@@ -233,7 +236,7 @@ module _ (p : Party) (i : IsNamed p) where
       by_status true = tt
       by_status false = by_exchange (exchange_with m.originator p)
 
-  pub message_speaks : (a : Arrival) (m : Message) (moment : ℕ) → HasLinks p → Says (auth_text a) m → is_accept (bank_message p a m moment).verdict ≡ true → Speaks (bank_message p a m moment)
+  pub message_speaks : (a : Arrival) (m : Message) (moment : ℕ) → HasLinks p → Says (auth_text a) m → is_accept (message_row p a m moment).verdict ≡ true → Speaks (message_row p a m moment)
   message_speaks a (message.Rsi m) moment d said h = rsi_speaks p i a m (first_link m.originator Sends p) moment d refl h
   message_speaks a (message.Rfs m) moment d said h = record { names = tt; reply = tt }
   message_speaks a (message.Rtr m) moment d said h = rtr_speaks a m m.kd refl said

@@ -4,8 +4,10 @@ use Rattle.world_laws.proofs.Sound.Centres.{answering_held}
 use Rattle.party_state.specs.Verdicts.{Held as TestsHold}
 use Rattle.csm_grammar.proofs.Arrived.{arrival_says}
 use Rattle.csm_grammar.specs.declared.message.Message.TheVariants as message
-use Rattle.standard_rows.specs.Distribution.{rsi_tests as centre_tests, rsi_between, rsi_for, ers_tests, ers_between, answering}
-use Rattle.standard_rows.specs.Translation.{rfs_tests, rfs_between}
+use Rattle.distribution_role.specs.Requests.{rsi_tests as centre_tests, rsi_between, rsi_for}
+use Rattle.distribution_role.specs.Recovery.{ers_tests, ers_between}
+use Rattle.distribution_role.specs.Answering.{answering}
+use Rattle.translation_role.specs.Service.{rfs_tests, rfs_between}
 use Rattle.role_base.specs.Texts.{auth_text}
 use Rattle.csm_grammar.specs.Spelling.{Says}
 use Rattle.csm_grammar.specs.declared.arrival.Arrival.{Arrival}
@@ -35,8 +37,11 @@ use Rattle.x_base.specs.declared.party.Role.{Role}
 use Rattle.x_base.specs.declared.party.Role.TheVariants as role
 use Rattle.party_state.specs.State.{answer_with}
 use Rattle.role_base.specs.Conditions.{has_count}
-use Rattle.standard_rows.specs.Translation.{rfs_tests}
-use Rattle.standard_rows.specs.Rows.{row_by, centre_command, distribution_message, translation_message}
+use Rattle.translation_role.specs.Service.{rfs_tests}
+use Rattle.roles.specs.Rows.{row_by}
+use Rattle.centre_base.specs.Orders.{centre_command}
+use Rattle.distribution_role.specs.Rows.{distribution_message}
+use Rattle.translation_role.specs.Rows.{translation_message}
 use Rattle.world_laws.specs.Events.{IsCommand}
 use Rattle.world_laws.proofs.Texts.Names.{LinkNamed, IsNamed}
 use Rattle.world_laws.proofs.Texts.OwnMessages.{rtr_own, translated_own}

@@ -1,9 +1,11 @@
 -- What the rows of commands, and of a request for a key, write and put is well formed.
 use Rattle.party_state.specs.Verdicts.{Held as TestsHold}
 use Rattle.party_state.specs.declared.exchange.Kind.TheVariants as kind
-use Rattle.standard_rows.specs.Asking.{centre_front, ask_of, translate_tests, translate_drawn, translate_under}
-use Rattle.standard_rows.specs.Draws.{KkDrawn, kk_drawn}
-use Rattle.standard_rows.specs.StartKk.{kk_tests, kk_sending, start_kk_under}
+use Rattle.bank_orders.specs.Ask.{centre_front, ask_of}
+use Rattle.bank_orders.specs.Translate.{translate_tests, translate_drawn, translate_under}
+use Rattle.bank_orders.specs.declared.draws.KkDrawn.{KkDrawn}
+use Rattle.bank_orders.specs.Draws.{kk_drawn}
+use Rattle.bank_orders.specs.StartKk.{kk_tests, kk_sending, start_kk_under}
 use Rattle.bank_orders.specs.Ending.{end_record}
 use Rattle.role_base.specs.Exchanges.{record_of, new_link, dropped}
 use Rattle.bank_orders.specs.GivingUp.{ended, given_up, given_up_in, drop}
@@ -39,7 +41,7 @@ use Rattle.party_state.specs.State.{first_link}
 use Rattle.bank_arrivals.specs.Rsi.{rsi_tests as bank_rsi_tests, rsi_under}
 use Rattle.bank_orders.specs.Start.{sending_link}
 use Rattle.bank_orders.specs.Resend.{resend_of}
-use Rattle.standard_rows.specs.Rows.{bank_command}
+use Rattle.bank_orders.specs.Orders.{command_row}
 use Rattle.world_laws.specs.Events.{IsCommand}
 use Rattle.world_laws.proofs.Links.Found.{first_at, FirstAt, sending_at}
 use Rattle.world_laws.proofs.Texts.Names.{LinkNamed, RecordNamed, IsNamed, NamesFine, record_named}
@@ -133,7 +135,7 @@ module _ (p : Party) (i : IsNamed p) where
       by_exchange None = tt
       by_exchange (Some e) = by_kind e.kind
 
-  pub command_speaks : (c : Command) (moment : ℕ) → IsCommand c → HasLinks p → is_accept (bank_command p c moment).verdict ≡ true → Speaks (bank_command p c moment)
+  pub command_speaks : (c : Command) (moment : ℕ) → IsCommand c → HasLinks p → is_accept (command_row p c moment).verdict ≡ true → Speaks (command_row p c moment)
   command_speaks (command.Load peer label side pair) moment e d h = absurd e
   command_speaks (command.Start peer label) moment e d h = start_speaks peer (sending_link p peer label) moment (λ l f. sending_at p peer label l d f) h
   command_speaks (command.StartKk peer label new single) moment e d h = kk_speaks peer new single (sending_link p peer label) moment e (λ l f. sending_at p peer label l d f) h

@@ -3,8 +3,8 @@ use Rattle.x_base.specs.declared.verdict.Verdict.TheVariants as verdict
 use Rattle.world_laws.proofs.Links.Taken.{name_link}
 use Rattle.csm_grammar.specs.declared.message.KsmBody.TheVariants as body
 use Rattle.csm_grammar.specs.declared.message.Message.TheVariants as message
-use Rattle.standard_rows.specs.Keys.{body_count, body_value, body_new, body_link, body_name, body_tests, key_row}
-use Rattle.standard_rows.specs.Translation.{rfs_value, rfs_under, rfs_tests, rfs_between}
+use Rattle.bank_keys.specs.Ksm.{body_count, body_value, body_new, body_link, body_name, body_tests, key_row}
+use Rattle.translation_role.specs.Service.{rfs_value, rfs_under, rfs_tests, rfs_between}
 use Rattle.role_base.specs.Texts.{auth_text}
 use Rattle.csm_grammar.specs.Spelling.{Says}
 use Rattle.csm_grammar.specs.declared.arrival.Arrival.{Arrival}
@@ -27,8 +27,8 @@ use Rattle.x_base.specs.Count.{IsCount}
 use Rattle.role_base.specs.Errors.{TellsCount}
 use Rattle.role_base.specs.Conditions.{has_count, count_tests, has_key_room}
 use Rattle.role_base.specs.Errors.{error_letter, expected_count, coded_under}
-use Rattle.standard_rows.specs.Keys.{new_tests, body_message, body_link}
-use Rattle.standard_rows.specs.Translation.{rfs_message, rfs_tests}
+use Rattle.bank_keys.specs.Ksm.{new_tests, body_message, body_link}
+use Rattle.translation_role.specs.Service.{rfs_message, rfs_tests}
 use Rattle.world_laws.proofs.Texts.Names.{LinkNamed, IsNamed}
 use Rattle.world_laws.proofs.Texts.OwnMessages.{IsLetter, letter_is, body_error_own, rfs_error_own}
 use Rattle.csm_grammar.proofs.Parts.{ksm_org, rfs_org, rfs_cta}

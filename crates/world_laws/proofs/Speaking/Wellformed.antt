@@ -23,7 +23,7 @@ use Rattle.party_state.specs.Ranges.{IsNextCount}
 use Rattle.role_base.specs.Errors.{TellsCount}
 use Rattle.role_base.specs.Conditions.{has_count, count_tests}
 use Rattle.role_base.specs.Errors.{expected_count}
-use Rattle.standard_rows.specs.Keys.{new_tests}
+use Rattle.bank_keys.specs.Ksm.{new_tests}
 use Rattle.world_laws.proofs.Texts.Names.{LinkNamed, IsNamed, NamesFine, link_named}
 use Rattle.world_laws.proofs.Texts.Own.{IsOwn}
 use Rattle.world_laws.proofs.Agreeing.Moves.{OwnReply}

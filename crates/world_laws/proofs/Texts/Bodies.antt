@@ -9,7 +9,7 @@ use Rattle.csm_grammar.specs.declared.message.Message.TheVariants as message
 use Rattle.csm_grammar.specs.declared.message.NewKk.{NewKk}
 use Rattle.csm_grammar.specs.Spelling.{Says}
 use Rattle.csm_grammar.proofs.Parts.{direct_count, centre_count, new_label}
-use Rattle.standard_rows.specs.Keys.{body_count, body_new}
+use Rattle.bank_keys.specs.Ksm.{body_count, body_new}
 
 pub body_counts : (text : List ℕ) (m : Ksm) (b : KsmBody) → m.body ≡ b → Says text (message.Ksm m) → IsCount (body_count b)
 body_counts text m (body.Direct idk2 new kd ctp) e s = direct_count text m idk2 new kd ctp e s

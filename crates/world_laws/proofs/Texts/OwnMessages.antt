@@ -7,14 +7,15 @@ use Rattle.csm_grammar.specs.declared.message.KsmBody.TheVariants as body
 use Rattle.csm_grammar.specs.declared.message.Rtr.{Rtr}
 use Rattle.csm_grammar.specs.declared.message.Rfs.{Rfs}
 use Rattle.csm_grammar.specs.declared.message.Esm.{Esm}
-use Rattle.standard_rows.specs.Draws.{KkDrawn}
-use Rattle.standard_rows.specs.StartKk.{kk_message}
-use Rattle.standard_rows.specs.Keys.{body_count, body_message}
-use Rattle.standard_rows.specs.Asking.{translate_message}
-use Rattle.standard_rows.specs.Answers.{centre_ksm}
-use Rattle.standard_rows.specs.Errors.{Retry, ers_message}
-use Rattle.standard_rows.specs.Distribution.{rtr_of}
-use Rattle.standard_rows.specs.Translation.{rfs_value, rfs_answer, rfs_message}
+use Rattle.bank_orders.specs.declared.draws.KkDrawn.{KkDrawn}
+use Rattle.bank_orders.specs.StartKk.{kk_message}
+use Rattle.bank_keys.specs.Ksm.{body_count, body_message}
+use Rattle.bank_orders.specs.Translate.{translate_message}
+use Rattle.bank_keys.specs.Rtr.{centre_ksm}
+use Rattle.bank_arrivals.specs.declared.asking_again.Retry.{Retry}
+use Rattle.bank_arrivals.specs.AskingAgain.{ers_message}
+use Rattle.distribution_role.specs.Answering.{rtr_of}
+use Rattle.translation_role.specs.Service.{rfs_value, rfs_answer, rfs_message}
 use Rattle.x_seal.proofs.Undoing.{sealed_below}
 use Rattle.csm_grammar.specs.Kinds.{IsReason}
 use Rattle.std.proofs.Common.{arith, ℕ, ◌≤◌, Option, Some, None, List, refl}
@@ -32,7 +33,7 @@ use Rattle.party_state.specs.declared.key.KeyRec.{KeyRec}
 use Rattle.party_state.specs.State.{Party}
 use Rattle.role_base.specs.Sending.{data_key_message}
 use Rattle.bank_orders.specs.Ending.{end_message}
-use Rattle.bank_arrivals.specs.Ksm.{response}
+use Rattle.bank_keys.specs.Ksm.{response}
 use Rattle.role_base.specs.Errors.{error_message, error_letter}
 use Rattle.bank_arrivals.specs.Dsm.{dsm_response}
 use Rattle.x_seal.proofs.Undoing.{wrapped_below}
@@ -88,16 +89,16 @@ letter_is verdict.LinksFull = record { proper = refl; short = omega arith }
 letter_is verdict.KeysFull = record { proper = refl; short = omega arith }
 letter_is _ = _
 
-pub error_own : (p : Party) (originator : List ℕ) (ctp : ℕ) (erf : List ℕ) (ctr : Option ℕ) → IsIdent p.own → IsIdent originator → IsCount ctp → IsLetter erf → IfSome ctr IsCount → IsOwn (error_message p originator ctp erf ctr)
+pub error_own : (p : Party) (originator : List ℕ) (ctp : ℕ) (erf : List ℕ) (ctr : Option ℕ) → IsIdent p.own → IsIdent originator → IsCount ctp → IsLetter erf → IfSome ctr IsCount → IsOwn (error_message p originator (record { ctp = Some ctp; cta = None; ctb = None }) erf ctr)
 error_own p originator ctp erf None own peer count letter told = let short = letter.short in record {
-  fields = All-from_recursion IsTypedField (fields_of (error_message p originator ctp erf None)) (peer, (own, (count, (tt, tt))));
-  texts = All-from_recursion ProperField (fields_of (error_message p originator ctp erf None)) (tt, (tt, (tt, (letter.proper, tt))));
+  fields = All-from_recursion IsTypedField (fields_of (error_message p originator (record { ctp = Some ctp; cta = None; ctb = None }) erf None)) (peer, (own, (count, (tt, tt))));
+  texts = All-from_recursion ProperField (fields_of (error_message p originator (record { ctp = Some ctp; cta = None; ctb = None }) erf None)) (tt, (tt, (tt, (letter.proper, tt))));
   allowed = refl;
   free = omega (arith, short);
 }
 error_own p originator ctp erf (Some n) own peer count letter told = let short = letter.short in record {
-  fields = All-from_recursion IsTypedField (fields_of (error_message p originator ctp erf (Some n))) (peer, (own, (count, (told, (tt, tt)))));
-  texts = All-from_recursion ProperField (fields_of (error_message p originator ctp erf (Some n))) (tt, (tt, (tt, (tt, (letter.proper, tt)))));
+  fields = All-from_recursion IsTypedField (fields_of (error_message p originator (record { ctp = Some ctp; cta = None; ctb = None }) erf (Some n))) (peer, (own, (count, (told, (tt, tt)))));
+  texts = All-from_recursion ProperField (fields_of (error_message p originator (record { ctp = Some ctp; cta = None; ctb = None }) erf (Some n))) (tt, (tt, (tt, (tt, (letter.proper, tt)))));
   allowed = refl;
   free = omega (arith, short);
 }

@@ -1,0 +1,17 @@
+use Rattle.world_laws.proofs.LiveKeys.DirectRun.{live_run}
+use Rattle.world_laws.proofs.LiveKeys.NewKkRun.{new_kk_run}
+use Rattle.world_laws.proofs.LiveKeys.DistributionRun.{distribution_run}
+use Rattle.world_laws.proofs.LiveKeys.TranslationRun.{translation_run}
+use Rattle.world_laws.proofs.reached.law_reached.Goals as goal
+
+pub returns-clause-direct : goal.returns-clause-direct
+returns-clause-direct c = live_run
+
+pub returns-clause-under_new_kk : goal.returns-clause-under_new_kk
+returns-clause-under_new_kk c = new_kk_run
+
+pub returns-clause-distributed : goal.returns-clause-distributed
+returns-clause-distributed c = distribution_run
+
+pub returns-clause-translated : goal.returns-clause-translated
+returns-clause-translated c = translation_run

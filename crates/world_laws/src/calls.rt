@@ -1,0 +1,25 @@
+// A call over a party is an event, told by a call that does nothing.
+ghost use Rattle.std.specs.Prelude.{List, ℕ, Some};
+ghost use Rattle.csm_grammar.specs.declared.arrival.Arrival.{Arrival as TheArrival};
+ghost use Rattle.party_state.specs.declared.command.Command.{Command as TheCommand};
+ghost use Rattle.party_state.specs.declared.command.Input.TheVariants.{Ordered, Arrived};
+ghost use Rattle.x_party.specs.Outcomes.{TakesTurn, IsSafe, CompactsParty, IsSafeCompaction};
+ghost use Rattle.x_party.specs.declared.outcome.Outcome.{Outcome as TheOutcome};
+ghost use Rattle.world_laws.specs.Events.{Orders, Hears, Compacts};
+ghost use Rattle.world_laws.specs.Calls.{IsCall};
+
+use key_store::law_one_finding;
+use x_disk::Shelf;
+
+/// A party's turn with a command or a message, and its compaction, is that event at the party, whatever the network: whole,
+/// where the party answered, and cut off, where a crash came first.
+pub fn law_calls<H: Shelf>()
+    ensures commands { (old new : H) (name : List ℕ) (c : TheCommand) (moment : ℕ) (o : TheOutcome) → TakesTurn (H.entry old name) (H.entry new name) (Ordered c) moment o → IsSafe (H.entry old name) (H.entry new name) (Ordered c) moment
+        → IsCall (H.entry old name) (H.entry new name) (Orders c) moment o }
+    ensures arrivals { (old new : H) (name bytes : List ℕ) (a : TheArrival) (moment : ℕ) (o : TheOutcome) → TakesTurn (H.entry old name) (H.entry new name) (Arrived a) moment o → IsSafe (H.entry old name) (H.entry new name) (Arrived a) moment
+        → IsCall (H.entry old name) (H.entry new name) (Hears bytes (Some a)) moment o }
+    ensures compactions { (old new : H) (name : List ℕ) (moment : ℕ) (o : TheOutcome) → CompactsParty (H.entry old name) (H.entry new name) o → IsSafeCompaction (H.entry old name) (H.entry new name)
+        → IsCall (H.entry old name) (H.entry new name) Compacts moment o }
+{
+    law_one_finding();
+}
