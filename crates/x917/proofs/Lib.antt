@@ -4,3 +4,4 @@ pub mod Endings
 pub mod Following
 pub mod Arriving
 pub mod Orders
+pub mod NetworkEvents

@@ -226,7 +226,7 @@ module _ (moment : ℕ) (left before : Option (List ℕ)) (e : List ℕ → View
   idle (order.Drop party peer) built = still_turn party (Ordered (command.Drop peer))
   idle (order.Purge party) built = still_turn party (Ordered command.Purge)
   idle order.Replay built = absurd (cc built)
-  idle (order.StartKk party peer new label single) built = absurd (cc built)
-  idle (order.Translate party peer ultimate) built = absurd (cc built)
+  idle (order.StartKk party peer new label single) built = still_turn party (Ordered (command.StartKk peer label new single))
+  idle (order.Translate party peer ultimate) built = still_turn party (Ordered (command.Translate peer ultimate))
   idle (order.Compact party) built = record { outcome = outcome.NoMemory; compacted = tt; safe = still_compaction (e party) (sound party); ends = (refl, refl) }
   idle (order.Drill seed events) built = absurd (cc built)

@@ -4,3 +4,4 @@ pub mod Check
 pub mod Ends
 pub mod Dues
 pub mod Obeys
+pub mod Network

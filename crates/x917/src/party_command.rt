@@ -34,11 +34,31 @@ pub fn command_of(order: Order) -> Option<PartyCommand>
             },
         ),
         Order::Start { party, peer, label } => (party, Command::Start { peer, label }),
+        Order::StartKk {
+            party,
+            peer,
+            new,
+            label,
+            single,
+        } => (
+            party,
+            Command::StartKk {
+                peer,
+                label,
+                new,
+                single,
+            },
+        ),
         Order::Ask {
             party,
             peer,
             ultimate,
         } => (party, Command::Ask { peer, ultimate }),
+        Order::Translate {
+            party,
+            peer: centre,
+            ultimate,
+        } => (party, Command::Translate { centre, ultimate }),
         Order::Resend { party, peer } => (party, Command::Resend { peer }),
         Order::End { party, peer, name } => (party, Command::End { peer, name }),
         Order::Drop { party, peer } => (party, Command::Drop { peer }),

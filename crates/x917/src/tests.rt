@@ -10,6 +10,7 @@ use x_base::{MemorySink, MemorySource, NoMemory, Text, Words};
 use x_disk::{MemoryShelf, Shelf};
 
 mod faults;
+mod new_keys;
 mod parties;
 mod texts;
 mod words;

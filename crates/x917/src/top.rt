@@ -6,6 +6,7 @@ ghost use Rattle.x_line.specs.declared.order.Order.{Order};
 ghost use Rattle.x917.specs.Transfer.{TookAtMost, IsQuiet, input_limit};
 ghost use Rattle.x917.specs.Ends.{HasCause, HasFaults, IsSilent};
 ghost use Rattle.x917.specs.Obeys.{Obeys, Expects, LeavesOthers, JudgesWords};
+ghost use Rattle.x917.specs.Network.{IsNetworkEvent};
 
 use crate::check::check;
 use crate::party::{compact, create, list, turn};
@@ -14,6 +15,7 @@ use crate::status::Status;
 use crate::take::take;
 use party_state::Input;
 use std::alloc::Global;
+use world_laws::law_calls;
 use x_base::{Sink, Source, Words};
 use x_disk::Shelf;
 use x_gen::Gen;
@@ -77,6 +79,9 @@ pub fn run<S: Source, K: Sink, H: Shelf>(
     ensures complete { (order : Order) → IsOrder words.now order → IsQuiet (S.faults source.old) (S.faults source.new) → IsQuiet (K.faults sink.old) (K.faults sink.new) → IsQuiet (H.faults shelf.old) (H.faults shelf.new)
         → Expects order moment (S.left source.old) (H.entry shelf.old) result }
 
+    // A call that opened a party is an event of a network at that one party, whole or cut off.
+    ensures network { (order : Order) → IsOrder words.now order → IsNetworkEvent order moment result (S.left source.old) (K.written sink.old) (K.written sink.new) (H.entry shelf.old) (H.entry shelf.new) }
+
     // Where the party answered, its disk is back on the shelf; the other disks stay, and a source that isn't read.
     ensures others { (order : Order) → IsOrder words.now order → LeavesOthers order result (H.is_back shelf.new) (source.new ≡ source.old) (H.entry shelf.old) (H.entry shelf.new) }
 
@@ -88,6 +93,7 @@ pub fn run<S: Source, K: Sink, H: Shelf>(
     ensures most { TookAtMost input_limit (S.left source.old) (S.left source.new) }
 {
     law_one_order();
+    law_calls::<H>();
     match read_order(alloc, words) {
         Ok(order) => carry_out(alloc, order, moment, source, sink, shelf),
         Err(LineFault::Usage(kind)) => Status::Usage(kind),

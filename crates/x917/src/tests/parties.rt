@@ -45,7 +45,7 @@ pub(crate) const BANKS: [Step; 5] = [
 ];
 
 /// They exchange a data key.
-const EXCHANGE: [Step; 5] = [
+pub(crate) const EXCHANGE: [Step; 5] = [
     (START, "", KSM, ""),
     ("take --party BANKB", KSM, RSM, ""),
     ("take --party BANKA", RSM, "", ""),

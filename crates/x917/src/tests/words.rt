@@ -27,7 +27,7 @@ const NO_LINE: [&str; 16] = [
 ];
 
 /// Words that name no command, or one that isn't built.
-const NO_COMMAND: [&str; 10] = [
+const NO_COMMAND: [&str; 8] = [
     "help",
     "open",
     "CHECK",
@@ -36,12 +36,10 @@ const NO_COMMAND: [&str; 10] = [
     "open --party BAN",
     "replay",
     "drill --seed 7 --events 400",
-    "startkk --party BANKA",
-    "translate --party BANKA",
 ];
 
 /// Commands with an option that they don't take, whatever else is wrong.
-const UNWANTED: [&str; 10] = [
+const UNWANTED: [&str; 12] = [
     "check --party BANKA",
     "check --single",
     "show --party BANKA --peer BANKB",
@@ -52,10 +50,12 @@ const UNWANTED: [&str; 10] = [
     "compact --party BANKA --peer BANKB",
     "load --party B --name x",
     "show --single",
+    "startkk --party BANKA --peer BANKB --new K2 --single --key 0123456789ABCDEFFEDCBA9876543210",
+    "translate --party B --label C",
 ];
 
 /// Commands that lack an option, whatever the others hold.
-const MISSING: [&str; 9] = [
+const MISSING: [&str; 11] = [
     "show",
     "compact",
     "take",
@@ -65,6 +65,8 @@ const MISSING: [&str; 9] = [
     "end --party BANKA --peer BANKB",
     "ask --party BAN",
     "resend --peer BANKB",
+    "startkk --party BANKA --peer BANKB --single",
+    "translate --party BANKA --peer CKTX",
 ];
 
 /// Values that aren't what the option holds.

@@ -1,0 +1,100 @@
+-- An order that is obeyed is an event of a network.
+use Rattle.std.proofs.Common.{◌≡◌, inl, inr, ℕ, Bool, true, false, List, [], ◌∷◌, Option, Some, None, IfSome, refl, subst}
+use Rattle.std.specs.Prelude.{if◌then◌else◌, option_and_then}
+use Rattle.clap.specs.Words.{Row, first_of}
+use Rattle.x_base.specs.Names.{IsIdent, IsLabel, is_name}
+use Rattle.csm_grammar.specs.declared.arrival.Arrival.{Arrival}
+use Rattle.x_disk.specs.Disk.{View}
+use Rattle.x_values.specs.Words.{ident_of, label_of}
+use Rattle.x_line.specs.declared.opt.Opt.TheVariants as opt
+use Rattle.x_line.specs.declared.order.Order.{Order}
+use Rattle.x_line.specs.declared.order.Order.TheVariants as order
+use Rattle.x_line.specs.Options.{name_of}
+use Rattle.x_line.specs.Orders.{HasValues}
+use Rattle.party_state.specs.declared.command.Command.{Command}
+use Rattle.party_state.specs.declared.command.Command.TheVariants as command
+use Rattle.party_state.specs.declared.command.Input.TheVariants.{Ordered, Arrived}
+use Rattle.x_party.specs.Outcomes.{TakesTurn, IsSafe, CompactsParty, IsSafeCompaction}
+use Rattle.x_party.specs.declared.outcome.Outcome.{Outcome}
+use Rattle.world_laws.specs.Events.{Orders, Hears, Compacts, IsCommand}
+use Rattle.world_laws.specs.Calls.{IsCall}
+use Rattle.x917.specs.declared.status.Status.{Status}
+use Rattle.x917.specs.Check.{taken}
+use Rattle.x917.specs.Dues.{IsHeard}
+use Rattle.x917.specs.Obeys.{Obeys, IsPartyTurn, IsTaken}
+use Rattle.x917.specs.Network.{IsEvent, IsArrivalEvent, IsNetworkEvent}
+
+-- a value that an option gives
+
+name_given : (least : ℕ) (text new : List ℕ) → (if is_name least 16 text then Some text else None) ≡ Some new → is_name least 16 new ≡ true
+name_given least text new h = go (is_name least 16 text) refl h
+  where
+    go : (b : Bool) → is_name least 16 text ≡ b → (if b then Some text else None) ≡ Some new → is_name least 16 new ≡ true
+    go true is h = let same : text ≡ new = cc in subst (λ (t : List ℕ). is_name least 16 t ≡ true) same is
+    go false is h = absurd (cc)
+
+label_given : (o : Option (List ℕ)) (new : List ℕ) → option_and_then label_of o ≡ Some new → IsLabel new
+label_given None new h = absurd (cc)
+label_given (Some text) new h = name_given 1 text new h
+
+ident_given : (o : Option (List ℕ)) (new : List ℕ) → option_and_then ident_of o ≡ Some new → IsIdent new
+ident_given None new h = absurd (cc)
+ident_given (Some text) new h = name_given 4 text new h
+
+-- over a shelf
+
+module _ {S : Type 0} (entry : S → List ℕ → View)
+    (commands : (old new : S) (name : List ℕ) (c : Command) (moment : ℕ) (o : Outcome) → TakesTurn (entry old name) (entry new name) (Ordered c) moment o → IsSafe (entry old name) (entry new name) (Ordered c) moment
+    → IsCall (entry old name) (entry new name) (Orders c) moment o)
+    (arrivals : (old new : S) (name bytes : List ℕ) (a : Arrival) (moment : ℕ) (o : Outcome) → TakesTurn (entry old name) (entry new name) (Arrived a) moment o → IsSafe (entry old name) (entry new name) (Arrived a) moment
+    → IsCall (entry old name) (entry new name) (Hears bytes (Some a)) moment o)
+    (compactions : (old new : S) (name : List ℕ) (moment : ℕ) (o : Outcome) → CompactsParty (entry old name) (entry new name) o → IsSafeCompaction (entry old name) (entry new name)
+    → IsCall (entry old name) (entry new name) Compacts moment o)
+    (moment : ℕ) (s : Status) (left rest before after : Option (List ℕ)) (old new : S) where
+  arrival_event : (name : List ℕ) → IsTaken moment left rest (entry old name) (entry new name) s before after → IsArrivalEvent moment left (entry old name) (entry new name) s before after
+  arrival_event name (inl unheard) = inl unheard.0
+  arrival_event name (inr (a, heard, turned)) = inr (by_source left heard)
+    where
+      by_source : (o : Option (List ℕ)) → IfSome o (λ all. IsHeard all a × (rest ≡ Some []))
+          → IfSome o (λ all. (arrival : Arrival) × IsEvent (Hears (taken all) (Some arrival)) moment (10 ∷ []) (entry old name) (entry new name) s before after)
+      by_source None heard = tt
+      by_source (Some all) heard = (
+        a,
+        record {
+          is_action = (heard.0.heard, heard.0.text);
+          outcome = turned.outcome;
+          event = arrivals old new name (taken all) a moment turned.outcome turned.turned turned.safe;
+          ends = turned.ends;
+        },
+      )
+
+  command_event : (c : Command) (name : List ℕ) → IsCommand c → IsPartyTurn (Ordered c) moment (entry old name) (entry new name) s before after → IsEvent (Orders c) moment (10 ∷ []) (entry old name) (entry new name) s before after
+  command_event c name is turned = record {
+    is_action = is;
+    outcome = turned.outcome;
+    event = commands old new name c moment turned.outcome turned.turned turned.safe;
+    ends = turned.ends;
+  }
+
+  pub network_event : (rows : List Row) (o : Order) → HasValues rows o → Obeys o moment s left rest before after (entry old) (entry new) → IsNetworkEvent o moment s left before after (entry old) (entry new)
+  network_event rows order.Check values obeys = tt
+  network_event rows (order.Init party role key v) values obeys = tt
+  network_event rows (order.Load party peer label side pair) values obeys = tt
+  network_event rows (order.Show party) values obeys = tt
+  network_event rows order.Replay values obeys = tt
+  network_event rows (order.Drill seed events) values obeys = tt
+  network_event rows (order.Compact party) values obeys = record {
+    is_action = tt;
+    outcome = obeys.outcome;
+    event = compactions old new party moment obeys.outcome obeys.compacted obeys.safe;
+    ends = obeys.ends;
+  }
+  network_event rows (order.Take party) values obeys = arrival_event party obeys
+  network_event rows (order.Start party peer label) values obeys = command_event (command.Start peer label) party tt obeys
+  network_event rows (order.StartKk party peer label_new label single) values obeys = command_event (command.StartKk peer label label_new single) party (label_given (first_of (name_of opt.New) rows) label_new values.2) obeys
+  network_event rows (order.Ask party peer ultimate) values obeys = command_event (command.Ask peer ultimate) party tt obeys
+  network_event rows (order.Translate party peer ultimate) values obeys = command_event (command.Translate peer ultimate) party (ident_given (first_of (name_of opt.Ultimate) rows) ultimate values.2) obeys
+  network_event rows (order.Resend party peer) values obeys = command_event (command.Resend peer) party tt obeys
+  network_event rows (order.End party peer name) values obeys = command_event (command.End peer name) party tt obeys
+  network_event rows (order.Drop party peer) values obeys = command_event (command.Drop peer) party tt obeys
+  network_event rows (order.Purge party) values obeys = command_event command.Purge party tt obeys
