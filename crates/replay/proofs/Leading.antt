@@ -1,0 +1,176 @@
+-- Lines lead from course to course.
+use Rattle.std.proofs.Common.{◌≡◌, ℕ, ◌+◌, ◌-◌, ◌<◌, ◌≤◌, Bool, true, false, is_some, List, [], ◌∷◌, ◌++◌, length, take, drop, get_or, Option, Some, None, slice_get, refl, sym, ◌∙◌, ap, ap₂, subst, arith, append_assoc, take-append-drop}
+use Rattle.std.specs.Prelude.{option_map}
+use Rattle.std.proofs.lemmas.List.{take_more, drop_more, append-nil}
+use Rattle.x_base.specs.Edge.{AppendsTo}
+use Rattle.x_disk.specs.Disk.{View}
+use Rattle.scenario.specs.declared.line.Line.{Line}
+use Rattle.scenario.specs.declared.line.Line.TheVariants as line
+use Rattle.world_laws.specs.World.{World}
+use Rattle.world_laws.specs.Events.{Event}
+use Rattle.world_laws.specs.Steps.{step}
+use Rattle.replay.specs.Happenings.{Happening, Happens, IsNoEvent, IsFormed}
+use Rattle.replay.specs.Outcomes.{after_outcome, counted, IsWithin}
+use Rattle.replay.specs.Transcript.{outcome_line, text_line, written_between}
+use Rattle.replay.specs.Course.{Course, after_event, IsDone, IsEvent, IsNext, Leads, IsForged, IsAt}
+use Rattle.replay.specs.Acting.{Means, Acts, Forges}
+use Rattle.replay.specs.Scene.{Shows}
+use Rattle.replay.specs.Lines.{IsQuietNext, PlaysEvent, PlaysLine, Plays, ForgesLine, IsForgedIn, ForgesIn}
+use Rattle.replay.specs.declared.act.Act.{Act}
+use Rattle.replay.specs.declared.progress.Counts.{Counts}
+use Rattle.replay.specs.declared.progress.Outcome.{Outcome}
+use Rattle.replay.specs.declared.progress.Outcome.TheVariants as outcome
+use Rattle.replay.specs.declared.progress.Progress.{Progress}
+use Rattle.replay.specs.declared.scene.Scene.{Scene}
+
+-- what is written grows
+appends_some : (xs a : List ℕ) (mid after : Option (List ℕ)) (b : List ℕ) → mid ≡ Some (xs ++ a) → AppendsTo mid after b → after ≡ Some (xs ++ (a ++ b))
+appends_some xs a None after b is more = absurd (cc is)
+appends_some xs a (Some ys) after b is more =
+    let y : ys ≡ xs ++ a = cc is in
+    more ∙ (ap (λ (l : List ℕ). Some (l ++ b)) y ∙ ap Some (append_assoc xs a b))
+
+pub appends_more : (before mid after : Option (List ℕ)) (a b : List ℕ) → AppendsTo before mid a → AppendsTo mid after b → AppendsTo before after (a ++ b)
+appends_more None mid after a b first more = tt
+appends_more (Some xs) mid after a b first more = appends_some xs a mid after b first more
+
+-- the numbers stay small
+counts_within : (o : Outcome) (p : Progress) (n : ℕ) → IsWithin p n → IsWithin (after_outcome p o false) (n + 1)
+counts_within outcome.Done p n w = record { number = omega (arith, w.number); done = omega (arith, w.done); refused = omega (arith, w.refused); stopped = omega (arith, w.stopped); none = omega (arith, w.none); texts = omega (arith, w.texts) }
+counts_within (outcome.Refused number) p n w = record { number = omega (arith, w.number); done = omega (arith, w.done); refused = omega (arith, w.refused); stopped = omega (arith, w.stopped); none = omega (arith, w.none); texts = omega (arith, w.texts) }
+counts_within outcome.Stopped p n w = record { number = omega (arith, w.number); done = omega (arith, w.done); refused = omega (arith, w.refused); stopped = omega (arith, w.stopped); none = omega (arith, w.none); texts = omega (arith, w.texts) }
+counts_within outcome.Nothing p n w = record { number = omega (arith, w.number); done = omega (arith, w.done); refused = omega (arith, w.refused); stopped = omega (arith, w.stopped); none = omega (arith, w.none); texts = omega (arith, w.texts) }
+
+same_texts : (o : Outcome) (c : Counts) → (counted o c).texts ≡ c.texts
+same_texts outcome.Done c = refl
+same_texts (outcome.Refused number) c = refl
+same_texts outcome.Stopped c = refl
+same_texts outcome.Nothing c = refl
+
+text_within : (o : Outcome) (wrote : Bool) (p : Progress) (n : ℕ) → IsWithin p n → IsWithin (after_outcome p o wrote) (n + 1)
+text_within o false p n w = counts_within o p n w
+text_within o true p n w =
+    let c = counts_within o p n w in
+    let texts = same_texts o p.counts in
+    record { number = c.number; done = c.done; refused = c.refused; stopped = c.stopped; none = c.none; texts = omega (arith, w.texts, texts) }
+
+pub event_within : (o : Outcome) (wrote : Bool) (p q : Progress) → q ≡ after_outcome p o wrote → (n : ℕ) → IsWithin p n → IsWithin q (n + 1)
+event_within o wrote p q is n w = subst (λ (r : Progress). IsWithin r (n + 1)) (sym is) (text_within o wrote p n w)
+
+pub within_more : (p : Progress) (n m : ℕ) → n ≤ m → IsWithin p n → IsWithin p m
+within_more p n m le w = record { number = omega (arith, le, w.number); done = omega (arith, le, w.done); refused = omega (arith, le, w.refused); stopped = omega (arith, le, w.stopped); none = omega (arith, le, w.none); texts = omega (arith, le, w.texts) }
+
+pub quiet_within : (l : Line) (p q : Progress) → IsQuietNext l p q → (n : ℕ) → IsWithin p n → IsWithin q (n + 1)
+quiet_within l p q quiet n w = within_more q n (n + 1) (omega arith) (go l quiet)
+  where
+    with_ : (r : Progress) → q ≡ r → r.number ≡ p.number → r.counts ≡ p.counts → IsWithin q n
+    with_ r is number counts = subst (λ (x : Progress). IsWithin x n) (sym is) (record {
+      number = subst (λ (k : ℕ). k ≤ n + 1) (sym number) w.number;
+      done = subst (λ (k : Counts). k.done ≤ n) (sym counts) w.done;
+      refused = subst (λ (k : Counts). k.refused ≤ n) (sym counts) w.refused;
+      stopped = subst (λ (k : Counts). k.stopped ≤ n) (sym counts) w.stopped;
+      none = subst (λ (k : Counts). k.none ≤ n) (sym counts) w.none;
+      texts = subst (λ (k : Counts). k.texts ≤ n) (sym counts) w.texts;
+    })
+
+    go : (l : Line) → IsQuietNext l p q → IsWithin q n
+    go (line.Time moment) is = with_ _ is refl refl
+    go (line.Stop k choice) is = with_ _ is refl refl
+    go l is = with_ _ is refl refl
+
+module _ {D : Type 0} (told : D → View) (low high : ℕ) (old new : Scene D) (p q : Progress) (written next : Option (List ℕ)) where
+  -- an event, with its lines
+  pub plays_event : (a : Act) (o : Outcome) (k : ℕ) (text : Option (List ℕ)) → Acts told low high a old new p o → k ≡ length old.texts.items → text ≡ slice_get new.texts.items k → q ≡ after_outcome p o (is_some text)
+      → AppendsTo written next (outcome_line p.number o ++ text_line (k + 1) text) → PlaysEvent told low high a old new p q written next
+  plays_event a o k text acts k_is text_is q_is out = λ before after first last start c h at means.
+      let m = acts before after first last c h at.now_is at.shows means in
+      let count : k ≡ length c.world.texts = k_is ∙ ap length at.shows.texts_are in
+      let wrote : text ≡ written_between c.world.texts (step c.now.number c.world m.event).texts = text_is ∙ ap₂ (λ (l : List (List ℕ)) (n : ℕ). slice_get l n) m.shows.texts_are count in
+      let lines : outcome_line p.number o ++ text_line (k + 1) text ≡ outcome_line c.now.number o ++ text_line (length c.world.texts + 1) (written_between c.world.texts (step c.now.number c.world m.event).texts) =
+      ap₂ (λ (l r : List ℕ). l ++ r) (ap (λ (x : Progress). outcome_line x.number o) (sym at.now_is)) (ap₂ (λ (n : ℕ) (t : Option (List ℕ)). text_line (n + 1) t) count wrote) in (
+        m.event,
+        o,
+        m.done,
+        record {
+          shows = m.shows;
+          now_is = ap₂ (λ (x : Progress) (t : Option (List ℕ)). after_outcome x o (is_some t)) at.now_is (sym wrote) ∙ sym q_is;
+          out = appends_more start written next c.transcript _ at.out (subst (AppendsTo written next) lines out);
+        },
+      )
+
+-- a line that is an event
+next_event : (before after : ℕ) (l : Line) (c e : Course) → IsEvent before after l c e → IsNext before after l c e
+next_event before after (line.Party name role pair v) c e is = absurd is.happens
+next_event before after (line.Link origin recipient label pair) c e is = absurd is.happens
+next_event before after (line.Time moment) c e is = absurd is.happens
+next_event before after (line.Stop n choice) c e is = absurd is.happens
+next_event before after l c e is = is
+
+quiet_next : (before after : ℕ) (l : Line) → IsNoEvent l → (c : Course) (p q : Progress) → c.now ≡ p → IsQuietNext l p q → IsNext before after l c (record c { now = q })
+quiet_next before after (line.Party name role pair v) none c p q is quiet = λ i. record c { now = (quiet ∙ sym is) i }
+quiet_next before after (line.Link origin recipient label pair) none c p q is quiet = λ i. record c { now = (quiet ∙ sym is) i }
+quiet_next before after (line.Time moment) none c p q is quiet = λ i. record c { now = (quiet ∙ ap (λ (x : Progress). record x { moment = moment }) (sym is)) i }
+quiet_next before after (line.Stop n choice) none c p q is quiet = λ i. record c { now = (quiet ∙ ap (λ (x : Progress). record x { stop = Some (record { n = n; choice = choice }) }) (sym is)) i }
+quiet_next before after l none c p q is quiet = absurd none
+
+module _ {D : Type 0} (told : D → View) (low high : ℕ) (old new : Scene D) (p q : Progress) (written next : Option (List ℕ)) where
+  pub plays_act_line : (l : Line) (a : Act) → ((texts : List (List ℕ)) → texts ≡ old.texts.items → (h : Happening) × Happens l texts h × IsFormed h × Means a h) → PlaysEvent told low high a old new p q written next
+      → PlaysLine told low high l old new p q written next
+  plays_act_line l a happens plays = λ before after first last start c at.
+      let h = happens c.world.texts (sym at.shows.texts_are) in
+      let e = plays before after first last start c h.0 at h.3 in
+      (after_event c e.0 e.1, next_event before after l c (after_event c e.0 e.1) (record { happening = h.0; happens = h.1; formed = h.2; event = e.0; outcome = e.1; done = e.2; leads = refl }), e.3)
+
+  pub forges_line : (l : Line) (a : Act) → ((texts : List (List ℕ)) → texts ≡ old.texts.items → (h : Happening) × Happens l texts h × IsFormed h × Means a h) → Forges told a old → ForgesLine told l old
+  forges_line l a happens forges = λ c shows.
+      let h = happens c.world.texts (sym shows.texts_are) in
+      record { happening = h.0; happens = h.1; formed = h.2; forged = forges c h.0 shows h.3 }
+
+-- what was read of the scene's texts holds of equal ones
+pub happens_in : (l : Line) (a : Act) (here : List (List ℕ)) → (h : Happening) × Happens l here h × IsFormed h × Means a h → (texts : List (List ℕ)) → texts ≡ here → (h : Happening) × Happens l texts h × IsFormed h × Means a h
+happens_in l a here h texts is = subst (λ (ts : List (List ℕ)). (h : Happening) × Happens l ts h × IsFormed h × Means a h) (sym is) h
+
+module _ {D : Type 0} (told : D → View) (low high : ℕ) (s : Scene D) (p q : Progress) (written : Option (List ℕ)) where
+  pub plays_quiet : (l : Line) → IsNoEvent l → IsQuietNext l p q → PlaysLine told low high l s s p q written written
+  plays_quiet l none quiet = λ before after first last start c at.
+      (record c { now = q }, quiet_next before after l none c p q at.now_is quiet, record { shows = at.shows; now_is = refl; out = at.out })
+
+-- one line more
+leads_on : (before after : ℕ) (lines : List Line) (l : Line) (c mid e : Course) → Leads before after lines c mid → IsNext before after l mid e → Leads before after (lines ++ l ∷ []) c e
+leads_on before after [] l c mid e is next = (e, subst (λ (m : Course). IsNext before after l m e) is next, refl)
+leads_on before after (k ∷ lines) l c mid e leads next = (leads.0, leads.1, leads_on before after lines l leads.0 mid e leads.2 next)
+
+module _ {D : Type 0} (told : D → View) where
+  pub plays_none : (low high : ℕ) (s : Scene D) (p : Progress) (written : Option (List ℕ)) → Plays told low high [] s s p p written written
+  plays_none low high s p written = λ before after first last start c at. (c, refl, at)
+
+  pub plays_on : (low between high : ℕ) → low ≤ between → between ≤ high → (lines : List Line) (l : Line) (old mid new : Scene D) (p m q : Progress) (written halfway next : Option (List ℕ)) → Plays told low between lines old mid p m written halfway
+      → PlaysLine told between high l mid new m q halfway next → Plays told low high (lines ++ l ∷ []) old new p q written next
+  plays_on low between high le1 le2 lines l old mid new p m q written halfway next plays line = λ before after first last start c at.
+      let one = plays before after first (omega (arith, le2, last)) start c at in
+      let two = line before after (omega (arith, first, le1)) last start one.0 one.2 in
+      (two.0, leads_on before after lines l c one.0 two.0 one.1 two.1, two.2)
+
+  -- the next line is forged
+  pub forges_in : (low between high : ℕ) → between ≤ high → (lines : List Line) (i : ℕ) (l : Line) → i < length lines → l ≡ get_or lines i l → (old mid new : Scene D) (p m : Progress) (written halfway next : Option (List ℕ)) (number : ℕ)
+      → Plays told low between (take i lines) old mid p m written halfway → number ≡ m.number → new ≡ mid → next ≡ halfway → ForgesLine told l mid → ForgesIn told low high lines old new p written next number
+  forges_in low between high le lines i l lt read old mid new p m written halfway next number plays number_is same_scene same_out forges = λ before after first last start c at.
+      let one = plays before after first (omega (arith, le, last)) start c at in (
+        one.0,
+        m,
+        record {
+          front = take i lines;
+          line = l;
+          back = drop (i + 1) lines;
+          split = sym (take-append-drop i lines) ∙ ap (λ (ls : List Line). take i lines ++ ls) (drop_more lines i l lt ∙ ap (λ (x : Line). x ∷ drop (i + 1) lines) (sym read));
+          leads = one.1;
+          forged = forges one.0 one.2.shows;
+          number_is = number_is ∙ ap (λ (x : Progress). x.number) (sym one.2.now_is);
+        },
+        subst (λ (s : Scene D). IsAt told start one.0 s m next) (sym same_scene) (subst (λ (w : Option (List ℕ)). IsAt told start one.0 mid m w) (sym same_out) one.2),
+      )
+
+-- whether there is one doesn't change by a map
+pub some_map : {A B : Type 0} (f : A → B) (o : Option A) → is_some o ≡ is_some (option_map f o)
+some_map f (Some x) = refl
+some_map f None = refl

@@ -1,0 +1,16 @@
+mod Results
+mod Telling
+mod Carrying
+mod Stopping
+mod Seating
+mod Members
+mod Worlds
+mod Stepping
+mod Cutting
+mod Places
+mod Judging
+mod Happened
+mod Running
+mod Pieces
+mod PuttingBack
+mod Leading

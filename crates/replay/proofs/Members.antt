@@ -1,0 +1,86 @@
+-- The members of the network for which open disks stand.
+use Rattle.std.proofs.Common.{◌≡◌, ℕ, Bool, true, false, cond, List, [], ◌∷◌, ◌++◌, Option, Some, None, bytes_eq, refl, sym, ◌∙◌, ap, subst}
+use mathlib.Core.Logic.{◌≢◌}
+use Rattle.std.proofs.lemmas.Slice.Eq.{bytes_eq-Decides}
+use Rattle.x_disk.specs.Disk.{View, Tells}
+use Rattle.party_state.specs.Tables.{find_row, put_row}
+use Rattle.key_store.specs.Store.{Stored}
+use Rattle.world_laws.specs.World.{Member, own_of, member_at}
+use Rattle.world_laws.specs.Nodes.{member_of}
+use Rattle.replay.specs.Seats.{seat, members, with_held, IsOf, IsIn, AreIn, AreOpen, NoneOf, owners}
+use Rattle.replay.specs.declared.seat.Seat.{Seat}
+use Rattle.replay.specs.declared.seat.Held.{Held}
+use Rattle.replay.specs.declared.seat.Held.TheVariants.{Open, Loose, Out}
+
+pub same_yes : (a b : List ℕ) → a ≡ b → bytes_eq a b ≡ true
+same_yes a b is = (bytes_eq-Decides a b).1 is
+
+pub same_not : (a b : List ℕ) → a ≢ b → bytes_eq a b ≡ false
+same_not a b apart = go (bytes_eq a b) refl
+  where
+    go : (t : Bool) → bytes_eq a b ≡ t → bytes_eq a b ≡ false
+    go true is = absurd (apart ((bytes_eq-Decides a b).0 is))
+    go false is = is
+
+pub cond_yes : {T : Type 0} (a : Bool) (x y : T) → a ≡ true → cond a x y ≡ x
+cond_yes a x y is = rw is refl
+
+pub cond_not : {T : Type 0} (a : Bool) (x y : T) → a ≡ false → cond a x y ≡ y
+cond_not a x y is = rw is refl
+
+module _ {D : Type 0} (told : D → View) (own : List ℕ) (n : Stored D) (back : List (Seat D)) where
+  -- the member whose seat it is
+  pub found : (front : List (Seat D)) → AreIn told (front ++ seat own (Open n) ∷ back) → NoneOf front own → member_at own (members (front ++ seat own (Open n) ∷ back)) ≡ Some (member_of n)
+  found [] all none = cond_yes (bytes_eq own n.party.own) (Some (member_of n)) _ (same_yes own n.party.own (sym all.0.named))
+  found (f ∷ front) all none = go f.held all.0 (found front all.1 none.1)
+    where
+      go : (h : Held D) → IsIn told f.own h → member_at own (members (front ++ seat own (Open n) ∷ back)) ≡ Some (member_of n) → member_at own (with_held h (members (front ++ seat own (Open n) ∷ back))) ≡ Some (member_of n)
+      go (Open m) is rest = cond_not (bytes_eq own m.party.own) (Some (member_of m)) _ (same_not own m.party.own (λ same. none.0 (sym is.named ∙ sym same))) ∙ rest
+      go (Loose disk) is rest = absurd is
+      go Out is rest = absurd is
+
+  -- and after it has another
+  pub put : (new : Stored D) → new.party.own ≡ own → (front : List (Seat D)) → AreIn told (front ++ seat own (Open n) ∷ back) → NoneOf front own
+      → members (front ++ seat own (Open new) ∷ back) ≡ put_row own_of bytes_eq (member_of new) (members (front ++ seat own (Open n) ∷ back))
+  put new named [] all none = sym (cond_yes (bytes_eq new.party.own n.party.own) _ _ (same_yes new.party.own n.party.own (named ∙ sym all.0.named)))
+  put new named (f ∷ front) all none = go f.held all.0 (put new named front all.1 none.1)
+    where
+      go : (h : Held D) → IsIn told f.own h → members (front ++ seat own (Open new) ∷ back) ≡ put_row own_of bytes_eq (member_of new) (members (front ++ seat own (Open n) ∷ back)) → with_held h (members (front ++ seat own (Open new) ∷ back)) ≡ put_row own_of bytes_eq (member_of new) (with_held h (members (front ++ seat own (Open n) ∷ back)))
+      go (Open m) is rest =
+          ap (λ (ms : List Member). member_of m ∷ ms) rest
+          ∙ sym (cond_not (bytes_eq new.party.own m.party.own) _ _ (same_not new.party.own m.party.own (λ same. none.0 (sym is.named ∙ (sym same ∙ named)))))
+      go (Loose disk) is rest = absurd is
+      go Out is rest = absurd is
+
+  pub stay_in : (new : Stored D) → IsOf told own new → (front : List (Seat D)) → AreIn told (front ++ seat own (Open n) ∷ back) → AreIn told (front ++ seat own (Open new) ∷ back)
+  stay_in new of [] all = (of, all.1)
+  stay_in new of (f ∷ front) all = (all.0, stay_in new of front all.1)
+
+  pub of_in : (front : List (Seat D)) → AreIn told (front ++ seat own (Open n) ∷ back) → IsOf told own n
+  of_in [] all = all.0
+  of_in (f ∷ front) all = of_in front all.1
+
+pub still_open : {D : Type 0} (front : List (Seat D)) (own : List ℕ) (n new : Stored D) (back : List (Seat D)) → AreOpen (front ++ seat own (Open n) ∷ back) → AreOpen (front ++ seat own (Open new) ∷ back)
+still_open [] own n new back all = (tt, all.1)
+still_open (f ∷ front) own n new back all = (all.0, still_open front own n new back all.1)
+
+pub same_owners : {D : Type 0} (front : List (Seat D)) (own : List ℕ) (h k : Held D) (back : List (Seat D)) → owners (front ++ seat own h ∷ back) ≡ owners (front ++ seat own k ∷ back)
+same_owners [] own h k back = refl
+same_owners (f ∷ front) own h k back = ap (λ (l : List (List ℕ)). f.own ∷ l) (same_owners front own h k back)
+
+-- a row that stands is put in its own place
+pub put_stands : (x : Member) (own : List ℕ) (ms : List Member) → own_of x ≡ own → member_at own ms ≡ Some x → put_row own_of bytes_eq x ms ≡ ms
+put_stands x own [] named is = absurd (cc is)
+put_stands x own (m ∷ ms) named is = go (bytes_eq own (own_of m)) refl is (λ (e : member_at own ms ≡ Some x). put_stands x own ms named e)
+  where
+    mine : bytes_eq (own_of x) (own_of m) ≡ bytes_eq own (own_of m)
+    mine = ap (λ (o : List ℕ). bytes_eq o (own_of m)) named
+
+    go : (t : Bool) → bytes_eq own (own_of m) ≡ t → member_at own (m ∷ ms) ≡ Some x → (member_at own ms ≡ Some x → put_row own_of bytes_eq x ms ≡ ms) → put_row own_of bytes_eq x (m ∷ ms) ≡ m ∷ ms
+    go true yes_is found_is rest =
+        let there : Some m ≡ Some x = sym (cond_yes (bytes_eq own (own_of m)) (Some m) (member_at own ms) yes_is) ∙ found_is in
+        let same : m ≡ x = cc there in
+        cond_yes (bytes_eq (own_of x) (own_of m)) (x ∷ ms) _ (mine ∙ yes_is) ∙ ap (λ (y : Member). y ∷ ms) (sym same)
+    go false not_is found_is rest =
+        cond_not (bytes_eq (own_of x) (own_of m)) (x ∷ ms) _ (mine ∙ not_is)
+        ∙ ap (λ (l : List Member). m ∷ l) (rest (sym (cond_not (bytes_eq own (own_of m)) (Some m) (member_at own ms) not_is) ∙ found_is))

@@ -1,0 +1,73 @@
+-- The disks are put back, one after another.
+use Rattle.x_base.specs.Edge.{Rose}
+use Rattle.std.proofs.Common.{◌≡◌, ◌⊎◌, inl, inr, ⊎_elim, ℕ, ◌+◌, ◌≤◌, ◌<◌, arith, List, [], ◌∷◌, ◌++◌, refl, sym, ◌∙◌, ap, subst, append_assoc}
+use mathlib.Core.Logic.{◌≢◌}
+use Rattle.std.proofs.lemmas.List.{append-nil}
+use Rattle.x_disk.specs.Disk.{View}
+use Rattle.x_disk.specs.Shelf.{IsAlike, OthersStay, SlotsStay}
+use Rattle.replay.specs.Seats.{NoneOf, owners}
+use Rattle.replay.specs.Closing.{IsBack, AllBack, AllSlots, AreApart, IsFaulty, AnyFaulty, IsClosing}
+use Rattle.replay.specs.declared.seat.Seat.{Seat}
+use Rattle.replay.specs.declared.seat.Held.{Held}
+use Rattle.replay.specs.declared.seat.Held.TheVariants.{Open, Loose, Out}
+
+pub alike_on : (u v w : View) → IsAlike u v → IsAlike v w → IsAlike u w
+alike_on u v w first second = record {
+  now = second.now ∙ first.now;
+  stable = second.stable ∙ first.stable;
+  moment = second.moment ∙ first.moment;
+  images = λ c left. first.images c (second.images c left);
+  images_stay = λ c left. second.images_stay c (first.images_stay c left);
+  since = λ t c left. first.since t c (second.since t c left);
+  since_stays = λ t c left. second.since_stays t c (first.since_stays t c left);
+  covers = λ end bytes calls is. second.covers end bytes calls (first.covers end bytes calls is);
+}
+
+pub rose_on : (a b e : ℕ) → a ≤ b → Rose b e → Rose a e
+rose_on a b e le (inl less) = inl (omega (arith, le, less))
+rose_on a b e le (inr most) = inr most
+
+pub rose_then : (a b e : ℕ) → b ≤ e → Rose a b → Rose a e
+rose_then a b e le (inl less) = inl (omega (arith, le, less))
+rose_then a b e le (inr most) = inr (omega (arith, le, most))
+
+module _ {D : Type 0} (told : D → View) where
+  back_on : (old new : List ℕ → View) (own other : List ℕ) (h : Held D) → OthersStay own old new → other ≢ own → IsBack told old other h → IsBack told new other h
+  back_on old new own other (Open node) others apart back = (alike_on (told node.disk) (old other) (new other) back.0 (others other apart), back.1)
+  back_on old new own other (Loose disk) others apart back = alike_on (told disk) (old other) (new other) back (others other apart)
+  back_on old new own other Out others apart back = tt
+
+  all_on : (old new : List ℕ → View) (own : List ℕ) (seats : List (Seat D)) → OthersStay own old new → NoneOf seats own → AllBack told old seats → AllBack told new seats
+  all_on old new own [] others none back = tt
+  all_on old new own (s ∷ seats) others none back = (back_on old new own s.own s.held others none.0 back.0, all_on old new own seats others none.1 back.1)
+
+  apart_at : (left : List (Seat D)) (s : Seat D) (done : List (Seat D)) → AreApart (left ++ s ∷ done) → NoneOf done s.own
+  apart_at [] s done apart = apart.0
+  apart_at (l ∷ left) s done apart = apart_at left s done apart.1
+
+  pub slots_at : (slot : List ℕ → Type 0) (left : List (Seat D)) (s : Seat D) → AllSlots slot (owners (left ++ s ∷ [])) → slot s.own
+  slots_at slot [] s all = all.0
+  slots_at slot (l ∷ left) s all = slots_at slot left s all.1
+
+  pub slots_front : (old new : List ℕ → Type 0) (left : List (Seat D)) (s : Seat D) → SlotsStay old new → AllSlots old (owners (left ++ s ∷ [])) → AllSlots new (owners left)
+  slots_front old new [] s stay all = tt
+  slots_front old new (l ∷ left) s stay all = (stay l.own all.0, slots_front old new left s stay all.1)
+
+  pub closes : (entry : List ℕ → View) (count : ℕ) (all : List (Seat D)) → IsClosing told entry count count all all
+  closes entry count all = record { done = []; split = sym (append-nil all); back = tt; seen = λ faulty. absurd faulty }
+
+  pub closes_on : (old new : List ℕ → View) (before mid after : ℕ) (all was left : List (Seat D)) (s : Seat D) → before ≤ mid → mid ≤ after → AreApart all → was ≡ left ++ s ∷ [] → IsClosing told old before mid all was
+      → IsBack told new s.own s.held → (IsFaulty told s.held → Rose mid after) → OthersStay s.own old new → IsClosing told new before after all left
+  closes_on old new before mid after all was left s first last apart is so_far back seen others =
+      let split : all ≡ left ++ (s ∷ so_far.done) = so_far.split ∙ (ap (λ (l : List (Seat D)). l ++ so_far.done) is ∙ append_assoc left (s ∷ []) so_far.done) in
+      record {
+        done = s ∷ so_far.done;
+        split = split;
+        back = (back, all_on old new s.own so_far.done others (apart_at left s so_far.done (subst AreApart split apart)) so_far.back);
+        seen = λ faulty. ⊎_elim (λ one. rose_on before mid after first (seen one)) (λ more. rose_then before mid after last (so_far.seen more)) faulty;
+      }
+
+  pub closed : (entry : List ℕ → View) (before after : ℕ) (all left : List (Seat D)) → left ≡ [] → IsClosing told entry before after all left → AllBack told entry all × (AnyFaulty told all → Rose before after)
+  closed entry before after all left none closing =
+      let is : all ≡ closing.done = closing.split ∙ ap (λ (l : List (Seat D)). l ++ closing.done) none in
+      (subst (AllBack told entry) (sym is) closing.back, λ faulty. closing.seen (subst (AnyFaulty told) is faulty))

@@ -1,0 +1,16 @@
+use Rattle.std.proofs.Common.{Some}
+use Rattle.replay.proofs.Judging.{honest_there}
+use Rattle.replay.proofs.Happened.{plays_stopped, plays_whole}
+use Rattle.replay.proofs.acting.play_honest.Goals as goal
+
+pub returns-in_ok-stop_event-in-Some-clause-played : goal.returns-in_ok-stop_event-in-Some-clause-played
+returns-in_ok-stop_event-in-Some-clause-played g c =
+    let told = g.H.Disk.Disk.told in
+    plays_stopped told (g.H.Shelf.faults c.args.shelf.now) (g.H.Shelf.faults c.stop_event.new.shelf) c.args.scene.now c.stop_event.new.scene c.args.place (Some c.args.input) 0 c.args.now.now c.in-Some.stop c.in_ok-stop_event-in-Some.field-0 c.in-Some.is
+    (honest_there told c.law_facts.ensures c.law_runs.ensures.test c.args.scene.now c.args.place c.args.input c.requires.within c.requires.seated c.requires.judged) c.in_ok-stop_event-in-Some.ensures.step
+
+pub returns-in_ok-verdict-in-None-clause-played : goal.returns-in_ok-verdict-in-None-clause-played
+returns-in_ok-verdict-in-None-clause-played g c =
+    let told = g.H.Disk.Disk.told in
+    plays_whole told (g.H.Shelf.faults c.args.shelf.now) (g.H.Shelf.faults c.args.shelf.now) c.args.scene.now c.tell_event.new.scene c.args.place c.args.input 0 c.args.now.now c.in_ok-verdict-in-None.verdict c.outcome_of.result c.in-None.is c.outcome_of.ensures
+    (honest_there told c.law_facts.ensures c.law_runs.ensures.test c.args.scene.now c.args.place c.args.input c.requires.within c.requires.seated c.requires.judged) c.in_ok-verdict-in-None.ensures.step

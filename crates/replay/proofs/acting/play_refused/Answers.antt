@@ -1,0 +1,21 @@
+use Rattle.std.proofs.Common.{None, subst}
+use Rattle.replay.specs.Acting.{PlaysAt, Acts}
+use Rattle.replay.specs.Seats.{NoneOf, IsPlace}
+use Rattle.replay.specs.declared.act.Act.TheVariants as act
+use Rattle.replay.proofs.Results.{if_ok}
+use Rattle.replay.proofs.Happened.{acts_unheard, acts_unheard_nobody}
+use Rattle.replay.proofs.acting.play_refused.Goals as goal
+
+pub returns-in_default-clause-acted : goal.returns-in_default-clause-acted
+returns-in_default-clause-acted g c =
+    acts_unheard_nobody g.H.Disk.Disk.told (g.H.Shelf.faults c.args.shelf.now) (g.H.Shelf.faults c.args.shelf.now) c.args.scene.now c.args.now.now c.args.party.now c.args.number (subst (λ l. NoneOf l c.args.party.now) c.deref.ensures.value c.in_default.ensures.none)
+
+pub returns-clause-acted : goal.returns-clause-acted
+returns-clause-acted g c =
+    if_ok c.play_unheard.result (λ o. PlaysAt g.H.Disk.Disk.told (g.H.Shelf.faults c.args.shelf.now) (g.H.Shelf.faults c.play_unheard.new.shelf) c.args.scene.now c.play_unheard.new.scene c.in-Some.place None c.args.number c.args.now.now o)
+    (λ o. Acts g.H.Disk.Disk.told (g.H.Shelf.faults c.args.shelf.now) (g.H.Shelf.faults c.play_unheard.new.shelf) (act.Refuse c.args.party.now c.args.number) c.args.scene.now c.play_unheard.new.scene c.args.now.now o)
+    (λ o plays. acts_unheard g.H.Disk.Disk.told (g.H.Shelf.faults c.args.shelf.now) (g.H.Shelf.faults c.play_unheard.new.shelf) c.args.scene.now c.play_unheard.new.scene c.args.now.now o c.args.party.now c.in-Some.place c.args.number
+    (subst (λ l. IsPlace l c.args.party.now c.in-Some.place) c.deref.ensures.value c.in-Some.ensures.some) plays) c.play_unheard.ensures.played
+
+pub play_unheard-requires-clause-placed : goal.play_unheard-requires-clause-placed
+play_unheard-requires-clause-placed g c = subst (λ l. IsPlace l c.args.party.now c.in-Some.place) c.deref.ensures.value c.in-Some.ensures.some

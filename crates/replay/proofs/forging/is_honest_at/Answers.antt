@@ -1,0 +1,18 @@
+use Rattle.std.proofs.Common.{◌≡◌, get_or, sym, ◌∙◌, ap, subst}
+use Rattle.replay.specs.Seats.{IsOpen}
+use Rattle.replay.specs.declared.seat.Seat.{Seat}
+use Rattle.replay.proofs.Seating.{is_in, not_open}
+use Rattle.replay.proofs.Judging.{judges_at}
+use Rattle.replay.proofs.forging.is_honest_at.Goals as goal
+
+pub unreachable-requires : goal.unreachable-requires
+unreachable-requires g c =
+    let s = c.index-seats-place.result in
+    not_open (get_or c.args.seats.now c.args.place s).held c.in-Loose.is
+    (subst (λ (x : Seat _). IsOpen x.held) c.index-seats-place.is (is_in c.args.seats.now c.args.place s c.requires.within c.index-seats-place.is c.requires.seated))
+
+pub returns : goal.returns
+returns g c =
+    let s = c.index-seats-place.result in
+    judges_at c.args.seats.now c.args.place s c.in-Open.node c.args.facts.now c.args.input.now c.is_honest.result c.index-seats-place.is
+    (ap (λ (x : Seat _). x.held) c.index-seats-place.is ∙ c.in-Open.is) c.is_honest.ensures

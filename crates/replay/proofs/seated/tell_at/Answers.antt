@@ -1,0 +1,35 @@
+use Rattle.std.proofs.Common.{Err}
+use Rattle.replay.specs.Seats.{seat}
+use Rattle.replay.proofs.Stepping.{told_faulty}
+use Rattle.replay.specs.declared.seat.Held.TheVariants.{Open, Loose, Out}
+use Rattle.replay.proofs.seated.tell_at.Goals as goal
+
+pub returns-in-Said-clause-told : goal.returns-in-Said-clause-told
+returns-in-Said-clause-told g c =
+    let l = c.lift-node.ensures in
+    record {
+      front = l.front;
+      own = l.own;
+      back = l.back;
+      node = c.lift-node.result;
+      before = l.before;
+      size = l.size;
+      tells = (c.in-Said.node, c.set_down.ensures l.front (seat l.own Out) l.back l.after l.size, c.in-Said.ensures);
+    }
+
+pub returns-in-Failed-clause-told : goal.returns-in-Failed-clause-told
+returns-in-Failed-clause-told g c =
+    let l = c.lift-node.ensures in
+    record {
+      front = l.front;
+      own = l.own;
+      back = l.back;
+      node = c.lift-node.result;
+      before = l.before;
+      size = l.size;
+      tells = (c.in-Failed.disk, c.set_down-in-Failed.ensures l.front (seat l.own Out) l.back l.after l.size, c.in-Failed.ensures);
+    }
+
+pub returns-in-Failed-clause-fault : goal.returns-in-Failed-clause-fault
+returns-in-Failed-clause-fault g c = λ is.
+    told_faulty g.D.Disk.told c.args.seats.now.items c.set_down-in-Failed.new.seats.items c.args.place c.args.input c.args.moment (Err c.in-Failed.why) (returns-in-Failed-clause-told g c) is

@@ -1,0 +1,44 @@
+use Rattle.std.proofs.Common.{◌≡◌, ◌∙◌, sym, refl, inr, ap₂, not, nat_eq, Result, Ok, Err}
+use Rattle.std.specs.Prelude.{Bool}
+use Rattle.key_store.specs.Store.{room}
+use Rattle.replay.specs.declared.failure.Failure.{Failure}
+use Rattle.replay.specs.declared.failure.Failure.TheVariants as failure
+use Rattle.replay.specs.declared.seat.Held.TheVariants.{Open, Loose}
+use Rattle.replay.proofs.Cutting.{slot_at, lifted_owners, down_owners, down_faulty, stopped_at}
+use Rattle.replay.proofs.stop_event.stop_at.Goals as goal
+
+why_is : (why : Failure) (r : Result Bool Failure) → r ≡ Err why → r ≡ Err failure.Fault → why ≡ failure.Fault
+why_is why r as_ is = let both : Err why ≡ Err failure.Fault = sym as_ ∙ is in cc both
+
+pub exchange-requires : goal.exchange-requires
+exchange-requires g c = slot_at (g.H.Shelf.has_slot c.args.shelf.now) c.args.seats.now.items c.args.place c.args.own.now c.lift-node.new.seats.items c.lift-node.result c.requires.slots c.requires.placed c.lift-node.ensures
+
+pub returns-in-Ok-restart-clause-stopped : goal.returns-in-Ok-restart-clause-stopped
+returns-in-Ok-restart-clause-stopped g c =
+    let told = g.H.Disk.Disk.told in
+    let node = c.lift-node.result in
+    let opened = c.in-Ok-restart.node in
+    let found : not (nat_eq c.room.result c.room-room.result) ≡ not (nat_eq (room opened) (room node)) = ap₂ (λ a b. not (nat_eq a b)) c.room.ensures c.room-room.ensures in
+    stopped_at told c.args.seats.now.items c.lift-node.new.seats.items c.set_down-in-Ok-restart.new.seats.items c.args.place node c.lift-node.ensures opened c.set_down-in-Ok-restart.ensures
+    c.args.input c.args.moment c.args.stop (told c.in-Ok.disk) (told c.in_ok-disk.disk) c.in-Ok.ensures.rests c.in_ok-disk.ensures.alike c.in-Ok-restart.ensures.opened
+    (g.H.Shelf.faults c.args.shelf.now) (g.H.Shelf.faults c.exchange.new.shelf) c.exchange.ensures.seen (not (nat_eq c.room.result c.room-room.result)) found
+
+pub returns-in_err-disk-clause-owners : goal.returns-in_err-disk-clause-owners
+returns-in_err-disk-clause-owners g c = lifted_owners g.H.Disk.Disk.told c.args.seats.now.items c.lift-node.new.seats.items c.lift-node.new.seats.items c.args.place c.lift-node.result c.lift-node.ensures
+
+pub returns-in-Err-clause-owners : goal.returns-in-Err-clause-owners
+returns-in-Err-clause-owners g c = down_owners g.H.Disk.Disk.told c.args.seats.now.items c.lift-node.new.seats.items c.set_down.new.seats.items c.args.place c.lift-node.result c.lift-node.ensures (Loose c.in-Err.field-0.disk) c.set_down.ensures
+
+pub returns-in-Ok-restart-clause-owners : goal.returns-in-Ok-restart-clause-owners
+returns-in-Ok-restart-clause-owners g c = down_owners g.H.Disk.Disk.told c.args.seats.now.items c.lift-node.new.seats.items c.set_down-in-Ok-restart.new.seats.items c.args.place c.lift-node.result c.lift-node.ensures (Open c.in-Ok-restart.node) c.set_down-in-Ok-restart.ensures
+
+pub returns-in-Err-restart-clause-owners : goal.returns-in-Err-restart-clause-owners
+returns-in-Err-restart-clause-owners g c = down_owners g.H.Disk.Disk.told c.args.seats.now.items c.lift-node.new.seats.items c.set_down-in-Err-restart.new.seats.items c.args.place c.lift-node.result c.lift-node.ensures (Loose c.in-Err-restart.field-0.disk) c.set_down-in-Err-restart.ensures
+
+pub returns-in-Err-clause-fault : goal.returns-in-Err-clause-fault
+returns-in-Err-clause-fault g c = λ is.
+    inr (down_faulty g.H.Disk.Disk.told c.args.seats.now.items c.lift-node.new.seats.items c.set_down.new.seats.items c.args.place c.lift-node.result c.lift-node.ensures c.in-Err.field-0.disk c.set_down.ensures (c.in-Err.ensures.fault (why_is c.in-Err.field-0.why (Err c.in-Err.field-0.why) refl is)))
+
+pub returns-in-Err-restart-clause-fault : goal.returns-in-Err-restart-clause-fault
+returns-in-Err-restart-clause-fault g c = λ is.
+    inr (down_faulty g.H.Disk.Disk.told c.args.seats.now.items c.lift-node.new.seats.items c.set_down-in-Err-restart.new.seats.items c.args.place c.lift-node.result c.lift-node.ensures c.in-Err-restart.field-0.disk c.set_down-in-Err-restart.ensures (c.in-Err-restart.ensures.fault (why_is c.in-Err-restart.field-0.why (Err c.in-Err-restart.field-0.why) refl is)))

@@ -1,0 +1,47 @@
+-- The disks are put back on the shelf (this project's profile).
+use Rattle.std.specs.Prelude.{◌≡◌, ◌⊎◌, ◌<◌, ℕ, List, [], ◌∷◌, ◌++◌}
+use Rattle.x_base.specs.Edge.{Rose}
+use Rattle.x_disk.specs.Disk.{View}
+use Rattle.x_disk.specs.Shelf.{IsAlike}
+use Rattle.key_store.specs.Store.{IsStore}
+use Rattle.replay.specs.Seats.{NoneOf}
+use Rattle.replay.specs.declared.seat.Seat.{Seat}
+use Rattle.replay.specs.declared.seat.Held.{Held}
+use Rattle.replay.specs.declared.seat.Held.TheVariants.{Open, Loose, Out}
+
+-- each party has a slot
+abbrev pub AllSlots : (List ℕ → Type 0) → List (List ℕ) → Type 0
+AllSlots slot [] = Unit {0}
+AllSlots slot (own ∷ owners) = slot own × AllSlots slot owners
+
+-- what is held of a party is back on the shelf, and stands for it
+abbrev pub IsBack : {D : Type 0} → (D → View) → (List ℕ → View) → List ℕ → Held D → Type 0
+IsBack told entry own (Open node) = IsAlike (told node.disk) (entry own) × IsStore (told node.disk) node.gate node.end node.party
+IsBack told entry own (Loose disk) = IsAlike (told disk) (entry own)
+IsBack told entry own Out = Unit {0}
+
+abbrev pub AllBack : {D : Type 0} → (D → View) → (List ℕ → View) → List (Seat D) → Type 0
+AllBack told entry [] = Unit {0}
+AllBack told entry (s ∷ seats) = IsBack told entry s.own s.held × AllBack told entry seats
+
+-- no two seats are of one identity
+abbrev pub AreApart : {D : Type 0} → List (Seat D) → Type 0
+AreApart [] = Unit {0}
+AreApart (s ∷ seats) = NoneOf seats s.own × AreApart seats
+
+-- a disk that is held has failed
+abbrev pub IsFaulty : {D : Type 0} → (D → View) → Held D → Type 0
+IsFaulty told (Open node) = ⊥
+IsFaulty told (Loose disk) = 0 < (told disk).faults
+IsFaulty told Out = ⊥
+
+abbrev pub AnyFaulty : {D : Type 0} → (D → View) → List (Seat D) → Type 0
+AnyFaulty told [] = ⊥
+AnyFaulty told (s ∷ seats) = IsFaulty told s.held ⊎ AnyFaulty told seats
+
+-- these were the last of all seats, and are back; the shelf's faults rose from one count to another where one of them failed
+pub record IsClosing {D : Type 0} (told : D → View) (entry : List ℕ → View) (before after : ℕ) (all left : List (Seat D)) : Type 0 where
+  pub done : List (Seat D)
+  pub split : all ≡ left ++ done
+  pub back : AllBack told entry done
+  pub seen : AnyFaulty told done → Rose before after

@@ -1,0 +1,14 @@
+-- What the course of a scenario is: a run of events (this project's profile).
+use Rattle.std.specs.Prelude.{◌≡◌, ℕ, List}
+use Rattle.world_laws.specs.Events.{Event, AreEvents}
+use Rattle.world_laws.specs.Steps.{run, number_after}
+use Rattle.world_laws.specs.Honest.{HonestRun}
+use Rattle.replay.specs.Course.{Course}
+
+-- from one course to another these events happened: the network is the end of their run, and each was honest
+pub record Ran (c e : Course) : Type 0 where
+  pub events : List Event
+  pub are : AreEvents events
+  pub ran : e.world ≡ run c.now.number c.world events
+  pub honest : HonestRun c.now.number c.world events
+  pub numbers : e.now.number ≡ number_after c.now.number events

@@ -1,0 +1,16 @@
+pub mod Saying
+pub mod Seats
+pub mod Told
+pub mod Stops
+pub mod Carried
+pub mod Scene
+pub mod Closing
+pub mod Happenings
+pub mod Outcomes
+pub mod Transcript
+pub mod Course
+pub mod Acting
+pub mod Forging
+pub mod Ends
+pub mod Writing
+pub mod Lines

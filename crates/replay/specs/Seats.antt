@@ -1,0 +1,93 @@
+-- Seats, in the order of their parties: what is held of each.
+use Rattle.std.specs.Prelude.{◌≡◌, ◌≢◌, ℕ, List, [], ◌∷◌, ◌++◌, length, Result, Ok, Err}
+use Rattle.x_disk.specs.Disk.{View, Tells}
+use Rattle.party_state.specs.declared.command.Input.{Input}
+use Rattle.key_store.specs.Store.{Stored}
+use Rattle.roles.specs.Deciding.{decision}
+use Rattle.world_laws.specs.World.{Member}
+use Rattle.world_laws.specs.Nodes.{member_of}
+use Rattle.replay.specs.Told.{IsTold}
+use Rattle.replay.specs.declared.failure.Failure.{Failure}
+use Rattle.replay.specs.declared.told.Told.TheVariants.{Said, Failed}
+use Rattle.replay.specs.declared.seated.Saying.{Saying}
+use Rattle.replay.specs.declared.seat.Seat.{Seat}
+use Rattle.replay.specs.declared.seat.Held.{Held}
+use Rattle.replay.specs.declared.seat.Held.TheVariants.{Open, Loose, Out}
+
+abbrev pub seat : {D : Type 0} → List ℕ → Held D → Seat D
+seat own held = record { own = own; held = held }
+
+-- the members for which the open disks stand
+abbrev pub with_held : {D : Type 0} → Held D → List Member → List Member
+with_held (Open node) members = member_of node ∷ members
+with_held (Loose disk) members = members
+with_held Out members = members
+
+abbrev pub members : {D : Type 0} → List (Seat D) → List Member
+members [] = []
+members (s ∷ seats) = with_held s.held (members seats)
+
+-- the disk is open and tells its bytes, and its party is the one whose seat this is
+pub record IsOf {D : Type 0} (told : D → View) (own : List ℕ) (node : Stored D) : Type 0 where
+  pub named : node.party.own ≡ own
+  pub tells : Tells (told node.disk)
+
+abbrev pub IsIn : {D : Type 0} → (D → View) → List ℕ → Held D → Type 0
+IsIn told own (Open node) = IsOf told own node
+IsIn told own (Loose disk) = ⊥
+IsIn told own Out = ⊥
+
+abbrev pub AreIn : {D : Type 0} → (D → View) → List (Seat D) → Type 0
+AreIn told [] = Unit {0}
+AreIn told (s ∷ seats) = IsIn told s.own s.held × AreIn told seats
+
+-- the disk is open
+abbrev pub IsOpen : {D : Type 0} → Held D → Type 0
+IsOpen (Open node) = Unit {0}
+IsOpen (Loose disk) = ⊥
+IsOpen Out = ⊥
+
+abbrev pub AreOpen : {D : Type 0} → List (Seat D) → Type 0
+AreOpen [] = Unit {0}
+AreOpen (s ∷ seats) = IsOpen s.held × AreOpen seats
+
+-- no seat is this identity's
+abbrev pub NoneOf : {D : Type 0} → List (Seat D) → List ℕ → Type 0
+NoneOf [] own = Unit {0}
+NoneOf (s ∷ seats) own = (s.own ≢ own) × NoneOf seats own
+
+-- the seat at this place is the first of this identity
+abbrev pub IsPlace : {D : Type 0} → List (Seat D) → List ℕ → ℕ → Type 0
+IsPlace {D = D} seats own place = (front : List (Seat D)) (s : Seat D) (back : List (Seat D)) → seats ≡ front ++ s ∷ back → length front ≡ place → NoneOf front own × (s.own ≡ own)
+
+-- the identities, in order
+abbrev pub owners : {D : Type 0} → List (Seat D) → List (List ℕ)
+owners [] = []
+owners (s ∷ seats) = s.own ∷ owners seats
+
+-- an open disk is taken out of its seat
+pub record IsLifted {D : Type 0} (old new : List (Seat D)) (place : ℕ) (node : Stored D) : Type 0 where
+  pub front : List (Seat D)
+  pub own : List ℕ
+  pub back : List (Seat D)
+  pub before : old ≡ front ++ seat own (Open node) ∷ back
+  pub after : new ≡ front ++ seat own Out ∷ back
+  pub size : length front ≡ place
+
+-- what is held is put into the seat at a place
+abbrev pub IsSetDown : {D : Type 0} → List (Seat D) → List (Seat D) → ℕ → Held D → Type 0
+IsSetDown {D = D} old new place held = (front : List (Seat D)) (s : Seat D) (back : List (Seat D)) → old ≡ front ++ s ∷ back → length front ≡ place → new ≡ front ++ seat s.own held ∷ back
+
+-- the party at a place had a turn with an input
+abbrev pub TellsAt : {D : Type 0} → (D → View) → List (Seat D) → List ℕ → List (Seat D) → List (Seat D) → Stored D → Input → ℕ → Result Saying Failure → Type 0
+TellsAt {D = D} told front own back new node i moment (Ok s) = (after : Stored D) × (new ≡ front ++ seat own (Open after) ∷ back) × IsTold told node (decision node.party i moment) (Said after s.verdict s.reply s.under)
+TellsAt {D = D} told front own back new node i moment (Err why) = (disk : D) × (new ≡ front ++ seat own (Loose disk) ∷ back) × IsTold told node (decision node.party i moment) (Failed disk why)
+
+pub record IsToldAt {D : Type 0} (told : D → View) (old new : List (Seat D)) (place : ℕ) (i : Input) (moment : ℕ) (result : Result Saying Failure) : Type 0 where
+  pub front : List (Seat D)
+  pub own : List ℕ
+  pub back : List (Seat D)
+  pub node : Stored D
+  pub before : old ≡ front ++ seat own (Open node) ∷ back
+  pub size : length front ≡ place
+  pub tells : TellsAt told front own back new node i moment result

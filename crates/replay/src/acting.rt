@@ -1,0 +1,209 @@
+// An event: it is tested, and carried out whole, or stopped where a stop waits.
+ghost use Rattle.std.specs.Prelude.{◌≡◌, ◌⊎◌, ◌<◌, ◌≤◌, ℕ, true, Some, None, length, IfOk, OnOk, Err};
+ghost use Rattle.x_base.specs.Edge.{Rose};
+ghost use Rattle.x_disk.specs.Shelf.{SlotsStay};
+ghost use Rattle.replay.specs.Acting.{PlaysAt, ForgesAt, Acts, Forges};
+ghost use Rattle.replay.specs.Closing.{AllSlots, AnyFaulty};
+ghost use Rattle.replay.specs.Forging.{IsJudgedAt};
+ghost use Rattle.replay.specs.Outcomes.{outcome_of};
+ghost use Rattle.replay.specs.Seats.{AreOpen, IsPlace, owners};
+
+use crate::act::Act;
+use crate::failure::{Ending, Failure};
+use crate::forging::is_honest_at;
+use crate::placing::place_of;
+use crate::progress::{Outcome, Progress};
+use crate::scene::{Scene, tell_event};
+use crate::stop_event::{stop_event, stop_unheard};
+use party_state::Input;
+use std::alloc::Global;
+use world_laws::{law_facts, law_runs};
+use x_base::{Ident, Verdict};
+use x_disk::Shelf;
+
+fn outcome_of(verdict: Verdict) -> Outcome
+    ensures { result ≡ outcome_of verdict }
+{
+    match verdict {
+        Verdict::Accept => Outcome::Done,
+        other => Outcome::Refused(other.number()),
+    }
+}
+
+/// The party at a place has an honest input: whole, or stopped where a stop waits.
+fn play_honest<H: Shelf>(
+    scene: &mut Scene<H::Disk>,
+    place: usize,
+    own: &Ident,
+    shelf: &mut H,
+    alloc: Global,
+    input: Input,
+    now: &Progress,
+) -> Result<Outcome, Failure>
+    requires within { place < length scene.old.seats.items }
+    requires placed { IsPlace scene.old.seats.items own.now place }
+    requires seated { AreOpen scene.old.seats.items }
+    requires slots { AllSlots (H.has_slot shelf.old) (owners scene.old.seats.items) }
+    requires judged { IsJudgedAt scene.old.seats.items place scene.old.facts input true }
+    ensures played { IfOk result (λ outcome. PlaysAt H.Disk.told (H.faults shelf.old) (H.faults shelf.new) scene.old scene.new place (Some input) 0 now.now outcome) }
+    ensures fault { result ≡ Err Failure.Fault → Rose (H.faults shelf.old) (H.faults shelf.new) ⊎ AnyFaulty H.Disk.told scene.new.seats.items }
+    ensures seated { OnOk result (AreOpen scene.new.seats.items) }
+    ensures owners { owners scene.new.seats.items ≡ owners scene.old.seats.items }
+    ensures slots { SlotsStay (H.has_slot shelf.old) (H.has_slot shelf.new) }
+    ensures later { H.faults shelf.old ≤ H.faults shelf.new }
+{
+    law_facts();
+    law_runs();
+    match now.stop {
+        Some(stop) => {
+            stop_event(scene, place, own, shelf, alloc, input, now.moment, stop)?;
+            Ok(Outcome::Stopped)
+        }
+        None => {
+            let verdict = tell_event(scene, place, alloc, input, now.moment)?;
+            Ok(outcome_of(verdict))
+        }
+    }
+}
+
+/// The party at a place has an input.
+fn play_input<H: Shelf>(
+    scene: &mut Scene<H::Disk>,
+    place: usize,
+    own: &Ident,
+    shelf: &mut H,
+    alloc: Global,
+    input: Input,
+    now: &Progress,
+) -> Result<Outcome, Ending>
+    requires within { place < length scene.old.seats.items }
+    requires placed { IsPlace scene.old.seats.items own.now place }
+    requires seated { AreOpen scene.old.seats.items }
+    requires slots { AllSlots (H.has_slot shelf.old) (owners scene.old.seats.items) }
+    ensures played { IfOk result (λ outcome. PlaysAt H.Disk.told (H.faults shelf.old) (H.faults shelf.new) scene.old scene.new place (Some input) 0 now.now outcome) }
+    ensures forged { (n : ℕ) → result ≡ Err (Ending.Forged n) → (n ≡ now.now.number) × (scene.new ≡ scene.old) × ForgesAt H.Disk.told scene.old place input }
+    ensures write { result ≡ Err Ending.Write → ⊥ }
+    ensures fault { result ≡ Err (Ending.Failed Failure.Fault) → Rose (H.faults shelf.old) (H.faults shelf.new) ⊎ AnyFaulty H.Disk.told scene.new.seats.items }
+    ensures seated { OnOk result (AreOpen scene.new.seats.items) }
+    ensures owners { owners scene.new.seats.items ≡ owners scene.old.seats.items }
+    ensures slots { SlotsStay (H.has_slot shelf.old) (H.has_slot shelf.new) }
+    ensures later { H.faults shelf.old ≤ H.faults shelf.new }
+{
+    law_facts();
+    law_runs();
+    let honest = is_honest_at(&scene.seats, place, &scene.facts, &input);
+    if honest {
+        let outcome = play_honest(scene, place, own, shelf, alloc, input, now)?;
+        return Ok(outcome);
+    }
+    Err(Ending::Forged(now.number))
+}
+
+/// Bytes arrive at the party at a place of which nothing is heard.
+fn play_unheard<H: Shelf>(
+    scene: &mut Scene<H::Disk>,
+    place: usize,
+    own: &Ident,
+    shelf: &mut H,
+    alloc: Global,
+    number: u32,
+    now: &Progress,
+) -> Result<Outcome, Failure>
+    requires within { place < length scene.old.seats.items }
+    requires placed { IsPlace scene.old.seats.items own.now place }
+    requires seated { AreOpen scene.old.seats.items }
+    requires slots { AllSlots (H.has_slot shelf.old) (owners scene.old.seats.items) }
+    ensures played { IfOk result (λ outcome. PlaysAt H.Disk.told (H.faults shelf.old) (H.faults shelf.new) scene.old scene.new place None number now.now outcome) }
+    ensures fault { result ≡ Err Failure.Fault → Rose (H.faults shelf.old) (H.faults shelf.new) ⊎ AnyFaulty H.Disk.told scene.new.seats.items }
+    ensures seated { OnOk result (AreOpen scene.new.seats.items) }
+    ensures owners { owners scene.new.seats.items ≡ owners scene.old.seats.items }
+    ensures slots { SlotsStay (H.has_slot shelf.old) (H.has_slot shelf.new) }
+    ensures later { H.faults shelf.old ≤ H.faults shelf.new }
+{
+    match now.stop {
+        Some(stop) => {
+            stop_unheard(scene, place, own, shelf, alloc, now.moment, stop)?;
+            Ok(Outcome::Stopped)
+        }
+        None => Ok(Outcome::Refused(number)),
+    }
+}
+
+/// A party has an input.
+fn play_told<H: Shelf>(
+    scene: &mut Scene<H::Disk>,
+    party: &Ident,
+    shelf: &mut H,
+    alloc: Global,
+    input: Input,
+    now: &Progress,
+) -> Result<Outcome, Ending>
+    requires seated { AreOpen scene.old.seats.items }
+    requires slots { AllSlots (H.has_slot shelf.old) (owners scene.old.seats.items) }
+    ensures acted { IfOk result (λ outcome. Acts H.Disk.told (H.faults shelf.old) (H.faults shelf.new) (Act.Tell party.now input) scene.old scene.new now.now outcome) }
+    ensures forged { (n : ℕ) → result ≡ Err (Ending.Forged n) → (n ≡ now.now.number) × (scene.new ≡ scene.old) × Forges H.Disk.told (Act.Tell party.now input) scene.old }
+    ensures write { result ≡ Err Ending.Write → ⊥ }
+    ensures fault { result ≡ Err (Ending.Failed Failure.Fault) → Rose (H.faults shelf.old) (H.faults shelf.new) ⊎ AnyFaulty H.Disk.told scene.new.seats.items }
+    ensures seated { OnOk result (AreOpen scene.new.seats.items) }
+    ensures owners { owners scene.new.seats.items ≡ owners scene.old.seats.items }
+    ensures slots { SlotsStay (H.has_slot shelf.old) (H.has_slot shelf.new) }
+    ensures later { H.faults shelf.old ≤ H.faults shelf.new }
+{
+    let Some(place) = place_of(&scene.seats, party) else {
+        return Ok(Outcome::Nothing);
+    };
+    play_input(scene, place, party, shelf, alloc, input, now)
+}
+
+/// Bytes arrive at a party of which nothing is heard.
+fn play_refused<H: Shelf>(
+    scene: &mut Scene<H::Disk>,
+    party: &Ident,
+    shelf: &mut H,
+    alloc: Global,
+    number: u32,
+    now: &Progress,
+) -> Result<Outcome, Failure>
+    requires seated { AreOpen scene.old.seats.items }
+    requires slots { AllSlots (H.has_slot shelf.old) (owners scene.old.seats.items) }
+    ensures acted { IfOk result (λ outcome. Acts H.Disk.told (H.faults shelf.old) (H.faults shelf.new) (Act.Refuse party.now number) scene.old scene.new now.now outcome) }
+    ensures fault { result ≡ Err Failure.Fault → Rose (H.faults shelf.old) (H.faults shelf.new) ⊎ AnyFaulty H.Disk.told scene.new.seats.items }
+    ensures seated { OnOk result (AreOpen scene.new.seats.items) }
+    ensures owners { owners scene.new.seats.items ≡ owners scene.old.seats.items }
+    ensures slots { SlotsStay (H.has_slot shelf.old) (H.has_slot shelf.new) }
+    ensures later { H.faults shelf.old ≤ H.faults shelf.new }
+{
+    let Some(place) = place_of(&scene.seats, party) else {
+        return Ok(Outcome::Nothing);
+    };
+    play_unheard(scene, place, party, shelf, alloc, number, now)
+}
+
+/// An event.
+pub(crate) fn play_act<H: Shelf>(
+    scene: &mut Scene<H::Disk>,
+    shelf: &mut H,
+    alloc: Global,
+    act: Act,
+    now: &Progress,
+) -> Result<Outcome, Ending>
+    requires seated { AreOpen scene.old.seats.items }
+    requires slots { AllSlots (H.has_slot shelf.old) (owners scene.old.seats.items) }
+    ensures acted { IfOk result (λ outcome. Acts H.Disk.told (H.faults shelf.old) (H.faults shelf.new) act scene.old scene.new now.now outcome) }
+    ensures forged { (n : ℕ) → result ≡ Err (Ending.Forged n) → (n ≡ now.now.number) × (scene.new ≡ scene.old) × Forges H.Disk.told act scene.old }
+    ensures write { result ≡ Err Ending.Write → ⊥ }
+    ensures fault { result ≡ Err (Ending.Failed Failure.Fault) → Rose (H.faults shelf.old) (H.faults shelf.new) ⊎ AnyFaulty H.Disk.told scene.new.seats.items }
+    ensures seated { OnOk result (AreOpen scene.new.seats.items) }
+    ensures owners { owners scene.new.seats.items ≡ owners scene.old.seats.items }
+    ensures slots { SlotsStay (H.has_slot shelf.old) (H.has_slot shelf.new) }
+    ensures later { H.faults shelf.old ≤ H.faults shelf.new }
+{
+    match act {
+        Act::Nothing => Ok(Outcome::Nothing),
+        Act::Tell { party, input } => play_told(scene, &party, shelf, alloc, input, now),
+        Act::Refuse { party, number } => {
+            let outcome = play_refused(scene, &party, shelf, alloc, number, now)?;
+            Ok(outcome)
+        }
+    }
+}

@@ -1,0 +1,57 @@
+// An event is carried out, and the disk taken out of what is left.
+ghost use Rattle.std.specs.Prelude.{◌≡◌, ◌≤◌};
+ghost use Rattle.roles.specs.Deciding.{decision};
+ghost use Rattle.replay.specs.Carried.{IsCarried, IsFusedCarried};
+
+use key_journal::Cause;
+use node_core::{Node, Turn};
+use party_state::Input;
+use std::alloc::Global;
+use x_disk::Disk;
+
+/// A party's disk after an event.
+#[derive(Drop)]
+pub(crate) enum Carried<D: Disk> {
+    /// All calls were made.
+    Whole(D),
+    /// A call failed.
+    Cut(D),
+    /// No memory was left.
+    NoMemory(D),
+}
+
+/// Carries the event out.
+pub(crate) fn carry<D: Disk>(node: Node<D>, alloc: Global, input: Input, moment: u64) -> Carried<D>
+    ensures { IsCarried D.told node (decision node.party input moment) result }
+{
+    match node.turn(alloc, input, moment) {
+        Turn::Done { node, .. } => Carried::Whole(node.into_disk()),
+        Turn::Refused { node, .. } => Carried::Whole(node.into_disk()),
+        Turn::NoMemory(node) => Carried::NoMemory(node.into_disk()),
+        Turn::Broken(broken) => {
+            let unmade = broken.give_up();
+            match unmade.cause {
+                Cause::Fault => Carried::Cut(unmade.disk),
+                _ => Carried::NoMemory(unmade.disk),
+            }
+        }
+    }
+}
+
+/// The same over a disk that fails after so many calls.
+pub(crate) fn carry_fused<D: Disk>(
+    node: Node<D>,
+    alloc: Global,
+    input: Input,
+    moment: u64,
+    calls: u64,
+) -> Carried<D>
+    requires { calls ≤ 3 }
+    ensures { IsFusedCarried D.told node (decision node.party input moment) calls result }
+{
+    match carry(node.fuse(calls), alloc, input, moment) {
+        Carried::Whole(disk) => Carried::Whole(disk.into_inner()),
+        Carried::Cut(disk) => Carried::Cut(disk.into_inner()),
+        Carried::NoMemory(disk) => Carried::NoMemory(disk.into_inner()),
+    }
+}

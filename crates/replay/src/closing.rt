@@ -1,0 +1,72 @@
+// Every disk is put back.
+ghost use Rattle.std.specs.Prelude.{◌≡◌, ◌<◌, ◌≤◌, Err};
+ghost use Rattle.x_base.specs.Edge.{Rose};
+ghost use Rattle.x_disk.specs.Shelf.{IsAlike, OthersStay, SlotsStay};
+ghost use Rattle.replay.specs.Closing.{IsBack, AllBack, AllSlots, AreApart, IsFaulty, AnyFaulty};
+ghost use Rattle.replay.specs.Seats.{owners};
+
+use crate::failure::Failure;
+use crate::seat::{Held, Seat};
+use x_base::Ident;
+use x_disk::{DiskErr, Shelf};
+
+/// Puts a disk back.
+pub(crate) fn put_disk<H: Shelf>(shelf: &mut H, own: &Ident, disk: H::Disk) -> Result<(), Failure>
+    requires { H.has_slot shelf.old own.now }
+    ensures back { IsAlike (H.Disk.told disk) (H.entry shelf.new own.now) }
+    ensures seen { 0 < (H.Disk.told disk).faults → Rose (H.faults shelf.old) (H.faults shelf.new) }
+    ensures others { OthersStay own.now (H.entry shelf.old) (H.entry shelf.new) }
+    ensures slots { SlotsStay (H.has_slot shelf.old) (H.has_slot shelf.new) }
+    ensures fault { result ≡ Err Failure.Fault → Rose (H.faults shelf.old) (H.faults shelf.new) }
+    ensures later { H.faults shelf.old ≤ H.faults shelf.new }
+{
+    match shelf.put_back(own, disk) {
+        Ok(()) => Ok(()),
+        Err(DiskErr::Fault) => Err(Failure::Fault),
+        Err(DiskErr::NoMemory) => Err(Failure::NoMemory),
+    }
+}
+
+/// Puts back what is held of a party.
+pub(crate) fn put_seat<H: Shelf>(shelf: &mut H, seat: Seat<H::Disk>) -> Result<(), Failure>
+    requires { H.has_slot shelf.old seat.own }
+    ensures back { IsBack H.Disk.told (H.entry shelf.new) seat.own seat.held }
+    ensures seen { IsFaulty H.Disk.told seat.held → Rose (H.faults shelf.old) (H.faults shelf.new) }
+    ensures others { OthersStay seat.own (H.entry shelf.old) (H.entry shelf.new) }
+    ensures slots { SlotsStay (H.has_slot shelf.old) (H.has_slot shelf.new) }
+    ensures fault { result ≡ Err Failure.Fault → Rose (H.faults shelf.old) (H.faults shelf.new) }
+    ensures later { H.faults shelf.old ≤ H.faults shelf.new }
+{
+    let Seat { own, held } = seat;
+    match held {
+        Held::Open(node) => {
+            node.view();
+            put_disk(shelf, &own, node.into_disk())
+        }
+        Held::Loose(disk) => put_disk(shelf, &own, disk),
+        Held::Out => Ok(()),
+    }
+}
+
+/// Puts back what is held of every party, whatever comes. The last error is told.
+pub(crate) fn put_back_all<H: Shelf>(
+    shelf: &mut H,
+    seats: Vec<Seat<H::Disk>>,
+) -> Result<(), Failure>
+    requires slots { AllSlots (H.has_slot shelf.old) (owners seats.items) }
+    requires apart { AreApart seats.items }
+    ensures back { AllBack H.Disk.told (H.entry shelf.new) seats.items }
+    ensures seen { AnyFaulty H.Disk.told seats.items → Rose (H.faults shelf.old) (H.faults shelf.new) }
+    ensures fault { result ≡ Err Failure.Fault → Rose (H.faults shelf.old) (H.faults shelf.new) }
+    ensures later { H.faults shelf.old ≤ H.faults shelf.new }
+{
+    let mut left = seats;
+    let mut outcome = Ok(());
+    'closing: while let Some(seat) = left.pop() {
+        match put_seat(shelf, seat) {
+            Ok(()) => {}
+            Err(why) => outcome = Err(why),
+        }
+    }
+    outcome
+}

@@ -1,0 +1,63 @@
+// An event is played, and its lines are written.
+ghost use Rattle.std.specs.Prelude.{◌≡◌, ◌⊎◌, ◌≤◌, ◌+◌, ℕ, length, option_map, slice_get, Err, IfOk, OnOk};
+ghost use Rattle.x_base.specs.Edge.{Rose};
+ghost use Rattle.x_disk.specs.Shelf.{SlotsStay};
+ghost use Rattle.replay.specs.Acting.{Forges};
+ghost use Rattle.replay.specs.Closing.{AllSlots, AnyFaulty};
+ghost use Rattle.replay.specs.Lines.{PlaysEvent};
+ghost use Rattle.replay.specs.Outcomes.{IsWithin};
+ghost use Rattle.replay.specs.Seats.{AreOpen, owners};
+
+use crate::act::Act;
+use crate::acting::play_act;
+use crate::failure::{Ending, Failure};
+use crate::progress::Progress;
+use crate::scene::Scene;
+use crate::writing::write_event;
+use std::alloc::Global;
+use x_base::{Sink, Text};
+use x_disk::{Disk, Shelf};
+
+/// How many texts were written.
+fn text_count<D: Disk>(scene: &Scene<D>) -> usize
+    ensures { result ≡ length scene.now.texts.items }
+{
+    scene.texts.len()
+}
+
+/// The text behind so many.
+fn text_behind<D: Disk>(scene: &Scene<D>, count: usize) -> Option<&Text>
+    ensures { option_map (λ t. t.now) result ≡ slice_get scene.now.texts.items count }
+{
+    scene.texts.get(count)
+}
+
+/// An event, and its lines.
+pub(crate) fn play_event<K: Sink, H: Shelf>(
+    scene: &mut Scene<H::Disk>,
+    sink: &mut K,
+    shelf: &mut H,
+    alloc: Global,
+    act: Act,
+    now: &Progress,
+) -> Result<Progress, Ending>
+    requires seated { AreOpen scene.old.seats.items }
+    requires slots { AllSlots (H.has_slot shelf.old) (owners scene.old.seats.items) }
+    requires few { IsWithin now.now 65535 }
+    ensures event { IfOk result (λ after. PlaysEvent H.Disk.told (H.faults shelf.old) (H.faults shelf.new) act scene.old scene.new now.now after (K.written sink.old) (K.written sink.new)) }
+    ensures forged { (n : ℕ) → result ≡ Err (Ending.Forged n) → (n ≡ now.now.number) × (scene.new ≡ scene.old) × (K.written sink.new ≡ K.written sink.old) × Forges H.Disk.told act scene.old }
+    ensures write { result ≡ Err Ending.Write → Rose (K.faults sink.old) (K.faults sink.new) }
+    ensures within { IfOk result (λ after. (n : ℕ) → IsWithin now.now n → IsWithin after (n + 1)) }
+    ensures fault { result ≡ Err (Ending.Failed Failure.Fault) → Rose (H.faults shelf.old) (H.faults shelf.new) ⊎ AnyFaulty H.Disk.told scene.new.seats.items }
+    ensures seated { OnOk result (AreOpen scene.new.seats.items) }
+    ensures owners { owners scene.new.seats.items ≡ owners scene.old.seats.items }
+    ensures slots { SlotsStay (H.has_slot shelf.old) (H.has_slot shelf.new) }
+    ensures later { H.faults shelf.old ≤ H.faults shelf.new }
+    ensures climbs { K.faults sink.old ≤ K.faults sink.new }
+{
+    let texts = text_count(scene);
+    let outcome = play_act(scene, shelf, alloc, act, now)?;
+    let text = text_behind(scene, texts);
+    write_event(sink, alloc, now.number, outcome, texts as u64 + 1, text)?;
+    Ok(now.after(outcome, text.is_some()))
+}

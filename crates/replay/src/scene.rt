@@ -1,0 +1,85 @@
+// The state of a play: what is held of each party, the texts that were written, and the facts.
+ghost use Rattle.std.specs.Prelude.{◌≡◌, ◌<◌, ◌++◌, length, option_to_list, Err, IfOk, OnOk};
+ghost use Rattle.replay.specs.Closing.{AnyFaulty};
+ghost use Rattle.replay.specs.Scene.{authenticated, noted, IsStep};
+ghost use Rattle.replay.specs.Seats.{AreOpen, owners};
+
+use crate::failure::Failure;
+use crate::seat::Seat;
+use crate::seated::{Saying, tell_at};
+use fact_book::FactBook;
+use party_state::Input;
+use std::alloc::Global;
+use world_laws::law_inputs;
+use x_base::{FullName, NoMemory, Text, Verdict};
+use x_disk::Disk;
+
+/// What is held of each party, the texts that were written, and the facts.
+#[derive(Drop)]
+pub(crate) struct Scene<D: Disk> {
+    pub(crate) seats: Vec<Seat<D>>,
+    pub(crate) texts: Vec<Text>,
+    pub(crate) facts: FactBook,
+}
+
+/// The authenticated text of a text that a party closed by a code.
+fn authenticated(text: &Text) -> &[u8]
+    ensures { result.now ≡ authenticated text.now }
+{
+    let bytes = text.bytes();
+    let (front, _) = bytes.split_at(bytes.len().saturating_sub(13));
+    front
+}
+
+/// Adds the fact of a text, where its code was made under a key.
+pub(crate) fn note(
+    facts: &mut FactBook,
+    under: Option<FullName>,
+    reply: &Option<Text>,
+) -> Result<(), NoMemory>
+    ensures { OnOk result (facts.new ≡ facts.old ++ noted under reply.now) }
+{
+    match (under, reply) {
+        (Some(under), Some(text)) => facts.add(under, authenticated(text)),
+        _ => Ok(()),
+    }
+}
+
+/// Puts a text behind the others.
+fn put_text(texts: &mut Vec<Text>, reply: Option<Text>) -> Result<(), NoMemory>
+    ensures { OnOk result (texts.new.items ≡ texts.old.items ++ option_to_list reply) }
+{
+    let Some(text) = reply else {
+        return Ok(());
+    };
+    match texts.push(text) {
+        Ok(()) => Ok(()),
+        Err(_) => Err(NoMemory),
+    }
+}
+
+/// An event at the party at a place, carried out whole.
+pub(crate) fn tell_event<D: Disk>(
+    scene: &mut Scene<D>,
+    place: usize,
+    alloc: Global,
+    input: Input,
+    moment: u64,
+) -> Result<Verdict, Failure>
+    requires within { place < length scene.old.seats.items }
+    requires seated { AreOpen scene.old.seats.items }
+    ensures step { IfOk result (λ verdict. IsStep D.told scene.old scene.new place input moment verdict) }
+    ensures fault { result ≡ Err Failure.Fault → AnyFaulty D.told scene.new.seats.items }
+    ensures seated { OnOk result (AreOpen scene.new.seats.items) }
+    ensures owners { owners scene.new.seats.items ≡ owners scene.old.seats.items }
+{
+    law_inputs();
+    let Saying {
+        verdict,
+        reply,
+        under,
+    } = tell_at(&mut scene.seats, place, alloc, input, moment)?;
+    note(&mut scene.facts, under, &reply)?;
+    put_text(&mut scene.texts, reply)?;
+    Ok(verdict)
+}

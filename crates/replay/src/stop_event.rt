@@ -1,0 +1,168 @@
+// An event is stopped at a party.
+ghost use Rattle.std.specs.Prelude.{◌≡◌, ◌⊎◌, ◌<◌, ◌≤◌, ◌++◌, [], cond, length, Some, None, Err, IfOk, OnOk};
+ghost use Rattle.x_base.specs.Edge.{Rose};
+ghost use Rattle.x_disk.specs.Shelf.{SlotsStay};
+ghost use Rattle.replay.specs.Closing.{AllSlots, AnyFaulty};
+ghost use Rattle.replay.specs.Scene.{noted, IsDecidedAt, IsStoppedAt, IsCutStep};
+ghost use Rattle.replay.specs.Seats.{AreOpen, IsPlace, owners};
+
+use crate::failure::Failure;
+use crate::scene::{Scene, note};
+use crate::seat::{Held, Seat};
+use crate::seated::{lift, set_down};
+use crate::stopped::{Lost, Stop, begin, exchange, restart};
+use fact_book::FactBook;
+use party_state::{Decision, Input};
+use roles::decide;
+use std::alloc::Global;
+use x_base::{FullName, Ident, NoMemory, Text};
+use x_disk::{Disk, Shelf};
+
+/// What the party at a place decides.
+fn decide_at<D: Disk>(
+    seats: &[Seat<D>],
+    place: usize,
+    alloc: Global,
+    input: &Input,
+    moment: u64,
+) -> Result<Decision, NoMemory>
+    requires within { place < length seats.now }
+    requires seated { AreOpen seats.now }
+    ensures { IfOk result (λ d. IsDecidedAt seats.now place input.now moment d) }
+{
+    match &seats[place].held {
+        Held::Open(node) => decide(alloc, node.view(), input, moment),
+        Held::Loose(_) | Held::Out => unreachable!(),
+    }
+}
+
+/// Stops the event in the party's seat; whether the party after it stands.
+fn stop_at<H: Shelf>(
+    seats: &mut Vec<Seat<H::Disk>>,
+    place: usize,
+    own: &Ident,
+    shelf: &mut H,
+    alloc: Global,
+    input: Option<Input>,
+    moment: u64,
+    stop: Stop,
+) -> Result<bool, Failure>
+    requires within { place < length seats.old.items }
+    requires placed { IsPlace seats.old.items own.now place }
+    requires seated { AreOpen seats.old.items }
+    requires slots { AllSlots (H.has_slot shelf.old) (owners seats.old.items) }
+    ensures stopped { IfOk result (λ next. IsStoppedAt H.Disk.told seats.old.items seats.new.items place input moment stop (H.faults shelf.old) (H.faults shelf.new) next) }
+    ensures fault { result ≡ Err Failure.Fault → Rose (H.faults shelf.old) (H.faults shelf.new) ⊎ AnyFaulty H.Disk.told seats.new.items }
+    ensures owners { owners seats.new.items ≡ owners seats.old.items }
+    ensures slots { SlotsStay (H.has_slot shelf.old) (H.has_slot shelf.new) }
+    ensures later { H.faults shelf.old ≤ H.faults shelf.new }
+{
+    let node = lift(seats, place);
+    let room = node.room();
+    let disk = match begin(node, alloc, input, moment, stop.n) {
+        Ok(disk) => disk,
+        Err(Lost { disk, why }) => {
+            set_down(seats, place, Held::Loose(disk));
+            return Err(why);
+        }
+    };
+    let disk = exchange(shelf, own, disk)?;
+    match restart(disk, alloc, stop.choice) {
+        Ok(node) => {
+            let is_next = node.room() != room;
+            set_down(seats, place, Held::Open(node));
+            Ok(is_next)
+        }
+        Err(Lost { disk, why }) => {
+            set_down(seats, place, Held::Loose(disk));
+            Err(why)
+        }
+    }
+}
+
+/// Adds the fact where the party after the event stands.
+fn note_if(
+    facts: &mut FactBook,
+    next: bool,
+    under: Option<FullName>,
+    reply: &Option<Text>,
+) -> Result<(), NoMemory>
+    ensures { OnOk result (facts.new ≡ facts.old ++ cond next (noted under reply.now) []) }
+{
+    if next {
+        return note(facts, under, reply);
+    }
+    Ok(())
+}
+
+/// An event at the party at a place, stopped at a disk call.
+pub(crate) fn stop_event<H: Shelf>(
+    scene: &mut Scene<H::Disk>,
+    place: usize,
+    own: &Ident,
+    shelf: &mut H,
+    alloc: Global,
+    input: Input,
+    moment: u64,
+    stop: Stop,
+) -> Result<bool, Failure>
+    requires within { place < length scene.old.seats.items }
+    requires placed { IsPlace scene.old.seats.items own.now place }
+    requires seated { AreOpen scene.old.seats.items }
+    requires slots { AllSlots (H.has_slot shelf.old) (owners scene.old.seats.items) }
+    ensures step { IfOk result (λ next. IsCutStep H.Disk.told scene.old scene.new place (Some input) moment stop (H.faults shelf.old) (H.faults shelf.new) next) }
+    ensures fault { result ≡ Err Failure.Fault → Rose (H.faults shelf.old) (H.faults shelf.new) ⊎ AnyFaulty H.Disk.told scene.new.seats.items }
+    ensures seated { OnOk result (AreOpen scene.new.seats.items) }
+    ensures owners { owners scene.new.seats.items ≡ owners scene.old.seats.items }
+    ensures slots { SlotsStay (H.has_slot shelf.old) (H.has_slot shelf.new) }
+    ensures later { H.faults shelf.old ≤ H.faults shelf.new }
+{
+    let decided = decide_at(&scene.seats, place, alloc, &input, moment)?;
+    let next = stop_at(
+        &mut scene.seats,
+        place,
+        own,
+        shelf,
+        alloc,
+        Some(input),
+        moment,
+        stop,
+    )?;
+    let Decision { under, reply, .. } = decided;
+    note_if(&mut scene.facts, next, under, &reply)?;
+    Ok(next)
+}
+
+/// Bytes of which nothing is heard, stopped at the party at a place.
+pub(crate) fn stop_unheard<H: Shelf>(
+    scene: &mut Scene<H::Disk>,
+    place: usize,
+    own: &Ident,
+    shelf: &mut H,
+    alloc: Global,
+    moment: u64,
+    stop: Stop,
+) -> Result<bool, Failure>
+    requires within { place < length scene.old.seats.items }
+    requires placed { IsPlace scene.old.seats.items own.now place }
+    requires seated { AreOpen scene.old.seats.items }
+    requires slots { AllSlots (H.has_slot shelf.old) (owners scene.old.seats.items) }
+    ensures step { IfOk result (λ next. IsCutStep H.Disk.told scene.old scene.new place None moment stop (H.faults shelf.old) (H.faults shelf.new) next) }
+    ensures fault { result ≡ Err Failure.Fault → Rose (H.faults shelf.old) (H.faults shelf.new) ⊎ AnyFaulty H.Disk.told scene.new.seats.items }
+    ensures seated { OnOk result (AreOpen scene.new.seats.items) }
+    ensures owners { owners scene.new.seats.items ≡ owners scene.old.seats.items }
+    ensures slots { SlotsStay (H.has_slot shelf.old) (H.has_slot shelf.new) }
+    ensures later { H.faults shelf.old ≤ H.faults shelf.new }
+{
+    let next = stop_at(
+        &mut scene.seats,
+        place,
+        own,
+        shelf,
+        alloc,
+        None,
+        moment,
+        stop,
+    )?;
+    Ok(next)
+}

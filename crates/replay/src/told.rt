@@ -1,0 +1,67 @@
+// A party has a turn over its open disk.
+ghost use Rattle.roles.specs.Deciding.{decision};
+ghost use Rattle.replay.specs.Told.{IsTold};
+
+use crate::failure::Failure;
+use key_journal::Cause;
+use node_core::{Node, Turn};
+use party_state::Input;
+use std::alloc::Global;
+use x_base::{FullName, Text, Verdict};
+use x_disk::Disk;
+
+/// What became of an input.
+#[derive(Drop)]
+pub(crate) enum Told<D: Disk> {
+    /// Its verdict, `Accept` where it is done, what is written, and the key of the code that is made for it.
+    Said {
+        node: Node<D>,
+        verdict: Verdict,
+        reply: Option<Text>,
+        under: Option<FullName>,
+    },
+    /// The disk failed, or no memory was left.
+    Failed {
+        disk: D,
+        why: Failure,
+    },
+}
+
+/// The party's turn with an input.
+pub(crate) fn tell<D: Disk>(node: Node<D>, alloc: Global, input: Input, moment: u64) -> Told<D>
+    ensures { IsTold D.told node (decision node.party input moment) result }
+{
+    match node.turn(alloc, input, moment) {
+        Turn::Done { node, reply, under } => Told::Said {
+            node,
+            verdict: Verdict::Accept,
+            reply,
+            under,
+        },
+        Turn::Refused {
+            node,
+            verdict,
+            reply,
+            under,
+        } => Told::Said {
+            node,
+            verdict,
+            reply,
+            under,
+        },
+        Turn::Broken(broken) => {
+            let unmade = broken.give_up();
+            Told::Failed {
+                disk: unmade.disk,
+                why: match unmade.cause {
+                    Cause::Fault => Failure::Fault,
+                    _ => Failure::NoMemory,
+                },
+            }
+        }
+        Turn::NoMemory(node) => Told::Failed {
+            disk: node.into_disk(),
+            why: Failure::NoMemory,
+        },
+    }
+}
