@@ -1,6 +1,7 @@
 #!/usr/bin/env python3
-"""Times `x917 compact` of a bank with 1,000 keys, `show` of that bank before and after, and of one that begins, beside C
-processes that read the same file and write and sync the same bytes, or write nothing, in turns, in one run.
+"""Times `x917 compact` of a bank with 1,000 keys, `ask` of that bank, which only opens it, `show` of it before and after, and
+of one that begins, beside C processes that read the same file and write and sync the same bytes, or write nothing, in turns,
+in one run. Each new copy of the file is synced first, so that no process waits for another's writes.
 Where the machine has other work to do, run it by `chrt -f 50`. compaction.py [PROGRAM]; wants a C compiler. The new folder is one of TMPDIR's, which should be on a disk."""
 import os, shutil, subprocess, sys, tempfile, time
 
@@ -24,6 +25,13 @@ def median(times):
     return sorted(times)[len(times) // 2]
 
 
+def synced_copy(name):
+    """The party's file before the compaction, on the disk."""
+    shutil.copy("before", name)
+    with open(name, "rb+") as copy:
+        os.fsync(copy.fileno())
+
+
 work = tempfile.mkdtemp()
 os.chdir(work)
 plain = os.path.join(work, "plain")
@@ -40,21 +48,22 @@ x917("compact", "--party", "BANKA")
 assert x917("show", "--party", "BANKA") == shown, "the party isn't the one that was"
 shutil.copy("BANKA.x917", "after")
 frame = os.path.getsize("after") - 8388616
-compacts, plains, opened, befores, afters, begun = [], [], [], [], [], []
+compacts, plains, opened, asks, befores, afters, begun = [], [], [], [], [], [], []
 for _ in range(ROUNDS):
-    shutil.copy("before", "BANKA.x917")
+    synced_copy("BANKA.x917")
+    asks.append(timed([program, "ask", "--party", "BANKA", "--peer", "BANKB"]))
     befores.append(timed([program, "show", "--party", "BANKA"]))
     compacts.append(timed([program, "compact", "--party", "BANKA"]))
     afters.append(timed([program, "show", "--party", "BANKA"]))
     begun.append(timed([program, "show", "--party", "BANKC"]))
-    shutil.copy("before", "plainly")
+    synced_copy("plainly")
     opened.append(timed([plain, "plainly", "0"]))
     plains.append(timed([plain, "plainly", str(frame)]))
 print(f"{KEYS} keys, {os.path.getsize('before')} bytes before, a frame of {frame} bytes")
 for name, times in (("x917 compact", compacts), ("C process: the same bytes and syncs", plains),
-                    ("C process: nothing written", opened), ("show before", befores),
+                    ("C process: nothing written", opened), ("ask", asks), ("show before", befores),
                     ("show after", afters), ("show of a bank that begins", begun)):
     print(f"{name:36} median {median(times):.2f} ms, least {min(times):.2f} ms")
-own, plainly = median(compacts) - median(befores), median(plains) - median(opened)
-print(f"writing and syncing alone: {own:.2f} ms of compact behind show, {plainly:.2f} ms in C")
+own, plainly = median(compacts) - median(asks), median(plains) - median(opened)
+print(f"behind the opening: {own:.2f} ms of compact, {plainly:.2f} ms in C, {own / plainly:.2f} times")
 shutil.rmtree(work)

@@ -71,9 +71,9 @@ kill_at() {
     fi
 }
 
-# masked FILE: a reply without the digits that the moment and the drawn key give
+# masked FILE: a reply without the digits that the moment and the drawn keys give
 masked() {
-    sed -e 's#KD/[0-9A-F]\{16\}#KD/................#' -e 's#MAC/[0-9A-F]\{8\}#MAC/........#' "$1"
+    sed -e 's#\(KDU*\)/[0-9A-F]\{16\}#\1/................#g' -e 's#KK/[0-9A-F]\{32\}#KK/................................#' -e 's#MAC/[0-9A-F]\{8\}#MAC/........#' "$1"
 }
 
 # fail_at CALL N ERROR EXIT LINE: the call answers the error
@@ -162,8 +162,49 @@ cp ../output ../input
 subject 'take (response)' BANKA 'take --party BANKA'
 keep
 : >../input
+subject startkk BANKA 'startkk --party BANKA --peer BANKB --new K2'
+keep
+cp ../output ../input
+subject 'take (new key)' BANKB 'take --party BANKB'
+keep
+cp ../output ../input
+words='take --party BANKA'
+keep
+: >../input
 subject end BANKA 'end --party BANKA --peer BANKB --name BANKA.BANKA.K1.1'
 keep
 subject compact BANKA 'compact --party BANKA' stays
+one=0123456789ABCDEDFEDCBA9876543212
+other=0123456789ABCDEBFEDCBA9876543214
+words="init --party CKDX --role distribution --genkey $pair --genseed 0000000000000003"
+keep
+words="load --party CKDX --peer BANKA --label C --side out --key $one"
+keep
+words="load --party CKDX --peer BANKC --label C --side out --key $other"
+keep
+words="load --party BANKA --peer CKDX --label C --side in --key $one"
+keep
+subject ask BANKA 'ask --party BANKA --peer CKDX --ultimate BANKC'
+keep
+cp ../output ../input
+subject 'take (RSI)' CKDX 'take --party CKDX'
+keep
+cp ../output ../input
+subject 'take (RTR)' BANKA 'take --party BANKA'
+: >../input
+one=0123456789ABCDE9FEDCBA9876543216
+other=0123456789ABCDE7FEDCBA9876543218
+words="init --party CKTX --role translation --genkey $pair --genseed 0000000000000004"
+keep
+words="load --party CKTX --peer BANKA --label C --side in --key $one"
+keep
+words="load --party CKTX --peer BANKD --label C --side out --key $other"
+keep
+words="load --party BANKA --peer CKTX --label C --side out --key $one"
+keep
+subject translate BANKA 'translate --party BANKA --peer CKTX --ultimate BANKD'
+keep
+cp ../output ../input
+subject 'take (RFS)' CKTX 'take --party CKTX'
 echo "$tried tried, $violations violations"
 [ "$violations" = 0 ]
