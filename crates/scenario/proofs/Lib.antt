@@ -3,3 +3,5 @@ pub mod Judging
 pub mod Tabling
 pub mod Walking
 pub mod Drilling
+pub mod Sizes
+pub mod Fronts

@@ -1,8 +1,8 @@
 -- A text read up to a line.
-use Rattle.std.proofs.Common.{◌≡◌, ℕ, ◌+◌, ◌-◌, ◌≤◌, ◌<◌, Bool, true, false, List, [], ◌∷◌, ◌++◌, length, cond, refl, sym, ap, subst, ◌∙◌, arith, append-nil, append_assoc, length-append}
+use Rattle.std.proofs.Common.{◌≡◌, ℕ, ◌+◌, ◌-◌, ◌≤◌, ◌<◌, Bool, true, false, List, [], ◌∷◌, ◌++◌, length, cond, refl, sym, ap, subst, ◌∙◌, arith, append-nil, append_assoc, length-append, Option, Some, None}
 use Rattle.std.specs.Prelude.{◌&&◌, ◌||◌, nat_le, nat_lt}
 use Rattle.std.specs.Option.{option_map_or}
-use Rattle.std.specs.List.{filter_map}
+use Rattle.std.specs.List.{cons_option, filter_map}
 use Rattle.std.proofs.lemmas.Bool.{and_parts, ltb-true}
 use Rattle.std.proofs.lemmas.List.Elements.{filter_map-append}
 use Rattle.std.proofs.lemmas.List.Sums.{sum_by-append}
@@ -114,3 +114,18 @@ all_read text rest count d w e =
       good = subst (EachBehind is_good) (sym whole) w.walked.good;
       values = w.walked.values ∙ ap lines_in (sym whole);
     }
+
+kept_within : {X Y : Type 0} (h : X → Option Y) (xs : List X) → length (filter_map h xs) ≤ length xs
+kept_within h [] = omega arith
+kept_within {X} {Y} h (x ∷ xs) = by (h x) (filter_map h xs) (kept_within h xs)
+  where
+    by : (o : Option Y) (ys : List Y) → length ys ≤ length xs → length (cons_option o ys) ≤ length (x ∷ xs)
+    by None ys rest = omega (arith, rest)
+    by (Some y) ys rest = omega (arith, rest)
+
+-- there are no more lines than were counted
+pub few_lines : (text rest : List ℕ) (count : ℕ) (d : Draft) → IsUnderWay text rest count d → length d.lines.items ≤ 65536
+few_lines text rest count d w =
+    let kept : length (lines_in w.walked.before) ≤ length w.walked.before = kept_within line_in w.walked.before in
+    let same : length d.lines.items ≡ length (lines_in w.walked.before) = ap length w.walked.values in
+    omega (arith, kept, same, w.walked.counted, w.short)

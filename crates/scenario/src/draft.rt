@@ -1,5 +1,5 @@
 // The lines of a scenario so far.
-ghost use Rattle.std.specs.Prelude.{◌≡◌, ◌++◌, ◌||◌, ◌∷◌, Bool, true, false, [], IfOk, OnOk};
+ghost use Rattle.std.specs.Prelude.{◌≡◌, ◌≤◌, ◌++◌, ◌||◌, ◌∷◌, Bool, true, false, [], length, IfOk, OnOk};
 ghost use Rattle.std.specs.Option.{option_map_or};
 ghost use Rattle.scenario.specs.Kinds.{line_of};
 ghost use Rattle.scenario.specs.Reading.{is_skipped, lines_in};
@@ -107,7 +107,8 @@ impl Draft {
 
     /// The scenario of these lines.
     pub(crate) fn finish(self) -> Scenario
-        requires { IsDraft self }
+        requires draft { IsDraft self }
+        requires few { length self.lines.items ≤ 65536 }
         ensures { result ≡ self.lines.items }
     {
         Scenario::new(self.lines)

@@ -1,5 +1,5 @@
 // What is promised of every text, whatever reads it.
-ghost use Rattle.scenario.specs.Laws.{HasReading, NeverBoth, OneFirstBad, OneScenario};
+ghost use Rattle.scenario.specs.Laws.{BadInFront, FewBytes, HasReading, NeverBoth, OneFirstBad, OneScenario};
 
 /// Each text is a scenario or has a first bad line.
 pub fn law_has_reading()
@@ -21,4 +21,16 @@ pub fn law_one_first_bad()
 #[tactic(auto, using(crate::proofs::Judging::never_both))]
 pub fn law_never_both()
     ensures { NeverBoth }
+{}
+
+/// The text of a scenario has at most 16,777,216 bytes.
+#[tactic(auto, using(crate::proofs::Sizes::few_bytes))]
+pub fn law_few_bytes()
+    ensures { FewBytes }
+{}
+
+/// The first bad line of the first 16,777,217 bytes of a text is that of the whole text.
+#[tactic(auto, using(crate::proofs::Fronts::bad_in_front))]
+pub fn law_bad_in_front()
+    ensures { BadInFront }
 {}

@@ -20,7 +20,10 @@ mod writing;
 
 pub use drill_text::drill;
 pub use fault::ScenarioFault;
-pub use laws::{law_has_reading, law_never_both, law_one_first_bad, law_one_scenario};
+pub use laws::{
+    law_bad_in_front, law_few_bytes, law_has_reading, law_never_both, law_one_first_bad,
+    law_one_scenario,
+};
 pub use line::Line;
 pub use reading::read;
 pub use scenario_lines::Scenario;

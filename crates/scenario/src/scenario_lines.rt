@@ -1,4 +1,4 @@
-ghost use Rattle.std.specs.Prelude.{◌≡◌, slice_get};
+ghost use Rattle.std.specs.Prelude.{◌≡◌, ◌≤◌, length, slice_get};
 ghost use Rattle.std.specs.Option.{option_copied};
 ghost use Rattle.scenario.specs.Behind.{EachBehind};
 ghost use Rattle.scenario.specs.Rules.{may_follow};
@@ -13,7 +13,7 @@ pub struct Scenario {
 }
 
 impl Model for Scenario {
-    ghost use Rattle.std.specs.Prelude.{List};
+    ghost use Rattle.std.specs.Prelude.{◌≤◌, List, length};
     ghost use Rattle.scenario.specs.declared.line.Line.{Line};
     ghost use Rattle.scenario.specs.Behind.{EachBehind};
     ghost use Rattle.scenario.specs.Rules.{may_follow};
@@ -22,13 +22,14 @@ impl Model for Scenario {
 
     ghost view = { λ s. s.lines.items };
 
-    ghost invariant = { λ s. EachBehind may_follow s.lines.items };
+    ghost invariant = { λ s. EachBehind may_follow s.lines.items × (length s.lines.items ≤ 65536) };
 }
 
 impl Scenario {
     /// A scenario of lines that keep the rules.
     pub(crate) fn new(lines: Vec<Line>) -> Scenario
-        requires { EachBehind may_follow lines.items }
+        requires rules { EachBehind may_follow lines.items }
+        requires few { length lines.items ≤ 65536 }
         ensures { result ≡ lines.items }
     {
         Scenario { lines }
@@ -41,10 +42,11 @@ impl Scenario {
         self.lines.get(i)
     }
 
-    /// The lines in their order.
+    /// The lines in their order, 65,536 at most.
     pub fn lines(&self) -> &[Line]
         ensures lines { result.now ≡ self.now }
         ensures rules { EachBehind may_follow self.now }
+        ensures few { length self.now ≤ 65536 }
     {
         self.lines.as_slice()
     }
