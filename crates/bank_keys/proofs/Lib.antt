@@ -9,3 +9,4 @@ pub mod KeysApart
 pub mod Rooms
 pub mod Taking
 pub mod Passes
+pub mod NewTaken

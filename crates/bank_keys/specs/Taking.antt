@@ -1,5 +1,6 @@
 -- When the key of a key service message is taken (ANSI X9.17; the bounds are this project's profile).
-use Rattle.std.specs.Prelude.{ℕ, ◌≡◌, ◌≢◌, ◌≤◌, ◌↔◌, IsTrue, false, IfSome, List, length, Some, None}
+use Rattle.std.specs.Prelude.{ℕ, ◌≡◌, ◌≢◌, ◌≤◌, ◌↔◌, IsTrue, true, false, IfSome, List, length, Some, None}
+use Rattle.x_base.specs.declared.party.Side.TheVariants.{Takes}
 use Rattle.x_base.specs.declared.verdict.Verdict.TheVariants.{Accept}
 use Rattle.csm_grammar.specs.declared.message.Message.TheVariants as message
 use Rattle.csm_grammar.specs.declared.message.Ksm.{Ksm}
@@ -54,3 +55,17 @@ pub record CanTake (p : Party) (a : Arrival) (m : Ksm) : Type 0 where
 -- a key that a key service message brings is accepted exactly where it can be taken
 abbrev pub TakesKeys : Party → Input → Decision → Type 0
 TakesKeys p i d = (a : Arrival) (m : Ksm) → Brings i a m → (d.verdict ≡ Accept) ↔ CanTake p a m
+
+-- the new key-encrypting key that came with an accepted message is ready for taking: its first count is used. "After" is
+-- the party with the edits of the row
+pub record TakesNew (p after : Party) (m : Ksm) (new : List ℕ × NewKk) : Type 0 where
+  pub link : LinkRec
+  pub in_use : body_link p m.originator m.body ≡ Some link
+  pub taken : link_with (takes m.originator new.0) after ≡ Some (record {
+    peer = m.originator;
+    label = new.0;
+    side = Takes;
+    pair = opened_kk link.pair (body_count m.body) new.1;
+    next = 2;
+    ready = true;
+  })

@@ -1,21 +1,23 @@
 // What is known of the rows of keys that come, by calls that do nothing.
-ghost use Rattle.std.specs.Prelude.{◌≡◌, ◌↔◌, ◌⊎◌, true, None};
+ghost use Rattle.std.specs.Prelude.{◌≡◌, ◌↔◌, ◌⊎◌, ℕ, true, List, Some, None};
+ghost use Rattle.x_base.specs.declared.verdict.Verdict.TheVariants.{Accept};
 ghost use Rattle.csm_grammar.specs.declared.arrival.Arrival.{Arrival as TheArrival};
 ghost use Rattle.csm_grammar.specs.declared.message.Ksm.{Ksm as TheKsm};
+ghost use Rattle.csm_grammar.specs.declared.message.NewKk.{NewKk as TheNewKk};
 ghost use Rattle.csm_grammar.specs.declared.message.Rtr.{Rtr as TheRtr};
 ghost use Rattle.csm_grammar.specs.declared.message.Message.TheVariants as message;
 ghost use Rattle.party_state.specs.declared.command.Input.TheVariants.{Arrived};
 ghost use Rattle.party_state.specs.Keys.{link_key, same_link};
-ghost use Rattle.party_state.specs.State.{Party};
+ghost use Rattle.party_state.specs.State.{Party, apply};
 ghost use Rattle.party_state.specs.Tables.{Distinct};
 ghost use Rattle.party_state.specs.Verdicts.{is_accept};
 ghost use Rattle.role_base.specs.Texts.{is_plain};
 ghost use Rattle.role_base.specs.Differing.{AreApart};
 ghost use Rattle.role_base.specs.Deciding.{decision_of};
 ghost use Rattle.role_base.specs.Errors.{is_early};
-ghost use Rattle.bank_keys.specs.Ksm.{key_arrives, key_lead};
+ghost use Rattle.bank_keys.specs.Ksm.{body_new, key_arrives, key_lead};
 ghost use Rattle.bank_keys.specs.Rtr.{rtr, rtr_lead};
-ghost use Rattle.bank_keys.specs.Taking.{TakesKeys};
+ghost use Rattle.bank_keys.specs.Taking.{TakesKeys, TakesNew};
 ghost use Rattle.bank_keys.specs.Passing.{PassesKeys};
 
 use csm_grammar::law_arrived;
@@ -42,6 +44,12 @@ pub fn law_lead()
 /// key-encrypting key, is accepted exactly where it can be taken.
 pub fn law_taking()
     ensures { (p : Party) (a : TheArrival) (m : TheKsm) → a.parsed.message ≡ message.Ksm m → TakesKeys p (Arrived a) (decision_of p (key_arrives p a m)) }
+{}
+
+/// The new key-encrypting key of an accepted key service message is ready for taking.
+pub fn law_taken()
+    ensures { (p : Party) (a : TheArrival) (m : TheKsm) (new : List ℕ × TheNewKk) → body_new m.body ≡ Some new → (key_arrives p a m).verdict ≡ Accept →
+        TakesNew p (apply (key_arrives p a m).edits p) m new }
 {}
 
 /// A centre's answer is accepted exactly where its key can go on.
