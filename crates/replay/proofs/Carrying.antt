@@ -1,10 +1,10 @@
 -- What is known of a party's disk after an event that is carried out over it, and over the same with a fuse.
-use Rattle.std.proofs.Common.{◌≡◌, ◌≢◌, ◌⊎◌, inl, inr, ⊎_elim, ℕ, suc, ◌+◌, ◌-◌, ◌≤◌, List, length, Bool, true, false, Option, Some, None, is_some, refl, sym, ◌∙◌, ap, subst, arith}
+use Rattle.std.proofs.Common.{◌≡◌, ◌⊎◌, inl, inr, ⊎_elim, ℕ, ◌+◌, ◌-◌, ◌≤◌, List, length, Bool, true, false, Option, Some, None, is_some, refl, sym, ◌∙◌, ap, subst, arith}
 use Rattle.std.proofs.lemmas.Bool.{le-leb}
 use Rattle.x_base.specs.Edge.{Rose}
 use Rattle.x_base.specs.declared.verdict.Verdict.{Verdict}
 use Rattle.x_base.specs.declared.key_name.FullName.{FullName}
-use Rattle.x_disk.specs.Disk.{View, Tells, LeavesOnly, IsDurable}
+use Rattle.x_disk.specs.Disk.{View, Tells, LeavesOnly}
 use Rattle.x_disk.specs.Fuse.{WithFuse, IsFusedView, with_fuse, passes_of}
 use Rattle.x_disk.specs.Shelf.{IsAlike}
 use Rattle.x_disk.specs.declared.disk.DiskErr.{DiskErr}
@@ -19,19 +19,19 @@ use Rattle.party_state.specs.declared.decision.Decision.{Decision}
 use Rattle.party_state.specs.State.{Party}
 use Rattle.party_state.specs.Verdicts.{is_accept}
 use Rattle.change_code.specs.Code.{code_of_change}
-use Rattle.key_store.specs.Store.{Stored, Stands, StandsWith, IsStore, room}
+use Rattle.key_store.specs.Store.{Stored, StandsWith, IsStore, room}
 use Rattle.node_core.specs.Turns.{FitsInto, IsTurn, IsAsDecided, IsTooLong, IsCut, turn_disk}
 use Rattle.node_core.specs.declared.node.Turn.{Turn}
 use Rattle.node_core.specs.declared.node.Turn.TheVariants as turn
 use Rattle.world_laws.specs.World.{Member}
 use Rattle.world_laws.specs.Nodes.{member_of}
+use Rattle.replay.specs.Failing.{ReadsEither}
 use Rattle.replay.specs.Saying.{fits, next_member, said_member}
-use Rattle.replay.specs.Told.{IsTold}
 use Rattle.replay.specs.Stops.{ImageOf, IsToKeep}
 use Rattle.replay.specs.Carried.{IsEither, carried_disk, IsWhole, IsCutShort, Ends, IsCarried, IsFusedWhole, IsFusedCut, FusedEnds, IsFusedCarried}
 use Rattle.replay.specs.declared.carried.Carried.{Carried}
 use Rattle.replay.specs.declared.carried.Carried.TheVariants as carried
-use Rattle.replay.proofs.Telling.{accepts, refuses, does_fit, no_fit, tells_done, tells_refused}
+use Rattle.replay.proofs.Telling.{accepts, refuses, no_fit, tells_done, tells_refused}
 
 weaker : (v w : View) (P Q : List ℕ → Type 0) → LeavesOnly v w P → ((image : List ℕ) → P image → Q image) → LeavesOnly v w Q
 weaker v w P Q run more = record {
@@ -98,7 +98,7 @@ module _ {D : Type 0} (told : D → View) (old : Stored D) (d : Decision) where
       not_kept (inl r) keep = differ (is_accept d.verdict) keep.accepts (refuses d.verdict r.refuses)
       not_kept (inr full) keep = differ (fits (room old) d.change) keep.fits (no_fit old d.change full.full)
 
-  keeps_cut : (new : Failed D) → IsCut told old d new → IsToKeep (member_of old) d
+  pub keeps_cut : (new : Failed D) → IsCut told old d new → IsToKeep (member_of old) d
   keeps_cut new cut = record {
     accepts = accepts d.verdict cut.accepted;
     change = ap is_some cut.change;
@@ -195,6 +195,16 @@ module _ {D : Type 0} (told : D → View) (old : Stored D) (f : Stored (WithFuse
     pending = λ three quiet image now. subst (λ (m : Member). ImageOf m image) next_for
         (cut.pending (passes ∙ ap Some three) (blown k.fuse (told k.disk) cut.rose quiet) image now);
   }
+
+  pub fused_memory : (k : WithFuse D) → (Tells (with_fuse f.disk.fuse (told f.disk.disk)) → ReadsEither (with_fuse k.fuse (told k.disk)) (member_of f) (next_member (member_of f) df) (IsToKeep (member_of f) df))
+      → Tells (told old.disk) → ReadsEither (told k.disk) (member_of old) (next_member (member_of old) d) (IsToKeep (member_of old) d)
+  fused_memory k reads tells =
+      let fused_reads = reads (tells_fused tells) in
+      record { tells = fused_reads.tells; either = λ image now. go image (fused_reads.either image now) }
+    where
+      go : (image : List ℕ) → ImageOf (member_of f) image ⊎ (IsToKeep (member_of f) df × ImageOf (next_member (member_of f) df) image) → ImageOf (member_of old) image ⊎ (IsToKeep (member_of old) d × ImageOf (next_member (member_of old) d) image)
+      go image (inl one) = inl (subst (λ (m : Member). ImageOf m image) same one)
+      go image (inr next) = inr (keep_from next.0, subst (λ (m : Member). ImageOf m image) next_for next.1)
 
   pub unfused : (new : Carried (WithFuse D)) → IsCarried fused_told f df new → FusedEnds told (told old.disk) (member_of old) d calls (without new) → IsFusedCarried told old d calls (without new)
   unfused new c ends = record {

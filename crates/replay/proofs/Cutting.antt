@@ -1,10 +1,10 @@
 -- A stopped event in a network.
-use Rattle.std.proofs.Common.{◌≡◌, ◌⊎◌, inl, inr, ℕ, ◌<◌, nat_eq, not, Bool, true, false, cond, map, List, [], ◌∷◌, ◌++◌, length, Option, Some, None, IfSome, unwrap_or, bytes_eq, get_or, IfOk, Result, Ok, Err, refl, sym, ◌∙◌, ap, ap₂, subst}
+use Rattle.std.proofs.Common.{◌≡◌, ◌⊎◌, inl, inr, ℕ, ◌<◌, nat_eq, not, Bool, true, false, cond, map, List, [], ◌∷◌, ◌++◌, Option, Some, None, unwrap_or, bytes_eq, get_or, IfOk, Result, Ok, Err, refl, sym, ◌∙◌, ap, subst}
 use Rattle.std.specs.List.{AllByRecursion}
 use Rattle.std.proofs.lemmas.List.{append-nil, get_or_at}
 use Rattle.std.proofs.lemmas.List.Elements.{recursion_from_All}
 use Rattle.x_base.specs.Edge.{Rose}
-use Rattle.x_disk.specs.Disk.{View, Tells}
+use Rattle.x_disk.specs.Disk.{View}
 use Rattle.x_disk.specs.Shelf.{IsAlike}
 use Rattle.party_state.specs.Ranges.{IsNoBegin}
 use Rattle.party_state.specs.State.{Party, apply, apply_edit}
@@ -19,8 +19,7 @@ use Rattle.roles.specs.Deciding.{decision}
 use Rattle.node_core.specs.Deciding.{after}
 use Rattle.fact_book.specs.declared.entry.NamedText.{NamedText}
 use Rattle.world_laws.specs.World.{World, Member, own_of, member_at}
-use Rattle.world_laws.specs.Events.{Completion, CutOld, CutNew}
-use Rattle.world_laws.specs.Steps.{world_after_input}
+use Rattle.world_laws.specs.Events.{CutOld, CutNew}
 use Rattle.world_laws.specs.Honest.{named_text}
 use Rattle.world_laws.specs.Nodes.{member_of}
 use Rattle.replay.specs.Closing.{AllSlots, AnyFaulty}
@@ -51,7 +50,7 @@ own_stays : (es : List Edit) (p : Party) → AllByRecursion IsNoBegin es → (ap
 own_stays [] p all = refl
 own_stays (e ∷ es) p all = own_stays es (apply_edit e p) all.1 ∙ own_edit e p all.0
 
-own_after : (d : Decision) (p : Party) → CanKeep p d.change → (after d p).own ≡ p.own
+pub own_after : (d : Decision) (p : Party) → CanKeep p d.change → (after d p).own ≡ p.own
 own_after d p keep = go d.change refl
   where
     go : (c : Option (List Edit)) → d.change ≡ c → (apply (unwrap_or d.change []) p).own ≡ p.own

@@ -1,27 +1,22 @@
 -- An event over the open disks is an event of the network.
-use Rattle.std.proofs.Common.{◌≡◌, ◌⊎◌, inl, inr, ℕ, ◌+◌, ◌<◌, ◌≤◌, Bool, true, false, map, List, [], ◌∷◌, length, Option, Some, None, Err, refl, sym, ◌∙◌, ap, subst, arith}
+use Rattle.std.proofs.Common.{◌≡◌, inl, inr, ℕ, ◌≤◌, Bool, List, [], Option, Some, None, refl, sym, ◌∙◌, ap, subst, arith}
 use Rattle.x_base.specs.Edge.{Rose}
 use Rattle.x_base.specs.declared.verdict.Verdict.{Verdict}
 use Rattle.x_disk.specs.Disk.{View}
-use Rattle.csm_feed.specs.declared.unheard.Unheard.{Unheard}
-use Rattle.csm_feed.specs.Heard.{Heard}
 use Rattle.party_state.specs.declared.command.Input.{Input}
 use Rattle.party_state.specs.declared.command.Input.TheVariants as input
 use Rattle.party_state.specs.State.{Party}
-use Rattle.roles.specs.Deciding.{decision}
 use Rattle.world_laws.specs.World.{World, Member, Fact, member_at}
-use Rattle.world_laws.specs.Events.{Action, Orders, Hears, Compacts, Completion, Whole, CutOld, Event}
-use Rattle.world_laws.specs.Steps.{step, step_at, world_after_action, world_after_input}
+use Rattle.world_laws.specs.Events.{Action, Orders, Hears, Compacts, Completion, Whole}
+use Rattle.world_laws.specs.Steps.{step, step_at, world_after_action}
 use Rattle.world_laws.specs.Honest.{HonestAction}
-use Rattle.replay.specs.Saying.{said_verdict}
 use Rattle.replay.specs.Stops.{KeepsChange, IsFixed}
 use Rattle.replay.specs.Scene.{Shows, IsStep, IsCutStep, world_after_told, completion_of}
-use Rattle.replay.specs.Seats.{members, AreIn, NoneOf, IsPlace}
-use Rattle.replay.specs.Happenings.{Happening, Nothing, At, IsNumbered, unheard_number}
+use Rattle.replay.specs.Seats.{NoneOf, IsPlace}
+use Rattle.replay.specs.Happenings.{Happening, At, IsNumbered}
 use Rattle.replay.specs.Outcomes.{input_in, outcome_of, IsCompleted, IsOutcome}
-use Rattle.replay.specs.Course.{Course, no_event, event_at, IsDoneAt, IsDoneBy, IsDone, IsForgedBy, IsForgedAt}
-use Rattle.replay.specs.Acting.{Means, HonestInput, IsPlayedAt, PlaysAt, ForgesAt, IsActed, Acts, Forges}
-use Rattle.replay.specs.declared.act.Act.{Act}
+use Rattle.replay.specs.Course.{Course, no_event, event_at, IsDoneBy, IsDone, IsForgedBy, IsForgedAt}
+use Rattle.replay.specs.Acting.{HonestInput, PlaysAt, ForgesAt, IsActed, Acts, Forges}
 use Rattle.replay.specs.declared.act.Act.TheVariants as act
 use Rattle.replay.specs.declared.progress.Outcome.{Outcome}
 use Rattle.replay.specs.declared.progress.Outcome.TheVariants as outcome
@@ -100,13 +95,13 @@ module _ {D : Type 0} (told : D → View) where
 
 -- from an action to the input that it gives
 
-told_action : (n : ℕ) (w : World) (x : Member) (moment number : ℕ) (completion : Completion) (action : Action) → IsNumbered action number → world_after_action n w x moment completion action ≡ world_after_told n w x (input_in action) moment completion
+pub told_action : (n : ℕ) (w : World) (x : Member) (moment number : ℕ) (completion : Completion) (action : Action) → IsNumbered action number → world_after_action n w x moment completion action ≡ world_after_told n w x (input_in action) moment completion
 told_action n w x moment number completion (Orders c) numbered = refl
 told_action n w x moment number completion (Hears bytes (Some a)) numbered = refl
 told_action n w x moment number completion (Hears bytes None) numbered = refl
 told_action n w x moment number completion Compacts numbered = absurd numbered
 
-honest_action : (facts : List Fact) (p : Party) (number : ℕ) (action : Action) → IsNumbered action number → HonestInput facts p (input_in action) → HonestAction facts p action
+pub honest_action : (facts : List Fact) (p : Party) (number : ℕ) (action : Action) → IsNumbered action number → HonestInput facts p (input_in action) → HonestAction facts p action
 honest_action facts p number (Orders c) numbered honest = tt
 honest_action facts p number (Hears bytes (Some a)) numbered honest = honest
 honest_action facts p number (Hears bytes None) numbered honest = tt

@@ -1,21 +1,18 @@
 -- Lines lead from course to course.
-use Rattle.std.proofs.Common.{◌≡◌, ℕ, ◌+◌, ◌-◌, ◌<◌, ◌≤◌, Bool, true, false, is_some, List, [], ◌∷◌, ◌++◌, length, take, drop, get_or, Option, Some, None, slice_get, refl, sym, ◌∙◌, ap, ap₂, subst, arith, append_assoc, take-append-drop}
+use Rattle.std.proofs.Common.{◌≡◌, ℕ, ◌+◌, ◌<◌, ◌≤◌, Bool, true, false, is_some, List, [], ◌∷◌, ◌++◌, length, take, drop, get_or, Option, Some, None, slice_get, refl, sym, ◌∙◌, ap, ap₂, subst, arith, append_assoc, take-append-drop}
 use Rattle.std.specs.Prelude.{option_map}
-use Rattle.std.proofs.lemmas.List.{take_more, drop_more, append-nil}
+use Rattle.std.proofs.lemmas.List.{drop_more}
 use Rattle.x_base.specs.Edge.{AppendsTo}
 use Rattle.x_disk.specs.Disk.{View}
 use Rattle.scenario.specs.declared.line.Line.{Line}
 use Rattle.scenario.specs.declared.line.Line.TheVariants as line
-use Rattle.world_laws.specs.World.{World}
-use Rattle.world_laws.specs.Events.{Event}
 use Rattle.world_laws.specs.Steps.{step}
 use Rattle.replay.specs.Happenings.{Happening, Happens, IsNoEvent, IsFormed}
 use Rattle.replay.specs.Outcomes.{after_outcome, counted, IsWithin}
 use Rattle.replay.specs.Transcript.{outcome_line, text_line, written_between}
-use Rattle.replay.specs.Course.{Course, after_event, IsDone, IsEvent, IsNext, Leads, IsForged, IsAt}
+use Rattle.replay.specs.Course.{Course, after_event, IsEvent, IsNext, Leads, IsAt}
 use Rattle.replay.specs.Acting.{Means, Acts, Forges}
-use Rattle.replay.specs.Scene.{Shows}
-use Rattle.replay.specs.Lines.{IsQuietNext, PlaysEvent, PlaysLine, Plays, ForgesLine, IsForgedIn, ForgesIn}
+use Rattle.replay.specs.Lines.{IsQuietNext, PlaysEvent, PlaysLine, Plays, ForgesLine, ForgesIn}
 use Rattle.replay.specs.declared.act.Act.{Act}
 use Rattle.replay.specs.declared.progress.Counts.{Counts}
 use Rattle.replay.specs.declared.progress.Outcome.{Outcome}
@@ -36,10 +33,10 @@ appends_more (Some xs) mid after a b first more = appends_some xs a mid after b 
 
 -- the numbers stay small
 counts_within : (o : Outcome) (p : Progress) (n : ℕ) → IsWithin p n → IsWithin (after_outcome p o false) (n + 1)
-counts_within outcome.Done p n w = record { number = omega (arith, w.number); done = omega (arith, w.done); refused = omega (arith, w.refused); stopped = omega (arith, w.stopped); none = omega (arith, w.none); texts = omega (arith, w.texts) }
-counts_within (outcome.Refused number) p n w = record { number = omega (arith, w.number); done = omega (arith, w.done); refused = omega (arith, w.refused); stopped = omega (arith, w.stopped); none = omega (arith, w.none); texts = omega (arith, w.texts) }
-counts_within outcome.Stopped p n w = record { number = omega (arith, w.number); done = omega (arith, w.done); refused = omega (arith, w.refused); stopped = omega (arith, w.stopped); none = omega (arith, w.none); texts = omega (arith, w.texts) }
-counts_within outcome.Nothing p n w = record { number = omega (arith, w.number); done = omega (arith, w.done); refused = omega (arith, w.refused); stopped = omega (arith, w.stopped); none = omega (arith, w.none); texts = omega (arith, w.texts) }
+counts_within outcome.Done p n w = record { least = omega (arith, w.least); number = omega (arith, w.number); done = omega (arith, w.done); refused = omega (arith, w.refused); stopped = omega (arith, w.stopped); none = omega (arith, w.none); texts = omega (arith, w.texts) }
+counts_within (outcome.Refused number) p n w = record { least = omega (arith, w.least); number = omega (arith, w.number); done = omega (arith, w.done); refused = omega (arith, w.refused); stopped = omega (arith, w.stopped); none = omega (arith, w.none); texts = omega (arith, w.texts) }
+counts_within outcome.Stopped p n w = record { least = omega (arith, w.least); number = omega (arith, w.number); done = omega (arith, w.done); refused = omega (arith, w.refused); stopped = omega (arith, w.stopped); none = omega (arith, w.none); texts = omega (arith, w.texts) }
+counts_within outcome.Nothing p n w = record { least = omega (arith, w.least); number = omega (arith, w.number); done = omega (arith, w.done); refused = omega (arith, w.refused); stopped = omega (arith, w.stopped); none = omega (arith, w.none); texts = omega (arith, w.texts) }
 
 same_texts : (o : Outcome) (c : Counts) → (counted o c).texts ≡ c.texts
 same_texts outcome.Done c = refl
@@ -52,19 +49,20 @@ text_within o false p n w = counts_within o p n w
 text_within o true p n w =
     let c = counts_within o p n w in
     let texts = same_texts o p.counts in
-    record { number = c.number; done = c.done; refused = c.refused; stopped = c.stopped; none = c.none; texts = omega (arith, w.texts, texts) }
+    record { least = c.least; number = c.number; done = c.done; refused = c.refused; stopped = c.stopped; none = c.none; texts = omega (arith, w.texts, texts) }
 
 pub event_within : (o : Outcome) (wrote : Bool) (p q : Progress) → q ≡ after_outcome p o wrote → (n : ℕ) → IsWithin p n → IsWithin q (n + 1)
 event_within o wrote p q is n w = subst (λ (r : Progress). IsWithin r (n + 1)) (sym is) (text_within o wrote p n w)
 
 pub within_more : (p : Progress) (n m : ℕ) → n ≤ m → IsWithin p n → IsWithin p m
-within_more p n m le w = record { number = omega (arith, le, w.number); done = omega (arith, le, w.done); refused = omega (arith, le, w.refused); stopped = omega (arith, le, w.stopped); none = omega (arith, le, w.none); texts = omega (arith, le, w.texts) }
+within_more p n m le w = record { least = w.least; number = omega (arith, le, w.number); done = omega (arith, le, w.done); refused = omega (arith, le, w.refused); stopped = omega (arith, le, w.stopped); none = omega (arith, le, w.none); texts = omega (arith, le, w.texts) }
 
 pub quiet_within : (l : Line) (p q : Progress) → IsQuietNext l p q → (n : ℕ) → IsWithin p n → IsWithin q (n + 1)
 quiet_within l p q quiet n w = within_more q n (n + 1) (omega arith) (go l quiet)
   where
     with_ : (r : Progress) → q ≡ r → r.number ≡ p.number → r.counts ≡ p.counts → IsWithin q n
     with_ r is number counts = subst (λ (x : Progress). IsWithin x n) (sym is) (record {
+      least = subst (λ (k : ℕ). 1 ≤ k) (sym number) w.least;
       number = subst (λ (k : ℕ). k ≤ n + 1) (sym number) w.number;
       done = subst (λ (k : Counts). k.done ≤ n) (sym counts) w.done;
       refused = subst (λ (k : Counts). k.refused ≤ n) (sym counts) w.refused;

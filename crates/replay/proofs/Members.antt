@@ -1,9 +1,9 @@
 -- The members of the network for which open disks stand.
-use Rattle.std.proofs.Common.{◌≡◌, ℕ, Bool, true, false, cond, List, [], ◌∷◌, ◌++◌, Option, Some, None, bytes_eq, refl, sym, ◌∙◌, ap, subst}
+use Rattle.std.proofs.Common.{◌≡◌, ℕ, Bool, true, false, cond, List, [], ◌∷◌, ◌++◌, Some, bytes_eq, refl, sym, ◌∙◌, ap}
 use mathlib.Core.Logic.{◌≢◌}
 use Rattle.std.proofs.lemmas.Slice.Eq.{bytes_eq-Decides}
-use Rattle.x_disk.specs.Disk.{View, Tells}
-use Rattle.party_state.specs.Tables.{find_row, put_row}
+use Rattle.x_disk.specs.Disk.{View}
+use Rattle.party_state.specs.Tables.{put_row}
 use Rattle.key_store.specs.Store.{Stored}
 use Rattle.world_laws.specs.World.{Member, own_of, member_at}
 use Rattle.world_laws.specs.Nodes.{member_of}

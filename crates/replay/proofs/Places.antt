@@ -1,10 +1,10 @@
 -- The place of an identity among the seats.
-use Rattle.std.proofs.Common.{◌≡◌, ℕ, zero, suc, ◌+◌, ◌<◌, List, [], ◌∷◌, ◌++◌, length, get_or, take, Option, Some, None, bytes_eq, refl, sym, ◌∙◌, ap, subst, arith}
+use Rattle.std.proofs.Common.{◌≡◌, ℕ, zero, suc, ◌+◌, ◌<◌, List, [], ◌∷◌, ◌++◌, length, get_or, take, Some, None, bytes_eq, refl, sym, ◌∙◌, ap, subst, arith}
 use mathlib.Core.Logic.{◌≢◌}
 use Rattle.std.proofs.lemmas.List.{get_or_at, take_more}
 use Rattle.x_disk.specs.Disk.{View}
 use Rattle.key_store.specs.Store.{Stored}
-use Rattle.world_laws.specs.World.{Member, member_at}
+use Rattle.world_laws.specs.World.{member_at}
 use Rattle.world_laws.specs.Nodes.{member_of}
 use Rattle.replay.specs.Seats.{seat, members, with_held, IsIn, AreIn, IsOpen, AreOpen, NoneOf, IsPlace}
 use Rattle.replay.specs.declared.seat.Seat.{Seat}

@@ -1,5 +1,6 @@
 -- What holds of an answer, made weaker.
-use Rattle.std.proofs.Common.{Result, Ok, Err, IfOk, OnOk}
+use Rattle.std.proofs.Common.{◌≡◌, Result, Ok, Err, IfOk, IfErr, OnOk, OnErr, subst}
+use Rattle.std.specs.Result.{IsErrAnd}
 
 pub if_ok : {T E : Type 0} (r : Result T E) (P Q : T → Type 0) → ((x : T) → P x → Q x) → IfOk r P → IfOk r Q
 if_ok (Ok x) P Q more is = more x is
@@ -8,3 +9,19 @@ if_ok (Err e) P Q more is = tt
 pub on_ok : {T E : Type 0} (r : Result T E) (P Q : Type 0) → (P → Q) → OnOk r P → OnOk r Q
 on_ok (Ok x) P Q more is = more is
 on_ok (Err e) P Q more is = tt
+
+pub if_err : {T E : Type 0} (r : Result T E) (P Q : E → Type 0) → ((e : E) → P e → Q e) → IfErr r P → IfErr r Q
+if_err (Ok x) P Q more is = tt
+if_err (Err e) P Q more is = more e is
+
+-- an answer has one error
+pub one_err : {T E : Type 0} (r : Result T E) (d e : E) → r ≡ Err d → r ≡ Err e → d ≡ e
+one_err r d e first second = cc
+
+pub on_err : {T E : Type 0} (r : Result T E) (P : Type 0) → P → OnErr r P
+on_err (Ok x) P is = tt
+on_err (Err e) P is = is
+
+-- what holds of the error of an answer
+pub of_err : {T E : Type 0} (r : Result T E) (P : E → Type 0) (e : E) → IsErrAnd r P → r ≡ Err e → P e
+of_err r P e of is = subst (λ (x : Result _ _). IsErrAnd x P) is of

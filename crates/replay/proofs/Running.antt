@@ -1,13 +1,13 @@
 -- The courses to which lines lead are those of runs.
-use Rattle.std.proofs.Common.{◌≡◌, ℕ, suc, ◌+◌, List, [], ◌∷◌, Option, Some, None, refl, sym, ◌∙◌, ap, subst, arith}
+use Rattle.std.proofs.Common.{◌≡◌, ℕ, suc, List, [], ◌∷◌, Option, Some, None, refl, sym, ◌∙◌, ap, subst, arith}
 use Rattle.scenario.specs.declared.line.Line.{Line}
 use Rattle.scenario.specs.declared.line.Line.TheVariants as line
 use Rattle.world_laws.specs.World.{World, Member, member_at}
-use Rattle.world_laws.specs.Events.{Action, Event, AreEvents, IsAction}
+use Rattle.world_laws.specs.Events.{Event, IsAction}
 use Rattle.world_laws.specs.Steps.{step, run, number_after}
-use Rattle.world_laws.specs.Honest.{HonestAt, HonestAction, HonestRun}
+use Rattle.world_laws.specs.Honest.{HonestAt, HonestRun}
 use Rattle.replay.specs.Happenings.{Happening, Nothing, At, IsFormed}
-use Rattle.replay.specs.Course.{Course, no_event, after_event, IsDoneBy, IsDone, IsEvent, IsNext, Leads}
+use Rattle.replay.specs.Course.{Course, no_event, IsDoneBy, IsDone, IsEvent, IsNext, Leads}
 use Rattle.replay.specs.Ends.{Ran}
 use Rattle.replay.specs.declared.progress.Outcome.{Outcome}
 
@@ -21,7 +21,7 @@ ran_on c mid e event formed honest world number r = record {
   numbers = r.numbers ∙ ap (λ (n : ℕ). number_after n r.events) number;
 }
 
-quiet_honest : (c : Course) → HonestAt c.world.facts (member_at [] c.world.members) (no_event c.now.moment).action
+pub quiet_honest : (c : Course) → HonestAt c.world.facts (member_at [] c.world.members) (no_event c.now.moment).action
 quiet_honest c = go (member_at [] c.world.members)
   where
     go : (o : Option Member) → HonestAt c.world.facts o (no_event c.now.moment).action

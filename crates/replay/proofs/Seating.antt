@@ -1,8 +1,8 @@
 -- Seats: taking out and putting in.
-use Rattle.std.proofs.Common.{◌≡◌, ◌⊎◌, inl, inr, ℕ, ◌+◌, ◌<◌, Bool, true, false, cond, List, [], ◌∷◌, ◌++◌, length, get_or, set, take, drop, Option, Some, None, bytes_eq, Result, Ok, Err, refl, sym, ◌∙◌, ap, subst, arith, take-append-drop}
+use Rattle.std.proofs.Common.{◌≡◌, ◌⊎◌, inl, inr, ℕ, ◌+◌, ◌<◌, List, [], ◌∷◌, ◌++◌, length, get_or, set, take, drop, sym, ◌∙◌, ap, subst, arith, take-append-drop}
 use Rattle.std.proofs.lemmas.List.{set_at, get_or_at, drop_more, length-take-le}
 use Rattle.key_store.specs.Store.{Stored}
-use Rattle.replay.specs.Seats.{seat, members, IsOpen, AreOpen, NoneOf, IsLifted, IsSetDown}
+use Rattle.replay.specs.Seats.{seat, IsOpen, AreOpen, IsLifted, IsSetDown}
 use Rattle.replay.specs.declared.seat.Seat.{Seat}
 use Rattle.replay.specs.declared.seat.Held.{Held}
 use Rattle.replay.specs.declared.seat.Held.TheVariants.{Open, Loose, Out}

@@ -1,17 +1,14 @@
 -- A whole event in a network, by what the party says.
-use Rattle.std.proofs.Common.{arith, ◌≡◌, ◌⊎◌, inl, inr, ◌<◌, ℕ, map, List, [], ◌∷◌, ◌++◌, Option, Some, bytes_eq, Result, Ok, Err, refl, sym, ◌∙◌, ap, ap₂, subst, is_some}
+use Rattle.std.proofs.Common.{arith, ◌≡◌, inl, inr, ◌<◌, ℕ, map, List, [], ◌∷◌, ◌++◌, Option, Some, bytes_eq, Result, Ok, Err, sym, ◌∙◌, ap, ap₂, subst}
 use Rattle.std.specs.Prelude.{option_to_list}
 use Rattle.x_base.specs.Edge.{Rose}
 use Rattle.x_base.specs.declared.key_name.FullName.{FullName}
-use Rattle.x_base.specs.declared.verdict.Verdict.{Verdict}
 use Rattle.x_base.specs.declared.verdict.Verdict.TheVariants.{Accept}
 use mathlib.Core.Logic.{◌≢◌}
 use Rattle.x_disk.specs.Disk.{View}
 use Rattle.party_state.specs.State.{Party}
 use Rattle.party_state.specs.Tables.{put_row}
 use Rattle.party_state.specs.declared.command.Input.{Input}
-use Rattle.party_state.specs.declared.decision.Decision.{Decision}
-use Rattle.key_store.specs.Store.{Stored}
 use Rattle.roles.specs.Deciding.{decision}
 use Rattle.node_core.specs.Turns.{FitsInto}
 use Rattle.fact_book.specs.declared.entry.NamedText.{NamedText}

@@ -1,31 +1,30 @@
 -- A stop: from the disk on which an event was begun to the party that is opened again.
-use Rattle.std.proofs.Common.{◌≡◌, ◌≢◌, ◌⊎◌, inl, inr, ⊎_elim, ℕ, zero, suc, ◌+◌, ◌-◌, ◌≤◌, ◌<◌, nat_eq, not, List, [], length, Bool, true, false, cond, Option, Some, None, is_some, unwrap_or, refl, sym, ◌∙◌, ap, subst, arith}
+use Rattle.std.proofs.Common.{◌≡◌, ◌≢◌, ◌⊎◌, inl, inr, ℕ, zero, suc, ◌+◌, ◌-◌, ◌≤◌, ◌<◌, nat_eq, not, List, [], length, Bool, true, false, Option, Some, None, is_some, unwrap_or, refl, sym, ◌∙◌, ap, subst, arith}
 use Rattle.std.proofs.lemmas.Bool.{leb-true}
 use Rattle.std.proofs.lemmas.Bool.Decides.{nat_tests}
 use Rattle.key_journal.specs.States.{room_of}
 use Rattle.x_base.specs.Edge.{Rose}
 use Rattle.x_disk.specs.Disk.{View, Tells, LeavesOnly, LeavesNoMore, IsDurable, IsSound}
-use Rattle.x_disk.specs.Calls.{IsPowerOff}
 use Rattle.x_disk.specs.Shelf.{IsAlike}
 use Rattle.party_state.specs.declared.edit.Edit.{Edit}
 use Rattle.party_state.specs.declared.decision.Decision.{Decision}
 use Rattle.party_state.specs.State.{Party, apply}
 use Rattle.party_state.specs.Verdicts.{is_accept}
 use Rattle.change_code.specs.Code.{code_of_change}
-use Rattle.key_store.specs.Store.{Stored, Stands, StandsWith, IsStore, room}
+use Rattle.key_store.specs.Store.{Stored, Stands, IsStore, room}
 use Rattle.node_core.specs.Turns.{room_after}
 use Rattle.party_state.specs.declared.command.Input.{Input}
 use Rattle.roles.specs.Deciding.{decision}
 use Rattle.world_laws.specs.World.{Member}
 use Rattle.world_laws.specs.Nodes.{member_of}
 use Rattle.replay.specs.Saying.{fits, next_member, said_member}
-use Rattle.replay.specs.Stops.{ImageOf, IsToKeep, KeepsChange, member_next, IsFixed, IsResting, IsRestarted, IsStopped}
-use Rattle.replay.specs.Carried.{IsEither, IsWhole, IsCutShort, IsFusedWhole, IsFusedCut}
+use Rattle.replay.specs.Stops.{ImageOf, IsToKeep, KeepsChange, member_next, IsResting, IsRestarted, IsStopped}
+use Rattle.replay.specs.Carried.{IsEither, IsWhole, IsFusedCut}
 use Rattle.replay.specs.declared.stopped.Stop.{Stop}
 use Rattle.replay.proofs.Telling.{keeps, passes_by, turns_down}
-use Rattle.replay.proofs.Carrying.{image_of, differ}
+use Rattle.replay.proofs.Carrying.{differ}
 
-told_now : (now : Option (List ℕ)) → is_some now ≡ true → (image : List ℕ) × (now ≡ Some image)
+pub told_now : (now : Option (List ℕ)) → is_some now ≡ true → (image : List ℕ) × (now ≡ Some image)
 told_now (Some image) is = (image, refl)
 told_now None is = absurd (cc is)
 

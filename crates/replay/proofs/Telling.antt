@@ -1,23 +1,19 @@
 -- What a party says of an input, by what its node answers.
-use Rattle.std.proofs.Common.{◌≡◌, ◌≢◌, ◌⊎◌, inl, inr, ℕ, suc, ◌+◌, ◌-◌, ◌≤◌, List, length, cond, Bool, true, false, nat_le, Option, Some, None, is_some, refl, sym, ◌∙◌, ap, subst, arith}
+use Rattle.std.proofs.Common.{◌≡◌, ◌≢◌, ◌⊎◌, inl, inr, ℕ, ◌+◌, ◌-◌, List, length, cond, Bool, true, false, nat_le, Option, Some, None, refl, sym, ◌∙◌, ap, arith}
 use Rattle.std.proofs.lemmas.Bool.{le-leb, leb-true}
-use Rattle.x_base.specs.Edge.{Rose}
 use Rattle.x_base.specs.declared.verdict.Verdict.{Verdict}
 use Rattle.x_base.specs.declared.verdict.Verdict.TheVariants.{Accept, JournalFull}
 use Rattle.x_base.specs.declared.key_name.FullName.{FullName}
 use Rattle.x_disk.specs.Disk.{View}
 use Rattle.party_state.specs.declared.edit.Edit.{Edit}
 use Rattle.party_state.specs.declared.decision.Decision.{Decision}
-use Rattle.party_state.specs.State.{Party}
 use Rattle.party_state.specs.Verdicts.{is_accept}
 use Rattle.change_code.specs.Code.{code_of_change}
 use Rattle.key_store.specs.Store.{Stored, room}
-use Rattle.node_core.specs.Deciding.{after}
 use Rattle.node_core.specs.Turns.{FitsInto, gate_after, room_after, IsDone, IsAsDecided, IsTooLong, IsTurn}
 use Rattle.node_core.specs.declared.node.Turn.TheVariants as turn
-use Rattle.world_laws.specs.World.{Member}
 use Rattle.world_laws.specs.Nodes.{member_of}
-use Rattle.replay.specs.Saying.{fits, next_member, said_member, said_verdict, said_reply, said_under}
+use Rattle.replay.specs.Saying.{fits, next_member}
 use Rattle.replay.specs.Told.{IsSaid, IsTold}
 use Rattle.replay.specs.declared.told.Told.TheVariants as answer
 

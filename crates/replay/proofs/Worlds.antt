@@ -1,5 +1,5 @@
 -- What a whole event, and a cut one, make of a network, by what is decided.
-use Rattle.std.proofs.Common.{◌≡◌, ◌≢◌, ℕ, ◌+◌, ◌-◌, Bool, true, false, cond, ◌&&◌, map, List, [], ◌∷◌, ◌++◌, length, take, Option, Some, None, is_some, unwrap_or, bytes_eq, refl, sym, ◌∙◌, ap, ap₂, subst, arith, length-append}
+use Rattle.std.proofs.Common.{◌≡◌, ◌≢◌, ℕ, ◌-◌, Bool, true, false, cond, ◌&&◌, map, List, [], ◌∷◌, ◌++◌, length, take, Option, Some, None, is_some, unwrap_or, bytes_eq, refl, sym, ◌∙◌, ap, ap₂, arith, length-append}
 use Rattle.std.specs.Prelude.{option_to_list, option_map, codes}
 use Rattle.std.proofs.lemmas.List.{append-nil}
 use Rattle.std.proofs.lemmas.Bool.{le-leb, leb-true}
@@ -7,20 +7,19 @@ use Rattle.hex.specs.Hex.{encode_with}
 use Rattle.x_base.specs.declared.key_name.FullName.{FullName}
 use Rattle.x_mac.specs.Code.{mac_of}
 use Rattle.x_base.specs.declared.verdict.Verdict.{Verdict}
-use Rattle.x_base.specs.declared.verdict.Verdict.TheVariants.{Accept, JournalFull}
+use Rattle.x_base.specs.declared.verdict.Verdict.TheVariants.{Accept}
 use Rattle.csm_grammar.specs.declared.message.Message.{Message}
 use Rattle.csm_write.specs.declared.closing.Closing.TheVariants as closing
 use Rattle.csm_write.specs.Canon.{canon, auth_of, code_digits}
 use Rattle.party_state.specs.declared.edit.Edit.{Edit}
 use Rattle.party_state.specs.declared.command.Input.{Input}
-use Rattle.party_state.specs.declared.decision.Decision.{Decision}
 use Rattle.party_state.specs.State.{Party, apply}
 use Rattle.party_state.specs.Tables.{put_row}
 use Rattle.party_state.specs.Verdicts.{is_accept}
 use Rattle.party_state.specs.Rows.{Row, Reply, Coded, Plain, Again}
-use Rattle.role_base.specs.Texts.{text_of, name_under}
+use Rattle.role_base.specs.Texts.{text_of}
 use Rattle.role_base.specs.Differing.{differing}
-use Rattle.role_base.specs.Deciding.{some_edits, reply_of, name_of, decision_of}
+use Rattle.role_base.specs.Deciding.{some_edits, reply_of, name_of}
 use Rattle.roles.specs.Rows.{row_at}
 use Rattle.roles.specs.Deciding.{decision}
 use Rattle.node_core.specs.Deciding.{after}
@@ -28,12 +27,12 @@ use Rattle.node_core.specs.Turns.{FitsInto}
 use Rattle.node_core.specs.Turns as turns
 use Rattle.fact_book.specs.declared.entry.NamedText.{NamedText}
 use Rattle.world_laws.specs.World.{World, Member, Fact, own_of, member_at}
-use Rattle.world_laws.specs.Events.{Whole, CutOld, CutNew}
+use Rattle.world_laws.specs.Events.{Whole, CutNew}
 use Rattle.world_laws.specs.Rooms as rooms
-use Rattle.world_laws.specs.Steps.{received_text, facts_of, member_after, world_after_row, world_with_answer, world_by_row, world_after_input}
+use Rattle.world_laws.specs.Steps.{received_text, facts_of, member_after, world_after_row, world_after_input}
 use Rattle.world_laws.specs.Honest.{named_text}
-use Rattle.world_laws.specs.Nodes.{world_with_reply, IsAcceptedEvent, IsRefusedEvent, IsNoEvent}
-use Rattle.replay.specs.Saying.{fits, next_member, said_member, said_verdict, said_reply, said_under}
+use Rattle.world_laws.specs.Nodes.{IsAcceptedEvent, IsRefusedEvent, IsNoEvent}
+use Rattle.replay.specs.Saying.{fits, next_member, said_member, said_reply, said_under}
 use Rattle.replay.specs.Scene.{authenticated, noted}
 use Rattle.replay.specs.Stops.{IsToKeep}
 use Rattle.replay.proofs.Telling.{keeps, passes_by, turns_down}

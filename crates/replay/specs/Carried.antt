@@ -6,6 +6,7 @@ use Rattle.party_state.specs.declared.decision.Decision.{Decision}
 use Rattle.key_store.specs.Store.{Stored}
 use Rattle.world_laws.specs.World.{Member}
 use Rattle.world_laws.specs.Nodes.{member_of}
+use Rattle.replay.specs.Failing.{ReadsEither}
 use Rattle.replay.specs.Saying.{next_member, said_member}
 use Rattle.replay.specs.Stops.{ImageOf, IsToKeep}
 use Rattle.replay.specs.declared.carried.Carried.{Carried}
@@ -33,7 +34,7 @@ pub record IsCutShort (v w : View) (x : Member) (d : Decision) : Type 0 where
 abbrev pub Ends : {D : Type 0} → (D → View) → View → Member → Decision → Carried D → Type 0
 Ends told v x d (Whole disk) = IsWhole v (told disk) x d
 Ends told v x d (Cut disk) = IsCutShort v (told disk) x d
-Ends told v x d (NoMemory disk) = Unit {0}
+Ends told v x d (NoMemory disk) = Tells v → ReadsEither (told disk) x (next_member x d) (IsToKeep x d)
 
 abbrev pub IsEither : Member → Decision → List ℕ → Type 0
 IsEither x d image = ImageOf x image ⊎ ImageOf (next_member x d) image
@@ -60,7 +61,7 @@ pub record IsFusedCut (v w : View) (x : Member) (d : Decision) (calls : ℕ) : T
 abbrev pub FusedEnds : {D : Type 0} → (D → View) → View → Member → Decision → ℕ → Carried D → Type 0
 FusedEnds told v x d calls (Whole disk) = IsFusedWhole (told disk) x d
 FusedEnds told v x d calls (Cut disk) = IsFusedCut v (told disk) x d calls
-FusedEnds told v x d calls (NoMemory disk) = Unit {0}
+FusedEnds told v x d calls (NoMemory disk) = Tells v → ReadsEither (told disk) x (next_member x d) (IsToKeep x d)
 
 pub record IsFusedCarried {D : Type 0} (told : D → View) (old : Stored D) (d : Decision) (calls : ℕ) (new : Carried D) : Type 0 where
   pub ends : FusedEnds told (told old.disk) (member_of old) d calls new

@@ -14,15 +14,19 @@ abbrev pub AllSlots : (List ℕ → Type 0) → List (List ℕ) → Type 0
 AllSlots slot [] = Unit {0}
 AllSlots slot (own ∷ owners) = slot own × AllSlots slot owners
 
--- what is held of a party is back on the shelf, and stands for it
-abbrev pub IsBack : {D : Type 0} → (D → View) → (List ℕ → View) → List ℕ → Held D → Type 0
-IsBack told entry own (Open node) = IsAlike (told node.disk) (entry own) × IsStore (told node.disk) node.gate node.end node.party
-IsBack told entry own (Loose disk) = IsAlike (told disk) (entry own)
-IsBack told entry own Out = Unit {0}
+-- what is held of a party is back on the shelf, and stands for it; where nothing is held, its disk there stays
+abbrev pub IsBack : {D : Type 0} → (D → View) → (List ℕ → View) → (List ℕ → View) → List ℕ → Held D → Type 0
+IsBack told old entry own (Open node) = IsAlike (told node.disk) (entry own) × IsStore (told node.disk) node.gate node.end node.party
+IsBack told old entry own (Loose disk) = IsAlike (told disk) (entry own)
+IsBack told old entry own Out = IsAlike (old own) (entry own)
 
-abbrev pub AllBack : {D : Type 0} → (D → View) → (List ℕ → View) → List (Seat D) → Type 0
-AllBack told entry [] = Unit {0}
-AllBack told entry (s ∷ seats) = IsBack told entry s.own s.held × AllBack told entry seats
+abbrev pub AllBack : {D : Type 0} → (D → View) → (List ℕ → View) → (List ℕ → View) → List (Seat D) → Type 0
+AllBack told old entry [] = Unit {0}
+AllBack told old entry (s ∷ seats) = IsBack told old entry s.own s.held × AllBack told old entry seats
+
+-- the disks of all others stay
+abbrev pub OtherDisksStay : {D : Type 0} → (List ℕ → View) → (List ℕ → View) → List (Seat D) → Type 0
+OtherDisksStay old entry seats = (own : List ℕ) → NoneOf seats own → IsAlike (old own) (entry own)
 
 -- no two seats are of one identity
 abbrev pub AreApart : {D : Type 0} → List (Seat D) → Type 0
@@ -40,8 +44,9 @@ AnyFaulty told [] = ⊥
 AnyFaulty told (s ∷ seats) = IsFaulty told s.held ⊎ AnyFaulty told seats
 
 -- these were the last of all seats, and are back; the shelf's faults rose from one count to another where one of them failed
-pub record IsClosing {D : Type 0} (told : D → View) (entry : List ℕ → View) (before after : ℕ) (all left : List (Seat D)) : Type 0 where
+pub record IsClosing {D : Type 0} (told : D → View) (old entry : List ℕ → View) (before after : ℕ) (all left : List (Seat D)) : Type 0 where
   pub done : List (Seat D)
   pub split : all ≡ left ++ done
-  pub back : AllBack told entry done
+  pub back : AllBack told old entry done
+  pub others : OtherDisksStay old entry done
   pub seen : AnyFaulty told done → Rose before after

@@ -1,5 +1,5 @@
 -- The course of a scenario: line after line, what happens in the network and what is written (this project's profile).
-use Rattle.std.specs.Prelude.{◌≡◌, ◌⊎◌, ℕ, suc, ◌++◌, List, [], ◌∷◌, Option, Some, None, is_some}
+use Rattle.std.specs.Prelude.{◌≡◌, ℕ, ◌++◌, List, [], ◌∷◌, Option, Some, None, is_some}
 use Rattle.x_base.specs.Edge.{AppendsTo}
 use Rattle.x_disk.specs.Disk.{View}
 use Rattle.scenario.specs.declared.line.Line.{Line}
@@ -15,7 +15,6 @@ use Rattle.replay.specs.Scene.{Shows}
 use Rattle.replay.specs.declared.progress.Outcome.{Outcome}
 use Rattle.replay.specs.declared.progress.Outcome.TheVariants as outcome
 use Rattle.replay.specs.declared.progress.Progress.{Progress}
-use Rattle.replay.specs.declared.stopped.Stop.{Stop}
 use Rattle.replay.specs.declared.scene.Scene.{Scene}
 
 -- where a scenario stands: the moment, the stop that waits, the number of the next event and the outcomes so far; the

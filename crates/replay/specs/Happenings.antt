@@ -1,5 +1,5 @@
 -- What the lines of a scenario make happen (this project's profile).
-use Rattle.std.specs.Prelude.{◌≡◌, ◌-◌, ℕ, nat_le, cond, take, length, List, Option, Some, None, slice_get, Result, Err}
+use Rattle.std.specs.Prelude.{◌≡◌, ◌-◌, ℕ, nat_le, cond, take, length, List, Option, Some, None, slice_get, Err}
 use Rattle.csm_grammar.specs.declared.message.Message.{Message}
 use Rattle.csm_grammar.specs.declared.message.Message.TheVariants as message
 use Rattle.csm_grammar.specs.declared.arrival.Arrival.{Arrival}

@@ -2,6 +2,7 @@ pub mod Saying
 pub mod Seats
 pub mod Told
 pub mod Stops
+pub mod Failing
 pub mod Carried
 pub mod Scene
 pub mod Closing
@@ -14,3 +15,12 @@ pub mod Forging
 pub mod Ends
 pub mod Writing
 pub mod Lines
+pub mod Starts
+pub mod Breaking
+pub mod Breaks
+pub mod SettingUp
+pub mod Playing
+pub mod Meanings
+pub mod LineBreaks
+pub mod Showing
+pub mod Finishing

@@ -53,8 +53,9 @@ with_text false c = c
 abbrev pub after_outcome : Progress → Outcome → Bool → Progress
 after_outcome p o wrote = record { moment = p.moment; stop = None; number = p.number + 1; counts = with_text wrote (counted o p.counts) }
 
--- so many lines were played at most
+-- so many lines were played at most; events are numbered from 1
 pub record IsWithin (p : Progress) (lines : ℕ) : Type 0 where
+  pub least : 1 ≤ p.number
   pub number : p.number ≤ lines + 1
   pub done : p.counts.done ≤ lines
   pub refused : p.counts.refused ≤ lines

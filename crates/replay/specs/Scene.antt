@@ -1,5 +1,5 @@
 -- The state of a play, and the network that it shows.
-use Rattle.std.specs.Prelude.{◌≡◌, ◌++◌, ◌-◌, ℕ, Bool, cond, take, length, List, map, Option, Some, None, [], ◌∷◌, Result, Ok, Err}
+use Rattle.std.specs.Prelude.{◌≡◌, ◌++◌, ◌-◌, ℕ, Bool, cond, take, length, List, map, Option, Some, None, [], ◌∷◌}
 use Rattle.x_base.specs.declared.key_name.FullName.{FullName}
 use Rattle.x_base.specs.declared.verdict.Verdict.{Verdict}
 use Rattle.x_disk.specs.Disk.{View, Tells}
@@ -17,7 +17,6 @@ use Rattle.world_laws.specs.Nodes.{member_of}
 use Rattle.replay.specs.Saying.{said_verdict}
 use Rattle.replay.specs.Stops.{KeepsChange, member_next, IsFixed, IsStopped}
 use Rattle.replay.specs.Seats.{seat, members, AreIn, IsPlace}
-use Rattle.replay.specs.declared.failure.Failure.{Failure}
 use Rattle.replay.specs.declared.stopped.Stop.{Stop}
 use Rattle.replay.specs.declared.seat.Seat.{Seat}
 use Rattle.replay.specs.declared.seat.Held.TheVariants.{Open}

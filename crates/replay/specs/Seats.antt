@@ -6,6 +6,7 @@ use Rattle.key_store.specs.Store.{Stored}
 use Rattle.roles.specs.Deciding.{decision}
 use Rattle.world_laws.specs.World.{Member}
 use Rattle.world_laws.specs.Nodes.{member_of}
+use Rattle.replay.specs.Failing.{FailsTelling}
 use Rattle.replay.specs.Told.{IsTold}
 use Rattle.replay.specs.declared.failure.Failure.{Failure}
 use Rattle.replay.specs.declared.told.Told.TheVariants.{Said, Failed}
@@ -81,7 +82,7 @@ IsSetDown {D = D} old new place held = (front : List (Seat D)) (s : Seat D) (bac
 -- the party at a place had a turn with an input
 abbrev pub TellsAt : {D : Type 0} → (D → View) → List (Seat D) → List ℕ → List (Seat D) → List (Seat D) → Stored D → Input → ℕ → Result Saying Failure → Type 0
 TellsAt {D = D} told front own back new node i moment (Ok s) = (after : Stored D) × (new ≡ front ++ seat own (Open after) ∷ back) × IsTold told node (decision node.party i moment) (Said after s.verdict s.reply s.under)
-TellsAt {D = D} told front own back new node i moment (Err why) = (disk : D) × (new ≡ front ++ seat own (Loose disk) ∷ back) × IsTold told node (decision node.party i moment) (Failed disk why)
+TellsAt {D = D} told front own back new node i moment (Err why) = (disk : D) × (new ≡ front ++ seat own (Loose disk) ∷ back) × IsTold told node (decision node.party i moment) (Failed disk why) × FailsTelling told node i moment (Failed disk why)
 
 pub record IsToldAt {D : Type 0} (told : D → View) (old new : List (Seat D)) (place : ℕ) (i : Input) (moment : ℕ) (result : Result Saying Failure) : Type 0 where
   pub front : List (Seat D)

@@ -5,7 +5,7 @@ use Rattle.x_base.specs.declared.verdict.Verdict.{Verdict}
 use Rattle.x_base.specs.declared.key_name.FullName.{FullName}
 use Rattle.x_disk.specs.Disk.{View, Tells, LeavesOnly}
 use Rattle.party_state.specs.declared.decision.Decision.{Decision}
-use Rattle.key_store.specs.Store.{Stored, IsStore, room}
+use Rattle.key_store.specs.Store.{Stored, room}
 use Rattle.node_core.specs.Turns.{IsOldOrNext}
 use Rattle.world_laws.specs.Nodes.{member_of}
 use Rattle.replay.specs.Saying.{said_member, said_verdict, said_reply, said_under}

@@ -1,9 +1,10 @@
 // An event: it is tested, and carried out whole, or stopped where a stop waits.
-ghost use Rattle.std.specs.Prelude.{◌≡◌, ◌⊎◌, ◌<◌, ◌≤◌, ℕ, true, Some, None, length, IfOk, OnOk, Err};
+ghost use Rattle.std.specs.Prelude.{◌≡◌, ◌⊎◌, ◌<◌, ◌≤◌, ℕ, true, Some, None, length, IfOk, IfErr, OnOk, Err};
 ghost use Rattle.x_base.specs.Edge.{Rose};
 ghost use Rattle.x_disk.specs.Shelf.{SlotsStay};
 ghost use Rattle.replay.specs.Acting.{PlaysAt, ForgesAt, Acts, Forges};
-ghost use Rattle.replay.specs.Closing.{AllSlots, AnyFaulty};
+ghost use Rattle.replay.specs.Breaks.{BreaksHonest, BreaksAct};
+ghost use Rattle.replay.specs.Closing.{AllSlots, AnyFaulty, OtherDisksStay};
 ghost use Rattle.replay.specs.Forging.{IsJudgedAt};
 ghost use Rattle.replay.specs.Outcomes.{outcome_of};
 ghost use Rattle.replay.specs.Seats.{AreOpen, IsPlace, owners};
@@ -17,7 +18,7 @@ use crate::scene::{Scene, tell_event};
 use crate::stop_event::{stop_event, stop_unheard};
 use party_state::Input;
 use std::alloc::Global;
-use world_laws::{law_facts, law_runs};
+use world_laws::{law_facts, law_inputs, law_runs};
 use x_base::{Ident, Verdict};
 use x_disk::Shelf;
 
@@ -46,13 +47,16 @@ fn play_honest<H: Shelf>(
     requires slots { AllSlots (H.has_slot shelf.old) (owners scene.old.seats.items) }
     requires judged { IsJudgedAt scene.old.seats.items place scene.old.facts input true }
     ensures played { IfOk result (λ outcome. PlaysAt H.Disk.told (H.faults shelf.old) (H.faults shelf.new) scene.old scene.new place (Some input) 0 now.now outcome) }
+    ensures broken { IfErr result (λ why. BreaksHonest H.Disk.told (H.entry shelf.new) scene.old scene.new place (Some input) now.now.moment why) }
     ensures fault { result ≡ Err Failure.Fault → Rose (H.faults shelf.old) (H.faults shelf.new) ⊎ AnyFaulty H.Disk.told scene.new.seats.items }
     ensures seated { OnOk result (AreOpen scene.new.seats.items) }
     ensures owners { owners scene.new.seats.items ≡ owners scene.old.seats.items }
+    ensures others { OtherDisksStay (H.entry shelf.old) (H.entry shelf.new) scene.old.seats.items }
     ensures slots { SlotsStay (H.has_slot shelf.old) (H.has_slot shelf.new) }
     ensures later { H.faults shelf.old ≤ H.faults shelf.new }
 {
     law_facts();
+    law_inputs();
     law_runs();
     match now.stop {
         Some(stop) => {
@@ -82,10 +86,12 @@ fn play_input<H: Shelf>(
     requires slots { AllSlots (H.has_slot shelf.old) (owners scene.old.seats.items) }
     ensures played { IfOk result (λ outcome. PlaysAt H.Disk.told (H.faults shelf.old) (H.faults shelf.new) scene.old scene.new place (Some input) 0 now.now outcome) }
     ensures forged { (n : ℕ) → result ≡ Err (Ending.Forged n) → (n ≡ now.now.number) × (scene.new ≡ scene.old) × ForgesAt H.Disk.told scene.old place input }
+    ensures broken { (why : Failure) → result ≡ Err (Ending.Failed why) → BreaksHonest H.Disk.told (H.entry shelf.new) scene.old scene.new place (Some input) now.now.moment why }
     ensures write { result ≡ Err Ending.Write → ⊥ }
     ensures fault { result ≡ Err (Ending.Failed Failure.Fault) → Rose (H.faults shelf.old) (H.faults shelf.new) ⊎ AnyFaulty H.Disk.told scene.new.seats.items }
     ensures seated { OnOk result (AreOpen scene.new.seats.items) }
     ensures owners { owners scene.new.seats.items ≡ owners scene.old.seats.items }
+    ensures others { OtherDisksStay (H.entry shelf.old) (H.entry shelf.new) scene.old.seats.items }
     ensures slots { SlotsStay (H.has_slot shelf.old) (H.has_slot shelf.new) }
     ensures later { H.faults shelf.old ≤ H.faults shelf.new }
 {
@@ -114,9 +120,11 @@ fn play_unheard<H: Shelf>(
     requires seated { AreOpen scene.old.seats.items }
     requires slots { AllSlots (H.has_slot shelf.old) (owners scene.old.seats.items) }
     ensures played { IfOk result (λ outcome. PlaysAt H.Disk.told (H.faults shelf.old) (H.faults shelf.new) scene.old scene.new place None number now.now outcome) }
+    ensures broken { IfErr result (λ why. BreaksHonest H.Disk.told (H.entry shelf.new) scene.old scene.new place None now.now.moment why) }
     ensures fault { result ≡ Err Failure.Fault → Rose (H.faults shelf.old) (H.faults shelf.new) ⊎ AnyFaulty H.Disk.told scene.new.seats.items }
     ensures seated { OnOk result (AreOpen scene.new.seats.items) }
     ensures owners { owners scene.new.seats.items ≡ owners scene.old.seats.items }
+    ensures others { OtherDisksStay (H.entry shelf.old) (H.entry shelf.new) scene.old.seats.items }
     ensures slots { SlotsStay (H.has_slot shelf.old) (H.has_slot shelf.new) }
     ensures later { H.faults shelf.old ≤ H.faults shelf.new }
 {
@@ -142,10 +150,12 @@ fn play_told<H: Shelf>(
     requires slots { AllSlots (H.has_slot shelf.old) (owners scene.old.seats.items) }
     ensures acted { IfOk result (λ outcome. Acts H.Disk.told (H.faults shelf.old) (H.faults shelf.new) (Act.Tell party.now input) scene.old scene.new now.now outcome) }
     ensures forged { (n : ℕ) → result ≡ Err (Ending.Forged n) → (n ≡ now.now.number) × (scene.new ≡ scene.old) × Forges H.Disk.told (Act.Tell party.now input) scene.old }
+    ensures broken { (why : Failure) → result ≡ Err (Ending.Failed why) → BreaksAct H.Disk.told (H.entry shelf.new) (Act.Tell party.now input) scene.old scene.new now.now why }
     ensures write { result ≡ Err Ending.Write → ⊥ }
     ensures fault { result ≡ Err (Ending.Failed Failure.Fault) → Rose (H.faults shelf.old) (H.faults shelf.new) ⊎ AnyFaulty H.Disk.told scene.new.seats.items }
     ensures seated { OnOk result (AreOpen scene.new.seats.items) }
     ensures owners { owners scene.new.seats.items ≡ owners scene.old.seats.items }
+    ensures others { OtherDisksStay (H.entry shelf.old) (H.entry shelf.new) scene.old.seats.items }
     ensures slots { SlotsStay (H.has_slot shelf.old) (H.has_slot shelf.new) }
     ensures later { H.faults shelf.old ≤ H.faults shelf.new }
 {
@@ -167,9 +177,11 @@ fn play_refused<H: Shelf>(
     requires seated { AreOpen scene.old.seats.items }
     requires slots { AllSlots (H.has_slot shelf.old) (owners scene.old.seats.items) }
     ensures acted { IfOk result (λ outcome. Acts H.Disk.told (H.faults shelf.old) (H.faults shelf.new) (Act.Refuse party.now number) scene.old scene.new now.now outcome) }
+    ensures broken { IfErr result (λ why. BreaksAct H.Disk.told (H.entry shelf.new) (Act.Refuse party.now number) scene.old scene.new now.now why) }
     ensures fault { result ≡ Err Failure.Fault → Rose (H.faults shelf.old) (H.faults shelf.new) ⊎ AnyFaulty H.Disk.told scene.new.seats.items }
     ensures seated { OnOk result (AreOpen scene.new.seats.items) }
     ensures owners { owners scene.new.seats.items ≡ owners scene.old.seats.items }
+    ensures others { OtherDisksStay (H.entry shelf.old) (H.entry shelf.new) scene.old.seats.items }
     ensures slots { SlotsStay (H.has_slot shelf.old) (H.has_slot shelf.new) }
     ensures later { H.faults shelf.old ≤ H.faults shelf.new }
 {
@@ -191,10 +203,12 @@ pub(crate) fn play_act<H: Shelf>(
     requires slots { AllSlots (H.has_slot shelf.old) (owners scene.old.seats.items) }
     ensures acted { IfOk result (λ outcome. Acts H.Disk.told (H.faults shelf.old) (H.faults shelf.new) act scene.old scene.new now.now outcome) }
     ensures forged { (n : ℕ) → result ≡ Err (Ending.Forged n) → (n ≡ now.now.number) × (scene.new ≡ scene.old) × Forges H.Disk.told act scene.old }
+    ensures broken { (why : Failure) → result ≡ Err (Ending.Failed why) → BreaksAct H.Disk.told (H.entry shelf.new) act scene.old scene.new now.now why }
     ensures write { result ≡ Err Ending.Write → ⊥ }
     ensures fault { result ≡ Err (Ending.Failed Failure.Fault) → Rose (H.faults shelf.old) (H.faults shelf.new) ⊎ AnyFaulty H.Disk.told scene.new.seats.items }
     ensures seated { OnOk result (AreOpen scene.new.seats.items) }
     ensures owners { owners scene.new.seats.items ≡ owners scene.old.seats.items }
+    ensures others { OtherDisksStay (H.entry shelf.old) (H.entry shelf.new) scene.old.seats.items }
     ensures slots { SlotsStay (H.has_slot shelf.old) (H.has_slot shelf.new) }
     ensures later { H.faults shelf.old ≤ H.faults shelf.new }
 {

@@ -1,8 +1,8 @@
 // Every disk is put back.
-ghost use Rattle.std.specs.Prelude.{◌≡◌, ◌<◌, ◌≤◌, Err};
+ghost use Rattle.std.specs.Prelude.{◌≡◌, ◌<◌, ◌≤◌, ℕ, Err};
 ghost use Rattle.x_base.specs.Edge.{Rose};
 ghost use Rattle.x_disk.specs.Shelf.{IsAlike, OthersStay, SlotsStay};
-ghost use Rattle.replay.specs.Closing.{IsBack, AllBack, AllSlots, AreApart, IsFaulty, AnyFaulty};
+ghost use Rattle.replay.specs.Closing.{IsBack, AllBack, OtherDisksStay, AllSlots, AreApart, IsFaulty, AnyFaulty};
 ghost use Rattle.replay.specs.Seats.{owners};
 
 use crate::failure::Failure;
@@ -18,6 +18,7 @@ pub(crate) fn put_disk<H: Shelf>(shelf: &mut H, own: &Ident, disk: H::Disk) -> R
     ensures others { OthersStay own.now (H.entry shelf.old) (H.entry shelf.new) }
     ensures slots { SlotsStay (H.has_slot shelf.old) (H.has_slot shelf.new) }
     ensures fault { result ≡ Err Failure.Fault → Rose (H.faults shelf.old) (H.faults shelf.new) }
+    ensures undamaged { (place : ℕ) → result ≡ Err (Failure.Damaged place) → ⊥ }
     ensures later { H.faults shelf.old ≤ H.faults shelf.new }
 {
     match shelf.put_back(own, disk) {
@@ -30,11 +31,12 @@ pub(crate) fn put_disk<H: Shelf>(shelf: &mut H, own: &Ident, disk: H::Disk) -> R
 /// Puts back what is held of a party.
 pub(crate) fn put_seat<H: Shelf>(shelf: &mut H, seat: Seat<H::Disk>) -> Result<(), Failure>
     requires { H.has_slot shelf.old seat.own }
-    ensures back { IsBack H.Disk.told (H.entry shelf.new) seat.own seat.held }
+    ensures back { IsBack H.Disk.told (H.entry shelf.old) (H.entry shelf.new) seat.own seat.held }
     ensures seen { IsFaulty H.Disk.told seat.held → Rose (H.faults shelf.old) (H.faults shelf.new) }
     ensures others { OthersStay seat.own (H.entry shelf.old) (H.entry shelf.new) }
     ensures slots { SlotsStay (H.has_slot shelf.old) (H.has_slot shelf.new) }
     ensures fault { result ≡ Err Failure.Fault → Rose (H.faults shelf.old) (H.faults shelf.new) }
+    ensures undamaged { (place : ℕ) → result ≡ Err (Failure.Damaged place) → ⊥ }
     ensures later { H.faults shelf.old ≤ H.faults shelf.new }
 {
     let Seat { own, held } = seat;
@@ -55,9 +57,11 @@ pub(crate) fn put_back_all<H: Shelf>(
 ) -> Result<(), Failure>
     requires slots { AllSlots (H.has_slot shelf.old) (owners seats.items) }
     requires apart { AreApart seats.items }
-    ensures back { AllBack H.Disk.told (H.entry shelf.new) seats.items }
+    ensures back { AllBack H.Disk.told (H.entry shelf.old) (H.entry shelf.new) seats.items }
+    ensures others { OtherDisksStay (H.entry shelf.old) (H.entry shelf.new) seats.items }
     ensures seen { AnyFaulty H.Disk.told seats.items → Rose (H.faults shelf.old) (H.faults shelf.new) }
     ensures fault { result ≡ Err Failure.Fault → Rose (H.faults shelf.old) (H.faults shelf.new) }
+    ensures undamaged { (place : ℕ) → result ≡ Err (Failure.Damaged place) → ⊥ }
     ensures later { H.faults shelf.old ≤ H.faults shelf.new }
 {
     let mut left = seats;

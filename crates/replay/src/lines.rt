@@ -3,7 +3,8 @@ ghost use Rattle.std.specs.Prelude.{◌≡◌, ◌⊎◌, ◌≤◌, ◌+◌, �
 ghost use Rattle.x_base.specs.Edge.{Rose};
 ghost use Rattle.x_disk.specs.Shelf.{SlotsStay};
 ghost use Rattle.replay.specs.Acting.{Forges};
-ghost use Rattle.replay.specs.Closing.{AllSlots, AnyFaulty};
+ghost use Rattle.replay.specs.Breaking.{BreaksEvent};
+ghost use Rattle.replay.specs.Closing.{AllSlots, AnyFaulty, OtherDisksStay};
 ghost use Rattle.replay.specs.Lines.{PlaysEvent};
 ghost use Rattle.replay.specs.Outcomes.{IsWithin};
 ghost use Rattle.replay.specs.Seats.{AreOpen, owners};
@@ -46,11 +47,13 @@ pub(crate) fn play_event<K: Sink, H: Shelf>(
     requires few { IsWithin now.now 65535 }
     ensures event { IfOk result (λ after. PlaysEvent H.Disk.told (H.faults shelf.old) (H.faults shelf.new) act scene.old scene.new now.now after (K.written sink.old) (K.written sink.new)) }
     ensures forged { (n : ℕ) → result ≡ Err (Ending.Forged n) → (n ≡ now.now.number) × (scene.new ≡ scene.old) × (K.written sink.new ≡ K.written sink.old) × Forges H.Disk.told act scene.old }
+    ensures broken { (why : Ending) → result ≡ Err why → ((n : ℕ) → why ≡ Ending.Forged n → ⊥) → BreaksEvent H.Disk.told (H.entry shelf.new) (H.faults shelf.old) (H.faults shelf.new) act scene.old scene.new now.now (K.written sink.old) (K.written sink.new) why }
     ensures write { result ≡ Err Ending.Write → Rose (K.faults sink.old) (K.faults sink.new) }
     ensures within { IfOk result (λ after. (n : ℕ) → IsWithin now.now n → IsWithin after (n + 1)) }
     ensures fault { result ≡ Err (Ending.Failed Failure.Fault) → Rose (H.faults shelf.old) (H.faults shelf.new) ⊎ AnyFaulty H.Disk.told scene.new.seats.items }
     ensures seated { OnOk result (AreOpen scene.new.seats.items) }
     ensures owners { owners scene.new.seats.items ≡ owners scene.old.seats.items }
+    ensures others { OtherDisksStay (H.entry shelf.old) (H.entry shelf.new) scene.old.seats.items }
     ensures slots { SlotsStay (H.has_slot shelf.old) (H.has_slot shelf.new) }
     ensures later { H.faults shelf.old ≤ H.faults shelf.new }
     ensures climbs { K.faults sink.old ≤ K.faults sink.new }

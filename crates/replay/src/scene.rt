@@ -1,5 +1,6 @@
 // The state of a play: what is held of each party, the texts that were written, and the facts.
-ghost use Rattle.std.specs.Prelude.{◌≡◌, ◌<◌, ◌++◌, length, option_to_list, Err, IfOk, OnOk};
+ghost use Rattle.std.specs.Prelude.{◌≡◌, ◌<◌, ◌++◌, length, option_to_list, Err, IfOk, IfErr, OnOk};
+ghost use Rattle.replay.specs.Breaks.{BreaksAt};
 ghost use Rattle.replay.specs.Closing.{AnyFaulty};
 ghost use Rattle.replay.specs.Scene.{authenticated, noted, IsStep};
 ghost use Rattle.replay.specs.Seats.{AreOpen, owners};
@@ -70,6 +71,7 @@ pub(crate) fn tell_event<D: Disk>(
     requires seated { AreOpen scene.old.seats.items }
     ensures step { IfOk result (λ verdict. IsStep D.told scene.old scene.new place input moment verdict) }
     ensures fault { result ≡ Err Failure.Fault → AnyFaulty D.told scene.new.seats.items }
+    ensures breaks { IfErr result (λ why. BreaksAt D.told scene.old.seats.items scene.new.seats.items place input moment why) }
     ensures seated { OnOk result (AreOpen scene.new.seats.items) }
     ensures owners { owners scene.new.seats.items ≡ owners scene.old.seats.items }
 {

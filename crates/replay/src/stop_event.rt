@@ -1,8 +1,9 @@
 // An event is stopped at a party.
-ghost use Rattle.std.specs.Prelude.{◌≡◌, ◌⊎◌, ◌<◌, ◌≤◌, ◌++◌, [], cond, length, Some, None, Err, IfOk, OnOk};
+ghost use Rattle.std.specs.Prelude.{◌≡◌, ◌⊎◌, ◌<◌, ◌≤◌, ◌++◌, [], cond, length, Some, None, Err, IfOk, IfErr, OnOk};
 ghost use Rattle.x_base.specs.Edge.{Rose};
 ghost use Rattle.x_disk.specs.Shelf.{SlotsStay};
-ghost use Rattle.replay.specs.Closing.{AllSlots, AnyFaulty};
+ghost use Rattle.replay.specs.Breaks.{IsStopBroken, BreaksOff};
+ghost use Rattle.replay.specs.Closing.{AllSlots, AnyFaulty, OtherDisksStay};
 ghost use Rattle.replay.specs.Scene.{noted, IsDecidedAt, IsStoppedAt, IsCutStep};
 ghost use Rattle.replay.specs.Seats.{AreOpen, IsPlace, owners};
 
@@ -52,8 +53,10 @@ fn stop_at<H: Shelf>(
     requires seated { AreOpen seats.old.items }
     requires slots { AllSlots (H.has_slot shelf.old) (owners seats.old.items) }
     ensures stopped { IfOk result (λ next. IsStoppedAt H.Disk.told seats.old.items seats.new.items place input moment stop (H.faults shelf.old) (H.faults shelf.new) next) }
+    ensures broken { IfErr result (λ why. IsStopBroken H.Disk.told (H.entry shelf.new) seats.old.items seats.new.items place input moment why) }
     ensures fault { result ≡ Err Failure.Fault → Rose (H.faults shelf.old) (H.faults shelf.new) ⊎ AnyFaulty H.Disk.told seats.new.items }
     ensures owners { owners seats.new.items ≡ owners seats.old.items }
+    ensures others { OtherDisksStay (H.entry shelf.old) (H.entry shelf.new) seats.old.items }
     ensures slots { SlotsStay (H.has_slot shelf.old) (H.has_slot shelf.new) }
     ensures later { H.faults shelf.old ≤ H.faults shelf.new }
 {
@@ -111,9 +114,11 @@ pub(crate) fn stop_event<H: Shelf>(
     requires seated { AreOpen scene.old.seats.items }
     requires slots { AllSlots (H.has_slot shelf.old) (owners scene.old.seats.items) }
     ensures step { IfOk result (λ next. IsCutStep H.Disk.told scene.old scene.new place (Some input) moment stop (H.faults shelf.old) (H.faults shelf.new) next) }
+    ensures broken { IfErr result (λ why. BreaksOff H.Disk.told (H.entry shelf.new) scene.old scene.new place (Some input) moment why) }
     ensures fault { result ≡ Err Failure.Fault → Rose (H.faults shelf.old) (H.faults shelf.new) ⊎ AnyFaulty H.Disk.told scene.new.seats.items }
     ensures seated { OnOk result (AreOpen scene.new.seats.items) }
     ensures owners { owners scene.new.seats.items ≡ owners scene.old.seats.items }
+    ensures others { OtherDisksStay (H.entry shelf.old) (H.entry shelf.new) scene.old.seats.items }
     ensures slots { SlotsStay (H.has_slot shelf.old) (H.has_slot shelf.new) }
     ensures later { H.faults shelf.old ≤ H.faults shelf.new }
 {
@@ -148,9 +153,11 @@ pub(crate) fn stop_unheard<H: Shelf>(
     requires seated { AreOpen scene.old.seats.items }
     requires slots { AllSlots (H.has_slot shelf.old) (owners scene.old.seats.items) }
     ensures step { IfOk result (λ next. IsCutStep H.Disk.told scene.old scene.new place None moment stop (H.faults shelf.old) (H.faults shelf.new) next) }
+    ensures broken { IfErr result (λ why. BreaksOff H.Disk.told (H.entry shelf.new) scene.old scene.new place None moment why) }
     ensures fault { result ≡ Err Failure.Fault → Rose (H.faults shelf.old) (H.faults shelf.new) ⊎ AnyFaulty H.Disk.told scene.new.seats.items }
     ensures seated { OnOk result (AreOpen scene.new.seats.items) }
     ensures owners { owners scene.new.seats.items ≡ owners scene.old.seats.items }
+    ensures others { OtherDisksStay (H.entry shelf.old) (H.entry shelf.new) scene.old.seats.items }
     ensures slots { SlotsStay (H.has_slot shelf.old) (H.has_slot shelf.new) }
     ensures later { H.faults shelf.old ≤ H.faults shelf.new }
 {

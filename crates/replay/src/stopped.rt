@@ -1,9 +1,12 @@
 // A stopped event over a party's disk: it is begun, the power goes, and the party is opened again.
-ghost use Rattle.std.specs.Prelude.{◌≡◌, ◌<◌, ◌≤◌, Err, IfOk, IfErr};
+ghost use Rattle.std.specs.Prelude.{◌≡◌, ◌<◌, ◌≤◌, ℕ, Err, IfOk, IfErr, OnErr};
 ghost use Rattle.x_base.specs.Edge.{Rose};
-ghost use Rattle.x_disk.specs.Shelf.{IsAlike, SlotsStay};
+ghost use Rattle.x_disk.specs.Disk.{Tells};
+ghost use Rattle.x_disk.specs.Shelf.{IsAlike, OthersStay, SlotsStay};
+ghost use Rattle.key_journal.specs.Opening.{IsFree};
 ghost use Rattle.roles.specs.Deciding.{decision};
 ghost use Rattle.world_laws.specs.Nodes.{member_of};
+ghost use Rattle.replay.specs.Failing.{IsFailing, IsLost, ReadsEither};
 ghost use Rattle.replay.specs.Saying.{next_member};
 ghost use Rattle.replay.specs.Stops.{IsToKeep, KeepsChange, member_next, IsResting, IsRestarted};
 
@@ -39,6 +42,8 @@ fn begin_input<D: Disk>(
     n: u64,
 ) -> Result<D, Lost<D>>
     ensures rests { IfOk result (λ disk. IsResting (D.told node.disk) (D.told disk) (member_of node) (next_member (member_of node) (decision node.party input moment)) (IsToKeep (member_of node) (decision node.party input moment)) n) }
+    ensures failing { IfErr result (λ lost. IsFailing lost.why) }
+    ensures left { IfErr result (λ lost. Tells (D.told node.disk) → ReadsEither (D.told lost.disk) (member_of node) (next_member (member_of node) (decision node.party input moment)) (IsToKeep (member_of node) (decision node.party input moment))) }
     ensures fault { IfErr result (λ lost. lost.why ≡ Failure.Fault → 0 < (D.told lost.disk).faults) }
 {
     if n <= 4 {
@@ -73,6 +78,8 @@ pub(crate) fn begin<D: Disk>(
     n: u64,
 ) -> Result<D, Lost<D>>
     ensures rests { IfOk result (λ disk. IsResting (D.told node.disk) (D.told disk) (member_of node) (member_next (member_of node) input moment) (KeepsChange (member_of node) input moment) n) }
+    ensures failing { IfErr result (λ lost. IsFailing lost.why) }
+    ensures left { IfErr result (λ lost. Tells (D.told node.disk) → ReadsEither (D.told lost.disk) (member_of node) (member_next (member_of node) input moment) (KeepsChange (member_of node) input moment)) }
     ensures fault { IfErr result (λ lost. lost.why ≡ Failure.Fault → 0 < (D.told lost.disk).faults) }
 {
     match input {
@@ -87,6 +94,8 @@ pub(crate) fn begin<D: Disk>(
 /// The failure of a disk or a shelf.
 pub(crate) fn failure_of(error: DiskErr) -> Failure
     ensures fault { result ≡ Failure.Fault → error ≡ DiskErr.Fault }
+    ensures undamaged { (place : ℕ) → result ≡ Failure.Damaged place → ⊥ }
+    ensures failing { IsFailing result }
 {
     match error {
         DiskErr::Fault => Failure::Fault,
@@ -102,6 +111,9 @@ pub(crate) fn exchange<H: Shelf>(
 ) -> Result<H::Disk, Failure>
     requires { H.has_slot shelf.old own.now }
     ensures alike { IfOk result (λ again. IsAlike (H.Disk.told disk) (H.Disk.told again)) }
+    ensures stays { OnErr result (IsAlike (H.Disk.told disk) (H.entry shelf.new own.now)) }
+    ensures failing { IfErr result IsFailing }
+    ensures others { OthersStay own.now (H.entry shelf.old) (H.entry shelf.new) }
     ensures seen { 0 < (H.Disk.told disk).faults → Rose (H.faults shelf.old) (H.faults shelf.new) }
     ensures fault { result ≡ Err Failure.Fault → Rose (H.faults shelf.old) (H.faults shelf.new) }
     ensures slots { SlotsStay (H.has_slot shelf.old) (H.has_slot shelf.new) }
@@ -117,9 +129,23 @@ pub(crate) fn exchange<H: Shelf>(
     }
 }
 
+/// Why a disk isn't opened, or a change isn't kept.
+pub(crate) fn failure_by(cause: Cause) -> Failure
+    ensures fault { result ≡ Failure.Fault → cause ≡ Cause.Fault }
+    ensures failing { IsFree cause → IsFailing result }
+{
+    match cause {
+        Cause::Fault => Failure::Fault,
+        Cause::NoMemory => Failure::NoMemory,
+        Cause::Blank | Cause::NotEmpty => Failure::Damaged(0),
+        Cause::Damaged(place) => Failure::Damaged(place),
+    }
+}
+
 /// Powers the disk off with a choice, and opens its party.
 pub(crate) fn restart<D: Disk>(disk: D, alloc: Global, choice: u64) -> Result<Node<D>, Lost<D>>
     ensures opened { IfOk result (λ node. IsRestarted (D.told disk) (D.told node.disk) choice node.gate node.end node.party) }
+    ensures lost { IfErr result (λ lost. IsLost (D.told disk) (D.told lost.disk) lost.why) }
     ensures fault { IfErr result (λ lost. lost.why ≡ Failure.Fault → 0 < (D.told lost.disk).faults) }
 {
     let mut disk = disk;
@@ -136,12 +162,7 @@ pub(crate) fn restart<D: Disk>(disk: D, alloc: Global, choice: u64) -> Result<No
         Ok(node) => Ok(node),
         Err(Unmade { disk, cause }) => Err(Lost {
             disk,
-            why: match cause {
-                Cause::Fault => Failure::Fault,
-                Cause::NoMemory => Failure::NoMemory,
-                Cause::Blank | Cause::NotEmpty => Failure::Damaged(0),
-                Cause::Damaged(place) => Failure::Damaged(place),
-            },
+            why: failure_by(cause),
         }),
     }
 }

@@ -1,5 +1,6 @@
 // A party has a turn over its open disk.
 ghost use Rattle.roles.specs.Deciding.{decision};
+ghost use Rattle.replay.specs.Failing.{FailsTelling};
 ghost use Rattle.replay.specs.Told.{IsTold};
 
 use crate::failure::Failure;
@@ -7,6 +8,7 @@ use key_journal::Cause;
 use node_core::{Node, Turn};
 use party_state::Input;
 use std::alloc::Global;
+use world_laws::law_turns;
 use x_base::{FullName, Text, Verdict};
 use x_disk::Disk;
 
@@ -29,8 +31,10 @@ pub(crate) enum Told<D: Disk> {
 
 /// The party's turn with an input.
 pub(crate) fn tell<D: Disk>(node: Node<D>, alloc: Global, input: Input, moment: u64) -> Told<D>
-    ensures { IsTold D.told node (decision node.party input moment) result }
+    ensures told { IsTold D.told node (decision node.party input moment) result }
+    ensures failed { FailsTelling D.told node input moment result }
 {
+    law_turns::<D>();
     match node.turn(alloc, input, moment) {
         Turn::Done { node, reply, under } => Told::Said {
             node,

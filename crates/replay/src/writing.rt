@@ -1,7 +1,8 @@
 // The lines of an event are written.
-ghost use Rattle.std.specs.Prelude.{◌≡◌, ◌≤◌, ◌++◌, ℕ, Err, IfOk, OnOk, OnErr, codes, option_map, string_bytes};
+ghost use Rattle.std.specs.Prelude.{◌≡◌, ◌≤◌, ◌++◌, ℕ, Err, IfOk, IfErr, OnOk, OnErr, codes, option_map, string_bytes};
 ghost use Rattle.std.specs.Fmt.{decimal};
 ghost use Rattle.x_base.specs.Edge.{Rose, AppendsTo};
+ghost use Rattle.replay.specs.Breaking.{IsBreak};
 ghost use Rattle.replay.specs.Transcript.{outcome_line, text_line};
 ghost use Rattle.replay.specs.Writing.{WrotePrefix};
 
@@ -83,6 +84,8 @@ pub(crate) fn write_event<K: Sink>(
     text: Option<&Text>,
 ) -> Result<(), Ending>
     ensures written { OnOk result (AppendsTo (K.written sink.old) (K.written sink.new) (outcome_line number outcome ++ text_line k (option_map (λ t. t.now) text.entry))) }
+    ensures part { OnErr result (WrotePrefix (K.written sink.old) (K.written sink.new) (outcome_line number outcome ++ text_line k (option_map (λ t. t.now) text.entry))) }
+    ensures breaks { IfErr result IsBreak }
     ensures unforged { (n : ℕ) → result ≡ Err (Ending.Forged n) → ⊥ }
     ensures memory { result ≡ Err (Ending.Failed Failure.Fault) → ⊥ }
     ensures fault { result ≡ Err Ending.Write → Rose (K.faults sink.old) (K.faults sink.new) }

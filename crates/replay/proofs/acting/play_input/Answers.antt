@@ -1,5 +1,9 @@
-use Rattle.std.proofs.Common.{◌≡◌, refl, sym, subst}
+use Rattle.std.proofs.Common.{◌≡◌, ◌∙◌, Some, refl, sym, subst}
+use Rattle.std.proofs.lemmas.Result.{err_from_is_err_and}
 use Rattle.replay.specs.Forging.{IsJudgedAt}
+use Rattle.replay.specs.Breaks.{BreaksHonest}
+use Rattle.replay.specs.declared.failure.Ending.TheVariants as ending
+use Rattle.replay.proofs.Results.{one_err}
 use Rattle.replay.proofs.Judging.{forged_there}
 use Rattle.replay.proofs.acting.play_input.Goals as goal
 
@@ -16,3 +20,10 @@ returns-clause-forged g c = λ n is. (
       (subst (λ b. IsJudgedAt c.args.scene.now.seats.items c.args.place c.args.scene.now.facts c.args.input b) c.if-honest.false
       (subst (λ l. IsJudgedAt l c.args.place c.args.scene.now.facts c.args.input c.is_honest_at-honest.result) c.deref.ensures.value c.is_honest_at-honest.ensures)),
 )
+
+pub returns-in_err-outcome-clause-broken : goal.returns-in_err-outcome-clause-broken
+returns-in_err-outcome-clause-broken g c = λ why is.
+    let p = err_from_is_err_and c.from_residual.result c.from_residual.ensures.1 in
+    let both : ending.Failed c.in_err-outcome.field-0.0 ≡ ending.Failed why = sym p.2 ∙ one_err c.from_residual.result p.0 (ending.Failed why) p.1 is in
+    let same : c.in_err-outcome.field-0.0 ≡ why = cc both in
+    subst (λ f. BreaksHonest g.H.Disk.Disk.told (g.H.Shelf.entry c.play_honest.new.shelf) c.args.scene.now c.play_honest.new.scene c.args.place (Some c.args.input) c.args.now.now.moment f) same c.in_err-outcome.ensures.broken

@@ -2,7 +2,9 @@ use Rattle.std.proofs.Common.{None, subst}
 use Rattle.replay.specs.Acting.{PlaysAt, Acts}
 use Rattle.replay.specs.Seats.{NoneOf, IsPlace}
 use Rattle.replay.specs.declared.act.Act.TheVariants as act
-use Rattle.replay.proofs.Results.{if_ok}
+use Rattle.replay.specs.Breaks.{BreaksHonest, BreaksAct}
+use Rattle.replay.proofs.Unfinished.{refused_act}
+use Rattle.replay.proofs.Results.{if_ok, if_err}
 use Rattle.replay.proofs.Happened.{acts_unheard, acts_unheard_nobody}
 use Rattle.replay.proofs.acting.play_refused.Goals as goal
 
@@ -19,3 +21,12 @@ returns-clause-acted g c =
 
 pub play_unheard-requires-clause-placed : goal.play_unheard-requires-clause-placed
 play_unheard-requires-clause-placed g c = subst (λ l. IsPlace l c.args.party.now c.in-Some.place) c.deref.ensures.value c.in-Some.ensures.some
+
+pub returns-clause-broken : goal.returns-clause-broken
+returns-clause-broken g c =
+    let told = g.H.Disk.Disk.told in
+    let entry = g.H.Shelf.entry c.play_unheard.new.shelf in
+    if_err c.play_unheard.result (λ why. BreaksHonest told entry c.args.scene.now c.play_unheard.new.scene c.in-Some.place None c.args.now.now.moment why)
+    (λ why. BreaksAct told entry (act.Refuse c.args.party.now c.args.number) c.args.scene.now c.play_unheard.new.scene c.args.now.now why)
+    (λ why breaks. refused_act told entry c.args.scene.now c.play_unheard.new.scene c.args.now.now why c.args.party.now c.in-Some.place c.args.number
+    (subst (λ l. IsPlace l c.args.party.now c.in-Some.place) c.deref.ensures.value c.in-Some.ensures.some) breaks) c.play_unheard.ensures.broken

@@ -2,6 +2,7 @@ use Rattle.std.proofs.Common.{Some, subst}
 use Rattle.replay.specs.Acting.{PlaysAt, Acts}
 use Rattle.replay.specs.Seats.{NoneOf, IsPlace}
 use Rattle.replay.specs.declared.act.Act.TheVariants as act
+use Rattle.replay.proofs.Unfinished.{told_act}
 use Rattle.replay.proofs.Results.{if_ok}
 use Rattle.replay.proofs.Happened.{acts_told, acts_nobody, forges_told}
 use Rattle.replay.proofs.acting.play_told.Goals as goal
@@ -24,3 +25,8 @@ returns-clause-forged g c = λ n is.
 
 pub play_input-requires-clause-placed : goal.play_input-requires-clause-placed
 play_input-requires-clause-placed g c = subst (λ l. IsPlace l c.args.party.now c.in-Some.place) c.deref.ensures.value c.in-Some.ensures.some
+
+pub returns-clause-broken : goal.returns-clause-broken
+returns-clause-broken g c = λ why is.
+    told_act g.H.Disk.Disk.told (g.H.Shelf.entry c.play_input.new.shelf) c.args.scene.now c.play_input.new.scene c.args.now.now why c.args.party.now c.in-Some.place c.args.input
+    (subst (λ l. IsPlace l c.args.party.now c.in-Some.place) c.deref.ensures.value c.in-Some.ensures.some) (c.play_input.ensures.broken why is)

@@ -1,9 +1,10 @@
-use Rattle.std.proofs.Common.{rules, ◌≡◌, refl, sym, ◌∙◌}
+use Rattle.std.proofs.Common.{◌≡◌, sym, ◌∙◌}
 use Rattle.x_disk.specs.declared.disk.DiskErr.TheVariants as disk
 use Rattle.roles.specs.Deciding.{decision}
 use Rattle.node_core.specs.declared.node.Turn.TheVariants as turn
 use Rattle.replay.specs.declared.carried.Carried.TheVariants as carried
 use Rattle.replay.proofs.Carrying.{is_fault, carried_by, carried_done, carried_refused, carried_cut}
+use Rattle.replay.proofs.Losing.{memory_reads, broken_reads}
 use Rattle.replay.proofs.carried.carry.Goals as goal
 
 pub returns-in-Done : goal.returns-in-Done
@@ -16,7 +17,8 @@ returns-in-Refused g c =
 
 pub returns-in-NoMemory : goal.returns-in-NoMemory
 returns-in-NoMemory g c =
-    carried_by g.D.Disk.told c.args.node (decision c.args.node.party c.args.input c.args.moment) (turn.NoMemory c.in-NoMemory.node) (carried.NoMemory c.into_disk-in-NoMemory.result) c.in-NoMemory.ensures c.into_disk-in-NoMemory.ensures.disk tt
+    carried_by g.D.Disk.told c.args.node (decision c.args.node.party c.args.input c.args.moment) (turn.NoMemory c.in-NoMemory.node) (carried.NoMemory c.into_disk-in-NoMemory.result) c.in-NoMemory.ensures c.into_disk-in-NoMemory.ensures.disk
+    (memory_reads g.D.Disk.told c.args.node (decision c.args.node.party c.args.input c.args.moment) c.in-NoMemory.node c.into_disk-in-NoMemory.result c.in-NoMemory.ensures c.into_disk-in-NoMemory.ensures.disk)
 
 pub returns-in-Fault : goal.returns-in-Fault
 returns-in-Fault g c =
@@ -25,4 +27,5 @@ returns-in-Fault g c =
 
 pub returns : goal.returns
 returns g c =
-    carried_by g.D.Disk.told c.args.node (decision c.args.node.party c.args.input c.args.moment) (turn.Broken c.in-Broken.broken) (carried.NoMemory c.give_up-unmade.result.disk) c.in-Broken.ensures c.give_up-unmade.ensures.disk tt
+    carried_by g.D.Disk.told c.args.node (decision c.args.node.party c.args.input c.args.moment) (turn.Broken c.in-Broken.broken) (carried.NoMemory c.give_up-unmade.result.disk) c.in-Broken.ensures c.give_up-unmade.ensures.disk
+    (broken_reads g.D.Disk.told c.args.node (decision c.args.node.party c.args.input c.args.moment) c.in-Broken.broken c.give_up-unmade.result.disk (g.met.D.Disk.sound c.in-Broken.broken.disk) c.in-Broken.ensures c.give_up-unmade.ensures.disk)

@@ -1,10 +1,9 @@
-use Rattle.std.proofs.Common.{◌≡◌, ℕ, ◌-◌, Some, refl, sym, ap, ap₂, subst}
+use Rattle.std.proofs.Common.{◌≡◌, ℕ, ◌-◌, sym, ap, ap₂, subst}
 use Rattle.roles.specs.Deciding.{decision}
-use Rattle.world_laws.specs.World.{Member}
 use Rattle.world_laws.specs.Nodes.{member_of}
 use Rattle.replay.specs.Carried.{IsFusedCarried}
 use Rattle.replay.specs.declared.carried.Carried.TheVariants as carried
-use Rattle.replay.proofs.Carrying.{fused_whole, fused_cut, unfused}
+use Rattle.replay.proofs.Carrying.{fused_whole, fused_cut, fused_memory, unfused}
 use Rattle.replay.proofs.carried.carry_fused.Goals as goal
 
 pub returns-in-Whole : goal.returns-in-Whole
@@ -43,4 +42,5 @@ returns-in-NoMemory g c =
     let same : member_of f ≡ member_of old = λ i. record { party = c.fuse.ensures.party i; room = ap₂ (λ (e p : ℕ). e - p) c.fuse.ensures.place.1 c.fuse.ensures.place.0 i } in
     let decided : df ≡ d = ap (λ p. decision p c.args.input c.args.moment) c.fuse.ensures.party in
     subst (λ k. IsFusedCarried told old d c.args.calls (carried.NoMemory k)) (sym c.into_inner-in-NoMemory.ensures)
-    (unfused told old f d df c.args.calls same decided c.fuse.ensures.fused (carried.NoMemory c.in-NoMemory.disk) c.in-NoMemory.ensures tt)
+    (unfused told old f d df c.args.calls same decided c.fuse.ensures.fused (carried.NoMemory c.in-NoMemory.disk) c.in-NoMemory.ensures
+    (fused_memory told old f d df c.args.calls same decided c.fuse.ensures.fused c.in-NoMemory.disk c.in-NoMemory.ensures.ends))

@@ -1,4 +1,4 @@
-use Rattle.std.proofs.Common.{◌≡◌, get_or, sym, ◌∙◌, ap, subst}
+use Rattle.std.proofs.Common.{get_or, ◌∙◌, ap, subst}
 use Rattle.replay.specs.Seats.{IsOpen}
 use Rattle.replay.specs.declared.seat.Seat.{Seat}
 use Rattle.replay.proofs.Seating.{is_in, not_open}

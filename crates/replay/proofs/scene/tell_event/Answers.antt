@@ -1,4 +1,5 @@
-use Rattle.replay.specs.Scene.{Shows}
+use Rattle.std.proofs.Common.{Ok, Err, inl, inr, refl}
+use Rattle.std.proofs.lemmas.Result.{err_from_is_err_and}
 use Rattle.replay.proofs.Stepping.{event_in, event_at, told_open, told_owners}
 use Rattle.replay.proofs.scene.tell_event.Goals as goal
 
@@ -28,3 +29,18 @@ returns-clause-step g c = λ w n own is_place shows.
     w n shows.members_are shows.texts_are shows.facts_are own is_place in
     let seated = event_in told old new c.args.place c.args.input c.args.moment c.in_ok-verdict.field-0 c.in_ok-verdict.ensures.told shows.seated in
     (e.member, e.at, record { seated = seated; members_are = e.members_after; texts_are = e.texts_after; facts_are = e.facts_after }, e.verdict_is)
+
+pub returns-in_err-verdict-clause-breaks : goal.returns-in_err-verdict-clause-breaks
+returns-in_err-verdict-clause-breaks g c =
+    let p = err_from_is_err_and c.from_residual.result c.from_residual.ensures.1 in
+    rw (p.1, p.2) (Err c.in_err-verdict.field-0.0, c.in_err-verdict.ensures.told, inl refl)
+
+pub returns-in_err-note-clause-breaks : goal.returns-in_err-note-clause-breaks
+returns-in_err-note-clause-breaks g c =
+    let p = err_from_is_err_and c.from_residual-in_err-note.result c.from_residual-in_err-note.ensures.1 in
+    rw (p.1, p.2) (Ok c.in_ok-verdict.field-0, c.in_ok-verdict.ensures.told, inr refl)
+
+pub returns-in_err-put_text-clause-breaks : goal.returns-in_err-put_text-clause-breaks
+returns-in_err-put_text-clause-breaks g c =
+    let p = err_from_is_err_and c.from_residual-in_err-put_text.result c.from_residual-in_err-put_text.ensures.1 in
+    rw (p.1, p.2) (Ok c.in_ok-verdict.field-0, c.in_ok-verdict.ensures.told, inr refl)

@@ -1,7 +1,7 @@
 use Rattle.std.proofs.Common.{Err}
 use Rattle.replay.specs.Seats.{seat}
 use Rattle.replay.proofs.Stepping.{told_faulty}
-use Rattle.replay.specs.declared.seat.Held.TheVariants.{Open, Loose, Out}
+use Rattle.replay.specs.declared.seat.Held.TheVariants.{Out}
 use Rattle.replay.proofs.seated.tell_at.Goals as goal
 
 pub returns-in-Said-clause-told : goal.returns-in-Said-clause-told
@@ -14,7 +14,7 @@ returns-in-Said-clause-told g c =
       node = c.lift-node.result;
       before = l.before;
       size = l.size;
-      tells = (c.in-Said.node, c.set_down.ensures l.front (seat l.own Out) l.back l.after l.size, c.in-Said.ensures);
+      tells = (c.in-Said.node, c.set_down.ensures l.front (seat l.own Out) l.back l.after l.size, c.in-Said.ensures.told);
     }
 
 pub returns-in-Failed-clause-told : goal.returns-in-Failed-clause-told
@@ -27,7 +27,7 @@ returns-in-Failed-clause-told g c =
       node = c.lift-node.result;
       before = l.before;
       size = l.size;
-      tells = (c.in-Failed.disk, c.set_down-in-Failed.ensures l.front (seat l.own Out) l.back l.after l.size, c.in-Failed.ensures);
+      tells = (c.in-Failed.disk, c.set_down-in-Failed.ensures l.front (seat l.own Out) l.back l.after l.size, c.in-Failed.ensures.told, c.in-Failed.ensures.failed);
     }
 
 pub returns-in-Failed-clause-fault : goal.returns-in-Failed-clause-fault

@@ -1,7 +1,6 @@
-use Rattle.std.proofs.Common.{◌≡◌, get_or, sym, ◌∙◌, ap, subst}
+use Rattle.std.proofs.Common.{get_or, ◌∙◌, ap, subst}
 use Rattle.replay.specs.Seats.{IsOpen}
 use Rattle.replay.specs.declared.seat.Seat.{Seat}
-use Rattle.replay.specs.declared.seat.Held.TheVariants.{Open}
 use Rattle.replay.proofs.Seating.{is_in, not_open}
 use Rattle.replay.proofs.Cutting.{decides_at}
 use Rattle.replay.proofs.stop_event.decide_at.Goals as goal

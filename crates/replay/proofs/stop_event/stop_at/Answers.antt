@@ -1,9 +1,15 @@
-use Rattle.std.proofs.Common.{◌≡◌, ◌∙◌, sym, refl, inr, ap₂, not, nat_eq, Result, Ok, Err}
+use Rattle.std.proofs.Common.{◌≡◌, ◌∙◌, sym, refl, inr, ap₂, not, nat_eq, Result, Err}
 use Rattle.std.specs.Prelude.{Bool}
+use Rattle.std.proofs.lemmas.Result.{err_from_is_err_and}
 use Rattle.key_store.specs.Store.{room}
 use Rattle.replay.specs.declared.failure.Failure.{Failure}
 use Rattle.replay.specs.declared.failure.Failure.TheVariants as failure
 use Rattle.replay.specs.declared.seat.Held.TheVariants.{Open, Loose}
+use Rattle.world_laws.specs.Nodes.{member_of}
+use Rattle.replay.specs.Stops.{KeepsChange, member_next}
+use Rattle.replay.proofs.Breakage.{stop_loose, stop_out}
+use Rattle.replay.proofs.Losing.{shelf_reads, lost_reads}
+use Rattle.replay.proofs.PuttingBack.{others_stay}
 use Rattle.replay.proofs.Cutting.{slot_at, lifted_owners, down_owners, down_faulty, stopped_at}
 use Rattle.replay.proofs.stop_event.stop_at.Goals as goal
 
@@ -42,3 +48,43 @@ returns-in-Err-clause-fault g c = λ is.
 pub returns-in-Err-restart-clause-fault : goal.returns-in-Err-restart-clause-fault
 returns-in-Err-restart-clause-fault g c = λ is.
     inr (down_faulty g.H.Disk.Disk.told c.args.seats.now.items c.lift-node.new.seats.items c.set_down-in-Err-restart.new.seats.items c.args.place c.lift-node.result c.lift-node.ensures c.in-Err-restart.field-0.disk c.set_down-in-Err-restart.ensures (c.in-Err-restart.ensures.fault (why_is c.in-Err-restart.field-0.why (Err c.in-Err-restart.field-0.why) refl is)))
+
+pub returns-in-Err-clause-broken : goal.returns-in-Err-clause-broken
+returns-in-Err-clause-broken g c =
+    stop_loose g.H.Disk.Disk.told (g.H.Shelf.entry c.args.shelf.now) c.args.seats.now.items c.lift-node.new.seats.items c.set_down.new.seats.items c.args.place c.lift-node.result c.lift-node.ensures c.args.input c.args.moment c.in-Err.field-0.why
+    c.in-Err.field-0.disk c.set_down.ensures (λ tells. (c.in-Err.ensures.failing, c.in-Err.ensures.left tells))
+
+pub returns-in_err-disk-clause-broken : goal.returns-in_err-disk-clause-broken
+returns-in_err-disk-clause-broken g c =
+    let told = g.H.Disk.Disk.told in
+    let node = c.lift-node.result in
+    let x = member_of node in
+    let p = err_from_is_err_and c.from_residual.result c.from_residual.ensures.1 in
+    rw (p.1, p.2)
+    (stop_out told (g.H.Shelf.entry c.exchange.new.shelf) c.args.seats.now.items c.lift-node.new.seats.items c.lift-node.new.seats.items c.args.place node c.lift-node.ensures c.args.input c.args.moment c.in_err-disk.field-0.0
+    c.args.own.now c.requires.placed c.in_err-disk.ensures.failing
+    (shelf_reads (told node.disk) (told c.in-Ok.disk) x (member_next x c.args.input c.args.moment) (KeepsChange x c.args.input c.args.moment) c.args.stop.n c.in-Ok.ensures.rests
+    (g.H.Shelf.entry c.exchange.new.shelf c.args.own.now) (g.met.H.Disk.Disk.sound c.in-Ok.disk) c.in_err-disk.ensures.stays))
+
+pub returns-in-Err-restart-clause-broken : goal.returns-in-Err-restart-clause-broken
+returns-in-Err-restart-clause-broken g c =
+    let told = g.H.Disk.Disk.told in
+    let node = c.lift-node.result in
+    let x = member_of node in
+    let lost = c.in-Err-restart.field-0 in
+    stop_loose told (g.H.Shelf.entry c.exchange.new.shelf) c.args.seats.now.items c.lift-node.new.seats.items c.set_down-in-Err-restart.new.seats.items c.args.place node c.lift-node.ensures c.args.input c.args.moment lost.why
+    lost.disk c.set_down-in-Err-restart.ensures
+    (lost_reads (told node.disk) (told c.in-Ok.disk) x (member_next x c.args.input c.args.moment) (KeepsChange x c.args.input c.args.moment) c.args.stop.n c.in-Ok.ensures.rests
+    (told c.in_ok-disk.disk) (told lost.disk) lost.why c.in_ok-disk.ensures.alike c.in-Err-restart.ensures.lost)
+
+pub returns-in_err-disk-clause-others : goal.returns-in_err-disk-clause-others
+returns-in_err-disk-clause-others g c =
+    others_stay g.H.Disk.Disk.told (g.H.Shelf.entry c.args.shelf.now) (g.H.Shelf.entry c.exchange.new.shelf) c.args.seats.now.items c.args.place c.lift-node.result c.lift-node.new.seats.items c.args.own.now c.requires.placed c.lift-node.ensures c.exchange.ensures.others
+
+pub returns-in-Ok-restart-clause-others : goal.returns-in-Ok-restart-clause-others
+returns-in-Ok-restart-clause-others g c =
+    others_stay g.H.Disk.Disk.told (g.H.Shelf.entry c.args.shelf.now) (g.H.Shelf.entry c.exchange.new.shelf) c.args.seats.now.items c.args.place c.lift-node.result c.lift-node.new.seats.items c.args.own.now c.requires.placed c.lift-node.ensures c.exchange.ensures.others
+
+pub returns-in-Err-restart-clause-others : goal.returns-in-Err-restart-clause-others
+returns-in-Err-restart-clause-others g c =
+    others_stay g.H.Disk.Disk.told (g.H.Shelf.entry c.args.shelf.now) (g.H.Shelf.entry c.exchange.new.shelf) c.args.seats.now.items c.args.place c.lift-node.result c.lift-node.new.seats.items c.args.own.now c.requires.placed c.lift-node.ensures c.exchange.ensures.others

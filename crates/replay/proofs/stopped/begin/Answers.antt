@@ -1,4 +1,4 @@
-use Rattle.std.proofs.Common.{◌≡◌, Option, None, sym, subst}
+use Rattle.std.proofs.Common.{Option, sym, subst}
 use Rattle.party_state.specs.declared.command.Input.{Input}
 use Rattle.world_laws.specs.Nodes.{member_of}
 use Rattle.replay.specs.Stops.{IsResting, KeepsChange, member_next}

@@ -1,3 +1,4 @@
+use Rattle.replay.proofs.Losing.{lost_off, lost_open}
 use Rattle.replay.proofs.Stopping.{restarts}
 use Rattle.replay.proofs.stopped.restart.Goals as goal
 
@@ -8,3 +9,13 @@ returns-in-Ok-open_from-clause-opened g c =
     restarts (told c.args.disk) (told c.power_off.new.self) (told node.disk) c.args.choice node.gate node.end node.party (g.met.D.Disk.sound c.power_off.new.self)
     c.in-Ok.ensures.crash c.in-Ok.ensures.stable c.in-Ok.ensures.now c.in-Ok.ensures.tells
     c.in-Ok-open_from.ensures.now c.in-Ok-open_from.ensures.stands c.in-Ok-open_from.ensures.exact
+
+pub returns-in-Err-clause-lost : goal.returns-in-Err-clause-lost
+returns-in-Err-clause-lost g c =
+    let told = g.D.Disk.told in
+    lost_off (told c.args.disk) (told c.power_off.new.self) c.failure_of.result c.failure_of.ensures.failing (g.met.D.Disk.sound c.power_off.new.self) c.in-Err.ensures.crash c.in-Err.ensures.tells
+
+pub returns-in-Err-open_from-clause-lost : goal.returns-in-Err-open_from-clause-lost
+returns-in-Err-open_from-clause-lost g c =
+    let told = g.D.Disk.told in
+    lost_open told (told c.args.disk) c.power_off.new.self c.in-Err-open_from.field-0 c.failure_by.result c.failure_by.ensures.failing (g.met.D.Disk.sound c.power_off.new.self) c.in-Ok.ensures.crash c.in-Ok.ensures.tells c.in-Err-open_from.ensures

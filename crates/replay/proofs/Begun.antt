@@ -1,0 +1,252 @@
+-- A disk on which a party begins, and to which its links are loaded.
+use Rattle.std.proofs.Common.{◌≡◌, ◌⊎◌, inl, inr, ⊎_elim, ℕ, ◌+◌, ◌-◌, ◌*◌, ◌<◌, ◌≤◌, Bool, true, false, List, [], ◌∷◌, ◌++◌, length, take, Some, is_some, Ok, Err, refl, sym, ◌∙◌, ap, subst, arith, length-append}
+use Rattle.std.proofs.lemmas.List.{append-nil}
+use Rattle.x_base.specs.Edge.{Rose}
+use Rattle.x_base.specs.Names.{is_name, IsIdent}
+use Rattle.x_base.specs.declared.party.Role.{Role}
+use Rattle.x_base.specs.declared.party.Role.TheVariants as role
+use Rattle.x_gen.specs.declared.generator.Gen.{Gen}
+use Rattle.x_disk.specs.Disk.{View, Tells, LeavesOnly, IsDurable, IsSound}
+use Rattle.x_disk.specs.declared.disk.DiskErr.{DiskErr}
+use Rattle.x_disk.specs.declared.disk.DiskErr.TheVariants as disk
+use Rattle.key_journal.specs.Causes.{cause_of}
+use Rattle.key_journal.specs.Journal.{is_blank}
+use Rattle.key_journal.specs.Opening.{IsFree}
+use Rattle.key_journal.specs.States.{Failed as FailedDisk, room_of}
+use Rattle.key_journal.specs.declared.cause.Cause.{Cause}
+use Rattle.key_journal.specs.declared.cause.Cause.TheVariants as cause
+use Rattle.key_journal.specs.declared.cause.Unmade.{Unmade}
+use Rattle.party_state.specs.declared.link.LinkRec.{LinkRec}
+use Rattle.party_state.specs.declared.edit.Edit.{Edit}
+use Rattle.party_state.specs.declared.edit.Edit.TheVariants.{Begin, PutLink}
+use Rattle.party_state.specs.Limits.{IsWithinLimits, StaysWithinLimits}
+use Rattle.party_state.specs.State.{Party, begun}
+use Rattle.change_code.specs.Code.{two, eight, short, pair_code, gen_code, role_code, edit_code, edits_code, code_of_change}
+use Rattle.key_store.specs.Store.{Stored, IsStore, IsOldOrNew, IsBlankOrFirst, room}
+use Rattle.key_store.specs.Creating.{IsNewStore}
+use Rattle.key_store.specs.Keeping.{IsKeeping}
+use Rattle.key_store.specs.Loaded.{IsLoaded}
+use Rattle.key_store.specs.declared.store.Kept.TheVariants as kept
+use Rattle.world_laws.specs.Nodes.{member_of}
+use Rattle.replay.specs.Failing.{IsFailing}
+use Rattle.replay.specs.Starts.{with_loads}
+use Rattle.replay.specs.Stops.{ImageOf}
+use Rattle.replay.specs.SettingUp.{ReadsBlank, new_member, HasBegun, HasPlace, IsLoad, IsOpenedWith, IsPartlyLoaded, IsBeginning, IsNotBlank, IsUnset, IsUnsetDisk, EndsBy}
+use Rattle.replay.specs.declared.failure.Failure.{Failure}
+use Rattle.replay.specs.declared.failure.Failure.TheVariants as failure
+use Rattle.replay.specs.declared.making.NewParty.{NewParty}
+use Rattle.replay.specs.declared.making.SetUpEnd.{SetUpEnd}
+use Rattle.replay.specs.declared.making.SetUpEnd.TheVariants.{Failed}
+use Rattle.replay.proofs.Carrying.{image_of, is_fault}
+use Rattle.replay.proofs.Stopping.{told_now}
+use Rattle.replay.proofs.Loads.{put_longer}
+
+rose_above : (a b : ℕ) → Rose a b → 0 < b
+rose_above a b (inl less) = omega (arith, less)
+rose_above a b (inr most) = omega (arith, most)
+
+-- what a read gives is among the images of a run
+among : (v w : View) (P : List ℕ → Type 0) → IsSound w → LeavesOnly v w P → (image : List ℕ) → w.now ≡ Some image → P image
+among v w P sound run image now = run.each image (sound.counts_now v.moment image run.later (sound.now_among image now))
+
+-- ---- causes
+
+fault_end : (reason : Cause) (e : SetUpEnd) → EndsBy reason e → e ≡ Failed failure.Fault → reason ≡ cause.Fault
+fault_end cause.Blank e by is = absurd by
+fault_end cause.NotEmpty e by is = let k = sym by ∙ is in absurd (cc k)
+fault_end (cause.Damaged place) e by is = absurd by
+fault_end cause.Fault e by is = refl
+fault_end cause.NoMemory e by is = let k = sym by ∙ is in absurd (cc k)
+
+free_cause : (d : DiskErr) → IsFree (cause_of d)
+free_cause disk.Fault = tt
+free_cause disk.NoMemory = tt
+
+-- ---- a party begins
+
+two_long : (n : ℕ) → length (two n) ≡ 2
+unfolding two
+two_long n = refl
+
+eight_long : (n : ℕ) → length (eight n) ≡ 8
+unfolding eight
+eight_long n = refl
+
+role_long : (r : Role) → length (role_code r) ≡ 1
+role_long role.Bank = refl
+role_long role.Distribution = refl
+role_long role.Translation = refl
+
+name_bytes : (bytes : List ℕ) → is_name 4 16 bytes ≡ true → length bytes ≤ 16
+name_bytes bytes h = grind arith
+
+gen_long : (g : Gen) → length (gen_code g) ≡ 24
+gen_long g =
+    let a = length-append (pair_code g.key) (eight g.v) in
+    let b = length-append (eight g.key.left) (eight g.key.right) in
+    omega (arith, a, b, eight_long g.key.left, eight_long g.key.right, eight_long g.v)
+
+first_edit : (own : List ℕ) (r : Role) (g : Gen) → length (edit_code (Begin own r g)) ≡ length own + 27
+first_edit own r g =
+    let a = length-append (short own) (role_code r ++ gen_code g) in
+    let b = length-append (role_code r) (gen_code g) in
+    omega (arith, a, b, role_long r, gen_long g)
+
+first_short : (own : List ℕ) (r : Role) (g : Gen) → IsIdent own → length (code_of_change (Begin own r g ∷ [])) ≤ 46
+first_short own r g ident =
+    let a = length-append (two 1) (edits_code (Begin own r g ∷ [])) in
+    let b = ap length (append-nil (edit_code (Begin own r g))) in
+    omega (arith, a, b, two_long 1, first_edit own r g, name_bytes own ident)
+
+first_room : (gate end n : ℕ) → gate ≡ 21 + n → end ≡ 8388616 → end - gate ≡ 8388595 - n
+first_room gate end n is last = omega (arith, is, last)
+
+module _ {D : Type 0} (told : D → View) (old after : D) (party : NewParty) (same : (told after).now ≡ (told old).now) where
+  pub begins : (s : Stored D) → IsIdent party.own → IsNewStore told party.own party.role party.generator after (Ok s) → HasBegun told (told old) party s
+  begins s ident new =
+      let begin = Begin party.own party.role party.generator ∷ [] in
+      let size = first_short party.own party.role party.generator ident in
+      let left = first_room s.gate s.end (length (code_of_change begin)) new.place.0 new.place.1 in
+      record {
+        blank = λ image now. new.blank image (same ∙ now);
+        tells = new.tells ∙ ap is_some same;
+        member = λ i. record { party = new.party i; room = left i };
+        room = omega (arith, size, left);
+      }
+
+  module _ (loads : List LinkRec) (u : Unmade D) (new : IsNewStore told party.own party.role party.generator after (Err u)) (durable : IsDurable (told after)) (sound : IsSound (told u.disk)) where
+    tells_on : Tells (told old) → Tells (told after)
+    tells_on tells = ap is_some same ∙ tells
+
+    stays_filled : (image : List ℕ) → (told old).now ≡ Some image → is_blank image ≡ false → (told u.disk).now ≡ (told old).now
+    stays_filled image now filled = (new.nothing_written image (same ∙ now) filled).now ∙ same
+
+    is_filled : Tells (told old) → u.cause ≡ cause.NotEmpty → IsNotBlank (told old) (told u.disk)
+    is_filled tells is =
+        let here = told_now (told old).now tells in
+        record { filled = each; stays = stays_filled here.0 here.1 (each here.0 here.1) }
+      where
+        pick : (image : List ℕ) → IsFree u.cause ⊎ ((u.cause ≡ cause.NotEmpty) × (is_blank image ≡ false)) → is_blank image ≡ false
+        pick image (inl free) = absurd (subst IsFree is free)
+        pick image (inr both) = both.1
+
+        each : (image : List ℕ) → (told old).now ≡ Some image → is_blank image ≡ false
+        each image now = pick image (new.exact image (same ∙ now))
+
+    begins_or : Tells (told old) → (image : List ℕ) → (told u.disk).now ≡ Some image → IsBeginning (told old) (new_member party) loads image
+    begins_or tells image now =
+        let here = told_now (told old).now tells in
+        go here.0 here.1 (is_blank here.0) refl
+      where
+        reads : (b : List ℕ) → (told old).now ≡ Some b → is_blank b ≡ true → ReadsBlank (told old)
+        reads b was is other also = let one : Some b ≡ Some other = sym was ∙ also in let e : b ≡ other = cc one in subst (λ (l : List ℕ). is_blank l ≡ true) e is
+
+        left : (b : List ℕ) → (told old).now ≡ Some b → is_blank b ≡ true → IsBlankOrFirst (begun party.own party.role party.generator) image ⊎ (told after).may_leave image → IsBeginning (told old) (new_member party) loads image
+        left b was is (inl (inl blank)) = inr (reads b was is, inl blank)
+        left b was is (inl (inr stands)) = inr (reads b was is, inr (0, stands))
+        left b was is (inr may) = inl (was ∙ ap Some (sym (durable.only b image (same ∙ was) may)))
+
+        go : (b : List ℕ) → (told old).now ≡ Some b → (t : Bool) → is_blank b ≡ t → IsBeginning (told old) (new_member party) loads image
+        go b was false is = inl (sym (stays_filled b was is) ∙ now)
+        go b was true is = left b was is (among (told after) (told u.disk) (λ (c : List ℕ). IsBlankOrFirst (begun party.own party.role party.generator) c ⊎ (told after).may_leave c) sound (new.any_moment (tells_on tells)) image now)
+
+    pub never_begins : (why : SetUpEnd) → EndsBy u.cause why → IsUnsetDisk (told old) (told u.disk) (new_member party) loads why
+    never_begins why ends = record {
+      unset = λ tells. go tells u.cause refl ends;
+      fault = λ is. rose_above (told after).faults (told u.disk).faults (new.fault (fault_end u.cause why ends is));
+    }
+      where
+        broken : Tells (told old) → (f : Failure) → IsFailing f → why ≡ Failed f → IsUnset (told old) (told u.disk) (new_member party) loads why
+        broken tells f fine is = subst (λ (k : SetUpEnd). IsUnset (told old) (told u.disk) (new_member party) loads k) (sym is) (record { failing = fine; tells = new.tells ∙ tells_on tells; begins = begins_or tells })
+
+        go : Tells (told old) → (reason : Cause) → u.cause ≡ reason → EndsBy reason why → IsUnset (told old) (told u.disk) (new_member party) loads why
+        go tells cause.Blank is by = absurd by
+        go tells cause.NotEmpty is by = subst (λ (k : SetUpEnd). IsUnset (told old) (told u.disk) (new_member party) loads k) (sym by) (is_filled tells is)
+        go tells (cause.Damaged place) is by = absurd by
+        go tells cause.Fault is by = broken tells failure.Fault tt by
+        go tells cause.NoMemory is by = broken tells failure.NoMemory tt by
+
+-- ---- a link is loaded
+
+load_room : (g e g' e' n : ℕ) → g' ≡ g + n + 5 → e' ≡ e → e' - g' ≡ e - g - (n + 5)
+load_room g e g' e' n gate end = omega (arith, gate, end)
+
+room_above : (g e g' e' n : ℕ) → g' ≡ g + n + 5 → e' ≡ e → n ≤ 1203 → e - g ≤ e' - g' + 1208
+room_above g e g' e' n gate end few = omega (arith, gate, end, few)
+
+module _ {D : Type 0} (told : D → View) (old : Stored D) (l : LinkRec) where
+  -- the code of a change that is a load alone
+  pub short_load : (change : List Edit) → change ≡ PutLink l ∷ [] → length (code_of_change change) ≤ 3 + 1200 * length change → length (code_of_change (PutLink l ∷ [])) ≤ 1203
+  short_load change is law =
+      let short = subst (λ (es : List Edit). length (code_of_change es) ≤ 3 + 1200 * length es) is law in
+      omega (arith, short)
+
+  pub stays_within : IsWithinLimits old.party → HasPlace old → StaysWithinLimits (PutLink l ∷ []) old.party
+  stays_within within place = (record { links = omega (arith, put_longer l old.party.links, place.few); keys = within.keys }, tt)
+
+  pub loads_one : (s : Stored D) → length (code_of_change (PutLink l ∷ [])) ≤ 1203 → IsKeeping told old (PutLink l ∷ []) (kept.Done s) → IsLoad told old s l
+  loads_one s few k =
+      let d = k.done s refl in
+      let left = load_room old.gate old.end s.gate s.end (length (code_of_change (PutLink l ∷ []))) d.1 d.2 in
+      let more = ap (λ (p : Party). length p.links) d.0 in
+      record {
+        member = λ i. record { party = d.0 i; room = left i };
+        tells = k.tells;
+        links = omega (arith, more, put_longer l old.party.links);
+        room = room_above old.gate old.end s.gate s.end (length (code_of_change (PutLink l ∷ []))) d.1 d.2 few;
+      }
+
+  partly_on : (w : View) → IsSound w → LeavesOnly (told old.disk) w (IsOldOrNew old.party (room old) (PutLink l ∷ [])) → (image : List ℕ) → w.now ≡ Some image → (k : ℕ) × ImageOf (with_loads (member_of old) (take k (l ∷ []))) image
+  partly_on w sound run image now = ⊎_elim (λ before. (0, before)) (λ after. (1, after)) (among (told old.disk) w (IsOldOrNew old.party (room old) (PutLink l ∷ [])) sound run image now)
+
+  pub lost_broken : (b : FailedDisk D) (k : D) (reason : Cause) (why : Failure) → k ≡ b.disk → reason ≡ cause_of b.cause → (why ≡ failure.Fault → reason ≡ cause.Fault) → (IsFree reason → IsFailing why) → IsSound (told b.disk) → IsKeeping told old (PutLink l ∷ []) (kept.Broken b)
+      → IsPartlyLoaded (told old.disk) (told k) (member_of old) (l ∷ []) why
+  lost_broken b k reason why one by fault failing sound keeping =
+      subst (λ (j : D). IsPartlyLoaded (told old.disk) (told j) (member_of old) (l ∷ []) why) (sym one) (record {
+        failing = λ tells. failing (subst IsFree (sym by) (free_cause b.cause));
+        tells = keeping.tells;
+        partly = λ tells. partly_on (told b.disk) sound (keeping.any_moment tells);
+        fault = λ is. rose_above (told old.disk).faults (told b.disk).faults ((keeping.cause b refl).fault (is_fault b.cause (sym by ∙ fault is)));
+      })
+
+-- nothing was loaded, and the disk is as it was
+module _ {D : Type 0} (told : D → View) (old : Stored D) (store : IsStore (told old.disk) old.gate old.end old.party) where
+  pub lost_memory : (loads : List LinkRec) (s : Stored D) (k : D) → s ≡ old → k ≡ s.disk → IsPartlyLoaded (told old.disk) (told k) (member_of old) loads failure.NoMemory
+  lost_memory loads s k same one =
+      subst (λ (j : D). IsPartlyLoaded (told old.disk) (told j) (member_of old) loads failure.NoMemory) (sym (one ∙ ap (λ (t : Stored D). t.disk) same)) (record {
+        failing = λ tells. tt;
+        tells = refl;
+        partly = λ tells image now. (0, image_of (told old.disk) old.gate old.end old.party store image now);
+        fault = λ is. absurd (cc is);
+      })
+
+  -- ---- and it is opened
+
+  module _ (j : D) (one : j ≡ old.disk) where
+    here : (image : List ℕ) → (told old.disk).now ≡ Some image → (told j).now ≡ Some image
+    here image now = ap (λ (k : D). (told k).now) one ∙ now
+
+    opened_room : (gate end r s : ℕ) → end ≡ gate + r → r ≡ s → end - gate ≡ s
+    opened_room gate end r s is same = omega (arith, is, same)
+
+    pub completes : (n : Stored D) → IsLoaded told j (Ok n) → IsOpenedWith told old n []
+    completes n loaded = record {
+      tells = ap is_some (loaded.now ∙ ap (λ (k : D). (told k).now) one);
+      member = λ tells.
+          let h = told_now (told old.disk).now tells in
+          let now = here h.0 h.1 in
+          let was = image_of (told old.disk) old.gate old.end old.party store h.0 h.1 in
+          let party = loaded.exact h.0 old.party now (store.stands h.0 h.1) in
+          let left = opened_room n.gate n.end (room_of was.bodies) (room old) (loaded.stands.room was.bodies (record { image = h.0; now = loaded.now ∙ now; holds = was.holds })) was.left in
+          λ i. record { party = party i; room = left i };
+    }
+
+    pub unopened : (u : Unmade D) (why : Failure) → (why ≡ failure.Fault → u.cause ≡ cause.Fault) → (IsFree u.cause → IsFailing why) → IsLoaded told j (Err u) → IsPartlyLoaded (told old.disk) (told u.disk) (member_of old) [] why
+    unopened u why fault failing loaded =
+        let same = loaded.now ∙ ap (λ (k : D). (told k).now) one in
+        record {
+          failing = λ tells. let h = told_now (told old.disk).now tells in failing (loaded.never_refused h.0 old.party (here h.0 h.1) (store.stands h.0 h.1));
+          tells = ap is_some same;
+          partly = λ tells image now. (0, image_of (told old.disk) old.gate old.end old.party store image (sym same ∙ now));
+          fault = λ is. rose_above (told j).faults (told u.disk).faults (loaded.fault (fault is));
+        }

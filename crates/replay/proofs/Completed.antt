@@ -1,0 +1,117 @@
+-- A party with all its loads.
+use Rattle.std.proofs.Common.{◌≡◌, ◌⊎◌, inl, inr, ℕ, zero, suc, ◌+◌, ◌<◌, ◌≤◌, List, [], ◌∷◌, ◌++◌, length, get_or, take, Option, Some, None, refl, sym, ◌∙◌, ap, subst, arith}
+use Rattle.std.specs.Prelude.{option_to_list}
+use Rattle.std.proofs.lemmas.List.{take_all, append-nil, length_push}
+use Rattle.x_disk.specs.Disk.{View}
+use Rattle.party_state.specs.declared.link.LinkRec.{LinkRec}
+use Rattle.key_store.specs.Store.{Stored, Stands, room}
+use Rattle.scenario.specs.declared.line.Line.{Line}
+use Rattle.scenario.specs.Behind.{EachBehind}
+use Rattle.scenario.specs.Rules.{may_follow}
+use Rattle.world_laws.specs.World.{Member}
+use Rattle.world_laws.specs.Nodes.{member_of}
+use Rattle.replay.specs.Starts.{load_at, loads_of, with_load, with_loads}
+use Rattle.replay.specs.Stops.{ImageOf}
+use Rattle.replay.specs.SettingUp.{new_member, full_member, least_room, HasBegun, CanLoad, IsLoadOrSame, IsLoadedTo, IsOpenedWith, IsPartlyLoaded, IsSetUp, IsUnsetDisk}
+use Rattle.replay.specs.declared.failure.Failure.{Failure}
+use Rattle.replay.specs.declared.making.NewParty.{NewParty}
+use Rattle.replay.specs.declared.making.SetUpEnd.TheVariants.{Failed}
+use Rattle.replay.proofs.Loads.{loads_append, loads_more, first_loads, few_before, follows}
+
+none_or_all : (o : Option LinkRec) (k : ℕ) → (take k (option_to_list o) ≡ []) ⊎ (take k (option_to_list o) ≡ option_to_list o)
+none_or_all None k = inl (take_all k [] (omega arith))
+none_or_all (Some l) zero = inl refl
+none_or_all (Some l) (suc k) = inr (ap (λ (ls : List LinkRec). l ∷ ls) (take_all k [] (omega arith)))
+
+module _ {D : Type 0} (told : D → View) (old : Stored D) where
+  module _ (own : List ℕ) (lines : List Line) (i : ℕ) (x : Line) (lt : i < length lines) (is : x ≡ get_or lines i x) (s : Stored D) (so_far : IsLoadedTo told old s (loads_of own (take i lines))) where
+    so_many : List LinkRec
+    so_many = loads_of own (take i lines)
+
+    pub can_load : EachBehind may_follow lines → least_room ≤ room old → CanLoad s (load_at own x)
+    can_load rules least = go (load_at own x) refl
+      where
+        go : (o : Option LinkRec) → load_at own x ≡ o → CanLoad s o
+        go None at = tt
+        go (Some l) at =
+            let few = few_before own (take i lines) x l (follows lines i x rules lt is) at in
+            record { few = omega (arith, few, so_far.links); room = omega (arith, few, so_far.room, least) }
+
+    pub loaded_more : (new : Stored D) → IsLoadOrSame told s new (load_at own x) → IsLoadedTo told old new (loads_of own (take (i + 1) lines))
+    loaded_more new load = subst (λ (ls : List LinkRec). IsLoadedTo told old new ls) (sym (loads_more own lines i x lt is)) (go (load_at own x) load)
+      where
+        go : (o : Option LinkRec) → IsLoadOrSame told s new o → IsLoadedTo told old new (loads_of own (take i lines) ++ option_to_list o)
+        go None same =
+            subst (λ (ls : List LinkRec). IsLoadedTo told old new ls) (sym (append-nil (loads_of own (take i lines)))) (subst (λ (t : Stored D). IsLoadedTo told old t (loads_of own (take i lines))) (sym same) so_far)
+        go (Some l) one =
+            let more = length_push (loads_of own (take i lines)) l in
+            record {
+              member = one.member ∙ (ap (λ (m : Member). with_load m l) so_far.member ∙ sym (loads_append (member_of old) (loads_of own (take i lines)) (l ∷ [])));
+              tells = one.tells ∙ so_far.tells;
+              links = omega (arith, more, one.links, so_far.links);
+              room = omega (arith, more, one.room, so_far.room);
+            }
+
+    pub partly_more : (w : View) (why : Failure) → IsPartlyLoaded (told s.disk) w (member_of s) (option_to_list (load_at own x)) why → IsPartlyLoaded (told old.disk) w (member_of old) (loads_of own lines) why
+    partly_more w why part = record {
+      failing = λ tells. part.failing (so_far.tells ∙ tells);
+      tells = part.tells ∙ so_far.tells;
+      partly = λ tells image now. let p = part.partly (so_far.tells ∙ tells) image now in reach image p.0 p.1 (none_or_all (load_at own x) p.0);
+      fault = part.fault;
+    }
+      where
+        first : with_loads (member_of s) [] ≡ with_loads (member_of old) (take (length (loads_of own (take i lines))) (loads_of own lines))
+        first = so_far.member ∙ ap (with_loads (member_of old)) (sym (first_loads own lines i))
+
+        next : with_loads (member_of s) (option_to_list (load_at own x)) ≡ with_loads (member_of old) (take (length (loads_of own (take (i + 1) lines))) (loads_of own lines))
+        next = ap (λ (m : Member). with_loads m (option_to_list (load_at own x))) so_far.member
+            ∙ (sym (loads_append (member_of old) (loads_of own (take i lines)) (option_to_list (load_at own x)))
+            ∙ (ap (with_loads (member_of old)) (sym (loads_more own lines i x lt is)) ∙ ap (with_loads (member_of old)) (sym (first_loads own lines (i + 1)))))
+
+        reach : (image : List ℕ) (k : ℕ) → ImageOf (with_loads (member_of s) (take k (option_to_list (load_at own x)))) image
+            → (take k (option_to_list (load_at own x)) ≡ []) ⊎ (take k (option_to_list (load_at own x)) ≡ option_to_list (load_at own x)) → (n : ℕ) × ImageOf (with_loads (member_of old) (take n (loads_of own lines))) image
+        reach image k stands (inl none) = (length (loads_of own (take i lines)), subst (λ (m : Member). ImageOf m image) (ap (with_loads (member_of s)) none ∙ first) stands)
+        reach image k stands (inr all) = (length (loads_of own (take (i + 1) lines)), subst (λ (m : Member). ImageOf m image) (ap (with_loads (member_of s)) all ∙ next) stands)
+
+  -- ---- the party is made
+
+  module _ (s : Stored D) (loads : List LinkRec) (loaded : IsLoadedTo told old s loads) where
+    pub completed : (n : Stored D) → IsOpenedWith told s n [] → IsOpenedWith told old n loads
+    completed n done = record { tells = done.tells ∙ loaded.tells; member = λ tells. done.member (loaded.tells ∙ tells) ∙ loaded.member }
+
+    pub partly_last : (w : View) (why : Failure) → IsPartlyLoaded (told s.disk) w (member_of s) [] why → IsPartlyLoaded (told old.disk) w (member_of old) loads why
+    partly_last w why part = record {
+      failing = λ tells. part.failing (loaded.tells ∙ tells);
+      tells = part.tells ∙ loaded.tells;
+      partly = λ tells image now.
+          let p = part.partly (loaded.tells ∙ tells) image now in
+          let is = ap (with_loads (member_of s)) (take_all p.0 [] (omega arith)) ∙ (loaded.member ∙ ap (with_loads (member_of old)) (sym (take_all (length loads) loads (omega arith)))) in
+          (length loads, subst (λ (m : Member). ImageOf m image) is p.1);
+      fault = part.fault;
+    }
+
+  module _ (v : View) (party : NewParty) (begun_is : HasBegun told v party old) where
+    pub no_links : old.party.links ≡ []
+    no_links = ap (λ (m : Member). m.party.links) begun_is.member
+
+    pub makes : (lines : List Line) (n : Stored D) → IsOpenedWith told old n (loads_of party.own lines) → IsSetUp told v (full_member lines party) n
+    makes lines n done = record {
+      blank = begun_is.blank;
+      tells = done.tells ∙ begun_is.tells;
+      member = λ tells. done.member (begun_is.tells ∙ tells) ∙ ap (λ (m : Member). with_loads m (loads_of party.own lines)) begun_is.member;
+    }
+
+    pub unset_part : (loads : List LinkRec) (w : View) (why : Failure) → IsPartlyLoaded (told old.disk) w (member_of old) loads why → IsUnsetDisk v w (new_member party) loads (Failed why)
+    unset_part loads w why part = record {
+      unset = λ tells. record {
+        failing = part.failing (begun_is.tells ∙ tells);
+        tells = part.tells ∙ (begun_is.tells ∙ tells);
+        begins = λ image now. let p = part.partly (begun_is.tells ∙ tells) image now in inr (begun_is.blank, inr (p.0, stands_in image (take p.0 loads) p.1));
+      };
+      fault = λ is. part.fault (cc is);
+    }
+      where
+        stands_in : (image : List ℕ) (ls : List LinkRec) → ImageOf (with_loads (member_of old) ls) image → Stands image (with_loads (new_member party) ls).party
+        stands_in image ls stands =
+            let there = subst (λ (m : Member). ImageOf (with_loads m ls) image) begun_is.member stands in
+            record { bodies = there.bodies; holds = there.holds; fold = there.fold }

@@ -1,0 +1,262 @@
+-- How a play over open disks concludes.
+use Rattle.std.proofs.Common.{◌≡◌, ◌⊎◌, inl, inr, ℕ, ◌≤◌, Bool, true, false, List, [], ◌∷◌, ◌++◌, length, take, Option, Some, None, bytes_eq, Result, Ok, Err, refl, sym, ◌∙◌, ap, subst, append_assoc}
+use Rattle.std.specs.Prelude.{IfOk}
+use Rattle.std.proofs.Math.Seq.{take-length}
+use Rattle.std.proofs.lemmas.List.{append-nil}
+use Rattle.std.proofs.lemmas.Slice.Eq.{bytes_eq-Decides}
+use Rattle.x_base.specs.Edge.{AppendsTo}
+use Rattle.x_disk.specs.Disk.{View, IsDurable}
+use Rattle.x_disk.specs.Shelf.{IsAlike}
+use Rattle.key_store.specs.Store.{Stored}
+use Rattle.scenario.specs.declared.line.Line.{Line}
+use Rattle.world_laws.specs.World.{World, Member, member_at}
+use Rattle.world_laws.specs.Steps.{step}
+use Rattle.world_laws.specs.Nodes.{member_of}
+use Rattle.replay.specs.Breaking.{AreOnShelf, IsBreak, IsBrokenIn, BreaksIn}
+use Rattle.replay.specs.Closing.{IsBack, AllBack}
+use Rattle.replay.specs.Course.{no_event, IsAt}
+use Rattle.replay.specs.Finishing.{IsUnshown, Finishes, BreaksPlay, end_of, answer_of}
+use Rattle.replay.specs.Lines.{Plays, ForgesIn}
+use Rattle.replay.specs.Playing.{AreDurable, IsTallied, Surroundings, around, IsPlayed, IsPlayedToForged, IsBrokenPlay, IsUnwritten, IsPlayOn}
+use Rattle.replay.specs.Scene.{Shows}
+use Rattle.replay.specs.Seats.{members, with_held, IsIn, AreIn}
+use Rattle.replay.specs.Showing.{IsWriteEnd}
+use Rattle.replay.specs.Starts.{start_course, start_members, start_progress}
+use Rattle.replay.specs.Transcript.{show_lines}
+use Rattle.replay.specs.Writing.{WrotePrefix}
+use Rattle.replay.specs.declared.failure.Ending.{Ending}
+use Rattle.replay.specs.declared.failure.Ending.TheVariants as ending
+use Rattle.replay.specs.declared.failure.Failure.{Failure}
+use Rattle.replay.specs.declared.failure.Failure.TheVariants as failure
+use Rattle.replay.specs.declared.progress.Progress.{Progress}
+use Rattle.replay.specs.declared.scene.Scene.{Scene}
+use Rattle.replay.specs.declared.seat.Seat.{Seat}
+use Rattle.replay.specs.declared.seat.Held.{Held}
+use Rattle.replay.specs.declared.seat.Held.TheVariants.{Open, Loose, Out}
+use Rattle.replay.specs.declared.tally.Tally.{Tally}
+use Rattle.replay.proofs.Breakage.{shown_stand}
+use Rattle.replay.proofs.Happened.{nothing_done}
+use Rattle.replay.proofs.Leading.{appends_more}
+use Rattle.replay.proofs.Members.{cond_not}
+use Rattle.replay.proofs.Running.{quiet_honest}
+use Rattle.replay.proofs.Standing.{stand_on_shelf}
+
+-- ---- open disks, and what is left of them on the shelf
+
+durable_alike : (v w : View) → IsAlike v w → IsDurable v → IsDurable w
+durable_alike v w alike durable = record {
+  only = λ b c now left. durable.only b c (sym alike.now ∙ now) (alike.images c left);
+  stable = alike.stable ∙ (durable.stable ∙ sym alike.now);
+}
+
+module _ {D : Type 0} (told : D → View) where
+  durable_first : (old entry : List ℕ → View) (mine : List ℕ) (node : Stored D) (ms : List Member) → IsBack told old entry mine (Open node) → node.party.own ≡ mine → AreDurable entry ms
+      → (own : List ℕ) (x : Member) (t : Bool) → bytes_eq own node.party.own ≡ t → member_at own (member_of node ∷ ms) ≡ Some x → IsDurable (entry own)
+  durable_first old entry mine node ms back named rest own x true is at =
+      subst (λ (name : List ℕ). IsDurable (entry name)) (sym ((bytes_eq-Decides own node.party.own).0 is ∙ named)) (durable_alike (told node.disk) (entry mine) back.0 back.1.durable)
+  durable_first old entry mine node ms back named rest own x false is at = rest own x (sym (cond_not (bytes_eq own node.party.own) (Some (member_of node)) (member_at own ms) is) ∙ at)
+
+  durable_more : (old entry : List ℕ → View) (mine : List ℕ) (h : Held D) (ms : List Member) → IsBack told old entry mine h → IsIn told mine h → AreDurable entry ms → AreDurable entry (with_held h ms)
+  durable_more old entry mine (Open node) ms back is rest = λ own x at. durable_first old entry mine node ms back is.named rest own x (bytes_eq own node.party.own) refl at
+  durable_more old entry mine (Loose disk) ms back is rest = absurd is
+  durable_more old entry mine Out ms back is rest = absurd is
+
+  durable_back : (old entry : List ℕ → View) (seats : List (Seat D)) → AllBack told old entry seats → AreIn told seats → AreDurable entry (members seats)
+  durable_back old entry [] back all = λ own x at. absurd (cc at)
+  durable_back old entry (s ∷ seats) back all = durable_more old entry s.own s.held (members seats) back.0 all.0 (durable_back old entry seats back.1 all.1)
+
+  -- the start is shown by the parties that are set up
+  pub starts : (lines : List Line) (s : Scene D) (written : Option (List ℕ)) → AreIn told s.seats.items → members s.seats.items ≡ start_members lines → s.texts.items ≡ [] → s.facts ≡ []
+      → IsAt told written (start_course lines) s start_progress written
+  starts lines s written seated members_are texts_are facts_are = record {
+    shows = record { seated = seated; members_are = members_are; texts_are = texts_are; facts_are = facts_are };
+    now_is = refl;
+    out = nothing_yet written;
+  }
+    where
+      nothing_yet : (w : Option (List ℕ)) → AppendsTo w w []
+      nothing_yet None = tt
+      nothing_yet (Some xs) = ap Some (sym (append-nil xs))
+
+-- ---- the show lines behind the lines
+
+shown_some : (xs : List ℕ) (next final : Option (List ℕ)) (a text : List ℕ) → next ≡ Some (xs ++ a) → WrotePrefix next final text → (n : ℕ) × (final ≡ Some (xs ++ (a ++ take n text)))
+shown_some xs None final a text is part = absurd (cc is)
+shown_some xs (Some ys) final a text is part =
+    let y : ys ≡ xs ++ a = cc is in
+    (part.0, part.2 ∙ (ap (λ (l : List ℕ). Some (l ++ take part.0 text)) y ∙ ap Some (append_assoc xs a (take part.0 text))))
+
+shown_part : (start next final : Option (List ℕ)) (a text : List ℕ) → AppendsTo start next a → WrotePrefix next final text → (n : ℕ) × AppendsTo start final (a ++ take n text)
+shown_part None next final a text out part = (0, tt)
+shown_part (Some xs) next final a text out part = shown_some xs next final a text out part
+
+module _ {D : Type 0} (told : D → View) (low high : ℕ) (lines : List Line) (old new : Scene D) (p : Progress) (written next final : Option (List ℕ)) where
+  pub finishes : (q : Progress) (tally : Tally) → Plays told low high lines old new p q written next → IsTallied q (members new.seats.items) tally → AppendsTo next final (show_lines (members new.seats.items))
+      → Finishes told low high lines old new p written final tally
+  finishes q tally plays tallied shown = λ before after first last start c at.
+      let one = plays before after first last start c at in
+      record {
+        course = one.0;
+        leads = one.1;
+        shows = one.2.shows;
+        out = appends_more start next final one.0.transcript (show_lines one.0.world.members) one.2.out (subst (λ (ms : List Member). AppendsTo next final (show_lines ms)) one.2.shows.members_are shown);
+        tallied = subst (λ (r : Progress). IsTallied r one.0.world.members tally) (sym one.2.now_is) (subst (λ (ms : List Member). IsTallied q ms tally) one.2.shows.members_are tallied);
+      }
+
+  pub breaks_before : (entry : List ℕ → View) (why : Ending) → BreaksIn told entry low high lines old new p written final why → BreaksPlay told entry low high lines old new p written final why
+  breaks_before entry why breaks = λ before after first last start c at.
+      let b = breaks before after first last start c at in
+      (b.0, inl b.1)
+
+  break_of : (why : Ending) → IsWriteEnd why → IsBreak why
+  break_of (ending.Forged n) is = absurd is
+  break_of ending.Write is = tt
+  break_of (ending.Failed failure.Fault) is = absurd is
+  break_of (ending.Failed failure.NoMemory) is = tt
+  break_of (ending.Failed (failure.Damaged place)) is = absurd is
+
+  pub breaks_behind : (entry : List ℕ → View) (q : Progress) (why : Ending) → Plays told low high lines old new p q written next → IsWriteEnd why → WrotePrefix next final (show_lines (members new.seats.items))
+      → BreaksPlay told entry low high lines old new p written final why
+  breaks_behind entry q why plays end part = λ before after first last start c at.
+      let one = plays before after first last start c at in
+      let n = shown_part start next final one.0.transcript (show_lines one.0.world.members) one.2.out (subst (λ (ms : List Member). WrotePrefix next final (show_lines ms)) one.2.shows.members_are part) in (
+        break_of why end,
+        inr (record {
+          course = one.0;
+          leads = one.1;
+          stands = shown_stand told entry one.0.world new one.2.shows;
+          shown = n.0;
+          out = n.1;
+        }),
+      )
+
+-- no fault of a disk, and no forged event, comes of a writing
+pub no_fault : (e : Ending) → IsWriteEnd e → e ≡ ending.Failed failure.Fault → ⊥
+no_fault e is same = subst IsWriteEnd same is
+
+pub no_forged : (e : Ending) (n : ℕ) → IsWriteEnd e → e ≡ ending.Forged n → ⊥
+no_forged e n is same = subst IsWriteEnd same is
+
+-- ---- all disks are back on the shelf
+
+module _ {D : Type 0} (told : D → View) (mid entry : List ℕ → View) (before low high after : ℕ) (first : before ≤ low) (last : high ≤ after) (lines : List Line) (old new : Scene D) (start written : Option (List ℕ))
+    (at : IsAt told start (start_course lines) old start_progress start) (back : AllBack told mid entry new.seats.items) where
+  images : (w : World) → Shows told w new → AreOnShelf entry w.members
+  images w shows = stand_on_shelf told mid entry new.seats.items w.members back (shown_stand told mid w new shows)
+
+  durable : (w : World) → Shows told w new → AreDurable entry w.members
+  durable w shows = subst (AreDurable entry) shows.members_are (durable_back told mid entry new.seats.items back shows.seated)
+
+  abbrev s : Surroundings
+  s = around lines entry before after start written
+
+  finished : (tally : Tally) → Finishes told low high lines old new start_progress start written tally → IsPlayed s tally
+  finished tally finishes =
+      let f = finishes before after first last start (start_course lines) at in
+      record { course = f.course; leads = f.leads; images = images f.course.world f.shows; durable = durable f.course.world f.shows; out = f.out; tallied = f.tallied }
+
+  -- and one of them wasn't put back
+  finished_lost : (tally : Tally) → Finishes told low high lines old new start_progress start written tally → IsBrokenPlay s
+  finished_lost tally finishes =
+      let f = finishes before after first last start (start_course lines) at in
+      let all = show_lines f.course.world.members in
+      record {
+        front = lines;
+        back = [];
+        split = sym (append-nil lines);
+        course = f.course;
+        leads = f.leads;
+        broken = record {
+          images = images f.course.world f.shows;
+          shown = length all;
+          out = subst (λ (l : List ℕ). AppendsTo start written (f.course.transcript ++ l)) (sym (take-length all)) f.out;
+        };
+      }
+
+  forged : (n : ℕ) → ForgesIn told low high lines old new start_progress start written n → IsPlayedToForged s n
+  forged n forges =
+      let f = forges before after first last start (start_course lines) at in
+      record { course = f.0; forged = f.2; images = images f.0.world f.3.shows; durable = durable f.0.world f.3.shows; out = f.3.out }
+
+  forged_lost : (n : ℕ) → ForgesIn told low high lines old new start_progress start written n → IsBrokenPlay s
+  forged_lost n forges =
+      let f = forges before after first last start (start_course lines) at in
+      let c = f.0 in
+      record {
+        front = f.2.front;
+        back = f.2.line ∷ f.2.back;
+        split = f.2.split;
+        course = c;
+        leads = f.2.leads;
+        broken = record {
+          happening = f.2.forged.happening;
+          happens = inr (f.2.forged.happens, f.2.forged.formed);
+          event = no_event c.now.moment;
+          is = inl refl;
+          honest = quiet_honest c;
+          images = subst (λ (w : World). AreOnShelf entry w.members) (sym (nothing_done c.now.number c.world c.now.moment)) (images c.world f.3.shows);
+          part = [];
+          part_is = inl refl;
+          out = subst (AppendsTo start written) (sym (append-nil c.transcript)) f.3.out;
+        };
+      }
+
+  abbrev broken_by : (why : Ending) → IsBrokenIn told mid before after start lines (start_course lines) new written why ⊎ IsUnshown told mid before after start lines (start_course lines) new written → IsBrokenPlay s
+  broken_by why (inl i) = record {
+    front = i.front;
+    back = i.line ∷ i.back;
+    split = i.split;
+    course = i.mid;
+    leads = i.leads;
+    broken = record {
+      happening = i.happening;
+      happens = i.happens;
+      event = i.broken.event;
+      is = i.broken.is;
+      honest = i.broken.honest;
+      images = stand_on_shelf told mid entry new.seats.items (step i.mid.now.number i.mid.world i.broken.event).members back i.broken.stands;
+      part = i.broken.part;
+      part_is = i.broken.part_is;
+      out = i.broken.out;
+    };
+  }
+  broken_by why (inr u) = record {
+    front = lines;
+    back = [];
+    split = sym (append-nil lines);
+    course = u.course;
+    leads = u.leads;
+    broken = record { images = stand_on_shelf told mid entry new.seats.items u.course.world.members back u.stands; shown = u.shown; out = u.out };
+  }
+
+  broken : (why : Ending) → BreaksPlay told mid low high lines old new start_progress start written why → IsBrokenPlay s
+  broken why breaks = broken_by why (breaks before after first last start (start_course lines) at).1
+
+  -- where the sink failed
+  unwritten_by : IsBrokenIn told mid before after start lines (start_course lines) new written ending.Write ⊎ IsUnshown told mid before after start lines (start_course lines) new written → IsUnwritten s
+  unwritten_by (inl i) = record { play = broken_by ending.Write (inl i); done = i.broken.done refl }
+  unwritten_by (inr u) = record { play = broken_by ending.Write (inr u); done = tt }
+
+  unwritten : BreaksPlay told mid low high lines old new start_progress start written ending.Write → IsUnwritten s
+  unwritten breaks = unwritten_by (breaks before after first last start (start_course lines) at).1
+
+  undamaged : (place : ℕ) → BreaksPlay told mid low high lines old new start_progress start written (ending.Failed (failure.Damaged place)) → ⊥
+  undamaged place breaks = (breaks before after first last start (start_course lines) at).0
+
+  -- what is answered
+  pub concludes : (outcome : Result Tally Ending) (put : Result Unit Failure) → ((place : ℕ) → put ≡ Err (failure.Damaged place) → ⊥) → IfOk outcome (λ tally. Finishes told low high lines old new start_progress start written tally)
+      → ((n : ℕ) → outcome ≡ Err (ending.Forged n) → ForgesIn told low high lines old new start_progress start written n)
+      → ((why : Ending) → outcome ≡ Err why → ((n : ℕ) → why ≡ ending.Forged n → ⊥) → BreaksPlay told mid low high lines old new start_progress start written why)
+      → IsPlayOn s (answer_of (end_of outcome put))
+  concludes (Ok tally) (Ok done) sound f g b = finished tally f
+  concludes (Ok tally) (Err failure.Fault) sound f g b = finished_lost tally f
+  concludes (Ok tally) (Err failure.NoMemory) sound f g b = finished_lost tally f
+  concludes (Ok tally) (Err (failure.Damaged place)) sound f g b = absurd (sound place refl)
+  concludes (Err (ending.Forged n)) (Ok done) sound f g b = forged n (g n refl)
+  concludes (Err (ending.Forged n)) (Err failure.Fault) sound f g b = forged_lost n (g n refl)
+  concludes (Err (ending.Forged n)) (Err failure.NoMemory) sound f g b = forged_lost n (g n refl)
+  concludes (Err (ending.Forged n)) (Err (failure.Damaged place)) sound f g b = absurd (sound place refl)
+  concludes (Err ending.Write) put sound f g b = unwritten (b ending.Write refl (λ n is. absurd (cc is)))
+  concludes (Err (ending.Failed failure.Fault)) put sound f g b = broken (ending.Failed failure.Fault) (b (ending.Failed failure.Fault) refl (λ n is. absurd (cc is)))
+  concludes (Err (ending.Failed failure.NoMemory)) put sound f g b = broken (ending.Failed failure.NoMemory) (b (ending.Failed failure.NoMemory) refl (λ n is. absurd (cc is)))
+  concludes (Err (ending.Failed (failure.Damaged place))) put sound f g b = absurd (undamaged place (b (ending.Failed (failure.Damaged place)) refl (λ n is. absurd (cc is))))

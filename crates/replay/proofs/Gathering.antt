@@ -1,0 +1,139 @@
+-- The parties of open disks, one after another: their lines and their records.
+use Rattle.std.proofs.Common.{◌≡◌, ◌⊎◌, inl, inr, ℕ, ◌+◌, ◌<◌, ◌≤◌, Bool, true, false, cond, List, [], ◌∷◌, ◌++◌, length, get_or, take, drop, Option, Some, None, slice_get, refl, sym, ◌∙◌, ap, subst, arith, append_assoc, length-append, take-append-drop}
+use Rattle.std.specs.Option.{option_map_or}
+use Rattle.std.proofs.Math.Seq.{take-append-add}
+use Rattle.std.proofs.lemmas.List.{append-nil, take_more, take-append-le}
+use Rattle.std.proofs.lemmas.List.Sums.{sum_by-append, sum_by_more}
+use Rattle.std.proofs.lemmas.Option.{slice_get_cases}
+use Rattle.x_base.specs.Edge.{AppendsTo}
+use Rattle.party_state.specs.declared.key.KeyRec.{KeyRec}
+use Rattle.party_state.specs.declared.key.KeyStatus.{KeyStatus}
+use Rattle.party_state.specs.State.{Party}
+use Rattle.party_state.specs.Show.{shown}
+use Rattle.world_laws.specs.World.{Member}
+use Rattle.world_laws.specs.Nodes.{member_of}
+use Rattle.replay.specs.Playing.{is_status, one_with, count_status, records_of}
+use Rattle.replay.specs.Seats.{with_held, members}
+use Rattle.replay.specs.Showing.{HoldsParty}
+use Rattle.replay.specs.Transcript.{show_lines}
+use Rattle.replay.specs.Writing.{WrotePrefix}
+use Rattle.replay.specs.declared.seat.Seat.{Seat}
+use Rattle.replay.specs.declared.seat.Held.{Held}
+use Rattle.replay.specs.declared.seat.Held.TheVariants.{Open, Loose, Out}
+use Rattle.replay.proofs.Leading.{appends_more}
+
+-- what is gathered of one member after another
+module _ {A : Type 0} (of : Member → List A) (all : List Member → List A) (none : all [] ≡ []) (one : (x : Member) (ms : List Member) → all (x ∷ ms) ≡ of x ++ all ms) where
+  gather-append : (a b : List Member) → all (a ++ b) ≡ all a ++ all b
+  gather-append [] b = ap (λ (l : List A). l ++ all b) (sym none)
+  gather-append (x ∷ a) b =
+      one x (a ++ b)
+      ∙ (ap (λ (l : List A). of x ++ l) (gather-append a b) ∙ (sym (append_assoc (of x) (all a) (all b)) ∙ ap (λ (l : List A). l ++ all b) (sym (one x a))))
+
+  gather-push : (a : List Member) (x : Member) → all (a ++ x ∷ []) ≡ all a ++ of x
+  gather-push a x = gather-append a (x ∷ []) ∙ ap (λ (l : List A). all a ++ l) (one x [] ∙ (ap (λ (l : List A). of x ++ l) none ∙ append-nil (of x)))
+
+members-append : {D : Type 0} (a b : List (Seat D)) → members (a ++ b) ≡ members a ++ members b
+members-append [] b = refl
+members-append {D = D} (s ∷ a) b = go s.held (members-append a b)
+  where
+    go : (h : Held D) → members (a ++ b) ≡ members a ++ members b → with_held h (members (a ++ b)) ≡ with_held h (members a) ++ members b
+    go (Open node) is = ap (λ (l : List Member). member_of node ∷ l) is
+    go (Loose disk) is = is
+    go Out is = is
+
+-- the member of an open disk, whose party this is
+record MemberIn {D : Type 0} (h : Held D) (p : Party) : Type 0 where
+  member : Member
+  is : with_held h [] ≡ member ∷ []
+  party_is : member.party ≡ p
+
+member_in : {D : Type 0} (h : Held D) (p : Party) → HoldsParty h p → MemberIn h p
+member_in (Open node) p is = record { member = member_of node; is = refl; party_is = sym is }
+member_in (Loose disk) p is = absurd is
+member_in Out p is = absurd is
+
+-- what is gathered of one seat more
+module _ {A D : Type 0} (of : Member → List A) (all : List Member → List A) (none : all [] ≡ []) (one : (x : Member) (ms : List Member) → all (x ∷ ms) ≡ of x ++ all ms) where
+  seats_more : (seats : List (Seat D)) (place : ℕ) (s : Seat D) (p : Party) → place < length seats → s ≡ get_or seats place s → HoldsParty s.held p
+      → (x : Member) × (x.party ≡ p) × (all (members (take (place + 1) seats)) ≡ all (members (take place seats)) ++ of x)
+  seats_more seats place s p lt read holds =
+      let m : MemberIn s.held p = member_in s.held p holds in
+      let cut : take (place + 1) seats ≡ take place seats ++ s ∷ [] = take_more seats place s lt ∙ ap (λ (y : Seat D). take place seats ++ y ∷ []) (sym read) in
+      let split : members (take (place + 1) seats) ≡ members (take place seats) ++ m.member ∷ [] =
+      ap members cut ∙ (members-append (take place seats) (s ∷ []) ∙ ap (λ (l : List Member). members (take place seats) ++ l) m.is) in
+      (m.member, m.party_is, ap all split ∙ gather-push of all none one (members (take place seats)) m.member)
+
+-- the show lines
+
+abbrev lines_of : Member → List ℕ
+lines_of x = shown x.party
+
+wrote_some : (xs : List ℕ) (mid after : Option (List ℕ)) (a b rest : List ℕ) → mid ≡ Some (xs ++ a) → WrotePrefix mid after b → (n : ℕ) × (n ≤ length (a ++ (b ++ rest))) × (after ≡ Some (xs ++ take n (a ++ (b ++ rest))))
+wrote_some xs None after a b rest is more = absurd (cc is)
+wrote_some xs (Some ys) after a b rest is more =
+    let y : ys ≡ xs ++ a = cc is in
+    let n = more.0 in
+    let within : n ≤ length b = more.1 in
+    let cut : take (length a + n) (a ++ (b ++ rest)) ≡ a ++ take n b = take-append-add a (b ++ rest) n ∙ ap (λ (l : List ℕ). a ++ l) (take-append-le n b rest within) in (
+      length a + n,
+      omega (arith, within, length-append a (b ++ rest), length-append b rest),
+      more.2 ∙ (ap (λ (l : List ℕ). Some (l ++ take n b)) y ∙ (ap Some (append_assoc xs a (take n b)) ∙ ap (λ (l : List ℕ). Some (xs ++ l)) (sym cut))),
+    )
+
+wrote_more : (before mid after : Option (List ℕ)) (a b rest : List ℕ) → AppendsTo before mid a → WrotePrefix mid after b → WrotePrefix before after (a ++ (b ++ rest))
+wrote_more None mid after a b rest first more = tt
+wrote_more (Some xs) mid after a b rest first more = wrote_some xs mid after a b rest first more
+
+module _ {D : Type 0} (seats : List (Seat D)) (place : ℕ) (s : Seat D) (p : Party) (lt : place < length seats) (read : s ≡ get_or seats place s) (holds : HoldsParty s.held p) where
+  lines_more : show_lines (members (take (place + 1) seats)) ≡ show_lines (members (take place seats)) ++ shown p
+  lines_more =
+      let m = seats_more lines_of show_lines refl (λ x ms. refl) seats place s p lt read holds in
+      m.2 ∙ ap (λ (q : Party). show_lines (members (take place seats)) ++ shown q) m.1
+
+  pub shows_more : (before mid after : Option (List ℕ)) → AppendsTo before mid (show_lines (members (take place seats))) → AppendsTo mid after (shown p) → AppendsTo before after (show_lines (members (take (place + 1) seats)))
+  shows_more before mid after first more = subst (AppendsTo before after) (sym lines_more) (appends_more before mid after (show_lines (members (take place seats))) (shown p) first more)
+
+  pub shows_part : (before mid after : Option (List ℕ)) → AppendsTo before mid (show_lines (members (take place seats))) → WrotePrefix mid after (shown p) → WrotePrefix before after (show_lines (members seats))
+  shows_part before mid after first more =
+      let rest = show_lines (members (drop (place + 1) seats)) in
+      let whole : show_lines (members seats) ≡ show_lines (members (take place seats)) ++ (shown p ++ rest) =
+      ap (λ (l : List (Seat D)). show_lines (members l)) (sym (take-append-drop (place + 1) seats))
+      ∙ (ap show_lines (members-append (take (place + 1) seats) (drop (place + 1) seats))
+      ∙ (gather-append lines_of show_lines refl (λ x ms. refl) (members (take (place + 1) seats)) (members (drop (place + 1) seats))
+      ∙ (ap (λ (l : List ℕ). l ++ rest) lines_more ∙ append_assoc (show_lines (members (take place seats))) (shown p) rest))) in
+      subst (WrotePrefix before after) (sym whole) (wrote_more before mid after (show_lines (members (take place seats))) (shown p) rest first more)
+
+  -- the records
+  keys_more : (status : KeyStatus) → count_status status (records_of (members (take (place + 1) seats))) ≡ count_status status (records_of (members (take place seats))) + count_status status p.keys
+  keys_more status =
+      let m = seats_more (λ (x : Member). x.party.keys) records_of refl (λ x ms. refl) seats place s p lt read holds in
+      ap (count_status status) (m.2 ∙ ap (λ (q : Party). records_of (members (take place seats)) ++ q.keys) m.1)
+      ∙ sum_by-append (one_with status) (records_of (members (take place seats))) p.keys
+
+  pub keys_counted : (status : KeyStatus) (count here : ℕ) → count ≡ count_status status (records_of (members (take place seats))) → here ≡ count_status status p.keys
+      → count + here ≡ count_status status (records_of (members (take (place + 1) seats)))
+  keys_counted status count here so_far is =
+      ap (λ (n : ℕ). n + here) so_far ∙ (ap (λ (n : ℕ). count_status status (records_of (members (take place seats))) + n) is ∙ sym (keys_more status))
+
+-- one record more
+pub records_more : (status : KeyStatus) (records : List KeyRec) (i one : ℕ) → i < length records → one ≡ option_map_or (one_with status) (slice_get records i) 0
+    → count_status status (take (i + 1) records) ≡ count_status status (take i records) + one
+records_more status records i one lt is = go (slice_get_cases records i).1
+  where
+    go : ((x : KeyRec) × (i < length records) × (slice_get records i ≡ Some x) × (get_or records i x ≡ x)) ⊎ ((length records ≤ i) × (slice_get records i ≡ None))
+        → count_status status (take (i + 1) records) ≡ count_status status (take i records) + one
+    go (inl w) =
+        let there : one ≡ one_with status w.0 = is ∙ ap (λ (o : Option KeyRec). option_map_or (one_with status) o 0) w.2 in
+        let more : count_status status (take (i + 1) records) ≡ count_status status (take i records) + one_with status (get_or records i w.0) = sum_by_more (one_with status) records i w.0 lt in
+        more ∙ ap (λ (n : ℕ). count_status status (take i records) + n) (ap (one_with status) w.3 ∙ sym there)
+    go (inr past) = absurd (omega (arith, lt, past.0))
+
+-- none or one
+pub one_at_most : (status : KeyStatus) (o : Option KeyRec) → option_map_or (one_with status) o 0 ≤ 1
+one_at_most status None = omega arith
+one_at_most status (Some k) = go (is_status status k.status)
+  where
+    go : (b : Bool) → cond b 1 0 ≤ 1
+    go true = omega arith
+    go false = omega arith

@@ -1,0 +1,167 @@
+-- An event that breaks off, or whose lines aren't all written, is one of the network.
+use Rattle.std.proofs.Common.{arith, ◌≡◌, inl, inr, ℕ, ◌+◌, List, [], ◌++◌, length, take, Option, Some, None, slice_get, refl, sym, ◌∙◌, ap, ap₂, subst}
+use Rattle.std.proofs.lemmas.List.{append-nil}
+use Rattle.x_base.specs.Edge.{AppendsTo}
+use Rattle.x_disk.specs.Disk.{View}
+use Rattle.party_state.specs.declared.command.Input.{Input}
+use Rattle.party_state.specs.declared.command.Input.TheVariants as input
+use Rattle.world_laws.specs.World.{World, Member, member_at}
+use Rattle.world_laws.specs.Events.{Action, Orders, Hears, Event}
+use Rattle.world_laws.specs.Honest.{HonestAt}
+use Rattle.world_laws.specs.Steps.{step, step_at}
+use Rattle.replay.specs.Acting.{HonestInput, Acts}
+use Rattle.replay.specs.Breaking.{StandForAll, IsEventOf, IsBreak, BreaksEvent}
+use Rattle.replay.specs.Breaks.{IsBrokenAct, BreaksOff, BreaksHonest, BreaksAct}
+use Rattle.replay.specs.Course.{Course, no_event, event_at, IsDoneBy, IsDone}
+use Rattle.replay.specs.Failing.{IsFailing}
+use Rattle.replay.specs.Happenings.{Happening, Nothing, At, IsNumbered}
+use Rattle.replay.specs.Outcomes.{input_in}
+use Rattle.replay.specs.Scene.{Shows, world_after_told}
+use Rattle.replay.specs.Seats.{IsPlace}
+use Rattle.replay.specs.Transcript.{outcome_line, text_line, event_lines, written_between}
+use Rattle.replay.specs.Writing.{WrotePrefix}
+use Rattle.replay.specs.declared.act.Act.{Act}
+use Rattle.replay.specs.declared.act.Act.TheVariants as act
+use Rattle.replay.specs.declared.failure.Ending.{Ending}
+use Rattle.replay.specs.declared.failure.Ending.TheVariants as ending
+use Rattle.replay.specs.declared.failure.Failure.{Failure}
+use Rattle.replay.specs.declared.failure.Failure.TheVariants as failure
+use Rattle.replay.specs.declared.progress.Outcome.{Outcome}
+use Rattle.replay.specs.declared.progress.Progress.{Progress}
+use Rattle.replay.specs.declared.scene.Scene.{Scene}
+use Rattle.replay.proofs.Breakage.{shown_stand}
+use Rattle.replay.proofs.Happened.{told_action, honest_action}
+use Rattle.replay.proofs.Leading.{appends_more}
+use Rattle.replay.proofs.Running.{quiet_honest}
+
+module _ {D : Type 0} (told : D → View) (entry : List ℕ → View) (old new : Scene D) where
+  -- an honest event broke off
+  pub breaks_honest : (place : ℕ) (i : Option Input) (moment : ℕ) (why : Failure)
+      → ((w : World) (own : List ℕ) → IsPlace old.seats.items own place → Shows told w old → (x : Member) × (member_at own w.members ≡ Some x) × HonestInput w.facts x.party i)
+      → BreaksOff told entry old new place i moment why → BreaksHonest told entry old new place i moment why
+  breaks_honest place i moment why honest breaks = λ w n own is_place shows.
+      let h = honest w own is_place shows in
+      let b = breaks w n own is_place shows in
+      let one : Some h.0 ≡ Some b.1.member = sym h.1 ∙ b.1.at in
+      let same : h.0 ≡ b.1.member = cc one in
+      (b.0, b.1, subst (λ (x : Member). HonestInput w.facts x.party i) same h.2)
+
+  module _ (now : Progress) (why : Failure) where
+    broken_act : (party : List ℕ) (place number : ℕ) (action : Action) → IsNumbered action number → IsPlace old.seats.items party place → BreaksHonest told entry old new place (input_in action) now.moment why
+        → (c : Course) → c.now ≡ now → Shows told c.world old → IsFailing why × IsBrokenAct told entry c new.seats.items (At party action)
+    broken_act party place number action numbered is_place breaks c is shows =
+        let b = breaks c.world c.now.number party is_place shows in
+        let moment : now.moment ≡ c.now.moment = sym (ap (λ (q : Progress). q.moment) is) in
+        let event = event_at party c.now.moment action b.1.completion in
+        let world_is : step c.now.number c.world event ≡ world_after_told c.now.number c.world b.1.member (input_in action) now.moment b.1.completion =
+        ap (λ (m : Option Member). step_at c.now.number c.world event m) b.1.at
+        ∙ (told_action c.now.number c.world b.1.member c.now.moment number b.1.completion action numbered
+        ∙ ap (λ (m : ℕ). world_after_told c.now.number c.world b.1.member (input_in action) m b.1.completion) (sym moment)) in (
+          b.0,
+          record {
+            event = event;
+            is = inr refl;
+            honest = subst (λ (m : Option Member). HonestAt c.world.facts m action) (sym b.1.at) (honest_action c.world.facts b.1.member.party number action numbered b.2);
+            stands = subst (λ (u : World). StandForAll told entry new.seats.items u.members) (sym world_is) b.1.stands;
+          },
+        )
+
+    pub told_act : (party : List ℕ) (place : ℕ) (i : Input) → IsPlace old.seats.items party place → BreaksHonest told entry old new place (Some i) now.moment why → BreaksAct told entry (act.Tell party i) old new now why
+    told_act party place (input.Ordered command) is_place breaks = λ c h is shows means.
+        subst (λ (k : Happening). IsFailing why × IsBrokenAct told entry c new.seats.items k) (sym means) (broken_act party place 0 (Orders command) tt is_place breaks c is shows)
+    told_act party place (input.Arrived a) is_place breaks = λ c h is shows means.
+        subst (λ (k : Happening). IsFailing why × IsBrokenAct told entry c new.seats.items k) (sym means.1) (broken_act party place 0 (Hears means.0 (Some a)) tt is_place breaks c is shows)
+
+    pub refused_act : (party : List ℕ) (place number : ℕ) → IsPlace old.seats.items party place → BreaksHonest told entry old new place None now.moment why → BreaksAct told entry (act.Refuse party number) old new now why
+    refused_act party place number is_place breaks = λ c h is shows means.
+        subst (λ (k : Happening). IsFailing why × IsBrokenAct told entry c new.seats.items k) (sym means.4) (broken_act party place number (Hears means.0 None) (means.1, means.2, means.3) is_place breaks c is shows)
+
+break_of : (why : Failure) → IsFailing why → IsBreak (ending.Failed why)
+break_of failure.Fault fails = tt
+break_of failure.NoMemory fails = tt
+break_of (failure.Damaged place) fails = absurd fails
+
+-- an event that is done is of what happens, or is none, and is honest
+record IsFair (c : Course) (h : Happening) (e : Event) : Type 0 where
+  pub is : IsEventOf c.now.moment h e
+  pub honest : HonestAt c.world.facts (member_at e.party c.world.members) e.action
+
+none_fair : (c : Course) (h : Happening) (e : Event) → e ≡ no_event c.now.moment → IsFair c h e
+none_fair c h e is = record {
+  is = inl is;
+  honest = subst (λ (d : Event). HonestAt c.world.facts (member_at d.party c.world.members) d.action) (sym is) (quiet_honest c);
+}
+
+fair_by : (before after : ℕ) (c : Course) (h : Happening) (e : Event) (o : Outcome) → IsDone before after c h e o → IsFair c h e
+fair_by before after c Nothing e o done = none_fair c Nothing e done.0
+fair_by before after c (At own action) e o done = go (member_at own c.world.members) refl done
+  where
+    go : (m : Option Member) → member_at own c.world.members ≡ m → IsDoneBy before after c own m action e o → IsFair c (At own action) e
+    go None is d = none_fair c (At own action) e d.0
+    go (Some x) is d = subst (IsFair c (At own action)) (sym d.is) (record {
+      is = inr refl;
+      honest = subst (λ (m : Option Member). HonestAt c.world.facts m action) (sym is) d.honest;
+    })
+
+-- of a text a part was written
+record IsPart (written next : Option (List ℕ)) (text : List ℕ) : Type 0 where
+  pub part : List ℕ
+  pub count : ℕ
+  pub of_text : part ≡ take count text
+  pub out : AppendsTo written next part
+
+part_by : (written next : Option (List ℕ)) (text : List ℕ) → WrotePrefix written next text → IsPart written next text
+part_by None next text wrote = record { part = take 0 text; count = 0; of_text = refl; out = tt }
+part_by (Some xs) next text wrote = record { part = take wrote.0 text; count = wrote.0; of_text = refl; out = wrote.2 }
+
+pub wrote_none : (written : Option (List ℕ)) (text : List ℕ) → WrotePrefix written written text
+wrote_none None text = tt
+wrote_none (Some xs) text = (0, omega arith, ap Some (sym (append-nil xs)))
+
+module _ {D : Type 0} (told : D → View) (entry : List ℕ → View) (low high : ℕ) (old new : Scene D) (p : Progress) (written next : Option (List ℕ)) where
+  -- an event broke off, and nothing of its lines was written
+  pub event_breaks : (a : Act) (why : Failure) → BreaksAct told entry a old new p why → BreaksEvent told entry low high a old new p written written (ending.Failed why)
+  event_breaks a why breaks = λ before after first last start c h at means.
+      let b = breaks c h at.now_is at.shows means in (
+        break_of why b.0,
+        record {
+          event = b.1.event;
+          is = b.1.is;
+          honest = b.1.honest;
+          stands = b.1.stands;
+          part = [];
+          part_is = inl refl;
+          done = λ write. absurd (cc write);
+          out = subst (AppendsTo start written) (sym (append-nil c.transcript)) at.out;
+        },
+      )
+
+  -- an event was done, and a part of its lines was written
+  pub lines_break : (a : Act) (o : Outcome) (k : ℕ) (text : Option (List ℕ)) (why : Ending) → Acts told low high a old new p o → k ≡ length old.texts.items → text ≡ slice_get new.texts.items k → IsBreak why
+      → WrotePrefix written next (outcome_line p.number o ++ text_line (k + 1) text) → BreaksEvent told entry low high a old new p written next why
+  lines_break a o k text why acts k_is text_is is_break wrote = λ before after first last start c h at means.
+      let m = acts before after first last c h at.now_is at.shows means in
+      let count : k ≡ length c.world.texts = k_is ∙ ap length at.shows.texts_are in
+      let behind : text ≡ written_between c.world.texts (step c.now.number c.world m.event).texts = text_is ∙ ap₂ (λ (l : List (List ℕ)) (n : ℕ). slice_get l n) m.shows.texts_are count in
+      let lines : outcome_line p.number o ++ text_line (k + 1) text ≡ event_lines c.now.number o c.world.texts (step c.now.number c.world m.event).texts =
+      ap₂ (λ (l r : List ℕ). l ++ r) (ap (λ (x : Progress). outcome_line x.number o) (sym at.now_is)) (ap₂ (λ (n : ℕ) (t : Option (List ℕ)). text_line (n + 1) t) count behind) in
+      let w : IsPart written next (event_lines c.now.number o c.world.texts (step c.now.number c.world m.event).texts) = part_by written next (event_lines c.now.number o c.world.texts (step c.now.number c.world m.event).texts) (subst (WrotePrefix written next) lines wrote) in
+      let fair : IsFair c h m.event = fair_by before after c h m.event o m.done in (
+        is_break,
+        record {
+          event = m.event;
+          is = fair.is;
+          honest = fair.honest;
+          stands = shown_stand told entry (step c.now.number c.world m.event) new m.shows;
+          part = w.part;
+          part_is = inr (o, w.count, m.done, w.of_text);
+          done = λ write. (o, w.count, m.done, w.of_text);
+          out = appends_more start written next c.transcript w.part at.out w.out;
+        },
+      )
+
+  -- an event broke off, and wasn't forged
+  pub act_breaks : (a : Act) (why : Ending) → ((n : ℕ) → why ≡ ending.Forged n → ⊥) → (why ≡ ending.Write → ⊥) → ((f : Failure) → why ≡ ending.Failed f → BreaksAct told entry a old new p f) → BreaksEvent told entry low high a old new p written written why
+  act_breaks a (ending.Forged n) unforged written_whole breaks = absurd (unforged n refl)
+  act_breaks a ending.Write unforged written_whole breaks = absurd (written_whole refl)
+  act_breaks a (ending.Failed f) unforged written_whole breaks = event_breaks a f (breaks f refl)

@@ -1,0 +1,37 @@
+use Rattle.std.proofs.Common.{◌++◌, ◌∷◌, [], List, ap, sym, ◌∙◌, subst, refl}
+use Rattle.party_state.specs.Limits.{StaysWithinLimits}
+use Rattle.party_state.specs.declared.edit.Edit.{Edit}
+use Rattle.party_state.specs.declared.edit.Edit.TheVariants.{PutLink}
+use Rattle.key_store.specs.Keeping.{IsKeeping}
+use Rattle.key_store.specs.declared.store.Kept.TheVariants as kept
+use Rattle.replay.proofs.Begun.{short_load, stays_within, loads_one, lost_broken, lost_memory}
+use Rattle.replay.proofs.making.load_link.Goals as goal
+
+pub returns-in-Err-clause-lost : goal.returns-in-Err-clause-lost
+returns-in-Err-clause-lost g c =
+    lost_memory g.D.Disk.told c.args.store c.view.ensures.stands (c.args.link ∷ []) c.args.store c.into_disk.result refl c.into_disk.ensures.disk
+
+pub keep-requires-clause-within : goal.keep-requires-clause-within
+keep-requires-clause-within g c =
+    let is = c.in-Ok.ensures.appends ∙ ap (λ (es : List Edit). es ++ PutLink c.args.link ∷ []) c.new-change.ensures in
+    subst (λ (es : List Edit). StaysWithinLimits es c.args.store.party) (sym is) (stays_within g.D.Disk.told c.args.store c.args.link c.view.ensures.stands.within c.requires.place)
+
+pub returns-in-Done-clause-load : goal.returns-in-Done-clause-load
+returns-in-Done-clause-load g c =
+    let told = g.D.Disk.told in
+    let is = c.in-Ok.ensures.appends ∙ ap (λ (es : List Edit). es ++ PutLink c.args.link ∷ []) c.new-change.ensures in
+    loads_one told c.args.store c.args.link c.in-Done.store (short_load told c.args.store c.args.link c.push.new.self is c.law_short_code.ensures)
+    (subst (λ (es : List Edit). IsKeeping told c.args.store es (kept.Done c.in-Done.store)) is c.in-Done.ensures)
+
+pub returns-in-NoMemory-clause-lost : goal.returns-in-NoMemory-clause-lost
+returns-in-NoMemory-clause-lost g c =
+    let s = c.in-NoMemory.store in
+    lost_memory g.D.Disk.told c.args.store c.view.ensures.stands (c.args.link ∷ []) s c.into_disk-in-NoMemory.result (c.in-NoMemory.ensures.memory s refl) c.into_disk-in-NoMemory.ensures.disk
+
+pub returns-clause-lost : goal.returns-clause-lost
+returns-clause-lost g c =
+    let told = g.D.Disk.told in
+    let b = c.in-Broken.broken in
+    let is = c.in-Ok.ensures.appends ∙ ap (λ (es : List Edit). es ++ PutLink c.args.link ∷ []) c.new-change.ensures in
+    lost_broken told c.args.store c.args.link b c.give_up-disk.result.disk c.give_up-disk.result.cause c.failure_by.result c.give_up-disk.ensures.disk c.give_up-disk.ensures.cause c.failure_by.ensures.fault c.failure_by.ensures.failing (g.met.D.Disk.sound b.disk)
+    (subst (λ (es : List Edit). IsKeeping told c.args.store es (kept.Broken b)) is c.in-Broken.ensures)

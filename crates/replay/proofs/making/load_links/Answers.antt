@@ -1,0 +1,16 @@
+use Rattle.std.proofs.lemmas.Result.{err_from_is_err_and}
+use Rattle.replay.proofs.Completed.{can_load, loaded_more, partly_more}
+use Rattle.replay.proofs.making.load_links.Goals as goal
+
+pub load_line-requires : goal.load_line-requires
+load_line-requires g c =
+    can_load g.D.Disk.told c.args.store c.args.own.now c.args.lines.now c.loop-line.line-index c.line-item.result c.loop-line-test.true c.line-item.is c.loop-line.loaded c.loop-line.invariant c.requires.rules c.requires.room
+
+pub loop-line-preserved : goal.loop-line-preserved
+loop-line-preserved g c =
+    loaded_more g.D.Disk.told c.args.store c.args.own.now c.args.lines.now c.loop-line.line-index c.line-item.result c.loop-line-test.true c.line-item.is c.loop-line.loaded c.loop-line.invariant c.in_ok-loaded.loaded c.in_ok-loaded.ensures.load
+
+pub returns-in_err-loaded-clause-lost : goal.returns-in_err-loaded-clause-lost
+returns-in_err-loaded-clause-lost g c =
+    let p = err_from_is_err_and c.from_residual.result c.from_residual.ensures.1 in
+    rw (p.1, p.2) (partly_more g.D.Disk.told c.args.store c.args.own.now c.args.lines.now c.loop-line.line-index c.line-item.result c.loop-line-test.true c.line-item.is c.loop-line.loaded c.loop-line.invariant (g.D.Disk.told c.in_err-loaded.field-0.0.disk) c.in_err-loaded.field-0.0.why c.in_err-loaded.ensures.lost)

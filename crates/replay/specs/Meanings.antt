@@ -1,0 +1,41 @@
+-- What is to be done at a line (this project's profile).
+use Rattle.std.specs.Prelude.{ℕ, List, Option, Some, None}
+use Rattle.party_state.specs.declared.command.Command.{Command}
+use Rattle.party_state.specs.declared.command.Command.TheVariants as command
+use Rattle.scenario.specs.declared.line.Line.{Line}
+use Rattle.scenario.specs.declared.line.Line.TheVariants as line
+use Rattle.replay.specs.Acting.{Means}
+use Rattle.replay.specs.Happenings.{Happening, Happens, IsFormed}
+use Rattle.replay.specs.declared.act.Act.{Act}
+
+-- this is to be done for a happening of which this holds
+abbrev pub MeantBy : (Happening → Type 0) → Act → Type 0
+MeantBy holds a = (h : Happening) × holds h × IsFormed h × Means a h
+
+-- this is to be done at a line that is an event, where these texts were written
+abbrev pub IsMeant : Line → List (List ℕ) → Act → Type 0
+IsMeant l texts a = MeantBy (Happens l texts) a
+
+-- the party and its command, of a line that gives one
+abbrev pub order_in : Line → Option (List ℕ × Command)
+order_in (line.Start party peer label) = Some (party, command.Start peer label)
+order_in (line.StartKk party peer label new single) = Some (party, command.StartKk peer (Some label) new single)
+order_in (line.Ask party peer ultimate) = Some (party, command.Ask peer ultimate)
+order_in (line.Translate party centre ultimate) = Some (party, command.Translate centre ultimate)
+order_in (line.Resend party peer) = Some (party, command.Resend peer)
+order_in (line.End party peer name) = Some (party, command.End peer name)
+order_in (line.Drop party peer) = Some (party, command.Drop peer)
+order_in (line.Purge party) = Some (party, command.Purge)
+order_in l = None
+
+-- a line that gives no command
+abbrev pub IsNoOrder : Line → Type 0
+IsNoOrder (line.Start party peer label) = ⊥
+IsNoOrder (line.StartKk party peer label new single) = ⊥
+IsNoOrder (line.Ask party peer ultimate) = ⊥
+IsNoOrder (line.Translate party centre ultimate) = ⊥
+IsNoOrder (line.Resend party peer) = ⊥
+IsNoOrder (line.End party peer name) = ⊥
+IsNoOrder (line.Drop party peer) = ⊥
+IsNoOrder (line.Purge party) = ⊥
+IsNoOrder l = Unit {0}

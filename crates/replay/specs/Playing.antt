@@ -1,0 +1,173 @@
+-- What the playing of a scenario answers, and what it leaves (this project's profile).
+use Rattle.std.specs.Prelude.{◌≡◌, ◌⊎◌, ◌+◌, ◌++◌, ℕ, Bool, true, false, List, [], ◌∷◌, cond, take, Option, Some}
+use Rattle.std.specs.List.{sum_by}
+use Rattle.x_base.specs.Edge.{AppendsTo}
+use Rattle.x_disk.specs.Disk.{View, IsDurable}
+use Rattle.party_state.specs.declared.key.KeyRec.{KeyRec}
+use Rattle.party_state.specs.declared.key.KeyStatus.{KeyStatus}
+use Rattle.party_state.specs.declared.key.KeyStatus.TheVariants.{Pending, Live, Held, Closing, Ended}
+use Rattle.scenario.specs.declared.line.Line.{Line}
+use Rattle.world_laws.specs.World.{Member, member_at}
+use Rattle.world_laws.specs.Events.{Event}
+use Rattle.world_laws.specs.Steps.{step}
+use Rattle.world_laws.specs.Honest.{HonestAt}
+use Rattle.replay.specs.Breaking.{AreOnShelf, IsEventOf, IsPartDone, IsPartOf, HappensOr}
+use Rattle.replay.specs.Course.{Course, Leads}
+use Rattle.replay.specs.Happenings.{Happening}
+use Rattle.replay.specs.Lines.{IsForgedIn}
+use Rattle.replay.specs.SettingUp.{parties_in, AllReadBlank, IsSetUpEnd}
+use Rattle.replay.specs.Starts.{start_course}
+use Rattle.replay.specs.Transcript.{show_lines}
+use Rattle.replay.specs.declared.failure.Failure.{Failure}
+use Rattle.replay.specs.declared.making.SetUpEnd.TheVariants.{NotEmpty, Failed}
+use Rattle.replay.specs.declared.progress.Progress.{Progress}
+use Rattle.replay.specs.declared.tally.Tally.{Tally}
+use Rattle.replay.specs.declared.tally.PlayResult.{PlayResult}
+use Rattle.replay.specs.declared.tally.PlayResult.TheVariants as played
+
+-- a crash leaves of the disk under each member's identity what a read gives
+abbrev pub AreDurable : (List ℕ → View) → List Member → Type 0
+AreDurable entry members = (own : List ℕ) (x : Member) → member_at own members ≡ Some x → IsDurable (entry own)
+
+-- the key records of all members
+abbrev pub records_of : List Member → List KeyRec
+records_of [] = []
+records_of (x ∷ members) = x.party.keys ++ records_of members
+
+abbrev pub is_status : KeyStatus → KeyStatus → Bool
+is_status Pending Pending = true
+is_status Live Live = true
+is_status Held Held = true
+is_status Closing Closing = true
+is_status Ended Ended = true
+is_status a b = false
+
+abbrev pub one_with : KeyStatus → KeyRec → ℕ
+one_with status k = cond (is_status status k.status) 1 0
+
+-- how many of the records have this status
+abbrev pub count_status : KeyStatus → List KeyRec → ℕ
+count_status status records = sum_by (one_with status) records
+
+-- the events so far, their outcomes and texts, and the key records of these members
+pub record IsTallied (now : Progress) (members : List Member) (t : Tally) : Type 0 where
+  pub events : now.number ≡ t.events + 1
+  pub done : t.done ≡ now.counts.done
+  pub refused : t.refused ≡ now.counts.refused
+  pub stopped : t.stopped ≡ now.counts.stopped
+  pub none : t.none ≡ now.counts.none
+  pub texts : t.texts ≡ now.counts.texts
+  pub live : t.live ≡ count_status Live (records_of members)
+  pub held : t.held ≡ count_status Held (records_of members)
+  pub closing : t.closing ≡ count_status Closing (records_of members)
+  pub ended : t.ended ≡ count_status Ended (records_of members)
+
+-- what a play leaves: the lines that were to be played; what the shelf tells of the disks afterwards; two counts that hold
+-- the shelf's faults before and afterwards; and what the sink told at first, and tells now
+pub record Surroundings : Type 1 where
+  pub lines : List Line
+  pub entry : List ℕ → View
+  pub before : ℕ
+  pub after : ℕ
+  pub start : Option (List ℕ)
+  pub written : Option (List ℕ)
+
+abbrev pub around : List Line → (List ℕ → View) → ℕ → ℕ → Option (List ℕ) → Option (List ℕ) → Surroundings
+around lines entry before after start written = record { lines = lines; entry = entry; before = before; after = after; start = start; written = written }
+
+-- all lines were played: to this course, whose transcript was written, with the show lines behind it
+pub record IsPlayed (s : Surroundings) (tally : Tally) : Type 0 where
+  pub course : Course
+  pub leads : Leads s.before s.after s.lines (start_course s.lines) course
+  pub images : AreOnShelf s.entry course.world.members
+  pub durable : AreDurable s.entry course.world.members
+  pub out : AppendsTo s.start s.written (course.transcript ++ show_lines course.world.members)
+  pub tallied : IsTallied course.now course.world.members tally
+
+-- the event of this number is forged: the lines before it led to this course, and nothing else was written
+pub record IsPlayedToForged (s : Surroundings) (number : ℕ) : Type 0 where
+  pub course : Course
+  pub forged : IsForgedIn s.before s.after s.lines (start_course s.lines) course number
+  pub images : AreOnShelf s.entry course.world.members
+  pub durable : AreDurable s.entry course.world.members
+  pub out : AppendsTo s.start s.written course.transcript
+
+-- at a line: an honest event was whole or cut, or none has begun; a beginning of its lines is out
+pub record IsBrokenLine (s : Surroundings) (line : Line) (c : Course) : Type 0 where
+  pub happening : Happening
+  pub happens : HappensOr line c.world.texts happening
+  pub event : Event
+  pub is : IsEventOf c.now.moment happening event
+  pub honest : HonestAt c.world.facts (member_at event.party c.world.members) event.action
+  pub images : AreOnShelf s.entry (step c.now.number c.world event).members
+  pub part : List ℕ
+  pub part_is : IsPartOf s.before s.after c happening event part
+  pub out : AppendsTo s.start s.written (c.transcript ++ part)
+
+-- behind the last line: a beginning of the show lines is out
+pub record IsBrokenEnd (s : Surroundings) (c : Course) : Type 0 where
+  pub images : AreOnShelf s.entry c.world.members
+  pub shown : ℕ
+  pub out : AppendsTo s.start s.written (c.transcript ++ take shown (show_lines c.world.members))
+
+abbrev pub IsBrokenAhead : Surroundings → List Line → Course → Type 0
+IsBrokenAhead s [] c = IsBrokenEnd s c
+IsBrokenAhead s (line ∷ back) c = IsBrokenLine s line c
+
+-- the lines in front led to this course, where the play broke off
+pub record IsBrokenPlay (s : Surroundings) : Type 0 where
+  pub front : List Line
+  pub back : List Line
+  pub split : s.lines ≡ front ++ back
+  pub course : Course
+  pub leads : Leads s.before s.after front (start_course s.lines) course
+  pub broken : IsBrokenAhead s back course
+
+-- where the sink failed at a line, its event is done
+abbrev pub IsDoneAhead : (s : Surroundings) (back : List Line) (c : Course) → IsBrokenAhead s back c → Type 0
+IsDoneAhead s [] c broken = Unit {0}
+IsDoneAhead s (line ∷ back) c broken = IsPartDone s.before s.after c broken.happening broken.event broken.part
+
+-- the sink failed
+pub record IsUnwritten (s : Surroundings) : Type 0 where
+  pub play : IsBrokenPlay s
+  pub done : IsDoneAhead s play.back play.course play.broken
+
+-- the disk of a PARTY line isn't blank, and nothing was written; `old` is what the shelf told of the disks at first
+pub record IsNotEmpty (old : List ℕ → View) (s : Surroundings) : Type 0 where
+  pub ended : IsSetUpEnd s.lines old s.entry NotEmpty
+  pub out : s.written ≡ s.start
+
+-- the set-up of a party broke off, and nothing was written
+pub record IsBrokenSetUp (old : List ℕ → View) (s : Surroundings) : Type 0 where
+  pub why : Failure
+  pub ended : IsSetUpEnd s.lines old s.entry (Failed why)
+  pub out : s.written ≡ s.start
+
+-- the disk of each party was blank
+abbrev pub WereBlank : (List ℕ → View) → Surroundings → Type 0
+WereBlank old s = AllReadBlank old (parties_in s.lines)
+
+-- the set-up broke off, or the play behind it
+abbrev pub IsBroken : (List ℕ → View) → Surroundings → Type 0
+IsBroken old s = IsBrokenSetUp old s ⊎ (WereBlank old s × IsBrokenPlay s)
+
+-- what the answer says, where the disk of each party told its bytes
+abbrev pub IsPlay : (List ℕ → View) → Surroundings → PlayResult → Type 0
+IsPlay old s (played.Done tally) = WereBlank old s × IsPlayed s tally
+IsPlay old s (played.Refused verdict) = IsNotEmpty old s
+IsPlay old s (played.Forged number) = WereBlank old s × IsPlayedToForged s number
+IsPlay old s played.WriteFault = WereBlank old s × IsUnwritten s
+IsPlay old s played.DiskFault = IsBroken old s
+IsPlay old s (played.Damaged place) = ⊥
+IsPlay old s played.NoMemory = IsBroken old s
+
+-- the same behind a set-up of all parties
+abbrev pub IsPlayOn : Surroundings → PlayResult → Type 0
+IsPlayOn s (played.Done tally) = IsPlayed s tally
+IsPlayOn s (played.Refused verdict) = ⊥
+IsPlayOn s (played.Forged number) = IsPlayedToForged s number
+IsPlayOn s played.WriteFault = IsUnwritten s
+IsPlayOn s played.DiskFault = IsBrokenPlay s
+IsPlayOn s (played.Damaged place) = ⊥
+IsPlayOn s played.NoMemory = IsBrokenPlay s

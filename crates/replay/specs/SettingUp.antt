@@ -1,0 +1,226 @@
+-- How the parties of a scenario are set up on their disks (this project's profile).
+use Rattle.std.specs.Prelude.{◌≡◌, ◌≢◌, ◌⊎◌, ◌+◌, ◌*◌, ◌<◌, ◌≤◌, ◌++◌, ℕ, true, false, length, take, List, [], ◌∷◌, Contains, Option, Some, None, option_map, is_some}
+use Rattle.std.specs.List.{filter_map}
+use Rattle.x_disk.specs.Disk.{View, Tells}
+use Rattle.x_disk.specs.Shelf.{IsAlike, AllStay, OthersStay}
+use Rattle.key_journal.specs.Journal.{is_blank}
+use Rattle.key_journal.specs.declared.cause.Cause.{Cause}
+use Rattle.key_journal.specs.declared.cause.Cause.TheVariants as cause
+use Rattle.party_state.specs.Limits.{most_links}
+use Rattle.party_state.specs.declared.link.LinkRec.{LinkRec}
+use Rattle.change_code.specs.Code.{head_length, longest_edit}
+use Rattle.key_store.specs.Store.{Stored, Stands, room}
+use Rattle.scenario.specs.declared.line.Line.{Line}
+use Rattle.scenario.specs.declared.line.Line.TheVariants as line
+use Rattle.world_laws.specs.World.{Member}
+use Rattle.world_laws.specs.Nodes.{member_of}
+use Rattle.replay.specs.Breaking.{AreOnShelf}
+use Rattle.replay.specs.Failing.{IsFailing}
+use Rattle.replay.specs.Closing.{AllSlots, AreApart, OtherDisksStay}
+use Rattle.replay.specs.Seats.{seat, members, owners, AreOpen, AreIn}
+use Rattle.replay.specs.Starts.{generator_of, first_member, with_load, with_loads, loads_of, members_by}
+use Rattle.replay.specs.Stops.{ImageOf}
+use Rattle.replay.specs.declared.failure.Failure.{Failure}
+use Rattle.replay.specs.declared.failure.Failure.TheVariants as failure
+use Rattle.replay.specs.declared.making.NewParty.{NewParty}
+use Rattle.replay.specs.declared.making.SetUpEnd.{SetUpEnd}
+use Rattle.replay.specs.declared.making.SetUpEnd.TheVariants.{NotEmpty, Failed}
+use Rattle.replay.specs.declared.seat.Seat.{Seat}
+use Rattle.replay.specs.declared.seat.Held.TheVariants.{Open}
+
+-- ---- the parties of a scenario, and their disks
+
+-- the party of a PARTY line
+abbrev pub new_party : Line → Option NewParty
+new_party (line.Party name role pair v) = Some (record { own = name; role = role; generator = generator_of pair v })
+new_party l = None
+
+-- the line that declares it
+abbrev pub line_of_party : NewParty → Line
+line_of_party p = line.Party p.own p.role p.generator.key p.generator.v
+
+abbrev pub own_of_new : NewParty → List ℕ
+own_of_new p = p.own
+
+abbrev pub party_in : Line → Option (List ℕ)
+party_in l = option_map own_of_new (new_party l)
+
+abbrev pub parties_in : List Line → List (List ℕ)
+parties_in lines = filter_map party_in lines
+
+-- the party with no link, and with all that the lines load
+abbrev pub new_member : NewParty → Member
+new_member p = first_member p.own p.role p.generator
+
+abbrev pub full_member : List Line → NewParty → Member
+full_member lines p = with_loads (new_member p) (loads_of p.own lines)
+
+-- each party's disk tells its bytes
+abbrev pub AllTell : (List ℕ → View) → List (List ℕ) → Type 0
+AllTell entry [] = Unit {0}
+AllTell entry (own ∷ owners) = Tells (entry own) × AllTell entry owners
+
+abbrev pub ReadsBlank : View → Type 0
+ReadsBlank v = (image : List ℕ) → v.now ≡ Some image → is_blank image ≡ true
+
+abbrev pub AllReadBlank : (List ℕ → View) → List (List ℕ) → Type 0
+AllReadBlank entry [] = Unit {0}
+AllReadBlank entry (own ∷ owners) = ReadsBlank (entry own) × AllReadBlank entry owners
+
+-- ---- one party is set up on a disk
+
+-- how many bytes a load takes of the room at most, with its frame
+abbrev pub longest_load : ℕ
+longest_load = head_length + longest_edit + 5
+
+-- the room of a party that has begun, at least: one byte more than all its loads take
+abbrev pub least_room : ℕ
+least_room = most_links * longest_load + 1
+
+-- the disk was blank, and stands for the party that begins
+pub record HasBegun {D : Type 0} (told : D → View) (old : View) (party : NewParty) (s : Stored D) : Type 0 where
+  pub blank : ReadsBlank old
+  pub tells : is_some (told s.disk).now ≡ is_some old.now
+  pub member : member_of s ≡ new_member party
+  pub room : least_room ≤ room s
+
+-- one more link has its place, in the party and on its disk
+pub record HasPlace {D : Type 0} (s : Stored D) : Type 0 where
+  pub few : length s.party.links < most_links
+  pub room : longest_load < room s
+
+abbrev pub CanLoad : {D : Type 0} → Stored D → Option LinkRec → Type 0
+CanLoad s None = Unit {0}
+CanLoad s (Some l) = HasPlace s
+
+-- a link is loaded, as a frame of its own
+pub record IsLoad {D : Type 0} (told : D → View) (old new : Stored D) (l : LinkRec) : Type 0 where
+  pub member : member_of new ≡ with_load (member_of old) l
+  pub tells : is_some (told new.disk).now ≡ is_some (told old.disk).now
+  pub links : length new.party.links ≤ length old.party.links + 1
+  pub room : room old ≤ room new + longest_load
+
+abbrev pub IsLoadOrSame : {D : Type 0} → (D → View) → Stored D → Stored D → Option LinkRec → Type 0
+IsLoadOrSame told old new None = new ≡ old
+IsLoadOrSame told old new (Some l) = IsLoad told old new l
+
+-- the store of a party, from which the lines so far were loaded
+pub record IsLoadedTo {D : Type 0} (told : D → View) (old new : Stored D) (loads : List LinkRec) : Type 0 where
+  pub member : member_of new ≡ with_loads (member_of old) loads
+  pub tells : is_some (told new.disk).now ≡ is_some (told old.disk).now
+  pub links : length new.party.links ≤ length loads
+  pub room : room old ≤ room new + longest_load * length loads
+
+-- the party of a store is opened, with these loads
+pub record IsOpenedWith {D : Type 0} (told : D → View) (old new : Stored D) (loads : List LinkRec) : Type 0 where
+  pub tells : is_some (told new.disk).now ≡ is_some (told old.disk).now
+  pub member : Tells (told old.disk) → member_of new ≡ with_loads (member_of old) loads
+
+-- a failure left the disk of this member with none or some of the loads, in order
+pub record IsPartlyLoaded (old new : View) (x : Member) (loads : List LinkRec) (why : Failure) : Type 0 where
+  pub failing : Tells old → IsFailing why
+  pub tells : is_some new.now ≡ is_some old.now
+  pub partly : Tells old → (image : List ℕ) → new.now ≡ Some image → (k : ℕ) × ImageOf (with_loads x (take k loads)) image
+  pub fault : why ≡ failure.Fault → 0 < new.faults
+
+-- the disk was blank, and the open one stands for this member
+pub record IsSetUp {D : Type 0} (told : D → View) (old : View) (x : Member) (node : Stored D) : Type 0 where
+  pub blank : ReadsBlank old
+  pub tells : is_some (told node.disk).now ≡ is_some old.now
+  pub member : Tells old → member_of node ≡ x
+
+-- what a read gives of the disk of the party at hand: what it gave before; or, where that was blank, a blank image, or
+-- one that stands for the party with none or some of its loads, in order
+abbrev pub IsBeginning : View → Member → List LinkRec → List ℕ → Type 0
+IsBeginning old x loads image = (old.now ≡ Some image)
+    ⊎ (ReadsBlank old × ((is_blank image ≡ true) ⊎ ((k : ℕ) × Stands image (with_loads x (take k loads)).party)))
+
+-- the disk isn't blank, and a read of it gives what it gave before
+pub record IsNotBlank (old new : View) : Type 0 where
+  pub filled : (image : List ℕ) → old.now ≡ Some image → is_blank image ≡ false
+  pub stays : new.now ≡ old.now
+
+-- the set-up of the party broke off
+pub record IsHalfSetUp (old new : View) (x : Member) (loads : List LinkRec) (why : Failure) : Type 0 where
+  pub failing : IsFailing why
+  pub tells : Tells new
+  pub begins : (image : List ℕ) → new.now ≡ Some image → IsBeginning old x loads image
+
+-- why a party isn't set up, and what is left
+abbrev pub IsUnset : View → View → Member → List LinkRec → SetUpEnd → Type 0
+IsUnset old new x loads NotEmpty = IsNotBlank old new
+IsUnset old new x loads (Failed why) = IsHalfSetUp old new x loads why
+
+-- the same of a disk in hand
+pub record IsUnsetDisk (old new : View) (x : Member) (loads : List LinkRec) (why : SetUpEnd) : Type 0 where
+  pub unset : Tells old → IsUnset old new x loads why
+  pub fault : why ≡ Failed failure.Fault → 0 < new.faults
+
+-- a cause for which no party begins
+abbrev pub EndsBy : Cause → SetUpEnd → Type 0
+EndsBy cause.Blank e = ⊥
+EndsBy cause.NotEmpty e = e ≡ NotEmpty
+EndsBy (cause.Damaged place) e = ⊥
+EndsBy cause.Fault e = e ≡ Failed failure.Fault
+EndsBy cause.NoMemory e = e ≡ Failed failure.NoMemory
+
+-- the end, or a failure in its place
+abbrev pub IsOrFails : SetUpEnd → SetUpEnd → Type 0
+IsOrFails end new = (new ≡ end) ⊎ ((why : Failure) × IsFailing why × (new ≡ Failed why))
+
+-- ---- a party takes its seat
+
+-- the party of a line is set up, and sits behind the others
+pub record IsSeatedNext {D : Type 0} (told : D → View) (lines : List Line) (p : NewParty) (old new : List ℕ → View) (slot : List ℕ → Type 0) (was seats : List (Seat D)) : Type 0 where
+  pub node : Stored D
+  pub behind : seats ≡ was ++ seat p.own (Open node) ∷ []
+  pub made : IsSetUp told (old p.own) (full_member lines p) node
+  pub placed : slot p.own
+  pub others : OthersStay p.own old new
+
+-- where the line declares none, nothing changes
+abbrev pub SeatsNext : {D : Type 0} → (D → View) → List Line → Option NewParty → (List ℕ → View) → (List ℕ → View) → (List ℕ → Type 0) → List (Seat D) → List (Seat D) → Type 0
+SeatsNext told lines None old new slot was seats = (seats ≡ was) × AllStay old new
+SeatsNext told lines (Some p) old new slot was seats = IsSeatedNext told lines p old new slot was seats
+
+-- the party of a line isn't set up, and the other disks stay
+pub record IsUnsetNext (lines : List Line) (p : NewParty) (old new : List ℕ → View) (why : SetUpEnd) : Type 0 where
+  pub unset : Tells (old p.own) → IsUnset (old p.own) (new p.own) (new_member p) (loads_of p.own lines) why
+  pub others : OthersStay p.own old new
+
+abbrev pub UnsetsNext : List Line → Option NewParty → (List ℕ → View) → (List ℕ → View) → SetUpEnd → Type 0
+UnsetsNext lines None old new why = ⊥
+UnsetsNext lines (Some p) old new why = IsUnsetNext lines p old new why
+
+-- ---- all parties
+
+-- where the disks tell their bytes, the seats stand for the members that the lines in front declare
+pub record ShowMembers {D : Type 0} (told : D → View) (lines front : List Line) (old : List ℕ → View) (seats : List (Seat D)) : Type 0 where
+  pub seated : AreIn told seats
+  pub members_are : members seats ≡ members_by lines front
+  pub blank : AllReadBlank old (parties_in front)
+
+-- the parties of the lines in front are set up, with all that the lines load, and each sits in its seat; `old` and `entry`
+-- are what the shelf told at first, and what it tells now
+pub record AreSetUp {D : Type 0} (told : D → View) (lines front : List Line) (old entry : List ℕ → View) (slot : List ℕ → Type 0) (seats : List (Seat D)) : Type 0 where
+  pub opened : AreOpen seats
+  pub owners_are : owners seats ≡ parties_in front
+  pub apart : AreApart seats
+  pub slots : AllSlots slot (owners seats)
+  pub others : OtherDisksStay old entry seats
+  pub shown : AllTell old (parties_in front) → ShowMembers told lines front old seats
+
+-- the set-up came to a party: the disks of those before it stand for them, as they are set up; and those of all others stay
+pub record IsSetUpTo (lines front : List Line) (name : List ℕ) (old entry : List ℕ → View) : Type 0 where
+  pub images : AreOnShelf entry (members_by lines front)
+  pub blank : AllReadBlank old (parties_in front)
+  pub others : (own : List ℕ) → (Contains (parties_in front) own → ⊥) → own ≢ name → IsAlike (old own) (entry own)
+
+-- the set-up ended at the party of a PARTY line
+pub record IsSetUpEnd (lines : List Line) (old entry : List ℕ → View) (why : SetUpEnd) : Type 0 where
+  pub front : List Line
+  pub party : NewParty
+  pub back : List Line
+  pub split : lines ≡ front ++ line_of_party party ∷ back
+  pub to : IsSetUpTo lines front party.own old entry
+  pub unset : IsUnset (old party.own) (entry party.own) (new_member party) (loads_of party.own lines) why

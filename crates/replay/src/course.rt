@@ -1,0 +1,128 @@
+// The lines are played, one after the other.
+ghost use Rattle.std.specs.Prelude.{◌≡◌, ◌⊎◌, ◌≤◌, ◌+◌, ℕ, length, Err, IfOk, OnOk};
+ghost use Rattle.x_base.specs.Edge.{Rose};
+ghost use Rattle.x_disk.specs.Shelf.{SlotsStay};
+ghost use Rattle.replay.specs.Breaking.{BreaksIn};
+ghost use Rattle.replay.specs.Closing.{AllSlots, AnyFaulty, OtherDisksStay};
+ghost use Rattle.replay.specs.LineBreaks.{BreaksLine};
+ghost use Rattle.replay.specs.Lines.{IsQuietNext, PlaysLine, Plays, ForgesLine, ForgesIn};
+ghost use Rattle.replay.specs.Outcomes.{IsWithin};
+ghost use Rattle.replay.specs.Seats.{AreOpen, owners};
+ghost use Rattle.replay.specs.Starts.{start_progress};
+
+use crate::failure::{Ending, Failure};
+use crate::lines::play_event;
+use crate::meaning::act_of;
+use crate::progress::{Counts, Progress};
+use crate::scene::Scene;
+use crate::stopped::Stop;
+use scenario::Line;
+use std::alloc::Global;
+use world_laws::law_hearing;
+use x_base::Sink;
+use x_disk::Shelf;
+
+/// Before the first line.
+fn start() -> Progress
+    ensures { result ≡ start_progress }
+{
+    Progress {
+        moment: 0,
+        stop: None,
+        number: 1,
+        counts: Counts {
+            done: 0,
+            refused: 0,
+            stopped: 0,
+            none: 0,
+            texts: 0,
+        },
+    }
+}
+
+/// Behind a line that is no event.
+fn behind_quiet(line: &Line, now: &Progress) -> Progress
+    ensures { IsQuietNext line.now now.now result }
+{
+    match line {
+        Line::Time { moment } => Progress {
+            moment: *moment,
+            stop: now.stop,
+            number: now.number,
+            counts: now.counts,
+        },
+        Line::Stop { n, choice } => Progress {
+            moment: now.moment,
+            stop: Some(Stop {
+                n: *n,
+                choice: *choice,
+            }),
+            number: now.number,
+            counts: now.counts,
+        },
+        _ => *now,
+    }
+}
+
+/// A line.
+fn play_line<K: Sink, H: Shelf>(
+    scene: &mut Scene<H::Disk>,
+    sink: &mut K,
+    shelf: &mut H,
+    alloc: Global,
+    line: &Line,
+    now: &Progress,
+) -> Result<Progress, Ending>
+    requires seated { AreOpen scene.old.seats.items }
+    requires slots { AllSlots (H.has_slot shelf.old) (owners scene.old.seats.items) }
+    requires few { IsWithin now.now 65535 }
+    ensures played { IfOk result (λ after. PlaysLine H.Disk.told (H.faults shelf.old) (H.faults shelf.new) line.now scene.old scene.new now.now after (K.written sink.old) (K.written sink.new)) }
+    ensures forged { (n : ℕ) → result ≡ Err (Ending.Forged n) → (n ≡ now.now.number) × (scene.new ≡ scene.old) × (K.written sink.new ≡ K.written sink.old) × ForgesLine H.Disk.told line.now scene.old }
+    ensures broken { (why : Ending) → result ≡ Err why → ((n : ℕ) → why ≡ Ending.Forged n → ⊥) → BreaksLine H.Disk.told (H.entry shelf.new) (H.faults shelf.old) (H.faults shelf.new) line.now scene.old scene.new now.now (K.written sink.old) (K.written sink.new) why }
+    ensures write { result ≡ Err Ending.Write → Rose (K.faults sink.old) (K.faults sink.new) }
+    ensures within { IfOk result (λ after. (n : ℕ) → IsWithin now.now n → IsWithin after (n + 1)) }
+    ensures fault { result ≡ Err (Ending.Failed Failure.Fault) → Rose (H.faults shelf.old) (H.faults shelf.new) ⊎ AnyFaulty H.Disk.told scene.new.seats.items }
+    ensures seated { OnOk result (AreOpen scene.new.seats.items) }
+    ensures owners { owners scene.new.seats.items ≡ owners scene.old.seats.items }
+    ensures others { OtherDisksStay (H.entry shelf.old) (H.entry shelf.new) scene.old.seats.items }
+    ensures slots { SlotsStay (H.has_slot shelf.old) (H.has_slot shelf.new) }
+    ensures later { H.faults shelf.old ≤ H.faults shelf.new }
+    ensures climbs { K.faults sink.old ≤ K.faults sink.new }
+{
+    law_hearing();
+    match act_of(alloc, &scene.texts, line)? {
+        Some(act) => play_event(scene, sink, shelf, alloc, act, now),
+        None => Ok(behind_quiet(line, now)),
+    }
+}
+
+/// The lines, from the first moment on.
+pub(crate) fn play_lines<K: Sink, H: Shelf>(
+    scene: &mut Scene<H::Disk>,
+    sink: &mut K,
+    shelf: &mut H,
+    alloc: Global,
+    lines: &[Line],
+) -> Result<Progress, Ending>
+    requires seated { AreOpen scene.old.seats.items }
+    requires slots { AllSlots (H.has_slot shelf.old) (owners scene.old.seats.items) }
+    requires few { length lines.now ≤ 65536 }
+    ensures played { IfOk result (λ after. Plays H.Disk.told (H.faults shelf.old) (H.faults shelf.new) lines.now scene.old scene.new start_progress after (K.written sink.old) (K.written sink.new)) }
+    ensures forged { (n : ℕ) → result ≡ Err (Ending.Forged n) → ForgesIn H.Disk.told (H.faults shelf.old) (H.faults shelf.new) lines.now scene.old scene.new start_progress (K.written sink.old) (K.written sink.new) n }
+    ensures broken { (why : Ending) → result ≡ Err why → ((n : ℕ) → why ≡ Ending.Forged n → ⊥) → BreaksIn H.Disk.told (H.entry shelf.new) (H.faults shelf.old) (H.faults shelf.new) lines.now scene.old scene.new start_progress (K.written sink.old) (K.written sink.new) why }
+    ensures write { result ≡ Err Ending.Write → Rose (K.faults sink.old) (K.faults sink.new) }
+    ensures within { IfOk result (λ after. IsWithin after (length lines.now)) }
+    ensures fault { result ≡ Err (Ending.Failed Failure.Fault) → Rose (H.faults shelf.old) (H.faults shelf.new) ⊎ AnyFaulty H.Disk.told scene.new.seats.items }
+    ensures seated { OnOk result (AreOpen scene.new.seats.items) }
+    ensures owners { owners scene.new.seats.items ≡ owners scene.old.seats.items }
+    ensures others { OtherDisksStay (H.entry shelf.old) (H.entry shelf.new) scene.old.seats.items }
+    ensures slots { SlotsStay (H.has_slot shelf.old) (H.has_slot shelf.new) }
+    ensures later { H.faults shelf.old ≤ H.faults shelf.new }
+    ensures climbs { K.faults sink.old ≤ K.faults sink.new }
+{
+    let mut now = start();
+    'playing: for line in lines {
+        now = play_line(scene, sink, shelf, alloc, line, &now)?;
+    }
+    Ok(now)
+}

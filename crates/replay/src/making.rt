@@ -1,0 +1,268 @@
+// A party is made on its disk, with the links that a scenario loads at it.
+ghost use Rattle.std.specs.Prelude.{◌≡◌, ◌≤◌, ◌⊎◌, List, [], ◌∷◌, option_to_list, IfOk, IfErr};
+ghost use Rattle.key_journal.specs.Opening.{IsFree};
+ghost use Rattle.party_state.specs.Ranges.{IsNextCount};
+ghost use Rattle.key_store.specs.Store.{room};
+ghost use Rattle.scenario.specs.Behind.{EachBehind};
+ghost use Rattle.scenario.specs.Rules.{may_follow};
+ghost use Rattle.world_laws.specs.Nodes.{member_of};
+ghost use Rattle.replay.specs.Starts.{link_of, load_at, loads_of};
+ghost use Rattle.replay.specs.SettingUp.{new_party, new_member, full_member, least_room, HasPlace, CanLoad, HasBegun, IsLoad, IsLoadOrSame, IsLoadedTo, IsOpenedWith, IsPartlyLoaded, IsSetUp, IsUnsetDisk, EndsBy};
+
+use crate::failure::Failure;
+use crate::stopped::{Lost, failure_by, failure_of};
+use change_code::law_short_code;
+use key_journal::{Cause, Unmade};
+use key_store::{Kept, Store};
+use node_core::Node;
+use party_state::{Change, Edit, LinkRec};
+use role_base::odd_pair;
+use scenario::Line;
+use std::alloc::Global;
+use x_base::{Ident, Label, Role, Side};
+use x_disk::Disk;
+use x_gen::Gen;
+use x_mac::Pair;
+
+/// A party that a line declares.
+#[derive(Clone, Copy, Debug, PartialEq, Eq)]
+pub(crate) struct NewParty {
+    pub(crate) own: Ident,
+    pub(crate) role: Role,
+    pub(crate) generator: Gen,
+}
+
+/// Why a set-up ends early.
+#[derive(Clone, Copy, Debug, PartialEq, Eq)]
+pub(crate) enum SetUpEnd {
+    /// A disk isn't blank.
+    NotEmpty,
+    Failed(Failure),
+}
+
+/// A disk on which no party is set up, and why.
+#[derive(Drop)]
+pub(crate) struct Unset<D: Disk> {
+    pub(crate) disk: D,
+    pub(crate) why: SetUpEnd,
+}
+
+/// The party that a line declares.
+pub(crate) fn new_party(line: &Line) -> Option<NewParty>
+    ensures { result ≡ new_party line.now }
+{
+    match line {
+        Line::Party {
+            name,
+            role,
+            pair,
+            v,
+        } => Some(NewParty {
+            own: *name,
+            role: *role,
+            generator: Gen { key: *pair, v: *v },
+        }),
+        _ => None,
+    }
+}
+
+/// A link with no count used.
+fn fresh_link(peer: &Ident, label: &Label, side: Side, pair: &Pair) -> LinkRec
+    ensures { result ≡ link_of peer.now label.now side pair.now }
+{
+    LinkRec {
+        peer: *peer,
+        label: *label,
+        side,
+        pair: odd_pair(*pair),
+        next: 1,
+        ready: true,
+    }
+}
+
+/// The link that a line loads at a party.
+fn load_at(own: &Ident, line: &Line) -> Option<LinkRec>
+    ensures { result ≡ load_at own.now line.now }
+{
+    match line {
+        Line::Link {
+            origin,
+            recipient,
+            label,
+            pair,
+        } => {
+            if *own == *origin {
+                return Some(fresh_link(recipient, label, Side::Sends, pair));
+            }
+            if *own == *recipient {
+                return Some(fresh_link(origin, label, Side::Takes, pair));
+            }
+            None
+        }
+        _ => None,
+    }
+}
+
+/// Why no party begins on a disk.
+fn end_of(cause: Cause) -> SetUpEnd
+    requires { IsFree cause ⊎ (cause ≡ Cause.NotEmpty) }
+    ensures { EndsBy cause result }
+{
+    match cause {
+        Cause::NotEmpty => SetUpEnd::NotEmpty,
+        Cause::Fault => SetUpEnd::Failed(Failure::Fault),
+        Cause::NoMemory => SetUpEnd::Failed(Failure::NoMemory),
+        Cause::Blank | Cause::Damaged(_) => unreachable!(),
+    }
+}
+
+/// A party begins on a disk, which has to be blank. The disk is synced first, so that a crash leaves what a read gives.
+fn begin<D: Disk>(disk: D, alloc: Global, party: &NewParty) -> Result<Store<D>, Unset<D>>
+    ensures begun { IfOk result (λ store. HasBegun D.told (D.told disk) party.now store) }
+    ensures unset { IfErr result (λ u. (loads : List LinkRec) → IsUnsetDisk (D.told disk) (D.told u.disk) (new_member party.now) loads u.why) }
+{
+    party.own.bytes();
+    let mut disk = disk;
+    match disk.sync() {
+        Ok(()) => {}
+        Err(error) => {
+            return Err(Unset {
+                disk,
+                why: SetUpEnd::Failed(failure_of(error)),
+            });
+        }
+    }
+    match Store::create(alloc, disk, party.own, party.role, party.generator) {
+        Ok(store) => Ok(store),
+        Err(Unmade { disk, cause }) => Err(Unset {
+            disk,
+            why: end_of(cause),
+        }),
+    }
+}
+
+/// Loads a link, as a frame of its own.
+fn load_link<D: Disk>(store: Store<D>, alloc: Global, link: LinkRec) -> Result<Store<D>, Lost<D>>
+    requires next { IsNextCount link.next }
+    requires place { HasPlace store }
+    ensures load { IfOk result (λ s. IsLoad D.told store s link) }
+    ensures lost { IfErr result (λ lost. IsPartlyLoaded (D.told store.disk) (D.told lost.disk) (member_of store) (link ∷ []) lost.why) }
+{
+    store.view();
+    let mut change = Change::new(alloc);
+    match change.push(Edit::PutLink(link)) {
+        Ok(()) => {}
+        Err(_) => {
+            return Err(Lost {
+                disk: store.into_disk(),
+                why: Failure::NoMemory,
+            });
+        }
+    }
+    law_short_code(&change);
+    match store.keep(alloc, &change) {
+        Kept::Done(store) => Ok(store),
+        Kept::Full(_) => unreachable!(),
+        Kept::NoMemory(store) => Err(Lost {
+            disk: store.into_disk(),
+            why: Failure::NoMemory,
+        }),
+        Kept::Broken(broken) => {
+            let Unmade { disk, cause } = broken.give_up();
+            Err(Lost {
+                disk,
+                why: failure_by(cause),
+            })
+        }
+    }
+}
+
+/// Loads the link that a line loads at a party, if it does.
+fn load_line<D: Disk>(
+    store: Store<D>,
+    alloc: Global,
+    own: &Ident,
+    line: &Line,
+) -> Result<Store<D>, Lost<D>>
+    requires { CanLoad store (load_at own.now line.now) }
+    ensures load { IfOk result (λ s. IsLoadOrSame D.told store s (load_at own.now line.now)) }
+    ensures lost { IfErr result (λ lost. IsPartlyLoaded (D.told store.disk) (D.told lost.disk) (member_of store) (option_to_list (load_at own.now line.now)) lost.why) }
+{
+    match load_at(own, line) {
+        Some(link) => load_link(store, alloc, link),
+        None => Ok(store),
+    }
+}
+
+/// Loads the links that the lines load at a party, in their order.
+fn load_links<D: Disk>(
+    store: Store<D>,
+    alloc: Global,
+    own: &Ident,
+    lines: &[Line],
+) -> Result<Store<D>, Lost<D>>
+    requires rules { EachBehind may_follow lines.now }
+    requires none { store.party.links ≡ [] }
+    requires room { least_room ≤ room store }
+    ensures loaded { IfOk result (λ s. IsLoadedTo D.told store s (loads_of own.now lines.now)) }
+    ensures lost { IfErr result (λ lost. IsPartlyLoaded (D.told store.disk) (D.told lost.disk) (member_of store) (loads_of own.now lines.now) lost.why) }
+{
+    let mut loaded = store;
+    for line in lines {
+        loaded = load_line(loaded, alloc, own, line)?;
+    }
+    Ok(loaded)
+}
+
+/// Opens the party of a store.
+fn open_store<D: Disk>(store: Store<D>, alloc: Global) -> Result<Node<D>, Lost<D>>
+    ensures opened { IfOk result (λ node. IsOpenedWith D.told store node []) }
+    ensures lost { IfErr result (λ lost. IsPartlyLoaded (D.told store.disk) (D.told lost.disk) (member_of store) [] lost.why) }
+{
+    store.view();
+    match Node::open_from(alloc, store.into_disk()) {
+        Ok(node) => Ok(node),
+        Err(Unmade { disk, cause }) => Err(Lost {
+            disk,
+            why: failure_by(cause),
+        }),
+    }
+}
+
+/// Loads the links of a party that has begun, and opens it.
+fn complete<D: Disk>(
+    store: Store<D>,
+    alloc: Global,
+    own: &Ident,
+    lines: &[Line],
+) -> Result<Node<D>, Lost<D>>
+    requires rules { EachBehind may_follow lines.now }
+    requires none { store.party.links ≡ [] }
+    requires room { least_room ≤ room store }
+    ensures completed { IfOk result (λ node. IsOpenedWith D.told store node (loads_of own.now lines.now)) }
+    ensures lost { IfErr result (λ lost. IsPartlyLoaded (D.told store.disk) (D.told lost.disk) (member_of store) (loads_of own.now lines.now) lost.why) }
+{
+    let loaded = load_links(store, alloc, own, lines)?;
+    open_store(loaded, alloc)
+}
+
+/// A party is made on a disk, with the links that the lines load at it, and opened.
+pub(crate) fn make<D: Disk>(
+    disk: D,
+    alloc: Global,
+    lines: &[Line],
+    party: &NewParty,
+) -> Result<Node<D>, Unset<D>>
+    requires rules { EachBehind may_follow lines.now }
+    ensures made { IfOk result (λ node. IsSetUp D.told (D.told disk) (full_member lines.now party.now) node) }
+    ensures unset { IfErr result (λ u. IsUnsetDisk (D.told disk) (D.told u.disk) (new_member party.now) (loads_of party.now.own lines.now) u.why) }
+{
+    let store = begin(disk, alloc, party)?;
+    match complete(store, alloc, &party.own, lines) {
+        Ok(node) => Ok(node),
+        Err(Lost { disk, why }) => Err(Unset {
+            disk,
+            why: SetUpEnd::Failed(why),
+        }),
+    }
+}

@@ -1,0 +1,114 @@
+// A scenario is played over the disks of its parties on a shelf, and its transcript is written to a sink.
+ghost use Rattle.std.specs.Prelude.{◌≡◌, ◌⊎◌, ◌≤◌, ℕ, List, length, Contains, Err, IfOk, IfErr};
+ghost use Rattle.x_base.specs.Edge.{Rose};
+ghost use Rattle.x_base.specs.declared.verdict.Verdict.{Verdict as TheVerdict};
+ghost use Rattle.x_disk.specs.Shelf.{IsAlike, SlotsStay};
+ghost use Rattle.replay.specs.Closing.{AllSlots, AreApart, OtherDisksStay, AnyFaulty};
+ghost use Rattle.replay.specs.Finishing.{Finishes, BreaksPlay};
+ghost use Rattle.replay.specs.Lines.{ForgesIn};
+ghost use Rattle.replay.specs.Playing.{around, IsPlay, IsPlayOn};
+ghost use Rattle.replay.specs.Seats.{AreIn, AreOpen, members, owners};
+ghost use Rattle.replay.specs.SettingUp.{AllTell, parties_in};
+ghost use Rattle.replay.specs.Starts.{start_members, start_progress};
+
+use crate::answering::{answer_of, end_of, set_up_answer};
+use crate::closing::put_back_all;
+use crate::course::play_lines;
+use crate::failure::{Ending, Failure};
+use crate::scene::Scene;
+use crate::seat::Seat;
+use crate::setting_up::set_up;
+use crate::showing::write_shows;
+use crate::tally::{PlayResult, Tally};
+use crate::tallying::tally_of;
+use fact_book::FactBook;
+use scenario::{Line, Scenario};
+use std::alloc::Global;
+use x_base::Sink;
+use x_disk::Shelf;
+
+/// Plays the lines over the open disks, and writes the show lines behind them.
+fn play_scene<K: Sink, H: Shelf>(
+    scene: &mut Scene<H::Disk>,
+    sink: &mut K,
+    shelf: &mut H,
+    alloc: Global,
+    lines: &[Line],
+) -> Result<Tally, Ending>
+    requires few { length lines.now ≤ 65536 }
+    requires parties { length scene.old.seats.items ≤ 64 }
+    requires seated { AreOpen scene.old.seats.items }
+    requires slots { AllSlots (H.has_slot shelf.old) (owners scene.old.seats.items) }
+    ensures finished { IfOk result (λ tally. Finishes H.Disk.told (H.faults shelf.old) (H.faults shelf.new) lines.now scene.old scene.new start_progress (K.written sink.old) (K.written sink.new) tally) }
+    ensures forged { (n : ℕ) → result ≡ Err (Ending.Forged n) → ForgesIn H.Disk.told (H.faults shelf.old) (H.faults shelf.new) lines.now scene.old scene.new start_progress (K.written sink.old) (K.written sink.new) n }
+    ensures broken { (why : Ending) → result ≡ Err why → ((n : ℕ) → why ≡ Ending.Forged n → ⊥) → BreaksPlay H.Disk.told (H.entry shelf.new) (H.faults shelf.old) (H.faults shelf.new) lines.now scene.old scene.new start_progress (K.written sink.old) (K.written sink.new) why }
+    ensures write { result ≡ Err Ending.Write → Rose (K.faults sink.old) (K.faults sink.new) }
+    ensures fault { result ≡ Err (Ending.Failed Failure.Fault) → Rose (H.faults shelf.old) (H.faults shelf.new) ⊎ AnyFaulty H.Disk.told scene.new.seats.items }
+    ensures owners { owners scene.new.seats.items ≡ owners scene.old.seats.items }
+    ensures slots { SlotsStay (H.has_slot shelf.old) (H.has_slot shelf.new) }
+    ensures others { OtherDisksStay (H.entry shelf.old) (H.entry shelf.new) scene.old.seats.items }
+    ensures later { H.faults shelf.old ≤ H.faults shelf.new }
+    ensures climbs { K.faults sink.old ≤ K.faults sink.new }
+{
+    let now = play_lines(scene, sink, shelf, alloc, lines)?;
+    let tally = tally_of(&scene.seats, &now);
+    write_shows(sink, alloc, &scene.seats)?;
+    Ok(tally)
+}
+
+/// The same over the disks of parties that are set up. They are put back, whatever comes.
+fn play_seats<K: Sink, H: Shelf>(
+    seats: Vec<Seat<H::Disk>>,
+    sink: &mut K,
+    shelf: &mut H,
+    alloc: Global,
+    lines: &[Line],
+) -> PlayResult
+    requires few { length lines.now ≤ 65536 }
+    requires parties { length seats.items ≤ 64 }
+    requires seated { AreOpen seats.items }
+    requires apart { AreApart seats.items }
+    requires slots { AllSlots (H.has_slot shelf.old) (owners seats.items) }
+    ensures played { (before : ℕ) → before ≤ H.faults shelf.old → AreIn H.Disk.told seats.items → members seats.items ≡ start_members lines.now
+        → IsPlayOn (around lines.now (H.entry shelf.new) before (H.faults shelf.new) (K.written sink.old) (K.written sink.new)) result }
+    ensures refused { (v : TheVerdict) → result ≡ PlayResult.Refused v → ⊥ }
+    ensures write { result ≡ PlayResult.WriteFault → Rose (K.faults sink.old) (K.faults sink.new) }
+    ensures fault { result ≡ PlayResult.DiskFault → Rose (H.faults shelf.old) (H.faults shelf.new) }
+    ensures others { OtherDisksStay (H.entry shelf.old) (H.entry shelf.new) seats.items }
+    ensures later { H.faults shelf.old ≤ H.faults shelf.new }
+    ensures climbs { K.faults sink.old ≤ K.faults sink.new }
+{
+    let mut scene = Scene {
+        seats,
+        texts: Vec::new(alloc),
+        facts: FactBook::new(alloc),
+    };
+    let outcome = play_scene(&mut scene, sink, shelf, alloc, lines);
+    let Scene { seats, .. } = scene;
+    let back = put_back_all(shelf, seats);
+    answer_of(end_of(outcome, back))
+}
+
+/// Plays a scenario over the disks of its parties, which it sets up first, and writes the transcript. All disks are put back,
+/// whatever comes. The shelf must have none of them taken out.
+pub fn play<K: Sink, H: Shelf>(
+    alloc: Global,
+    scenario: &Scenario,
+    sink: &mut K,
+    shelf: &mut H,
+) -> PlayResult
+    ensures played { AllTell (H.entry shelf.old) (parties_in scenario.now)
+        → IsPlay (H.entry shelf.old) (around scenario.now (H.entry shelf.new) (H.faults shelf.old) (H.faults shelf.new) (K.written sink.old) (K.written sink.new)) result }
+    ensures refused { (v : TheVerdict) → result ≡ PlayResult.Refused v → v ≡ TheVerdict.NotEmpty }
+    ensures nothing { (v : TheVerdict) → result ≡ PlayResult.Refused v → sink.new ≡ sink.old }
+    ensures write { result ≡ PlayResult.WriteFault → Rose (K.faults sink.old) (K.faults sink.new) }
+    ensures fault { result ≡ PlayResult.DiskFault → Rose (H.faults shelf.old) (H.faults shelf.new) }
+    ensures others { (own : List ℕ) → (Contains (parties_in scenario.now) own → ⊥) → IsAlike (H.entry shelf.old own) (H.entry shelf.new own) }
+    ensures later { H.faults shelf.old ≤ H.faults shelf.new }
+    ensures climbs { K.faults sink.old ≤ K.faults sink.new }
+{
+    match set_up(shelf, alloc, scenario) {
+        Ok(seats) => play_seats(seats, sink, shelf, alloc, scenario.lines()),
+        Err(end) => set_up_answer(end),
+    }
+}
