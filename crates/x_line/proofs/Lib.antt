@@ -1,6 +1,6 @@
-pub mod Building
 pub mod Checking
 pub mod Declaring
+pub mod Limiting
 pub mod Ordering
 pub mod Parsing
 pub mod Taking

@@ -1,9 +1,9 @@
 -- Each list of words has one answer: this project's profile.
-use Rattle.std.specs.Prelude.{◌≡◌, true, List, None}
+use Rattle.std.specs.Prelude.{◌≡◌, ◌≤◌, ℕ, List, None}
 use Rattle.clap.specs.Words.{Text}
 use Rattle.x_line.specs.declared.order.Order.{Order}
-use Rattle.x_line.specs.OrderKinds.{is_built}
-use Rattle.x_line.specs.Orders.{IsOrder, kind_of}
+use Rattle.x_line.specs.declared.order.Order.TheVariants as order
+use Rattle.x_line.specs.Orders.{IsOrder}
 use Rattle.x_line.specs.Usage.{usage_of}
 
 -- where nothing is wrong with the words they stand for an order
@@ -14,6 +14,6 @@ HasOrder = (words : List Text) → usage_of words ≡ None → (o : Order) × Is
 abbrev pub OneOrder : Type 0
 OneOrder = (words : List Text) (a b : Order) → IsOrder words a → IsOrder words b → a ≡ b
 
--- of a kind that the program can carry out
-abbrev pub OrderIsBuilt : Type 0
-OrderIsBuilt = (words : List Text) (o : Order) → IsOrder words o → is_built (kind_of o) ≡ true
+-- a drill has 1 to 10,000 events
+abbrev pub FewEvents : Type 0
+FewEvents = (words : List Text) (seed events : ℕ) → IsOrder words (order.Drill seed events) → (1 ≤ events) × (events ≤ 10000)

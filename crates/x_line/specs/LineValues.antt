@@ -14,7 +14,7 @@ use Rattle.x_values.specs.Words.{ident_of, key_name_of, key_of, label_of, number
 abbrev pub word_of : List Row → Option Text
 word_of rows = first_of (codes "command") rows
 
--- the built kind of order that it names
+-- the kind of order that it names
 abbrev pub named_kind : List Row → Option OrderKind
 named_kind rows = option_and_then named (word_of rows)
 

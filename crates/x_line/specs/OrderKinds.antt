@@ -1,5 +1,5 @@
--- The kinds of order, and which of them the program can carry out already: this project's profile.
-use Rattle.std.specs.Prelude.{ℕ, ◌&&◌, Bool, true, false, List, [], ◌∷◌, Option, find, codes}
+-- The kinds of order: this project's profile.
+use Rattle.std.specs.Prelude.{ℕ, List, [], ◌∷◌, Option, find, codes}
 use Rattle.std.specs.Str.{bytes_eq}
 use Rattle.x_line.specs.declared.order_kind.OrderKind.{OrderKind}
 use Rattle.x_line.specs.declared.order_kind.OrderKind.TheVariants as kinds
@@ -28,12 +28,6 @@ name_of_kind kinds.Drop = codes "drop"
 name_of_kind kinds.End = codes "end"
 name_of_kind kinds.Drill = codes "drill"
 
--- all but these
-abbrev pub is_built : OrderKind → Bool
-is_built kinds.Replay = false
-is_built kinds.Drill = false
-is_built k = true
-
--- the built kind that a command line names so
+-- the kind that a command line names so
 abbrev pub named : List ℕ → Option OrderKind
-named name = find (λ k. is_built k && bytes_eq (name_of_kind k) name) order_kinds
+named name = find (λ k. bytes_eq (name_of_kind k) name) order_kinds

@@ -1,5 +1,5 @@
 // What is promised of every command line, whatever reads it.
-ghost use Rattle.x_line.specs.Laws.{HasOrder, OneOrder, OrderIsBuilt};
+ghost use Rattle.x_line.specs.Laws.{FewEvents, HasOrder, OneOrder};
 
 /// Words in which nothing is wrong stand for an order.
 #[tactic(auto, using(crate::proofs::Ordering::has_order))]
@@ -13,8 +13,8 @@ pub fn law_one_order()
     ensures { OneOrder }
 {}
 
-/// The order for which words stand is of a kind that the program can carry out.
-#[tactic(auto, using(crate::proofs::Building::order_is_built))]
-pub fn law_order_is_built()
-    ensures { OrderIsBuilt }
+/// Words that stand for a drill give it 1 to 10,000 events.
+#[tactic(auto, using(crate::proofs::Limiting::few_events))]
+pub fn law_few_events()
+    ensures { FewEvents }
 {}

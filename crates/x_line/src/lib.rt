@@ -15,7 +15,7 @@ mod tests;
 mod usage;
 mod values;
 
-pub use laws::{law_has_order, law_one_order, law_order_is_built};
+pub use laws::{law_few_events, law_has_order, law_one_order};
 pub use opt::Opt;
 pub use order::{Order, read_order};
 pub use usage::{LineFault, UsageKind};

@@ -12,7 +12,7 @@ use x_base::{Ident, KeyName, Label, Role, Side};
 use x_mac::Pair;
 
 impl Line<'_> {
-    /// The built kind of order that the line names.
+    /// The kind of order that the line names.
     pub(crate) fn kind(&self) -> Option<OrderKind>
         ensures { result ≡ named_kind self.now }
     {

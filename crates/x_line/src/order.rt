@@ -1,8 +1,7 @@
 ghost use Rattle.std.specs.Prelude.{◌≡◌, Err, true, false, IfOk, IfErr};
-ghost use Rattle.x_line.specs.OrderKinds.{is_built};
 ghost use Rattle.x_line.specs.LineValues.{named_kind};
 ghost use Rattle.x_line.specs.Line.{is_line};
-ghost use Rattle.x_line.specs.Orders.{IsFault, IsOrder, Says, is_whole, kind_of};
+ghost use Rattle.x_line.specs.Orders.{IsFault, IsOrder, Says, is_whole};
 ghost use Rattle.x_line.specs.Usage.{rows_fault};
 
 use crate::line::{Line, Unread};
@@ -140,7 +139,6 @@ fn said(line: &Line<'_>) -> Result<Order, UsageKind>
 #[tactic(auto, using(crate::proofs::Checking::not_line))]
 pub fn read_order(alloc: Global, words: &Words) -> Result<Order, LineFault>
     ensures order { IfOk result (λ order. IsOrder words.now order) }
-    ensures built { IfOk result (λ order. is_built (kind_of order) ≡ true) }
     ensures fault { IfErr result (λ fault. IsFault words.now fault) }
     ensures line { result ≡ Err (LineFault.Usage UsageKind.Line) → is_line words.now ≡ false }
 {

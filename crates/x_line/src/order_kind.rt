@@ -1,5 +1,5 @@
 ghost use Rattle.std.specs.Prelude.{◌≡◌, option_and_then, option_map};
-ghost use Rattle.x_line.specs.OrderKinds.{is_built, name_of_kind, named};
+ghost use Rattle.x_line.specs.OrderKinds.{name_of_kind, named};
 
 /// A kind of order, named by the word in the place of the command.
 #[derive(Clone, Copy, Debug, PartialEq, Eq)]
@@ -65,23 +65,10 @@ impl OrderKind {
         }
     }
 
-    /// Whether the program can carry out such an order already.
-    fn is_built(self) -> bool
-        ensures { result ≡ is_built self }
-    {
-        match self {
-            OrderKind::Replay | OrderKind::Drill => false,
-            _ => true,
-        }
-    }
-
-    /// The built kind of this name.
+    /// The kind of this name.
     pub(crate) fn named(name: &str) -> Option<OrderKind>
         ensures { result ≡ named name.now }
     {
-        ORDER_KINDS
-            .iter()
-            .copied()
-            .find(|kind| kind.is_built() && kind.name() == name)
+        ORDER_KINDS.iter().copied().find(|kind| kind.name() == name)
     }
 }

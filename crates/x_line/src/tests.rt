@@ -5,7 +5,7 @@ use x_base::{Ident, KeyName, Label, Role, Side, Words};
 use x_mac::Pair;
 
 // Command lines, their words parted by blanks, and what is wrong with them.
-const FAULTS: [(&str, UsageKind); 16] = [
+const FAULTS: [(&str, UsageKind); 18] = [
     ("check extra", UsageKind::Line),
     ("check --party", UsageKind::Line),
     ("check --par BANKA", UsageKind::Line),
@@ -20,7 +20,12 @@ const FAULTS: [(&str, UsageKind); 16] = [
     ("help", UsageKind::Command),
     ("Check", UsageKind::Command),
     ("--party BANKA --key 1 stop", UsageKind::Command),
-    ("replay", UsageKind::Command),
+    (
+        "replay --events 1 --party BANKA",
+        UsageKind::Unwanted(Opt::Party),
+    ),
+    ("drill --seed 1 --single", UsageKind::Unwanted(Opt::Single)),
+    ("drill --events 1", UsageKind::Missing(Opt::Seed)),
     ("check --party=", UsageKind::Unwanted(Opt::Party)),
     (
         "take --single --events 1 --party x",
@@ -37,7 +42,7 @@ const FAULTS: [(&str, UsageKind); 16] = [
 ];
 
 // Command lines each of which has one bad value or more, and the option of the first one.
-const BAD_VALUES: [(&str, Opt); 13] = [
+const BAD_VALUES: [(&str, Opt); 17] = [
     ("show --party=", Opt::Party),
     ("take --party BANKa", Opt::Party),
     (
@@ -78,6 +83,13 @@ const BAD_VALUES: [(&str, Opt); 13] = [
         "end --party BANKA --peer BANKB --name BANKA.BANKA.K1.0",
         Opt::Name,
     ),
+    (
+        "drill --seed 18446744073709551616 --events 10001",
+        Opt::Seed,
+    ),
+    ("drill --seed 7 --events 0", Opt::Events),
+    ("drill --seed 0 --events 10001", Opt::Events),
+    ("drill --seed 7 --events 0x10", Opt::Events),
 ];
 
 fn words_of(alloc: Global, line: &str) -> Result<Words, Fail> {
@@ -216,6 +228,14 @@ fn orders_are_read(rt: HostRuntime) -> Result<(), Fail> {
         (
             "end --party BANKA --peer CKDX --name CKDX.BANKA.C.007",
             Order::End { party, peer, name },
+        ),
+        ("replay", Order::Replay),
+        (
+            "drill --events 10000 --seed 18446744073709551615",
+            Order::Drill {
+                seed: 18446744073709551615,
+                events: 10_000,
+            },
         ),
     ];
     let mut wrong = None;

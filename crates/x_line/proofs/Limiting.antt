@@ -1,0 +1,31 @@
+-- The number of a drill's events lies within its limits.
+use Rattle.std.proofs.Common.{◌≡◌, ◌≤◌, ◌&&◌, ℕ, Bool, true, false, List, Option, Some, None, refl, subst}
+use Rattle.std.specs.Prelude.{nat_le, if◌then◌else◌, option_and_then}
+use Rattle.std.proofs.lemmas.Bool.{leb-true}
+use Rattle.clap.specs.Words.{first_of}
+use Rattle.x_line.specs.declared.opt.Opt.TheVariants as opt
+use Rattle.x_line.specs.Laws.{FewEvents}
+use Rattle.x_line.specs.Line.{rows_of_line}
+use Rattle.x_line.specs.Options.{name_of}
+use Rattle.x_line.specs.Values.{events_of}
+use Rattle.x_values.specs.Words.{plain_number_of, within}
+
+within_is : (low high n m : ℕ) → within low high n ≡ Some m → (low ≤ m) × (m ≤ high)
+within_is low high n m h = go (nat_le low n) (nat_le n high) refl refl h
+  where
+    go : (a b : Bool) → nat_le low n ≡ a → nat_le n high ≡ b → (if a && b then Some n else None) ≡ Some m → (low ≤ m) × (m ≤ high)
+    go true true a b h = let same : n ≡ m = cc in (subst (λ (k : ℕ). low ≤ k) same (leb-true low n a), subst (λ (k : ℕ). k ≤ high) same (leb-true n high b))
+    go true false a b h = absurd cc
+    go false true a b h = absurd cc
+    go false false a b h = absurd cc
+
+number_is : (low high m : ℕ) (o : Option ℕ) → option_and_then (within low high) o ≡ Some m → (low ≤ m) × (m ≤ high)
+number_is low high m None h = absurd cc
+number_is low high m (Some n) h = within_is low high n m h
+
+given_is : (m : ℕ) (o : Option (List ℕ)) → option_and_then events_of o ≡ Some m → (1 ≤ m) × (m ≤ 10000)
+given_is m None h = absurd cc
+given_is m (Some text) h = number_is 1 10000 m (plain_number_of text) h
+
+pub few_events : FewEvents
+few_events words seed events is = given_is events (first_of (name_of opt.Events) (rows_of_line words)) is.1.1.1
