@@ -1,7 +1,7 @@
 -- What is decided of the bytes that were taken is decided of the input.
-use Rattle.std.proofs.Common.{◌≡◌, ◌≤◌, ◌<◌, ◌+◌, ◌++◌, ℕ, Bool, true, false, List, [], length, take, arith, refl, sym, ap, ◌∙◌, subst, Option, Some, None, IfSome, Result, Ok, Err, inl, inr}
+use Rattle.std.proofs.Common.{◌≡◌, ◌≤◌, ◌<◌, ◌+◌, ℕ, Bool, true, false, List, [], length, take, arith, refl, sym, ap, ◌∙◌, subst, Option, Some, None, IfSome, Result, Ok, Err, inl, inr}
 use Rattle.std.specs.Prelude.{◌≢◌, IfOk, IfErr}
-use Rattle.std.proofs.lemmas.List.{append-nil, length-take, take_all, take_at}
+use Rattle.std.proofs.lemmas.List.{length-take, take_all}
 use Rattle.std.proofs.lemmas.Bool.{cases_lt}
 use Rattle.x_base.specs.Edge.{Rose, AppendsTo}
 use Rattle.csm_grammar.specs.declared.arrival.Arrival.{Arrival}
@@ -15,6 +15,7 @@ use Rattle.csm_feed.specs.Laws.{OneHearing}
 use Rattle.x917.specs.declared.status.Refusal.{Refusal}
 use Rattle.x917.specs.declared.status.Status.TheVariants as status
 use Rattle.x917.specs.Transfer.{Took, IsAtEnd, IsQuiet, WrotePrefix, input_limit}
+use Rattle.x917.proofs.Transfers.{front_taken}
 use Rattle.x917.specs.Check.{taken, is_right, judged, refusal_of, decided_of, IsDecision, IsPossible, IsReply, status_of, reply_of, WroteReply, WroteSome, IsExact}
 
 -- ---- of the bytes that were taken
@@ -42,14 +43,7 @@ of_taken input d h = same_taken input (taken input) d (sym (taken_twice input)) 
 -- what was taken, where the input is told
 pub text_taken : (all text : List ℕ) (after : Option (List ℕ)) → Took (Some all) after text → length text ≤ input_limit
     → (length text < input_limit → IsAtEnd (Some all) after) → text ≡ taken all
-text_taken all text None t h e = absurd t
-text_taken all text (Some rest) t h e = elim (cases_lt (length text) input_limit) [
-  | inl lt ↦
-      let none : rest ≡ [] = let n = e lt in cc in
-      let whole : all ≡ text = t ∙ ap (λ (r : List ℕ). text ++ r) none ∙ append-nil text in
-      sym (few_taken text h) ∙ ap taken (sym whole)
-  | inr ge ↦ sym (take_at text rest input_limit (omega (arith, h, ge))) ∙ ap taken (sym t)
-]
+text_taken all text after t h e = front_taken input_limit all text after t h e
 
 -- ---- what `judge` decides
 

@@ -5,3 +5,9 @@ pub mod Following
 pub mod Arriving
 pub mod Orders
 pub mod NetworkEvents
+pub mod Lawful
+pub mod Headlines
+pub mod ScenarioBytes
+pub mod Expected
+pub mod Played
+pub mod Drills

@@ -1,15 +1,9 @@
 -- An order that tells a party a command, and an order for which no memory is left.
-use Rattle.std.specs.List.{find}
-use Rattle.std.proofs.Common.{◌≡◌, ◌⊎◌, ◌&&◌, inl, inr, ℕ, Bool, true, false, cond, bytes_eq, List, [], ◌∷◌, Option, Some, IfSome, refl, sym, ap, subst, arith, option_map, None}
-use Rattle.std.proofs.lemmas.Option.{option_and_then_some}
+use Rattle.std.proofs.Common.{◌≡◌, ◌⊎◌, inl, inr, ℕ, false, List, [], ◌∷◌, Option, Some, IfSome, refl, sym, ap, subst, arith, option_map, None}
 use Rattle.x_base.specs.Edge.{Rose}
 use Rattle.x_disk.specs.Disk.{View, IsSound, IsUntouched}
-use Rattle.x_disk.specs.Shelf.{OthersStay, alike_refl}
+use Rattle.x_disk.specs.Shelf.{alike_refl}
 use Rattle.x_disk.proofs.Runs.{began}
-use Rattle.x_line.specs.OrderKinds.{is_built, name_of_kind, named, order_kinds}
-use Rattle.x_line.specs.LineValues.{word_of}
-use Rattle.x_line.specs.Line.{rows_of_line}
-use Rattle.x_line.specs.Orders.{IsOrder, kind_of}
 use Rattle.x_line.specs.declared.order.Order.{Order}
 use Rattle.x_line.specs.declared.order.Order.TheVariants as order
 use Rattle.party_state.specs.declared.command.Command.TheVariants as command
@@ -71,7 +65,7 @@ pub leaves_one : (o : Order) (party : List ℕ) (s : Status) (is_back : List ℕ
     → party_of o ≡ Some party → LeavesRest party s (is_back party) unwritten old new put puts disk disks → (is_reading o ≡ false → unread) → LeavesOthers o s is_back unread old new
 leaves_one o party s is_back unread unwritten old new put puts disk disks is rest same = record {
   back = λ of. subst (λ (x : Option (List ℕ)). IfSome x is_back) (sym is) (rest.back of);
-  others = subst (λ (x : Option (List ℕ)). OthersOf x old new) (sym is) rest.others;
+  others = λ playing. subst (λ (x : Option (List ℕ)). OthersOf x old new) (sym is) rest.others;
   unread = same;
 }
 
@@ -94,11 +88,11 @@ module _ (t : PartyCommand) (moment : ℕ) (s : Status) (left rest before after 
   obeys_command (order.End party peer name) is turned = obeys_some (command_of (order.End party peer name)) is turned
   obeys_command (order.Drop party peer) is turned = obeys_some (command_of (order.Drop party peer)) is turned
   obeys_command (order.Purge party) is turned = obeys_some (command_of (order.Purge party)) is turned
-  obeys_command order.Replay is turned = obeys_some (command_of order.Replay) is turned
+  obeys_command order.Replay is turned = tt
   obeys_command (order.StartKk party peer new label single) is turned = obeys_some (command_of (order.StartKk party peer new label single)) is turned
   obeys_command (order.Translate party peer ultimate) is turned = obeys_some (command_of (order.Translate party peer ultimate)) is turned
   obeys_command (order.Compact party) is turned = absurd cc
-  obeys_command (order.Drill seed events) is turned = obeys_some (command_of (order.Drill seed events)) is turned
+  obeys_command (order.Drill seed events) is turned = tt
 
   expects_some : (x : Option PartyCommand) → x ≡ Some t → Follows (old t.party) (IsDue (Ordered t.command) moment) s → ExpectsCommand x moment old s
   expects_some x is follows = subst (λ (y : Option PartyCommand). ExpectsCommand y moment old s) (sym is) follows
@@ -115,11 +109,11 @@ module _ (t : PartyCommand) (moment : ℕ) (s : Status) (left rest before after 
   expects_command (order.End party peer name) is follows = expects_some (command_of (order.End party peer name)) is follows
   expects_command (order.Drop party peer) is follows = expects_some (command_of (order.Drop party peer)) is follows
   expects_command (order.Purge party) is follows = expects_some (command_of (order.Purge party)) is follows
-  expects_command order.Replay is follows = expects_some (command_of order.Replay) is follows
+  expects_command order.Replay is follows = absurd cc
   expects_command (order.StartKk party peer new label single) is follows = expects_some (command_of (order.StartKk party peer new label single)) is follows
   expects_command (order.Translate party peer ultimate) is follows = expects_some (command_of (order.Translate party peer ultimate)) is follows
   expects_command (order.Compact party) is follows = absurd cc
-  expects_command (order.Drill seed events) is follows = expects_some (command_of (order.Drill seed events)) is follows
+  expects_command (order.Drill seed events) is follows = absurd cc
 
   party_given : (x : Option PartyCommand) → x ≡ Some t → option_map (λ (t : PartyCommand). t.party) x ≡ Some t.party
   party_given x is = ap (λ (y : Option PartyCommand). option_map (λ (t : PartyCommand). t.party) y) is
@@ -154,7 +148,7 @@ others_alike None e = λ name. alike_refl (e name)
 others_alike (Some party) e = λ other apart. alike_refl (e other)
 
 pub leaves_all : (o : Order) (s : Status) (is_back : List ℕ → Type 0) (unread : Type 0) (e : List ℕ → View) → (IsOfParty s → ⊥) → unread → LeavesOthers o s is_back unread e e
-leaves_all o s is_back unread e none same = record { back = λ of. absurd (none of); others = others_alike (party_of o) e; unread = λ reading. same }
+leaves_all o s is_back unread e none same = record { back = λ of. absurd (none of); others = λ playing. others_alike (party_of o) e; unread = λ reading. same }
 
 pub faults_of : (s : Status) (read reads put puts disk disks : ℕ) → HasCause s read reads put puts disk disks → HasFaults s read reads put puts disk disks
 faults_of s read reads put puts disk disks cause = record {
@@ -162,24 +156,6 @@ faults_of s read reads put puts disk disks cause = record {
   write_fault = λ is. subst (λ (x : Status). HasCause x read reads put puts disk disks) is cause;
   disk_fault = λ is. subst (λ (x : Status). HasCause x read reads put puts disk disks) is cause;
 }
-
--- ---- an order that a command line gives is of a built command
-
-first_passes : {X : Type 0} (p : X → Bool) (xs : List X) (x : X) → find p xs ≡ Some x → p x ≡ true
-first_passes p [] x is = absurd cc
-first_passes {X} p (y ∷ ys) x is = go (p y) refl is (λ more. first_passes p ys x more) where
-  go : (b : Bool) → p y ≡ b → cond b (Some y) (find p ys) ≡ Some x → (find p ys ≡ Some x → p x ≡ true) → p x ≡ true
-  go true passes found later = let same : y ≡ x = cc in subst (λ (z : X). p z ≡ true) same passes
-  go false fails found later = later found
-
-both_first : (a b : Bool) → (a && b) ≡ true → a ≡ true
-both_first true b is = refl
-both_first false b is = absurd (cc is)
-
-pub order_built : (words : List (List ℕ)) (o : Order) → IsOrder words o → is_built (kind_of o) ≡ true
-order_built words o is = option_and_then_some named (word_of (rows_of_line words)) (kind_of o) is.1.0 (λ name held found.
-    both_first (is_built (kind_of o)) (bytes_eq (name_of_kind (kind_of o)) name)
-    (first_passes (λ c. is_built c && bytes_eq (name_of_kind c) name) order_kinds (kind_of o) found))
 
 -- ---- where no memory is left, nothing is done
 
@@ -206,9 +182,9 @@ module _ (moment : ℕ) (left before : Option (List ℕ)) (e : List ℕ → View
   still_turn : (party : List ℕ) (i : Input) → IsPartyTurn i moment (e party) (e party) status.NoMemory before before
   still_turn party i = record { outcome = outcome.NoMemory; turned = tt; safe = safe (e party) i (sound party); ends = (refl, refl) }
 
-  pub idle : (o : Order) → is_built (kind_of o) ≡ true → Obeys o moment status.NoMemory left left before before e e
-  idle order.Check built = refl
-  idle (order.Init party role key v) built = record {
+  pub idle : (o : Order) → Obeys o moment status.NoMemory left left before before e e
+  idle order.Check = refl
+  idle (order.Init party role key v) = record {
     outcome = outcome.NoMemory;
     created = tt;
     nothing_written = λ image now marked. untouched (e party) (sound party);
@@ -216,17 +192,17 @@ module _ (moment : ℕ) (left before : Option (List ℕ)) (e : List ℕ → View
     tells = refl;
     ends = (refl, refl);
   }
-  idle (order.Show party) built = record { outcome = outcome.NoMemory; shows = tt; untouched = untouched (e party) (sound party); ends = (refl, refl) }
-  idle (order.Take party) built = inl (inl (inr refl), refl, alike_refl (e party))
-  idle (order.Load party peer label side pair) built = still_turn party (Ordered (command.Load peer label side pair))
-  idle (order.Start party peer label) built = still_turn party (Ordered (command.Start peer label))
-  idle (order.Ask party peer ultimate) built = still_turn party (Ordered (command.Ask peer ultimate))
-  idle (order.Resend party peer) built = still_turn party (Ordered (command.Resend peer))
-  idle (order.End party peer name) built = still_turn party (Ordered (command.End peer name))
-  idle (order.Drop party peer) built = still_turn party (Ordered (command.Drop peer))
-  idle (order.Purge party) built = still_turn party (Ordered command.Purge)
-  idle order.Replay built = absurd (cc built)
-  idle (order.StartKk party peer new label single) built = still_turn party (Ordered (command.StartKk peer label new single))
-  idle (order.Translate party peer ultimate) built = still_turn party (Ordered (command.Translate peer ultimate))
-  idle (order.Compact party) built = record { outcome = outcome.NoMemory; compacted = tt; safe = still_compaction (e party) (sound party); ends = (refl, refl) }
-  idle (order.Drill seed events) built = absurd (cc built)
+  idle (order.Show party) = record { outcome = outcome.NoMemory; shows = tt; untouched = untouched (e party) (sound party); ends = (refl, refl) }
+  idle (order.Take party) = inl (inl (inr refl), refl, alike_refl (e party))
+  idle (order.Load party peer label side pair) = still_turn party (Ordered (command.Load peer label side pair))
+  idle (order.Start party peer label) = still_turn party (Ordered (command.Start peer label))
+  idle (order.Ask party peer ultimate) = still_turn party (Ordered (command.Ask peer ultimate))
+  idle (order.Resend party peer) = still_turn party (Ordered (command.Resend peer))
+  idle (order.End party peer name) = still_turn party (Ordered (command.End peer name))
+  idle (order.Drop party peer) = still_turn party (Ordered (command.Drop peer))
+  idle (order.Purge party) = still_turn party (Ordered command.Purge)
+  idle order.Replay = tt
+  idle (order.StartKk party peer new label single) = still_turn party (Ordered (command.StartKk peer label new single))
+  idle (order.Translate party peer ultimate) = still_turn party (Ordered (command.Translate peer ultimate))
+  idle (order.Compact party) = record { outcome = outcome.NoMemory; compacted = tt; safe = still_compaction (e party) (sound party); ends = (refl, refl) }
+  idle (order.Drill seed events) = tt

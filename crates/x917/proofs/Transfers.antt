@@ -1,6 +1,7 @@
 -- One more piece taken, one more piece put.
-use Rattle.std.proofs.Common.{◌≡◌, ◌≤◌, ◌+◌, ◌++◌, ℕ, List, [], length, take, drop, arith, refl, ap, ◌∙◌, append_assoc, length-append, Option, Some, None}
-use Rattle.std.proofs.lemmas.List.{take-append-drop, length-take}
+use Rattle.std.proofs.Common.{◌≡◌, ◌≤◌, ◌<◌, ◌+◌, ◌++◌, ℕ, List, [], length, take, drop, arith, refl, sym, ap, ◌∙◌, append_assoc, length-append, Option, Some, None, inl, inr}
+use Rattle.std.proofs.lemmas.Bool.{cases_lt}
+use Rattle.std.proofs.lemmas.List.{append-nil, take-append-drop, length-take, take_all, take_at}
 use Rattle.std.proofs.Math.Seq.{take-add}
 use Rattle.x_base.specs.Edge.{TakesFront, AppendsTo}
 use Rattle.x917.specs.Transfer.{Took, TookAtMost, IsAtEnd}
@@ -48,3 +49,15 @@ pub ended : (before mid after : Option (List ℕ)) (text buf : List ℕ)
 ended None mid after text buf t f = tt
 ended (Some all) None after text buf t f = absurd t
 ended (Some all) (Some rest) after text buf t f = f.0 ∙ ap Some (f.3 refl)
+
+-- what was taken, where the input is told
+pub front_taken : (limit : ℕ) (all text : List ℕ) (after : Option (List ℕ)) → Took (Some all) after text → length text ≤ limit
+    → (length text < limit → IsAtEnd (Some all) after) → text ≡ take limit all
+front_taken limit all text None t h e = absurd t
+front_taken limit all text (Some rest) t h e = elim (cases_lt (length text) limit) [
+  | inl lt ↦
+      let none : rest ≡ [] = let n = e lt in cc in
+      let whole : all ≡ text = t ∙ ap (λ r. text ++ r) none ∙ append-nil text in
+      sym (take_all limit text h) ∙ ap (λ (b : List ℕ). take limit b) (sym whole)
+  | inr ge ↦ sym (take_at text rest limit (omega (arith, h, ge))) ∙ ap (λ (b : List ℕ). take limit b) (sym t)
+]

@@ -3,5 +3,8 @@ pub mod Lines
 pub mod Check
 pub mod Ends
 pub mod Dues
+pub mod Headline
+pub mod Drilled
+pub mod Playable
 pub mod Obeys
 pub mod Network

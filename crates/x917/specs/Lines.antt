@@ -44,6 +44,8 @@ line_of status.ReadFault = codes "x917: read fault\n"
 line_of status.WriteFault = codes "x917: write fault\n"
 line_of status.DiskFault = codes "x917: disk fault\n"
 line_of (status.Damaged place) = codes "x917: damaged at " ++ (decimal place ++ codes "\n")
+line_of (status.BadScenario number) = codes "x917: bad line " ++ (decimal number ++ codes "\n")
+line_of (status.Forged number) = codes "x917: forged event " ++ (decimal number ++ codes "\n")
 line_of status.NoMemory = codes "x917: no memory\n"
 
 abbrev pub exit_code_of : Status → ℕ
@@ -55,4 +57,6 @@ exit_code_of status.ReadFault = 3
 exit_code_of status.WriteFault = 4
 exit_code_of status.DiskFault = 5
 exit_code_of (status.Damaged place) = 6
+exit_code_of (status.BadScenario number) = 7
+exit_code_of (status.Forged number) = 8
 exit_code_of status.NoMemory = 9

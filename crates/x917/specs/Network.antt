@@ -31,12 +31,15 @@ abbrev pub IsCommandEvent : Option PartyCommand → ℕ → (List ℕ → View) 
 IsCommandEvent (Some t) moment old new s before after = IsEvent (Orders t.command) moment (10 ∷ []) (old t.party) (new t.party) s before after
 IsCommandEvent None moment old new s before after = Unit {0}
 
--- what an order is in a network: parties begin, and links are loaded, before its events; showing and checking are none
+-- what an order is in a network: parties begin, and links are loaded, before its events; showing and checking are none; a
+-- scenario is a network of its own, of which Headline speaks
 abbrev pub IsNetworkEvent : Order → ℕ → Status → Option (List ℕ) → Option (List ℕ) → Option (List ℕ) → (List ℕ → View) → (List ℕ → View) → Type 0
 IsNetworkEvent order.Check moment s left before after old new = Unit {0}
 IsNetworkEvent (order.Init party role key v) moment s left before after old new = Unit {0}
 IsNetworkEvent (order.Load party peer label side pair) moment s left before after old new = Unit {0}
 IsNetworkEvent (order.Show party) moment s left before after old new = Unit {0}
+IsNetworkEvent order.Replay moment s left before after old new = Unit {0}
+IsNetworkEvent (order.Drill seed events) moment s left before after old new = Unit {0}
 IsNetworkEvent (order.Compact party) moment s left before after old new = IsEvent Compacts moment [] (old party) (new party) s before after
 IsNetworkEvent (order.Take party) moment s left before after old new = IsArrivalEvent moment left (old party) (new party) s before after
 IsNetworkEvent o moment s left before after old new = IsCommandEvent (command_of o) moment old new s before after

@@ -26,8 +26,10 @@ use Rattle.x917.specs.declared.party_command.PartyCommand.{PartyCommand}
 use Rattle.x917.specs.declared.status.Status.{Status}
 use Rattle.x917.specs.declared.status.Status.TheVariants as status
 use Rattle.x917.specs.Check.{IsChecked, IsExact, IsPossible, taken, refusal_of}
-use Rattle.x917.specs.Ends.{Ends, IsOfParty}
+use Rattle.x917.specs.Ends.{Ends, IsOfParty, IsSilent}
 use Rattle.x917.specs.Dues.{Follows, IsHeard, FollowsBytes}
+use Rattle.x917.specs.Playable.{ExpectsReplay, ExpectsDrill}
+use Rattle.x917.specs.Transfer.{input_limit, scenario_limit}
 
 -- the command that an order gives to a party
 abbrev pub command_of : Order → Option PartyCommand
@@ -86,13 +88,15 @@ abbrev pub ObeysCommand : Option PartyCommand → ℕ → (List ℕ → View) �
 ObeysCommand (Some t) moment old new s before after = IsPartyTurn (Ordered t.command) moment (old t.party) (new t.party) s before after
 ObeysCommand None moment old new s before after = ⊥
 
--- what each order does; no command line gives one of a command that isn't built
+-- what each order does at a party, or with a message; what the playing of a scenario says stands in Headline
 abbrev pub Obeys : Order → ℕ → Status → Option (List ℕ) → Option (List ℕ) → Option (List ℕ) → Option (List ℕ) → (List ℕ → View) → (List ℕ → View) → Type 0
 Obeys order.Check moment s left rest before after old new = IsChecked s left rest before after
 Obeys (order.Init party role key v) moment s left rest before after old new =
     IsCreation (begun party role (record { key = key; v = v })) (old party) (new party) s before after
 Obeys (order.Show party) moment s left rest before after old new = IsListing (old party) (new party) s before after
 Obeys (order.Compact party) moment s left rest before after old new = IsCompacting (old party) (new party) s before after
+Obeys order.Replay moment s left rest before after old new = Unit {0}
+Obeys (order.Drill seed events) moment s left rest before after old new = Unit {0}
 Obeys (order.Take party) moment s left rest before after old new = IsTaken moment left rest (old party) (new party) s before after
 Obeys o moment s left rest before after old new = ObeysCommand (command_of o) moment old new s before after
 
@@ -106,6 +110,8 @@ Expects order.Check moment left old s = IsExact left s
 Expects (order.Init party role key v) moment left old s = Follows (old party) IsDueCreation s
 Expects (order.Show party) moment left old s = Follows (old party) IsDueShow s
 Expects (order.Compact party) moment left old s = Follows (old party) IsDueCompaction s
+Expects order.Replay moment left old s = IfSome left (λ all. ExpectsReplay all old s)
+Expects (order.Drill seed events) moment left old s = ExpectsDrill seed events s
 Expects (order.Take party) moment left old s = IfSome left (λ all. FollowsBytes all (old party) moment s)
 Expects o moment left old s = ExpectsCommand (command_of o) moment old s
 
@@ -123,17 +129,43 @@ abbrev pub OthersOf : Option (List ℕ) → (List ℕ → View) → (List ℕ �
 OthersOf None old new = AllStay old new
 OthersOf (Some party) old new = OthersStay party old new
 
+-- the orders that play a scenario
+abbrev pub is_played : Order → Bool
+is_played order.Replay = true
+is_played (order.Drill seed events) = true
+is_played o = false
+
+-- the order that sets up parties of its own on the shelf
+abbrev pub is_replay : Order → Bool
+is_replay order.Replay = true
+is_replay o = false
+
 -- the orders that read the source
 abbrev pub is_reading : Order → Bool
 is_reading order.Check = true
+is_reading order.Replay = true
 is_reading (order.Take party) = true
 is_reading o = false
 
+-- how many bytes of the source an order takes at most
+abbrev pub most_of : Order → ℕ
+most_of order.Replay = scenario_limit
+most_of (order.Drill seed events) = 0
+most_of o = input_limit
+
+-- with these statuses an order writes nothing. The playing of a scenario may break off behind its first lines
+abbrev pub IsSilentOf : Order → Status → Type 0
+IsSilentOf order.Replay status.ReadFault = Unit {0}
+IsSilentOf order.Replay (status.BadScenario number) = Unit {0}
+IsSilentOf order.Replay (status.Refused refusal) = Unit {0}
+IsSilentOf order.Replay s = ⊥
+IsSilentOf o s = IsSilent s
+
 -- what an order leaves: where the party answered, its disk is back on the shelf; the disks of the other parties stay, and the
--- source where it isn't read
+-- source where it isn't read. Which disks the playing of a scenario leaves is said in Headline
 pub record LeavesOthers (o : Order) (s : Status) (is_back : List ℕ → Type 0) (stays : Type 0) (old new : List ℕ → View) : Type 0 where
   pub back : IsOfParty s → IfSome (party_of o) is_back
-  pub others : OthersOf (party_of o) old new
+  pub others : is_replay o ≡ false → OthersOf (party_of o) old new
   pub unread : is_reading o ≡ false → stays
 
 -- the words are judged first: the status says what is wrong with them, or no memory was left, and then nothing is touched

@@ -7,6 +7,10 @@ use Rattle.x_base.specs.Edge.{Rose}
 abbrev pub input_limit : ℕ
 input_limit = 2049
 
+-- how many bytes of a scenario are taken at most: one more than it may have
+abbrev pub scenario_limit : ℕ
+scenario_limit = 16777217
+
 -- the text was taken from the front of what was left
 abbrev pub Took : Option (List ℕ) → Option (List ℕ) → List ℕ → Type 0
 Took None after text = Unit {0}

@@ -8,6 +8,7 @@ ghost use Rattle.x917.specs.Ends.{IsSilent};
 use crate::judgement::{judge, reply};
 use crate::status::Status;
 use crate::transfer::{GatherError, gather, put_all};
+use csm_feed::INPUT_LIMIT;
 use std::alloc::Global;
 use x_base::{NoMemory, Sink, Source};
 
@@ -22,7 +23,7 @@ pub fn check<S: Source, K: Sink>(alloc: Global, source: &mut S, sink: &mut K) ->
     ensures silent { IsSilent result → sink.new ≡ sink.old }
     ensures most { TookAtMost input_limit (S.left source.old) (S.left source.new) }
 {
-    let input = match gather(alloc, source) {
+    let input = match gather(alloc, source, INPUT_LIMIT) {
         Ok(input) => input,
         Err(GatherError::Fault) => return Status::ReadFault,
         Err(GatherError::NoMemory) => return Status::NoMemory,

@@ -2,10 +2,13 @@
 #![tactic(auto)]
 
 mod check;
+mod courses;
+mod drilling;
 mod finish;
 mod judgement;
 mod party;
 mod party_command;
+mod replaying;
 mod status;
 mod take;
 #[cfg(test)]

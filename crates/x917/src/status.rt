@@ -33,6 +33,10 @@ pub enum Status {
     DiskFault,
     /// The image of a party's disk stands for no party; the place is that of its first damage.
     Damaged(u64),
+    /// This line, counted from 1, is the first that no scenario has.
+    BadScenario(u32),
+    /// At the event of this number a code agreed that nobody made who holds its key.
+    Forged(u32),
     NoMemory,
 }
 
@@ -99,6 +103,18 @@ fn damaged_line(alloc: Global, place: u64) -> Result<String, AllocError>
     format!(in alloc; "x917: damaged at {place}\n")
 }
 
+fn bad_line(alloc: Global, number: u32) -> Result<String, AllocError>
+    ensures { IfOk result (λ s. string_bytes s ≡ line_of (Status.BadScenario number)) }
+{
+    format!(in alloc; "x917: bad line {number}\n")
+}
+
+fn forged_line(alloc: Global, number: u32) -> Result<String, AllocError>
+    ensures { IfOk result (λ s. string_bytes s ≡ line_of (Status.Forged number)) }
+{
+    format!(in alloc; "x917: forged event {number}\n")
+}
+
 /// The line of a status for standard error, with its line feed; empty at `Done`.
 pub fn status_line(alloc: Global, status: &Status) -> Result<Text, NoMemory>
     ensures { IfOk result (λ line. line ≡ line_of status.now) }
@@ -112,6 +128,8 @@ pub fn status_line(alloc: Global, status: &Status) -> Result<Text, NoMemory>
         Status::WriteFault => line.push(b"x917: write fault\n")?,
         Status::DiskFault => line.push(b"x917: disk fault\n")?,
         Status::Damaged(place) => line.push(damaged_line(alloc, *place)?.as_bytes())?,
+        Status::BadScenario(number) => line.push(bad_line(alloc, *number)?.as_bytes())?,
+        Status::Forged(number) => line.push(forged_line(alloc, *number)?.as_bytes())?,
         Status::NoMemory => line.push(b"x917: no memory\n")?,
     }
     Ok(line)
@@ -130,6 +148,8 @@ pub fn exit_code(status: &Status) -> u8
         Status::WriteFault => 4,
         Status::DiskFault => 5,
         Status::Damaged(_) => 6,
+        Status::BadScenario(_) => 7,
+        Status::Forged(_) => 8,
         Status::NoMemory => 9,
     }
 }

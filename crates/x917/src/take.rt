@@ -10,7 +10,7 @@ use crate::judgement::refusal_of;
 use crate::party::turn;
 use crate::status::Status;
 use crate::transfer::{GatherError, gather};
-use csm_feed::{hear, law_one_hearing};
+use csm_feed::{INPUT_LIMIT, hear, law_one_hearing};
 use csm_grammar::Arrival;
 use party_state::Input;
 use std::alloc::Global;
@@ -24,7 +24,7 @@ fn listen<S: Source>(alloc: Global, source: &mut S) -> Result<Arrival, Status>
     ensures read_fault { IfErr result (λ s. s ≡ Status.ReadFault → Rose (S.faults source.old) (S.faults source.new)) }
     ensures most { TookAtMost input_limit (S.left source.old) (S.left source.new) }
 {
-    let input = match gather(alloc, source) {
+    let input = match gather(alloc, source, INPUT_LIMIT) {
         Ok(input) => input,
         Err(GatherError::Fault) => return Err(Status::ReadFault),
         Err(GatherError::NoMemory) => return Err(Status::NoMemory),

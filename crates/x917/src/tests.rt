@@ -12,6 +12,7 @@ use x_disk::{MemoryShelf, Shelf};
 mod faults;
 mod new_keys;
 mod parties;
+mod scenarios;
 mod texts;
 mod words;
 
@@ -246,7 +247,7 @@ fn called_over<H: Shelf>(
     put: u32,
 ) -> Result<Answer, NoMemory> {
     let mut source = MemorySource::new(input, only(alloc, take)?);
-    let mut output = MemorySink::new(alloc, 200, only(alloc, put)?)?;
+    let mut output = MemorySink::new(alloc, 600, only(alloc, put)?)?;
     let status = run(alloc, words, 0, &mut source, &mut output, shelf);
     let line = status_line(alloc, &status)?;
     Ok(Answer {

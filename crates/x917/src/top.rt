@@ -1,28 +1,32 @@
 // The top call.
-ghost use Rattle.std.specs.Prelude.{◌≡◌, true};
-ghost use Rattle.x_line.specs.OrderKinds.{is_built};
-ghost use Rattle.x_line.specs.Orders.{IsOrder, kind_of};
+ghost use Rattle.std.specs.Prelude.{◌≡◌, ◌≤◌, ℕ, false};
+ghost use Rattle.x_line.specs.Orders.{IsOrder};
 ghost use Rattle.x_line.specs.declared.order.Order.{Order};
+ghost use Rattle.x_line.specs.declared.order.Order.TheVariants.{Replay, Drill};
 ghost use Rattle.x917.specs.Transfer.{TookAtMost, IsQuiet, input_limit};
 ghost use Rattle.x917.specs.Ends.{HasCause, HasFaults, IsSilent};
-ghost use Rattle.x917.specs.Obeys.{Obeys, Expects, LeavesOthers, JudgesWords};
+ghost use Rattle.x917.specs.Headline.{IsReplay};
+ghost use Rattle.x917.specs.Drilled.{IsDrill};
+ghost use Rattle.x917.specs.Obeys.{Obeys, Expects, LeavesOthers, JudgesWords, IsSilentOf, is_played, most_of};
 ghost use Rattle.x917.specs.Network.{IsNetworkEvent};
 
 use crate::check::check;
+use crate::drilling::drill_all;
 use crate::party::{compact, create, list, turn};
 use crate::party_command::command_of;
+use crate::replaying::replay_all;
 use crate::status::Status;
 use crate::take::take;
 use party_state::Input;
 use std::alloc::Global;
 use world_laws::law_calls;
 use x_base::{Sink, Source, Words};
-use x_disk::Shelf;
+use x_disk::{MemoryShelf, Shelf};
 use x_gen::Gen;
-use x_line::{LineFault, Order, law_one_order, read_order};
+use x_line::{LineFault, Order, law_few_events, law_one_order, read_order};
 
-/// Does what an order says.
-fn carry_out<S: Source, K: Sink, H: Shelf>(
+/// Does what an order says that is for a party, or for a message alone.
+fn obey<S: Source, K: Sink, H: Shelf>(
     alloc: Global,
     order: Order,
     moment: u64,
@@ -30,7 +34,7 @@ fn carry_out<S: Source, K: Sink, H: Shelf>(
     sink: &mut K,
     shelf: &mut H,
 ) -> Status
-    requires { is_built (kind_of order) ≡ true }
+    requires { is_played order ≡ false }
     ensures obeys { Obeys order moment result (S.left source.old) (S.left source.new) (K.written sink.old) (K.written sink.new) (H.entry shelf.old) (H.entry shelf.new) }
     ensures expects { IsQuiet (S.faults source.old) (S.faults source.new) → IsQuiet (K.faults sink.old) (K.faults sink.new) → IsQuiet (H.faults shelf.old) (H.faults shelf.new)
         → Expects order moment (S.left source.old) (H.entry shelf.old) result }
@@ -60,8 +64,37 @@ fn carry_out<S: Source, K: Sink, H: Shelf>(
     }
 }
 
-/// Runs the command that the words name, at a moment: `check` over the source and the sink, and the others over a
-/// party's disk on the shelf. A fetched disk is put back before anything is written.
+/// Does what an order says.
+fn carry_out<S: Source, K: Sink, H: Shelf>(
+    alloc: Global,
+    order: Order,
+    moment: u64,
+    source: &mut S,
+    sink: &mut K,
+    shelf: &mut H,
+) -> Status
+    requires { (seed events : ℕ) → order ≡ Drill seed events → (1 ≤ events) × (events ≤ 10000) }
+    ensures obeys { Obeys order moment result (S.left source.old) (S.left source.new) (K.written sink.old) (K.written sink.new) (H.entry shelf.old) (H.entry shelf.new) }
+    ensures expects { IsQuiet (S.faults source.old) (S.faults source.new) → IsQuiet (K.faults sink.old) (K.faults sink.new) → IsQuiet (H.faults shelf.old) (H.faults shelf.new)
+        → Expects order moment (S.left source.old) (H.entry shelf.old) result }
+    ensures others { LeavesOthers order result (H.is_back shelf.new) (source.new ≡ source.old) (H.entry shelf.old) (H.entry shelf.new) }
+    ensures cause { HasCause result (S.faults source.old) (S.faults source.new) (K.faults sink.old) (K.faults sink.new) (H.faults shelf.old) (H.faults shelf.new) }
+    ensures silent { IsSilentOf order result → sink.new ≡ sink.old }
+    ensures most { TookAtMost (most_of order) (S.left source.old) (S.left source.new) }
+    ensures replays { order ≡ Replay → IsReplay result (S.left source.old) (S.left source.new) (K.written sink.old) (K.written sink.new) (H.entry shelf.old) (H.entry shelf.new) (H.faults shelf.old) (H.faults shelf.new) }
+    ensures drills { (seed events : ℕ) → order ≡ Drill seed events
+        → IsDrill ⟦<MemoryShelf as Shelf>⟧.entry seed events result (K.written sink.old) (K.written sink.new) × (source.new ≡ source.old) × (shelf.new ≡ shelf.old) }
+{
+    match order {
+        Order::Replay => replay_all(alloc, source, sink, shelf),
+        Order::Drill { seed, events } => drill_all(alloc, seed, events, sink),
+        _ => obey(alloc, order, moment, source, sink, shelf),
+    }
+}
+
+/// Runs the command that the words name, at a moment: `check` over the source and the sink, `replay` over the disks of the
+/// scenario's parties, `drill` over disks of its own, and the others over a party's disk on the shelf. A party's fetched disk
+/// is put back before anything is written.
 pub fn run<S: Source, K: Sink, H: Shelf>(
     alloc: Global,
     words: &Words,
@@ -85,14 +118,24 @@ pub fn run<S: Source, K: Sink, H: Shelf>(
     // Where the party answered, its disk is back on the shelf; the other disks stay, and a source that isn't read.
     ensures others { (order : Order) → IsOrder words.now order → LeavesOthers order result (H.is_back shelf.new) (source.new ≡ source.old) (H.entry shelf.old) (H.entry shelf.new) }
 
+    // A scenario is played as its lines say, and what it ends with is true of the network that they describe.
+    ensures replays { IsOrder words.now Replay → IsReplay result (S.left source.old) (S.left source.new) (K.written sink.old) (K.written sink.new) (H.entry shelf.old) (H.entry shelf.new) (H.faults shelf.old) (H.faults shelf.new) }
+
+    // A drill is a scenario that is made of a seed, played over a shelf of its own in memory. The source and the shelf that
+    // are handed in stay as they are.
+    ensures drills { (seed events : ℕ) → IsOrder words.now (Drill seed events)
+        → IsDrill ⟦<MemoryShelf as Shelf>⟧.entry seed events result (K.written sink.old) (K.written sink.new) × (source.new ≡ source.old) × (shelf.new ≡ shelf.old) }
+
     // A fault comes only where a count of faults rose, over every source, sink and shelf.
     ensures faults { HasFaults result (S.faults source.old) (S.faults source.new) (K.faults sink.old) (K.faults sink.new) (H.faults shelf.old) (H.faults shelf.new) }
 
-    // At most 2,049 bytes are taken, from the front, and with a silent status nothing is written.
-    ensures silent { IsSilent result → sink.new ≡ sink.old }
-    ensures most { TookAtMost input_limit (S.left source.old) (S.left source.new) }
+    // Of a scenario at most 16,777,217 bytes are taken, from the front, and otherwise at most 2,049; with a silent status
+    // nothing is written.
+    ensures silent { (order : Order) → IsOrder words.now order → IsSilentOf order result → sink.new ≡ sink.old }
+    ensures most { (order : Order) → IsOrder words.now order → TookAtMost (most_of order) (S.left source.old) (S.left source.new) }
 {
     law_one_order();
+    law_few_events();
     law_calls::<H>();
     match read_order(alloc, words) {
         Ok(order) => carry_out(alloc, order, moment, source, sink, shelf),

@@ -1,9 +1,8 @@
 // Moving bytes from a source, and to a sink.
 ghost use Rattle.std.specs.Prelude.{◌≡◌, ◌≤◌, ◌<◌, length, IfOk, OnOk, OnErr};
 ghost use Rattle.x_base.specs.Edge.{Rose, AppendsTo};
-ghost use Rattle.x917.specs.Transfer.{Took, TookAtMost, IsAtEnd, WrotePrefix, input_limit};
+ghost use Rattle.x917.specs.Transfer.{Took, TookAtMost, IsAtEnd, WrotePrefix};
 
-use csm_feed::INPUT_LIMIT;
 use std::alloc::Global;
 use x_base::{Sink, SinkFault, Source, Text};
 
@@ -16,17 +15,17 @@ pub enum GatherError {
 
 /// Takes bytes until the end or the limit, each turn at least one.
 #[tactic(auto, using(crate::proofs::Transfers::took_none, crate::proofs::Transfers::took_more, crate::proofs::Transfers::took_piece, crate::proofs::Transfers::ended))]
-pub fn gather<S: Source>(alloc: Global, source: &mut S) -> Result<Text, GatherError>
-    ensures bound { IfOk result (λ text. length text ≤ INPUT_LIMIT) }
+pub fn gather<S: Source>(alloc: Global, source: &mut S, limit: usize) -> Result<Text, GatherError>
+    ensures bound { IfOk result (λ text. length text ≤ limit) }
     ensures took { IfOk result (λ text. Took (S.left source.old) (S.left source.new) text) }
-    ensures end { IfOk result (λ text. length text < INPUT_LIMIT → IsAtEnd (S.left source.old) (S.left source.new)) }
+    ensures end { IfOk result (λ text. length text < limit → IsAtEnd (S.left source.old) (S.left source.new)) }
     ensures fault { result ≡ Err GatherError.Fault → Rose (S.faults source.old) (S.faults source.new) }
-    ensures most { TookAtMost input_limit (S.left source.old) (S.left source.new) }
+    ensures most { TookAtMost limit (S.left source.old) (S.left source.new) }
 {
     let mut text = Text::new(alloc);
-    let mut buf = [0u8; 256];
-    'taking: while text.bytes().len() < INPUT_LIMIT {
-        let want = (INPUT_LIMIT - text.bytes().len()).min(buf.len());
+    let mut buf = [0u8; 4096];
+    'taking: while text.bytes().len() < limit {
+        let want = (limit - text.bytes().len()).min(buf.len());
         let Ok(n) = source.take(&mut buf[..want]) else {
             return Err(GatherError::Fault);
         };

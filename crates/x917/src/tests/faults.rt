@@ -1,6 +1,8 @@
 // Disks, shelves, sources and sinks that fail.
 use super::parties::{call, holds, is_answer, standing};
-use super::texts::{DISK_FAULT, DSM, ESM, KSM, PLAIN, READ_FAULT, RSI, RSM, START, WRITE_FAULT};
+use super::texts::{
+    DISK_FAULT, DSM, ESM, EXCHANGED, KSM, PLAIN, READ_FAULT, RSI, RSM, SCENARIO, START, WRITE_FAULT,
+};
 use crate::status::{Status, exit_code};
 use std::alloc::Global;
 use std::test::Fail;
@@ -49,7 +51,7 @@ struct Case {
 }
 
 /// From the party's beginning to a key that is sent.
-const SENDING: [Case; 6] = [
+const SENDING: [Case; 7] = [
     Case {
         party: "BANKA",
         pieces: 0,
@@ -109,6 +111,16 @@ const SENDING: [Case; 6] = [
         before: SENT,
         after: ENDED,
         again: ("", "x917: refused 24\n"),
+    },
+    Case {
+        party: "BANKA",
+        pieces: 4,
+        line: "compact --party BANKA",
+        input: "",
+        output: "",
+        before: SENT,
+        after: SENT,
+        again: ("", ""),
     },
 ];
 
@@ -337,6 +349,36 @@ fn a_fault_of_the_source_is_told(rt: HostRuntime) -> Result<(), Fail> {
     }
     assert!(rt; holds(alloc, &mut shelf, "BANKB", 3)?);
     assert_eq!(rt; exit_code(&Status::ReadFault), 3);
+    Ok(())
+}
+
+/// The same for a scenario, of which nothing is done then.
+#[test]
+fn a_fault_of_a_scenarios_source_is_told(rt: HostRuntime) -> Result<(), Fail> {
+    let alloc = rt.alloc();
+    for take in [1, 2] {
+        let mut shelf = MemoryShelf::new(alloc);
+        let answer = call(alloc, &mut shelf, "replay", SCENARIO, take, 0)?;
+        assert!(rt; is_answer(&answer, "", READ_FAULT), "{take}");
+        assert!(rt; shows(alloc, &mut shelf, "BANKA", "")?, "{take}");
+    }
+    Ok(())
+}
+
+/// Each call of the sink fails in turn, until none is left: so much of the transcript was written then.
+#[test]
+fn a_fault_of_a_transcripts_sink_is_told(rt: HostRuntime) -> Result<(), Fail> {
+    let alloc = rt.alloc();
+    let mut is_done = false;
+    for put in 1..50 {
+        let mut shelf = MemoryShelf::new(alloc);
+        let answer = call(alloc, &mut shelf, "replay", SCENARIO, 0, put)?;
+        is_done = is_answer(&answer, EXCHANGED, "");
+        let is_cut = answer.line.bytes() == WRITE_FAULT.as_bytes();
+        let is_part = EXCHANGED.as_bytes().starts_with(answer.output.bytes());
+        assert!(rt; is_done || (is_cut && is_part), "{put}");
+    }
+    assert!(rt; is_done);
     Ok(())
 }
 

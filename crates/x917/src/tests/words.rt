@@ -26,20 +26,11 @@ const NO_LINE: [&str; 16] = [
     "check help",
 ];
 
-/// Words that name no command, or one that isn't built.
-const NO_COMMAND: [&str; 8] = [
-    "help",
-    "open",
-    "CHECK",
-    "-",
-    "",
-    "open --party BAN",
-    "replay",
-    "drill --seed 7 --events 400",
-];
+/// Words that name no command.
+const NO_COMMAND: [&str; 6] = ["help", "open", "CHECK", "-", "", "open --party BAN"];
 
 /// Commands with an option that they don't take, whatever else is wrong.
-const UNWANTED: [&str; 12] = [
+const UNWANTED: [&str; 14] = [
     "check --party BANKA",
     "check --single",
     "show --party BANKA --peer BANKB",
@@ -52,10 +43,12 @@ const UNWANTED: [&str; 12] = [
     "show --single",
     "startkk --party BANKA --peer BANKB --new K2 --single --key 0123456789ABCDEFFEDCBA9876543210",
     "translate --party B --label C",
+    "replay --party BANKA",
+    "drill --seed 7 --events 400 --party BANKA",
 ];
 
 /// Commands that lack an option, whatever the others hold.
-const MISSING: [&str; 11] = [
+const MISSING: [&str; 13] = [
     "show",
     "compact",
     "take",
@@ -67,10 +60,12 @@ const MISSING: [&str; 11] = [
     "resend --peer BANKB",
     "startkk --party BANKA --peer BANKB --single",
     "translate --party BANKA --peer CKTX",
+    "drill --seed 7",
+    "drill --events 0",
 ];
 
 /// Values that aren't what the option holds.
-const BAD_VALUE: [&str; 13] = [
+const BAD_VALUE: [&str; 16] = [
     "show --party BAN",
     "show --party banka",
     "show --party=",
@@ -84,6 +79,9 @@ const BAD_VALUE: [&str; 13] = [
     "end --party BANKA --peer BANKB --name BANKA.BANKA.K1",
     "end --party BANKA --peer BANKB --name BANKA.BANKA.K1.0",
     "start --party BANKA --peer BANKB --label ABCDEFGHIJKLMNOPQ",
+    "drill --seed 7 --events 0",
+    "drill --seed 7 --events 10001",
+    "drill --seed 18446744073709551616 --events 1",
 ];
 
 /// Command lines that are read, and what is told of them.

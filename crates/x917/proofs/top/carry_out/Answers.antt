@@ -1,113 +1,84 @@
-use Rattle.std.proofs.Common.{◌≡◌, ◌∙◌, true, false, Some, [], ◌∷◌, refl, sym, ap, subst}
+use Rattle.std.proofs.Common.{◌≡◌, ◌∙◌, refl, sym, subst}
 use Rattle.x_disk.specs.Shelf.{alike_refl}
 use Rattle.x_line.specs.declared.order.Order.{Order}
-use Rattle.x917.specs.Obeys.{Expects, LeavesOthers, command_of, party_of, is_reading}
-use Rattle.x917.proofs.Orders.{took_nothing, cause_ended, cause_taken, obeys_command, expects_command, leaves_one, leaves_of}
+use Rattle.x_line.specs.declared.order.Order.TheVariants as order
+use Rattle.x917.specs.Obeys.{Obeys, Expects, LeavesOthers, IsSilentOf, most_of}
+use Rattle.x917.specs.Transfer.{TookAtMost}
+use Rattle.x917.proofs.Orders.{took_nothing}
+use Rattle.x917.proofs.Played.{cause_played, cause_drilled, not_played, limit_of_others, silent_of}
 use Rattle.x917.proofs.top.carry_out.Goals as goal
-use Rattle.x917.specs.Transfer.{input_limit}
 
-pub returns-in-Check-clause-others : goal.returns-in-Check-clause-others
-returns-in-Check-clause-others g c =
-    subst (λ (o : Order). LeavesOthers o c.check.result (g.H.Shelf.is_back c.args.shelf.now) (c.check.new.source ≡ c.args.source.now) (g.H.Shelf.entry c.args.shelf.now) (g.H.Shelf.entry c.args.shelf.now))
-    (sym c.in-Check.is) (record { back = λ of. tt; others = λ name. alike_refl (g.H.Shelf.entry c.args.shelf.now name); unread = λ reading. absurd (cc reading) })
-
-pub returns-in-Init-clause-others : goal.returns-in-Init-clause-others
-returns-in-Init-clause-others g c =
-    leaves_one c.args.order c.in-Init.party c.create.result (g.H.Shelf.is_back c.create.new.shelf) (c.args.source.now ≡ c.args.source.now) (c.create.new.sink ≡ c.args.sink.now)
-    (g.H.Shelf.entry c.args.shelf.now) (g.H.Shelf.entry c.create.new.shelf) (g.K.Sink.faults c.args.sink.now) (g.K.Sink.faults c.create.new.sink)
-    (g.H.Shelf.faults c.args.shelf.now) (g.H.Shelf.faults c.create.new.shelf) (ap party_of c.in-Init.is) c.create.ensures.rest (λ reading. refl)
-
-pub returns-in-Init-clause-cause : goal.returns-in-Init-clause-cause
-returns-in-Init-clause-cause g c =
-    let reads = g.S.Source.faults c.args.source.now in
-    let done = c.create.ensures.created in
-    cause_ended reads reads (g.K.Sink.faults c.args.sink.now) (g.K.Sink.faults c.create.new.sink) (g.H.Shelf.faults c.args.shelf.now) (g.H.Shelf.faults c.create.new.shelf)
-    done.outcome [] c.create.result (g.K.Sink.written c.args.sink.now) (g.K.Sink.written c.create.new.sink) done.ends c.create.ensures.rest.write_fault c.create.ensures.rest.disk_fault
-
-pub returns-in-Init-clause-expects : goal.returns-in-Init-clause-expects
-returns-in-Init-clause-expects g c = λ read_quiet put_quiet disk_quiet.
-    subst (λ (o : Order). Expects o c.args.moment (g.S.Source.left c.args.source.now) (g.H.Shelf.entry c.args.shelf.now) c.create.result) (sym c.in-Init.is)
-    (c.create.ensures.follows put_quiet disk_quiet)
-
-pub returns-in-Show-clause-others : goal.returns-in-Show-clause-others
-returns-in-Show-clause-others g c =
-    leaves_one c.args.order c.in-Show.party c.list.result (g.H.Shelf.is_back c.list.new.shelf) (c.args.source.now ≡ c.args.source.now) (c.list.new.sink ≡ c.args.sink.now)
-    (g.H.Shelf.entry c.args.shelf.now) (g.H.Shelf.entry c.list.new.shelf) (g.K.Sink.faults c.args.sink.now) (g.K.Sink.faults c.list.new.sink)
-    (g.H.Shelf.faults c.args.shelf.now) (g.H.Shelf.faults c.list.new.shelf) (ap party_of c.in-Show.is) c.list.ensures.rest (λ reading. refl)
-
-pub returns-in-Show-clause-cause : goal.returns-in-Show-clause-cause
-returns-in-Show-clause-cause g c =
-    let reads = g.S.Source.faults c.args.source.now in
-    let done = c.list.ensures.listed in
-    cause_ended reads reads (g.K.Sink.faults c.args.sink.now) (g.K.Sink.faults c.list.new.sink) (g.H.Shelf.faults c.args.shelf.now) (g.H.Shelf.faults c.list.new.shelf)
-    done.outcome [] c.list.result (g.K.Sink.written c.args.sink.now) (g.K.Sink.written c.list.new.sink) done.ends c.list.ensures.rest.write_fault c.list.ensures.rest.disk_fault
-
-pub returns-in-Show-clause-expects : goal.returns-in-Show-clause-expects
-returns-in-Show-clause-expects g c = λ read_quiet put_quiet disk_quiet.
-    subst (λ (o : Order). Expects o c.args.moment (g.S.Source.left c.args.source.now) (g.H.Shelf.entry c.args.shelf.now) c.list.result) (sym c.in-Show.is)
-    (c.list.ensures.follows put_quiet disk_quiet)
-
-pub returns-in-Compact-clause-others : goal.returns-in-Compact-clause-others
-returns-in-Compact-clause-others g c =
-    leaves_one c.args.order c.in-Compact.party c.compact.result (g.H.Shelf.is_back c.compact.new.shelf) (c.args.source.now ≡ c.args.source.now) (c.compact.new.sink ≡ c.args.sink.now)
-    (g.H.Shelf.entry c.args.shelf.now) (g.H.Shelf.entry c.compact.new.shelf) (g.K.Sink.faults c.args.sink.now) (g.K.Sink.faults c.compact.new.sink)
-    (g.H.Shelf.faults c.args.shelf.now) (g.H.Shelf.faults c.compact.new.shelf) (ap party_of c.in-Compact.is) c.compact.ensures.rest (λ reading. refl)
-
-pub returns-in-Compact-clause-cause : goal.returns-in-Compact-clause-cause
-returns-in-Compact-clause-cause g c =
-    let reads = g.S.Source.faults c.args.source.now in
-    let done = c.compact.ensures.compacted in
-    cause_ended reads reads (g.K.Sink.faults c.args.sink.now) (g.K.Sink.faults c.compact.new.sink) (g.H.Shelf.faults c.args.shelf.now) (g.H.Shelf.faults c.compact.new.shelf)
-    done.outcome [] c.compact.result (g.K.Sink.written c.args.sink.now) (g.K.Sink.written c.compact.new.sink) done.ends c.compact.ensures.rest.write_fault c.compact.ensures.rest.disk_fault
-
-pub returns-in-Compact-clause-expects : goal.returns-in-Compact-clause-expects
-returns-in-Compact-clause-expects g c = λ read_quiet put_quiet disk_quiet.
-    subst (λ (o : Order). Expects o c.args.moment (g.S.Source.left c.args.source.now) (g.H.Shelf.entry c.args.shelf.now) c.compact.result) (sym c.in-Compact.is)
-    (c.compact.ensures.follows put_quiet disk_quiet)
-
-pub returns-in-Take-clause-others : goal.returns-in-Take-clause-others
-returns-in-Take-clause-others g c =
-    leaves_one c.args.order c.in-Take.party c.take.result (g.H.Shelf.is_back c.take.new.shelf) (c.take.new.source ≡ c.args.source.now) (c.take.new.sink ≡ c.args.sink.now)
-    (g.H.Shelf.entry c.args.shelf.now) (g.H.Shelf.entry c.take.new.shelf) (g.K.Sink.faults c.args.sink.now) (g.K.Sink.faults c.take.new.sink)
-    (g.H.Shelf.faults c.args.shelf.now) (g.H.Shelf.faults c.take.new.shelf) (ap party_of c.in-Take.is) c.take.ensures.rest (λ reading. (let e : is_reading c.args.order ≡ true = ap is_reading c.in-Take.is in let no : true ≡ false = sym e ∙ reading in absurd cc))
-
-pub returns-in-Take-clause-cause : goal.returns-in-Take-clause-cause
-returns-in-Take-clause-cause g c =
-    let rest = c.take.ensures.rest in
-    cause_taken (g.S.Source.faults c.args.source.now) (g.S.Source.faults c.take.new.source) (g.K.Sink.faults c.args.sink.now) (g.K.Sink.faults c.take.new.sink)
-    (g.H.Shelf.faults c.args.shelf.now) (g.H.Shelf.faults c.take.new.shelf) c.args.moment (g.S.Source.left c.args.source.now) (g.S.Source.left c.take.new.source)
-    (g.H.Shelf.entry c.args.shelf.now c.in-Take.party) (g.H.Shelf.entry c.take.new.shelf c.in-Take.party) c.take.result (g.K.Sink.written c.args.sink.now) (g.K.Sink.written c.take.new.sink)
-    c.take.ensures.taken c.take.ensures.read_fault rest.write_fault rest.disk_fault
-
-pub returns-in-Take-clause-expects : goal.returns-in-Take-clause-expects
-returns-in-Take-clause-expects g c = λ read_quiet put_quiet disk_quiet.
-    subst (λ (o : Order). Expects o c.args.moment (g.S.Source.left c.args.source.now) (g.H.Shelf.entry c.args.shelf.now) c.take.result) (sym c.in-Take.is)
-    (c.take.ensures.follows read_quiet put_quiet disk_quiet)
-
-pub returns-in-Some : goal.returns-in-Some
-returns-in-Some g c =
-    let i = c.in-Some.is in
-    let e = c.command_of.ensures in
-    let is : command_of c.args.order ≡ Some c.in-Some.given = cc in
-    let done = c.turn.ensures.turned in
-    let rest = c.turn.ensures.rest in
+pub returns-in-Replay : goal.returns-in-Replay
+returns-in-Replay g c =
+    let is = c.in-Replay.is in
+    let r = c.replay_all.ensures in
+    let s = c.replay_all.result in
     let left = g.S.Source.left c.args.source.now in
+    let rest = g.S.Source.left c.replay_all.new.source in
     let before = g.K.Sink.written c.args.sink.now in
-    let after = g.K.Sink.written c.turn.new.sink in
+    let after = g.K.Sink.written c.replay_all.new.sink in
     let old = g.H.Shelf.entry c.args.shelf.now in
-    let new = g.H.Shelf.entry c.turn.new.shelf in
-    let reads = g.S.Source.faults c.args.source.now in
-    let put = g.K.Sink.faults c.args.sink.now in
-    let puts = g.K.Sink.faults c.turn.new.sink in
-    let disk = g.H.Shelf.faults c.args.shelf.now in
-    let disks = g.H.Shelf.faults c.turn.new.shelf in
+    let new = g.H.Shelf.entry c.replay_all.new.shelf in
     record {
-      obeys = obeys_command c.in-Some.given c.args.moment c.turn.result left left before after old new c.args.order is done;
-      expects = λ read_quiet put_quiet disk_quiet.
-          expects_command c.in-Some.given c.args.moment c.turn.result left left before after old new c.args.order is (c.turn.ensures.follows put_quiet disk_quiet);
-      others = leaves_of c.in-Some.given c.args.moment c.turn.result left left before after old new c.args.order (g.H.Shelf.is_back c.turn.new.shelf)
-          (c.args.source.now ≡ c.args.source.now) (c.turn.new.sink ≡ c.args.sink.now) put puts disk disks is rest refl;
-      cause = cause_ended reads reads put puts disk disks done.outcome (10 ∷ []) c.turn.result before after done.ends rest.write_fault rest.disk_fault;
-      silent = rest.silent;
-      most = took_nothing input_limit left;
+      obeys = subst (λ (o : Order). Obeys o c.args.moment s left rest before after old new) (sym is) tt;
+      expects = λ read_quiet put_quiet disk_quiet. subst (λ (o : Order). Expects o c.args.moment left old s) (sym is) (r.expects read_quiet put_quiet disk_quiet);
+      others = subst (λ (o : Order). LeavesOthers o s (g.H.Shelf.is_back c.replay_all.new.shelf) (c.replay_all.new.source ≡ c.args.source.now) old new) (sym is)
+          (record { back = λ of. tt; others = λ playing. absurd (cc playing); unread = λ reading. absurd (cc reading) });
+      cause = cause_played (g.S.Source.faults c.args.source.now) (g.S.Source.faults c.replay_all.new.source) (g.K.Sink.faults c.args.sink.now) (g.K.Sink.faults c.replay_all.new.sink)
+          (g.H.Shelf.faults c.args.shelf.now) (g.H.Shelf.faults c.replay_all.new.shelf) s left rest before after old new r.replays r.read_fault r.write_fault r.disk_fault;
+      silent = λ silent. r.silent (subst (λ (o : Order). IsSilentOf o s) is silent);
+      most = subst (λ (o : Order). TookAtMost (most_of o) left rest) (sym is) r.most;
+      replays = λ same. r.replays;
+      drills = λ seed events same. (let no : order.Replay ≡ order.Drill seed events = sym is ∙ same in absurd cc);
+    }
+
+pub returns-in-Drill : goal.returns-in-Drill
+returns-in-Drill g c =
+    let is = c.in-Drill.is in
+    let r = c.drill_all.ensures in
+    let s = c.drill_all.result in
+    let left = g.S.Source.left c.args.source.now in
+    let reads = g.S.Source.faults c.args.source.now in
+    let before = g.K.Sink.written c.args.sink.now in
+    let after = g.K.Sink.written c.drill_all.new.sink in
+    let entry = g.H.Shelf.entry c.args.shelf.now in
+    let disks = g.H.Shelf.faults c.args.shelf.now in
+    record {
+      obeys = subst (λ (o : Order). Obeys o c.args.moment s left left before after entry entry) (sym is) tt;
+      expects = λ read_quiet put_quiet disk_quiet. subst (λ (o : Order). Expects o c.args.moment left entry s) (sym is) (r.expects put_quiet);
+      others = subst (λ (o : Order). LeavesOthers o s (g.H.Shelf.is_back c.args.shelf.now) (c.args.source.now ≡ c.args.source.now) entry entry) (sym is)
+          (record { back = λ of. tt; others = λ playing name. alike_refl (entry name); unread = λ reading. refl });
+      cause = cause_drilled reads reads (g.K.Sink.faults c.args.sink.now) (g.K.Sink.faults c.drill_all.new.sink) disks disks _ c.in-Drill.seed c.in-Drill.events s before after r.drills r.write_fault;
+      silent = λ silent. r.silent (subst (λ (o : Order). IsSilentOf o s) is silent);
+      most = subst (λ (o : Order). TookAtMost (most_of o) left left) (sym is) (took_nothing 0 left);
+      replays = λ same. (let no : order.Drill c.in-Drill.seed c.in-Drill.events ≡ order.Replay = sym is ∙ same in absurd cc);
+      drills = λ seed events same.
+          (let both : order.Drill c.in-Drill.seed c.in-Drill.events ≡ order.Drill seed events = sym is ∙ same in
+          let first : c.in-Drill.seed ≡ seed = cc in
+          let second : c.in-Drill.events ≡ events = cc in
+          (rw (← first, ← second) r.drills, refl, refl));
+    }
+
+pub drill_all-requires-clause-low : goal.drill_all-requires-clause-low
+drill_all-requires-clause-low g c = (c.requires c.in-Drill.seed c.in-Drill.events c.in-Drill.is).0
+
+pub drill_all-requires-clause-high : goal.drill_all-requires-clause-high
+drill_all-requires-clause-high g c = (c.requires c.in-Drill.seed c.in-Drill.events c.in-Drill.is).1
+
+pub obey-requires : goal.obey-requires
+obey-requires g c = not_played c.args.order c.in_default.not-Replay c.in_default.not-Drill
+
+pub returns-in_default : goal.returns-in_default
+returns-in_default g c =
+    let r = c.obey.ensures in
+    let others = not_played c.args.order c.in_default.not-Replay c.in_default.not-Drill in
+    record {
+      obeys = r.obeys;
+      expects = r.expects;
+      others = r.others;
+      cause = r.cause;
+      silent = λ silent. r.silent (silent_of c.args.order c.obey.result others silent);
+      most = limit_of_others c.args.order (g.S.Source.left c.args.source.now) (g.S.Source.left c.obey.new.source) others r.most;
+      replays = λ same. absurd (c.in_default.not-Replay same);
+      drills = λ seed events same. absurd (c.in_default.not-Drill seed events same);
     }

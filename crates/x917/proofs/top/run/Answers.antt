@@ -1,9 +1,13 @@
-use Rattle.std.proofs.Common.{◌≡◌, refl, subst}
+use Rattle.std.proofs.Common.{◌≡◌, inl, inr, refl, sym, subst}
+use Rattle.x_disk.specs.Shelf.{alike_refl}
 use Rattle.x917.specs.declared.status.Status.TheVariants as status
 use Rattle.x_line.specs.declared.order.Order.{Order}
+use Rattle.x_line.specs.declared.order.Order.TheVariants as order
 use Rattle.x_line.specs.Line.{rows_of_line}
-use Rattle.x917.specs.Obeys.{Obeys, Expects, LeavesOthers}
-use Rattle.x917.proofs.Orders.{order_built, idle, leaves_all, faults_of}
+use Rattle.x_line.specs.Orders.{IsOrder}
+use Rattle.x917.specs.Obeys.{Obeys, Expects, LeavesOthers, IsSilentOf, most_of}
+use Rattle.x917.specs.Transfer.{TookAtMost}
+use Rattle.x917.proofs.Orders.{idle, leaves_all, faults_of, took_nothing}
 use Rattle.x917.proofs.NetworkEvents.{network_event}
 use Rattle.x917.proofs.top.run.Goals as goal
 
@@ -14,7 +18,7 @@ returns-in-Ok-clause-complete g c = λ o is read_quiet put_quiet disk_quiet.
 
 pub returns-in-Err-NoMemory-clause-obeys : goal.returns-in-Err-NoMemory-clause-obeys
 returns-in-Err-NoMemory-clause-obeys g c = λ o is.
-    idle c.args.moment (g.S.Source.left c.args.source.now) (g.K.Sink.written c.args.sink.now) (g.H.Shelf.entry c.args.shelf.now) (λ name. g.met.H.Shelf.sound c.args.shelf.now name) o (order_built c.args.words.now o is)
+    idle c.args.moment (g.S.Source.left c.args.source.now) (g.K.Sink.written c.args.sink.now) (g.H.Shelf.entry c.args.shelf.now) (λ name. g.met.H.Shelf.sound c.args.shelf.now name) o
 
 pub returns-in-Ok-clause-others : goal.returns-in-Ok-clause-others
 returns-in-Ok-clause-others g c = λ o is.
@@ -54,4 +58,36 @@ returns-in-Err-NoMemory-clause-network g c = λ o is.
     let left = g.S.Source.left c.args.source.now in
     let written = g.K.Sink.written c.args.sink.now in
     network_event g.H.Shelf.entry laws.commands laws.arrivals laws.compactions c.args.moment status.NoMemory left left written written c.args.shelf.now c.args.shelf.now (rows_of_line c.args.words.now) o is.1.1
-    (idle c.args.moment left written entry (λ name. g.met.H.Shelf.sound c.args.shelf.now name) o (order_built c.args.words.now o is))
+    (idle c.args.moment left written entry (λ name. g.met.H.Shelf.sound c.args.shelf.now name) o)
+
+pub carry_out-requires : goal.carry_out-requires
+carry_out-requires g c = λ seed events same.
+    c.law_few_events.ensures c.args.words.now seed events (subst (λ (o : Order). IsOrder c.args.words.now o) same c.in-Ok.ensures.order)
+
+pub returns-in-Ok-clause-silent : goal.returns-in-Ok-clause-silent
+returns-in-Ok-clause-silent g c = λ o is silent.
+    c.carry_out.ensures.silent (subst (λ (x : Order). IsSilentOf x c.carry_out.result) (sym (c.law_one_order.ensures c.args.words.now c.in-Ok.order o c.in-Ok.ensures.order is)) silent)
+
+pub returns-in-Ok-clause-most : goal.returns-in-Ok-clause-most
+returns-in-Ok-clause-most g c = λ o is.
+    subst (λ (x : Order). TookAtMost (most_of x) (g.S.Source.left c.args.source.now) (g.S.Source.left c.carry_out.new.source))
+    (c.law_one_order.ensures c.args.words.now c.in-Ok.order o c.in-Ok.ensures.order is) c.carry_out.ensures.most
+
+pub returns-in-Ok-clause-replays : goal.returns-in-Ok-clause-replays
+returns-in-Ok-clause-replays g c = λ is. c.carry_out.ensures.replays (c.law_one_order.ensures c.args.words.now c.in-Ok.order order.Replay c.in-Ok.ensures.order is)
+
+pub returns-in-Ok-clause-drills : goal.returns-in-Ok-clause-drills
+returns-in-Ok-clause-drills g c = λ seed events is.
+    c.carry_out.ensures.drills seed events (c.law_one_order.ensures c.args.words.now c.in-Ok.order (order.Drill seed events) c.in-Ok.ensures.order is)
+
+pub returns-in-Err-Usage-clause-most : goal.returns-in-Err-Usage-clause-most
+returns-in-Err-Usage-clause-most g c = λ o is. took_nothing (most_of o) (g.S.Source.left c.args.source.now)
+
+pub returns-in-Err-NoMemory-clause-most : goal.returns-in-Err-NoMemory-clause-most
+returns-in-Err-NoMemory-clause-most g c = λ o is. took_nothing (most_of o) (g.S.Source.left c.args.source.now)
+
+pub returns-in-Err-NoMemory-clause-replays : goal.returns-in-Err-NoMemory-clause-replays
+returns-in-Err-NoMemory-clause-replays g c = λ is. inl (inl (inr refl), refl, λ name. alike_refl (g.H.Shelf.entry c.args.shelf.now name))
+
+pub returns-in-Err-NoMemory-clause-drills : goal.returns-in-Err-NoMemory-clause-drills
+returns-in-Err-NoMemory-clause-drills g c = λ seed events is. ((tt, refl), refl, refl)

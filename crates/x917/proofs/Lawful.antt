@@ -1,0 +1,51 @@
+-- The networks of a scenario are ends of honest runs.
+use Rattle.std.proofs.Common.{◌≡◌, ℕ, List, [], ◌∷◌, ◌++◌, sym, ap, ◌∙◌, subst}
+use Rattle.scenario.specs.declared.line.Line.{Line}
+use Rattle.world_laws.specs.World.{World, member_at}
+use Rattle.world_laws.specs.Events.{Event, AreEvents, IsAction}
+use Rattle.world_laws.specs.Honest.{HonestAt, HonestRun}
+use Rattle.world_laws.specs.Laws.{Agreement, OneKeyPerCount, Once, EndedBoth}
+use Rattle.world_laws.specs.Starts.{IsBareStart, IsStart}
+use Rattle.world_laws.specs.Steps.{run, step, number_after}
+use Rattle.replay.specs.Course.{Course, Leads}
+use Rattle.replay.specs.Ends.{Ran}
+use Rattle.replay.specs.Starts.{start_course, start_world}
+use Rattle.x917.specs.Headline.{IsLawful}
+
+are_more : (events : List Event) (e : Event) → AreEvents events → IsAction e.action → AreEvents (events ++ e ∷ [])
+are_more [] e are is = (is, tt)
+are_more (x ∷ events) e are is = (are.0, are_more events e are.1 is)
+
+module _ (bare : (start : World) → IsStart start → IsBareStart start)
+    (counts : (start : World) (events : List Event) → IsBareStart start → AreEvents events → OneKeyPerCount (run 1 start events))
+    (once : (start : World) (events : List Event) → IsBareStart start → AreEvents events → Once (run 1 start events))
+    (agreement : (start : World) (events : List Event) → IsStart start → AreEvents events → HonestRun 1 start events → Agreement (run 1 start events))
+    (ended : (start : World) (events : List Event) → IsStart start → AreEvents events → HonestRun 1 start events → EndedBoth (run 1 start events))
+    (runs : (before after : ℕ) (lines : List Line) (c e : Course) → Leads before after lines c e → Ran c e) where
+  lawful : (start w : World) (events : List Event) → IsStart start → AreEvents events → w ≡ run 1 start events → HonestRun 1 start events → IsLawful start w
+  lawful start w events begins are is honest = record {
+    begins = begins;
+    events = events;
+    are = are;
+    ran = is;
+    honest = honest;
+    agreement = subst Agreement (sym is) (agreement start events begins are honest);
+    counts = subst OneKeyPerCount (sym is) (counts start events (bare start begins) are);
+    once = subst Once (sym is) (once start events (bare start begins) are);
+    ended = subst EndedBoth (sym is) (ended start events begins are honest);
+  }
+
+  pub reached : (lines front : List Line) (before after : ℕ) (c : Course) → IsStart (start_world lines) → Leads before after front (start_course lines) c → IsLawful (start_world lines) c.world
+  reached lines front before after c begins leads =
+      let r = runs before after front (start_course lines) c leads in
+      lawful (start_world lines) c.world r.events begins r.are r.ran r.honest
+
+  pub behind : (goes_on : (n : ℕ) (w : World) (es : List Event) (e : Event) → run n w (es ++ e ∷ []) ≡ step (number_after n es) (run n w es) e)
+      → (stays : (n : ℕ) (w : World) (es : List Event) (e : Event) → HonestRun n w es → HonestAt (run n w es).facts (member_at e.party (run n w es).members) e.action → HonestRun n w (es ++ e ∷ []))
+      → (lines front : List Line) (before after : ℕ) (c : Course) (e : Event) → IsStart (start_world lines) → Leads before after front (start_course lines) c
+      → IsAction e.action → HonestAt c.world.facts (member_at e.party c.world.members) e.action → IsLawful (start_world lines) (step c.now.number c.world e)
+  behind goes_on stays lines front before after c e begins leads is honest =
+      let r = runs before after front (start_course lines) c leads in
+      lawful (start_world lines) (step c.now.number c.world e) (r.events ++ e ∷ []) begins (are_more r.events e r.are is)
+      (ap (λ (n : ℕ). step n c.world e) r.numbers ∙ (ap (λ (w : World). step (number_after 1 r.events) w e) r.ran ∙ sym (goes_on 1 (start_world lines) r.events e)))
+      (stays 1 (start_world lines) r.events e r.honest (subst (λ (w : World). HonestAt w.facts (member_at e.party w.members) e.action) r.ran honest))

@@ -1,0 +1,34 @@
+-- A scenario is read of bytes that were taken.
+use Rattle.std.proofs.Common.{◌≡◌, inr, ℕ, ◌≤◌, ◌<◌, ◌++◌, List, [], length, Option, Some, None, IfSome, refl, sym, ap, ◌∙◌, subst, arith}
+use Rattle.std.proofs.lemmas.List.{append-nil}
+use Rattle.scenario.specs.declared.line.Line.{Line}
+use Rattle.scenario.specs.Laws.{BadInFront, FewBytes}
+use Rattle.scenario.specs.Reading.{IsFirstBad, IsScenario}
+use Rattle.x917.specs.declared.status.Status.TheVariants as status
+use Rattle.x917.specs.Headline.{IsUnread, ReadsScenario}
+use Rattle.x917.specs.Transfer.{Took, IsAtEnd, scenario_limit}
+use Rattle.x917.proofs.Transfers.{front_taken}
+
+-- a scenario has fewer bytes than are taken, so that the source was read to its end
+pub scenario_read : FewBytes → (before after : Option (List ℕ)) (text bytes : List ℕ) (lines : List Line) → Took before after text
+    → (length text < scenario_limit → IsAtEnd before after) → bytes ≡ text → IsScenario bytes lines → ReadsScenario before after lines
+scenario_read few None after text bytes lines took end same is = tt
+scenario_read few (Some all) None text bytes lines took end same is = absurd took
+scenario_read few (Some all) (Some rest) text bytes lines took end same is =
+    let of_text : IsScenario text lines = subst (λ (t : List ℕ). IsScenario t lines) same is in
+    let size : length text ≤ 16777216 = few text lines of_text in
+    let e : Some rest ≡ Some [] = end (omega (arith, size)) in
+    let none : rest ≡ [] = cc in
+    let whole : all ≡ text = took ∙ ap (λ (r : List ℕ). text ++ r) none ∙ append-nil text in
+    (e, subst (λ (t : List ℕ). IsScenario t lines) (sym whole) of_text)
+
+bad_taken : BadInFront → (before after : Option (List ℕ)) (text : List ℕ) (number : ℕ) → Took before after text → length text ≤ scenario_limit
+    → (length text < scenario_limit → IsAtEnd before after) → IsFirstBad text number → IfSome before (λ all. IsFirstBad all number)
+bad_taken front None after text number took bound end is = tt
+bad_taken front (Some all) after text number took bound end is =
+    front all number (subst (λ (t : List ℕ). IsFirstBad t number) (front_taken scenario_limit all text after took bound end) is)
+
+pub bad_read : BadInFront → (before after : Option (List ℕ)) (text bytes : List ℕ) (number : ℕ) → Took before after text → length text ≤ scenario_limit
+    → (length text < scenario_limit → IsAtEnd before after) → bytes ≡ text → IsFirstBad bytes number → IsUnread before (status.BadScenario number)
+bad_read front before after text bytes number took bound end same is =
+    inr (number, refl, bad_taken front before after text number took bound end (subst (λ (t : List ℕ). IsFirstBad t number) same is))

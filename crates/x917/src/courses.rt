@@ -1,0 +1,30 @@
+// What holds of each network to which the lines of a scenario lead, told by a call that does nothing.
+ghost use Rattle.std.specs.Prelude.{ℕ, List};
+ghost use Rattle.scenario.specs.declared.line.Line.{Line};
+ghost use Rattle.world_laws.specs.World.{member_at};
+ghost use Rattle.world_laws.specs.Events.{Event, IsAction};
+ghost use Rattle.world_laws.specs.Honest.{HonestAt};
+ghost use Rattle.world_laws.specs.Starts.{IsStart};
+ghost use Rattle.world_laws.specs.Steps.{step};
+ghost use Rattle.replay.specs.Course.{Course, Leads};
+ghost use Rattle.replay.specs.Starts.{start_course, start_world};
+ghost use Rattle.x917.specs.Headline.{IsLawful};
+
+use replay::law_ran;
+use world_laws::{law_agreement, law_counts, law_ended, law_once, law_runs, law_start};
+
+/// The network to which lines lead from a start is the end of an honest run, and the laws hold of it; and so it is behind one
+/// honest event more.
+pub fn law_courses()
+    ensures reached { (lines front : List Line) (before after : ℕ) (c : Course) → IsStart (start_world lines) → Leads before after front (start_course lines) c → IsLawful (start_world lines) c.world }
+    ensures behind { (lines front : List Line) (before after : ℕ) (c : Course) (e : Event) → IsStart (start_world lines) → Leads before after front (start_course lines) c
+        → IsAction e.action → HonestAt c.world.facts (member_at e.party c.world.members) e.action → IsLawful (start_world lines) (step c.now.number c.world e) }
+{
+    law_ran();
+    law_start();
+    law_counts();
+    law_once();
+    law_agreement();
+    law_ended();
+    law_runs();
+}

@@ -1,0 +1,129 @@
+// A drill is played over disks of its own.
+ghost use Rattle.std.specs.Prelude.{◌≡◌, ◌≤◌, ◌++◌, None, IfOk, IfErr, OnOk};
+ghost use Rattle.x_base.specs.Edge.{Rose};
+ghost use Rattle.scenario.specs.Drill.{drill_text};
+ghost use Rattle.scenario.specs.Reading.{IsScenario};
+ghost use Rattle.x917.specs.Drilled.{EndsDrill, IsDrill, IsDrilled, IsPlayedAlone, summary_line, summary_of};
+ghost use Rattle.x917.specs.Ends.{IsSilent};
+ghost use Rattle.x917.specs.Playable.{ExpectsDrill};
+ghost use Rattle.x917.specs.Transfer.{IsQuiet};
+
+use crate::courses::law_courses;
+use crate::status::Status;
+use crate::transfer::put_all;
+use replay::{PlayResult, Tally, law_counted, law_scenario_starts, play};
+use scenario::{
+    Scenario, ScenarioFault, drill, law_never_both, law_one_first_bad, law_one_scenario,
+};
+use std::alloc::Global;
+use x_base::{NoMemory, Sink, SinkFault, Text};
+use x_disk::{MemoryShelf, Shelf};
+
+/// A sink that keeps nothing.
+#[derive(Drop)]
+struct Nowhere;
+
+impl Sink for Nowhere {
+    ghost written = { λ _. None };
+
+    ghost faults = { λ _. 0 };
+
+    fn put(&mut self, piece: &[u8]) -> Result<usize, SinkFault> {
+        Ok(piece.len())
+    }
+}
+
+/// The scenario of a drill.
+fn drilled_scenario(alloc: Global, seed: u64, events: u32) -> Result<Scenario, Status>
+    requires low { 1 ≤ events }
+    requires high { events ≤ 10000 }
+    ensures read { IfOk result (λ lines. IsScenario (drill_text seed events) lines) }
+    ensures unread { IfErr result (λ s. EndsDrill ⟦<MemoryShelf as Shelf>⟧.entry seed events s) }
+{
+    let Ok(text) = drill(alloc, seed, events) else {
+        return Err(Status::NoMemory);
+    };
+    match scenario::read(alloc, text.bytes()) {
+        Ok(scenario) => Ok(scenario),
+        Err(ScenarioFault::BadLine(number)) => Err(Status::BadScenario(number)),
+        Err(ScenarioFault::NoMemory) => Err(Status::NoMemory),
+    }
+}
+
+/// Plays a scenario over a shelf of its own. Its transcript is kept nowhere.
+fn play_alone(alloc: Global, scenario: &Scenario) -> PlayResult
+    ensures { IsPlayedAlone ⟦<MemoryShelf as Shelf>⟧.entry scenario.now result }
+{
+    let mut shelf = MemoryShelf::new(alloc);
+    play(alloc, scenario, &mut Nowhere, &mut shelf)
+}
+
+/// Plays a drill.
+fn play_drill(alloc: Global, seed: u64, events: u32) -> Result<Tally, Status>
+    requires low { 1 ≤ events }
+    requires high { events ≤ 10000 }
+    ensures drilled { IfOk result (λ tally. IsDrilled ⟦<MemoryShelf as Shelf>⟧.entry seed events tally) }
+    ensures early { IfErr result (λ s. EndsDrill ⟦<MemoryShelf as Shelf>⟧.entry seed events s) }
+{
+    law_courses();
+    law_counted();
+    let scenario = drilled_scenario(alloc, seed, events)?;
+    law_scenario_starts(&scenario);
+    match play_alone(alloc, &scenario) {
+        PlayResult::Done(tally) => Ok(tally),
+        PlayResult::Forged(number) => Err(Status::Forged(number)),
+        PlayResult::NoMemory => Err(Status::NoMemory),
+        _ => unreachable!(),
+    }
+}
+
+/// Appends a line of a word and a number.
+fn put_line(alloc: Global, text: &mut Text, word: &str, number: u32) -> Result<(), NoMemory>
+    ensures { OnOk result (text.new ≡ text.old ++ summary_line word.now number) }
+{
+    let line = format!(in alloc; "{word} {number}\n")?;
+    text.push(line.as_bytes())
+}
+
+/// The ten lines of a tally.
+fn summary(alloc: Global, tally: &Tally) -> Result<Text, NoMemory>
+    ensures { IfOk result (λ text. text ≡ summary_of tally.now) }
+{
+    let mut text = Text::new(alloc);
+    put_line(alloc, &mut text, "EVENTS", tally.events)?;
+    put_line(alloc, &mut text, "DONE", tally.done)?;
+    put_line(alloc, &mut text, "REFUSED", tally.refused)?;
+    put_line(alloc, &mut text, "STOPPED", tally.stopped)?;
+    put_line(alloc, &mut text, "NONE", tally.none)?;
+    put_line(alloc, &mut text, "TEXTS", tally.texts)?;
+    put_line(alloc, &mut text, "LIVE", tally.live)?;
+    put_line(alloc, &mut text, "HELD", tally.held)?;
+    put_line(alloc, &mut text, "CLOSING", tally.closing)?;
+    put_line(alloc, &mut text, "ENDED", tally.ended)?;
+    Ok(text)
+}
+
+/// Plays the drill that is made of a seed, over disks of its own, and writes its summary.
+pub fn drill_all<K: Sink>(alloc: Global, seed: u64, events: u32, sink: &mut K) -> Status
+    requires low { 1 ≤ events }
+    requires high { events ≤ 10000 }
+    ensures drills { IsDrill ⟦<MemoryShelf as Shelf>⟧.entry seed events result (K.written sink.old) (K.written sink.new) }
+    ensures expects { IsQuiet (K.faults sink.old) (K.faults sink.new) → ExpectsDrill seed events result }
+    ensures write_fault { result ≡ Status.WriteFault → Rose (K.faults sink.old) (K.faults sink.new) }
+    ensures silent { IsSilent result → sink.new ≡ sink.old }
+{
+    law_never_both();
+    law_one_first_bad();
+    law_one_scenario();
+    let tally = match play_drill(alloc, seed, events) {
+        Ok(tally) => tally,
+        Err(status) => return status,
+    };
+    let Ok(text) = summary(alloc, &tally) else {
+        return Status::NoMemory;
+    };
+    match put_all(sink, text.bytes()) {
+        Ok(()) => Status::Done,
+        Err(_) => Status::WriteFault,
+    }
+}
