@@ -1,7 +1,8 @@
 #!/bin/sh
 # Kills commands of a built program at each of their system calls in turn, from the first that opens the party's file on,
 # and lets each call on the disk, and each write of the reply, fail in turn. Each time it runs over a fresh copy of the
-# file; `show` must then give the party as it was or as it becomes, and as it becomes where any of the reply went out.
+# file; `show` must then give the party as it was or as it becomes, and as it becomes where any of the reply went out. A
+# replay has to leave its parties as behind some event, or as a part of the set-up leaves them, with so much written.
 # A killed process leaves the system's memory of the file as it is: this is no loss of power.
 # kill.sh [PROGRAM]; wants Linux and strace.
 here=$(cd "$(dirname "$0")/.." && pwd) || exit 1
@@ -39,10 +40,10 @@ traced() {
     code=$?
 } 2>/dev/null
 
-# calls: a line for each system call of the last trace, from the first that names the party's file on: its name, which
-# one of that name it is, and what it is for
+# calls [FILE]: a line for each system call of the last trace, from the first that names the party's file, or one like FILE,
+# on: its name, which one of that name it is, and what it is for
 calls() {
-    awk -v file="$party.x917" '
+    awk -v file="${1:-$party.x917}" '
         { sub(/^[0-9]+ +/, "") }
         !/^[a-z0-9_]+\(/ { next }
         { name = $0; sub(/\(.*/, "", name); count[name]++ }
@@ -142,6 +143,104 @@ keep() {
     cp -p ./* ../before
 }
 
+# all_shown: the parties of the scenario, in ../shown
+all_shown() {
+    for member in BANKA BANKB; do
+        "$program" show --party "$member"
+    done >../shown 2>&1
+}
+
+# step WRITTEN: what the parties show now is a step of the replay, while at most so many bytes are written
+step() {
+    all_shown
+    mv ../shown "../steps/$steps"
+    echo "$1" >"../steps/$steps.most"
+    steps=$((steps + 1))
+}
+
+# is_step: whether what the parties show is a step, and so much is written
+is_step() {
+    size=$(wc -c <../output)
+    head -c "$size" ../whole | cmp -s - ../output || return 1
+    least=0
+    number=0
+    while [ "$number" -lt "$steps" ]; do
+        most=$(cat "../steps/$number.most")
+        cmp -s "../steps/$number" ../shown && [ "$least" -le "$size" ] && [ "$size" -le "$most" ] && return 0
+        least=$most
+        number=$((number + 1))
+    done
+    return 1
+}
+
+# stopped WHAT CODE LINE: a replay that was stopped so has this exit code and error line, and leaves a step
+stopped() {
+    tried=$((tried + 1))
+    [ "$code" = "$2" ] || violation "$1: exit $code"
+    [ -z "$3" ] || echo "$3" | cmp -s - ../error || violation "$1: another line"
+    all_shown
+    is_step || violation "$1: no step of the replay"
+}
+
+# replayed: a key is sent, taken and answered
+replayed() {
+    name=replay
+    words=replay
+    steps=0
+    rm -rf ../before ../steps
+    mkdir ../before ../steps
+    cat >../scenario <<END
+PARTY BANKA BANK $pair 0000000000000001
+PARTY BANKB BANK $pair 0000000000000001
+LINK BANKA BANKB K1 $pair
+START BANKA BANKB
+RECENT 1
+RECENT 1
+END
+    fresh
+    step 0
+    for line in "init --party BANKA --role bank --genkey $pair --genseed 0000000000000001" \
+        "load --party BANKA --peer BANKB --label K1 --side out --key $pair" \
+        "init --party BANKB --role bank --genkey $pair --genseed 0000000000000001" \
+        "load --party BANKB --peer BANKA --label K1 --side in --key $pair"; do
+        # shellcheck disable=SC2086
+        "$program" $line || exit 1
+        step 0
+    done
+    for lines in 4 5 6; do
+        fresh
+        head -n "$lines" ../scenario | "$program" replay >../whole || exit 1
+        written=$(grep '^[ET][0-9]' ../whole | wc -c)
+        [ "$lines" -lt 6 ] || written=$(wc -c <../whole)
+        step "$written"
+    done
+    cp ../scenario ../input
+    fresh
+    traced
+    calls .x917 >../calls
+    while read -r call n kind; do
+        fresh
+        traced -e "trace=$call" -e "inject=$call:signal=KILL:when=$n"
+        stopped "killed at $call $n" 137 ''
+    done <../calls
+    kills=$tried
+    while read -r call n kind; do
+        fresh
+        case $kind in
+        disk)
+            traced -e "trace=$call" -e "inject=$call:error=EIO:when=$n"
+            stopped "EIO at $call $n" 5 'x917: disk fault'
+            ;;
+        output)
+            traced -e "trace=$call" -e "inject=$call:error=EIO:when=$n"
+            stopped "EIO at $call $n" 4 'x917: write fault'
+            ;;
+        esac
+    done <../calls
+    printf '%-16s %3d kills, %3d faults\n' "$name" "$((kills - start))" "$((tried - kills))"
+    start=$tried
+}
+
 start=0
 : >../input
 pair=0123456789ABCDEFFEDCBA9876543210
@@ -206,5 +305,6 @@ subject translate BANKA 'translate --party BANKA --peer CKTX --ultimate BANKD'
 keep
 cp ../output ../input
 subject 'take (RFS)' CKTX 'take --party CKTX'
+replayed
 echo "$tried tried, $violations violations"
 [ "$violations" = 0 ]

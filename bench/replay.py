@@ -1,0 +1,136 @@
+#!/usr/bin/env python3
+"""Times the playing of scenarios: over disks in memory by the built program replay_cases, and over files by x917, in
+folders in memory and on a disk.
+
+In memory a scenario is played 1 and 6 times by one process; what is told is the difference of the least of five runs in
+processor time, so that other work on the machine counts little. Over files it is the least of three runs by the clock.
+Each time all events have to be done. replay.py [REPLAY_CASES [X917]]; the folder on a disk is one of TMPDIR's."""
+import os
+import subprocess
+import sys
+import tempfile
+import time
+
+HERE = os.path.dirname(os.path.dirname(os.path.realpath(__file__)))
+CASES = os.path.realpath(sys.argv[1]) if len(sys.argv) > 1 else f"{HERE}/crates/replay_cases/out/replay_cases"
+X917 = os.path.realpath(sys.argv[2]) if len(sys.argv) > 2 else f"{HERE}/crates/x917/out/x917"
+TIMES = 5
+
+
+def pair(number):
+    """A pair of keys that no other number has, whatever the parity."""
+    left = 0x0123456789ABCDEF ^ (number % 100 + 1) << 1
+    return f"{left:016X}{0xFEDCBA9876543210 ^ (number // 100 + 1) << 9:016X}"
+
+
+def party(name, number, role="BANK"):
+    return f"PARTY {name} {role} {pair(number)} {number:016X}"
+
+
+def cut(lines, most):
+    """The first lines, without the rest of a round that is begun."""
+    return "".join(line + "\n" for line in lines[:most])
+
+
+def keys_that_end(most):
+    """Two banks: a key is sent, answered, ended and answered; 1,000 records stand before they are purged."""
+    lines = [party("BANKA", 0), party("BANKB", 1), f"LINK BANKA BANKB K1 {pair(2)}"]
+    count = 0
+    while len(lines) < most:
+        count += 1
+        lines += ["START BANKA BANKB", "RECENT 1", "RECENT 1", f"END BANKA BANKB BANKA.BANKA.K1.{count}", "RECENT 1", "RECENT 1"]
+        if count % 1000 == 0:
+            lines += ["PURGE BANKA", "PURGE BANKB"]
+    return cut(lines, most)
+
+
+def keys_that_stay():
+    """Two banks: 1,000 keys are sent and answered, and stay."""
+    lines = [party("BANKA", 0), party("BANKB", 1), f"LINK BANKA BANKB K1 {pair(2)}"]
+    return cut(lines + ["START BANKA BANKB", "RECENT 1", "RECENT 1"] * 1000, 10000)
+
+
+def many_banks(most):
+    """64 banks, two by two, each pair in its turn."""
+    names = [f"BANK{number:02}" for number in range(64)]
+    lines = [party(name, number) for number, name in enumerate(names)]
+    lines += [f"LINK {names[i]} {names[i + 1]} K1 {pair(100 + i)}" for i in range(0, 64, 2)]
+    while len(lines) < most:
+        for i in range(0, 64, 2):
+            lines += [f"START {names[i]} {names[i + 1]}", "RECENT 1", "RECENT 1"]
+    return cut(lines, most)
+
+
+def centres(most):
+    """Two banks and both centres: a key of each, in turns; 400 records stand before they are purged."""
+    lines = [party("BANKA", 0), party("BANKB", 1), party("CKDX", 2, "DISTRIBUTION"), party("CKTX", 3, "TRANSLATION")]
+    lines += [f"LINK {ends} C {pair(10 + i)}" for i, ends in enumerate(["CKDX BANKA", "CKDX BANKB", "BANKA CKTX", "CKTX BANKB"])]
+    count = 0
+    while len(lines) < most:
+        count += 1
+        for ask, name in ("ASK BANKA CKDX BANKB", "CKDX"), ("TRANSLATE BANKA CKTX BANKB", "CKTX"):
+            lines += [ask] + ["RECENT 1"] * 4 + [f"END BANKA BANKB {name}.BANKA.C.{count}"] + ["RECENT 1"] * 2
+        if count % 200 == 0:
+            lines += ["PURGE BANKA", "PURGE BANKB"]
+    return cut(lines, most)
+
+
+def events_of(text):
+    return sum(not line.startswith(("PARTY", "LINK")) for line in text.splitlines())
+
+
+def in_memory(text):
+    """The seconds of one play, by processor time."""
+    order = f"scenario {len(text)}\n{text}".encode()
+    events = events_of(text)
+    least = {}
+    for times in 1, 1 + TIMES:
+        least[times] = float("inf")
+        for _ in range(5):
+            with tempfile.TemporaryFile() as source, tempfile.TemporaryFile() as sink:
+                source.write(order * times)
+                source.seek(0)
+                child = subprocess.Popen([CASES], stdin=source, stdout=sink)
+                _, status, used = os.wait4(child.pid, 0)
+                sink.seek(0)
+                ends = [line for line in sink if line.startswith(b"done ")]
+                if status != 0 or len(ends) != times or any(end.split()[1:4] != [b"%d" % events, b"%d" % events, b"0"] for end in ends):
+                    sys.exit(f"not all {events} events are done: {ends[:1]}")
+                least[times] = min(least[times], used.ru_utime + used.ru_stime)
+    return (least[1 + TIMES] - least[1]) / TIMES
+
+
+def over_files(text, folder):
+    """The seconds of one play in a new folder of this one, by the clock."""
+    events = events_of(text)
+    least = float("inf")
+    for _ in range(3):
+        with tempfile.TemporaryDirectory(dir=folder) as work:
+            begin = time.perf_counter()
+            played = subprocess.run([X917, "replay"], input=text.encode(), cwd=work, stdout=subprocess.PIPE, check=True)
+            least = min(least, time.perf_counter() - begin)
+            if sum(line.endswith(b" DONE") for line in played.stdout.splitlines()) != events:
+                sys.exit(f"not all {events} events are done")
+    return least
+
+
+def told(where, text, seconds):
+    events = events_of(text)
+    print(f"  {where:24} {seconds * 1e3:9.1f} ms, {seconds / events * 1e6:7.2f} us an event, {events / seconds:9.0f} a second")
+
+
+SCENARIOS = [
+    ("two banks, keys that stay", keys_that_stay()),
+    ("two banks, 20,000 lines", keys_that_end(20000)),
+    ("two banks, 65,536 lines", keys_that_end(65536)),
+    ("64 banks, 20,000 lines", many_banks(20000)),
+    ("64 banks, 65,536 lines", many_banks(65536)),
+    ("two centres, 20,000 lines", centres(20000)),
+]
+for name, text in SCENARIOS:
+    print(f"{name}: {events_of(text)} events")
+    told("in memory", text, in_memory(text))
+    if os.path.exists(X917):
+        if os.path.isdir("/dev/shm"):
+            told("files in /dev/shm", text, over_files(text, "/dev/shm"))
+        told(f"files in {tempfile.gettempdir()}", text, over_files(text, None))
