@@ -2,7 +2,7 @@ use super::*;
 use csm_grammar::{ReadRefusal, Tag};
 use std::alloc::Global;
 use std::test::Fail;
-use x_base::NoMemory;
+use x_base::{NoMemory, Text};
 
 const MESSAGES: [&[u8]; 3] = [
     b"CSM(MCL/RSI RCV/BANKB ORG/BANKA SVR/KD EDC/00000000)",
@@ -114,6 +114,18 @@ const UNHEARD: [(&[u8], Unheard); 5] = [
     ),
 ];
 
+// how many separators stand in front of a text that begins a message and doesn't end, how many bytes
+// it has, and why nothing is heard of it
+const ENDLESS: [(usize, usize, Unheard); 7] = [
+    (0, 1024, Unheard::Text(ReadRefusal::Unended(1024))),
+    (3, 1024, Unheard::Text(ReadRefusal::Unended(1027))),
+    (0, 1025, Unheard::Text(ReadRefusal::TooLong(1024))),
+    (0, 1026, Unheard::Text(ReadRefusal::TooLong(1024))),
+    (3, 1026, Unheard::Text(ReadRefusal::TooLong(1027))),
+    (1, 2048, Unheard::Text(ReadRefusal::TooLong(1025))),
+    (1025, 1024, Unheard::Text(ReadRefusal::Unended(2049))),
+];
+
 /// Whether this is why nothing is heard of the bytes.
 fn is_unheard(alloc: Global, bytes: &[u8], unheard: Unheard) -> Result<bool, NoMemory> {
     if bytes.len() > INPUT_LIMIT {
@@ -143,5 +155,35 @@ fn an_input_is_heard(rt: HostRuntime) -> Result<(), Fail> {
         Err(_) => panic!(rt; "no message"),
     }
     assert_eq!(rt; wrong_row(rt.alloc())?, None);
+    Ok(())
+}
+
+/// A text of so many bytes that doesn't end, behind so many separators.
+fn endless(alloc: Global, separators: usize, count: usize) -> Result<Text, NoMemory> {
+    let mut text = Text::new(alloc);
+    for _ in 0..separators {
+        text.push(b"\n")?;
+    }
+    text.push(b"CSM(")?;
+    for _ in 4..count {
+        text.push(b"A")?;
+    }
+    Ok(text)
+}
+
+/// The first row of the table of texts that don't end that is heard wrongly.
+fn wrong_endless(alloc: Global) -> Result<Option<usize>, NoMemory> {
+    for (row, (separators, count, unheard)) in ENDLESS.into_iter().enumerate() {
+        let text = endless(alloc, separators, count)?;
+        if !is_unheard(alloc, text.bytes(), unheard)? {
+            return Ok(Some(row));
+        }
+    }
+    Ok(None)
+}
+
+#[test]
+fn a_text_that_does_not_end_is_unheard(rt: HostRuntime) -> Result<(), Fail> {
+    assert_eq!(rt; wrong_endless(rt.alloc())?, None);
     Ok(())
 }

@@ -8,6 +8,7 @@ use crate::count::{BadCount, Count};
 use crate::ident::{BadIdent, Ident};
 use crate::label::{BadLabel, Label};
 use crate::text::{NoMemory, Text};
+use itoa::Buffer;
 use std::alloc::Global;
 use thiserror::Error;
 
@@ -173,12 +174,13 @@ impl KeyName {
         let issuer = self.issuer.bytes();
         let originator = self.originator.bytes();
         let label = self.label.bytes();
-        let digits = self.count.value().to_string(alloc)?;
+        let count = self.count.value();
+        let mut digits = Buffer::new();
         let mut text = Text::with_capacity(alloc, LONGEST_WRITTEN)?;
         push_part(&mut text, issuer)?;
         push_part(&mut text, originator)?;
         push_part(&mut text, label)?;
-        text.push(digits.as_bytes())?;
+        text.push(digits.format(count).as_bytes())?;
         Ok(text)
     }
 }
