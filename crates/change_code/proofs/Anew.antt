@@ -1,12 +1,10 @@
 -- A party is made anew by the puts of its rows.
-use Rattle.std.proofs.Common.{arith, ◌≡◌, ◌≤◌, ℕ, ◌+◌, Bool, true, false, cond, Option, Some, None, List, [], ◌∷◌, ◌++◌, length, map, refl, sym, ap, subst, ◌∙◌, append_assoc, length-append, lit≤}
+use Rattle.std.proofs.Common.{arith, ◌≡◌, ◌≤◌, ℕ, ◌+◌, Bool, true, false, cond, Some, None, List, [], ◌∷◌, ◌++◌, length, map, refl, sym, ap, subst, ◌∙◌, append_assoc, length-append, lit≤}
 use Rattle.std.specs.Prelude.{bytes_eq}
 use Rattle.std.specs.List.{All}
 use Rattle.std.proofs.lemmas.List.{append-nil}
 use Rattle.std.proofs.Math.Nat.{le_refl}
 use Rattle.std.proofs.lemmas.List.Elements.{All-map, All-append, All-nil, All-cons}
-use Rattle.x_base.specs.declared.party.Role.{Role}
-use Rattle.x_gen.specs.declared.generator.Gen.{Gen}
 use Rattle.party_state.specs.declared.link.LinkRec.{LinkRec}
 use Rattle.party_state.specs.declared.key.KeyRec.{KeyRec}
 use Rattle.party_state.specs.declared.exchange.Exchange.{Exchange}

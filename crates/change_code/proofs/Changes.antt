@@ -1,15 +1,14 @@
 -- Lists of edits, and changes.
-use Rattle.std.proofs.Common.{◌≡◌, ℕ, zero, suc, ◌+◌, ◌<◌, ◌≤◌, ◌^◌, nat_eq, Bool, true, false, List, [], ◌∷◌, ◌++◌, length, take, Option, Some, None, Ok, Err, option_map, refl, sym, ap, ◌∙◌, subst, arith, append_assoc, append-nil, add-one, length-append}
-use Rattle.std.specs.List.{All, slice_get, flat_map}
+use Rattle.std.proofs.Common.{◌≡◌, ℕ, zero, suc, ◌+◌, ◌<◌, ◌^◌, nat_eq, true, false, List, [], ◌∷◌, ◌++◌, length, take, Some, Err, refl, sym, ap, ◌∙◌, subst, arith, append_assoc, append-nil, add-one, length-append}
+use Rattle.std.specs.List.{slice_get}
 use Rattle.std.proofs.lemmas.List.Concat.{flat_map-append}
 use Rattle.std.proofs.lemmas.List.Elements.{All-push, All-head, All-tail}
 use Rattle.party_state.specs.declared.edit.Edit.{Edit}
 use Rattle.party_state.specs.Ranges.{InRange, AreInRange, IsFitting, AreFitting}
-use Rattle.change_code.specs.Code.{two, edit_code, edits_code, code_in, IsCodeIn, IsCode}
-use Rattle.change_code.specs.Reading.{Form, Lacks, StartsWith, IsDecoded, edit_form, edits_form}
+use Rattle.change_code.specs.Code.{two, edit_code, edits_code, IsCodeIn, IsCode}
+use Rattle.change_code.specs.Reading.{Lacks, StartsWith, IsDecoded, edit_form, edits_form}
 use Rattle.change_code.specs.declared.fault.CodeFault.{CodeFault}
 use Rattle.change_code.specs.declared.fault.CodeFault.TheVariants.{Bad, NoMemory}
-use Rattle.change_code.proofs.Joining.{Apart}
 use Rattle.change_code.proofs.Numbers.{two_apart, two_long}
 use Rattle.change_code.proofs.EditForms.{edit_apart}
 

@@ -1,11 +1,11 @@
 -- Edits.
-use Rattle.std.proofs.Common.{◌≡◌, ℕ, ◌≤◌, ◌<◌, ◌^◌, List, [], ◌∷◌, ◌++◌, length, Option, Some, None, refl, sym, ap, ◌∙◌, subst, arith, append_assoc}
+use Rattle.std.proofs.Common.{◌≡◌, ℕ, List, ◌∷◌, ◌++◌, refl}
 use Rattle.x_base.specs.declared.party.Role.{Role}
 use Rattle.x_base.specs.declared.party.Side.{Side}
 use Rattle.x_gen.specs.declared.generator.Gen.{Gen}
 use Rattle.party_state.specs.declared.edit.Edit.{Edit}
 use Rattle.party_state.specs.declared.edit.Edit.TheVariants.{Begin, PutLink, DropLink, PutKey, DropEnded, PutExchange, DropExchange, PutAnswer, SetGen}
-use Rattle.change_code.specs.Reading.{Form, Lacks, StartsWith, ident_form, label_form, word_form, role_form, side_form, gen_form, link_form, key_form, exchange_form, answer_form, edit_form}
+use Rattle.change_code.specs.Reading.{Form, ident_form, label_form, word_form, role_form, side_form, gen_form, link_form, key_form, exchange_form, answer_form, edit_form}
 use Rattle.change_code.proofs.Joining.{Apart, both, apart_both}
 use Rattle.change_code.proofs.Numbers.{word_apart}
 use Rattle.change_code.proofs.Names.{ident_apart, label_apart, gen_apart}

@@ -1,6 +1,6 @@
 -- Codes one after the other.
-use Rattle.std.proofs.Common.{◌≡◌, ℕ, List, ◌++◌, Option, Some, None, refl, sym, ap, ◌∙◌, subst, append_assoc}
-use Rattle.change_code.specs.Reading.{Form, Lacks, StartsWith, IsPieceRead}
+use Rattle.std.proofs.Common.{◌≡◌, ℕ, List, ◌++◌, sym, ap, ◌∙◌, append_assoc}
+use Rattle.change_code.specs.Reading.{Form, Lacks, StartsWith}
 
 -- no code of a value is the front of another's
 pub record Apart {T : Type 0} (form : Form T) : Type 0 where

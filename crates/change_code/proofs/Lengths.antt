@@ -1,7 +1,7 @@
 -- The length of the code of a change.
-use Rattle.std.proofs.Common.{◌≡◌, ℕ, suc, ◌+◌, ◌*◌, ◌≤◌, ◌∷◌, ◌++◌, List, [], length, Option, Some, None, Bool, true, false, arith, length-append, lit≤}
+use Rattle.std.proofs.Common.{◌≡◌, ℕ, suc, ◌+◌, ◌*◌, ◌≤◌, ◌∷◌, ◌++◌, List, [], length, Some, None, Bool, true, false, arith, length-append, lit≤}
 use Rattle.std.proofs.lemmas.List.Elements.{All-head, All-tail}
-use Rattle.x_base.specs.Names.{is_name, IsIdent, IsLabel}
+use Rattle.x_base.specs.Names.{is_name}
 use Rattle.x_base.specs.KeyName.{IsKeyName}
 use Rattle.x_base.specs.declared.key_name.KeyName.{KeyName}
 use Rattle.x_base.specs.declared.party.Role.{Role}
@@ -21,8 +21,8 @@ use Rattle.party_state.specs.declared.exchange.Exchange.{Exchange}
 use Rattle.party_state.specs.declared.answer.Answer.{Answer}
 use Rattle.party_state.specs.declared.edit.Edit.{Edit}
 use Rattle.party_state.specs.declared.edit.Edit.TheVariants.{Begin, PutLink, DropLink, PutKey, DropEnded, PutExchange, DropExchange, PutAnswer, SetGen}
-use Rattle.party_state.specs.Ranges.{InRange, AreInRange, IsLink, IsRecord, IsVia, IsKind, IsExchange, IsCentreAnswer, IsFitting, AreFitting, longest_text}
-use Rattle.change_code.specs.Code.{two, eight, short, long, name_code, pair_code, role_code, side_code, status_code, flag_code, maybe_code, link_code, key_code, via_code, kind_code, exchange_code, answer_code, edit_code, edits_code, code_of_change, head_length, longest_edit}
+use Rattle.party_state.specs.Ranges.{InRange, AreInRange, IsLink, IsRecord, IsVia, IsKind, IsExchange, IsCentreAnswer, longest_text}
+use Rattle.change_code.specs.Code.{two, eight, short, name_code, pair_code, role_code, side_code, status_code, flag_code, link_code, key_code, via_code, kind_code, exchange_code, answer_code, edit_code, edits_code, code_of_change, head_length, longest_edit}
 use Rattle.change_code.proofs.Numbers.{two_long, eight_long}
 
 -- so many bytes at most

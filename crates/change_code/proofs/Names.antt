@@ -1,11 +1,10 @@
 -- Identities, labels and key names.
-use Rattle.std.proofs.Common.{◌≡◌, ℕ, ◌+◌, ◌<◌, ◌≤◌, ◌^◌, List, ◌∷◌, ◌++◌, length, Option, Some, None, Result, Ok, Err, IsOk, IfOk, ◌↔◌, refl, sym, ap, ◌∙◌, subst, arith, append_assoc, length-append}
+use Rattle.std.proofs.Common.{◌≡◌, ℕ, ◌<◌, ◌^◌, List, ◌++◌, length, Option, Some, None, Result, Ok, Err, IsOk, IfOk, ◌↔◌, refl, sym, ap, ◌∙◌, subst, arith, append_assoc, length-append}
 use Rattle.std.specs.Option.{MatchOption}
 use Rattle.std.specs.Result.{result_ok}
-use Rattle.x_base.specs.Names.{IsIdent, IsLabel}
 use Rattle.party_state.specs.Ranges.{longest_text}
-use Rattle.change_code.specs.Code.{two, eight, short, long}
-use Rattle.change_code.specs.Reading.{Form, Lacks, StartsWith, IsPieceRead, LacksShort, LacksLong, ident_form, label_form, name_form, word_form, count_form, pair_form, gen_form, text_form}
+use Rattle.change_code.specs.Code.{two, short, long}
+use Rattle.change_code.specs.Reading.{Form, Lacks, IsPieceRead, LacksLong, ident_form, label_form, name_form, word_form, count_form, pair_form, gen_form, text_form}
 use Rattle.change_code.proofs.Joining.{Apart, Shape, both, apart_both, apart_as}
 use Rattle.change_code.proofs.Numbers.{same_fronts, two_apart, two_long, word_apart, count_apart}
 

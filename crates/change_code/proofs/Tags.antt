@@ -1,6 +1,6 @@
 -- Values of several kinds, each marked by a byte.
-use Rattle.std.proofs.Common.{◌≡◌, ℕ, List, [], ◌∷◌, ◌++◌, Option, Some, None, refl, sym, ap, ◌∙◌, subst}
-use Rattle.change_code.specs.Reading.{Form, Lacks, StartsWith, IsPieceRead}
+use Rattle.std.proofs.Common.{◌≡◌, ℕ, List, [], ◌∷◌, ◌++◌, refl, sym, ap, ◌∙◌}
+use Rattle.change_code.specs.Reading.{Form, Lacks}
 use Rattle.change_code.proofs.Joining.{Apart}
 
 -- a value whose code begins with this byte is of this kind

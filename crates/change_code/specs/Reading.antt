@@ -19,7 +19,7 @@ use Rattle.party_state.specs.declared.edit.Edit.{Edit}
 use Rattle.party_state.specs.Ranges.{IsWord, IsPair, IsGen, IsNextCount, IsLink, IsRecord, IsVia, IsKind, IsExchange, IsCentreAnswer, InRange, AreInRange, longest_text}
 use Rattle.change_code.specs.declared.fault.CodeFault.{CodeFault}
 use Rattle.change_code.specs.declared.fault.CodeFault.TheVariants.{Bad, NoMemory}
-use Rattle.change_code.specs.Code.{two, eight, short, long, name_code, pair_code, gen_code, role_code, side_code, status_code, flag_code, maybe_code, link_code, key_code, via_code, kind_code, exchange_code, answer_code, edit_code, edits_code}
+use Rattle.change_code.specs.Code.{eight, short, long, name_code, pair_code, gen_code, role_code, side_code, status_code, flag_code, maybe_code, link_code, key_code, via_code, kind_code, exchange_code, answer_code, edit_code, edits_code}
 
 -- how a kind of value is coded, and its range
 pub record Form (T : Type 0) : Type 1 where

@@ -5,10 +5,11 @@ ghost use Rattle.change_code.specs.Code.{edits_code, IsCode};
 ghost use Rattle.change_code.specs.Whole.{row_edits, whole_edits, whole_of, IsTooLarge};
 
 use crate::encoding::{
-    FORMAT, MOST_EDITS, put_answer_edit, put_begin, put_exchange_edit, put_key_edit, put_link_edit,
+    FORMAT, MOST_EDITS, put_answer_edit, put_begin, put_exchange_edit, put_head, put_key_edit,
+    put_link_edit,
 };
 use crate::fault::WholeFault;
-use crate::writing::put_half_word;
+use crate::room::room_behind_whole;
 use party_state::State;
 use std::alloc::Global;
 use x_base::{NoMemory, Text};
@@ -111,13 +112,13 @@ fn edit_count(state: &State) -> u128
         + state.answer_count() as u128
 }
 
-fn whole_code(alloc: Global, state: &State, edits: u16) -> Result<Text, NoMemory>
+fn whole_code(alloc: Global, front: &[u8], state: &State, edits: u16) -> Result<Text, NoMemory>
     requires { edits ≡ length (whole_edits state.now) }
-    ensures { IfOk result (λ text. text ≡ whole_of state.now) }
+    ensures { IfOk result (λ text. text ≡ front.now ++ whole_of state.now) }
 {
-    let mut out = Text::new(alloc);
-    out.push(&[FORMAT])?;
-    put_half_word(&mut out, edits)?;
+    let mut out = Text::with_capacity(alloc, room_behind_whole(front.len(), state))?;
+    out.push(front)?;
+    put_head(&mut out, FORMAT, edits)?;
     put_begin(&mut out, &state.own(), state.role(), state.generator())?;
     put_rows(&mut out, state)?;
     Ok(out)
@@ -131,13 +132,23 @@ pub fn whole(alloc: Global, state: &State) -> Result<Text, WholeFault>
     ensures fits { OnOk result (IsTooLarge state.now → ⊥) }
     ensures too_large { IfErr result (λ fault. fault ≡ WholeFault.TooLarge → IsTooLarge state.now) }
 {
+    whole_behind(alloc, &[], state)
+}
+
+/// The same behind other bytes, in one text.
+pub fn whole_behind(alloc: Global, front: &[u8], state: &State) -> Result<Text, WholeFault>
+    ensures whole { IfOk result (λ text. text ≡ front.now ++ whole_of state.now) }
+    ensures code { OnOk result (IsCode (whole_of state.now) (whole_edits state.now)) }
+    ensures fits { OnOk result (IsTooLarge state.now → ⊥) }
+    ensures too_large { IfErr result (λ fault. fault ≡ WholeFault.TooLarge → IsTooLarge state.now) }
+{
     state.law_party();
     let edits = edit_count(state);
     if edits > MOST_EDITS as u128 {
         return Err(WholeFault::TooLarge);
     }
-    let text = whole_code(alloc, state, edits as u16)?;
-    if text.bytes().len() > LONGEST_BODY {
+    let text = whole_code(alloc, front, state, edits as u16)?;
+    if text.bytes().len() - front.len() > LONGEST_BODY {
         return Err(WholeFault::TooLarge);
     }
     Ok(text)

@@ -1,108 +1,111 @@
 // Writing the code of a change.
-ghost use Rattle.std.specs.Prelude.{◌≡◌, ◌≤◌, ◌<◌, ◌+◌, ◌++◌, ℕ, List, length, take, OnOk, IfOk};
+ghost use Rattle.std.specs.Prelude.{◌≡◌, ◌≤◌, ◌<◌, ◌+◌, ◌++◌, ◌∷◌, ℕ, List, length, take, OnOk, IfOk};
 ghost use Rattle.party_state.specs.Ranges.{IsFitting, AreFitting, longest_text};
-ghost use Rattle.party_state.specs.declared.edit.Edit.TheVariants.{Begin, DropLink, PutAnswer, PutExchange, PutKey, PutLink};
-ghost use Rattle.change_code.specs.Code.{IsCode, link_code, key_code, via_code, kind_code, exchange_code, answer_code, edit_code, edits_code, code_in, code_of_change, most_edits};
+ghost use Rattle.party_state.specs.declared.edit.Edit.TheVariants.{Begin, DropExchange, DropLink, PutAnswer, PutExchange, PutKey, PutLink, SetGen};
+ghost use Rattle.change_code.specs.Code.{IsCode, two, link_code, key_code, via_code, kind_code, answer_code, edit_code, edits_code, code_in, code_of_change, most_edits};
 
+use crate::edit_code::EditCode;
 use crate::room::room_behind;
 use crate::writing::{
-    put_flag, put_generator, put_half_word, put_ident, put_label, put_long, put_maybe, put_name,
-    put_pair, put_role, put_side, put_status, put_word,
+    put_flag, put_generator, put_half_word, put_ident, put_label, put_maybe, put_name, put_pair,
+    put_role, put_side, put_status, put_word,
 };
 use party_state::{Answer, Change, Edit, Exchange, KeyRec, Kind, LinkRec, Via};
 use std::alloc::Global;
 use x_base::{Ident, Label, NoMemory, Role, Side, Text};
 use x_gen::Gen;
 
-fn put_link(out: &mut Text, link: &LinkRec) -> Result<(), NoMemory>
-    ensures { OnOk result (out.new ≡ out.old ++ link_code link.now) }
+fn put_link(out: &mut EditCode, link: &LinkRec)
+    requires room { length out.old + 60 ≤ 128 }
+    ensures code { out.new ≡ out.old ++ link_code link.now }
+    ensures most { length out.new ≤ length out.old + 60 }
 {
-    put_ident(out, &link.peer)?;
-    put_label(out, &link.label)?;
-    put_side(out, link.side)?;
-    put_pair(out, link.pair)?;
-    put_word(out, link.next)?;
-    put_flag(out, link.ready)
+    put_ident(out, &link.peer);
+    put_label(out, &link.label);
+    put_side(out, link.side);
+    put_pair(out, link.pair);
+    put_word(out, link.next);
+    put_flag(out, link.ready);
 }
 
-fn put_key(out: &mut Text, key: &KeyRec) -> Result<(), NoMemory>
-    ensures { OnOk result (out.new ≡ out.old ++ key_code key.now) }
+fn put_key(out: &mut EditCode, key: &KeyRec)
+    requires room { length out.old + 85 ≤ 128 }
+    ensures code { out.new ≡ out.old ++ key_code key.now }
+    ensures most { length out.new ≤ length out.old + 85 }
 {
-    put_ident(out, &key.peer)?;
-    put_name(out, &key.name)?;
-    put_word(out, key.value)?;
-    put_status(out, key.status)
+    put_ident(out, &key.peer);
+    put_name(out, &key.name);
+    put_word(out, key.value);
+    put_status(out, key.status);
 }
 
-fn put_via(out: &mut Text, via: &Via) -> Result<(), NoMemory>
-    ensures { OnOk result (out.new ≡ out.old ++ via_code via.now) }
+fn put_via(out: &mut EditCode, via: &Via)
+    requires room { length out.old + 36 ≤ 128 }
+    ensures code { out.new ≡ out.old ++ via_code via.now }
+    ensures most { length out.new ≤ length out.old + 36 }
 {
     match via {
         Via::Direct { label, new } => {
-            out.push(&[1])?;
-            put_label(out, label)?;
-            put_maybe(out, *new)
+            out.put(&[1]);
+            put_label(out, label);
+            put_maybe(out, *new);
         }
         Via::Distribution { centre, cta } => {
-            out.push(&[2])?;
-            put_ident(out, centre)?;
-            put_word(out, cta.value())
+            out.put(&[2]);
+            put_ident(out, centre);
+            put_word(out, cta.value());
         }
         Via::Translation { centre } => {
-            out.push(&[3])?;
-            put_ident(out, centre)
+            out.put(&[3]);
+            put_ident(out, centre);
         }
     }
 }
 
-fn put_kind(out: &mut Text, kind: &Kind) -> Result<(), NoMemory>
-    ensures { OnOk result (out.new ≡ out.old ++ kind_code kind.now) }
+fn put_kind(out: &mut EditCode, kind: &Kind)
+    requires room { length out.old + 96 ≤ 128 }
+    ensures code { out.new ≡ out.old ++ kind_code kind.now }
+    ensures most { length out.new ≤ length out.old + 96 }
 {
     match kind {
         Kind::Asked { ultimate } => {
-            out.push(&[1])?;
-            put_ident(out, ultimate)
+            out.put(&[1]);
+            put_ident(out, ultimate);
         }
         Kind::Translating {
             ultimate,
             value,
             cta,
         } => {
-            out.push(&[2])?;
-            put_ident(out, ultimate)?;
-            put_word(out, *value)?;
-            put_word(out, cta.value())
+            out.put(&[2]);
+            put_ident(out, ultimate);
+            put_word(out, *value);
+            put_word(out, cta.value());
         }
         Kind::KeySent { name, via } => {
-            out.push(&[3])?;
-            put_name(out, name)?;
-            put_via(out, via)
+            out.put(&[3]);
+            put_name(out, name);
+            put_via(out, via);
         }
         Kind::Ending { name } => {
-            out.push(&[4])?;
-            put_name(out, name)
+            out.put(&[4]);
+            put_name(out, name);
         }
     }
 }
 
-fn put_exchange(out: &mut Text, exchange: &Exchange) -> Result<(), NoMemory>
-    requires { length exchange.now.text ≤ longest_text }
-    ensures { OnOk result (out.new ≡ out.old ++ exchange_code exchange.now) }
+fn put_answer(out: &mut EditCode, answer: &Answer)
+    requires room { length out.old + 50 ≤ 128 }
+    ensures code { out.new ≡ out.old ++ answer_code answer.now }
+    ensures most { length out.new ≤ length out.old + 50 }
 {
-    put_ident(out, &exchange.peer)?;
-    put_kind(out, &exchange.kind)?;
-    put_long(out, exchange.text.bytes())
+    put_ident(out, &answer.requester);
+    put_ident(out, &answer.ultimate);
+    put_word(out, answer.cta.value());
+    put_word(out, answer.value);
 }
 
-fn put_answer(out: &mut Text, answer: &Answer) -> Result<(), NoMemory>
-    ensures { OnOk result (out.new ≡ out.old ++ answer_code answer.now) }
-{
-    put_ident(out, &answer.requester)?;
-    put_ident(out, &answer.ultimate)?;
-    put_word(out, answer.cta.value())?;
-    put_word(out, answer.value)
-}
-
+/// The party begins.
 pub(crate) fn put_begin(
     out: &mut Text,
     own: &Ident,
@@ -111,35 +114,43 @@ pub(crate) fn put_begin(
 ) -> Result<(), NoMemory>
     ensures { OnOk result (out.new ≡ out.old ++ edit_code (Begin own.now role generator)) }
 {
-    out.push(&[1])?;
-    put_ident(out, own)?;
-    put_role(out, role)?;
-    put_generator(out, generator)
-}
-
-fn put_drop_link(out: &mut Text, peer: &Ident, label: &Label, side: Side) -> Result<(), NoMemory>
-    ensures { OnOk result (out.new ≡ out.old ++ edit_code (DropLink peer.now label.now side)) }
-{
-    out.push(&[3])?;
-    put_ident(out, peer)?;
-    put_label(out, label)?;
-    put_side(out, side)
+    let mut code = EditCode::new();
+    code.put(&[1]);
+    put_ident(&mut code, own);
+    put_role(&mut code, role);
+    put_generator(&mut code, generator);
+    out.push(code.bytes())
 }
 
 /// A link that is put.
 pub(crate) fn put_link_edit(out: &mut Text, link: &LinkRec) -> Result<(), NoMemory>
     ensures { OnOk result (out.new ≡ out.old ++ edit_code (PutLink link.now)) }
 {
-    out.push(&[2])?;
-    put_link(out, link)
+    let mut code = EditCode::new();
+    code.put(&[2]);
+    put_link(&mut code, link);
+    out.push(code.bytes())
+}
+
+fn put_drop_link(out: &mut Text, peer: &Ident, label: &Label, side: Side) -> Result<(), NoMemory>
+    ensures { OnOk result (out.new ≡ out.old ++ edit_code (DropLink peer.now label.now side)) }
+{
+    let mut code = EditCode::new();
+    code.put(&[3]);
+    put_ident(&mut code, peer);
+    put_label(&mut code, label);
+    put_side(&mut code, side);
+    out.push(code.bytes())
 }
 
 /// A key that is put.
 pub(crate) fn put_key_edit(out: &mut Text, key: &KeyRec) -> Result<(), NoMemory>
     ensures { OnOk result (out.new ≡ out.old ++ edit_code (PutKey key.now)) }
 {
-    out.push(&[4])?;
-    put_key(out, key)
+    let mut code = EditCode::new();
+    code.put(&[4]);
+    put_key(&mut code, key);
+    out.push(code.bytes())
 }
 
 /// An exchange that is put.
@@ -147,16 +158,41 @@ pub(crate) fn put_exchange_edit(out: &mut Text, exchange: &Exchange) -> Result<(
     requires { length exchange.now.text ≤ longest_text }
     ensures { OnOk result (out.new ≡ out.old ++ edit_code (PutExchange exchange.now)) }
 {
-    out.push(&[6])?;
-    put_exchange(out, exchange)
+    let mut code = EditCode::new();
+    code.put(&[6]);
+    put_ident(&mut code, &exchange.peer);
+    put_kind(&mut code, &exchange.kind);
+    put_half_word(&mut code, exchange.text.bytes().len() as u16);
+    out.push(code.bytes())?;
+    out.push(exchange.text.bytes())
+}
+
+fn put_drop_exchange(out: &mut Text, peer: &Ident) -> Result<(), NoMemory>
+    ensures { OnOk result (out.new ≡ out.old ++ edit_code (DropExchange peer.now)) }
+{
+    let mut code = EditCode::new();
+    code.put(&[7]);
+    put_ident(&mut code, peer);
+    out.push(code.bytes())
 }
 
 /// An answer that is put.
 pub(crate) fn put_answer_edit(out: &mut Text, answer: &Answer) -> Result<(), NoMemory>
     ensures { OnOk result (out.new ≡ out.old ++ edit_code (PutAnswer answer.now)) }
 {
-    out.push(&[8])?;
-    put_answer(out, answer)
+    let mut code = EditCode::new();
+    code.put(&[8]);
+    put_answer(&mut code, answer);
+    out.push(code.bytes())
+}
+
+fn put_set_gen(out: &mut Text, v: u64) -> Result<(), NoMemory>
+    ensures { OnOk result (out.new ≡ out.old ++ edit_code (SetGen v)) }
+{
+    let mut code = EditCode::new();
+    code.put(&[9]);
+    put_word(&mut code, v);
+    out.push(code.bytes())
 }
 
 fn put_edit(out: &mut Text, edit: &Edit) -> Result<(), NoMemory>
@@ -174,15 +210,9 @@ fn put_edit(out: &mut Text, edit: &Edit) -> Result<(), NoMemory>
         Edit::PutKey(key) => put_key_edit(out, key),
         Edit::DropEnded => out.push(&[5]),
         Edit::PutExchange(exchange) => put_exchange_edit(out, exchange),
-        Edit::DropExchange { peer } => {
-            out.push(&[7])?;
-            put_ident(out, peer)
-        }
+        Edit::DropExchange { peer } => put_drop_exchange(out, peer),
         Edit::PutAnswer(answer) => put_answer_edit(out, answer),
-        Edit::SetGen(v) => {
-            out.push(&[9])?;
-            put_word(out, *v)
-        }
+        Edit::SetGen(v) => put_set_gen(out, *v),
     }
 }
 
@@ -214,14 +244,23 @@ fn put_edits(out: &mut Text, change: &Change) -> Result<(), NoMemory>
     Ok(())
 }
 
+/// The number of a format, and how many edits come.
+pub(crate) fn put_head(out: &mut Text, number: u8, edits: u16) -> Result<(), NoMemory>
+    ensures { OnOk result (out.new ≡ out.old ++ number ∷ two edits) }
+{
+    let mut code = EditCode::new();
+    code.put(&[number]);
+    put_half_word(&mut code, edits);
+    out.push(code.bytes())
+}
+
 /// The code in the format of this number.
 fn put_change(out: &mut Text, number: u8, change: &Change) -> Result<(), NoMemory>
     requires few { length change.now ≤ most_edits }
     requires fitting { AreFitting change.now }
     ensures { OnOk result (out.new ≡ out.old ++ code_in number change.now) }
 {
-    out.push(&[number])?;
-    put_half_word(out, change.len() as u16)?;
+    put_head(out, number, change.len() as u16)?;
     put_edits(out, change)
 }
 

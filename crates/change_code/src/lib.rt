@@ -5,6 +5,7 @@
 mod code_tests;
 mod compaction;
 mod decoding;
+mod edit_code;
 mod edits;
 mod encoding;
 mod exchanges;
@@ -16,7 +17,7 @@ mod room;
 mod rows;
 mod writing;
 
-pub use compaction::whole;
+pub use compaction::{whole, whole_behind};
 pub use decoding::decode;
 pub use encoding::{MOST_EDITS, encode, encode_behind};
 pub use fault::{CodeFault, WholeFault};

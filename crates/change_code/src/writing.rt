@@ -1,128 +1,145 @@
-// Writing the pieces of a code.
-ghost use Rattle.std.specs.Prelude.{◌≡◌, ◌≤◌, ◌<◌, ◌^◌, ◌++◌, length, OnOk};
-ghost use Rattle.party_state.specs.Ranges.{longest_text};
-ghost use Rattle.change_code.specs.Code.{two, eight, short, long, name_code, pair_code, gen_code, role_code, side_code, status_code, flag_code, maybe_code};
+// Writing the pieces of an edit's code.
+ghost use Rattle.std.specs.Prelude.{◌≡◌, ◌≤◌, ◌+◌, ◌++◌, length};
+ghost use Rattle.change_code.specs.Code.{two, eight, short, name_code, pair_code, gen_code, role_code, side_code, status_code, flag_code, maybe_code};
 
+use crate::edit_code::EditCode;
 use party_state::{KeyStatus, Role, Side};
-use x_base::{Ident, KeyName, Label, NoMemory, Text};
+use x_base::{Ident, KeyName, Label};
 use x_gen::Gen;
 use x_mac::Pair;
 
 /// A number of eight bytes.
 #[tactic(auto, unfolding(crate::specs::Code::eight))]
-pub(crate) fn put_word(out: &mut Text, n: u64) -> Result<(), NoMemory>
-    ensures { OnOk result (out.new ≡ out.old ++ eight n) }
+pub(crate) fn put_word(out: &mut EditCode, n: u64)
+    requires room { length out.old + 8 ≤ 128 }
+    ensures code { out.new ≡ out.old ++ eight n }
+    ensures most { length out.new ≤ length out.old + 8 }
 {
-    out.push(&n.to_be_bytes())
+    out.put(&n.to_be_bytes());
 }
 
 /// A number of two bytes.
 #[tactic(auto, unfolding(crate::specs::Code::two))]
-pub(crate) fn put_half_word(out: &mut Text, n: u16) -> Result<(), NoMemory>
-    ensures { OnOk result (out.new ≡ out.old ++ two n) }
+pub(crate) fn put_half_word(out: &mut EditCode, n: u16)
+    requires room { length out.old + 2 ≤ 128 }
+    ensures code { out.new ≡ out.old ++ two n }
+    ensures most { length out.new ≤ length out.old + 2 }
 {
-    out.push(&n.to_be_bytes())
+    out.put(&n.to_be_bytes());
 }
 
 /// Bytes behind a byte with their number.
-fn put_short(out: &mut Text, name: &[u8]) -> Result<(), NoMemory>
-    requires { length name.now ≤ 16 }
-    ensures { OnOk result (out.new ≡ out.old ++ short name.now) }
+fn put_short(out: &mut EditCode, name: &[u8])
+    requires short { length name.now ≤ 16 }
+    requires room { length out.old + 17 ≤ 128 }
+    ensures code { out.new ≡ out.old ++ short name.now }
+    ensures most { length out.new ≤ length out.old + 17 }
 {
-    out.push(&[name.len() as u8])?;
-    out.push(name)
+    out.put(&[name.len() as u8]);
+    out.put(name);
 }
 
-/// Bytes behind two bytes with their number.
-pub(crate) fn put_long(out: &mut Text, text: &[u8]) -> Result<(), NoMemory>
-    requires { length text.now ≤ longest_text }
-    ensures { OnOk result (out.new ≡ out.old ++ long text.now) }
+pub(crate) fn put_ident(out: &mut EditCode, ident: &Ident)
+    requires room { length out.old + 17 ≤ 128 }
+    ensures code { out.new ≡ out.old ++ short ident.now }
+    ensures most { length out.new ≤ length out.old + 17 }
 {
-    put_half_word(out, text.len() as u16)?;
-    out.push(text)
+    put_short(out, ident.bytes());
 }
 
-pub(crate) fn put_ident(out: &mut Text, ident: &Ident) -> Result<(), NoMemory>
-    ensures { OnOk result (out.new ≡ out.old ++ short ident.now) }
+pub(crate) fn put_label(out: &mut EditCode, label: &Label)
+    requires room { length out.old + 17 ≤ 128 }
+    ensures code { out.new ≡ out.old ++ short label.now }
+    ensures most { length out.new ≤ length out.old + 17 }
 {
-    put_short(out, ident.bytes())
+    put_short(out, label.bytes());
 }
 
-pub(crate) fn put_label(out: &mut Text, label: &Label) -> Result<(), NoMemory>
-    ensures { OnOk result (out.new ≡ out.old ++ short label.now) }
+pub(crate) fn put_name(out: &mut EditCode, name: &KeyName)
+    requires room { length out.old + 59 ≤ 128 }
+    ensures code { out.new ≡ out.old ++ name_code name.now }
+    ensures most { length out.new ≤ length out.old + 59 }
 {
-    put_short(out, label.bytes())
+    put_ident(out, &name.issuer);
+    put_ident(out, &name.originator);
+    put_label(out, &name.label);
+    put_word(out, name.count.value());
 }
 
-pub(crate) fn put_name(out: &mut Text, name: &KeyName) -> Result<(), NoMemory>
-    ensures { OnOk result (out.new ≡ out.old ++ name_code name.now) }
+pub(crate) fn put_pair(out: &mut EditCode, pair: Pair)
+    requires room { length out.old + 16 ≤ 128 }
+    ensures code { out.new ≡ out.old ++ pair_code pair }
+    ensures most { length out.new ≤ length out.old + 16 }
 {
-    put_ident(out, &name.issuer)?;
-    put_ident(out, &name.originator)?;
-    put_label(out, &name.label)?;
-    put_word(out, name.count.value())
+    put_word(out, pair.left);
+    put_word(out, pair.right);
 }
 
-pub(crate) fn put_pair(out: &mut Text, pair: Pair) -> Result<(), NoMemory>
-    ensures { OnOk result (out.new ≡ out.old ++ pair_code pair) }
+pub(crate) fn put_generator(out: &mut EditCode, generator: Gen)
+    requires room { length out.old + 24 ≤ 128 }
+    ensures code { out.new ≡ out.old ++ gen_code generator }
+    ensures most { length out.new ≤ length out.old + 24 }
 {
-    put_word(out, pair.left)?;
-    put_word(out, pair.right)
+    put_pair(out, generator.key);
+    put_word(out, generator.v);
 }
 
-pub(crate) fn put_generator(out: &mut Text, generator: Gen) -> Result<(), NoMemory>
-    ensures { OnOk result (out.new ≡ out.old ++ gen_code generator) }
-{
-    put_pair(out, generator.key)?;
-    put_word(out, generator.v)
-}
-
-pub(crate) fn put_role(out: &mut Text, role: Role) -> Result<(), NoMemory>
-    ensures { OnOk result (out.new ≡ out.old ++ role_code role) }
+pub(crate) fn put_role(out: &mut EditCode, role: Role)
+    requires room { length out.old + 1 ≤ 128 }
+    ensures code { out.new ≡ out.old ++ role_code role }
+    ensures most { length out.new ≤ length out.old + 1 }
 {
     match role {
-        Role::Bank => out.push(&[1]),
-        Role::Distribution => out.push(&[2]),
-        Role::Translation => out.push(&[3]),
+        Role::Bank => out.put(&[1]),
+        Role::Distribution => out.put(&[2]),
+        Role::Translation => out.put(&[3]),
     }
 }
 
-pub(crate) fn put_side(out: &mut Text, side: Side) -> Result<(), NoMemory>
-    ensures { OnOk result (out.new ≡ out.old ++ side_code side) }
+pub(crate) fn put_side(out: &mut EditCode, side: Side)
+    requires room { length out.old + 1 ≤ 128 }
+    ensures code { out.new ≡ out.old ++ side_code side }
+    ensures most { length out.new ≤ length out.old + 1 }
 {
     match side {
-        Side::Sends => out.push(&[1]),
-        Side::Takes => out.push(&[2]),
+        Side::Sends => out.put(&[1]),
+        Side::Takes => out.put(&[2]),
     }
 }
 
-pub(crate) fn put_status(out: &mut Text, status: KeyStatus) -> Result<(), NoMemory>
-    ensures { OnOk result (out.new ≡ out.old ++ status_code status) }
+pub(crate) fn put_status(out: &mut EditCode, status: KeyStatus)
+    requires room { length out.old + 1 ≤ 128 }
+    ensures code { out.new ≡ out.old ++ status_code status }
+    ensures most { length out.new ≤ length out.old + 1 }
 {
     match status {
-        KeyStatus::Pending => out.push(&[1]),
-        KeyStatus::Live => out.push(&[2]),
-        KeyStatus::Held => out.push(&[3]),
-        KeyStatus::Closing => out.push(&[4]),
-        KeyStatus::Ended => out.push(&[5]),
+        KeyStatus::Pending => out.put(&[1]),
+        KeyStatus::Live => out.put(&[2]),
+        KeyStatus::Held => out.put(&[3]),
+        KeyStatus::Closing => out.put(&[4]),
+        KeyStatus::Ended => out.put(&[5]),
     }
 }
 
-pub(crate) fn put_flag(out: &mut Text, flag: bool) -> Result<(), NoMemory>
-    ensures { OnOk result (out.new ≡ out.old ++ flag_code flag) }
+pub(crate) fn put_flag(out: &mut EditCode, flag: bool)
+    requires room { length out.old + 1 ≤ 128 }
+    ensures code { out.new ≡ out.old ++ flag_code flag }
+    ensures most { length out.new ≤ length out.old + 1 }
 {
-    if flag { out.push(&[1]) } else { out.push(&[0]) }
+    if flag { out.put(&[1]) } else { out.put(&[0]) }
 }
 
 /// A label, or that there is none.
-pub(crate) fn put_maybe(out: &mut Text, label: Option<Label>) -> Result<(), NoMemory>
-    ensures { OnOk result (out.new ≡ out.old ++ maybe_code label) }
+pub(crate) fn put_maybe(out: &mut EditCode, label: Option<Label>)
+    requires room { length out.old + 18 ≤ 128 }
+    ensures code { out.new ≡ out.old ++ maybe_code label }
+    ensures most { length out.new ≤ length out.old + 18 }
 {
     match label {
-        None => out.push(&[0]),
+        None => out.put(&[0]),
         Some(label) => {
-            out.push(&[1])?;
-            put_label(out, &label)
+            out.put(&[1]);
+            put_label(out, &label);
         }
     }
 }

@@ -1,6 +1,5 @@
 -- A party is compacted: what a crash leaves, and what stands behind it.
-use Rattle.std.proofs.Common.{◌≡◌, ◌⊎◌, inl, inr, ℕ, ◌+◌, ◌-◌, ◌<◌, ◌≤◌, List, [], ◌∷◌, ◌++◌, length, Some, is_some, true, Ok, Err, refl, sym, ◌∙◌, ap, subst, arith, length-append}
-use Rattle.std.proofs.lemmas.List.{append-nil}
+use Rattle.std.proofs.Common.{◌≡◌, inl, inr, ℕ, ◌+◌, ◌-◌, List, [], ◌∷◌, ◌++◌, length, Some, Ok, Err, refl, sym, ◌∙◌, ap, subst, arith, length-append}
 use Rattle.std.proofs.Math.Nat.{le_refl}
 use Rattle.x_disk.specs.Disk.{View, Tells, LeavesOnly, IsSound, one_less}
 use Rattle.x_disk.proofs.Runs.{weaker}
@@ -11,8 +10,8 @@ use Rattle.key_journal.specs.Writing.{IsSwitch}
 use Rattle.key_store.specs.declared.store.Kept.TheVariants as kept
 use Rattle.key_journal.specs.States as journal
 use Rattle.party_state.specs.State.{Party, begun, apply}
-use Rattle.party_state.specs.Ranges.{HasNoBegin, IsParty}
-use Rattle.party_state.specs.Limits.{IsWithinLimits, StaysWithinLimits}
+use Rattle.party_state.specs.Ranges.{HasNoBegin}
+use Rattle.party_state.specs.Limits.{StaysWithinLimits}
 use Rattle.change_code.specs.Code.{IsCode}
 use Rattle.change_code.specs.Whole.{row_edits, whole_edits, whole_of, IsTooLarge}
 use Rattle.key_store.specs.Store.{Stored, Fold, StandsWith, IsStore, room}

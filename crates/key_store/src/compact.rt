@@ -7,8 +7,8 @@ ghost use Rattle.change_code.specs.Whole.{whole_edits, whole_of, IsTooLarge};
 ghost use Rattle.key_store.specs.Compacting.{IsCompacting};
 
 use crate::store::{Kept, Store};
-use change_code::{WholeFault, law_whole, whole};
-use key_journal::frame;
+use change_code::{WholeFault, law_whole, whole_behind};
+use key_journal::close_frame;
 use party_state::State;
 use std::alloc::Global;
 use x_base::Text;
@@ -23,8 +23,9 @@ fn whole_frame(alloc: Global, state: &State) -> Result<Text, WholeFault>
     ensures fits { OnOk result (IsTooLarge state.now → ⊥) }
     ensures too_large { IfErr result (λ fault. fault ≡ WholeFault.TooLarge → IsTooLarge state.now) }
 {
-    let body = whole(alloc, state)?;
-    Ok(frame(alloc, body.bytes())?)
+    let mut text = whole_behind(alloc, &[0, 0, 0, 0], state)?;
+    close_frame(&mut text)?;
+    Ok(text)
 }
 
 impl<D: Disk> Store<D> {

@@ -5,7 +5,7 @@ use crate::answer::Answer;
 use crate::exchange::Exchange;
 use crate::key::KeyRec;
 use crate::link::LinkRec;
-use crate::ranges::law_edit;
+use crate::ranges::{law_each_edit, law_edit};
 use std::alloc::Global;
 use std::marker::Model;
 use x_base::{Ident, Label, NoMemory, Role, Side};
@@ -112,6 +112,14 @@ impl Change {
     {
         let edits = Vec::with_capacity(alloc, edits)?;
         Ok(Change { edits })
+    }
+
+    /// These edits.
+    pub fn of(edits: Vec<Edit>) -> Change
+        ensures { result ≡ edits.items }
+    {
+        law_each_edit(edits.as_slice());
+        Change { edits }
     }
 
     /// Appends an edit.

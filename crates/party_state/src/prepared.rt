@@ -33,7 +33,7 @@ impl Model for Prepared {
 impl State {
     /// Takes all memory that the change wants, which goes into what is prepared. Where there is none, the same state
     /// comes back.
-    pub fn prepare_owned(self, change: Change) -> Result<Prepared, State>
+    pub fn prepare(self, change: Change) -> Result<Prepared, State>
         requires fitting { AreFitting change }
         requires goes_on { HasNoBegin change }
         ensures party { IfOk result (λ p. p.party ≡ self) }
@@ -45,20 +45,6 @@ impl State {
         match parts.reserve(edits.as_slice()) {
             Ok(()) => Ok(Prepared { parts, edits }),
             Err(NoMemory) => Err(State { parts }),
-        }
-    }
-
-    /// Takes all memory that the change wants. Where there is none, the same state comes back.
-    pub fn prepare(self, alloc: Global, change: &Change) -> Result<Prepared, State>
-        requires fitting { AreFitting change.now }
-        requires goes_on { HasNoBegin change.now }
-        ensures party { IfOk result (λ p. p.party ≡ self) }
-        ensures edits { IfOk result (λ p. p.edits ≡ change.now) }
-        ensures same { IfErr result (λ s. s ≡ self) }
-    {
-        match change.copy(alloc) {
-            Ok(copy) => self.prepare_owned(copy),
-            Err(NoMemory) => Err(self),
         }
     }
 }
@@ -101,7 +87,8 @@ pub fn apply(alloc: Global, state: &State, change: &Change) -> Result<State, NoM
     ensures { IfOk result (λ s. s ≡ after change.now state.now) }
 {
     let copy = state.copy(alloc)?;
-    match copy.prepare(alloc, change) {
+    let change = change.copy(alloc)?;
+    match copy.prepare(change) {
         Ok(prepared) => Ok(prepared.finish()),
         Err(_) => Err(NoMemory),
     }

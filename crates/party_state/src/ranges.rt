@@ -4,7 +4,7 @@ ghost use Rattle.x_base.specs.Count.{IsCount};
 ghost use Rattle.x_base.specs.KeyName.{IsKeyName};
 ghost use Rattle.x_base.specs.Names.{IsIdent, IsLabel};
 ghost use Rattle.party_state.specs.Ranges.{IsPair, IsGen, IsNextCount, IsLink, IsRecord, IsVia, IsKind, IsExchange, IsCentreAnswer, longest_text};
-ghost use Rattle.party_state.specs.Formed.{IsFormed};
+ghost use Rattle.party_state.specs.Formed.{IsFormed, AreFormed};
 
 use crate::answer::Answer;
 use crate::edit::Edit;
@@ -156,5 +156,14 @@ pub(crate) fn law_edit(edit: &Edit)
         Edit::SetGen(v) => {
             let _v = *v;
         }
+    }
+}
+
+/// The same of edits.
+pub(crate) fn law_each_edit(edits: &[Edit])
+    ensures { AreFormed edits.now }
+{
+    for edit in edits {
+        law_edit(edit);
     }
 }

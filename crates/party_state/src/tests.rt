@@ -56,21 +56,21 @@ fn bank(alloc: Global, own: Ident) -> Result<State, NoMemory> {
     first_state(alloc, own, Role::Bank, Gen { key: PAIR, v: 1 })
 }
 
-fn seed_after(alloc: Global, state: State, change: &Change) -> Result<u64, NoMemory>
-    requires fitting { AreFitting change.now }
-    requires goes_on { HasNoBegin change.now }
+fn seed_after(state: State, change: Change) -> Result<u64, NoMemory>
+    requires fitting { AreFitting change }
+    requires goes_on { HasNoBegin change }
 {
-    match state.prepare(alloc, change) {
+    match state.prepare(change) {
         Ok(prepared) => Ok(prepared.finish().generator().v),
         Err(_) => Err(NoMemory),
     }
 }
 
-fn seed_before(alloc: Global, state: State, change: &Change) -> Result<u64, NoMemory>
-    requires fitting { AreFitting change.now }
-    requires goes_on { HasNoBegin change.now }
+fn seed_before(state: State, change: Change) -> Result<u64, NoMemory>
+    requires fitting { AreFitting change }
+    requires goes_on { HasNoBegin change }
 {
-    match state.prepare(alloc, change) {
+    match state.prepare(change) {
         Ok(prepared) => Ok(prepared.cancel().generator().v),
         Err(_) => Err(NoMemory),
     }
@@ -83,7 +83,8 @@ fn a_prepared_change_is_done(rt: HostRuntime) -> Result<(), Fail> {
     let mut change = Change::new(alloc);
     change.push(Edit::SetGen(5))?;
     change.push(Edit::SetGen(6))?;
-    assert_eq!(rt; seed_before(alloc, bank(alloc, own)?, &change)?, 1);
-    assert_eq!(rt; seed_after(alloc, bank(alloc, own)?, &change)?, 6);
+    let copy = change.copy(alloc)?;
+    assert_eq!(rt; seed_before(bank(alloc, own)?, copy)?, 1);
+    assert_eq!(rt; seed_after(bank(alloc, own)?, change)?, 6);
     Ok(())
 }

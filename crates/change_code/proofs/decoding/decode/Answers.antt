@@ -1,6 +1,6 @@
 use Rattle.std.proofs.Common.{◌≡◌, ◌∷◌, ℕ, List, subst}
 use Rattle.std.proofs.lemmas.Result.{IfOk-weaker}
-use Rattle.change_code.specs.Code.{IsCode, IsCodeIn}
+use Rattle.change_code.specs.Code.{IsCode}
 use Rattle.change_code.proofs.decoding.decode.Goals as goal
 
 pub returns-in-Some-eq1-clause-code : goal.returns-in-Some-eq1-clause-code

@@ -1,5 +1,4 @@
-use Rattle.std.proofs.Common.{arith, subst, ℕ, ◌<◌, length, ◌≡◌, ◌++◌}
-use Rattle.std.specs.Option.{MatchOption}
+use Rattle.std.proofs.Common.{arith}
 use Rattle.change_code.proofs.Names.{lacks_long_none, read_long_of}
 use Rattle.change_code.proofs.reader.Reader.long.Goals as goal
 
