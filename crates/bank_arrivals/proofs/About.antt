@@ -1,19 +1,15 @@
 -- What an exchange is about, where it was looked up; and a record that is put in place of another.
-use Rattle.std.specs.Prelude.{bytes_eq}
-use Rattle.std.proofs.Common.{◌≡◌, ◌≢◌, ℕ, true, Option, Some, None, List, option_map, refl, sym, ap, ◌∙◌}
+use Rattle.std.proofs.Common.{◌≡◌, ◌≢◌, ℕ, true, Option, Some, None, List, option_map, refl, ap}
 use Rattle.x_base.specs.declared.key_name.KeyName.{KeyName}
 use Rattle.party_state.specs.declared.link.LinkRec.{LinkRec}
 use Rattle.party_state.specs.declared.key.KeyRec.{KeyRec}
-use Rattle.party_state.specs.declared.key.RecordKey.{RecordKey}
 use Rattle.party_state.specs.declared.exchange.Via.{Via}
 use Rattle.party_state.specs.declared.exchange.Kind.{Kind}
 use Rattle.party_state.specs.declared.exchange.Kind.TheVariants as kind
 use Rattle.party_state.specs.declared.exchange.Exchange.{Exchange}
-use Rattle.party_state.specs.Keys.{record_key, same_record, link_key, same_link, exchange_key, sends}
+use Rattle.party_state.specs.Keys.{record_key, link_key, sends}
 use Rattle.party_state.specs.State.{Party, exchange_with, apply_edit}
-use Rattle.party_state.specs.declared.edit.Edit.TheVariants.{PutLink, PutKey, DropExchange}
-use Rattle.party_state.proofs.Keys.{test_idents, test_links, test_records}
-use Rattle.party_state.proofs.Tables.{find_key, find_put, find_drop_same}
+use Rattle.party_state.specs.declared.edit.Edit.TheVariants.{PutLink, PutKey}
 use Rattle.role_base.specs.declared.exchanges.Sent.{Sent}
 use Rattle.role_base.specs.Exchanges.{record_of, sent_by, sent_in, sent_to, ending_by, ending_in, ending_with}
 use Rattle.bank_arrivals.specs.declared.error_message.Subject.{Subject}
@@ -21,26 +17,16 @@ use Rattle.bank_arrivals.specs.declared.error_message.Subject.TheVariants.{SentK
 use Rattle.bank_arrivals.specs.Esm.{subject_by, subject_in, subject_with}
 use Rattle.role_base.specs.Conditions.{is_for}
 use Rattle.role_base.proofs.Addressed.{for_me}
+use Rattle.role_base.proofs.PartyLaws.{LinkLaws, KeyLaws, put_over, key_put_over}
 use Rattle.bank_arrivals.specs.Heard.{IsAbout, HasKey, HasLink, IsTo}
 
 -- a record that is put in place of the one that stands
-pub put_found : (p : Party) (peer : List ℕ) (name : KeyName) (k x : KeyRec) → HasKey p peer name k → record_key x ≡ record_key k → HasKey (apply_edit (PutKey x) p) peer name x
-put_found p peer name k x h e =
-    let key : RecordKey = record { peer = peer; name = name } in
-    let i : key ≡ record_key x = find_key record_key same_record test_records key k p.keys h ∙ sym e in
-    let s : same_record key (record_key x) ≡ true = (test_records.decides key (record_key x)).1 i in
-    find_put record_key same_record test_records key x p.keys ∙ rw s refl
+pub put_found : KeyLaws → (p : Party) (peer : List ℕ) (name : KeyName) (k x : KeyRec) → HasKey p peer name k → record_key x ≡ record_key k → HasKey (apply_edit (PutKey x) p) peer name x
+put_found keys p peer name k x h e = key_put_over keys (record { peer = peer; name = name }) k x p h e
 
 -- the same of a link
-pub put_link_found : (p : Party) (peer label : List ℕ) (l x : LinkRec) → HasLink p peer label l → link_key x ≡ link_key l → HasLink (apply_edit (PutLink x) p) peer label x
-put_link_found p peer label l x h e =
-    let i : sends peer label ≡ link_key x = find_key link_key same_link test_links (sends peer label) l p.links h ∙ sym e in
-    let s : same_link (sends peer label) (link_key x) ≡ true = (test_links.decides (sends peer label) (link_key x)).1 i in
-    find_put link_key same_link test_links (sends peer label) x p.links ∙ rw s refl
-
--- the exchange that is dropped
-pub gone : (p : Party) (peer : List ℕ) → exchange_with peer (apply_edit (DropExchange peer) p) ≡ None
-gone p peer = find_drop_same exchange_key bytes_eq test_idents peer p.exchanges
+pub put_link_found : LinkLaws → (p : Party) (peer label : List ℕ) (l x : LinkRec) → HasLink p peer label l → link_key x ≡ link_key l → HasLink (apply_edit (PutLink x) p) peer label x
+put_link_found links p peer label l x h e = put_over links (sends peer label) l x p h e
 
 -- who a message is for
 pub is_to : (p : Party) (receiver originator : List ℕ) → is_for p receiver originator ≡ true → IsTo p receiver originator

@@ -23,8 +23,6 @@ use Rattle.party_state.specs.Keys.{same_link, link_key, same_name, sends}
 use Rattle.role_base.specs.Differing.{AreApart}
 use Rattle.role_base.proofs.SendingApart.{sending_apart}
 use Rattle.party_state.specs.State.{Party, apply_edit, centre_label, link_with, exchange_with, first_link, is_ended}
-use Rattle.party_state.proofs.Keys.{test_links}
-use Rattle.party_state.proofs.Tables.{find_key, find_put}
 use Rattle.role_base.specs.declared.exchanges.Sent.{Sent}
 use Rattle.bank_arrivals.specs.declared.asking_again.Retry.{Retry}
 use Rattle.bank_arrivals.specs.declared.error_message.Subject.{Subject}
@@ -32,6 +30,7 @@ use Rattle.bank_arrivals.specs.declared.error_message.Subject.TheVariants.{SentK
 use Rattle.bank_arrivals.specs.declared.disconnection.Named.{Named}
 use Rattle.role_base.specs.Texts.{is_plain}
 use Rattle.role_base.specs.Exchanges.{sent_to, ending_with, new_link, readied, dropped}
+use Rattle.role_base.proofs.PartyLaws.{LinkLaws}
 use Rattle.bank_arrivals.specs.Rsi.{rsi_tests, rsi_under, rsi}
 use Rattle.bank_arrivals.specs.Rsm.{rsm_to, answer_to, rsm_with, rsm}
 use Rattle.bank_arrivals.specs.Esm.{subject_with, is_renewed, way_link, raised, error_of, error_with, error}
@@ -40,12 +39,12 @@ use Rattle.bank_arrivals.specs.Dsm.{named_by, left_by, left_in, dsm_on, dsm}
 
 -- a link that stands, and is put again, stands as before
 
-still_there : (p : Party) (l x : LinkRec) (k : LinkKey) → link_with (link_key l) p ≡ Some l → link_key x ≡ link_key l → is_some (link_with k (apply_edit (PutLink x) p)) ≡ is_some (link_with k p)
-still_there p l x k f e = ap (λ (o : Option LinkRec). is_some o) (find_put link_key same_link test_links k x p.links) ∙ go (same_link k (link_key x)) refl
+still_there : LinkLaws → (p : Party) (l x : LinkRec) (k : LinkKey) → link_with (link_key l) p ≡ Some l → link_key x ≡ link_key l → is_some (link_with k (apply_edit (PutLink x) p)) ≡ is_some (link_with k p)
+still_there links p l x k f e = ap (λ (o : Option LinkRec). is_some o) (links.put k x p) ∙ go (same_link k (link_key x)) refl
   where
     go : (b : Bool) → same_link k (link_key x) ≡ b → is_some (cond b (Some x) (link_with k p)) ≡ is_some (link_with k p)
     go true s =
-        let i : k ≡ link_key l = (test_links.decides k (link_key x)).0 s ∙ e in
+        let i : k ≡ link_key l = (links.same k (link_key x)).0 s ∙ e in
         let there : link_with k p ≡ Some l = rw i f in
         rw there refl
     go false s = refl
@@ -77,9 +76,9 @@ pub rsm_apart : (p : Party) (a : Arrival) (m : Rsm) → AreApart p (rsm p a m).e
 rsm_apart p a m = named_apart p a m m.idd
 
 -- where an error message tells a count, the link that goes is there as before
-error_apart : (p : Party) (a : Arrival) (m : Esm) (o : Option Subject) (again : Option Retry) → AreApart p (error_of p a m o again).edits
-error_apart p a m None again = tt
-error_apart p a m (Some (Translated value cta)) again = by_link (link_with (sends m.originator centre_label) p) m.ctr again
+error_apart : LinkLaws → (p : Party) (a : Arrival) (m : Esm) (o : Option Subject) (again : Option Retry) → AreApart p (error_of p a m o again).edits
+error_apart links p a m None again = tt
+error_apart links p a m (Some (Translated value cta)) again = by_link (link_with (sends m.originator centre_label) p) m.ctr again
   where
     by_link : (l : Option LinkRec) (ctr : Option ℕ) (t : Option Retry) → AreApart p (raised l ctr ++ DropExchange m.originator ∷ asked_again p m value t)
     by_link None ctr None = (tt, tt)
@@ -88,7 +87,7 @@ error_apart p a m (Some (Translated value cta)) again = by_link (link_with (send
     by_link (Some l) None (Some t) = ((refl, tt), (tt, tt))
     by_link (Some l) (Some n) None = ((refl, tt), (tt, tt))
     by_link (Some l) (Some n) (Some t) = ((refl, (refl, tt)), ((refl, tt), (tt, tt)))
-error_apart p a m (Some (SentKey s)) again = by_way s.way
+error_apart links p a m (Some (SentKey s)) again = by_way s.way
   where
     ends : KeyRec
     ends = record s.key { status = Ended }
@@ -106,14 +105,14 @@ error_apart p a m (Some (SentKey s)) again = by_way s.way
     raised_first : (new : Option LinkRec) (t : Option Retry) (l x : LinkRec) → link_with (link_key l) p ≡ Some l → link_key x ≡ link_key l → AreApart p (PutLink x ∷ behind new t)
     raised_first None None l x f e = ((refl, (refl, tt)), ((refl, tt), (tt, tt)))
     raised_first None (Some t) l x f e = ((refl, (refl, (refl, tt))), ((refl, (refl, tt)), ((refl, tt), (tt, tt))))
-    raised_first (Some new) None l x f e = ((still_there p l x (link_key new) f e, (refl, (refl, tt))), ((refl, (refl, tt)), ((refl, tt), (tt, tt))))
-    raised_first (Some new) (Some t) l x f e = ((still_there p l x (link_key new) f e, (refl, (refl, (refl, tt)))), ((refl, (refl, (refl, tt))), ((refl, (refl, tt)), ((refl, tt), (tt, tt)))))
+    raised_first (Some new) None l x f e = ((still_there links p l x (link_key new) f e, (refl, (refl, tt))), ((refl, (refl, tt)), ((refl, tt), (tt, tt))))
+    raised_first (Some new) (Some t) l x f e = ((still_there links p l x (link_key new) f e, (refl, (refl, (refl, tt)))), ((refl, (refl, (refl, tt))), ((refl, (refl, tt)), ((refl, tt), (tt, tt)))))
 
     by_link : (new : Option LinkRec) (label : List ℕ) (o : Option LinkRec) → link_with (sends m.originator label) p ≡ o → (ctr : Option ℕ) → AreApart p (raised o ctr ++ behind new again)
     by_link new label None f ctr = unraised new again
     by_link new label (Some l) f None = unraised new again
     by_link new label (Some l) f (Some n) =
-        let k : sends m.originator label ≡ link_key l = find_key link_key same_link test_links (sends m.originator label) l p.links f in
+        let k : sends m.originator label ≡ link_key l = links.found (sends m.originator label) l p f in
         raised_first new again l _ (rw k at f) refl
 
     by_label : (new : Option LinkRec) (label : List ℕ) (b : Bool) → AreApart p (raised (cond b None (link_with (sends m.originator label) p)) m.ctr ++ behind new again)
@@ -125,15 +124,15 @@ error_apart p a m (Some (SentKey s)) again = by_way s.way
     by_way (via.Distribution centre cta) = unraised None again
     by_way (via.Translation centre) = unraised None again
 
-pub esm_apart : (p : Party) (a : Arrival) (m : Esm) → AreApart p (error p a m).edits
-esm_apart p a m = go (is_plain a.parsed.shut)
+pub esm_apart : LinkLaws → (p : Party) (a : Arrival) (m : Esm) → AreApart p (error p a m).edits
+esm_apart links p a m = go (is_plain a.parsed.shut)
   where
     again : Option Retry
     again = retry_in p (subject_with p m.originator) m.ctr
 
     go : (b : Bool) → AreApart p (error_with p a m b again).edits
     go true = tt
-    go false = error_apart p a m (subject_with p m.originator) again
+    go false = error_apart links p a m (subject_with p m.originator) again
 
 -- a key that is put, with what goes before it and behind it
 abbrev around : KeyRec → List Edit × List Edit → List Edit

@@ -23,15 +23,16 @@ use Rattle.bank_arrivals.specs.Dsm.{paired, code_name, named_by, left_by, left_i
 use Rattle.role_base.proofs.Found.{key_stands}
 use Rattle.role_base.proofs.Keeping.{key_room}
 use Rattle.role_base.proofs.Kept.{row_kept, made_kept}
+use Rattle.role_base.proofs.PartyLaws.{KeysFound}
 
 -- the record of the key that ends stands
-named_stands : (p : Party) (m : Dsm) (n : Named) → named_by p m ≡ Some n → KeyStands p n.key
-named_stands p m n h = go (record_of p m.originator m.idd) refl (record_of p m.originator (code_name m.idd m.ida)) h
+named_stands : KeysFound → (p : Party) (m : Dsm) (n : Named) → named_by p m ≡ Some n → KeyStands p n.key
+named_stands keys p m n h = go (record_of p m.originator m.idd) refl (record_of p m.originator (code_name m.idd m.ida)) h
   where
     go : (o : Option KeyRec) → record_of p m.originator m.idd ≡ o → (b : Option KeyRec) → paired o b ≡ Some n → KeyStands p n.key
     go None f b e = absurd (cc)
     go (Some k) f None e = absurd (cc)
-    go (Some k) f (Some b) e = let i : n.key ≡ k = cc in rw i (key_stands p (record { peer = m.originator; name = m.idd }) k f)
+    go (Some k) f (Some b) e = let i : n.key ≡ k = cc in rw i (key_stands keys p (record { peer = m.originator; name = m.idd }) k f)
 
 -- what goes before the key, the key, and what goes behind it
 abbrev with_key : KeyRec → List Edit × List Edit → List Edit
@@ -68,8 +69,8 @@ disconnected_few p peer k st = by_status (is_ended k.status) (by_exchange (excha
     by_status true f = record { keepable = record { each = tt; order = refl }; few = lit≤ tt }
     by_status false f = f
 
-pub dsm_kept : (p : Party) (a : Arrival) (m : Dsm) (o : Option Named) (made : Result Decision NoMemory) → o ≡ named_by p m → IfOk made (λ d. d ≡ decision_of p (dsm_on p a m o)) → IfOk made (λ d. CanKeep p d.change)
-dsm_kept p a m None made h e = made_kept p (dsm_on p a m None) made (row_kept p (dsm_on p a m None) (λ _. record { each = tt; order = refl }) (lit≤ tt)) e
-dsm_kept p a m (Some n) made h e =
-    let f : AreFew p (disconnected p m.originator n.key) = disconnected_few p m.originator n.key (named_stands p m n (sym h)) in
+pub dsm_kept : KeysFound → (p : Party) (a : Arrival) (m : Dsm) (o : Option Named) (made : Result Decision NoMemory) → o ≡ named_by p m → IfOk made (λ d. d ≡ decision_of p (dsm_on p a m o)) → IfOk made (λ d. CanKeep p d.change)
+dsm_kept keys p a m None made h e = made_kept p (dsm_on p a m None) made (row_kept p (dsm_on p a m None) (λ _. record { each = tt; order = refl }) (lit≤ tt)) e
+dsm_kept keys p a m (Some n) made h e =
+    let f : AreFew p (disconnected p m.originator n.key) = disconnected_few p m.originator n.key (named_stands keys p m n (sym h)) in
     made_kept p (dsm_on p a m (Some n)) made (row_kept p (dsm_on p a m (Some n)) (λ _. f.keepable) f.few) e

@@ -1,6 +1,5 @@
 -- The change of an error message can be kept.
 use Rattle.std.proofs.Common.{◌≡◌, ℕ, ◌+◌, ◌≤◌, max, Bool, true, false, cond, Option, Some, None, Result, IfOk, IfSome, List, [], ◌∷◌, ◌++◌, length, option_map, refl, arith, lit≤}
-use Rattle.std.specs.Prelude.{bytes_eq}
 use Rattle.std.specs.List.{list_any}
 use Rattle.x_base.specs.Count.{IsCount}
 use Rattle.x_base.specs.declared.text.NoMemory.{NoMemory}
@@ -19,10 +18,9 @@ use Rattle.party_state.specs.declared.exchange.Kind.TheVariants as kind
 use Rattle.party_state.specs.declared.exchange.Exchange.{Exchange}
 use Rattle.party_state.specs.declared.edit.Edit.{Edit}
 use Rattle.party_state.specs.declared.edit.Edit.TheVariants.{PutKey, DropExchange}
-use Rattle.party_state.specs.Keys.{link_key, same_link, record_key, exchange_key, sends}
-use Rattle.party_state.specs.Ranges.{IsLink, IsNextCount, IsParty, IsVia, IsKind, IsExchange, longest_text}
+use Rattle.party_state.specs.Keys.{record_key, sends}
+use Rattle.party_state.specs.Ranges.{IsNextCount, IsParty, IsVia, IsKind, longest_text}
 use Rattle.party_state.specs.State.{Party, centre_label, link_with, exchange_with}
-use Rattle.party_state.proofs.Each.{find_all}
 use Rattle.csm_write.specs.Shortness.{CanonShort}
 use Rattle.party_state.specs.Rows.{Row}
 use Rattle.role_base.specs.Texts.{text_of, is_plain}
@@ -37,24 +35,25 @@ use Rattle.role_base.specs.Exchanges.{record_of, new_link, dropped}
 use Rattle.bank_arrivals.specs.AskingAgain.{retry_by, retry_of, retry_in, ers_reply, asked_again}
 use Rattle.bank_arrivals.specs.Esm.{subject_by, subject_in, subject_with, is_renewed, way_link, subject_link, raised, error_row, error_of, plain_esm, error}
 use Rattle.bank_arrivals.proofs.AskingShort.{IsHeard, IsRetry, is_retry, ers_short}
-use Rattle.role_base.proofs.Found.{link_stands, key_stands}
+use Rattle.role_base.proofs.Found.{found_stands, key_stands}
 use Rattle.role_base.proofs.Keeping.{link_room, key_room}
 use Rattle.role_base.proofs.Kept.{row_kept, made_kept}
+use Rattle.role_base.proofs.PartyLaws.{LinksFound, KeysFound, LinksInRange, ExchangesInRange}
 
 -- the record of a key that an error message speaks of stands, and its way is in its range
 abbrev SubjectStands : Party → Subject → Type 0
 SubjectStands p (SentKey s) = KeyStands p s.key × IsVia s.way
 SubjectStands p (Translated value cta) = Unit {0}
 
-subject_stands : (p : Party) (peer : List ℕ) (s : Subject) → IsParty p → subject_with p peer ≡ Some s → SubjectStands p s
-subject_stands p peer s w h = by_exchange (exchange_with peer p) refl h
+subject_stands : KeysFound → ExchangesInRange → (p : Party) (peer : List ℕ) (s : Subject) → IsParty p → subject_with p peer ≡ Some s → SubjectStands p s
+subject_stands keys in_range p peer s w h = by_exchange (exchange_with peer p) refl h
   where
     by_record : (name : KeyName) (way : Via) (o : Option KeyRec) → IsVia way → record_of p peer name ≡ o → option_map SentKey (option_map (λ (k : KeyRec). let t : Sent = record { key = k; way = way } in t) o) ≡ Some s → SubjectStands p s
     by_record name way None i f h = absurd (cc)
     by_record name way (Some k) i f h =
         let t : Sent = record { key = k; way = way } in
         let e : s ≡ SentKey t = cc in
-        rw e (key_stands p (record { peer = peer; name = name }) k f, i)
+        rw e (key_stands keys p (record { peer = peer; name = name }) k f, i)
 
     by_kind : (x : Kind) → IsKind x → subject_by p peer x ≡ Some s → SubjectStands p s
     by_kind (kind.KeySent name way) i h = by_record name way (record_of p peer name) i.1 refl h
@@ -64,24 +63,24 @@ subject_stands p peer s w h = by_exchange (exchange_with peer p) refl h
 
     by_exchange : (o : Option Exchange) → exchange_with peer p ≡ o → subject_in p peer o ≡ Some s → SubjectStands p s
     by_exchange None f h = absurd (cc)
-    by_exchange (Some e) f h = by_kind e.kind (find_all IsExchange exchange_key bytes_eq peer e p.exchanges w.exchanges f).kind h
+    by_exchange (Some e) f h = by_kind e.kind (in_range peer e p w f).kind h
 
 -- a link that is looked up stands
-looked_up : (p : Party) (k : LinkKey) → IsParty p → IfSome (link_with k p) (LinkStands p)
-looked_up p k w = go (link_with k p) refl
+looked_up : LinksFound → LinksInRange → (p : Party) (k : LinkKey) → IsParty p → IfSome (link_with k p) (LinkStands p)
+looked_up links in_range p k w = go (link_with k p) refl
   where
     go : (o : Option LinkRec) → link_with k p ≡ o → IfSome o (LinkStands p)
     go None h = tt
-    go (Some l) h = link_stands p k (Some l) h (find_all IsLink link_key same_link k l p.links w.links h)
+    go (Some l) h = found_stands links in_range p k l w h
 
 -- the link whose count the message names stands
-counted_stands : (p : Party) (peer : List ℕ) (s : Subject) → IsParty p → IfSome (subject_link p peer s) (LinkStands p)
-counted_stands p peer (Translated value cta) w = looked_up p (sends peer centre_label) w
-counted_stands p peer (SentKey s) w = by_way s.way
+counted_stands : LinksFound → LinksInRange → (p : Party) (peer : List ℕ) (s : Subject) → IsParty p → IfSome (subject_link p peer s) (LinkStands p)
+counted_stands links in_range p peer (Translated value cta) w = looked_up links in_range p (sends peer centre_label) w
+counted_stands links in_range p peer (SentKey s) w = by_way s.way
   where
     by_label : (label : List ℕ) (b : Bool) → IfSome (cond b None (link_with (sends peer label) p)) (LinkStands p)
     by_label label true = tt
-    by_label label false = looked_up p (sends peer label) w
+    by_label label false = looked_up links in_range p (sends peer label) w
 
     by_way : (way : Via) → IfSome (way_link p peer way) (LinkStands p)
     by_way (via.Direct label new) = by_label label (is_renewed label new)
@@ -115,15 +114,15 @@ asked_short short p m value None w i r = tt
 asked_short short p m value (Some t) w i r = ers_short short p m value t w.own i r
 
 -- an error message with an authentication code
-about_kept : CanonShort → (p : Party) (a : Arrival) (m : Esm) (o : Option Subject) → IsParty p → IsHeard m → IfSome m.ctr IsCount → subject_with p m.originator ≡ o → CanKeep p (change_of p (error_of p a m o (retry_in p o m.ctr)))
-about_kept short p a m None w g i h = row_kept p (error_of p a m None None) (λ _. record { each = tt; order = refl }) (lit≤ tt)
-about_kept short p a m (Some s) w g i h = kept (by_subject s (subject_stands p m.originator s w h))
+about_kept : LinksFound → KeysFound → LinksInRange → ExchangesInRange → CanonShort → (p : Party) (a : Arrival) (m : Esm) (o : Option Subject) → IsParty p → IsHeard m → IfSome m.ctr IsCount → subject_with p m.originator ≡ o → CanKeep p (change_of p (error_of p a m o (retry_in p o m.ctr)))
+about_kept links keys links_in_range in_range short p a m None w g i h = row_kept p (error_of p a m None None) (λ _. record { each = tt; order = refl }) (lit≤ tt)
+about_kept links keys links_in_range in_range short p a m (Some s) w g i h = kept (by_subject s (subject_stands keys in_range p m.originator s w h))
   where
     kept : AreFew p (error_row p a m s (retry_of p s m.ctr)).edits → CanKeep p (change_of p (error_row p a m s (retry_of p s m.ctr)))
     kept f = row_kept p (error_row p a m s (retry_of p s m.ctr)) (λ _. f.keepable) f.few
 
     raised_with : (x : Subject) (rest : List Edit) → AreKeepable p rest → list_any puts_link rest ≡ false → length rest ≤ 8 → AreFew p (raised (subject_link p m.originator x) m.ctr ++ rest)
-    raised_with x rest t n few = raised_few p (subject_link p m.originator x) m.ctr rest (counted_stands p m.originator x w) i t n few
+    raised_with x rest t n few = raised_few p (subject_link p m.originator x) m.ctr rest (counted_stands links links_in_range p m.originator x w) i t n few
 
     by_link : (x : Sent) (l : Option LinkRec) (t : Option Retry) → can_put_key p (record_key x.key) ≡ true → IsShort p m x.key.value t → AreFew p (raised (subject_link p m.originator (SentKey x)) m.ctr ++ ((dropped l ++ PutKey (record x.key { status = Ended }) ∷ []) ++ DropExchange m.originator ∷ asked_again p m x.key.value t))
     by_link x None None room c = raised_with (SentKey x) _ (record { each = (room, (tt, tt)); order = refl }) refl (lit≤ tt)
@@ -135,8 +134,8 @@ about_kept short p a m (Some s) w g i h = kept (by_subject s (subject_stands p m
     by_subject (SentKey x) st = by_link x (new_link p m.originator x.way) (retry_by p x.way m.ctr) (key_room p x.key st.0) (asked_short short p m x.key.value (retry_by p x.way m.ctr) w g (is_retry p x.way m.ctr st.1 i))
     by_subject (Translated value cta) st = raised_with (Translated value cta) _ (record { each = (tt, tt); order = refl }) refl (lit≤ tt)
 
-pub esm_kept : CanonShort → (p : Party) (a : Arrival) (m : Esm) (made : Result Decision NoMemory) → IsParty p → IsHeard m → IfSome m.ctr IsCount → IfOk made (λ d. d ≡ decision_of p (error p a m)) → IfOk made (λ d. CanKeep p d.change)
-esm_kept short p a m made w g i e = made_kept p (error p a m) made (by_closing (is_plain a.parsed.shut) (about_kept short p a m (subject_with p m.originator) w g i refl)) e
+pub esm_kept : LinksFound → KeysFound → LinksInRange → ExchangesInRange → CanonShort → (p : Party) (a : Arrival) (m : Esm) (made : Result Decision NoMemory) → IsParty p → IsHeard m → IfSome m.ctr IsCount → IfOk made (λ d. d ≡ decision_of p (error p a m)) → IfOk made (λ d. CanKeep p d.change)
+esm_kept links keys links_in_range in_range short p a m made w g i e = made_kept p (error p a m) made (by_closing (is_plain a.parsed.shut) (about_kept links keys links_in_range in_range short p a m (subject_with p m.originator) w g i refl)) e
   where
     plain : CanKeep p (change_of p (plain_esm p a m))
     plain = row_kept p (plain_esm p a m) (λ _. record { each = tt; order = refl }) (lit≤ tt)

@@ -11,35 +11,35 @@ use Rattle.party_state.specs.declared.exchange.Via.{Via}
 use Rattle.party_state.specs.declared.exchange.Kind.{Kind}
 use Rattle.party_state.specs.declared.exchange.Kind.TheVariants as kind
 use Rattle.party_state.specs.declared.exchange.Exchange.{Exchange}
-use Rattle.party_state.specs.Keys.{link_key, same_link, record_key, sends}
-use Rattle.party_state.specs.Ranges.{IsLink, IsParty}
+use Rattle.party_state.specs.Keys.{record_key, sends}
+use Rattle.party_state.specs.Ranges.{IsParty}
 use Rattle.party_state.specs.State.{Party, exchange_with}
-use Rattle.party_state.proofs.Each.{find_all}
 use Rattle.role_base.specs.declared.exchanges.Sent.{Sent}
 use Rattle.role_base.specs.Deciding.{change_of, decision_of}
 use Rattle.role_base.specs.Storable.{CanKeep, can_put_key}
 use Rattle.role_base.specs.Standing.{LinkStands, KeyStands}
 use Rattle.role_base.specs.Exchanges.{record_of, sent_by, sent_in, sent_to, ending_by, ending_in, ending_with, new_label, new_link_at, new_link}
 use Rattle.bank_arrivals.specs.Rsm.{rsm, rsm_with, rsm_to, answer_to}
-use Rattle.role_base.proofs.Found.{link_stands, key_stands}
+use Rattle.role_base.proofs.Found.{found_stands, key_stands}
 use Rattle.role_base.proofs.Kept.{row_kept, made_kept}
 use Rattle.role_base.proofs.Keeping.{link_room, key_room}
+use Rattle.role_base.proofs.PartyLaws.{LinksFound, KeysFound, LinksInRange}
 
 -- the link that was found stands
-new_link_stands : (p : Party) (peer : List ℕ) (way : Via) (l : LinkRec) → IsParty p → new_link p peer way ≡ Some l → LinkStands p l
-new_link_stands p peer way l w h = by_label (new_label way) h
+new_link_stands : LinksFound → LinksInRange → (p : Party) (peer : List ℕ) (way : Via) (l : LinkRec) → IsParty p → new_link p peer way ≡ Some l → LinkStands p l
+new_link_stands links in_range p peer way l w h = by_label (new_label way) h
   where
     by_label : (o : Option (List ℕ)) → new_link_at p peer o ≡ Some l → LinkStands p l
     by_label None h = absurd (cc)
-    by_label (Some label) h = link_stands p (sends peer label) (Some l) h (find_all IsLink link_key same_link (sends peer label) l p.links w.links h)
+    by_label (Some label) h = found_stands links in_range p (sends peer label) l w h
 
 -- the record of a key that was sent stands
-sent_stands : (p : Party) (peer : List ℕ) (s : Sent) → sent_to p peer ≡ Some s → KeyStands p s.key
-sent_stands p peer s h = by_exchange (exchange_with peer p) h
+sent_stands : KeysFound → (p : Party) (peer : List ℕ) (s : Sent) → sent_to p peer ≡ Some s → KeyStands p s.key
+sent_stands keys p peer s h = by_exchange (exchange_with peer p) h
   where
     by_record : (name : KeyName) (way : Via) (o : Option KeyRec) → record_of p peer name ≡ o → option_map (λ (k : KeyRec). let t : Sent = record { key = k; way = way } in t) o ≡ Some s → KeyStands p s.key
     by_record name way None f h = absurd (cc)
-    by_record name way (Some k) f h = let e : s.key ≡ k = cc in rw e (key_stands p (record { peer = peer; name = name }) k f)
+    by_record name way (Some k) f h = let e : s.key ≡ k = cc in rw e (key_stands keys p (record { peer = peer; name = name }) k f)
 
     by_kind : (k : Kind) → sent_by p peer k ≡ Some s → KeyStands p s.key
     by_kind (kind.KeySent name way) h = by_record name way (record_of p peer name) refl h
@@ -52,23 +52,23 @@ sent_stands p peer s h = by_exchange (exchange_with peer p) h
     by_exchange (Some e) h = by_kind e.kind h
 
 -- the response to a key
-rsm_to_kept : (p : Party) (a : Arrival) (m : Rsm) (o : Option Sent) → IsParty p → sent_to p m.originator ≡ o → CanKeep p (change_of p (rsm_to p a m o))
-rsm_to_kept p a m None w h = row_kept p (rsm_to p a m None) (λ _. record { each = tt; order = refl }) (omega arith)
-rsm_to_kept p a m (Some s) w h = by_link (new_link p m.originator s.way) refl
+rsm_to_kept : LinksFound → KeysFound → LinksInRange → (p : Party) (a : Arrival) (m : Rsm) (o : Option Sent) → IsParty p → sent_to p m.originator ≡ o → CanKeep p (change_of p (rsm_to p a m o))
+rsm_to_kept links keys in_range p a m None w h = row_kept p (rsm_to p a m None) (λ _. record { each = tt; order = refl }) (omega arith)
+rsm_to_kept links keys in_range p a m (Some s) w h = by_link (new_link p m.originator s.way) refl
   where
     key : can_put_key p (record_key s.key) ≡ true
-    key = key_room p s.key (sent_stands p m.originator s h)
+    key = key_room p s.key (sent_stands keys p m.originator s h)
 
     by_link : (l : Option LinkRec) → new_link p m.originator s.way ≡ l → CanKeep p (change_of p (rsm_to p a m (Some s)))
     by_link None e = row_kept p (rsm_to p a m (Some s)) (λ _. rw e (record { each = (key, (tt, tt)); order = refl })) (rw e (omega arith))
-    by_link (Some l) e = let st : LinkStands p l = new_link_stands p m.originator s.way l w e in
+    by_link (Some l) e = let st : LinkStands p l = new_link_stands links in_range p m.originator s.way l w e in
         row_kept p (rsm_to p a m (Some s)) (λ _. rw e (record { each = ((st.range.next, link_room p l st), (key, (tt, tt))); order = refl })) (rw e (omega arith))
 
-ending_stands : (p : Party) (peer : List ℕ) (k : KeyRec) → ending_with p peer ≡ Some k → KeyStands p k
-ending_stands p peer k h = by_exchange (exchange_with peer p) h
+ending_stands : KeysFound → (p : Party) (peer : List ℕ) (k : KeyRec) → ending_with p peer ≡ Some k → KeyStands p k
+ending_stands keys p peer k h = by_exchange (exchange_with peer p) h
   where
     by_kind : (x : Kind) → ending_by p peer x ≡ Some k → KeyStands p k
-    by_kind (kind.Ending name) h = key_stands p (record { peer = peer; name = name }) k h
+    by_kind (kind.Ending name) h = key_stands keys p (record { peer = peer; name = name }) k h
     by_kind (kind.KeySent name way) h = absurd (cc)
     by_kind (kind.Asked ultimate) h = absurd (cc)
     by_kind (kind.Translating ultimate value cta) h = absurd (cc)
@@ -78,13 +78,13 @@ ending_stands p peer k h = by_exchange (exchange_with peer p) h
     by_exchange (Some e) h = by_kind e.kind h
 
 -- the response to the end of a key
-answer_to_kept : (p : Party) (a : Arrival) (m : Rsm) (name : KeyName) (o : Option KeyRec) → ending_with p m.originator ≡ o → CanKeep p (change_of p (answer_to p a m name o))
-answer_to_kept p a m name None h = row_kept p (answer_to p a m name None) (λ _. record { each = tt; order = refl }) (omega arith)
-answer_to_kept p a m name (Some k) h = row_kept p (answer_to p a m name (Some k)) (λ _. record { each = (key_room p k (ending_stands p m.originator k h), (tt, tt)); order = refl }) (omega arith)
+answer_to_kept : KeysFound → (p : Party) (a : Arrival) (m : Rsm) (name : KeyName) (o : Option KeyRec) → ending_with p m.originator ≡ o → CanKeep p (change_of p (answer_to p a m name o))
+answer_to_kept keys p a m name None h = row_kept p (answer_to p a m name None) (λ _. record { each = tt; order = refl }) (omega arith)
+answer_to_kept keys p a m name (Some k) h = row_kept p (answer_to p a m name (Some k)) (λ _. record { each = (key_room p k (ending_stands keys p m.originator k h), (tt, tt)); order = refl }) (omega arith)
 
-pub rsm_kept : (p : Party) (a : Arrival) (m : Rsm) (made : Result Decision NoMemory) → IsParty p → IfOk made (λ d. d ≡ decision_of p (rsm p a m)) → IfOk made (λ d. CanKeep p d.change)
-rsm_kept p a m made w e = made_kept p (rsm p a m) made (by_name m.idd) e
+pub rsm_kept : LinksFound → KeysFound → LinksInRange → (p : Party) (a : Arrival) (m : Rsm) (made : Result Decision NoMemory) → IsParty p → IfOk made (λ d. d ≡ decision_of p (rsm p a m)) → IfOk made (λ d. CanKeep p d.change)
+rsm_kept links keys in_range p a m made w e = made_kept p (rsm p a m) made (by_name m.idd) e
   where
     by_name : (o : Option KeyName) → CanKeep p (change_of p (rsm_with p a m o))
-    by_name None = rsm_to_kept p a m (sent_to p m.originator) w refl
-    by_name (Some name) = answer_to_kept p a m name (ending_with p m.originator) refl
+    by_name None = rsm_to_kept links keys in_range p a m (sent_to p m.originator) w refl
+    by_name (Some name) = answer_to_kept keys p a m name (ending_with p m.originator) refl

@@ -12,7 +12,7 @@ ghost use Rattle.role_base.specs.Deciding.{decision_of};
 ghost use Rattle.bank_arrivals.specs.Dsm.{named_by, dsm_front, left_by, left_in, disconnected, dsm_response, dsm_on, dsm, dsm_lead_on, dsm_lead};
 
 use csm_grammar::{Arrival, Dsm, Message, Rsm};
-use party_state::{Decision, Edit, KeyRec, KeyStatus, Kind, Lead, State};
+use party_state::{Decision, Edit, KeyRec, KeyStatus, Kind, Lead, State, law_found};
 use role_base::{
     Written, accept, dropped, early_refusal, is_accept, is_for, joined, key_lead, list_of,
     new_link, no_extras, passes, record_of, refusal, verdict_after, verdict_of,
@@ -226,6 +226,8 @@ pub fn dsm(
     ensures decision { IfOk result (λ d. d ≡ decision_of state.now (dsm state.now arrival.now message.now)) }
     ensures kept { IfOk result (λ d. CanKeep state.now d.change) }
 {
+    // Tells that what is found has the key under which it was looked for.
+    law_found();
     dsm_on(
         alloc,
         state,

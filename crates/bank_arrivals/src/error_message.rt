@@ -14,7 +14,7 @@ use crate::error_edits::error_edits;
 use crate::plain_esm::{is_plain, plain_esm};
 use csm_grammar::{Arrival, Esm, law_arrived};
 use csm_write::law_canon_short;
-use party_state::{Decision, Kind, Lead, State};
+use party_state::{Decision, Kind, Lead, State, law_found, law_found_in_range};
 use role_base::{
     Sent, accept, answer_front, answer_verdict, centre_label, direct_name, early_refusal,
     is_accept, lead_under, not_answering, passes, refusal, sent_by,
@@ -213,6 +213,8 @@ pub fn esm(
 {
     // Tells that what stands is in its range.
     state.law_party();
+    law_found();
+    law_found_in_range();
     // Tells that the values of the message are, and that the text that asks again is short.
     law_arrived();
     law_canon_short();

@@ -19,6 +19,7 @@ ghost use Rattle.bank_arrivals.specs.Dsm.{dsm, dsm_lead};
 ghost use Rattle.bank_arrivals.specs.Heard.{HeardResponse, HeardEnd, HeardError, HeardCentre, HeardDisconnection};
 
 use csm_grammar::law_arrived;
+use party_state::{law_accept, law_drop, law_found, law_put, law_same};
 
 /// No edit of these rows changes whether a later one makes a difference.
 pub fn law_apart()
@@ -26,7 +27,11 @@ pub fn law_apart()
     ensures rsm { (p : Party) (a : TheArrival) (m : TheRsm) → AreApart p (rsm p a m).edits }
     ensures esm { (p : Party) (a : TheArrival) (m : TheEsm) → AreApart p (error p a m).edits }
     ensures dsm { (p : Party) (a : TheArrival) (m : TheDsm) → AreApart p (dsm p a m).edits }
-{}
+{
+    law_same();
+    law_found();
+    law_put();
+}
 
 /// There is no key to test the code of an arrival under exactly where the arrival is closed by an
 /// error detection code, as each request is, or is refused before its code is looked at.
@@ -56,4 +61,10 @@ pub fn law_heard()
         (((error p a m).edits ≡ []) × ((error p a m).reply ≡ None)) }
     ensures disconnection { (p : Party) (a : TheArrival) (m : TheDsm) → (dsm p a m).verdict ≡ Accept →
         HeardDisconnection p (apply (dsm p a m).edits p) a m (dsm p a m) }
-{}
+{
+    law_accept();
+    law_same();
+    law_found();
+    law_put();
+    law_drop();
+}

@@ -11,7 +11,7 @@ ghost use Rattle.role_base.specs.Exchanges.{readied, new_link};
 ghost use Rattle.bank_arrivals.specs.Rsm.{rsm, rsm_to, rsm_lead, rsm_lead_to, answer_to, answer_lead_to, is_named};
 
 use csm_grammar::{Arrival, Rsm};
-use party_state::{Decision, Edit, KeyRec, KeyStatus, Lead, State};
+use party_state::{Decision, Edit, KeyRec, KeyStatus, Lead, State, law_found, law_found_in_range};
 use role_base::{
     Sent, accept, answer_front, answer_verdict, early_refusal, ending_with, is_accept, joined,
     key_lead, list_of, new_link, not_answering, passes, readied, refusal, sent_to,
@@ -229,6 +229,8 @@ pub fn rsm(
 {
     // Tells that the links that stand are in their ranges.
     state.law_party();
+    law_found();
+    law_found_in_range();
     rsm_decided(alloc, state, arrival, message, lead)
 }
 

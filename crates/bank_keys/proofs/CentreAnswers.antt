@@ -16,7 +16,6 @@ use Rattle.party_state.specs.Ranges.{longest_text}
 use Rattle.party_state.specs.State.{Party}
 use Rattle.party_state.specs.Rows.{refused}
 use Rattle.party_state.specs.Verdicts.{Held, verdict_of, is_accept}
-use Rattle.party_state.proofs.Verdicts.{held}
 use Rattle.role_base.specs.Texts.{text_of, lead_under}
 use Rattle.role_base.specs.Conditions.{count_tests, has_key_room}
 use Rattle.role_base.specs.Deciding.{decision_of, refusal_of, accepting}
@@ -26,6 +25,7 @@ use Rattle.role_base.proofs.Counted.{next_on}
 use Rattle.role_base.proofs.Decided.{decides_row, refuses}
 use Rattle.role_base.proofs.Keeping.{link_room}
 use Rattle.role_base.proofs.Kept.{row_kept}
+use Rattle.role_base.proofs.PartyLaws.{HeldIfAccepted}
 use Rattle.role_base.proofs.Storable.{key_fits}
 use Rattle.bank_keys.specs.declared.waits.Waiting.{Waiting}
 use Rattle.bank_keys.specs.Rtr.{centre_key, rtr_rest, passed_reply, used_edits, passed_on, brought_front, brought_value, brought, brought_under, translated_front, translated, translated_under}
@@ -44,13 +44,13 @@ pub used_keepable : (p : Party) (l used : LinkRec) (cta : ℕ) → LinkStands p 
 used_keepable p l used cta st i e = rw e (next_on cta (cta + 1) i refl, link_room p l st)
 
 -- an accepted answer has room for its key
-pub brought_room : (p : Party) (m : Rtr) (k : ℕ × ℕ) (l : LinkRec) (code : Bool) (v : Verdict) → v ≡ verdict_of (brought_front p m (Some l) ++ (code, BadMac) ∷ (count_tests l k.1 ++ rtr_rest p m)) → is_accept v ≡ true → has_key_room p (centre_key p m) ≡ true
-brought_room p m k l code v e t =
+pub brought_room : HeldIfAccepted → (p : Party) (m : Rtr) (k : ℕ × ℕ) (l : LinkRec) (code : Bool) (v : Verdict) → v ≡ verdict_of (brought_front p m (Some l) ++ (code, BadMac) ∷ (count_tests l k.1 ++ rtr_rest p m)) → is_accept v ≡ true → has_key_room p (centre_key p m) ≡ true
+brought_room held p m k l code v e t =
     let h : Held (brought_front p m (Some l) ++ (code, BadMac) ∷ (count_tests l k.1 ++ rtr_rest p m)) = held (brought_front p m (Some l) ++ (code, BadMac) ∷ (count_tests l k.1 ++ rtr_rest p m)) refl (rw (← e) t) in
     h.1.1.1.1.1.1.1.1.1.0
 
-pub translated_room : (p : Party) (m : Rtr) (t : Waiting) (code : Bool) (v : Verdict) → v ≡ verdict_of (translated_front p m (Some t) ++ (code, BadMac) ∷ rtr_rest p m) → is_accept v ≡ true → has_key_room p (centre_key p m) ≡ true
-translated_room p m t code v e x =
+pub translated_room : HeldIfAccepted → (p : Party) (m : Rtr) (t : Waiting) (code : Bool) (v : Verdict) → v ≡ verdict_of (translated_front p m (Some t) ++ (code, BadMac) ∷ rtr_rest p m) → is_accept v ≡ true → has_key_room p (centre_key p m) ≡ true
+translated_room held p m t code v e x =
     let h : Held (translated_front p m (Some t) ++ (code, BadMac) ∷ rtr_rest p m) = held (translated_front p m (Some t) ++ (code, BadMac) ∷ rtr_rest p m) refl (rw (← e) x) in
     h.1.1.1.1.1.1.0
 

@@ -19,9 +19,8 @@ use Rattle.party_state.specs.Tables.{Distinct}
 use Rattle.party_state.specs.Verdicts.{Held, is_accept}
 use Rattle.party_state.proofs.Distinct.{first_found}
 use Rattle.party_state.proofs.Keys.{test_links}
-use Rattle.party_state.proofs.Tables.{find_key, find_put_other}
-use Rattle.party_state.proofs.Verdicts.{held}
 use Rattle.role_base.specs.Differing.{differs, has_link, AreApart}
+use Rattle.role_base.proofs.PartyLaws.{HeldIfAccepted, LinkLaws, put_other}
 use Rattle.bank_keys.specs.declared.waits.Waiting.{Waiting}
 use Rattle.bank_keys.specs.Waiting.{waiting_with}
 use Rattle.bank_keys.specs.Ksm.{link_in_use, body_link, body_count, body_new, body_record, body_tests, new_tests, taken_link, taken_edits, key_row, key_arrives}
@@ -30,51 +29,51 @@ use Rattle.bank_keys.proofs.NewKeys.{all_refusing, new_held}
 
 -- the link that is found is the one of its key
 
-by_key : (p : Party) (k : LinkKey) (l : LinkRec) → link_with k p ≡ Some l → link_with (link_key l) p ≡ Some l
-by_key p k l h = let e : k ≡ link_key l = find_key link_key same_link test_links k l p.links h in rw e at h
+by_key : LinkLaws → (p : Party) (k : LinkKey) (l : LinkRec) → link_with k p ≡ Some l → link_with (link_key l) p ≡ Some l
+by_key links p k l h = let e : k ≡ link_key l = links.found k l p h in rw e at h
 
-in_use_stands : (p : Party) (originator : List ℕ) (idk2 : Option (List ℕ)) (l : LinkRec) → Distinct link_key same_link p.links → link_in_use p originator idk2 ≡ Some l → link_with (link_key l) p ≡ Some l
-in_use_stands p originator None l d h = first_found link_key same_link test_links (is_usable originator Takes) l p.links d h
-in_use_stands p originator (Some label) l d h = go (bytes_eq label centre_label) h
+in_use_stands : LinkLaws → (p : Party) (originator : List ℕ) (idk2 : Option (List ℕ)) (l : LinkRec) → Distinct link_key same_link p.links → link_in_use p originator idk2 ≡ Some l → link_with (link_key l) p ≡ Some l
+in_use_stands links p originator None l d h = first_found link_key same_link test_links (is_usable originator Takes) l p.links d h
+in_use_stands links p originator (Some label) l d h = go (bytes_eq label centre_label) h
   where
     go : (b : Bool) → cond b None (link_with (takes originator label) p) ≡ Some l → link_with (link_key l) p ≡ Some l
     go true h = absurd (cc)
-    go false h = by_key p (takes originator label) l h
+    go false h = by_key links p (takes originator label) l h
 
-body_stands : (p : Party) (originator : List ℕ) (b : KsmBody) (l : LinkRec) → Distinct link_key same_link p.links → body_link p originator b ≡ Some l → link_with (link_key l) p ≡ Some l
-body_stands p originator (body.Direct idk2 new kd ctp) l d h = in_use_stands p originator idk2 l d h
-body_stands p originator (body.Centre centre kdu ctb) l d h = by_key p (takes centre centre_label) l h
+body_stands : LinkLaws → (p : Party) (originator : List ℕ) (b : KsmBody) (l : LinkRec) → Distinct link_key same_link p.links → body_link p originator b ≡ Some l → link_with (link_key l) p ≡ Some l
+body_stands links p originator (body.Direct idk2 new kd ctp) l d h = in_use_stands links p originator idk2 l d h
+body_stands links p originator (body.Centre centre kdu ctb) l d h = by_key links p (takes centre centre_label) l h
 
 -- a new link is put beside the one in use
 
 some_none : {A : Type 0} {x : A} {o : Option A} → o ≡ Some x → o ≡ None → ⊥
 some_none s n = cc
 
-keys_differ : (p : Party) (j k : LinkKey) (l : LinkRec) → link_with j p ≡ None → link_with k p ≡ Some l → same_link j k ≡ false
-keys_differ p j k l none some = false_from_ne_true (same_link j k) (λ e. (let i : j ≡ k = (test_links.decides j k).0 e in some_none {x = l} (rw i some) none))
+keys_differ : LinkLaws → (p : Party) (j k : LinkKey) (l : LinkRec) → link_with j p ≡ None → link_with k p ≡ Some l → same_link j k ≡ false
+keys_differ links p j k l none some = false_from_ne_true (same_link j k) (λ e. (let i : j ≡ k = (links.same j k).0 e in some_none {x = l} (rw i some) none))
 
-beside : (p : Party) (x m : LinkRec) → same_link (link_key m) (link_key x) ≡ false → differs (apply_edit (PutLink x) p) (PutLink m) ≡ differs p (PutLink m)
-beside p x m other = ap (λ (o : Option LinkRec). not (has_link o m)) (find_put_other link_key same_link test_links (link_key m) x p.links other)
+beside : LinkLaws → (p : Party) (x m : LinkRec) → same_link (link_key m) (link_key x) ≡ false → differs (apply_edit (PutLink x) p) (PutLink m) ≡ differs p (PutLink m)
+beside links p x m other = ap (λ (o : Option LinkRec). not (has_link o m)) (put_other links (link_key m) x p other)
 
 is_free : (label : Bool) (o : Option LinkRec) → (not label && is_none o) ≡ true → o ≡ None
 is_free label None h = refl
 is_free label (Some l) h = absurd (let t : false ≡ true = (and_parts (not label) false h).1 in cc)
 
-taken_apart : (p : Party) (originator : List ℕ) (l : LinkRec) (count : ℕ) (n : Option (List ℕ × NewKk)) (k : KeyRec) → link_with (link_key l) p ≡ Some l → Held (new_tests p originator l count n) → AreApart p (PutLink (record l { next = count + 1 }) ∷ (taken_edits originator l count n ++ PutKey k ∷ []))
-taken_apart p originator l count None k at t = ((refl, tt), (tt, tt))
-taken_apart p originator l count (Some n) k at t =
+taken_apart : LinkLaws → (p : Party) (originator : List ℕ) (l : LinkRec) (count : ℕ) (n : Option (List ℕ × NewKk)) (k : KeyRec) → link_with (link_key l) p ≡ Some l → Held (new_tests p originator l count n) → AreApart p (PutLink (record l { next = count + 1 }) ∷ (taken_edits originator l count n ++ PutKey k ∷ []))
+taken_apart links p originator l count None k at t = ((refl, tt), (tt, tt))
+taken_apart links p originator l count (Some n) k at t =
     let free : link_with (takes originator n.0) p ≡ None = is_free (bytes_eq n.0 centre_label) (link_with (takes originator n.0) p) t.0 in
-    let other : same_link (takes originator n.0) (link_key l) ≡ false = keys_differ p (takes originator n.0) (link_key l) l free at in
-    ((beside p (record l { next = count + 1 }) (taken_link originator l count n) other, (refl, tt)), ((refl, tt), (tt, tt)))
+    let other : same_link (takes originator n.0) (link_key l) ≡ false = keys_differ links p (takes originator n.0) (link_key l) l free at in
+    ((beside links p (record l { next = count + 1 }) (taken_link originator l count n) other, (refl, tt)), ((refl, tt), (tt, tt)))
 
-key_apart : (p : Party) (a : Arrival) (m : Ksm) (b : KsmBody) (o : Option LinkRec) → Distinct link_key same_link p.links → body_link p m.originator b ≡ o → is_accept (key_row p a m b o).verdict ≡ true → AreApart p (key_row p a m b o).edits
-key_apart p a m b None d found t = tt
-key_apart p a m b (Some l) d found t =
+key_apart : HeldIfAccepted → LinkLaws → (p : Party) (a : Arrival) (m : Ksm) (b : KsmBody) (o : Option LinkRec) → Distinct link_key same_link p.links → body_link p m.originator b ≡ o → is_accept (key_row p a m b o).verdict ≡ true → AreApart p (key_row p a m b o).edits
+key_apart held links p a m b None d found t = tt
+key_apart held links p a m b (Some l) d found t =
     let h : Held (body_tests p a m b l) = held (body_tests p a m b l) (all_refusing p a m b l) t in
-    taken_apart p m.originator l (body_count b) (body_new b) (body_record p m b l) (body_stands p m.originator b l d found) (new_held p a m b l h).0
+    taken_apart links p m.originator l (body_count b) (body_new b) (body_record p m b l) (body_stands links p m.originator b l d found) (new_held p a m b l h).0
 
-pub ksm_apart : (p : Party) (a : Arrival) (m : Ksm) → Distinct link_key same_link p.links → is_accept (key_arrives p a m).verdict ≡ true → AreApart p (key_arrives p a m).edits
-ksm_apart p a m d t = key_apart p a m m.body (body_link p m.originator m.body) d refl t
+pub ksm_apart : HeldIfAccepted → LinkLaws → (p : Party) (a : Arrival) (m : Ksm) → Distinct link_key same_link p.links → is_accept (key_arrives p a m).verdict ≡ true → AreApart p (key_arrives p a m).edits
+ksm_apart held links p a m d t = key_apart held links p a m m.body (body_link p m.originator m.body) d refl t
 
 with_apart : (p : Party) (a : Arrival) (m : Rtr) (o : Option (ℕ × ℕ)) → AreApart p (rtr_with p a m o).edits
 with_apart p a m (Some k) = by_link (link_with (takes m.originator centre_label) p)

@@ -13,7 +13,6 @@ use Rattle.party_state.specs.declared.key.KeyRec.{KeyRec}
 use Rattle.party_state.specs.Keys.{record_key, takes}
 use Rattle.party_state.specs.State.{Party}
 use Rattle.party_state.specs.Verdicts.{Held, is_accept}
-use Rattle.party_state.proofs.Verdicts.{held}
 use Rattle.role_base.specs.Conditions.{has_key_room}
 use Rattle.role_base.specs.Deciding.{decision_of}
 use Rattle.role_base.specs.Storable.{CanKeep, AreKeepable}
@@ -21,6 +20,7 @@ use Rattle.role_base.specs.Standing.{LinkStands}
 use Rattle.role_base.proofs.Counted.{next_on}
 use Rattle.role_base.proofs.Kept.{row_kept, made_kept}
 use Rattle.role_base.proofs.Keeping.{link_room}
+use Rattle.role_base.proofs.PartyLaws.{HeldIfAccepted}
 use Rattle.role_base.proofs.Storable.{link_fits, key_fits}
 use Rattle.bank_keys.specs.Ksm.{body_count, body_new, body_record, body_tests, new_tests, taken_edits, key_row}
 use Rattle.bank_keys.proofs.NewKeys.{has_room, all_refusing, new_held}
@@ -36,8 +36,8 @@ few : (originator : List ℕ) (l : LinkRec) (count next : ℕ) (n : Option (List
 few originator l count next None k = omega arith
 few originator l count next (Some n) k = omega arith
 
-pub key_kept : (p : Party) (a : Arrival) (m : Ksm) (b : KsmBody) (l : LinkRec) (made : Result Decision NoMemory) → LinkStands p l → IsCount (body_count b) → IfOk made (λ d. d ≡ decision_of p (key_row p a m b (Some l))) → IfOk made (λ d. CanKeep p d.change)
-key_kept p a m b l made st i e = made_kept p (key_row p a m b (Some l)) made (row_kept p (key_row p a m b (Some l)) keepable (few m.originator l (body_count b) (body_count b + 1) (body_new b) (body_record p m b l))) e
+pub key_kept : HeldIfAccepted → (p : Party) (a : Arrival) (m : Ksm) (b : KsmBody) (l : LinkRec) (made : Result Decision NoMemory) → LinkStands p l → IsCount (body_count b) → IfOk made (λ d. d ≡ decision_of p (key_row p a m b (Some l))) → IfOk made (λ d. CanKeep p d.change)
+key_kept held p a m b l made st i e = made_kept p (key_row p a m b (Some l)) made (row_kept p (key_row p a m b (Some l)) keepable (few m.originator l (body_count b) (body_count b + 1) (body_new b) (body_record p m b l))) e
   where
     keepable : is_accept (key_row p a m b (Some l)).verdict ≡ true → AreKeepable p (key_row p a m b (Some l)).edits
     keepable t =

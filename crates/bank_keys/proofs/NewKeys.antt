@@ -9,7 +9,6 @@ use Rattle.csm_grammar.specs.declared.arrival.Arrival.{Arrival}
 use Rattle.party_state.specs.declared.link.LinkRec.{LinkRec}
 use Rattle.party_state.specs.State.{Party}
 use Rattle.party_state.specs.Verdicts.{Held, all_refuse}
-use Rattle.party_state.proofs.Verdicts.{held_after}
 use Rattle.role_base.specs.Conditions.{count_tests, has_key_room}
 use Rattle.role_base.proofs.Early.{none_early}
 use Rattle.bank_keys.specs.Ksm.{body_count, body_name, body_new, body_tests, new_tests}
@@ -35,8 +34,15 @@ has_room p m b l = has_key_room p (record { peer = m.originator; name = (body_na
 pub all_refusing : (p : Party) (a : Arrival) (m : Ksm) (b : KsmBody) (l : LinkRec) → all_refuse (body_tests p a m b l) ≡ true
 all_refusing p a m b l = refuses p m.originator l (body_count b) (body_new b) (has_room p m b l)
 
+-- the tests for a new key-encrypting key, and for the room behind them
+apart_held : (p : Party) (originator : List ℕ) (l : LinkRec) (count : ℕ) (n : Option (List ℕ × NewKk)) (room : Bool) → Held (new_tests p originator l count n ++ (room, KeysFull) ∷ []) → Held (new_tests p originator l count n) × (room ≡ true)
+apart_held p originator l count None room h = (tt, h.0)
+apart_held p originator l count (Some n) room h = ((h.0, (h.1.0, (h.1.1.0, tt))), h.1.1.1.0)
+
+pub both_held : (p : Party) (originator : List ℕ) (l : LinkRec) (count : ℕ) (n : Option (List ℕ × NewKk)) (room : Bool) → Held (new_tests p originator l count n) → room ≡ true → Held (new_tests p originator l count n ++ (room, KeysFull) ∷ [])
+both_held p originator l count None room h r = (r, tt)
+both_held p originator l count (Some n) room h r = (h.0, (h.1.0, (h.1.1.0, (r, tt))))
+
 -- where all held, those for a new key-encrypting key did, and the key has room
 pub new_held : (p : Party) (a : Arrival) (m : Ksm) (b : KsmBody) (l : LinkRec) → Held (body_tests p a m b l) → Held (new_tests p m.originator l (body_count b) (body_new b)) × (has_room p m b l ≡ true)
-new_held p a m b l h =
-    let both : Held (new_tests p m.originator l (body_count b) (body_new b)) × Held ((has_room p m b l, KeysFull) ∷ []) = held_after (new_tests p m.originator l (body_count b) (body_new b)) ((has_room p m b l, KeysFull) ∷ []) h.1.1.1.1.1.1 in
-    (both.0, both.1.0)
+new_held p a m b l h = apart_held p m.originator l (body_count b) (body_new b) (has_room p m b l) h.1.1.1.1.1.1

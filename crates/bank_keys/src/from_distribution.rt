@@ -15,7 +15,7 @@ ghost use Rattle.bank_keys.specs.Rtr.{rtr_rest, brought_front, brought_value, br
 use crate::passing::{pass_on, rtr_front, rtr_rest};
 use crate::waits::is_asked;
 use csm_grammar::{Arrival, Rtr};
-use party_state::{Decision, Lead, LinkRec, State, Via};
+use party_state::{Decision, Lead, LinkRec, State, Via, law_accept};
 use role_base::{
     centre_label, count_tests, direct_name, early_refusal, is_accept, lead_under, link_with,
     passes, refusal, verdict_after, verdict_of,
@@ -79,6 +79,8 @@ fn brought_led(
     ensures decision { IfOk result (λ d. d ≡ decision_of state.now (brought state.now arrival.now message.now kd.now (Some link.now))) }
     ensures kept { IfOk result (λ d. CanKeep state.now d.change) }
 {
+    // Tells what an accepted verdict says of the tests.
+    law_accept();
     let verdict = brought_verdict(state, message, kd, link, lead.verified);
     if !is_accept(&verdict) {
         return Ok(refusal(verdict));

@@ -11,7 +11,7 @@ ghost use Rattle.bank_keys.specs.Rtr.{rtr_rest, is_ultimate, translated_front, t
 use crate::passing::{pass_on, rtr_front, rtr_rest};
 use crate::waits::{Waiting, waiting_with};
 use csm_grammar::{Arrival, Rtr};
-use party_state::{Decision, Lead, State, Via};
+use party_state::{Decision, Lead, State, Via, law_accept};
 use role_base::{
     centre_label, direct_name, early_refusal, is_accept, lead_under, passes, refusal,
     verdict_after, verdict_of,
@@ -57,6 +57,8 @@ fn translated_led(
     ensures decision { IfOk result (λ d. d ≡ decision_of state.now (translated state.now arrival.now message.now (Some waiting.now))) }
     ensures kept { IfOk result (λ d. CanKeep state.now d.change) }
 {
+    // Tells what an accepted verdict says of the tests.
+    law_accept();
     let verdict = translated_verdict(state, message, waiting, lead.verified);
     if !is_accept(&verdict) {
         return Ok(refusal(verdict));

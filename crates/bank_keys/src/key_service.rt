@@ -19,7 +19,7 @@ use crate::bodies::{
     body_count, body_counts, body_link, body_name, body_new, body_value, new_tests, taken_link,
 };
 use csm_grammar::{Arrival, Ksm, Message, Rsm};
-use party_state::{Decision, Edit, KeyRec, KeyStatus, Lead, LinkRec, State};
+use party_state::{Decision, Edit, KeyRec, KeyStatus, Lead, LinkRec, State, law_accept};
 use role_base::{
     Written, accept, body_issuer, count_tests, early_refusal, error_answer, has_key_room,
     is_accept, is_for, lead_under, list_of, no_extras, passes, refusal, verdict_after, verdict_of,
@@ -196,6 +196,8 @@ fn key_under(
 {
     // Tells the range of the count.
     body_count(&message.body);
+    // Tells what an accepted verdict says of the tests.
+    law_accept();
     key_decided(alloc, state, arrival, message, link, lead)
 }
 

@@ -18,7 +18,7 @@ use Rattle.party_state.specs.Keys.{link_key, record_key}
 use Rattle.party_state.specs.Ranges.{longest_text}
 use Rattle.party_state.specs.State.{Party}
 use Rattle.party_state.specs.Verdicts.{Test, verdict_of, Held, is_accept, all_refuse}
-use Rattle.party_state.proofs.Verdicts.{held, held_after}
+use Rattle.party_state.proofs.Verdicts.{held_after}
 use Rattle.role_base.specs.Conditions.{has_count, has_key_room, has_link_room}
 use Rattle.role_base.specs.Deciding.{decision_of, refusal_of, accepting}
 use Rattle.role_base.specs.Sending.{next_name}
@@ -29,6 +29,7 @@ use Rattle.role_base.proofs.ByRow.{by_refused}
 use Rattle.role_base.proofs.Decided.{refuses, decides_row}
 use Rattle.role_base.proofs.Failing.{unspent}
 use Rattle.role_base.proofs.Keeping.{link_room}
+use Rattle.role_base.proofs.PartyLaws.{HeldIfAccepted}
 use Rattle.role_base.proofs.Spent.{spent_first}
 use Rattle.role_base.proofs.Storable.{link_fits, key_fits}
 use Rattle.bank_orders.specs.declared.draws.KkDrawn.{KkDrawn}
@@ -48,8 +49,8 @@ refuse_both (t ∷ ts) us r s = go (is_accept t.1) r (refuse_both ts us)
     go false r ih = ih r s
 
 -- behind tests that refuse, what is accepted held each of its own
-pub kk_held : (p : Party) (front : List Test) (l : LinkRec) (new : List ℕ) (o : Option KkDrawn) (v : Verdict) → all_refuse front ≡ true → v ≡ verdict_of (front ++ kk_tests p l new o) → is_accept v ≡ true → Held (kk_tests p l new o)
-kk_held p front l new o v r e t = (held_after front (kk_tests p l new o) (held (front ++ kk_tests p l new o) (refuse_both front (kk_tests p l new o) r refl) (rw (← e) t))).1
+pub kk_held : HeldIfAccepted → (p : Party) (front : List Test) (l : LinkRec) (new : List ℕ) (o : Option KkDrawn) (v : Verdict) → all_refuse front ≡ true → v ≡ verdict_of (front ++ kk_tests p l new o) → is_accept v ≡ true → Held (kk_tests p l new o)
+kk_held held p front l new o v r e t = (held_after front (kk_tests p l new o) (held (front ++ kk_tests p l new o) (refuse_both front (kk_tests p l new o) r refl) (rw (← e) t))).1
 
 -- under a link whose counts are spent nothing is sent
 pub kk_spent : (p : Party) (front : List Test) (l : LinkRec) (new : List ℕ) (single : Bool) (o : Option KkDrawn) (v : Verdict) → all_refuse front ≡ true → has_count l ≡ false → v ≡ verdict_of (front ++ (false, CountSpent) ∷ []) → refusal_of v ≡ decision_of p (kk_sending p front l new single o)

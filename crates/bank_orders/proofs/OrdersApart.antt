@@ -17,10 +17,8 @@ use Rattle.party_state.specs.declared.edit.Edit.TheVariants.{SetGen, PutLink, Dr
 use Rattle.party_state.specs.Tables.{find_row}
 use Rattle.party_state.specs.Keys.{same_link, link_key, sends}
 use Rattle.party_state.specs.Verdicts.{Held, is_accept}
-use Rattle.party_state.proofs.Keys.{test_links}
-use Rattle.party_state.proofs.Tables.{IsTest, same_is, find_key, find_put_other}
-use Rattle.party_state.proofs.Verdicts.{held}
 use Rattle.role_base.specs.Differing.{has_link, differs, AreApart}
+use Rattle.role_base.proofs.PartyLaws.{HeldIfAccepted, LinkLaws, put_other}
 use Rattle.role_base.proofs.SendingApart.{sending_apart}
 use Rattle.party_state.specs.State.{Party, apply_edit, centre_label, link_with, exchange_with, is_usable}
 use Rattle.role_base.specs.Exchanges.{record_of, new_link, dropped}
@@ -52,19 +50,19 @@ given_up_apart p peer (Some e) = by_kind e.kind
     by_kind (kind.Ending name) = (tt, tt)
 
 -- where a row is found by another test, one with its key stands
-found_under : {R K : Type 0} (key : R → K) (same : K → K → Bool) → IsTest same → (f : R → Bool) (r : R) (rs : List R) → find f rs ≡ Some r → find_row key same (key r) rs ≡ None → ⊥
-found_under key same test f r [] h n = cc
-found_under key same test f r (x ∷ xs) h n = go (f x) (same (key r) (key x)) refl h n (found_under key same test f r xs)
+found_under : {R K : Type 0} (key : R → K) (same : K → K → Bool) → ((k : K) → same k k ≡ true) → (f : R → Bool) (r : R) (rs : List R) → find f rs ≡ Some r → find_row key same (key r) rs ≡ None → ⊥
+found_under key same itself f r [] h n = cc
+found_under key same itself f r (x ∷ xs) h n = go (f x) (same (key r) (key x)) refl h n (found_under key same itself f r xs)
   where
     go : (b c : Bool) → same (key r) (key x) ≡ c → cond b (Some x) (find f xs) ≡ Some r → cond c (Some x) (find_row key same (key r) xs) ≡ None → (find f xs ≡ Some r → find_row key same (key r) xs ≡ None → ⊥) → ⊥
     go b true i h n ih = cc
-    go true false i h n ih = let e : x ≡ r = cc in let t : same (key r) (key x) ≡ true = rw e (same_is test (key r)) in cc
+    go true false i h n ih = let e : x ≡ r = cc in let t : same (key r) (key x) ≡ true = rw e (itself (key r)) in cc
     go false false i h n ih = ih h n
 
 -- the link to send under stands
-sending_there : (p : Party) (peer : List ℕ) (label : Option (List ℕ)) (l : LinkRec) → sending_link p peer label ≡ Some l → link_with (link_key l) p ≡ None → ⊥
-sending_there p peer None l h n = found_under link_key same_link test_links (is_usable peer Sends) l p.links h n
-sending_there p peer (Some label) l h n = go (bytes_eq label centre_label) h
+sending_there : LinkLaws → (p : Party) (peer : List ℕ) (label : Option (List ℕ)) (l : LinkRec) → sending_link p peer label ≡ Some l → link_with (link_key l) p ≡ None → ⊥
+sending_there links p peer None l h n = found_under link_key same_link (λ k. (links.same k k).1 refl) (is_usable peer Sends) l p.links h n
+sending_there links p peer (Some label) l h n = go (bytes_eq label centre_label) h
   where
     by_ready : (m : LinkRec) (b : Bool) → cond b (Some m) None ≡ Some l → Some m ≡ Some l
     by_ready m true h = h
@@ -78,30 +76,30 @@ sending_there p peer (Some label) l h n = go (bytes_eq label centre_label) h
     go true h = cc
     go false h =
         let there : link_with (sends peer label) p ≡ Some l = found (link_with (sends peer label) p) h in
-        let key : sends peer label ≡ link_key l = find_key link_key same_link test_links (sends peer label) l p.links there in
+        let key : sends peer label ≡ link_key l = links.found (sends peer label) l p there in
         let none : link_with (sends peer label) p ≡ None = subst (λ (k : LinkKey). link_with k p ≡ None) (sym key) n in
         cc
 
 -- a link is put beside another
-beside : (p : Party) (x m : LinkRec) → same_link (link_key m) (link_key x) ≡ false → differs (apply_edit (PutLink x) p) (PutLink m) ≡ differs p (PutLink m)
-beside p x m other = ap (λ (o : Option LinkRec). not (has_link o m)) (find_put_other link_key same_link test_links (link_key m) x p.links other)
+beside : LinkLaws → (p : Party) (x m : LinkRec) → same_link (link_key m) (link_key x) ≡ false → differs (apply_edit (PutLink x) p) (PutLink m) ≡ differs p (PutLink m)
+beside links p x m other = ap (λ (o : Option LinkRec). not (has_link o m)) (put_other links (link_key m) x p other)
 
 absent : (a : Bool) (o : Option LinkRec) → (a && is_none o) ≡ true → o ≡ None
 absent true None h = refl
 absent true (Some l) h = cc
 absent false o h = cc
 
-kk_apart : (p : Party) (peer new : List ℕ) (single : Bool) (o : Option LinkRec) (moment : ℕ) → ((l : LinkRec) → o ≡ Some l → link_with (link_key l) p ≡ None → ⊥) → is_accept (start_kk_under p peer new single o moment).verdict ≡ true → AreApart p (start_kk_under p peer new single o moment).edits
-kk_apart p peer new single None moment f h = tt
-kk_apart p peer new single (Some l) moment f h = by_draw (kk_drawn p.generator moment single) h
+kk_apart : HeldIfAccepted → LinkLaws → (p : Party) (peer new : List ℕ) (single : Bool) (o : Option LinkRec) (moment : ℕ) → ((l : LinkRec) → o ≡ Some l → link_with (link_key l) p ≡ None → ⊥) → is_accept (start_kk_under p peer new single o moment).verdict ≡ true → AreApart p (start_kk_under p peer new single o moment).edits
+kk_apart held links p peer new single None moment f h = tt
+kk_apart held links p peer new single (Some l) moment f h = by_draw (kk_drawn p.generator moment single) h
   where
     by_draw : (d : Option KkDrawn) → is_accept (kk_sending p (start_tests p peer (Some l)) l new single d).verdict ≡ true → AreApart p (kk_sending p (start_tests p peer (Some l)) l new single d).edits
     by_draw None h = tt
     by_draw (Some d) h =
         let all : Held (start_tests p peer (Some l) ++ kk_tests p l new (Some d)) = held (start_tests p peer (Some l) ++ kk_tests p l new (Some d)) refl h in
         let none : link_with (sends l.peer new) p ≡ None = absent (not (bytes_eq new centre_label)) (link_with (sends l.peer new) p) all.1.1.1.1.0 in
-        let other : same_link (sends l.peer new) (link_key l) ≡ false = false_from_ne_true (same_link (sends l.peer new) (link_key l)) (λ e. f l refl (subst (λ (k : LinkKey). link_with k p ≡ None) ((test_links.decides (sends l.peer new) (link_key l)).0 e) none)) in
-        ((refl, (refl, (refl, (refl, tt)))), ((beside (apply_edit (SetGen d.v) p) (record l { next = l.next + 1 }) (fresh_link l new d.pair) other, (refl, (refl, tt))), ((refl, (refl, tt)), ((refl, tt), (tt, tt)))))
+        let other : same_link (sends l.peer new) (link_key l) ≡ false = false_from_ne_true (same_link (sends l.peer new) (link_key l)) (λ e. f l refl (subst (λ (k : LinkKey). link_with k p ≡ None) ((links.same (sends l.peer new) (link_key l)).0 e) none)) in
+        ((refl, (refl, (refl, (refl, tt)))), ((beside links (apply_edit (SetGen d.v) p) (record l { next = l.next + 1 }) (fresh_link l new d.pair) other, (refl, (refl, tt))), ((refl, (refl, tt)), ((refl, tt), (tt, tt)))))
 
 translate_apart : (p : Party) (centre u : List ℕ) (o : Option LinkRec) (moment : ℕ) → AreApart p (translate_under p centre u o moment).edits
 translate_apart p centre u None moment = tt
@@ -111,29 +109,29 @@ translate_apart p centre u (Some l) moment = by_draw (good_draw p.generator mome
     by_draw None = tt
     by_draw (Some d) = ((refl, (refl, tt)), ((refl, tt), (tt, tt)))
 
-pub command_apart : (p : Party) (c : Command) (moment : ℕ) → is_accept (command_row p c moment).verdict ≡ true → AreApart p (command_row p c moment).edits
-command_apart p (command.Load peer label side pair) moment h = (tt, tt)
-command_apart p (command.Start peer label) moment h = by_link (sending_link p peer label)
+pub command_apart : HeldIfAccepted → LinkLaws → (p : Party) (c : Command) (moment : ℕ) → is_accept (command_row p c moment).verdict ≡ true → AreApart p (command_row p c moment).edits
+command_apart held links p (command.Load peer label side pair) moment h = (tt, tt)
+command_apart held links p (command.Start peer label) moment h = by_link (sending_link p peer label)
   where
     by_link : (o : Option LinkRec) → AreApart p (start_under p peer o moment).edits
     by_link None = tt
     by_link (Some l) = sending_apart p (start_tests p peer (Some l)) l (good_draw p.generator moment)
-command_apart p (command.StartKk peer label new single) moment h = kk_apart p peer new single (sending_link p peer label) moment (λ l e. sending_there p peer label l e) h
-command_apart p (command.Ask peer ultimate) moment h = by_ultimate ultimate
+command_apart held links p (command.StartKk peer label new single) moment h = kk_apart held links p peer new single (sending_link p peer label) moment (λ l e. sending_there links p peer label l e) h
+command_apart held links p (command.Ask peer ultimate) moment h = by_ultimate ultimate
   where
     by_ultimate : (o : Option (List ℕ)) → AreApart p (ask_of p peer o).edits
     by_ultimate None = tt
     by_ultimate (Some other) = (tt, tt)
-command_apart p (command.Translate centre ultimate) moment h = translate_apart p centre ultimate (link_with (sends centre centre_label) p) moment
-command_apart p (command.Resend peer) moment h = by_exchange (exchange_with peer p)
+command_apart held links p (command.Translate centre ultimate) moment h = translate_apart p centre ultimate (link_with (sends centre centre_label) p) moment
+command_apart held links p (command.Resend peer) moment h = by_exchange (exchange_with peer p)
   where
     by_exchange : (o : Option Exchange) → AreApart p (resend_of o).edits
     by_exchange None = tt
     by_exchange (Some e) = tt
-command_apart p (command.End peer name) moment h = by_record (record_of p peer name)
+command_apart held links p (command.End peer name) moment h = by_record (record_of p peer name)
   where
     by_record : (o : Option KeyRec) → AreApart p (end_record p peer o).edits
     by_record None = tt
     by_record (Some k) = ((refl, tt), (tt, tt))
-command_apart p (command.Drop peer) moment h = given_up_apart p peer (exchange_with peer p)
-command_apart p command.Purge moment h = (tt, tt)
+command_apart held links p (command.Drop peer) moment h = given_up_apart p peer (exchange_with peer p)
+command_apart held links p command.Purge moment h = (tt, tt)

@@ -20,6 +20,7 @@ use Rattle.role_base.specs.Storable.{CanKeep, AreKeepable}
 use Rattle.role_base.specs.Standing.{KeyStands}
 use Rattle.role_base.proofs.Found.{key_stands}
 use Rattle.role_base.proofs.Keeping.{key_room, accepted_kept}
+use Rattle.role_base.proofs.PartyLaws.{KeysFound}
 use Rattle.role_base.specs.Texts.{text_of}
 use Rattle.bank_orders.specs.Ending.{end_reply, ended_edits}
 
@@ -28,14 +29,14 @@ pub ended_keepable : (p : Party) (k : KeyRec) (e : Exchange) → KeyStands p k �
 ended_keepable p k e s short = record { each = (key_room p k s, (short, tt)); order = refl }
 
 -- an exchange that is given up
-pub given_up_keepable : (p : Party) (peer : List ℕ) (e : Exchange) → AreKeepable p (given_up_in p peer (Some e))
-given_up_keepable p peer e = by_kind e.kind
+pub given_up_keepable : KeysFound → (p : Party) (peer : List ℕ) (e : Exchange) → AreKeepable p (given_up_in p peer (Some e))
+given_up_keepable keys p peer e = by_kind e.kind
   where
     by_record : (l : Option LinkRec) (name : KeyName) (o : Option KeyRec) → record_of p peer name ≡ o → AreKeepable p (dropped l ++ ended o ++ DropExchange peer ∷ [])
     by_record None name None h = record { each = (tt, tt); order = refl }
     by_record (Some l) name None h = record { each = (tt, (tt, tt)); order = refl }
-    by_record None name (Some k) h = record { each = (key_room p k (key_stands p (record { peer = peer; name = name }) k h), (tt, tt)); order = refl }
-    by_record (Some l) name (Some k) h = record { each = (tt, (key_room p k (key_stands p (record { peer = peer; name = name }) k h), (tt, tt))); order = refl }
+    by_record None name (Some k) h = record { each = (key_room p k (key_stands keys p (record { peer = peer; name = name }) k h), (tt, tt)); order = refl }
+    by_record (Some l) name (Some k) h = record { each = (tt, (key_room p k (key_stands keys p (record { peer = peer; name = name }) k h), (tt, tt))); order = refl }
 
     by_kind : (k : Kind) → AreKeepable p (given_up p peer k ++ DropExchange peer ∷ [])
     by_kind (kind.KeySent name way) = by_record (new_link p peer way) name (record_of p peer name) refl

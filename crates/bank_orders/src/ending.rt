@@ -8,7 +8,7 @@ ghost use Rattle.role_base.specs.Deciding.{decision_of, accepting};
 ghost use Rattle.bank_orders.specs.Ending.{can_end, end_tests, end_message, end_reply, ended_edits, end, purge};
 
 use csm_grammar::{Dsm, Message};
-use party_state::{Decision, Edit, Exchange, KeyRec, KeyStatus, Kind, State};
+use party_state::{Decision, Edit, Exchange, KeyRec, KeyStatus, Kind, State, law_found};
 use role_base::{Written, accept, is_accept, list_of, refusal, verdict_of};
 use std::alloc::Global;
 use x_base::{Ident, KeyName, NoMemory, Verdict};
@@ -82,6 +82,8 @@ pub(crate) fn end(
     ensures decision { IfOk result (λ d. d ≡ decision_of state.now (end state.now peer.now name.now)) }
     ensures kept { IfOk result (λ d. CanKeep state.now d.change) }
 {
+    // Tells that what is found has the key under which it was looked for.
+    law_found();
     match state.key(peer, name) {
         Some(key) => {
             let verdict = verdict_of(&end_tests(state, peer, can_end(key.status)));

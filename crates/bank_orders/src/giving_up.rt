@@ -4,7 +4,7 @@ ghost use Rattle.role_base.specs.Storable.{CanKeep};
 ghost use Rattle.role_base.specs.Deciding.{decision_of};
 ghost use Rattle.bank_orders.specs.GivingUp.{ended, given_up, given_up_in, drop};
 
-use party_state::{Decision, Edit, Exchange, KeyRec, KeyStatus, Kind, State};
+use party_state::{Decision, Edit, Exchange, KeyRec, KeyStatus, Kind, State, law_found};
 use role_base::{accept, dropped, joined, list_of, new_link, record_of, refusal};
 use std::alloc::Global;
 use x_base::{Ident, NoMemory, Verdict};
@@ -59,6 +59,8 @@ pub(crate) fn drop_exchange(
     ensures decision { IfOk result (λ d. d ≡ decision_of state.now (drop state.now peer.now)) }
     ensures kept { IfOk result (λ d. CanKeep state.now d.change) }
 {
+    // Tells that what is found has the key under which it was looked for.
+    law_found();
     match state.exchange(peer) {
         Some(exchange) => {
             let edits = given_up_in(alloc, state, peer, exchange)?;

@@ -18,7 +18,7 @@ ghost use Rattle.bank_orders.specs.StartKk.{sealed_kk, is_free, kk_tests, kk_mes
 use crate::draws::{KkDrawn, kk_drawn};
 use crate::start::{sending_link, start_tests};
 use csm_grammar::{Ksm, KsmBody, Message, NewKk};
-use party_state::{Decision, Edit, Exchange, Kind, LinkRec, State, Via};
+use party_state::{Decision, Edit, Exchange, Kind, LinkRec, State, Via, law_accept};
 use role_base::{
     Written, accept, has_count, has_key_room, has_link_room, is_accept, is_of_centre, list_of,
     next_name, no_extras, pending, refusal, used, verdict_after, verdict_of,
@@ -220,6 +220,8 @@ fn kk_decided(
     ensures decision { IfOk result (λ d. d ≡ decision_of state.now (kk_sending state.now front.now link.now wanted.now.label wanted.now.single drawn)) }
     ensures kept { IfOk result (λ d. CanKeep state.now d.change) }
 {
+    // Tells what an accepted verdict says of the tests.
+    law_accept();
     let verdict = verdict_after(front, &kk_tests(state, link, count, &wanted.label, &drawn));
     match drawn {
         None => Ok(refusal(verdict)),

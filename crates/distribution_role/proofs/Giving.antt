@@ -12,18 +12,16 @@ use Rattle.csm_grammar.specs.declared.message.Message.{Message}
 use Rattle.csm_grammar.specs.declared.message.Rsi.{Rsi}
 use Rattle.csm_grammar.specs.declared.message.Ers.{Ers}
 use Rattle.party_state.specs.declared.answer.Answer.{Answer}
+use Rattle.party_state.specs.declared.edit.Edit.TheVariants.{PutLink}
 use Rattle.party_state.specs.declared.link.LinkKey.{LinkKey}
 use Rattle.party_state.specs.declared.link.LinkRec.{LinkRec}
-use Rattle.party_state.specs.Tables.{find_row, put_row}
-use Rattle.party_state.specs.Keys.{same_link, link_key, same_answer, answer_key, sends}
-use Rattle.party_state.specs.State.{Party, centre_label, link_with, answer_with}
+use Rattle.party_state.specs.Keys.{same_link, link_key, sends}
+use Rattle.party_state.specs.State.{Party, apply, apply_edit, centre_label, link_with, answer_with}
 use Rattle.party_state.specs.Verdicts.{Test, Held}
 use Rattle.party_state.specs.Rows.{Row}
-use Rattle.party_state.proofs.Keys.{test_links, test_answers}
-use Rattle.party_state.proofs.Tables.{find_key, find_put_other, find_put_same}
-use Rattle.party_state.proofs.Verdicts.{held_at_accept}
 use Rattle.role_base.specs.Conditions.{is_data_key}
 use Rattle.role_base.proofs.Addressed.{others}
+use Rattle.role_base.proofs.PartyLaws.{HeldAtAccept, LinkLaws, AnswerLaws, put_other, put_over, answer_put}
 use Rattle.distribution_role.specs.Answering.{rtr_of, answering}
 use Rattle.distribution_role.specs.Requests.{rsi_tests, rsi_between, rsi_for}
 use Rattle.distribution_role.specs.Recovery.{ers_front, ers_tests, ers_between}
@@ -37,20 +35,18 @@ pub record Undone : Type 0 where
   pub unsealed : (kk : Pair) (from to : List ℕ) (count key : ℕ) → key < 2 ^ 64 → unseal_of kk from to count (seal_of kk from to count key) ≡ key
   pub odd : DrawsOdd
 
-gives : Undone → (p : Party) (r u : List ℕ) (ts : List Test) (l b : LinkRec) (n moment : ℕ) (d : ℕ × Gen) → good_draw p.generator moment ≡ Some d → d.0 < 2 ^ 64 → u ≢ r → link_with (sends r centre_label) p ≡ Some l → link_with (sends u centre_label) p ≡ Some b
+gives : Undone → LinkLaws → AnswerLaws → (p : Party) (r u : List ℕ) (ts : List Test) (l b : LinkRec) (n moment : ℕ) (d : ℕ × Gen) → good_draw p.generator moment ≡ Some d → d.0 < 2 ^ 64 → u ≢ r → link_with (sends r centre_label) p ≡ Some l → link_with (sends u centre_label) p ≡ Some b
     → GivesKey p (answering p r u ts l (record b { next = n }) (Some d)) moment r u l b n
-gives laws p r u ts l b n moment d drawn below ne f g =
+gives laws links answers p r u ts l b n moment d drawn below ne f g =
     let used : LinkRec = record l { next = l.next + 1 } in
     let sent : LinkRec = record b { next = n + 1 } in
     let answer : Answer = record { requester = r; ultimate = u; cta = l.next; value = d.0 } in
-    let i : sends r centre_label ≡ link_key l = find_key link_key same_link test_links (sends r centre_label) l p.links f in
-    let j : sends u centre_label ≡ link_key b = find_key link_key same_link test_links (sends u centre_label) b p.links g in
-    let apart : same_link (sends r centre_label) (link_key sent) ≡ false = ap (λ (k : LinkKey). same_link (sends r centre_label) k) (sym j) ∙ other_bank u r (λ e. ne (sym e)) in
-    let from : find_row link_key same_link (sends r centre_label) (put_row link_key same_link sent (put_row link_key same_link used p.links)) ≡ Some used =
-    find_put_other link_key same_link test_links (sends r centre_label) sent (put_row link_key same_link used p.links) apart
-    ∙ (ap (λ (k : LinkKey). find_row link_key same_link k (put_row link_key same_link used p.links)) i ∙ find_put_same link_key same_link test_links used p.links) in
-    let to : find_row link_key same_link (sends u centre_label) (put_row link_key same_link sent (put_row link_key same_link used p.links)) ≡ Some sent =
-    ap (λ (k : LinkKey). find_row link_key same_link k (put_row link_key same_link sent (put_row link_key same_link used p.links))) j ∙ find_put_same link_key same_link test_links sent (put_row link_key same_link used p.links) in
+    let apart : same_link (sends r centre_label) (link_key sent) ≡ false = ap (λ (k : LinkKey). same_link (sends r centre_label) k) (sym (links.found (sends u centre_label) b p g)) ∙ other_bank links u r (λ e. ne (sym e)) in
+    let other : same_link (sends u centre_label) (link_key used) ≡ false = ap (λ (k : LinkKey). same_link (sends u centre_label) k) (sym (links.found (sends r centre_label) l p f)) ∙ other_bank links r u ne in
+    let from : link_with (sends r centre_label) (apply (PutLink used ∷ PutLink sent ∷ []) p) ≡ Some used =
+    put_other links (sends r centre_label) sent (apply_edit (PutLink used) p) apart ∙ put_over links (sends r centre_label) l used p f refl in
+    let to : link_with (sends u centre_label) (apply (PutLink used ∷ PutLink sent ∷ []) p) ≡ Some sent =
+    put_over links (sends u centre_label) b sent (apply_edit (PutLink used) p) (put_other links (sends u centre_label) used p other ∙ g) refl in
     record {
       key = d.0;
       after = d.1;
@@ -68,43 +64,43 @@ gives laws p r u ts l b n moment d drawn below ne f g =
       for_ultimate = laws.unsealed b.pair r u n d.0 below;
       from_next = ap (λ (o : Option LinkRec). option_map (λ (x : LinkRec). x.next) o) from;
       to_next = ap (λ (o : Option LinkRec). option_map (λ (x : LinkRec). x.next) o) to;
-      kept = find_put_same answer_key same_answer test_answers answer p.answers;
+      kept = answer_put answers answer p;
     }
 
 -- a request
 
-asked : Undone → (p : Party) (a : Arrival) (m : Rsi) (u : List ℕ) (moment : ℕ) (l b : LinkRec) (o : Option (ℕ × Gen)) → link_with (sends m.originator centre_label) p ≡ Some l → link_with (sends u centre_label) p ≡ Some b → good_draw p.generator moment ≡ o
+asked : Undone → HeldAtAccept → LinkLaws → AnswerLaws → (p : Party) (a : Arrival) (m : Rsi) (u : List ℕ) (moment : ℕ) (l b : LinkRec) (o : Option (ℕ × Gen)) → link_with (sends m.originator centre_label) p ≡ Some l → link_with (sends u centre_label) p ≡ Some b → good_draw p.generator moment ≡ o
     → (rsi_between p a m u (Some l) (Some b) o).verdict ≡ Accept → GivesKey p (rsi_between p a m u (Some l) (Some b) o) moment m.originator u l b b.next
-asked laws p a m u moment l b None f g d e =
-    let h : Held (rsi_tests p a m u l b ++ (false, WeakDraws) ∷ []) = held_at_accept (rsi_tests p a m u l b ++ (false, WeakDraws) ∷ []) refl e in
+asked laws held links answers p a m u moment l b None f g d e =
+    let h : Held (rsi_tests p a m u l b ++ (false, WeakDraws) ∷ []) = held (rsi_tests p a m u l b ++ (false, WeakDraws) ∷ []) refl e in
     absurd (both_ways false refl h.1.1.1.1.1.1.0)
-asked laws p a m u moment l b (Some x) f g d e =
-    let h : Held (rsi_tests p a m u l b ++ (true, WeakDraws) ∷ []) = held_at_accept (rsi_tests p a m u l b ++ (true, WeakDraws) ∷ []) refl e in
-    gives laws p m.originator u (rsi_tests p a m u l b) l b b.next moment x d (laws.odd p.generator moment x d).below (others u m.originator (and_parts (is_data_key m.service) (not (bytes_eq u m.originator)) h.1.1.0).1) f g
+asked laws held links answers p a m u moment l b (Some x) f g d e =
+    let h : Held (rsi_tests p a m u l b ++ (true, WeakDraws) ∷ []) = held (rsi_tests p a m u l b ++ (true, WeakDraws) ∷ []) refl e in
+    gives laws links answers p m.originator u (rsi_tests p a m u l b) l b b.next moment x d (laws.odd p.generator moment x d).below (others u m.originator (and_parts (is_data_key m.service) (not (bytes_eq u m.originator)) h.1.1.0).1) f g
 
-pub gives_asked : Undone → GivesAsked
-gives_asked laws p a m u moment l b said asks f g e =
+pub gives_asked : Undone → HeldAtAccept → LinkLaws → AnswerLaws → GivesAsked
+gives_asked laws held links answers p a m u moment l b said asks f g e =
     let drawn : Option (ℕ × Gen) = good_draw p.generator moment in
     let row : distribution_message p a a.parsed.message moment ≡ rsi_between p a m u (Some l) (Some b) drawn =
     ap (λ (n : Message). distribution_message p a n moment) said
     ∙ (ap (λ (o : Option (List ℕ)). rsi_for p a m o moment) asks
     ∙ (ap (λ (o : Option LinkRec). rsi_between p a m u o (link_with (sends u centre_label) p) drawn) f ∙ ap (λ (o : Option LinkRec). rsi_between p a m u (Some l) o drawn) g)) in
     let accepted : (rsi_between p a m u (Some l) (Some b) drawn).verdict ≡ Accept = sym (ap (λ (r : Row). r.verdict) row) ∙ e in
-    subst (λ (r : Row). GivesKey p r moment m.originator u l b b.next) (sym row) (asked laws p a m u moment l b drawn f g refl accepted)
+    subst (λ (r : Row). GivesKey p r moment m.originator u l b b.next) (sym row) (asked laws held links answers p a m u moment l b drawn f g refl accepted)
 
 -- one that comes again
 
-again : Undone → (p : Party) (a : Arrival) (m : Ers) (moment : ℕ) (t : Answer) (l b : LinkRec) (o : Option (ℕ × Gen)) → link_with (sends m.originator centre_label) p ≡ Some l → link_with (sends m.ultimate centre_label) p ≡ Some b → good_draw p.generator moment ≡ o
+again : Undone → HeldAtAccept → LinkLaws → AnswerLaws → (p : Party) (a : Arrival) (m : Ers) (moment : ℕ) (t : Answer) (l b : LinkRec) (o : Option (ℕ × Gen)) → link_with (sends m.originator centre_label) p ≡ Some l → link_with (sends m.ultimate centre_label) p ≡ Some b → good_draw p.generator moment ≡ o
     → (ers_between p a m (Some t) (Some l) (Some b) o).verdict ≡ Accept → GivesKey p (ers_between p a m (Some t) (Some l) (Some b) o) moment m.originator m.ultimate l b (max b.next m.ctr)
-again laws p a m moment t l b None f g d e =
-    let h : Held (ers_tests p a m t l b ++ (false, WeakDraws) ∷ []) = held_at_accept (ers_tests p a m t l b ++ (false, WeakDraws) ∷ []) refl e in
+again laws held links answers p a m moment t l b None f g d e =
+    let h : Held (ers_tests p a m t l b ++ (false, WeakDraws) ∷ []) = held (ers_tests p a m t l b ++ (false, WeakDraws) ∷ []) refl e in
     absurd (both_ways false refl h.1.1.1.1.1.1.1.0)
-again laws p a m moment t l b (Some x) f g d e =
-    let h : Held (ers_tests p a m t l b ++ (true, WeakDraws) ∷ []) = held_at_accept (ers_tests p a m t l b ++ (true, WeakDraws) ∷ []) refl e in
-    gives laws p m.originator m.ultimate (ers_tests p a m t l b) l b (max b.next m.ctr) moment x d (laws.odd p.generator moment x d).below (others m.ultimate m.originator h.1.1.0) f g
+again laws held links answers p a m moment t l b (Some x) f g d e =
+    let h : Held (ers_tests p a m t l b ++ (true, WeakDraws) ∷ []) = held (ers_tests p a m t l b ++ (true, WeakDraws) ∷ []) refl e in
+    gives laws links answers p m.originator m.ultimate (ers_tests p a m t l b) l b (max b.next m.ctr) moment x d (laws.odd p.generator moment x d).below (others m.ultimate m.originator h.1.1.0) f g
 
-pub gives_again : Undone → GivesAgain
-gives_again laws p a m moment l b said f g e = by_answer (answer_with (record { requester = m.originator; ultimate = m.ultimate }) p) (row (answer_with (record { requester = m.originator; ultimate = m.ultimate }) p) refl)
+pub gives_again : Undone → HeldAtAccept → LinkLaws → AnswerLaws → GivesAgain
+gives_again laws held links answers p a m moment l b said f g e = by_answer (answer_with (record { requester = m.originator; ultimate = m.ultimate }) p) (row (answer_with (record { requester = m.originator; ultimate = m.ultimate }) p) refl)
   where
     drawn : Option (ℕ × Gen)
     drawn = good_draw p.generator moment
@@ -118,8 +114,8 @@ gives_again laws p a m moment l b said f g e = by_answer (answer_with (record { 
     by_answer : (t : Option Answer) → distribution_message p a a.parsed.message moment ≡ ers_between p a m t (Some l) (Some b) drawn → GivesKey p (distribution_message p a a.parsed.message moment) moment m.originator m.ultimate l b (max b.next m.ctr)
     by_answer None i =
         let refused : (ers_between p a m None (Some l) (Some b) drawn).verdict ≡ Accept = sym (ap (λ (r : Row). r.verdict) i) ∙ e in
-        let h : Held (ers_front p m false false) = held_at_accept (ers_front p m false false) refl refused in
+        let h : Held (ers_front p m false false) = held (ers_front p m false false) refl refused in
         absurd (both_ways false refl h.1.1.1.0)
     by_answer (Some t) i =
         let accepted : (ers_between p a m (Some t) (Some l) (Some b) drawn).verdict ≡ Accept = sym (ap (λ (r : Row). r.verdict) i) ∙ e in
-        subst (λ (r : Row). GivesKey p r moment m.originator m.ultimate l b (max b.next m.ctr)) (sym i) (again laws p a m moment t l b drawn f g refl accepted)
+        subst (λ (r : Row). GivesKey p r moment m.originator m.ultimate l b (max b.next m.ctr)) (sym i) (again laws held links answers p a m moment t l b drawn f g refl accepted)

@@ -12,6 +12,7 @@ ghost use Rattle.distribution_role.specs.Serving.{AnswersRequests, AnswersAgain}
 ghost use Rattle.distribution_role.specs.Giving.{GivesAsked, GivesAgain};
 
 use csm_grammar::law_arrived;
+use party_state::{law_accept, law_found, law_put, law_same};
 use x_gen::law_draws_odd;
 use x_seal::{law_unseals, law_unwraps};
 
@@ -20,6 +21,10 @@ use x_seal::{law_unseals, law_unwraps};
 pub fn law_apart()
     ensures { (p : Party) (i : TheInput) (moment : ℕ) → is_accept (distribution_row p i moment).verdict ≡ true → AreApart p (distribution_row p i moment).edits }
 {
+    law_accept();
+    law_same();
+    law_found();
+    law_put();
     centre_base::law_apart();
 }
 
@@ -36,7 +41,9 @@ pub fn law_lead()
 pub fn law_answers()
     ensures requests { AnswersRequests }
     ensures again { AnswersAgain }
-{}
+{
+    law_accept();
+}
 
 /// An accepted request gives the key that is drawn to both banks, at the next counts of their links,
 /// or at the count that the ultimate recipient expects, and the centre keeps it.
@@ -44,6 +51,10 @@ pub fn law_gives()
     ensures requests { GivesAsked }
     ensures again { GivesAgain }
 {
+    law_accept();
+    law_same();
+    law_found();
+    law_put();
     law_unwraps();
     law_unseals();
     law_draws_odd();

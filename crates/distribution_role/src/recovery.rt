@@ -14,7 +14,9 @@ ghost use Rattle.distribution_role.specs.Recovery.{ers_front, at_least, ers_betw
 use crate::answering::{answer, answer_under};
 use centre_base::request_front;
 use csm_grammar::{Arrival, Ers};
-use party_state::{Answer, AnswerKey, Decision, Lead, LinkRec, State};
+use party_state::{
+    Answer, AnswerKey, Decision, Lead, LinkRec, State, law_accept, law_found, law_found_in_range,
+};
 use role_base::{
     centre_label, early_refusal, has_count, lead_under, link_with, passes, refusal, verdict_of,
 };
@@ -179,6 +181,10 @@ pub(crate) fn ers(
 {
     // Tells that the links that stand are in their ranges.
     state.law_party();
+    law_found();
+    law_found_in_range();
+    // Tells what an accepted verdict says of the tests.
+    law_accept();
     // The value tells that it is a count.
     message.ctr.value();
     ers_decided(alloc, state, arrival, message, lead, moment)

@@ -9,7 +9,7 @@ ghost use Rattle.distribution_role.specs.Requests.{rsi_front, rsi_tests, rsi_bet
 use crate::answering::answer;
 use centre_base::request_front;
 use csm_grammar::{Arrival, Rsi};
-use party_state::{AnswerKey, Decision, LinkRec, State};
+use party_state::{AnswerKey, Decision, LinkRec, State, law_accept, law_found, law_found_in_range};
 use role_base::{centre_label, has_count, is_data_key, is_right, link_with, refusal, verdict_of};
 use std::alloc::Global;
 use x_base::{Ident, NoMemory, Side, Verdict};
@@ -120,5 +120,9 @@ pub(crate) fn rsi(
 {
     // Tells that the links that stand are in their ranges.
     state.law_party();
+    law_found();
+    law_found_in_range();
+    // Tells what an accepted verdict says of the tests.
+    law_accept();
     rsi_decided(alloc, state, arrival, message, moment)
 }

@@ -1,5 +1,5 @@
 -- Whom a message is for.
-use Rattle.std.proofs.Common.{◌≡◌, ◌≢◌, ℕ, true, false, not, bytes_eq, List}
+use Rattle.std.proofs.Common.{◌≡◌, ◌≢◌, ℕ, true, not, bytes_eq, List}
 use Rattle.std.proofs.lemmas.Bool.{both_ways, not-true, not_from_false, false_from_ne_true, and_parts, and_from}
 use Rattle.std.proofs.lemmas.Slice.Eq.{bytes_eq-Decides}
 use Rattle.party_state.specs.State.{Party}

@@ -1,3 +1,4 @@
+pub mod PartyLaws
 pub mod Failing
 pub mod Filtering
 pub mod ByRow

@@ -8,10 +8,10 @@ use Rattle.party_state.specs.declared.edit.Edit.TheVariants.{PutLink}
 use Rattle.party_state.specs.Keys.{link_key}
 use Rattle.party_state.specs.State.{Party}
 use Rattle.party_state.specs.Verdicts.{verdict_of, is_accept, Held}
-use Rattle.party_state.proofs.Verdicts.{held}
 use Rattle.role_base.specs.Conditions.{has_link_room}
 use Rattle.role_base.specs.Load.{load_tests}
 use Rattle.role_base.specs.Storable.{AreKeepable}
+use Rattle.role_base.proofs.PartyLaws.{HeldIfAccepted}
 use Rattle.role_base.proofs.Storable.{link_fits}
 
 pub loaded_keepable : (p : Party) (l : LinkRec) → l.next ≡ 1 → has_link_room p (link_key l) ≡ true → AreKeepable p (PutLink l ∷ [])
@@ -20,5 +20,5 @@ loaded_keepable p l n room = record {
   order = refl;
 }
 
-pub load_room : (p : Party) (key : LinkKey) (pair : Pair) (v : Verdict) → v ≡ verdict_of (load_tests p key pair) → is_accept v ≡ true → has_link_room p key ≡ true
-load_room p key pair v e t = let h : Held (load_tests p key pair) = held (load_tests p key pair) refl (rw (← e) t) in h.1.1.1.0
+pub load_room : HeldIfAccepted → (p : Party) (key : LinkKey) (pair : Pair) (v : Verdict) → v ≡ verdict_of (load_tests p key pair) → is_accept v ≡ true → has_link_room p key ≡ true
+load_room held p key pair v e t = let h : Held (load_tests p key pair) = held (load_tests p key pair) refl (rw (← e) t) in h.1.1.1.0

@@ -1,5 +1,5 @@
 // Decisions, from a verdict or from edits and a reply.
-ghost use Rattle.std.specs.Prelude.{◌≡◌, ◌++◌, true, false, IfOk, Option, None, List};
+ghost use Rattle.std.specs.Prelude.{◌≡◌, ◌++◌, true, false, IfOk, IsTrue, Option, None, List};
 ghost use Rattle.party_state.specs.State.{Party};
 ghost use Rattle.party_state.specs.Verdicts.{Test, verdict_of, passes, all_refuse};
 ghost use Rattle.party_state.specs.Rows.{Reply, Row};
@@ -35,11 +35,27 @@ pub fn early_refusal(front: &[(bool, Verdict)]) -> Decision
     refusal(verdict_of(front))
 }
 
+/// Whether each of the edits makes a difference.
+#[tactic(auto, using(crate::proofs::Filtering::differing_none, crate::proofs::Filtering::differing_more))]
+fn all_differ(state: &State, edits: &[Edit]) -> bool
+    ensures { IsTrue result → differing state.now edits.now ≡ edits.now }
+{
+    for edit in edits {
+        if !differs(state, edit) {
+            return false;
+        }
+    }
+    true
+}
+
 /// Those of the edits that make a difference.
 #[tactic(auto, using(crate::proofs::Filtering::differing_none, crate::proofs::Filtering::differing_more, crate::proofs::Filtering::differing_same))]
 fn differing(alloc: Global, state: &State, edits: Vec<Edit>) -> Result<Change, NoMemory>
     ensures { IfOk result (λ change. change ≡ differing state.now edits.items) }
 {
+    if all_differ(state, edits.as_slice()) {
+        return Ok(Change::of(edits));
+    }
     let mut change = Change::with_capacity(alloc, edits.len())?;
     for edit in edits {
         if differs(state, &edit) {

@@ -3,7 +3,7 @@ ghost use Rattle.std.specs.Prelude.{◌≡◌, IfSome};
 ghost use Rattle.party_state.specs.State as party;
 ghost use Rattle.role_base.specs.Standing.{LinkStands};
 
-use party_state::{LinkRec, State};
+use party_state::{LinkRec, State, law_first_link, law_found};
 use x_base::{Ident, Label, Side};
 
 /// The first link with that peer on that side that is ready and isn't one with a centre.
@@ -14,6 +14,7 @@ pub fn first_link(state: &State, peer: &Ident, side: Side) -> Option<LinkRec>
 {
     // Tells that the links that stand are in their ranges.
     state.law_party();
+    law_first_link();
     state.first_link(peer, side).copied()
 }
 
@@ -25,5 +26,6 @@ pub fn link_with(state: &State, peer: &Ident, label: &Label, side: Side) -> Opti
 {
     // Tells that the links that stand are in their ranges.
     state.law_party();
+    law_found();
     state.link(peer, label, side).copied()
 }

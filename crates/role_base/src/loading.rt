@@ -8,7 +8,7 @@ use crate::conditions::has_link_room;
 use crate::decisions::{accept, refusal};
 use crate::edits::list_of;
 use crate::verdicts::{is_accept, verdict_of};
-use party_state::{Decision, Edit, LinkRec, State};
+use party_state::{Decision, Edit, LinkRec, State, law_accept};
 use std::alloc::Global;
 use x_base::{Ident, Label, NoMemory, Side, Verdict};
 use x_gen::odd;
@@ -54,6 +54,8 @@ pub fn load(
     ensures decision { IfOk result (λ d. d ≡ decision_of state.now (load state.now peer.now label.now side pair)) }
     ensures kept { IfOk result (λ d. CanKeep state.now d.change) }
 {
+    // Tells what an accepted verdict says of the tests.
+    law_accept();
     let verdict = verdict_of(&load_tests(state, peer, label, side, pair));
     if !is_accept(&verdict) {
         return Ok(refusal(verdict));

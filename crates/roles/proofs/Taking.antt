@@ -14,8 +14,8 @@ use Rattle.party_state.specs.declared.decision.Decision.{Decision}
 use Rattle.party_state.specs.State.{Party, knows}
 use Rattle.party_state.specs.Verdicts.{Test, Held}
 use Rattle.party_state.specs.Rows.{Row}
-use Rattle.party_state.proofs.Verdicts.{held_at_accept}
 use Rattle.role_base.specs.Conditions.{is_for, other_class, body_issuer}
+use Rattle.role_base.proofs.PartyLaws.{HeldAtAccept}
 use Rattle.bank_keys.specs.Taking.{Brings, CanTake, TakesKeys}
 use Rattle.bank_keys.specs.Passing.{Responds, CanPassOn, PassesKeys}
 use Rattle.bank_role.specs.Deciding.{decided}
@@ -26,41 +26,41 @@ use Rattle.roles.specs.Deciding.{decision}
 use Rattle.roles.specs.Taking.{TakesAsBank, PassesAsBank}
 
 -- a message of a class that isn't served is refused
-not_served : (p : Party) (receiver originator known : List ℕ) (r : Row) → r ≡ other_class p receiver originator known → r.verdict ≡ Accept → ⊥
-not_served p receiver originator known r is e =
+not_served : HeldAtAccept → (p : Party) (receiver originator known : List ℕ) (r : Row) → r ≡ other_class p receiver originator known → r.verdict ≡ Accept → ⊥
+not_served held p receiver originator known r is e =
     let ts : List Test = (is_for p receiver originator, NotForMe) ∷ (knows known p, UnknownPeer) ∷ (false, WrongClass) ∷ [] in
-    let h : Held ts = held_at_accept ts refl (sym (ap (λ (x : Row). x.verdict) is) ∙ e) in
+    let h : Held ts = held ts refl (sym (ap (λ (x : Row). x.verdict) is) ∙ e) in
     both_ways false refl h.1.1.0
 
-pub takes : ((p : Party) (i : Input) (moment : ℕ) → TakesKeys p i (decided p i moment)) → (p : Party) (i : Input) (moment : ℕ) → TakesAsBank p i (decision p i moment)
+pub takes : HeldAtAccept → ((p : Party) (i : Input) (moment : ℕ) → TakesKeys p i (decided p i moment)) → (p : Party) (i : Input) (moment : ℕ) → TakesAsBank p i (decision p i moment)
 unfolding decision
-takes bank p i moment = λ a m brought. by_role a m brought p.role refl
+takes held bank p i moment = λ a m brought. by_role a m brought p.role refl
   where
     by_role : (a : Arrival) (m : Ksm) → Brings i a m → (r : Role) → p.role ≡ r → ((row_by r p i moment).verdict ≡ Accept) ↔ ((p.role ≡ Bank) × CanTake p a m)
     by_role a m brought Bank e = (λ h. (e, (bank p i moment a m brought).0 h), λ t. (bank p i moment a m brought).1 t.1)
     by_role a m brought Distribution e =
         let row : distribution_row p i moment ≡ other_class p m.receiver m.originator (body_issuer m.originator m.body) =
         ap (λ (x : Input). distribution_row p x moment) brought.arrived ∙ ap (λ (n : Message). distribution_message p a n moment) brought.message in
-        (λ h. absurd (not_served p m.receiver m.originator (body_issuer m.originator m.body) (distribution_row p i moment) row h), λ t. absurd (cc (e, t.0)))
+        (λ h. absurd (not_served held p m.receiver m.originator (body_issuer m.originator m.body) (distribution_row p i moment) row h), λ t. absurd (cc (e, t.0)))
     by_role a m brought Translation e =
         let row : translation_row p i ≡ other_class p m.receiver m.originator (body_issuer m.originator m.body) =
         ap (λ (x : Input). translation_row p x) brought.arrived ∙ ap (λ (n : Message). translation_message p a n) brought.message in
-        (λ h. absurd (not_served p m.receiver m.originator (body_issuer m.originator m.body) (translation_row p i) row h), λ t. absurd (cc (e, t.0)))
+        (λ h. absurd (not_served held p m.receiver m.originator (body_issuer m.originator m.body) (translation_row p i) row h), λ t. absurd (cc (e, t.0)))
 
-pub passes : ((p : Party) (i : Input) (moment : ℕ) → PassesKeys p i (decided p i moment)) → (p : Party) (i : Input) (moment : ℕ) → PassesAsBank p i (decision p i moment)
+pub passes : HeldAtAccept → ((p : Party) (i : Input) (moment : ℕ) → PassesKeys p i (decided p i moment)) → (p : Party) (i : Input) (moment : ℕ) → PassesAsBank p i (decision p i moment)
 unfolding decision
-passes bank p i moment = λ a m brought. by_role a m brought p.role refl
+passes held bank p i moment = λ a m brought. by_role a m brought p.role refl
   where
     by_role : (a : Arrival) (m : Rtr) → Responds i a m → (r : Role) → p.role ≡ r → ((row_by r p i moment).verdict ≡ Accept) ↔ ((p.role ≡ Bank) × CanPassOn p a m)
     by_role a m brought Bank e = (λ h. (e, (bank p i moment a m brought).0 h), λ t. (bank p i moment a m brought).1 t.1)
     by_role a m brought Distribution e =
         let row : distribution_row p i moment ≡ other_class p m.receiver m.originator m.originator =
         ap (λ (x : Input). distribution_row p x moment) brought.arrived ∙ ap (λ (n : Message). distribution_message p a n moment) brought.message in
-        (λ h. absurd (not_served p m.receiver m.originator m.originator (distribution_row p i moment) row h), λ t. absurd (cc (e, t.0)))
+        (λ h. absurd (not_served held p m.receiver m.originator m.originator (distribution_row p i moment) row h), λ t. absurd (cc (e, t.0)))
     by_role a m brought Translation e =
         let row : translation_row p i ≡ other_class p m.receiver m.originator m.originator =
         ap (λ (x : Input). translation_row p x) brought.arrived ∙ ap (λ (n : Message). translation_message p a n) brought.message in
-        (λ h. absurd (not_served p m.receiver m.originator m.originator (translation_row p i) row h), λ t. absurd (cc (e, t.0)))
+        (λ h. absurd (not_served held p m.receiver m.originator m.originator (translation_row p i) row h), λ t. absurd (cc (e, t.0)))
 
 -- what is known of every decision is known of one that is made
 

@@ -16,6 +16,8 @@ ghost use Rattle.roles.specs.Leads.{lead_at};
 ghost use Rattle.roles.specs.Deciding.{decision};
 ghost use Rattle.roles.specs.Taking.{TakesAsBank, PassesAsBank};
 
+use party_state::law_accept;
+
 /// There is no key to test the code of an arrival under exactly where the arrival is closed by an
 /// error detection code, or is refused before its code is looked at.
 pub fn law_lead()
@@ -48,6 +50,7 @@ pub fn law_differing()
 pub fn law_taking()
     ensures { (p : Party) (i : TheInput) (moment : ℕ) → TakesAsBank p i (decision p i moment) }
 {
+    law_accept();
     bank_role::law_taking();
 }
 
@@ -56,5 +59,6 @@ pub fn law_taking()
 pub fn law_passing()
     ensures { (p : Party) (i : TheInput) (moment : ℕ) → PassesAsBank p i (decision p i moment) }
 {
+    law_accept();
     bank_role::law_passing();
 }

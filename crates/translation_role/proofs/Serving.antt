@@ -1,5 +1,5 @@
 -- The requests that a translation centre accepts are those that can be answered, and what its answers give.
-use Rattle.std.proofs.Common.{◌≡◌, ◌≢◌, ℕ, ◌+◌, ◌<◌, ◌^◌, ◌↔◌, Bool, true, false, cond, not, ◌||◌, nat_le, Option, Some, None, List, option_map, refl, sym, ap, subst, ◌∙◌, bytes_eq}
+use Rattle.std.proofs.Common.{◌≡◌, ◌≢◌, ℕ, ◌+◌, ◌<◌, ◌^◌, ◌↔◌, Bool, true, false, cond, not, ◌||◌, nat_le, Option, Some, None, List, [], ◌∷◌, option_map, refl, sym, ap, subst, ◌∙◌, bytes_eq}
 use Rattle.std.proofs.lemmas.Bool.{leb-true, le-leb, both_ways, or_right}
 use Rattle.x_base.specs.declared.verdict.Verdict.{Verdict}
 use Rattle.x_base.specs.declared.verdict.Verdict.TheVariants.{Accept, CountLow, CountSpent, NotForMe, UnknownPeer, WrongClass, UnknownKk}
@@ -9,22 +9,20 @@ use Rattle.csm_grammar.specs.declared.arrival.Arrival.{Arrival}
 use Rattle.csm_grammar.specs.declared.message.Message.{Message}
 use Rattle.csm_grammar.specs.declared.message.Message.TheVariants as message
 use Rattle.csm_grammar.specs.declared.message.Rfs.{Rfs}
+use Rattle.party_state.specs.declared.edit.Edit.TheVariants.{PutLink}
 use Rattle.party_state.specs.declared.link.LinkKey.{LinkKey}
 use Rattle.party_state.specs.declared.link.LinkRec.{LinkRec}
-use Rattle.party_state.specs.Tables.{find_row, put_row}
 use Rattle.party_state.specs.Keys.{same_link, link_key, sends, takes}
-use Rattle.party_state.specs.State.{Party, centre_label, link_with, knows}
+use Rattle.party_state.specs.State.{Party, apply, apply_edit, centre_label, link_with, knows}
 use Rattle.party_state.specs.Verdicts.{verdict_of, Held}
 use Rattle.party_state.specs.Rows.{Row, Coded}
-use Rattle.party_state.proofs.Keys.{test_links}
-use Rattle.party_state.proofs.Tables.{find_key, find_put_other, find_put_same}
-use Rattle.party_state.proofs.Verdicts.{held_at_accept, accepted}
 use Rattle.role_base.specs.Conditions.{is_for, has_count}
 use Rattle.role_base.specs.Errors.{coded_under}
 use Rattle.role_base.proofs.Addressed.{others, apart, for_me, mine}
+use Rattle.role_base.proofs.PartyLaws.{HeldAtAccept, AcceptedIfHeld, LinkLaws, put_other, put_over}
 use Rattle.translation_role.specs.Service.{rfs_value, rfs_under, rfs_answer, rfs_front, rfs_tests, rfs_error, rfs_between, rfs}
 use Rattle.translation_role.specs.Rows.{translation_message}
-use Rattle.translation_role.proofs.TranslatedApart.{side_other}
+use Rattle.translation_role.proofs.TranslatedApart.{other_side, side_other}
 use Rattle.translation_role.specs.Serving.{carried, CanTranslate, TranslatesExactly, ReturnsKey, ReturnsKeys, count_error, AnswersLow, AnswersSpent}
 
 not_low : (a b : Bool) → (not a || b) ≡ true → a ≡ true → b ≡ true
@@ -33,11 +31,11 @@ not_low false b h t = absurd (cc)
 
 -- which are accepted
 
-translates : (p : Party) (a : Arrival) (m : Rfs) (o q : Option LinkRec) → link_with (takes m.originator centre_label) p ≡ o → link_with (sends m.ultimate centre_label) p ≡ q → (rfs_between p a m o q).verdict ≡ Accept → CanTranslate p a m
-translates p a m None q f g e = let h : Held (rfs_front p m false) = held_at_accept (rfs_front p m false) refl e in absurd (both_ways false refl h.1.1.1.0)
-translates p a m (Some l) None f g e = let h : Held (rfs_front p m false) = held_at_accept (rfs_front p m false) refl e in absurd (both_ways false refl h.1.1.1.0)
-translates p a m (Some l) (Some b) f g e =
-    let h : Held (rfs_tests p a m l b) = held_at_accept (rfs_tests p a m l b) refl e in
+translates : HeldAtAccept → (p : Party) (a : Arrival) (m : Rfs) (o q : Option LinkRec) → link_with (takes m.originator centre_label) p ≡ o → link_with (sends m.ultimate centre_label) p ≡ q → (rfs_between p a m o q).verdict ≡ Accept → CanTranslate p a m
+translates held p a m None q f g e = let h : Held (rfs_front p m false) = held (rfs_front p m false) refl e in absurd (both_ways false refl h.1.1.1.0)
+translates held p a m (Some l) None f g e = let h : Held (rfs_front p m false) = held (rfs_front p m false) refl e in absurd (both_ways false refl h.1.1.1.0)
+translates held p a m (Some l) (Some b) f g e =
+    let h : Held (rfs_tests p a m l b) = held (rfs_tests p a m l b) refl e in
     let who : (m.receiver ≡ p.own) × (m.originator ≢ p.own) = for_me p m.receiver m.originator h.0 in
     record {
       receiver = who.0;
@@ -54,8 +52,8 @@ translates p a m (Some l) (Some b) f g e =
       to_left = leb-true b.next 99999999999999 h.1.1.1.1.1.1.1.0;
     }
 
-translated : (p : Party) (a : Arrival) (m : Rfs) (t : CanTranslate p a m) → (rfs_between p a m (Some t.from) (Some t.to)).verdict ≡ Accept
-translated p a m t = accepted (rfs_tests p a m t.from t.to) (
+translated : AcceptedIfHeld → (p : Party) (a : Arrival) (m : Rfs) (t : CanTranslate p a m) → (rfs_between p a m (Some t.from) (Some t.to)).verdict ≡ Accept
+translated accepted p a m t = accepted (rfs_tests p a m t.from t.to) (
   mine p m.receiver m.originator t.receiver t.originator,
   (
     t.known,
@@ -75,16 +73,16 @@ translated p a m t = accepted (rfs_tests p a m t.from t.to) (
   ),
 )
 
-exactly : (p : Party) (a : Arrival) (m : Rfs) → ((rfs p a m).verdict ≡ Accept) ↔ CanTranslate p a m
-exactly p a m = (
-  translates p a m (link_with (takes m.originator centre_label) p) (link_with (sends m.ultimate centre_label) p) refl refl,
-  λ t. rw (t.with_originator, t.with_ultimate) (translated p a m t),
+exactly : HeldAtAccept → AcceptedIfHeld → (p : Party) (a : Arrival) (m : Rfs) → ((rfs p a m).verdict ≡ Accept) ↔ CanTranslate p a m
+exactly held accepted p a m = (
+  translates held p a m (link_with (takes m.originator centre_label) p) (link_with (sends m.ultimate centre_label) p) refl refl,
+  λ t. rw (t.with_originator, t.with_ultimate) (translated accepted p a m t),
 )
 
-pub translates_exactly : TranslatesExactly
-translates_exactly p a m said =
+pub translates_exactly : HeldAtAccept → AcceptedIfHeld → TranslatesExactly
+translates_exactly held accepted p a m said =
     let row : (translation_message p a a.parsed.message).verdict ≡ (rfs p a m).verdict = ap (λ (n : Message). (translation_message p a n).verdict) said in
-    rw row (exactly p a m)
+    rw row (exactly held accepted p a m)
 
 -- what they give
 
@@ -93,18 +91,16 @@ pub record Undone : Type 0 where
   pub unsealed : (kk : Pair) (from to : List ℕ) (count key : ℕ) → key < 2 ^ 64 → unseal_of kk from to count (seal_of kk from to count key) ≡ key
   pub below : (kk : Pair) (count sealed : ℕ) → unwrap_of kk count sealed < 2 ^ 64
 
-returns_key : Undone → (p : Party) (a : Arrival) (m : Rfs) (l b : LinkRec) → link_with (takes m.originator centre_label) p ≡ Some l → link_with (sends m.ultimate centre_label) p ≡ Some b → ReturnsKey p (rfs_between p a m (Some l) (Some b)) m l b
-returns_key laws p a m l b f g =
+returns_key : Undone → LinkLaws → (p : Party) (a : Arrival) (m : Rfs) (l b : LinkRec) → link_with (takes m.originator centre_label) p ≡ Some l → link_with (sends m.ultimate centre_label) p ≡ Some b → ReturnsKey p (rfs_between p a m (Some l) (Some b)) m l b
+returns_key laws links p a m l b f g =
     let used : LinkRec = record l { next = m.cta + 1 } in
     let sent : LinkRec = record b { next = b.next + 1 } in
-    let i : takes m.originator centre_label ≡ link_key l = find_key link_key same_link test_links (takes m.originator centre_label) l p.links f in
-    let j : sends m.ultimate centre_label ≡ link_key b = find_key link_key same_link test_links (sends m.ultimate centre_label) b p.links g in
-    let apart : same_link (takes m.originator centre_label) (link_key sent) ≡ false = ap (λ (k : LinkKey). same_link (takes m.originator centre_label) k) (sym j) ∙ side_other m.originator m.ultimate in
-    let from : find_row link_key same_link (takes m.originator centre_label) (put_row link_key same_link sent (put_row link_key same_link used p.links)) ≡ Some used =
-    find_put_other link_key same_link test_links (takes m.originator centre_label) sent (put_row link_key same_link used p.links) apart
-    ∙ (ap (λ (k : LinkKey). find_row link_key same_link k (put_row link_key same_link used p.links)) i ∙ find_put_same link_key same_link test_links used p.links) in
-    let to : find_row link_key same_link (sends m.ultimate centre_label) (put_row link_key same_link sent (put_row link_key same_link used p.links)) ≡ Some sent =
-    ap (λ (k : LinkKey). find_row link_key same_link k (put_row link_key same_link sent (put_row link_key same_link used p.links))) j ∙ find_put_same link_key same_link test_links sent (put_row link_key same_link used p.links) in
+    let apart : same_link (takes m.originator centre_label) (link_key sent) ≡ false = ap (λ (k : LinkKey). same_link (takes m.originator centre_label) k) (sym (links.found (sends m.ultimate centre_label) b p g)) ∙ side_other links m.originator m.ultimate in
+    let other : same_link (sends m.ultimate centre_label) (link_key used) ≡ false = ap (λ (k : LinkKey). same_link (sends m.ultimate centre_label) k) (sym (links.found (takes m.originator centre_label) l p f)) ∙ other_side links m.originator m.ultimate in
+    let from : link_with (takes m.originator centre_label) (apply (PutLink used ∷ PutLink sent ∷ []) p) ≡ Some used =
+    put_other links (takes m.originator centre_label) sent (apply_edit (PutLink used) p) apart ∙ put_over links (takes m.originator centre_label) l used p f refl in
+    let to : link_with (sends m.ultimate centre_label) (apply (PutLink used ∷ PutLink sent ∷ []) p) ≡ Some sent =
+    put_over links (sends m.ultimate centre_label) b sent (apply_edit (PutLink used) p) (put_other links (sends m.ultimate centre_label) used p other ∙ g) refl in
     record {
       rtr = rfs_answer p m l b;
       reply = refl;
@@ -124,8 +120,8 @@ row_is p a m o q said f g =
     ap (λ (n : Message). translation_message p a n) said
     ∙ (ap (λ (x : Option LinkRec). rfs_between p a m x (link_with (sends m.ultimate centre_label) p)) f ∙ ap (λ (x : Option LinkRec). rfs_between p a m o x) g)
 
-pub returns_keys : Undone → ReturnsKeys
-returns_keys laws p a m l b said f g e = subst (λ (r : Row). ReturnsKey p r m l b) (sym (row_is p a m (Some l) (Some b) said f g)) (returns_key laws p a m l b f g)
+pub returns_keys : Undone → LinkLaws → ReturnsKeys
+returns_keys laws links p a m l b said f g e = subst (λ (r : Row). ReturnsKey p r m l b) (sym (row_is p a m (Some l) (Some b) said f g)) (returns_key laws links p a m l b f g)
 
 -- a refused count
 

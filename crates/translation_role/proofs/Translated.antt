@@ -1,7 +1,6 @@
 -- What is decided of a request for service under both links.
 use Rattle.std.proofs.Common.{◌≡◌, Bool, true, false, cond, not, ◌&&◌, bytes_eq, Result, Some, None, Ok, Err, IfOk, List, ◌∷◌, ◌++◌, refl, ap, ◌∙◌}
 use Rattle.std.proofs.lemmas.Bool.{true≢false}
-use Rattle.x_base.specs.Count.{IsCount}
 use Rattle.x_base.specs.declared.text.NoMemory.{NoMemory}
 use Rattle.x_base.specs.declared.verdict.Verdict.{Verdict}
 use Rattle.x_base.specs.declared.verdict.Verdict.TheVariants.{NotForMe, UnknownPeer, WrongClass, BadMac}
@@ -12,14 +11,13 @@ use Rattle.party_state.specs.declared.decision.Lead.{Lead}
 use Rattle.party_state.specs.declared.link.LinkRec.{LinkRec}
 use Rattle.party_state.specs.Ranges.{IsNextCount}
 use Rattle.party_state.specs.State.{Party, knows}
-use Rattle.party_state.specs.Verdicts.{Test, verdict_of, is_accept, passes, Held}
-use Rattle.party_state.proofs.Verdicts.{held}
+use Rattle.party_state.specs.Verdicts.{Test, verdict_of, is_accept, passes}
 use Rattle.role_base.specs.Conditions.{is_for}
 use Rattle.role_base.specs.Deciding.{decision_of, accepting}
 use Rattle.role_base.specs.Errors.{TellsCount, answering, coded_under}
 use Rattle.role_base.specs.Texts.{is_verified, lead_under}
 use Rattle.role_base.proofs.ByRow.{by_answered}
-use Rattle.role_base.proofs.Counted.{tells_by, expected_is_count, left_is_count}
+use Rattle.role_base.proofs.Counted.{tells_by, expected_is_count}
 use Rattle.role_base.proofs.Decided.{decides_row}
 use Rattle.translation_role.specs.Service.{rfs_value, rfs_under, rfs_reply, rfs_edits, rfs_front, rfs_rest, rfs_tests, rfs_error, rfs_between}
 
@@ -50,10 +48,6 @@ rfs_refuses p a m l b x v made e i f k =
 pub rfs_accepts : (p : Party) (a : Arrival) (m : Rfs) (l b : LinkRec) (x : Lead) (v : Verdict) (made : Result Decision NoMemory) → v ≡ verdict_of (tested p m l b x.verified) → x ≡ lead_under a (rfs_under p m) (rfs_value m l) → is_accept v ≡ true
     → IfOk made (λ d. d ≡ accepting p (rfs_edits m l b) (Some (rfs_reply p m l b))) → IfOk made (λ d. d ≡ decision_of p (rfs_between p a m (Some l) (Some b)))
 rfs_accepts p a m l b x v made e i t k = decides_row made p (rfs_between p a m (Some l) (Some b)) v k (verdict_is p a m l b x v e i) t
-
--- an accepted request has a count left at the ultimate recipient's link
-pub rfs_left : (p : Party) (m : Rfs) (l b : LinkRec) (x : Bool) (v : Verdict) → v ≡ verdict_of (tested p m l b x) → is_accept v ≡ true → IsNextCount b.next → IsCount b.next
-rfs_left p m l b x v e t i = let h : Held (tested p m l b x) = held (tested p m l b x) refl (rw (← e) t) in left_is_count b i h.1.1.1.1.1.1.1.0
 
 -- one that is refused before its code is looked at isn't answered
 pub rfs_unanswered : (p : Party) (a : Arrival) (m : Rfs) (l b : LinkRec) → passes (rfs_front p m true) ≡ false → (rfs_between p a m (Some l) (Some b)).answer ≡ None

@@ -10,6 +10,7 @@ ghost use Rattle.translation_role.specs.Rows.{translation_message, translation_l
 ghost use Rattle.translation_role.specs.Serving.{TranslatesExactly, ReturnsKeys, AnswersLow, AnswersSpent};
 
 use csm_grammar::law_arrived;
+use party_state::{law_accept, law_found, law_put, law_same};
 use x_seal::{law_keys_below, law_unseals};
 
 /// No edit of a row changes whether a later one makes a difference: the two links that a translation
@@ -17,6 +18,9 @@ use x_seal::{law_keys_below, law_unseals};
 pub fn law_apart()
     ensures { (p : Party) (i : TheInput) → AreApart p (translation_row p i).edits }
 {
+    law_same();
+    law_found();
+    law_put();
     centre_base::law_apart();
 }
 
@@ -35,6 +39,10 @@ pub fn law_translates()
     ensures exactly { TranslatesExactly }
     ensures returned { ReturnsKeys }
 {
+    law_accept();
+    law_same();
+    law_found();
+    law_put();
     law_unseals();
     law_keys_below();
 }

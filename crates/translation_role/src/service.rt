@@ -11,7 +11,9 @@ ghost use Rattle.translation_role.specs.Service.{rfs_value, rfs_under, rfs_answe
 
 use centre_base::{behind, request_front};
 use csm_grammar::{Arrival, Message, Rfs, Rtr};
-use party_state::{Decision, Edit, Lead, LinkRec, State};
+use party_state::{
+    Decision, Edit, Lead, LinkRec, State, law_accept, law_found, law_found_in_range,
+};
 use role_base::{
     Counts, Written, accept, centre_label, count_tests, direct_name, early_refusal, error_answer,
     has_count, is_accept, lead_under, link_with, list_of, no_extras, passes, refusal,
@@ -244,6 +246,10 @@ pub(crate) fn rfs(
 {
     // Tells that the links that stand are in their ranges.
     state.law_party();
+    law_found();
+    law_found_in_range();
+    // Tells what an accepted verdict says of the tests.
+    law_accept();
     // The value tells that it is a count.
     message.cta.value();
     rfs_decided(alloc, state, arrival, message, lead)

@@ -8,7 +8,7 @@ pub returns-clause-rsm : goal.returns-clause-rsm
 returns-clause-rsm c = rsm_apart
 
 pub returns-clause-esm : goal.returns-clause-esm
-returns-clause-esm c = esm_apart
+returns-clause-esm c = esm_apart (record { same = c.law_same.ensures.link; found = c.law_found.ensures.link; put = c.law_put.ensures.link })
 
 pub returns-clause-dsm : goal.returns-clause-dsm
 returns-clause-dsm c = dsm_apart

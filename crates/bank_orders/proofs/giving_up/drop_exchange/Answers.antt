@@ -10,4 +10,4 @@ returns-in_ok-edits-in-Some-clause-kept c =
     let peer = c.args.peer.now in
     let e = c.in-Some.exchange.now in
     keeps c.accept.result p c.in_ok-edits-in-Some.edits.items (given_up_in p peer (Some e)) None None
-    c.accept.ensures c.in_ok-edits-in-Some.ensures tt (given_up_keepable p peer e) (given_up_few p peer e)
+    c.accept.ensures c.in_ok-edits-in-Some.ensures tt (given_up_keepable c.law_found.ensures.key p peer e) (given_up_few p peer e)

@@ -6,13 +6,13 @@ use Rattle.bank_orders.proofs.start_kk.kk_decided.Goals as goal
 
 pub send_kk-requires-clause-place : goal.send_kk-requires-clause-place
 send_kk-requires-clause-place c =
-    let h : Held (kk_tests c.args.state.now c.args.link.now c.args.wanted.now.label c.args.drawn) = kk_held c.args.state.now c.args.front.now c.args.link.now c.args.wanted.now.label c.args.drawn c.verdict_after-verdict.result c.requires.refuse
+    let h : Held (kk_tests c.args.state.now c.args.link.now c.args.wanted.now.label c.args.drawn) = kk_held c.law_accept.ensures.tested c.args.state.now c.args.front.now c.args.link.now c.args.wanted.now.label c.args.drawn c.verdict_after-verdict.result c.requires.refuse
     (c.verdict_after-verdict.ensures ∙ ap (λ (ts : List Test). verdict_of (c.args.front.now ++ ts)) c.kk_tests.ensures) (sym c.is_accept.ensures ∙ c.if-is_accept.true) in
     h.1.1.0
 
 pub send_kk-requires-clause-room : goal.send_kk-requires-clause-room
 send_kk-requires-clause-room c =
-    let h : Held (kk_tests c.args.state.now c.args.link.now c.args.wanted.now.label c.args.drawn) = kk_held c.args.state.now c.args.front.now c.args.link.now c.args.wanted.now.label c.args.drawn c.verdict_after-verdict.result c.requires.refuse
+    let h : Held (kk_tests c.args.state.now c.args.link.now c.args.wanted.now.label c.args.drawn) = kk_held c.law_accept.ensures.tested c.args.state.now c.args.front.now c.args.link.now c.args.wanted.now.label c.args.drawn c.verdict_after-verdict.result c.requires.refuse
     (c.verdict_after-verdict.ensures ∙ ap (λ (ts : List Test). verdict_of (c.args.front.now ++ ts)) c.kk_tests.ensures) (sym c.is_accept.ensures ∙ c.if-is_accept.true) in
     h.1.1.1.0
 

@@ -11,5 +11,5 @@ returns-clause-kept c =
     let p = c.args.state.now in
     let v : c.verdict_of-verdict.result ≡ verdict_of (load_tests p (record { peer = c.args.peer.now; label = c.args.label.now; side = c.args.side }) c.args.pair) = cc in
     let t : is_accept c.verdict_of-verdict.result ≡ true = grind arith in
-    let room : has_link_room p (record { peer = c.args.peer.now; label = c.args.label.now; side = c.args.side }) ≡ true = load_room p _ c.args.pair c.verdict_of-verdict.result v t in
+    let room : has_link_room p (record { peer = c.args.peer.now; label = c.args.label.now; side = c.args.side }) ≡ true = load_room c.law_accept.ensures.tested p _ c.args.pair c.verdict_of-verdict.result v t in
     keeps c.accept.result p c.in_ok-list_of.field-0.items _ None None c.accept.ensures c.in_ok-list_of.ensures tt (loaded_keepable p _ refl room) (lit≤ tt)
