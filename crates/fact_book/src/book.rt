@@ -64,26 +64,24 @@ fn is_reached(entries: &[Entry], from: Option<usize>, under: &FullName, text: &[
     false
 }
 
-/// Puts an entry behind the others, as the latest of its name.
+/// Puts a fact behind the others, as the latest of its name.
 fn put(
     entries: &mut Vec<Entry>,
     latest: &mut IndexMap<FullName, usize>,
-    under: FullName,
-    entry: Entry,
+    fact: NamedText,
 ) -> Result<(), NoMemory>
-    ensures added { OnOk result (entries.new.items ≡ entries.old.items ++ entry ∷ []) }
-    ensures latest { OnOk result ((other : TheFullName) → get same_full_name latest.new other ≡ cond (same_full_name under other) (Some (length entries.old.items)) (get same_full_name latest.old other)) }
+    ensures added { OnOk result (entries.new.items ≡ entries.old.items ++ record { fact = fact; earlier = get same_full_name latest.old fact.under } ∷ []) }
+    ensures latest { OnOk result ((other : TheFullName) → get same_full_name latest.new other ≡ cond (same_full_name fact.under other) (Some (length entries.old.items)) (get same_full_name latest.old other)) }
     ensures kept { OnErr result (entries.new.items ≡ entries.old.items) }
     ensures same { OnErr result (latest.new.entries ≡ latest.old.entries) }
 {
-    latest.reserve(1)?;
+    entries.reserve(1)?;
     let place = entries.len();
-    match entries.push(entry) {
-        Ok(()) => {}
-        Err(_) => return Err(NoMemory),
-    }
-    match latest.insert(under, place) {
-        Ok(_) => Ok(()),
+    match latest.insert(fact.under, place) {
+        Ok(earlier) => match entries.push(Entry { fact, earlier }) {
+            Ok(()) => Ok(()),
+            Err(_) => unreachable!(),
+        },
         Err(_) => Err(NoMemory),
     }
 }
@@ -107,14 +105,8 @@ impl FactBook {
     {
         let mut copy = Text::new(self.alloc);
         copy.push(text)?;
-        let earlier = self.latest.get(&under).copied();
         let fact = NamedText { under, text: copy };
-        put(
-            &mut self.entries,
-            &mut self.latest,
-            under,
-            Entry { fact, earlier },
-        )?;
+        put(&mut self.entries, &mut self.latest, fact)?;
         Ok(())
     }
 

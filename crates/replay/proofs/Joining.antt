@@ -1,10 +1,11 @@
 -- Parties take their seats one behind another, or a party isn't set up.
-use Rattle.std.proofs.Common.{◌≡◌, inl, inr, ℕ, zero, suc, ◌+◌, ◌<◌, true, false, List, [], ◌∷◌, ◌++◌, length, get_or, take, Option, Some, None, option_map, is_some, refl, sym, ◌∙◌, ap, subst, arith}
+use Rattle.std.proofs.Common.{◌≡◌, inl, inr, ℕ, zero, suc, ◌+◌, ◌<◌, true, false, List, [], ◌∷◌, ◌++◌, length, get_or, take, Option, Some, None, option_map, is_some, bytes_eq, refl, sym, ◌∙◌, ap, subst, arith}
 use Rattle.std.specs.Prelude.{nat_lt, Contains, option_to_list}
 use Rattle.std.specs.List.{filter_map, list_all, list_any}
 use mathlib.Core.Logic.{◌≢◌}
 use Rattle.std.proofs.lemmas.Bool.{and_from, and_parts, or_parts, both_ways, not-true, eq-eqb}
 use Rattle.std.proofs.lemmas.List.{append-nil}
+use Rattle.indexmap.specs.IndexSet.{insert_key}
 use Rattle.x_base.specs.Ident.{expanded}
 use Rattle.x_disk.specs.Disk.{View, Tells}
 use Rattle.x_disk.specs.Shelf.{IsAlike, AllStay, SlotsStay}
@@ -19,7 +20,7 @@ use Rattle.world_laws.specs.Nodes.{member_of}
 use Rattle.replay.specs.Closing.{AllSlots, AreApart}
 use Rattle.replay.specs.Seats.{seat, members, with_held, owners, IsOf, AreIn, AreOpen, NoneOf}
 use Rattle.replay.specs.Starts.{loads_of, start_member, members_by}
-use Rattle.replay.specs.SettingUp.{new_party, line_of_party, own_of_new, party_in, parties_in, new_member, full_member, AllTell, ReadsBlank, AllReadBlank, IsSetUp, IsBeginning, IsUnset, IsOrFails, IsSeatedNext, SeatsNext, ShowMembers, AreSetUp}
+use Rattle.replay.specs.SettingUp.{new_party, line_of_party, own_of_new, party_in, parties_in, new_member, full_member, AllTell, ReadsBlank, AllReadBlank, IsSetUp, IsBeginning, IsUnset, IsOrFails, IsSeatedNext, SeatsNext, NamesNext, ShowMembers, AreSetUp}
 use Rattle.replay.specs.declared.making.NewParty.{NewParty}
 use Rattle.replay.specs.declared.making.SetUpEnd.{SetUpEnd}
 use Rattle.replay.specs.declared.making.SetUpEnd.TheVariants.{NotEmpty, Failed}
@@ -27,6 +28,7 @@ use Rattle.replay.specs.declared.seat.Seat.{Seat}
 use Rattle.replay.specs.declared.seat.Held.{Held}
 use Rattle.replay.specs.declared.seat.Held.TheVariants.{Open, Loose, Out}
 use Rattle.replay.proofs.Loads.{own_stays, more_of, follows}
+use Rattle.replay.proofs.Members.{cond_not, same_not}
 use Rattle.replay.proofs.PuttingBack.{alike_on}
 
 -- ---- a disk on which no party is set up, by what a read of it gives
@@ -241,3 +243,25 @@ module _ {D : Type 0} (told : D → View) (lines : List Line) (start entry : Lis
   -- the others' disks stay
   pub strangers : (front : List Line) → AreSetUp told lines front start entry slot seats → (own : List ℕ) → (Contains (parties_in front) own → ⊥) → IsAlike (start own) (entry own)
   strangers front all own never = all.others own (none_of seats own (λ c. never (subst (λ (os : List (List ℕ)). Contains os own) all.owners_are c)))
+
+-- ---- the identities of the seats
+
+module _ {D : Type 0} where
+  last_other : (was : List (Seat D)) (s : Seat D) (own : List ℕ) → NoneOf (was ++ s ∷ []) own → s.own ≢ own
+  last_other [] s own none = none.0
+  last_other (t ∷ was) s own none = last_other was s own none.1
+
+  -- the last identity is none of those before
+  last_apart : (was : List (Seat D)) (s : Seat D) → AreApart (was ++ s ∷ []) → list_any (bytes_eq s.own) (owners was) ≡ false
+  last_apart [] s apart = refl
+  last_apart (t ∷ was) s apart = rw (same_not s.own t.own (last_other was s t.own apart.0), last_apart was s apart.1) refl
+
+  pub names_on : (told : D → View) (lines : List Line) (p : Option NewParty) (old new : List ℕ → View) (slot : List ℕ → Type 0) (was seats : List (Seat D)) (names after : List (List ℕ))
+      → SeatsNext told lines p old new slot was seats → AreApart seats → names ≡ owners was → NamesNext p names after → after ≡ owners seats
+  names_on told lines None old new slot was seats names after next apart named same = same ∙ (named ∙ ap owners (sym next.0))
+  names_on told lines (Some p) old new slot was seats names after next apart named more =
+      let s : Seat D = seat p.own (Open next.node) in
+      let last = last_apart was s (subst AreApart next.behind apart) in
+      more ∙ (ap (λ (os : List (List ℕ)). insert_key bytes_eq os p.own) named
+      ∙ (cond_not (list_any (bytes_eq p.own) (owners was)) (owners was) (owners was ++ p.own ∷ []) last
+      ∙ (sym (owners_push was s) ∙ ap owners (sym next.behind))))

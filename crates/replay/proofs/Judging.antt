@@ -17,7 +17,7 @@ use Rattle.world_laws.specs.Honest.{HonestAt, named_text, has_fact, is_honest}
 use Rattle.world_laws.specs.Honest as laws
 use Rattle.world_laws.specs.Nodes.{member_of}
 use Rattle.replay.specs.Acting.{HonestInput, ForgesAt}
-use Rattle.replay.specs.Forging.{is_honest_lead, is_honest_input, IsJudgedAt}
+use Rattle.replay.specs.Forging.{is_honest_lead, is_honest_input, is_honest_led, IsLed, IsLedAt, IsJudgedAt}
 use Rattle.replay.specs.Scene.{Shows}
 use Rattle.replay.specs.Seats.{seat, members, AreIn, AreOpen, NoneOf, IsPlace}
 use Rattle.replay.specs.declared.scene.Scene.{Scene}
@@ -26,14 +26,23 @@ use Rattle.replay.specs.declared.seat.Held.TheVariants.{Open}
 use Rattle.replay.proofs.Members.{found}
 use Rattle.replay.proofs.Places.{OpenAt, open_at}
 
--- what is judged of the party in a seat
-pub judges_at : {D : Type 0} (seats : List (Seat D)) (place : ℕ) (s : Seat D) (here : Stored D) (facts : List NamedText) (i : Input) (honest : Bool) → s ≡ get_or seats place s → s.held ≡ Open here
-    → honest ≡ is_honest_input facts here.party i → IsJudgedAt seats place facts i honest
-judges_at {D = D} seats place s here facts i honest read opened judged = λ front own node back is size.
+-- the lead at the party in a seat
+pub leads_at : {D : Type 0} (seats : List (Seat D)) (place : ℕ) (s : Seat D) (here : Stored D) (i : Input) (lead : Option Lead) → s ≡ get_or seats place s → s.held ≡ Open here → IsLed here.party i lead
+    → IsLedAt seats place i lead
+leads_at {D = D} seats place s here i lead read opened led = λ front own node back is size.
     let same : s ≡ seat own (Open node) = read ∙ (ap (λ (l : List (Seat D)). get_or l place s) is ∙ get_or_at front (seat own (Open node)) back s place size) in
     let held : Open here ≡ Open node = sym opened ∙ ap (λ (x : Seat D). x.held) same in
     let one : here ≡ node = cc held in
-    judged ∙ ap (λ (n : Stored D). is_honest_input facts n.party i) one
+    subst (λ (n : Stored D). IsLed n.party i lead) one led
+
+-- what is judged by it
+pub judged_by : {D : Type 0} (seats : List (Seat D)) (place : ℕ) (facts : List NamedText) (i : Input) (lead : Option Lead) (honest : Bool) → IsLedAt seats place i lead → honest ≡ is_honest_led facts i lead
+    → IsJudgedAt seats place facts i honest
+judged_by {D = D} seats place facts i lead honest led judged = λ front own node back is size. judged ∙ same node i (led front own node back is size)
+  where
+    same : (node : Stored D) (i : Input) → IsLed node.party i lead → is_honest_led facts i lead ≡ is_honest_input facts node.party i
+    same node (Ordered command) l = refl
+    same node (Arrived a) l = ap (λ (o : Option Lead). is_honest_lead facts o (auth_text a)) l
 
 -- the member of a place, and how it is judged
 pub judged_member : {D : Type 0} (told : D → View) (s : Scene D) (place : ℕ) (i : Input) (honest : Bool) → place < length s.seats.items → AreOpen s.seats.items → IsJudgedAt s.seats.items place s.facts i honest

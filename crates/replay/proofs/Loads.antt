@@ -1,9 +1,9 @@
 -- The links that lines load at a party, in the order of the lines.
-use Rattle.std.proofs.Common.{◌≡◌, ◌⊎◌, inl, inr, ℕ, ◌+◌, ◌<◌, ◌≤◌, Bool, true, false, cond, not, List, [], ◌∷◌, ◌++◌, length, get_or, take, drop, Option, Some, None, bytes_eq, refl, sym, ◌∙◌, ap, arith, take-append-drop}
+use Rattle.std.proofs.Common.{◌≡◌, ◌⊎◌, inl, inr, ℕ, ◌+◌, ◌<◌, ◌≤◌, Bool, true, false, cond, not, List, [], ◌∷◌, ◌++◌, length, get_or, take, drop, Option, Some, None, bytes_eq, refl, sym, ◌∙◌, ap, arith, append_assoc, take-append-drop}
 use Rattle.std.specs.Prelude.{◌&&◌, ◌||◌, nat_lt, count_by, codes, option_to_list}
 use Rattle.std.specs.List.{filter_map, cons_option, list_all, list_any}
 use Rattle.std.proofs.lemmas.Bool.{and_parts, or_left, or_right, ltb-true}
-use Rattle.std.proofs.lemmas.List.{take_at, take_more, drop_more}
+use Rattle.std.proofs.lemmas.List.{take_at, take_more, drop_more, append-nil}
 use Rattle.std.proofs.lemmas.List.Elements.{filter_map-append}
 use Rattle.std.proofs.lemmas.List.Sums.{sum_by-cons}
 use Rattle.std.proofs.lemmas.Slice.Eq.{bytes_eq-Decides}
@@ -141,6 +141,41 @@ few_before own before (line.Link origin recipient label pair) l may is = go (loa
     go (inl same) few most = let e = ap (λ (o : List ℕ). count_by (is_end o) before) same in omega (arith, e, few.origin_few, most)
     go (inr same) few most = let e = ap (λ (o : List ℕ). count_by (is_end o) before) same in omega (arith, e, few.recipient_few, most)
 few_before own before x l may is = absurd (cc is)
+
+-- a line that loads a link has parties and links alone before it
+heads_before : (own : List ℕ) (before : List Line) (x : Line) (l : LinkRec) → may_follow before x ≡ true → load_at own x ≡ Some l → list_all is_party_or_link before ≡ true
+heads_before own before (line.Link origin recipient label pair) l may is = (and_parts (list_all is_party_or_link before) _ may).0
+heads_before own before x l may is = absurd (cc is)
+
+head_of_load : (own : List ℕ) (x : Line) (l : LinkRec) → load_at own x ≡ Some l → is_party_or_link x ≡ true
+head_of_load own (line.Link origin recipient label pair) l is = refl
+head_of_load own x l is = absurd (cc is)
+
+spoilt : (front back : List Line) (x : Line) → is_party_or_link x ≡ false → list_all is_party_or_link (front ++ x ∷ back) ≡ true → ⊥
+spoilt [] back x event all = let both : true ≡ false = sym (and_parts (is_party_or_link x) _ all).0 ∙ event in cc both
+spoilt (y ∷ front) back x event all = spoilt front back x event (and_parts (is_party_or_link y) _ all).1
+
+-- behind a line that declares and loads nothing, nothing is loaded
+none_behind : (own : List ℕ) (lines front : List Line) (x : Line) (mid rest : List Line) → EachBehind may_follow lines → lines ≡ (front ++ x ∷ mid) ++ rest → is_party_or_link x ≡ false → loads_of own rest ≡ []
+none_behind own lines front x mid [] rules is event = refl
+none_behind own lines front x mid (y ∷ rest) rules is event =
+    go (load_at own y) refl (none_behind own lines front x (mid ++ y ∷ []) rest rules
+    (is ∙ (sym (append_assoc (front ++ x ∷ mid) (y ∷ []) rest) ∙ ap (λ (ls : List Line). ls ++ rest) (append_assoc front (x ∷ mid) (y ∷ [])))) event)
+  where
+    go : (o : Option LinkRec) → load_at own y ≡ o → loads_of own rest ≡ [] → loads_of own (y ∷ rest) ≡ []
+    go None at none = ap (λ (o : Option LinkRec). cons_option o (loads_of own rest)) at ∙ none
+    go (Some l) at none = absurd (spoilt front mid x event (heads_before own (front ++ x ∷ mid) y l (rules (front ++ x ∷ mid) rest y is) at))
+
+-- so all is loaded before the first such line
+pub all_loaded : (own : List ℕ) (lines : List Line) (i : ℕ) (x : Line) → EachBehind may_follow lines → i < length lines → x ≡ get_or lines i x → is_party_or_link x ≡ false → loads_of own (take i lines) ≡ loads_of own lines
+all_loaded own lines i x rules lt is event =
+    let split = split_lines lines i x lt is in
+    let behind = none_behind own lines (take i lines) x [] (drop (i + 1) lines) rules (split ∙ sym (append_assoc (take i lines) (x ∷ []) (drop (i + 1) lines))) event in
+    sym (ap (loads_of own) split ∙ (filter_map-append (load_at own) (take i lines) (x ∷ drop (i + 1) lines) ∙ (ap (λ (ls : List LinkRec). loads_of own (take i lines) ++ ls) (here behind (load_at own x) refl) ∙ append-nil (loads_of own (take i lines)))))
+  where
+    here : loads_of own (drop (i + 1) lines) ≡ [] → (o : Option LinkRec) → load_at own x ≡ o → cons_option (load_at own x) (loads_of own (drop (i + 1) lines)) ≡ []
+    here none None at = ap (λ (o : Option LinkRec). cons_option o (loads_of own (drop (i + 1) lines))) at ∙ none
+    here none (Some l) at = let both : true ≡ false = sym (head_of_load own x l at) ∙ event in absurd (cc both)
 
 pub follows : (lines : List Line) (i : ℕ) (l : Line) → EachBehind may_follow lines → i < length lines → l ≡ get_or lines i l → may_follow (take i lines) l ≡ true
 follows lines i l rules lt is = rules (take i lines) (drop (i + 1) lines) l (split_lines lines i l lt is)

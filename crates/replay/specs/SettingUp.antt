@@ -1,6 +1,7 @@
 -- How the parties of a scenario are set up on their disks (this project's profile).
-use Rattle.std.specs.Prelude.{◌≡◌, ◌≢◌, ◌⊎◌, ◌+◌, ◌*◌, ◌<◌, ◌≤◌, ◌++◌, ℕ, true, false, length, take, List, [], ◌∷◌, Contains, Option, Some, None, option_map, is_some}
+use Rattle.std.specs.Prelude.{◌≡◌, ◌≢◌, ◌⊎◌, ◌+◌, ◌*◌, ◌<◌, ◌≤◌, ◌++◌, ℕ, true, false, length, take, List, [], ◌∷◌, Contains, bytes_eq, Option, Some, None, option_map, is_some}
 use Rattle.std.specs.List.{filter_map}
+use Rattle.indexmap.specs.IndexSet.{insert_key}
 use Rattle.x_disk.specs.Disk.{View, Tells}
 use Rattle.x_disk.specs.Shelf.{IsAlike, AllStay, OthersStay}
 use Rattle.key_journal.specs.Journal.{is_blank}
@@ -177,6 +178,11 @@ pub record IsSeatedNext {D : Type 0} (told : D → View) (lines : List Line) (p 
   pub made : IsSetUp told (old p.own) (full_member lines p) node
   pub placed : slot p.own
   pub others : OthersStay p.own old new
+
+-- its identity stands behind those of the others
+abbrev pub NamesNext : Option NewParty → List (List ℕ) → List (List ℕ) → Type 0
+NamesNext None was names = names ≡ was
+NamesNext (Some p) was names = names ≡ insert_key bytes_eq was p.own
 
 -- where the line declares none, nothing changes
 abbrev pub SeatsNext : {D : Type 0} → (D → View) → List Line → Option NewParty → (List ℕ → View) → (List ℕ → View) → (List ℕ → Type 0) → List (Seat D) → List (Seat D) → Type 0

@@ -5,18 +5,19 @@ ghost use Rattle.x_disk.specs.Shelf.{SlotsStay};
 ghost use Rattle.replay.specs.Acting.{PlaysAt, ForgesAt, Acts, Forges};
 ghost use Rattle.replay.specs.Breaks.{BreaksHonest, BreaksAct};
 ghost use Rattle.replay.specs.Closing.{AllSlots, AnyFaulty, OtherDisksStay};
-ghost use Rattle.replay.specs.Forging.{IsJudgedAt};
+ghost use Rattle.replay.specs.Forging.{IsLedAt, IsJudgedAt};
 ghost use Rattle.replay.specs.Outcomes.{outcome_of};
 ghost use Rattle.replay.specs.Seats.{AreOpen, IsPlace, owners};
 
 use crate::act::Act;
 use crate::failure::{Ending, Failure};
-use crate::forging::is_honest_at;
+use crate::forging::{is_honest_led, lead_at};
 use crate::placing::place_of;
 use crate::progress::{Outcome, Progress};
 use crate::scene::{Scene, tell_event};
 use crate::stop_event::{stop_event, stop_unheard};
-use party_state::Input;
+use indexmap::IndexSet;
+use party_state::{Input, Lead};
 use std::alloc::Global;
 use world_laws::{law_facts, law_inputs, law_runs};
 use x_base::{Ident, Verdict};
@@ -39,12 +40,14 @@ fn play_honest<H: Shelf>(
     shelf: &mut H,
     alloc: Global,
     input: Input,
+    lead: Option<Lead>,
     now: &Progress,
 ) -> Result<Outcome, Failure>
     requires within { place < length scene.old.seats.items }
     requires placed { IsPlace scene.old.seats.items own.now place }
     requires seated { AreOpen scene.old.seats.items }
     requires slots { AllSlots (H.has_slot shelf.old) (owners scene.old.seats.items) }
+    requires led { IsLedAt scene.old.seats.items place input lead }
     requires judged { IsJudgedAt scene.old.seats.items place scene.old.facts input true }
     ensures played { IfOk result (λ outcome. PlaysAt H.Disk.told (H.faults shelf.old) (H.faults shelf.new) scene.old scene.new place (Some input) 0 now.now outcome) }
     ensures broken { IfErr result (λ why. BreaksHonest H.Disk.told (H.entry shelf.new) scene.old scene.new place (Some input) now.now.moment why) }
@@ -64,7 +67,7 @@ fn play_honest<H: Shelf>(
             Ok(Outcome::Stopped)
         }
         None => {
-            let verdict = tell_event(scene, place, alloc, input, now.moment)?;
+            let verdict = tell_event(scene, place, alloc, input, lead, now.moment)?;
             Ok(outcome_of(verdict))
         }
     }
@@ -97,9 +100,10 @@ fn play_input<H: Shelf>(
 {
     law_facts();
     law_runs();
-    let honest = is_honest_at(&scene.seats, place, &scene.facts, &input);
+    let lead = lead_at(&scene.seats, place, &input);
+    let honest = is_honest_led(&scene.facts, &input, &lead);
     if honest {
-        let outcome = play_honest(scene, place, own, shelf, alloc, input, now)?;
+        let outcome = play_honest(scene, place, own, shelf, alloc, input, lead, now)?;
         return Ok(outcome);
     }
     Err(Ending::Forged(now.number))
@@ -140,12 +144,14 @@ fn play_unheard<H: Shelf>(
 /// A party has an input.
 fn play_told<H: Shelf>(
     scene: &mut Scene<H::Disk>,
+    names: &IndexSet<Ident>,
     party: &Ident,
     shelf: &mut H,
     alloc: Global,
     input: Input,
     now: &Progress,
 ) -> Result<Outcome, Ending>
+    requires named { names.now.keys ≡ owners scene.old.seats.items }
     requires seated { AreOpen scene.old.seats.items }
     requires slots { AllSlots (H.has_slot shelf.old) (owners scene.old.seats.items) }
     ensures acted { IfOk result (λ outcome. Acts H.Disk.told (H.faults shelf.old) (H.faults shelf.new) (Act.Tell party.now input) scene.old scene.new now.now outcome) }
@@ -159,7 +165,7 @@ fn play_told<H: Shelf>(
     ensures slots { SlotsStay (H.has_slot shelf.old) (H.has_slot shelf.new) }
     ensures later { H.faults shelf.old ≤ H.faults shelf.new }
 {
-    let Some(place) = place_of(&scene.seats, party) else {
+    let Some(place) = place_of(names, party) else {
         return Ok(Outcome::Nothing);
     };
     play_input(scene, place, party, shelf, alloc, input, now)
@@ -168,12 +174,14 @@ fn play_told<H: Shelf>(
 /// Bytes arrive at a party of which nothing is heard.
 fn play_refused<H: Shelf>(
     scene: &mut Scene<H::Disk>,
+    names: &IndexSet<Ident>,
     party: &Ident,
     shelf: &mut H,
     alloc: Global,
     number: u32,
     now: &Progress,
 ) -> Result<Outcome, Failure>
+    requires named { names.now.keys ≡ owners scene.old.seats.items }
     requires seated { AreOpen scene.old.seats.items }
     requires slots { AllSlots (H.has_slot shelf.old) (owners scene.old.seats.items) }
     ensures acted { IfOk result (λ outcome. Acts H.Disk.told (H.faults shelf.old) (H.faults shelf.new) (Act.Refuse party.now number) scene.old scene.new now.now outcome) }
@@ -185,7 +193,7 @@ fn play_refused<H: Shelf>(
     ensures slots { SlotsStay (H.has_slot shelf.old) (H.has_slot shelf.new) }
     ensures later { H.faults shelf.old ≤ H.faults shelf.new }
 {
-    let Some(place) = place_of(&scene.seats, party) else {
+    let Some(place) = place_of(names, party) else {
         return Ok(Outcome::Nothing);
     };
     play_unheard(scene, place, party, shelf, alloc, number, now)
@@ -194,11 +202,13 @@ fn play_refused<H: Shelf>(
 /// An event.
 pub(crate) fn play_act<H: Shelf>(
     scene: &mut Scene<H::Disk>,
+    names: &IndexSet<Ident>,
     shelf: &mut H,
     alloc: Global,
     act: Act,
     now: &Progress,
 ) -> Result<Outcome, Ending>
+    requires named { names.now.keys ≡ owners scene.old.seats.items }
     requires seated { AreOpen scene.old.seats.items }
     requires slots { AllSlots (H.has_slot shelf.old) (owners scene.old.seats.items) }
     ensures acted { IfOk result (λ outcome. Acts H.Disk.told (H.faults shelf.old) (H.faults shelf.new) act scene.old scene.new now.now outcome) }
@@ -214,9 +224,9 @@ pub(crate) fn play_act<H: Shelf>(
 {
     match act {
         Act::Nothing => Ok(Outcome::Nothing),
-        Act::Tell { party, input } => play_told(scene, &party, shelf, alloc, input, now),
+        Act::Tell { party, input } => play_told(scene, names, &party, shelf, alloc, input, now),
         Act::Refuse { party, number } => {
-            let outcome = play_refused(scene, &party, shelf, alloc, number, now)?;
+            let outcome = play_refused(scene, names, &party, shelf, alloc, number, now)?;
             Ok(outcome)
         }
     }

@@ -16,10 +16,11 @@ use crate::meaning::act_of;
 use crate::progress::{Counts, Progress};
 use crate::scene::Scene;
 use crate::stopped::Stop;
+use indexmap::IndexSet;
 use scenario::Line;
 use std::alloc::Global;
 use world_laws::law_hearing;
-use x_base::Sink;
+use x_base::{Ident, Sink};
 use x_disk::Shelf;
 
 /// Before the first line.
@@ -67,12 +68,14 @@ fn behind_quiet(line: &Line, now: &Progress) -> Progress
 /// A line.
 fn play_line<K: Sink, H: Shelf>(
     scene: &mut Scene<H::Disk>,
+    names: &IndexSet<Ident>,
     sink: &mut K,
     shelf: &mut H,
     alloc: Global,
     line: &Line,
     now: &Progress,
 ) -> Result<Progress, Ending>
+    requires named { names.now.keys ≡ owners scene.old.seats.items }
     requires seated { AreOpen scene.old.seats.items }
     requires slots { AllSlots (H.has_slot shelf.old) (owners scene.old.seats.items) }
     requires few { IsWithin now.now 65535 }
@@ -91,7 +94,7 @@ fn play_line<K: Sink, H: Shelf>(
 {
     law_hearing();
     match act_of(alloc, &scene.texts, line)? {
-        Some(act) => play_event(scene, sink, shelf, alloc, act, now),
+        Some(act) => play_event(scene, names, sink, shelf, alloc, act, now),
         None => Ok(behind_quiet(line, now)),
     }
 }
@@ -99,11 +102,13 @@ fn play_line<K: Sink, H: Shelf>(
 /// The lines, from the first moment on.
 pub(crate) fn play_lines<K: Sink, H: Shelf>(
     scene: &mut Scene<H::Disk>,
+    names: &IndexSet<Ident>,
     sink: &mut K,
     shelf: &mut H,
     alloc: Global,
     lines: &[Line],
 ) -> Result<Progress, Ending>
+    requires named { names.now.keys ≡ owners scene.old.seats.items }
     requires seated { AreOpen scene.old.seats.items }
     requires slots { AllSlots (H.has_slot shelf.old) (owners scene.old.seats.items) }
     requires few { length lines.now ≤ 65536 }
@@ -122,7 +127,7 @@ pub(crate) fn play_lines<K: Sink, H: Shelf>(
 {
     let mut now = start();
     'playing: for line in lines {
-        now = play_line(scene, sink, shelf, alloc, line, &now)?;
+        now = play_line(scene, names, sink, shelf, alloc, line, &now)?;
     }
     Ok(now)
 }

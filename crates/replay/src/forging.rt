@@ -1,6 +1,6 @@
-// Whether a holder of its key made the code of what arrives.
+// Whether a holder of its key made the code of what arrives. The code is tested once: its lead goes on to the party's turn.
 ghost use Rattle.std.specs.Prelude.{◌≡◌, ◌<◌, length};
-ghost use Rattle.replay.specs.Forging.{is_honest_lead, is_honest_input, IsJudgedAt};
+ghost use Rattle.replay.specs.Forging.{is_honest_lead, is_honest_led, IsLed, IsLedAt};
 ghost use Rattle.replay.specs.Seats.{AreOpen};
 
 use crate::seat::{Held, Seat};
@@ -19,29 +19,34 @@ fn is_honest_lead(facts: &FactBook, lead: &Option<Lead>, text: &[u8]) -> bool
     }
 }
 
-/// The same of what a party is told.
-fn is_honest<D: Disk>(facts: &FactBook, node: &Node<D>, input: &Input) -> bool
-    ensures { result ≡ is_honest_input facts.now node.now.party input.now }
+/// The same of what a party is told, by its lead.
+pub(crate) fn is_honest_led(facts: &FactBook, input: &Input, lead: &Option<Lead>) -> bool
+    ensures { result ≡ is_honest_led facts.now input.now lead.now }
 {
     match input {
         Input::Ordered(_) => true,
-        Input::Arrived(arrival) => is_honest_lead(facts, &node.lead(arrival), arrival.auth()),
+        Input::Arrived(arrival) => is_honest_lead(facts, lead, arrival.auth()),
     }
 }
 
-/// The same of the party at a place.
-pub(crate) fn is_honest_at<D: Disk>(
-    seats: &[Seat<D>],
-    place: usize,
-    facts: &FactBook,
-    input: &Input,
-) -> bool
+/// The lead of what a party is told.
+fn lead_of<D: Disk>(node: &Node<D>, input: &Input) -> Option<Lead>
+    ensures { IsLed node.now.party input.now result }
+{
+    match input {
+        Input::Ordered(_) => None,
+        Input::Arrived(arrival) => node.lead(arrival),
+    }
+}
+
+/// The same at the party at a place.
+pub(crate) fn lead_at<D: Disk>(seats: &[Seat<D>], place: usize, input: &Input) -> Option<Lead>
     requires within { place < length seats.now }
     requires seated { AreOpen seats.now }
-    ensures { IsJudgedAt seats.now place facts.now input.now result }
+    ensures { IsLedAt seats.now place input.now result }
 {
     match &seats[place].held {
-        Held::Open(node) => is_honest(facts, node, input),
+        Held::Open(node) => lead_of(node, input),
         Held::Loose(_) | Held::Out => unreachable!(),
     }
 }

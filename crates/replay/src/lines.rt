@@ -15,8 +15,9 @@ use crate::failure::{Ending, Failure};
 use crate::progress::Progress;
 use crate::scene::Scene;
 use crate::writing::write_event;
+use indexmap::IndexSet;
 use std::alloc::Global;
-use x_base::{Sink, Text};
+use x_base::{Ident, Sink, Text};
 use x_disk::{Disk, Shelf};
 
 /// How many texts were written.
@@ -36,12 +37,14 @@ fn text_behind<D: Disk>(scene: &Scene<D>, count: usize) -> Option<&Text>
 /// An event, and its lines.
 pub(crate) fn play_event<K: Sink, H: Shelf>(
     scene: &mut Scene<H::Disk>,
+    names: &IndexSet<Ident>,
     sink: &mut K,
     shelf: &mut H,
     alloc: Global,
     act: Act,
     now: &Progress,
 ) -> Result<Progress, Ending>
+    requires named { names.now.keys ≡ owners scene.old.seats.items }
     requires seated { AreOpen scene.old.seats.items }
     requires slots { AllSlots (H.has_slot shelf.old) (owners scene.old.seats.items) }
     requires few { IsWithin now.now 65535 }
@@ -59,7 +62,7 @@ pub(crate) fn play_event<K: Sink, H: Shelf>(
     ensures climbs { K.faults sink.old ≤ K.faults sink.new }
 {
     let texts = text_count(scene);
-    let outcome = play_act(scene, shelf, alloc, act, now)?;
+    let outcome = play_act(scene, names, shelf, alloc, act, now)?;
     let text = text_behind(scene, texts);
     write_event(sink, alloc, now.number, outcome, texts as u64 + 1, text)?;
     Ok(now.after(outcome, text.is_some()))

@@ -4,7 +4,7 @@ ghost use Rattle.key_journal.specs.Opening.{IsFree};
 ghost use Rattle.party_state.specs.Ranges.{IsNextCount};
 ghost use Rattle.key_store.specs.Store.{room};
 ghost use Rattle.scenario.specs.Behind.{EachBehind};
-ghost use Rattle.scenario.specs.Rules.{may_follow};
+ghost use Rattle.scenario.specs.Rules.{is_party_or_link, may_follow};
 ghost use Rattle.world_laws.specs.Nodes.{member_of};
 ghost use Rattle.replay.specs.Starts.{link_of, load_at, loads_of};
 ghost use Rattle.replay.specs.SettingUp.{new_party, new_member, full_member, least_room, HasPlace, CanLoad, HasBegun, IsLoad, IsLoadOrSame, IsLoadedTo, IsOpenedWith, IsPartlyLoaded, IsSetUp, IsUnsetDisk, EndsBy};
@@ -160,7 +160,7 @@ fn load_link<D: Disk>(store: Store<D>, alloc: Global, link: LinkRec) -> Result<S
         }
     }
     law_short_code(&change);
-    match store.keep(alloc, &change) {
+    match store.keep_owned(alloc, change) {
         Kept::Done(store) => Ok(store),
         Kept::Full(_) => unreachable!(),
         Kept::NoMemory(store) => Err(Lost {
@@ -194,6 +194,13 @@ fn load_line<D: Disk>(
     }
 }
 
+/// Whether a line declares a party or loads a link. Behind one that doesn't, none does.
+fn is_head(line: &Line) -> bool
+    ensures { result ≡ is_party_or_link line.now }
+{
+    matches!(line, Line::Party { .. } | Line::Link { .. })
+}
+
 /// Loads the links that the lines load at a party, in their order.
 fn load_links<D: Disk>(
     store: Store<D>,
@@ -209,6 +216,9 @@ fn load_links<D: Disk>(
 {
     let mut loaded = store;
     for line in lines {
+        if !is_head(line) {
+            return Ok(loaded);
+        }
         loaded = load_line(loaded, alloc, own, line)?;
     }
     Ok(loaded)

@@ -1,21 +1,13 @@
 // The place of a party among the seats.
-ghost use Rattle.std.specs.Prelude.{◌<◌, length, IfSome, IfNone};
-ghost use Rattle.replay.specs.Seats.{NoneOf, IsPlace};
+ghost use Rattle.std.specs.Prelude.{◌≡◌, IfSome, IfNone, Some, None, bytes_eq, position};
 
-use crate::seat::Seat;
+use indexmap::IndexSet;
 use x_base::Ident;
-use x_disk::Disk;
 
-/// The place of the first seat of this identity.
-pub(crate) fn place_of<D: Disk>(seats: &[Seat<D>], own: &Ident) -> Option<usize>
-    ensures within { IfSome result (λ place. place < length seats.now) }
-    ensures some { IfSome result (λ place. IsPlace seats.now own.now place) }
-    ensures none { IfNone result (NoneOf seats.now own.now) }
+/// The place of an identity among the identities of the seats, in their order.
+pub(crate) fn place_of(names: &IndexSet<Ident>, own: &Ident) -> Option<usize>
+    ensures some { IfSome result (λ place. position (bytes_eq own.now) names.now.keys ≡ Some place) }
+    ensures none { IfNone result (position (bytes_eq own.now) names.now.keys ≡ None) }
 {
-    for place in 0..seats.len() {
-        if seats[place].own == *own {
-            return Some(place);
-        }
-    }
-    None
+    names.get_index_of(own)
 }

@@ -22,14 +22,16 @@ use crate::showing::write_shows;
 use crate::tally::{PlayResult, Tally};
 use crate::tallying::tally_of;
 use fact_book::FactBook;
+use indexmap::IndexSet;
 use scenario::{Line, Scenario};
 use std::alloc::Global;
-use x_base::Sink;
+use x_base::{Ident, Sink};
 use x_disk::Shelf;
 
 /// Plays the lines over the open disks, and writes the show lines behind them.
 fn play_scene<K: Sink, H: Shelf>(
     scene: &mut Scene<H::Disk>,
+    names: &IndexSet<Ident>,
     sink: &mut K,
     shelf: &mut H,
     alloc: Global,
@@ -37,6 +39,7 @@ fn play_scene<K: Sink, H: Shelf>(
 ) -> Result<Tally, Ending>
     requires few { length lines.now ≤ 65536 }
     requires parties { length scene.old.seats.items ≤ 64 }
+    requires named { names.now.keys ≡ owners scene.old.seats.items }
     requires seated { AreOpen scene.old.seats.items }
     requires slots { AllSlots (H.has_slot shelf.old) (owners scene.old.seats.items) }
     ensures finished { IfOk result (λ tally. Finishes H.Disk.told (H.faults shelf.old) (H.faults shelf.new) lines.now scene.old scene.new start_progress (K.written sink.old) (K.written sink.new) tally) }
@@ -50,7 +53,7 @@ fn play_scene<K: Sink, H: Shelf>(
     ensures later { H.faults shelf.old ≤ H.faults shelf.new }
     ensures climbs { K.faults sink.old ≤ K.faults sink.new }
 {
-    let now = play_lines(scene, sink, shelf, alloc, lines)?;
+    let now = play_lines(scene, names, sink, shelf, alloc, lines)?;
     let tally = tally_of(&scene.seats, &now);
     write_shows(sink, alloc, &scene.seats)?;
     Ok(tally)
@@ -59,6 +62,7 @@ fn play_scene<K: Sink, H: Shelf>(
 /// The same over the disks of parties that are set up. They are put back, whatever comes.
 fn play_seats<K: Sink, H: Shelf>(
     seats: Vec<Seat<H::Disk>>,
+    names: &IndexSet<Ident>,
     sink: &mut K,
     shelf: &mut H,
     alloc: Global,
@@ -66,6 +70,7 @@ fn play_seats<K: Sink, H: Shelf>(
 ) -> PlayResult
     requires few { length lines.now ≤ 65536 }
     requires parties { length seats.items ≤ 64 }
+    requires named { names.now.keys ≡ owners seats.items }
     requires seated { AreOpen seats.items }
     requires apart { AreApart seats.items }
     requires slots { AllSlots (H.has_slot shelf.old) (owners seats.items) }
@@ -83,7 +88,7 @@ fn play_seats<K: Sink, H: Shelf>(
         texts: Vec::new(alloc),
         facts: FactBook::new(alloc),
     };
-    let outcome = play_scene(&mut scene, sink, shelf, alloc, lines);
+    let outcome = play_scene(&mut scene, names, sink, shelf, alloc, lines);
     let Scene { seats, .. } = scene;
     let back = put_back_all(shelf, seats);
     answer_of(end_of(outcome, back))
@@ -108,7 +113,7 @@ pub fn play<K: Sink, H: Shelf>(
     ensures climbs { K.faults sink.old ≤ K.faults sink.new }
 {
     match set_up(shelf, alloc, scenario) {
-        Ok(seats) => play_seats(seats, sink, shelf, alloc, scenario.lines()),
+        Ok((seats, names)) => play_seats(seats, &names, sink, shelf, alloc, scenario.lines()),
         Err(end) => set_up_answer(end),
     }
 }

@@ -1,5 +1,6 @@
 // The state of a play: what is held of each party, the texts that were written, and the facts.
 ghost use Rattle.std.specs.Prelude.{◌≡◌, ◌<◌, ◌++◌, length, option_to_list, Err, IfOk, IfErr, OnOk};
+ghost use Rattle.replay.specs.Forging.{IsLedAt};
 ghost use Rattle.replay.specs.Breaks.{BreaksAt};
 ghost use Rattle.replay.specs.Closing.{AnyFaulty};
 ghost use Rattle.replay.specs.Scene.{authenticated, noted, IsStep};
@@ -9,7 +10,7 @@ use crate::failure::Failure;
 use crate::seat::Seat;
 use crate::seated::{Saying, tell_at};
 use fact_book::FactBook;
-use party_state::Input;
+use party_state::{Input, Lead};
 use std::alloc::Global;
 use world_laws::law_inputs;
 use x_base::{FullName, NoMemory, Text, Verdict};
@@ -65,10 +66,12 @@ pub(crate) fn tell_event<D: Disk>(
     place: usize,
     alloc: Global,
     input: Input,
+    lead: Option<Lead>,
     moment: u64,
 ) -> Result<Verdict, Failure>
     requires within { place < length scene.old.seats.items }
     requires seated { AreOpen scene.old.seats.items }
+    requires led { IsLedAt scene.old.seats.items place input lead }
     ensures step { IfOk result (λ verdict. IsStep D.told scene.old scene.new place input moment verdict) }
     ensures fault { result ≡ Err Failure.Fault → AnyFaulty D.told scene.new.seats.items }
     ensures breaks { IfErr result (λ why. BreaksAt D.told scene.old.seats.items scene.new.seats.items place input moment why) }
@@ -80,7 +83,7 @@ pub(crate) fn tell_event<D: Disk>(
         verdict,
         reply,
         under,
-    } = tell_at(&mut scene.seats, place, alloc, input, moment)?;
+    } = tell_at(&mut scene.seats, place, alloc, input, lead, moment)?;
     note(&mut scene.facts, under, &reply)?;
     put_text(&mut scene.texts, reply)?;
     Ok(verdict)

@@ -1,5 +1,6 @@
 // A party in its seat.
 ghost use Rattle.std.specs.Prelude.{◌≡◌, ◌<◌, length, Err};
+ghost use Rattle.replay.specs.Forging.{IsLedAt};
 ghost use Rattle.replay.specs.Closing.{AnyFaulty};
 ghost use Rattle.replay.specs.Seats.{AreOpen, IsLifted, IsSetDown, IsToldAt};
 
@@ -7,7 +8,7 @@ use crate::failure::Failure;
 use crate::seat::{Held, Seat};
 use crate::told::{Told, tell};
 use node_core::Node;
-use party_state::Input;
+use party_state::{Input, Lead};
 use std::alloc::Global;
 use std::mem;
 use x_base::{FullName, Text, Verdict};
@@ -47,15 +48,17 @@ pub(crate) fn tell_at<D: Disk>(
     place: usize,
     alloc: Global,
     input: Input,
+    lead: Option<Lead>,
     moment: u64,
 ) -> Result<Saying, Failure>
     requires within { place < length seats.old.items }
     requires seated { AreOpen seats.old.items }
+    requires led { IsLedAt seats.old.items place input lead }
     ensures told { IsToldAt D.told seats.old.items seats.new.items place input moment result }
     ensures fault { result ≡ Err Failure.Fault → AnyFaulty D.told seats.new.items }
 {
     let node = lift(seats, place);
-    match tell(node, alloc, input, moment) {
+    match tell(node, alloc, input, lead, moment) {
         Told::Said {
             node,
             verdict,

@@ -8,13 +8,14 @@ ghost use Rattle.scenario.specs.Rules.{may_follow};
 ghost use Rattle.replay.specs.Closing.{AllBack, AllSlots, AreApart, OtherDisksStay};
 ghost use Rattle.replay.specs.Seats.{owners};
 ghost use Rattle.replay.specs.Starts.{loads_of};
-ghost use Rattle.replay.specs.SettingUp.{new_party, parties_in, new_member, full_member, AllTell, IsSetUp, IsUnset, IsOrFails, SeatsNext, UnsetsNext, AreSetUp, IsSetUpEnd};
+ghost use Rattle.replay.specs.SettingUp.{new_party, parties_in, new_member, full_member, AllTell, IsSetUp, IsUnset, IsOrFails, SeatsNext, UnsetsNext, AreSetUp, IsSetUpEnd, NamesNext};
 
 use crate::closing::{put_back_all, put_disk};
 use crate::failure::Failure;
 use crate::making::{NewParty, SetUpEnd, Unset, make, new_party};
 use crate::seat::{Held, Seat};
 use crate::stopped::failure_of;
+use indexmap::IndexSet;
 use node_core::Node;
 use scenario::{Line, Scenario};
 use std::alloc::Global;
@@ -72,10 +73,12 @@ fn seat_next<H: Shelf>(
     lines: &[Line],
     line: &Line,
     seats: &mut Vec<Seat<H::Disk>>,
+    names: &mut IndexSet<Ident>,
 ) -> Result<(), SetUpEnd>
     requires rules { EachBehind may_follow lines.now }
     ensures seated { OnOk result (SeatsNext H.Disk.told lines.now (new_party line.now) (H.entry shelf.old) (H.entry shelf.new) (H.has_slot shelf.new) seats.old.items seats.new.items) }
     ensures unset { IfErr result (λ why. UnsetsNext lines.now (new_party line.now) (H.entry shelf.old) (H.entry shelf.new) why) }
+    ensures named { OnOk result (NamesNext (new_party line.now) names.old.keys names.new.keys) }
     ensures same { IfErr result (λ why. seats.new.items ≡ seats.old.items) }
     ensures fault { result ≡ Err (SetUpEnd.Failed Failure.Fault) → Rose (H.faults shelf.old) (H.faults shelf.new) }
     ensures slots { SlotsStay (H.has_slot shelf.old) (H.has_slot shelf.new) }
@@ -86,6 +89,10 @@ fn seat_next<H: Shelf>(
     };
     match seats.reserve(1) {
         Ok(()) => {}
+        Err(_) => return Err(SetUpEnd::Failed(Failure::NoMemory)),
+    }
+    match names.insert(party.own) {
+        Ok(_) => {}
         Err(_) => return Err(SetUpEnd::Failed(Failure::NoMemory)),
     }
     let node = make_at(shelf, alloc, lines, &party)?;
@@ -115,14 +122,15 @@ fn end_all<H: Shelf>(shelf: &mut H, seats: Vec<Seat<H::Disk>>, why: SetUpEnd) ->
     }
 }
 
-/// Sets the parties of a scenario up on their disks, with the links that its lines load. Where that fails, all disks are
-/// put back.
+/// Sets the parties of a scenario up on their disks, with the links that its lines load, and tells their identities in
+/// order. Where that fails, all disks are put back.
 pub(crate) fn set_up<H: Shelf>(
     shelf: &mut H,
     alloc: Global,
     scenario: &Scenario,
-) -> Result<Vec<Seat<H::Disk>>, SetUpEnd>
-    ensures set_up { IfOk result (λ seats. AreSetUp H.Disk.told scenario.now scenario.now (H.entry shelf.old) (H.entry shelf.new) (H.has_slot shelf.new) seats.items) }
+) -> Result<(Vec<Seat<H::Disk>>, IndexSet<Ident>), SetUpEnd>
+    ensures set_up { IfOk result (λ r. AreSetUp H.Disk.told scenario.now scenario.now (H.entry shelf.old) (H.entry shelf.new) (H.has_slot shelf.new) r.0.items) }
+    ensures named { IfOk result (λ r. r.1.keys ≡ owners r.0.items) }
     ensures ended { IfErr result (λ why. AllTell (H.entry shelf.old) (parties_in scenario.now) → IsSetUpEnd scenario.now (H.entry shelf.old) (H.entry shelf.new) why) }
     ensures others { (own : List ℕ) → (Contains (parties_in scenario.now) own → ⊥) → IsAlike (H.entry shelf.old own) (H.entry shelf.new own) }
     ensures fault { result ≡ Err (SetUpEnd.Failed Failure.Fault) → Rose (H.faults shelf.old) (H.faults shelf.new) }
@@ -130,11 +138,12 @@ pub(crate) fn set_up<H: Shelf>(
 {
     let lines = scenario.lines();
     let mut seats = Vec::new(alloc);
+    let mut names = IndexSet::new(alloc);
     for line in lines {
-        match seat_next(shelf, alloc, lines, line, &mut seats) {
+        match seat_next(shelf, alloc, lines, line, &mut seats, &mut names) {
             Ok(()) => {}
             Err(why) => return Err(end_all(shelf, seats, why)),
         }
     }
-    Ok(seats)
+    Ok((seats, names))
 }

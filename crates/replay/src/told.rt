@@ -1,12 +1,14 @@
 // A party has a turn over its open disk.
 ghost use Rattle.roles.specs.Deciding.{decision};
+ghost use Rattle.node_core.specs.Turns.{IsTurn};
 ghost use Rattle.replay.specs.Failing.{FailsTelling};
+ghost use Rattle.replay.specs.Forging.{IsLed};
 ghost use Rattle.replay.specs.Told.{IsTold};
 
 use crate::failure::Failure;
 use key_journal::Cause;
 use node_core::{Node, Turn};
-use party_state::Input;
+use party_state::{Input, Lead};
 use std::alloc::Global;
 use world_laws::law_turns;
 use x_base::{FullName, Text, Verdict};
@@ -29,13 +31,37 @@ pub(crate) enum Told<D: Disk> {
     },
 }
 
-/// The party's turn with an input.
-pub(crate) fn tell<D: Disk>(node: Node<D>, alloc: Global, input: Input, moment: u64) -> Told<D>
+/// The turn of a party whose lead of what it is told is known.
+fn turn_led<D: Disk>(
+    node: Node<D>,
+    alloc: Global,
+    input: Input,
+    lead: Option<Lead>,
+    moment: u64,
+) -> Turn<D>
+    requires { IsLed node.party input lead }
+    ensures { IsTurn D.told node (decision node.party input moment) result }
+{
+    match input {
+        Input::Ordered(command) => node.order(alloc, command, moment),
+        Input::Arrived(arrival) => node.take_led(alloc, arrival, lead, moment),
+    }
+}
+
+/// The same, told.
+pub(crate) fn tell<D: Disk>(
+    node: Node<D>,
+    alloc: Global,
+    input: Input,
+    lead: Option<Lead>,
+    moment: u64,
+) -> Told<D>
+    requires { IsLed node.party input lead }
     ensures told { IsTold D.told node (decision node.party input moment) result }
     ensures failed { FailsTelling D.told node input moment result }
 {
     law_turns::<D>();
-    match node.turn(alloc, input, moment) {
+    match turn_led(node, alloc, input, lead, moment) {
         Turn::Done { node, reply, under } => Told::Said {
             node,
             verdict: Verdict::Accept,

@@ -1,5 +1,5 @@
 // The lines of an event are written.
-ghost use Rattle.std.specs.Prelude.{◌≡◌, ◌≤◌, ◌++◌, ℕ, Err, IfOk, IfErr, OnOk, OnErr, codes, option_map, string_bytes};
+ghost use Rattle.std.specs.Prelude.{◌≡◌, ◌≤◌, ◌++◌, ℕ, Err, IfOk, IfErr, OnOk, OnErr, option_map};
 ghost use Rattle.std.specs.Fmt.{decimal};
 ghost use Rattle.x_base.specs.Edge.{Rose, AppendsTo};
 ghost use Rattle.replay.specs.Breaking.{IsBreak};
@@ -8,7 +8,8 @@ ghost use Rattle.replay.specs.Writing.{WrotePrefix};
 
 use crate::failure::{Ending, Failure};
 use crate::progress::Outcome;
-use std::alloc::{AllocError, Global};
+use itoa::Buffer;
+use std::alloc::Global;
 use x_base::{NoMemory, Sink, SinkFault, Text};
 
 /// Puts the whole text.
@@ -26,36 +27,47 @@ pub(crate) fn put_all<K: Sink>(sink: &mut K, text: &[u8]) -> Result<(), SinkFaul
     Ok(())
 }
 
-/// The line of an event.
-fn outcome_line(alloc: Global, number: u32, outcome: Outcome) -> Result<String, AllocError>
-    ensures { IfOk result (λ s. string_bytes s ≡ outcome_line number outcome) }
+/// How many bytes the lines of an event have room for from the start.
+const ROOM: usize = 256;
+
+/// Appends the decimal digits of a number.
+fn push_number(lines: &mut Text, n: u64) -> Result<(), NoMemory>
+    ensures { OnOk result (lines.new ≡ lines.old ++ decimal n) }
 {
+    let mut digits = Buffer::new();
+    lines.push(digits.format(n).as_bytes())
+}
+
+/// Appends the line of an event.
+fn push_outcome(lines: &mut Text, number: u32, outcome: Outcome) -> Result<(), NoMemory>
+    ensures { OnOk result (lines.new ≡ lines.old ++ outcome_line number outcome) }
+{
+    lines.push(b"E")?;
+    push_number(lines, number as u64)?;
     match outcome {
-        Outcome::Done => format!(in alloc; "E{number} DONE\n"),
-        Outcome::Refused(why) => format!(in alloc; "E{number} REFUSED {why}\n"),
-        Outcome::Stopped => format!(in alloc; "E{number} STOPPED\n"),
-        Outcome::Nothing => format!(in alloc; "E{number} NONE\n"),
+        Outcome::Done => lines.push(b" DONE\n"),
+        Outcome::Refused(why) => {
+            lines.push(b" REFUSED ")?;
+            push_number(lines, why as u64)?;
+            lines.push(b"\n")
+        }
+        Outcome::Stopped => lines.push(b" STOPPED\n"),
+        Outcome::Nothing => lines.push(b" NONE\n"),
     }
 }
 
-/// The number of a text, with a blank behind it.
-fn text_number(alloc: Global, k: u64) -> Result<String, AllocError>
-    ensures { IfOk result (λ s. string_bytes s ≡ codes "T" ++ (decimal k ++ codes " ")) }
-{
-    format!(in alloc; "T{k} ")
-}
-
 /// Appends the line of a text, if there is one.
-fn push_text(alloc: Global, lines: &mut Text, k: u64, text: Option<&Text>) -> Result<(), NoMemory>
+fn push_text(lines: &mut Text, k: u64, text: Option<&Text>) -> Result<(), NoMemory>
     ensures { OnOk result (lines.new ≡ lines.old ++ text_line k (option_map (λ t. t.now) text.entry)) }
 {
     let Some(text) = text else {
         return Ok(());
     };
-    lines.push(text_number(alloc, k)?.as_bytes())?;
+    lines.push(b"T")?;
+    push_number(lines, k)?;
+    lines.push(b" ")?;
     lines.push(text.bytes())?;
-    lines.push(b"\n")?;
-    Ok(())
+    lines.push(b"\n")
 }
 
 /// The lines of an event.
@@ -68,9 +80,9 @@ fn event_text(
 ) -> Result<Text, NoMemory>
     ensures { IfOk result (λ lines. lines ≡ outcome_line number outcome ++ text_line k (option_map (λ t. t.now) text.entry)) }
 {
-    let mut lines = Text::new(alloc);
-    lines.push(outcome_line(alloc, number, outcome)?.as_bytes())?;
-    push_text(alloc, &mut lines, k, text)?;
+    let mut lines = Text::with_capacity(alloc, ROOM)?;
+    push_outcome(&mut lines, number, outcome)?;
+    push_text(&mut lines, k, text)?;
     Ok(lines)
 }
 

@@ -1,16 +1,20 @@
 use Rattle.std.proofs.Common.{◌≡◌, ◌∙◌, Some, refl, sym, subst}
 use Rattle.std.proofs.lemmas.Result.{err_from_is_err_and}
-use Rattle.replay.specs.Forging.{IsJudgedAt}
+use Rattle.replay.specs.Forging.{IsLedAt, IsJudgedAt}
 use Rattle.replay.specs.Breaks.{BreaksHonest}
 use Rattle.replay.specs.declared.failure.Ending.TheVariants as ending
 use Rattle.replay.proofs.Results.{one_err}
-use Rattle.replay.proofs.Judging.{forged_there}
+use Rattle.replay.proofs.Judging.{judged_by, forged_there}
 use Rattle.replay.proofs.acting.play_input.Goals as goal
 
 pub play_honest-requires-clause-judged : goal.play_honest-requires-clause-judged
 play_honest-requires-clause-judged g c =
     subst (λ b. IsJudgedAt c.args.scene.now.seats.items c.args.place c.args.scene.now.facts c.args.input b) c.if-honest.true
-    (subst (λ l. IsJudgedAt l c.args.place c.args.scene.now.facts c.args.input c.is_honest_at-honest.result) c.deref.ensures.value c.is_honest_at-honest.ensures)
+    (judged_by c.args.scene.now.seats.items c.args.place c.args.scene.now.facts c.args.input c.lead_at-lead.result c.is_honest_led-honest.result
+    (subst (λ l. IsLedAt l c.args.place c.args.input c.lead_at-lead.result) c.deref.ensures.value c.lead_at-lead.ensures) c.is_honest_led-honest.ensures)
+
+pub play_honest-requires-clause-led : goal.play_honest-requires-clause-led
+play_honest-requires-clause-led g c = subst (λ l. IsLedAt l c.args.place c.args.input c.lead_at-lead.result) c.deref.ensures.value c.lead_at-lead.ensures
 
 pub returns-clause-forged : goal.returns-clause-forged
 returns-clause-forged g c = λ n is. (
@@ -18,7 +22,8 @@ returns-clause-forged g c = λ n is. (
   refl,
   forged_there g.H.Disk.Disk.told c.law_facts.ensures c.law_runs.ensures.test c.args.scene.now c.args.place c.args.input c.requires.within c.requires.seated
       (subst (λ b. IsJudgedAt c.args.scene.now.seats.items c.args.place c.args.scene.now.facts c.args.input b) c.if-honest.false
-      (subst (λ l. IsJudgedAt l c.args.place c.args.scene.now.facts c.args.input c.is_honest_at-honest.result) c.deref.ensures.value c.is_honest_at-honest.ensures)),
+      (judged_by c.args.scene.now.seats.items c.args.place c.args.scene.now.facts c.args.input c.lead_at-lead.result c.is_honest_led-honest.result
+      (subst (λ l. IsLedAt l c.args.place c.args.input c.lead_at-lead.result) c.deref.ensures.value c.lead_at-lead.ensures) c.is_honest_led-honest.ensures)),
 )
 
 pub returns-in_err-outcome-clause-broken : goal.returns-in_err-outcome-clause-broken

@@ -8,6 +8,9 @@ use Rattle.replay.proofs.BreakingOff.{breaks_in, others_on}
 use Rattle.replay.proofs.Leading.{plays_on, forges_in}
 use Rattle.replay.proofs.course.play_lines.Goals as goal
 
+pub play_line-requires-clause-named : goal.play_line-requires-clause-named
+play_line-requires-clause-named g c = c.requires.named ∙ sym c.playing.invariant.same
+
 pub returns-in_err-now-clause-forged : goal.returns-in_err-now-clause-forged
 returns-in_err-now-clause-forged g c = λ n is.
     let faults = g.H.Shelf.faults in

@@ -11,8 +11,8 @@ pub returns-in-Err-clause-lost : goal.returns-in-Err-clause-lost
 returns-in-Err-clause-lost g c =
     lost_memory g.D.Disk.told c.args.store c.view.ensures.stands (c.args.link ∷ []) c.args.store c.into_disk.result refl c.into_disk.ensures.disk
 
-pub keep-requires-clause-within : goal.keep-requires-clause-within
-keep-requires-clause-within g c =
+pub keep_owned-requires-clause-within : goal.keep_owned-requires-clause-within
+keep_owned-requires-clause-within g c =
     let is = c.in-Ok.ensures.appends ∙ ap (λ (es : List Edit). es ++ PutLink c.args.link ∷ []) c.new-change.ensures in
     subst (λ (es : List Edit). StaysWithinLimits es c.args.store.party) (sym is) (stays_within g.D.Disk.told c.args.store c.args.link c.view.ensures.stands.within c.requires.place)
 
@@ -28,8 +28,8 @@ returns-in-NoMemory-clause-lost g c =
     let s = c.in-NoMemory.store in
     lost_memory g.D.Disk.told c.args.store c.view.ensures.stands (c.args.link ∷ []) s c.into_disk-in-NoMemory.result (c.in-NoMemory.ensures.memory s refl) c.into_disk-in-NoMemory.ensures.disk
 
-pub returns-clause-lost : goal.returns-clause-lost
-returns-clause-lost g c =
+pub returns-in-Broken-clause-lost : goal.returns-in-Broken-clause-lost
+returns-in-Broken-clause-lost g c =
     let told = g.D.Disk.told in
     let b = c.in-Broken.broken in
     let is = c.in-Ok.ensures.appends ∙ ap (λ (es : List Edit). es ++ PutLink c.args.link ∷ []) c.new-change.ensures in

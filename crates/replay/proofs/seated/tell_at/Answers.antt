@@ -4,6 +4,11 @@ use Rattle.replay.proofs.Stepping.{told_faulty}
 use Rattle.replay.specs.declared.seat.Held.TheVariants.{Out}
 use Rattle.replay.proofs.seated.tell_at.Goals as goal
 
+pub tell-requires : goal.tell-requires
+tell-requires g c =
+    let l = c.lift-node.ensures in
+    c.requires.led l.front l.own c.lift-node.result l.back l.before l.size
+
 pub returns-in-Said-clause-told : goal.returns-in-Said-clause-told
 returns-in-Said-clause-told g c =
     let l = c.lift-node.ensures in

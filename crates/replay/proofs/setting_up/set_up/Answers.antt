@@ -1,18 +1,35 @@
-use Rattle.std.proofs.Common.{◌≡◌, ◌∙◌, List, take, Err, ⊎_elim, sym, ap, subst, arith}
+use Rattle.std.proofs.Common.{rules, ◌≡◌, ◌∙◌, List, take, Err, ⊎_elim, refl, sym, ap, subst, arith}
 use Rattle.std.specs.Prelude.{Contains}
 use Rattle.std.proofs.lemmas.List.{take_all}
 use Rattle.scenario.specs.declared.line.Line.{Line}
 use Rattle.scenario.specs.Behind.{EachBehind}
 use Rattle.scenario.specs.Rules.{may_follow}
-use Rattle.replay.specs.Closing.{AllBack, OtherDisksStay}
-use Rattle.replay.specs.SettingUp.{parties_in, AllTell, IsSetUpEnd}
+use Rattle.replay.specs.Closing.{AllBack, AllSlots, OtherDisksStay}
+use Rattle.replay.specs.Seats.{owners}
+use Rattle.replay.specs.SettingUp.{new_party, parties_in, AllTell, IsSetUpEnd}
 use Rattle.replay.specs.declared.failure.Failure.TheVariants as failure
 use Rattle.replay.specs.declared.making.SetUpEnd.TheVariants.{Failed}
 use Rattle.replay.specs.declared.seat.Seat.{Seat}
 use Rattle.replay.proofs.Halting.{halts, halts_others}
-use Rattle.replay.proofs.Joining.{set_up_more, strangers}
+use Rattle.replay.proofs.Joining.{set_up_more, strangers, names_on}
+use Rattle.replay.proofs.Owning.{slots_stay}
 use Rattle.replay.proofs.PuttingBack.{rose_on, rose_then}
 use Rattle.replay.proofs.setting_up.set_up.Goals as goal
+
+pub loop-line-init : goal.loop-line-init
+loop-line-init g c = record {
+  set_up = rw c.new-seats.ensures.items (search rules);
+  named = rw (c.new-seats.ensures.items, c.new-names.ensures.empty) refl;
+  later = omega arith;
+}
+
+pub seat_next-requires : goal.seat_next-requires
+seat_next-requires g c = record { rules = subst (λ (ls : List Line). EachBehind may_follow ls) (sym c.lines-lines.ensures.lines) c.lines-lines.ensures.rules }
+
+pub end_all-requires-clause-slots : goal.end_all-requires-clause-slots
+end_all-requires-clause-slots g c =
+    subst (λ (l : List (Seat _)). AllSlots (g.H.Shelf.has_slot c.seat_next.new.shelf) (owners l)) (sym c.in-Err.ensures.same)
+    (slots_stay (g.H.Shelf.has_slot c.loop-line.shelf) (g.H.Shelf.has_slot c.seat_next.new.shelf) (owners c.loop-line.seats.items) c.in-Err.ensures.slots c.loop-line.invariant.set_up.slots)
 
 pub loop-line-preserved : goal.loop-line-preserved
 loop-line-preserved g c =
@@ -21,9 +38,12 @@ loop-line-preserved g c =
     let slot = g.H.Shelf.has_slot in
     let lines = c.lines-lines.result.now in
     let rules = subst (λ (ls : List Line). EachBehind may_follow ls) (sym c.lines-lines.ensures.lines) c.lines-lines.ensures.rules in
+    let more = set_up_more told lines (entry c.args.shelf.now) (entry c.loop-line.shelf) (slot c.loop-line.shelf) c.loop-line.seats.items rules c.loop-line.line-index c.line-item.result c.loop-line-test.true c.line-item.is
+    c.loop-line.invariant.set_up (entry c.seat_next.new.shelf) (slot c.seat_next.new.shelf) c.in-Ok.ensures.slots c.seat_next.new.seats.items c.in-Ok.ensures.seated in
     record {
-      set_up = set_up_more told lines (entry c.args.shelf.now) (entry c.loop-line.shelf) (slot c.loop-line.shelf) c.loop-line.seats.items rules c.loop-line.line-index c.line-item.result c.loop-line-test.true c.line-item.is
-          c.loop-line.invariant.set_up (entry c.seat_next.new.shelf) (slot c.seat_next.new.shelf) c.in-Ok.ensures.slots c.seat_next.new.seats.items c.in-Ok.ensures.seated;
+      set_up = more;
+      named = names_on told lines (new_party c.line-item.result) (entry c.loop-line.shelf) (entry c.seat_next.new.shelf) (slot c.seat_next.new.shelf) c.loop-line.seats.items c.seat_next.new.seats.items c.loop-line.names.keys c.seat_next.new.names.keys
+          c.in-Ok.ensures.seated more.apart c.loop-line.invariant.named c.in-Ok.ensures.named;
       later = omega (arith, c.loop-line.invariant.later, c.in-Ok.ensures.later);
     }
 

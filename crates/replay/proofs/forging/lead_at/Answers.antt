@@ -2,8 +2,8 @@ use Rattle.std.proofs.Common.{get_or, ◌∙◌, ap, subst}
 use Rattle.replay.specs.Seats.{IsOpen}
 use Rattle.replay.specs.declared.seat.Seat.{Seat}
 use Rattle.replay.proofs.Seating.{is_in, not_open}
-use Rattle.replay.proofs.Judging.{judges_at}
-use Rattle.replay.proofs.forging.is_honest_at.Goals as goal
+use Rattle.replay.proofs.Judging.{leads_at}
+use Rattle.replay.proofs.forging.lead_at.Goals as goal
 
 pub unreachable-requires : goal.unreachable-requires
 unreachable-requires g c =
@@ -14,5 +14,5 @@ unreachable-requires g c =
 pub returns : goal.returns
 returns g c =
     let s = c.index-seats-place.result in
-    judges_at c.args.seats.now c.args.place s c.in-Open.node c.args.facts.now c.args.input.now c.is_honest.result c.index-seats-place.is
-    (ap (λ (x : Seat _). x.held) c.index-seats-place.is ∙ c.in-Open.is) c.is_honest.ensures
+    leads_at c.args.seats.now c.args.place s c.in-Open.node c.args.input.now c.lead_of.result c.index-seats-place.is
+    (ap (λ (x : Seat _). x.held) c.index-seats-place.is ∙ c.in-Open.is) c.lead_of.ensures
