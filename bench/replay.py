@@ -2,9 +2,10 @@
 """Times the playing of scenarios: over disks in memory by the built program replay_cases, and over files by x917, in
 folders in memory and on a disk.
 
-In memory a scenario is played 1 and 6 times by one process; what is told is the difference of the least of five runs in
-processor time, so that other work on the machine counts little. Over files it is the least of three runs by the clock.
-Each time all events have to be done. replay.py [REPLAY_CASES [X917]]; the folder on a disk is one of TMPDIR's."""
+In memory a scenario is played 1 and 6 times by one process; what is told is a fifth of the difference of the least of five
+runs in processor time, so that other work on the machine counts little; and the same of reading it alone. Over files it is
+the least of three runs by the clock. Each time all events have to be done. replay.py [REPLAY_CASES [X917]]; the folder on a
+disk is one of TMPDIR's."""
 import os
 import subprocess
 import sys
@@ -32,32 +33,34 @@ def cut(lines, most):
     return "".join(line + "\n" for line in lines[:most])
 
 
-def keys_that_end(most):
-    """Two banks: a key is sent, answered, ended and answered; 1,000 records stand before they are purged."""
-    lines = [party("BANKA", 0), party("BANKB", 1), f"LINK BANKA BANKB K1 {pair(2)}"]
+def banks(number):
+    """So many banks with names of one length, each with its neighbour."""
+    names = [f"BNK{i:02}" for i in range(number)]
+    lines = [party(name, i) for i, name in enumerate(names)]
+    return names, lines + [f"LINK {names[i]} {names[i + 1]} K1 {pair(100 + i)}" for i in range(0, number, 2)]
+
+
+def keys_that_end(number, events):
+    """Banks, pair by pair in turns: a key is sent, answered, ended and answered; 1,000 records stand before they are purged."""
+    names, lines = banks(number)
+    most = len(lines) + events
     count = 0
     while len(lines) < most:
         count += 1
-        lines += ["START BANKA BANKB", "RECENT 1", "RECENT 1", f"END BANKA BANKB BANKA.BANKA.K1.{count}", "RECENT 1", "RECENT 1"]
+        for one, other in zip(names[::2], names[1::2]):
+            lines += [f"START {one} {other}", "RECENT 1", "RECENT 1", f"END {one} {other} {one}.{one}.K1.{count}", "RECENT 1", "RECENT 1"]
         if count % 1000 == 0:
-            lines += ["PURGE BANKA", "PURGE BANKB"]
+            lines += [f"PURGE {name}" for name in names]
     return cut(lines, most)
 
 
-def keys_that_stay():
-    """Two banks: 1,000 keys are sent and answered, and stay."""
-    lines = [party("BANKA", 0), party("BANKB", 1), f"LINK BANKA BANKB K1 {pair(2)}"]
-    return cut(lines + ["START BANKA BANKB", "RECENT 1", "RECENT 1"] * 1000, 10000)
-
-
-def many_banks(most):
-    """64 banks, two by two, each pair in its turn."""
-    names = [f"BANK{number:02}" for number in range(64)]
-    lines = [party(name, number) for number, name in enumerate(names)]
-    lines += [f"LINK {names[i]} {names[i + 1]} K1 {pair(100 + i)}" for i in range(0, 64, 2)]
+def keys_that_stay(number, events):
+    """Banks, pair by pair in turns: keys are sent and answered, and stay, at most 1,000 of a pair."""
+    names, lines = banks(number)
+    most = len(lines) + events
     while len(lines) < most:
-        for i in range(0, 64, 2):
-            lines += [f"START {names[i]} {names[i + 1]}", "RECENT 1", "RECENT 1"]
+        for one, other in zip(names[::2], names[1::2]):
+            lines += [f"START {one} {other}", "RECENT 1", "RECENT 1"]
     return cut(lines, most)
 
 
@@ -79,10 +82,13 @@ def events_of(text):
     return sum(not line.startswith(("PARTY", "LINK")) for line in text.splitlines())
 
 
-def in_memory(text):
+def is_done(end, events):
+    return end.startswith(b"done ") and end.split()[1:4] == [b"%d" % events, b"%d" % events, b"0"]
+
+
+def in_memory(text, is_right):
     """The seconds of one play, by processor time."""
     order = f"scenario {len(text)}\n{text}".encode()
-    events = events_of(text)
     least = {}
     for times in 1, 1 + TIMES:
         least[times] = float("inf")
@@ -93,11 +99,22 @@ def in_memory(text):
                 child = subprocess.Popen([CASES], stdin=source, stdout=sink)
                 _, status, used = os.wait4(child.pid, 0)
                 sink.seek(0)
-                ends = [line for line in sink if line.startswith(b"done ")]
-                if status != 0 or len(ends) != times or any(end.split()[1:4] != [b"%d" % events, b"%d" % events, b"0"] for end in ends):
-                    sys.exit(f"not all {events} events are done: {ends[:1]}")
+                ends = [line for line in sink if line.startswith((b"done ", b"bad line "))]
+                if status != 0 or len(ends) != times or not all(map(is_right, ends)):
+                    sys.exit(f"another end than wanted: {ends[:1]}")
                 least[times] = min(least[times], used.ru_utime + used.ru_stime)
     return (least[1 + TIMES] - least[1]) / TIMES
+
+
+def in_memory_told(text):
+    """The play with its reading, the reading, by a text whose last line is bad, and the play alone."""
+    events = events_of(text)
+    whole = in_memory(text, lambda end: is_done(end, events))
+    bad = b"bad line %d\n" % (len(text.splitlines()) + 1)
+    reading = in_memory(text + "?\n", lambda end: end == bad)
+    told("in memory", text, whole)
+    told("the reading of it", text, reading)
+    told("the play of it", text, whole - reading)
 
 
 def over_files(text, folder):
@@ -120,16 +137,17 @@ def told(where, text, seconds):
 
 
 SCENARIOS = [
-    ("two banks, keys that stay", keys_that_stay()),
-    ("two banks, 20,000 lines", keys_that_end(20000)),
-    ("two banks, 65,536 lines", keys_that_end(65536)),
-    ("64 banks, 20,000 lines", many_banks(20000)),
-    ("64 banks, 65,536 lines", many_banks(65536)),
-    ("two centres, 20,000 lines", centres(20000)),
+    ("two banks, keys sent and ended", keys_that_end(2, 20000)),
+    ("64 banks, keys sent and ended", keys_that_end(64, 20000)),
+    ("two banks, keys sent and ended, 65,536 lines", keys_that_end(2, 65533)),
+    ("64 banks, keys sent and ended, 65,536 lines", keys_that_end(64, 65440)),
+    ("two banks, keys that stay", keys_that_stay(2, 3000)),
+    ("64 banks, keys that stay", keys_that_stay(64, 3000)),
+    ("two banks and two centres", centres(20000)),
 ]
 for name, text in SCENARIOS:
     print(f"{name}: {events_of(text)} events")
-    told("in memory", text, in_memory(text))
+    in_memory_told(text)
     if os.path.exists(X917):
         if os.path.isdir("/dev/shm"):
             told("files in /dev/shm", text, over_files(text, "/dev/shm"))
