@@ -11,7 +11,7 @@ awk '
     }
     FILENAME == "OPERATOR.md" {
         if (/^## /) inside = /^## The refusals$/
-        if (inside && /^\| [0-9]/) { split($0, cell, / *\| */); page = page ".TP\n.B " line(cell[2]) "\n" line(cell[4]) "\n" }
+        if (inside && /^\| [0-9]/) { split($0, cell, / *\| */); page = page ".IP \"\\fB" line(cell[2]) "\\fR\"\n" line(cell[3]) "\n" }
         next
     }
     /^\.SH / { replaced = /^\.SH REFUSALS$/; if (replaced) printf "%s\n%s", $0, page }
