@@ -1,6 +1,7 @@
 // Up to sixteen bytes, copied by value.
 ghost use Rattle.std.specs.Prelude.{◌≡◌, ◌≤◌, ◌∷◌, [], nat_eq, length};
 ghost use Rattle.x_base.specs.Hashing.{equal_bytes_hash_alike};
+ghost use Rattle.x_base.specs.Padded.{filled};
 ghost use Rattle.std.specs.Cmp.{partial_equiv_from_equiv};
 ghost use Rattle.std.specs.Cmp.Lexicographic.{pointwise, nat_list_eq_equiv};
 
@@ -45,14 +46,14 @@ impl Eq for Padded {
     ghost laws = { nat_list_eq_equiv };
 }
 
-// One write of the bytes in use.
+// One write of all sixteen bytes: at a fixed length it costs less than at that of the bytes in use.
 impl Hash for Padded {
-    ghost hash_input = { λ bytes. bytes ∷ [] };
+    ghost hash_input = { λ bytes. filled bytes ∷ [] };
 
     ghost respects_eq = { equal_bytes_hash_alike };
 
     fn hash<H: Hasher>(&self, state: &mut H) {
-        state.write(self.bytes());
+        state.write(&self.bytes);
     }
 }
 
