@@ -36,12 +36,15 @@ written_spells name i o l c = record {
   text = refl;
 }
 
-name_short : (low : ℕ) (bytes : List ℕ) → IsTrue (is_name low 16 bytes) → length bytes ≤ 16
+pub name_short : (low : ℕ) (bytes : List ℕ) → IsTrue (is_name low 16 bytes) → length bytes ≤ 16
 name_short low bytes h = grind arith
+
+pub digits_short : (n : ℕ) → IsCount n → length (decimal n) ≤ 14
+digits_short n c = (count_spelled n c).short
 
 pub written_short : (name : KeyName) → IsIdent name.issuer → IsIdent name.originator → IsLabel name.label → IsCount name.count → length (written name) ≤ 65
 written_short name i o l c =
-    let digits : length (decimal name.count) ≤ 14 = (count_spelled name.count c).short in
+    let digits : length (decimal name.count) ≤ 14 = digits_short name.count c in
     let issuer : length name.issuer ≤ 16 = name_short 4 name.issuer i in
     let originator : length name.originator ≤ 16 = name_short 4 name.originator o in
     let label : length name.label ≤ 16 = name_short 1 name.label l in

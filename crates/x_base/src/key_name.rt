@@ -1,4 +1,4 @@
-ghost use Rattle.std.specs.Prelude.{◌≡◌, ◌≢◌, ◌≤◌, ◌↔◌, ◌++◌, ◌∷◌, [], length, ◌==◌, Ok, Err, IfOk, OnOk, OnErr};
+ghost use Rattle.std.specs.Prelude.{◌≡◌, ◌≢◌, ◌≤◌, ◌↔◌, ◌++◌, ◌∷◌, [], length, ◌==◌, Ok, Err, OnOk, OnErr};
 ghost use Rattle.std.specs.List.{join_with_byte, position};
 ghost use Rattle.std.specs.Option.{MatchOption};
 ghost use Rattle.std.specs.Result.{MatchResult};
@@ -7,13 +7,10 @@ ghost use Rattle.x_base.specs.KeyName.{parts_of};
 use crate::count::{BadCount, Count};
 use crate::ident::{BadIdent, Ident};
 use crate::label::{BadLabel, Label};
+use crate::row::Row;
 use crate::text::{NoMemory, Text};
 use itoa::Buffer;
-use std::alloc::Global;
 use thiserror::Error;
-
-/// The most bytes of a written name.
-const LONGEST_WRITTEN: usize = 65;
 
 /// What is wrong with the first bad part of a key name.
 #[derive(Clone, Copy, Debug, PartialEq, Eq, Error)]
@@ -110,14 +107,6 @@ fn four_parts(bytes: &[u8]) -> Option<(&[u8], &[u8], &[u8], &[u8])>
     }
 }
 
-/// Appends a part and the period behind it.
-fn push_part(text: &mut Text, part: &[u8]) -> Result<(), NoMemory>
-    ensures { OnOk result (text.new ≡ text.old ++ part.now ++ 46 ∷ []) }
-{
-    text.push(part)?;
-    text.push(b".")
-}
-
 impl KeyName {
     ghost use Rattle.x_base.specs.declared.key_name.KeyName.{KeyName};
     ghost use Rattle.x_base.specs.declared.key_name.NameFault.{NameFault};
@@ -160,14 +149,13 @@ impl KeyName {
         ensures short { length (written self.now) ≤ 65 }
         ensures reads_back { NameOf (written self.now) self.now }
     {
-        let text = self.text(out.alloc())?;
-        out.push(text.bytes())
+        out.push(self.row().bytes())
     }
 
     /// The written form.
     #[tactic(auto, using(crate::proofs::Naming::written_short, crate::proofs::Naming::written_spells))]
-    fn text(&self, alloc: Global) -> Result<Text, NoMemory>
-        ensures text { IfOk result (λ text. text ≡ written self.now) }
+    fn row(&self) -> Row
+        ensures row { result ≡ written self.now }
         ensures short { length (written self.now) ≤ 65 }
         ensures reads_back { NameOf (written self.now) self.now }
     {
@@ -176,11 +164,11 @@ impl KeyName {
         let label = self.label.bytes();
         let count = self.count.value();
         let mut digits = Buffer::new();
-        let mut text = Text::with_capacity(alloc, LONGEST_WRITTEN)?;
-        push_part(&mut text, issuer)?;
-        push_part(&mut text, originator)?;
-        push_part(&mut text, label)?;
-        text.push(digits.format(count).as_bytes())?;
-        Ok(text)
+        let mut row = Row::new();
+        row.put_part(issuer);
+        row.put_part(originator);
+        row.put_part(label);
+        row.put(digits.format(count).as_bytes());
+        row
     }
 }

@@ -9,6 +9,7 @@ mod label;
 mod names;
 mod padded;
 mod party;
+mod row;
 mod sink;
 mod source;
 mod text;

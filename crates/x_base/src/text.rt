@@ -22,7 +22,6 @@ impl From<AllocError> for NoMemory {
 /// A growing list of bytes.
 #[derive(Debug, Drop)]
 pub struct Text {
-    alloc: Global,
     bytes: Vec<u8>,
 }
 
@@ -54,7 +53,6 @@ impl Text {
         ensures { result ≡ [] }
     {
         Text {
-            alloc,
             bytes: Vec::new(alloc),
         }
     }
@@ -64,7 +62,7 @@ impl Text {
         ensures empty { IfOk result (λ text. text ≡ []) }
     {
         let bytes = Vec::with_capacity(alloc, bytes)?;
-        Ok(Text { alloc, bytes })
+        Ok(Text { bytes })
     }
 
     /// Appends the bytes.
@@ -96,11 +94,6 @@ impl Text {
         ensures { IfOk result (λ copy. copy ≡ self.now) }
     {
         let bytes = Vec::from_slice(alloc, self.bytes.as_slice())?;
-        Ok(Text { alloc, bytes })
-    }
-
-    /// The allocator from which the text grows.
-    pub(crate) fn alloc(&self) -> Global {
-        self.alloc
+        Ok(Text { bytes })
     }
 }
