@@ -60,6 +60,14 @@ impl Ident {
         })
     }
 
+    /// The bytes, and what fills them up.
+    pub(crate) fn padded(&self) -> &Padded
+        ensures value { result.now ≡ self.now }
+        ensures ident { IsIdent self.now }
+    {
+        &self.name
+    }
+
     /// The bytes of the identity.
     pub fn bytes(&self) -> &[u8]
         ensures value { result.now ≡ self.now }

@@ -149,26 +149,24 @@ impl KeyName {
         ensures short { length (written self.now) ≤ 65 }
         ensures reads_back { NameOf (written self.now) self.now }
     {
-        out.push(self.row().bytes())
+        let mut row = Row::new();
+        self.put_into(&mut row);
+        out.push(row.bytes())
     }
 
-    /// The written form.
+    /// Puts the written form into an empty row.
     #[tactic(auto, using(crate::proofs::Naming::written_short, crate::proofs::Naming::written_spells))]
-    fn row(&self) -> Row
-        ensures row { result ≡ written self.now }
+    fn put_into(&self, row: &mut Row)
+        requires empty { row.old ≡ [] }
+        ensures row { row.new ≡ written self.now }
         ensures short { length (written self.now) ≤ 65 }
         ensures reads_back { NameOf (written self.now) self.now }
     {
-        let issuer = self.issuer.bytes();
-        let originator = self.originator.bytes();
-        let label = self.label.bytes();
         let count = self.count.value();
         let mut digits = Buffer::new();
-        let mut row = Row::new();
-        row.put_part(issuer);
-        row.put_part(originator);
-        row.put_part(label);
+        row.put_part(self.issuer.padded());
+        row.put_part(self.originator.padded());
+        row.put_part(self.label.padded());
         row.put(digits.format(count).as_bytes());
-        row
     }
 }

@@ -45,6 +45,14 @@ impl Label {
         })
     }
 
+    /// The bytes, and what fills them up.
+    pub(crate) fn padded(&self) -> &Padded
+        ensures value { result.now ≡ self.now }
+        ensures label { IsLabel self.now }
+    {
+        &self.name
+    }
+
     /// The bytes of the label.
     pub fn bytes(&self) -> &[u8]
         ensures value { result.now ≡ self.now }

@@ -78,4 +78,19 @@ impl Padded {
     {
         &self.bytes[..self.len as usize]
     }
+
+    /// How many bytes there are without the filling.
+    pub(crate) fn len(&self) -> usize
+        ensures value { result ≡ length self.now }
+        ensures short { result ≤ 16 }
+    {
+        self.len as usize
+    }
+
+    /// All sixteen bytes.
+    pub(crate) fn filled(&self) -> &[u8; LONGEST]
+        ensures { result.now ≡ filled self.now }
+    {
+        &self.bytes
+    }
 }

@@ -1,6 +1,8 @@
 // The written form of a name, put together before it goes into a text.
 ghost use Rattle.std.specs.Prelude.{◌≡◌, ◌≤◌, ◌<◌, ◌+◌, ◌++◌, ◌∷◌, [], length};
 
+use crate::names::LONGEST;
+use crate::padded::Padded;
 use std::marker::Model;
 
 /// How many bytes a row holds: those of the longest written name.
@@ -44,14 +46,17 @@ impl Row {
         self.len = end;
     }
 
-    /// Appends a part and the period behind it.
-    pub(crate) fn put_part(&mut self, part: &[u8])
-        requires { length self.old + length part.now < 65 }
+    /// Appends a part and the period behind it. All sixteen bytes are copied, a length that the
+    /// compiler knows, and what comes next overwrites the filling.
+    pub(crate) fn put_part(&mut self, part: &Padded)
+        requires { length self.old + 16 < 65 }
         ensures appends { self.new ≡ self.old ++ part.now ++ 46 ∷ [] }
-        ensures grown { length self.new ≡ length self.old + length part.now + 1 }
+        ensures grown { length self.new ≤ length self.old + 17 }
     {
-        self.put(part);
-        self.put(b".");
+        let end = self.len + part.len();
+        self.bytes[self.len..self.len + LONGEST].copy_from_slice(part.filled());
+        self.bytes[end] = b'.';
+        self.len = end + 1;
     }
 
     /// The bytes.
