@@ -36,7 +36,7 @@ written_spells name i o l c = record {
   text = refl;
 }
 
-pub name_short : (low : ℕ) (bytes : List ℕ) → IsTrue (is_name low 16 bytes) → length bytes ≤ 16
+name_short : (low : ℕ) (bytes : List ℕ) → IsTrue (is_name low 16 bytes) → length bytes ≤ 16
 name_short low bytes h = grind arith
 
 pub digits_short : (n : ℕ) → IsCount n → length (decimal n) ≤ 14
