@@ -1,5 +1,5 @@
 // Up to sixteen bytes, copied by value.
-ghost use Rattle.std.specs.Prelude.{◌≡◌, ◌≤◌, ◌∷◌, [], nat_eq, length};
+ghost use Rattle.std.specs.Prelude.{◌≡◌, ◌≤◌, ◌↔◌, ◌∷◌, [], nat_eq, length, IsTrue};
 ghost use Rattle.x_base.specs.Hashing.{equal_bytes_hash_alike};
 ghost use Rattle.x_base.specs.Padded.{filled};
 ghost use Rattle.std.specs.Cmp.{partial_equiv_from_equiv};
@@ -32,13 +32,24 @@ impl Model for Padded {
     ghost inverse_ok = { padded-bytes_of };
 }
 
+/// Whether the sixteen bytes are the same. Without a branch in it, the loop becomes one comparison.
+fn are_same(these: &[u8; LONGEST], others: &[u8; LONGEST]) -> bool
+    ensures { IsTrue result ↔ (these.now ≡ others.now) }
+{
+    let mut same = true;
+    for i in 0..LONGEST {
+        same = same & (these[i] == others[i]);
+    }
+    same
+}
+
 impl PartialEq for Padded {
     ghost eq = { pointwise nat_eq };
 
     ghost laws = { partial_equiv_from_equiv nat_list_eq_equiv };
 
     fn eq(&self, other: &Padded) -> bool {
-        self.len == other.len && self.bytes == other.bytes
+        self.len == other.len && are_same(&self.bytes, &other.bytes)
     }
 }
 
