@@ -1,24 +1,8 @@
 -- Bytes that are written over, copied and torn.
-use Rattle.std.proofs.Common.{◌≡◌, ℕ, suc, ◌+◌, ◌-◌, ◌<◌, List, [], ◌∷◌, ◌++◌, length, get_or, set, take, drop, replicate, sym, ◌∙◌, ap, arith, append_assoc, length-append, length-drop}
-use Rattle.std.proofs.lemmas.List.{take_all, drop_all, append-nil, length-take-le, length-take, length-replicate, ext_get_or, places, take_more, drop_more, get_or_at, set_at}
-use Rattle.x_disk.specs.Disk.{overwrite}
+use Rattle.std.proofs.Common.{◌≡◌, ℕ, suc, ◌+◌, ◌<◌, List, [], ◌∷◌, ◌++◌, length, get_or, set, take, drop, sym, ◌∙◌, ap, arith, append_assoc}
+use Rattle.std.proofs.lemmas.List.{length-take-le, take_more, drop_more, get_or_at, set_at}
 use Rattle.x_disk.specs.History.{torn_from, torn_or}
 use Rattle.x_disk.specs.HistoryLaw.{length-torn_from}
-
-pub filled_up : (at : ℕ) (new old : List ℕ)
-    → take at (old ++ replicate (at + length new - length old) 0) ++ new ++ drop (at + length new) (old ++ replicate (at + length new - length old) 0) ≡ overwrite at new old
-filled_up at new old =
-    let front : take at (old ++ replicate (at + length new - length old) 0) ≡ take at (old ++ replicate (at - length old) 0) =
-    ext_get_or 0 (take at (old ++ replicate (at + length new - length old) 0)) (take at (old ++ replicate (at - length old) 0)) (simp (length-take, length-append, length-replicate) (omega arith)) (λ i lt. elements i lt) in
-    let back : drop (at + length new) (old ++ replicate (at + length new - length old) 0) ≡ drop (at + length new) old =
-    ext_get_or 0 (drop (at + length new) (old ++ replicate (at + length new - length old) 0)) (drop (at + length new) old) (simp (length-drop, length-append, length-replicate) (omega arith)) (λ i lt. behind i lt) in
-    ap (λ (l : List ℕ). l ++ new ++ drop (at + length new) (old ++ replicate (at + length new - length old) 0)) front ∙ ap (λ (l : List ℕ). take at (old ++ replicate (at - length old) 0) ++ new ++ l) back
-  where
-    elements : (i : ℕ) → i < length (take at (old ++ replicate (at + length new - length old) 0)) → get_or (take at (old ++ replicate (at + length new - length old) 0)) i 0 ≡ get_or (take at (old ++ replicate (at - length old) 0)) i 0
-    elements i lt = grind (arith, places)
-
-    behind : (i : ℕ) → i < length (drop (at + length new) (old ++ replicate (at + length new - length old) 0)) → get_or (drop (at + length new) (old ++ replicate (at + length new - length old) 0)) i 0 ≡ get_or (drop (at + length new) old) i 0
-    behind i lt = grind (arith, places)
 
 torn_from-push : (choice : ℕ) (ranges : List (ℕ × ℕ)) (n q : ℕ) (xs : List ℕ) (x p : ℕ) → p ≡ q + length xs → torn_from choice ranges n q (xs ++ x ∷ []) ≡ torn_from choice ranges n q xs ++ torn_or choice ranges n p x ∷ []
 torn_from-push choice ranges n q [] x p is = let same : p ≡ q = omega (arith, is) in ap (λ (k : ℕ). torn_or choice ranges n k x ∷ []) (sym same)
@@ -37,7 +21,3 @@ tear_more choice ranges n init image p y old lt is read gives =
     ap (λ (l : List ℕ). torn_from choice ranges n 0 l) (take_more init p 0 lt) ∙ torn_from-push choice ranges n 0 (take p init) d p (omega (arith, length-take-le p init (omega (arith, lt)))) in
     ap (λ (l : List ℕ). set l p y) all ∙ set_at front d (drop (p + 1) init) y p size ∙ ap (λ (x : ℕ). front ++ x ∷ drop (p + 1) init) y_is
     ∙ sym (ap (λ (l : List ℕ). l ++ drop (p + 1) init) grown ∙ append_assoc front (torn_or choice ranges n p d ∷ []) (drop (p + 1) init))
-
-pub whole : (n : ℕ) (xs ys : List ℕ) → n ≡ length xs → length xs ≡ length ys → take n (xs ++ drop (length xs) ys) ≡ xs
-whole n xs ys is same =
-    ap (λ (l : List ℕ). take n (xs ++ l)) (drop_all (length xs) ys (omega (arith, same))) ∙ ap (λ (l : List ℕ). take n l) (append-nil xs) ∙ take_all n xs (omega (arith, is))

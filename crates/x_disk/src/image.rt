@@ -1,5 +1,5 @@
 // The bytes of a disk in memory: how they are written over, copied and torn.
-ghost use Rattle.std.specs.Prelude.{◌≡◌, ◌+◌, ◌≤◌, ◌-◌, ◌++◌, max, length, take, drop, replicate, OnOk, OnErr, IsOk};
+ghost use Rattle.std.specs.Prelude.{◌≡◌, ◌+◌, ◌<◌, ◌≤◌, ◌-◌, ◌++◌, max, length, take, drop, replicate, OnOk, OnErr, IsOk};
 ghost use Rattle.std.specs.Vec.{vec_capacity};
 ghost use Rattle.x_disk.specs.Disk.{overwrite, disk_size};
 ghost use Rattle.x_disk.specs.History.{State, covers_place, torn_byte, torn_or, torn_from, left_by};
@@ -8,15 +8,18 @@ ghost use Rattle.x_disk.specs.Record.{ranges_of};
 use crate::disk_record::Entry;
 use std::alloc::AllocError;
 
-// Fills it up with zeros to this length, if it is shorter.
-fn fill_up(bytes: &mut Vec<u8>, len: usize) -> Result<(), AllocError>
-    ensures ok { OnOk result (bytes.new.items ≡ bytes.old.items ++ replicate (len - length bytes.old.items) 0) }
+// Fills a gap before this place with zeros, and reserves memory for so many bytes behind it.
+fn fill_gap(bytes: &mut Vec<u8>, at: usize, more: usize) -> Result<(), AllocError>
+    requires { at + more ≤ disk_size }
+    ensures ok { OnOk result (bytes.new.items ≡ bytes.old.items ++ replicate (at - length bytes.old.items) 0) }
+    ensures room { OnOk result (length bytes.old.items < at → at + more ≤ vec_capacity bytes.new) }
     ensures err { OnErr result (bytes.new.items ≡ bytes.old.items) }
     ensures capacity { vec_capacity bytes.old ≤ vec_capacity bytes.new }
-    ensures succeeds { max (length bytes.old.items) len ≤ vec_capacity bytes.old → IsOk result }
+    ensures succeeds { max (length bytes.old.items) (at + more) ≤ vec_capacity bytes.old → IsOk result }
 {
-    if bytes.len() < len {
-        bytes.resize(len, 0)?;
+    if bytes.len() < at {
+        bytes.reserve(at + more - bytes.len())?;
+        bytes.resize(at, 0)?;
     }
     Ok(())
 }
@@ -29,6 +32,20 @@ fn paste(bytes: &mut [u8], at: usize, new: &[u8])
     bytes[at..at + new.len()].copy_from_slice(new);
 }
 
+// Writes over what is there from this place on, and appends the rest.
+fn paste_across(bytes: &mut Vec<u8>, at: usize, new: &[u8]) -> Result<(), AllocError>
+    requires { at ≤ length bytes.old.items }
+    ensures ok { OnOk result (bytes.new.items ≡ take at bytes.old.items ++ new.now ++ drop (at + length new.now) bytes.old.items) }
+    ensures err { OnErr result (bytes.new.items ≡ bytes.old.items) }
+    ensures capacity { vec_capacity bytes.old ≤ vec_capacity bytes.new }
+    ensures succeeds { max (length bytes.old.items) (at + length new.now) ≤ vec_capacity bytes.old → IsOk result }
+{
+    let (over, behind) = new.split_at(new.len().min(bytes.len() - at));
+    bytes.extend_from_slice(behind)?;
+    paste(bytes, at, over);
+    Ok(())
+}
+
 /// Writes over what is there and past the end.
 pub(crate) fn write_over(bytes: &mut Vec<u8>, at: usize, new: &[u8]) -> Result<(), AllocError>
     requires { at + length new.now ≤ disk_size }
@@ -37,9 +54,8 @@ pub(crate) fn write_over(bytes: &mut Vec<u8>, at: usize, new: &[u8]) -> Result<(
     ensures capacity { vec_capacity bytes.old ≤ vec_capacity bytes.new }
     ensures succeeds { max (length bytes.old.items) (at + length new.now) ≤ vec_capacity bytes.old → IsOk result }
 {
-    fill_up(bytes, at + new.len())?;
-    paste(bytes, at, new);
-    Ok(())
+    fill_gap(bytes, at, new.len())?;
+    paste_across(bytes, at, new)
 }
 
 /// Makes it equal to bytes with which it agrees below this place.
@@ -52,8 +68,8 @@ pub(crate) fn copy_from(to: &mut Vec<u8>, from: &[u8], place: usize) -> Result<(
     ensures capacity { vec_capacity to.old ≤ vec_capacity to.new }
     ensures succeeds { length from.now ≤ vec_capacity to.old → IsOk result }
 {
-    to.resize(from.len(), 0)?;
-    paste(to, place, &from[place..]);
+    paste_across(to, place, &from[place..])?;
+    to.truncate(from.len());
     Ok(())
 }
 
