@@ -156,7 +156,11 @@ impl Feed {
     {
         let (_, behind) = self.held.as_slice().split_at(len);
         let gone = len + leading_separators(behind);
-        self.held.drain(..gone);
+        if gone < self.held.len() {
+            self.held.drain(..gone);
+        } else {
+            self.held.clear();
+        }
         self.unended = 0;
         self.before += gone as u64;
     }

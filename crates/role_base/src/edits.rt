@@ -16,10 +16,13 @@ pub fn list_of<const N: usize>(alloc: Global, edits: [Edit; N]) -> Result<Vec<Ed
     }
 }
 
-/// The edits of the two lists, one after the other.
+/// The edits of the two lists, one after the other. An empty one takes no memory.
 pub fn joined(mut front: Vec<Edit>, mut back: Vec<Edit>) -> Result<Vec<Edit>, NoMemory>
     ensures { IfOk result (λ edits. edits.items ≡ front.items ++ back.items) }
 {
+    if front.is_empty() {
+        return Ok(back);
+    }
     front.append(&mut back)?;
     Ok(front)
 }
