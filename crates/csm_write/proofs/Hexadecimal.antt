@@ -1,18 +1,29 @@
 -- Upper-case hexadecimal digits write the number.
-use Rattle.std.proofs.Common.{◌≡◌, ℕ, zero, suc, ◌+◌, ◌*◌, ◌/◌, ◌%◌, ◌^◌, ◌<◌, Bool, true, List, [], ◌∷◌, ◌++◌, length, take, drop, Some, refl, sym, ◌∙◌, ap, subst, arith, length-append, inl, inr}
+use Rattle.std.proofs.Common.{◌≡◌, ℕ, zero, suc, ◌+◌, ◌*◌, ◌/◌, ◌%◌, ◌^◌, ◌<◌, Bool, true, List, [], ◌∷◌, ◌++◌, length, map, take, drop, Some, refl, sym, ◌∙◌, ap, subst, arith, length-append, inl, inr}
 use Rattle.std.specs.Prelude.{◌&&◌, ◌==◌, nat_lt, slice_index}
 use Rattle.std.specs.List.{list_all}
-use Rattle.std.specs.Char.{digit_value}
+use Rattle.std.specs.Char.{digit_value, to_ascii_uppercase}
 use Rattle.std.specs.Str.Parse.{digits_value, digits_value_after}
 use Rattle.std.specs.Int.{w32, w64, to_be_bytes, from_be_bytes, byte_at, bytes_high_first}
 use Rattle.std.specs.Int.Digits.{number_from_digits_after}
+use Rattle.std.proofs.Math.ListN.{get_or-map}
 use Rattle.std.proofs.Math.Seq.{take-append_seam, drop-append_seam}
 use Rattle.std.proofs.lemmas.Bool.{and_parts, and_from, cases_lt, eqb-true, eq-eqb, lt-ltb}
 use Rattle.std.proofs.lemmas.List.Folds.{list_all-append}
 use Rattle.std.proofs.lemmas.Nat.{from_be_bytes-to_be_bytes_4, from_be_bytes-to_be_bytes_8}
-use Rattle.hex.specs.Hex.{encode_upper, encode_with, upper_digits}
+use Rattle.hex.specs.Hex.{encode_lower, encode_upper, encode_with, lower_digits, upper_digits}
 use Rattle.csm_grammar.specs.Values.{is_hex, value_of, Denotes, ANumber, APair, OfKey, OfPair, OfCode}
 use Rattle.csm_write.specs.Canon.{key_digits, code_digits}
+
+-- lower-case digits in upper case
+
+digit_raised : (k : ℕ) → to_ascii_uppercase (slice_index lower_digits k) ≡ slice_index upper_digits k
+digit_raised k = sym (get_or-map to_ascii_uppercase lower_digits k 0)
+
+pub upper_from_lower : (bytes : List ℕ) → map to_ascii_uppercase (encode_lower bytes) ≡ encode_upper bytes
+unfolding encode_with
+upper_from_lower [] = refl
+upper_from_lower (b ∷ bytes) = rw (digit_raised (b / 16), digit_raised (b % 16), upper_from_lower bytes) refl
 
 -- the first n digits of the table have the values of their places
 abbrev are_values : ℕ → Bool

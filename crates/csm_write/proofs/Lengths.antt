@@ -36,6 +36,7 @@ use Rattle.csm_write.specs.Canon.{contents_of, key_digits, code_digits, field_fo
 use Rattle.csm_write.specs.Writable.{IsTyped, IsTypedField, AreTyped}
 use Rattle.csm_write.specs.Writing.{blank_fields}
 use Rattle.csm_write.specs.Shortness.{free_bytes, free_length}
+use Rattle.csm_write.proofs.Tags.{tag_short}
 
 -- contents
 
@@ -148,35 +149,6 @@ contents_short Unsupported (AName name) t = absurd t
 contents_short Unsupported (AService service) t = absurd t
 contents_short Unsupported (ANumber n) t = absurd t
 contents_short Unsupported (APair l r) t = absurd t
-
-tag_short : (t : Tag) → length (tag_name t) ≤ 4
-tag_short Mcl = lit≤ tt
-tag_short Rcv = lit≤ tt
-tag_short Org = lit≤ tt
-tag_short Svr = lit≤ tt
-tag_short Idu = lit≤ tt
-tag_short Idc = lit≤ tt
-tag_short Idd = lit≤ tt
-tag_short Ida = lit≤ tt
-tag_short Idk1 = lit≤ tt
-tag_short Idk2 = lit≤ tt
-tag_short DoubleKk = lit≤ tt
-tag_short Kk = lit≤ tt
-tag_short Kd = lit≤ tt
-tag_short Kdu = lit≤ tt
-tag_short Ctp = lit≤ tt
-tag_short Cta = lit≤ tt
-tag_short Ctb = lit≤ tt
-tag_short Ctr = lit≤ tt
-tag_short Erf = lit≤ tt
-tag_short Iv = lit≤ tt
-tag_short Edk = lit≤ tt
-tag_short P = lit≤ tt
-tag_short Mac = lit≤ tt
-tag_short Edc = lit≤ tt
-tag_short Kku = lit≤ tt
-tag_short DoubleKku = lit≤ tt
-tag_short Nos = lit≤ tt
 
 class_short : (f : Form) → length (class_text f) ≤ 3
 class_short F1 = lit≤ tt

@@ -1,4 +1,5 @@
 pub mod Adding
+pub mod Tags
 pub mod Hexadecimal
 pub mod Named
 pub mod Standing

@@ -1,30 +1,31 @@
 // The fields of a message in the writer's order, by class.
-ghost use Rattle.std.specs.Prelude.{◌≡◌, ◌∷◌, [], ℕ, OnOk};
-ghost use Rattle.csm_grammar.specs.declared.tag.Tag.TheVariants.{Idk1, Kd, Cta};
+ghost use Rattle.std.specs.Prelude.{◌≡◌, ◌++◌, ◌∷◌, [], ℕ, codes, OnOk};
+ghost use Rattle.csm_grammar.specs.declared.tag.Tag.TheVariants.{Mcl, Idk1, Kd, Cta};
 ghost use Rattle.csm_grammar.specs.declared.message.Message.TheVariants as messages;
 ghost use Rattle.csm_grammar.specs.declared.message.KsmBody.TheVariants as bodies;
 ghost use Rattle.csm_grammar.specs.Classes.{class_text};
 ghost use Rattle.csm_grammar.specs.Values.Value.{AText, ANumber};
 ghost use Rattle.csm_grammar.specs.Messages.{form_of, fields_of, body_fields, extra_fields, new_fields, parties, if_any};
+ghost use Rattle.csm_grammar.specs.Spelling.{Field, field_text};
 ghost use Rattle.csm_write.specs.Writing.{Adds};
 
 use crate::writer::Writer;
 use csm_grammar::{Dsm, Ers, Esm, Extras, Ksm, KsmBody, Message, NewKk, Rfs, Rsi, Rsm, Rtr, Tag};
 use x_base::{Count, Ident, Label, NoMemory};
 
-/// The class of a message.
-pub fn class(message: &Message) -> &'static [u8]
-    ensures { result.now ≡ class_text (form_of message.now) }
+/// What the text of a message begins with: its class behind the opening of every text.
+pub fn opening(message: &Message) -> &'static [u8]
+    ensures { result.now ≡ codes "CSM(" ++ (field_text (record { tag = Mcl; contents = class_text (form_of message.now) }) ++ codes " ") }
 {
     match message {
-        Message::Rsi(_) => b"RSI",
-        Message::Rfs(_) => b"RFS",
-        Message::Rtr(_) => b"RTR",
-        Message::Ksm(_) => b"KSM",
-        Message::Rsm(_) => b"RSM",
-        Message::Ers(_) => b"ERS",
-        Message::Esm(_) => b"ESM",
-        Message::Dsm(_) => b"DSM",
+        Message::Rsi(_) => b"CSM(MCL/RSI ",
+        Message::Rfs(_) => b"CSM(MCL/RFS ",
+        Message::Rtr(_) => b"CSM(MCL/RTR ",
+        Message::Ksm(_) => b"CSM(MCL/KSM ",
+        Message::Rsm(_) => b"CSM(MCL/RSM ",
+        Message::Ers(_) => b"CSM(MCL/ERS ",
+        Message::Esm(_) => b"CSM(MCL/ESM ",
+        Message::Dsm(_) => b"CSM(MCL/DSM ",
     }
 }
 

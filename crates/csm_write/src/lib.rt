@@ -3,6 +3,8 @@
 
 mod classes;
 mod closing;
+mod digits;
+mod field_text;
 mod laws;
 mod optional;
 mod shortness;

@@ -1,17 +1,19 @@
 // Fields, each by the kind of its contents. Behind each stands one blank.
-ghost use Rattle.std.specs.Prelude.{◌≡◌, ◌++◌, ◌∷◌, [], ℕ, codes, OnOk, IfOk};
+ghost use Rattle.std.specs.Prelude.{◌≡◌, ◌≤◌, ◌++◌, ◌∷◌, [], ℕ, codes, length, OnOk, IfOk};
 ghost use Rattle.x_base.specs.KeyName.{written};
-ghost use Rattle.csm_grammar.specs.declared.tag.Tag.TheVariants.{Mcl, Svr, DoubleKk, Erf};
+ghost use Rattle.csm_grammar.specs.declared.tag.Tag.TheVariants.{Svr, DoubleKk, Erf};
 ghost use Rattle.csm_grammar.specs.Values.{kind_of, service_text};
 ghost use Rattle.csm_grammar.specs.Values.Value.{AText, AName, AService, ANumber, APair};
 ghost use Rattle.csm_grammar.specs.Values.Kind.{OfIdent, OfName, OfLabel, OfKey, OfCount, OfText};
 ghost use Rattle.csm_grammar.specs.Messages.{valued, shut_field, if_any};
 ghost use Rattle.csm_grammar.specs.Spelling.{Field, field_text};
-ghost use Rattle.csm_write.specs.Canon.{field_for, key_digits, code_digits};
+ghost use Rattle.csm_write.specs.Canon.{field_for, code_digits};
 ghost use Rattle.csm_write.specs.Writable.{IsTypedField};
 ghost use Rattle.x_base.specs.KeyName.{IsKeyName};
 ghost use Rattle.csm_write.specs.Writing.{Adds};
 
+use crate::digits::{code_digits, key_digits};
+use crate::field_text::FieldText;
 use csm_grammar::{Service, Shut, Tag};
 use itoa::Buffer;
 use std::alloc::Global;
@@ -21,10 +23,12 @@ use x_base::{Count, Ident, KeyName, Label, NoMemory, Text};
 /// The bytes for which a text has room from the start: those of every message without IV, EDK and P.
 const ROOM: usize = 256;
 
+/// How long the contents of a field are that is put together before it goes into the text.
+const SHORT: usize = 32;
+
 /// A text that is being written.
 #[derive(Drop)]
 pub struct Writer {
-    alloc: Global,
     text: Text,
 }
 
@@ -54,7 +58,7 @@ impl Writer {
         ensures { IfOk result (λ w. w ≡ []) }
     {
         let text = Text::with_capacity(alloc, ROOM)?;
-        Ok(Writer { alloc, text })
+        Ok(Writer { text })
     }
 
     pub fn push(&mut self, bytes: &[u8]) -> Result<(), NoMemory>
@@ -78,23 +82,29 @@ impl Writer {
     fn tag(&mut self, tag: Tag) -> Result<(), NoMemory>
         ensures { OnOk result (self.new ≡ self.old ++ (field_text (record { tag = tag; contents = [] }))) }
     {
-        self.push(tag.name())?;
-        self.push(b"/")
+        self.push(FieldText::begin(tag).bytes())
     }
 
     fn field(&mut self, tag: Tag, contents: &[u8]) -> Result<(), NoMemory>
         ensures { OnOk result (self.new ≡ self.old ++ (field_text (record { tag = tag; contents = contents.now }) ++ codes " ")) }
     {
-        self.tag(tag)?;
-        self.push(contents)?;
-        self.push(b" ")
+        if contents.len() <= SHORT {
+            self.short_field(tag, contents)
+        } else {
+            self.tag(tag)?;
+            self.push(contents)?;
+            self.push(b" ")
+        }
     }
 
-    /// The class of a message.
-    pub fn class(&mut self, class: &[u8]) -> Result<(), NoMemory>
-        ensures { OnOk result (self.new ≡ self.old ++ (field_text (record { tag = Mcl; contents = class.now }) ++ codes " ")) }
+    fn short_field(&mut self, tag: Tag, contents: &[u8]) -> Result<(), NoMemory>
+        requires { length contents.now ≤ 32 }
+        ensures { OnOk result (self.new ≡ self.old ++ (field_text (record { tag = tag; contents = contents.now }) ++ codes " ")) }
     {
-        self.field(Tag::Mcl, class)
+        let mut field = FieldText::begin(tag);
+        field.put(contents);
+        field.put(b" ");
+        self.push(field.bytes())
     }
 
     pub fn ident(&mut self, tag: Tag, ident: &Ident) -> Result<(), NoMemory>
@@ -147,26 +157,18 @@ impl Writer {
         requires { kind_of tag ≡ OfKey }
         ensures { OnOk result (Adds self.old self.new (valued tag (ANumber key) ∷ [])) }
     {
-        self.tag(tag)?;
-        self.key_digits(key)?;
-        self.push(b" ")
+        self.short_field(tag, &key_digits(key))
     }
 
     /// The halves of a double-length key, the left one first.
     pub fn pair(&mut self, left: u64, right: u64) -> Result<(), NoMemory>
         ensures { OnOk result (Adds self.old self.new (valued DoubleKk (APair left right) ∷ [])) }
     {
-        self.tag(Tag::DoubleKk)?;
-        self.key_digits(left)?;
-        self.key_digits(right)?;
-        self.push(b" ")
-    }
-
-    fn key_digits(&mut self, key: u64) -> Result<(), NoMemory>
-        ensures { OnOk result (self.new ≡ self.old ++ key_digits key) }
-    {
-        let digits = hex::encode_upper(self.alloc, key.to_be_bytes())?;
-        self.push(digits.as_bytes())
+        let mut field = FieldText::begin(Tag::DoubleKk);
+        field.put(&key_digits(left));
+        field.put(&key_digits(right));
+        field.put(b" ");
+        self.push(field.bytes())
     }
 
     pub fn reason(&mut self, reason: &Text) -> Result<(), NoMemory>
@@ -197,8 +199,8 @@ impl Writer {
     fn code_field(&mut self, tag: Tag, code: u32) -> Result<(), NoMemory>
         ensures { OnOk result (self.new ≡ self.old ++ field_text (record { tag = tag; contents = code_digits code })) }
     {
-        self.tag(tag)?;
-        let digits = hex::encode_upper(self.alloc, code.to_be_bytes())?;
-        self.push(digits.as_bytes())
+        let mut field = FieldText::begin(tag);
+        field.put(&code_digits(code));
+        self.push(field.bytes())
     }
 }

@@ -3,7 +3,7 @@ ghost use Rattle.csm_write.specs.Canon.{shut_over, canon};
 ghost use Rattle.csm_write.specs.Writable.{Writable, AreTyped};
 ghost use Rattle.csm_write.specs.Laws.{ReadsBack, Rewrites};
 
-use crate::classes::class;
+use crate::classes::opening;
 use crate::closing::Closing;
 use crate::laws::{law_canon_reads_back, law_canon_rewrites};
 use crate::writer::Writer;
@@ -30,8 +30,7 @@ fn written(alloc: Global, message: &Message, closing: &Closing) -> Result<Text, 
     ensures typed { OnOk result (AreTyped message.now closing.now) }
 {
     let mut writer = Writer::new(alloc)?;
-    writer.push(b"CSM(")?;
-    writer.class(class(message))?;
+    writer.push(opening(message))?;
     writer.fields(message)?;
     let shut = shut(closing, writer.bytes());
     writer.code(shut)?;
