@@ -4,7 +4,7 @@ use Rattle.std.specs.Prelude.{◌&&◌, ◌==◌, nat_lt, slice_index}
 use Rattle.std.specs.List.{list_all}
 use Rattle.std.specs.Char.{digit_value, to_ascii_uppercase}
 use Rattle.std.specs.Str.Parse.{digits_value, digits_value_after}
-use Rattle.std.specs.Int.{w32, w64, to_be_bytes, from_be_bytes, byte_at, bytes_high_first}
+use Rattle.std.specs.Int.{w32, w64, from_be_bytes, byte_at, bytes_high_first}
 use Rattle.std.specs.Int.Digits.{number_from_digits_after}
 use Rattle.std.proofs.Math.ListN.{get_or-map}
 use Rattle.std.proofs.Math.Seq.{take-append_seam, drop-append_seam}
@@ -12,7 +12,7 @@ use Rattle.std.proofs.lemmas.Bool.{and_parts, and_from, cases_lt, eqb-true, eq-e
 use Rattle.std.proofs.lemmas.List.Folds.{list_all-append}
 use Rattle.std.proofs.lemmas.Nat.{from_be_bytes-to_be_bytes_4, from_be_bytes-to_be_bytes_8}
 use Rattle.hex.specs.Hex.{encode_lower, encode_upper, encode_with, lower_digits, upper_digits}
-use Rattle.csm_grammar.specs.Values.{is_hex, value_of, Denotes, ANumber, APair, OfKey, OfPair, OfCode}
+use Rattle.csm_grammar.specs.Values.{is_hex, Denotes, ANumber, APair, OfKey, OfPair, OfCode}
 use Rattle.csm_write.specs.Canon.{key_digits, code_digits}
 
 -- lower-case digits in upper case

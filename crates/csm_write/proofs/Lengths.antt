@@ -1,9 +1,8 @@
 -- The canonical text of a typed message is short.
-use Rattle.std.proofs.Common.{◌≡◌, ℕ, suc, ◌+◌, ◌*◌, ◌^◌, ◌<◌, ◌≤◌, true, List, [], ◌∷◌, ◌++◌, length, map, Option, Some, None, refl, sym, ap, arith, lit<, lit≤, length-append}
+use Rattle.std.proofs.Common.{◌≡◌, ℕ, ◌+◌, ◌*◌, ◌^◌, ◌<◌, ◌≤◌, true, List, [], ◌∷◌, ◌++◌, length, Option, Some, None, refl, arith, lit<, lit≤, length-append}
 use Rattle.std.specs.Prelude.{codes, sum_by}
 use Rattle.std.specs.Fmt.{decimal}
 use Rattle.std.specs.List.{All, flat_map}
-use Rattle.std.specs.Int.{w32, w64, to_be_bytes}
 use Rattle.std.proofs.lemmas.Fmt.{length-decimal-le}
 use Rattle.std.proofs.lemmas.List.Sums.{sum_by-cons}
 use Rattle.std.proofs.lemmas.List.Elements.{All-head, All-tail}
@@ -13,7 +12,7 @@ use Rattle.x_base.specs.KeyName.{written, IsKeyName}
 use Rattle.x_base.specs.declared.key_name.KeyName.{KeyName}
 use Rattle.hex.specs.Hex.{encode_with}
 use Rattle.csm_grammar.specs.declared.tag.Tag.{Tag}
-use Rattle.csm_grammar.specs.declared.tag.Tag.TheVariants.{Mcl, Rcv, Org, Svr, Idu, Idc, Idd, Ida, Idk1, Idk2, DoubleKk, Kk, Kd, Kdu, Ctp, Cta, Ctb, Ctr, Erf, Iv, Edk, P, Mac, Edc, Kku, DoubleKku, Nos}
+use Rattle.csm_grammar.specs.declared.tag.Tag.TheVariants.{Mcl, Rcv, Idu, Idd, Ida, Idk1, Idk2, Kd, Kdu, Ctp, Cta, Ctb, Ctr, Iv, Edk, P, Mac, Edc}
 use Rattle.csm_grammar.specs.declared.form.Form.{Form}
 use Rattle.csm_grammar.specs.declared.form.Form.TheVariants.{F1, F2, F3, F4, F5, F6, F7, F8, F9, F10, F11, F12}
 use Rattle.csm_grammar.specs.declared.message.Message.{Message}
