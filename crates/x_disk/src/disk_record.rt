@@ -4,6 +4,9 @@ use std::alloc::{AllocError, Global};
 use std::marker::Model;
 use x_base::NoMemory;
 
+/// How many bytes a disk has room for at least from the start, so that small ones aren't moved while they grow.
+const LEAST: usize = 65_536;
+
 /// A step of the record. The bytes of a write lie in the payload, behind those of the writes before it.
 #[derive(Clone, Copy, Drop)]
 pub(crate) enum Entry {
@@ -44,18 +47,19 @@ impl DiskRecord {
     ghost use Rattle.x_disk.specs.Disk.{disk_size};
     ghost use Rattle.x_disk.specs.History.{Write, Sync, PowerOff, IsAdded, IsReserved, state_of};
 
-    /// The record of an empty disk. Reserves `room` bytes each for what a read gives, for the image of the last sync and for
-    /// the bytes of the writes, and places for `room / 16` steps; beyond that it grows.
+    /// The record of an empty disk. Reserves `room` bytes or more each for what a read gives, for the image of the last sync
+    /// and for the bytes of the writes, and places for `room / 16` steps; beyond that it grows.
     pub(crate) fn new(alloc: Global, room: usize) -> Result<DiskRecord, NoMemory>
         ensures { IfOk result (λ d. d ≡ record { room = room; steps = [] }) }
     {
+        let most = room.max(LEAST);
         Ok(DiskRecord {
             room,
-            bytes: Vec::with_capacity(alloc, room)?,
-            stable: Vec::with_capacity(alloc, room)?,
+            bytes: Vec::with_capacity(alloc, most)?,
+            stable: Vec::with_capacity(alloc, most)?,
             clean: 0,
-            entries: Vec::with_capacity(alloc, room / 16)?,
-            payload: Vec::with_capacity(alloc, room)?,
+            entries: Vec::with_capacity(alloc, most / 16)?,
+            payload: Vec::with_capacity(alloc, most)?,
             first: 0,
         })
     }
