@@ -16,10 +16,10 @@ use x_disk::Disk;
 impl<D: Disk> Node<D> {
     /// Decides of a command or a message at a moment by the party's role, keeps the change, and then hands out the reply.
     /// What is refused changes nothing, and a refused message may be answered.
-    pub fn turn(self, alloc: Global, input: Input, moment: u64) -> Turn<D>
-        ensures { IsTurn D.told self (decision self.party input moment) result }
+    pub fn turn(self, alloc: Global, input: &Input, moment: u64) -> Turn<D>
+        ensures { IsTurn D.told self (decision self.party input.now moment) result }
     {
-        match decide(alloc, self.view(), &input, moment) {
+        match decide(alloc, self.view(), input, moment) {
             Ok(decision) => carry_out(self, alloc, decision),
             Err(_) => Turn::NoMemory(self),
         }
@@ -29,14 +29,14 @@ impl<D: Disk> Node<D> {
     pub fn take(self, alloc: Global, arrival: Arrival, moment: u64) -> Turn<D>
         ensures { IsTurn D.told self (decision self.party (Arrived arrival) moment) result }
     {
-        self.turn(alloc, Input::Arrived(arrival), moment)
+        self.turn(alloc, &Input::Arrived(arrival), moment)
     }
 
     /// The turn of an operator's command.
     pub fn order(self, alloc: Global, command: Command, moment: u64) -> Turn<D>
         ensures { IsTurn D.told self (decision self.party (Ordered command) moment) result }
     {
-        self.turn(alloc, Input::Ordered(command), moment)
+        self.turn(alloc, &Input::Ordered(command), moment)
     }
 
     /// The key under which the code of a message that arrived is tested, and whether the code is that one. Takes no memory.
@@ -50,14 +50,14 @@ impl<D: Disk> Node<D> {
     pub fn take_led(
         self,
         alloc: Global,
-        arrival: Arrival,
-        lead: Option<Lead>,
+        arrival: &Arrival,
+        lead: &Option<Lead>,
         moment: u64,
     ) -> Turn<D>
-        requires { lead ≡ lead_at self.party arrival }
-        ensures { IsTurn D.told self (decision self.party (Arrived arrival) moment) result }
+        requires { lead.now ≡ lead_at self.party arrival.now }
+        ensures { IsTurn D.told self (decision self.party (Arrived arrival.now) moment) result }
     {
-        match decide_led(alloc, self.view(), &arrival, &lead, moment) {
+        match decide_led(alloc, self.view(), arrival, lead, moment) {
             Ok(decision) => carry_out(self, alloc, decision),
             Err(_) => Turn::NoMemory(self),
         }
