@@ -36,7 +36,7 @@ fn ended<D: Disk>(turn: Turn<D>) -> (D, Outcome)
 pub(crate) fn act<D: Disk>(node: Node<D>, alloc: Global, input: Input, moment: u64) -> (D, Outcome)
     ensures { HasActed (D.told node.disk) (D.told result.0) (node.end - node.gate) node.party (decision node.party input moment) result.1 }
 {
-    let turned = node.turn(alloc, input, moment);
+    let turned = node.turn(alloc, &input, moment);
     ended(turned)
 }
 
