@@ -39,18 +39,18 @@ fn play_honest<H: Shelf>(
     own: &Ident,
     shelf: &mut H,
     alloc: Global,
-    input: Input,
-    lead: Option<Lead>,
+    input: &Input,
+    lead: &Option<Lead>,
     now: &Progress,
 ) -> Result<Outcome, Failure>
     requires within { place < length scene.old.seats.items }
     requires placed { IsPlace scene.old.seats.items own.now place }
     requires seated { AreOpen scene.old.seats.items }
     requires slots { AllSlots (H.has_slot shelf.old) (owners scene.old.seats.items) }
-    requires led { IsLedAt scene.old.seats.items place input lead }
-    requires judged { IsJudgedAt scene.old.seats.items place scene.old.facts input true }
-    ensures played { IfOk result (λ outcome. PlaysAt H.Disk.told (H.faults shelf.old) (H.faults shelf.new) scene.old scene.new place (Some input) 0 now.now outcome) }
-    ensures broken { IfErr result (λ why. BreaksHonest H.Disk.told (H.entry shelf.new) scene.old scene.new place (Some input) now.now.moment why) }
+    requires led { IsLedAt scene.old.seats.items place input.now lead.now }
+    requires judged { IsJudgedAt scene.old.seats.items place scene.old.facts input.now true }
+    ensures played { IfOk result (λ outcome. PlaysAt H.Disk.told (H.faults shelf.old) (H.faults shelf.new) scene.old scene.new place (Some input.now) 0 now.now outcome) }
+    ensures broken { IfErr result (λ why. BreaksHonest H.Disk.told (H.entry shelf.new) scene.old scene.new place (Some input.now) now.now.moment why) }
     ensures fault { result ≡ Err Failure.Fault → Rose (H.faults shelf.old) (H.faults shelf.new) ⊎ AnyFaulty H.Disk.told scene.new.seats.items }
     ensures seated { OnOk result (AreOpen scene.new.seats.items) }
     ensures owners { owners scene.new.seats.items ≡ owners scene.old.seats.items }
@@ -80,16 +80,16 @@ fn play_input<H: Shelf>(
     own: &Ident,
     shelf: &mut H,
     alloc: Global,
-    input: Input,
+    input: &Input,
     now: &Progress,
 ) -> Result<Outcome, Ending>
     requires within { place < length scene.old.seats.items }
     requires placed { IsPlace scene.old.seats.items own.now place }
     requires seated { AreOpen scene.old.seats.items }
     requires slots { AllSlots (H.has_slot shelf.old) (owners scene.old.seats.items) }
-    ensures played { IfOk result (λ outcome. PlaysAt H.Disk.told (H.faults shelf.old) (H.faults shelf.new) scene.old scene.new place (Some input) 0 now.now outcome) }
-    ensures forged { (n : ℕ) → result ≡ Err (Ending.Forged n) → (n ≡ now.now.number) × (scene.new ≡ scene.old) × ForgesAt H.Disk.told scene.old place input }
-    ensures broken { (why : Failure) → result ≡ Err (Ending.Failed why) → BreaksHonest H.Disk.told (H.entry shelf.new) scene.old scene.new place (Some input) now.now.moment why }
+    ensures played { IfOk result (λ outcome. PlaysAt H.Disk.told (H.faults shelf.old) (H.faults shelf.new) scene.old scene.new place (Some input.now) 0 now.now outcome) }
+    ensures forged { (n : ℕ) → result ≡ Err (Ending.Forged n) → (n ≡ now.now.number) × (scene.new ≡ scene.old) × ForgesAt H.Disk.told scene.old place input.now }
+    ensures broken { (why : Failure) → result ≡ Err (Ending.Failed why) → BreaksHonest H.Disk.told (H.entry shelf.new) scene.old scene.new place (Some input.now) now.now.moment why }
     ensures write { result ≡ Err Ending.Write → ⊥ }
     ensures fault { result ≡ Err (Ending.Failed Failure.Fault) → Rose (H.faults shelf.old) (H.faults shelf.new) ⊎ AnyFaulty H.Disk.told scene.new.seats.items }
     ensures seated { OnOk result (AreOpen scene.new.seats.items) }
@@ -100,10 +100,10 @@ fn play_input<H: Shelf>(
 {
     law_facts();
     law_runs();
-    let lead = lead_at(&scene.seats, place, &input);
-    let honest = is_honest_led(&scene.facts, &input, &lead);
+    let lead = lead_at(&scene.seats, place, input);
+    let honest = is_honest_led(&scene.facts, input, &lead);
     if honest {
-        let outcome = play_honest(scene, place, own, shelf, alloc, input, lead, now)?;
+        let outcome = play_honest(scene, place, own, shelf, alloc, input, &lead, now)?;
         return Ok(outcome);
     }
     Err(Ending::Forged(now.number))
@@ -148,15 +148,15 @@ fn play_told<H: Shelf>(
     party: &Ident,
     shelf: &mut H,
     alloc: Global,
-    input: Input,
+    input: &Input,
     now: &Progress,
 ) -> Result<Outcome, Ending>
     requires named { names.now.keys ≡ owners scene.old.seats.items }
     requires seated { AreOpen scene.old.seats.items }
     requires slots { AllSlots (H.has_slot shelf.old) (owners scene.old.seats.items) }
-    ensures acted { IfOk result (λ outcome. Acts H.Disk.told (H.faults shelf.old) (H.faults shelf.new) (Act.Tell party.now input) scene.old scene.new now.now outcome) }
-    ensures forged { (n : ℕ) → result ≡ Err (Ending.Forged n) → (n ≡ now.now.number) × (scene.new ≡ scene.old) × Forges H.Disk.told (Act.Tell party.now input) scene.old }
-    ensures broken { (why : Failure) → result ≡ Err (Ending.Failed why) → BreaksAct H.Disk.told (H.entry shelf.new) (Act.Tell party.now input) scene.old scene.new now.now why }
+    ensures acted { IfOk result (λ outcome. Acts H.Disk.told (H.faults shelf.old) (H.faults shelf.new) (Act.Tell party.now input.now) scene.old scene.new now.now outcome) }
+    ensures forged { (n : ℕ) → result ≡ Err (Ending.Forged n) → (n ≡ now.now.number) × (scene.new ≡ scene.old) × Forges H.Disk.told (Act.Tell party.now input.now) scene.old }
+    ensures broken { (why : Failure) → result ≡ Err (Ending.Failed why) → BreaksAct H.Disk.told (H.entry shelf.new) (Act.Tell party.now input.now) scene.old scene.new now.now why }
     ensures write { result ≡ Err Ending.Write → ⊥ }
     ensures fault { result ≡ Err (Ending.Failed Failure.Fault) → Rose (H.faults shelf.old) (H.faults shelf.new) ⊎ AnyFaulty H.Disk.told scene.new.seats.items }
     ensures seated { OnOk result (AreOpen scene.new.seats.items) }
@@ -205,15 +205,15 @@ pub(crate) fn play_act<H: Shelf>(
     names: &IndexSet<Ident>,
     shelf: &mut H,
     alloc: Global,
-    act: Act,
+    act: &Act,
     now: &Progress,
 ) -> Result<Outcome, Ending>
     requires named { names.now.keys ≡ owners scene.old.seats.items }
     requires seated { AreOpen scene.old.seats.items }
     requires slots { AllSlots (H.has_slot shelf.old) (owners scene.old.seats.items) }
-    ensures acted { IfOk result (λ outcome. Acts H.Disk.told (H.faults shelf.old) (H.faults shelf.new) act scene.old scene.new now.now outcome) }
-    ensures forged { (n : ℕ) → result ≡ Err (Ending.Forged n) → (n ≡ now.now.number) × (scene.new ≡ scene.old) × Forges H.Disk.told act scene.old }
-    ensures broken { (why : Failure) → result ≡ Err (Ending.Failed why) → BreaksAct H.Disk.told (H.entry shelf.new) act scene.old scene.new now.now why }
+    ensures acted { IfOk result (λ outcome. Acts H.Disk.told (H.faults shelf.old) (H.faults shelf.new) act.now scene.old scene.new now.now outcome) }
+    ensures forged { (n : ℕ) → result ≡ Err (Ending.Forged n) → (n ≡ now.now.number) × (scene.new ≡ scene.old) × Forges H.Disk.told act.now scene.old }
+    ensures broken { (why : Failure) → result ≡ Err (Ending.Failed why) → BreaksAct H.Disk.told (H.entry shelf.new) act.now scene.old scene.new now.now why }
     ensures write { result ≡ Err Ending.Write → ⊥ }
     ensures fault { result ≡ Err (Ending.Failed Failure.Fault) → Rose (H.faults shelf.old) (H.faults shelf.new) ⊎ AnyFaulty H.Disk.told scene.new.seats.items }
     ensures seated { OnOk result (AreOpen scene.new.seats.items) }
@@ -224,9 +224,9 @@ pub(crate) fn play_act<H: Shelf>(
 {
     match act {
         Act::Nothing => Ok(Outcome::Nothing),
-        Act::Tell { party, input } => play_told(scene, names, &party, shelf, alloc, input, now),
+        Act::Tell { party, input } => play_told(scene, names, party, shelf, alloc, input, now),
         Act::Refuse { party, number } => {
-            let outcome = play_refused(scene, names, &party, shelf, alloc, number, now)?;
+            let outcome = play_refused(scene, names, party, shelf, alloc, *number, now)?;
             Ok(outcome)
         }
     }

@@ -21,8 +21,8 @@ pub(crate) enum Carried<D: Disk> {
 }
 
 /// Carries the event out.
-pub(crate) fn carry<D: Disk>(node: Node<D>, alloc: Global, input: Input, moment: u64) -> Carried<D>
-    ensures { IsCarried D.told node (decision node.party input moment) result }
+pub(crate) fn carry<D: Disk>(node: Node<D>, alloc: Global, input: &Input, moment: u64) -> Carried<D>
+    ensures { IsCarried D.told node (decision node.party input.now moment) result }
 {
     match node.turn(alloc, input, moment) {
         Turn::Done { node, .. } => Carried::Whole(node.into_disk()),
@@ -42,12 +42,12 @@ pub(crate) fn carry<D: Disk>(node: Node<D>, alloc: Global, input: Input, moment:
 pub(crate) fn carry_fused<D: Disk>(
     node: Node<D>,
     alloc: Global,
-    input: Input,
+    input: &Input,
     moment: u64,
     calls: u64,
 ) -> Carried<D>
     requires { calls ≤ 3 }
-    ensures { IsFusedCarried D.told node (decision node.party input moment) calls result }
+    ensures { IsFusedCarried D.told node (decision node.party input.now moment) calls result }
 {
     match carry(node.fuse(calls), alloc, input, moment) {
         Carried::Whole(disk) => Carried::Whole(disk.into_inner()),

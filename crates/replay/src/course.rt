@@ -94,7 +94,7 @@ fn play_line<K: Sink, H: Shelf>(
 {
     law_hearing();
     match act_of(alloc, &scene.texts, line)? {
-        Some(act) => play_event(scene, names, sink, shelf, alloc, act, now),
+        Some(act) => play_event(scene, names, sink, shelf, alloc, &act, now),
         None => Ok(behind_quiet(line, now)),
     }
 }

@@ -41,16 +41,16 @@ pub(crate) fn play_event<K: Sink, H: Shelf>(
     sink: &mut K,
     shelf: &mut H,
     alloc: Global,
-    act: Act,
+    act: &Act,
     now: &Progress,
 ) -> Result<Progress, Ending>
     requires named { names.now.keys ≡ owners scene.old.seats.items }
     requires seated { AreOpen scene.old.seats.items }
     requires slots { AllSlots (H.has_slot shelf.old) (owners scene.old.seats.items) }
     requires few { IsWithin now.now 65535 }
-    ensures event { IfOk result (λ after. PlaysEvent H.Disk.told (H.faults shelf.old) (H.faults shelf.new) act scene.old scene.new now.now after (K.written sink.old) (K.written sink.new)) }
-    ensures forged { (n : ℕ) → result ≡ Err (Ending.Forged n) → (n ≡ now.now.number) × (scene.new ≡ scene.old) × (K.written sink.new ≡ K.written sink.old) × Forges H.Disk.told act scene.old }
-    ensures broken { (why : Ending) → result ≡ Err why → ((n : ℕ) → why ≡ Ending.Forged n → ⊥) → BreaksEvent H.Disk.told (H.entry shelf.new) (H.faults shelf.old) (H.faults shelf.new) act scene.old scene.new now.now (K.written sink.old) (K.written sink.new) why }
+    ensures event { IfOk result (λ after. PlaysEvent H.Disk.told (H.faults shelf.old) (H.faults shelf.new) act.now scene.old scene.new now.now after (K.written sink.old) (K.written sink.new)) }
+    ensures forged { (n : ℕ) → result ≡ Err (Ending.Forged n) → (n ≡ now.now.number) × (scene.new ≡ scene.old) × (K.written sink.new ≡ K.written sink.old) × Forges H.Disk.told act.now scene.old }
+    ensures broken { (why : Ending) → result ≡ Err why → ((n : ℕ) → why ≡ Ending.Forged n → ⊥) → BreaksEvent H.Disk.told (H.entry shelf.new) (H.faults shelf.old) (H.faults shelf.new) act.now scene.old scene.new now.now (K.written sink.old) (K.written sink.new) why }
     ensures write { result ≡ Err Ending.Write → Rose (K.faults sink.old) (K.faults sink.new) }
     ensures within { IfOk result (λ after. (n : ℕ) → IsWithin now.now n → IsWithin after (n + 1)) }
     ensures fault { result ≡ Err (Ending.Failed Failure.Fault) → Rose (H.faults shelf.old) (H.faults shelf.new) ⊎ AnyFaulty H.Disk.told scene.new.seats.items }

@@ -65,16 +65,16 @@ pub(crate) fn tell_event<D: Disk>(
     scene: &mut Scene<D>,
     place: usize,
     alloc: Global,
-    input: Input,
-    lead: Option<Lead>,
+    input: &Input,
+    lead: &Option<Lead>,
     moment: u64,
 ) -> Result<Verdict, Failure>
     requires within { place < length scene.old.seats.items }
     requires seated { AreOpen scene.old.seats.items }
-    requires led { IsLedAt scene.old.seats.items place input lead }
-    ensures step { IfOk result (λ verdict. IsStep D.told scene.old scene.new place input moment verdict) }
+    requires led { IsLedAt scene.old.seats.items place input.now lead.now }
+    ensures step { IfOk result (λ verdict. IsStep D.told scene.old scene.new place input.now moment verdict) }
     ensures fault { result ≡ Err Failure.Fault → AnyFaulty D.told scene.new.seats.items }
-    ensures breaks { IfErr result (λ why. BreaksAt D.told scene.old.seats.items scene.new.seats.items place input moment why) }
+    ensures breaks { IfErr result (λ why. BreaksAt D.told scene.old.seats.items scene.new.seats.items place input.now moment why) }
     ensures seated { OnOk result (AreOpen scene.new.seats.items) }
     ensures owners { owners scene.new.seats.items ≡ owners scene.old.seats.items }
 {

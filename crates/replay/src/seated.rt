@@ -47,14 +47,14 @@ pub(crate) fn tell_at<D: Disk>(
     seats: &mut Vec<Seat<D>>,
     place: usize,
     alloc: Global,
-    input: Input,
-    lead: Option<Lead>,
+    input: &Input,
+    lead: &Option<Lead>,
     moment: u64,
 ) -> Result<Saying, Failure>
     requires within { place < length seats.old.items }
     requires seated { AreOpen seats.old.items }
-    requires led { IsLedAt seats.old.items place input lead }
-    ensures told { IsToldAt D.told seats.old.items seats.new.items place input moment result }
+    requires led { IsLedAt seats.old.items place input.now lead.now }
+    ensures told { IsToldAt D.told seats.old.items seats.new.items place input.now moment result }
     ensures fault { result ≡ Err Failure.Fault → AnyFaulty D.told seats.new.items }
 {
     let node = lift(seats, place);

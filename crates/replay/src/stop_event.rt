@@ -1,5 +1,5 @@
 // An event is stopped at a party.
-ghost use Rattle.std.specs.Prelude.{◌≡◌, ◌⊎◌, ◌<◌, ◌≤◌, ◌++◌, [], cond, length, Some, None, Err, IfOk, IfErr, OnOk};
+ghost use Rattle.std.specs.Prelude.{◌≡◌, ◌⊎◌, ◌<◌, ◌≤◌, ◌++◌, [], cond, length, Some, None, Err, IfOk, IfErr, OnOk, option_map};
 ghost use Rattle.x_base.specs.Edge.{Rose};
 ghost use Rattle.x_disk.specs.Shelf.{SlotsStay};
 ghost use Rattle.replay.specs.Breaks.{IsStopBroken, BreaksOff};
@@ -44,7 +44,7 @@ fn stop_at<H: Shelf>(
     own: &Ident,
     shelf: &mut H,
     alloc: Global,
-    input: Option<Input>,
+    input: Option<&Input>,
     moment: u64,
     stop: Stop,
 ) -> Result<bool, Failure>
@@ -52,8 +52,8 @@ fn stop_at<H: Shelf>(
     requires placed { IsPlace seats.old.items own.now place }
     requires seated { AreOpen seats.old.items }
     requires slots { AllSlots (H.has_slot shelf.old) (owners seats.old.items) }
-    ensures stopped { IfOk result (λ next. IsStoppedAt H.Disk.told seats.old.items seats.new.items place input moment stop (H.faults shelf.old) (H.faults shelf.new) next) }
-    ensures broken { IfErr result (λ why. IsStopBroken H.Disk.told (H.entry shelf.new) seats.old.items seats.new.items place input moment why) }
+    ensures stopped { IfOk result (λ next. IsStoppedAt H.Disk.told seats.old.items seats.new.items place (option_map (λ i. i.now) input.entry) moment stop (H.faults shelf.old) (H.faults shelf.new) next) }
+    ensures broken { IfErr result (λ why. IsStopBroken H.Disk.told (H.entry shelf.new) seats.old.items seats.new.items place (option_map (λ i. i.now) input.entry) moment why) }
     ensures fault { result ≡ Err Failure.Fault → Rose (H.faults shelf.old) (H.faults shelf.new) ⊎ AnyFaulty H.Disk.told seats.new.items }
     ensures owners { owners seats.new.items ≡ owners seats.old.items }
     ensures others { OtherDisksStay (H.entry shelf.old) (H.entry shelf.new) seats.old.items }
@@ -105,7 +105,7 @@ pub(crate) fn stop_event<H: Shelf>(
     own: &Ident,
     shelf: &mut H,
     alloc: Global,
-    input: Input,
+    input: &Input,
     moment: u64,
     stop: Stop,
 ) -> Result<bool, Failure>
@@ -113,8 +113,8 @@ pub(crate) fn stop_event<H: Shelf>(
     requires placed { IsPlace scene.old.seats.items own.now place }
     requires seated { AreOpen scene.old.seats.items }
     requires slots { AllSlots (H.has_slot shelf.old) (owners scene.old.seats.items) }
-    ensures step { IfOk result (λ next. IsCutStep H.Disk.told scene.old scene.new place (Some input) moment stop (H.faults shelf.old) (H.faults shelf.new) next) }
-    ensures broken { IfErr result (λ why. BreaksOff H.Disk.told (H.entry shelf.new) scene.old scene.new place (Some input) moment why) }
+    ensures step { IfOk result (λ next. IsCutStep H.Disk.told scene.old scene.new place (Some input.now) moment stop (H.faults shelf.old) (H.faults shelf.new) next) }
+    ensures broken { IfErr result (λ why. BreaksOff H.Disk.told (H.entry shelf.new) scene.old scene.new place (Some input.now) moment why) }
     ensures fault { result ≡ Err Failure.Fault → Rose (H.faults shelf.old) (H.faults shelf.new) ⊎ AnyFaulty H.Disk.told scene.new.seats.items }
     ensures seated { OnOk result (AreOpen scene.new.seats.items) }
     ensures owners { owners scene.new.seats.items ≡ owners scene.old.seats.items }
@@ -122,7 +122,7 @@ pub(crate) fn stop_event<H: Shelf>(
     ensures slots { SlotsStay (H.has_slot shelf.old) (H.has_slot shelf.new) }
     ensures later { H.faults shelf.old ≤ H.faults shelf.new }
 {
-    let decided = decide_at(&scene.seats, place, alloc, &input, moment)?;
+    let decided = decide_at(&scene.seats, place, alloc, input, moment)?;
     let next = stop_at(
         &mut scene.seats,
         place,

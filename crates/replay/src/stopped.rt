@@ -1,5 +1,5 @@
 // A stopped event over a party's disk: it is begun, the power goes, and the party is opened again.
-ghost use Rattle.std.specs.Prelude.{◌≡◌, ◌<◌, ◌≤◌, ℕ, Err, IfOk, IfErr, OnErr};
+ghost use Rattle.std.specs.Prelude.{◌≡◌, ◌<◌, ◌≤◌, ℕ, Err, IfOk, IfErr, OnErr, option_map};
 ghost use Rattle.x_base.specs.Edge.{Rose};
 ghost use Rattle.x_disk.specs.Disk.{Tells};
 ghost use Rattle.x_disk.specs.Shelf.{IsAlike, OthersStay, SlotsStay};
@@ -37,13 +37,13 @@ pub(crate) struct Lost<D: Disk> {
 fn begin_input<D: Disk>(
     node: Node<D>,
     alloc: Global,
-    input: Input,
+    input: &Input,
     moment: u64,
     n: u64,
 ) -> Result<D, Lost<D>>
-    ensures rests { IfOk result (λ disk. IsResting (D.told node.disk) (D.told disk) (member_of node) (next_member (member_of node) (decision node.party input moment)) (IsToKeep (member_of node) (decision node.party input moment)) n) }
+    ensures rests { IfOk result (λ disk. IsResting (D.told node.disk) (D.told disk) (member_of node) (next_member (member_of node) (decision node.party input.now moment)) (IsToKeep (member_of node) (decision node.party input.now moment)) n) }
     ensures failing { IfErr result (λ lost. IsFailing lost.why) }
-    ensures left { IfErr result (λ lost. Tells (D.told node.disk) → ReadsEither (D.told lost.disk) (member_of node) (next_member (member_of node) (decision node.party input moment)) (IsToKeep (member_of node) (decision node.party input moment))) }
+    ensures left { IfErr result (λ lost. Tells (D.told node.disk) → ReadsEither (D.told lost.disk) (member_of node) (next_member (member_of node) (decision node.party input.now moment)) (IsToKeep (member_of node) (decision node.party input.now moment))) }
     ensures fault { IfErr result (λ lost. lost.why ≡ Failure.Fault → 0 < (D.told lost.disk).faults) }
 {
     if n <= 4 {
@@ -73,13 +73,13 @@ fn begin_input<D: Disk>(
 pub(crate) fn begin<D: Disk>(
     node: Node<D>,
     alloc: Global,
-    input: Option<Input>,
+    input: Option<&Input>,
     moment: u64,
     n: u64,
 ) -> Result<D, Lost<D>>
-    ensures rests { IfOk result (λ disk. IsResting (D.told node.disk) (D.told disk) (member_of node) (member_next (member_of node) input moment) (KeepsChange (member_of node) input moment) n) }
+    ensures rests { IfOk result (λ disk. IsResting (D.told node.disk) (D.told disk) (member_of node) (member_next (member_of node) (option_map (λ i. i.now) input.entry) moment) (KeepsChange (member_of node) (option_map (λ i. i.now) input.entry) moment) n) }
     ensures failing { IfErr result (λ lost. IsFailing lost.why) }
-    ensures left { IfErr result (λ lost. Tells (D.told node.disk) → ReadsEither (D.told lost.disk) (member_of node) (member_next (member_of node) input moment) (KeepsChange (member_of node) input moment)) }
+    ensures left { IfErr result (λ lost. Tells (D.told node.disk) → ReadsEither (D.told lost.disk) (member_of node) (member_next (member_of node) (option_map (λ i. i.now) input.entry) moment) (KeepsChange (member_of node) (option_map (λ i. i.now) input.entry) moment)) }
     ensures fault { IfErr result (λ lost. lost.why ≡ Failure.Fault → 0 < (D.told lost.disk).faults) }
 {
     match input {

@@ -35,15 +35,15 @@ pub(crate) enum Told<D: Disk> {
 fn turn_led<D: Disk>(
     node: Node<D>,
     alloc: Global,
-    input: Input,
-    lead: Option<Lead>,
+    input: &Input,
+    lead: &Option<Lead>,
     moment: u64,
 ) -> Turn<D>
-    requires { IsLed node.party input lead }
-    ensures { IsTurn D.told node (decision node.party input moment) result }
+    requires { IsLed node.party input.now lead.now }
+    ensures { IsTurn D.told node (decision node.party input.now moment) result }
 {
     match input {
-        Input::Ordered(command) => node.order(alloc, command, moment),
+        Input::Ordered(_) => node.turn(alloc, input, moment),
         Input::Arrived(arrival) => node.take_led(alloc, arrival, lead, moment),
     }
 }
@@ -52,13 +52,13 @@ fn turn_led<D: Disk>(
 pub(crate) fn tell<D: Disk>(
     node: Node<D>,
     alloc: Global,
-    input: Input,
-    lead: Option<Lead>,
+    input: &Input,
+    lead: &Option<Lead>,
     moment: u64,
 ) -> Told<D>
-    requires { IsLed node.party input lead }
-    ensures told { IsTold D.told node (decision node.party input moment) result }
-    ensures failed { FailsTelling D.told node input moment result }
+    requires { IsLed node.party input.now lead.now }
+    ensures told { IsTold D.told node (decision node.party input.now moment) result }
+    ensures failed { FailsTelling D.told node input.now moment result }
 {
     law_turns::<D>();
     match turn_led(node, alloc, input, lead, moment) {

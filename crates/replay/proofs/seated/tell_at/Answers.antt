@@ -37,4 +37,4 @@ returns-in-Failed-clause-told g c =
 
 pub returns-in-Failed-clause-fault : goal.returns-in-Failed-clause-fault
 returns-in-Failed-clause-fault g c = λ is.
-    told_faulty g.D.Disk.told c.args.seats.now.items c.set_down-in-Failed.new.seats.items c.args.place c.args.input c.args.moment (Err c.in-Failed.why) (returns-in-Failed-clause-told g c) is
+    told_faulty g.D.Disk.told c.args.seats.now.items c.set_down-in-Failed.new.seats.items c.args.place c.args.input.now c.args.moment (Err c.in-Failed.why) (returns-in-Failed-clause-told g c) is
