@@ -1,5 +1,5 @@
 // What is to be done where a text arrives.
-ghost use Rattle.std.specs.Prelude.{◌≡◌, ◌≤◌, length, option_map, Some, IfOk};
+ghost use Rattle.std.specs.Prelude.{◌≡◌, ◌≤◌, length, option_map, Some, IfOk, IsSomeAnd};
 ghost use Rattle.replay.specs.Happenings.{Arrives, Returns, input_bytes, read_number, receiver_of, unheard_number};
 ghost use Rattle.replay.specs.Meanings.{MeantBy};
 
@@ -63,51 +63,61 @@ fn receiver_of(message: &Message) -> Ident
     }
 }
 
-/// Bytes arrive at a party.
-pub(crate) fn arrive_bytes(alloc: Global, party: &Ident, bytes: &[u8]) -> Result<Act, NoMemory>
-    ensures { IfOk result (MeantBy (Arrives party.now (Some bytes.now))) }
+/// Bytes arrive at a party. What is to be done is always told, and as `act_of` tells it, so that it is built once.
+pub(crate) fn arrive_bytes(
+    alloc: Global,
+    party: &Ident,
+    bytes: &[u8],
+) -> Result<Option<Act>, NoMemory>
+    ensures { IfOk result (λ o. IsSomeAnd o (MeantBy (Arrives party.now (Some bytes.now)))) }
 {
-    match hear(alloc, input_bytes(bytes))? {
-        Ok(arrival) => Ok(Act::Tell {
+    match hear(alloc, input_bytes(bytes)) {
+        Ok(Ok(arrival)) => Ok(Some(Act::Tell {
             party: *party,
             input: Input::Arrived(arrival),
-        }),
-        Err(unheard) => Ok(Act::Refuse {
+        })),
+        Ok(Err(unheard)) => Ok(Some(Act::Refuse {
             party: *party,
             number: unheard_number(unheard),
-        }),
+        })),
+        Err(why) => Err(why),
     }
 }
 
 /// A text arrives at a party, if there is one.
-pub(crate) fn arrive(alloc: Global, party: &Ident, text: Option<&Text>) -> Result<Act, NoMemory>
-    ensures { IfOk result (MeantBy (Arrives party.now (option_map (λ t. t.now) text.entry))) }
+pub(crate) fn arrive(
+    alloc: Global,
+    party: &Ident,
+    text: Option<&Text>,
+) -> Result<Option<Act>, NoMemory>
+    ensures { IfOk result (λ o. IsSomeAnd o (MeantBy (Arrives party.now (option_map (λ t. t.now) text.entry)))) }
 {
     match text {
         Some(text) => arrive_bytes(alloc, party, text.bytes()),
-        None => Ok(Act::Nothing),
+        None => Ok(Some(Act::Nothing)),
     }
 }
 
 /// Bytes arrive at the party that the message in them names as its receiver.
-fn return_bytes(alloc: Global, bytes: &[u8]) -> Result<Act, NoMemory>
-    ensures { IfOk result (MeantBy (Returns (Some bytes.now))) }
+fn return_bytes(alloc: Global, bytes: &[u8]) -> Result<Option<Act>, NoMemory>
+    ensures { IfOk result (λ o. IsSomeAnd o (MeantBy (Returns (Some bytes.now)))) }
 {
-    match hear(alloc, input_bytes(bytes))? {
-        Ok(arrival) => Ok(Act::Tell {
+    match hear(alloc, input_bytes(bytes)) {
+        Ok(Ok(arrival)) => Ok(Some(Act::Tell {
             party: receiver_of(&arrival.parsed.message),
             input: Input::Arrived(arrival),
-        }),
-        Err(_) => Ok(Act::Nothing),
+        })),
+        Ok(Err(_)) => Ok(Some(Act::Nothing)),
+        Err(why) => Err(why),
     }
 }
 
 /// A text arrives where its message says, if there is one.
-pub(crate) fn return_text(alloc: Global, text: Option<&Text>) -> Result<Act, NoMemory>
-    ensures { IfOk result (MeantBy (Returns (option_map (λ t. t.now) text.entry))) }
+pub(crate) fn return_text(alloc: Global, text: Option<&Text>) -> Result<Option<Act>, NoMemory>
+    ensures { IfOk result (λ o. IsSomeAnd o (MeantBy (Returns (option_map (λ t. t.now) text.entry)))) }
 {
     match text {
         Some(text) => return_bytes(alloc, text.bytes()),
-        None => Ok(Act::Nothing),
+        None => Ok(Some(Act::Nothing)),
     }
 }

@@ -93,9 +93,10 @@ fn play_line<K: Sink, H: Shelf>(
     ensures climbs { K.faults sink.old ≤ K.faults sink.new }
 {
     law_hearing();
-    match act_of(alloc, &scene.texts, line)? {
-        Some(act) => play_event(scene, names, sink, shelf, alloc, &act, now),
-        None => Ok(behind_quiet(line, now)),
+    match &act_of(alloc, &scene.texts, line) {
+        Ok(Some(act)) => play_event(scene, names, sink, shelf, alloc, act, now),
+        Ok(None) => Ok(behind_quiet(line, now)),
+        Err(_) => Err(Ending::Failed(Failure::NoMemory)),
     }
 }
 

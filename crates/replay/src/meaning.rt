@@ -132,18 +132,9 @@ pub(crate) fn act_of(alloc: Global, texts: &[Text], line: &Line) -> Result<Optio
     ensures memory { OnErr result (IsNoOrder line.now) }
 {
     match line {
-        Line::Pass { k, party } => {
-            let act = arrive(alloc, party, text_of(texts, *k))?;
-            Ok(Some(act))
-        }
-        Line::Recent { j } => {
-            let act = return_text(alloc, text_back(texts, *j))?;
-            Ok(Some(act))
-        }
-        Line::Bytes { party, bytes } => {
-            let act = arrive_bytes(alloc, party, bytes.bytes())?;
-            Ok(Some(act))
-        }
+        Line::Pass { k, party } => arrive(alloc, party, text_of(texts, *k)),
+        Line::Recent { j } => return_text(alloc, text_back(texts, *j)),
+        Line::Bytes { party, bytes } => arrive_bytes(alloc, party, bytes.bytes()),
         _ => Ok(ordered(line)),
     }
 }

@@ -48,7 +48,8 @@ fn turn_led<D: Disk>(
     }
 }
 
-/// The same, told.
+/// The same, told. Never inlined, so that its answer is moved as a whole.
+#[inline(never)]
 pub(crate) fn tell<D: Disk>(
     node: Node<D>,
     alloc: Global,
