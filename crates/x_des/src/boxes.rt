@@ -14,7 +14,7 @@ pub fn sp(which: usize, bits: u8) -> u32
     requires bits { bits < 64 }
     ensures { result ≡ sp_of which bits }
 {
-    COMBINED[which][2 * bits as usize].rotate_left(31)
+    COMBINED.words[which][2 * bits as usize].rotate_left(31)
 }
 
 /// The same, doubled as the halves of a block are.
@@ -24,7 +24,7 @@ fn entry(which: usize, bits: u8) -> u64
     ensures { bits_of 64 result ≡ doubled (bits_of 32 (sp_of which bits)) }
 {
     let place = 2 * bits as usize;
-    u64::from(COMBINED[which][place + 1]) << 32 | u64::from(COMBINED[which][place])
+    u64::from(COMBINED.words[which][place + 1]) << 32 | u64::from(COMBINED.words[which][place])
 }
 
 /// The six bits of a word from bit `low` on.

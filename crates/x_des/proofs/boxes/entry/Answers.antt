@@ -10,8 +10,8 @@ pub returns : goal.returns
 returns c =
     let which = c.args.which in
     let six = c.args.bits in
-    let odd : c.from.result ≡ get_or (get_or COMBINED which []) (2 * six + 1) 0 = c.from.ensures in
-    let even : c.from-2.result ≡ get_or (get_or COMBINED which []) (2 * six) 0 = c.from-2.ensures in
+    let odd : c.from.result ≡ get_or (get_or COMBINED.words which []) (2 * six + 1) 0 = c.from.ensures in
+    let even : c.from-2.result ≡ get_or (get_or COMBINED.words which []) (2 * six) 0 = c.from-2.ensures in
     let p : c.from.result < 2 ^ 32 = subst (λ n. n < 2 ^ 32) (sym odd) (odd_entry-lt which six c.requires.which c.requires.bits) in
     let q : c.from-2.result < 2 ^ 32 = subst (λ n. n < 2 ^ 32) (sym even) (even_entry-lt which six c.requires.which c.requires.bits) in
     joined_words 32 32 64 c.from.result c.from-2.result refl (omega arith) p q

@@ -10,7 +10,7 @@ pub returns : goal.returns
 returns c =
     let which = c.args.which in
     let six = c.args.bits in
-    let word = get_or (get_or COMBINED which []) (2 * six) 0 in
+    let word = get_or (get_or COMBINED.words which []) (2 * six) 0 in
     let e : c.rotate_left.result ≡ rotate_left w32 word 31 = c.rotate_left.ensures in
     sp_is which six c.rotate_left.result word c.requires.which c.requires.bits c.rotate_left.type_inv refl
     (ap (bits_of 32) e ∙ bits_rotated 32 31 word (omega arith) (even_entry-lt which six c.requires.which c.requires.bits))
