@@ -9,8 +9,8 @@ use std::marker::Model;
 /// A key whose sixteen round keys are made once. Contracts see it as the key.
 #[derive(Drop)]
 pub struct Schedule {
-    key: u64,
     round_keys: [u64; 16],
+    key: u64,
 }
 
 impl Model for Schedule {
@@ -30,8 +30,8 @@ impl Schedule {
         ensures { result ≡ key }
     {
         Schedule {
-            key,
             round_keys: round_keys(key),
+            key,
         }
     }
 

@@ -58,8 +58,8 @@ impl Running {
     }
 
     /// The code of all pieces joined.
-    fn total(self) -> u64
-        ensures { (key : ℕ) (text : List ℕ) → Holds self key text → result ≡ code_of key text }
+    fn total(&self) -> u64
+        ensures { (key : ℕ) (text : List ℕ) → Holds self.now key text → result ≡ code_of key text }
     {
         if self.count == 0 {
             return self.last.word();
@@ -118,9 +118,7 @@ pub fn code(key: u64, text: &[u8]) -> u64
 pub fn mac(key: u64, text: &[u8]) -> u32
     ensures { result ≡ mac_of key text.now }
 {
-    let mut running = Running::new(key);
-    running.push(text);
-    running.finish()
+    (code(key, text) >> 32) as u32
 }
 
 /// The error detection code of a text: its `mac` under the key 0123456789ABCDEF.

@@ -10,14 +10,14 @@ use Rattle.x_mac.proofs.running.Running.total.Goals as goal
 pub returns-then-self-eq0 : goal.returns-then-self-eq0
 unfolding Holds
 returns-then-self-eq0 c = λ key text holds.
-    let s = c.args.self in
+    let s = c.args.self.now in
     c.word.ensures
     ∙ sym (goes_on_end key s.last s.count text s.held holds.2 ∙ ap (λ n. code_from key s.last (take n s.held)) c.if-self-eq0.true ∙ code_none key s.last)
 
 pub returns : goal.returns
 unfolding Holds
 returns c = λ key text holds.
-    let s = c.args.self in
+    let s = c.args.self.now in
     let front = take s.count s.held in
     let size : length front ≡ s.count = length-take-le s.count s.held (omega (arith, holds.1, s.within)) in
     let some : 0 < length front = (let ne = c.if-self-eq0.false in omega (arith, size)) in
