@@ -3,8 +3,8 @@ use Rattle.std.proofs.Common.{◌≡◌, ℕ, ◌+◌, ◌*◌, ◌/◌, ◌%◌
 use Rattle.std.specs.Prelude.{bit_and, bit_or, bit_xor, fold}
 use Rattle.std.proofs.lemmas.List.{take-append-drop, take_at, drop_at, length-append}
 use Rattle.std.proofs.lemmas.Nat.{xor_lt}
-use Rattle.x_des.specs.Bits.{bits_of, number, pick, exclusive_or, rotated}
-use Rattle.x_des.specs.Block.{IsDoubled, doubled, half}
+use Rattle.x_des.specs.Bits.{bits_of, chosen, number, pick, exclusive_or}
+use Rattle.x_des.specs.Block.{IsDoubled, doubled, half, sixes, undoubled}
 use Rattle.x_des.specs.Des.{Halves, cipher, crypted, encrypted, decrypted, enciphered, deciphered, exchanged, halved, joined, round, round_keys}
 use Rattle.x_des.specs.Tables.{ip, ip_inverse}
 use Rattle.x_des.proofs.BitsLemmas.{length-bits, length-pick, number-bits, number-lt, bits-number_at, bits-bit_xor, word_is}
@@ -18,22 +18,22 @@ abbrev pub behind : ℕ → ℕ → ℕ
 behind l r = number (pick ip_inverse (half l ++ half r))
 
 pub length-half : (n : ℕ) → length (half n) ≡ 32
-unfolding bits_of
+unfolding bits_of chosen
 length-half n = refl
 
 length-halves : (l r : ℕ) → length (half l ++ half r) ≡ 64
 length-halves l r = length-append (half l) (half r) ∙ ap (λ n. n + length (half r)) (length-half l) ∙ ap (λ n. 32 + n) (length-half r)
 
 -- the half of an exclusive or
-exclusive_or-half : (a b : ℕ) → rotated 31 (drop 32 (exclusive_or (bits_of 64 a) (bits_of 64 b))) ≡ exclusive_or (half a) (half b)
-unfolding bits_of exclusive_or
+exclusive_or-half : (a b : ℕ) → undoubled (exclusive_or (bits_of 64 a) (bits_of 64 b)) ≡ exclusive_or (half a) (half b)
+unfolding bits_of chosen exclusive_or
 exclusive_or-half a b = refl
 
 pub half-xor : (a b : ℕ) → half (bit_xor a b) ≡ exclusive_or (half a) (half b)
-half-xor a b = ap (λ bs. rotated 31 (drop 32 bs)) (bits-bit_xor 64 a b) ∙ exclusive_or-half a b
+half-xor a b = ap undoubled (bits-bit_xor 64 a b) ∙ exclusive_or-half a b
 
 doubled-half : (a b : ℕ) → exclusive_or (doubled (half a)) (doubled (half b)) ≡ doubled (exclusive_or (half a) (half b))
-unfolding bits_of exclusive_or
+unfolding bits_of chosen exclusive_or sixes
 doubled-half a b = refl
 
 pub doubled-xor : (a b : ℕ) → IsDoubled a → IsDoubled b → IsDoubled (bit_xor a b)
@@ -42,23 +42,23 @@ doubled-xor a b p q =
     ∙ doubled-half a b ∙ ap doubled (sym (half-xor a b))
 
 -- a word that doubles a word of 32 bits
-single_of : (n : ℕ) → rotated 31 (drop 32 (doubled (bits_of 32 n))) ≡ bits_of 32 n
-unfolding bits_of
+single_of : (n : ℕ) → undoubled (doubled (bits_of 32 n)) ≡ bits_of 32 n
+unfolding bits_of chosen sixes
 single_of n = refl
 
 pub half-doubled : (w n : ℕ) → bits_of 64 w ≡ doubled (bits_of 32 n) → half w ≡ bits_of 32 n
-half-doubled w n e = ap (λ bs. rotated 31 (drop 32 bs)) e ∙ single_of n
+half-doubled w n e = ap undoubled e ∙ single_of n
 
 pub is_doubled : (w n : ℕ) → bits_of 64 w ≡ doubled (bits_of 32 n) → IsDoubled w
 is_doubled w n e = e ∙ ap doubled (sym (half-doubled w n e))
 
 -- and one that doubles what the cipher function gives
-single_cipher : (bs key : List Bool) → rotated 31 (drop 32 (doubled (cipher bs key))) ≡ cipher bs key
-unfolding cipher pick
+single_cipher : (bs key : List Bool) → undoubled (doubled (cipher bs key)) ≡ cipher bs key
+unfolding bits_of chosen cipher pick sixes
 single_cipher bs key = refl
 
 pub half-cipher : (w : ℕ) (bs key : List Bool) → bits_of 64 w ≡ doubled (cipher bs key) → half w ≡ cipher bs key
-half-cipher w bs key e = ap (λ xs. rotated 31 (drop 32 xs)) e ∙ single_cipher bs key
+half-cipher w bs key e = ap undoubled e ∙ single_cipher bs key
 
 pub is_doubled_cipher : (w : ℕ) (bs key : List Bool) → bits_of 64 w ≡ doubled (cipher bs key) → IsDoubled w
 is_doubled_cipher w bs key e = e ∙ ap doubled (sym (half-cipher w bs key e))

@@ -1,16 +1,17 @@
 -- The cipher function by combined tables is that over lists of bits.
 use Rattle.std.proofs.Common.{◌≡◌, ℕ, zero, suc, ◌+◌, ◌-◌, ◌*◌, ◌<◌, ◌≤◌, Bool, false, List, [], ◌∷◌, ◌++◌, length, take, drop, replicate, get_or, refl, sym, ap, ◌∙◌, arith, append_assoc}
-use Rattle.std.specs.Prelude.{bit_xor}
+use Rattle.std.specs.Prelude.{bit_and, bit_xor}
 use Rattle.std.proofs.lemmas.List.{append-nil, length-append, length-replicate, length-take-le, take_all, take_at, drop_at, drop-drop, at_drop_more, length-drop}
 use Rattle.std.specs.Int.Bits.{xor_zero_l}
 use Rattle.std.proofs.Math.Seq.{take-add}
-use Rattle.x_des.specs.Bits.{bits_of, pick, exclusive_or}
-use Rattle.x_des.specs.Block.{IsDoubled, doubled, half}
+use Rattle.x_des.specs.Bits.{bits_of, chosen, pick, exclusive_or}
+use Rattle.x_des.specs.Block.{IsDoubled, doubled, half, sixes}
 use Rattle.x_des.specs.RoundKey.{gathered}
 use Rattle.x_des.specs.Des.{substituted, substitution}
 use Rattle.x_des.specs.Combined.{placed, sp_of}
 use Rattle.x_des.specs.Tables.{expansion, permutation, s_boxes}
 use Rattle.x_des.proofs.BitsLemmas.{length-pick, bits-bit_xor, bits-number_at}
+use Rattle.x_des.proofs.Words.{bits-sixes}
 use Rattle.x_des.proofs.ExclusiveOr.{pick-exclusive_or, exclusive_or-append, exclusive_or-zeros, zeros-exclusive_or}
 
 pub length-substituted : (box : List ℕ) (six : List Bool) → length (substituted box six) ≡ 4
@@ -131,11 +132,20 @@ combined_is a b c d e f g h x p0 p1 p2 p3 p4 p5 p6 p7 =
 abbrev pub given : ℕ → ℕ → List Bool
 given wide key = exclusive_or (pick expansion (half wide)) (gathered (bits_of 64 key))
 
--- the doubled half and the round key
+-- the doubled half and the round key, of which the last six bits of each byte count
 abbrev both : ℕ → ℕ → List Bool
-both wide key = exclusive_or (doubled (half wide)) (bits_of 64 key)
+both wide key = exclusive_or (doubled (half wide)) (sixes 8 (bits_of 64 key))
 
+-- each byte of a word begins with two zeros, and ends with the six bits of a box
 pub record Groups (n wide key : ℕ) : Type 0 where
+  pub z1 : take 2 (drop 0 (bits_of 64 n)) ≡ false ∷ false ∷ []
+  pub z2 : take 2 (drop 32 (bits_of 64 n)) ≡ false ∷ false ∷ []
+  pub z3 : take 2 (drop 8 (bits_of 64 n)) ≡ false ∷ false ∷ []
+  pub z4 : take 2 (drop 40 (bits_of 64 n)) ≡ false ∷ false ∷ []
+  pub z5 : take 2 (drop 16 (bits_of 64 n)) ≡ false ∷ false ∷ []
+  pub z6 : take 2 (drop 48 (bits_of 64 n)) ≡ false ∷ false ∷ []
+  pub z7 : take 2 (drop 24 (bits_of 64 n)) ≡ false ∷ false ∷ []
+  pub z8 : take 2 (drop 56 (bits_of 64 n)) ≡ false ∷ false ∷ []
   pub s1 : take 6 (drop 2 (bits_of 64 n)) ≡ take 6 (drop 0 (given wide key))
   pub s2 : take 6 (drop 34 (bits_of 64 n)) ≡ take 6 (drop 6 (given wide key))
   pub s3 : take 6 (drop 10 (bits_of 64 n)) ≡ take 6 (drop 12 (given wide key))
@@ -146,8 +156,16 @@ pub record Groups (n wide key : ℕ) : Type 0 where
   pub s8 : take 6 (drop 58 (bits_of 64 n)) ≡ take 6 (drop 42 (given wide key))
 
 pub groups : (n wide key : ℕ) → bits_of 64 n ≡ both wide key → Groups n wide key
-unfolding bits_of pick exclusive_or
+unfolding bits_of chosen pick exclusive_or sixes
 groups n wide key e = record {
+  z1 = ap (λ bs. take 2 (drop 0 bs)) e;
+  z2 = ap (λ bs. take 2 (drop 32 bs)) e;
+  z3 = ap (λ bs. take 2 (drop 8 bs)) e;
+  z4 = ap (λ bs. take 2 (drop 40 bs)) e;
+  z5 = ap (λ bs. take 2 (drop 16 bs)) e;
+  z6 = ap (λ bs. take 2 (drop 48 bs)) e;
+  z7 = ap (λ bs. take 2 (drop 24 bs)) e;
+  z8 = ap (λ bs. take 2 (drop 56 bs)) e;
   s1 = ap (λ bs. take 6 (drop 2 bs)) e;
   s2 = ap (λ bs. take 6 (drop 34 bs)) e;
   s3 = ap (λ bs. take 6 (drop 10 bs)) e;
@@ -158,12 +176,15 @@ groups n wide key e = record {
   s8 = ap (λ bs. take 6 (drop 58 bs)) e;
 }
 
-pub groups_of : (wide key : ℕ) → IsDoubled wide → Groups (bit_xor wide key) wide key
-groups_of wide key e = groups (bit_xor wide key) wide key (bits-bit_xor 64 wide key ∙ ap (λ bs. exclusive_or bs (bits_of 64 key)) e)
+pub groups_of : (wide key : ℕ) → IsDoubled wide → Groups (bit_xor wide (bit_and key 4557430888798830399)) wide key
+groups_of wide key e =
+    let given = bit_and key 4557430888798830399 in
+    groups (bit_xor wide given) wide key
+    (bits-bit_xor 64 wide given ∙ ap (λ bs. exclusive_or bs (bits_of 64 given)) e ∙ ap (exclusive_or (doubled (half wide))) (bits-sixes key))
 
 -- exclusive or of doubled words
-doubled-exclusive_or : (a b : ℕ) → exclusive_or (doubled (bits_of 32 a)) (doubled (bits_of 32 b)) ≡ doubled (exclusive_or (bits_of 32 a) (bits_of 32 b))
-unfolding bits_of exclusive_or
+pub doubled-exclusive_or : (a b : ℕ) → exclusive_or (doubled (bits_of 32 a)) (doubled (bits_of 32 b)) ≡ doubled (exclusive_or (bits_of 32 a) (bits_of 32 b))
+unfolding bits_of exclusive_or sixes
 doubled-exclusive_or a b = refl
 
 pub doubled_sum : (x y a b : ℕ) → bits_of 64 x ≡ doubled (bits_of 32 a) → bits_of 64 y ≡ doubled (bits_of 32 b) → bits_of 64 (bit_xor x y) ≡ doubled (bits_of 32 (bit_xor a b))

@@ -10,3 +10,4 @@ pub mod StandardFacts
 pub mod Words
 pub mod Permuting
 pub mod Blocks
+pub mod Apart

@@ -1,13 +1,16 @@
 -- Shifts, rotations and choices of words, as lists of bits.
-use Rattle.std.proofs.Common.{◌≡◌, ℕ, zero, suc, ◌+◌, ◌-◌, ◌*◌, ◌/◌, ◌%◌, ◌^◌, ◌<◌, ◌≤◌, min, false, cond, eqb, ◌∷◌, ◌++◌, take, drop, replicate, refl, sym, ap, ◌∙◌, arith}
+use Rattle.std.proofs.Common.{◌≡◌, ℕ, zero, suc, ◌+◌, ◌-◌, ◌*◌, ◌/◌, ◌%◌, ◌^◌, ◌<◌, ◌≤◌, min, false, cond, eqb, [], ◌∷◌, ◌++◌, take, drop, replicate, refl, sym, ap, ◌∙◌, arith}
 use Rattle.std.specs.Prelude.{bit_and, bit_or, bit_xor}
 use Rattle.std.proofs.lemmas.Nat.Bits.{bit_at-lt, bit_at_xor, bit_at_and, bit_at-zero}
+use Rattle.std.proofs.lemmas.List.{take-take}
 use Rattle.std.proofs.lemmas.Nat.{and_mask, or_shifted, shl_whole, shr_below, pow-add, shl-shr}
 use Rattle.std.proofs.Math.Arith.{mod-mul}
 use Rattle.std.proofs.Math.Nat.{mul-mod_left, pow-suc}
 use Rattle.std.specs.Int.{bit_at}
-use Rattle.x_des.specs.Bits.{bit, bits_of, chosen, rotated, shifted_left, shifted_right}
-use Rattle.x_des.proofs.BitsLemmas.{length-bits, bits_mod, bits_cat, take-bits, drop-bits}
+use Rattle.std.specs.Int.Bits.{xor_zero_l, xor_zero_r}
+use Rattle.x_des.specs.Bits.{bit, bits_of, chosen, number, rotated, shifted_left, shifted_right}
+use Rattle.x_des.specs.Block.{sixes}
+use Rattle.x_des.proofs.BitsLemmas.{length-bits, number-bits_mod, bits_mod, bits_cat, take-bits, drop-bits}
 
 pub bits-zero : (w : ℕ) → bits_of w 0 ≡ replicate w false
 unfolding bits_of
@@ -40,6 +43,17 @@ chosen_is (suc w) m a b =
     (bit_at_xor b (bit_and (bit_xor a b) m) w ∙ ap (λ n. (bit_at b w + n) % 2) (bit_at_and (bit_xor a b) m w ∙ ap (λ n. min n (bit_at m w)) (bit_at_xor a b w)))
     ∙ ap (λ x. x ∷ bits_of w (bit_xor b (bit_and (bit_xor a b) m))) (one_chosen (bit_at m w) (bit_at a w) (bit_at b w) (bit_at-lt m w) (bit_at-lt a w) (bit_at-lt b w))
     ∙ ap (λ bs. cond (bit m w) (bit a w) (bit b w) ∷ bs) (chosen_is w m a b)
+
+-- the last six bits of each byte of a word
+sixes_chosen : (n : ℕ) → chosen (bits_of 64 4557430888798830399) (bits_of 64 n) (bits_of 64 0) ≡ sixes 8 (bits_of 64 n)
+unfolding bits_of chosen sixes
+sixes_chosen n = refl
+
+pub bits-sixes : (n : ℕ) → bits_of 64 (bit_and n 4557430888798830399) ≡ sixes 8 (bits_of 64 n)
+bits-sixes n =
+    ap (λ x. bits_of 64 (bit_and x 4557430888798830399)) (sym (xor_zero_r n))
+    ∙ ap (bits_of 64) (sym (xor_zero_l (bit_and (bit_xor n 0) 4557430888798830399)))
+    ∙ chosen_is 64 4557430888798830399 n 0 ∙ sixes_chosen n
 
 pow_pos : (k : ℕ) → 0 < 2 ^ k
 pow_pos zero = omega arith
@@ -88,12 +102,26 @@ bits_rotated w k n h small =
     ∙ ap (λ bs. bs ++ bits_of k (n / 2 ^ (w - k))) (bits_mod (w - k) n ∙ sym (drop-bits k (w - k) w n sum'))
     ∙ ap (λ bs. drop k (bits_of w n) ++ bs) (sym (take-bits k (w - k) w n sum'))
 
--- six bits of a word
-pub bits_six : (n k : ℕ) → k ≤ 58 → bits_of 6 (bit_and (n / 2 ^ k) 63) ≡ take 6 (drop (58 - k) (bits_of 64 n))
+-- six bits of a word, which end a byte that begins with two zeros
+pub bits_six : (n k : ℕ) → k ≤ 56 → bits_of 6 (bit_and (n / 2 ^ k) 255) ≡ take 6 (drop (58 - k) (bits_of 64 n))
 bits_six n k h =
-    ap (bits_of 6) (and_mask (n / 2 ^ k) 6) ∙ bits_mod 6 (n / 2 ^ k)
+    ap (bits_of 6) (and_mask (n / 2 ^ k) 8) ∙ bits_low_six (n / 2 ^ k)
     ∙ sym (take-bits 6 k (6 + k) n refl)
     ∙ ap (take 6) (sym (drop-bits (58 - k) (6 + k) 64 n (omega arith)))
+  where
+    bits_low_six : (x : ℕ) → bits_of 6 (x % 2 ^ 8) ≡ bits_of 6 x
+    bits_low_six x = sym (drop-bits 2 6 8 (x % 2 ^ 8) refl) ∙ ap (drop 2) (bits_mod 8 x) ∙ drop-bits 2 6 8 x refl
+
+pub six_below : (n k : ℕ) → k ≤ 56 → take 2 (drop (56 - k) (bits_of 64 n)) ≡ false ∷ false ∷ [] → bit_and (n / 2 ^ k) 255 < 64
+unfolding number
+six_below n k h e =
+    let x = n / 2 ^ k in
+    let high : bits_of 2 (x / 2 ^ 6) ≡ false ∷ false ∷ []
+    = sym (take-bits 2 6 8 x refl) ∙ ap (take 2) (sym (take-bits 8 k (8 + k) n refl))
+    ∙ ap (λ bs. take 2 (take 8 bs)) (sym (drop-bits (56 - k) (8 + k) 64 n (omega arith)))
+    ∙ take-take 2 8 (drop (56 - k) (bits_of 64 n)) (omega arith) ∙ e in
+    let none : x / 2 ^ 6 % 2 ^ 2 ≡ 0 = sym (number-bits_mod 2 (x / 2 ^ 6)) ∙ ap number high in
+    rw (and_mask x 8) (omega (arith, none))
 
 -- four words of 16 bits side by side
 pub bits_quarters : (a b c d : ℕ) → a < 2 ^ 16 → b < 2 ^ 16 → c < 2 ^ 16 → d < 2 ^ 16

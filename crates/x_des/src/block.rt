@@ -5,6 +5,9 @@ ghost use Rattle.x_des.specs.Tables.{ip, ip_inverse};
 
 use std::marker::Model;
 
+/// The last six bits of each byte, in which a doubled half keeps its bits.
+pub const SIXES: u64 = 0x3f3f_3f3f_3f3f_3f3f;
+
 /// A block of 64 bits, kept as the two halves that IP of FIPS 46 makes of it, each doubled, so that
 /// a chain of blocks passes IP and its inverse once. Contracts see it as the block.
 #[derive(Drop)]
@@ -59,14 +62,18 @@ impl Block {
 fn doubled(half: u32) -> u64
     ensures { bits_of 64 result ≡ doubled (bits_of 32 half) }
 {
-    u64::from(half.rotate_left(29)) << 32 | u64::from(half.rotate_left(1))
+    (u64::from(half.rotate_left(29)) << 32 | u64::from(half.rotate_left(1))) & SIXES
 }
 
 /// The half of a block that is doubled in a word.
-fn single(doubled: u64) -> u32
+pub fn single(doubled: u64) -> u32
     ensures { bits_of 32 result ≡ half doubled }
 {
-    ((doubled & 0xffff_ffff) as u32).rotate_left(31)
+    choose(
+        0x9f9f_9f9f,
+        ((doubled & 0xffff_ffff) as u32).rotate_left(31),
+        ((doubled >> 32) as u32).rotate_left(3),
+    )
 }
 
 /// The bits of `these` where the mask has ones, and those of `others` elsewhere.

@@ -1,10 +1,11 @@
-ghost use Rattle.std.specs.Prelude.{◌≡◌, ◌<◌, ◌≤◌, ◌-◌, take, drop};
+ghost use Rattle.std.specs.Prelude.{◌≡◌, ◌<◌, ◌≤◌, ◌-◌, ◌∷◌, [], false, take, drop};
 ghost use Rattle.x_des.specs.Bits.{bits_of};
 ghost use Rattle.x_des.specs.Block.{IsDoubled, doubled, half};
 ghost use Rattle.x_des.specs.Combined.{sp_of};
 ghost use Rattle.x_des.specs.Des.{cipher};
 ghost use Rattle.x_des.specs.RoundKey.{gathered};
 
+use crate::block::{SIXES, single};
 use crate::combined::COMBINED;
 
 /// What P makes of the output of S-box `which + 1` for six input bits, the other boxes giving
@@ -14,7 +15,7 @@ pub fn sp(which: usize, bits: u8) -> u32
     requires bits { bits < 64 }
     ensures { result ≡ sp_of which bits }
 {
-    COMBINED.words[which][2 * bits as usize].rotate_left(31)
+    single(COMBINED[which][bits as usize])
 }
 
 /// The same, doubled as the halves of a block are.
@@ -23,17 +24,17 @@ fn entry(which: usize, bits: u8) -> u64
     requires bits { bits < 64 }
     ensures { bits_of 64 result ≡ doubled (bits_of 32 (sp_of which bits)) }
 {
-    let place = 2 * bits as usize;
-    u64::from(COMBINED.words[which][place + 1]) << 32 | u64::from(COMBINED.words[which][place])
+    COMBINED[which][bits as usize]
 }
 
-/// The six bits of a word from bit `low` on.
+/// The six bits of a word from bit `low` on, which end a byte that begins with two zeros.
 fn six(word: u64, low: u32) -> u8
-    requires { low ≤ 58 }
+    requires low { low ≤ 56 }
+    requires zeros { take 2 (drop (56 - low) (bits_of 64 word)) ≡ false ∷ false ∷ [] }
     ensures below { result < 64 }
     ensures bits { bits_of 6 result ≡ take 6 (drop (58 - low) (bits_of 64 word)) }
 {
-    (word >> low & 0x3f) as u8
+    (word >> low & 0xff) as u8
 }
 
 /// The cipher function f of FIPS 46, of a doubled half of a block and a round key; the result is
@@ -43,13 +44,11 @@ pub fn mixed(wide: u64, round_key: u64) -> u64
     ensures { bits_of 64 result ≡ doubled (cipher (half wide) (gathered (bits_of 64 round_key))) }
 {
     // E gives each box six neighbouring bits, which end a byte of the doubled half.
-    let given = wide ^ round_key;
-    entry(0, six(given, 56))
-        ^ entry(1, six(given, 24))
-        ^ entry(2, six(given, 48))
-        ^ entry(3, six(given, 16))
-        ^ entry(4, six(given, 40))
-        ^ entry(5, six(given, 8))
-        ^ entry(6, six(given, 32))
-        ^ entry(7, six(given, 0))
+    let given = wide ^ round_key & SIXES;
+    // No two entries have a bit in common, so that some can be joined by or: a compiler makes one long
+    // chain of exclusive ors alone.
+    (entry(7, six(given, 0)) | entry(5, six(given, 8)))
+        ^ (entry(3, six(given, 16)) | entry(1, six(given, 24)))
+        ^ (entry(6, six(given, 32)) | entry(4, six(given, 40)))
+        ^ (entry(2, six(given, 48)) | entry(0, six(given, 56)))
 }
