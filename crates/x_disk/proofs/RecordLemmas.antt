@@ -1,10 +1,10 @@
 -- The record of a disk in memory grows by one entry.
-use Rattle.std.proofs.Common.{◌≡◌, inl, ℕ, suc, ◌+◌, ◌≤◌, ◌<◌, min, List, [], ◌∷◌, ◌++◌, length, get_or, take, drop, refl, sym, ◌∙◌, ap, arith, length-append, length-drop}
-use Rattle.std.proofs.lemmas.List.{take_all, drop_all, take-append-le, drop-append-le, nil_from_length, length-take-le, length-take, get_or-take, ext_get_or, take-take}
+use Rattle.std.proofs.Common.{◌≡◌, ℕ, zero, suc, ◌+◌, ◌-◌, ◌≤◌, List, [], ◌∷◌, ◌++◌, length, take, drop, refl, sym, ◌∙◌, ap, arith, length-append, length-drop}
+use Rattle.std.proofs.lemmas.List.{take_all, drop_all, take-append-le, drop-append-le, nil_from_length, length-take-le}
 use Rattle.x_disk.specs.Disk.{overwrite}
 use Rattle.x_disk.specs.History.{Step, Write, Sync, PowerOff, State, state_of, after_step, all_bytes, left_by}
-use Rattle.x_disk.specs.HistoryLaw.{replay-push, length-overwrite, overwrite_elsewhere}
-use Rattle.x_disk.specs.Record.{steps_of, lengths, ranges_of, Represents}
+use Rattle.x_disk.specs.HistoryLaw.{replay-push}
+use Rattle.x_disk.specs.Record.{steps_of, lengths, ranges_of, written, Represents}
 use Rattle.x_disk.specs.declared.disk_record.Entry.{Entry}
 use Rattle.x_disk.specs.declared.disk_record.Entry.TheVariants as E
 
@@ -50,50 +50,97 @@ length-steps (E.Write a len ∷ entries) payload = ap suc (length-steps entries 
 length-steps (E.Sync ∷ entries) payload = ap suc (length-steps entries payload)
 length-steps (E.PowerOff choice ∷ entries) payload = ap suc (length-steps entries payload)
 
-take_overwrite : (at k : ℕ) (new bytes : List ℕ) → k ≤ at → k ≤ length bytes → take k (overwrite at new bytes) ≡ take k bytes
-take_overwrite at k new bytes low within =
-    ext_get_or 0 (take k (overwrite at new bytes)) (take k bytes) (simp (length-take) (omega (arith, within, length-overwrite at new bytes)))
-    (λ i lt. one i (simp length-take at lt))
-  where
-    one : (i : ℕ) → i < min k (length (overwrite at new bytes)) → get_or (take k (overwrite at new bytes)) i 0 ≡ get_or (take k bytes) i 0
-    one i lt = get_or-take k (overwrite at new bytes) i 0 (omega (arith, lt)) ∙ overwrite_elsewhere at new bytes i (omega (arith, lt, within)) (inl (omega (arith, lt, low))) ∙ sym (get_or-take k bytes i 0 (omega (arith, lt)))
+pub lengths-take : (n : ℕ) (xs : List Entry) → lengths (take n xs) ≤ lengths xs
+lengths-take zero xs = omega arith
+lengths-take (suc n) [] = omega arith
+lengths-take (suc n) (E.Write a len ∷ xs) = omega (arith, lengths-take n xs)
+lengths-take (suc n) (E.Sync ∷ xs) = lengths-take n xs
+lengths-take (suc n) (E.PowerOff choice ∷ xs) = lengths-take n xs
 
-same_below : (k n : ℕ) (xs ys : List ℕ) → k ≤ n → take n xs ≡ take n ys → take k xs ≡ take k ys
-same_below k n xs ys le same = sym (take-take k n xs le) ∙ ap (λ (l : List ℕ). take k l) same ∙ take-take k n ys le
+-- bytes behind those of the entries don't count
+written-more : (entries : List Entry) (payload more image : List ℕ) → lengths entries ≤ length payload → written entries (payload ++ more) image ≡ written entries payload image
+written-more [] payload more image le = refl
+written-more (E.Write a len ∷ entries) payload more image le =
+    let within : len ≤ length payload = omega (arith, le) in
+    ap (λ (l : List ℕ). written entries l (overwrite a (take len (payload ++ more)) image)) (drop-append-le len payload more within)
+    ∙ ap (λ (l : List ℕ). written entries (drop len payload ++ more) (overwrite a l image)) (take-append-le len payload more within)
+    ∙ written-more entries (drop len payload) more (overwrite a (take len payload) image) (omega (arith, le, length-drop len payload))
+written-more (E.Sync ∷ entries) payload more image le = written-more entries payload more image le
+written-more (E.PowerOff choice ∷ entries) payload more image le = written-more entries payload more image le
 
-pub represents_write : (bytes stable : List ℕ) (clean : ℕ) (entries : List Entry) (payload : List ℕ) (first at : ℕ) (new : List ℕ) (low : ℕ) → low ≡ min clean at → Represents bytes stable clean entries payload first
-    → Represents (overwrite at new bytes) stable low (entries ++ E.Write at (length new) ∷ []) (payload ++ new) first
-represents_write bytes stable clean entries payload first at new low is kept =
+written-push : (entries : List Entry) (payload : List ℕ) (at : ℕ) (new image : List ℕ) → lengths entries ≡ length payload
+    → written (entries ++ E.Write at (length new) ∷ []) (payload ++ new) image ≡ overwrite at new (written entries payload image)
+written-push [] payload at new image size =
+    let none : payload ≡ [] = nil_from_length payload (sym size) in
+    ap (λ (l : List ℕ). overwrite at (take (length new) (l ++ new)) image) none ∙ ap (λ (l : List ℕ). overwrite at l image) (take_all (length new) new (omega arith))
+written-push (E.Write a len ∷ entries) payload at new image size =
+    let within : len ≤ length payload = omega (arith, size) in
+    ap (λ (l : List ℕ). written (entries ++ E.Write at (length new) ∷ []) l (overwrite a (take len (payload ++ new)) image)) (drop-append-le len payload new within)
+    ∙ ap (λ (l : List ℕ). written (entries ++ E.Write at (length new) ∷ []) (drop len payload ++ new) (overwrite a l image)) (take-append-le len payload new within)
+    ∙ written-push entries (drop len payload) at new (overwrite a (take len payload) image) (omega (arith, size, length-drop len payload))
+written-push (E.Sync ∷ entries) payload at new image size = written-push entries payload at new image size
+written-push (E.PowerOff choice ∷ entries) payload at new image size = written-push entries payload at new image size
+
+written-sync : (entries : List Entry) (payload image : List ℕ) → written (entries ++ E.Sync ∷ []) payload image ≡ written entries payload image
+written-sync [] payload image = refl
+written-sync (E.Write a len ∷ entries) payload image = written-sync entries (drop len payload) (overwrite a (take len payload) image)
+written-sync (E.Sync ∷ entries) payload image = written-sync entries payload image
+written-sync (E.PowerOff choice ∷ entries) payload image = written-sync entries payload image
+
+pub represents_write : (bytes : List ℕ) (entries : List Entry) (payload : List ℕ) (first : ℕ) (base : List ℕ) (n m at : ℕ) (new : List ℕ) → Represents bytes entries payload first base n m
+    → Represents (overwrite at new bytes) (entries ++ E.Write at (length new) ∷ []) (payload ++ new) first base n m
+represents_write bytes entries payload first base n m at new kept =
     let steps = steps-push entries payload at new kept.size in
     let state : state_of (steps_of (entries ++ E.Write at (length new) ∷ []) (payload ++ new)) ≡ after_step (Write at new) (state_of (steps_of entries payload)) =
     ap state_of steps ∙ replay-push (steps_of entries payload) (Write at new) blank in
+    let rest = drop n entries in
+    let left = drop m payload in
+    let low : n ≤ length entries = omega (arith, kept.base_in, kept.within) in
+    let rest_is : drop n (entries ++ E.Write at (length new) ∷ []) ≡ rest ++ E.Write at (length new) ∷ [] = drop-append-le n entries (E.Write at (length new) ∷ []) low in
+    let left_is : drop m (payload ++ new) ≡ left ++ new = drop-append-le m payload new kept.base_within in
+    let part : take (first - n) (drop n (entries ++ E.Write at (length new) ∷ [])) ≡ take (first - n) rest =
+    ap (λ (l : List Entry). take (first - n) l) rest_is ∙ take-append-le (first - n) rest (E.Write at (length new) ∷ []) (omega (arith, kept.within, kept.base_in, length-drop n entries)) in
     record {
       size = lengths-append entries (E.Write at (length new) ∷ []) ∙ omega (arith, kept.size, length-append payload new);
       within = omega (arith, kept.within, length-append entries (E.Write at (length new) ∷ []));
       now_is = ap (λ (l : List ℕ). overwrite at new l) kept.now_is ∙ ap (λ (s : State). s.now) (sym state);
-      stable_is = kept.stable_is ∙ ap (λ (s : State). s.stable) (sym state);
       pending_is =
           ap ranges_of (drop-append-le first entries (E.Write at (length new) ∷ []) kept.within) ∙ ranges-append (drop first entries) (E.Write at (length new) ∷ [])
           ∙ ap (λ (l : List (ℕ × ℕ)). l ++ (at, length new) ∷ []) kept.pending_is ∙ ap (λ (s : State). s.pending) (sym state);
-      clean_in = omega (arith, is, kept.clean_in);
-      clean_within = omega (arith, is, kept.clean_within, length-overwrite at new bytes);
-      clean_same = same_below low clean stable bytes (omega (arith, is)) kept.clean_same ∙ sym (take_overwrite at low new bytes (omega (arith, is)) (omega (arith, is, kept.clean_within)));
+      base_in = kept.base_in;
+      base_within = omega (arith, kept.base_within, length-append payload new);
+      behind = ap lengths rest_is ∙ lengths-append rest (E.Write at (length new) ∷ []) ∙ omega (arith, kept.behind, length-append left new) ∙ ap (λ (l : List ℕ). length l) (sym left_is);
+      now_made =
+          ap (λ (l : List Entry). written l (drop m (payload ++ new)) base) rest_is ∙ ap (λ (l : List ℕ). written (rest ++ E.Write at (length new) ∷ []) l base) left_is
+          ∙ written-push rest left at new base kept.behind ∙ ap (λ (l : List ℕ). overwrite at new l) kept.now_made;
+      stable_made =
+          ap (λ (l : List Entry). written l (drop m (payload ++ new)) base) part ∙ ap (λ (l : List ℕ). written (take (first - n) rest) l base) left_is
+          ∙ written-more (take (first - n) rest) left new base (omega (arith, lengths-take (first - n) rest, kept.behind)) ∙ kept.stable_made ∙ ap (λ (s : State). s.stable) (sym state);
     }
 
-pub represents_sync : (bytes stable : List ℕ) (clean : ℕ) (entries : List Entry) (payload : List ℕ) (first : ℕ) → Represents bytes stable clean entries payload first
-    → Represents bytes bytes (length bytes) (entries ++ E.Sync ∷ []) payload (length (entries ++ E.Sync ∷ []))
-represents_sync bytes stable clean entries payload first kept =
+pub represents_sync : (bytes : List ℕ) (entries : List Entry) (payload : List ℕ) (first : ℕ) (base : List ℕ) (n m : ℕ) → Represents bytes entries payload first base n m
+    → Represents bytes (entries ++ E.Sync ∷ []) payload (length (entries ++ E.Sync ∷ [])) base n m
+represents_sync bytes entries payload first base n m kept =
     let state : state_of (steps_of (entries ++ E.Sync ∷ []) payload) ≡ after_step Sync (state_of (steps_of entries payload)) =
     ap state_of (steps-sync entries payload) ∙ replay-push (steps_of entries payload) Sync blank in
+    let rest = drop n entries in
+    let low : n ≤ length entries = omega (arith, kept.base_in, kept.within) in
+    let long : length (entries ++ E.Sync ∷ []) ≡ length entries + 1 = length-append entries (E.Sync ∷ []) in
+    let rest_is : drop n (entries ++ E.Sync ∷ []) ≡ rest ++ E.Sync ∷ [] = drop-append-le n entries (E.Sync ∷ []) low in
+    let all : take (length (entries ++ E.Sync ∷ []) - n) (drop n (entries ++ E.Sync ∷ [])) ≡ drop n (entries ++ E.Sync ∷ []) =
+    take_all (length (entries ++ E.Sync ∷ []) - n) (drop n (entries ++ E.Sync ∷ [])) (omega (arith, length-drop n (entries ++ E.Sync ∷ []))) in
+    let made : written (drop n (entries ++ E.Sync ∷ [])) (drop m payload) base ≡ bytes =
+    ap (λ (l : List Entry). written l (drop m payload) base) rest_is ∙ written-sync rest (drop m payload) base ∙ kept.now_made in
     record {
       size = lengths-append entries (E.Sync ∷ []) ∙ omega (arith, kept.size);
       within = omega arith;
       now_is = kept.now_is ∙ ap (λ (s : State). s.now) (sym state);
-      stable_is = kept.now_is ∙ ap (λ (s : State). s.stable) (sym state);
       pending_is = ap ranges_of (drop_all (length (entries ++ E.Sync ∷ [])) (entries ++ E.Sync ∷ []) (omega arith)) ∙ ap (λ (s : State). s.pending) (sym state);
-      clean_in = omega arith;
-      clean_within = omega arith;
-      clean_same = refl;
+      base_in = omega (arith, low, long);
+      base_within = kept.base_within;
+      behind = ap lengths rest_is ∙ lengths-append rest (E.Sync ∷ []) ∙ omega (arith, kept.behind);
+      now_made = made;
+      stable_made = ap (λ (l : List Entry). written l (drop m payload) base) all ∙ made ∙ kept.now_is ∙ ap (λ (s : State). s.stable) (sym state);
     }
 
 pub bytes-steps : (entries : List Entry) (payload : List ℕ) → lengths entries ≡ length payload → all_bytes (steps_of entries payload) ≡ length payload
@@ -109,23 +156,28 @@ steps-power_off (E.Write a len ∷ entries) payload choice = ap (λ (l : List St
 steps-power_off (E.Sync ∷ entries) payload choice = ap (λ (l : List Step). Sync ∷ l) (steps-power_off entries payload choice)
 steps-power_off (E.PowerOff a ∷ entries) payload choice = ap (λ (l : List Step). PowerOff a ∷ l) (steps-power_off entries payload choice)
 
-pub represents_power_off : (bytes stable : List ℕ) (clean : ℕ) (entries : List Entry) (payload : List ℕ) (first choice : ℕ) (image : List ℕ) → Represents bytes stable clean entries payload first
-    → image ≡ left_by choice (record { now = bytes; stable = stable; pending = ranges_of (drop first entries) })
-    → Represents image image (length image) (entries ++ E.PowerOff choice ∷ []) payload (length (entries ++ E.PowerOff choice ∷ []))
-represents_power_off bytes stable clean entries payload first choice image kept is =
+pub represents_power_off : (bytes stable : List ℕ) (entries : List Entry) (payload : List ℕ) (first : ℕ) (base : List ℕ) (n m choice : ℕ) (image : List ℕ) → Represents bytes entries payload first base n m
+    → stable ≡ (state_of (steps_of entries payload)).stable → image ≡ left_by choice (record { now = bytes; stable = stable; pending = ranges_of (drop first entries) })
+    → Represents image (entries ++ E.PowerOff choice ∷ []) payload (length (entries ++ E.PowerOff choice ∷ [])) image (length (entries ++ E.PowerOff choice ∷ [])) (length payload)
+represents_power_off bytes stable entries payload first base n m choice image kept stable_is is =
     let before : State = record { now = bytes; stable = stable; pending = ranges_of (drop first entries) } in
     let s = state_of (steps_of entries payload) in
-    let same : before ≡ s = λ i. record { now = kept.now_is i; stable = kept.stable_is i; pending = kept.pending_is i } in
+    let same : before ≡ s = λ i. record { now = kept.now_is i; stable = stable_is i; pending = kept.pending_is i } in
     let left : image ≡ left_by choice s = is ∙ ap (λ (t : State). left_by choice t) same in
     let state : state_of (steps_of (entries ++ E.PowerOff choice ∷ []) payload) ≡ after_step (PowerOff choice) s =
     ap state_of (steps-power_off entries payload choice) ∙ replay-push (steps_of entries payload) (PowerOff choice) blank in
+    let all = entries ++ E.PowerOff choice ∷ [] in
+    let none : drop (length all) all ≡ [] = drop_all (length all) all (omega arith) in
+    let over : drop (length payload) payload ≡ [] = drop_all (length payload) payload (omega arith) in
+    let taken : take (length all - length all) (drop (length all) all) ≡ [] = ap (λ (l : List Entry). take (length all - length all) l) none ∙ take_all (length all - length all) [] (omega arith) in
     record {
       size = lengths-append entries (E.PowerOff choice ∷ []) ∙ omega (arith, kept.size);
       within = omega arith;
       now_is = left ∙ ap (λ (t : State). t.now) (sym state);
-      stable_is = left ∙ ap (λ (t : State). t.stable) (sym state);
-      pending_is = ap ranges_of (drop_all (length (entries ++ E.PowerOff choice ∷ [])) (entries ++ E.PowerOff choice ∷ []) (omega arith)) ∙ ap (λ (t : State). t.pending) (sym state);
-      clean_in = omega arith;
-      clean_within = omega arith;
-      clean_same = refl;
+      pending_is = ap ranges_of none ∙ ap (λ (t : State). t.pending) (sym state);
+      base_in = omega arith;
+      base_within = omega arith;
+      behind = ap lengths none ∙ ap (λ (l : List ℕ). length l) (sym over);
+      now_made = ap (λ (l : List Entry). written l (drop (length payload) payload) image) none;
+      stable_made = ap (λ (l : List Entry). written l (drop (length payload) payload) image) taken ∙ left ∙ ap (λ (t : State). t.stable) (sym state);
     }

@@ -1,5 +1,6 @@
 -- How a disk in memory keeps its record.
-use Rattle.std.specs.Prelude.{◌≡◌, ℕ, ◌+◌, ◌/◌, ◌≤◌, List, [], ◌∷◌, length, take, drop}
+use Rattle.std.specs.Prelude.{◌≡◌, ℕ, ◌+◌, ◌-◌, ◌/◌, ◌≤◌, List, [], ◌∷◌, length, take, drop}
+use Rattle.x_disk.specs.Disk.{overwrite}
 use Rattle.x_disk.specs.History.{Step, Write, Sync, PowerOff, state_of}
 use Rattle.x_disk.specs.declared.disk_record.Entry.{Entry}
 use Rattle.x_disk.specs.declared.disk_record.Entry.TheVariants as E
@@ -23,21 +24,28 @@ ranges_of (E.Write at len ∷ entries) = (at, len) ∷ ranges_of entries
 ranges_of (E.Sync ∷ entries) = ranges_of entries
 ranges_of (E.PowerOff choice ∷ entries) = ranges_of entries
 
--- The fields stand for the history: `first` is the first entry after the last sync or power-off, and below `clean`
--- nothing was written since.
-pub record Represents (bytes stable : List ℕ) (clean : ℕ) (entries : List Entry) (payload : List ℕ) (first : ℕ) : Type 0 where
+-- an image over which these entries wrote
+abbrev pub written : List Entry → List ℕ → List ℕ → List ℕ
+written [] bytes image = image
+written (E.Write at len ∷ entries) bytes image = written entries (drop len bytes) (overwrite at (take len bytes) image)
+written (E.Sync ∷ entries) bytes image = written entries bytes image
+written (E.PowerOff choice ∷ entries) bytes image = written entries bytes image
+
+-- The fields stand for the history: `first` is the first entry after the last sync or power-off, and `base` what the last
+-- power-off left, behind so many entries and bytes of the payload.
+pub record Represents (bytes : List ℕ) (entries : List Entry) (payload : List ℕ) (first : ℕ) (base : List ℕ) (base_entries base_bytes : ℕ) : Type 0 where
   pub size : lengths entries ≡ length payload
   pub within : first ≤ length entries
   pub now_is : bytes ≡ (state_of (steps_of entries payload)).now
-  pub stable_is : stable ≡ (state_of (steps_of entries payload)).stable
   pub pending_is : ranges_of (drop first entries) ≡ (state_of (steps_of entries payload)).pending
-  pub clean_in : clean ≤ length stable
-  pub clean_within : clean ≤ length bytes
-  pub clean_same : take clean stable ≡ take clean bytes
+  pub base_in : base_entries ≤ first
+  pub base_within : base_bytes ≤ length payload
+  pub behind : lengths (drop base_entries entries) ≡ length (drop base_bytes payload)
+  pub now_made : written (drop base_entries entries) (drop base_bytes payload) base ≡ bytes
+  pub stable_made : written (take (first - base_entries) (drop base_entries entries)) (drop base_bytes payload) base ≡ (state_of (steps_of entries payload)).stable
 
 -- the memory that was reserved
-pub record HasRoom (room bytes stable payload entries : ℕ) : Type 0 where
+pub record HasRoom (room bytes payload entries : ℕ) : Type 0 where
   pub for_bytes : room ≤ bytes
-  pub for_stable : room ≤ stable
   pub for_payload : room ≤ payload
   pub for_entries : room / 16 ≤ entries

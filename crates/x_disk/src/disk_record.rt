@@ -1,5 +1,5 @@
 // The record of a disk in memory: what a read gives, the image of the last sync, and all steps.
-use crate::image::{copy_from, settle, write_over};
+use crate::image::{copy_from, settle, write_all, write_over};
 use std::alloc::{AllocError, Global};
 use std::marker::Model;
 use x_base::NoMemory;
@@ -10,7 +10,7 @@ const LEAST: usize = 65_536;
 /// A step of the record. The bytes of a write lie in the payload, behind those of the writes before it.
 #[derive(Clone, Copy, Drop)]
 pub(crate) enum Entry {
-    Write { at: u64, len: u64 },
+    Write { at: u32, len: u32 },
     Sync,
     PowerOff { choice: u64 },
 }
@@ -20,13 +20,15 @@ pub(crate) enum Entry {
 pub(crate) struct DiskRecord {
     room: usize,
     bytes: Vec<u8>,
-    stable: Vec<u8>,
-    // below this place nothing was written since the last sync
-    clean: usize,
     entries: Vec<Entry>,
     payload: Vec<u8>,
     // the first entry after the last sync or power-off
     first: usize,
+    // what the last power-off left; the image of the last sync is made of it only where the power goes
+    base: Vec<u8>,
+    // so many entries and bytes of the payload are in it
+    base_entries: usize,
+    base_bytes: usize,
 }
 
 impl Model for DiskRecord {
@@ -38,8 +40,8 @@ impl Model for DiskRecord {
 
     ghost view = { λ d. record { room = d.room; steps = steps_of d.entries.items d.payload.items } };
 
-    ghost invariant = { λ d. Represents d.bytes.items d.stable.items d.clean d.entries.items d.payload.items d.first
-        × HasRoom d.room (vec_capacity d.bytes) (vec_capacity d.stable) (vec_capacity d.payload) (vec_capacity d.entries) };
+    ghost invariant = { λ d. Represents d.bytes.items d.entries.items d.payload.items d.first d.base.items d.base_entries d.base_bytes
+        × HasRoom d.room (vec_capacity d.bytes) (vec_capacity d.payload) (vec_capacity d.entries) };
 }
 
 impl DiskRecord {
@@ -47,8 +49,8 @@ impl DiskRecord {
     ghost use Rattle.x_disk.specs.Disk.{disk_size};
     ghost use Rattle.x_disk.specs.History.{Write, Sync, PowerOff, IsAdded, IsReserved, state_of};
 
-    /// The record of an empty disk. Reserves `room` bytes or more each for what a read gives, for the image of the last sync
-    /// and for the bytes of the writes, and places for `room / 16` steps; beyond that it grows.
+    /// The record of an empty disk. Reserves `room` bytes or more each for what a read gives and for the bytes of the writes,
+    /// and places for `room / 16` steps; beyond that it grows.
     pub(crate) fn new(alloc: Global, room: usize) -> Result<DiskRecord, NoMemory>
         ensures { IfOk result (λ d. d ≡ record { room = room; steps = [] }) }
     {
@@ -56,11 +58,12 @@ impl DiskRecord {
         Ok(DiskRecord {
             room,
             bytes: Vec::with_capacity(alloc, most)?,
-            stable: Vec::with_capacity(alloc, most)?,
-            clean: 0,
             entries: Vec::with_capacity(alloc, most / 16)?,
             payload: Vec::with_capacity(alloc, most)?,
             first: 0,
+            base: Vec::new(alloc),
+            base_entries: 0,
+            base_bytes: 0,
         })
     }
 
@@ -90,10 +93,9 @@ impl DiskRecord {
         write_over(&mut self.bytes, at as usize, bytes)?;
         self.payload.extend_from_slice(bytes)?;
         self.entries.push(Entry::Write {
-            at,
-            len: bytes.len() as u64,
+            at: at as u32,
+            len: bytes.len() as u32,
         })?;
-        self.clean = self.clean.min(at as usize);
         Ok(())
     }
 
@@ -101,27 +103,41 @@ impl DiskRecord {
         ensures added { IsAdded Sync self.old self.new result }
         ensures covered { (end n calls : ℕ) → IsReserved self.old end n (suc calls) → IsOk result }
     {
-        self.entries.reserve(1)?;
-        copy_from(&mut self.stable, &self.bytes, self.clean)?;
         self.entries.push(Entry::Sync)?;
         self.first = self.entries.len();
-        self.clean = self.bytes.len();
         Ok(())
+    }
+
+    // The image of the last sync.
+    fn last_synced(&self) -> Result<Vec<u8>, AllocError>
+        ensures { IfOk result (λ image. image.items ≡ (state_of self.now.steps).stable) }
+    {
+        let mut image = Vec::new(*self.base.allocator());
+        copy_from(&mut image, &self.base)?;
+        write_all(
+            &mut image,
+            &self.entries[self.base_entries..self.first],
+            &self.payload[self.base_bytes..],
+        )?;
+        Ok(image)
     }
 
     pub(crate) fn add_power_off(&mut self, choice: u64) -> Result<(), AllocError>
         ensures { IsAdded (PowerOff choice) self.old self.new result }
     {
+        let mut left = self.last_synced()?;
         self.entries.reserve(1)?;
         settle(
             &mut self.bytes,
-            &mut self.stable,
+            &mut left,
             &self.entries[self.first..],
             choice,
         )?;
         self.entries.push(Entry::PowerOff { choice })?;
         self.first = self.entries.len();
-        self.clean = self.bytes.len();
+        self.base = left;
+        self.base_entries = self.first;
+        self.base_bytes = self.payload.len();
         Ok(())
     }
 }

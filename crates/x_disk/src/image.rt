@@ -1,16 +1,16 @@
 // The bytes of a disk in memory: how they are written over, copied and torn.
-ghost use Rattle.std.specs.Prelude.{◌≡◌, ◌+◌, ◌<◌, ◌≤◌, ◌-◌, ◌++◌, max, length, take, drop, replicate, OnOk, OnErr, IsOk};
+ghost use Rattle.std.specs.Prelude.{◌≡◌, ◌+◌, ◌<◌, ◌≤◌, ◌-◌, ◌^◌, ◌++◌, max, length, take, drop, replicate, OnOk, OnErr, IsOk};
 ghost use Rattle.std.specs.Vec.{vec_capacity};
-ghost use Rattle.x_disk.specs.Disk.{overwrite, disk_size};
+ghost use Rattle.x_disk.specs.Disk.{overwrite};
 ghost use Rattle.x_disk.specs.History.{State, covers_place, torn_byte, torn_or, torn_from, left_by};
-ghost use Rattle.x_disk.specs.Record.{ranges_of};
+ghost use Rattle.x_disk.specs.Record.{lengths, ranges_of, written};
 
 use crate::disk_record::Entry;
 use std::alloc::AllocError;
 
 // Fills a gap before this place with zeros, and reserves memory for so many bytes behind it.
 fn fill_gap(bytes: &mut Vec<u8>, at: usize, more: usize) -> Result<(), AllocError>
-    requires { at + more ≤ disk_size }
+    requires { at + more < 2 ^ 64 }
     ensures ok { OnOk result (bytes.new.items ≡ bytes.old.items ++ replicate (at - length bytes.old.items) 0) }
     ensures room { OnOk result (length bytes.old.items < at → at + more ≤ vec_capacity bytes.new) }
     ensures err { OnErr result (bytes.new.items ≡ bytes.old.items) }
@@ -40,7 +40,14 @@ fn paste_across(bytes: &mut Vec<u8>, at: usize, new: &[u8]) -> Result<(), AllocE
     ensures capacity { vec_capacity bytes.old ≤ vec_capacity bytes.new }
     ensures succeeds { max (length bytes.old.items) (at + length new.now) ≤ vec_capacity bytes.old → IsOk result }
 {
-    let (over, behind) = new.split_at(new.len().min(bytes.len() - at));
+    if at == bytes.len() {
+        return bytes.extend_from_slice(new);
+    }
+    if new.len() <= bytes.len() - at {
+        paste(bytes, at, new);
+        return Ok(());
+    }
+    let (over, behind) = new.split_at(bytes.len() - at);
     bytes.extend_from_slice(behind)?;
     paste(bytes, at, over);
     Ok(())
@@ -48,7 +55,7 @@ fn paste_across(bytes: &mut Vec<u8>, at: usize, new: &[u8]) -> Result<(), AllocE
 
 /// Writes over what is there and past the end.
 pub(crate) fn write_over(bytes: &mut Vec<u8>, at: usize, new: &[u8]) -> Result<(), AllocError>
-    requires { at + length new.now ≤ disk_size }
+    requires { at < 2 ^ 32 }
     ensures ok { OnOk result (bytes.new.items ≡ overwrite at new.now bytes.old.items) }
     ensures err { OnErr result (bytes.new.items ≡ bytes.old.items) }
     ensures capacity { vec_capacity bytes.old ≤ vec_capacity bytes.new }
@@ -58,18 +65,36 @@ pub(crate) fn write_over(bytes: &mut Vec<u8>, at: usize, new: &[u8]) -> Result<(
     paste_across(bytes, at, new)
 }
 
-/// Makes it equal to bytes with which it agrees below this place.
-pub(crate) fn copy_from(to: &mut Vec<u8>, from: &[u8], place: usize) -> Result<(), AllocError>
-    requires from { place ≤ length from.now }
-    requires to { place ≤ length to.old.items }
-    requires same { take place to.old.items ≡ take place from.now }
+/// Makes it equal to these bytes.
+pub(crate) fn copy_from(to: &mut Vec<u8>, from: &[u8]) -> Result<(), AllocError>
     ensures ok { OnOk result (to.new.items ≡ from.now) }
     ensures err { OnErr result (to.new.items ≡ to.old.items) }
     ensures capacity { vec_capacity to.old ≤ vec_capacity to.new }
-    ensures succeeds { length from.now ≤ vec_capacity to.old → IsOk result }
 {
-    paste_across(to, place, &from[place..])?;
+    paste_across(to, 0, from)?;
     to.truncate(from.len());
+    Ok(())
+}
+
+/// Writes over it what these entries wrote, the bytes of whose writes lie one after the other.
+pub(crate) fn write_all(
+    image: &mut Vec<u8>,
+    entries: &[Entry],
+    payload: &[u8],
+) -> Result<(), AllocError>
+    requires { lengths entries.now ≤ length payload.now }
+    ensures { OnOk result (image.new.items ≡ written entries.now payload.now image.old.items) }
+{
+    let mut rest = entries;
+    let mut behind = payload;
+    while let [entry, after @ ..] = rest {
+        if let Entry::Write { at, len } = *entry {
+            let (new, others) = behind.split_at(len as usize);
+            write_over(image, at as usize, new)?;
+            behind = others;
+        }
+        rest = after;
+    }
     Ok(())
 }
 
@@ -80,8 +105,8 @@ fn is_pending(entries: &[Entry], place: u64) -> bool
     let mut rest = entries;
     while let [entry, after @ ..] = rest {
         if let Entry::Write { at, len } = *entry
-            && at <= place
-            && place - at < len
+            && at as u64 <= place
+            && place - (at as u64) < len as u64
         {
             return true;
         }
@@ -128,14 +153,13 @@ pub(crate) fn settle(
     ensures stable { OnOk result (stable.new.items ≡ left_by choice (record { now = bytes.old.items; stable = stable.old.items; pending = ranges_of entries.now })) }
     ensures err { OnErr result ((bytes.new.items ≡ bytes.old.items) × (stable.new.items ≡ stable.old.items)) }
     ensures capacity { vec_capacity bytes.old ≤ vec_capacity bytes.new }
-    ensures capacity_stable { vec_capacity stable.old ≤ vec_capacity stable.new }
 {
     if choice == 0 {
-        copy_from(bytes, stable, 0)?;
+        copy_from(bytes, stable)?;
         return Ok(());
     }
     let settled = stable.len();
-    copy_from(stable, bytes, 0)?;
+    copy_from(stable, bytes)?;
     if choice == 1 {
         return Ok(());
     }

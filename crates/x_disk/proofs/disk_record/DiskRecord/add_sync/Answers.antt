@@ -2,38 +2,33 @@ use Rattle.std.proofs.Common.{rules, ◌≡◌, ℕ, suc, List, [], ◌∷◌, �
 use Rattle.x_disk.specs.History.{Step, Sync, History, and_then, IsReserved}
 use Rattle.x_disk.specs.Record.{steps_of, Represents}
 use Rattle.x_disk.specs.declared.disk_record.Entry.{Entry}
-use Rattle.x_disk.specs.declared.disk_record.Entry.TheVariants as E
 use Rattle.x_disk.proofs.RecordLemmas.{steps-sync, represents_sync, length-steps}
 use Rattle.x_disk.proofs.disk_record.DiskRecord.add_sync.Goals as goal
 
-pub returns-in_err-reserve-clause-covered : goal.returns-in_err-reserve-clause-covered
-returns-in_err-reserve-clause-covered c = λ end n calls covers.
+pub returns-in_err-push-clause-covered : goal.returns-in_err-push-clause-covered
+returns-in_err-push-clause-covered c = λ end n calls covers.
     let there = subst (λ h. IsReserved h end n (suc calls)) (sym c.self.view_is) covers in
-    absurd (omega (arith, there.counts, c.self.invariant.1.for_entries, c.in_err-reserve.ensures.full, length-steps c.self.inside.entries.items c.self.inside.payload.items))
+    absurd (omega (arith, there.counts, c.self.invariant.1.for_entries, c.in_err-push.ensures.full, length-steps c.self.inside.entries.items c.self.inside.payload.items))
 
 pub invariant_of-self-2 : goal.invariant_of-self-2
 invariant_of-self-2 c =
     let i = c.self.inside in
-    let kept = represents_sync i.bytes.items i.stable.items i.clean i.entries.items i.payload.items i.first c.self.invariant.0 in
-    let entries = c.in_ok-push.ensures.items ∙ ap (λ (l : List Entry). l ++ E.Sync ∷ []) c.reserve.ensures.items in
-    let pushed = subst (λ (l : List Entry). Represents i.bytes.items i.bytes.items (length i.bytes.items) l i.payload.items (length l)) (sym entries) kept in
-    let all = subst (λ (l : List ℕ). Represents i.bytes.items l (length i.bytes.items) c.push.new.self.items i.payload.items (length c.push.new.self.items)) (sym (c.in_ok-copy_from.ensures.ok ∙ c.deref.ensures.value)) pushed in
-    let size : length c.push.new.self.items ≡ c.len-self-inside.result = omega (arith, c.len-self-inside.ensures) in
-    let clean : length i.bytes.items ≡ c.len-self-inside-2.result = omega (arith, c.len-self-inside-2.ensures) in (
-      subst (λ (n : ℕ). Represents i.bytes.items c.copy_from.new.to.items c.len-self-inside-2.result c.push.new.self.items i.payload.items n) size
-          (subst (λ (n : ℕ). Represents i.bytes.items c.copy_from.new.to.items n c.push.new.self.items i.payload.items (length c.push.new.self.items)) clean all),
+    let kept = represents_sync i.bytes.items i.entries.items i.payload.items i.first i.base.items i.base_entries i.base_bytes c.self.invariant.0 in
+    let entries = c.in_ok-push.ensures.items in
+    let pushed = subst (λ (l : List Entry). Represents i.bytes.items l i.payload.items (length l) i.base.items i.base_entries i.base_bytes) (sym entries) kept in
+    let size : length c.push.new.self.items ≡ c.len-self-inside.result = omega (arith, c.len-self-inside.ensures) in (
+      subst (λ (n : ℕ). Represents i.bytes.items c.push.new.self.items i.payload.items n i.base.items i.base_entries i.base_bytes) size pushed,
       record {
         for_bytes = c.self.invariant.1.for_bytes;
-        for_stable = omega (arith, c.self.invariant.1.for_stable, c.copy_from.ensures.capacity);
         for_payload = c.self.invariant.1.for_payload;
-        for_entries = omega (arith, c.self.invariant.1.for_entries, c.reserve.ensures.capacity, c.push.ensures.capacity);
+        for_entries = omega (arith, c.self.invariant.1.for_entries, c.push.ensures.capacity);
       },
     )
 
 pub returns-clause-added : goal.returns-clause-added
 returns-clause-added c = record {
   ok = let i = c.self.inside in
-      let entries = c.in_ok-push.ensures.items ∙ ap (λ (l : List Entry). l ++ E.Sync ∷ []) c.reserve.ensures.items in
+      let entries = c.in_ok-push.ensures.items in
       let steps : steps_of c.push.new.self.items i.payload.items ≡ steps_of i.entries.items i.payload.items ++ Sync ∷ [] =
       ap (λ (l : List Entry). steps_of l i.payload.items) entries ∙ steps-sync i.entries.items i.payload.items in
       ap (λ (l : List Step). let h : History = record { room = i.room; steps = l } in h) steps ∙ ap (λ (h : History). and_then h Sync) c.self.view_is;

@@ -20,14 +20,13 @@ pub invariant_of-self-2 : goal.invariant_of-self-2
 invariant_of-self-2 c =
     let i = c.self.inside in
     let entry = E.Write c.args.at (length c.args.bytes.now) in
-    let kept = represents_write i.bytes.items i.stable.items i.clean i.entries.items i.payload.items i.first c.args.at c.args.bytes.now c.min-self-inside.result c.min-self-inside.ensures c.self.invariant.0 in
-    let written = subst (λ (l : List ℕ). Represents l i.stable.items c.min-self-inside.result (i.entries.items ++ entry ∷ []) (i.payload.items ++ c.args.bytes.now) i.first) (sym c.in_ok-write_over.ensures.ok) kept in
-    let pushed = subst (λ (l : List Entry). Represents c.write_over.new.bytes.items i.stable.items c.min-self-inside.result l (i.payload.items ++ c.args.bytes.now) i.first) (sym (c.in_ok-push.ensures.items ∙ ap (λ (l : List Entry). l ++ entry ∷ []) c.reserve.ensures.items)) written in
-    let all = subst (λ (l : List ℕ). Represents c.write_over.new.bytes.items i.stable.items c.min-self-inside.result c.push.new.self.items l i.first) (sym (c.in_ok-extend_from_slice.ensures.items ∙ ap (λ (l : List ℕ). l ++ c.args.bytes.now) c.reserve-2.ensures.items)) pushed in (
+    let kept = represents_write i.bytes.items i.entries.items i.payload.items i.first i.base.items i.base_entries i.base_bytes c.args.at c.args.bytes.now c.self.invariant.0 in
+    let written = subst (λ (l : List ℕ). Represents l (i.entries.items ++ entry ∷ []) (i.payload.items ++ c.args.bytes.now) i.first i.base.items i.base_entries i.base_bytes) (sym c.in_ok-write_over.ensures.ok) kept in
+    let pushed = subst (λ (l : List Entry). Represents c.write_over.new.bytes.items l (i.payload.items ++ c.args.bytes.now) i.first i.base.items i.base_entries i.base_bytes) (sym (c.in_ok-push.ensures.items ∙ ap (λ (l : List Entry). l ++ entry ∷ []) c.reserve.ensures.items)) written in
+    let all = subst (λ (l : List ℕ). Represents c.write_over.new.bytes.items c.push.new.self.items l i.first i.base.items i.base_entries i.base_bytes) (sym (c.in_ok-extend_from_slice.ensures.items ∙ ap (λ (l : List ℕ). l ++ c.args.bytes.now) c.reserve-2.ensures.items)) pushed in (
       all,
       record {
         for_bytes = omega (arith, c.self.invariant.1.for_bytes, c.write_over.ensures.capacity);
-        for_stable = c.self.invariant.1.for_stable;
         for_payload = omega (arith, c.self.invariant.1.for_payload, c.reserve-2.ensures.capacity, c.extend_from_slice.ensures.capacity);
         for_entries = omega (arith, c.self.invariant.1.for_entries, c.reserve.ensures.capacity, c.push.ensures.capacity);
       },
