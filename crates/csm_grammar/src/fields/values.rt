@@ -107,19 +107,12 @@ impl Fields<'_> {
         self.number(tag)
     }
 
-    fn code_if_any(&self, tag: Tag) -> Option<u32>
-        requires { kind_of tag ≡ OfCode }
-        ensures { option_map ANumber result ≡ value_at self.now.slots tag }
-    {
-        contents::code(self.get(tag)?)
-    }
-
     pub fn code(&self, tag: Tag) -> u32
         requires kind { kind_of tag ≡ OfCode }
         requires present { IsSome (value_at self.now.slots tag) }
         ensures { value_at self.now.slots tag ≡ Some (ANumber result) }
     {
-        self.code_if_any(tag).unwrap()
+        self.number(tag) as u32
     }
 
     fn pair_if_any(&self) -> Option<(u64, u64)>
