@@ -20,8 +20,8 @@ use std::alloc::Global;
 use std::marker::Model;
 use x_base::{Count, Ident, KeyName, Label, NoMemory, Text};
 
-/// The bytes for which a text has room from the start: those of every message without IV, EDK and P.
-const ROOM: usize = 256;
+/// The bytes for which a text has room from the start: those of most messages without IV, EDK and P.
+const ROOM: usize = 128;
 
 /// How long the contents of a field are that is put together before it goes into the text.
 const SHORT: usize = 32;
