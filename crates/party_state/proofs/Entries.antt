@@ -17,6 +17,11 @@ module _ {R K : Type 0} (key : R → K) (same : K → K → Bool) (laws : IsEqui
   find_lookup k [] h = refl
   find_lookup k (e ∷ es) h = λ i. cond (alike k e.0 (key e.1) h.0 i) (Some e.1) (find_lookup k es h.1 i)
 
+  -- keys that are the same find the same row
+  pub find_same : (a b : K) (rs : List R) → same a b ≡ true → find_row key same b rs ≡ find_row key same a rs
+  find_same a b [] e = refl
+  find_same a b (r ∷ rs) e = λ i. cond (sym (laws.congr a b (key r) e) i) (Some r) (find_same a b rs e i)
+
   pub keyed_put : (x : R) (es : List (K × R)) → IsKeyed key same es → IsKeyed key same (insert_entry same es (key x) x)
   keyed_put x [] h = (laws.refl (key x), tt)
   keyed_put x (e ∷ es) h = go (keyed_put x es h.1) (same (key x) e.0) refl

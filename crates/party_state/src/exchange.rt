@@ -2,6 +2,7 @@ ghost use Rattle.std.specs.Prelude.{◌≡◌, IfOk};
 
 use crate::table::Row;
 use std::alloc::Global;
+use std::mem::replace;
 use x_base::{Count, Ident, KeyName, Label, NoMemory, Text};
 
 /// The way a key was sent.
@@ -57,6 +58,17 @@ impl Exchange {
             kind: self.kind,
             text: self.text.copy(alloc)?,
         })
+    }
+
+    /// The exchange; one without a text stays behind. It takes no memory.
+    pub(crate) fn take(&mut self, alloc: Global) -> Exchange
+        ensures { result ≡ self.old }
+    {
+        Exchange {
+            peer: self.peer,
+            kind: self.kind,
+            text: replace(&mut self.text, Text::new(alloc)),
+        }
     }
 }
 

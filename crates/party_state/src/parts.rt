@@ -104,7 +104,7 @@ impl Parts {
     }
 
     /// Does an edit, which can't fail where there is room for it.
-    pub(crate) fn edit(&mut self, edit: Edit) -> Result<(), NoMemory>
+    pub(crate) fn edit(&mut self, mut edit: Edit) -> Result<(), NoMemory>
         requires fitting { IsFitting edit }
         requires goes_on { IsNoBegin edit }
         ensures done { OnOk result (self.new.0 ≡ apply_edit edit self.old.0) }
@@ -112,13 +112,29 @@ impl Parts {
         ensures succeeds { HasSpaceFor (edit ∷ []) self.old.1 → IsOk result }
         ensures room { (es : List TheEdit) → HasSpaceFor (edit ∷ es) self.old.1 → HasSpaceFor es self.new.1 }
     {
+        self.take(&mut edit)
+    }
+
+    /// The same of an edit that stands in a list, out of which it isn't moved, since edits are large. Its text goes over to the party.
+    pub(crate) fn take(&mut self, edit: &mut Edit) -> Result<(), NoMemory>
+        requires fitting { IsFitting edit.old }
+        requires goes_on { IsNoBegin edit.old }
+        ensures done { OnOk result (self.new.0 ≡ apply_edit edit.old self.old.0) }
+        ensures kept { OnErr result (self.new.0 ≡ self.old.0) }
+        ensures succeeds { HasSpaceFor (edit.old ∷ []) self.old.1 → IsOk result }
+        ensures room { (es : List TheEdit) → HasSpaceFor (edit.old ∷ es) self.old.1 → HasSpaceFor es self.new.1 }
+    {
         edit.law_in_range();
         match edit {
-            Edit::PutLink(link) => self.links.put(link),
-            Edit::PutKey(key) => self.keys.put(key),
-            Edit::PutExchange(exchange) => self.exchanges.put(exchange),
-            Edit::PutAnswer(answer) => self.answers.put(answer),
+            Edit::PutLink(link) => self.links.put(*link),
+            Edit::PutKey(key) => self.keys.put(*key),
+            Edit::PutExchange(exchange) => {
+                let alloc = self.exchanges.allocator();
+                self.exchanges.put(exchange.take(alloc))
+            }
+            Edit::PutAnswer(answer) => self.answers.put(*answer),
             Edit::DropLink { peer, label, side } => {
+                let (peer, label, side) = (*peer, *label, *side);
                 self.links.remove(&LinkKey { peer, label, side });
                 Ok(())
             }
@@ -127,11 +143,11 @@ impl Parts {
                 Ok(())
             }
             Edit::DropExchange { peer } => {
-                self.exchanges.remove(&peer);
+                self.exchanges.remove(peer);
                 Ok(())
             }
             Edit::SetGen(v) => {
-                self.generator.v = v;
+                self.generator.v = *v;
                 Ok(())
             }
             Edit::Begin { .. } => Ok(()),

@@ -50,14 +50,14 @@ impl State {
 }
 
 /// Does the edits in their order.
-fn do_edits(parts: &mut Parts, edits: Vec<Edit>)
+fn do_edits(parts: &mut Parts, mut edits: Vec<Edit>)
     requires room { HasSpaceFor edits.items parts.old.1 }
     requires fitting { AreFitting edits.items }
     requires goes_on { HasNoBegin edits.items }
     ensures { parts.new.0 ≡ after edits.items parts.old.0 }
 {
-    for edit in edits {
-        parts.edit(edit).unwrap();
+    for edit in edits.iter_mut() {
+        parts.take(edit).unwrap();
     }
 }
 

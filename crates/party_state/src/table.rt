@@ -1,4 +1,4 @@
-ghost use Rattle.std.specs.Prelude.{◌≡◌, ◌+◌, ◌<◌, ◌≤◌, [], ℕ, length, slice_get, take, filter, not, IsOk, IfSome, IfOk, OnOk, OnErr};
+ghost use Rattle.std.specs.Prelude.{◌≡◌, ◌+◌, ◌<◌, ◌≤◌, [], ℕ, length, slice_get, take, filter, not, Some, IsOk, IfSome, IfOk, OnOk, OnErr};
 ghost use Rattle.std.specs.List.{All};
 ghost use Rattle.std.specs.Map.Iter.{ShowsInOrder, deref};
 ghost use Rattle.std.specs.Option.{option_copied};
@@ -63,7 +63,19 @@ impl<K: Eq + Hash + Copy, R: Row<K>> Table<K, R> {
         ensures found { option_copied result ≡ find_row R.row_key K.eq key.now self.now.0 }
         ensures row { IfSome result (λ r. R.IsRow r.now) }
     {
-        self.map.get(key)
+        // Mostly the row that was put last is looked for, and then no hash is made.
+        match self.last_with(key) {
+            Some(row) => Some(row),
+            None => self.map.get(key),
+        }
+    }
+
+    /// The last row, if it has that key.
+    fn last_with(&self, key: &K) -> Option<&R>
+        ensures { IfSome result (λ r. find_row R.row_key K.eq key.now self.now.0 ≡ Some r.now) }
+    {
+        let (last, row) = self.map.get_index(self.map.len().saturating_sub(1))?;
+        if *last == *key { Some(row) } else { None }
     }
 
     /// Row `i`, from 0.
@@ -73,6 +85,11 @@ impl<K: Eq + Hash + Copy, R: Row<K>> Table<K, R> {
     {
         let (_, row) = self.map.get_index(i)?;
         Some(row)
+    }
+
+    /// What gives the table its memory.
+    pub(crate) fn allocator(&self) -> Global {
+        *self.map.allocator()
     }
 
     /// How many rows there are.
