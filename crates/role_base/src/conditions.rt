@@ -80,9 +80,13 @@ pub fn count_tests(link: &LinkRec, count: Count) -> [(bool, Verdict); 2]
 pub fn has_key_room(state: &State, peer: &Ident, name: &KeyName) -> bool
     ensures { result ≡ has_key_room state.now (record { peer = peer.now; name = name.now }) }
 {
+    // Below the limit there is room whether or not the record stands, so it isn't looked up.
+    if state.key_count() < MOST_KEYS {
+        return true;
+    }
     match state.key(peer, name) {
         Some(_) => state.key_count() <= MOST_KEYS,
-        None => state.key_count() < MOST_KEYS,
+        None => false,
     }
 }
 
