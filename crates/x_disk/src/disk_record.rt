@@ -49,8 +49,8 @@ impl DiskRecord {
     ghost use Rattle.x_disk.specs.Disk.{disk_size};
     ghost use Rattle.x_disk.specs.History.{Write, Sync, PowerOff, IsAdded, IsReserved, state_of};
 
-    /// The record of an empty disk. Reserves `room` bytes or more each for what a read gives and for the bytes of the writes,
-    /// and places for `room / 16` steps; beyond that it grows.
+    /// The record of an empty disk. Reserves `room` bytes or more each for what a read gives, for the image of the last sync
+    /// and for the bytes of the writes, and places for `room / 16` steps; beyond that it grows.
     pub(crate) fn new(alloc: Global, room: usize) -> Result<DiskRecord, NoMemory>
         ensures { IfOk result (λ d. d ≡ record { room = room; steps = [] }) }
     {
@@ -61,7 +61,7 @@ impl DiskRecord {
             entries: Vec::with_capacity(alloc, most / 16)?,
             payload: Vec::with_capacity(alloc, most)?,
             first: 0,
-            base: Vec::new(alloc),
+            base: Vec::with_capacity(alloc, room)?,
             base_entries: 0,
             base_bytes: 0,
         })

@@ -25,8 +25,8 @@ impl TornDisk {
     ghost use Rattle.x_disk.specs.Disk.{disk_size};
     ghost use Rattle.x_disk.specs.History.{Write, Sync, PowerOff, IsAdded, IsReserved};
 
-    /// An empty disk. Reserves `room` bytes each for what a read gives and for the bytes in the record, and places for
-    /// `room / 16` steps; beyond that it grows.
+    /// An empty disk. Reserves `room` bytes each for what a read gives, for the image of the last sync and for the bytes
+    /// in the record, and places for `room / 16` steps; beyond that it grows.
     pub fn new(alloc: Global, room: usize) -> Result<TornDisk, NoMemory>
         ensures { IfOk result (λ d. d ≡ record { room = room; steps = [] }) }
     {
