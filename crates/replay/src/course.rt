@@ -65,11 +65,12 @@ fn behind_quiet(line: &Line, now: &Progress) -> Progress
     }
 }
 
-/// A line.
+/// A line. What is written of it is put together in `lines`.
 fn play_line<K: Sink, H: Shelf>(
     scene: &mut Scene<H::Disk>,
     names: &IndexSet<Ident>,
     sink: &mut K,
+    lines: &mut Vec<u8>,
     shelf: &mut H,
     alloc: Global,
     line: &Line,
@@ -94,7 +95,7 @@ fn play_line<K: Sink, H: Shelf>(
 {
     law_hearing();
     match &act_of(alloc, &scene.texts, line) {
-        Ok(Some(act)) => play_event(scene, names, sink, shelf, alloc, act, now),
+        Ok(Some(act)) => play_event(scene, names, sink, lines, shelf, alloc, act, now),
         Ok(None) => Ok(behind_quiet(line, now)),
         Err(_) => Err(Ending::Failed(Failure::NoMemory)),
     }
@@ -126,9 +127,10 @@ pub(crate) fn play_lines<K: Sink, H: Shelf>(
     ensures later { H.faults shelf.old ≤ H.faults shelf.new }
     ensures climbs { K.faults sink.old ≤ K.faults sink.new }
 {
+    let mut written = Vec::new(alloc);
     let mut now = start();
     'playing: for line in lines {
-        now = play_line(scene, names, sink, shelf, alloc, line, &now)?;
+        now = play_line(scene, names, sink, &mut written, shelf, alloc, line, &now)?;
     }
     Ok(now)
 }

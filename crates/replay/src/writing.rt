@@ -9,7 +9,6 @@ ghost use Rattle.replay.specs.Writing.{WrotePrefix};
 use crate::failure::{Ending, Failure};
 use crate::progress::Outcome;
 use itoa::Buffer;
-use std::alloc::Global;
 use x_base::{NoMemory, Sink, SinkFault, Text};
 
 /// Puts the whole text.
@@ -27,69 +26,69 @@ pub(crate) fn put_all<K: Sink>(sink: &mut K, text: &[u8]) -> Result<(), SinkFaul
     Ok(())
 }
 
-/// How many bytes the lines of an event have room for from the start.
-const ROOM: usize = 256;
-
 /// Appends the decimal digits of a number.
-fn push_number(lines: &mut Text, n: u64) -> Result<(), NoMemory>
-    ensures { OnOk result (lines.new ≡ lines.old ++ decimal n) }
+fn push_number(lines: &mut Vec<u8>, n: u64) -> Result<(), NoMemory>
+    ensures { OnOk result (lines.new.items ≡ lines.old.items ++ decimal n) }
 {
     let mut digits = Buffer::new();
-    lines.push(digits.format(n).as_bytes())
+    lines.extend_from_slice(digits.format(n).as_bytes())?;
+    Ok(())
 }
 
 /// Appends the line of an event.
-fn push_outcome(lines: &mut Text, number: u32, outcome: Outcome) -> Result<(), NoMemory>
-    ensures { OnOk result (lines.new ≡ lines.old ++ outcome_line number outcome) }
+fn push_outcome(lines: &mut Vec<u8>, number: u32, outcome: Outcome) -> Result<(), NoMemory>
+    ensures { OnOk result (lines.new.items ≡ lines.old.items ++ outcome_line number outcome) }
 {
-    lines.push(b"E")?;
+    lines.extend_from_slice(b"E")?;
     push_number(lines, number as u64)?;
     match outcome {
-        Outcome::Done => lines.push(b" DONE\n"),
+        Outcome::Done => lines.extend_from_slice(b" DONE\n")?,
         Outcome::Refused(why) => {
-            lines.push(b" REFUSED ")?;
+            lines.extend_from_slice(b" REFUSED ")?;
             push_number(lines, why as u64)?;
-            lines.push(b"\n")
+            lines.extend_from_slice(b"\n")?;
         }
-        Outcome::Stopped => lines.push(b" STOPPED\n"),
-        Outcome::Nothing => lines.push(b" NONE\n"),
+        Outcome::Stopped => lines.extend_from_slice(b" STOPPED\n")?,
+        Outcome::Nothing => lines.extend_from_slice(b" NONE\n")?,
     }
+    Ok(())
 }
 
 /// Appends the line of a text, if there is one.
-fn push_text(lines: &mut Text, k: u64, text: Option<&Text>) -> Result<(), NoMemory>
-    ensures { OnOk result (lines.new ≡ lines.old ++ text_line k (option_map (λ t. t.now) text.entry)) }
+fn push_text(lines: &mut Vec<u8>, k: u64, text: Option<&Text>) -> Result<(), NoMemory>
+    ensures { OnOk result (lines.new.items ≡ lines.old.items ++ text_line k (option_map (λ t. t.now) text.entry)) }
 {
     let Some(text) = text else {
         return Ok(());
     };
-    lines.push(b"T")?;
+    lines.extend_from_slice(b"T")?;
     push_number(lines, k)?;
-    lines.push(b" ")?;
-    lines.push(text.bytes())?;
-    lines.push(b"\n")
+    lines.extend_from_slice(b" ")?;
+    lines.extend_from_slice(text.bytes())?;
+    lines.extend_from_slice(b"\n")?;
+    Ok(())
 }
 
-/// The lines of an event.
-fn event_text(
-    alloc: Global,
+/// Puts the lines of an event in place of those that were there.
+fn put_event(
+    lines: &mut Vec<u8>,
     number: u32,
     outcome: Outcome,
     k: u64,
     text: Option<&Text>,
-) -> Result<Text, NoMemory>
-    ensures { IfOk result (λ lines. lines ≡ outcome_line number outcome ++ text_line k (option_map (λ t. t.now) text.entry)) }
+) -> Result<(), NoMemory>
+    ensures { OnOk result (lines.new.items ≡ outcome_line number outcome ++ text_line k (option_map (λ t. t.now) text.entry)) }
 {
-    let mut lines = Text::with_capacity(alloc, ROOM)?;
-    push_outcome(&mut lines, number, outcome)?;
-    push_text(&mut lines, k, text)?;
-    Ok(lines)
+    lines.clear();
+    push_outcome(lines, number, outcome)?;
+    push_text(lines, k, text)
 }
 
-/// Writes the lines of an event: what became of it, and the text that it wrote, if it did.
+/// Writes the lines of an event: what became of it, and the text that it wrote, if it did. They are put together in memory
+/// that serves for one event after the other.
 pub(crate) fn write_event<K: Sink>(
     sink: &mut K,
-    alloc: Global,
+    lines: &mut Vec<u8>,
     number: u32,
     outcome: Outcome,
     k: u64,
@@ -103,8 +102,8 @@ pub(crate) fn write_event<K: Sink>(
     ensures fault { result ≡ Err Ending.Write → Rose (K.faults sink.old) (K.faults sink.new) }
     ensures later { K.faults sink.old ≤ K.faults sink.new }
 {
-    let lines = event_text(alloc, number, outcome, k, text)?;
-    match put_all(sink, lines.bytes()) {
+    put_event(lines, number, outcome, k, text)?;
+    match put_all(sink, lines.as_slice()) {
         Ok(()) => Ok(()),
         Err(SinkFault) => Err(Ending::Write),
     }
