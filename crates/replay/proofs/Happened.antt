@@ -13,11 +13,14 @@ use Rattle.world_laws.specs.Honest.{HonestAction}
 use Rattle.replay.specs.Stops.{KeepsChange, IsFixed}
 use Rattle.replay.specs.Scene.{Shows, IsStep, IsCutStep, world_after_told, completion_of}
 use Rattle.replay.specs.Seats.{NoneOf, IsPlace}
+use Rattle.replay.specs.Inputs.{input_of}
 use Rattle.replay.specs.Happenings.{Happening, At, IsNumbered}
 use Rattle.replay.specs.Outcomes.{input_in, outcome_of, IsCompleted, IsOutcome}
 use Rattle.replay.specs.Course.{Course, no_event, event_at, IsDoneBy, IsDone, IsForgedBy, IsForgedAt}
 use Rattle.replay.specs.Acting.{HonestInput, PlaysAt, ForgesAt, IsActed, Acts, Forges}
 use Rattle.replay.specs.declared.act.Act.TheVariants as act
+use Rattle.replay.specs.declared.act.Telling.{Telling}
+use Rattle.replay.specs.declared.act.Telling.TheVariants as telling
 use Rattle.replay.specs.declared.progress.Outcome.{Outcome}
 use Rattle.replay.specs.declared.progress.Outcome.TheVariants as outcome
 use Rattle.replay.specs.declared.progress.Progress.{Progress}
@@ -141,11 +144,11 @@ module _ {D : Type 0} (told : D → View) (low high : ℕ) (old new : Scene D) (
         shows = subst (λ (w : World). Shows told w new) (sym world_is) p.shows;
       }
 
-  pub acts_told : (party : List ℕ) (place : ℕ) (i : Input) → IsPlace old.seats.items party place → PlaysAt told low high old new place (Some i) 0 now o → Acts told low high (act.Tell party i) old new now o
-  acts_told party place (input.Ordered command) is_place plays = λ before after first last c h is shows means.
-      subst (λ (k : Happening). IsActed told before after c new k o) (sym means) (acted_at party place 0 (Orders command) tt is_place plays before after first last c is shows)
-  acts_told party place (input.Arrived a) is_place plays = λ before after first last c h is shows means.
-      subst (λ (k : Happening). IsActed told before after c new k o) (sym means.1) (acted_at party place 0 (Hears means.0 (Some a)) tt is_place plays before after first last c is shows)
+  pub acts_told : (party : List ℕ) (place : ℕ) (t : Telling) → IsPlace old.seats.items party place → PlaysAt told low high old new place (Some (input_of t)) 0 now o → Acts told low high (act.Tell party t) old new now o
+  acts_told party place (telling.Ordered command) is_place plays = λ before after first last c h is shows means.
+      subst (λ (k : Happening). IsActed told before after c new k o) (sym means) (acted_at party place 0 (Orders command.now) tt is_place plays before after first last c is shows)
+  acts_told party place (telling.Arrived a) is_place plays = λ before after first last c h is shows means.
+      subst (λ (k : Happening). IsActed told before after c new k o) (sym means.1) (acted_at party place 0 (Hears means.0 (Some a.now)) tt is_place plays before after first last c is shows)
 
   pub acts_unheard : (party : List ℕ) (place number : ℕ) → IsPlace old.seats.items party place → PlaysAt told low high old new place None number now o → Acts told low high (act.Refuse party number) old new now o
   acts_unheard party place number is_place plays = λ before after first last c h is shows means.
@@ -168,11 +171,11 @@ module _ {D : Type 0} (told : D → View) (low high : ℕ) (old : Scene D) (now 
       let absent : member_at party c.world.members ≡ None = ap (λ (ms : List Member). member_at party ms) (sym shows.members_are) ∙ none_found told party old.seats.items shows.seated none in
       none_acted before after c (At party action) shows (subst (λ (m : Option Member). IsDoneBy before after c party m action (no_event c.now.moment) outcome.Nothing) (sym absent) (refl, refl))
 
-  pub acts_nobody : (party : List ℕ) (i : Input) → NoneOf old.seats.items party → Acts told low high (act.Tell party i) old old now outcome.Nothing
-  acts_nobody party (input.Ordered command) none = λ before after first last c h is shows means.
-      subst (λ (k : Happening). IsActed told before after c old k outcome.Nothing) (sym means) (nobody_at party (Orders command) none before after c shows)
-  acts_nobody party (input.Arrived a) none = λ before after first last c h is shows means.
-      subst (λ (k : Happening). IsActed told before after c old k outcome.Nothing) (sym means.1) (nobody_at party (Hears means.0 (Some a)) none before after c shows)
+  pub acts_nobody : (party : List ℕ) (t : Telling) → NoneOf old.seats.items party → Acts told low high (act.Tell party t) old old now outcome.Nothing
+  acts_nobody party (telling.Ordered command) none = λ before after first last c h is shows means.
+      subst (λ (k : Happening). IsActed told before after c old k outcome.Nothing) (sym means) (nobody_at party (Orders command.now) none before after c shows)
+  acts_nobody party (telling.Arrived a) none = λ before after first last c h is shows means.
+      subst (λ (k : Happening). IsActed told before after c old k outcome.Nothing) (sym means.1) (nobody_at party (Hears means.0 (Some a.now)) none before after c shows)
 
   pub acts_unheard_nobody : (party : List ℕ) (number : ℕ) → NoneOf old.seats.items party → Acts told low high (act.Refuse party number) old old now outcome.Nothing
   acts_unheard_nobody party number none = λ before after first last c h is shows means.
@@ -186,8 +189,8 @@ module _ {D : Type 0} (told : D → View) (old : Scene D) where
       let f = forges c.world party is_place shows in
       subst (λ (m : Option Member). IsForgedBy c m action) (sym f.1) (λ h. f.2 (honest c.world.facts f.0.party h))
 
-  pub forges_told : (party : List ℕ) (place : ℕ) (i : Input) → IsPlace old.seats.items party place → ForgesAt told old place i → Forges told (act.Tell party i) old
-  forges_told party place (input.Ordered command) is_place forges = λ c h shows means.
-      subst (λ (k : Happening). IsForgedAt c k) (sym means) (forged_at party place (input.Ordered command) (Orders command) (λ facts p h. tt) is_place forges c shows)
-  forges_told party place (input.Arrived a) is_place forges = λ c h shows means.
-      subst (λ (k : Happening). IsForgedAt c k) (sym means.1) (forged_at party place (input.Arrived a) (Hears means.0 (Some a)) (λ facts p h. h) is_place forges c shows)
+  pub forges_told : (party : List ℕ) (place : ℕ) (t : Telling) → IsPlace old.seats.items party place → ForgesAt told old place (input_of t) → Forges told (act.Tell party t) old
+  forges_told party place (telling.Ordered command) is_place forges = λ c h shows means.
+      subst (λ (k : Happening). IsForgedAt c k) (sym means) (forged_at party place (input.Ordered command.now) (Orders command.now) (λ facts p h. tt) is_place forges c shows)
+  forges_told party place (telling.Arrived a) is_place forges = λ c h shows means.
+      subst (λ (k : Happening). IsForgedAt c k) (sym means.1) (forged_at party place (input.Arrived a.now) (Hears means.0 (Some a.now)) (λ facts p h. h) is_place forges c shows)

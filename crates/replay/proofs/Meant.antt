@@ -1,43 +1,145 @@
 -- What is to be done where a message arrives.
-use Rattle.std.proofs.Common.{◌≡◌, ℕ, take, List, Some, None, Result, Ok, Err, IfOk, refl, ap, subst}
+use Rattle.std.proofs.Common.{◌≡◌, ◌-◌, ℕ, slice_get, true, List, [], Option, Some, None, Result, Ok, Err, IfOk, take, refl, ap, sym, subst}
 use Rattle.csm_grammar.specs.declared.arrival.Arrival.{Arrival}
 use Rattle.csm_feed.specs.declared.unheard.Unheard.{Unheard}
 use Rattle.csm_feed.specs.Heard.{Heard, behind, readings}
+use Rattle.party_state.specs.declared.command.Command.{Command}
 use Rattle.party_state.specs.declared.command.Input.TheVariants as input
-use Rattle.world_laws.specs.Events.{Hears}
-use Rattle.world_laws.specs.Hearing.{IsHeard}
-use Rattle.replay.specs.Happenings.{At, Arrives, Returns, input_bytes, receiver_of, unheard_number}
-use Rattle.replay.specs.Meanings.{MeantBy}
+use Rattle.scenario.specs.declared.line.Line.{Line}
+use Rattle.scenario.specs.declared.line.Line.TheVariants as line
+use Rattle.world_laws.specs.Events.{Orders, Hears, IsCommand}
+use Rattle.replay.specs.Happenings.{Happening, Nothing, At, Arrives, IsFormed, Returns, arriving, input_bytes, is_arrival, receiver_of, unheard_number}
+use Rattle.replay.specs.Inputs.{input_of}
+use Rattle.replay.specs.Meanings.{HeardOf, IsMeant, MeantBy, order_in}
+use Rattle.replay.specs.declared.act.Act.{Act}
 use Rattle.replay.specs.declared.act.Act.TheVariants as act
+use Rattle.replay.specs.declared.act.Telling.{Telling}
+use Rattle.replay.specs.declared.act.Telling.TheVariants as telling
 
--- these were read of the bytes, and this was heard of them
-module _ (bytes read : List ℕ) (heard : Result Arrival Unheard) (read_is : read ≡ input_bytes bytes) (hears : Heard read (readings heard)) where
-  module _ (a : Arrival) (is : heard ≡ Ok a) (text : IfOk heard (λ (b : Arrival). b.text ≡ take b.parsed.len (behind read))) where
-    heard_there : IsHeard (input_bytes bytes) (Some a)
-    heard_there = subst (λ (b : List ℕ). IsHeard b (Some a)) read_is (
-      subst (λ (r : Result Arrival Unheard). Heard read (readings r)) is hears,
-      subst (λ (r : Result Arrival Unheard). IfOk r (λ (b : Arrival). b.text ≡ take b.parsed.len (behind read))) is text,
-    )
+-- this is heard of the bytes
+module _ (bytes : List ℕ) where
+  pub arrives_heard : (a : Arrival) → HeardOf bytes (Ok a) → (party : List ℕ) → (h : Happening) × Arrives party (Some bytes) h × IsFormed h × ((read : List ℕ) × (h ≡ At party (Hears read (Some a))))
+  arrives_heard a hears party = (
+    At party (Hears (input_bytes bytes) (Some a)),
+    (Some a, (hears.heard_is, hears.text), refl),
+    (hears.heard_is, hears.text),
+    (input_bytes bytes, refl),
+  )
 
-    pub arrives_heard : (party : List ℕ) → MeantBy (Arrives party (Some bytes)) (act.Tell party (input.Arrived a))
-    arrives_heard party = (At party (Hears (input_bytes bytes) (Some a)), (Some a, heard_there, refl), heard_there, (input_bytes bytes, refl))
+  pub returns_heard : (a : Arrival) → HeardOf bytes (Ok a) → (party : List ℕ) → party ≡ receiver_of a.parsed.message → (h : Happening) × Returns (Some bytes) h × IsFormed h × ((read : List ℕ) × (h ≡ At party (Hears read (Some a))))
+  returns_heard a hears party party_is = (
+    At party (Hears (input_bytes bytes) (Some a)),
+    (Some a, (hears.heard_is, hears.text), ap (λ (p : List ℕ). At p (Hears (input_bytes bytes) (Some a))) party_is),
+    (hears.heard_is, hears.text),
+    (input_bytes bytes, refl),
+  )
 
-    pub returns_heard : (party : List ℕ) → party ≡ receiver_of a.parsed.message → MeantBy (Returns (Some bytes)) (act.Tell party (input.Arrived a))
-    returns_heard party party_is = (
-      At party (Hears (input_bytes bytes) (Some a)),
-      (Some a, heard_there, ap (λ (p : List ℕ). At p (Hears (input_bytes bytes) (Some a))) party_is),
-      heard_there,
-      (input_bytes bytes, refl),
-    )
+  pub arrives_unheard : (u : Unheard) → HeardOf bytes (Err u) → (party : List ℕ) (number : ℕ) → number ≡ unheard_number u → MeantBy (Arrives party (Some bytes)) (act.Refuse party number)
+  arrives_unheard u hears party number number_is = (
+    At party (Hears (input_bytes bytes) None),
+    (None, (u, hears.heard_is), refl),
+    (u, hears.heard_is),
+    (input_bytes bytes, u, hears.heard_is, number_is, refl),
+  )
 
-  module _ (u : Unheard) (is : heard ≡ Err u) where
-    unheard_there : Heard (input_bytes bytes) (Err u)
-    unheard_there = subst (λ (b : List ℕ). Heard b (Err u)) read_is (subst (λ (r : Result Arrival Unheard). Heard read (readings r)) is hears)
+  pub returns_unheard : (u : Unheard) → HeardOf bytes (Err u) → MeantBy (Returns (Some bytes)) act.Nothing
+  returns_unheard u hears = (Nothing, (None, (u, hears.heard_is), refl), tt, refl)
 
-    pub arrives_unheard : (party : List ℕ) (number : ℕ) → number ≡ unheard_number u → MeantBy (Arrives party (Some bytes)) (act.Refuse party number)
-    arrives_unheard party number number_is = (
-      At party (Hears (input_bytes bytes) None),
-      (None, (u, unheard_there), refl),
-      (u, unheard_there),
-      (input_bytes bytes, u, unheard_there, number_is, refl),
-    )
+abbrev who : Option (List ℕ × Command) → List ℕ
+who None = []
+who (Some order) = order.0
+
+abbrev what : Command → Option (List ℕ × Command) → Command
+what c None = c
+what c (Some order) = order.1
+
+meant_at : (p party : List ℕ) (c command : Command) → ◌≡◌ {A = Option (List ℕ × Command)} (Some (p, c)) (Some (party, command)) → IsCommand command → (t : Telling) → input_of t ≡ input.Ordered command → MeantBy (λ (h : Happening). h ≡ At p (Orders c)) (act.Tell party t)
+meant_at p party c command same formed (telling.Arrived a) is = cc is
+meant_at p party c command same formed (telling.Ordered r) is =
+    let same_party : p ≡ party = ap who same in
+    let same_command : c ≡ command = ap (what c) same in
+    let told : r.now ≡ command = cc is in
+    let all : At p (Orders c) ≡ At party (Orders r.now) = cc (same_party, same_command, told) in
+    (At p (Orders c), refl, subst IsCommand (sym same_command) formed, all)
+
+-- a line that gives a command
+pub meant_order : (l : Line) (party : List ℕ) (command : Command) → order_in l ≡ Some (party, command) → IsCommand command → (t : Telling) → input_of t ≡ input.Ordered command → (texts : List (List ℕ)) → IsMeant l texts (act.Tell party t)
+meant_order (line.Start p peer label) party command order formed t is texts = meant_at p party _ command order formed t is
+meant_order (line.StartKk p peer label new single) party command order formed t is texts = meant_at p party _ command order formed t is
+meant_order (line.Ask p peer ultimate) party command order formed t is texts = meant_at p party _ command order formed t is
+meant_order (line.Translate p centre ultimate) party command order formed t is texts = meant_at p party _ command order formed t is
+meant_order (line.Resend p peer) party command order formed t is texts = meant_at p party _ command order formed t is
+meant_order (line.End p peer name) party command order formed t is texts = meant_at p party _ command order formed t is
+meant_order (line.Drop p peer) party command order formed t is texts = meant_at p party _ command order formed t is
+meant_order (line.Purge p) party command order formed t is texts = meant_at p party _ command order formed t is
+meant_order (line.Party name role pair v) party command order formed t is texts = cc order
+meant_order (line.Link origin recipient label pair) party command order formed t is texts = cc order
+meant_order (line.Time moment) party command order formed t is texts = cc order
+meant_order (line.Pass k p) party command order formed t is texts = cc order
+meant_order (line.Recent j) party command order formed t is texts = cc order
+meant_order (line.Bytes p bytes) party command order formed t is texts = cc order
+meant_order (line.Stop n choice) party command order formed t is texts = cc order
+
+-- a line at which nothing arrives, since no text is there
+pub meant_nothing : (l : Line) (texts : List (List ℕ)) → is_arrival l ≡ true → arriving l texts ≡ None → IsMeant l texts act.Nothing
+meant_nothing (line.Pass k party) texts arrival none = (Nothing, subst (λ o. Arrives party o Nothing) (sym none) refl, tt, refl)
+meant_nothing (line.Recent j) texts arrival none = (Nothing, subst (λ o. Returns o Nothing) (sym none) refl, tt, refl)
+meant_nothing (line.Bytes party bytes) texts arrival none = cc none
+meant_nothing (line.Start p peer label) texts arrival none = cc arrival
+meant_nothing (line.StartKk p peer label new single) texts arrival none = cc arrival
+meant_nothing (line.Ask p peer ultimate) texts arrival none = cc arrival
+meant_nothing (line.Translate p centre ultimate) texts arrival none = cc arrival
+meant_nothing (line.Resend p peer) texts arrival none = cc arrival
+meant_nothing (line.End p peer name) texts arrival none = cc arrival
+meant_nothing (line.Drop p peer) texts arrival none = cc arrival
+meant_nothing (line.Purge p) texts arrival none = cc arrival
+meant_nothing (line.Party name role pair v) texts arrival none = cc arrival
+meant_nothing (line.Link origin recipient label pair) texts arrival none = cc arrival
+meant_nothing (line.Time moment) texts arrival none = cc arrival
+meant_nothing (line.Stop n choice) texts arrival none = cc arrival
+
+abbrev named : Option (List ℕ) → List ℕ
+named None = []
+named (Some party) = party
+
+-- the party at which the text of a line arrives, where the line names it
+abbrev pub receives : Line → Option (List ℕ)
+receives (line.Pass k party) = Some party
+receives (line.Bytes party bytes) = Some party
+receives l = None
+
+-- the line makes this text arrive
+pub meant_arrives : (l : Line) (party : List ℕ) (texts : List (List ℕ)) (bytes : List ℕ) (a : Act) → receives l ≡ Some party → arriving l texts ≡ Some bytes → MeantBy (Arrives party (Some bytes)) a → IsMeant l texts a
+meant_arrives (line.Pass k p) party texts bytes a at is meant =
+    let same : p ≡ party = ap named at in
+    subst (λ q. MeantBy (Arrives q (slice_get texts (k - 1))) a) (sym same) (subst (λ o. MeantBy (Arrives party o) a) (sym is) meant)
+meant_arrives (line.Bytes p given) party texts bytes a at is meant =
+    let same : p ≡ party = ap named at in
+    subst (λ q. MeantBy (Arrives q (Some given)) a) (sym same) (subst (λ o. MeantBy (Arrives party o) a) (sym is) meant)
+meant_arrives (line.Start p peer label) party texts bytes a at is meant = cc at
+meant_arrives (line.StartKk p peer label new single) party texts bytes a at is meant = cc at
+meant_arrives (line.Ask p peer ultimate) party texts bytes a at is meant = cc at
+meant_arrives (line.Translate p centre ultimate) party texts bytes a at is meant = cc at
+meant_arrives (line.Resend p peer) party texts bytes a at is meant = cc at
+meant_arrives (line.End p peer name) party texts bytes a at is meant = cc at
+meant_arrives (line.Drop p peer) party texts bytes a at is meant = cc at
+meant_arrives (line.Purge p) party texts bytes a at is meant = cc at
+meant_arrives (line.Party name role pair v) party texts bytes a at is meant = cc at
+meant_arrives (line.Link origin recipient label pair) party texts bytes a at is meant = cc at
+meant_arrives (line.Time moment) party texts bytes a at is meant = cc at
+meant_arrives (line.Recent j) party texts bytes a at is meant = cc at
+meant_arrives (line.Stop n choice) party texts bytes a at is meant = cc at
+
+pub meant_returned : (j : ℕ) (texts : List (List ℕ)) (bytes : List ℕ) (a : Act) → arriving (line.Recent j) texts ≡ Some bytes → MeantBy (Returns (Some bytes)) a → IsMeant (line.Recent j) texts a
+meant_returned j texts bytes a is meant = subst (λ o. MeantBy (Returns o) a) (sym is) meant
+
+-- what the reader hears of the first bytes is heard of the bytes
+pub heard_of : {E : Type 0} (bytes read : List ℕ) (r : Result (Result Arrival Unheard) E) (heard : Result Arrival Unheard) → r ≡ Ok heard → read ≡ input_bytes bytes → IfOk r (λ (h : Result Arrival Unheard). Heard read (readings h))
+    → IfOk r (λ (h : Result Arrival Unheard). IfOk h (λ (a : Arrival). a.text ≡ take a.parsed.len (behind read))) → HeardOf bytes heard
+heard_of bytes read r heard is read_is hears text =
+    let here : Heard read (readings heard) = subst (λ x. IfOk x (λ (h : Result Arrival Unheard). Heard read (readings h))) is hears in
+    let of : IfOk heard (λ (a : Arrival). a.text ≡ take a.parsed.len (behind read)) = subst (λ x. IfOk x (λ (h : Result Arrival Unheard). IfOk h (λ (a : Arrival). a.text ≡ take a.parsed.len (behind read)))) is text in
+    record {
+      heard_is = subst (λ (b : List ℕ). Heard b (readings heard)) read_is here;
+      text = subst (λ (b : List ℕ). IfOk heard (λ (a : Arrival). a.text ≡ take a.parsed.len (behind b))) read_is of;
+    }

@@ -4,7 +4,6 @@ use Rattle.std.proofs.lemmas.List.{append-nil}
 use Rattle.x_base.specs.Edge.{AppendsTo}
 use Rattle.x_disk.specs.Disk.{View}
 use Rattle.party_state.specs.declared.command.Input.{Input}
-use Rattle.party_state.specs.declared.command.Input.TheVariants as input
 use Rattle.world_laws.specs.World.{World, Member, member_at}
 use Rattle.world_laws.specs.Events.{Action, Orders, Hears, Event}
 use Rattle.world_laws.specs.Honest.{HonestAt}
@@ -14,6 +13,7 @@ use Rattle.replay.specs.Breaking.{StandForAll, IsEventOf, IsBreak, BreaksEvent}
 use Rattle.replay.specs.Breaks.{IsBrokenAct, BreaksOff, BreaksHonest, BreaksAct}
 use Rattle.replay.specs.Course.{Course, no_event, event_at, IsDoneBy, IsDone}
 use Rattle.replay.specs.Failing.{IsFailing}
+use Rattle.replay.specs.Inputs.{input_of}
 use Rattle.replay.specs.Happenings.{Happening, Nothing, At, IsNumbered}
 use Rattle.replay.specs.Outcomes.{input_in}
 use Rattle.replay.specs.Scene.{Shows, world_after_told}
@@ -22,6 +22,8 @@ use Rattle.replay.specs.Transcript.{outcome_line, text_line, event_lines, writte
 use Rattle.replay.specs.Writing.{WrotePrefix}
 use Rattle.replay.specs.declared.act.Act.{Act}
 use Rattle.replay.specs.declared.act.Act.TheVariants as act
+use Rattle.replay.specs.declared.act.Telling.{Telling}
+use Rattle.replay.specs.declared.act.Telling.TheVariants as telling
 use Rattle.replay.specs.declared.failure.Ending.{Ending}
 use Rattle.replay.specs.declared.failure.Ending.TheVariants as ending
 use Rattle.replay.specs.declared.failure.Failure.{Failure}
@@ -66,11 +68,11 @@ module _ {D : Type 0} (told : D → View) (entry : List ℕ → View) (old new :
           },
         )
 
-    pub told_act : (party : List ℕ) (place : ℕ) (i : Input) → IsPlace old.seats.items party place → BreaksHonest told entry old new place (Some i) now.moment why → BreaksAct told entry (act.Tell party i) old new now why
-    told_act party place (input.Ordered command) is_place breaks = λ c h is shows means.
-        subst (λ (k : Happening). IsFailing why × IsBrokenAct told entry c new.seats.items k) (sym means) (broken_act party place 0 (Orders command) tt is_place breaks c is shows)
-    told_act party place (input.Arrived a) is_place breaks = λ c h is shows means.
-        subst (λ (k : Happening). IsFailing why × IsBrokenAct told entry c new.seats.items k) (sym means.1) (broken_act party place 0 (Hears means.0 (Some a)) tt is_place breaks c is shows)
+    pub told_act : (party : List ℕ) (place : ℕ) (t : Telling) → IsPlace old.seats.items party place → BreaksHonest told entry old new place (Some (input_of t)) now.moment why → BreaksAct told entry (act.Tell party t) old new now why
+    told_act party place (telling.Ordered command) is_place breaks = λ c h is shows means.
+        subst (λ (k : Happening). IsFailing why × IsBrokenAct told entry c new.seats.items k) (sym means) (broken_act party place 0 (Orders command.now) tt is_place breaks c is shows)
+    told_act party place (telling.Arrived a) is_place breaks = λ c h is shows means.
+        subst (λ (k : Happening). IsFailing why × IsBrokenAct told entry c new.seats.items k) (sym means.1) (broken_act party place 0 (Hears means.0 (Some a.now)) tt is_place breaks c is shows)
 
     pub refused_act : (party : List ℕ) (place number : ℕ) → IsPlace old.seats.items party place → BreaksHonest told entry old new place None now.moment why → BreaksAct told entry (act.Refuse party number) old new now why
     refused_act party place number is_place breaks = λ c h is shows means.

@@ -17,6 +17,7 @@ use Rattle.replay.specs.Seats.{IsPlace}
 use Rattle.replay.specs.Course.{Course, IsDone, IsForgedAt}
 use Rattle.replay.specs.declared.act.Act.{Act}
 use Rattle.replay.specs.declared.act.Act.TheVariants as act
+use Rattle.replay.specs.declared.act.Telling.TheVariants as telling
 use Rattle.replay.specs.declared.progress.Outcome.{Outcome}
 use Rattle.replay.specs.declared.progress.Progress.{Progress}
 use Rattle.replay.specs.declared.scene.Scene.{Scene}
@@ -24,8 +25,8 @@ use Rattle.replay.specs.declared.scene.Scene.{Scene}
 -- what is to be done is this happening
 abbrev pub Means : Act → Happening → Type 0
 Means act.Nothing h = h ≡ Nothing
-Means (act.Tell party (input.Ordered command)) h = h ≡ At party (Orders command)
-Means (act.Tell party (input.Arrived a)) h = (bytes : List ℕ) × (h ≡ At party (Hears bytes (Some a)))
+Means (act.Tell party (telling.Ordered command)) h = h ≡ At party (Orders command.now)
+Means (act.Tell party (telling.Arrived a)) h = (bytes : List ℕ) × (h ≡ At party (Hears bytes (Some a.now)))
 Means (act.Refuse party number) h = (bytes : List ℕ) × (u : Unheard) × Heard bytes (Err u) × (number ≡ unheard_number u) × (h ≡ At party (Hears bytes None))
 
 abbrev pub HonestInput : List Fact → Party → Option Input → Type 0

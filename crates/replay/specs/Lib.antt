@@ -10,6 +10,7 @@ pub mod Happenings
 pub mod Outcomes
 pub mod Transcript
 pub mod Course
+pub mod Inputs
 pub mod Acting
 pub mod Forging
 pub mod Ends

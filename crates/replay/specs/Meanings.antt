@@ -1,12 +1,20 @@
 -- What is to be done at a line (this project's profile).
-use Rattle.std.specs.Prelude.{ℕ, List, Option, Some, None}
+use Rattle.std.specs.Prelude.{◌≡◌, ℕ, List, take, Option, Some, None, Result, IfOk}
+use Rattle.csm_grammar.specs.declared.arrival.Arrival.{Arrival}
+use Rattle.csm_feed.specs.declared.unheard.Unheard.{Unheard}
+use Rattle.csm_feed.specs.Heard.{Heard, behind, readings}
 use Rattle.party_state.specs.declared.command.Command.{Command}
 use Rattle.party_state.specs.declared.command.Command.TheVariants as command
 use Rattle.scenario.specs.declared.line.Line.{Line}
 use Rattle.scenario.specs.declared.line.Line.TheVariants as line
 use Rattle.replay.specs.Acting.{Means}
-use Rattle.replay.specs.Happenings.{Happening, Happens, IsFormed}
+use Rattle.replay.specs.Happenings.{Happening, Happens, IsFormed, input_bytes}
 use Rattle.replay.specs.declared.act.Act.{Act}
+
+-- this is heard of the first bytes
+pub record HeardOf (bytes : List ℕ) (heard : Result Arrival Unheard) : Type 0 where
+  pub heard_is : Heard (input_bytes bytes) (readings heard)
+  pub text : IfOk heard (λ (a : Arrival). a.text ≡ take a.parsed.len (behind (input_bytes bytes)))
 
 -- this is to be done for a happening of which this holds
 abbrev pub MeantBy : (Happening → Type 0) → Act → Type 0

@@ -7,9 +7,10 @@ ghost use Rattle.replay.specs.Breaks.{BreaksHonest, BreaksAct};
 ghost use Rattle.replay.specs.Closing.{AllSlots, AnyFaulty, OtherDisksStay};
 ghost use Rattle.replay.specs.Forging.{IsLedAt, IsJudgedAt};
 ghost use Rattle.replay.specs.Outcomes.{outcome_of};
+ghost use Rattle.replay.specs.Inputs.{input_of};
 ghost use Rattle.replay.specs.Seats.{AreOpen, IsPlace, owners};
 
-use crate::act::Act;
+use crate::act::{Act, Telling};
 use crate::failure::{Ending, Failure};
 use crate::forging::{is_honest_led, lead_at};
 use crate::placing::place_of;
@@ -17,7 +18,7 @@ use crate::progress::{Outcome, Progress};
 use crate::scene::{Scene, tell_event};
 use crate::stop_event::{stop_event, stop_unheard};
 use indexmap::IndexSet;
-use party_state::{Input, Lead};
+use party_state::Lead;
 use std::alloc::Global;
 use world_laws::{law_facts, law_inputs, law_runs};
 use x_base::{Ident, Verdict};
@@ -39,7 +40,7 @@ fn play_honest<H: Shelf>(
     own: &Ident,
     shelf: &mut H,
     alloc: Global,
-    input: &Input,
+    input: Telling<'_>,
     lead: &Option<Lead>,
     now: &Progress,
 ) -> Result<Outcome, Failure>
@@ -47,10 +48,10 @@ fn play_honest<H: Shelf>(
     requires placed { IsPlace scene.old.seats.items own.now place }
     requires seated { AreOpen scene.old.seats.items }
     requires slots { AllSlots (H.has_slot shelf.old) (owners scene.old.seats.items) }
-    requires led { IsLedAt scene.old.seats.items place input.now lead.now }
-    requires judged { IsJudgedAt scene.old.seats.items place scene.old.facts input.now true }
-    ensures played { IfOk result (λ outcome. PlaysAt H.Disk.told (H.faults shelf.old) (H.faults shelf.new) scene.old scene.new place (Some input.now) 0 now.now outcome) }
-    ensures broken { IfErr result (λ why. BreaksHonest H.Disk.told (H.entry shelf.new) scene.old scene.new place (Some input.now) now.now.moment why) }
+    requires led { IsLedAt scene.old.seats.items place (input_of input) lead.now }
+    requires judged { IsJudgedAt scene.old.seats.items place scene.old.facts (input_of input) true }
+    ensures played { IfOk result (λ outcome. PlaysAt H.Disk.told (H.faults shelf.old) (H.faults shelf.new) scene.old scene.new place (Some (input_of input.entry)) 0 now.now outcome) }
+    ensures broken { IfErr result (λ why. BreaksHonest H.Disk.told (H.entry shelf.new) scene.old scene.new place (Some (input_of input.entry)) now.now.moment why) }
     ensures fault { result ≡ Err Failure.Fault → Rose (H.faults shelf.old) (H.faults shelf.new) ⊎ AnyFaulty H.Disk.told scene.new.seats.items }
     ensures seated { OnOk result (AreOpen scene.new.seats.items) }
     ensures owners { owners scene.new.seats.items ≡ owners scene.old.seats.items }
@@ -80,16 +81,16 @@ fn play_input<H: Shelf>(
     own: &Ident,
     shelf: &mut H,
     alloc: Global,
-    input: &Input,
+    input: Telling<'_>,
     now: &Progress,
 ) -> Result<Outcome, Ending>
     requires within { place < length scene.old.seats.items }
     requires placed { IsPlace scene.old.seats.items own.now place }
     requires seated { AreOpen scene.old.seats.items }
     requires slots { AllSlots (H.has_slot shelf.old) (owners scene.old.seats.items) }
-    ensures played { IfOk result (λ outcome. PlaysAt H.Disk.told (H.faults shelf.old) (H.faults shelf.new) scene.old scene.new place (Some input.now) 0 now.now outcome) }
-    ensures forged { (n : ℕ) → result ≡ Err (Ending.Forged n) → (n ≡ now.now.number) × (scene.new ≡ scene.old) × ForgesAt H.Disk.told scene.old place input.now }
-    ensures broken { (why : Failure) → result ≡ Err (Ending.Failed why) → BreaksHonest H.Disk.told (H.entry shelf.new) scene.old scene.new place (Some input.now) now.now.moment why }
+    ensures played { IfOk result (λ outcome. PlaysAt H.Disk.told (H.faults shelf.old) (H.faults shelf.new) scene.old scene.new place (Some (input_of input.entry)) 0 now.now outcome) }
+    ensures forged { (n : ℕ) → result ≡ Err (Ending.Forged n) → (n ≡ now.now.number) × (scene.new ≡ scene.old) × ForgesAt H.Disk.told scene.old place (input_of input.entry) }
+    ensures broken { (why : Failure) → result ≡ Err (Ending.Failed why) → BreaksHonest H.Disk.told (H.entry shelf.new) scene.old scene.new place (Some (input_of input.entry)) now.now.moment why }
     ensures write { result ≡ Err Ending.Write → ⊥ }
     ensures fault { result ≡ Err (Ending.Failed Failure.Fault) → Rose (H.faults shelf.old) (H.faults shelf.new) ⊎ AnyFaulty H.Disk.told scene.new.seats.items }
     ensures seated { OnOk result (AreOpen scene.new.seats.items) }
@@ -148,15 +149,15 @@ fn play_told<H: Shelf>(
     party: &Ident,
     shelf: &mut H,
     alloc: Global,
-    input: &Input,
+    input: Telling<'_>,
     now: &Progress,
 ) -> Result<Outcome, Ending>
     requires named { names.now.keys ≡ owners scene.old.seats.items }
     requires seated { AreOpen scene.old.seats.items }
     requires slots { AllSlots (H.has_slot shelf.old) (owners scene.old.seats.items) }
-    ensures acted { IfOk result (λ outcome. Acts H.Disk.told (H.faults shelf.old) (H.faults shelf.new) (Act.Tell party.now input.now) scene.old scene.new now.now outcome) }
-    ensures forged { (n : ℕ) → result ≡ Err (Ending.Forged n) → (n ≡ now.now.number) × (scene.new ≡ scene.old) × Forges H.Disk.told (Act.Tell party.now input.now) scene.old }
-    ensures broken { (why : Failure) → result ≡ Err (Ending.Failed why) → BreaksAct H.Disk.told (H.entry shelf.new) (Act.Tell party.now input.now) scene.old scene.new now.now why }
+    ensures acted { IfOk result (λ outcome. Acts H.Disk.told (H.faults shelf.old) (H.faults shelf.new) (Act.Tell party.now input.entry) scene.old scene.new now.now outcome) }
+    ensures forged { (n : ℕ) → result ≡ Err (Ending.Forged n) → (n ≡ now.now.number) × (scene.new ≡ scene.old) × Forges H.Disk.told (Act.Tell party.now input.entry) scene.old }
+    ensures broken { (why : Failure) → result ≡ Err (Ending.Failed why) → BreaksAct H.Disk.told (H.entry shelf.new) (Act.Tell party.now input.entry) scene.old scene.new now.now why }
     ensures write { result ≡ Err Ending.Write → ⊥ }
     ensures fault { result ≡ Err (Ending.Failed Failure.Fault) → Rose (H.faults shelf.old) (H.faults shelf.new) ⊎ AnyFaulty H.Disk.told scene.new.seats.items }
     ensures seated { OnOk result (AreOpen scene.new.seats.items) }
@@ -205,7 +206,7 @@ pub(crate) fn play_act<H: Shelf>(
     names: &IndexSet<Ident>,
     shelf: &mut H,
     alloc: Global,
-    act: &Act,
+    act: &Act<'_>,
     now: &Progress,
 ) -> Result<Outcome, Ending>
     requires named { names.now.keys ≡ owners scene.old.seats.items }
@@ -224,7 +225,7 @@ pub(crate) fn play_act<H: Shelf>(
 {
     match act {
         Act::Nothing => Ok(Outcome::Nothing),
-        Act::Tell { party, input } => play_told(scene, names, party, shelf, alloc, input, now),
+        Act::Tell { party, input } => play_told(scene, names, party, shelf, alloc, *input, now),
         Act::Refuse { party, number } => {
             let outcome = play_refused(scene, names, party, shelf, alloc, *number, now)?;
             Ok(outcome)

@@ -1,17 +1,15 @@
 // What is to be done where a text arrives.
-ghost use Rattle.std.specs.Prelude.{◌≡◌, ◌≤◌, length, option_map, Some, IfOk, IsSomeAnd};
+ghost use Rattle.std.specs.Prelude.{◌≡◌, ◌≤◌, ℕ, List, length, Some};
 ghost use Rattle.replay.specs.Happenings.{Arrives, Returns, input_bytes, read_number, receiver_of, unheard_number};
-ghost use Rattle.replay.specs.Meanings.{MeantBy};
+ghost use Rattle.replay.specs.Meanings.{HeardOf, MeantBy};
 
-use crate::act::Act;
-use csm_feed::{INPUT_LIMIT, Unheard, hear};
-use csm_grammar::{Message, ReadRefusal};
-use party_state::Input;
-use std::alloc::Global;
-use x_base::{Ident, NoMemory, Text};
+use crate::act::{Act, Telling};
+use csm_feed::{INPUT_LIMIT, Unheard};
+use csm_grammar::{Arrival, Message, ReadRefusal};
+use x_base::Ident;
 
 /// The first bytes, as many as an input may have.
-fn input_bytes(bytes: &[u8]) -> &[u8]
+pub(crate) fn input_bytes(bytes: &[u8]) -> &[u8]
     ensures value { result.now ≡ input_bytes bytes.now }
     ensures few { length result.now ≤ 2049 }
 {
@@ -63,61 +61,32 @@ fn receiver_of(message: &Message) -> Ident
     }
 }
 
-/// Bytes arrive at a party. What is to be done is always told, and as `act_of` tells it, so that it is built once.
-pub(crate) fn arrive_bytes(
-    alloc: Global,
-    party: &Ident,
-    bytes: &[u8],
-) -> Result<Option<Act>, NoMemory>
-    ensures { IfOk result (λ o. IsSomeAnd o (MeantBy (Arrives party.now (Some bytes.now)))) }
+/// What is to be done at a party, where this is heard of the bytes that arrive at it.
+pub(crate) fn arrived<'a>(party: &Ident, heard: &'a Result<Arrival, Unheard>) -> Act<'a>
+    ensures { (bytes : List ℕ) → HeardOf bytes heard.now → MeantBy (Arrives party.now (Some bytes)) result }
 {
-    match hear(alloc, input_bytes(bytes)) {
-        Ok(Ok(arrival)) => Ok(Some(Act::Tell {
+    match heard {
+        Ok(arrival) => Act::Tell {
             party: *party,
-            input: Input::Arrived(arrival),
-        })),
-        Ok(Err(unheard)) => Ok(Some(Act::Refuse {
+            input: Telling::Arrived(arrival),
+        },
+        Err(unheard) => Act::Refuse {
             party: *party,
-            number: unheard_number(unheard),
-        })),
-        Err(why) => Err(why),
+            number: unheard_number(*unheard),
+        },
     }
 }
 
-/// A text arrives at a party, if there is one.
-pub(crate) fn arrive(
-    alloc: Global,
-    party: &Ident,
-    text: Option<&Text>,
-) -> Result<Option<Act>, NoMemory>
-    ensures { IfOk result (λ o. IsSomeAnd o (MeantBy (Arrives party.now (option_map (λ t. t.now) text.entry)))) }
+/// What is to be done at the party that the message names as its receiver, where this is heard of the bytes that arrive.
+#[tactic(auto, using(crate::proofs::Meant::returns_unheard))]
+pub(crate) fn returned<'a>(heard: &'a Result<Arrival, Unheard>) -> Act<'a>
+    ensures { (bytes : List ℕ) → HeardOf bytes heard.now → MeantBy (Returns (Some bytes)) result }
 {
-    match text {
-        Some(text) => arrive_bytes(alloc, party, text.bytes()),
-        None => Ok(Some(Act::Nothing)),
-    }
-}
-
-/// Bytes arrive at the party that the message in them names as its receiver.
-fn return_bytes(alloc: Global, bytes: &[u8]) -> Result<Option<Act>, NoMemory>
-    ensures { IfOk result (λ o. IsSomeAnd o (MeantBy (Returns (Some bytes.now)))) }
-{
-    match hear(alloc, input_bytes(bytes)) {
-        Ok(Ok(arrival)) => Ok(Some(Act::Tell {
+    match heard {
+        Ok(arrival) => Act::Tell {
             party: receiver_of(&arrival.parsed.message),
-            input: Input::Arrived(arrival),
-        })),
-        Ok(Err(_)) => Ok(Some(Act::Nothing)),
-        Err(why) => Err(why),
-    }
-}
-
-/// A text arrives where its message says, if there is one.
-pub(crate) fn return_text(alloc: Global, text: Option<&Text>) -> Result<Option<Act>, NoMemory>
-    ensures { IfOk result (λ o. IsSomeAnd o (MeantBy (Returns (option_map (λ t. t.now) text.entry)))) }
-{
-    match text {
-        Some(text) => return_bytes(alloc, text.bytes()),
-        None => Ok(Some(Act::Nothing)),
+            input: Telling::Arrived(arrival),
+        },
+        Err(_) => Act::Nothing,
     }
 }

@@ -1,11 +1,13 @@
 // An event is carried out, and the disk taken out of what is left.
 ghost use Rattle.std.specs.Prelude.{◌≡◌, ◌≤◌};
 ghost use Rattle.roles.specs.Deciding.{decision};
+ghost use Rattle.node_core.specs.Turns.{IsTurn};
 ghost use Rattle.replay.specs.Carried.{IsCarried, IsFusedCarried};
+ghost use Rattle.replay.specs.Inputs.{input_of};
 
+use crate::act::Telling;
 use key_journal::Cause;
 use node_core::{Node, Turn};
-use party_state::Input;
 use std::alloc::Global;
 use x_disk::Disk;
 
@@ -20,11 +22,29 @@ pub(crate) enum Carried<D: Disk> {
     NoMemory(D),
 }
 
-/// Carries the event out.
-pub(crate) fn carry<D: Disk>(node: Node<D>, alloc: Global, input: &Input, moment: u64) -> Carried<D>
-    ensures { IsCarried D.told node (decision node.party input.now moment) result }
+/// A party has a turn.
+fn turn<D: Disk>(node: Node<D>, alloc: Global, input: Telling<'_>, moment: u64) -> Turn<D>
+    ensures { IsTurn D.told node (decision node.party (input_of input.entry) moment) result }
 {
-    match node.turn(alloc, input, moment) {
+    match input {
+        Telling::Ordered(command) => node.order(alloc, *command, moment),
+        Telling::Arrived(arrival) => {
+            let lead = node.lead(arrival);
+            node.take_led(alloc, arrival, &lead, moment)
+        }
+    }
+}
+
+/// Carries the event out.
+pub(crate) fn carry<D: Disk>(
+    node: Node<D>,
+    alloc: Global,
+    input: Telling<'_>,
+    moment: u64,
+) -> Carried<D>
+    ensures { IsCarried D.told node (decision node.party (input_of input.entry) moment) result }
+{
+    match turn(node, alloc, input, moment) {
         Turn::Done { node, .. } => Carried::Whole(node.into_disk()),
         Turn::Refused { node, .. } => Carried::Whole(node.into_disk()),
         Turn::NoMemory(node) => Carried::NoMemory(node.into_disk()),
@@ -42,12 +62,12 @@ pub(crate) fn carry<D: Disk>(node: Node<D>, alloc: Global, input: &Input, moment
 pub(crate) fn carry_fused<D: Disk>(
     node: Node<D>,
     alloc: Global,
-    input: &Input,
+    input: Telling<'_>,
     moment: u64,
     calls: u64,
 ) -> Carried<D>
     requires { calls ≤ 3 }
-    ensures { IsFusedCarried D.told node (decision node.party input.now moment) calls result }
+    ensures { IsFusedCarried D.told node (decision node.party (input_of input.entry) moment) calls result }
 {
     match carry(node.fuse(calls), alloc, input, moment) {
         Carried::Whole(disk) => Carried::Whole(disk.into_inner()),

@@ -6,16 +6,20 @@ ghost use Rattle.replay.specs.Breaking.{BreaksIn};
 ghost use Rattle.replay.specs.Closing.{AllSlots, AnyFaulty, OtherDisksStay};
 ghost use Rattle.replay.specs.LineBreaks.{BreaksLine};
 ghost use Rattle.replay.specs.Lines.{IsQuietNext, PlaysLine, Plays, ForgesLine, ForgesIn};
+ghost use Rattle.replay.specs.Meanings.{IsMeant};
 ghost use Rattle.replay.specs.Outcomes.{IsWithin};
 ghost use Rattle.replay.specs.Seats.{AreOpen, owners};
 ghost use Rattle.replay.specs.Starts.{start_progress};
 
+use crate::act::Act;
+use crate::arriving::input_bytes;
 use crate::failure::{Ending, Failure};
 use crate::lines::play_event;
-use crate::meaning::act_of;
+use crate::meaning::{act_of, bytes_at, is_arrival, order_of, ordered};
 use crate::progress::{Counts, Progress};
 use crate::scene::Scene;
 use crate::stopped::Stop;
+use csm_feed::hear;
 use indexmap::IndexSet;
 use scenario::Line;
 use std::alloc::Global;
@@ -65,6 +69,39 @@ fn behind_quiet(line: &Line, now: &Progress) -> Progress
     }
 }
 
+/// An event at a line, at which this is to be done, and its lines.
+fn play_meant<K: Sink, H: Shelf>(
+    scene: &mut Scene<H::Disk>,
+    names: &IndexSet<Ident>,
+    sink: &mut K,
+    lines: &mut Vec<u8>,
+    shelf: &mut H,
+    alloc: Global,
+    line: &Line,
+    act: &Act<'_>,
+    now: &Progress,
+) -> Result<Progress, Ending>
+    requires meant { IsMeant line.now scene.old.texts.items act.now }
+    requires named { names.now.keys ≡ owners scene.old.seats.items }
+    requires seated { AreOpen scene.old.seats.items }
+    requires slots { AllSlots (H.has_slot shelf.old) (owners scene.old.seats.items) }
+    requires few { IsWithin now.now 65535 }
+    ensures played { IfOk result (λ after. PlaysLine H.Disk.told (H.faults shelf.old) (H.faults shelf.new) line.now scene.old scene.new now.now after (K.written sink.old) (K.written sink.new)) }
+    ensures forged { (n : ℕ) → result ≡ Err (Ending.Forged n) → (n ≡ now.now.number) × (scene.new ≡ scene.old) × (K.written sink.new ≡ K.written sink.old) × ForgesLine H.Disk.told line.now scene.old }
+    ensures broken { (why : Ending) → result ≡ Err why → ((n : ℕ) → why ≡ Ending.Forged n → ⊥) → BreaksLine H.Disk.told (H.entry shelf.new) (H.faults shelf.old) (H.faults shelf.new) line.now scene.old scene.new now.now (K.written sink.old) (K.written sink.new) why }
+    ensures write { result ≡ Err Ending.Write → Rose (K.faults sink.old) (K.faults sink.new) }
+    ensures within { IfOk result (λ after. (n : ℕ) → IsWithin now.now n → IsWithin after (n + 1)) }
+    ensures fault { result ≡ Err (Ending.Failed Failure.Fault) → Rose (H.faults shelf.old) (H.faults shelf.new) ⊎ AnyFaulty H.Disk.told scene.new.seats.items }
+    ensures seated { OnOk result (AreOpen scene.new.seats.items) }
+    ensures owners { owners scene.new.seats.items ≡ owners scene.old.seats.items }
+    ensures others { OtherDisksStay (H.entry shelf.old) (H.entry shelf.new) scene.old.seats.items }
+    ensures slots { SlotsStay (H.has_slot shelf.old) (H.has_slot shelf.new) }
+    ensures later { H.faults shelf.old ≤ H.faults shelf.new }
+    ensures climbs { K.faults sink.old ≤ K.faults sink.new }
+{
+    play_event(scene, names, sink, lines, shelf, alloc, act, now)
+}
+
 /// A line. What is written of it is put together in `lines`.
 fn play_line<K: Sink, H: Shelf>(
     scene: &mut Scene<H::Disk>,
@@ -94,9 +131,31 @@ fn play_line<K: Sink, H: Shelf>(
     ensures climbs { K.faults sink.old ≤ K.faults sink.new }
 {
     law_hearing();
-    match &act_of(alloc, &scene.texts, line) {
-        Ok(Some(act)) => play_event(scene, names, sink, lines, shelf, alloc, act, now),
-        Ok(None) => Ok(behind_quiet(line, now)),
+    if let Some((party, command)) = order_of(line) {
+        let act = ordered(line, &party, &command);
+        return play_meant(scene, names, sink, lines, shelf, alloc, line, &act, now);
+    }
+    if !is_arrival(line) {
+        return Ok(behind_quiet(line, now));
+    }
+    let Some(bytes) = bytes_at(&scene.texts, line) else {
+        return play_meant(
+            scene,
+            names,
+            sink,
+            lines,
+            shelf,
+            alloc,
+            line,
+            &Act::Nothing,
+            now,
+        );
+    };
+    match &hear(alloc, input_bytes(bytes)) {
+        Ok(heard) => {
+            let act = act_of(line, heard);
+            play_meant(scene, names, sink, lines, shelf, alloc, line, &act, now)
+        }
         Err(_) => Err(Ending::Failed(Failure::NoMemory)),
     }
 }

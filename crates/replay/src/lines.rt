@@ -42,7 +42,7 @@ pub(crate) fn play_event<K: Sink, H: Shelf>(
     lines: &mut Vec<u8>,
     shelf: &mut H,
     alloc: Global,
-    act: &Act,
+    act: &Act<'_>,
     now: &Progress,
 ) -> Result<Progress, Ending>
     requires named { names.now.keys ≡ owners scene.old.seats.items }

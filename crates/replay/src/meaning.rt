@@ -1,16 +1,17 @@
 // What is to be done at a line.
-ghost use Rattle.std.specs.Prelude.{◌≡◌, ◌-◌, List, ℕ, Some, IfNone, IfOk, IfSome, OnErr, option_map, slice_get};
+ghost use Rattle.std.specs.Prelude.{◌≡◌, ◌-◌, List, ℕ, true, false, Some, IfNone, IfSome, option_map, slice_get};
 ghost use Rattle.x_base.specs.Names.{IsIdent, IsLabel};
 ghost use Rattle.world_laws.specs.Events.{IsCommand};
-ghost use Rattle.replay.specs.Happenings.{IsNoEvent, text_back};
-ghost use Rattle.replay.specs.Meanings.{IsMeant, IsNoOrder, order_in};
+ghost use Rattle.replay.specs.Happenings.{IsNoEvent, arriving, is_arrival, text_back};
+ghost use Rattle.replay.specs.Meanings.{HeardOf, IsMeant, IsNoOrder, order_in};
 
-use crate::act::Act;
-use crate::arriving::{arrive, arrive_bytes, return_text};
-use party_state::{Command, Input};
+use crate::act::{Act, Telling};
+use crate::arriving::{arrived, returned};
+use csm_feed::Unheard;
+use csm_grammar::Arrival;
+use party_state::Command;
 use scenario::Line;
-use std::alloc::Global;
-use x_base::{Ident, Label, NoMemory, Text};
+use x_base::{Ident, Label, Text};
 
 fn start_kk(peer: &Ident, label: &Label, new: &Label, single: bool) -> Command
     ensures command { result ≡ Command.StartKk peer.now (Some label.now) new.now single }
@@ -55,9 +56,10 @@ fn ask(peer: &Ident, ultimate: &Option<Ident>) -> Command
 }
 
 /// The party and its command, of a line that gives one.
-fn order_of(line: &Line) -> Option<(Ident, Command)>
+pub(crate) fn order_of(line: &Line) -> Option<(Ident, Command)>
     ensures order { result ≡ order_in line.now }
     ensures formed { IfSome result (λ order. IsCommand order.1) }
+    ensures none { IfNone result (IsNoOrder line.now) }
 {
     match line {
         Line::Start { party, peer, label } => Some((*party, start(peer, label))),
@@ -92,20 +94,6 @@ fn order_of(line: &Line) -> Option<(Ident, Command)>
     }
 }
 
-/// What is to be done at a line that gives a command.
-fn ordered(line: &Line) -> Option<Act>
-    ensures some { IfSome result (λ act. (texts : List (List ℕ)) → IsMeant line.now texts act) }
-    ensures none { IfNone result (IsNoOrder line.now) }
-{
-    match order_of(line) {
-        Some((party, command)) => Some(Act::Tell {
-            party,
-            input: Input::Ordered(command),
-        }),
-        None => None,
-    }
-}
-
 /// The `k`-th text, from 1.
 fn text_of(texts: &[Text], k: u32) -> Option<&Text>
     ensures { option_map (λ t. t.now) result ≡ slice_get texts.now (k - 1) }
@@ -125,16 +113,51 @@ fn text_back(texts: &[Text], j: u32) -> Option<&Text>
     }
 }
 
-/// What is to be done at a line that is an event, where these texts were written; at another, nothing.
-pub(crate) fn act_of(alloc: Global, texts: &[Text], line: &Line) -> Result<Option<Act>, NoMemory>
-    ensures some { IfOk result (λ o. IfSome o (λ act. IsMeant line.now texts.now act)) }
-    ensures none { IfOk result (λ o. IfNone o (IsNoEvent line.now)) }
-    ensures memory { OnErr result (IsNoOrder line.now) }
+/// What is to be done at a line that gives this command.
+#[tactic(auto, using(crate::proofs::Meant::meant_order))]
+pub(crate) fn ordered<'a>(line: &Line, party: &Ident, command: &'a Command) -> Act<'a>
+    requires order { order_in line.now ≡ Some (party.now, command.now) }
+    requires formed { IsCommand command.now }
+    ensures { (texts : List (List ℕ)) → IsMeant line.now texts result }
+{
+    Act::Tell {
+        party: *party,
+        input: Telling::Ordered(command),
+    }
+}
+
+/// Whether a text arrives at a line.
+pub(crate) fn is_arrival(line: &Line) -> bool
+    ensures value { result ≡ is_arrival line.now }
+    ensures none { result ≡ false → IsNoOrder line.now → IsNoEvent line.now }
+{
+    matches!(
+        line,
+        Line::Pass { .. } | Line::Recent { .. } | Line::Bytes { .. }
+    )
+}
+
+/// The bytes that arrive at a line, if there are any, where these texts were written.
+pub(crate) fn bytes_at<'a>(texts: &'a [Text], line: &'a Line) -> Option<&'a [u8]>
+    ensures { option_map (λ b. b.now) result ≡ arriving line.now texts.now }
+{
+    let text = match line {
+        Line::Pass { k, .. } => text_of(texts, *k)?,
+        Line::Recent { j } => text_back(texts, *j)?,
+        Line::Bytes { bytes, .. } => bytes,
+        _ => return None,
+    };
+    Some(text.bytes())
+}
+
+/// What is to be done at a line, where this is heard of the bytes that arrive.
+pub(crate) fn act_of<'a>(line: &Line, heard: &'a Result<Arrival, Unheard>) -> Act<'a>
+    requires { is_arrival line.now ≡ true }
+    ensures { (texts : List (List ℕ)) (bytes : List ℕ) → arriving line.now texts ≡ Some bytes → HeardOf bytes heard.now → IsMeant line.now texts result }
 {
     match line {
-        Line::Pass { k, party } => arrive(alloc, party, text_of(texts, *k)),
-        Line::Recent { j } => return_text(alloc, text_back(texts, *j)),
-        Line::Bytes { party, bytes } => arrive_bytes(alloc, party, bytes.bytes()),
-        _ => Ok(ordered(line)),
+        Line::Pass { party, .. } => arrived(party, heard),
+        Line::Bytes { party, .. } => arrived(party, heard),
+        _ => returned(heard),
     }
 }

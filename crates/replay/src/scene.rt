@@ -5,12 +5,14 @@ ghost use Rattle.replay.specs.Breaks.{BreaksAt};
 ghost use Rattle.replay.specs.Closing.{AnyFaulty};
 ghost use Rattle.replay.specs.Scene.{authenticated, noted, IsStep};
 ghost use Rattle.replay.specs.Seats.{AreOpen, owners};
+ghost use Rattle.replay.specs.Inputs.{input_of};
 
+use crate::act::Telling;
 use crate::failure::Failure;
 use crate::seat::Seat;
 use crate::seated::{Saying, tell_at};
 use fact_book::FactBook;
-use party_state::{Input, Lead};
+use party_state::Lead;
 use std::alloc::Global;
 use world_laws::law_inputs;
 use x_base::{FullName, NoMemory, Text, Verdict};
@@ -65,16 +67,16 @@ pub(crate) fn tell_event<D: Disk>(
     scene: &mut Scene<D>,
     place: usize,
     alloc: Global,
-    input: &Input,
+    input: Telling<'_>,
     lead: &Option<Lead>,
     moment: u64,
 ) -> Result<Verdict, Failure>
     requires within { place < length scene.old.seats.items }
     requires seated { AreOpen scene.old.seats.items }
-    requires led { IsLedAt scene.old.seats.items place input.now lead.now }
-    ensures step { IfOk result (λ verdict. IsStep D.told scene.old scene.new place input.now moment verdict) }
+    requires led { IsLedAt scene.old.seats.items place (input_of input) lead.now }
+    ensures step { IfOk result (λ verdict. IsStep D.told scene.old scene.new place (input_of input.entry) moment verdict) }
     ensures fault { result ≡ Err Failure.Fault → AnyFaulty D.told scene.new.seats.items }
-    ensures breaks { IfErr result (λ why. BreaksAt D.told scene.old.seats.items scene.new.seats.items place input.now moment why) }
+    ensures breaks { IfErr result (λ why. BreaksAt D.told scene.old.seats.items scene.new.seats.items place (input_of input.entry) moment why) }
     ensures seated { OnOk result (AreOpen scene.new.seats.items) }
     ensures owners { owners scene.new.seats.items ≡ owners scene.old.seats.items }
 {

@@ -3,12 +3,14 @@ ghost use Rattle.std.specs.Prelude.{◌≡◌, ◌<◌, length, Err};
 ghost use Rattle.replay.specs.Forging.{IsLedAt};
 ghost use Rattle.replay.specs.Closing.{AnyFaulty};
 ghost use Rattle.replay.specs.Seats.{AreOpen, IsLifted, IsSetDown, IsToldAt};
+ghost use Rattle.replay.specs.Inputs.{input_of};
 
+use crate::act::Telling;
 use crate::failure::Failure;
 use crate::seat::{Held, Seat};
 use crate::told::{Told, tell};
 use node_core::Node;
-use party_state::{Input, Lead};
+use party_state::Lead;
 use std::alloc::Global;
 use std::mem;
 use x_base::{FullName, Text, Verdict};
@@ -47,14 +49,14 @@ pub(crate) fn tell_at<D: Disk>(
     seats: &mut Vec<Seat<D>>,
     place: usize,
     alloc: Global,
-    input: &Input,
+    input: Telling<'_>,
     lead: &Option<Lead>,
     moment: u64,
 ) -> Result<Saying, Failure>
     requires within { place < length seats.old.items }
     requires seated { AreOpen seats.old.items }
-    requires led { IsLedAt seats.old.items place input.now lead.now }
-    ensures told { IsToldAt D.told seats.old.items seats.new.items place input.now moment result }
+    requires led { IsLedAt seats.old.items place (input_of input) lead.now }
+    ensures told { IsToldAt D.told seats.old.items seats.new.items place (input_of input.entry) moment result }
     ensures fault { result ≡ Err Failure.Fault → AnyFaulty D.told seats.new.items }
 {
     let node = lift(seats, place);

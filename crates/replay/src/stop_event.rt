@@ -2,37 +2,60 @@
 ghost use Rattle.std.specs.Prelude.{◌≡◌, ◌⊎◌, ◌<◌, ◌≤◌, ◌++◌, [], cond, length, Some, None, Err, IfOk, IfErr, OnOk, option_map};
 ghost use Rattle.x_base.specs.Edge.{Rose};
 ghost use Rattle.x_disk.specs.Shelf.{SlotsStay};
+ghost use Rattle.role_base.specs.Storable.{CanKeep};
+ghost use Rattle.roles.specs.Deciding.{decision};
 ghost use Rattle.replay.specs.Breaks.{IsStopBroken, BreaksOff};
 ghost use Rattle.replay.specs.Closing.{AllSlots, AnyFaulty, OtherDisksStay};
 ghost use Rattle.replay.specs.Scene.{noted, IsDecidedAt, IsStoppedAt, IsCutStep};
 ghost use Rattle.replay.specs.Seats.{AreOpen, IsPlace, owners};
+ghost use Rattle.replay.specs.Inputs.{input_of};
 
+use crate::act::Telling;
 use crate::failure::Failure;
 use crate::scene::{Scene, note};
 use crate::seat::{Held, Seat};
 use crate::seated::{lift, set_down};
 use crate::stopped::{Lost, Stop, begin, exchange, restart};
 use fact_book::FactBook;
+use node_core::Node;
 use party_state::{Decision, Input};
-use roles::decide;
+use roles::{decide, decide_led};
 use std::alloc::Global;
 use x_base::{FullName, Ident, NoMemory, Text};
 use x_disk::{Disk, Shelf};
+
+/// What a party decides.
+fn decided<D: Disk>(
+    node: &Node<D>,
+    alloc: Global,
+    input: Telling<'_>,
+    moment: u64,
+) -> Result<Decision, NoMemory>
+    ensures decision { IfOk result (λ d. d ≡ decision node.now.party (input_of input.entry) moment) }
+    ensures kept { IfOk result (λ d. CanKeep node.now.party d.change) }
+{
+    match input {
+        Telling::Ordered(command) => decide(alloc, node.view(), &Input::Ordered(*command), moment),
+        Telling::Arrived(arrival) => {
+            decide_led(alloc, node.view(), arrival, &node.lead(arrival), moment)
+        }
+    }
+}
 
 /// What the party at a place decides.
 fn decide_at<D: Disk>(
     seats: &[Seat<D>],
     place: usize,
     alloc: Global,
-    input: &Input,
+    input: Telling<'_>,
     moment: u64,
 ) -> Result<Decision, NoMemory>
     requires within { place < length seats.now }
     requires seated { AreOpen seats.now }
-    ensures { IfOk result (λ d. IsDecidedAt seats.now place input.now moment d) }
+    ensures { IfOk result (λ d. IsDecidedAt seats.now place (input_of input.entry) moment d) }
 {
     match &seats[place].held {
-        Held::Open(node) => decide(alloc, node.view(), input, moment),
+        Held::Open(node) => decided(node, alloc, input, moment),
         Held::Loose(_) | Held::Out => unreachable!(),
     }
 }
@@ -44,7 +67,7 @@ fn stop_at<H: Shelf>(
     own: &Ident,
     shelf: &mut H,
     alloc: Global,
-    input: Option<&Input>,
+    input: Option<Telling<'_>>,
     moment: u64,
     stop: Stop,
 ) -> Result<bool, Failure>
@@ -52,8 +75,8 @@ fn stop_at<H: Shelf>(
     requires placed { IsPlace seats.old.items own.now place }
     requires seated { AreOpen seats.old.items }
     requires slots { AllSlots (H.has_slot shelf.old) (owners seats.old.items) }
-    ensures stopped { IfOk result (λ next. IsStoppedAt H.Disk.told seats.old.items seats.new.items place (option_map (λ i. i.now) input.entry) moment stop (H.faults shelf.old) (H.faults shelf.new) next) }
-    ensures broken { IfErr result (λ why. IsStopBroken H.Disk.told (H.entry shelf.new) seats.old.items seats.new.items place (option_map (λ i. i.now) input.entry) moment why) }
+    ensures stopped { IfOk result (λ next. IsStoppedAt H.Disk.told seats.old.items seats.new.items place (option_map input_of input.entry) moment stop (H.faults shelf.old) (H.faults shelf.new) next) }
+    ensures broken { IfErr result (λ why. IsStopBroken H.Disk.told (H.entry shelf.new) seats.old.items seats.new.items place (option_map input_of input.entry) moment why) }
     ensures fault { result ≡ Err Failure.Fault → Rose (H.faults shelf.old) (H.faults shelf.new) ⊎ AnyFaulty H.Disk.told seats.new.items }
     ensures owners { owners seats.new.items ≡ owners seats.old.items }
     ensures others { OtherDisksStay (H.entry shelf.old) (H.entry shelf.new) seats.old.items }
@@ -105,7 +128,7 @@ pub(crate) fn stop_event<H: Shelf>(
     own: &Ident,
     shelf: &mut H,
     alloc: Global,
-    input: &Input,
+    input: Telling<'_>,
     moment: u64,
     stop: Stop,
 ) -> Result<bool, Failure>
@@ -113,8 +136,8 @@ pub(crate) fn stop_event<H: Shelf>(
     requires placed { IsPlace scene.old.seats.items own.now place }
     requires seated { AreOpen scene.old.seats.items }
     requires slots { AllSlots (H.has_slot shelf.old) (owners scene.old.seats.items) }
-    ensures step { IfOk result (λ next. IsCutStep H.Disk.told scene.old scene.new place (Some input.now) moment stop (H.faults shelf.old) (H.faults shelf.new) next) }
-    ensures broken { IfErr result (λ why. BreaksOff H.Disk.told (H.entry shelf.new) scene.old scene.new place (Some input.now) moment why) }
+    ensures step { IfOk result (λ next. IsCutStep H.Disk.told scene.old scene.new place (Some (input_of input.entry)) moment stop (H.faults shelf.old) (H.faults shelf.new) next) }
+    ensures broken { IfErr result (λ why. BreaksOff H.Disk.told (H.entry shelf.new) scene.old scene.new place (Some (input_of input.entry)) moment why) }
     ensures fault { result ≡ Err Failure.Fault → Rose (H.faults shelf.old) (H.faults shelf.new) ⊎ AnyFaulty H.Disk.told scene.new.seats.items }
     ensures seated { OnOk result (AreOpen scene.new.seats.items) }
     ensures owners { owners scene.new.seats.items ≡ owners scene.old.seats.items }

@@ -9,12 +9,13 @@ ghost use Rattle.world_laws.specs.Nodes.{member_of};
 ghost use Rattle.replay.specs.Failing.{IsFailing, IsLost, ReadsEither};
 ghost use Rattle.replay.specs.Saying.{next_member};
 ghost use Rattle.replay.specs.Stops.{IsToKeep, KeepsChange, member_next, IsResting, IsRestarted};
+ghost use Rattle.replay.specs.Inputs.{input_of};
 
+use crate::act::Telling;
 use crate::carried::{Carried, carry, carry_fused};
 use crate::failure::Failure;
 use key_journal::{Cause, Unmade};
 use node_core::Node;
-use party_state::Input;
 use std::alloc::Global;
 use x_base::Ident;
 use x_disk::{Disk, DiskErr, Shelf};
@@ -37,13 +38,13 @@ pub(crate) struct Lost<D: Disk> {
 fn begin_input<D: Disk>(
     node: Node<D>,
     alloc: Global,
-    input: &Input,
+    input: Telling<'_>,
     moment: u64,
     n: u64,
 ) -> Result<D, Lost<D>>
-    ensures rests { IfOk result (λ disk. IsResting (D.told node.disk) (D.told disk) (member_of node) (next_member (member_of node) (decision node.party input.now moment)) (IsToKeep (member_of node) (decision node.party input.now moment)) n) }
+    ensures rests { IfOk result (λ disk. IsResting (D.told node.disk) (D.told disk) (member_of node) (next_member (member_of node) (decision node.party (input_of input.entry) moment)) (IsToKeep (member_of node) (decision node.party (input_of input.entry) moment)) n) }
     ensures failing { IfErr result (λ lost. IsFailing lost.why) }
-    ensures left { IfErr result (λ lost. Tells (D.told node.disk) → ReadsEither (D.told lost.disk) (member_of node) (next_member (member_of node) (decision node.party input.now moment)) (IsToKeep (member_of node) (decision node.party input.now moment))) }
+    ensures left { IfErr result (λ lost. Tells (D.told node.disk) → ReadsEither (D.told lost.disk) (member_of node) (next_member (member_of node) (decision node.party (input_of input.entry) moment)) (IsToKeep (member_of node) (decision node.party (input_of input.entry) moment))) }
     ensures fault { IfErr result (λ lost. lost.why ≡ Failure.Fault → 0 < (D.told lost.disk).faults) }
 {
     if n <= 4 {
@@ -73,13 +74,13 @@ fn begin_input<D: Disk>(
 pub(crate) fn begin<D: Disk>(
     node: Node<D>,
     alloc: Global,
-    input: Option<&Input>,
+    input: Option<Telling<'_>>,
     moment: u64,
     n: u64,
 ) -> Result<D, Lost<D>>
-    ensures rests { IfOk result (λ disk. IsResting (D.told node.disk) (D.told disk) (member_of node) (member_next (member_of node) (option_map (λ i. i.now) input.entry) moment) (KeepsChange (member_of node) (option_map (λ i. i.now) input.entry) moment) n) }
+    ensures rests { IfOk result (λ disk. IsResting (D.told node.disk) (D.told disk) (member_of node) (member_next (member_of node) (option_map input_of input.entry) moment) (KeepsChange (member_of node) (option_map input_of input.entry) moment) n) }
     ensures failing { IfErr result (λ lost. IsFailing lost.why) }
-    ensures left { IfErr result (λ lost. Tells (D.told node.disk) → ReadsEither (D.told lost.disk) (member_of node) (member_next (member_of node) (option_map (λ i. i.now) input.entry) moment) (KeepsChange (member_of node) (option_map (λ i. i.now) input.entry) moment)) }
+    ensures left { IfErr result (λ lost. Tells (D.told node.disk) → ReadsEither (D.told lost.disk) (member_of node) (member_next (member_of node) (option_map input_of input.entry) moment) (KeepsChange (member_of node) (option_map input_of input.entry) moment)) }
     ensures fault { IfErr result (λ lost. lost.why ≡ Failure.Fault → 0 < (D.told lost.disk).faults) }
 {
     match input {

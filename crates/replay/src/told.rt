@@ -4,11 +4,13 @@ ghost use Rattle.node_core.specs.Turns.{IsTurn};
 ghost use Rattle.replay.specs.Failing.{FailsTelling};
 ghost use Rattle.replay.specs.Forging.{IsLed};
 ghost use Rattle.replay.specs.Told.{IsTold};
+ghost use Rattle.replay.specs.Inputs.{input_of};
 
+use crate::act::Telling;
 use crate::failure::Failure;
 use key_journal::Cause;
 use node_core::{Node, Turn};
-use party_state::{Input, Lead};
+use party_state::Lead;
 use std::alloc::Global;
 use world_laws::law_turns;
 use x_base::{FullName, Text, Verdict};
@@ -35,16 +37,16 @@ pub(crate) enum Told<D: Disk> {
 fn turn_led<D: Disk>(
     node: Node<D>,
     alloc: Global,
-    input: &Input,
+    input: Telling<'_>,
     lead: &Option<Lead>,
     moment: u64,
 ) -> Turn<D>
-    requires { IsLed node.party input.now lead.now }
-    ensures { IsTurn D.told node (decision node.party input.now moment) result }
+    requires { IsLed node.party (input_of input) lead.now }
+    ensures { IsTurn D.told node (decision node.party (input_of input.entry) moment) result }
 {
     match input {
-        Input::Ordered(_) => node.turn(alloc, input, moment),
-        Input::Arrived(arrival) => node.take_led(alloc, arrival, lead, moment),
+        Telling::Ordered(command) => node.order(alloc, *command, moment),
+        Telling::Arrived(arrival) => node.take_led(alloc, arrival, lead, moment),
     }
 }
 
@@ -53,13 +55,13 @@ fn turn_led<D: Disk>(
 pub(crate) fn tell<D: Disk>(
     node: Node<D>,
     alloc: Global,
-    input: &Input,
+    input: Telling<'_>,
     lead: &Option<Lead>,
     moment: u64,
 ) -> Told<D>
-    requires { IsLed node.party input.now lead.now }
-    ensures told { IsTold D.told node (decision node.party input.now moment) result }
-    ensures failed { FailsTelling D.told node input.now moment result }
+    requires { IsLed node.party (input_of input) lead.now }
+    ensures told { IsTold D.told node (decision node.party (input_of input.entry) moment) result }
+    ensures failed { FailsTelling D.told node (input_of input.entry) moment result }
 {
     law_turns::<D>();
     match turn_led(node, alloc, input, lead, moment) {

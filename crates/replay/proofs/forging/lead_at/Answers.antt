@@ -1,4 +1,5 @@
 use Rattle.std.proofs.Common.{get_or, ◌∙◌, ap, subst}
+use Rattle.replay.specs.Inputs.{input_of}
 use Rattle.replay.specs.Seats.{IsOpen}
 use Rattle.replay.specs.declared.seat.Seat.{Seat}
 use Rattle.replay.proofs.Seating.{is_in, not_open}
@@ -14,5 +15,5 @@ unreachable-requires g c =
 pub returns : goal.returns
 returns g c =
     let s = c.index-seats-place.result in
-    leads_at c.args.seats.now c.args.place s c.in-Open.node c.args.input.now c.lead_of.result c.index-seats-place.is
+    leads_at c.args.seats.now c.args.place s c.in-Open.node (input_of c.args.input) c.lead_of.result c.index-seats-place.is
     (ap (λ (x : Seat _). x.held) c.index-seats-place.is ∙ c.in-Open.is) c.lead_of.ensures

@@ -1,4 +1,5 @@
 use Rattle.std.proofs.Common.{Err}
+use Rattle.replay.specs.Inputs.{input_of}
 use Rattle.replay.specs.Seats.{seat}
 use Rattle.replay.proofs.Stepping.{told_faulty}
 use Rattle.replay.specs.declared.seat.Held.TheVariants.{Out}
@@ -37,4 +38,4 @@ returns-in-Failed-clause-told g c =
 
 pub returns-in-Failed-clause-fault : goal.returns-in-Failed-clause-fault
 returns-in-Failed-clause-fault g c = λ is.
-    told_faulty g.D.Disk.told c.args.seats.now.items c.set_down-in-Failed.new.seats.items c.args.place c.args.input.now c.args.moment (Err c.in-Failed.why) (returns-in-Failed-clause-told g c) is
+    told_faulty g.D.Disk.told c.args.seats.now.items c.set_down-in-Failed.new.seats.items c.args.place (input_of c.args.input) c.args.moment (Err c.in-Failed.why) (returns-in-Failed-clause-told g c) is

@@ -1,4 +1,5 @@
-use Rattle.std.proofs.Common.{get_or, ◌∙◌, ap, subst}
+use Rattle.std.proofs.Common.{refl, get_or, ◌∙◌, ap, subst}
+use Rattle.replay.specs.Inputs.{input_of}
 use Rattle.replay.specs.Seats.{IsOpen}
 use Rattle.replay.specs.declared.seat.Seat.{Seat}
 use Rattle.replay.proofs.Seating.{is_in, not_open}
@@ -14,5 +15,5 @@ unreachable-requires g c =
 pub returns : goal.returns
 returns g c =
     let s = c.index-seats-place.result in
-    decides_at c.args.seats.now c.args.place s c.in-Open.node c.args.input.now c.args.moment c.view.result.now c.decide.result c.index-seats-place.is
-    (ap (λ (x : Seat _). x.held) c.index-seats-place.is ∙ c.in-Open.is) c.view.ensures.party c.decide.ensures.decision c.decide.ensures.kept
+    decides_at c.args.seats.now c.args.place s c.in-Open.node (input_of c.args.input) c.args.moment c.in-Open.node.party c.decided.result c.index-seats-place.is
+    (ap (λ (x : Seat _). x.held) c.index-seats-place.is ∙ c.in-Open.is) refl c.decided.ensures.decision c.decided.ensures.kept

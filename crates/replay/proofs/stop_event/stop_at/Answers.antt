@@ -2,6 +2,7 @@ use Rattle.std.proofs.Common.{◌≡◌, ◌∙◌, sym, refl, inr, ap₂, not, 
 use Rattle.std.specs.Prelude.{Bool}
 use Rattle.std.proofs.lemmas.Result.{err_from_is_err_and}
 use Rattle.key_store.specs.Store.{room}
+use Rattle.replay.specs.Inputs.{input_of}
 use Rattle.replay.specs.declared.failure.Failure.{Failure}
 use Rattle.replay.specs.declared.failure.Failure.TheVariants as failure
 use Rattle.replay.specs.declared.seat.Held.TheVariants.{Open, Loose}
@@ -26,7 +27,7 @@ returns-in-Ok-restart-clause-stopped g c =
     let opened = c.in-Ok-restart.node in
     let found : not (nat_eq c.room.result c.room-room.result) ≡ not (nat_eq (room opened) (room node)) = ap₂ (λ a b. not (nat_eq a b)) c.room.ensures c.room-room.ensures in
     stopped_at told c.args.seats.now.items c.lift-node.new.seats.items c.set_down-in-Ok-restart.new.seats.items c.args.place node c.lift-node.ensures opened c.set_down-in-Ok-restart.ensures
-    (option_map (λ i. i.now) c.args.input) c.args.moment c.args.stop (told c.in-Ok.disk) (told c.in_ok-disk.disk) c.in-Ok.ensures.rests c.in_ok-disk.ensures.alike c.in-Ok-restart.ensures.opened
+    (option_map input_of c.args.input) c.args.moment c.args.stop (told c.in-Ok.disk) (told c.in_ok-disk.disk) c.in-Ok.ensures.rests c.in_ok-disk.ensures.alike c.in-Ok-restart.ensures.opened
     (g.H.Shelf.faults c.args.shelf.now) (g.H.Shelf.faults c.exchange.new.shelf) c.exchange.ensures.seen (not (nat_eq c.room.result c.room-room.result)) found
 
 pub returns-in_err-disk-clause-owners : goal.returns-in_err-disk-clause-owners
@@ -51,7 +52,7 @@ returns-in-Err-restart-clause-fault g c = λ is.
 
 pub returns-in-Err-clause-broken : goal.returns-in-Err-clause-broken
 returns-in-Err-clause-broken g c =
-    stop_loose g.H.Disk.Disk.told (g.H.Shelf.entry c.args.shelf.now) c.args.seats.now.items c.lift-node.new.seats.items c.set_down.new.seats.items c.args.place c.lift-node.result c.lift-node.ensures (option_map (λ i. i.now) c.args.input) c.args.moment c.in-Err.field-0.why
+    stop_loose g.H.Disk.Disk.told (g.H.Shelf.entry c.args.shelf.now) c.args.seats.now.items c.lift-node.new.seats.items c.set_down.new.seats.items c.args.place c.lift-node.result c.lift-node.ensures (option_map input_of c.args.input) c.args.moment c.in-Err.field-0.why
     c.in-Err.field-0.disk c.set_down.ensures (λ tells. (c.in-Err.ensures.failing, c.in-Err.ensures.left tells))
 
 pub returns-in_err-disk-clause-broken : goal.returns-in_err-disk-clause-broken
@@ -61,9 +62,9 @@ returns-in_err-disk-clause-broken g c =
     let x = member_of node in
     let p = err_from_is_err_and c.from_residual.result c.from_residual.ensures.1 in
     rw (p.1, p.2)
-    (stop_out told (g.H.Shelf.entry c.exchange.new.shelf) c.args.seats.now.items c.lift-node.new.seats.items c.lift-node.new.seats.items c.args.place node c.lift-node.ensures (option_map (λ i. i.now) c.args.input) c.args.moment c.in_err-disk.field-0.0
+    (stop_out told (g.H.Shelf.entry c.exchange.new.shelf) c.args.seats.now.items c.lift-node.new.seats.items c.lift-node.new.seats.items c.args.place node c.lift-node.ensures (option_map input_of c.args.input) c.args.moment c.in_err-disk.field-0.0
     c.args.own.now c.requires.placed c.in_err-disk.ensures.failing
-    (shelf_reads (told node.disk) (told c.in-Ok.disk) x (member_next x (option_map (λ i. i.now) c.args.input) c.args.moment) (KeepsChange x (option_map (λ i. i.now) c.args.input) c.args.moment) c.args.stop.n c.in-Ok.ensures.rests
+    (shelf_reads (told node.disk) (told c.in-Ok.disk) x (member_next x (option_map input_of c.args.input) c.args.moment) (KeepsChange x (option_map input_of c.args.input) c.args.moment) c.args.stop.n c.in-Ok.ensures.rests
     (g.H.Shelf.entry c.exchange.new.shelf c.args.own.now) (g.met.H.Disk.Disk.sound c.in-Ok.disk) c.in_err-disk.ensures.stays))
 
 pub returns-in-Err-restart-clause-broken : goal.returns-in-Err-restart-clause-broken
@@ -72,9 +73,9 @@ returns-in-Err-restart-clause-broken g c =
     let node = c.lift-node.result in
     let x = member_of node in
     let lost = c.in-Err-restart.field-0 in
-    stop_loose told (g.H.Shelf.entry c.exchange.new.shelf) c.args.seats.now.items c.lift-node.new.seats.items c.set_down-in-Err-restart.new.seats.items c.args.place node c.lift-node.ensures (option_map (λ i. i.now) c.args.input) c.args.moment lost.why
+    stop_loose told (g.H.Shelf.entry c.exchange.new.shelf) c.args.seats.now.items c.lift-node.new.seats.items c.set_down-in-Err-restart.new.seats.items c.args.place node c.lift-node.ensures (option_map input_of c.args.input) c.args.moment lost.why
     lost.disk c.set_down-in-Err-restart.ensures
-    (lost_reads (told node.disk) (told c.in-Ok.disk) x (member_next x (option_map (λ i. i.now) c.args.input) c.args.moment) (KeepsChange x (option_map (λ i. i.now) c.args.input) c.args.moment) c.args.stop.n c.in-Ok.ensures.rests
+    (lost_reads (told node.disk) (told c.in-Ok.disk) x (member_next x (option_map input_of c.args.input) c.args.moment) (KeepsChange x (option_map input_of c.args.input) c.args.moment) c.args.stop.n c.in-Ok.ensures.rests
     (told c.in_ok-disk.disk) (told lost.disk) lost.why c.in_ok-disk.ensures.alike c.in-Err-restart.ensures.lost)
 
 pub returns-in_err-disk-clause-others : goal.returns-in_err-disk-clause-others
