@@ -31,7 +31,7 @@ use Rattle.world_laws.specs.Nodes.{member_of}
 use Rattle.replay.specs.Failing.{IsFailing}
 use Rattle.replay.specs.Starts.{with_loads}
 use Rattle.replay.specs.Stops.{ImageOf}
-use Rattle.replay.specs.SettingUp.{ReadsBlank, new_member, HasBegun, HasPlace, IsLoad, IsOpenedWith, IsPartlyLoaded, IsBeginning, IsNotBlank, IsUnset, IsUnsetDisk, EndsBy}
+use Rattle.replay.specs.SettingUp.{ReadsBlank, new_member, HasBegun, HasPlace, IsLoad, IsPartlyLoaded, IsBeginning, IsNotBlank, IsUnset, IsUnsetDisk, EndsBy}
 use Rattle.replay.specs.declared.failure.Failure.{Failure}
 use Rattle.replay.specs.declared.failure.Failure.TheVariants as failure
 use Rattle.replay.specs.declared.making.NewParty.{NewParty}
@@ -219,34 +219,3 @@ module _ {D : Type 0} (told : D → View) (old : Stored D) (store : IsStore (tol
         partly = λ tells image now. (0, image_of (told old.disk) old.gate old.end old.party store image now);
         fault = λ is. absurd (cc is);
       })
-
-  -- ---- and it is opened
-
-  module _ (j : D) (one : j ≡ old.disk) where
-    here : (image : List ℕ) → (told old.disk).now ≡ Some image → (told j).now ≡ Some image
-    here image now = ap (λ (k : D). (told k).now) one ∙ now
-
-    opened_room : (gate end r s : ℕ) → end ≡ gate + r → r ≡ s → end - gate ≡ s
-    opened_room gate end r s is same = omega (arith, is, same)
-
-    pub completes : (n : Stored D) → IsLoaded told j (Ok n) → IsOpenedWith told old n []
-    completes n loaded = record {
-      tells = ap is_some (loaded.now ∙ ap (λ (k : D). (told k).now) one);
-      member = λ tells.
-          let h = told_now (told old.disk).now tells in
-          let now = here h.0 h.1 in
-          let was = image_of (told old.disk) old.gate old.end old.party store h.0 h.1 in
-          let party = loaded.exact h.0 old.party now (store.stands h.0 h.1) in
-          let left = opened_room n.gate n.end (room_of was.bodies) (room old) (loaded.stands.room was.bodies (record { image = h.0; now = loaded.now ∙ now; holds = was.holds })) was.left in
-          λ i. record { party = party i; room = left i };
-    }
-
-    pub unopened : (u : Unmade D) (why : Failure) → (why ≡ failure.Fault → u.cause ≡ cause.Fault) → (IsFree u.cause → IsFailing why) → IsLoaded told j (Err u) → IsPartlyLoaded (told old.disk) (told u.disk) (member_of old) [] why
-    unopened u why fault failing loaded =
-        let same = loaded.now ∙ ap (λ (k : D). (told k).now) one in
-        record {
-          failing = λ tells. let h = told_now (told old.disk).now tells in failing (loaded.never_refused h.0 old.party (here h.0 h.1) (store.stands h.0 h.1));
-          tells = ap is_some same;
-          partly = λ tells image now. (0, image_of (told old.disk) old.gate old.end old.party store image (sym same ∙ now));
-          fault = λ is. rose_above (told j).faults (told u.disk).faults (loaded.fault (fault is));
-        }

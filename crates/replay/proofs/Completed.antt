@@ -12,7 +12,7 @@ use Rattle.world_laws.specs.World.{Member}
 use Rattle.world_laws.specs.Nodes.{member_of}
 use Rattle.replay.specs.Starts.{load_at, loads_of, with_load, with_loads}
 use Rattle.replay.specs.Stops.{ImageOf}
-use Rattle.replay.specs.SettingUp.{new_member, full_member, least_room, HasBegun, CanLoad, IsLoadOrSame, IsLoadedTo, IsOpenedWith, IsPartlyLoaded, IsSetUp, IsUnsetDisk}
+use Rattle.replay.specs.SettingUp.{new_member, full_member, least_room, HasBegun, CanLoad, IsLoadOrSame, IsLoadedTo, IsPartlyLoaded, IsSetUp, IsUnsetDisk}
 use Rattle.replay.specs.declared.failure.Failure.{Failure}
 use Rattle.replay.specs.declared.making.NewParty.{NewParty}
 use Rattle.replay.specs.declared.making.SetUpEnd.TheVariants.{Failed}
@@ -75,30 +75,15 @@ module _ {D : Type 0} (told : D → View) (old : Stored D) where
 
   -- ---- the party is made
 
-  module _ (s : Stored D) (loads : List LinkRec) (loaded : IsLoadedTo told old s loads) where
-    pub completed : (n : Stored D) → IsOpenedWith told s n [] → IsOpenedWith told old n loads
-    completed n done = record { tells = done.tells ∙ loaded.tells; member = λ tells. done.member (loaded.tells ∙ tells) ∙ loaded.member }
-
-    pub partly_last : (w : View) (why : Failure) → IsPartlyLoaded (told s.disk) w (member_of s) [] why → IsPartlyLoaded (told old.disk) w (member_of old) loads why
-    partly_last w why part = record {
-      failing = λ tells. part.failing (loaded.tells ∙ tells);
-      tells = part.tells ∙ loaded.tells;
-      partly = λ tells image now.
-          let p = part.partly (loaded.tells ∙ tells) image now in
-          let is = ap (with_loads (member_of s)) (take_all p.0 [] (omega arith)) ∙ (loaded.member ∙ ap (with_loads (member_of old)) (sym (take_all (length loads) loads (omega arith)))) in
-          (length loads, subst (λ (m : Member). ImageOf m image) is p.1);
-      fault = part.fault;
-    }
-
   module _ (v : View) (party : NewParty) (begun_is : HasBegun told v party old) where
     pub no_links : old.party.links ≡ []
     no_links = ap (λ (m : Member). m.party.links) begun_is.member
 
-    pub makes : (lines : List Line) (n : Stored D) → IsOpenedWith told old n (loads_of party.own lines) → IsSetUp told v (full_member lines party) n
+    pub makes : (lines : List Line) (n : Stored D) → IsLoadedTo told old n (loads_of party.own lines) → IsSetUp told v (full_member lines party) n
     makes lines n done = record {
       blank = begun_is.blank;
       tells = done.tells ∙ begun_is.tells;
-      member = λ tells. done.member (begun_is.tells ∙ tells) ∙ ap (λ (m : Member). with_loads m (loads_of party.own lines)) begun_is.member;
+      member = λ tells. done.member ∙ ap (λ (m : Member). with_loads m (loads_of party.own lines)) begun_is.member;
     }
 
     pub unset_part : (loads : List LinkRec) (w : View) (why : Failure) → IsPartlyLoaded (told old.disk) w (member_of old) loads why → IsUnsetDisk v w (new_member party) loads (Failed why)

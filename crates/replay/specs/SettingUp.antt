@@ -112,11 +112,6 @@ pub record IsLoadedTo {D : Type 0} (told : D → View) (old new : Stored D) (loa
   pub links : length new.party.links ≤ length loads
   pub room : room old ≤ room new + longest_load * length loads
 
--- the party of a store is opened, with these loads
-pub record IsOpenedWith {D : Type 0} (told : D → View) (old new : Stored D) (loads : List LinkRec) : Type 0 where
-  pub tells : is_some (told new.disk).now ≡ is_some (told old.disk).now
-  pub member : Tells (told old.disk) → member_of new ≡ with_loads (member_of old) loads
-
 -- a failure left the disk of this member with none or some of the loads, in order
 pub record IsPartlyLoaded (old new : View) (x : Member) (loads : List LinkRec) (why : Failure) : Type 0 where
   pub failing : Tells old → IsFailing why

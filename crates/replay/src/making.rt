@@ -7,7 +7,7 @@ ghost use Rattle.scenario.specs.Behind.{EachBehind};
 ghost use Rattle.scenario.specs.Rules.{is_party_or_link, may_follow};
 ghost use Rattle.world_laws.specs.Nodes.{member_of};
 ghost use Rattle.replay.specs.Starts.{link_of, load_at, loads_of};
-ghost use Rattle.replay.specs.SettingUp.{new_party, new_member, full_member, least_room, HasPlace, CanLoad, HasBegun, IsLoad, IsLoadOrSame, IsLoadedTo, IsOpenedWith, IsPartlyLoaded, IsSetUp, IsUnsetDisk, EndsBy};
+ghost use Rattle.replay.specs.SettingUp.{new_party, new_member, full_member, least_room, HasPlace, CanLoad, HasBegun, IsLoad, IsLoadOrSame, IsLoadedTo, IsPartlyLoaded, IsSetUp, IsUnsetDisk, EndsBy};
 
 use crate::failure::Failure;
 use crate::stopped::{Lost, failure_by, failure_of};
@@ -224,39 +224,7 @@ fn load_links<D: Disk>(
     Ok(loaded)
 }
 
-/// Opens the party of a store.
-fn open_store<D: Disk>(store: Store<D>, alloc: Global) -> Result<Node<D>, Lost<D>>
-    ensures opened { IfOk result (λ node. IsOpenedWith D.told store node []) }
-    ensures lost { IfErr result (λ lost. IsPartlyLoaded (D.told store.disk) (D.told lost.disk) (member_of store) [] lost.why) }
-{
-    store.view();
-    match Node::open_from(alloc, store.into_disk()) {
-        Ok(node) => Ok(node),
-        Err(Unmade { disk, cause }) => Err(Lost {
-            disk,
-            why: failure_by(cause),
-        }),
-    }
-}
-
-/// Loads the links of a party that has begun, and opens it.
-fn complete<D: Disk>(
-    store: Store<D>,
-    alloc: Global,
-    own: &Ident,
-    lines: &[Line],
-) -> Result<Node<D>, Lost<D>>
-    requires rules { EachBehind may_follow lines.now }
-    requires none { store.party.links ≡ [] }
-    requires room { least_room ≤ room store }
-    ensures completed { IfOk result (λ node. IsOpenedWith D.told store node (loads_of own.now lines.now)) }
-    ensures lost { IfErr result (λ lost. IsPartlyLoaded (D.told store.disk) (D.told lost.disk) (member_of store) (loads_of own.now lines.now) lost.why) }
-{
-    let loaded = load_links(store, alloc, own, lines)?;
-    open_store(loaded, alloc)
-}
-
-/// A party is made on a disk, with the links that the lines load at it, and opened.
+/// A party is made on a disk, with the links that the lines load at it.
 pub(crate) fn make<D: Disk>(
     disk: D,
     alloc: Global,
@@ -268,8 +236,8 @@ pub(crate) fn make<D: Disk>(
     ensures unset { IfErr result (λ u. IsUnsetDisk (D.told disk) (D.told u.disk) (new_member party.now) (loads_of party.now.own lines.now) u.why) }
 {
     let store = begin(disk, alloc, party)?;
-    match complete(store, alloc, &party.own, lines) {
-        Ok(node) => Ok(node),
+    match load_links(store, alloc, &party.own, lines) {
+        Ok(loaded) => Ok(Node::of(loaded)),
         Err(Lost { disk, why }) => Err(Unset {
             disk,
             why: SetUpEnd::Failed(why),
