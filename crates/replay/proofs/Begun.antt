@@ -12,7 +12,7 @@ use Rattle.x_disk.specs.declared.disk.DiskErr.TheVariants as disk
 use Rattle.key_journal.specs.Causes.{cause_of}
 use Rattle.key_journal.specs.Journal.{is_blank}
 use Rattle.key_journal.specs.Opening.{IsFree}
-use Rattle.key_journal.specs.States.{Failed as FailedDisk, room_of}
+use Rattle.key_journal.specs.States.{Failed as FailedDisk}
 use Rattle.key_journal.specs.declared.cause.Cause.{Cause}
 use Rattle.key_journal.specs.declared.cause.Cause.TheVariants as cause
 use Rattle.key_journal.specs.declared.cause.Unmade.{Unmade}
@@ -25,7 +25,6 @@ use Rattle.change_code.specs.Code.{two, eight, short, pair_code, gen_code, role_
 use Rattle.key_store.specs.Store.{Stored, IsStore, IsOldOrNew, IsBlankOrFirst, room}
 use Rattle.key_store.specs.Creating.{IsNewStore}
 use Rattle.key_store.specs.Keeping.{IsKeeping}
-use Rattle.key_store.specs.Loaded.{IsLoaded}
 use Rattle.key_store.specs.declared.store.Kept.TheVariants as kept
 use Rattle.world_laws.specs.Nodes.{member_of}
 use Rattle.replay.specs.Failing.{IsFailing}

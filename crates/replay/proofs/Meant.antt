@@ -1,5 +1,5 @@
--- What is to be done where a message arrives.
-use Rattle.std.proofs.Common.{◌≡◌, ◌-◌, ℕ, slice_get, true, List, [], Option, Some, None, Result, Ok, Err, IfOk, take, refl, ap, sym, subst}
+-- What is to be done at a line, and where a message arrives.
+use Rattle.std.proofs.Common.{◌≡◌, ◌-◌, ℕ, slice_get, List, [], Option, Some, None, Result, Ok, Err, IfOk, take, refl, ap, sym, subst}
 use Rattle.csm_grammar.specs.declared.arrival.Arrival.{Arrival}
 use Rattle.csm_feed.specs.declared.unheard.Unheard.{Unheard}
 use Rattle.csm_feed.specs.Heard.{Heard, behind, readings}
@@ -8,9 +8,9 @@ use Rattle.party_state.specs.declared.command.Input.TheVariants as input
 use Rattle.scenario.specs.declared.line.Line.{Line}
 use Rattle.scenario.specs.declared.line.Line.TheVariants as line
 use Rattle.world_laws.specs.Events.{Orders, Hears, IsCommand}
-use Rattle.replay.specs.Happenings.{Happening, Nothing, At, Arrives, IsFormed, Returns, arriving, input_bytes, is_arrival, receiver_of, unheard_number}
+use Rattle.replay.specs.Happenings.{Happening, Nothing, At, Arrives, IsFormed, Returns, input_bytes, receiver_of, unheard_number}
 use Rattle.replay.specs.Inputs.{input_of}
-use Rattle.replay.specs.Meanings.{HeardOf, IsMeant, MeantBy, order_in}
+use Rattle.replay.specs.Meanings.{HeardOf, IsMeant, MeantBy, arriving, order_in}
 use Rattle.replay.specs.declared.act.Act.{Act}
 use Rattle.replay.specs.declared.act.Act.TheVariants as act
 use Rattle.replay.specs.declared.act.Telling.{Telling}
@@ -80,24 +80,6 @@ meant_order (line.Recent j) party command order formed t is texts = cc order
 meant_order (line.Bytes p bytes) party command order formed t is texts = cc order
 meant_order (line.Stop n choice) party command order formed t is texts = cc order
 
--- a line at which nothing arrives, since no text is there
-pub meant_nothing : (l : Line) (texts : List (List ℕ)) → is_arrival l ≡ true → arriving l texts ≡ None → IsMeant l texts act.Nothing
-meant_nothing (line.Pass k party) texts arrival none = (Nothing, subst (λ o. Arrives party o Nothing) (sym none) refl, tt, refl)
-meant_nothing (line.Recent j) texts arrival none = (Nothing, subst (λ o. Returns o Nothing) (sym none) refl, tt, refl)
-meant_nothing (line.Bytes party bytes) texts arrival none = cc none
-meant_nothing (line.Start p peer label) texts arrival none = cc arrival
-meant_nothing (line.StartKk p peer label new single) texts arrival none = cc arrival
-meant_nothing (line.Ask p peer ultimate) texts arrival none = cc arrival
-meant_nothing (line.Translate p centre ultimate) texts arrival none = cc arrival
-meant_nothing (line.Resend p peer) texts arrival none = cc arrival
-meant_nothing (line.End p peer name) texts arrival none = cc arrival
-meant_nothing (line.Drop p peer) texts arrival none = cc arrival
-meant_nothing (line.Purge p) texts arrival none = cc arrival
-meant_nothing (line.Party name role pair v) texts arrival none = cc arrival
-meant_nothing (line.Link origin recipient label pair) texts arrival none = cc arrival
-meant_nothing (line.Time moment) texts arrival none = cc arrival
-meant_nothing (line.Stop n choice) texts arrival none = cc arrival
-
 abbrev named : Option (List ℕ) → List ℕ
 named None = []
 named (Some party) = party
@@ -129,9 +111,6 @@ meant_arrives (line.Link origin recipient label pair) party texts bytes a at is 
 meant_arrives (line.Time moment) party texts bytes a at is meant = cc at
 meant_arrives (line.Recent j) party texts bytes a at is meant = cc at
 meant_arrives (line.Stop n choice) party texts bytes a at is meant = cc at
-
-pub meant_returned : (j : ℕ) (texts : List (List ℕ)) (bytes : List ℕ) (a : Act) → arriving (line.Recent j) texts ≡ Some bytes → MeantBy (Returns (Some bytes)) a → IsMeant (line.Recent j) texts a
-meant_returned j texts bytes a is meant = subst (λ o. MeantBy (Returns o) a) (sym is) meant
 
 -- what the reader hears of the first bytes is heard of the bytes
 pub heard_of : {E : Type 0} (bytes read : List ℕ) (r : Result (Result Arrival Unheard) E) (heard : Result Arrival Unheard) → r ≡ Ok heard → read ≡ input_bytes bytes → IfOk r (λ (h : Result Arrival Unheard). Heard read (readings h))

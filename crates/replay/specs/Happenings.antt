@@ -1,5 +1,5 @@
 -- What the lines of a scenario make happen (this project's profile).
-use Rattle.std.specs.Prelude.{◌≡◌, ◌-◌, ℕ, Bool, true, false, nat_le, cond, take, length, List, Option, Some, None, slice_get, Err}
+use Rattle.std.specs.Prelude.{◌≡◌, ◌-◌, ℕ, nat_le, cond, take, length, List, Option, Some, None, slice_get, Err}
 use Rattle.csm_grammar.specs.declared.message.Message.{Message}
 use Rattle.csm_grammar.specs.declared.message.Message.TheVariants as message
 use Rattle.csm_grammar.specs.declared.arrival.Arrival.{Arrival}
@@ -51,20 +51,6 @@ Returns (Some text) h = (heard : Option Arrival) × IsHeard (input_bytes text) h
 -- the j-th text, counted back from the last one
 abbrev pub text_back : ℕ → List (List ℕ) → Option (List ℕ)
 text_back j texts = cond (nat_le j (length texts)) (slice_get texts (length texts - j)) None
-
--- a text arrives at the line
-abbrev pub is_arrival : Line → Bool
-is_arrival (line.Pass k party) = true
-is_arrival (line.Recent j) = true
-is_arrival (line.Bytes party bytes) = true
-is_arrival l = false
-
--- the bytes that arrive at a line, if there are any, where these texts were written
-abbrev pub arriving : Line → List (List ℕ) → Option (List ℕ)
-arriving (line.Pass k party) texts = slice_get texts (k - 1)
-arriving (line.Recent j) texts = text_back j texts
-arriving (line.Bytes party bytes) texts = Some bytes
-arriving l texts = None
 
 -- what a line makes happen, where these texts were written
 abbrev pub Happens : Line → List (List ℕ) → Happening → Type 0

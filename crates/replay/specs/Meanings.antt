@@ -1,5 +1,5 @@
 -- What is to be done at a line (this project's profile).
-use Rattle.std.specs.Prelude.{◌≡◌, ℕ, List, take, Option, Some, None, Result, IfOk}
+use Rattle.std.specs.Prelude.{◌≡◌, ◌-◌, ℕ, Bool, true, false, List, take, slice_get, Option, Some, None, Result, IfOk}
 use Rattle.csm_grammar.specs.declared.arrival.Arrival.{Arrival}
 use Rattle.csm_feed.specs.declared.unheard.Unheard.{Unheard}
 use Rattle.csm_feed.specs.Heard.{Heard, behind, readings}
@@ -8,7 +8,7 @@ use Rattle.party_state.specs.declared.command.Command.TheVariants as command
 use Rattle.scenario.specs.declared.line.Line.{Line}
 use Rattle.scenario.specs.declared.line.Line.TheVariants as line
 use Rattle.replay.specs.Acting.{Means}
-use Rattle.replay.specs.Happenings.{Happening, Happens, IsFormed, input_bytes}
+use Rattle.replay.specs.Happenings.{Happening, Happens, IsFormed, input_bytes, text_back}
 use Rattle.replay.specs.declared.act.Act.{Act}
 
 -- this is heard of the first bytes
@@ -47,3 +47,17 @@ IsNoOrder (line.End party peer name) = ⊥
 IsNoOrder (line.Drop party peer) = ⊥
 IsNoOrder (line.Purge party) = ⊥
 IsNoOrder l = Unit {0}
+
+-- bytes may arrive at the line
+abbrev pub is_arrival : Line → Bool
+is_arrival (line.Pass k party) = true
+is_arrival (line.Recent j) = true
+is_arrival (line.Bytes party bytes) = true
+is_arrival l = false
+
+-- the bytes that arrive at a line, if there are any, where these texts were written
+abbrev pub arriving : Line → List (List ℕ) → Option (List ℕ)
+arriving (line.Pass k party) texts = slice_get texts (k - 1)
+arriving (line.Recent j) texts = text_back j texts
+arriving (line.Bytes party bytes) texts = Some bytes
+arriving l texts = None

@@ -6,6 +6,8 @@ ghost use Rattle.replay.specs.Carried.{IsCarried, IsFusedCarried};
 ghost use Rattle.replay.specs.Inputs.{input_of};
 
 use crate::act::Telling;
+use crate::forging::lead_of;
+use crate::told::turn_led;
 use key_journal::Cause;
 use node_core::{Node, Turn};
 use std::alloc::Global;
@@ -26,13 +28,8 @@ pub(crate) enum Carried<D: Disk> {
 fn turn<D: Disk>(node: Node<D>, alloc: Global, input: Telling<'_>, moment: u64) -> Turn<D>
     ensures { IsTurn D.told node (decision node.party (input_of input.entry) moment) result }
 {
-    match input {
-        Telling::Ordered(command) => node.order(alloc, *command, moment),
-        Telling::Arrived(arrival) => {
-            let lead = node.lead(arrival);
-            node.take_led(alloc, arrival, &lead, moment)
-        }
-    }
+    let lead = lead_of(&node, input);
+    turn_led(node, alloc, input, &lead, moment)
 }
 
 /// Carries the event out.

@@ -74,7 +74,7 @@ fn play_meant<K: Sink, H: Shelf>(
     scene: &mut Scene<H::Disk>,
     names: &IndexSet<Ident>,
     sink: &mut K,
-    lines: &mut Vec<u8>,
+    buffer: &mut Vec<u8>,
     shelf: &mut H,
     alloc: Global,
     line: &Line,
@@ -99,15 +99,15 @@ fn play_meant<K: Sink, H: Shelf>(
     ensures later { H.faults shelf.old ≤ H.faults shelf.new }
     ensures climbs { K.faults sink.old ≤ K.faults sink.new }
 {
-    play_event(scene, names, sink, lines, shelf, alloc, act, now)
+    play_event(scene, names, sink, buffer, shelf, alloc, act, now)
 }
 
-/// A line. What is written of it is put together in `lines`.
+/// A line. What is written of it is put together in the buffer.
 fn play_line<K: Sink, H: Shelf>(
     scene: &mut Scene<H::Disk>,
     names: &IndexSet<Ident>,
     sink: &mut K,
-    lines: &mut Vec<u8>,
+    buffer: &mut Vec<u8>,
     shelf: &mut H,
     alloc: Global,
     line: &Line,
@@ -133,7 +133,7 @@ fn play_line<K: Sink, H: Shelf>(
     law_hearing();
     if let Some((party, command)) = order_of(line) {
         let act = ordered(line, &party, &command);
-        return play_meant(scene, names, sink, lines, shelf, alloc, line, &act, now);
+        return play_meant(scene, names, sink, buffer, shelf, alloc, line, &act, now);
     }
     if !is_arrival(line) {
         return Ok(behind_quiet(line, now));
@@ -143,7 +143,7 @@ fn play_line<K: Sink, H: Shelf>(
             scene,
             names,
             sink,
-            lines,
+            buffer,
             shelf,
             alloc,
             line,
@@ -154,7 +154,7 @@ fn play_line<K: Sink, H: Shelf>(
     match &hear(alloc, input_bytes(bytes)) {
         Ok(heard) => {
             let act = act_of(line, heard);
-            play_meant(scene, names, sink, lines, shelf, alloc, line, &act, now)
+            play_meant(scene, names, sink, buffer, shelf, alloc, line, &act, now)
         }
         Err(_) => Err(Ending::Failed(Failure::NoMemory)),
     }
@@ -186,10 +186,10 @@ pub(crate) fn play_lines<K: Sink, H: Shelf>(
     ensures later { H.faults shelf.old ≤ H.faults shelf.new }
     ensures climbs { K.faults sink.old ≤ K.faults sink.new }
 {
-    let mut written = Vec::new(alloc);
+    let mut buffer = Vec::new(alloc);
     let mut now = start();
     'playing: for line in lines {
-        now = play_line(scene, names, sink, &mut written, shelf, alloc, line, &now)?;
+        now = play_line(scene, names, sink, &mut buffer, shelf, alloc, line, &now)?;
     }
     Ok(now)
 }

@@ -1,4 +1,4 @@
-// Whether a holder of its key made the code of what arrives. The code is tested once: its lead goes on to the party's turn.
+// Whether a holder of its key made the code of what arrives. Where no stop waits it is tested once: its lead goes on to the party's turn.
 ghost use Rattle.std.specs.Prelude.{◌≡◌, ◌<◌, length};
 ghost use Rattle.replay.specs.Forging.{is_honest_lead, is_honest_led, IsLed, IsLedAt};
 ghost use Rattle.replay.specs.Inputs.{input_of};
@@ -32,7 +32,7 @@ pub(crate) fn is_honest_led(facts: &FactBook, input: Telling<'_>, lead: &Option<
 }
 
 /// The lead of what a party is told.
-fn lead_of<D: Disk>(node: &Node<D>, input: Telling<'_>) -> Option<Lead>
+pub(crate) fn lead_of<D: Disk>(node: &Node<D>, input: Telling<'_>) -> Option<Lead>
     ensures { IsLed node.now.party (input_of input.entry) result }
 {
     match input {

@@ -34,12 +34,12 @@ fn text_behind<D: Disk>(scene: &Scene<D>, count: usize) -> Option<&Text>
     scene.texts.get(count)
 }
 
-/// An event, and its lines, which are put together in `lines`.
+/// An event, and its lines, which are put together in the buffer.
 pub(crate) fn play_event<K: Sink, H: Shelf>(
     scene: &mut Scene<H::Disk>,
     names: &IndexSet<Ident>,
     sink: &mut K,
-    lines: &mut Vec<u8>,
+    buffer: &mut Vec<u8>,
     shelf: &mut H,
     alloc: Global,
     act: &Act<'_>,
@@ -65,6 +65,6 @@ pub(crate) fn play_event<K: Sink, H: Shelf>(
     let texts = text_count(scene);
     let outcome = play_act(scene, names, shelf, alloc, act, now)?;
     let text = text_behind(scene, texts);
-    write_event(sink, lines, now.number, outcome, texts as u64 + 1, text)?;
+    write_event(sink, buffer, now.number, outcome, texts as u64 + 1, text)?;
     Ok(now.after(outcome, text.is_some()))
 }

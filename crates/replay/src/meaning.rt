@@ -2,8 +2,8 @@
 ghost use Rattle.std.specs.Prelude.{◌≡◌, ◌-◌, List, ℕ, true, false, Some, IfNone, IfSome, option_map, slice_get};
 ghost use Rattle.x_base.specs.Names.{IsIdent, IsLabel};
 ghost use Rattle.world_laws.specs.Events.{IsCommand};
-ghost use Rattle.replay.specs.Happenings.{IsNoEvent, arriving, is_arrival, text_back};
-ghost use Rattle.replay.specs.Meanings.{HeardOf, IsMeant, IsNoOrder, order_in};
+ghost use Rattle.replay.specs.Happenings.{IsNoEvent, text_back};
+ghost use Rattle.replay.specs.Meanings.{HeardOf, IsMeant, IsNoOrder, arriving, is_arrival, order_in};
 
 use crate::act::{Act, Telling};
 use crate::arriving::{arrived, returned};
@@ -126,7 +126,7 @@ pub(crate) fn ordered<'a>(line: &Line, party: &Ident, command: &'a Command) -> A
     }
 }
 
-/// Whether a text arrives at a line.
+/// Whether bytes may arrive at a line.
 pub(crate) fn is_arrival(line: &Line) -> bool
     ensures value { result ≡ is_arrival line.now }
     ensures none { result ≡ false → IsNoOrder line.now → IsNoEvent line.now }
@@ -158,6 +158,7 @@ pub(crate) fn act_of<'a>(line: &Line, heard: &'a Result<Arrival, Unheard>) -> Ac
     match line {
         Line::Pass { party, .. } => arrived(party, heard),
         Line::Bytes { party, .. } => arrived(party, heard),
-        _ => returned(heard),
+        Line::Recent { .. } => returned(heard),
+        _ => unreachable!(),
     }
 }

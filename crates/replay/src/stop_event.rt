@@ -25,7 +25,7 @@ use x_base::{FullName, Ident, NoMemory, Text};
 use x_disk::{Disk, Shelf};
 
 /// What a party decides.
-fn decided<D: Disk>(
+fn decide_told<D: Disk>(
     node: &Node<D>,
     alloc: Global,
     input: Telling<'_>,
@@ -55,7 +55,7 @@ fn decide_at<D: Disk>(
     ensures { IfOk result (λ d. IsDecidedAt seats.now place (input_of input.entry) moment d) }
 {
     match &seats[place].held {
-        Held::Open(node) => decided(node, alloc, input, moment),
+        Held::Open(node) => decide_told(node, alloc, input, moment),
         Held::Loose(_) | Held::Out => unreachable!(),
     }
 }

@@ -34,7 +34,7 @@ pub(crate) enum Told<D: Disk> {
 }
 
 /// The turn of a party whose lead of what it is told is known.
-fn turn_led<D: Disk>(
+pub(crate) fn turn_led<D: Disk>(
     node: Node<D>,
     alloc: Global,
     input: Telling<'_>,

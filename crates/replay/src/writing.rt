@@ -1,5 +1,5 @@
 // The lines of an event are written.
-ghost use Rattle.std.specs.Prelude.{◌≡◌, ◌≤◌, ◌++◌, ℕ, Err, IfOk, IfErr, OnOk, OnErr, option_map};
+ghost use Rattle.std.specs.Prelude.{◌≡◌, ◌≤◌, ◌++◌, ℕ, Err, IfErr, OnOk, OnErr, option_map};
 ghost use Rattle.std.specs.Fmt.{decimal};
 ghost use Rattle.x_base.specs.Edge.{Rose, AppendsTo};
 ghost use Rattle.replay.specs.Breaking.{IsBreak};
@@ -27,68 +27,68 @@ pub(crate) fn put_all<K: Sink>(sink: &mut K, text: &[u8]) -> Result<(), SinkFaul
 }
 
 /// Appends the decimal digits of a number.
-fn push_number(lines: &mut Vec<u8>, n: u64) -> Result<(), NoMemory>
-    ensures { OnOk result (lines.new.items ≡ lines.old.items ++ decimal n) }
+fn push_number(buffer: &mut Vec<u8>, n: u64) -> Result<(), NoMemory>
+    ensures { OnOk result (buffer.new.items ≡ buffer.old.items ++ decimal n) }
 {
     let mut digits = Buffer::new();
-    lines.extend_from_slice(digits.format(n).as_bytes())?;
+    buffer.extend_from_slice(digits.format(n).as_bytes())?;
     Ok(())
 }
 
 /// Appends the line of an event.
-fn push_outcome(lines: &mut Vec<u8>, number: u32, outcome: Outcome) -> Result<(), NoMemory>
-    ensures { OnOk result (lines.new.items ≡ lines.old.items ++ outcome_line number outcome) }
+fn push_outcome(buffer: &mut Vec<u8>, number: u32, outcome: Outcome) -> Result<(), NoMemory>
+    ensures { OnOk result (buffer.new.items ≡ buffer.old.items ++ outcome_line number outcome) }
 {
-    lines.extend_from_slice(b"E")?;
-    push_number(lines, number as u64)?;
+    buffer.extend_from_slice(b"E")?;
+    push_number(buffer, number as u64)?;
     match outcome {
-        Outcome::Done => lines.extend_from_slice(b" DONE\n")?,
+        Outcome::Done => buffer.extend_from_slice(b" DONE\n")?,
         Outcome::Refused(why) => {
-            lines.extend_from_slice(b" REFUSED ")?;
-            push_number(lines, why as u64)?;
-            lines.extend_from_slice(b"\n")?;
+            buffer.extend_from_slice(b" REFUSED ")?;
+            push_number(buffer, why as u64)?;
+            buffer.extend_from_slice(b"\n")?;
         }
-        Outcome::Stopped => lines.extend_from_slice(b" STOPPED\n")?,
-        Outcome::Nothing => lines.extend_from_slice(b" NONE\n")?,
+        Outcome::Stopped => buffer.extend_from_slice(b" STOPPED\n")?,
+        Outcome::Nothing => buffer.extend_from_slice(b" NONE\n")?,
     }
     Ok(())
 }
 
 /// Appends the line of a text, if there is one.
-fn push_text(lines: &mut Vec<u8>, k: u64, text: Option<&Text>) -> Result<(), NoMemory>
-    ensures { OnOk result (lines.new.items ≡ lines.old.items ++ text_line k (option_map (λ t. t.now) text.entry)) }
+fn push_text(buffer: &mut Vec<u8>, k: u64, text: Option<&Text>) -> Result<(), NoMemory>
+    ensures { OnOk result (buffer.new.items ≡ buffer.old.items ++ text_line k (option_map (λ t. t.now) text.entry)) }
 {
     let Some(text) = text else {
         return Ok(());
     };
-    lines.extend_from_slice(b"T")?;
-    push_number(lines, k)?;
-    lines.extend_from_slice(b" ")?;
-    lines.extend_from_slice(text.bytes())?;
-    lines.extend_from_slice(b"\n")?;
+    buffer.extend_from_slice(b"T")?;
+    push_number(buffer, k)?;
+    buffer.extend_from_slice(b" ")?;
+    buffer.extend_from_slice(text.bytes())?;
+    buffer.extend_from_slice(b"\n")?;
     Ok(())
 }
 
-/// Puts the lines of an event in place of those that were there.
-fn put_event(
-    lines: &mut Vec<u8>,
+/// Makes the lines of an event, in place of what the buffer held.
+fn compose_event(
+    buffer: &mut Vec<u8>,
     number: u32,
     outcome: Outcome,
     k: u64,
     text: Option<&Text>,
 ) -> Result<(), NoMemory>
-    ensures { OnOk result (lines.new.items ≡ outcome_line number outcome ++ text_line k (option_map (λ t. t.now) text.entry)) }
+    ensures { OnOk result (buffer.new.items ≡ outcome_line number outcome ++ text_line k (option_map (λ t. t.now) text.entry)) }
 {
-    lines.clear();
-    push_outcome(lines, number, outcome)?;
-    push_text(lines, k, text)
+    buffer.clear();
+    push_outcome(buffer, number, outcome)?;
+    push_text(buffer, k, text)
 }
 
 /// Writes the lines of an event: what became of it, and the text that it wrote, if it did. They are put together in memory
 /// that serves for one event after the other.
 pub(crate) fn write_event<K: Sink>(
     sink: &mut K,
-    lines: &mut Vec<u8>,
+    buffer: &mut Vec<u8>,
     number: u32,
     outcome: Outcome,
     k: u64,
@@ -102,8 +102,8 @@ pub(crate) fn write_event<K: Sink>(
     ensures fault { result ≡ Err Ending.Write → Rose (K.faults sink.old) (K.faults sink.new) }
     ensures later { K.faults sink.old ≤ K.faults sink.new }
 {
-    put_event(lines, number, outcome, k, text)?;
-    match put_all(sink, lines.as_slice()) {
+    compose_event(buffer, number, outcome, k, text)?;
+    match put_all(sink, buffer.as_slice()) {
         Ok(()) => Ok(()),
         Err(SinkFault) => Err(Ending::Write),
     }

@@ -1,6 +1,6 @@
 use Rattle.std.proofs.Common.{◌≡◌, ◌∙◌, ap, sym, subst}
 use Rattle.replay.specs.Breaking.{IsBreak}
-use Rattle.replay.specs.Happenings.{arriving}
+use Rattle.replay.specs.Meanings.{arriving}
 use Rattle.replay.specs.declared.failure.Ending.TheVariants as ending
 use Rattle.replay.specs.declared.failure.Failure.TheVariants as failure
 use Rattle.replay.proofs.BreakingOff.{breaks_ahead}

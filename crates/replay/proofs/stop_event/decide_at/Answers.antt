@@ -15,5 +15,5 @@ unreachable-requires g c =
 pub returns : goal.returns
 returns g c =
     let s = c.index-seats-place.result in
-    decides_at c.args.seats.now c.args.place s c.in-Open.node (input_of c.args.input) c.args.moment c.in-Open.node.party c.decided.result c.index-seats-place.is
-    (ap (λ (x : Seat _). x.held) c.index-seats-place.is ∙ c.in-Open.is) refl c.decided.ensures.decision c.decided.ensures.kept
+    decides_at c.args.seats.now c.args.place s c.in-Open.node (input_of c.args.input) c.args.moment c.in-Open.node.party c.decide_told.result c.index-seats-place.is
+    (ap (λ (x : Seat _). x.held) c.index-seats-place.is ∙ c.in-Open.is) refl c.decide_told.ensures.decision c.decide_told.ensures.kept
