@@ -3,9 +3,9 @@
 folders in memory and on a disk.
 
 In memory a scenario is played 1 and 6 times by one process; what is told is a fifth of the difference of the least of five
-runs in processor time, so that other work on the machine counts little; and the same of reading it alone. Over files it is
-the least of three runs by the clock. Each time all events have to be done. replay.py [REPLAY_CASES [X917]]; the folder on a
-disk is one of TMPDIR's."""
+runs (or of ROUNDS, where the environment has it) in processor time, so that other work on the machine counts little; and the
+same of reading it alone. Over files it is the least of three runs by the clock. Each time all events have to be done.
+replay.py [REPLAY_CASES [X917]]; the folder on a disk is one of TMPDIR's."""
 import os
 import subprocess
 import sys
@@ -16,6 +16,7 @@ HERE = os.path.dirname(os.path.dirname(os.path.realpath(__file__)))
 CASES = os.path.realpath(sys.argv[1]) if len(sys.argv) > 1 else f"{HERE}/crates/replay_cases/out/replay_cases"
 X917 = os.path.realpath(sys.argv[2]) if len(sys.argv) > 2 else f"{HERE}/crates/x917/out/x917"
 TIMES = 5
+ROUNDS = int(os.environ.get("ROUNDS", "5"))
 
 
 def pair(number):
@@ -92,7 +93,7 @@ def in_memory(text, is_right):
     least = {}
     for times in 1, 1 + TIMES:
         least[times] = float("inf")
-        for _ in range(5):
+        for _ in range(ROUNDS):
             with tempfile.TemporaryFile() as source, tempfile.TemporaryFile() as sink:
                 source.write(order * times)
                 source.seek(0)
