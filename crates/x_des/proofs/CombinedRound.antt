@@ -178,9 +178,9 @@ groups n wide key e = record {
 
 pub groups_of : (wide key : ℕ) → IsDoubled wide → Groups (bit_xor wide (bit_and key 4557430888798830399)) wide key
 groups_of wide key e =
-    let given = bit_and key 4557430888798830399 in
-    groups (bit_xor wide given) wide key
-    (bits-bit_xor 64 wide given ∙ ap (λ bs. exclusive_or bs (bits_of 64 given)) e ∙ ap (exclusive_or (doubled (half wide))) (bits-sixes key))
+    let last_six = bit_and key 4557430888798830399 in
+    groups (bit_xor wide last_six) wide key
+    (bits-bit_xor 64 wide last_six ∙ ap (λ bs. exclusive_or bs (bits_of 64 last_six)) e ∙ ap (exclusive_or (doubled (half wide))) (bits-sixes key))
 
 -- exclusive or of doubled words
 pub doubled-exclusive_or : (a b : ℕ) → exclusive_or (doubled (bits_of 32 a)) (doubled (bits_of 32 b)) ≡ doubled (exclusive_or (bits_of 32 a) (bits_of 32 b))

@@ -9,8 +9,8 @@ unfoldable pub sixes : ℕ → List Bool → List Bool
 sixes zero bs = []
 sixes (suc n) bs = false ∷ false ∷ take 6 (drop 2 bs) ++ sixes n (drop 8 bs)
 
--- 32 bits twice, so that the six bits that E gives to each S-box end a byte, which begins with zeros: those
--- of S1, S3, S5 and S7 in the first rotation, and those of S2, S4, S6 and S8 in the second
+-- the 48 bits that E makes of 32, those for each S-box in a byte that begins with two zeros: for S1, S3, S5 and S7
+-- out of the first rotation, and for S2, S4, S6 and S8 out of the second
 abbrev pub doubled : List Bool → List Bool
 doubled bs = sixes 8 (rotated 29 bs ++ rotated 1 bs)
 
@@ -18,7 +18,7 @@ doubled bs = sixes 8 (rotated 29 bs ++ rotated 1 bs)
 abbrev pub undoubled : List Bool → List Bool
 undoubled bs = chosen (bits_of 32 0x9f9f9f9f) (rotated 31 (drop 32 bs)) (rotated 3 (take 32 bs))
 
--- the 32 bits that a word holds twice
+-- the 32 bits whose double a word is
 abbrev pub half : ℕ → List Bool
 half word = undoubled (bits_of 64 word)
 

@@ -45,8 +45,8 @@ pub fn mixed(wide: u64, round_key: u64) -> u64
 {
     // E gives each box six neighbouring bits, which end a byte of the doubled half.
     let given = wide ^ round_key & SIXES;
-    // No two entries have a bit in common, so that some can be joined by or: a compiler makes one long
-    // chain of exclusive ors alone.
+    // Entries of two boxes have no bit in common, so that some can be joined by or: a compiler makes one
+    // long chain of exclusive ors alone.
     (entry(7, six(given, 0)) | entry(5, six(given, 8)))
         ^ (entry(3, six(given, 16)) | entry(1, six(given, 24)))
         ^ (entry(6, six(given, 32)) | entry(4, six(given, 40)))

@@ -1,4 +1,4 @@
-ghost use Rattle.std.specs.Prelude.{◌≡◌, ℕ, ◌<◌, ◌≤◌, ◌-◌, ◌++◌, ◌∷◌, List, [], length, replicate};
+ghost use Rattle.std.specs.Prelude.{◌≡◌, ℕ, ◌<◌, ◌≤◌, ◌-◌, ◌/◌, ◌^◌, ◌++◌, ◌∷◌, List, [], length, replicate};
 ghost use Rattle.x_mac.specs.Code.{chained, code_of, edc_of, mac_of, word_of};
 
 use x_des::{Block, Schedule};
@@ -54,7 +54,7 @@ impl Running {
     pub fn finish(self) -> u32
         ensures { (key : ℕ) (text : List ℕ) → Holds self key text → result ≡ mac_of key text }
     {
-        (self.total() >> 32) as u32
+        leftmost(self.total())
     }
 
     /// The code of all pieces joined.
@@ -93,6 +93,13 @@ impl Running {
     }
 }
 
+/// The leftmost 32 bits of a code.
+fn leftmost(code: u64) -> u32
+    ensures { result ≡ code / 2 ^ 32 }
+{
+    (code >> 32) as u32
+}
+
 /// Up to eight bytes and the zero bytes that fill them to eight, as a word whose first byte is the
 /// most significant.
 fn word(bytes: &[u8]) -> u64
@@ -118,7 +125,7 @@ pub fn code(key: u64, text: &[u8]) -> u64
 pub fn mac(key: u64, text: &[u8]) -> u32
     ensures { result ≡ mac_of key text.now }
 {
-    (code(key, text) >> 32) as u32
+    leftmost(code(key, text))
 }
 
 /// The error detection code of a text: its `mac` under the key 0123456789ABCDEF.
