@@ -192,6 +192,17 @@ fn push_answers(alloc: Global, out: &mut Text, state: &State) -> Result<(), NoMe
     Ok(())
 }
 
+/// About as many bytes as the lines take in which a party is shown.
+fn show_room(state: &State) -> usize {
+    state
+        .link_count()
+        .saturating_add(state.key_count())
+        .saturating_add(state.exchange_count())
+        .saturating_add(state.answer_count())
+        .saturating_add(1)
+        .saturating_mul(64)
+}
+
 /// The lines in which a party is shown: the party, its links, keys, exchanges and answers, each
 /// list in its order. No key's value is shown.
 pub fn show_text(alloc: Global, state: &State) -> Result<Text, NoMemory>
@@ -199,7 +210,7 @@ pub fn show_text(alloc: Global, state: &State) -> Result<Text, NoMemory>
 {
     let own = state.own();
     let role = state.role();
-    let mut text = Text::new(alloc);
+    let mut text = Text::with_capacity(alloc, show_room(state))?;
     push_line(&mut text, b"PARTY", &[own.bytes(), role_word(&role)])?;
     push_links(alloc, &mut text, state)?;
     push_keys(alloc, &mut text, state)?;

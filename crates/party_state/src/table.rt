@@ -63,7 +63,7 @@ impl<K: Eq + Hash + Copy, R: Row<K>> Table<K, R> {
         ensures found { option_copied result ≡ find_row R.row_key K.eq key.now self.now.0 }
         ensures row { IfSome result (λ r. R.IsRow r.now) }
     {
-        // Mostly the row that was put last is looked for, and then no hash is made.
+        // Mostly the last row is looked for, and then no hash is made.
         match self.last_with(key) {
             Some(row) => Some(row),
             None => self.map.get(key),

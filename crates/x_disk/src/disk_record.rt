@@ -1,11 +1,11 @@
-// The record of a disk in memory: what a read gives, the image of the last sync, and all steps.
+// The record of a disk in memory: what a read gives, what the last power-off left, and all steps.
 use crate::image::{copy_from, settle, write_all, write_over};
 use std::alloc::{AllocError, Global};
 use std::marker::Model;
 use x_base::NoMemory;
 
-/// How many bytes a disk has room for at least from the start, so that small ones aren't moved while they grow.
-const LEAST: usize = 65_536;
+/// How many bytes a disk has room for at least from the start. With more, many small disks would lie far apart.
+const LEAST: usize = 2_048;
 
 /// A step of the record. The bytes of a write lie in the payload, behind those of the writes before it.
 #[derive(Clone, Copy, Drop)]
