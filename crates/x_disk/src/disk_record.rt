@@ -4,8 +4,12 @@ use std::alloc::{AllocError, Global};
 use std::marker::Model;
 use x_base::NoMemory;
 
-/// How many bytes a disk has room for at least from the start. With more, many small disks would lie far apart.
-const LEAST: usize = 2_048;
+/// How many bytes a disk has room for at least from the start, so that small ones aren't moved while they grow. With
+/// more, many small disks would lie far apart.
+const LEAST: usize = 12_288;
+
+/// For how many steps it has room at least.
+const FEWEST: usize = 256;
 
 /// A step of the record. The bytes of a write lie in the payload, behind those of the writes before it.
 #[derive(Clone, Copy, Drop)]
@@ -58,7 +62,7 @@ impl DiskRecord {
         Ok(DiskRecord {
             room,
             bytes: Vec::with_capacity(alloc, most)?,
-            entries: Vec::with_capacity(alloc, most / 16)?,
+            entries: Vec::with_capacity(alloc, (room / 16).max(FEWEST))?,
             payload: Vec::with_capacity(alloc, most)?,
             first: 0,
             base: Vec::with_capacity(alloc, room)?,
