@@ -77,7 +77,7 @@ module _ {D : Type 0} (told : D → View) (entry : List ℕ → View) (low high 
       (is, (h.0, h.1, none_begun before after start c h.0 s p written why other at))
 
   -- an event broke off
-  pub breaks_act_line : (l : Line) (a : Act) (old new : Scene D) (p : Progress) (written next : Option (List ℕ)) (why : Ending) → IsMeant l old.texts.items a → BreaksEvent told entry low high a old new p written next why → BreaksLine told entry low high l old new p written next why
+  pub breaks_act_line : (l : Line) (a : Act) (old new : Scene D) (p : Progress) (written next : Option (List ℕ)) (why : Ending) → IsMeant l old.texts a → BreaksEvent told entry low high a old new p written next why → BreaksLine told entry low high l old new p written next why
   breaks_act_line l a old new p written next why meant breaks = λ before after first last start c at.
       let h : IsMeant l c.world.texts a = subst (λ (texts : List (List ℕ)). IsMeant l texts a) at.shows.texts_are meant in
       let b = breaks before after first last start c h.0 at h.3 in

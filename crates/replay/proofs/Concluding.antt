@@ -66,7 +66,7 @@ module _ {D : Type 0} (told : D → View) where
   durable_back old entry (s ∷ seats) back all = durable_more old entry s.own s.held (members seats) back.0 all.0 (durable_back old entry seats back.1 all.1)
 
   -- the start is shown by the parties that are set up
-  pub starts : (lines : List Line) (s : Scene D) (written : Option (List ℕ)) → AreIn told s.seats.items → members s.seats.items ≡ start_members lines → s.texts.items ≡ [] → s.facts ≡ []
+  pub starts : (lines : List Line) (s : Scene D) (written : Option (List ℕ)) → AreIn told s.seats.items → members s.seats.items ≡ start_members lines → s.texts ≡ [] → s.facts ≡ []
       → IsAt told written (start_course lines) s start_progress written
   starts lines s written seated members_are texts_are facts_are = record {
     shows = record { seated = seated; members_are = members_are; texts_are = texts_are; facts_are = facts_are };

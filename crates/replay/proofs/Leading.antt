@@ -78,7 +78,7 @@ quiet_within l p q quiet n w = within_more q n (n + 1) (omega arith) (go l quiet
 
 module _ {D : Type 0} (told : D → View) (low high : ℕ) (old new : Scene D) (p q : Progress) (written next : Option (List ℕ)) where
   -- an event, with its lines
-  pub plays_event : (a : Act) (o : Outcome) (k : ℕ) (text : Option (List ℕ)) → Acts told low high a old new p o → k ≡ length old.texts.items → text ≡ slice_get new.texts.items k → q ≡ after_outcome p o (is_some text)
+  pub plays_event : (a : Act) (o : Outcome) (k : ℕ) (text : Option (List ℕ)) → Acts told low high a old new p o → k ≡ length old.texts → text ≡ slice_get new.texts k → q ≡ after_outcome p o (is_some text)
       → AppendsTo written next (outcome_line p.number o ++ text_line (k + 1) text) → PlaysEvent told low high a old new p q written next
   plays_event a o k text acts k_is text_is q_is out = λ before after first last start c h at means.
       let m = acts before after first last c h at.now_is at.shows means in
@@ -112,14 +112,14 @@ quiet_next before after (line.Stop n choice) none c p q is quiet = λ i. record 
 quiet_next before after l none c p q is quiet = absurd none
 
 module _ {D : Type 0} (told : D → View) (low high : ℕ) (old new : Scene D) (p q : Progress) (written next : Option (List ℕ)) where
-  pub plays_act_line : (l : Line) (a : Act) → ((texts : List (List ℕ)) → texts ≡ old.texts.items → (h : Happening) × Happens l texts h × IsFormed h × Means a h) → PlaysEvent told low high a old new p q written next
+  pub plays_act_line : (l : Line) (a : Act) → ((texts : List (List ℕ)) → texts ≡ old.texts → (h : Happening) × Happens l texts h × IsFormed h × Means a h) → PlaysEvent told low high a old new p q written next
       → PlaysLine told low high l old new p q written next
   plays_act_line l a happens plays = λ before after first last start c at.
       let h = happens c.world.texts (sym at.shows.texts_are) in
       let e = plays before after first last start c h.0 at h.3 in
       (after_event c e.0 e.1, next_event before after l c (after_event c e.0 e.1) (record { happening = h.0; happens = h.1; formed = h.2; event = e.0; outcome = e.1; done = e.2; leads = refl }), e.3)
 
-  pub forges_line : (l : Line) (a : Act) → ((texts : List (List ℕ)) → texts ≡ old.texts.items → (h : Happening) × Happens l texts h × IsFormed h × Means a h) → Forges told a old → ForgesLine told l old
+  pub forges_line : (l : Line) (a : Act) → ((texts : List (List ℕ)) → texts ≡ old.texts → (h : Happening) × Happens l texts h × IsFormed h × Means a h) → Forges told a old → ForgesLine told l old
   forges_line l a happens forges = λ c shows.
       let h = happens c.world.texts (sym shows.texts_are) in
       record { happening = h.0; happens = h.1; formed = h.2; forged = forges c h.0 shows h.3 }

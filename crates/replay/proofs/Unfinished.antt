@@ -139,7 +139,7 @@ module _ {D : Type 0} (told : D → View) (entry : List ℕ → View) (low high 
       )
 
   -- an event was done, and a part of its lines was written
-  pub lines_break : (a : Act) (o : Outcome) (k : ℕ) (text : Option (List ℕ)) (why : Ending) → Acts told low high a old new p o → k ≡ length old.texts.items → text ≡ slice_get new.texts.items k → IsBreak why
+  pub lines_break : (a : Act) (o : Outcome) (k : ℕ) (text : Option (List ℕ)) (why : Ending) → Acts told low high a old new p o → k ≡ length old.texts → text ≡ slice_get new.texts k → IsBreak why
       → WrotePrefix written next (outcome_line p.number o ++ text_line (k + 1) text) → BreaksEvent told entry low high a old new p written next why
   lines_break a o k text why acts k_is text_is is_break wrote = λ before after first last start c h at means.
       let m = acts before after first last c h at.now_is at.shows means in

@@ -26,7 +26,7 @@ use Rattle.replay.specs.declared.scene.Scene.{Scene}
 pub record Shows {D : Type 0} (told : D → View) (w : World) (s : Scene D) : Type 0 where
   pub seated : AreIn told s.seats.items
   pub members_are : members s.seats.items ≡ w.members
-  pub texts_are : s.texts.items ≡ w.texts
+  pub texts_are : s.texts ≡ w.texts
   pub facts_are : s.facts ≡ map named_text w.facts
 
 -- the authenticated text of a canonical text: what stands before the tag of its code, eight digits and the end

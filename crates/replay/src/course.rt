@@ -81,7 +81,7 @@ fn play_meant<K: Sink, H: Shelf>(
     act: &Act<'_>,
     now: &Progress,
 ) -> Result<Progress, Ending>
-    requires meant { IsMeant line.now scene.old.texts.items act.now }
+    requires meant { IsMeant line.now scene.old.texts act.now }
     requires named { names.now.keys ≡ owners scene.old.seats.items }
     requires seated { AreOpen scene.old.seats.items }
     requires slots { AllSlots (H.has_slot shelf.old) (owners scene.old.seats.items) }

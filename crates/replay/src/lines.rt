@@ -17,19 +17,19 @@ use crate::scene::Scene;
 use crate::writing::write_event;
 use indexmap::IndexSet;
 use std::alloc::Global;
-use x_base::{Ident, Sink, Text};
+use x_base::{Ident, Sink};
 use x_disk::{Disk, Shelf};
 
 /// How many texts were written.
 fn text_count<D: Disk>(scene: &Scene<D>) -> usize
-    ensures { result ≡ length scene.now.texts.items }
+    ensures { result ≡ length scene.now.texts }
 {
     scene.texts.len()
 }
 
 /// The text behind so many.
-fn text_behind<D: Disk>(scene: &Scene<D>, count: usize) -> Option<&Text>
-    ensures { option_map (λ t. t.now) result ≡ slice_get scene.now.texts.items count }
+fn text_behind<D: Disk>(scene: &Scene<D>, count: usize) -> Option<&[u8]>
+    ensures { option_map (λ t. t.now) result ≡ slice_get scene.now.texts count }
 {
     scene.texts.get(count)
 }

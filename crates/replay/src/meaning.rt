@@ -9,9 +9,10 @@ use crate::act::{Act, Telling};
 use crate::arriving::{arrived, returned};
 use csm_feed::Unheard;
 use csm_grammar::Arrival;
+use fact_book::Texts;
 use party_state::Command;
 use scenario::Line;
-use x_base::{Ident, Label, Text};
+use x_base::{Ident, Label};
 
 fn start_kk(peer: &Ident, label: &Label, new: &Label, single: bool) -> Command
     ensures command { result ≡ Command.StartKk peer.now (Some label.now) new.now single }
@@ -95,14 +96,14 @@ pub(crate) fn order_of(line: &Line) -> Option<(Ident, Command)>
 }
 
 /// The `k`-th text, from 1.
-fn text_of(texts: &[Text], k: u32) -> Option<&Text>
+fn text_of(texts: &Texts, k: u32) -> Option<&[u8]>
     ensures { option_map (λ t. t.now) result ≡ slice_get texts.now (k - 1) }
 {
     texts.get(k.saturating_sub(1) as usize)
 }
 
 /// The `j`-th text, counted back from the last one, from 1.
-fn text_back(texts: &[Text], j: u32) -> Option<&Text>
+fn text_back(texts: &Texts, j: u32) -> Option<&[u8]>
     ensures { option_map (λ t. t.now) result ≡ text_back j texts.now }
 {
     let j = j as usize;
@@ -138,16 +139,15 @@ pub(crate) fn is_arrival(line: &Line) -> bool
 }
 
 /// The bytes that arrive at a line, if there are any, where these texts were written.
-pub(crate) fn bytes_at<'a>(texts: &'a [Text], line: &'a Line) -> Option<&'a [u8]>
+pub(crate) fn bytes_at<'a>(texts: &'a Texts, line: &'a Line) -> Option<&'a [u8]>
     ensures { option_map (λ b. b.now) result ≡ arriving line.now texts.now }
 {
-    let text = match line {
-        Line::Pass { k, .. } => text_of(texts, *k)?,
-        Line::Recent { j } => text_back(texts, *j)?,
-        Line::Bytes { bytes, .. } => bytes,
-        _ => return None,
-    };
-    Some(text.bytes())
+    match line {
+        Line::Pass { k, .. } => text_of(texts, *k),
+        Line::Recent { j } => text_back(texts, *j),
+        Line::Bytes { bytes, .. } => Some(bytes.bytes()),
+        _ => None,
+    }
 }
 
 /// What is to be done at a line, where this is heard of the bytes that arrive.

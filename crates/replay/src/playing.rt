@@ -21,7 +21,7 @@ use crate::setting_up::set_up;
 use crate::showing::write_shows;
 use crate::tally::{PlayResult, Tally};
 use crate::tallying::tally_of;
-use fact_book::FactBook;
+use fact_book::{FactBook, Texts};
 use indexmap::IndexSet;
 use scenario::{Line, Scenario};
 use std::alloc::Global;
@@ -85,7 +85,7 @@ fn play_seats<K: Sink, H: Shelf>(
 {
     let mut scene = Scene {
         seats,
-        texts: Vec::new(alloc),
+        texts: Texts::new(alloc),
         facts: FactBook::new(alloc),
     };
     let outcome = play_scene(&mut scene, names, sink, shelf, alloc, lines);

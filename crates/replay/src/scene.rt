@@ -11,7 +11,7 @@ use crate::act::Telling;
 use crate::failure::Failure;
 use crate::seat::Seat;
 use crate::seated::{Saying, tell_at};
-use fact_book::FactBook;
+use fact_book::{FactBook, Texts};
 use party_state::Lead;
 use std::alloc::Global;
 use world_laws::law_inputs;
@@ -22,7 +22,7 @@ use x_disk::Disk;
 #[derive(Drop)]
 pub(crate) struct Scene<D: Disk> {
     pub(crate) seats: Vec<Seat<D>>,
-    pub(crate) texts: Vec<Text>,
+    pub(crate) texts: Texts,
     pub(crate) facts: FactBook,
 }
 
@@ -50,15 +50,12 @@ pub(crate) fn note(
 }
 
 /// Puts a text behind the others.
-fn put_text(texts: &mut Vec<Text>, reply: Option<Text>) -> Result<(), NoMemory>
-    ensures { OnOk result (texts.new.items ≡ texts.old.items ++ option_to_list reply) }
+fn put_text(texts: &mut Texts, reply: &Option<Text>) -> Result<(), NoMemory>
+    ensures { OnOk result (texts.new ≡ texts.old ++ option_to_list reply.now) }
 {
-    let Some(text) = reply else {
-        return Ok(());
-    };
-    match texts.push(text) {
-        Ok(()) => Ok(()),
-        Err(_) => Err(NoMemory),
+    match reply {
+        Some(text) => texts.push(text.bytes()),
+        None => Ok(()),
     }
 }
 
@@ -87,6 +84,6 @@ pub(crate) fn tell_event<D: Disk>(
         under,
     } = tell_at(&mut scene.seats, place, alloc, input, lead, moment)?;
     note(&mut scene.facts, under, &reply)?;
-    put_text(&mut scene.texts, reply)?;
+    put_text(&mut scene.texts, &reply)?;
     Ok(verdict)
 }

@@ -9,7 +9,7 @@ ghost use Rattle.replay.specs.Writing.{WrotePrefix};
 use crate::failure::{Ending, Failure};
 use crate::progress::Outcome;
 use itoa::Buffer;
-use x_base::{NoMemory, Sink, SinkFault, Text};
+use x_base::{NoMemory, Sink, SinkFault};
 
 /// Puts the whole text.
 pub(crate) fn put_all<K: Sink>(sink: &mut K, text: &[u8]) -> Result<(), SinkFault>
@@ -55,7 +55,7 @@ fn push_outcome(buffer: &mut Vec<u8>, number: u32, outcome: Outcome) -> Result<(
 }
 
 /// Appends the line of a text, if there is one.
-fn push_text(buffer: &mut Vec<u8>, k: u64, text: Option<&Text>) -> Result<(), NoMemory>
+fn push_text(buffer: &mut Vec<u8>, k: u64, text: Option<&[u8]>) -> Result<(), NoMemory>
     ensures { OnOk result (buffer.new.items ≡ buffer.old.items ++ text_line k (option_map (λ t. t.now) text.entry)) }
 {
     let Some(text) = text else {
@@ -64,7 +64,7 @@ fn push_text(buffer: &mut Vec<u8>, k: u64, text: Option<&Text>) -> Result<(), No
     buffer.extend_from_slice(b"T")?;
     push_number(buffer, k)?;
     buffer.extend_from_slice(b" ")?;
-    buffer.extend_from_slice(text.bytes())?;
+    buffer.extend_from_slice(text)?;
     buffer.extend_from_slice(b"\n")?;
     Ok(())
 }
@@ -75,7 +75,7 @@ fn compose_event(
     number: u32,
     outcome: Outcome,
     k: u64,
-    text: Option<&Text>,
+    text: Option<&[u8]>,
 ) -> Result<(), NoMemory>
     ensures { OnOk result (buffer.new.items ≡ outcome_line number outcome ++ text_line k (option_map (λ t. t.now) text.entry)) }
 {
@@ -92,7 +92,7 @@ pub(crate) fn write_event<K: Sink>(
     number: u32,
     outcome: Outcome,
     k: u64,
-    text: Option<&Text>,
+    text: Option<&[u8]>,
 ) -> Result<(), Ending>
     ensures written { OnOk result (AppendsTo (K.written sink.old) (K.written sink.new) (outcome_line number outcome ++ text_line k (option_map (λ t. t.now) text.entry))) }
     ensures part { OnErr result (WrotePrefix (K.written sink.old) (K.written sink.new) (outcome_line number outcome ++ text_line k (option_map (λ t. t.now) text.entry))) }

@@ -14,7 +14,7 @@ returns-then-not-is_arrival-clause-played g c =
     c.args.line.now (c.is_arrival.ensures.none c.if-not-is_arrival.true c.in_default.ensures.none) c.behind_quiet.ensures
 
 pub play_meant-requires-in-Ok-clause-meant : goal.play_meant-requires-in-Ok-clause-meant
-play_meant-requires-in-Ok-clause-meant g c = c.act_of-act.ensures c.args.scene.now.texts.items c.in-Some-bytes_at.bytes.now
+play_meant-requires-in-Ok-clause-meant g c = c.act_of-act.ensures c.args.scene.now.texts c.in-Some-bytes_at.bytes.now
     (ap (arriving c.args.line.now) (sym c.deref.ensures.value) ∙ sym c.in-Some-bytes_at.ensures)
     (heard_of c.in-Some-bytes_at.bytes.now c.input_bytes.result.now c.hear.result c.in-Ok.heard c.in-Ok.is c.input_bytes.ensures.value c.hear.ensures.heard c.hear.ensures.text)
 

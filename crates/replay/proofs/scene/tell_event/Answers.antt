@@ -25,7 +25,7 @@ returns-clause-step g c = λ w n own is_place shows.
     let old = c.args.scene.now.seats.items in
     let new = c.tell_at.new.seats.items in
     let e = event_at told old new c.args.place (input_of c.args.input) c.args.moment c.in_ok-verdict.field-0 c.in_ok-verdict.ensures.told shows.seated
-    c.args.scene.now.texts.items c.put_text.new.texts.items c.args.scene.now.facts c.note.new.facts c.in_ok-put_text.ensures c.in_ok-note.ensures
+    c.args.scene.now.texts c.put_text.new.texts c.args.scene.now.facts c.note.new.facts c.in_ok-put_text.ensures c.in_ok-note.ensures
     c.law_inputs.ensures.accepted c.law_inputs.ensures.refused c.law_inputs.ensures.full
     w n shows.members_are shows.texts_are shows.facts_are own is_place in
     let seated = event_in told old new c.args.place (input_of c.args.input) c.args.moment c.in_ok-verdict.field-0 c.in_ok-verdict.ensures.told shows.seated in
