@@ -1,6 +1,6 @@
 -- Whether what arrives is honest, by the facts as they are kept.
-use Rattle.std.proofs.Common.{◌≡◌, ◌↔◌, ℕ, ◌<◌, Bool, true, false, not, ◌||◌, map, List, [], length, get_or, Option, Some, None, refl, sym, ◌∙◌, ap, subst}
-use Rattle.std.proofs.lemmas.List.{get_or_at}
+use Rattle.std.proofs.Common.{arith, ◌≡◌, ◌↔◌, ℕ, ◌+◌, ◌<◌, Bool, true, false, not, ◌||◌, map, List, [], ◌∷◌, ◌++◌, length, get_or, take, drop, Option, Some, None, IfSome, refl, sym, ◌∙◌, ap, subst}
+use Rattle.std.proofs.lemmas.List.{get_or_at, length-take-le}
 use Rattle.x_base.specs.declared.key_name.FullName.{FullName}
 use Rattle.x_disk.specs.Disk.{View}
 use Rattle.party_state.specs.declared.command.Input.{Input}
@@ -22,9 +22,11 @@ use Rattle.replay.specs.Scene.{Shows}
 use Rattle.replay.specs.Seats.{seat, members, AreIn, AreOpen, NoneOf, IsPlace}
 use Rattle.replay.specs.declared.scene.Scene.{Scene}
 use Rattle.replay.specs.declared.seat.Seat.{Seat}
+use Rattle.replay.specs.declared.seat.Held.{Held}
 use Rattle.replay.specs.declared.seat.Held.TheVariants.{Open}
 use Rattle.replay.proofs.Members.{found}
 use Rattle.replay.proofs.Places.{OpenAt, open_at}
+use Rattle.replay.proofs.Seating.{parted}
 
 -- the lead at the party in a seat
 pub leads_at : {D : Type 0} (seats : List (Seat D)) (place : ℕ) (s : Seat D) (here : Stored D) (i : Input) (lead : Option Lead) → s ≡ get_or seats place s → s.held ≡ Open here → IsLed here.party i lead
@@ -34,6 +36,19 @@ leads_at {D = D} seats place s here i lead read opened led = λ front own node b
     let held : Open here ≡ Open node = sym opened ∙ ap (λ (x : Seat D). x.held) same in
     let one : here ≡ node = cc held in
     subst (λ (n : Stored D). IsLed n.party i lead) one led
+
+-- and at the node of an open seat
+pub led_there : {D : Type 0} (seats : List (Seat D)) (place : ℕ) (s : Seat D) (node : Stored D) (i : Input) (lead : Option Lead) → place < length seats → s ≡ get_or seats place s → s.held ≡ Open node
+    → IsLedAt seats place i lead → IsLed node.party i lead
+led_there {D = D} seats place s node i lead lt read opened led =
+    led (take place seats) s.own node (drop (place + 1) seats)
+    (parted seats place s lt read ∙ ap (λ (h : Held D). take place seats ++ seat s.own h ∷ drop (place + 1) seats) opened)
+    (length-take-le place seats (omega (arith, lt)))
+
+-- what holds of something that may be there
+pub if_some_by : {A : Type 0} {P Q : A → Type 0} → ((a : A) → P a → Q a) → (o : Option A) → IfSome o P → IfSome o Q
+if_some_by f None h = tt
+if_some_by f (Some a) h = f a h
 
 -- what is judged by it
 pub judged_by : {D : Type 0} (seats : List (Seat D)) (place : ℕ) (facts : List NamedText) (i : Input) (lead : Option Lead) (honest : Bool) → IsLedAt seats place i lead → honest ≡ is_honest_led facts i lead

@@ -64,7 +64,9 @@ fn play_honest<H: Shelf>(
     law_runs();
     match now.stop {
         Some(stop) => {
-            stop_event(scene, place, own, shelf, alloc, input, now.moment, stop)?;
+            stop_event(
+                scene, place, own, shelf, alloc, input, lead, now.moment, stop,
+            )?;
             Ok(Outcome::Stopped)
         }
         None => {

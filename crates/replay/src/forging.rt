@@ -1,4 +1,4 @@
-// Whether a holder of its key made the code of what arrives. Where no stop waits it is tested once: its lead goes on to the party's turn.
+// Whether a holder of its key made the code of what arrives. It is tested once: its lead goes on to the party's turn.
 ghost use Rattle.std.specs.Prelude.{◌≡◌, ◌<◌, length};
 ghost use Rattle.replay.specs.Forging.{is_honest_lead, is_honest_led, IsLed, IsLedAt};
 ghost use Rattle.replay.specs.Inputs.{input_of};

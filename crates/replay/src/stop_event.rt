@@ -1,11 +1,12 @@
 // An event is stopped at a party.
-ghost use Rattle.std.specs.Prelude.{◌≡◌, ◌⊎◌, ◌<◌, ◌≤◌, ◌++◌, [], cond, length, Some, None, Err, IfOk, IfErr, OnOk, option_map};
+ghost use Rattle.std.specs.Prelude.{◌≡◌, ◌⊎◌, ◌<◌, ◌≤◌, ◌++◌, [], cond, length, Some, None, Err, IfOk, IfErr, IfSome, OnOk, option_map};
 ghost use Rattle.x_base.specs.Edge.{Rose};
 ghost use Rattle.x_disk.specs.Shelf.{SlotsStay};
 ghost use Rattle.role_base.specs.Storable.{CanKeep};
 ghost use Rattle.roles.specs.Deciding.{decision};
 ghost use Rattle.replay.specs.Breaks.{IsStopBroken, BreaksOff};
 ghost use Rattle.replay.specs.Closing.{AllSlots, AnyFaulty, OtherDisksStay};
+ghost use Rattle.replay.specs.Forging.{IsLed, IsLedAt};
 ghost use Rattle.replay.specs.Scene.{noted, IsDecidedAt, IsStoppedAt, IsCutStep};
 ghost use Rattle.replay.specs.Seats.{AreOpen, IsPlace, owners};
 ghost use Rattle.replay.specs.Inputs.{input_of};
@@ -18,7 +19,7 @@ use crate::seated::{lift, set_down};
 use crate::stopped::{Lost, Stop, begin, exchange, restart};
 use fact_book::FactBook;
 use node_core::Node;
-use party_state::{Decision, Input};
+use party_state::{Decision, Input, Lead};
 use roles::{decide, decide_led};
 use std::alloc::Global;
 use x_base::{FullName, Ident, NoMemory, Text};
@@ -29,16 +30,16 @@ fn decide_told<D: Disk>(
     node: &Node<D>,
     alloc: Global,
     input: Telling<'_>,
+    lead: &Option<Lead>,
     moment: u64,
 ) -> Result<Decision, NoMemory>
+    requires { IsLed node.now.party (input_of input) lead.now }
     ensures decision { IfOk result (λ d. d ≡ decision node.now.party (input_of input.entry) moment) }
     ensures kept { IfOk result (λ d. CanKeep node.now.party d.change) }
 {
     match input {
         Telling::Ordered(command) => decide(alloc, node.view(), &Input::Ordered(*command), moment),
-        Telling::Arrived(arrival) => {
-            decide_led(alloc, node.view(), arrival, &node.lead(arrival), moment)
-        }
+        Telling::Arrived(arrival) => decide_led(alloc, node.view(), arrival, lead, moment),
     }
 }
 
@@ -48,14 +49,16 @@ fn decide_at<D: Disk>(
     place: usize,
     alloc: Global,
     input: Telling<'_>,
+    lead: &Option<Lead>,
     moment: u64,
 ) -> Result<Decision, NoMemory>
     requires within { place < length seats.now }
     requires seated { AreOpen seats.now }
+    requires led { IsLedAt seats.now place (input_of input) lead.now }
     ensures { IfOk result (λ d. IsDecidedAt seats.now place (input_of input.entry) moment d) }
 {
     match &seats[place].held {
-        Held::Open(node) => decide_told(node, alloc, input, moment),
+        Held::Open(node) => decide_told(node, alloc, input, lead, moment),
         Held::Loose(_) | Held::Out => unreachable!(),
     }
 }
@@ -68,12 +71,14 @@ fn stop_at<H: Shelf>(
     shelf: &mut H,
     alloc: Global,
     input: Option<Telling<'_>>,
+    lead: &Option<Lead>,
     moment: u64,
     stop: Stop,
 ) -> Result<bool, Failure>
     requires within { place < length seats.old.items }
     requires placed { IsPlace seats.old.items own.now place }
     requires seated { AreOpen seats.old.items }
+    requires led { IfSome input (λ i. IsLedAt seats.old.items place (input_of i) lead.now) }
     requires slots { AllSlots (H.has_slot shelf.old) (owners seats.old.items) }
     ensures stopped { IfOk result (λ next. IsStoppedAt H.Disk.told seats.old.items seats.new.items place (option_map input_of input.entry) moment stop (H.faults shelf.old) (H.faults shelf.new) next) }
     ensures broken { IfErr result (λ why. IsStopBroken H.Disk.told (H.entry shelf.new) seats.old.items seats.new.items place (option_map input_of input.entry) moment why) }
@@ -85,7 +90,7 @@ fn stop_at<H: Shelf>(
 {
     let node = lift(seats, place);
     let room = node.room();
-    let disk = match begin(node, alloc, input, moment, stop.n) {
+    let disk = match begin(node, alloc, input, lead, moment, stop.n) {
         Ok(disk) => disk,
         Err(Lost { disk, why }) => {
             set_down(seats, place, Held::Loose(disk));
@@ -121,7 +126,7 @@ fn note_if(
     Ok(())
 }
 
-/// An event at the party at a place, stopped at a disk call.
+/// An event at the party at a place, stopped at a disk call; the lead of what the party is told is known.
 pub(crate) fn stop_event<H: Shelf>(
     scene: &mut Scene<H::Disk>,
     place: usize,
@@ -129,12 +134,14 @@ pub(crate) fn stop_event<H: Shelf>(
     shelf: &mut H,
     alloc: Global,
     input: Telling<'_>,
+    lead: &Option<Lead>,
     moment: u64,
     stop: Stop,
 ) -> Result<bool, Failure>
     requires within { place < length scene.old.seats.items }
     requires placed { IsPlace scene.old.seats.items own.now place }
     requires seated { AreOpen scene.old.seats.items }
+    requires led { IsLedAt scene.old.seats.items place (input_of input) lead.now }
     requires slots { AllSlots (H.has_slot shelf.old) (owners scene.old.seats.items) }
     ensures step { IfOk result (λ next. IsCutStep H.Disk.told scene.old scene.new place (Some (input_of input.entry)) moment stop (H.faults shelf.old) (H.faults shelf.new) next) }
     ensures broken { IfErr result (λ why. BreaksOff H.Disk.told (H.entry shelf.new) scene.old scene.new place (Some (input_of input.entry)) moment why) }
@@ -145,7 +152,7 @@ pub(crate) fn stop_event<H: Shelf>(
     ensures slots { SlotsStay (H.has_slot shelf.old) (H.has_slot shelf.new) }
     ensures later { H.faults shelf.old ≤ H.faults shelf.new }
 {
-    let decided = decide_at(&scene.seats, place, alloc, input, moment)?;
+    let decided = decide_at(&scene.seats, place, alloc, input, lead, moment)?;
     let next = stop_at(
         &mut scene.seats,
         place,
@@ -153,6 +160,7 @@ pub(crate) fn stop_event<H: Shelf>(
         shelf,
         alloc,
         Some(input),
+        lead,
         moment,
         stop,
     )?;
@@ -191,6 +199,7 @@ pub(crate) fn stop_unheard<H: Shelf>(
         shelf,
         alloc,
         None,
+        &None,
         moment,
         stop,
     )?;

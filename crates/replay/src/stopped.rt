@@ -1,5 +1,5 @@
 // A stopped event over a party's disk: it is begun, the power goes, and the party is opened again.
-ghost use Rattle.std.specs.Prelude.{◌≡◌, ◌<◌, ◌≤◌, ℕ, Err, IfOk, IfErr, OnErr, option_map};
+ghost use Rattle.std.specs.Prelude.{◌≡◌, ◌<◌, ◌≤◌, ℕ, Err, IfOk, IfErr, IfSome, OnErr, option_map};
 ghost use Rattle.x_base.specs.Edge.{Rose};
 ghost use Rattle.x_disk.specs.Disk.{Tells};
 ghost use Rattle.x_disk.specs.Shelf.{IsAlike, OthersStay, SlotsStay};
@@ -7,6 +7,7 @@ ghost use Rattle.key_journal.specs.Opening.{IsFree};
 ghost use Rattle.roles.specs.Deciding.{decision};
 ghost use Rattle.world_laws.specs.Nodes.{member_of};
 ghost use Rattle.replay.specs.Failing.{IsFailing, IsLost, ReadsEither};
+ghost use Rattle.replay.specs.Forging.{IsLed};
 ghost use Rattle.replay.specs.Saying.{next_member};
 ghost use Rattle.replay.specs.Stops.{IsToKeep, KeepsChange, member_next, IsResting, IsRestarted};
 ghost use Rattle.replay.specs.Inputs.{input_of};
@@ -16,6 +17,7 @@ use crate::carried::{Carried, carry, carry_fused};
 use crate::failure::Failure;
 use key_journal::{Cause, Unmade};
 use node_core::Node;
+use party_state::Lead;
 use std::alloc::Global;
 use x_base::Ident;
 use x_disk::{Disk, DiskErr, Shelf};
@@ -39,16 +41,18 @@ fn begin_input<D: Disk>(
     node: Node<D>,
     alloc: Global,
     input: Telling<'_>,
+    lead: &Option<Lead>,
     moment: u64,
     n: u64,
 ) -> Result<D, Lost<D>>
+    requires { IsLed node.party (input_of input) lead.now }
     ensures rests { IfOk result (λ disk. IsResting (D.told node.disk) (D.told disk) (member_of node) (next_member (member_of node) (decision node.party (input_of input.entry) moment)) (IsToKeep (member_of node) (decision node.party (input_of input.entry) moment)) n) }
     ensures failing { IfErr result (λ lost. IsFailing lost.why) }
     ensures left { IfErr result (λ lost. Tells (D.told node.disk) → ReadsEither (D.told lost.disk) (member_of node) (next_member (member_of node) (decision node.party (input_of input.entry) moment)) (IsToKeep (member_of node) (decision node.party (input_of input.entry) moment))) }
     ensures fault { IfErr result (λ lost. lost.why ≡ Failure.Fault → 0 < (D.told lost.disk).faults) }
 {
     if n <= 4 {
-        return match carry_fused(node, alloc, input, moment, n.saturating_sub(1)) {
+        return match carry_fused(node, alloc, input, lead, moment, n.saturating_sub(1)) {
             Carried::Whole(disk) => Ok(disk),
             Carried::Cut(disk) => Ok(disk),
             Carried::NoMemory(disk) => Err(Lost {
@@ -57,7 +61,7 @@ fn begin_input<D: Disk>(
             }),
         };
     }
-    match carry(node, alloc, input, moment) {
+    match carry(node, alloc, input, lead, moment) {
         Carried::Whole(disk) => Ok(disk),
         Carried::Cut(disk) => Err(Lost {
             disk,
@@ -75,16 +79,18 @@ pub(crate) fn begin<D: Disk>(
     node: Node<D>,
     alloc: Global,
     input: Option<Telling<'_>>,
+    lead: &Option<Lead>,
     moment: u64,
     n: u64,
 ) -> Result<D, Lost<D>>
+    requires { IfSome input (λ i. IsLed node.party (input_of i) lead.now) }
     ensures rests { IfOk result (λ disk. IsResting (D.told node.disk) (D.told disk) (member_of node) (member_next (member_of node) (option_map input_of input.entry) moment) (KeepsChange (member_of node) (option_map input_of input.entry) moment) n) }
     ensures failing { IfErr result (λ lost. IsFailing lost.why) }
     ensures left { IfErr result (λ lost. Tells (D.told node.disk) → ReadsEither (D.told lost.disk) (member_of node) (member_next (member_of node) (option_map input_of input.entry) moment) (KeepsChange (member_of node) (option_map input_of input.entry) moment)) }
     ensures fault { IfErr result (λ lost. lost.why ≡ Failure.Fault → 0 < (D.told lost.disk).faults) }
 {
     match input {
-        Some(input) => begin_input(node, alloc, input, moment, n),
+        Some(input) => begin_input(node, alloc, input, lead, moment, n),
         None => {
             node.view();
             Ok(node.into_disk())

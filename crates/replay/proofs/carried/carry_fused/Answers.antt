@@ -3,9 +3,13 @@ use Rattle.roles.specs.Deciding.{decision}
 use Rattle.world_laws.specs.Nodes.{member_of}
 use Rattle.replay.specs.Inputs.{input_of}
 use Rattle.replay.specs.Carried.{IsFusedCarried}
+use Rattle.replay.specs.Forging.{IsLed}
 use Rattle.replay.specs.declared.carried.Carried.TheVariants as carried
 use Rattle.replay.proofs.Carrying.{fused_whole, fused_cut, fused_memory, unfused}
 use Rattle.replay.proofs.carried.carry_fused.Goals as goal
+
+pub carry-requires : goal.carry-requires
+carry-requires g c = subst (λ p. IsLed p (input_of c.args.input) c.args.lead.now) (sym c.fuse.ensures.party) c.requires.led
 
 pub returns-in-Whole : goal.returns-in-Whole
 returns-in-Whole g c =
@@ -18,7 +22,7 @@ returns-in-Whole g c =
     let decided : df ≡ d = ap (λ p. decision p (input_of c.args.input) c.args.moment) c.fuse.ensures.party in
     subst (λ k. IsFusedCarried told old d c.args.calls (carried.Whole k)) (sym c.into_inner.ensures)
     (unfused told old f d df c.args.calls same decided c.fuse.ensures.fused (carried.Whole c.in-Whole.disk) c.in-Whole.ensures
-    (fused_whole told old f d df c.args.calls same decided c.fuse.ensures.fused c.requires c.in-Whole.disk c.in-Whole.ensures.ends))
+    (fused_whole told old f d df c.args.calls same decided c.fuse.ensures.fused c.requires.few c.in-Whole.disk c.in-Whole.ensures.ends))
 
 pub returns-in-Cut : goal.returns-in-Cut
 returns-in-Cut g c =
