@@ -1,3 +1,4 @@
 pub mod Found
 pub mod Walking
 pub mod Adding
+pub mod Cutting

@@ -3,9 +3,11 @@
 
 mod book;
 mod entry;
+mod texts;
 
 pub use book::FactBook;
 pub use entry::NamedText;
+pub use texts::Texts;
 
 #[cfg(test)]
 mod tests;
