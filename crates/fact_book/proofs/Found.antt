@@ -1,8 +1,7 @@
 -- The last fact of a name, and the facts before it.
 use Rattle.std.proofs.Common.{arith, ◌≡◌, ◌<◌, ℕ, suc, Bool, true, false, cond, ◌&&◌, ◌||◌, Option, Some, None, List, [], ◌∷◌, ◌++◌, length, take, slice_get, refl, ◌∙◌, ap, subst, bytes_eq}
 use Rattle.x_base.specs.declared.key_name.FullName.{FullName}
-use Rattle.fact_book.specs.declared.entry.NamedText.{NamedText}
-use Rattle.fact_book.specs.Facts.{same_full_name, is_named, has_named}
+use Rattle.fact_book.specs.Facts.{NamedText, same_full_name, is_named, has_named}
 use Rattle.fact_book.specs.Book.{place_with, latest_of}
 
 pub latest_push : (u : FullName) (fs : List NamedText) (f : NamedText) → latest_of u (fs ++ f ∷ []) ≡ cond (same_full_name f.under u) (Some (length fs)) (latest_of u fs)

@@ -3,7 +3,11 @@ use Rattle.std.specs.Prelude.{ℕ, Bool, ◌&&◌, List, bytes_eq}
 use Rattle.std.specs.List.{list_any}
 use Rattle.x_base.specs.declared.key_name.FullName.{FullName}
 use Rattle.party_state.specs.Keys.{same_name}
-use Rattle.fact_book.specs.declared.entry.NamedText.{NamedText}
+
+-- the key of this name made the code of this authenticated text
+pub record NamedText : Type 0 where
+  pub under : FullName
+  pub text : List ℕ
 
 abbrev pub same_full_name : FullName → FullName → Bool
 same_full_name a b = same_name a.name b.name && bytes_eq a.recipient b.recipient

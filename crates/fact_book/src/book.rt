@@ -1,20 +1,21 @@
 // The list of facts, in which each is found by its name.
-ghost use Rattle.std.specs.Prelude.{◌≡◌, [], ◌∷◌, ◌++◌, length, cond, Some, OnOk, OnErr, option_map, slice_get, bytes_eq};
+ghost use Rattle.std.specs.Prelude.{◌≡◌, [], ◌∷◌, ◌++◌, length, cond, Some, OnOk, OnErr, option_map, slice_get};
 ghost use Rattle.indexmap.specs.IndexMap.{get};
 ghost use Rattle.x_base.specs.declared.key_name.FullName.{FullName as TheFullName};
-ghost use Rattle.fact_book.specs.Book.{Reaches, facts_of};
+ghost use Rattle.fact_book.specs.Book.{Reaches, facts_of, is_text};
 ghost use Rattle.fact_book.specs.Facts.{has_named, same_full_name};
 
-use crate::entry::{Entry, NamedText};
+use crate::entry::Entry;
+use crate::texts::Texts;
 use indexmap::IndexMap;
 use std::alloc::Global;
 use std::marker::Model;
-use x_base::{FullName, NoMemory, Text};
+use x_base::{FullName, NoMemory};
 
 /// Facts in the order in which they were added, seen as their list.
 #[derive(Drop)]
 pub struct FactBook {
-    alloc: Global,
+    texts: Texts,
     entries: Vec<Entry>,
     latest: IndexMap<FullName, usize>,
 }
@@ -22,15 +23,14 @@ pub struct FactBook {
 impl Model for FactBook {
     ghost use Rattle.std.specs.Prelude.{List};
     ghost use Rattle.indexmap.specs.IndexMap.{get};
-    ghost use Rattle.fact_book.specs.declared.entry.NamedText.{NamedText};
     ghost use Rattle.fact_book.specs.Book.{IsBook, facts_of};
-    ghost use Rattle.fact_book.specs.Facts.{same_full_name};
+    ghost use Rattle.fact_book.specs.Facts.{NamedText, same_full_name};
 
     ghost Value = { List NamedText };
 
-    ghost view = { λ b. facts_of b.entries.items };
+    ghost view = { λ b. facts_of b.entries.items b.texts };
 
-    ghost invariant = { λ b. IsBook b.entries.items (get same_full_name b.latest) };
+    ghost invariant = { λ b. IsBook b.entries.items b.texts (get same_full_name b.latest) };
 }
 
 /// The entry at a place.
@@ -40,23 +40,33 @@ fn entry_at(entries: &[Entry], place: usize) -> Option<&Entry>
     entries.get(place)
 }
 
-fn has_text(fact: &NamedText, text: &[u8]) -> bool
-    ensures { result ≡ bytes_eq fact.now.text text.now }
+/// Whether this text stands at a place.
+fn has_text(texts: &Texts, place: usize, text: &[u8]) -> bool
+    ensures { result ≡ is_text text.now (slice_get texts.now place) }
 {
-    fact.text.bytes() == text
+    match texts.get(place) {
+        Some(kept) => kept == text,
+        None => false,
+    }
 }
 
 /// Whether a fact has this text, of those that have one name: the one at the place, and those before it.
-fn is_reached(entries: &[Entry], from: Option<usize>, under: &FullName, text: &[u8]) -> bool
-    requires reaches { Reaches entries.now under.now from }
-    ensures { result ≡ has_named (facts_of entries.now) under.now text.now }
+fn is_reached(
+    entries: &[Entry],
+    texts: &Texts,
+    from: Option<usize>,
+    under: &FullName,
+    text: &[u8],
+) -> bool
+    requires reaches { Reaches entries.now texts.now under.now from }
+    ensures { result ≡ has_named (facts_of entries.now texts.now) under.now text.now }
 {
     let mut at = from;
     'earlier: while let Some(place) = at {
         let Some(entry) = entry_at(entries, place) else {
             return false;
         };
-        if has_text(&entry.fact, text) {
+        if has_text(texts, place, text) {
             return true;
         }
         at = entry.earlier;
@@ -66,23 +76,32 @@ fn is_reached(entries: &[Entry], from: Option<usize>, under: &FullName, text: &[
 
 /// Puts a fact behind the others, as the latest of its name.
 fn put(
+    texts: &mut Texts,
     entries: &mut Vec<Entry>,
     latest: &mut IndexMap<FullName, usize>,
-    fact: NamedText,
+    under: &FullName,
+    text: &[u8],
 ) -> Result<(), NoMemory>
-    ensures added { OnOk result (entries.new.items ≡ entries.old.items ++ record { fact = fact; earlier = get same_full_name latest.old fact.under } ∷ []) }
-    ensures latest { OnOk result ((other : TheFullName) → get same_full_name latest.new other ≡ cond (same_full_name fact.under other) (Some (length entries.old.items)) (get same_full_name latest.old other)) }
-    ensures kept { OnErr result (entries.new.items ≡ entries.old.items) }
+    ensures text { OnOk result (texts.new ≡ texts.old ++ text.now ∷ []) }
+    ensures entry { OnOk result (entries.new.items ≡ entries.old.items ++ record { under = under.now; earlier = get same_full_name latest.old under.now } ∷ []) }
+    ensures latest { OnOk result ((other : TheFullName) → get same_full_name latest.new other ≡ cond (same_full_name under.now other) (Some (length entries.old.items)) (get same_full_name latest.old other)) }
+    ensures no_text { OnErr result (texts.new ≡ texts.old) }
+    ensures no_entry { OnErr result (entries.new.items ≡ entries.old.items) }
     ensures same { OnErr result (latest.new.entries ≡ latest.old.entries) }
 {
     entries.reserve(1)?;
+    latest.reserve(1)?;
+    texts.push(text)?;
     let place = entries.len();
-    match latest.insert(fact.under, place) {
-        Ok(earlier) => match entries.push(Entry { fact, earlier }) {
+    match latest.insert(*under, place) {
+        Ok(earlier) => match entries.push(Entry {
+            under: *under,
+            earlier,
+        }) {
             Ok(()) => Ok(()),
             Err(_) => unreachable!(),
         },
-        Err(_) => Err(NoMemory),
+        Err(_) => unreachable!(),
     }
 }
 
@@ -92,7 +111,7 @@ impl FactBook {
         ensures { result ≡ [] }
     {
         FactBook {
-            alloc,
+            texts: Texts::new(alloc),
             entries: Vec::new(alloc),
             latest: IndexMap::new(alloc),
         }
@@ -103,10 +122,13 @@ impl FactBook {
         ensures added { OnOk result (self.new ≡ self.old ++ record { under = under; text = text.now } ∷ []) }
         ensures kept { OnErr result (self.new ≡ self.old) }
     {
-        let mut copy = Text::new(self.alloc);
-        copy.push(text)?;
-        let fact = NamedText { under, text: copy };
-        put(&mut self.entries, &mut self.latest, fact)?;
+        put(
+            &mut self.texts,
+            &mut self.entries,
+            &mut self.latest,
+            &under,
+            text,
+        )?;
         Ok(())
     }
 
@@ -114,6 +136,12 @@ impl FactBook {
     pub fn has(&self, under: &FullName, text: &[u8]) -> bool
         ensures { result ≡ has_named self.now under.now text.now }
     {
-        is_reached(&self.entries, self.latest.get(under).copied(), under, text)
+        is_reached(
+            &self.entries,
+            &self.texts,
+            self.latest.get(under).copied(),
+            under,
+            text,
+        )
     }
 }

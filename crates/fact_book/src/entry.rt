@@ -1,16 +1,9 @@
-// A fact, and how a book keeps it.
-use x_base::{FullName, Text};
+// What a book keeps of a fact beside its text.
+use x_base::FullName;
 
-/// The key of this name made the code of this authenticated text.
-#[derive(Debug, Drop)]
-pub struct NamedText {
-    pub under: FullName,
-    pub text: Text,
-}
-
-/// A fact, and the place of the one before it that has the same name.
-#[derive(Debug, Drop)]
+/// The name of the key, and the place of the fact before it that has the same name.
+#[derive(Drop)]
 pub(crate) struct Entry {
-    pub(crate) fact: NamedText,
+    pub(crate) under: FullName,
     pub(crate) earlier: Option<usize>,
 }

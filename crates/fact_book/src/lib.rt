@@ -6,7 +6,6 @@ mod entry;
 mod texts;
 
 pub use book::FactBook;
-pub use entry::NamedText;
 pub use texts::Texts;
 
 #[cfg(test)]

@@ -1,4 +1,4 @@
-use crate::FactBook;
+use crate::{FactBook, Texts};
 use std::test::Fail;
 use x_base::{FullName, Ident, KeyName};
 
@@ -42,5 +42,20 @@ fn facts_are_found_by_their_names_and_texts(rt: HostRuntime) -> Result<(), Fail>
         (FIRST, b"BANKC", b"ONE", false),
     ];
     assert!(rt; first_wrong(&book, &rows).is_none());
+    Ok(())
+}
+
+#[test]
+fn texts_are_got_back(rt: HostRuntime) -> Result<(), Fail> {
+    let mut texts = Texts::new(rt.alloc());
+    for text in [b"ONE".as_slice(), b"".as_slice(), b"THREE".as_slice()] {
+        texts.push(text)?;
+    }
+    let rows: [Option<&[u8]>; 4] = [Some(b"ONE"), Some(b""), Some(b"THREE"), None];
+    let wrong = rows
+        .iter()
+        .enumerate()
+        .position(|(place, row)| texts.get(place) != *row);
+    assert!(rt; texts.len() == 3 && wrong.is_none());
     Ok(())
 }

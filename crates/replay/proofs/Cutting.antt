@@ -17,7 +17,7 @@ use Rattle.role_base.specs.Storable.{IsStorable, CanKeep}
 use Rattle.key_store.specs.Store.{Stored, room}
 use Rattle.roles.specs.Deciding.{decision}
 use Rattle.node_core.specs.Deciding.{after}
-use Rattle.fact_book.specs.declared.entry.NamedText.{NamedText}
+use Rattle.fact_book.specs.Facts.{NamedText}
 use Rattle.world_laws.specs.World.{World, Member, own_of, member_at}
 use Rattle.world_laws.specs.Events.{CutOld, CutNew}
 use Rattle.world_laws.specs.Honest.{named_text}

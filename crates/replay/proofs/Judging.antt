@@ -9,8 +9,7 @@ use Rattle.party_state.specs.declared.decision.Lead.{Lead}
 use Rattle.key_store.specs.Store.{Stored}
 use Rattle.role_base.specs.Texts.{auth_text}
 use Rattle.roles.specs.Leads.{lead_at}
-use Rattle.fact_book.specs.declared.entry.NamedText.{NamedText}
-use Rattle.fact_book.specs.Facts.{has_named}
+use Rattle.fact_book.specs.Facts.{NamedText, has_named}
 use Rattle.world_laws.specs.World.{World, Member, Fact, member_at}
 use Rattle.world_laws.specs.Events.{Action, Hears}
 use Rattle.world_laws.specs.Honest.{HonestAt, named_text, has_fact, is_honest}

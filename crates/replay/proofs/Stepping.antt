@@ -11,7 +11,7 @@ use Rattle.party_state.specs.Tables.{put_row}
 use Rattle.party_state.specs.declared.command.Input.{Input}
 use Rattle.roles.specs.Deciding.{decision}
 use Rattle.node_core.specs.Turns.{FitsInto}
-use Rattle.fact_book.specs.declared.entry.NamedText.{NamedText}
+use Rattle.fact_book.specs.Facts.{NamedText}
 use Rattle.world_laws.specs.World.{World, Member, own_of, member_at}
 use Rattle.world_laws.specs.Events.{Whole}
 use Rattle.world_laws.specs.Steps.{world_after_input}

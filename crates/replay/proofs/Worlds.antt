@@ -25,7 +25,7 @@ use Rattle.roles.specs.Deciding.{decision}
 use Rattle.node_core.specs.Deciding.{after}
 use Rattle.node_core.specs.Turns.{FitsInto}
 use Rattle.node_core.specs.Turns as turns
-use Rattle.fact_book.specs.declared.entry.NamedText.{NamedText}
+use Rattle.fact_book.specs.Facts.{NamedText}
 use Rattle.world_laws.specs.World.{World, Member, Fact, own_of, member_at}
 use Rattle.world_laws.specs.Events.{Whole, CutNew}
 use Rattle.world_laws.specs.Rooms as rooms

@@ -7,8 +7,7 @@ use Rattle.party_state.specs.State.{Party}
 use Rattle.key_store.specs.Store.{Stored}
 use Rattle.role_base.specs.Texts.{auth_text}
 use Rattle.roles.specs.Leads.{lead_at}
-use Rattle.fact_book.specs.declared.entry.NamedText.{NamedText}
-use Rattle.fact_book.specs.Facts.{has_named}
+use Rattle.fact_book.specs.Facts.{NamedText, has_named}
 use Rattle.replay.specs.Seats.{seat}
 use Rattle.replay.specs.declared.seat.Seat.{Seat}
 use Rattle.replay.specs.declared.seat.Held.TheVariants.{Open}

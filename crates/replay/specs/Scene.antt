@@ -8,7 +8,7 @@ use Rattle.party_state.specs.declared.decision.Decision.{Decision}
 use Rattle.key_store.specs.Store.{Stored}
 use Rattle.role_base.specs.Storable.{CanKeep}
 use Rattle.roles.specs.Deciding.{decision}
-use Rattle.fact_book.specs.declared.entry.NamedText.{NamedText}
+use Rattle.fact_book.specs.Facts.{NamedText}
 use Rattle.world_laws.specs.World.{World, Member, member_at}
 use Rattle.world_laws.specs.Events.{Completion, Whole, CutOld, CutNew}
 use Rattle.world_laws.specs.Steps.{world_after_input}

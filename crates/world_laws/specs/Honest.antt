@@ -6,8 +6,7 @@ use Rattle.csm_grammar.specs.declared.arrival.Arrival.{Arrival}
 use Rattle.party_state.specs.declared.decision.Lead.{Lead}
 use Rattle.party_state.specs.State.{Party}
 use Rattle.role_base.specs.Texts.{auth_text}
-use Rattle.fact_book.specs.declared.entry.NamedText.{NamedText}
-use Rattle.fact_book.specs.Facts.{same_full_name}
+use Rattle.fact_book.specs.Facts.{NamedText, same_full_name}
 use Rattle.world_laws.specs.World.{Member, Fact, World, member_at}
 use Rattle.roles.specs.Leads.{lead_at}
 use Rattle.world_laws.specs.Events.{Action, Orders, Hears, Compacts, Event}

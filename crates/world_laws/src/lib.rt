@@ -14,7 +14,7 @@ mod turns;
 
 pub use calls::law_calls;
 pub use compactions::law_compactions;
-pub use fact_book::{FactBook, NamedText};
+pub use fact_book::FactBook;
 pub use facts::law_facts;
 pub use hearing::law_hearing;
 pub use inputs::law_inputs;

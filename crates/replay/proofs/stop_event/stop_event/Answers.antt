@@ -1,6 +1,6 @@
 use Rattle.std.proofs.Common.{◌∙◌, refl, Some, subst, ap, cond, ◌++◌, List, []}
 use Rattle.std.proofs.lemmas.Result.{err_from_is_err_and}
-use Rattle.fact_book.specs.declared.entry.NamedText.{NamedText}
+use Rattle.fact_book.specs.Facts.{NamedText}
 use Rattle.replay.specs.Inputs.{input_of}
 use Rattle.replay.specs.Scene.{IsDecidedAt, completion_of, noted}
 use Rattle.roles.specs.Deciding.{decision}
