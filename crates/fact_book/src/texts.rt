@@ -1,5 +1,5 @@
 // Texts in one memory, one behind the other.
-ghost use Rattle.std.specs.Prelude.{◌≡◌, ◌≤◌, [], ◌∷◌, ◌++◌, length, OnOk, OnErr, option_map, slice_get, slice_index, slice_range};
+ghost use Rattle.std.specs.Prelude.{◌≡◌, ◌^◌, ◌<◌, ◌≤◌, [], ◌∷◌, ◌++◌, length, OnOk, OnErr, option_map, slice_get, slice_index, slice_range};
 
 use std::alloc::Global;
 use std::marker::Model;
@@ -63,7 +63,8 @@ impl Texts {
 
     /// How many texts there are.
     pub fn len(&self) -> usize
-        ensures { result ≡ length self.now }
+        ensures count { result ≡ length self.now }
+        ensures small { result < 2 ^ 63 }
     {
         self.ends.len()
     }

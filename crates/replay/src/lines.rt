@@ -1,5 +1,5 @@
 // An event is played, and its lines are written.
-ghost use Rattle.std.specs.Prelude.{◌≡◌, ◌⊎◌, ◌≤◌, ◌+◌, ℕ, length, option_map, slice_get, Err, IfOk, OnOk};
+ghost use Rattle.std.specs.Prelude.{◌≡◌, ◌⊎◌, ◌<◌, ◌≤◌, ◌+◌, ◌^◌, ℕ, length, option_map, slice_get, Err, IfOk, OnOk};
 ghost use Rattle.x_base.specs.Edge.{Rose};
 ghost use Rattle.x_disk.specs.Shelf.{SlotsStay};
 ghost use Rattle.replay.specs.Acting.{Forges};
@@ -22,7 +22,8 @@ use x_disk::{Disk, Shelf};
 
 /// How many texts were written.
 fn text_count<D: Disk>(scene: &Scene<D>) -> usize
-    ensures { result ≡ length scene.now.texts }
+    ensures count { result ≡ length scene.now.texts }
+    ensures small { result < 2 ^ 63 }
 {
     scene.texts.len()
 }

@@ -1,6 +1,5 @@
-use Rattle.std.proofs.Common.{◌≡◌, ◌∙◌, ap, sym, subst}
+use Rattle.std.proofs.Common.{◌≡◌, ◌∙◌, sym, subst}
 use Rattle.replay.specs.Breaking.{IsBreak}
-use Rattle.replay.specs.Meanings.{arriving}
 use Rattle.replay.specs.declared.failure.Ending.TheVariants as ending
 use Rattle.replay.specs.declared.failure.Failure.TheVariants as failure
 use Rattle.replay.proofs.BreakingOff.{breaks_ahead}
@@ -15,7 +14,7 @@ returns-then-not-is_arrival-clause-played g c =
 
 pub play_meant-requires-in-Ok-clause-meant : goal.play_meant-requires-in-Ok-clause-meant
 play_meant-requires-in-Ok-clause-meant g c = c.act_of-act.ensures c.args.scene.now.texts c.in-Some-bytes_at.bytes.now
-    (ap (arriving c.args.line.now) (sym c.deref.ensures.value) ∙ sym c.in-Some-bytes_at.ensures)
+    (sym c.in-Some-bytes_at.ensures)
     (heard_of c.in-Some-bytes_at.bytes.now c.input_bytes.result.now c.hear.result c.in-Ok.heard c.in-Ok.is c.input_bytes.ensures.value c.hear.ensures.heard c.hear.ensures.text)
 
 pub returns-clause-broken : goal.returns-clause-broken

@@ -28,7 +28,7 @@ returns-clause-played g c = λ before first seated members_are.
     let played = c.play_scene-outcome in
     let back = c.put_back_all-back in
     let old : Scene _ = record { seats = c.args.seats; texts = c.new.result; facts = c.new-2.result } in
-    let at = starts told c.args.lines.now old (wrote c.args.sink.now) seated members_are c.new.ensures.items c.new-2.ensures in
+    let at = starts told c.args.lines.now old (wrote c.args.sink.now) seated members_are c.new.ensures c.new-2.ensures in
     subst (IsPlayOn (around c.args.lines.now (entry back.new.shelf) before (faults back.new.shelf) (wrote c.args.sink.now) (wrote played.new.sink))) (sym (c.answer_of.ensures ∙ ap answer_of c.end_of.ensures))
     (concludes told (entry played.new.shelf) (entry back.new.shelf) before (faults c.args.shelf.now) (faults played.new.shelf) (faults back.new.shelf) first back.ensures.later c.args.lines.now old played.new.scene
     (wrote c.args.sink.now) (wrote played.new.sink) at back.ensures.back played.result back.result back.ensures.undamaged played.ensures.finished played.ensures.forged played.ensures.broken)
