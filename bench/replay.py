@@ -134,6 +134,9 @@ def over_files(text, folder):
 
 def told(where, text, seconds):
     events = events_of(text)
+    if events == 0:
+        print(f"  {where:24} {seconds * 1e3:9.2f} ms")
+        return
     print(f"  {where:24} {seconds * 1e3:9.1f} ms, {seconds / events * 1e6:7.2f} us an event, {events / seconds:9.0f} a second")
 
 
@@ -145,6 +148,7 @@ SCENARIOS = [
     ("two banks, keys that stay", keys_that_stay(2, 3000)),
     ("64 banks, keys that stay", keys_that_stay(64, 3000)),
     ("two banks and two centres", centres(20000)),
+    ("64 banks, set up and shown", cut(banks(64)[1], 96)),
 ]
 for name, text in SCENARIOS:
     print(f"{name}: {events_of(text)} events")
