@@ -3,8 +3,9 @@
 folders in memory and on a disk.
 
 In memory a scenario is played 1 and 6 times by one process; what is told is a fifth of the difference of the least of five
-runs (or of ROUNDS, where the environment has it) in processor time, so that other work on the machine counts little; and the
-same of reading it alone. Over files it is the least of three runs by the clock. Each time all events have to be done.
+runs (or of ROUNDS, where the environment has it) in processor time; and the same of reading it alone. The scenarios are
+played in turns, so that other work on the machine counts little, and alike for each. Over files it is the least of three
+runs by the clock. Each time all events have to be done.
 replay.py [REPLAY_CASES [X917]]; the folder on a disk is one of TMPDIR's."""
 import os
 import subprocess
@@ -87,35 +88,36 @@ def is_done(end, events):
     return end.startswith(b"done ") and end.split()[1:4] == [b"%d" % events, b"%d" % events, b"0"]
 
 
-def in_memory(text, is_right):
-    """The seconds of one play, by processor time."""
-    order = f"scenario {len(text)}\n{text}".encode()
+def run(order, times, is_right):
+    """The processor time of one process that plays so many times."""
+    with tempfile.TemporaryFile() as source, tempfile.TemporaryFile() as sink:
+        source.write(order * times)
+        source.seek(0)
+        child = subprocess.Popen([CASES], stdin=source, stdout=sink)
+        _, status, used = os.wait4(child.pid, 0)
+        sink.seek(0)
+        ends = [line for line in sink if line.startswith((b"done ", b"bad line "))]
+        if status != 0 or len(ends) != times or not all(map(is_right, ends)):
+            sys.exit(f"another end than wanted: {ends[:1]}")
+        return used.ru_utime + used.ru_stime
+
+
+def in_memory(texts):
+    """The seconds of one play of each text, and of reading it: the scenarios in turns, round by round."""
+    orders = []
+    for text in texts:
+        events = events_of(text)
+        bad = text + "?\n"
+        last = b"bad line %d\n" % (len(text.splitlines()) + 1)
+        orders.append((f"scenario {len(text)}\n{text}".encode(), lambda end, events=events: is_done(end, events)))
+        orders.append((f"scenario {len(bad)}\n{bad}".encode(), lambda end, last=last: end == last))
     least = {}
-    for times in 1, 1 + TIMES:
-        least[times] = float("inf")
-        for _ in range(ROUNDS):
-            with tempfile.TemporaryFile() as source, tempfile.TemporaryFile() as sink:
-                source.write(order * times)
-                source.seek(0)
-                child = subprocess.Popen([CASES], stdin=source, stdout=sink)
-                _, status, used = os.wait4(child.pid, 0)
-                sink.seek(0)
-                ends = [line for line in sink if line.startswith((b"done ", b"bad line "))]
-                if status != 0 or len(ends) != times or not all(map(is_right, ends)):
-                    sys.exit(f"another end than wanted: {ends[:1]}")
-                least[times] = min(least[times], used.ru_utime + used.ru_stime)
-    return (least[1 + TIMES] - least[1]) / TIMES
-
-
-def in_memory_told(text):
-    """The play with its reading, the reading, by a text whose last line is bad, and the play alone."""
-    events = events_of(text)
-    whole = in_memory(text, lambda end: is_done(end, events))
-    bad = b"bad line %d\n" % (len(text.splitlines()) + 1)
-    reading = in_memory(text + "?\n", lambda end: end == bad)
-    told("in memory", text, whole)
-    told("the reading of it", text, reading)
-    told("the play of it", text, whole - reading)
+    for _ in range(ROUNDS):
+        for place, (order, is_right) in enumerate(orders):
+            for times in 1, 1 + TIMES:
+                used = run(order, times, is_right)
+                least[place, times] = min(least.get((place, times), used), used)
+    return [(least[place, 1 + TIMES] - least[place, 1]) / TIMES for place in range(len(orders))]
 
 
 def over_files(text, folder):
@@ -150,10 +152,13 @@ SCENARIOS = [
     ("two banks and two centres", centres(20000)),
     ("64 banks, set up and shown", cut(banks(64)[1], 96)),
 ]
-for name, text in SCENARIOS:
+seconds = in_memory([text for _, text in SCENARIOS])
+for (name, text), whole, reading in zip(SCENARIOS, seconds[::2], seconds[1::2]):
     print(f"{name}: {events_of(text)} events")
-    in_memory_told(text)
-    if os.path.exists(X917):
+    told("in memory", text, whole)
+    told("the reading of it", text, reading)
+    told("the play of it", text, whole - reading)
+    if os.path.exists(X917) and events_of(text) > 0:
         if os.path.isdir("/dev/shm"):
             told("files in /dev/shm", text, over_files(text, "/dev/shm"))
         told(f"files in {tempfile.gettempdir()}", text, over_files(text, None))
