@@ -1,10 +1,10 @@
 -- The record of a disk in memory grows by one entry.
-use Rattle.std.proofs.Common.{◌≡◌, ℕ, zero, suc, ◌+◌, ◌-◌, ◌≤◌, List, [], ◌∷◌, ◌++◌, length, take, drop, refl, sym, ◌∙◌, ap, arith, length-append, length-drop}
+use Rattle.std.proofs.Common.{◌≡◌, ℕ, zero, suc, ◌+◌, ◌-◌, ◌≤◌, max, List, [], ◌∷◌, ◌++◌, length, get_or, take, drop, refl, sym, subst, ◌∙◌, ap, arith, length-append, length-drop}
 use Rattle.std.proofs.lemmas.List.{take_all, drop_all, take-append-le, drop-append-le, nil_from_length, length-take-le}
 use Rattle.x_disk.specs.Disk.{overwrite}
 use Rattle.x_disk.specs.History.{Step, Write, Sync, PowerOff, State, state_of, after_step, all_bytes, left_by}
-use Rattle.x_disk.specs.HistoryLaw.{replay-push}
-use Rattle.x_disk.specs.Record.{steps_of, lengths, ranges_of, written, Represents}
+use Rattle.x_disk.specs.HistoryLaw.{replay-push, length-overwrite}
+use Rattle.x_disk.specs.Record.{steps_of, lengths, ranges_of, written, Represents, Lags}
 use Rattle.x_disk.specs.declared.disk_record.Entry.{Entry}
 use Rattle.x_disk.specs.declared.disk_record.Entry.TheVariants as E
 
@@ -87,9 +87,9 @@ written-sync (E.Write a len ∷ entries) payload image = written-sync entries (d
 written-sync (E.Sync ∷ entries) payload image = written-sync entries payload image
 written-sync (E.PowerOff choice ∷ entries) payload image = written-sync entries payload image
 
-pub represents_write : (bytes : List ℕ) (entries : List Entry) (payload : List ℕ) (first : ℕ) (base : List ℕ) (n m at : ℕ) (new : List ℕ) → Represents bytes entries payload first base n m
-    → Represents (overwrite at new bytes) (entries ++ E.Write at (length new) ∷ []) (payload ++ new) first base n m
-represents_write bytes entries payload first base n m at new kept =
+pub represents_write : (entries : List Entry) (payload : List ℕ) (first : ℕ) (base : List ℕ) (n m at : ℕ) (new : List ℕ) → Represents entries payload first base n m
+    → Represents (entries ++ E.Write at (length new) ∷ []) (payload ++ new) first base n m
+represents_write entries payload first base n m at new kept =
     let steps = steps-push entries payload at new kept.size in
     let state : state_of (steps_of (entries ++ E.Write at (length new) ∷ []) (payload ++ new)) ≡ after_step (Write at new) (state_of (steps_of entries payload)) =
     ap state_of steps ∙ replay-push (steps_of entries payload) (Write at new) blank in
@@ -103,7 +103,6 @@ represents_write bytes entries payload first base n m at new kept =
     record {
       size = lengths-append entries (E.Write at (length new) ∷ []) ∙ omega (arith, kept.size, length-append payload new);
       within = omega (arith, kept.within, length-append entries (E.Write at (length new) ∷ []));
-      now_is = ap (λ (l : List ℕ). overwrite at new l) kept.now_is ∙ ap (λ (s : State). s.now) (sym state);
       pending_is =
           ap ranges_of (drop-append-le first entries (E.Write at (length new) ∷ []) kept.within) ∙ ranges-append (drop first entries) (E.Write at (length new) ∷ [])
           ∙ ap (λ (l : List (ℕ × ℕ)). l ++ (at, length new) ∷ []) kept.pending_is ∙ ap (λ (s : State). s.pending) (sym state);
@@ -112,15 +111,15 @@ represents_write bytes entries payload first base n m at new kept =
       behind = ap lengths rest_is ∙ lengths-append rest (E.Write at (length new) ∷ []) ∙ omega (arith, kept.behind, length-append left new) ∙ ap (λ (l : List ℕ). length l) (sym left_is);
       now_made =
           ap (λ (l : List Entry). written l (drop m (payload ++ new)) base) rest_is ∙ ap (λ (l : List ℕ). written (rest ++ E.Write at (length new) ∷ []) l base) left_is
-          ∙ written-push rest left at new base kept.behind ∙ ap (λ (l : List ℕ). overwrite at new l) kept.now_made;
+          ∙ written-push rest left at new base kept.behind ∙ ap (λ (l : List ℕ). overwrite at new l) kept.now_made ∙ ap (λ (s : State). s.now) (sym state);
       stable_made =
           ap (λ (l : List Entry). written l (drop m (payload ++ new)) base) part ∙ ap (λ (l : List ℕ). written (take (first - n) rest) l base) left_is
           ∙ written-more (take (first - n) rest) left new base (omega (arith, lengths-take (first - n) rest, kept.behind)) ∙ kept.stable_made ∙ ap (λ (s : State). s.stable) (sym state);
     }
 
-pub represents_sync : (bytes : List ℕ) (entries : List Entry) (payload : List ℕ) (first : ℕ) (base : List ℕ) (n m : ℕ) → Represents bytes entries payload first base n m
-    → Represents bytes (entries ++ E.Sync ∷ []) payload (length (entries ++ E.Sync ∷ [])) base n m
-represents_sync bytes entries payload first base n m kept =
+pub represents_sync : (entries : List Entry) (payload : List ℕ) (first : ℕ) (base : List ℕ) (n m : ℕ) → Represents entries payload first base n m
+    → Represents (entries ++ E.Sync ∷ []) payload (length (entries ++ E.Sync ∷ [])) base n m
+represents_sync entries payload first base n m kept =
     let state : state_of (steps_of (entries ++ E.Sync ∷ []) payload) ≡ after_step Sync (state_of (steps_of entries payload)) =
     ap state_of (steps-sync entries payload) ∙ replay-push (steps_of entries payload) Sync blank in
     let rest = drop n entries in
@@ -129,18 +128,17 @@ represents_sync bytes entries payload first base n m kept =
     let rest_is : drop n (entries ++ E.Sync ∷ []) ≡ rest ++ E.Sync ∷ [] = drop-append-le n entries (E.Sync ∷ []) low in
     let all : take (length (entries ++ E.Sync ∷ []) - n) (drop n (entries ++ E.Sync ∷ [])) ≡ drop n (entries ++ E.Sync ∷ []) =
     take_all (length (entries ++ E.Sync ∷ []) - n) (drop n (entries ++ E.Sync ∷ [])) (omega (arith, length-drop n (entries ++ E.Sync ∷ []))) in
-    let made : written (drop n (entries ++ E.Sync ∷ [])) (drop m payload) base ≡ bytes =
+    let made : written (drop n (entries ++ E.Sync ∷ [])) (drop m payload) base ≡ (state_of (steps_of entries payload)).now =
     ap (λ (l : List Entry). written l (drop m payload) base) rest_is ∙ written-sync rest (drop m payload) base ∙ kept.now_made in
     record {
       size = lengths-append entries (E.Sync ∷ []) ∙ omega (arith, kept.size);
       within = omega arith;
-      now_is = kept.now_is ∙ ap (λ (s : State). s.now) (sym state);
       pending_is = ap ranges_of (drop_all (length (entries ++ E.Sync ∷ [])) (entries ++ E.Sync ∷ []) (omega arith)) ∙ ap (λ (s : State). s.pending) (sym state);
       base_in = omega (arith, low, long);
       base_within = kept.base_within;
       behind = ap lengths rest_is ∙ lengths-append rest (E.Sync ∷ []) ∙ omega (arith, kept.behind);
-      now_made = made;
-      stable_made = ap (λ (l : List Entry). written l (drop m payload) base) all ∙ made ∙ kept.now_is ∙ ap (λ (s : State). s.stable) (sym state);
+      now_made = made ∙ ap (λ (s : State). s.now) (sym state);
+      stable_made = ap (λ (l : List Entry). written l (drop m payload) base) all ∙ made ∙ ap (λ (s : State). s.stable) (sym state);
     }
 
 pub bytes-steps : (entries : List Entry) (payload : List ℕ) → lengths entries ≡ length payload → all_bytes (steps_of entries payload) ≡ length payload
@@ -156,14 +154,19 @@ steps-power_off (E.Write a len ∷ entries) payload choice = ap (λ (l : List St
 steps-power_off (E.Sync ∷ entries) payload choice = ap (λ (l : List Step). Sync ∷ l) (steps-power_off entries payload choice)
 steps-power_off (E.PowerOff a ∷ entries) payload choice = ap (λ (l : List Step). PowerOff a ∷ l) (steps-power_off entries payload choice)
 
-pub represents_power_off : (bytes stable : List ℕ) (entries : List Entry) (payload : List ℕ) (first : ℕ) (base : List ℕ) (n m choice : ℕ) (image : List ℕ) → Represents bytes entries payload first base n m
-    → stable ≡ (state_of (steps_of entries payload)).stable → image ≡ left_by choice (record { now = bytes; stable = stable; pending = ranges_of (drop first entries) })
-    → Represents image (entries ++ E.PowerOff choice ∷ []) payload (length (entries ++ E.PowerOff choice ∷ [])) image (length (entries ++ E.PowerOff choice ∷ [])) (length payload)
-represents_power_off bytes stable entries payload first base n m choice image kept stable_is is =
-    let before : State = record { now = bytes; stable = stable; pending = ranges_of (drop first entries) } in
+-- what the power leaves of this image, where it is what a read gives
+pub left_is : (now stable : List ℕ) (entries : List Entry) (payload : List ℕ) (first : ℕ) (base : List ℕ) (n m choice : ℕ) (image : List ℕ) → Represents entries payload first base n m
+    → now ≡ (state_of (steps_of entries payload)).now → stable ≡ (state_of (steps_of entries payload)).stable → image ≡ left_by choice (record { now = now; stable = stable; pending = ranges_of (drop first entries) })
+    → image ≡ left_by choice (state_of (steps_of entries payload))
+left_is now stable entries payload first base n m choice image kept now_is stable_is is =
+    let before : State = record { now = now; stable = stable; pending = ranges_of (drop first entries) } in
+    let same : before ≡ state_of (steps_of entries payload) = λ i. record { now = now_is i; stable = stable_is i; pending = kept.pending_is i } in
+    is ∙ ap (λ (t : State). left_by choice t) same
+
+pub represents_power_off : (entries : List Entry) (payload : List ℕ) (choice : ℕ) (image : List ℕ) → lengths entries ≡ length payload → image ≡ left_by choice (state_of (steps_of entries payload))
+    → Represents (entries ++ E.PowerOff choice ∷ []) payload (length (entries ++ E.PowerOff choice ∷ [])) image (length (entries ++ E.PowerOff choice ∷ [])) (length payload)
+represents_power_off entries payload choice image size left =
     let s = state_of (steps_of entries payload) in
-    let same : before ≡ s = λ i. record { now = kept.now_is i; stable = stable_is i; pending = kept.pending_is i } in
-    let left : image ≡ left_by choice s = is ∙ ap (λ (t : State). left_by choice t) same in
     let state : state_of (steps_of (entries ++ E.PowerOff choice ∷ []) payload) ≡ after_step (PowerOff choice) s =
     ap state_of (steps-power_off entries payload choice) ∙ replay-push (steps_of entries payload) (PowerOff choice) blank in
     let all = entries ++ E.PowerOff choice ∷ [] in
@@ -171,13 +174,87 @@ represents_power_off bytes stable entries payload first base n m choice image ke
     let over : drop (length payload) payload ≡ [] = drop_all (length payload) payload (omega arith) in
     let taken : take (length all - length all) (drop (length all) all) ≡ [] = ap (λ (l : List Entry). take (length all - length all) l) none ∙ take_all (length all - length all) [] (omega arith) in
     record {
-      size = lengths-append entries (E.PowerOff choice ∷ []) ∙ omega (arith, kept.size);
+      size = lengths-append entries (E.PowerOff choice ∷ []) ∙ omega (arith, size);
       within = omega arith;
-      now_is = left ∙ ap (λ (t : State). t.now) (sym state);
       pending_is = ap ranges_of none ∙ ap (λ (t : State). t.pending) (sym state);
       base_in = omega arith;
       base_within = omega arith;
       behind = ap lengths none ∙ ap (λ (l : List ℕ). length l) (sym over);
-      now_made = ap (λ (l : List Entry). written l (drop (length payload) payload) image) none;
+      now_made = ap (λ (l : List Entry). written l (drop (length payload) payload) image) none ∙ left ∙ ap (λ (t : State). t.now) (sym state);
       stable_made = ap (λ (l : List Entry). written l (drop (length payload) payload) image) taken ∙ left ∙ ap (λ (t : State). t.stable) (sym state);
     }
+
+-- what is made of an image isn't shorter
+pub written-longer : (entries : List Entry) (payload image : List ℕ) → length image ≤ length (written entries payload image)
+written-longer [] payload image = omega arith
+written-longer (E.Write a len ∷ entries) payload image = omega (arith, written-longer entries (drop len payload) (overwrite a (take len payload) image), length-overwrite a (take len payload) image)
+written-longer (E.Sync ∷ entries) payload image = written-longer entries payload image
+written-longer (E.PowerOff choice ∷ entries) payload image = written-longer entries payload image
+
+-- so are the bytes that the first entry writes
+pub first_longer : (entries : List Entry) (payload image : List ℕ) (at len : ℕ) → 1 ≤ length entries → get_or entries 0 (E.Write 0 0) ≡ E.Write at len
+    → length (overwrite at (take len payload) image) ≤ length (written entries payload image)
+first_longer [] payload image at len some first = absurd (omega (arith, some))
+first_longer (entry ∷ entries) payload image at len some first =
+    subst (λ (e : Entry). length (overwrite at (take len payload) image) ≤ length (written (e ∷ entries) payload image)) (sym first) (written-longer entries (drop len payload) (overwrite at (take len payload) image))
+
+pub lags_write : (image : List ℕ) (entries : List Entry) (payload : List ℕ) (n m end at : ℕ) (new : List ℕ) → lengths entries ≡ length payload → Lags image entries payload n m end
+    → Lags image (entries ++ E.Write at (length new) ∷ []) (payload ++ new) n m (max end (at + length new))
+lags_write image entries payload n m end at new size kept =
+    let state : state_of (steps_of (entries ++ E.Write at (length new) ∷ []) (payload ++ new)) ≡ after_step (Write at new) (state_of (steps_of entries payload)) =
+    ap state_of (steps-push entries payload at new size) ∙ replay-push (steps_of entries payload) (Write at new) blank in
+    let now : overwrite at new (state_of (steps_of entries payload)).now ≡ (state_of (steps_of (entries ++ E.Write at (length new) ∷ []) (payload ++ new))).now = ap (λ (s : State). s.now) (sym state) in
+    let rest = drop n entries in
+    let left = drop m payload in
+    let rest_is : drop n (entries ++ E.Write at (length new) ∷ []) ≡ rest ++ E.Write at (length new) ∷ [] = drop-append-le n entries (E.Write at (length new) ∷ []) kept.seen in
+    let left_is : drop m (payload ++ new) ≡ left ++ new = drop-append-le m payload new kept.seen_within in
+    record {
+      seen = omega (arith, kept.seen, length-append entries (E.Write at (length new) ∷ []));
+      seen_within = omega (arith, kept.seen_within, length-append payload new);
+      unseen = ap lengths rest_is ∙ lengths-append rest (E.Write at (length new) ∷ []) ∙ omega (arith, kept.unseen, length-append left new) ∙ ap (λ (l : List ℕ). length l) (sym left_is);
+      now_made =
+          ap (λ (l : List Entry). written l (drop m (payload ++ new)) image) rest_is ∙ ap (λ (l : List ℕ). written (rest ++ E.Write at (length new) ∷ []) l image) left_is
+          ∙ written-push rest left at new image kept.unseen ∙ ap (λ (l : List ℕ). overwrite at new l) kept.now_made ∙ now;
+      end_is = omega (arith, kept.end_is, length-overwrite at new (state_of (steps_of entries payload)).now) ∙ ap (λ (l : List ℕ). length l) now;
+    }
+
+-- an image isn't longer than what a read gives
+pub lags_short : (image : List ℕ) (entries : List Entry) (payload : List ℕ) (n m end : ℕ) → Lags image entries payload n m end → length image ≤ end
+lags_short image entries payload n m end kept =
+    let made = ap (λ (l : List ℕ). length l) kept.now_made in
+    omega (arith, written-longer (drop n entries) (drop m payload) image, made, kept.end_is)
+
+pub lags_sync : (image : List ℕ) (entries : List Entry) (payload : List ℕ) (n m end : ℕ) → Lags image entries payload n m end → Lags image (entries ++ E.Sync ∷ []) payload n m end
+lags_sync image entries payload n m end kept =
+    let state : state_of (steps_of (entries ++ E.Sync ∷ []) payload) ≡ after_step Sync (state_of (steps_of entries payload)) =
+    ap state_of (steps-sync entries payload) ∙ replay-push (steps_of entries payload) Sync blank in
+    let now : (state_of (steps_of entries payload)).now ≡ (state_of (steps_of (entries ++ E.Sync ∷ []) payload)).now = ap (λ (s : State). s.now) (sym state) in
+    let rest = drop n entries in
+    let rest_is : drop n (entries ++ E.Sync ∷ []) ≡ rest ++ E.Sync ∷ [] = drop-append-le n entries (E.Sync ∷ []) kept.seen in
+    record {
+      seen = omega (arith, kept.seen, length-append entries (E.Sync ∷ []));
+      seen_within = kept.seen_within;
+      unseen = ap lengths rest_is ∙ lengths-append rest (E.Sync ∷ []) ∙ omega (arith, kept.unseen);
+      now_made = ap (λ (l : List Entry). written l (drop m payload) image) rest_is ∙ written-sync rest (drop m payload) image ∙ kept.now_made ∙ now;
+      end_is = kept.end_is ∙ ap (λ (l : List ℕ). length l) now;
+    }
+
+-- an image with everything in it
+pub lags_no_more : (image : List ℕ) (entries : List Entry) (payload : List ℕ) → image ≡ (state_of (steps_of entries payload)).now → Lags image entries payload (length entries) (length payload) (length image)
+lags_no_more image entries payload is =
+    let none : drop (length entries) entries ≡ [] = drop_all (length entries) entries (omega arith) in
+    let over : drop (length payload) payload ≡ [] = drop_all (length payload) payload (omega arith) in
+    record {
+      seen = omega arith;
+      seen_within = omega arith;
+      unseen = ap lengths none ∙ ap (λ (l : List ℕ). length l) (sym over);
+      now_made = ap (λ (l : List Entry). written l (drop (length payload) payload) image) none ∙ is;
+      end_is = ap (λ (l : List ℕ). length l) is;
+    }
+
+pub now_power_off : (entries : List Entry) (payload : List ℕ) (choice : ℕ) (image : List ℕ) → image ≡ left_by choice (state_of (steps_of entries payload))
+    → image ≡ (state_of (steps_of (entries ++ E.PowerOff choice ∷ []) payload)).now
+now_power_off entries payload choice image left =
+    let state : state_of (steps_of (entries ++ E.PowerOff choice ∷ []) payload) ≡ after_step (PowerOff choice) (state_of (steps_of entries payload)) =
+    ap state_of (steps-power_off entries payload choice) ∙ replay-push (steps_of entries payload) (PowerOff choice) blank in
+    left ∙ ap (λ (t : State). t.now) (sym state)

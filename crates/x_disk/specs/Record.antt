@@ -33,19 +33,28 @@ written (E.PowerOff choice ∷ entries) bytes image = written entries bytes imag
 
 -- The fields stand for the history: `first` is the first entry after the last sync or power-off, and `base` what the last
 -- power-off left, behind so many entries and bytes of the payload.
-pub record Represents (bytes : List ℕ) (entries : List Entry) (payload : List ℕ) (first : ℕ) (base : List ℕ) (base_entries base_bytes : ℕ) : Type 0 where
+pub record Represents (entries : List Entry) (payload : List ℕ) (first : ℕ) (base : List ℕ) (base_entries base_bytes : ℕ) : Type 0 where
   pub size : lengths entries ≡ length payload
   pub within : first ≤ length entries
-  pub now_is : bytes ≡ (state_of (steps_of entries payload)).now
   pub pending_is : ranges_of (drop first entries) ≡ (state_of (steps_of entries payload)).pending
   pub base_in : base_entries ≤ first
   pub base_within : base_bytes ≤ length payload
   pub behind : lengths (drop base_entries entries) ≡ length (drop base_bytes payload)
-  pub now_made : written (drop base_entries entries) (drop base_bytes payload) base ≡ bytes
+  pub now_made : written (drop base_entries entries) (drop base_bytes payload) base ≡ (state_of (steps_of entries payload)).now
   pub stable_made : written (take (first - base_entries) (drop base_entries entries)) (drop base_bytes payload) base ≡ (state_of (steps_of entries payload)).stable
 
+-- an image in which so many entries and bytes of the payload are; with the others in it too it is what a read gives, which
+-- has this length
+pub record Lags (image : List ℕ) (entries : List Entry) (payload : List ℕ) (seen_entries seen_bytes end : ℕ) : Type 0 where
+  pub seen : seen_entries ≤ length entries
+  pub seen_within : seen_bytes ≤ length payload
+  pub unseen : lengths (drop seen_entries entries) ≡ length (drop seen_bytes payload)
+  pub now_made : written (drop seen_entries entries) (drop seen_bytes payload) image ≡ (state_of (steps_of entries payload)).now
+  pub end_is : end ≡ length (state_of (steps_of entries payload)).now
+
 -- the memory that was reserved
-pub record HasRoom (room bytes payload entries : ℕ) : Type 0 where
+pub record HasRoom (room end bytes payload entries : ℕ) : Type 0 where
   pub for_bytes : room ≤ bytes
+  pub for_end : end ≤ bytes
   pub for_payload : room ≤ payload
   pub for_entries : room / 16 ≤ entries

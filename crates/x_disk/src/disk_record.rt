@@ -1,15 +1,15 @@
 // The record of a disk in memory: what a read gives, what the last power-off left, and all steps.
-use crate::image::{copy_from, settle, write_all, write_over};
+use crate::image::{catch_up, copy_from, settle, write_all};
 use std::alloc::{AllocError, Global};
 use std::marker::Model;
 use x_base::NoMemory;
 
 /// How many bytes a disk has room for at least from the start, so that small ones aren't moved while they grow. With
 /// more, many small disks would lie far apart.
-const LEAST: usize = 12_288;
+const LEAST_BYTES: usize = 12_288;
 
 /// For how many steps it has room at least.
-const FEWEST: usize = 256;
+const LEAST_STEPS: usize = 256;
 
 /// A step of the record. The bytes of a write lie in the payload, behind those of the writes before it.
 #[derive(Clone, Copy, Drop)]
@@ -19,15 +19,21 @@ pub(crate) enum Entry {
     PowerOff { choice: u64 },
 }
 
-/// What was done to a disk in memory, and the bytes that came of it.
+/// What was done to a disk in memory, and the bytes that came of it. A write only goes into the record: what a read gives
+/// is made of it where it is wanted.
 #[derive(Drop)]
 pub(crate) struct DiskRecord {
     room: usize,
-    bytes: Vec<u8>,
     entries: Vec<Entry>,
     payload: Vec<u8>,
     // the first entry after the last sync or power-off
     first: usize,
+    // the length of what a read gives, for which `bytes` has room
+    end: usize,
+    // what a read gives, as far as so many entries and bytes of the payload are in it
+    bytes: Vec<u8>,
+    seen_entries: usize,
+    seen_bytes: usize,
     // what the last power-off left; the image of the last sync is made of it only where the power goes
     base: Vec<u8>,
     // so many entries and bytes of the payload are in it
@@ -38,14 +44,15 @@ pub(crate) struct DiskRecord {
 impl Model for DiskRecord {
     ghost use Rattle.std.specs.Vec.{vec_capacity};
     ghost use Rattle.x_disk.specs.History.{History};
-    ghost use Rattle.x_disk.specs.Record.{steps_of, Represents, HasRoom};
+    ghost use Rattle.x_disk.specs.Record.{steps_of, Represents, Lags, HasRoom};
 
     ghost Value = { History };
 
     ghost view = { λ d. record { room = d.room; steps = steps_of d.entries.items d.payload.items } };
 
-    ghost invariant = { λ d. Represents d.bytes.items d.entries.items d.payload.items d.first d.base.items d.base_entries d.base_bytes
-        × HasRoom d.room (vec_capacity d.bytes) (vec_capacity d.payload) (vec_capacity d.entries) };
+    ghost invariant = { λ d. Represents d.entries.items d.payload.items d.first d.base.items d.base_entries d.base_bytes
+        × Lags d.bytes.items d.entries.items d.payload.items d.seen_entries d.seen_bytes d.end
+        × HasRoom d.room d.end (vec_capacity d.bytes) (vec_capacity d.payload) (vec_capacity d.entries) };
 }
 
 impl DiskRecord {
@@ -58,13 +65,17 @@ impl DiskRecord {
     pub(crate) fn new(alloc: Global, room: usize) -> Result<DiskRecord, NoMemory>
         ensures { IfOk result (λ d. d ≡ record { room = room; steps = [] }) }
     {
-        let most = room.max(LEAST);
+        let bytes = room.max(LEAST_BYTES);
+        let steps = (room / 16).max(LEAST_STEPS);
         Ok(DiskRecord {
             room,
-            bytes: Vec::with_capacity(alloc, most)?,
-            entries: Vec::with_capacity(alloc, (room / 16).max(FEWEST))?,
-            payload: Vec::with_capacity(alloc, most)?,
+            entries: Vec::with_capacity(alloc, steps)?,
+            payload: Vec::with_capacity(alloc, bytes)?,
             first: 0,
+            end: 0,
+            bytes: Vec::with_capacity(alloc, bytes)?,
+            seen_entries: 0,
+            seen_bytes: 0,
             base: Vec::with_capacity(alloc, room)?,
             base_entries: 0,
             base_bytes: 0,
@@ -75,14 +86,22 @@ impl DiskRecord {
     pub(crate) fn length(&self) -> u64
         ensures { result ≡ length (state_of self.now.steps).now }
     {
-        self.bytes.len() as u64
+        self.end as u64
     }
 
     /// The bytes from this place on, which have to lie within the length.
-    pub(crate) fn read(&self, at: u64, buf: &mut [u8])
-        requires { at + length buf.old ≤ length (state_of self.now.steps).now }
-        ensures { buf.new ≡ take (length buf.old) (drop at (state_of self.now.steps).now) }
+    pub(crate) fn read(&mut self, at: u64, buf: &mut [u8])
+        requires { at + length buf.old ≤ length (state_of self.old.steps).now }
+        ensures filled { buf.new ≡ take (length buf.old) (drop at (state_of self.old.steps).now) }
+        ensures same { self.new ≡ self.old }
     {
+        catch_up(
+            &mut self.bytes,
+            &self.entries[self.seen_entries..],
+            &self.payload[self.seen_bytes..],
+        );
+        self.seen_entries = self.entries.len();
+        self.seen_bytes = self.payload.len();
         let at = at as usize;
         buf.copy_from_slice(&self.bytes[at..at + buf.len()]);
     }
@@ -92,14 +111,15 @@ impl DiskRecord {
         ensures added { IsAdded (Write at bytes.now) self.old self.new result }
         ensures covered { (end n calls : ℕ) → IsReserved self.old end n (suc calls) → at + length bytes.now ≤ end → length bytes.now ≤ n → IsOk result }
     {
+        let end = self.end.max(at as usize + bytes.len());
+        self.bytes.reserve(end - self.bytes.len())?;
         self.entries.reserve(1)?;
-        self.payload.reserve(bytes.len())?;
-        write_over(&mut self.bytes, at as usize, bytes)?;
         self.payload.extend_from_slice(bytes)?;
         self.entries.push(Entry::Write {
             at: at as u32,
             len: bytes.len() as u32,
         })?;
+        self.end = end;
         Ok(())
     }
 
@@ -131,6 +151,13 @@ impl DiskRecord {
     {
         let mut left = self.last_synced()?;
         self.entries.reserve(1)?;
+        catch_up(
+            &mut self.bytes,
+            &self.entries[self.seen_entries..],
+            &self.payload[self.seen_bytes..],
+        );
+        self.seen_entries = self.entries.len();
+        self.seen_bytes = self.payload.len();
         settle(
             &mut self.bytes,
             &mut left,
@@ -142,6 +169,8 @@ impl DiskRecord {
         self.base = left;
         self.base_entries = self.first;
         self.base_bytes = self.payload.len();
+        self.end = self.bytes.len();
+        self.seen_entries = self.first;
         Ok(())
     }
 }

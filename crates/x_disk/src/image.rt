@@ -83,7 +83,9 @@ pub(crate) fn write_all(
     payload: &[u8],
 ) -> Result<(), AllocError>
     requires { lengths entries.now ≤ length payload.now }
-    ensures { OnOk result (image.new.items ≡ written entries.now payload.now image.old.items) }
+    ensures ok { OnOk result (image.new.items ≡ written entries.now payload.now image.old.items) }
+    ensures capacity { vec_capacity image.old ≤ vec_capacity image.new }
+    ensures succeeds { length (written entries.now payload.now image.old.items) ≤ vec_capacity image.old → IsOk result }
 {
     let mut rest = entries;
     let mut behind = payload;
@@ -96,6 +98,19 @@ pub(crate) fn write_all(
         rest = after;
     }
     Ok(())
+}
+
+/// The same, where there is room for it.
+pub(crate) fn catch_up(image: &mut Vec<u8>, entries: &[Entry], payload: &[u8])
+    requires lie { lengths entries.now ≤ length payload.now }
+    requires room { length (written entries.now payload.now image.old.items) ≤ vec_capacity image.old }
+    ensures made { image.new.items ≡ written entries.now payload.now image.old.items }
+    ensures capacity { vec_capacity image.old ≤ vec_capacity image.new }
+{
+    match write_all(image, entries, payload) {
+        Ok(()) => {}
+        Err(_) => unreachable!(),
+    }
 }
 
 // Whether one of these writes has this place in its range.

@@ -1,34 +1,49 @@
-use Rattle.std.proofs.Common.{rules, ◌≡◌, ℕ, suc, List, [], ◌∷◌, ◌++◌, length, ◌∙◌, ap, subst, sym, arith}
+use Rattle.std.proofs.Common.{rules, ◌≡◌, ◌+◌, ℕ, suc, max, List, [], ◌∷◌, ◌++◌, length, ◌∙◌, ap, subst, sym, arith}
 use Rattle.x_disk.specs.History.{Step, Write, History, and_then, IsReserved}
-use Rattle.x_disk.specs.Record.{steps_of, Represents}
+use Rattle.x_disk.specs.Record.{steps_of, Represents, Lags}
 use Rattle.x_disk.specs.declared.disk_record.Entry.{Entry}
 use Rattle.x_disk.specs.declared.disk_record.Entry.TheVariants as E
-use Rattle.x_disk.proofs.RecordLemmas.{steps-push, represents_write, length-steps, bytes-steps}
+use Rattle.x_disk.proofs.RecordLemmas.{steps-push, represents_write, lags_write, lags_short, length-steps, bytes-steps}
 use Rattle.x_disk.proofs.disk_record.DiskRecord.add_write.Goals as goal
+
+pub overflow_sub-end : goal.overflow_sub-end
+overflow_sub-end c = let i = c.self.inside in omega (arith, lags_short i.bytes.items i.entries.items i.payload.items i.seen_entries i.seen_bytes i.end c.self.invariant.1)
 
 pub returns-in_err-reserve-clause-covered : goal.returns-in_err-reserve-clause-covered
 returns-in_err-reserve-clause-covered c = λ end n calls covers le small.
     let there = subst (λ h. IsReserved h end n (suc calls)) (sym c.self.view_is) covers in
-    absurd (omega (arith, there.counts, c.self.invariant.1.for_entries, c.in_err-reserve.ensures.full, length-steps c.self.inside.entries.items c.self.inside.payload.items))
+    absurd (omega (arith, there.reaches, there.holds, le, c.self.invariant.2.for_bytes, c.self.invariant.1.end_is, c.in_err-reserve.ensures.full))
 
 pub returns-in_err-reserve-2-clause-covered : goal.returns-in_err-reserve-2-clause-covered
 returns-in_err-reserve-2-clause-covered c = λ end n calls covers le small.
     let there = subst (λ h. IsReserved h end n (suc calls)) (sym c.self.view_is) covers in
-    absurd (omega (arith, there.records, small, c.self.invariant.1.for_payload, c.in_err-reserve-2.ensures.full, bytes-steps c.self.inside.entries.items c.self.inside.payload.items c.self.invariant.0.size))
+    absurd (omega (arith, there.counts, c.self.invariant.2.for_entries, c.in_err-reserve-2.ensures.full, length-steps c.self.inside.entries.items c.self.inside.payload.items))
+
+pub returns-in_err-extend_from_slice-clause-covered : goal.returns-in_err-extend_from_slice-clause-covered
+returns-in_err-extend_from_slice-clause-covered c = λ end n calls covers le small.
+    let there = subst (λ h. IsReserved h end n (suc calls)) (sym c.self.view_is) covers in
+    absurd (omega (arith, there.records, small, c.self.invariant.2.for_payload, c.in_err-extend_from_slice.ensures.full, bytes-steps c.self.inside.entries.items c.self.inside.payload.items c.self.invariant.0.size))
 
 pub invariant_of-self-2 : goal.invariant_of-self-2
 invariant_of-self-2 c =
     let i = c.self.inside in
     let entry = E.Write c.args.at (length c.args.bytes.now) in
-    let kept = represents_write i.bytes.items i.entries.items i.payload.items i.first i.base.items i.base_entries i.base_bytes c.args.at c.args.bytes.now c.self.invariant.0 in
-    let written = subst (λ (l : List ℕ). Represents l (i.entries.items ++ entry ∷ []) (i.payload.items ++ c.args.bytes.now) i.first i.base.items i.base_entries i.base_bytes) (sym c.in_ok-write_over.ensures.ok) kept in
-    let pushed = subst (λ (l : List Entry). Represents c.write_over.new.bytes.items l (i.payload.items ++ c.args.bytes.now) i.first i.base.items i.base_entries i.base_bytes) (sym (c.in_ok-push.ensures.items ∙ ap (λ (l : List Entry). l ++ entry ∷ []) c.reserve.ensures.items)) written in
-    let all = subst (λ (l : List ℕ). Represents c.write_over.new.bytes.items c.push.new.self.items l i.first i.base.items i.base_entries i.base_bytes) (sym (c.in_ok-extend_from_slice.ensures.items ∙ ap (λ (l : List ℕ). l ++ c.args.bytes.now) c.reserve-2.ensures.items)) pushed in (
-      all,
+    let kept = represents_write i.entries.items i.payload.items i.first i.base.items i.base_entries i.base_bytes c.args.at c.args.bytes.now c.self.invariant.0 in
+    let behind = lags_write i.bytes.items i.entries.items i.payload.items i.seen_entries i.seen_bytes i.end c.args.at c.args.bytes.now c.self.invariant.0.size c.self.invariant.1 in
+    let entries = c.in_ok-push.ensures.items ∙ ap (λ (l : List Entry). l ++ entry ∷ []) c.reserve-2.ensures.items in
+    let payload = c.in_ok-extend_from_slice.ensures.items in
+    let end : max i.end (c.args.at + length c.args.bytes.now) ≡ c.max-end.result = omega (arith, c.max-end.ensures) in (
+      subst (λ (l : List ℕ). Represents c.push.new.self.items l i.first i.base.items i.base_entries i.base_bytes) (sym payload)
+          (subst (λ (l : List Entry). Represents l (i.payload.items ++ c.args.bytes.now) i.first i.base.items i.base_entries i.base_bytes) (sym entries) kept),
+      subst (λ (l : List ℕ). Lags l c.push.new.self.items c.extend_from_slice.new.self.items i.seen_entries i.seen_bytes c.max-end.result) (sym c.reserve.ensures.items)
+          (subst (λ (l : List ℕ). Lags i.bytes.items c.push.new.self.items l i.seen_entries i.seen_bytes c.max-end.result) (sym payload)
+          (subst (λ (l : List Entry). Lags i.bytes.items l (i.payload.items ++ c.args.bytes.now) i.seen_entries i.seen_bytes c.max-end.result) (sym entries)
+          (subst (λ (n : ℕ). Lags i.bytes.items (i.entries.items ++ entry ∷ []) (i.payload.items ++ c.args.bytes.now) i.seen_entries i.seen_bytes n) end behind))),
       record {
-        for_bytes = omega (arith, c.self.invariant.1.for_bytes, c.write_over.ensures.capacity);
-        for_payload = omega (arith, c.self.invariant.1.for_payload, c.reserve-2.ensures.capacity, c.extend_from_slice.ensures.capacity);
-        for_entries = omega (arith, c.self.invariant.1.for_entries, c.reserve.ensures.capacity, c.push.ensures.capacity);
+        for_bytes = omega (arith, c.self.invariant.2.for_bytes, c.reserve.ensures.capacity);
+        for_end = omega (arith, c.in_ok-reserve.ensures.ok, c.len.ensures);
+        for_payload = omega (arith, c.self.invariant.2.for_payload, c.extend_from_slice.ensures.capacity);
+        for_entries = omega (arith, c.self.invariant.2.for_entries, c.reserve-2.ensures.capacity, c.push.ensures.capacity);
       },
     )
 
@@ -36,8 +51,8 @@ pub returns-clause-added : goal.returns-clause-added
 returns-clause-added c = record {
   ok = let i = c.self.inside in
       let entry = E.Write c.args.at (length c.args.bytes.now) in
-      let entries = c.in_ok-push.ensures.items ∙ ap (λ (l : List Entry). l ++ entry ∷ []) c.reserve.ensures.items in
-      let payload = c.in_ok-extend_from_slice.ensures.items ∙ ap (λ (l : List ℕ). l ++ c.args.bytes.now) c.reserve-2.ensures.items in
+      let entries = c.in_ok-push.ensures.items ∙ ap (λ (l : List Entry). l ++ entry ∷ []) c.reserve-2.ensures.items in
+      let payload = c.in_ok-extend_from_slice.ensures.items in
       let steps : steps_of c.push.new.self.items c.extend_from_slice.new.self.items ≡ steps_of i.entries.items i.payload.items ++ Write c.args.at c.args.bytes.now ∷ [] =
       ap (λ (l : List Entry). steps_of l c.extend_from_slice.new.self.items) entries ∙ ap (λ (l : List ℕ). steps_of (i.entries.items ++ entry ∷ []) l) payload
       ∙ steps-push i.entries.items i.payload.items c.args.at c.args.bytes.now c.self.invariant.0.size in
