@@ -1,17 +1,25 @@
 -- The entries of a table beside its rows.
-use Rattle.std.proofs.Common.{◌≡◌, Bool, true, false, not, cond, None, Some, List, [], ◌∷◌, filter, refl, sym, ap, subst, ◌∙◌, Result, Ok, Err, OnOk, OnErr}
+use Rattle.std.proofs.Common.{◌≡◌, ℕ, zero, suc, slice_get, Bool, true, false, not, cond, None, Some, List, [], ◌∷◌, filter, refl, sym, ap, subst, ◌∙◌}
 use Rattle.std.specs.Cmp.{IsEquivalence}
 use Rattle.std.specs.List.{IsDistinct, AllByRecursion}
 use Rattle.std.specs.Map.{keys_of, values_of, lookup}
-use Rattle.indexmap.specs.IndexMap.{insert_entry, shift_remove_entry}
+use Rattle.indexmap.specs.IndexMap.{insert_entry, set_value_at, shift_remove_entry}
 use Rattle.party_state.specs.Tables.{find_row, put_row, drop_row, Distinct}
 use Rattle.party_state.specs.Keyed.{IsKeyed, IsTable}
-use Rattle.party_state.proofs.Rows.{each_put, each_filter}
+use Rattle.party_state.proofs.Rows.{apart, each_put, each_filter}
 
 module _ {R K : Type 0} (key : R → K) (same : K → K → Bool) (laws : IsEquivalence same) where
   -- a key is tested alike against an entry's key and its row's
   alike : (k a b : K) → same a b ≡ true → same k a ≡ same k b
   alike k a b e = laws.symm k a ∙ laws.congr a b k e ∙ laws.symm b k
+
+  -- an entry's key is its row's
+  pub keyed_at : (es : List (K × R)) (i : ℕ) (k : K) (r : R) → slice_get es i ≡ Some (k, r) → IsKeyed key same es → same k (key r) ≡ true
+  keyed_at [] i k r at h = cc
+  keyed_at (e ∷ es) zero k r at h =
+      let is : e ≡ (k, r) = cc in
+      subst (λ (p : K × R). same p.0 (key p.1) ≡ true) is h.0
+  keyed_at (e ∷ es) (suc i) k r at h = keyed_at es i k r at h.1
 
   pub find_lookup : (k : K) (es : List (K × R)) → IsKeyed key same es → lookup (same k) es ≡ find_row key same k (values_of es)
   find_lookup k [] h = refl
@@ -37,6 +45,18 @@ module _ {R K : Type 0} (key : R → K) (same : K → K → Bool) (laws : IsEqui
       go : values_of (insert_entry same es (key x) x) ≡ put_row key same x (values_of es) → (b : Bool) → same (key x) e.0 ≡ b → values_of (cond b ((e.0, x) ∷ es) (e ∷ insert_entry same es (key x) x)) ≡ cond b (x ∷ values_of es) (e.1 ∷ put_row key same x (values_of es))
       go rest true t = refl
       go rest false t = ap (λ (rs : List R). e.1 ∷ rs) rest
+
+  -- a row is put by a write over the one with its key
+  pub set_insert : (x r : R) (es : List (K × R)) (i : ℕ) → IsKeyed key same es → Distinct key same (values_of es) → slice_get (values_of es) i ≡ Some r → same (key r) (key x) ≡ true
+      → set_value_at es i x ≡ insert_entry same es (key x) x
+  set_insert x r [] i h d at s = absurd (cc)
+  set_insert x r (e ∷ es) zero h d at s =
+      let is : e.1 ≡ r = cc in
+      let t : same (key x) e.0 ≡ true = alike (key x) e.0 (key e.1) h.0 ∙ ap (λ (y : R). same (key x) (key y)) is ∙ laws.symm (key x) (key r) ∙ s in
+      λ j. cond (sym t j) ((e.0, x) ∷ es) (e ∷ insert_entry same es (key x) x)
+  set_insert x r (e ∷ es) (suc i) h d at s =
+      let f : same (key x) e.0 ≡ false = alike (key x) e.0 (key e.1) h.0 ∙ sym (laws.congr (key r) (key x) (key e.1) s) ∙ laws.symm (key r) (key e.1) ∙ apart key same laws (key e.1) (values_of es) i r d.0 at in
+      ap (λ (l : List (K × R)). e ∷ l) (set_insert x r es i h.1 d.1 at s) ∙ (λ j. cond (sym f j) ((e.0, x) ∷ es) (e ∷ insert_entry same es (key x) x))
 
   -- where no entry stands under the key, no row is dropped
   absent_drop : (k : K) (es : List (K × R)) → IsKeyed key same es → AllByRecursion (λ y. same k y ≡ false) (keys_of es) → drop_row key same k (values_of es) ≡ values_of es
@@ -94,17 +114,21 @@ module _ {R K : Type 0} (key : R → K) (same : K → K → Bool) (test : R → 
       go rest true = (h.0, rest)
       go rest false = rest
 
+-- a row that is written over by itself
+pub set_same : {R K : Type 0} → (es : List (K × R)) (i : ℕ) (r : R) → slice_get (values_of es) i ≡ Some r → set_value_at es i r ≡ es
+set_same [] i r at = refl
+set_same {R} {K} (e ∷ es) zero r at =
+    let is : e.1 ≡ r = cc in
+    ap (λ (y : R). let f : K × R = (e.0, y) in f ∷ es) (sym is)
+set_same {R} {K} (e ∷ es) (suc i) r at = ap (λ (l : List (K × R)). e ∷ l) (set_same es i r at)
+
 -- tables that are found in, put in, dropped from and filtered
 module _ {R K : Type 0} (key : R → K) (same : K → K → Bool) (P : R → Type 0) (laws : IsEquivalence same) where
-  pub table_put : {A E : Type 0} (r : Result A E) (x : R) (k : K) (es fs : List (K × R)) → k ≡ key x → OnOk r (fs ≡ insert_entry same es k x) → OnErr r (fs ≡ es) → P x
-      → IsTable key same P es → IsTable key same P fs
-  table_put (Ok a) x k es fs i p q f t =
-      let e = p ∙ ap (λ (j : K). insert_entry same es j x) i in
-      record {
-        keyed = subst (IsKeyed key same) (sym e) (keyed_put key same laws x es t.keyed);
-        rows = subst (AllByRecursion P) (sym (ap (λ (es : List (K × R)). values_of es) e ∙ put_insert key same laws x es t.keyed)) (each_put key same P x (values_of es) f t.rows);
-      }
-  table_put (Err e) x k es fs i p q f t = subst (IsTable key same P) (sym q) t
+  pub table_insert : (x : R) (es : List (K × R)) → P x → IsTable key same P es → IsTable key same P (insert_entry same es (key x) x)
+  table_insert x es f t = record {
+    keyed = keyed_put key same laws x es t.keyed;
+    rows = subst (AllByRecursion P) (sym (put_insert key same laws x es t.keyed)) (each_put key same P x (values_of es) f t.rows);
+  }
 
   pub table_drop : (k : K) (es : List (K × R)) → IsDistinct same (keys_of es) → IsTable key same P es → IsTable key same P (shift_remove_entry (same k) es)
   table_drop k es d t = record {

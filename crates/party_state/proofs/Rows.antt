@@ -13,7 +13,7 @@ module _ {R K : Type 0} (key : R → K) (same : K → K → Bool) (laws : IsEqui
   not_first false r rest none = (refl, none)
 
   -- no row has the key under which none is found
-  apart : (k : K) (rs : List R) (i : ℕ) (x : R) → find_row key same k rs ≡ None → slice_get rs i ≡ Some x → same k (key x) ≡ false
+  pub apart : (k : K) (rs : List R) (i : ℕ) (x : R) → find_row key same k rs ≡ None → slice_get rs i ≡ Some x → same k (key x) ≡ false
   apart k [] i x none at = cc
   apart k (r ∷ rs) zero x none at =
       let e : r ≡ x = cc in

@@ -74,8 +74,12 @@ impl<K: Eq + Hash + Copy, R: Row<K>> Table<K, R> {
     fn last_with(&self, key: &K) -> Option<&R>
         ensures { IfSome result (λ r. find_row R.row_key K.eq key.now self.now.0 ≡ Some r.now) }
     {
-        let (last, row) = self.map.get_index(self.map.len().saturating_sub(1))?;
-        if *last == *key { Some(row) } else { None }
+        let (_, row) = self.map.get_index(self.map.len().saturating_sub(1))?;
+        if row.row_key() == *key {
+            Some(row)
+        } else {
+            None
+        }
     }
 
     /// Row `i`, from 0.
@@ -135,6 +139,13 @@ impl<K: Eq + Hash + Copy, R: Row<K>> Table<K, R> {
         ensures room { self.old.1 ≤ self.new.1 + 1 }
     {
         let key = row.row_key();
+        // The last row is written over where it stands, and then no hash is made.
+        if let Some(last) = self.map.last_mut()
+            && last.row_key() == key
+        {
+            *last = row;
+            return Ok(());
+        }
         match self.map.insert(key, row) {
             Ok(_) => Ok(()),
             Err(_) => Err(NoMemory),
