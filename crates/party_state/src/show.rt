@@ -11,6 +11,9 @@ use crate::state::State;
 use std::alloc::Global;
 use x_base::{KeyName, NoMemory, Role, Side, Text};
 
+/// About as many bytes as a line takes.
+const ROOM_OF_LINE: usize = 64;
+
 fn role_word(role: &Role) -> &[u8]
     ensures { result.now ≡ word_of_role role.now }
 {
@@ -200,7 +203,7 @@ fn show_room(state: &State) -> usize {
         .saturating_add(state.exchange_count())
         .saturating_add(state.answer_count())
         .saturating_add(1)
-        .saturating_mul(64)
+        .saturating_mul(ROOM_OF_LINE)
 }
 
 /// The lines in which a party is shown: the party, its links, keys, exchanges and answers, each
