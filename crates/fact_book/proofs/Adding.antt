@@ -1,6 +1,6 @@
 -- A fact is added behind the others.
 use Rattle.std.proofs.Common.{arith, ◌≡◌, ◌≤◌, ◌<◌, ◌⊎◌, inl, inr, ℕ, zero, suc, cond, Option, Some, List, [], ◌∷◌, ◌++◌, length, length-append, ◌+◌, take, slice_get, refl, sym, ◌∙◌, ap, subst}
-use Rattle.std.proofs.lemmas.List.{take_all}
+use Rattle.std.proofs.lemmas.List.{take_all, take-append-le}
 use Rattle.std.specs.HashMap.{HashMap, get, Updates}
 use Rattle.std.specs.Map.{lookup}
 use Rattle.x_base.specs.declared.key_name.FullName.{FullName}
@@ -19,11 +19,6 @@ length-facts : (es : List Entry) (ts : List (List ℕ)) → length ts ≡ length
 length-facts [] ts n = refl
 length-facts (e ∷ es) [] n = absurd (omega (arith, n))
 length-facts (e ∷ es) (t ∷ ts) n = ap suc (length-facts es ts (omega (arith, n)))
-
-take_front : {A : Type 0} (xs ys : List A) (n : ℕ) → n ≤ length xs → take n (xs ++ ys) ≡ take n xs
-take_front xs ys zero l = refl
-take_front [] ys (suc n) l = absurd (omega arith)
-take_front (x ∷ xs) ys (suc n) l = ap (λ zs. x ∷ zs) (take_front xs ys n (omega arith))
 
 -- an entry of the longer list is an earlier one, or the new one
 push_cases : {A : Type 0} (xs : List A) (y : A) (i : ℕ) (a : A) → slice_get (xs ++ y ∷ []) i ≡ Some a → ((slice_get xs i ≡ Some a) × (i < length xs)) ⊎ ((i ≡ length xs) × (a ≡ y))
@@ -55,7 +50,7 @@ added_book es ts e t before after b is new = record { sizes = sizes; latest_is =
         ∙ (sym (latest_push u (facts_of es ts) (record { under = e.under; text = t })) ∙ ap (latest_of u) (sym pushed))))
 
     front : (i : ℕ) → i ≤ length es → take i (facts_of (es ++ e ∷ []) (ts ++ t ∷ [])) ≡ take i (facts_of es ts)
-    front i l = ap (take i) pushed ∙ take_front (facts_of es ts) _ i (let n = size in omega (arith, n, l))
+    front i l = ap (take i) pushed ∙ take-append-le i (facts_of es ts) _ (let n = size in omega (arith, n, l))
 
     earlier : (i : ℕ) (x : Entry) → slice_get (es ++ e ∷ []) i ≡ Some x → x.earlier ≡ latest_of x.under (take i (facts_of (es ++ e ∷ []) (ts ++ t ∷ [])))
     earlier i x h = elim (push_cases es e i x h) [

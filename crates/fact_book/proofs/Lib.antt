@@ -1,4 +1,4 @@
 pub mod Found
 pub mod Walking
 pub mod Adding
-pub mod Cutting
+pub mod Ends

@@ -2,26 +2,26 @@
 use Rattle.std.proofs.Common.{arith, ◌≡◌, ◌≤◌, ◌<◌, ℕ, zero, suc, true, false, ◌||◌, Option, Some, None, List, [], ◌∷◌, length, take, slice_get, refl, sym, ◌∙◌, ap, bytes_eq, Decides}
 use Rattle.std.specs.Prelude.{option_map}
 use Rattle.std.proofs.lemmas.Bool.Decides.{Decides-and, Decides-like}
-use Rattle.std.proofs.lemmas.List.{take_all}
+use Rattle.std.proofs.lemmas.List.{take_all, take-take}
 use Rattle.x_base.specs.declared.key_name.FullName.{FullName}
 use Rattle.party_state.proofs.Keys.{test_idents, test_names}
 use Rattle.fact_book.specs.declared.entry.Entry.{Entry}
 use Rattle.fact_book.specs.Facts.{NamedText, same_full_name, has_named}
-use Rattle.fact_book.specs.Book.{latest_of, facts_of, is_text, Reaches}
+use Rattle.fact_book.specs.Book.{latest_of, facts_of, is_this_text, Reaches}
 use Rattle.fact_book.proofs.Found.{Last, none_named, last_named}
 
 decides_full : (a b : FullName) → Decides (same_full_name a b) (a ≡ b)
 decides_full a b = Decides-like (same_full_name a b) (λ h i. record { name = h.0 i; recipient = h.1 i }) (λ h. (ap (λ (u : FullName). u.name) h, ap (λ (u : FullName). u.recipient) h)) (Decides-and _ _ (test_names.decides a.name b.name) (test_idents.decides a.recipient b.recipient))
 
-abbrev named_by : Entry → List ℕ → NamedText
-named_by e t = record { under = e.under; text = t }
+abbrev fact_with : Entry → List ℕ → NamedText
+fact_with e t = record { under = e.under; text = t }
 
-fact_at : (es : List Entry) (ts : List (List ℕ)) (i : ℕ) (e : Entry) → slice_get es i ≡ Some e → slice_get (facts_of es ts) i ≡ option_map (named_by e) (slice_get ts i)
+fact_at : (es : List Entry) (ts : List (List ℕ)) (i : ℕ) (e : Entry) → slice_get es i ≡ Some e → slice_get (facts_of es ts) i ≡ option_map (fact_with e) (slice_get ts i)
 fact_at [] ts i e h = absurd (cc)
 fact_at (x ∷ xs) [] i e h = refl
 fact_at (x ∷ xs) (t ∷ ts) zero e h =
     let is : x ≡ e = cc in
-    ap (λ (y : Entry). let o : Option NamedText = Some (named_by y t) in o) is
+    ap (λ (y : Entry). let o : Option NamedText = Some (fact_with y t) in o) is
 fact_at (x ∷ xs) (t ∷ ts) (suc i) e h = fact_at xs ts i e h
 
 no_fact : (es : List Entry) (ts : List (List ℕ)) (i : ℕ) → slice_get es i ≡ None → slice_get (facts_of es ts) i ≡ None
@@ -36,13 +36,6 @@ get_take [] (suc n) i a h = absurd (cc)
 get_take (x ∷ xs) zero i a h = absurd (cc)
 get_take (x ∷ xs) (suc n) zero a h = h
 get_take (x ∷ xs) (suc n) (suc i) a h = get_take xs n i a h
-
-take_take : {A : Type 0} (xs : List A) (n i : ℕ) → i ≤ n → take i (take n xs) ≡ take i xs
-take_take xs n zero l = refl
-take_take [] zero (suc i) l = refl
-take_take [] (suc n) (suc i) l = refl
-take_take (x ∷ xs) zero (suc i) l = absurd (omega arith)
-take_take (x ∷ xs) (suc n) (suc i) l = ap (λ ys. x ∷ ys) (take_take xs n i (omega arith))
 
 length_take : {A : Type 0} (xs : List A) (n : ℕ) → length (take n xs) ≤ n
 length_take xs zero = omega arith
@@ -77,7 +70,7 @@ module _ (es : List Entry) (ts : List (List ℕ)) (u : FullName) (t : List ℕ) 
   fact_of place s = get_take (facts_of es ts) s.count place (last_of place s).fact (last_of place s).at
 
   record At (place : ℕ) (e : Entry) : Type 0 where
-    any : has_named (facts_of es ts) u t ≡ (is_text t (slice_get ts place) || has_named (take place (facts_of es ts)) u t)
+    any : has_named (facts_of es ts) u t ≡ (is_this_text t (slice_get ts place) || has_named (take place (facts_of es ts)) u t)
     earlier : e.earlier ≡ latest_of u (take place (facts_of es ts))
 
   seen_at : (place : ℕ) (e : Entry) → Seen es ts u t (Some place) → slice_get es place ≡ Some e → At place e
@@ -90,12 +83,12 @@ module _ (es : List Entry) (ts : List (List ℕ)) (u : FullName) (t : List ℕ) 
       inner =
           let size : length (take s.count (facts_of es ts)) ≤ s.count = length_take (facts_of es ts) s.count in
           let n : place < length (take s.count (facts_of es ts)) = l.within in
-          take_take (facts_of es ts) s.count place (omega (arith, size, n))
+          take-take place s.count (facts_of es ts) (omega (arith, size, n))
 
-      go : (o : Option (List ℕ)) → slice_get ts place ≡ o → option_map (named_by e) o ≡ Some l.fact → At place e
+      go : (o : Option (List ℕ)) → slice_get ts place ≡ o → option_map (fact_with e) o ≡ Some l.fact → At place e
       go None got two = absurd (cc)
       go (Some x) got two =
-          let is : named_by e x ≡ l.fact = cc in
+          let is : fact_with e x ≡ l.fact = cc in
           let named : same_full_name e.under u ≡ true = ap (λ (f : NamedText). same_full_name f.under u) is ∙ l.named in
           let name : e.under ≡ u = (decides_full e.under u).0 named in
           record {
@@ -109,10 +102,10 @@ module _ (es : List Entry) (ts : List (List ℕ)) (u : FullName) (t : List ℕ) 
       let both : Some (last_of place s).fact ≡ None = sym (fact_of place s) ∙ no_fact es ts place h in
       cc
 
-  pub seen_found : (place : ℕ) (e : Entry) → Seen es ts u t (Some place) → slice_get es place ≡ Some e → is_text t (slice_get ts place) ≡ true → has_named (facts_of es ts) u t ≡ true
+  pub seen_found : (place : ℕ) (e : Entry) → Seen es ts u t (Some place) → slice_get es place ≡ Some e → is_this_text t (slice_get ts place) ≡ true → has_named (facts_of es ts) u t ≡ true
   seen_found place e s h same = (seen_at place e s h).any ∙ rw same refl
 
-  pub seen_next : (place : ℕ) (e : Entry) → Seen es ts u t (Some place) → slice_get es place ≡ Some e → is_text t (slice_get ts place) ≡ false → Seen es ts u t e.earlier
+  pub seen_next : (place : ℕ) (e : Entry) → Seen es ts u t (Some place) → slice_get es place ≡ Some e → is_this_text t (slice_get ts place) ≡ false → Seen es ts u t e.earlier
   seen_next place e s h other = let a = seen_at place e s h in record { count = place; latest = a.earlier; same = a.any ∙ rw other refl; earlier = s.earlier }
 
   pub seen_less : (place : ℕ) (e : Entry) → Seen es ts u t (Some place) → slice_get es place ≡ Some e → left e.earlier < suc place

@@ -10,9 +10,9 @@ facts_of [] ts = []
 facts_of (e ∷ es) [] = []
 facts_of (e ∷ es) (t ∷ ts) = record { under = e.under; text = t } ∷ facts_of es ts
 
-abbrev pub is_text : List ℕ → Option (List ℕ) → Bool
-is_text text None = false
-is_text text (Some t) = bytes_eq t text
+abbrev pub is_this_text : List ℕ → Option (List ℕ) → Bool
+is_this_text text None = false
+is_this_text text (Some t) = bytes_eq t text
 
 -- a place behind the first one, or the first one where it has the name
 abbrev pub place_with : Bool → Option ℕ → Option ℕ

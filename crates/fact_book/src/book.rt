@@ -2,7 +2,7 @@
 ghost use Rattle.std.specs.Prelude.{◌≡◌, [], ◌∷◌, ◌++◌, length, cond, Some, OnOk, OnErr, option_map, slice_get};
 ghost use Rattle.indexmap.specs.IndexMap.{get};
 ghost use Rattle.x_base.specs.declared.key_name.FullName.{FullName as TheFullName};
-ghost use Rattle.fact_book.specs.Book.{Reaches, facts_of, is_text};
+ghost use Rattle.fact_book.specs.Book.{Reaches, facts_of, is_this_text};
 ghost use Rattle.fact_book.specs.Facts.{has_named, same_full_name};
 
 use crate::entry::Entry;
@@ -42,7 +42,7 @@ fn entry_at(entries: &[Entry], place: usize) -> Option<&Entry>
 
 /// Whether this text stands at a place.
 fn has_text(texts: &Texts, place: usize, text: &[u8]) -> bool
-    ensures { result ≡ is_text text.now (slice_get texts.now place) }
+    ensures { result ≡ is_this_text text.now (slice_get texts.now place) }
 {
     match texts.get(place) {
         Some(kept) => kept == text,

@@ -1,5 +1,5 @@
 use Rattle.std.proofs.Common.{rules, ◌≡◌, Some, None, true, false, sym, subst, slice_get}
-use Rattle.fact_book.specs.Book.{is_text}
+use Rattle.fact_book.specs.Book.{is_this_text}
 use Rattle.fact_book.proofs.Walking.{Seen, seen_first, seen_none, seen_within, seen_found, seen_next, seen_less}
 use Rattle.fact_book.proofs.book.is_reached.Goals as goal
 
@@ -16,7 +16,7 @@ pub returns-then-has_text : goal.returns-then-has_text
 returns-then-has_text c =
     let is : c.earlier.at ≡ Some c.in-Some.place = search rules in
     let got : slice_get c.args.entries.now c.in-Some.place ≡ Some c.in-Some-entry_at.entry.now = search rules in
-    let same : is_text c.args.text.now (slice_get c.args.texts.now c.in-Some.place) ≡ true = search rules in
+    let same : is_this_text c.args.text.now (slice_get c.args.texts.now c.in-Some.place) ≡ true = search rules in
     sym (seen_found c.args.entries.now c.args.texts.now c.args.under.now c.args.text.now c.in-Some.place c.in-Some-entry_at.entry.now (subst (Seen c.args.entries.now c.args.texts.now c.args.under.now c.args.text.now) is c.earlier.invariant) got same)
 
 pub earlier-smaller : goal.earlier-smaller
@@ -29,7 +29,7 @@ pub earlier-preserved : goal.earlier-preserved
 earlier-preserved c =
     let is : c.earlier.at ≡ Some c.in-Some.place = search rules in
     let got : slice_get c.args.entries.now c.in-Some.place ≡ Some c.in-Some-entry_at.entry.now = search rules in
-    let other : is_text c.args.text.now (slice_get c.args.texts.now c.in-Some.place) ≡ false = search rules in
+    let other : is_this_text c.args.text.now (slice_get c.args.texts.now c.in-Some.place) ≡ false = search rules in
     seen_next c.args.entries.now c.args.texts.now c.args.under.now c.args.text.now c.in-Some.place c.in-Some-entry_at.entry.now (subst (Seen c.args.entries.now c.args.texts.now c.args.under.now c.args.text.now) is c.earlier.invariant) got other
 
 pub returns : goal.returns

@@ -1,5 +1,5 @@
 use Rattle.std.proofs.Common.{rules, ◌≡◌, ◌∷◌, Some, None, slice_get, slice_index}
-use Rattle.fact_book.proofs.Cutting.{text_at, end_within}
+use Rattle.fact_book.proofs.Ends.{text_at, end_within}
 use Rattle.fact_book.proofs.texts.Texts.get.Goals as goal
 
 pub returns-in_err-end : goal.returns-in_err-end

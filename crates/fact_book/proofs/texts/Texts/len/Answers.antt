@@ -1,5 +1,5 @@
 use Rattle.std.proofs.Common.{rules}
-use Rattle.fact_book.proofs.Cutting.{length_texts}
+use Rattle.fact_book.proofs.Ends.{length_texts}
 use Rattle.fact_book.proofs.texts.Texts.len.Goals as goal
 
 pub returns-clause-count : goal.returns-clause-count
