@@ -7,6 +7,6 @@ texts_from start [] bytes = []
 texts_from start (end ∷ ends) bytes = slice_range bytes start end ∷ texts_from end ends bytes
 
 -- the ends rise from `start`, and the last one is `size`
-abbrev pub AreEnds : ℕ → List ℕ → ℕ → Type 0
-AreEnds start [] size = start ≡ size
-AreEnds start (end ∷ ends) size = (start ≤ end) × AreEnds end ends size
+abbrev pub AreTextEnds : ℕ → List ℕ → ℕ → Type 0
+AreTextEnds start [] size = start ≡ size
+AreTextEnds start (end ∷ ends) size = (start ≤ end) × AreTextEnds end ends size

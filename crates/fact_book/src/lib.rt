@@ -1,5 +1,5 @@
-//! Facts about a network of parties: which key made the code of which text. Each is found in a `FactBook` by the name of its key.
-//! `Texts`, in which their texts are kept, holds texts one behind the other in one list of bytes.
+//! Facts about a network of parties: which key made the code of which text. Each is found in a `FactBook` by the name of its
+//! key. Their texts stand in `Texts`, one behind the other in one list of bytes.
 #![tactic(auto)]
 
 mod book;

@@ -14,13 +14,13 @@ pub struct Texts {
 
 impl Model for Texts {
     ghost use Rattle.std.specs.Prelude.{ℕ, List, length};
-    ghost use Rattle.fact_book.specs.Texts.{AreEnds, texts_from};
+    ghost use Rattle.fact_book.specs.Texts.{AreTextEnds, texts_from};
 
     ghost Value = { List (List ℕ) };
 
     ghost view = { λ t. texts_from 0 t.ends.items t.bytes.items };
 
-    ghost invariant = { λ t. AreEnds 0 t.ends.items (length t.bytes.items) };
+    ghost invariant = { λ t. AreTextEnds 0 t.ends.items (length t.bytes.items) };
 }
 
 /// Where the text at a place ends.

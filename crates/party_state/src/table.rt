@@ -139,7 +139,7 @@ impl<K: Eq + Hash + Copy, R: Row<K>> Table<K, R> {
         ensures room { self.old.1 ≤ self.new.1 + 1 }
     {
         let key = row.row_key();
-        // The last row is written over where it stands, and then no hash is made.
+        // Where the last row has that key, it is written over in place, with no hash.
         if let Some(last) = self.map.last_mut()
             && last.row_key() == key
         {

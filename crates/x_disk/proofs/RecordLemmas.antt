@@ -4,7 +4,7 @@ use Rattle.std.proofs.lemmas.List.{take_all, drop_all, take-append-le, drop-appe
 use Rattle.x_disk.specs.Disk.{overwrite}
 use Rattle.x_disk.specs.History.{Step, Write, Sync, PowerOff, State, state_of, after_step, all_bytes, left_by}
 use Rattle.x_disk.specs.HistoryLaw.{replay-push, length-overwrite}
-use Rattle.x_disk.specs.Record.{steps_of, lengths, ranges_of, written, Represents, Lags}
+use Rattle.x_disk.specs.Record.{steps_of, lengths, ranges_of, written, Represents, IsApplied}
 use Rattle.x_disk.specs.declared.disk_record.Entry.{Entry}
 use Rattle.x_disk.specs.declared.disk_record.Entry.TheVariants as E
 
@@ -154,11 +154,11 @@ steps-power_off (E.Write a len ∷ entries) payload choice = ap (λ (l : List St
 steps-power_off (E.Sync ∷ entries) payload choice = ap (λ (l : List Step). Sync ∷ l) (steps-power_off entries payload choice)
 steps-power_off (E.PowerOff a ∷ entries) payload choice = ap (λ (l : List Step). PowerOff a ∷ l) (steps-power_off entries payload choice)
 
--- what the power leaves of this image, where it is what a read gives
-pub left_is : (now stable : List ℕ) (entries : List Entry) (payload : List ℕ) (first : ℕ) (base : List ℕ) (n m choice : ℕ) (image : List ℕ) → Represents entries payload first base n m
+-- what the power leaves of what a read gives
+pub left_by_state : (now stable : List ℕ) (entries : List Entry) (payload : List ℕ) (first : ℕ) (base : List ℕ) (n m choice : ℕ) (image : List ℕ) → Represents entries payload first base n m
     → now ≡ (state_of (steps_of entries payload)).now → stable ≡ (state_of (steps_of entries payload)).stable → image ≡ left_by choice (record { now = now; stable = stable; pending = ranges_of (drop first entries) })
     → image ≡ left_by choice (state_of (steps_of entries payload))
-left_is now stable entries payload first base n m choice image kept now_is stable_is is =
+left_by_state now stable entries payload first base n m choice image kept now_is stable_is is =
     let before : State = record { now = now; stable = stable; pending = ranges_of (drop first entries) } in
     let same : before ≡ state_of (steps_of entries payload) = λ i. record { now = now_is i; stable = stable_is i; pending = kept.pending_is i } in
     is ∙ ap (λ (t : State). left_by choice t) same
@@ -191,63 +191,63 @@ written-longer (E.Write a len ∷ entries) payload image = omega (arith, written
 written-longer (E.Sync ∷ entries) payload image = written-longer entries payload image
 written-longer (E.PowerOff choice ∷ entries) payload image = written-longer entries payload image
 
--- so are the bytes that the first entry writes
+-- nor than the image over which the first entry wrote
 pub first_longer : (entries : List Entry) (payload image : List ℕ) (at len : ℕ) → 1 ≤ length entries → get_or entries 0 (E.Write 0 0) ≡ E.Write at len
     → length (overwrite at (take len payload) image) ≤ length (written entries payload image)
 first_longer [] payload image at len some first = absurd (omega (arith, some))
 first_longer (entry ∷ entries) payload image at len some first =
     subst (λ (e : Entry). length (overwrite at (take len payload) image) ≤ length (written (e ∷ entries) payload image)) (sym first) (written-longer entries (drop len payload) (overwrite at (take len payload) image))
 
-pub lags_write : (image : List ℕ) (entries : List Entry) (payload : List ℕ) (n m end at : ℕ) (new : List ℕ) → lengths entries ≡ length payload → Lags image entries payload n m end
-    → Lags image (entries ++ E.Write at (length new) ∷ []) (payload ++ new) n m (max end (at + length new))
-lags_write image entries payload n m end at new size kept =
+pub applied_write : (image : List ℕ) (entries : List Entry) (payload : List ℕ) (n m end at : ℕ) (new : List ℕ) → lengths entries ≡ length payload → IsApplied image entries payload n m end
+    → IsApplied image (entries ++ E.Write at (length new) ∷ []) (payload ++ new) n m (max end (at + length new))
+applied_write image entries payload n m end at new size kept =
     let state : state_of (steps_of (entries ++ E.Write at (length new) ∷ []) (payload ++ new)) ≡ after_step (Write at new) (state_of (steps_of entries payload)) =
     ap state_of (steps-push entries payload at new size) ∙ replay-push (steps_of entries payload) (Write at new) blank in
     let now : overwrite at new (state_of (steps_of entries payload)).now ≡ (state_of (steps_of (entries ++ E.Write at (length new) ∷ []) (payload ++ new))).now = ap (λ (s : State). s.now) (sym state) in
     let rest = drop n entries in
     let left = drop m payload in
-    let rest_is : drop n (entries ++ E.Write at (length new) ∷ []) ≡ rest ++ E.Write at (length new) ∷ [] = drop-append-le n entries (E.Write at (length new) ∷ []) kept.seen in
-    let left_is : drop m (payload ++ new) ≡ left ++ new = drop-append-le m payload new kept.seen_within in
+    let rest_is : drop n (entries ++ E.Write at (length new) ∷ []) ≡ rest ++ E.Write at (length new) ∷ [] = drop-append-le n entries (E.Write at (length new) ∷ []) kept.entries_in in
+    let left_is : drop m (payload ++ new) ≡ left ++ new = drop-append-le m payload new kept.bytes_in in
     record {
-      seen = omega (arith, kept.seen, length-append entries (E.Write at (length new) ∷ []));
-      seen_within = omega (arith, kept.seen_within, length-append payload new);
-      unseen = ap lengths rest_is ∙ lengths-append rest (E.Write at (length new) ∷ []) ∙ omega (arith, kept.unseen, length-append left new) ∙ ap (λ (l : List ℕ). length l) (sym left_is);
+      entries_in = omega (arith, kept.entries_in, length-append entries (E.Write at (length new) ∷ []));
+      bytes_in = omega (arith, kept.bytes_in, length-append payload new);
+      rest = ap lengths rest_is ∙ lengths-append rest (E.Write at (length new) ∷ []) ∙ omega (arith, kept.rest, length-append left new) ∙ ap (λ (l : List ℕ). length l) (sym left_is);
       now_made =
           ap (λ (l : List Entry). written l (drop m (payload ++ new)) image) rest_is ∙ ap (λ (l : List ℕ). written (rest ++ E.Write at (length new) ∷ []) l image) left_is
-          ∙ written-push rest left at new image kept.unseen ∙ ap (λ (l : List ℕ). overwrite at new l) kept.now_made ∙ now;
+          ∙ written-push rest left at new image kept.rest ∙ ap (λ (l : List ℕ). overwrite at new l) kept.now_made ∙ now;
       end_is = omega (arith, kept.end_is, length-overwrite at new (state_of (steps_of entries payload)).now) ∙ ap (λ (l : List ℕ). length l) now;
     }
 
 -- an image isn't longer than what a read gives
-pub lags_short : (image : List ℕ) (entries : List Entry) (payload : List ℕ) (n m end : ℕ) → Lags image entries payload n m end → length image ≤ end
-lags_short image entries payload n m end kept =
+pub applied_short : (image : List ℕ) (entries : List Entry) (payload : List ℕ) (n m end : ℕ) → IsApplied image entries payload n m end → length image ≤ end
+applied_short image entries payload n m end kept =
     let made = ap (λ (l : List ℕ). length l) kept.now_made in
     omega (arith, written-longer (drop n entries) (drop m payload) image, made, kept.end_is)
 
-pub lags_sync : (image : List ℕ) (entries : List Entry) (payload : List ℕ) (n m end : ℕ) → Lags image entries payload n m end → Lags image (entries ++ E.Sync ∷ []) payload n m end
-lags_sync image entries payload n m end kept =
+pub applied_sync : (image : List ℕ) (entries : List Entry) (payload : List ℕ) (n m end : ℕ) → IsApplied image entries payload n m end → IsApplied image (entries ++ E.Sync ∷ []) payload n m end
+applied_sync image entries payload n m end kept =
     let state : state_of (steps_of (entries ++ E.Sync ∷ []) payload) ≡ after_step Sync (state_of (steps_of entries payload)) =
     ap state_of (steps-sync entries payload) ∙ replay-push (steps_of entries payload) Sync blank in
     let now : (state_of (steps_of entries payload)).now ≡ (state_of (steps_of (entries ++ E.Sync ∷ []) payload)).now = ap (λ (s : State). s.now) (sym state) in
     let rest = drop n entries in
-    let rest_is : drop n (entries ++ E.Sync ∷ []) ≡ rest ++ E.Sync ∷ [] = drop-append-le n entries (E.Sync ∷ []) kept.seen in
+    let rest_is : drop n (entries ++ E.Sync ∷ []) ≡ rest ++ E.Sync ∷ [] = drop-append-le n entries (E.Sync ∷ []) kept.entries_in in
     record {
-      seen = omega (arith, kept.seen, length-append entries (E.Sync ∷ []));
-      seen_within = kept.seen_within;
-      unseen = ap lengths rest_is ∙ lengths-append rest (E.Sync ∷ []) ∙ omega (arith, kept.unseen);
+      entries_in = omega (arith, kept.entries_in, length-append entries (E.Sync ∷ []));
+      bytes_in = kept.bytes_in;
+      rest = ap lengths rest_is ∙ lengths-append rest (E.Sync ∷ []) ∙ omega (arith, kept.rest);
       now_made = ap (λ (l : List Entry). written l (drop m payload) image) rest_is ∙ written-sync rest (drop m payload) image ∙ kept.now_made ∙ now;
       end_is = kept.end_is ∙ ap (λ (l : List ℕ). length l) now;
     }
 
 -- an image with everything in it
-pub lags_no_more : (image : List ℕ) (entries : List Entry) (payload : List ℕ) → image ≡ (state_of (steps_of entries payload)).now → Lags image entries payload (length entries) (length payload) (length image)
-lags_no_more image entries payload is =
+pub applied_all : (image : List ℕ) (entries : List Entry) (payload : List ℕ) → image ≡ (state_of (steps_of entries payload)).now → IsApplied image entries payload (length entries) (length payload) (length image)
+applied_all image entries payload is =
     let none : drop (length entries) entries ≡ [] = drop_all (length entries) entries (omega arith) in
     let over : drop (length payload) payload ≡ [] = drop_all (length payload) payload (omega arith) in
     record {
-      seen = omega arith;
-      seen_within = omega arith;
-      unseen = ap lengths none ∙ ap (λ (l : List ℕ). length l) (sym over);
+      entries_in = omega arith;
+      bytes_in = omega arith;
+      rest = ap lengths none ∙ ap (λ (l : List ℕ). length l) (sym over);
       now_made = ap (λ (l : List Entry). written l (drop (length payload) payload) image) none ∙ is;
       end_is = ap (λ (l : List ℕ). length l) is;
     }

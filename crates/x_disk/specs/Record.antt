@@ -31,7 +31,7 @@ written (E.Write at len ∷ entries) bytes image = written entries (drop len byt
 written (E.Sync ∷ entries) bytes image = written entries bytes image
 written (E.PowerOff choice ∷ entries) bytes image = written entries bytes image
 
--- The fields stand for the history: `first` is the first entry after the last sync or power-off, and `base` what the last
+-- The record stands for the history: `first` is the first entry after the last sync or power-off, and `base` what the last
 -- power-off left, behind so many entries and bytes of the payload.
 pub record Represents (entries : List Entry) (payload : List ℕ) (first : ℕ) (base : List ℕ) (base_entries base_bytes : ℕ) : Type 0 where
   pub size : lengths entries ≡ length payload
@@ -43,13 +43,13 @@ pub record Represents (entries : List Entry) (payload : List ℕ) (first : ℕ) 
   pub now_made : written (drop base_entries entries) (drop base_bytes payload) base ≡ (state_of (steps_of entries payload)).now
   pub stable_made : written (take (first - base_entries) (drop base_entries entries)) (drop base_bytes payload) base ≡ (state_of (steps_of entries payload)).stable
 
--- an image in which so many entries and bytes of the payload are; with the others in it too it is what a read gives, which
--- has this length
-pub record Lags (image : List ℕ) (entries : List Entry) (payload : List ℕ) (seen_entries seen_bytes end : ℕ) : Type 0 where
-  pub seen : seen_entries ≤ length entries
-  pub seen_within : seen_bytes ≤ length payload
-  pub unseen : lengths (drop seen_entries entries) ≡ length (drop seen_bytes payload)
-  pub now_made : written (drop seen_entries entries) (drop seen_bytes payload) image ≡ (state_of (steps_of entries payload)).now
+-- an image to which the first so many entries were applied, whose bytes are the first of the payload; with the rest it is
+-- what a read gives, of this length
+pub record IsApplied (image : List ℕ) (entries : List Entry) (payload : List ℕ) (applied_entries applied_bytes end : ℕ) : Type 0 where
+  pub entries_in : applied_entries ≤ length entries
+  pub bytes_in : applied_bytes ≤ length payload
+  pub rest : lengths (drop applied_entries entries) ≡ length (drop applied_bytes payload)
+  pub now_made : written (drop applied_entries entries) (drop applied_bytes payload) image ≡ (state_of (steps_of entries payload)).now
   pub end_is : end ≡ length (state_of (steps_of entries payload)).now
 
 -- the memory that was reserved

@@ -1,5 +1,5 @@
 // The record of a disk in memory: what a read gives, what the last power-off left, and all steps.
-use crate::image::{catch_up, copy_from, settle, write_all};
+use crate::image::{apply_rest, copy_from, settle, write_all};
 use std::alloc::{AllocError, Global};
 use std::marker::Model;
 use x_base::NoMemory;
@@ -30,13 +30,13 @@ pub(crate) struct DiskRecord {
     first: usize,
     // the length of what a read gives, for which `bytes` has room
     end: usize,
-    // what a read gives, as far as so many entries and bytes of the payload are in it
+    // what a read gives, as far as the first so many entries were applied, whose bytes are the first of the payload
     bytes: Vec<u8>,
-    seen_entries: usize,
-    seen_bytes: usize,
-    // what the last power-off left; the image of the last sync is made of it only where the power goes
+    applied_entries: usize,
+    applied_bytes: usize,
+    // what the last power-off left, behind so many entries and bytes of the payload; the image of the last sync is made
+    // of it only where the power goes
     base: Vec<u8>,
-    // so many entries and bytes of the payload are in it
     base_entries: usize,
     base_bytes: usize,
 }
@@ -44,19 +44,19 @@ pub(crate) struct DiskRecord {
 impl Model for DiskRecord {
     ghost use Rattle.std.specs.Vec.{vec_capacity};
     ghost use Rattle.x_disk.specs.History.{History};
-    ghost use Rattle.x_disk.specs.Record.{steps_of, Represents, Lags, HasRoom};
+    ghost use Rattle.x_disk.specs.Record.{steps_of, Represents, IsApplied, HasRoom};
 
     ghost Value = { History };
 
     ghost view = { λ d. record { room = d.room; steps = steps_of d.entries.items d.payload.items } };
 
     ghost invariant = { λ d. Represents d.entries.items d.payload.items d.first d.base.items d.base_entries d.base_bytes
-        × Lags d.bytes.items d.entries.items d.payload.items d.seen_entries d.seen_bytes d.end
+        × IsApplied d.bytes.items d.entries.items d.payload.items d.applied_entries d.applied_bytes d.end
         × HasRoom d.room d.end (vec_capacity d.bytes) (vec_capacity d.payload) (vec_capacity d.entries) };
 }
 
 impl DiskRecord {
-    ghost use Rattle.std.specs.Prelude.{◌≡◌, ◌+◌, ◌≤◌, ℕ, List, suc, [], length, take, drop, IfOk, IsOk};
+    ghost use Rattle.std.specs.Prelude.{◌≡◌, ◌+◌, ◌≤◌, ℕ, suc, [], length, take, drop, IfOk, IsOk};
     ghost use Rattle.x_disk.specs.Disk.{disk_size};
     ghost use Rattle.x_disk.specs.History.{Write, Sync, PowerOff, IsAdded, IsReserved, state_of};
 
@@ -74,8 +74,8 @@ impl DiskRecord {
             first: 0,
             end: 0,
             bytes: Vec::with_capacity(alloc, bytes)?,
-            seen_entries: 0,
-            seen_bytes: 0,
+            applied_entries: 0,
+            applied_bytes: 0,
             base: Vec::with_capacity(alloc, room)?,
             base_entries: 0,
             base_bytes: 0,
@@ -95,13 +95,13 @@ impl DiskRecord {
         ensures filled { buf.new ≡ take (length buf.old) (drop at (state_of self.old.steps).now) }
         ensures same { self.new ≡ self.old }
     {
-        catch_up(
+        apply_rest(
             &mut self.bytes,
-            &self.entries[self.seen_entries..],
-            &self.payload[self.seen_bytes..],
+            &self.entries[self.applied_entries..],
+            &self.payload[self.applied_bytes..],
         );
-        self.seen_entries = self.entries.len();
-        self.seen_bytes = self.payload.len();
+        self.applied_entries = self.entries.len();
+        self.applied_bytes = self.payload.len();
         let at = at as usize;
         buf.copy_from_slice(&self.bytes[at..at + buf.len()]);
     }
@@ -151,13 +151,13 @@ impl DiskRecord {
     {
         let mut left = self.last_synced()?;
         self.entries.reserve(1)?;
-        catch_up(
+        apply_rest(
             &mut self.bytes,
-            &self.entries[self.seen_entries..],
-            &self.payload[self.seen_bytes..],
+            &self.entries[self.applied_entries..],
+            &self.payload[self.applied_bytes..],
         );
-        self.seen_entries = self.entries.len();
-        self.seen_bytes = self.payload.len();
+        self.applied_entries = self.entries.len();
+        self.applied_bytes = self.payload.len();
         settle(
             &mut self.bytes,
             &mut left,
@@ -170,7 +170,7 @@ impl DiskRecord {
         self.base_entries = self.first;
         self.base_bytes = self.payload.len();
         self.end = self.bytes.len();
-        self.seen_entries = self.first;
+        self.applied_entries = self.first;
         Ok(())
     }
 }

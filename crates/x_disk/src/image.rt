@@ -2,7 +2,7 @@
 ghost use Rattle.std.specs.Prelude.{◌≡◌, ◌+◌, ◌<◌, ◌≤◌, ◌-◌, ◌^◌, ◌++◌, max, length, take, drop, replicate, OnOk, OnErr, IsOk};
 ghost use Rattle.std.specs.Vec.{vec_capacity};
 ghost use Rattle.x_disk.specs.Disk.{overwrite};
-ghost use Rattle.x_disk.specs.History.{State, covers_place, torn_byte, torn_or, torn_from, left_by};
+ghost use Rattle.x_disk.specs.History.{covers_place, torn_byte, torn_or, torn_from, left_by};
 ghost use Rattle.x_disk.specs.Record.{lengths, ranges_of, written};
 
 use crate::disk_record::Entry;
@@ -53,8 +53,8 @@ fn paste_across(bytes: &mut Vec<u8>, at: usize, new: &[u8]) -> Result<(), AllocE
     Ok(())
 }
 
-/// Writes over what is there and past the end.
-pub(crate) fn write_over(bytes: &mut Vec<u8>, at: usize, new: &[u8]) -> Result<(), AllocError>
+// Writes over what is there and past the end.
+fn write_over(bytes: &mut Vec<u8>, at: usize, new: &[u8]) -> Result<(), AllocError>
     requires { at < 2 ^ 32 }
     ensures ok { OnOk result (bytes.new.items ≡ overwrite at new.now bytes.old.items) }
     ensures err { OnErr result (bytes.new.items ≡ bytes.old.items) }
@@ -100,8 +100,8 @@ pub(crate) fn write_all(
     Ok(())
 }
 
-/// The same, where there is room for it.
-pub(crate) fn catch_up(image: &mut Vec<u8>, entries: &[Entry], payload: &[u8])
+/// The same of an image that has room for what comes of it, which takes no memory.
+pub(crate) fn apply_rest(image: &mut Vec<u8>, entries: &[Entry], payload: &[u8])
     requires lie { lengths entries.now ≤ length payload.now }
     requires room { length (written entries.now payload.now image.old.items) ≤ vec_capacity image.old }
     ensures made { image.new.items ≡ written entries.now payload.now image.old.items }

@@ -1,8 +1,8 @@
 use Rattle.std.proofs.Common.{rules, ◌≡◌, ℕ, suc, List, [], ◌∷◌, ◌++◌, length, ◌∙◌, ap, subst, sym, arith}
 use Rattle.x_disk.specs.History.{Step, Sync, History, and_then, IsReserved}
-use Rattle.x_disk.specs.Record.{steps_of, Represents, Lags}
+use Rattle.x_disk.specs.Record.{steps_of, Represents, IsApplied}
 use Rattle.x_disk.specs.declared.disk_record.Entry.{Entry}
-use Rattle.x_disk.proofs.RecordLemmas.{steps-sync, represents_sync, lags_sync, length-steps}
+use Rattle.x_disk.proofs.RecordLemmas.{steps-sync, represents_sync, applied_sync, length-steps}
 use Rattle.x_disk.proofs.disk_record.DiskRecord.add_sync.Goals as goal
 
 pub returns-in_err-push-clause-covered : goal.returns-in_err-push-clause-covered
@@ -15,11 +15,11 @@ invariant_of-self-2 c =
     let i = c.self.inside in
     let kept = represents_sync i.entries.items i.payload.items i.first i.base.items i.base_entries i.base_bytes c.self.invariant.0 in
     let entries = c.in_ok-push.ensures.items in
-    let behind = lags_sync i.bytes.items i.entries.items i.payload.items i.seen_entries i.seen_bytes i.end c.self.invariant.1 in
+    let behind = applied_sync i.bytes.items i.entries.items i.payload.items i.applied_entries i.applied_bytes i.end c.self.invariant.1 in
     let pushed = subst (λ (l : List Entry). Represents l i.payload.items (length l) i.base.items i.base_entries i.base_bytes) (sym entries) kept in
     let size : length c.push.new.self.items ≡ c.len-self-inside.result = omega (arith, c.len-self-inside.ensures) in (
       subst (λ (n : ℕ). Represents c.push.new.self.items i.payload.items n i.base.items i.base_entries i.base_bytes) size pushed,
-      subst (λ (l : List Entry). Lags i.bytes.items l i.payload.items i.seen_entries i.seen_bytes i.end) (sym entries) behind,
+      subst (λ (l : List Entry). IsApplied i.bytes.items l i.payload.items i.applied_entries i.applied_bytes i.end) (sym entries) behind,
       record {
         for_bytes = c.self.invariant.2.for_bytes;
         for_end = c.self.invariant.2.for_end;

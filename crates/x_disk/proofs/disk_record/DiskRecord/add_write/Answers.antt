@@ -1,13 +1,13 @@
 use Rattle.std.proofs.Common.{rules, ◌≡◌, ◌+◌, ℕ, suc, max, List, [], ◌∷◌, ◌++◌, length, ◌∙◌, ap, subst, sym, arith}
 use Rattle.x_disk.specs.History.{Step, Write, History, and_then, IsReserved}
-use Rattle.x_disk.specs.Record.{steps_of, Represents, Lags}
+use Rattle.x_disk.specs.Record.{steps_of, Represents, IsApplied}
 use Rattle.x_disk.specs.declared.disk_record.Entry.{Entry}
 use Rattle.x_disk.specs.declared.disk_record.Entry.TheVariants as E
-use Rattle.x_disk.proofs.RecordLemmas.{steps-push, represents_write, lags_write, lags_short, length-steps, bytes-steps}
+use Rattle.x_disk.proofs.RecordLemmas.{steps-push, represents_write, applied_write, applied_short, length-steps, bytes-steps}
 use Rattle.x_disk.proofs.disk_record.DiskRecord.add_write.Goals as goal
 
 pub overflow_sub-end : goal.overflow_sub-end
-overflow_sub-end c = let i = c.self.inside in omega (arith, lags_short i.bytes.items i.entries.items i.payload.items i.seen_entries i.seen_bytes i.end c.self.invariant.1)
+overflow_sub-end c = let i = c.self.inside in omega (arith, applied_short i.bytes.items i.entries.items i.payload.items i.applied_entries i.applied_bytes i.end c.self.invariant.1)
 
 pub returns-in_err-reserve-clause-covered : goal.returns-in_err-reserve-clause-covered
 returns-in_err-reserve-clause-covered c = λ end n calls covers le small.
@@ -29,16 +29,16 @@ invariant_of-self-2 c =
     let i = c.self.inside in
     let entry = E.Write c.args.at (length c.args.bytes.now) in
     let kept = represents_write i.entries.items i.payload.items i.first i.base.items i.base_entries i.base_bytes c.args.at c.args.bytes.now c.self.invariant.0 in
-    let behind = lags_write i.bytes.items i.entries.items i.payload.items i.seen_entries i.seen_bytes i.end c.args.at c.args.bytes.now c.self.invariant.0.size c.self.invariant.1 in
+    let behind = applied_write i.bytes.items i.entries.items i.payload.items i.applied_entries i.applied_bytes i.end c.args.at c.args.bytes.now c.self.invariant.0.size c.self.invariant.1 in
     let entries = c.in_ok-push.ensures.items ∙ ap (λ (l : List Entry). l ++ entry ∷ []) c.reserve-2.ensures.items in
     let payload = c.in_ok-extend_from_slice.ensures.items in
     let end : max i.end (c.args.at + length c.args.bytes.now) ≡ c.max-end.result = omega (arith, c.max-end.ensures) in (
       subst (λ (l : List ℕ). Represents c.push.new.self.items l i.first i.base.items i.base_entries i.base_bytes) (sym payload)
           (subst (λ (l : List Entry). Represents l (i.payload.items ++ c.args.bytes.now) i.first i.base.items i.base_entries i.base_bytes) (sym entries) kept),
-      subst (λ (l : List ℕ). Lags l c.push.new.self.items c.extend_from_slice.new.self.items i.seen_entries i.seen_bytes c.max-end.result) (sym c.reserve.ensures.items)
-          (subst (λ (l : List ℕ). Lags i.bytes.items c.push.new.self.items l i.seen_entries i.seen_bytes c.max-end.result) (sym payload)
-          (subst (λ (l : List Entry). Lags i.bytes.items l (i.payload.items ++ c.args.bytes.now) i.seen_entries i.seen_bytes c.max-end.result) (sym entries)
-          (subst (λ (n : ℕ). Lags i.bytes.items (i.entries.items ++ entry ∷ []) (i.payload.items ++ c.args.bytes.now) i.seen_entries i.seen_bytes n) end behind))),
+      subst (λ (l : List ℕ). IsApplied l c.push.new.self.items c.extend_from_slice.new.self.items i.applied_entries i.applied_bytes c.max-end.result) (sym c.reserve.ensures.items)
+          (subst (λ (l : List ℕ). IsApplied i.bytes.items c.push.new.self.items l i.applied_entries i.applied_bytes c.max-end.result) (sym payload)
+          (subst (λ (l : List Entry). IsApplied i.bytes.items l (i.payload.items ++ c.args.bytes.now) i.applied_entries i.applied_bytes c.max-end.result) (sym entries)
+          (subst (λ (n : ℕ). IsApplied i.bytes.items (i.entries.items ++ entry ∷ []) (i.payload.items ++ c.args.bytes.now) i.applied_entries i.applied_bytes n) end behind))),
       record {
         for_bytes = omega (arith, c.self.invariant.2.for_bytes, c.reserve.ensures.capacity);
         for_end = omega (arith, c.in_ok-reserve.ensures.ok, c.len.ensures);
