@@ -45,27 +45,19 @@ fn start() -> Progress
     }
 }
 
-/// Behind a line that is no event.
-fn behind_quiet(line: &Line, now: &Progress) -> Progress
-    ensures { IsQuietNext line.now now.now result }
+/// Past a line that is no event.
+fn pass_quiet(line: &Line, now: &mut Progress)
+    ensures { IsQuietNext line.now now.old now.new }
 {
     match line {
-        Line::Time { moment } => Progress {
-            moment: *moment,
-            stop: now.stop,
-            number: now.number,
-            counts: now.counts,
-        },
-        Line::Stop { n, choice } => Progress {
-            moment: now.moment,
-            stop: Some(Stop {
+        Line::Time { moment } => now.moment = *moment,
+        Line::Stop { n, choice } => {
+            now.stop = Some(Stop {
                 n: *n,
                 choice: *choice,
-            }),
-            number: now.number,
-            counts: now.counts,
-        },
-        _ => *now,
+            });
+        }
+        _ => {}
     }
 }
 
@@ -79,18 +71,18 @@ fn play_meant<K: Sink, H: Shelf>(
     alloc: Global,
     line: &Line,
     act: &Act<'_>,
-    now: &Progress,
-) -> Result<Progress, Ending>
+    now: &mut Progress,
+) -> Result<(), Ending>
     requires meant { IsMeant line.now scene.old.texts act.now }
     requires named { names.now.keys ≡ owners scene.old.seats.items }
     requires seated { AreOpen scene.old.seats.items }
     requires slots { AllSlots (H.has_slot shelf.old) (owners scene.old.seats.items) }
-    requires few { IsWithin now.now 65535 }
-    ensures played { IfOk result (λ after. PlaysLine H.Disk.told (H.faults shelf.old) (H.faults shelf.new) line.now scene.old scene.new now.now after (K.written sink.old) (K.written sink.new)) }
-    ensures forged { (n : ℕ) → result ≡ Err (Ending.Forged n) → (n ≡ now.now.number) × (scene.new ≡ scene.old) × (K.written sink.new ≡ K.written sink.old) × ForgesLine H.Disk.told line.now scene.old }
-    ensures broken { (why : Ending) → result ≡ Err why → ((n : ℕ) → why ≡ Ending.Forged n → ⊥) → BreaksLine H.Disk.told (H.entry shelf.new) (H.faults shelf.old) (H.faults shelf.new) line.now scene.old scene.new now.now (K.written sink.old) (K.written sink.new) why }
+    requires few { IsWithin now.old 65535 }
+    ensures played { OnOk result (PlaysLine H.Disk.told (H.faults shelf.old) (H.faults shelf.new) line.now scene.old scene.new now.old now.new (K.written sink.old) (K.written sink.new)) }
+    ensures forged { (n : ℕ) → result ≡ Err (Ending.Forged n) → (n ≡ now.old.number) × (scene.new ≡ scene.old) × (K.written sink.new ≡ K.written sink.old) × ForgesLine H.Disk.told line.now scene.old }
+    ensures broken { (why : Ending) → result ≡ Err why → ((n : ℕ) → why ≡ Ending.Forged n → ⊥) → BreaksLine H.Disk.told (H.entry shelf.new) (H.faults shelf.old) (H.faults shelf.new) line.now scene.old scene.new now.old (K.written sink.old) (K.written sink.new) why }
     ensures write { result ≡ Err Ending.Write → Rose (K.faults sink.old) (K.faults sink.new) }
-    ensures within { IfOk result (λ after. (n : ℕ) → IsWithin now.now n → IsWithin after (n + 1)) }
+    ensures within { OnOk result ((n : ℕ) → IsWithin now.old n → IsWithin now.new (n + 1)) }
     ensures fault { result ≡ Err (Ending.Failed Failure.Fault) → Rose (H.faults shelf.old) (H.faults shelf.new) ⊎ AnyFaulty H.Disk.told scene.new.seats.items }
     ensures seated { OnOk result (AreOpen scene.new.seats.items) }
     ensures owners { owners scene.new.seats.items ≡ owners scene.old.seats.items }
@@ -111,17 +103,17 @@ fn play_line<K: Sink, H: Shelf>(
     shelf: &mut H,
     alloc: Global,
     line: &Line,
-    now: &Progress,
-) -> Result<Progress, Ending>
+    now: &mut Progress,
+) -> Result<(), Ending>
     requires named { names.now.keys ≡ owners scene.old.seats.items }
     requires seated { AreOpen scene.old.seats.items }
     requires slots { AllSlots (H.has_slot shelf.old) (owners scene.old.seats.items) }
-    requires few { IsWithin now.now 65535 }
-    ensures played { IfOk result (λ after. PlaysLine H.Disk.told (H.faults shelf.old) (H.faults shelf.new) line.now scene.old scene.new now.now after (K.written sink.old) (K.written sink.new)) }
-    ensures forged { (n : ℕ) → result ≡ Err (Ending.Forged n) → (n ≡ now.now.number) × (scene.new ≡ scene.old) × (K.written sink.new ≡ K.written sink.old) × ForgesLine H.Disk.told line.now scene.old }
-    ensures broken { (why : Ending) → result ≡ Err why → ((n : ℕ) → why ≡ Ending.Forged n → ⊥) → BreaksLine H.Disk.told (H.entry shelf.new) (H.faults shelf.old) (H.faults shelf.new) line.now scene.old scene.new now.now (K.written sink.old) (K.written sink.new) why }
+    requires few { IsWithin now.old 65535 }
+    ensures played { OnOk result (PlaysLine H.Disk.told (H.faults shelf.old) (H.faults shelf.new) line.now scene.old scene.new now.old now.new (K.written sink.old) (K.written sink.new)) }
+    ensures forged { (n : ℕ) → result ≡ Err (Ending.Forged n) → (n ≡ now.old.number) × (scene.new ≡ scene.old) × (K.written sink.new ≡ K.written sink.old) × ForgesLine H.Disk.told line.now scene.old }
+    ensures broken { (why : Ending) → result ≡ Err why → ((n : ℕ) → why ≡ Ending.Forged n → ⊥) → BreaksLine H.Disk.told (H.entry shelf.new) (H.faults shelf.old) (H.faults shelf.new) line.now scene.old scene.new now.old (K.written sink.old) (K.written sink.new) why }
     ensures write { result ≡ Err Ending.Write → Rose (K.faults sink.old) (K.faults sink.new) }
-    ensures within { IfOk result (λ after. (n : ℕ) → IsWithin now.now n → IsWithin after (n + 1)) }
+    ensures within { OnOk result ((n : ℕ) → IsWithin now.old n → IsWithin now.new (n + 1)) }
     ensures fault { result ≡ Err (Ending.Failed Failure.Fault) → Rose (H.faults shelf.old) (H.faults shelf.new) ⊎ AnyFaulty H.Disk.told scene.new.seats.items }
     ensures seated { OnOk result (AreOpen scene.new.seats.items) }
     ensures owners { owners scene.new.seats.items ≡ owners scene.old.seats.items }
@@ -136,7 +128,8 @@ fn play_line<K: Sink, H: Shelf>(
         return play_meant(scene, names, sink, buffer, shelf, alloc, line, &act, now);
     }
     if !is_arrival(line) {
-        return Ok(behind_quiet(line, now));
+        pass_quiet(line, now);
+        return Ok(());
     }
     let Some(bytes) = bytes_at(&scene.texts, line) else {
         return play_meant(
@@ -189,7 +182,16 @@ pub(crate) fn play_lines<K: Sink, H: Shelf>(
     let mut buffer = Vec::new(alloc);
     let mut now = start();
     'playing: for line in lines {
-        now = play_line(scene, names, sink, &mut buffer, shelf, alloc, line, &now)?;
+        play_line(
+            scene,
+            names,
+            sink,
+            &mut buffer,
+            shelf,
+            alloc,
+            line,
+            &mut now,
+        )?;
     }
     Ok(now)
 }

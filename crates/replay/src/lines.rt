@@ -1,5 +1,5 @@
 // An event is played, and its lines are written.
-ghost use Rattle.std.specs.Prelude.{◌≡◌, ◌⊎◌, ◌<◌, ◌≤◌, ◌+◌, ◌^◌, ℕ, length, option_map, slice_get, Err, IfOk, OnOk};
+ghost use Rattle.std.specs.Prelude.{◌≡◌, ◌⊎◌, ◌<◌, ◌≤◌, ◌+◌, ◌^◌, ℕ, length, option_map, slice_get, Err, OnOk};
 ghost use Rattle.x_base.specs.Edge.{Rose};
 ghost use Rattle.x_disk.specs.Shelf.{SlotsStay};
 ghost use Rattle.replay.specs.Acting.{Forges};
@@ -44,17 +44,17 @@ pub(crate) fn play_event<K: Sink, H: Shelf>(
     shelf: &mut H,
     alloc: Global,
     act: &Act<'_>,
-    now: &Progress,
-) -> Result<Progress, Ending>
+    now: &mut Progress,
+) -> Result<(), Ending>
     requires named { names.now.keys ≡ owners scene.old.seats.items }
     requires seated { AreOpen scene.old.seats.items }
     requires slots { AllSlots (H.has_slot shelf.old) (owners scene.old.seats.items) }
-    requires few { IsWithin now.now 65535 }
-    ensures event { IfOk result (λ after. PlaysEvent H.Disk.told (H.faults shelf.old) (H.faults shelf.new) act.now scene.old scene.new now.now after (K.written sink.old) (K.written sink.new)) }
-    ensures forged { (n : ℕ) → result ≡ Err (Ending.Forged n) → (n ≡ now.now.number) × (scene.new ≡ scene.old) × (K.written sink.new ≡ K.written sink.old) × Forges H.Disk.told act.now scene.old }
-    ensures broken { (why : Ending) → result ≡ Err why → ((n : ℕ) → why ≡ Ending.Forged n → ⊥) → BreaksEvent H.Disk.told (H.entry shelf.new) (H.faults shelf.old) (H.faults shelf.new) act.now scene.old scene.new now.now (K.written sink.old) (K.written sink.new) why }
+    requires few { IsWithin now.old 65535 }
+    ensures event { OnOk result (PlaysEvent H.Disk.told (H.faults shelf.old) (H.faults shelf.new) act.now scene.old scene.new now.old now.new (K.written sink.old) (K.written sink.new)) }
+    ensures forged { (n : ℕ) → result ≡ Err (Ending.Forged n) → (n ≡ now.old.number) × (scene.new ≡ scene.old) × (K.written sink.new ≡ K.written sink.old) × Forges H.Disk.told act.now scene.old }
+    ensures broken { (why : Ending) → result ≡ Err why → ((n : ℕ) → why ≡ Ending.Forged n → ⊥) → BreaksEvent H.Disk.told (H.entry shelf.new) (H.faults shelf.old) (H.faults shelf.new) act.now scene.old scene.new now.old (K.written sink.old) (K.written sink.new) why }
     ensures write { result ≡ Err Ending.Write → Rose (K.faults sink.old) (K.faults sink.new) }
-    ensures within { IfOk result (λ after. (n : ℕ) → IsWithin now.now n → IsWithin after (n + 1)) }
+    ensures within { OnOk result ((n : ℕ) → IsWithin now.old n → IsWithin now.new (n + 1)) }
     ensures fault { result ≡ Err (Ending.Failed Failure.Fault) → Rose (H.faults shelf.old) (H.faults shelf.new) ⊎ AnyFaulty H.Disk.told scene.new.seats.items }
     ensures seated { OnOk result (AreOpen scene.new.seats.items) }
     ensures owners { owners scene.new.seats.items ≡ owners scene.old.seats.items }
@@ -67,5 +67,6 @@ pub(crate) fn play_event<K: Sink, H: Shelf>(
     let outcome = play_act(scene, names, shelf, alloc, act, now)?;
     let text = text_behind(scene, texts);
     write_event(sink, buffer, now.number, outcome, texts as u64 + 1, text)?;
-    Ok(now.after(outcome, text.is_some()))
+    now.advance(outcome, text.is_some());
+    Ok(())
 }

@@ -37,12 +37,12 @@ pub struct Progress {
 }
 
 impl Progress {
-    /// Behind an event with this outcome, which wrote a text or none.
-    pub(crate) fn after(&self, outcome: Outcome, wrote: bool) -> Progress
-        requires few { IsWithin self.now 65535 }
-        ensures { result ≡ after_outcome self.now outcome wrote }
+    /// Past an event with this outcome, which wrote a text or none.
+    pub(crate) fn advance(&mut self, outcome: Outcome, wrote: bool)
+        requires few { IsWithin self.old 65535 }
+        ensures { self.new ≡ after_outcome self.old outcome wrote }
     {
-        let mut counts = self.counts;
+        let counts = &mut self.counts;
         match outcome {
             Outcome::Done => counts.done += 1,
             Outcome::Refused(_) => counts.refused += 1,
@@ -52,11 +52,7 @@ impl Progress {
         if wrote {
             counts.texts += 1;
         }
-        Progress {
-            moment: self.moment,
-            stop: None,
-            number: self.number + 1,
-            counts,
-        }
+        self.stop = None;
+        self.number += 1;
     }
 }

@@ -1,12 +1,12 @@
 use Rattle.replay.proofs.BreakingOff.{breaks_act_line}
 use Rattle.replay.proofs.Leading.{happens_in, plays_act_line}
-use Rattle.replay.proofs.Results.{if_ok}
+use Rattle.replay.proofs.Results.{on_ok}
 use Rattle.replay.proofs.course.play_meant.Goals as goal
 
 pub returns-clause-played : goal.returns-clause-played
 returns-clause-played g c =
-    if_ok c.play_event.result _ _
-    (λ after plays. plays_act_line g.H.Disk.Disk.told (g.H.Shelf.faults c.args.shelf.now) (g.H.Shelf.faults c.play_event.new.shelf) c.args.scene.now c.play_event.new.scene c.args.now.now after
+    on_ok c.play_event.result _ _
+    (λ plays. plays_act_line g.H.Disk.Disk.told (g.H.Shelf.faults c.args.shelf.now) (g.H.Shelf.faults c.play_event.new.shelf) c.args.scene.now c.play_event.new.scene c.args.now.now c.play_event.new.now
     (g.K.Sink.written c.args.sink.now) (g.K.Sink.written c.play_event.new.sink) c.args.line.now c.args.act.now (happens_in c.args.line.now c.args.act.now c.args.scene.now.texts c.requires.meant) plays)
     c.play_event.ensures.event
 
