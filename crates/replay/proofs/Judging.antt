@@ -1,5 +1,5 @@
 -- Whether what arrives is honest, by the facts as they are kept.
-use Rattle.std.proofs.Common.{arith, ◌≡◌, ◌↔◌, ℕ, ◌+◌, ◌<◌, Bool, true, false, not, ◌||◌, map, List, [], ◌∷◌, ◌++◌, length, get_or, take, drop, Option, Some, None, IfSome, refl, sym, ◌∙◌, ap, subst}
+use Rattle.std.proofs.Common.{arith, ◌≡◌, ◌↔◌, ℕ, ◌+◌, ◌<◌, Bool, true, false, not, ◌||◌, map, List, [], ◌∷◌, ◌++◌, length, get_or, take, drop, Option, Some, None, refl, sym, ◌∙◌, ap, subst}
 use Rattle.std.proofs.lemmas.List.{get_or_at, length-take-le}
 use Rattle.x_base.specs.declared.key_name.FullName.{FullName}
 use Rattle.x_disk.specs.Disk.{View}
@@ -43,11 +43,6 @@ led_there {D = D} seats place s node i lead lt read opened led =
     led (take place seats) s.own node (drop (place + 1) seats)
     (parted seats place s lt read ∙ ap (λ (h : Held D). take place seats ++ seat s.own h ∷ drop (place + 1) seats) opened)
     (length-take-le place seats (omega (arith, lt)))
-
--- what holds of something that may be there
-pub if_some_by : {A : Type 0} {P Q : A → Type 0} → ((a : A) → P a → Q a) → (o : Option A) → IfSome o P → IfSome o Q
-if_some_by f None h = tt
-if_some_by f (Some a) h = f a h
 
 -- what is judged by it
 pub judged_by : {D : Type 0} (seats : List (Seat D)) (place : ℕ) (facts : List NamedText) (i : Input) (lead : Option Lead) (honest : Bool) → IsLedAt seats place i lead → honest ≡ is_honest_led facts i lead

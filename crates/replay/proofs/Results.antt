@@ -1,5 +1,5 @@
--- What holds of an answer, made weaker.
-use Rattle.std.proofs.Common.{◌≡◌, Result, Ok, Err, IfOk, IfErr, OnOk, OnErr, subst}
+-- What holds of an answer, or of what may be there, made weaker.
+use Rattle.std.proofs.Common.{◌≡◌, Result, Ok, Err, IfOk, IfErr, OnOk, OnErr, Option, Some, None, IfSome, subst}
 use Rattle.std.specs.Result.{IsErrAnd}
 
 pub if_ok : {T E : Type 0} (r : Result T E) (P Q : T → Type 0) → ((x : T) → P x → Q x) → IfOk r P → IfOk r Q
@@ -13,6 +13,10 @@ on_ok (Err e) P Q more is = tt
 pub if_err : {T E : Type 0} (r : Result T E) (P Q : E → Type 0) → ((e : E) → P e → Q e) → IfErr r P → IfErr r Q
 if_err (Ok x) P Q more is = tt
 if_err (Err e) P Q more is = more e is
+
+pub if_some : {T : Type 0} (o : Option T) (P Q : T → Type 0) → ((x : T) → P x → Q x) → IfSome o P → IfSome o Q
+if_some (Some x) P Q more is = more x is
+if_some None P Q more is = tt
 
 -- an answer has one error
 pub one_err : {T E : Type 0} (r : Result T E) (d e : E) → r ≡ Err d → r ≡ Err e → d ≡ e

@@ -1,5 +1,5 @@
 // An event is carried out, and the disk taken out of what is left.
-ghost use Rattle.std.specs.Prelude.{◌≡◌, ◌≤◌};
+ghost use Rattle.std.specs.Prelude.{◌≤◌};
 ghost use Rattle.roles.specs.Deciding.{decision};
 ghost use Rattle.replay.specs.Carried.{IsCarried, IsFusedCarried};
 ghost use Rattle.replay.specs.Forging.{IsLed};

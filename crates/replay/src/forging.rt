@@ -32,7 +32,7 @@ pub(crate) fn is_honest_led(facts: &FactBook, input: Telling<'_>, lead: &Option<
 }
 
 /// The lead of what a party is told.
-pub(crate) fn lead_of<D: Disk>(node: &Node<D>, input: Telling<'_>) -> Option<Lead>
+fn lead_of<D: Disk>(node: &Node<D>, input: Telling<'_>) -> Option<Lead>
     ensures { IsLed node.now.party (input_of input.entry) result }
 {
     match input {

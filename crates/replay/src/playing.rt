@@ -1,5 +1,5 @@
 // A scenario is played over the disks of its parties on a shelf, and its transcript is written to a sink.
-ghost use Rattle.std.specs.Prelude.{◌≡◌, ◌⊎◌, ◌≤◌, ℕ, List, length, Contains, Err, IfOk, IfErr};
+ghost use Rattle.std.specs.Prelude.{◌≡◌, ◌⊎◌, ◌≤◌, ℕ, List, length, Contains, Err, IfOk};
 ghost use Rattle.x_base.specs.Edge.{Rose};
 ghost use Rattle.x_base.specs.declared.verdict.Verdict.{Verdict as TheVerdict};
 ghost use Rattle.x_disk.specs.Shelf.{IsAlike, SlotsStay};

@@ -1,5 +1,5 @@
 // The show lines of each party are written.
-ghost use Rattle.std.specs.Prelude.{◌≡◌, ◌≤◌, length, Err, IfErr, OnOk, OnErr};
+ghost use Rattle.std.specs.Prelude.{◌≡◌, ◌≤◌, Err, IfErr, OnOk, OnErr};
 ghost use Rattle.x_base.specs.Edge.{Rose, AppendsTo};
 ghost use Rattle.party_state.specs.Limits.{IsWithinLimits};
 ghost use Rattle.party_state.specs.Show.{shown};

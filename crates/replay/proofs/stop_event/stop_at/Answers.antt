@@ -11,7 +11,7 @@ use Rattle.replay.specs.Stops.{KeepsChange, member_next}
 use Rattle.replay.proofs.Breakage.{stop_loose, stop_out}
 use Rattle.replay.proofs.Losing.{shelf_reads, lost_reads}
 use Rattle.replay.proofs.PuttingBack.{others_stay}
-use Rattle.replay.proofs.Judging.{if_some_by}
+use Rattle.replay.proofs.Results.{if_some}
 use Rattle.replay.proofs.Cutting.{slot_at, lifted_owners, down_owners, down_faulty, stopped_at}
 use Rattle.replay.proofs.stop_event.stop_at.Goals as goal
 
@@ -19,7 +19,7 @@ why_is : (why : Failure) (r : Result Bool Failure) → r ≡ Err why → r ≡ E
 why_is why r as_ is = let both : Err why ≡ Err failure.Fault = sym as_ ∙ is in cc both
 
 pub begin-requires : goal.begin-requires
-begin-requires g c = let l = c.lift-node.ensures in if_some_by (λ i led. led l.front l.own c.lift-node.result l.back l.before l.size) c.args.input c.requires.led
+begin-requires g c = let l = c.lift-node.ensures in if_some c.args.input _ _ (λ i led. led l.front l.own c.lift-node.result l.back l.before l.size) c.requires.led
 
 pub exchange-requires : goal.exchange-requires
 exchange-requires g c = slot_at (g.H.Shelf.has_slot c.args.shelf.now) c.args.seats.now.items c.args.place c.args.own.now c.lift-node.new.seats.items c.lift-node.result c.requires.slots c.requires.placed c.lift-node.ensures
