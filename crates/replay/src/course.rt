@@ -45,8 +45,8 @@ fn start() -> Progress
     }
 }
 
-/// Past a line that is no event.
-fn pass_quiet(line: &Line, now: &mut Progress)
+/// Advances past a line that is no event.
+fn advance_quiet(line: &Line, now: &mut Progress)
     ensures { IsQuietNext line.now now.old now.new }
 {
     match line {
@@ -128,7 +128,7 @@ fn play_line<K: Sink, H: Shelf>(
         return play_meant(scene, names, sink, buffer, shelf, alloc, line, &act, now);
     }
     if !is_arrival(line) {
-        pass_quiet(line, now);
+        advance_quiet(line, now);
         return Ok(());
     }
     let Some(bytes) = bytes_at(&scene.texts, line) else {

@@ -37,7 +37,7 @@ pub struct Progress {
 }
 
 impl Progress {
-    /// Past an event with this outcome, which wrote a text or none.
+    /// Advances past an event with this outcome, which wrote a text or none.
     pub(crate) fn advance(&mut self, outcome: Outcome, wrote: bool)
         requires few { IsWithin self.old 65535 }
         ensures { self.new ≡ after_outcome self.old outcome wrote }

@@ -9,8 +9,8 @@ use Rattle.replay.proofs.course.play_line.Goals as goal
 
 pub returns-then-not-is_arrival-clause-played : goal.returns-then-not-is_arrival-clause-played
 returns-then-not-is_arrival-clause-played g c =
-    plays_quiet g.H.Disk.Disk.told (g.H.Shelf.faults c.args.shelf.now) (g.H.Shelf.faults c.args.shelf.now) c.args.scene.now c.args.now.now c.pass_quiet.new.now (g.K.Sink.written c.args.sink.now)
-    c.args.line.now (c.is_arrival.ensures.none c.if-not-is_arrival.true c.in_default.ensures.none) c.pass_quiet.ensures
+    plays_quiet g.H.Disk.Disk.told (g.H.Shelf.faults c.args.shelf.now) (g.H.Shelf.faults c.args.shelf.now) c.args.scene.now c.args.now.now c.advance_quiet.new.now (g.K.Sink.written c.args.sink.now)
+    c.args.line.now (c.is_arrival.ensures.none c.if-not-is_arrival.true c.in_default.ensures.none) c.advance_quiet.ensures
 
 pub play_meant-requires-in-Ok-clause-meant : goal.play_meant-requires-in-Ok-clause-meant
 play_meant-requires-in-Ok-clause-meant g c = c.act_of-act.ensures c.args.scene.now.texts c.in-Some-bytes_at.bytes.now
