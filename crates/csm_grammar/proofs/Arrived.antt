@@ -28,7 +28,7 @@ use Rattle.csm_grammar.specs.declared.arrival.Arrival.{Arrival}
 use Rattle.csm_grammar.specs.Spelling.{Says}
 use Rattle.csm_grammar.specs.Reading.{IsRead}
 use Rattle.csm_grammar.proofs.Lawful.{one_answer, read_says}
-use Rattle.csm_grammar.specs.Arrivals.{authenticated, IsArrived, AllArrived}
+use Rattle.csm_grammar.specs.Arrivals.{authenticated, AllArrived}
 use Rattle.csm_grammar.proofs.Allowed.{read_allows}
 use Rattle.csm_grammar.proofs.Typed.{said_typed}
 
@@ -87,20 +87,26 @@ new_code = code_by ((ℕ × ℕ) ⊎ ℕ) (coded⊎ (coded× coded_ℕ coded_ℕ
 abbrev DirectParts : Type 0
 DirectParts = Option Bytes × (Option (Bytes × NewKk) × (ℕ × ℕ))
 
-abbrev to_body : KsmBody → DirectParts ⊎ (Bytes × (ℕ × ℕ))
-to_body (body.Direct idk2 new kd ctp) = inl (idk2, (new, (kd, ctp)))
-to_body (body.Centre centre kdu ctb) = inr (centre, (kdu, ctb))
+abbrev TwinParts : Type 0
+TwinParts = Option Bytes × (ℕ × (ℕ × ℕ))
 
-abbrev from_body : DirectParts ⊎ (Bytes × (ℕ × ℕ)) → KsmBody
+abbrev to_body : KsmBody → DirectParts ⊎ (TwinParts ⊎ (Bytes × (ℕ × ℕ)))
+to_body (body.Direct idk2 new kd ctp) = inl (idk2, (new, (kd, ctp)))
+to_body (body.Twin idk2 first second ctp) = inr (inl (idk2, (first, (second, ctp))))
+to_body (body.Centre centre kdu ctb) = inr (inr (centre, (kdu, ctb)))
+
+abbrev from_body : DirectParts ⊎ (TwinParts ⊎ (Bytes × (ℕ × ℕ))) → KsmBody
 from_body (inl t) = body.Direct t.0 t.1.0 t.1.1.0 t.1.1.1
-from_body (inr t) = body.Centre t.0 t.1.0 t.1.1
+from_body (inr (inl t)) = body.Twin t.0 t.1.0 t.1.1.0 t.1.1.1
+from_body (inr (inr t)) = body.Centre t.0 t.1.0 t.1.1
 
 body_back : (b : KsmBody) → from_body (to_body b) ≡ b
 body_back (body.Direct idk2 new kd ctp) = refl
+body_back (body.Twin idk2 first second ctp) = refl
 body_back (body.Centre centre kdu ctb) = refl
 
 body_code : Coded KsmBody
-body_code = code_by (DirectParts ⊎ (Bytes × (ℕ × ℕ))) (coded⊎ (coded× (coded_option bytes) (coded× (coded_option (coded× bytes new_code)) (coded× coded_ℕ coded_ℕ))) (coded× bytes (coded× coded_ℕ coded_ℕ))) to_body from_body body_back
+body_code = code_by (DirectParts ⊎ (TwinParts ⊎ (Bytes × (ℕ × ℕ)))) (coded⊎ (coded× (coded_option bytes) (coded× (coded_option (coded× bytes new_code)) (coded× coded_ℕ coded_ℕ))) (coded⊎ (coded× (coded_option bytes) (coded× coded_ℕ (coded× coded_ℕ coded_ℕ))) (coded× bytes (coded× coded_ℕ coded_ℕ)))) to_body from_body body_back
 
 extras : Coded Extras
 extras = code_by (Option Bytes × (Option Bytes × Option Bytes)) (coded× (coded_option bytes) (coded× (coded_option bytes) (coded_option bytes))) (λ e. (e.iv, (e.edk, e.p))) (λ t. record { iv = t.0; edk = t.1.0; p = t.1.1 }) (λ e. refl)

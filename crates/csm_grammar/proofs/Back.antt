@@ -4,7 +4,7 @@ use Rattle.x_base.specs.declared.key_name.KeyName.{KeyName}
 use Rattle.csm_grammar.specs.declared.tag.Tag.{Tag}
 use Rattle.csm_grammar.specs.declared.tag.Tag.TheVariants.{Rcv, Org, Svr, Idu, Idc, Idd, Ida, Idk1, Idk2, DoubleKk, Kk, Kd, Kdu, Ctp, Cta, Ctb, Ctr, Erf, Iv, Edk, P}
 use Rattle.csm_grammar.specs.declared.form.Form.{Form}
-use Rattle.csm_grammar.specs.declared.form.Form.TheVariants.{F1, F2, F3, F4, F5, F6, F7, F8, F9, F10, F11, F12}
+use Rattle.csm_grammar.specs.declared.form.Form.TheVariants.{F1, F2, F3, F4, F5, F6, F7, F8, F9, F10, F11, F12, F13}
 use Rattle.csm_grammar.specs.declared.message.Message.{Message}
 use Rattle.csm_grammar.specs.declared.message.Message.TheVariants as message
 use Rattle.csm_grammar.specs.declared.message.KsmBody.{KsmBody}
@@ -18,7 +18,7 @@ use Rattle.csm_grammar.specs.Tags.{is_closing}
 use Rattle.csm_grammar.specs.Values.{Value, AText, AName, AService, ANumber, APair}
 use Rattle.csm_grammar.specs.Messages.{form_of, all_fields}
 use Rattle.csm_grammar.specs.Spelling.{values_for}
-use Rattle.csm_grammar.proofs.Standing.{rsi, rfs, rtr, rtr_with_key, ksm, ksm_double, ksm_single, ksm_centre, rsm, ers, esm, dsm}
+use Rattle.csm_grammar.proofs.Standing.{rsi, rfs, rtr, rtr_with_key, ksm, ksm_double, ksm_single, ksm_twin, ksm_centre, rsm, ers, esm, dsm}
 
 abbrev ◌>>=◌ : {A B : Type 0} → Option A → (A → Option B) → Option B
 ◌>>=◌ None f = None
@@ -35,6 +35,10 @@ name vs = None
 abbrev service : List Value → Option Service
 service (AService x ∷ vs) = Some x
 service vs = None
+
+abbrev numbers : List Value → Option (ℕ × ℕ)
+numbers (ANumber x ∷ ANumber y ∷ vs) = Some (x, y)
+numbers vs = None
 
 abbrev number : List Value → Option ℕ
 number (ANumber x ∷ vs) = Some x
@@ -96,6 +100,12 @@ message_by F7 g = do
   kd ← number (g Kd)
   ctp ← number (g Ctp)
   Some (ksm_single r o k1 (text (g Idk2)) kk kd ctp (text (g Iv)) (text (g Edk)) (text (g P)))
+message_by F13 g = do
+  r ← text (g Rcv)
+  o ← text (g Org)
+  kds ← numbers (g Kd)
+  ctp ← number (g Ctp)
+  Some (ksm_twin r o (text (g Idk2)) kds.0 kds.1 ctp (text (g Iv)) (text (g Edk)) (text (g P)))
 message_by F8 g = do
   r ← text (g Rcv)
   o ← text (g Org)
@@ -385,6 +395,41 @@ back_dsm r o idd None (shuts.Edc n) = refl
 back_dsm r o idd (Some ida) (shuts.Mac n) = refl
 back_dsm r o idd (Some ida) (shuts.Edc n) = refl
 
+back_ksm_twin : (r : List ℕ) (o : List ℕ) (k2 : Option (List ℕ)) (first : ℕ) (second : ℕ) (ctp : ℕ) (iv : Option (List ℕ)) (edk : Option (List ℕ)) (p : Option (List ℕ)) (shut : Shut) → message_by F13 (values_beside (ksm_twin r o k2 first second ctp iv edk p) shut) ≡ Some (ksm_twin r o k2 first second ctp iv edk p)
+unfolding message_by
+back_ksm_twin r o None first second ctp None None None (shuts.Mac n) = refl
+back_ksm_twin r o None first second ctp None None None (shuts.Edc n) = refl
+back_ksm_twin r o None first second ctp None None (Some p) (shuts.Mac n) = refl
+back_ksm_twin r o None first second ctp None None (Some p) (shuts.Edc n) = refl
+back_ksm_twin r o None first second ctp None (Some edk) None (shuts.Mac n) = refl
+back_ksm_twin r o None first second ctp None (Some edk) None (shuts.Edc n) = refl
+back_ksm_twin r o None first second ctp None (Some edk) (Some p) (shuts.Mac n) = refl
+back_ksm_twin r o None first second ctp None (Some edk) (Some p) (shuts.Edc n) = refl
+back_ksm_twin r o None first second ctp (Some iv) None None (shuts.Mac n) = refl
+back_ksm_twin r o None first second ctp (Some iv) None None (shuts.Edc n) = refl
+back_ksm_twin r o None first second ctp (Some iv) None (Some p) (shuts.Mac n) = refl
+back_ksm_twin r o None first second ctp (Some iv) None (Some p) (shuts.Edc n) = refl
+back_ksm_twin r o None first second ctp (Some iv) (Some edk) None (shuts.Mac n) = refl
+back_ksm_twin r o None first second ctp (Some iv) (Some edk) None (shuts.Edc n) = refl
+back_ksm_twin r o None first second ctp (Some iv) (Some edk) (Some p) (shuts.Mac n) = refl
+back_ksm_twin r o None first second ctp (Some iv) (Some edk) (Some p) (shuts.Edc n) = refl
+back_ksm_twin r o (Some k2) first second ctp None None None (shuts.Mac n) = refl
+back_ksm_twin r o (Some k2) first second ctp None None None (shuts.Edc n) = refl
+back_ksm_twin r o (Some k2) first second ctp None None (Some p) (shuts.Mac n) = refl
+back_ksm_twin r o (Some k2) first second ctp None None (Some p) (shuts.Edc n) = refl
+back_ksm_twin r o (Some k2) first second ctp None (Some edk) None (shuts.Mac n) = refl
+back_ksm_twin r o (Some k2) first second ctp None (Some edk) None (shuts.Edc n) = refl
+back_ksm_twin r o (Some k2) first second ctp None (Some edk) (Some p) (shuts.Mac n) = refl
+back_ksm_twin r o (Some k2) first second ctp None (Some edk) (Some p) (shuts.Edc n) = refl
+back_ksm_twin r o (Some k2) first second ctp (Some iv) None None (shuts.Mac n) = refl
+back_ksm_twin r o (Some k2) first second ctp (Some iv) None None (shuts.Edc n) = refl
+back_ksm_twin r o (Some k2) first second ctp (Some iv) None (Some p) (shuts.Mac n) = refl
+back_ksm_twin r o (Some k2) first second ctp (Some iv) None (Some p) (shuts.Edc n) = refl
+back_ksm_twin r o (Some k2) first second ctp (Some iv) (Some edk) None (shuts.Mac n) = refl
+back_ksm_twin r o (Some k2) first second ctp (Some iv) (Some edk) None (shuts.Edc n) = refl
+back_ksm_twin r o (Some k2) first second ctp (Some iv) (Some edk) (Some p) (shuts.Mac n) = refl
+back_ksm_twin r o (Some k2) first second ctp (Some iv) (Some edk) (Some p) (shuts.Edc n) = refl
+
 back_rtr_any : (r o u : List ℕ) (kd : Option (ℕ × ℕ)) (kdu ctb : ℕ) (iv edk p : Option (List ℕ)) (shut : Shut)
     → (let m : Message = message.Rtr (record { receiver = r; originator = o; ultimate = u; kd = kd; kdu = kdu; ctb = ctb; extras = record { iv = iv; edk = edk; p = p } }) in message_by (form_of m) (values_beside m shut) ≡ Some m)
 back_rtr_any r o u None kdu ctb iv edk p shut = back_rtr r o u kdu ctb iv edk p shut
@@ -397,6 +442,7 @@ back_ksm_any r o (body.Direct k2 (Some n) kd ctp) iv edk p shut = go n.0 n.1 whe
   go : (l : List ℕ) (k : NewKk) → (let m : Message = message.Ksm (record { receiver = r; originator = o; body = body.Direct k2 (Some (l, k)) kd ctp; extras = record { iv = iv; edk = edk; p = p } }) in message_by (form_of m) (values_beside m shut) ≡ Some m)
   go l (new_kk.Double x y) = back_ksm_double r o l k2 (x, y) kd ctp iv edk p shut
   go l (new_kk.Single x) = back_ksm_single r o l k2 x kd ctp iv edk p shut
+back_ksm_any r o (body.Twin k2 first second ctp) iv edk p shut = back_ksm_twin r o k2 first second ctp iv edk p shut
 back_ksm_any r o (body.Centre centre kdu ctb) iv edk p shut = back_ksm_centre r o centre kdu ctb iv edk p shut
 
 -- a message is that of its form and its values

@@ -1,33 +1,32 @@
 -- The form of fields without a fault, and the contents behind each tag.
 use Rattle.std.proofs.Common.{◌≡◌, ℕ, suc, ◌≤◌, Bool, true, false, cond, List, [], ◌∷◌, ◌++◌, map, Option, Some, None, refl, sym, ◌∙◌, ap, subst, arith}
-use Rattle.std.specs.Prelude.{◌&&◌, ◌||◌, not, is_none, is_some, option_map, option_to_list, bytes_eq}
+use Rattle.std.specs.Prelude.{◌&&◌, ◌||◌, is_none, is_some, option_map, option_to_list, bytes_eq}
 use Rattle.std.specs.List.{find, filter, list_any, list_all}
 use Rattle.std.specs.Cmp.Lexicographic.{bytes_decides}
-use Rattle.std.proofs.lemmas.Bool.{and_parts, and_from, or_parts, not-true, not-false, not_from_true, not_from_false, false≢true, both_ways, false_from_ne_true, true_from_ne_false}
+use Rattle.std.proofs.lemmas.Bool.{and_parts, and_from, or_left, or_parts, false≢true, both_ways, false_from_ne_true}
 use Rattle.std.proofs.lemmas.List.{nil_from_length}
-use Rattle.std.proofs.lemmas.List.Folds.{list_any-append}
 use Rattle.csm_grammar.specs.declared.tag.Tag.{Tag}
 use Rattle.csm_grammar.specs.declared.tag.Tag.TheVariants.{Mcl}
 use Rattle.csm_grammar.specs.declared.form.Form.{Form}
 use Rattle.csm_grammar.specs.declared.form.Need.{Need}
 use Rattle.csm_grammar.specs.declared.form.Need.TheVariants.{Required}
 use Rattle.csm_grammar.specs.Tags.{same_tag, has_tag, count_tag, is_closing}
-use Rattle.csm_grammar.specs.Classes.{forms, class_text, class_forms, required, need_of, allows}
+use Rattle.csm_grammar.specs.Classes.{forms, class_text, class_forms, required, need_of, times}
 use Rattle.csm_grammar.specs.Values.{Value, AText, kind_of, value_of}
 use Rattle.csm_grammar.specs.Spelling.{Field, tags_in, ComesAs, AreOfForm, values_in}
 use Rattle.csm_grammar.specs.Units.{Standing}
-use Rattle.csm_grammar.specs.Faults.{candidates, forms_left, absent, fields_from, unclosed_fault}
+use Rattle.csm_grammar.specs.Faults.{candidates, admits, forms_left, absent, fields_from, unclosed_fault}
 use Rattle.csm_grammar.specs.Judging.{contents_at, form_left}
-use Rattle.csm_grammar.proofs.TagLemmas.{find_passes, same_tags}
+use Rattle.csm_grammar.proofs.TagLemmas.{find_passes, same_tags, same_itself}
 use Rattle.csm_grammar.proofs.Passing.{AllPass}
-use Rattle.csm_grammar.proofs.Counting.{tags_append, count_fields, present_count, present_from_count, all_at, none_found, found_nowhere, of_form}
-use Rattle.csm_grammar.proofs.Closing.{passing_once, any_filtered, IsWholeForm, whole_form}
-use Rattle.csm_grammar.proofs.Slots.{count_values, unallowed_count}
+use Rattle.csm_grammar.proofs.Counting.{count_fields, present_count, complete_from, enough, admitted, admits_from, mcl_count, of_form}
+use Rattle.csm_grammar.proofs.Closing.{any_filtered, IsWholeForm, whole_form}
+use Rattle.csm_grammar.proofs.Slots.{count_values}
 use Rattle.csm_grammar.proofs.Making.{are_known, passing_known, OneCode}
 use Rattle.csm_grammar.proofs.Codes.{one_code}
 use Rattle.csm_grammar.proofs.Spelled.{faultless}
 use Rattle.csm_grammar.proofs.Found.{class_values}
-use Rattle.csm_grammar.proofs.Proper.{all_from, any_form, required_is_open}
+use Rattle.csm_grammar.proofs.Proper.{any_form, need_most}
 use Rattle.csm_grammar.proofs.Judging.{AtEnd, closed_faultless}
 
 found_all : {X : Type 0} (p q : X → Bool) (xs : List X) (x : X) → list_all q xs ≡ true → find p xs ≡ Some x → q x ≡ true
@@ -81,7 +80,7 @@ module _ (fs : List Field) (pass : AllPass [] fs) (w : IsWholeForm fs) where
   complete_test g = is_none (absent g (tags_in fs))
 
   allowed_test : Form → Bool
-  allowed_test g = list_all (allows g) (tags_in fs)
+  allowed_test g = admits g (tags_in fs)
 
   class_test : Form → Bool
   class_test g = bytes_eq (class_text g) w.first.contents
@@ -89,21 +88,21 @@ module _ (fs : List Field) (pass : AllPass [] fs) (w : IsWholeForm fs) where
   in_front : candidates fs ≡ class_forms w.first.contents
   in_front = ap candidates w.text
 
-  all_tags : (t : Tag) → has_tag t (tags_in fs) ≡ true → allows w.form t ≡ true
-  all_tags t h = true_from_ne_false (allows w.form t) (λ e. let z = unallowed_count w.form fs t w.tags e in let n = present_count t (tags_in fs) h in absurd (omega arith))
+  all_tags : (t : Tag) → count_tag t (tags_in fs) ≤ times w.form t
+  all_tags t = need_most (need_of w.form t) _ _ (w.tags t)
 
   own_complete : complete_test w.form ≡ true
   unfolding complete_test
-  own_complete = found_nowhere (λ t. not (has_tag t (tags_in fs))) (Mcl ∷ required w.form) (all_from (λ t. not (not (has_tag t (tags_in fs)))) (Mcl ∷ required w.form) there) where
-    there : (t : Tag) → has_tag t (Mcl ∷ required w.form) ≡ true → not (not (has_tag t (tags_in fs))) ≡ true
+  own_complete = complete_from w.form (tags_in fs) there where
+    there : (t : Tag) → has_tag t (Mcl ∷ required w.form) ≡ true → times w.form t ≤ count_tag t (tags_in fs)
     there t h =
         let n : need_of w.form t ≡ Required = rw h refl in
-        let one : count_tag t (tags_in fs) ≡ 1 = subst (λ (k : Need). ComesAs k (count_tag t (tags_in fs))) n (w.tags t) in
-        not_from_false _ (not_from_true _ (present_from_count t (tags_in fs) (omega arith)))
+        let all : count_tag t (tags_in fs) ≡ times w.form t = subst (λ (k : Need). ComesAs k (times w.form t) (count_tag t (tags_in fs))) n (w.tags t) in
+        omega (arith, all)
 
   own_test : (class_test w.form && (allowed_test w.form && complete_test w.form)) ≡ true
   unfolding class_test allowed_test
-  own_test = and_from _ _ ((bytes_decides (class_text w.form) w.first.contents).1 w.class) (and_from _ _ (all_from (allows w.form) (tags_in fs) all_tags) own_complete)
+  own_test = and_from _ _ ((bytes_decides (class_text w.form) w.first.contents).1 w.class) (and_from _ _ (admits_from w.form (tags_in fs) all_tags) own_complete)
 
   some_form : (g : Form) × (form_left fs ≡ Some g)
   unfolding class_test allowed_test complete_test
@@ -118,28 +117,9 @@ module _ (fs : List Field) (pass : AllPass [] fs) (w : IsWholeForm fs) where
   of_left g h =
       let complete = find_passes complete_test (forms_left fs (tags_in fs)) g h in
       let allowed = found_all complete_test allowed_test (forms_left fs (tags_in fs)) g (filter_all allowed_test (candidates fs)) h in
-      let tags : tags_in fs ≡ tags_in gs ++ w.code.tag ∷ [] = ap tags_in w.text ∙ tags_append gs (w.code ∷ []) in
-      let present : (t : Tag) → has_tag t (w.code.tag ∷ tags_in gs) ≡ true → has_tag t (tags_in fs) ≡ true =
-      λ t i. ap (has_tag t) tags ∙ list_any-append (λ s. same_tag s t) (tags_in gs) (w.code.tag ∷ []) ∙ turned (same_tag w.code.tag t) (has_tag t (tags_in gs)) i in
-      let a : list_all (allows g) (w.code.tag ∷ tags_in gs) ≡ true = all_from (allows g) (w.code.tag ∷ tags_in gs) (λ t i. all_at (allows g) (tags_in fs) t allowed (present t i)) in
-      let c : is_none (absent g (tags_in gs)) ≡ true =
-      found_nowhere (λ t. not (has_tag t (tags_in gs))) (Mcl ∷ required g) (all_from (λ t. not (not (has_tag t (tags_in gs)))) (Mcl ∷ required g)
-      (λ t i. not_from_false _ (not_from_true _ (before_code g t i (not-false _ (not-true _ (all_at (λ s. not (not (has_tag s (tags_in fs)))) (Mcl ∷ required g) t (none_found (λ s. not (has_tag s (tags_in fs))) (Mcl ∷ required g) complete) i))))))) in
-      subst (AreOfForm g) (sym w.text) (of_form g gs w.code (λ t. subst (λ (xs : List Field). count_tag t (tags_in xs) ≤ 1) w.text (passing_once t fs pass)) a c w.closes) where
-        turned : (x y : Bool) → (x || y) ≡ true → (y || (x || false)) ≡ true
-        turned true true i = refl
-        turned true false i = refl
-        turned false true i = refl
-        turned false false i = i
-
-        before_code : (g : Form) (t : Tag) → has_tag t (Mcl ∷ required g) ≡ true → has_tag t (tags_in fs) ≡ true → has_tag t (tags_in (w.first ∷ w.rest)) ≡ true
-        before_code g t i j =
-            let o = required_is_open g t i in
-            let other : same_tag w.code.tag t ≡ false = false_from_ne_true _ (λ e. both_ways (is_closing t) o (subst (λ (s : Tag). is_closing s ≡ true) (same_tags w.code.tag t e) w.closes)) in
-            let z : count_tag t (w.code.tag ∷ []) ≡ 0 = rw other refl in
-            let n = present_count t (tags_in fs) j in
-            let k = ap (λ (xs : List Field). count_tag t (tags_in xs)) w.text ∙ count_fields t (w.first ∷ w.rest) (w.code ∷ []) in
-            present_from_count t (tags_in (w.first ∷ w.rest)) (omega arith)
+      let counted = ap (λ (xs : List Field). count_tag w.code.tag (tags_in xs)) w.text ∙ count_fields w.code.tag gs (w.code ∷ []) in
+      let code = present_count w.code.tag (w.code.tag ∷ []) (or_left _ _ (same_itself w.code.tag)) in
+      of_form g fs w.code.tag (admitted g (tags_in fs) allowed) (enough g (tags_in fs) complete) w.closes (omega (arith, counted, code))
 
   left_class : (g : Form) → form_left fs ≡ Some g → class_text g ≡ w.first.contents
   unfolding class_test allowed_test complete_test
@@ -154,7 +134,7 @@ module _ (fs : List Field) (pass : AllPass [] fs) (w : IsWholeForm fs) where
       let k = passing_known [] fs pass in
       let tags = of_left g.0 g.1 in
       let t : fs ≡ w.first ∷ (w.rest ++ w.code ∷ []) = w.text in
-      let c = class_values g.0 w.first (w.rest ++ w.code ∷ []) w.class_first (left_class g.0 g.1) (subst (λ (xs : List Field). count_tag Mcl (tags_in xs) ≡ 1) t (tags Mcl)) (subst (λ (xs : List Field). are_known xs ≡ true) t k) in
+      let c = class_values g.0 w.first (w.rest ++ w.code ∷ []) w.class_first (left_class g.0 g.1) (subst (λ (xs : List Field). count_tag Mcl (tags_in xs) ≡ 1) t (mcl_count g.0 fs tags)) (subst (λ (xs : List Field). are_known xs ≡ true) t k) in
       record { form = g.0; left = g.1; tags = tags; known = k; class = ap (values_in Mcl) t ∙ c; code = subst OneCode (sym w.text) (one_code gs w.code w.closes w.unclosed) }
 
 -- at `)` without a fault one form is left, and the fields have its tags

@@ -1,7 +1,7 @@
 -- Fields that pass up to a code are those of a form.
-use Rattle.std.proofs.Common.{◌≡◌, ◌+◌, ◌≤◌, Bool, true, false, cond, List, [], ◌∷◌, ◌++◌, length, None, refl, sym, ◌∙◌, ap, subst, append_assoc, arith}
+use Rattle.std.proofs.Common.{◌≡◌, ◌+◌, Bool, true, false, cond, List, [], ◌∷◌, ◌++◌, length, None, refl, sym, ◌∙◌, ap, subst, append_assoc, arith}
 use Rattle.std.specs.Prelude.{◌==◌, ◌&&◌, ◌||◌, is_none, bytes_eq}
-use Rattle.std.specs.List.{list_any, list_all, filter}
+use Rattle.std.specs.List.{list_any, filter}
 use Rattle.std.specs.Cmp.Lexicographic.{bytes_decides}
 use Rattle.std.proofs.lemmas.List.{append-nil}
 use Rattle.std.proofs.lemmas.Bool.{and_parts, or_parts, or_left, or_right, not-false, true≢false, both_ways}
@@ -9,36 +9,14 @@ use Rattle.std.proofs.lemmas.List.Folds.{list_any-append}
 use Rattle.csm_grammar.specs.declared.tag.Tag.{Tag}
 use Rattle.csm_grammar.specs.declared.tag.Tag.TheVariants.{Mcl}
 use Rattle.csm_grammar.specs.declared.form.Form.{Form}
-use Rattle.csm_grammar.specs.Tags.{same_tag, has_tag, count_tag, is_closing}
+use Rattle.csm_grammar.specs.Tags.{count_tag, is_closing}
 use Rattle.csm_grammar.specs.Classes.{forms, class_text, class_forms, allows}
 use Rattle.csm_grammar.specs.Spelling.{Field, tags_in, AreOfForm}
-use Rattle.csm_grammar.specs.Faults.{forms_left, absent, lacking}
-use Rattle.csm_grammar.proofs.TagLemmas.{same_tags}
+use Rattle.csm_grammar.specs.Faults.{admits, forms_left, absent, lacking}
+use Rattle.csm_grammar.proofs.TagLemmas.{same_tags, same_itself}
 use Rattle.csm_grammar.proofs.Passing.{Passes, AllPass}
 use Rattle.csm_grammar.proofs.ContentsLemmas.{any_has}
-use Rattle.csm_grammar.proofs.Counting.{tags_append, count_fields, absent_count, of_form}
-
-once_more : (t : Tag) (before : List Field) (f : Field) → Passes before f → count_tag t (tags_in before) ≤ 1 → count_tag t (tags_in (before ++ f ∷ [])) ≤ 1
-once_more t before f p h = go (same_tag f.tag t) refl where
-  counted : count_tag t (tags_in (before ++ f ∷ [])) ≡ count_tag t (tags_in before) + count_tag t (f.tag ∷ [])
-  counted = count_fields t before (f ∷ [])
-
-  go : (b : Bool) → same_tag f.tag t ≡ b → count_tag t (tags_in (before ++ f ∷ [])) ≤ 1
-  go true e =
-      let z : count_tag t (tags_in before) ≡ 0 = absent_count t (tags_in before) (subst (λ (s : Tag). has_tag s (tags_in before) ≡ false) (same_tags f.tag t e) p.once) in
-      let n : count_tag t (f.tag ∷ []) ≡ 1 = rw e refl in
-      omega (arith, counted)
-  go false e =
-      let n : count_tag t (f.tag ∷ []) ≡ 0 = rw e refl in
-      omega (arith, counted)
-
-once_all : (t : Tag) (before fs : List Field) → AllPass before fs → count_tag t (tags_in before) ≤ 1 → count_tag t (tags_in (before ++ fs)) ≤ 1
-once_all t before [] h i = subst (λ (xs : List Field). count_tag t (tags_in xs) ≤ 1) (sym (append-nil before)) i
-once_all t before (f ∷ fs) h i =
-    subst (λ (xs : List Field). count_tag t (tags_in xs) ≤ 1) (append_assoc before (f ∷ []) fs) (once_all t (before ++ f ∷ []) fs h.1 (once_more t before f h.0 i))
-
-pub passing_once : (t : Tag) (fs : List Field) → AllPass [] fs → count_tag t (tags_in fs) ≤ 1
-passing_once t fs h = once_all t [] fs h (omega arith)
+use Rattle.csm_grammar.proofs.Counting.{tags_append, count_append, count_fields, present_count, enough, admitted, admits_allows, of_form}
 
 -- a code among fields that pass is the last of them
 pub record Closed (before fs : List Field) : Type 0 where
@@ -91,7 +69,7 @@ pub record HasForm (gs : List Field) (c : Field) : Type 0 where
   pub rest : List Field
   pub begins : gs ≡ first ∷ rest
   pub class : class_text form ≡ first.contents
-  pub allowed : list_all (allows form) (c.tag ∷ tags_in gs) ≡ true
+  pub allowed : admits form (c.tag ∷ tags_in gs) ≡ true
   pub complete : is_none (absent form (tags_in gs)) ≡ true
 
 pub has_form : (gs : List Field) (c : Field) → Passes gs c → is_closing c.tag ≡ true → HasForm gs c
@@ -100,7 +78,7 @@ has_form [] c p h = absurd (both_ways _ closes (subst (λ (t : Tag). is_closing 
   closes = refl
 has_form (f ∷ fs) c p h =
     let gs = f ∷ fs in
-    let allowed : Form → Bool = λ g. list_all (allows g) (c.tag ∷ tags_in gs) in
+    let allowed : Form → Bool = λ g. admits g (c.tag ∷ tags_in gs) in
     let complete : Form → Bool = λ g. is_none (absent g (tags_in gs)) in
     let class : Form → Bool = λ g. bytes_eq (class_text g) f.contents in
     let a = not_lacking (forms_left gs (c.tag ∷ tags_in gs)) (tags_in gs) (p.complete h) p.left in
@@ -125,6 +103,16 @@ pub record IsWholeForm (fs : List Field) : Type 0 where
   pub allowed : allows form code.tag ≡ true
   pub tags : AreOfForm form fs
 
+-- fields before a code, and the code, have the tags of a form that has them all and misses none
+closed_form : (g : Form) (gs : List Field) (c : Field) → admits g (c.tag ∷ tags_in gs) ≡ true → is_none (absent g (tags_in gs)) ≡ true → is_closing c.tag ≡ true → AreOfForm g (gs ++ c ∷ [])
+closed_form g gs c a n closes =
+    let counted : (t : Tag) → count_tag t (tags_in (gs ++ c ∷ [])) ≡ count_tag t (tags_in gs) + count_tag t (c.tag ∷ []) = λ t. count_fields t gs (c ∷ []) in
+    of_form g (gs ++ c ∷ []) c.tag
+    (λ t. let m = admitted g (c.tag ∷ tags_in gs) a t in let k = counted t in let d = count_append t (c.tag ∷ []) (tags_in gs) in omega (arith, m, k, d))
+    (λ t r. let m = enough g (tags_in gs) n t r in let k = counted t in omega (arith, m, k))
+    closes
+    (let k = counted c.tag in let d = present_count c.tag (c.tag ∷ []) (or_left _ _ (same_itself c.tag)) in omega (arith, k, d))
+
 first_is_class : (f : Field) (fs : List Field) → AllPass [] (f ∷ fs) → f.tag ≡ Mcl
 first_is_class f fs h = same_tags f.tag Mcl (not-false _ h.0.first)
 
@@ -143,6 +131,6 @@ whole_form fs h c =
       class = g.class;
       closes = k.closes;
       unclosed = subst (λ (xs : List Field). list_any is_closing (tags_in xs) ≡ false) g.begins k.passes.unclosed;
-      allowed = (and_parts _ _ g.allowed).0;
-      tags = subst (AreOfForm g.form) (sym k.text) (of_form g.form k.others k.code (λ t. subst (λ (xs : List Field). count_tag t (tags_in xs) ≤ 1) k.text (passing_once t fs h)) g.allowed g.complete k.closes);
+      allowed = admits_allows g.form k.code.tag (tags_in k.others) g.allowed;
+      tags = subst (AreOfForm g.form) (sym k.text) (closed_form g.form k.others k.code g.allowed g.complete k.closes);
     }

@@ -55,6 +55,7 @@ open_new (Some n) = go n.1 where
 
 open_body : (b : KsmBody) → IsOpen (body_fields b)
 open_body (body.Direct idk2 new kd ctp) = open_append (open_if Idk1 (λ n. AText n.0) new refl) (open_append (open_if Idk2 AText idk2 refl) (open_append (open_new new) (record { open_is = refl })))
+open_body (body.Twin idk2 first second ctp) = open_append (open_if Idk2 AText idk2 refl) (record { open_is = refl })
 open_body (body.Centre centre kdu ctb) = record { open_is = refl }
 
 pub fields_open : (m : Message) → IsOpen (fields_of m)

@@ -1,20 +1,20 @@
 -- How often a tag comes, and what the class table says of all forms and tags.
-use Rattle.std.proofs.Common.{◌≡◌, suc, ◌+◌, ◌≤◌, Bool, true, false, cond, List, [], ◌∷◌, ◌++◌, length, Some, refl, sym, ◌∙◌, ap, subst, arith, inl, inr, length-append}
+use Rattle.std.proofs.Common.{◌≡◌, suc, ◌+◌, ◌≤◌, ◌<◌, Bool, true, false, cond, List, [], ◌∷◌, ◌++◌, length, Some, refl, sym, ◌∙◌, ap, subst, arith, inl, inr, length-append}
 use Rattle.std.proofs.lemmas.List.{map-append}
-use Rattle.std.specs.Prelude.{◌&&◌, ◌||◌, not, is_none, ◌⊎◌}
+use Rattle.std.specs.Prelude.{◌==◌, ◌&&◌, ◌||◌, not, nat_le, nat_lt, is_none, ◌⊎◌}
 use Rattle.std.specs.List.{list_all, find}
-use Rattle.std.proofs.lemmas.Bool.{and_parts, or_parts, or_cases, not-true, not-false, true≢false, false≢true, both_ways}
+use Rattle.std.proofs.lemmas.Bool.{and_parts, and_from, or_parts, or_cases, or_left, or_right, not-true, not-false, not_from_true, not_from_false, true≢false, false≢true, both_ways, eqb-true, leb-true, leb-false, le-leb, ltb-true, ltb-false, lt-ltb, le-ltb}
 use Rattle.std.proofs.lemmas.List.Elements.{filter-append}
 use Rattle.csm_grammar.specs.declared.tag.Tag.{Tag}
-use Rattle.csm_grammar.specs.declared.tag.Tag.TheVariants.{Mcl, Mac, Edc}
+use Rattle.csm_grammar.specs.declared.tag.Tag.TheVariants.{Mcl, Kd, Mac, Edc}
 use Rattle.csm_grammar.specs.declared.form.Form.{Form}
 use Rattle.csm_grammar.specs.declared.form.Need.{Need}
 use Rattle.csm_grammar.specs.declared.form.Need.TheVariants.{Required, Optional, Refused}
 use Rattle.csm_grammar.specs.Tags.{tags, same_tag, has_tag, count_tag, is_closing}
-use Rattle.csm_grammar.specs.Classes.{forms, required, need_of, allows}
+use Rattle.csm_grammar.specs.Classes.{forms, required, optional, closing, need_of, allows, times}
 use Rattle.csm_grammar.specs.Spelling.{Field, tags_in, ComesAs, AreOfForm}
-use Rattle.csm_grammar.specs.Faults.{absent}
-use Rattle.csm_grammar.proofs.TagLemmas.{each_tag, each_form, same_tags}
+use Rattle.csm_grammar.specs.Faults.{admits, is_absent, absent}
+use Rattle.csm_grammar.proofs.TagLemmas.{each_tag, each_form, same_tags, same_itself}
 
 pub tags_append : (xs ys : List Field) → tags_in (xs ++ ys) ≡ tags_in xs ++ tags_in ys
 tags_append xs ys = map-append (λ f. f.tag) xs ys
@@ -124,40 +124,127 @@ closing_is g c t h a i = go (or_cases _ _ (all_at (λ s. not (allows g s) || sam
   go (inl j) = absurd (both_ways (allows g c) (not-true _ j) a)
   go (inr j) = j
 
--- fields that come at most once each, that the form allows, and of which none that it requires is
--- absent, have the tags of the form
-pub of_form : (g : Form) (gs : List Field) (c : Field) → ((t : Tag) → count_tag t (tags_in (gs ++ c ∷ [])) ≤ 1) → list_all (allows g) (c.tag ∷ tags_in gs) ≡ true → is_none (absent g (tags_in gs)) ≡ true → is_closing c.tag ≡ true
-    → AreOfForm g (gs ++ c ∷ [])
-of_form g gs c once allowed complete closes t = go (need_of g t) refl where
+-- how often a form has a tag
+
+pub times_few : (g : Form) (t : Tag) → times g t ≤ 2
+times_few g t = leb-true (times g t) 2 (each (λ f s. nat_le (times f s) 2) refl g t)
+
+pub refused_never : (g : Form) (t : Tag) → need_of g t ≡ Refused → times g t ≡ 0
+refused_never g t h = absent_count t (Mcl ∷ (required g ++ (optional g ++ closing g))) (refused_from g t h)
+
+implied : (a b : Bool) → (not a || b) ≡ true → a ≡ true → b ≡ true
+implied true b h e = h
+implied false b h e = absurd (false≢true e)
+
+-- a form has each tag that it requires
+pub required_times : (g : Form) (t : Tag) → has_tag t (Mcl ∷ required g) ≡ true → 1 ≤ times g t
+required_times g t h = leb-true 1 (times g t) (implied _ _ (each (λ f s. not (has_tag s (Mcl ∷ required f)) || nat_le 1 (times f s)) refl g t) h)
+
+-- only KD comes twice
+pub twice_kd : (g : Form) (t : Tag) → nat_le 2 (times g t) ≡ true → same_tag t Kd ≡ true
+twice_kd g t h = implied _ _ (each (λ f s. not (nat_le 2 (times f s)) || same_tag s Kd) refl g t) h
+
+pub twice_required : (g : Form) (t : Tag) → nat_le 2 (times g t) ≡ true → has_tag t (Mcl ∷ required g) ≡ true
+twice_required g t h = implied _ _ (each (λ f s. not (nat_le 2 (times f s)) || has_tag s (Mcl ∷ required f)) refl g t) h
+
+-- no form has a code twice
+pub code_once : (g : Form) (t : Tag) → is_closing t ≡ true → times g t ≤ 1
+code_once g t h = leb-true (times g t) 1 (implied _ _ (each (λ f s. not (is_closing s) || nat_le (times f s) 1) refl g t) h)
+
+pub mcl_once : (g : Form) → times g Mcl ≡ 1
+mcl_once g = eqb-true (times g Mcl) 1 (each_form (λ f. times f Mcl == 1) refl g)
+
+-- a required tag that is not absent comes as often as the form has it
+not_absent : (g : Form) (t : Tag) (ts : List Tag) → is_absent g ts t ≡ false → times g t ≤ count_tag t ts
+not_absent g t ts h = go (nat_le 2 (times g t)) refl h where
+  go : (b : Bool) → nat_le 2 (times g t) ≡ b → cond b (nat_lt (count_tag t ts) 2) (not (has_tag t ts)) ≡ false → times g t ≤ count_tag t ts
+  go true e i = let few = times_few g t in let c = ltb-false (count_tag t ts) 2 i in omega (arith, few, c)
+  go false e i = let n = leb-false 2 (times g t) e in let c = present_count t ts (not-false _ i) in omega (arith, n, c)
+
+comes_enough : (g : Form) (t : Tag) (ts : List Tag) → has_tag t (Mcl ∷ required g) ≡ true → times g t ≤ count_tag t ts → is_absent g ts t ≡ false
+comes_enough g t ts h k = go (nat_le 2 (times g t)) refl where
+  go : (b : Bool) → nat_le 2 (times g t) ≡ b → cond b (nat_lt (count_tag t ts) 2) (not (has_tag t ts)) ≡ false
+  go true e = let n = leb-true 2 (times g t) e in le-ltb (count_tag t ts) 2 (omega (arith, n, k))
+  go false e = let n = required_times g t h in not_from_true _ (present_from_count t ts (omega (arith, n, k)))
+
+-- a test that each tag of a list passes
+pub all_from : (p : Tag → Bool) (ts : List Tag) → ((t : Tag) → has_tag t ts ≡ true → p t ≡ true) → list_all p ts ≡ true
+all_from p [] h = refl
+all_from p (s ∷ ts) h = and_from _ _ (h s (or_left _ _ (same_itself s))) (all_from p ts (λ t i. h t (or_right _ _ i)))
+
+-- where none is absent, each required tag comes as often as the form has it
+pub enough : (g : Form) (ts : List Tag) → is_none (absent g ts) ≡ true → (t : Tag) → has_tag t (Mcl ∷ required g) ≡ true → times g t ≤ count_tag t ts
+enough g ts h t r = not_absent g t ts (not-true _ (all_at (λ s. not (is_absent g ts s)) (Mcl ∷ required g) t (none_found (is_absent g ts) (Mcl ∷ required g) h) r))
+
+pub complete_from : (g : Form) (ts : List Tag) → ((t : Tag) → has_tag t (Mcl ∷ required g) ≡ true → times g t ≤ count_tag t ts) → is_none (absent g ts) ≡ true
+complete_from g ts h = found_nowhere (is_absent g ts) (Mcl ∷ required g) (all_from (λ t. not (is_absent g ts t)) (Mcl ∷ required g) (λ t r. not_from_false _ (comes_enough g t ts r (h t r))))
+
+-- a form has the tags, each as often as it comes
+pub admitted : (g : Form) (ts : List Tag) → admits g ts ≡ true → (t : Tag) → count_tag t ts ≤ times g t
+admitted g ts h t = leb-true (count_tag t ts) (times g t) (each_tag (λ s. nat_le (count_tag s ts) (times g s)) h t)
+
+pub admits_from : (g : Form) (ts : List Tag) → ((t : Tag) → count_tag t ts ≤ times g t) → admits g ts ≡ true
+admits_from g ts h = all_from (λ t. nat_le (count_tag t ts) (times g t)) tags (λ t i. le-leb (count_tag t ts) (times g t) (h t))
+
+pub admits_allows : (g : Form) (t : Tag) (ts : List Tag) → admits g (t ∷ ts) ≡ true → allows g t ≡ true
+admits_allows g t ts h =
+    let n = admitted g (t ∷ ts) h t in
+    let k = present_count t (t ∷ ts) (or_left _ _ (same_itself t)) in
+    present_from_count t (Mcl ∷ (required g ++ (optional g ++ closing g))) (omega (arith, n, k))
+
+either_way : (a b : Bool) → (a ≡ true → b ≡ true) → (b ≡ true → a ≡ true) → a ≡ b
+either_way true true h k = refl
+either_way true false h k = sym (h refl)
+either_way false true h k = k refl
+either_way false false h k = refl
+
+-- one tag more
+pub admits_more : (g : Form) (t : Tag) (ts : List Tag) → admits g (t ∷ ts) ≡ (admits g ts && nat_lt (count_tag t ts) (times g t))
+admits_more g t ts = either_way _ _ apart (λ h. let k = and_parts (admits g ts) _ h in joined k.0 (ltb-true (count_tag t ts) (times g t) k.1)) where
+  apart : admits g (t ∷ ts) ≡ true → (admits g ts && nat_lt (count_tag t ts) (times g t)) ≡ true
+  apart h =
+      let all = admitted g (t ∷ ts) h in
+      let here = count_here t t ts (same_itself t) in
+      let k = all t in
+      and_from _ _ (admits_from g ts (λ s. let c = count_append s (t ∷ []) ts in let n = all s in omega (arith, c, n))) (lt-ltb (count_tag t ts) (times g t) (omega (arith, here, k)))
+
+  joined : admits g ts ≡ true → count_tag t ts < times g t → admits g (t ∷ ts) ≡ true
+  joined h k = admits_from g (t ∷ ts) (λ s. one s (same_tag t s) refl) where
+    one : (s : Tag) (b : Bool) → same_tag t s ≡ b → count_tag s (t ∷ ts) ≤ times g s
+    one s true e = let i = same_tags t s e in subst (λ (u : Tag). count_tag u (t ∷ ts) ≤ times g u) i (let here = count_here t t ts (same_itself t) in omega (arith, here, k))
+    one s false e = let n = admitted g ts h s in let c = count_other s t ts e in omega (arith, n, c)
+
+-- the order of tags makes no difference
+pub admits_turned : (g : Form) (t : Tag) (ts : List Tag) → admits g (ts ++ t ∷ []) ≡ admits g (t ∷ ts)
+admits_turned g t ts = either_way _ _ (λ h. admits_from g (t ∷ ts) (λ s. let n = admitted g (ts ++ t ∷ []) h s in let c = count_append s ts (t ∷ []) in let d = count_append s (t ∷ []) ts in omega (arith, n, c, d)))
+    (λ h. admits_from g (ts ++ t ∷ []) (λ s. let n = admitted g (t ∷ ts) h s in let c = count_append s ts (t ∷ []) in let d = count_append s (t ∷ []) ts in omega (arith, n, c, d)))
+
+pub mcl_count : (g : Form) (fs : List Field) → AreOfForm g fs → count_tag Mcl (tags_in fs) ≡ 1
+mcl_count g fs h = let n : count_tag Mcl (tags_in fs) ≡ times g Mcl = h Mcl in n ∙ mcl_once g
+
+-- fields of which the form has each as often as it comes, of which no required one comes too seldom, and
+-- with a code among them, have the tags of the form
+pub of_form : (g : Form) (fs : List Field) (c : Tag) → ((t : Tag) → count_tag t (tags_in fs) ≤ times g t) → ((t : Tag) → has_tag t (Mcl ∷ required g) ≡ true → times g t ≤ count_tag t (tags_in fs)) → is_closing c ≡ true → 1 ≤ count_tag c (tags_in fs)
+    → AreOfForm g fs
+of_form g fs c most all closes here t = go (need_of g t) refl where
   ts : List Tag
-  ts = tags_in (gs ++ c ∷ [])
+  ts = tags_in fs
 
-  counted : count_tag t ts ≡ count_tag t (tags_in gs) + count_tag t (c.tag ∷ [])
-  counted = count_fields t gs (c ∷ [])
+  last : same_tag c t ≡ true → count_tag t ts ≡ times g t
+  last h =
+      let i = same_tags c t h in
+      let n = code_once g t (subst (λ (s : Tag). is_closing s ≡ true) i closes) in
+      let k : 1 ≤ count_tag t ts = subst (λ (s : Tag). 1 ≤ count_tag s ts) i here in
+      let m = most t in
+      omega (arith, n, k, m)
 
-  refused : has_tag t (c.tag ∷ tags_in gs) ≡ false → count_tag t ts ≡ 0
-  refused h =
-      let k = or_parts (same_tag c.tag t) (has_tag t (tags_in gs)) h in
-      counted ∙ (λ i. absent_count t (tags_in gs) k.1 i + count_other t c.tag [] k.0 i)
+  allowed : allows g c ≡ true
+  allowed = let m = most c in present_from_count c (Mcl ∷ (required g ++ (optional g ++ closing g))) (omega (arith, m, here))
 
-  one : 1 ≤ count_tag t ts → count_tag t ts ≡ 1
-  one h = let k = once t in omega arith
-
-  inside : has_tag t (Mcl ∷ required g) ≡ true → 1 ≤ count_tag t ts
-  inside h =
-      let k = present_count t (tags_in gs) (not-false _ (not-true _ (all_at (λ s. not (not (has_tag s (tags_in gs)))) (Mcl ∷ required g) t (none_found (λ s. not (has_tag s (tags_in gs))) (Mcl ∷ required g) complete) h))) in
-      omega (arith, counted)
-
-  last : same_tag c.tag t ≡ true → 1 ≤ count_tag t ts
-  last h = let k = count_here t c.tag [] h in omega (arith, counted)
-
-  go : (n : Need) → need_of g t ≡ n → ComesAs n (count_tag t ts)
-  go Optional e = once t
-  go Refused e = refused (none_allowed (has_tag t (c.tag ∷ tags_in gs)) refl) where
-    none_allowed : (b : Bool) → has_tag t (c.tag ∷ tags_in gs) ≡ b → b ≡ false
-    none_allowed false h = refl
-    none_allowed true h = absurd (both_ways (allows g t) (refused_from g t e) (all_at (allows g) (c.tag ∷ tags_in gs) t allowed h))
-  go Required e = one (needed (required_from g t e)) where
-    needed : (has_tag t (Mcl ∷ required g) ≡ true) ⊎ (list_all (λ s. not (allows g s) || same_tag s t) (Mac ∷ Edc ∷ []) ≡ true) → 1 ≤ count_tag t ts
-    needed (inl h) = inside h
-    needed (inr h) = last (closing_is g c.tag t closes (and_parts _ _ allowed).0 h)
+  go : (n : Need) → need_of g t ≡ n → ComesAs n (times g t) (count_tag t ts)
+  go Optional e = most t
+  go Refused e = let z = refused_never g t e in let m = most t in omega (arith, z, m)
+  go Required e = needed (required_from g t e) where
+    needed : (has_tag t (Mcl ∷ required g) ≡ true) ⊎ (list_all (λ s. not (allows g s) || same_tag s t) (Mac ∷ Edc ∷ []) ≡ true) → count_tag t ts ≡ times g t
+    needed (inl h) = let a = all t h in let m = most t in omega (arith, a, m)
+    needed (inr h) = last (closing_is g c t closes allowed h)

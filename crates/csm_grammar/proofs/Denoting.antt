@@ -1,5 +1,5 @@
 -- What is kept of contents is what they stand for.
-use Rattle.std.proofs.Common.{◌≡◌, ◌≢◌, ℕ, ◌<◌, ◌^◌, Bool, true, false, List, length, set, replicate, Option, Some, None, refl, sym, ◌∙◌, ap, subst, arith, inl, inr, get_or-set_other, get_or-set_same, length-set}
+use Rattle.std.proofs.Common.{◌≡◌, ◌≢◌, ℕ, ◌<◌, Bool, true, false, List, length, set, replicate, Option, Some, None, refl, sym, ◌∙◌, ap, subst, arith, inl, inr, get_or-set_other, get_or-set_same, length-set}
 use Rattle.std.specs.Prelude.{not, ◌||◌, option_map, option_and_then, is_some, IsSome, slice_index_or, if◌then◌else◌}
 use Rattle.std.specs.Option.{SomeIff}
 use Rattle.std.specs.Borrow.{Bor}
@@ -10,9 +10,9 @@ use Rattle.csm_grammar.specs.Tags.{tag_place, same_tag}
 use Rattle.csm_grammar.specs.Values.{Value, AText, AName, AService, ANumber, APair, Kind, OfClass, OfIdent, OfService, OfName, OfLabel, OfPair, OfKey, OfCount, OfReason, OfText, OfCode, Unsupported, kind_of, value_of}
 use Rattle.csm_grammar.specs.Kinds.{IsOfKind}
 use Rattle.csm_grammar.specs.declared.tag.Tag.TheVariants.{Iv, Edk, P}
-use Rattle.csm_grammar.specs.Slotting.{slot_in, came}
+use Rattle.csm_grammar.specs.Slotting.{slot_in, second_in, came}
 use Rattle.csm_grammar.specs.Building.{AreExtras}
-use Rattle.csm_grammar.specs.Denoting.{is_number, StandsFor, IsDenoted, value_at, AreDenoted}
+use Rattle.csm_grammar.specs.Denoting.{is_number, StandsFor, IsDenoted, value_at, second_value, AreDenoted}
 use Rattle.csm_grammar.proofs.TagLemmas.{each_tag, tag_small, same_tags}
 use Rattle.csm_grammar.proofs.SlotLemmas.{slot_set}
 use Rattle.csm_grammar.proofs.Typed.{kind_value, OfKindIfAny}
@@ -66,8 +66,8 @@ count_same (Some y) n x h e = (let same : x ≡ y = cc in same ∙ h.1)
 
 -- what is kept by tag
 
-none_came : (t : Tag) → came (replicate 27 None) t ≡ false
-none_came t = not-true _ (each_tag (λ s. not (came (replicate 27 None) s)) refl t)
+none_came : (t : Tag) → came (replicate 28 None) t ≡ false
+none_came t = not-true _ (each_tag (λ s. not (came (replicate 28 None) s)) refl t)
 
 came_at : (slots : List (Option (Bor (List ℕ)))) (t : Tag) (v : Value) → value_at slots t ≡ Some v → came slots t ≡ true
 came_at slots t v h = go (slot_in slots t) h
@@ -76,10 +76,13 @@ came_at slots t v h = go (slot_in slots t) h
     go None i = absurd (cc)
     go (Some c) i = refl
 
-pub none_denoted : (numbers : List ℕ) → AreDenoted (replicate 27 None) numbers
-none_denoted numbers t n h = absurd (both_ways _ (none_came t) (came_at (replicate 27 None) t (ANumber n) h))
+pub none_denoted : (numbers : List ℕ) → AreDenoted (replicate 28 None) numbers
+none_denoted numbers = record {
+  tags = λ t n h. absurd (both_ways _ (none_came t) (came_at (replicate 28 None) t (ANumber n) h));
+  second = λ n h. absurd (let none : None ≡ Some (ANumber n) = h in cc);
+}
 
-slot_cleared : (slots : List (Option (Bor (List ℕ)))) (tag : Tag) (t : Tag) → length slots ≡ 27 → slot_in (set slots (tag_place tag) None) t ≡ (if same_tag tag t then None else slot_in slots t)
+slot_cleared : (slots : List (Option (Bor (List ℕ)))) (tag : Tag) (t : Tag) → length slots ≡ 28 → slot_in (set slots (tag_place tag) None) t ≡ (if same_tag tag t then None else slot_in slots t)
 slot_cleared slots tag t h =
     let small = tag_small tag in
     elim (cases_Bool (same_tag tag t)) [
@@ -87,7 +90,7 @@ slot_cleared slots tag t h =
       | inr e ↦ (let k : tag_place t ≢ tag_place tag = λ i. eqb-false (tag_place tag) (tag_place t) e (sym i) in rw e (ap (λ (o : Option (Bor (List ℕ))). option_map (λ x. x.now) o) (get_or-set_other slots (tag_place tag) (tag_place t) None None k)))
     ]
 
-place_set : (numbers : List ℕ) (tag : Tag) (d : ℕ) (t : Tag) → length numbers ≡ 27 → slice_index_or (set numbers (tag_place tag) d) (tag_place t) 0 ≡ (if same_tag tag t then d else slice_index_or numbers (tag_place t) 0)
+place_set : (numbers : List ℕ) (tag : Tag) (d : ℕ) (t : Tag) → length numbers ≡ 28 → slice_index_or (set numbers (tag_place tag) d) (tag_place t) 0 ≡ (if same_tag tag t then d else slice_index_or numbers (tag_place t) 0)
 place_set numbers tag d t h =
     let small = tag_small tag in
     elim (cases_Bool (same_tag tag t)) [
@@ -95,76 +98,116 @@ place_set numbers tag d t h =
       | inr e ↦ (let k : tag_place t ≢ tag_place tag = λ i. eqb-false (tag_place tag) (tag_place t) e (sym i) in rw e (get_or-set_other numbers (tag_place tag) (tag_place t) d 0 k))
     ]
 
--- one more is kept
-pub more_denoted : (slots : List (Option (Bor (List ℕ)))) (numbers : List ℕ) (tag : Tag) (x : Bor (List ℕ)) (d : ℕ) → length slots ≡ 27 → length numbers ≡ 27 → AreDenoted slots numbers
-    → StandsFor (value_of (kind_of tag) x.now) d → AreDenoted (set slots (tag_place tag) (Some x)) (set numbers (tag_place tag) d)
-more_denoted slots numbers tag x d n m all new t v h = go (same_tag tag t) refl
-  where
-    after : List (Option (Bor (List ℕ)))
-    after = set slots (tag_place tag) (Some x)
+-- the place of a second KD is that of no tag
+apart : (t : Tag) → 27 ≢ tag_place t
+apart t e = let n = tag_small t in omega (arith, n, e)
 
-    go : (b : Bool) → same_tag tag t ≡ b → slice_index_or (set numbers (tag_place tag) d) (tag_place t) 0 ≡ v
-    go true e =
-        let there : slot_in after t ≡ Some x.now = slot_set slots tag x t n ∙ rw e refl in
-        let value : value_at after t ≡ value_of (kind_of t) x.now = ap (option_and_then (value_of (kind_of t))) there in
+pub second_kept : (slots : List (Option (Bor (List ℕ)))) (tag : Tag) (o : Option (Bor (List ℕ))) → second_in (set slots (tag_place tag) o) ≡ second_in slots
+second_kept slots tag o = ap (λ (x : Option (Bor (List ℕ))). option_map (λ y. y.now) x) (get_or-set_other slots (tag_place tag) 27 o None (apart tag))
+
+pub slot_kept : (slots : List (Option (Bor (List ℕ)))) (o : Option (Bor (List ℕ))) (t : Tag) → slot_in (set slots 27 o) t ≡ slot_in slots t
+slot_kept slots o t = ap (λ (x : Option (Bor (List ℕ))). option_map (λ y. y.now) x) (get_or-set_other slots 27 (tag_place t) o None (λ e. apart t (sym e)))
+
+pub second_set : (slots : List (Option (Bor (List ℕ)))) (o : Option (Bor (List ℕ))) → length slots ≡ 28 → second_in (set slots 27 o) ≡ option_map (λ x. x.now) o
+second_set slots o h = ap (λ (x : Option (Bor (List ℕ))). option_map (λ y. y.now) x) (get_or-set_same slots 27 o None (omega (arith, h)))
+
+-- one more is kept
+pub more_denoted : (slots : List (Option (Bor (List ℕ)))) (numbers : List ℕ) (tag : Tag) (x : Bor (List ℕ)) (d : ℕ) → length slots ≡ 28 → length numbers ≡ 28 → AreDenoted slots numbers
+    → StandsFor (value_of (kind_of tag) x.now) d → AreDenoted (set slots (tag_place tag) (Some x)) (set numbers (tag_place tag) d)
+more_denoted slots numbers tag x d n m all new = record {
+  tags = λ t v h. go t v h (same_tag tag t) refl;
+  second = λ v h. get_or-set_other numbers (tag_place tag) 27 d 0 (apart tag) ∙ all.second v (ap (option_and_then (value_of OfKey)) (sym (second_kept slots tag (Some x))) ∙ h);
+}
+  where
+    go : (t : Tag) (v : ℕ) → value_at (set slots (tag_place tag) (Some x)) t ≡ Some (ANumber v) → (b : Bool) → same_tag tag t ≡ b → slice_index_or (set numbers (tag_place tag) d) (tag_place t) 0 ≡ v
+    go t v h true e =
+        let there : slot_in (set slots (tag_place tag) (Some x)) t ≡ Some x.now = slot_set slots tag x t n ∙ rw e refl in
+        let value : value_at (set slots (tag_place tag) (Some x)) t ≡ value_of (kind_of t) x.now = ap (option_and_then (value_of (kind_of t))) there in
         let same : value_of (kind_of tag) x.now ≡ Some (ANumber v) = ap (λ (s : Tag). value_of (kind_of s) x.now) (same_tags tag t e) ∙ (sym value ∙ h) in
         place_set numbers tag d t m ∙ (rw e refl ∙ new.number v same)
-    go false e =
-        let there : slot_in after t ≡ slot_in slots t = slot_set slots tag x t n ∙ rw e refl in
-        let value : value_at after t ≡ value_at slots t = ap (option_and_then (value_of (kind_of t))) there in
-        place_set numbers tag d t m ∙ (rw e refl ∙ all t v (sym value ∙ h))
+    go t v h false e =
+        let there : slot_in (set slots (tag_place tag) (Some x)) t ≡ slot_in slots t = slot_set slots tag x t n ∙ rw e refl in
+        let value : value_at (set slots (tag_place tag) (Some x)) t ≡ value_at slots t = ap (option_and_then (value_of (kind_of t))) there in
+        place_set numbers tag d t m ∙ (rw e refl ∙ all.tags t v (sym value ∙ h))
 
 -- where the contents behind a tag are absent, any number may be kept there
-pub cleared : (slots : List (Option (Bor (List ℕ)))) (numbers : List ℕ) (tag : Tag) → length slots ≡ 27 → AreDenoted slots numbers → AreDenoted (set slots (tag_place tag) None) numbers
-cleared slots numbers tag n all t v h = go (same_tag tag t) refl
+pub renumbered : (slots : List (Option (Bor (List ℕ)))) (numbers : List ℕ) (tag : Tag) (d : ℕ) → length slots ≡ 28 → length numbers ≡ 28 → AreDenoted slots numbers → AreDenoted (set slots (tag_place tag) None) (set numbers (tag_place tag) d)
+renumbered slots numbers tag d n m all = record {
+  tags = λ t v h. go t v h (same_tag tag t) refl;
+  second = λ v h. get_or-set_other numbers (tag_place tag) 27 d 0 (apart tag) ∙ all.second v (ap (option_and_then (value_of OfKey)) (sym (second_kept slots tag None)) ∙ h);
+}
   where
-    after : List (Option (Bor (List ℕ)))
-    after = set slots (tag_place tag) None
-
-    go : (b : Bool) → same_tag tag t ≡ b → slice_index_or numbers (tag_place t) 0 ≡ v
-    go true e =
-        let there : slot_in after t ≡ None = slot_cleared slots tag t n ∙ rw e refl in
-        let value : value_at after t ≡ None = ap (option_and_then (value_of (kind_of t))) there in
+    go : (t : Tag) (v : ℕ) → value_at (set slots (tag_place tag) None) t ≡ Some (ANumber v) → (b : Bool) → same_tag tag t ≡ b → slice_index_or (set numbers (tag_place tag) d) (tag_place t) 0 ≡ v
+    go t v h true e =
+        let there : slot_in (set slots (tag_place tag) None) t ≡ None = slot_cleared slots tag t n ∙ rw e refl in
+        let value : value_at (set slots (tag_place tag) None) t ≡ None = ap (option_and_then (value_of (kind_of t))) there in
         absurd (let none : None ≡ Some (ANumber v) = sym value ∙ h in cc)
-    go false e =
-        let there : slot_in after t ≡ slot_in slots t = slot_cleared slots tag t n ∙ rw e refl in
-        let value : value_at after t ≡ value_at slots t = ap (option_and_then (value_of (kind_of t))) there in
-        all t v (sym value ∙ h)
+    go t v h false e =
+        let there : slot_in (set slots (tag_place tag) None) t ≡ slot_in slots t = slot_cleared slots tag t n ∙ rw e refl in
+        let value : value_at (set slots (tag_place tag) None) t ≡ value_at slots t = ap (option_and_then (value_of (kind_of t))) there in
+        place_set numbers tag d t m ∙ (rw e refl ∙ all.tags t v (sym value ∙ h))
 
-pub renumbered : (slots : List (Option (Bor (List ℕ)))) (numbers : List ℕ) (tag : Tag) (d : ℕ) → length slots ≡ 27 → length numbers ≡ 27 → AreDenoted slots numbers → AreDenoted (set slots (tag_place tag) None) (set numbers (tag_place tag) d)
-renumbered slots numbers tag d n m all t v h = go (same_tag tag t) refl
+pub cleared : (slots : List (Option (Bor (List ℕ)))) (numbers : List ℕ) (tag : Tag) → length slots ≡ 28 → AreDenoted slots numbers → AreDenoted (set slots (tag_place tag) None) numbers
+cleared slots numbers tag n all = record {
+  tags = λ t v h. go t v h (same_tag tag t) refl;
+  second = λ v h. all.second v (ap (option_and_then (value_of OfKey)) (sym (second_kept slots tag None)) ∙ h);
+}
   where
-    after : List (Option (Bor (List ℕ)))
-    after = set slots (tag_place tag) None
-
-    go : (b : Bool) → same_tag tag t ≡ b → slice_index_or (set numbers (tag_place tag) d) (tag_place t) 0 ≡ v
-    go true e =
-        let there : slot_in after t ≡ None = slot_cleared slots tag t n ∙ rw e refl in
-        let value : value_at after t ≡ None = ap (option_and_then (value_of (kind_of t))) there in
+    go : (t : Tag) (v : ℕ) → value_at (set slots (tag_place tag) None) t ≡ Some (ANumber v) → (b : Bool) → same_tag tag t ≡ b → slice_index_or numbers (tag_place t) 0 ≡ v
+    go t v h true e =
+        let there : slot_in (set slots (tag_place tag) None) t ≡ None = slot_cleared slots tag t n ∙ rw e refl in
+        let value : value_at (set slots (tag_place tag) None) t ≡ None = ap (option_and_then (value_of (kind_of t))) there in
         absurd (let none : None ≡ Some (ANumber v) = sym value ∙ h in cc)
-    go false e = place_set numbers tag d t m ∙ (rw e refl ∙ cleared slots numbers tag n all t v h)
+    go t v h false e =
+        let there : slot_in (set slots (tag_place tag) None) t ≡ slot_in slots t = slot_cleared slots tag t n ∙ rw e refl in
+        let value : value_at (set slots (tag_place tag) None) t ≡ value_at slots t = ap (option_and_then (value_of (kind_of t))) there in
+        all.tags t v (sym value ∙ h)
 
 -- the three writes, each at the place of the tag
 
-pub cleared_at : (slots : List (Option (Bor (List ℕ)))) (numbers : List ℕ) (tag : Tag) (p : ℕ) → p ≡ tag_place tag → length slots ≡ 27 → AreDenoted slots numbers → AreDenoted (set slots p None) numbers
+pub cleared_at : (slots : List (Option (Bor (List ℕ)))) (numbers : List ℕ) (tag : Tag) (p : ℕ) → p ≡ tag_place tag → length slots ≡ 28 → AreDenoted slots numbers → AreDenoted (set slots p None) numbers
 cleared_at slots numbers tag p e n all = subst (λ (q : ℕ). AreDenoted (set slots q None) numbers) (sym e) (cleared slots numbers tag n all)
 
-pub renumbered_at : (slots : List (Option (Bor (List ℕ)))) (numbers : List ℕ) (tag : Tag) (d p q : ℕ) → p ≡ tag_place tag → q ≡ tag_place tag → length slots ≡ 27 → length numbers ≡ 27 → AreDenoted slots numbers → AreDenoted (set slots p None) (set numbers q d)
+pub renumbered_at : (slots : List (Option (Bor (List ℕ)))) (numbers : List ℕ) (tag : Tag) (d p q : ℕ) → p ≡ tag_place tag → q ≡ tag_place tag → length slots ≡ 28 → length numbers ≡ 28 → AreDenoted slots numbers → AreDenoted (set slots p None) (set numbers q d)
 renumbered_at slots numbers tag d p q e f n m all = subst (λ (x : ℕ). AreDenoted (set slots x None) (set numbers q d)) (sym e) (subst (λ (y : ℕ). AreDenoted (set slots (tag_place tag) None) (set numbers y d)) (sym f) (renumbered slots numbers tag d n m all))
 
-pub written_at : (slots : List (Option (Bor (List ℕ)))) (numbers : List ℕ) (tag : Tag) (x : Bor (List ℕ)) (d p q r : ℕ) → p ≡ tag_place tag → q ≡ tag_place tag → r ≡ tag_place tag → length slots ≡ 27 → length numbers ≡ 27 → AreDenoted slots numbers
+pub written_at : (slots : List (Option (Bor (List ℕ)))) (numbers : List ℕ) (tag : Tag) (x : Bor (List ℕ)) (d p q r : ℕ) → p ≡ tag_place tag → q ≡ tag_place tag → r ≡ tag_place tag → length slots ≡ 28 → length numbers ≡ 28 → AreDenoted slots numbers
     → StandsFor (value_of (kind_of tag) x.now) d → AreDenoted (set (set slots p None) r (Some x)) (set numbers q d)
 written_at slots numbers tag x d p q r e f g n m all new =
     let whole = more_denoted (set slots p None) numbers tag x d (length-set slots p None ∙ n) m (cleared_at slots numbers tag p e n all) new in
     subst (λ (z : ℕ). AreDenoted (set (set slots p None) z (Some x)) (set numbers q d)) (sym g) (subst (λ (y : ℕ). AreDenoted (set (set slots p None) (tag_place tag) (Some x)) (set numbers y d)) (sym f) whole)
 
-pub slot_written : (slots : List (Option (Bor (List ℕ)))) (tag : Tag) (x : Bor (List ℕ)) (t : Tag) (p r : ℕ) → p ≡ tag_place tag → r ≡ tag_place tag → length slots ≡ 27 → slot_in (set (set slots p None) r (Some x)) t ≡ (if same_tag tag t then Some x.now else slot_in slots t)
+pub slot_written : (slots : List (Option (Bor (List ℕ)))) (tag : Tag) (x : Bor (List ℕ)) (t : Tag) (p r : ℕ) → p ≡ tag_place tag → r ≡ tag_place tag → length slots ≡ 28 → slot_in (set (set slots p None) r (Some x)) t ≡ (if same_tag tag t then Some x.now else slot_in slots t)
 slot_written slots tag x t p r e g n =
     ap (λ (z : ℕ). slot_in (set (set slots p None) z (Some x)) t) g ∙ (slot_set (set slots p None) tag x t (length-set slots p None ∙ n) ∙ go (same_tag tag t) refl)
   where
     go : (b : Bool) → same_tag tag t ≡ b → (if b then Some x.now else slot_in (set slots p None) t) ≡ (if b then Some x.now else slot_in slots t)
     go true h = refl
     go false h = ap (λ (z : ℕ). slot_in (set slots z None) t) e ∙ (slot_cleared slots tag t n ∙ rw h refl)
+
+pub second_written : (slots : List (Option (Bor (List ℕ)))) (tag : Tag) (x : Bor (List ℕ)) (p r : ℕ) → p ≡ tag_place tag → r ≡ tag_place tag → second_in (set (set slots p None) r (Some x)) ≡ second_in slots
+second_written slots tag x p r e g = rw (e, g) (second_kept (set slots (tag_place tag) None) tag (Some x) ∙ second_kept slots tag None)
+
+-- the three writes at the place of a second KD
+
+pub second_cleared : (slots : List (Option (Bor (List ℕ)))) (numbers : List ℕ) → length slots ≡ 28 → AreDenoted slots numbers → AreDenoted (set slots 27 None) numbers
+second_cleared slots numbers n all = record {
+  tags = λ t v h. all.tags t v (ap (option_and_then (value_of (kind_of t))) (sym (slot_kept slots None t)) ∙ h);
+  second = λ v h. absurd (let none : None ≡ Some (ANumber v) = sym (ap (option_and_then (value_of OfKey)) (second_set slots None n)) ∙ h in cc);
+}
+
+pub second_renumbered : (slots : List (Option (Bor (List ℕ)))) (numbers : List ℕ) (d : ℕ) → length slots ≡ 28 → AreDenoted slots numbers → AreDenoted (set slots 27 None) (set numbers 27 d)
+second_renumbered slots numbers d n all = record {
+  tags = λ t v h. get_or-set_other numbers 27 (tag_place t) d 0 (λ e. apart t (sym e)) ∙ all.tags t v (ap (option_and_then (value_of (kind_of t))) (sym (slot_kept slots None t)) ∙ h);
+  second = λ v h. absurd (let none : None ≡ Some (ANumber v) = sym (ap (option_and_then (value_of OfKey)) (second_set slots None n)) ∙ h in cc);
+}
+
+pub second_denoted : (slots : List (Option (Bor (List ℕ)))) (numbers : List ℕ) (x : Bor (List ℕ)) (d : ℕ) → length slots ≡ 28 → length numbers ≡ 28 → AreDenoted slots numbers → StandsFor (value_of OfKey x.now) d
+    → AreDenoted (set (set slots 27 None) 27 (Some x)) (set numbers 27 d)
+second_denoted slots numbers x d n m all new = record {
+  tags = λ t v h. get_or-set_other numbers 27 (tag_place t) d 0 (λ e. apart t (sym e)) ∙ all.tags t v (ap (option_and_then (value_of (kind_of t))) (sym (slot_kept (set slots 27 None) (Some x) t ∙ slot_kept slots None t)) ∙ h);
+  second = λ v h. get_or-set_same numbers 27 d 0 (omega (arith, m)) ∙ new.number v (sym (ap (option_and_then (value_of OfKey)) (second_set (set slots 27 None) (Some x) (length-set slots 27 None ∙ n))) ∙ h);
+}
 
 -- what is kept where a value is there
 
@@ -201,6 +244,19 @@ a_number OfReason v h k = absurd (true≢false (sym h))
 a_number OfText v h k = absurd (true≢false (sym h))
 a_number Unsupported v h k = absurd (true≢false (sym h))
 
+-- the number of a second key
+pub second_value_kept : (slots : List (Option (Bor (List ℕ)))) (numbers : List ℕ) → AreDenoted slots numbers → IsSome (second_value slots) → (n : ℕ) → n ≡ slice_index_or numbers 27 0 → second_value slots ≡ Some (ANumber n)
+second_value_kept slots numbers all there n e = go (second_in slots) refl there where
+  go : (o : Option (List ℕ)) → second_in slots ≡ o → IsSome (option_and_then (value_of OfKey) o) → second_value slots ≡ Some (ANumber n)
+  go None i h = absurd (false≢true h)
+  go (Some c) i h = of (value_of OfKey c) refl h (kind_value OfKey c) where
+    of : (w : Option Value) → value_of OfKey c ≡ w → IsSome w → OfKindIfAny OfKey w → second_value slots ≡ Some (ANumber n)
+    of None j k l = absurd (false≢true k)
+    of (Some v) j k l =
+        let a = a_number OfKey v refl l in
+        let at : second_value slots ≡ Some (ANumber a.0) = ap (option_and_then (value_of OfKey)) i ∙ j ∙ ap (λ (x : Value). Some x) a.1 in
+        at ∙ ap (λ (m : ℕ). Some (ANumber m)) (sym (e ∙ all.second a.0 at))
+
 module _ (slots : List (Option (Bor (List ℕ)))) (numbers : List ℕ) (all : AreDenoted slots numbers) (t : Tag) (there : IsSome (value_at slots t)) where
   abbrev kept : ℕ
   kept = slice_index_or numbers (tag_place t) 0
@@ -213,7 +269,7 @@ module _ (slots : List (Option (Bor (List ℕ)))) (numbers : List ℕ) (all : Ar
       go (Some v) e i k =
           let a = a_number (kind_of t) v h k in
           let at : value_at slots t ≡ Some (ANumber a.0) = e ∙ ap (λ (w : Value). Some w) a.1 in
-          at ∙ ap (λ (n : ℕ). Some (ANumber n)) (sym (all t a.0 at))
+          at ∙ ap (λ (n : ℕ). Some (ANumber n)) (sym (all.tags t a.0 at))
 
   number_of_kind : is_number (kind_of t) ≡ true → IsOfKind (kind_of t) (ANumber kept)
   number_of_kind h = subst (OfKindIfAny (kind_of t)) (number_kept h) (of_kind slots t)

@@ -18,7 +18,7 @@ use Rattle.csm_grammar.specs.Spelling.{AreSeparators, Field, Spelled, spelled_te
 use Rattle.csm_grammar.specs.Faults.{fault_of_text}
 use Rattle.csm_grammar.specs.Reading.{IsRead}
 use Rattle.csm_grammar.proofs.FieldLemmas.{field}
-use Rattle.csm_grammar.proofs.Counting.{count_fields, present_count}
+use Rattle.csm_grammar.proofs.Counting.{count_fields, present_count, mcl_count}
 use Rattle.csm_grammar.proofs.Closing.{IsWholeForm, whole_form}
 use Rattle.csm_grammar.proofs.Slots.{count_values}
 use Rattle.csm_grammar.proofs.Making.{are_known, passing_known, Made, made, OneCode}
@@ -129,7 +129,7 @@ message_of b x =
     let w = whole_form fs x.pass x.closes in
     let k = passing_known [] fs x.pass in
     let t : fs ≡ w.first ∷ (w.rest ++ w.code ∷ []) = w.text in
-    let c = class_values w.form w.first (w.rest ++ w.code ∷ []) w.class_first w.class (subst (λ (gs : List Field). count_tag Mcl (tags_in gs) ≡ 1) t (w.tags Mcl)) (subst (λ (gs : List Field). are_known gs ≡ true) t k) in
+    let c = class_values w.form w.first (w.rest ++ w.code ∷ []) w.class_first w.class (subst (λ (gs : List Field). count_tag Mcl (tags_in gs) ≡ 1) t (mcl_count w.form fs w.tags)) (subst (λ (gs : List Field). are_known gs ≡ true) t k) in
     (w, made w.form fs k w.tags (ap (values_in Mcl) t ∙ c) (subst OneCode (sym w.text) (one_code (w.first ∷ w.rest) w.code w.closes w.unclosed)))
 
 -- a text without a fault begins with the spelling of a message

@@ -26,11 +26,11 @@ use Rattle.csm_grammar.proofs.Tokens.{IsToken, spread_text, AreSpread, standings
 use Rattle.csm_grammar.proofs.FieldLemmas.{field, field_written, fault_of_written}
 use Rattle.csm_grammar.proofs.ContentsLemmas.{token_of_field}
 use Rattle.csm_grammar.proofs.Passing.{AllPass, passes_none, no_fault, fault_more}
-use Rattle.csm_grammar.proofs.Counting.{count_fields, present_count, tags_append}
+use Rattle.csm_grammar.proofs.Counting.{count_fields, present_count, tags_append, code_once}
 use Rattle.csm_grammar.proofs.Making.{are_known}
 use Rattle.csm_grammar.proofs.Codes.{code_tag}
 use Rattle.csm_grammar.proofs.Spelled.{spread_of, spread_same, untested}
-use Rattle.csm_grammar.proofs.Proper.{any_tag, need_once, IsProper, proper_passes}
+use Rattle.csm_grammar.proofs.Proper.{any_tag, need_most, IsProper, proper_passes}
 
 -- where the values behind each tag are told, each of the contents stands for one
 known_from : (fs : List Field) → ((t : Tag) → (vs : List Value) × (values_in t fs ≡ map Some vs)) → are_known fs ≡ true
@@ -130,7 +130,8 @@ proper m shut (s ∷ ss) l others form stands class code =
           let d : k.0 ≡ (shut_field shut).tag = code_tag k.0 (gs ++ c ∷ []) m shut st k.1 (omega arith) in
           let same : same_tag c.tag k.0 ≡ true = subst (λ (t : Tag). same_tag t k.0 ≡ true) (d ∙ sym code) (same_itself k.0) in
           let one = present_count k.0 (c.tag ∷ []) (or_left _ _ same) in
-          let most = need_once _ _ (fm k.0) in
+          let most = need_most _ _ _ (fm k.0) in
+          let few = code_once (form_of m) k.0 k.1 in
           omega arith)
 
 pub taken : (P r : List ℕ) (n : ℕ) → length P ≤ n → take n (P ++ r) ≡ P ++ drop (length P) (take n (P ++ r))

@@ -17,6 +17,7 @@ pub mod Spelled
 pub mod Found
 pub mod Proper
 pub mod Kept
+pub mod FormsApart
 pub mod Back
 pub mod Sole
 pub mod Lawful

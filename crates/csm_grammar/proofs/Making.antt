@@ -9,7 +9,7 @@ use Rattle.x_base.specs.declared.key_name.KeyName.{KeyName}
 use Rattle.csm_grammar.specs.declared.tag.Tag.{Tag}
 use Rattle.csm_grammar.specs.declared.tag.Tag.TheVariants.{Mcl, Rcv, Org, Svr, Idu, Idc, Idd, Ida, Idk1, Idk2, DoubleKk, Kk, Kd, Kdu, Ctp, Cta, Ctb, Ctr, Erf, Iv, Edk, P, Mac, Edc}
 use Rattle.csm_grammar.specs.declared.form.Form.{Form}
-use Rattle.csm_grammar.specs.declared.form.Form.TheVariants.{F1, F2, F3, F4, F5, F6, F7, F8, F9, F10, F11, F12}
+use Rattle.csm_grammar.specs.declared.form.Form.TheVariants.{F1, F2, F3, F4, F5, F6, F7, F8, F9, F10, F11, F12, F13}
 use Rattle.csm_grammar.specs.declared.message.Message.{Message}
 use Rattle.csm_grammar.specs.declared.message.Service.{Service}
 use Rattle.csm_grammar.specs.declared.parsed.Shut.{Shut}
@@ -22,7 +22,7 @@ use Rattle.csm_grammar.specs.Spelling.{Field, tags_in, AreOfForm, values_in, Sta
 use Rattle.csm_grammar.proofs.TagLemmas.{same_tags}
 use Rattle.csm_grammar.proofs.Passing.{AllPass}
 use Rattle.csm_grammar.proofs.Slots.{count_values}
-use Rattle.csm_grammar.proofs.Standing.{rsi, rsi_stands, rfs, rfs_stands, rtr, rtr_stands, rtr_with_key, rtr_with_key_stands, ksm, ksm_stands, ksm_double, ksm_double_stands, ksm_single, ksm_single_stands, ksm_centre, ksm_centre_stands, rsm, rsm_stands, ers, ers_stands, esm, esm_stands, dsm, dsm_stands}
+use Rattle.csm_grammar.proofs.Standing.{rsi, rsi_stands, rfs, rfs_stands, rtr, rtr_stands, rtr_with_key, rtr_with_key_stands, ksm, ksm_stands, ksm_double, ksm_double_stands, ksm_single, ksm_single_stands, ksm_centre, ksm_centre_stands, ksm_twin, ksm_twin_stands, rsm, rsm_stands, ers, ers_stands, esm, esm_stands, dsm, dsm_stands}
 
 -- each of the contents stands for a value
 abbrev pub are_known : List Field → Bool
@@ -76,8 +76,21 @@ if_of make t [] b m h = (None, refl)
 if_of make t (o ∷ []) b m h = let x = m b.0.contents b.0.value b.0.denoted in (Some x.0, λ i. (b.0.known ∙ ap (λ (v : Value). Some v) x.1) i ∷ [])
 if_of make t (o ∷ p ∷ os) b m h = absurd (omega arith)
 
+two_of : {A : Type 0} (make : A → Value) (t : Tag) (os : List (Option Value)) → AreBehind t os → IsMade make t → length os ≡ 2 → (x : A × A) × (os ≡ map Some (make x.0 ∷ make x.1 ∷ []))
+unfolding AreBehind IsMade
+two_of make t [] b m h = absurd (omega arith)
+two_of make t (o ∷ []) b m h = absurd (omega arith)
+two_of make t (o ∷ p ∷ []) b m h =
+    let x = m b.0.contents b.0.value b.0.denoted in
+    let y = m b.1.0.contents b.1.0.value b.1.0.denoted in
+    ((x.0, y.0), λ i. (b.0.known ∙ ap (λ (v : Value). Some v) x.1) i ∷ (b.1.0.known ∙ ap (λ (v : Value). Some v) y.1) i ∷ [])
+two_of make t (o ∷ p ∷ q ∷ os) b m h = absurd (omega arith)
+
 one : {A : Type 0} (make : A → Value) (t : Tag) (fs : List Field) → are_known fs ≡ true → IsMade make t → count_tag t (tags_in fs) ≡ 1 → (x : A) × (values_in t fs ≡ map Some (make x ∷ []))
 one make t fs k m h = one_of make t (values_in t fs) (are_behind t fs k) m (count_values t fs ∙ h)
+
+two : {A : Type 0} (make : A → Value) (t : Tag) (fs : List Field) → are_known fs ≡ true → IsMade make t → count_tag t (tags_in fs) ≡ 2 → (x : A × A) × (values_in t fs ≡ map Some (make x.0 ∷ make x.1 ∷ []))
+two make t fs k m h = two_of make t (values_in t fs) (are_behind t fs k) m (count_values t fs ∙ h)
 
 maybe : {A : Type 0} (make : A → Value) (t : Tag) (fs : List Field) → are_known fs ≡ true → IsMade make t → count_tag t (tags_in fs) ≤ 1 → (x : Option A) × (values_in t fs ≡ map Some (map make (option_to_list x)))
 maybe make t fs k m h = if_of make t (values_in t fs) (are_behind t fs k) m (let e = count_values t fs in omega arith)
@@ -246,6 +259,20 @@ made_ksm_centre fs k h c =
     let n = one ANumber Mac fs k code_is (h Mac) in
     record { message = ksm_centre r.0 o.0 centre.0 kdu.0 ctb.0 iv.0 edk.0 p.0; shut = shuts.Mac n.0; form_is = refl; stands = ksm_centre_stands fs r.0 o.0 centre.0 kdu.0 ctb.0 iv.0 edk.0 p.0 n.0 h (c, (r.1, (o.1, (centre.1, (kdu.1, (ctb.1, (iv.1, (edk.1, (p.1, (n.1, tt)))))))))) }
 
+made_ksm_twin : (fs : List Field) → are_known fs ≡ true → AreOfForm F13 fs → values_in Mcl fs ≡ map Some (AText (codes "KSM") ∷ []) → Made F13 fs
+unfolding IsMade
+made_ksm_twin fs k h c =
+    let r = one AText Rcv fs k ident_is (h Rcv) in
+    let o = one AText Org fs k ident_is (h Org) in
+    let k2 = maybe AText Idk2 fs k label_is (h Idk2) in
+    let kds = two ANumber Kd fs k key_is (h Kd) in
+    let ctp = one ANumber Ctp fs k count_is (h Ctp) in
+    let iv = maybe AText Iv fs k text_is (h Iv) in
+    let edk = maybe AText Edk fs k text_is (h Edk) in
+    let p = maybe AText P fs k text_is (h P) in
+    let n = one ANumber Mac fs k code_is (h Mac) in
+    record { message = ksm_twin r.0 o.0 k2.0 kds.0.0 kds.0.1 ctp.0 iv.0 edk.0 p.0; shut = shuts.Mac n.0; form_is = refl; stands = ksm_twin_stands fs r.0 o.0 k2.0 kds.0.0 kds.0.1 ctp.0 iv.0 edk.0 p.0 n.0 h (c, (r.1, (o.1, (k2.1, (kds.1, (ctp.1, (iv.1, (edk.1, (p.1, (n.1, tt)))))))))) }
+
 made_rsm : (fs : List Field) → are_known fs ≡ true → AreOfForm F9 fs → values_in Mcl fs ≡ map Some (AText (codes "RSM") ∷ []) → Made F9 fs
 unfolding IsMade
 made_rsm fs k h c =
@@ -311,6 +338,7 @@ made F5 fs k h c n = made_ksm fs k h c
 made F6 fs k h c n = made_ksm_double fs k h c
 made F7 fs k h c n = made_ksm_single fs k h c
 made F8 fs k h c n = made_ksm_centre fs k h c
+made F13 fs k h c n = made_ksm_twin fs k h c
 made F9 fs k h c n = made_rsm fs k h c
 made F10 fs k h c n = made_ers fs k h c
 made F11 fs k h c n = made_esm fs k h c n

@@ -81,6 +81,13 @@ direct_count text m idk2 new kd ctp e s = go idk2 new (subst (λ (z : KsmBody). 
 pub centre_count : (text : List ℕ) (m : Ksm) (centre : List ℕ) (kdu ctb : ℕ) → m.body ≡ body.Centre centre kdu ctb → Says text (message.Ksm m) → IsCount ctb
 centre_count text m centre kdu ctb e s = (subst (λ (z : KsmBody). AllByRecursion (IsOfKind OfCount) (values_for Ctb (all_fields (message.Ksm (record m { body = z })) s.shut))) e (values_typed Ctb text (message.Ksm m) s)).0
 
+pub twin_count : (text : List ℕ) (m : Ksm) (idk2 : Option (List ℕ)) (first second ctp : ℕ) → m.body ≡ body.Twin idk2 first second ctp → Says text (message.Ksm m) → IsCount ctp
+twin_count text m idk2 first second ctp e s = go idk2 (subst (λ (z : KsmBody). AllByRecursion (IsOfKind OfCount) (values_for Ctp (all_fields (message.Ksm (record m { body = z })) s.shut))) e (values_typed Ctp text (message.Ksm m) s))
+  where
+    go : (o : Option (List ℕ)) → AllByRecursion (IsOfKind OfCount) (values_for Ctp (all_fields (message.Ksm (record m { body = body.Twin o first second ctp })) s.shut)) → IsCount ctp
+    go None h = h.0
+    go (Some label) h = h.0
+
 -- the label of a new key
 pub new_label : (text : List ℕ) (m : Ksm) (idk2 : Option (List ℕ)) (new : List ℕ × NewKk) (kd ctp : ℕ) → m.body ≡ body.Direct idk2 (Some new) kd ctp → Says text (message.Ksm m) → IsLabel new.0
 new_label text m idk2 new kd ctp e s = (subst (λ (z : KsmBody). AllByRecursion (IsOfKind OfLabel) (values_for Idk1 (all_fields (message.Ksm (record m { body = z })) s.shut))) e (values_typed Idk1 text (message.Ksm m) s)).0

@@ -7,11 +7,11 @@ use Rattle.csm_grammar.specs.declared.tag.Tag.{Tag}
 use Rattle.csm_grammar.specs.declared.tag.Tag.TheVariants.{Mcl}
 use Rattle.csm_grammar.specs.declared.refusal.ReadRefusal.{ReadRefusal}
 use Rattle.csm_grammar.specs.declared.refusal.ReadRefusal.TheVariants as refusal
-use Rattle.csm_grammar.specs.Tags.{same_tag, has_tag, is_closing, is_unsupported}
+use Rattle.csm_grammar.specs.Tags.{same_tag, is_closing, is_unsupported}
 use Rattle.csm_grammar.specs.Values.{Value, kind_of, value_of}
 use Rattle.csm_grammar.specs.Spelling.{Field, field_text, tags_in}
 use Rattle.csm_grammar.specs.Units.{Standing, is_half}
-use Rattle.csm_grammar.specs.Faults.{refuse, or_else, field_of, forms_left, lacking, fault_of, fault_of_field, fields_from, first_fault}
+use Rattle.csm_grammar.specs.Faults.{refuse, or_else, is_repeated, field_of, forms_left, lacking, fault_of, fault_of_field, fields_from, first_fault}
 use Rattle.csm_grammar.proofs.Grouping.{NoHalf}
 use Rattle.csm_grammar.proofs.FieldLemmas.{refuse_none, IsField, is_field}
 use Rattle.csm_grammar.proofs.ContentsLemmas.{field_not_half}
@@ -20,7 +20,7 @@ use Rattle.csm_grammar.proofs.ContentsLemmas.{field_not_half}
 pub record Passes (before : List Field) (f : Field) : Type 0 where
   pub supported : is_unsupported f.tag ≡ false
   pub first : ((length before == 0) && not (same_tag f.tag Mcl)) ≡ false
-  pub once : has_tag f.tag (tags_in before) ≡ false
+  pub once : is_repeated before f.tag ≡ false
   pub unclosed : list_any is_closing (tags_in before) ≡ false
   pub left : (length (forms_left before (f.tag ∷ tags_in before)) == 0) ≡ false
   pub complete : is_closing f.tag ≡ true → lacking (forms_left before (f.tag ∷ tags_in before)) (tags_in before) ≡ None
@@ -39,7 +39,7 @@ pub passes_from : (before : List Field) (p : ℕ) (f : Field) → fault_of_field
 passes_from before p f h =
     let a = refuse_none (is_unsupported f.tag) _ _ h in
     let b = refuse_none ((length before == 0) && not (same_tag f.tag Mcl)) _ _ a.1 in
-    let c = refuse_none (has_tag f.tag (tags_in before)) _ _ b.1 in
+    let c = refuse_none (is_repeated before f.tag) _ _ b.1 in
     let d = refuse_none (list_any is_closing (tags_in before) || (length (forms_left before (f.tag ∷ tags_in before)) == 0)) _ _ c.1 in
     let e = or_else_none (cond (is_closing f.tag) (option_map (λ t. refusal.Missing t p) (lacking (forms_left before (f.tag ∷ tags_in before)) (tags_in before))) None) _ d.1 in
     let g = refuse_none (is_none (value_of (kind_of f.tag) f.contents)) _ None e.1 in

@@ -1,26 +1,25 @@
 -- The fields of a spelling pass, each behind those before it.
-use Rattle.std.proofs.Common.{◌≡◌, ℕ, suc, ◌≤◌, Bool, true, false, cond, List, [], ◌∷◌, ◌++◌, length, None, refl, sym, ◌∙◌, ap, subst, append_assoc, arith, inl, inr}
-use Rattle.std.specs.Prelude.{◌==◌, ◌&&◌, ◌||◌, not, is_none, bytes_eq, ◌⊎◌}
+use Rattle.std.proofs.Common.{◌≡◌, ℕ, suc, ◌≤◌, ◌<◌, Bool, true, false, cond, List, [], ◌∷◌, ◌++◌, length, None, refl, sym, ◌∙◌, ap, subst, append_assoc, arith}
+use Rattle.std.specs.Prelude.{◌==◌, ◌&&◌, ◌||◌, not, nat_le, is_none, codes, bytes_eq}
 use Rattle.std.specs.List.{list_any, list_all, filter}
 use Rattle.std.specs.Cmp.Lexicographic.{bytes_decides}
 use Rattle.std.proofs.lemmas.List.{append-nil}
-use Rattle.std.proofs.lemmas.Bool.{ne_eqb, and_parts, and_from, and_left, or_parts, or_cases, or_left, or_right, not-true, not_from_true, not_from_false, false≢true, both_ways, false_from_ne_true, true_from_ne_false}
+use Rattle.std.proofs.lemmas.Bool.{ne_eqb, and_parts, and_from, and_left, or_parts, or_left, or_right, not-true, not_from_true, not_from_false, false≢true, both_ways, false_from_ne_true, true_from_ne_false, leb-true, lt-leb}
 use Rattle.std.proofs.lemmas.List.Folds.{list_any-append}
 use Rattle.csm_grammar.specs.declared.tag.Tag.{Tag}
-use Rattle.csm_grammar.specs.declared.tag.Tag.TheVariants.{Mcl}
+use Rattle.csm_grammar.specs.declared.tag.Tag.TheVariants.{Mcl, Kd}
 use Rattle.csm_grammar.specs.declared.form.Form.{Form}
 use Rattle.csm_grammar.specs.declared.form.Need.{Need}
 use Rattle.csm_grammar.specs.declared.form.Need.TheVariants.{Required, Optional, Refused}
 use Rattle.csm_grammar.specs.Tags.{same_tag, has_tag, count_tag, is_closing, is_unsupported}
-use Rattle.csm_grammar.specs.Classes.{forms, class_text, required, need_of, allows}
+use Rattle.csm_grammar.specs.Classes.{forms, class_text, required, need_of, allows, times}
 use Rattle.csm_grammar.specs.Values.{kind_of, value_of}
 use Rattle.csm_grammar.specs.Spelling.{Field, tags_in, ComesAs, AreOfForm}
-use Rattle.csm_grammar.specs.Faults.{candidates, forms_left, absent, lacking}
+use Rattle.csm_grammar.specs.Faults.{candidates, is_ksm, is_repeated, admits, forms_left, absent, lacking}
 use Rattle.csm_grammar.proofs.TagLemmas.{each_form, same_tags, same_itself}
 use Rattle.csm_grammar.proofs.Passing.{Passes, AllPass}
-use Rattle.csm_grammar.proofs.Counting.{each, tags_append, count_fields, present_count, present_from_count, found_nowhere}
+use Rattle.csm_grammar.proofs.Counting.{each, tags_append, count_append, count_fields, present_count, complete_from, admits_from, admits_allows}
 use Rattle.csm_grammar.proofs.Closing.{any_filtered}
-use Rattle.csm_grammar.proofs.Slots.{unallowed_count}
 use Rattle.csm_grammar.proofs.Making.{are_known}
 
 none_passes : {X : Type 0} (p : X → Bool) (xs : List X) → list_any p xs ≡ false → list_all (λ x. not (p x)) xs ≡ true
@@ -30,11 +29,6 @@ none_passes p (x ∷ xs) h = let k = or_parts (p x) (list_any p xs) h in and_fro
 -- a form that passes a test is among all
 pub any_form : (p : Form → Bool) (g : Form) → p g ≡ true → list_any p forms ≡ true
 any_form p g h = true_from_ne_false (list_any p forms) (λ e. both_ways (p g) (not-true _ (each_form (λ f. not (p f)) (none_passes p forms e) g)) h)
-
--- a test that each tag of a list passes
-pub all_from : (p : Tag → Bool) (ts : List Tag) → ((t : Tag) → has_tag t ts ≡ true → p t ≡ true) → list_all p ts ≡ true
-all_from p [] h = refl
-all_from p (s ∷ ts) h = and_from _ _ (h s (or_left _ _ (same_itself s))) (all_from p ts (λ t i. h t (or_right _ _ i)))
 
 pub any_tag : (p : Tag → Bool) (ts : List Tag) → list_any p ts ≡ true → (t : Tag) × (p t ≡ true) × (has_tag t ts ≡ true)
 any_tag p [] h = absurd cc
@@ -82,32 +76,36 @@ pub record IsProper (g : Form) (gs : List Field) (c : Field) : Type 0 where
   pub closes : is_closing c.tag ≡ true
   pub unclosed : list_any is_closing (tags_in gs) ≡ false
 
-pub need_once : (n : Need) (k : ℕ) → ComesAs n k → k ≤ 1
-need_once Required k h = omega arith
-need_once Optional k h = h
-need_once Refused k h = omega arith
+pub need_most : (n : Need) (most k : ℕ) → ComesAs n most k → k ≤ most
+need_most Required most k h = omega (arith, h)
+need_most Optional most k h = h
+need_most Refused most k h = omega (arith, h)
+
+-- a form has no tag more often than it may come in its class
+times_within : (g : Form) (t : Tag) → times g t ≤ cond (same_tag t Kd && bytes_eq (class_text g) (codes "KSM")) 2 1
+times_within g t = leb-true _ _ (each (λ f s. nat_le (times f s) (cond (same_tag s Kd && bytes_eq (class_text f) (codes "KSM")) 2 1)) refl g t)
+
+not_repeated : (before : List Field) (t : Tag) → count_tag t (tags_in before) < cond (same_tag t Kd && is_ksm before) 2 1 → is_repeated before t ≡ false
+not_repeated before t h = go (same_tag t Kd && is_ksm before) h where
+  go : (b : Bool) → count_tag t (tags_in before) < cond b 2 1 → cond b (nat_le 2 (count_tag t (tags_in before))) (has_tag t (tags_in before)) ≡ false
+  go true i = lt-leb 2 (count_tag t (tags_in before)) i
+  go false i = false_from_ne_true _ (λ e. let k = present_count t (tags_in before) e in omega (arith, i, k))
 
 module _ (g : Form) (gs : List Field) (c : Field) (w : IsProper g gs c) where
-  once : (t : Tag) → count_tag t (tags_in (gs ++ c ∷ [])) ≤ 1
-  once t = need_once (need_of g t) _ (w.tags t)
-
-  allowed : (t : Tag) → 1 ≤ count_tag t (tags_in (gs ++ c ∷ [])) → allows g t ≡ true
-  allowed t h = true_from_ne_false (allows g t) (λ e. let z = unallowed_count g (gs ++ c ∷ []) t w.tags e in absurd (omega arith))
-
-  all_allowed : (ts : List Tag) → ((t : Tag) → has_tag t ts ≡ true → 1 ≤ count_tag t (tags_in (gs ++ c ∷ []))) → list_all (allows g) ts ≡ true
-  all_allowed ts h = all_from (allows g) ts (λ t i. allowed t (h t i))
+  most : (t : Tag) → count_tag t (tags_in (gs ++ c ∷ [])) ≤ times g t
+  most t = need_most (need_of g t) _ _ (w.tags t)
 
   complete : is_none (absent g (tags_in gs)) ≡ true
-  complete = found_nowhere (λ t. not (has_tag t (tags_in gs))) (Mcl ∷ required g) (all_from (λ t. not (not (has_tag t (tags_in gs)))) (Mcl ∷ required g) there) where
-    there : (t : Tag) → has_tag t (Mcl ∷ required g) ≡ true → not (not (has_tag t (tags_in gs))) ≡ true
+  complete = complete_from g (tags_in gs) there where
+    there : (t : Tag) → has_tag t (Mcl ∷ required g) ≡ true → times g t ≤ count_tag t (tags_in gs)
     there t h =
         let n : need_of g t ≡ Required = rw h refl in
-        let one : count_tag t (tags_in (gs ++ c ∷ [])) ≡ 1 = subst (λ (k : Need). ComesAs k (count_tag t (tags_in (gs ++ c ∷ [])))) n (w.tags t) in
+        let all : count_tag t (tags_in (gs ++ c ∷ [])) ≡ times g t = subst (λ (k : Need). ComesAs k (times g t) (count_tag t (tags_in (gs ++ c ∷ [])))) n (w.tags t) in
         let open_tag : is_closing t ≡ false = not-true _ (or_not _ _ (required_open g t) h) in
         let other : same_tag c.tag t ≡ false = false_from_ne_true _ (λ e. both_ways (is_closing t) open_tag (subst (λ (s : Tag). is_closing s ≡ true) (same_tags c.tag t e) w.closes)) in
         let z : count_tag t (c.tag ∷ []) ≡ 0 = rw other refl in
         let k = count_fields t gs (c ∷ []) in
-        not_from_false _ (not_from_true _ (present_from_count t (tags_in gs) (omega arith)))
+        omega (arith, all, z, k)
 
   -- the form is among the candidates
   candidate : (p : Form → Bool) (before after : List Field) → gs ≡ before ++ after → p g ≡ true → list_any p (candidates before) ≡ true
@@ -124,28 +122,32 @@ module _ (g : Form) (gs : List Field) (c : Field) (w : IsProper g gs c) where
       not_from_true _ (subst (λ (t : Tag). same_tag t Mcl ≡ true) (sym k) refl)
   is_first (b ∷ before) f after e = and_left _ _ (not_zero (length before))
 
-  not_before : (before : List Field) (f : Field) (after : List Field) → gs ++ c ∷ [] ≡ before ++ f ∷ after → has_tag f.tag (tags_in before) ≡ false
-  not_before before f after e = false_from_ne_true _ (λ h.
+  fewer_before : (before : List Field) (f : Field) (after : List Field) → gs ++ c ∷ [] ≡ before ++ f ∷ after → count_tag f.tag (tags_in before) < times g f.tag
+  fewer_before before f after e =
       let a = ap (λ (xs : List Field). count_tag f.tag (tags_in xs)) e ∙ count_fields f.tag before (f ∷ after) in
-      let b = present_count f.tag (tags_in before) h in
       let d = present_count f.tag (tags_in (f ∷ after)) (or_left _ _ (same_itself f.tag)) in
-      let o = once f.tag in
-      omega arith)
+      let m = most f.tag in
+      omega (arith, a, d, m)
 
-  counted_left : (before after : List Field) (t : Tag) → gs ++ c ∷ [] ≡ before ++ after → has_tag t (tags_in before) ≡ true → 1 ≤ count_tag t (tags_in (gs ++ c ∷ []))
-  counted_left before after t e h =
-      let a = ap (λ (xs : List Field). count_tag t (tags_in xs)) e ∙ count_fields t before after in
-      let b = present_count t (tags_in before) h in
-      omega arith
+  not_before : (before : List Field) (f : Field) (after : List Field) → gs ++ c ∷ [] ≡ before ++ f ∷ after → is_repeated before f.tag ≡ false
+  not_before [] f after e = not_repeated [] f.tag (go (same_tag f.tag Kd && false)) where
+    go : (b : Bool) → 0 < cond b 2 1
+    go true = omega arith
+    go false = omega arith
+  not_before (b ∷ bs) f after e =
+      let i : b ≡ w.first = cc (e, ap (λ (xs : List Field). xs ++ c ∷ []) w.begins) in
+      let k : class_text g ≡ b.contents = w.class ∙ ap (λ (x : Field). x.contents) (sym i) in
+      let n = fewer_before (b ∷ bs) f after e in
+      let m = times_within g f.tag in
+      not_repeated (b ∷ bs) f.tag (subst (λ (x : List ℕ). count_tag f.tag (tags_in (b ∷ bs)) < cond (same_tag f.tag Kd && bytes_eq x (codes "KSM")) 2 1) k (omega (arith, n, m)))
 
-  tags_so_far : (before : List Field) (f : Field) (after : List Field) → gs ++ c ∷ [] ≡ before ++ f ∷ after → list_all (allows g) (f.tag ∷ tags_in before) ≡ true
-  tags_so_far before f after e =
-      let e2 : gs ++ c ∷ [] ≡ (before ++ f ∷ []) ++ after = e ∙ sym (append_assoc before (f ∷ []) after) in
-      let t2 = tags_append before (f ∷ []) in
-      all_allowed (f.tag ∷ tags_in before) (λ t h. counted_left (before ++ f ∷ []) after t e2 (rw t2 (go t (or_cases (same_tag f.tag t) _ h)))) where
-        go : (t : Tag) → (same_tag f.tag t ≡ true) ⊎ (has_tag t (tags_in before) ≡ true) → has_tag t (tags_in before ++ f.tag ∷ []) ≡ true
-        go t (inl i) = list_any-append (λ s. same_tag s t) (tags_in before) (f.tag ∷ []) ∙ or_right _ _ (or_left _ _ i)
-        go t (inr i) = list_any-append (λ s. same_tag s t) (tags_in before) (f.tag ∷ []) ∙ or_left _ _ i
+  tags_so_far : (before : List Field) (f : Field) (after : List Field) → gs ++ c ∷ [] ≡ before ++ f ∷ after → admits g (f.tag ∷ tags_in before) ≡ true
+  tags_so_far before f after e = admits_from g (f.tag ∷ tags_in before) (λ t.
+      let a = ap (λ (xs : List Field). count_tag t (tags_in xs)) e ∙ count_fields t before (f ∷ after) in
+      let b = count_append t (f.tag ∷ []) (tags_in after) in
+      let d = count_append t (f.tag ∷ []) (tags_in before) in
+      let m = most t in
+      omega (arith, a, b, d, m))
 
   known_at : (before : List Field) (f : Field) (after : List Field) → are_known (before ++ f ∷ after) ≡ true → is_none (value_of (kind_of f.tag) f.contents) ≡ false
   known_at [] f after h = not_from_true _ (and_parts _ _ h).0
@@ -155,11 +157,11 @@ module _ (g : Form) (gs : List Field) (c : Field) (w : IsProper g gs c) where
   passes_at before f after more e i lacks =
       let a = tags_so_far before f after e in
       record {
-        supported = false_from_ne_true _ (λ h. both_ways (allows g f.tag) (not-true _ (or_not _ _ (unsupported_refused g f.tag) h)) (and_parts _ _ a).0);
+        supported = false_from_ne_true _ (λ h. both_ways (allows g f.tag) (not-true _ (or_not _ _ (unsupported_refused g f.tag) h)) (admits_allows g f.tag (tags_in before) a));
         first = is_first before f after e;
         once = not_before before f after e;
         unclosed = (or_parts _ _ (sym (ap (list_any is_closing) (ap tags_in i ∙ tags_append before more) ∙ list_any-append is_closing (tags_in before) (tags_in more)) ∙ w.unclosed)).0;
-        left = some_left (λ h. list_all (allows h) (f.tag ∷ tags_in before)) (candidates before) (candidate (λ h. list_all (allows h) (f.tag ∷ tags_in before)) before more i a);
+        left = some_left (λ h. admits h (f.tag ∷ tags_in before)) (candidates before) (candidate (λ h. admits h (f.tag ∷ tags_in before)) before more i a);
         complete = lacks;
         good = known_at before f after (subst (λ (xs : List Field). are_known xs ≡ true) e w.known);
       }
@@ -167,7 +169,7 @@ module _ (g : Form) (gs : List Field) (c : Field) (w : IsProper g gs c) where
   passes_last : Passes gs c
   passes_last =
       let e : gs ≡ gs ++ [] = sym (append-nil gs) in
-      let allows_all : Form → Bool = λ h. list_all (allows h) (c.tag ∷ tags_in gs) in
+      let allows_all : Form → Bool = λ h. admits h (c.tag ∷ tags_in gs) in
       let lacks_none : Form → Bool = λ h. is_none (absent h (tags_in gs)) in
       let k = any_filtered lacks_none allows_all (candidates gs) ∙ candidate (λ h. allows_all h && lacks_none h) gs [] e (and_from _ _ (tags_so_far gs c [] refl) complete) in
       passes_at gs c [] [] refl e (λ h. lacking_none (forms_left gs (c.tag ∷ tags_in gs)) (tags_in gs) k)

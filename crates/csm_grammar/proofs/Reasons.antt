@@ -7,11 +7,11 @@ use Rattle.csm_grammar.specs.declared.tag.Tag.{Tag}
 use Rattle.csm_grammar.specs.declared.tag.Tag.TheVariants.{Mcl}
 use Rattle.csm_grammar.specs.declared.refusal.ReadRefusal.{ReadRefusal}
 use Rattle.csm_grammar.specs.declared.refusal.ReadRefusal.TheVariants as refusal
-use Rattle.csm_grammar.specs.Tags.{tag_name, same_tag, has_tag, is_closing, is_unsupported}
+use Rattle.csm_grammar.specs.Tags.{tag_name, same_tag, is_closing, is_unsupported}
 use Rattle.csm_grammar.specs.Values.{kind_of, value_of}
 use Rattle.csm_grammar.specs.Spelling.{Field, tags_in}
 use Rattle.csm_grammar.specs.Units.{Standing, end_place, stretches_of, units_of}
-use Rattle.csm_grammar.specs.Faults.{refuse, or_else, differs, front_fault, is_tagged, lacking, forms_left, field_of, fault_of, fault_of_field, fields_from, first_fault, missing_of, unclosed_fault, endless_fault, end_fault, fault_of_text}
+use Rattle.csm_grammar.specs.Faults.{refuse, or_else, is_repeated, differs, front_fault, is_tagged, lacking, forms_left, field_of, fault_of, fault_of_field, fields_from, first_fault, missing_of, unclosed_fault, endless_fault, end_fault, fault_of_text}
 use Rattle.csm_grammar.specs.Laws.{EndsAs}
 use Rattle.csm_grammar.proofs.Passing.{no_fault, fault_more}
 
@@ -67,7 +67,7 @@ unfolding is_last
 field_gives before place f =
     other_refuse (is_unsupported f.tag) (refusal.Unsupported f.tag place) _ refl
     (other_refuse ((length before == 0) && not (same_tag f.tag Mcl)) (refusal.Missing Mcl place) _ refl
-    (other_refuse (has_tag f.tag (tags_in before)) (refusal.Repeated f.tag place) _ refl
+    (other_refuse (is_repeated before f.tag) (refusal.Repeated f.tag place) _ refl
     (other_refuse (list_any is_closing (tags_in before) || (length (forms_left before (f.tag ∷ tags_in before)) == 0)) (refusal.Unwanted f.tag place) _ refl
     (other_or_else _ _ (lacking_gives (is_closing f.tag) (lacking (forms_left before (f.tag ∷ tags_in before)) (tags_in before)) place)
     (other_refuse (is_none (value_of (kind_of f.tag) f.contents)) (refusal.BadContents f.tag (place + (length (tag_name f.tag) + 1))) None refl other_none)))))

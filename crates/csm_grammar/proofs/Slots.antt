@@ -12,7 +12,7 @@ use Rattle.csm_grammar.specs.declared.form.Need.TheVariants.{Required, Optional,
 use Rattle.csm_grammar.specs.declared.message.Message.{Message}
 use Rattle.csm_grammar.specs.declared.parsed.Shut.{Shut}
 use Rattle.csm_grammar.specs.Tags.{tags, same_tag, has_tag, count_tag}
-use Rattle.csm_grammar.specs.Classes.{need_of, allows}
+use Rattle.csm_grammar.specs.Classes.{need_of, allows, times}
 use Rattle.csm_grammar.specs.Values.{Value, kind_of, value_of}
 use Rattle.csm_grammar.specs.Messages.{Valued, valued, all_fields}
 use Rattle.csm_grammar.specs.Spelling.{Field, tags_in, ComesAs, AreOfForm, values_in, values_for, StandFor}
@@ -89,7 +89,7 @@ count_values t (f ∷ fs) = go (same_tag f.tag t) (count_values t fs) where
 -- a tag that the form doesn't allow doesn't come
 pub unallowed_count : (g : Form) (fs : List Field) (t : Tag) → AreOfForm g fs → allows g t ≡ false → count_tag t (tags_in fs) ≡ 0
 unallowed_count g fs t h a = go (need_of g t) (h t) (refused_allows g t ∙ not_from_false _ a) where
-  go : (n : Need) → ComesAs n (count_tag t (tags_in fs)) → is_refused n ≡ true → count_tag t (tags_in fs) ≡ 0
+  go : (n : Need) → ComesAs n (times g t) (count_tag t (tags_in fs)) → is_refused n ≡ true → count_tag t (tags_in fs) ≡ 0
   go Required i k = absurd (false≢true k)
   go Optional i k = absurd (false≢true k)
   go Refused i k = i

@@ -1,9 +1,9 @@
 -- No two messages are spelled alike.
 use Rattle.std.proofs.Common.{◌≡◌, ℕ, ◌+◌, Bool, true, false, cond, List, [], ◌∷◌, ◌++◌, map, get_or, Option, Some, refl, sym, ◌∙◌, ap, subst, arith, inl, inr}
-use Rattle.std.specs.Prelude.{◌⊎◌, ◌==◌, ◌&&◌, ◌||◌, not, bytes_eq}
-use Rattle.std.specs.List.{list_any, list_all}
+use Rattle.std.specs.Prelude.{◌⊎◌, ◌==◌, ◌||◌, not, bytes_eq}
+use Rattle.std.specs.List.{list_any}
 use Rattle.std.specs.Cmp.Lexicographic.{bytes_decides}
-use Rattle.std.proofs.lemmas.Bool.{eqb-true, and_parts, or_cases, not-true, false≢true, both_ways, false_from_ne_true}
+use Rattle.std.proofs.lemmas.Bool.{eqb-true, eq-eqb, and_parts, or_cases, not-true, false≢true, both_ways, false_from_ne_true}
 use Rattle.std.proofs.lemmas.List.{append-nil, map-append, same_from_push}
 use Rattle.std.proofs.lemmas.List.Elements.{filter-append}
 use Rattle.csm_grammar.specs.declared.tag.Tag.{Tag}
@@ -17,52 +17,49 @@ use Rattle.csm_grammar.specs.declared.parsed.Shut.{Shut}
 use Rattle.csm_grammar.specs.declared.parsed.Shut.TheVariants as shuts
 use Rattle.csm_grammar.specs.declared.parsed.Parsed.{Parsed}
 use Rattle.csm_grammar.specs.Tags.{tags, same_tag, count_tag, is_closing}
-use Rattle.csm_grammar.specs.Classes.{forms, class_text, need_of}
+use Rattle.csm_grammar.specs.Classes.{forms, class_text, need_of, times}
 use Rattle.csm_grammar.specs.Values.{Value, kind_of, value_of}
 use Rattle.csm_grammar.specs.Messages.{form_of, shut_field, all_fields}
 use Rattle.csm_grammar.specs.Spelling.{Field, tags_in, ComesAs, values_in, values_for, StandFor}
 use Rattle.csm_grammar.specs.Units.{units_of}
 use Rattle.csm_grammar.specs.Faults.{fields_from}
 use Rattle.csm_grammar.specs.Reading.{IsRead}
-use Rattle.csm_grammar.proofs.TagLemmas.{each_form, form_place, form_at, same_tags}
-use Rattle.csm_grammar.proofs.Counting.{is_refused, is_required, count_fields}
+use Rattle.csm_grammar.proofs.TagLemmas.{form_place, form_at, same_tags}
+use Rattle.csm_grammar.proofs.FormsApart.{parts_needs, parts_forms, all_told_apart}
+use Rattle.csm_grammar.proofs.Counting.{count_fields}
 use Rattle.csm_grammar.proofs.Codes.{closing_values}
 use Rattle.csm_grammar.proofs.ContentsLemmas.{any_has}
 use Rattle.csm_grammar.proofs.Proper.{IsProper}
 use Rattle.csm_grammar.proofs.Kept.{kept}
 use Rattle.csm_grammar.proofs.Back.{message_by, values_beside, message_back}
 
--- a tag beside the codes that one form requires and the other refuses
-abbrev parts_forms : Form → Form → Tag → Bool
-parts_forms g h t = not (is_closing t) && ((is_required (need_of g t) && is_refused (need_of h t)) || (is_required (need_of h t) && is_refused (need_of g t)))
+never : (n k : Need) (most other c : ℕ) → ComesAs n most c → ComesAs k other c → parts_needs n k most other ≡ true → ⊥
+never Required Required most other c i j h = go (or_cases _ _ h) where
+  go : (false ≡ true) ⊎ ((not (most == other)) ≡ true) → ⊥
+  go (inl e) = false≢true e
+  go (inr e) = both_ways (most == other) (not-true _ e) (eq-eqb most other (sym i ∙ j))
+never Required Optional most other c i j h = false≢true h
+never Required Refused most other c i j h = go (or_cases _ _ h) where
+  go : (not (most == 0) ≡ true) ⊎ (false ≡ true) → ⊥
+  go (inl e) = both_ways (most == 0) (not-true _ e) (eq-eqb most 0 (sym i ∙ j))
+  go (inr e) = false≢true e
+never Optional k most other c i j h = false≢true h
+never Refused k most other c i j h = false≢true h
 
-abbrev told_apart : Form → Form → Bool
-told_apart g h = (form_place g == form_place h) || (not (bytes_eq (class_text g) (class_text h)) || list_any (parts_forms g h) tags)
-
-all_told_apart : (g h : Form) → told_apart g h ≡ true
-all_told_apart g h = each_form (told_apart g) (each_form (λ f. list_all (told_apart f) forms) refl g) h
-
-never_both : (n k : Need) (c : ℕ) → ComesAs n c → ComesAs k c → (is_required n && is_refused k) ≡ true → ⊥
-never_both Required Required c i j h = false≢true h
-never_both Required Optional c i j h = false≢true h
-never_both Required Refused c i j h = omega arith
-never_both Optional k c i j h = false≢true h
-never_both Refused k c i j h = false≢true h
-
--- two forms of one class with the same tags are one
-pub same_form : (g h : Form) (count : Tag → ℕ) → ((t : Tag) → is_closing t ≡ false → ComesAs (need_of g t) (count t)) → ((t : Tag) → is_closing t ≡ false → ComesAs (need_of h t) (count t)) → class_text g ≡ class_text h → g ≡ h
+-- two forms of one class with the same tags, each as often, are one
+pub same_form : (g h : Form) (count : Tag → ℕ) → ((t : Tag) → is_closing t ≡ false → ComesAs (need_of g t) (times g t) (count t)) → ((t : Tag) → is_closing t ≡ false → ComesAs (need_of h t) (times h t) (count t)) → class_text g ≡ class_text h → g ≡ h
 same_form g h count i j class = go (or_cases _ _ (all_told_apart g h)) where
   apart : (t : Tag) → parts_forms g h t ≡ true → ⊥
   apart t e = both (or_cases _ _ k.1) where
-    k : (not (is_closing t) ≡ true) × (((is_required (need_of g t) && is_refused (need_of h t)) || (is_required (need_of h t) && is_refused (need_of g t))) ≡ true)
+    k : (not (is_closing t) ≡ true) × ((parts_needs (need_of g t) (need_of h t) (times g t) (times h t) || parts_needs (need_of h t) (need_of g t) (times h t) (times g t)) ≡ true)
     k = and_parts _ _ e
 
     o : is_closing t ≡ false
     o = not-true _ k.0
 
-    both : ((is_required (need_of g t) && is_refused (need_of h t)) ≡ true) ⊎ ((is_required (need_of h t) && is_refused (need_of g t)) ≡ true) → ⊥
-    both (inl x) = never_both (need_of g t) (need_of h t) (count t) (i t o) (j t o) x
-    both (inr x) = never_both (need_of h t) (need_of g t) (count t) (j t o) (i t o) x
+    both : (parts_needs (need_of g t) (need_of h t) (times g t) (times h t) ≡ true) ⊎ (parts_needs (need_of h t) (need_of g t) (times h t) (times g t) ≡ true) → ⊥
+    both (inl x) = never (need_of g t) (need_of h t) (times g t) (times h t) (count t) (i t o) (j t o) x
+    both (inr x) = never (need_of h t) (need_of g t) (times h t) (times g t) (count t) (j t o) (i t o) x
 
   later : (not (bytes_eq (class_text g) (class_text h)) ≡ true) ⊎ (list_any (parts_forms g h) tags ≡ true) → g ≡ h
   later (inl e) = absurd (both_ways _ (not-true _ e) ((bytes_decides (class_text g) (class_text h)).1 class))
@@ -129,8 +126,8 @@ count_beside t gs c h k =
 pub one_message : (m n : Message) (s t : Shut) (gs : List Field) (c d : Field) → IsProper (form_of m) gs c → IsProper (form_of n) gs d → StandFor (gs ++ c ∷ []) m s → StandFor (gs ++ d ∷ []) n t → m ≡ n
 one_message m n s t gs c d p q h k =
     let f = same_form (form_of m) (form_of n) (λ x. count_tag x (tags_in gs))
-    (λ x o. subst (ComesAs (need_of (form_of m) x)) (count_beside x gs c o p.closes) (p.tags x))
-    (λ x o. subst (ComesAs (need_of (form_of n) x)) (count_beside x gs d o q.closes) (q.tags x))
+    (λ x o. subst (ComesAs (need_of (form_of m) x) (times (form_of m) x)) (count_beside x gs c o p.closes) (p.tags x))
+    (λ x o. subst (ComesAs (need_of (form_of n) x) (times (form_of n) x)) (count_beside x gs d o q.closes) (q.tags x))
     (class_same (form_of m) (form_of n) gs gs c d p q refl) in
     same_message m n s t f (λ x o. somes _ _ (sym (h x) ∙ beside_code x gs c o p.closes ∙ sym (beside_code x gs d o q.closes) ∙ k x))
 

@@ -3,7 +3,7 @@ use Rattle.std.proofs.Common.{◌≡◌, ℕ, List, [], ◌∷◌, map, Option, 
 use Rattle.std.specs.Prelude.{codes, option_to_list}
 use Rattle.x_base.specs.declared.key_name.KeyName.{KeyName}
 use Rattle.csm_grammar.specs.declared.tag.Tag.TheVariants.{Mcl, Rcv, Org, Svr, Idu, Idc, Idd, Ida, Idk1, Idk2, DoubleKk, Kk, Kd, Kdu, Ctp, Cta, Ctb, Ctr, Erf, Iv, Edk, P, Mac, Edc}
-use Rattle.csm_grammar.specs.declared.form.Form.TheVariants.{F1, F2, F3, F4, F5, F6, F7, F8, F9, F10, F11, F12}
+use Rattle.csm_grammar.specs.declared.form.Form.TheVariants.{F1, F2, F3, F4, F5, F6, F7, F8, F9, F10, F11, F12, F13}
 use Rattle.csm_grammar.specs.declared.message.Message.{Message}
 use Rattle.csm_grammar.specs.declared.message.Message.TheVariants as message
 use Rattle.csm_grammar.specs.declared.message.KsmBody.TheVariants as body
@@ -201,6 +201,28 @@ ksm_centre_fields r o centre kdu ctb iv edk p n = simp append_assoc
 
 pub ksm_centre_stands : (fs : List Field) (r : List ℕ) (o : List ℕ) (centre : List ℕ) (kdu : ℕ) (ctb : ℕ) (iv : Option (List ℕ)) (edk : Option (List ℕ)) (p : Option (List ℕ)) (n : ℕ) → AreOfForm F8 fs → AreFilled fs (ksm_centre_slots r o centre kdu ctb iv edk p n) → StandFor fs (ksm_centre r o centre kdu ctb iv edk p) (shuts.Mac n)
 ksm_centre_stands fs r o centre kdu ctb iv edk p n h f = stand_by_slots F8 fs (ksm_centre_slots r o centre kdu ctb iv edk p n) (ksm_centre r o centre kdu ctb iv edk p) (shuts.Mac n) h f (ksm_centre_fields r o centre kdu ctb iv edk p n) refl refl
+
+abbrev pub ksm_twin : List ℕ → List ℕ → Option (List ℕ) → ℕ → ℕ → ℕ → Option (List ℕ) → Option (List ℕ) → Option (List ℕ) → Message
+ksm_twin r o k2 first second ctp iv edk p = message.Ksm (record { receiver = r; originator = o; body = body.Twin k2 first second ctp; extras = record { iv = iv; edk = edk; p = p } })
+
+abbrev pub ksm_twin_slots : List ℕ → List ℕ → Option (List ℕ) → ℕ → ℕ → ℕ → Option (List ℕ) → Option (List ℕ) → Option (List ℕ) → ℕ → List Slot
+ksm_twin_slots r o k2 first second ctp iv edk p n =
+    slot Mcl (AText (codes "KSM") ∷ [])
+    ∷ slot Rcv (AText r ∷ [])
+    ∷ slot Org (AText o ∷ [])
+    ∷ slot Idk2 (slot_if AText k2)
+    ∷ slot Kd (ANumber first ∷ ANumber second ∷ [])
+    ∷ slot Ctp (ANumber ctp ∷ [])
+    ∷ slot Iv (slot_if AText iv)
+    ∷ slot Edk (slot_if AText edk)
+    ∷ slot P (slot_if AText p)
+    ∷ slot Mac (ANumber n ∷ []) ∷ []
+
+pub ksm_twin_fields : (r : List ℕ) (o : List ℕ) (k2 : Option (List ℕ)) (first : ℕ) (second : ℕ) (ctp : ℕ) (iv : Option (List ℕ)) (edk : Option (List ℕ)) (p : Option (List ℕ)) (n : ℕ) → all_fields (ksm_twin r o k2 first second ctp iv edk p) (shuts.Mac n) ≡ fields_at (ksm_twin_slots r o k2 first second ctp iv edk p n)
+ksm_twin_fields r o k2 first second ctp iv edk p n = simp append_assoc
+
+pub ksm_twin_stands : (fs : List Field) (r : List ℕ) (o : List ℕ) (k2 : Option (List ℕ)) (first : ℕ) (second : ℕ) (ctp : ℕ) (iv : Option (List ℕ)) (edk : Option (List ℕ)) (p : Option (List ℕ)) (n : ℕ) → AreOfForm F13 fs → AreFilled fs (ksm_twin_slots r o k2 first second ctp iv edk p n) → StandFor fs (ksm_twin r o k2 first second ctp iv edk p) (shuts.Mac n)
+ksm_twin_stands fs r o k2 first second ctp iv edk p n h f = stand_by_slots F13 fs (ksm_twin_slots r o k2 first second ctp iv edk p n) (ksm_twin r o k2 first second ctp iv edk p) (shuts.Mac n) h f (ksm_twin_fields r o k2 first second ctp iv edk p n) refl refl
 
 abbrev pub rsm : List ℕ → List ℕ → Option KeyName → Option (List ℕ) → Option (List ℕ) → Option (List ℕ) → Message
 rsm r o idd iv edk p = message.Rsm (record { receiver = r; originator = o; idd = idd; extras = record { iv = iv; edk = edk; p = p } })

@@ -1,6 +1,6 @@
 -- The class table's facts.
 use Rattle.std.proofs.Common.{◌≡◌, Bool, true, false, List, [], ◌∷◌, refl}
-use Rattle.std.specs.Prelude.{◌&&◌, nat_lt}
+use Rattle.std.specs.Prelude.{◌&&◌, nat_le}
 use Rattle.std.specs.List.{list_all}
 use Rattle.csm_grammar.specs.declared.tag.Tag.{Tag}
 use Rattle.csm_grammar.specs.declared.tag.Tag.TheVariants.{Mcl, Mac, Edc}
@@ -13,9 +13,9 @@ use Rattle.csm_grammar.specs.Classes.{forms, required, need_of}
 abbrev in_order : List Tag → Bool
 in_order [] = true
 in_order (t ∷ []) = true
-in_order (s ∷ t ∷ ts) = nat_lt (tag_place s) (tag_place t) && in_order (t ∷ ts)
+in_order (s ∷ t ∷ ts) = nat_le (tag_place s) (tag_place t) && in_order (t ∷ ts)
 
--- required tags are listed in the writer's order
+-- required tags are listed in the writer's order, one that comes twice side by side
 writers_order : list_all (λ f. in_order (required f)) forms ≡ true
 writers_order = refl
 

@@ -8,7 +8,7 @@ use Rattle.std.proofs.lemmas.List.Folds.{list_all_at}
 use Rattle.csm_grammar.specs.declared.tag.Tag.{Tag}
 use Rattle.csm_grammar.specs.declared.tag.Tag.TheVariants.{Mcl, Rcv, Org, Svr, Idu, Idc, Idd, Ida, Idk1, Idk2, DoubleKk, Kk, Kd, Kdu, Ctp, Cta, Ctb, Ctr, Erf, Iv, Edk, P, Mac, Edc, Kku, DoubleKku, Nos}
 use Rattle.csm_grammar.specs.declared.form.Form.{Form}
-use Rattle.csm_grammar.specs.declared.form.Form.TheVariants.{F1, F2, F3, F4, F5, F6, F7, F8, F9, F10, F11, F12}
+use Rattle.csm_grammar.specs.declared.form.Form.TheVariants.{F1, F2, F3, F4, F5, F6, F7, F8, F9, F10, F11, F12, F13}
 use Rattle.csm_grammar.specs.Tags.{tag_name, tags, tag_place, same_tag, tag_of}
 use Rattle.csm_grammar.specs.Classes.{forms}
 
@@ -121,10 +121,11 @@ form_place F5 = 4
 form_place F6 = 5
 form_place F7 = 6
 form_place F8 = 7
-form_place F9 = 8
-form_place F10 = 9
-form_place F11 = 10
-form_place F12 = 11
+form_place F13 = 8
+form_place F9 = 9
+form_place F10 = 10
+form_place F11 = 11
+form_place F12 = 12
 
 pub form_at : (f : Form) → get_or forms (form_place f) F1 ≡ f
 form_at F1 = refl
@@ -139,8 +140,9 @@ form_at F9 = refl
 form_at F10 = refl
 form_at F11 = refl
 form_at F12 = refl
+form_at F13 = refl
 
-form_small : (f : Form) → form_place f < 12
+form_small : (f : Form) → form_place f < 13
 form_small F1 = lit< tt
 form_small F2 = lit< tt
 form_small F3 = lit< tt
@@ -153,6 +155,7 @@ form_small F9 = lit< tt
 form_small F10 = lit< tt
 form_small F11 = lit< tt
 form_small F12 = lit< tt
+form_small F13 = lit< tt
 
 -- a test that each form passes
 pub each_form : (p : Form → Bool) → list_all p forms ≡ true → (f : Form) → p f ≡ true

@@ -14,13 +14,12 @@ use Rattle.x_base.specs.KeyName.{parts_of}
 use Rattle.csm_grammar.specs.declared.tag.Tag.{Tag}
 use Rattle.csm_grammar.specs.declared.message.Service.{Service}
 use Rattle.csm_grammar.specs.declared.message.Message.{Message}
-use Rattle.csm_grammar.specs.declared.parsed.Shut.{Shut}
 use Rattle.csm_grammar.specs.Tags.{same_tag}
 use Rattle.csm_grammar.specs.Classes.{class_text, forms}
 use Rattle.csm_grammar.specs.Values.{Value, AText, AName, AService, ANumber, APair, Kind, OfClass, OfIdent, OfService, OfName, OfLabel, OfPair, OfKey, OfCount, OfReason, OfText, OfCode, Unsupported, kind_of, is_hex, is_count, is_reason_byte, is_text_byte, services, service_text, name_of_parts, value_if, value_of}
 use Rattle.csm_grammar.specs.Messages.{Valued, fields_of, shut_field, all_fields}
 use Rattle.csm_grammar.specs.Spelling.{Field, values_in, values_for, Says, fields_in}
-use Rattle.csm_grammar.specs.Kinds.{IsReason, IsOfKind, IsFieldOfKind}
+use Rattle.csm_grammar.specs.Kinds.{IsOfKind, IsFieldOfKind}
 use Rattle.csm_grammar.specs.Arrivals.{SaidTyped}
 use Rattle.csm_grammar.proofs.TagLemmas.{same_tags, same_itself}
 use Rattle.csm_grammar.proofs.ContentsReading.{hex_append, whole_pair, count_spelled}

@@ -8,15 +8,14 @@ use Rattle.csm_grammar.specs.declared.tag.Tag.{Tag}
 use Rattle.csm_grammar.specs.declared.tag.Tag.TheVariants.{Mcl}
 use Rattle.csm_grammar.specs.declared.refusal.ReadRefusal.{ReadRefusal}
 use Rattle.csm_grammar.specs.declared.refusal.ReadRefusal.TheVariants as refusal
-use Rattle.csm_grammar.specs.Tags.{tag_name, tag_of, same_tag, has_tag, is_closing, is_unsupported}
+use Rattle.csm_grammar.specs.Tags.{tag_name, tag_of, same_tag, is_closing, is_unsupported}
 use Rattle.csm_grammar.specs.Values.{kind_of, value_of, is_hex}
 use Rattle.csm_grammar.specs.Spelling.{Field, tags_in, is_separator}
 use Rattle.csm_grammar.specs.Units.{Stretch, Standing, longer, stretches, end_place, put, waits, units, stretches_of, units_of, tag_text, contents_text}
-use Rattle.csm_grammar.specs.Faults.{refuse, or_else, differs, front_fault, is_tagged, lacking, forms_left, field_of, fault_of, fault_of_field, fields_from, first_fault, missing_of, unclosed_fault, endless_fault, end_fault, fault_of_text}
+use Rattle.csm_grammar.specs.Faults.{refuse, or_else, is_repeated, differs, front_fault, is_tagged, lacking, forms_left, field_of, fault_of, fault_of_field, fields_from, first_fault, missing_of, endless_fault, end_fault, fault_of_text}
 use Rattle.csm_grammar.specs.Places.{place_of}
 use Rattle.csm_grammar.proofs.Passing.{no_fault, fault_more}
 use Rattle.csm_grammar.proofs.Stretching.{stretch}
-use Rattle.csm_grammar.proofs.Grouping.{units_two}
 use Rattle.csm_grammar.proofs.UnitLemmas.{is_slash, any_found}
 use Rattle.csm_grammar.proofs.TagLemmas.{name_of_tag}
 
@@ -61,7 +60,7 @@ field_within : (n : ℕ) (before : List Field) (place : ℕ) (f : Field) → pla
 field_within n before place f h k =
     within_refuse n (is_unsupported f.tag) (refusal.Unsupported f.tag place) _ h
     (within_refuse n ((length before == 0) && not (same_tag f.tag Mcl)) (refusal.Missing Mcl place) _ h
-    (within_refuse n (has_tag f.tag (tags_in before)) (refusal.Repeated f.tag place) _ h
+    (within_refuse n (is_repeated before f.tag) (refusal.Repeated f.tag place) _ h
     (within_refuse n (list_any is_closing (tags_in before) || (length (forms_left before (f.tag ∷ tags_in before)) == 0)) (refusal.Unwanted f.tag place) _ h
     (within_or_else n _ _ (lacking_within n (is_closing f.tag) (lacking (forms_left before (f.tag ∷ tags_in before)) (tags_in before)) place h)
     (within_refuse n (is_none (value_of (kind_of f.tag) f.contents)) (refusal.BadContents f.tag (place + (length (tag_name f.tag) + 1))) None k (within_none n))))))

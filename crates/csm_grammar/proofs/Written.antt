@@ -9,7 +9,7 @@ use Rattle.csm_grammar.specs.declared.tag.Tag.TheVariants.{Mcl}
 use Rattle.csm_grammar.specs.declared.message.Message.{Message}
 use Rattle.csm_grammar.specs.declared.parsed.Shut.{Shut}
 use Rattle.csm_grammar.specs.Tags.{same_tag}
-use Rattle.csm_grammar.specs.Classes.{need_of}
+use Rattle.csm_grammar.specs.Classes.{need_of, times}
 use Rattle.csm_grammar.specs.Values.{kind_of, value_of}
 use Rattle.csm_grammar.specs.Messages.{Valued, form_of, fields_of, shut_field, all_fields}
 use Rattle.csm_grammar.specs.Spelling.{Field, field_text, Spelled, spelled_text, fields_in, tags_in, AreParted, ComesAs, AreOfForm, values_in, values_for, StandFor}
@@ -88,7 +88,7 @@ written_read fs code m shut rest w =
     let flat = all_spelled fs code in
     let stands : StandFor gs m shut = λ t. zip_values t gs (all_fields m shut) w.each in
     let form : AreOfForm (form_of m) gs =
-    λ t. subst (ComesAs (need_of (form_of m) t)) (sym (length-map (values_for t (all_fields m shut)) Some) ∙ ap length (sym (stands t)) ∙ count_values t gs) (fields_form m shut w.allowed t) in
+    λ t. subst (ComesAs (need_of (form_of m) t) (times (form_of m) t)) (sym (length-map (values_for t (all_fields m shut)) Some) ∙ ap length (sym (stands t)) ∙ count_values t gs) (fields_form m shut w.allowed t) in
     let tags = tags_parted fs code m shut (zip_tags gs (all_fields m shut) w.each) in
     let e = all_fields_in fs code in
     let none : List ℕ = [] in

@@ -1,16 +1,16 @@
 -- What the reader needs of the fields that it makes a message of.
-use Rattle.std.specs.Prelude.{◌≡◌, ◌⊎◌, ℕ, ◌+◌, true, List, [], ◌∷◌, map, Option, Some, None, option_to_list, option_map, option_and_then, length, take, IsSome, is_some, ◌≤◌, false, Result, MatchResult}
+use Rattle.std.specs.Prelude.{◌≡◌, ◌⊎◌, ℕ, ◌+◌, nat_le, true, List, [], ◌∷◌, map, Option, Some, None, option_map, length, take, IsSome, is_some, ◌≤◌, false, Result, MatchResult}
 use Rattle.std.specs.List.{filter, list_all, list_any}
 use Rattle.std.specs.Borrow.{Bor}
 use Rattle.csm_grammar.specs.declared.tag.Tag.{Tag}
-use Rattle.csm_grammar.specs.declared.tag.Tag.TheVariants.{Mcl, Iv, Edk, P, Mac, Edc}
+use Rattle.csm_grammar.specs.declared.tag.Tag.TheVariants.{Mcl, Kd, Iv, Edk, P, Mac, Edc}
 use Rattle.csm_grammar.specs.declared.form.Form.{Form}
 use Rattle.csm_grammar.specs.declared.message.Message.{Message}
 use Rattle.csm_grammar.specs.declared.message.Extras.{Extras}
 use Rattle.csm_grammar.specs.declared.parsed.Shut.{Shut}
 use Rattle.csm_grammar.specs.declared.parsed.Shut.TheVariants as shuts
 use Rattle.csm_grammar.specs.Tags.{same_tag, has_tag, count_tag, is_closing}
-use Rattle.csm_grammar.specs.Classes.{class_text, required}
+use Rattle.csm_grammar.specs.Classes.{class_text, required, times}
 use Rattle.csm_grammar.specs.Values.{Value, AText, ANumber, kind_of, value_of}
 use Rattle.csm_grammar.specs.Messages.{form_of}
 use Rattle.csm_grammar.specs.Spelling.{Field, tags_in, AreOfForm, values_in, StandFor}
@@ -21,12 +21,16 @@ use Rattle.csm_grammar.specs.Reading.{IsRead, IsFault}
 use Rattle.csm_grammar.specs.declared.parsed.Parsed.{Parsed}
 use Rattle.csm_grammar.specs.declared.refusal.ReadRefusal.{ReadRefusal}
 use Rattle.csm_grammar.specs.declared.refusal.ReadRefusal.TheVariants as refusal
-use Rattle.csm_grammar.specs.Slotting.{slot_in, came, Keeps}
-use Rattle.csm_grammar.specs.Denoting.{value_at}
+use Rattle.csm_grammar.specs.Slotting.{came, second_in, contents_in, Keeps}
+use Rattle.csm_grammar.specs.Denoting.{value_at, second_value}
 
 -- all that a form requires beside its code
 abbrev pub ArePresent : List (Option (Bor (List ℕ))) → Form → Type 0
 ArePresent slots f = (t : Tag) → has_tag t (Mcl ∷ required f) ≡ true → IsSome (value_at slots t)
+
+-- a second KD, where the form has two
+abbrev pub IsSecondPresent : List (Option (Bor (List ℕ))) → Form → Type 0
+IsSecondPresent slots f = nat_le 2 (times f Kd) ≡ true → IsSome (second_value slots)
 
 abbrev pub mac_values : Shut → List Value
 mac_values (shuts.Mac n) = ANumber n ∷ []
@@ -44,7 +48,8 @@ pub record AreExtras (slots : List (Option (Bor (List ℕ)))) (e : Extras) : Typ
 
 -- the fields in the slots are those of the form, closed by the code
 pub record AreReady (slots : List (Option (Bor (List ℕ)))) (form : Form) (fs : List Field) (shut : Shut) : Type 0 where
-  pub contents : (t : Tag) → map (λ f. f.contents) (filter (λ f. same_tag f.tag t) fs) ≡ option_to_list (slot_in slots t)
+  pub contents : (t : Tag) → map (λ f. f.contents) (filter (λ f. same_tag f.tag t) fs) ≡ contents_in slots t
+  pub second : came slots Kd ≡ false → second_in slots ≡ None
   pub tags : AreOfForm form fs
   pub known : list_all (λ f. is_some (value_of (kind_of f.tag) f.contents)) fs ≡ true
   pub class : values_in Mcl fs ≡ map Some (AText (class_text form) ∷ [])

@@ -4,14 +4,14 @@ use Rattle.std.specs.List.{filter}
 use Rattle.csm_grammar.specs.declared.tag.Tag.{Tag}
 use Rattle.csm_grammar.specs.declared.tag.Tag.TheVariants.{Mcl, Rcv, Org, Svr, Idu, Idc, Idd, Ida, Idk1, Idk2, DoubleKk, Kk, Kd, Kdu, Ctp, Cta, Ctb, Ctr, Erf, Iv, Edk, P, Mac, Edc}
 use Rattle.csm_grammar.specs.declared.form.Form.{Form}
-use Rattle.csm_grammar.specs.declared.form.Form.TheVariants.{F1, F2, F3, F4, F5, F6, F7, F8, F9, F10, F11, F12}
+use Rattle.csm_grammar.specs.declared.form.Form.TheVariants.{F1, F2, F3, F4, F5, F6, F7, F8, F9, F10, F11, F12, F13}
 use Rattle.csm_grammar.specs.declared.form.Need.{Need}
 use Rattle.csm_grammar.specs.declared.form.Need.TheVariants.{Required, Optional, Refused}
-use Rattle.csm_grammar.specs.Tags.{has_tag}
+use Rattle.csm_grammar.specs.Tags.{has_tag, count_tag}
 
 -- in the order in which they are tried
 abbrev pub forms : List Form
-forms = F1 ∷ F2 ∷ F3 ∷ F4 ∷ F5 ∷ F6 ∷ F7 ∷ F8 ∷ F9 ∷ F10 ∷ F11 ∷ F12 ∷ []
+forms = F1 ∷ F2 ∷ F3 ∷ F4 ∷ F5 ∷ F6 ∷ F7 ∷ F8 ∷ F13 ∷ F9 ∷ F10 ∷ F11 ∷ F12 ∷ []
 
 -- the class of a form, as MCL writes it
 abbrev pub class_text : Form → List ℕ
@@ -27,12 +27,14 @@ class_text F9 = codes "RSM"
 class_text F10 = codes "ERS"
 class_text F11 = codes "ESM"
 class_text F12 = codes "DSM"
+class_text F13 = codes "KSM"
 
 -- the forms of the class that is written so
 abbrev pub class_forms : List ℕ → List Form
 class_forms c = filter (λ f. bytes_eq (class_text f) c) forms
 
--- the tags that a form must have beside MCL and its closing tag, in the writer's order
+-- the tags that a form must have beside MCL and its closing tag, in the writer's order; KD stands twice
+-- where it has to come twice
 abbrev pub required : Form → List Tag
 required F1 = Rcv ∷ Org ∷ Svr ∷ []
 required F2 = Rcv ∷ Org ∷ Idu ∷ Kd ∷ Cta ∷ []
@@ -46,6 +48,7 @@ required F9 = Rcv ∷ Org ∷ []
 required F10 = Rcv ∷ Org ∷ Idu ∷ Ctr ∷ Erf ∷ []
 required F11 = Rcv ∷ Org ∷ Erf ∷ []
 required F12 = Rcv ∷ Org ∷ Idd ∷ []
+required F13 = Rcv ∷ Org ∷ Kd ∷ Kd ∷ Ctp ∷ []
 
 -- those that it may have
 abbrev pub optional : Form → List Tag
@@ -61,6 +64,7 @@ optional F9 = Idd ∷ Iv ∷ Edk ∷ P ∷ []
 optional F10 = []
 optional F11 = Ctp ∷ Cta ∷ Ctb ∷ Ctr ∷ []
 optional F12 = Ida ∷ []
+optional F13 = Idk2 ∷ Iv ∷ Edk ∷ P ∷ []
 
 -- those that may close it
 abbrev pub closing : Form → List Tag
@@ -76,6 +80,7 @@ closing F9 = Mac ∷ []
 closing F10 = Mac ∷ []
 closing F11 = Mac ∷ Edc ∷ []
 closing F12 = Mac ∷ []
+closing F13 = Mac ∷ []
 
 -- a form's only closing tag is required; where it has two, each is optional
 abbrev pub need_of : Form → Tag → Need
@@ -88,3 +93,7 @@ need_of f t =
 -- the form has the tag
 abbrev pub allows : Form → Tag → Bool
 allows f t = has_tag t (Mcl ∷ (required f ++ (optional f ++ closing f)))
+
+-- how often the form has the tag: twice, once or never
+abbrev pub times : Form → Tag → ℕ
+times f t = count_tag t (Mcl ∷ (required f ++ (optional f ++ closing f)))

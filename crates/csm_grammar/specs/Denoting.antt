@@ -4,7 +4,7 @@ use Rattle.std.specs.Borrow.{Bor}
 use Rattle.csm_grammar.specs.declared.tag.Tag.{Tag}
 use Rattle.csm_grammar.specs.Tags.{tag_place}
 use Rattle.csm_grammar.specs.Values.{Value, ANumber, Kind, OfKey, OfCount, OfCode, kind_of, value_of}
-use Rattle.csm_grammar.specs.Slotting.{slot_in}
+use Rattle.csm_grammar.specs.Slotting.{slot_in, second_in}
 
 -- the kinds of numbers
 abbrev pub is_number : Kind → Bool
@@ -26,6 +26,12 @@ IsDenoted k c result = MatchOption result (value_of k c ≡ None) (StandsFor (va
 abbrev pub value_at : List (Option (Bor (List ℕ))) → Tag → Option Value
 value_at slots t = option_and_then (value_of (kind_of t)) (slot_in slots t)
 
--- the number that is kept behind each tag is the one that the contents stand for, if they stand for one
-abbrev pub AreDenoted : List (Option (Bor (List ℕ))) → List ℕ → Type 0
-AreDenoted slots numbers = (t : Tag) (n : ℕ) → value_at slots t ≡ Some (ANumber n) → slice_index_or numbers (tag_place t) 0 ≡ n
+-- the value of a second KD
+abbrev pub second_value : List (Option (Bor (List ℕ))) → Option Value
+second_value slots = option_and_then (value_of OfKey) (second_in slots)
+
+-- the number that is kept behind each tag, and that of a second KD, is the one that the contents stand
+-- for, if they stand for one
+pub record AreDenoted (slots : List (Option (Bor (List ℕ)))) (numbers : List ℕ) : Type 0 where
+  pub tags : (t : Tag) (n : ℕ) → value_at slots t ≡ Some (ANumber n) → slice_index_or numbers (tag_place t) 0 ≡ n
+  pub second : (n : ℕ) → second_value slots ≡ Some (ANumber n) → slice_index_or numbers 27 0 ≡ n

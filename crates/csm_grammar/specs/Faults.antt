@@ -1,13 +1,13 @@
 -- The first fault of a text (this project's profile).
-use Rattle.std.specs.Prelude.{ℕ, ◌+◌, ◌==◌, nat_le, nat_lt, ◌&&◌, ◌||◌, not, Bool, List, [], ◌∷◌, ◌++◌, length, Option, Some, None, is_none, option_map, option_to_list, unwrap_or, codes, if◌then◌else◌}
+use Rattle.std.specs.Prelude.{ℕ, ◌+◌, ◌==◌, nat_le, nat_lt, ◌&&◌, ◌||◌, not, false, Bool, List, [], ◌∷◌, ◌++◌, length, Option, Some, None, is_none, option_map, option_to_list, unwrap_or, codes, bytes_eq, if◌then◌else◌}
 use Rattle.std.specs.List.{filter, find, filter_map, list_all, list_any}
 use Rattle.csm_grammar.specs.declared.tag.Tag.{Tag}
-use Rattle.csm_grammar.specs.declared.tag.Tag.TheVariants.{Mcl, Mac}
+use Rattle.csm_grammar.specs.declared.tag.Tag.TheVariants.{Mcl, Kd, Mac}
 use Rattle.csm_grammar.specs.declared.form.Form.{Form}
 use Rattle.csm_grammar.specs.declared.refusal.ReadRefusal.{ReadRefusal}
 use Rattle.csm_grammar.specs.declared.refusal.ReadRefusal.TheVariants as refusal
-use Rattle.csm_grammar.specs.Tags.{tag_name, tag_of, same_tag, has_tag, is_closing, is_unsupported}
-use Rattle.csm_grammar.specs.Classes.{forms, class_forms, required, closing, allows}
+use Rattle.csm_grammar.specs.Tags.{tag_name, tags, tag_of, same_tag, has_tag, count_tag, is_closing, is_unsupported}
+use Rattle.csm_grammar.specs.Classes.{forms, class_forms, required, closing, times}
 use Rattle.csm_grammar.specs.Values.{kind_of, value_of, is_capital_or_digit}
 use Rattle.csm_grammar.specs.Spelling.{Field, tags_in}
 use Rattle.csm_grammar.specs.Units.{Standing, tag_text, contents_text, end_place, stretches_of, units_of}
@@ -46,13 +46,30 @@ abbrev pub candidates : List Field → List Form
 candidates [] = forms
 candidates (f ∷ fs) = class_forms f.contents
 
--- those that have all the tags
+-- MCL names the class KSM
+abbrev pub is_ksm : List Field → Bool
+is_ksm [] = false
+is_ksm (f ∷ fs) = bytes_eq f.contents (codes "KSM")
+
+-- the tag came before; KD in a KSM came twice before
+abbrev pub is_repeated : List Field → Tag → Bool
+is_repeated before t = if same_tag t Kd && is_ksm before then nat_le 2 (count_tag t (tags_in before)) else has_tag t (tags_in before)
+
+-- no tag comes more often than the form has it
+abbrev pub admits : Form → List Tag → Bool
+admits f ts = list_all (λ t. nat_le (count_tag t ts) (times f t)) tags
+
+-- the forms that have all the tags, each as often as it comes
 abbrev pub forms_left : List Field → List Tag → List Form
-forms_left before ts = filter (λ f. list_all (allows f) ts) (candidates before)
+forms_left before ts = filter (λ f. admits f ts) (candidates before)
+
+-- a tag that the form has twice is absent until it came twice, any other until it came
+abbrev pub is_absent : Form → List Tag → Tag → Bool
+is_absent f ts t = if nat_le 2 (times f t) then nat_lt (count_tag t ts) 2 else not (has_tag t ts)
 
 -- the first required tag that is absent
 abbrev pub absent : Form → List Tag → Option Tag
-absent f ts = find (λ t. not (has_tag t ts)) (Mcl ∷ required f)
+absent f ts = find (is_absent f ts) (Mcl ∷ required f)
 
 -- what is absent from the first form, where each form lacks a tag
 abbrev pub lacking : List Form → List Tag → Option Tag
@@ -68,7 +85,7 @@ abbrev pub fault_of_field : List Field → ℕ → Field → Option ReadRefusal
 fault_of_field before place f =
     refuse (is_unsupported f.tag) (refusal.Unsupported f.tag place)
     (refuse ((length before == 0) && not (same_tag f.tag Mcl)) (refusal.Missing Mcl place)
-    (refuse (has_tag f.tag (tags_in before)) (refusal.Repeated f.tag place)
+    (refuse (is_repeated before f.tag) (refusal.Repeated f.tag place)
     (refuse (list_any is_closing (tags_in before) || (length (forms_left before (f.tag ∷ tags_in before)) == 0)) (refusal.Unwanted f.tag place)
     (or_else (if is_closing f.tag then option_map (λ t. refusal.Missing t place) (lacking (forms_left before (f.tag ∷ tags_in before)) (tags_in before)) else None)
     (contents_fault f.tag place f.contents)))))

@@ -3,7 +3,7 @@ use Rattle.std.specs.Prelude.{ℕ, List, [], ◌∷◌, ◌++◌, map, Option, S
 use Rattle.csm_grammar.specs.declared.tag.Tag.{Tag}
 use Rattle.csm_grammar.specs.declared.tag.Tag.TheVariants.{Mcl, Rcv, Org, Svr, Idu, Idc, Idd, Ida, Idk1, Idk2, DoubleKk, Kk, Kd, Kdu, Ctp, Cta, Ctb, Ctr, Erf, Iv, Edk, P, Mac, Edc}
 use Rattle.csm_grammar.specs.declared.form.Form.{Form}
-use Rattle.csm_grammar.specs.declared.form.Form.TheVariants.{F1, F2, F3, F4, F5, F6, F7, F8, F9, F10, F11, F12}
+use Rattle.csm_grammar.specs.declared.form.Form.TheVariants.{F1, F2, F3, F4, F5, F6, F7, F8, F9, F10, F11, F12, F13}
 use Rattle.csm_grammar.specs.declared.message.Message.{Message}
 use Rattle.csm_grammar.specs.declared.message.Message.TheVariants as message
 use Rattle.csm_grammar.specs.declared.message.KsmBody.{KsmBody}
@@ -43,6 +43,8 @@ body_fields (body.Direct idk2 new kd ctp) =
     if_any Idk1 (λ n. AText n.0) new ++ (if_any Idk2 AText idk2 ++ (new_fields new ++ (valued Kd (ANumber kd) ∷ valued Ctp (ANumber ctp) ∷ [])))
 body_fields (body.Centre centre kdu ctb) =
     valued Idc (AText centre) ∷ valued Kdu (ANumber kdu) ∷ valued Ctb (ANumber ctb) ∷ []
+body_fields (body.Twin idk2 first second ctp) =
+    if_any Idk2 AText idk2 ++ (valued Kd (ANumber first) ∷ valued Kd (ANumber second) ∷ valued Ctp (ANumber ctp) ∷ [])
 
 abbrev pub parties : List ℕ → List ℕ → List Valued → List Valued
 parties receiver originator vs = valued Rcv (AText receiver) ∷ valued Org (AText originator) ∷ vs
@@ -76,6 +78,7 @@ form_of (message.Ksm m) = ksm_form m.body where
     new_form (new_kk.Double l r) = F6
     new_form (new_kk.Single k) = F7
   ksm_form (body.Centre centre kdu ctb) = F8
+  ksm_form (body.Twin idk2 first second ctp) = F13
 form_of (message.Rsm m) = F9
 form_of (message.Ers m) = F10
 form_of (message.Esm m) = F11

@@ -10,7 +10,7 @@ use Rattle.csm_grammar.specs.declared.form.Need.TheVariants.{Required, Optional,
 use Rattle.csm_grammar.specs.declared.message.Message.{Message}
 use Rattle.csm_grammar.specs.declared.parsed.Shut.{Shut}
 use Rattle.csm_grammar.specs.Tags.{tag_name, same_tag, count_tag}
-use Rattle.csm_grammar.specs.Classes.{need_of}
+use Rattle.csm_grammar.specs.Classes.{need_of, times}
 use Rattle.csm_grammar.specs.Values.{Value, kind_of, value_of}
 use Rattle.csm_grammar.specs.Messages.{Valued, form_of, shut_field, all_fields}
 
@@ -49,15 +49,15 @@ AreParted [] = Unit {0}
 AreParted (s ∷ []) = AreSeparators s.gap
 AreParted (s ∷ t ∷ ts) = AreSeparators s.gap × (s.gap ≢ []) × AreParted (t ∷ ts)
 
--- how often a tag comes, by the form's need of it
-abbrev pub ComesAs : Need → ℕ → Type 0
-ComesAs Required n = n ≡ 1
-ComesAs Optional n = n ≤ 1
-ComesAs Refused n = n ≡ 0
+-- how often a tag comes, by the form's need of it and by how often the form has it at most
+abbrev pub ComesAs : Need → ℕ → ℕ → Type 0
+ComesAs Required most n = n ≡ most
+ComesAs Optional most n = n ≤ most
+ComesAs Refused most n = n ≡ 0
 
--- the fields have the tags of the form
+-- the fields have the tags of the form, each as often as the form has it
 abbrev pub AreOfForm : Form → List Field → Type 0
-AreOfForm f fs = (t : Tag) → ComesAs (need_of f t) (count_tag t (tags_in fs))
+AreOfForm f fs = (t : Tag) → ComesAs (need_of f t) (times f t) (count_tag t (tags_in fs))
 
 -- what the contents of the fields with a tag stand for, in order
 abbrev pub values_in : Tag → List Field → List (Option Value)

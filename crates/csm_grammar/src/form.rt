@@ -1,11 +1,11 @@
-ghost use Rattle.std.specs.Prelude.{◌≡◌, ◌∷◌};
-ghost use Rattle.csm_grammar.specs.declared.tag.Tag.TheVariants.{Mcl};
-ghost use Rattle.csm_grammar.specs.Classes.{required};
+ghost use Rattle.std.specs.Prelude.{◌≡◌, nat_le};
+ghost use Rattle.csm_grammar.specs.Classes.{times};
 ghost use Rattle.csm_grammar.specs.Slotting.{code_tag};
 
 use crate::tag::Tag;
 
-/// A form of a class: one set of tags that a message of the class may have.
+/// A form of a class: the tags that a message of the class may have. The variants stand in the
+/// order in which forms are tried.
 #[derive(Clone, Copy, Debug, PartialEq, Eq)]
 pub enum Form {
     /// Request for service initiation (RSI).
@@ -24,6 +24,8 @@ pub enum Form {
     F7,
     /// Key service message (KSM) through a centre.
     F8,
+    /// Key service message (KSM) with two data keys.
+    F13,
     /// Response service message (RSM).
     F9,
     /// Error recovery service (ERS).
@@ -35,49 +37,11 @@ pub enum Form {
 }
 
 impl Form {
-    /// The tags that a message of the form must have beside its code, in the writer's order.
-    pub fn required(self) -> &'static [Tag]
-        ensures { result.now ≡ Mcl ∷ required self }
+    /// Whether the form has the tag twice.
+    pub fn has_twice(self, tag: Tag) -> bool
+        ensures { result ≡ nat_le 2 (times self tag) }
     {
-        match self {
-            Form::F1 => &[Tag::Mcl, Tag::Rcv, Tag::Org, Tag::Svr],
-            Form::F2 => &[Tag::Mcl, Tag::Rcv, Tag::Org, Tag::Idu, Tag::Kd, Tag::Cta],
-            Form::F3 => &[Tag::Mcl, Tag::Rcv, Tag::Org, Tag::Idu, Tag::Kdu, Tag::Ctb],
-            Form::F4 => &[
-                Tag::Mcl,
-                Tag::Rcv,
-                Tag::Org,
-                Tag::Idu,
-                Tag::Kd,
-                Tag::Kdu,
-                Tag::Cta,
-                Tag::Ctb,
-            ],
-            Form::F5 => &[Tag::Mcl, Tag::Rcv, Tag::Org, Tag::Kd, Tag::Ctp],
-            Form::F6 => &[
-                Tag::Mcl,
-                Tag::Rcv,
-                Tag::Org,
-                Tag::Idk1,
-                Tag::DoubleKk,
-                Tag::Kd,
-                Tag::Ctp,
-            ],
-            Form::F7 => &[
-                Tag::Mcl,
-                Tag::Rcv,
-                Tag::Org,
-                Tag::Idk1,
-                Tag::Kk,
-                Tag::Kd,
-                Tag::Ctp,
-            ],
-            Form::F8 => &[Tag::Mcl, Tag::Rcv, Tag::Org, Tag::Idc, Tag::Kdu, Tag::Ctb],
-            Form::F9 => &[Tag::Mcl, Tag::Rcv, Tag::Org],
-            Form::F10 => &[Tag::Mcl, Tag::Rcv, Tag::Org, Tag::Idu, Tag::Ctr, Tag::Erf],
-            Form::F11 => &[Tag::Mcl, Tag::Rcv, Tag::Org, Tag::Erf],
-            Form::F12 => &[Tag::Mcl, Tag::Rcv, Tag::Org, Tag::Idd],
-        }
+        matches!((self, tag), (Form::F13, Tag::Kd))
     }
 
     /// The tag of its code, MAC where it may be either.

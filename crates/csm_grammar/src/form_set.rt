@@ -1,9 +1,10 @@
-ghost use Rattle.std.specs.Prelude.{◌≡◌, ◌==◌, ◌<◌, ◌∷◌, length, find};
+ghost use Rattle.std.specs.Prelude.{◌≡◌, ◌==◌, ◌<◌, nat_lt, length, find};
 ghost use Rattle.std.specs.List.{filter};
-ghost use Rattle.csm_grammar.specs.declared.tag.Tag.TheVariants.{Mcl};
-ghost use Rattle.csm_grammar.specs.Classes.{forms, class_forms, allows, required};
+ghost use Rattle.csm_grammar.specs.declared.form.Form.{Form};
+ghost use Rattle.csm_grammar.specs.Classes.{forms, class_forms, times};
 ghost use Rattle.csm_grammar.specs.FormSets.{forms_in, has_form};
 
+use crate::class_rows::{ALLOWING, TWICE};
 use crate::form::Form;
 use crate::tag::Tag;
 
@@ -11,60 +12,41 @@ use crate::tag::Tag;
 #[derive(Clone, Copy)]
 pub struct FormSet {
     bits: u16,
-    ghost small: { bits < 4096 },
+    ghost small: { bits < 8192 },
 }
-
-// for each tag the forms that have it: DSM is the leftmost bit, RSI the last
-const ALLOWING: [u16; 27] = [
-    0b1111_1111_1111,
-    0b1111_1111_1111,
-    0b1111_1111_1111,
-    0b0000_0000_0001,
-    0b0010_0000_1111,
-    0b0000_1000_0000,
-    0b1001_0000_0000,
-    0b1000_0000_0000,
-    0b0000_0110_0000,
-    0b0000_0111_0000,
-    0b0000_0010_0000,
-    0b0000_0100_0000,
-    0b0000_0111_1010,
-    0b0000_1000_1100,
-    0b0100_0111_0000,
-    0b0100_0000_1010,
-    0b0100_1000_1100,
-    0b0110_0000_0000,
-    0b0110_0000_0000,
-    0b0001_1111_1100,
-    0b0001_1111_1100,
-    0b0001_1111_1100,
-    0b1111_1111_1110,
-    0b0100_0000_0001,
-    0b0000_0000_0000,
-    0b0000_0000_0000,
-    0b0000_0000_0000,
-];
 
 fn class_bits(class: &[u8]) -> u16
     ensures forms { forms_in result ≡ class_forms class.now }
-    ensures small { result < 4096 }
+    ensures small { result < 8192 }
 {
     match class {
-        b"RSI" => 0b0000_0000_0001,
-        b"RFS" => 0b0000_0000_0010,
-        b"RTR" => 0b0000_0000_1100,
-        b"KSM" => 0b0000_1111_0000,
-        b"RSM" => 0b0001_0000_0000,
-        b"ERS" => 0b0010_0000_0000,
-        b"ESM" => 0b0100_0000_0000,
-        b"DSM" => 0b1000_0000_0000,
+        b"RSI" => 0b0_0000_0000_0001,
+        b"RFS" => 0b0_0000_0000_0010,
+        b"RTR" => 0b0_0000_0000_1100,
+        b"KSM" => 0b0_0001_1111_0000,
+        b"RSM" => 0b0_0010_0000_0000,
+        b"ERS" => 0b0_0100_0000_0000,
+        b"ESM" => 0b0_1000_0000_0000,
+        b"DSM" => 0b1_0000_0000_0000,
+        _ => 0,
+    }
+}
+
+/// The forms that have the tag more often than so many times.
+fn having(tag: Tag, count: u8) -> u16
+    ensures forms { (f : Form) → has_form result f ≡ nat_lt count (times f tag) }
+    ensures small { result < 8192 }
+{
+    match count {
+        0 => ALLOWING[tag.place()],
+        1 if tag.is(Tag::Kd) => TWICE,
         _ => 0,
     }
 }
 
 impl FormSet {
     /// All forms, in the order in which they are tried.
-    pub const FORMS: [Form; 12] = [
+    pub const FORMS: [Form; 13] = [
         Form::F1,
         Form::F2,
         Form::F3,
@@ -73,6 +55,7 @@ impl FormSet {
         Form::F6,
         Form::F7,
         Form::F8,
+        Form::F13,
         Form::F9,
         Form::F10,
         Form::F11,
@@ -83,7 +66,7 @@ impl FormSet {
     pub fn all() -> FormSet
         ensures { forms_in result.bits ≡ forms }
     {
-        FormSet { bits: 4095 }
+        FormSet { bits: 8191 }
     }
 
     /// The forms of a class.
@@ -102,12 +85,12 @@ impl FormSet {
         self.bits >> form as u16 & 1 == 1
     }
 
-    /// Those that have the tag.
-    pub fn that_allow(self, tag: Tag) -> FormSet
-        ensures { forms_in result.bits ≡ filter (λ f. allows f tag) (forms_in self.bits) }
+    /// Those that have the tag more often than so many times.
+    pub fn that_have(self, tag: Tag, count: u8) -> FormSet
+        ensures { forms_in result.bits ≡ filter (λ f. nat_lt count (times f tag)) (forms_in self.bits) }
     {
         FormSet {
-            bits: self.bits & ALLOWING[tag.place()],
+            bits: self.bits & having(tag, count),
         }
     }
 

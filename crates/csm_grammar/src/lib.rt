@@ -2,6 +2,7 @@
 #![tactic(auto)]
 
 mod arrival;
+mod class_rows;
 mod contents;
 mod fields;
 mod form;

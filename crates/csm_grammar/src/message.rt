@@ -71,6 +71,13 @@ pub enum KsmBody {
         kd: u64,
         ctp: Count,
     },
+    /// Two data keys: `ctp` is the count of the first, and the second has the next one.
+    Twin {
+        idk2: Option<Label>,
+        first: u64,
+        second: u64,
+        ctp: Count,
+    },
     Centre {
         centre: Ident,
         kdu: u64,

@@ -1,7 +1,8 @@
 ghost use Rattle.std.specs.Prelude.{◌≡◌};
-ghost use Rattle.csm_grammar.specs.Classes.{need_of};
-ghost use Rattle.csm_grammar.specs.Letters.{table, letter};
+ghost use Rattle.csm_grammar.specs.Classes.{need_of, times};
+ghost use Rattle.csm_grammar.specs.Letters.{table, entry};
 
+use crate::class_rows::TABLE;
 use crate::form::{Form, Need};
 use crate::tag::Tag;
 
@@ -12,43 +13,42 @@ pub struct ClassTable<const N: usize> {
     ghost stands: { entries ≡ table },
 }
 
-/// The table of the twelve forms and the 27 tags: the sets of tags are this project's profile.
+/// The table of the thirteen forms and the 27 tags: the sets of tags are this project's profile.
 #[tactic(auto, unfolding(crate::specs::Letters::table))]
-pub fn class_table() -> ClassTable<324> {
+pub fn class_table() -> ClassTable<351> {
     ClassTable { entries: TABLE }
 }
 
-// R required, O optional, X refused; a row for each form, in the writer's order of the tags
-const TABLE: [u8; 324] = *b"RRRROXXXXXXXXXXXXXXXXXXRXXX\
-    RRRXRXXXXXXXRXXRXXXXXXRXXXX\
-    RRRXRXXXXXXXXRXXRXXOOORXXXX\
-    RRRXRXXXXXXXRRXRRXXOOORXXXX\
-    RRRXXXXXXOXXRXRXXXXOOORXXXX\
-    RRRXXXXXRORXRXRXXXXOOORXXXX\
-    RRRXXXXXROXRRXRXXXXOOORXXXX\
-    RRRXXRXXXXXXXRXXRXXOOORXXXX\
-    RRRXXXOXXXXXXXXXXXXOOORXXXX\
-    RRRXRXXXXXXXXXXXXRRXXXRXXXX\
-    RRRXXXXXXXXXXXOOOORXXXOOXXX\
-    RRRXXXROXXXXXXXXXXXXXXRXXXX";
-
-impl ClassTable<324> {
+impl ClassTable<351> {
     /// The letter of the entry.
     fn letter(&self, form: Form, tag: Tag) -> u8
-        ensures { result ≡ letter (need_of form tag) }
+        ensures { result ≡ entry form tag }
     {
         self.entries[27 * form as usize + tag as usize]
     }
 
     /// What the form says of the tag.
-    #[tactic(auto, using(crate::proofs::Rows::need_required, crate::proofs::Rows::need_optional, crate::proofs::Rows::need_refused))]
+    #[tactic(auto, using(crate::proofs::Rows::need_required, crate::proofs::Rows::need_twice, crate::proofs::Rows::need_optional, crate::proofs::Rows::need_refused))]
     pub fn need(&self, form: Form, tag: Tag) -> Need
         ensures { result ≡ need_of form tag }
     {
         match self.letter(form, tag) {
-            b'R' => Need::Required,
+            b'R' | b'T' => Need::Required,
             b'O' => Need::Optional,
             _ => Need::Refused,
+        }
+    }
+
+    /// How often a message of the form has the tag at most: 0, 1, or 2 for KD in the form with two data
+    /// keys.
+    #[tactic(auto, using(crate::proofs::Rows::times_twice, crate::proofs::Rows::times_never, crate::proofs::Rows::times_once))]
+    pub fn times(&self, form: Form, tag: Tag) -> u8
+        ensures { result ≡ times form tag }
+    {
+        match self.letter(form, tag) {
+            b'T' => 2,
+            b'X' => 0,
+            _ => 1,
         }
     }
 }

@@ -5,7 +5,7 @@ use std::test::Fail;
 use x_base::Ident;
 
 // texts without a message, with the refusal and its place
-const REFUSED: [(&str, ReadRefusal); 26] = [
+const REFUSED: [(&str, ReadRefusal); 39] = [
     (
         "CSM(mcl/rsi rcv/bankb org/banka svr/kd edc/6c5a8efc)",
         ReadRefusal::BadTag(4),
@@ -77,11 +77,63 @@ const REFUSED: [(&str, ReadRefusal); 26] = [
         "CSM(MCL/KSM RCV/BANKB ORG/BANKA IDC/CKDX KDU/0123456789ABCDEF CTB/100000000000000 MAC/00000000)",
         ReadRefusal::BadContents(Tag::Ctb, 66),
     ),
+    (
+        "CSM(MCL/KSM RCV/BANKB ORG/BANKA KD/0123456789ABCDEF KD/0123456789ABCDEF KD/0123456789ABCDEF CTP/1 MAC/00000000)",
+        ReadRefusal::Repeated(Tag::Kd, 72),
+    ),
+    (
+        "CSM(MCL/RFS RCV/BANKB ORG/BANKA KD/0123456789ABCDEF KD/0123456789ABCDEF CTA/1 MAC/00000000)",
+        ReadRefusal::Repeated(Tag::Kd, 52),
+    ),
+    (
+        "CSM(MCL/KSM RCV/BANKB ORG/BANKA KD/0123456789ABCDEF IDK1/K2 KD/0123456789ABCDEF CTP/1 MAC/00000000)",
+        ReadRefusal::Unwanted(Tag::Kd, 60),
+    ),
+    (
+        "CSM(MCL/KSM RCV/BANKB ORG/BANKA KD/0123456789ABCDEF KD/0123456789ABCDEF IDK1/K2 CTP/1 MAC/00000000)",
+        ReadRefusal::Unwanted(Tag::Idk1, 72),
+    ),
+    (
+        "CSM(MCL/KSM RCV/BANKB ORG/BANKA KD/0123456789ABCDEF KD/0123456789ABCDEF KK/0123456789ABCDEF CTP/1 MAC/00000000)",
+        ReadRefusal::Unwanted(Tag::Kk, 72),
+    ),
+    (
+        "CSM(MCL/KSM RCV/BANKB ORG/BANKA KD/0123456789ABCDEF KD/0123456789ABCDEF IDC/CKDX CTB/1 MAC/00000000)",
+        ReadRefusal::Unwanted(Tag::Idc, 72),
+    ),
+    (
+        "CSM(MCL/KSM RCV/BANKB ORG/BANKA KD/0123456789ABCDEF KD/0123456789ABCDEF MAC/00000000)",
+        ReadRefusal::Missing(Tag::Ctp, 72),
+    ),
+    (
+        "CSM(MCL/KSM RCV/BANKB ORG/BANKA KD/0123456789ABCDEF KD/0123456789ABCDEF ",
+        ReadRefusal::Unended(72),
+    ),
+    (
+        "CSM(MCL/KSM RCV/BANKB ORG/BANKA KD/0123456789ABCDEF KD/0123456789ABCDE ",
+        ReadRefusal::BadContents(Tag::Kd, 55),
+    ),
+    (
+        "CSM(MCL/KSM RCV/BANKB ORG/BANKA KD/0123456789ABCDEF KD/0123456789ABCDEF KDU/0123456789ABCDEF MAC/00000000)",
+        ReadRefusal::Unwanted(Tag::Kdu, 72),
+    ),
+    (
+        "CSM(MCL/RTR RCV/BANKB ORG/BANKA KD/0123456789ABCDEF KD/0123456789ABCDEF MAC/00000000)",
+        ReadRefusal::Repeated(Tag::Kd, 52),
+    ),
+    (
+        "CSM(MCL/KSM RCV/BANKB ORG/BANKA KD/0123456789ABCDEF KD/0123456789ABCDEF CTP/1 EDC/00000000)",
+        ReadRefusal::Unwanted(Tag::Edc, 78),
+    ),
+    (
+        "CSM(MCL/KSM RCV/BANKB ORG/BANKA KD/0123456789ABCDEF IDK2/K1 KD/0123456789ABCDEF IDK2/K1 CTP/1 MAC/00000000)",
+        ReadRefusal::Repeated(Tag::Idk2, 80),
+    ),
 ];
 
 // texts that are the spelling of a message: each class, separators of each kind, half codes, counts
 // with leading zeros
-const READ: [&str; 11] = [
+const READ: [&str; 14] = [
     "CSM(MCL/RSI RCV/BANKB ORG/BANKA SVR/KD EDC/6C5A8EFC)",
     "CSM(MCL/RSM\r\nRCV/BANKA ORG/BANKB MAC/1a2b 3C4D )",
     "CSM(MCL/KSM RCV/BANKB ORG/BANKA KD/0123456789ABCDEF CTP/00000000000001 MAC/00000000)",
@@ -93,6 +145,9 @@ const READ: [&str; 11] = [
     "CSM(MCL/ESM RCV/ABCDEFGHIJKLMNOP ORG/0--9 CTP/1 CTR/2 ERF/A.1 EDC/00000000)",
     "CSM(MCL/KSM RCV/BANKB ORG/BANKA IDC/CKDX KDU/0123456789ABCDEF CTB/99999999999999 MAC/00000000)",
     "CSM(MCL/ERS RCV/CKDX ORG/BANKA IDU/BANKB CTR/3 ERF/C MAC/00000000)",
+    "CSM(MCL/KSM RCV/BANKB ORG/BANKA KD/0123456789ABCDEF KD/0123456789ABCDEF CTP/1 MAC/00000000)",
+    "CSM(MCL/KSM RCV/BANKB ORG/BANKA KD/0123456789ABCDEF P/x KD/0123456789ABCDEF IDK2/K1 IV/a EDK/b CTP/1 MAC/00000000)",
+    "CSM(MCL/KSM RCV/BANKB ORG/BANKA KD/0123456789ABCDEF KD/0123456789ABCDEF CTP/99999999999999 MAC/00000000)",
 ];
 
 // what a message has in front, its other required fields, each with the tag that is missing where it
@@ -280,6 +335,36 @@ fn spellings_are_read(rt: HostRuntime) -> Result<(), Fail> {
     assert_eq!(rt; rsi.service, Service::Kd);
     assert!(rt; rsi.ultimate.is_none());
     assert_eq!(rt; class_table().need(Form::F11, Tag::Edc), Need::Optional);
+    Ok(())
+}
+
+#[test]
+fn two_data_keys_are_read_in_their_order(rt: HostRuntime) -> Result<(), Fail> {
+    let parsed = read(
+        rt.alloc(),
+        b"CSM(MCL/KSM RCV/BANKB ORG/BANKA KD/0123456789ABCDEe KD/0123456789abcdef CTP/007 MAC/00000000)",
+    )?;
+    let keys = match &parsed.message {
+        Message::Ksm(ksm) => match &ksm.body {
+            KsmBody::Twin {
+                first,
+                second,
+                ctp,
+                ..
+            } => Some((*first, *second, ctp.value())),
+            _ => None,
+        },
+        _ => None,
+    };
+    assert_eq!(rt;
+        keys,
+        Some((0x0123_4567_89AB_CDEE, 0x0123_4567_89AB_CDEF, 7))
+    );
+    let table = class_table();
+    assert_eq!(rt; table.times(Form::F13, Tag::Kd), 2);
+    assert_eq!(rt; table.times(Form::F5, Tag::Kd), 1);
+    assert_eq!(rt; table.times(Form::F13, Tag::Idk1), 0);
+    assert_eq!(rt; table.need(Form::F13, Tag::Kd), Need::Required);
     Ok(())
 }
 

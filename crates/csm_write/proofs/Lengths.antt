@@ -14,7 +14,7 @@ use Rattle.hex.specs.Hex.{encode_with}
 use Rattle.csm_grammar.specs.declared.tag.Tag.{Tag}
 use Rattle.csm_grammar.specs.declared.tag.Tag.TheVariants.{Mcl, Rcv, Idu, Idd, Ida, Idk1, Idk2, Kd, Kdu, Ctp, Cta, Ctb, Ctr, Iv, Edk, P, Mac, Edc}
 use Rattle.csm_grammar.specs.declared.form.Form.{Form}
-use Rattle.csm_grammar.specs.declared.form.Form.TheVariants.{F1, F2, F3, F4, F5, F6, F7, F8, F9, F10, F11, F12}
+use Rattle.csm_grammar.specs.declared.form.Form.TheVariants.{F1, F2, F3, F4, F5, F6, F7, F8, F9, F10, F11, F12, F13}
 use Rattle.csm_grammar.specs.declared.message.Message.{Message}
 use Rattle.csm_grammar.specs.declared.message.Message.TheVariants as messages
 use Rattle.csm_grammar.specs.declared.message.KsmBody.{KsmBody}
@@ -158,6 +158,7 @@ class_short F5 = lit≤ tt
 class_short F6 = lit≤ tt
 class_short F7 = lit≤ tt
 class_short F8 = lit≤ tt
+class_short F13 = lit≤ tt
 class_short F9 = lit≤ tt
 class_short F10 = lit≤ tt
 class_short F11 = lit≤ tt
@@ -205,6 +206,7 @@ body_few (bodies.Direct idk2 new kd ctp) =
     let b = any_few idk2 Idk2 AText in
     let c = new_few new in
     simp length-append (omega (arith, a, b, c))
+body_few (bodies.Twin idk2 first second ctp) = let b = any_few idk2 Idk2 AText in simp length-append (omega (arith, b))
 body_few (bodies.Centre centre kdu ctb) = lit≤ tt
 
 abbrev some_field : Valued

@@ -6,13 +6,13 @@ use Rattle.std.specs.List.{All, list_all, slice_split}
 use Rattle.std.specs.Char.{digit_value}
 use Rattle.std.specs.Str.Parse.{digits_value, AllDigits}
 use Rattle.std.proofs.Math.Nat.{pow-le-pow_right}
-use Rattle.std.proofs.lemmas.Bool.{and_parts, and_from, false_from_ne_true, both_ways, eqb-true, eq-eqb, ne_eqb, le-leb, lt-ltb}
+use Rattle.std.proofs.lemmas.Bool.{and_parts, and_from, false_from_ne_true, both_ways, eqb-true, ne_eqb, le-leb, lt-ltb}
 use Rattle.std.proofs.lemmas.Fmt.{decimal_is_IsNumeral, length-decimal-le, decimal_nonempty}
 use Rattle.std.proofs.lemmas.Int.Digits.{digits_value-lt}
 use Rattle.std.proofs.lemmas.List.Elements.{All-nil, All-cons}
 use Rattle.std.proofs.lemmas.List.Splits.{slice_split_at, slice_split_none}
 use Rattle.x_base.specs.Names.{is_name, is_name_byte}
-use Rattle.x_base.specs.Count.{IsCount, SpellsCount}
+use Rattle.x_base.specs.Count.{IsCount}
 use Rattle.x_base.specs.KeyName.{NameOf, written, IsKeyName}
 use Rattle.x_base.specs.declared.key_name.KeyName.{KeyName}
 use Rattle.csm_grammar.specs.Values.{is_count, name_of, name_of_parts, Denotes, AName, ANumber, OfName, OfCount}

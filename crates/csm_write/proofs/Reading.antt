@@ -2,18 +2,14 @@
 use Rattle.std.proofs.Common.{◌≡◌, ℕ, List, [], ◌∷◌, ◌++◌, map, Result, Ok, Err, refl, sym, ◌∙◌, ap, subst, inl, inr}
 use Rattle.std.specs.Prelude.{IfOk, OnOk}
 use Rattle.std.specs.List.{All, AllZip}
-use Rattle.std.proofs.lemmas.List.{map-append}
 use Rattle.std.proofs.lemmas.List.Elements.{All-head, All-tail}
 use Rattle.x_base.specs.declared.text.NoMemory.{NoMemory}
-use Rattle.csm_grammar.specs.declared.tag.Tag.TheVariants.{Mcl}
 use Rattle.csm_grammar.specs.declared.message.Message.{Message}
 use Rattle.csm_grammar.specs.declared.parsed.Shut.{Shut}
 use Rattle.csm_grammar.specs.declared.parsed.Shut.TheVariants as shuts
 use Rattle.csm_grammar.specs.declared.parsed.Parsed.{Parsed}
-use Rattle.csm_grammar.specs.Classes.{class_text}
-use Rattle.csm_grammar.specs.Values.{kind_of, AText}
-use Rattle.csm_grammar.specs.Messages.{Valued, valued, form_of, fields_of, shut_field, all_fields}
-use Rattle.csm_grammar.specs.Spelling.{Field}
+use Rattle.csm_grammar.specs.Values.{kind_of}
+use Rattle.csm_grammar.specs.Messages.{Valued, form_of, fields_of, shut_field, all_fields}
 use Rattle.csm_grammar.specs.Reading.{IsRead}
 use Rattle.csm_grammar.specs.Laws.{IsFor, OneAnswer, WrittenRead}
 use Rattle.csm_write.specs.declared.closing.Closing.{Closing}

@@ -1,9 +1,9 @@
 -- The contents of a field stand for its value.
-use Rattle.std.proofs.Common.{◌≡◌, refl}
+use Rattle.std.proofs.Common.{refl}
 use Rattle.csm_grammar.specs.declared.message.Service.{Service}
 use Rattle.csm_grammar.specs.declared.message.Service.TheVariants as services
 use Rattle.csm_grammar.specs.declared.form.Form.{Form}
-use Rattle.csm_grammar.specs.declared.form.Form.TheVariants.{F1, F2, F3, F4, F5, F6, F7, F8, F9, F10, F11, F12}
+use Rattle.csm_grammar.specs.declared.form.Form.TheVariants.{F1, F2, F3, F4, F5, F6, F7, F8, F9, F10, F11, F12, F13}
 use Rattle.csm_grammar.specs.Classes.{class_text}
 use Rattle.csm_grammar.specs.Values.{Value, AText, AName, AService, ANumber, APair, Kind, OfClass, OfIdent, OfService, OfName, OfLabel, OfPair, OfKey, OfCount, OfReason, OfText, OfCode, Unsupported, service_text, Denotes}
 use Rattle.csm_write.specs.Canon.{contents_of}
@@ -24,6 +24,7 @@ class_stands F9 = refl
 class_stands F10 = refl
 class_stands F11 = refl
 class_stands F12 = refl
+class_stands F13 = refl
 
 service_stands : (s : Service) → Denotes OfService (service_text s) (AService s)
 service_stands services.Kd = refl

@@ -1,5 +1,5 @@
 -- The messages whose canonical text is read back (this project's profile).
-use Rattle.std.specs.Prelude.{◌≡◌, ℕ, ◌<◌, ◌≤◌, ◌^◌, true, length}
+use Rattle.std.specs.Prelude.{◌≡◌, ◌<◌, ◌≤◌, ◌^◌, true, length}
 use Rattle.std.specs.List.{All}
 use Rattle.x_base.specs.Names.{IsIdent, IsLabel}
 use Rattle.x_base.specs.Count.{IsCount}

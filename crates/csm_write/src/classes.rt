@@ -121,6 +121,12 @@ impl Writer {
     {
         match body {
             KsmBody::Direct { idk2, new, kd, ctp } => self.direct(idk2, new, *kd, ctp),
+            KsmBody::Twin {
+                idk2,
+                first,
+                second,
+                ctp,
+            } => self.twin(idk2, *first, *second, ctp),
             KsmBody::Centre { centre, kdu, ctb } => self.through_centre(centre, *kdu, ctb),
         }
     }
@@ -138,6 +144,21 @@ impl Writer {
         self.label_if_any(Tag::Idk2, idk2)?;
         self.new_key(new)?;
         self.key(Tag::Kd, kd)?;
+        self.count(Tag::Ctp, ctp)
+    }
+
+    fn twin(
+        &mut self,
+        idk2: &Option<Label>,
+        first: u64,
+        second: u64,
+        ctp: &Count,
+    ) -> Result<(), NoMemory>
+        ensures { OnOk result (Adds self.old self.new (body_fields (bodies.Twin idk2.now first second ctp.now))) }
+    {
+        self.label_if_any(Tag::Idk2, idk2)?;
+        self.key(Tag::Kd, first)?;
+        self.key(Tag::Kd, second)?;
         self.count(Tag::Ctp, ctp)
     }
 

@@ -111,6 +111,20 @@ fn direct(
     }))
 }
 
+fn twin() -> Result<Message, Fail> {
+    Ok(Message::Ksm(Ksm {
+        receiver: ident("BANKB")?,
+        originator: ident("BANKA")?,
+        body: KsmBody::Twin {
+            idk2: Some(label("K1")?),
+            first: 0x9510_9DA4_3EB3_9D13,
+            second: 0xB31C_CC37_FC41_E528,
+            ctp: count("3")?,
+        },
+        extras: no_extras(),
+    }))
+}
+
 fn through_centre() -> Result<Message, Fail> {
     Ok(Message::Ksm(Ksm {
         receiver: ident("BANKB")?,
@@ -216,7 +230,11 @@ fn keys(rt: HostRuntime) -> Result<(), Fail> {
     let key = direct(None, new, 0x4D67_9520_638F_1F1A, "99999999999999", texts)?;
     writes(&rt, alloc, key, mac, text)?;
     let text = "CSM(MCL/KSM RCV/BANKB ORG/BANKA IDC/CKDX KDU/5A30EC553E7570DE CTB/1 MAC/583244FE)";
-    writes(&rt, alloc, through_centre()?, mac, text)
+    writes(&rt, alloc, through_centre()?, mac, text)?;
+    let text =
+        "CSM(MCL/KSM RCV/BANKB ORG/BANKA IDK2/K1 KD/95109DA43EB39D13 KD/B31CCC37FC41E528 CTP/3 MAC/C29E05B6)";
+    let stated = Closing::Stated(Shut::Mac(0xC29E_05B6));
+    writes(&rt, alloc, twin()?, stated, text)
 }
 
 #[test]

@@ -4,9 +4,9 @@ ghost use Rattle.std.specs.List.{list_all, list_any};
 ghost use Rattle.csm_grammar.specs.declared.tag.Tag.TheVariants.{Mcl};
 ghost use Rattle.csm_grammar.specs.Values.{kind_of, value_of};
 ghost use Rattle.csm_grammar.specs.Denoting.{StandsFor};
-ghost use Rattle.csm_grammar.specs.Tags.{tag_name, same_tag, has_tag, is_closing};
+ghost use Rattle.csm_grammar.specs.Tags.{tag_name, same_tag, is_closing};
 ghost use Rattle.csm_grammar.specs.Spelling.{Field, tags_in};
-ghost use Rattle.csm_grammar.specs.Faults.{or_else, contents_fault, is_tag_byte, forms_left, lacking, field_of, fault_of, fault_of_field};
+ghost use Rattle.csm_grammar.specs.Faults.{or_else, contents_fault, is_ksm, is_repeated, is_tag_byte, forms_left, lacking, field_of, fault_of, fault_of_field};
 ghost use Rattle.csm_grammar.specs.Slotting.{Keeps};
 
 use crate::contents::denoted;
@@ -42,11 +42,25 @@ impl Fields<'_> {
         !self.has(Tag::Mcl) && !tag.is(Tag::Mcl)
     }
 
-    /// Whether the tag came.
-    fn is_repeated(&self, tag: Tag) -> bool
-        ensures { (fs : List Field) → Keeps self.now.slots self.now.left.bits fs → result ≡ has_tag tag (tags_in fs) }
+    /// Whether the class is KSM.
+    fn is_ksm(&self) -> bool
+        ensures { (fs : List Field) → Keeps self.now.slots self.now.left.bits fs → result ≡ is_ksm fs }
     {
-        self.has(tag)
+        match self.get(Tag::Mcl) {
+            Some(class) => class == b"KSM".as_slice(),
+            None => false,
+        }
+    }
+
+    /// Whether the tag came, and KD in a KSM twice.
+    fn is_repeated(&self, tag: Tag) -> bool
+        ensures { (fs : List Field) → Keeps self.now.slots self.now.left.bits fs → result ≡ is_repeated fs tag }
+    {
+        if self.is_second(tag) && self.is_ksm() {
+            self.has_second()
+        } else {
+            self.has(tag)
+        }
     }
 
     /// Whether a code came, or no form has the tag and all before it.

@@ -1,10 +1,10 @@
 // A message of the fields that came.
-ghost use Rattle.std.specs.Prelude.{◌≡◌, IfOk};
-ghost use Rattle.csm_grammar.specs.declared.form.Form.TheVariants.{F1, F2, F3, F4, F5, F6, F7, F8, F9, F10, F11, F12};
+ghost use Rattle.std.specs.Prelude.{◌≡◌, IfOk, IsSome};
+ghost use Rattle.csm_grammar.specs.declared.form.Form.TheVariants.{F1, F2, F3, F4, F5, F6, F7, F8, F9, F10, F11, F12, F13};
 ghost use Rattle.csm_grammar.specs.declared.tag.Tag.TheVariants.{Erf};
 ghost use Rattle.csm_grammar.specs.Values.Value.{AText};
-ghost use Rattle.csm_grammar.specs.Building.{AreExtras, ArePresent, IsBuilt};
-ghost use Rattle.csm_grammar.specs.Denoting.{value_at};
+ghost use Rattle.csm_grammar.specs.Building.{AreExtras, ArePresent, IsSecondPresent, IsBuilt};
+ghost use Rattle.csm_grammar.specs.Denoting.{value_at, second_value};
 
 use crate::fields::Fields;
 use crate::form::Form;
@@ -143,6 +143,25 @@ impl Fields<'_> {
         })
     }
 
+    fn ksm_with_two_keys(&self, extras: Extras) -> Message
+        requires present { ArePresent self.now.slots F13 }
+        requires second { IsSome (second_value self.now.slots) }
+        requires extras { AreExtras self.now.slots extras }
+        ensures { IsBuilt self.now.slots F13 result }
+    {
+        Message::Ksm(Ksm {
+            receiver: self.ident(Tag::Rcv),
+            originator: self.ident(Tag::Org),
+            body: KsmBody::Twin {
+                idk2: self.label_if_any(Tag::Idk2),
+                first: self.key(Tag::Kd),
+                second: self.second_key(),
+                ctp: self.count(Tag::Ctp),
+            },
+            extras,
+        })
+    }
+
     fn rsm(&self, extras: Extras) -> Message
         requires present { ArePresent self.now.slots F9 }
         requires extras { AreExtras self.now.slots extras }
@@ -198,9 +217,11 @@ impl Fields<'_> {
         })
     }
 
-    /// The message of the form.
+    /// The message of the form. Never inlined: the reader is faster so.
+    #[inline(never)]
     pub fn message(&self, alloc: Global, form: Form) -> Result<Message, NoMemory>
-        requires { ArePresent self.now.slots form }
+        requires present { ArePresent self.now.slots form }
+        requires second { IsSecondPresent self.now.slots form }
         ensures { IfOk result (IsBuilt self.now.slots form) }
     {
         match form {
@@ -212,6 +233,7 @@ impl Fields<'_> {
             Form::F6 => Ok(self.ksm_with_pair(self.extras(alloc)?)),
             Form::F7 => Ok(self.ksm_with_key(self.extras(alloc)?)),
             Form::F8 => Ok(self.ksm_of_centre(self.extras(alloc)?)),
+            Form::F13 => Ok(self.ksm_with_two_keys(self.extras(alloc)?)),
             Form::F9 => Ok(self.rsm(self.extras(alloc)?)),
             Form::F10 => Ok(self.ers(self.reason(alloc)?)),
             Form::F11 => Ok(self.esm(self.reason(alloc)?)),

@@ -5,7 +5,7 @@ ghost use Rattle.csm_grammar.specs.Values.{kind_of};
 ghost use Rattle.csm_grammar.specs.Values.Value.{AText, AName, AService, ANumber, APair};
 ghost use Rattle.csm_grammar.specs.Values.Kind.{OfIdent, OfService, OfName, OfLabel, OfPair, OfKey, OfCount, OfText, OfCode};
 ghost use Rattle.csm_grammar.specs.Building.{AreExtras};
-ghost use Rattle.csm_grammar.specs.Denoting.{value_at};
+ghost use Rattle.csm_grammar.specs.Denoting.{value_at, second_value};
 ghost use Rattle.csm_grammar.specs.Slotting.{came};
 
 use crate::contents;
@@ -105,6 +105,14 @@ impl Fields<'_> {
         ensures { value_at self.now.slots tag ≡ Some (ANumber result) }
     {
         self.number(tag)
+    }
+
+    /// The second of two data keys.
+    pub fn second_key(&self) -> u64
+        requires { IsSome (second_value self.now.slots) }
+        ensures { second_value self.now.slots ≡ Some (ANumber result) }
+    {
+        self.second_number()
     }
 
     pub fn code(&self, tag: Tag) -> u32

@@ -1,5 +1,5 @@
 use Rattle.std.proofs.Common.{inl}
-use Rattle.csm_grammar.proofs.EndLemmas.{open_fault, some_form, present, some_mac, some_edc, ended}
+use Rattle.csm_grammar.proofs.EndLemmas.{open_fault, some_form, present, second_present, some_mac, some_edc, ended}
 use Rattle.csm_grammar.proofs.fields.Fields.end.Goals as goal
 
 pub returns-then-not-is_closed : goal.returns-then-not-is_closed
@@ -8,8 +8,11 @@ returns-then-not-is_closed c = λ fs k. inl (open_fault c.args.self.now.slots c.
 pub unwrap-form-requires : goal.unwrap-form-requires
 unwrap-form-requires c = some_form c.args.self.now.slots c.args.self.now.left.bits c.requires.sound.0 c.requires.sound.1 c.is_closed.result c.is_closed.ensures c.if-not-is_closed.false c.whole_form.result c.whole_form.ensures
 
-pub message-requires : goal.message-requires
-message-requires c = present c.args.self.now.slots c.args.self.now.left.bits c.requires.sound.0 c.requires.sound.1 c.is_closed.result c.is_closed.ensures c.if-not-is_closed.false c.whole_form.result c.unwrap-form.result c.whole_form.ensures c.unwrap-form.ensures
+pub message-requires-clause-present : goal.message-requires-clause-present
+message-requires-clause-present c = present c.args.self.now.slots c.args.self.now.left.bits c.requires.sound.0 c.requires.sound.1 c.is_closed.result c.is_closed.ensures c.if-not-is_closed.false c.whole_form.result c.unwrap-form.result c.whole_form.ensures c.unwrap-form.ensures
+
+pub message-requires-clause-second : goal.message-requires-clause-second
+message-requires-clause-second c = second_present c.args.self.now.slots c.args.self.now.left.bits c.requires.sound.0 c.requires.sound.1 c.is_closed.result c.is_closed.ensures c.if-not-is_closed.false c.whole_form.result c.unwrap-form.result c.whole_form.ensures c.unwrap-form.ensures
 
 pub shut-requires-clause-mac : goal.shut-requires-clause-mac
 shut-requires-clause-mac c = some_mac c.args.self.now.slots c.args.self.now.left.bits c.requires.sound.0 c.requires.sound.1 c.is_closed.result c.is_closed.ensures c.if-not-is_closed.false

@@ -6,7 +6,7 @@ use Rattle.csm_grammar.specs.Classes.{required}
 use Rattle.csm_grammar.proofs.fields.Fields.message.Goals as goal
 
 pub reason-requires : goal.reason-requires
-reason-requires c = c.requires Erf (ap (λ (f : Form). has_tag Erf (Mcl ∷ required f)) c.in-F10.is)
+reason-requires c = c.requires.present Erf (ap (λ (f : Form). has_tag Erf (Mcl ∷ required f)) c.in-F10.is)
 
 pub reason-requires-in-F11 : goal.reason-requires-in-F11
-reason-requires-in-F11 c = c.requires Erf (ap (λ (f : Form). has_tag Erf (Mcl ∷ required f)) c.in-F11.is)
+reason-requires-in-F11 c = c.requires.present Erf (ap (λ (f : Form). has_tag Erf (Mcl ∷ required f)) c.in-F11.is)

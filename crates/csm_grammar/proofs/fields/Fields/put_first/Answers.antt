@@ -1,6 +1,6 @@
 use Rattle.std.proofs.Common.{◌∙◌, length-set, Some, None}
-use Rattle.csm_grammar.proofs.Denoting.{cleared_at, renumbered_at, written_at, slot_written}
-use Rattle.csm_grammar.proofs.fields.Fields.put.Goals as goal
+use Rattle.csm_grammar.proofs.Denoting.{cleared_at, renumbered_at, written_at, slot_written, second_written}
+use Rattle.csm_grammar.proofs.fields.Fields.put_first.Goals as goal
 
 pub invariant_of-self : goal.invariant_of-self
 invariant_of-self c = (
@@ -31,3 +31,6 @@ invariant_of-self-3 c = (
 
 pub returns-clause-contents : goal.returns-clause-contents
 returns-clause-contents c = λ t. slot_written c.args.self.now.slots c.args.tag c.args.contents t c.place.result c.place-3.result c.place.ensures.place c.place-3.ensures.place c.args.self.now.sized
+
+pub returns-clause-second : goal.returns-clause-second
+returns-clause-second c = second_written c.args.self.now.slots c.args.tag c.args.contents c.place.result c.place-3.result c.place.ensures.place c.place-3.ensures.place
