@@ -5,10 +5,10 @@ use Rattle.party_state.specs.declared.exchange.Via.{Via}
 use Rattle.party_state.specs.declared.exchange.Via.TheVariants as via
 use Rattle.party_state.specs.declared.exchange.Kind.{Kind}
 use Rattle.party_state.specs.declared.exchange.Kind.TheVariants as kind
-use Rattle.change_code.specs.Reading.{ident_form, label_form, word_form, count_form, text_form, name_form, maybe_form, via_form, kind_form, exchange_form}
+use Rattle.change_code.specs.Reading.{ident_form, label_form, word_form, count_form, text_form, name_form, first_name_form, maybe_form, via_form, kind_form, exchange_form}
 use Rattle.change_code.proofs.Joining.{Apart, Shape, both, apart_both, apart_as}
 use Rattle.change_code.proofs.Numbers.{word_apart, count_apart}
-use Rattle.change_code.proofs.Names.{ident_apart, label_apart, name_apart, text_apart}
+use Rattle.change_code.proofs.Names.{ident_apart, label_apart, name_apart, first_name_apart, text_apart}
 use Rattle.change_code.proofs.RowForms.{maybe_apart}
 use Rattle.change_code.proofs.Tags.{Tagged, apart_tagged}
 
@@ -95,6 +95,14 @@ ending_only y rest more fits is = absurd (cc is)
 pub ending_tagged : Tagged kind_form 4 name_form (λ u. kind.Ending u)
 ending_tagged = record { only = ending_only }
 
+pair_sent_only : (y : Kind) (rest more : List ℕ) → kind_form.Fits y → 5 ∷ rest ≡ kind_form.code y ++ more
+    → (u : KeyName) × first_name_form.Fits u × (y ≡ kind.PairSent u) × (rest ≡ first_name_form.code u ++ more)
+pair_sent_only (kind.PairSent name) rest more fits is = (name, fits, refl, cc is)
+pair_sent_only y rest more fits is = absurd (cc is)
+
+pub pair_sent_tagged : Tagged kind_form 5 first_name_form (λ u. kind.PairSent u)
+pair_sent_tagged = record { only = pair_sent_only }
+
 kind_same : (x y : Kind) (r s : List ℕ) → kind_form.Fits x → kind_form.Fits y → kind_form.code x ++ r ≡ kind_form.code y ++ s → (x ≡ y) × (r ≡ s)
 unfolding both
 kind_same (kind.Asked ultimate) y r s fx fy is = apart_tagged kind_form 1 ident_form (λ u. kind.Asked u) asked_tagged ident_apart ultimate y r s fx fy is
@@ -105,6 +113,8 @@ kind_same (kind.Translating ultimate value cta) y r s fx fy is =
 kind_same (kind.KeySent name via) y r s fx fy is =
     apart_tagged kind_form 3 (both name_form via_form) key_sent key_sent_tagged (apart_both name_form via_form name_apart via_apart) (name, via) y r s fx fy is
 kind_same (kind.Ending name) y r s fx fy is = apart_tagged kind_form 4 name_form (λ u. kind.Ending u) ending_tagged name_apart name y r s fx fy is
+kind_same (kind.PairSent name) y r s fx fy is =
+    apart_tagged kind_form 5 first_name_form (λ u. kind.PairSent u) pair_sent_tagged first_name_apart name y r s fx fy is
 
 pub kind_apart : Apart kind_form
 kind_apart = record { same = kind_same }

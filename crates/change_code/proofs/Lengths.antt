@@ -93,6 +93,7 @@ kind_short (kind.Asked ultimate) h = more 18 96 _ (tagged 17 1 _ (short_name 4 u
 kind_short (kind.Translating ultimate value cta) h = more 34 96 _ (tagged 33 2 _ (join 17 16 _ _ (short_name 4 ultimate h.0) (join 8 8 _ _ (eight_bytes value) (eight_bytes cta)))) (lit≤ tt)
 kind_short (kind.KeySent name v) h = tagged 95 3 _ (join 59 36 _ _ (name_short name h.0) (via_short v h.1))
 kind_short (kind.Ending name) h = more 60 96 _ (tagged 59 4 _ (name_short name h)) (lit≤ tt)
+kind_short (kind.PairSent name) h = more 60 96 _ (tagged 59 5 _ (name_short name h.0)) (lit≤ tt)
 
 exchange_short : (e : Exchange) → IsExchange e → Within 1139 (exchange_code e)
 exchange_short e h = join 17 1122 _ _ (short_name 4 e.peer h.peer) (join 96 1026 _ _ (kind_short e.kind h.kind) (join 2 longest_text _ _ (two_bytes (length e.text)) (record { most = h.text })))

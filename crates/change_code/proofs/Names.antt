@@ -1,10 +1,11 @@
 -- Identities, labels and key names.
-use Rattle.std.proofs.Common.{◌≡◌, ℕ, ◌<◌, ◌^◌, List, ◌++◌, length, Option, Some, None, Result, Ok, Err, IsOk, IfOk, ◌↔◌, refl, sym, ap, ◌∙◌, subst, arith, append_assoc, length-append}
+use Rattle.std.proofs.Common.{◌≡◌, ℕ, ◌<◌, ◌≤◌, ◌^◌, List, ◌++◌, length, Option, Some, None, Result, Ok, Err, IsOk, IfOk, ◌↔◌, refl, sym, ap, ◌∙◌, subst, arith, append_assoc, length-append}
 use Rattle.std.specs.Option.{MatchOption}
 use Rattle.std.specs.Result.{result_ok}
+use Rattle.x_base.specs.declared.key_name.KeyName.{KeyName}
 use Rattle.party_state.specs.Ranges.{longest_text}
 use Rattle.change_code.specs.Code.{two, short, long}
-use Rattle.change_code.specs.Reading.{Form, Lacks, IsPieceRead, LacksLong, ident_form, label_form, name_form, word_form, count_form, pair_form, gen_form, text_form}
+use Rattle.change_code.specs.Reading.{Form, Lacks, StartsWith, IsPieceRead, LacksLong, ident_form, label_form, name_form, first_name_form, word_form, count_form, pair_form, gen_form, text_form}
 use Rattle.change_code.proofs.Joining.{Apart, Shape, both, apart_both, apart_as}
 use Rattle.change_code.proofs.Numbers.{same_fronts, two_apart, two_long, word_apart, count_apart}
 
@@ -43,6 +44,20 @@ name_apart = apart_as name_form (both ident_form (both ident_form (both label_fo
     (apart_both ident_form (both ident_form (both label_form count_form)) ident_apart
     (apart_both ident_form (both label_form count_form) ident_apart
     (apart_both label_form count_form label_apart count_apart)))
+
+-- the first of two names is a name, which has no last count
+pub first_name_apart : Apart first_name_form
+first_name_apart = record { same = λ x y r s fx fy is. name_apart.same x y r s fx.0 fy.0 is }
+
+pub lacks_first_name : (bytes : List ℕ) → Lacks name_form bytes → Lacks first_name_form bytes
+lacks_first_name bytes lacks = record { none = λ x rest fits is. lacks.none x rest fits.0 is }
+
+pub lacks_last_count : (bytes rest : List ℕ) (name : KeyName) → StartsWith name_form bytes rest name → 99999999999999 ≤ name.count → Lacks first_name_form bytes
+lacks_last_count bytes rest name begins last = record {
+  none = λ x more fits is.
+      let same = name_apart.same name x rest more begins.fits fits.0 (sym begins.is ∙ is) in
+      omega (arith, last, fits.1.count.high, ap (λ (n : KeyName). n.count) same.0);
+}
 
 pub pair_shape : Shape pair_form (both word_form word_form)
 unfolding both

@@ -91,6 +91,7 @@ kind_code (kind.Asked ultimate) = 1 ∷ short ultimate
 kind_code (kind.Translating ultimate value cta) = 2 ∷ (short ultimate ++ (eight value ++ eight cta))
 kind_code (kind.KeySent name via) = 3 ∷ (name_code name ++ via_code via)
 kind_code (kind.Ending name) = 4 ∷ name_code name
+kind_code (kind.PairSent name) = 5 ∷ name_code name
 
 abbrev pub exchange_code : Exchange → List ℕ
 exchange_code exchange = short exchange.peer ++ (kind_code exchange.kind ++ long exchange.text)

@@ -16,6 +16,7 @@ use Rattle.party_state.specs.declared.exchange.Kind.{Kind}
 use Rattle.party_state.specs.declared.exchange.Exchange.{Exchange}
 use Rattle.party_state.specs.declared.answer.Answer.{Answer}
 use Rattle.party_state.specs.declared.edit.Edit.{Edit}
+use Rattle.party_state.specs.Names.{name_behind}
 use Rattle.party_state.specs.Ranges.{IsWord, IsPair, IsGen, IsNextCount, IsLink, IsRecord, IsVia, IsKind, IsExchange, IsCentreAnswer, InRange, AreInRange, longest_text}
 use Rattle.change_code.specs.declared.fault.CodeFault.{CodeFault}
 use Rattle.change_code.specs.declared.fault.CodeFault.TheVariants.{Bad, NoMemory}
@@ -84,6 +85,10 @@ text_form = record { code = long; Fits = IsShortText }
 
 abbrev pub name_form : Form KeyName
 name_form = record { code = name_code; Fits = IsKeyName }
+
+-- the first of two names
+abbrev pub first_name_form : Form KeyName
+first_name_form = record { code = name_code; Fits = λ name. IsKeyName name × IsKeyName (name_behind name) }
 
 abbrev pub pair_form : Form Pair
 pair_form = record { code = pair_code; Fits = IsPair }

@@ -1,13 +1,14 @@
 // The codes of edits, byte by byte.
-ghost use Rattle.std.specs.Prelude.{IfOk};
-ghost use Rattle.party_state.specs.Ranges.{IsFitting};
+ghost use Rattle.std.specs.Prelude.{◌+◌, IfOk};
+ghost use Rattle.x_base.specs.Count.{IsCount};
+ghost use Rattle.party_state.specs.Ranges.{IsFitting, IsFittingKind};
 
 use crate::decoding::decode;
 use crate::encoding::encode;
 use crate::fault::CodeFault;
 use crate::laws::law_decode_undoes;
 use party_state::{
-    Answer, Change, Edit, Exchange, KeyRec, KeyStatus, Kind, LinkRec, Role, Side, Via,
+    Answer, Change, Edit, Exchange, KeyRec, KeyStatus, Kind, LinkRec, Role, Side, Via, name_behind,
 };
 use std::alloc::Global;
 use std::test::Fail;
@@ -100,7 +101,7 @@ fn each_edit_has_its_code(rt: HostRuntime) -> Result<(), Fail> {
 }
 
 // The codes of exchanges of BANK with the kinds of `kind_of` and the text CS.
-const EXCHANGES: [&[u8]; 7] = [
+const EXCHANGES: [&[u8]; 8] = [
     b"\x01\0\x01\x06\x04BANK\x01\x04ORIG\0\x02CS",
     b"\x01\0\x01\x06\x04BANK\x02\x04ORIG\0\0\0\0\0\0\0\x05\0\0\0\0\0\0\0\x09\0\x02CS",
     b"\x01\0\x01\x06\x04BANK\x04\x04INST\x04ORIG\x01K\0\0\0\0\0\0\0\x09\0\x02CS",
@@ -108,6 +109,7 @@ const EXCHANGES: [&[u8]; 7] = [
     b"\x01\0\x01\x06\x04BANK\x03\x04INST\x04ORIG\x01K\0\0\0\0\0\0\0\x09\x01\x01K\0\0\x02CS",
     b"\x01\0\x01\x06\x04BANK\x03\x04INST\x04ORIG\x01K\0\0\0\0\0\0\0\x09\x02\x04INST\0\0\0\0\0\0\0\x09\0\x02CS",
     b"\x01\0\x01\x06\x04BANK\x03\x04INST\x04ORIG\x01K\0\0\0\0\0\0\0\x09\x03\x04INST\0\x02CS",
+    b"\x01\0\x01\x06\x04BANK\x05\x04INST\x04ORIG\x01K\0\0\0\0\0\0\0\x09\0\x02CS",
 ];
 
 fn via_of(row: usize, name: &KeyName) -> Via {
@@ -125,7 +127,10 @@ fn via_of(row: usize, name: &KeyName) -> Via {
     }
 }
 
-fn kind_of(row: usize, name: &KeyName) -> Kind {
+fn kind_of(row: usize, name: &KeyName) -> Kind
+    requires { IsCount (name.now.count + 1) }
+    ensures { IsFittingKind result }
+{
     let ultimate = name.originator;
     match row {
         0 => Kind::Asked { ultimate },
@@ -135,6 +140,7 @@ fn kind_of(row: usize, name: &KeyName) -> Kind {
             cta: name.count,
         },
         2 => Kind::Ending { name: *name },
+        7 => Kind::PairSent { name: *name },
         _ => Kind::KeySent {
             name: *name,
             via: via_of(row, name),
@@ -143,6 +149,7 @@ fn kind_of(row: usize, name: &KeyName) -> Kind {
 }
 
 fn exchange_of(alloc: Global, row: usize, peer: Ident, name: KeyName) -> Result<Edit, NoMemory>
+    requires { IsCount (name.count + 1) }
     ensures { IfOk result IsFitting }
 {
     let mut text = Text::new(alloc);
@@ -155,6 +162,7 @@ fn exchange_of(alloc: Global, row: usize, peer: Ident, name: KeyName) -> Result<
 fn each_exchange_has_its_code(rt: HostRuntime) -> Result<(), Fail> {
     let peer = Ident::read(b"BANK")?;
     let name = KeyName::read(b"INST.ORIG.K.9")?;
+    assert!(rt; name_behind(&name).is_some());
     let mut wrong = None;
     for (row, code) in EXCHANGES.iter().enumerate() {
         let edit = exchange_of(rt.alloc(), row, peer, name)?;
@@ -166,7 +174,7 @@ fn each_exchange_has_its_code(rt: HostRuntime) -> Result<(), Fail> {
     Ok(())
 }
 
-const NO_CODES: [&[u8]; 12] = [
+const NO_CODES: [&[u8]; 13] = [
     b"",
     b"\x01\0",
     b"\x02\0\x01\x05",
@@ -179,6 +187,8 @@ const NO_CODES: [&[u8]; 12] = [
     b"\x01\0\x01\x07\x01b",
     b"\x01\0\x01\x07\x02B",
     b"\x01\0\x01\x09\0\0\0\0\0\0\0",
+    // Two keys, of which the first has the last count.
+    b"\x01\0\x01\x06\x04BANK\x05\x04INST\x04ORIG\x01K\0\0\x5A\xF3\x10\x7A\x3F\xFF\0\x02CS",
 ];
 
 fn is_code(alloc: Global, bytes: &[u8]) -> Result<bool, NoMemory> {

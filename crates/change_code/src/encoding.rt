@@ -91,6 +91,10 @@ fn put_kind(out: &mut EditCode, kind: &Kind)
             out.put(&[4]);
             put_name(out, name);
         }
+        Kind::PairSent { name } => {
+            out.put(&[5]);
+            put_name(out, name);
+        }
     }
 }
 
@@ -264,8 +268,8 @@ fn put_change(out: &mut Text, number: u8, change: &Change) -> Result<(), NoMemor
     put_edits(out, change)
 }
 
-/// The code of a change of at most 65,535 edits, in which each `next` is from 1 to 10^14 and each text has at most 1,024
-/// bytes.
+/// The code of a change of at most 65,535 edits, in which each `next` is from 1 to 10^14, each text has at most 1,024
+/// bytes, and the count of a `PairSent` is below `LIMIT`.
 pub fn encode(alloc: Global, change: &Change) -> Result<Text, NoMemory>
     requires few { length change.now ≤ most_edits }
     requires fitting { AreFitting change.now }

@@ -6,7 +6,7 @@ use crate::fault::CodeFault;
 use crate::reader::Reader;
 use party_state::{Exchange, Kind, LONGEST_TEXT, Via};
 use std::alloc::Global;
-use x_base::{Ident, Text};
+use x_base::{Ident, LIMIT, Text};
 
 impl<'a> Reader<'a> {
     /// How a key was sent.
@@ -52,6 +52,7 @@ impl<'a> Reader<'a> {
             4 => Some(Kind::Ending {
                 name: self.key_name()?,
             }),
+            5 => self.pair_sent(),
             _ => None,
         }
     }
@@ -75,6 +76,17 @@ impl<'a> Reader<'a> {
         let name = self.key_name()?;
         let via = self.via()?;
         Some(Kind::KeySent { name, via })
+    }
+
+    fn pair_sent(&mut self) -> Option<Kind>
+        ensures { IsPieceRead kind_form (5 ∷ self.old) self.new result }
+    {
+        let name = self.key_name()?;
+        if name.count.value() < LIMIT {
+            Some(Kind::PairSent { name })
+        } else {
+            None
+        }
     }
 
     fn text(&mut self) -> Option<&'a [u8]>

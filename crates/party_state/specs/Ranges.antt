@@ -1,11 +1,12 @@
 -- The ranges of what a party's tables and edits hold (this project's profile).
-use Rattle.std.specs.Prelude.{ℕ, ◌≤◌, ◌<◌, ◌^◌, List, length, IfSome}
+use Rattle.std.specs.Prelude.{ℕ, ◌+◌, ◌≤◌, ◌<◌, ◌^◌, List, length, IfSome}
 use Rattle.std.specs.List.{All}
 use Rattle.x_base.specs.Names.{IsIdent, IsLabel}
 use Rattle.x_base.specs.Count.{IsCount}
 use Rattle.x_base.specs.KeyName.{IsKeyName}
 use Rattle.x_mac.specs.declared.pair.Pair.{Pair}
 use Rattle.x_gen.specs.declared.generator.Gen.{Gen}
+use Rattle.party_state.specs.Names.{name_behind}
 use Rattle.party_state.specs.declared.link.LinkRec.{LinkRec}
 use Rattle.party_state.specs.declared.key.KeyRec.{KeyRec}
 use Rattle.party_state.specs.declared.exchange.Via.{Via}
@@ -62,6 +63,12 @@ IsKind (kind.Asked ultimate) = IsIdent ultimate
 IsKind (kind.Translating ultimate value cta) = IsIdent ultimate × IsWord value × IsCount cta
 IsKind (kind.KeySent name v) = IsKeyName name × IsVia v
 IsKind (kind.Ending name) = IsKeyName name
+IsKind (kind.PairSent name) = IsKeyName name × IsKeyName (name_behind name)
+
+-- what the types of a kind leave open: the count of the second of two keys is a count
+abbrev pub IsFittingKind : Kind → Type 0
+IsFittingKind (kind.PairSent name) = IsCount (name.count + 1)
+IsFittingKind k = Unit {0}
 
 -- how many bytes the text of an exchange has at most
 abbrev pub longest_text : ℕ
@@ -93,10 +100,15 @@ InRange (SetGen v) = IsWord v
 abbrev pub AreInRange : List Edit → Type 0
 AreInRange es = All InRange es
 
--- what the types of an edit leave open: the next count of a link, and the length of a text
+-- what the types of an exchange leave open: its kind's range, and the length of its text
+pub record IsFittingExchange (e : Exchange) : Type 0 where
+  pub kind : IsFittingKind e.kind
+  pub text : length e.text ≤ longest_text
+
+-- what the types of an edit leave open: the next count of a link, and the parts of an exchange
 abbrev pub IsFitting : Edit → Type 0
 IsFitting (PutLink l) = IsNextCount l.next
-IsFitting (PutExchange e) = length e.text ≤ longest_text
+IsFitting (PutExchange e) = IsFittingExchange e
 IsFitting e = Unit {0}
 
 abbrev pub AreFitting : List Edit → Type 0

@@ -37,10 +37,10 @@ pub record Made : Type 0 where
 pub data Class : Type 0 where
   OfRsi OfRfs OfRtr OfKsm OfRsm OfAnswer OfEsm OfErs OfDsm : Class
 
--- the class of an accepted arrival, and the key that it makes held, live or ended
+-- the class of an accepted arrival, and the keys that it makes held, live or ended; of a disconnection that of IDD alone
 pub record Accepted : Type 0 where
   pub class : Class
-  pub under : FullName
+  pub names : List FullName
 
 pub record Row : Type 0 where
   pub verdict : Verdict

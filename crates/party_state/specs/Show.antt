@@ -56,6 +56,7 @@ kind_words (kind.Asked ultimate) = codes "ASKED" ∷ ultimate ∷ []
 kind_words (kind.Translating ultimate value cta) = codes "TRANSLATING" ∷ ultimate ∷ decimal cta ∷ []
 kind_words (kind.KeySent name via) = codes "KEYSENT" ∷ written name ∷ []
 kind_words (kind.Ending name) = codes "ENDING" ∷ written name ∷ []
+kind_words (kind.PairSent name) = codes "PAIRSENT" ∷ written name ∷ []
 
 abbrev pub exchange_line : Exchange → List ℕ
 exchange_line e = line (codes "EXCHANGE" ∷ e.peer ∷ kind_words e.kind)

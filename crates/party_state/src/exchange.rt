@@ -38,6 +38,11 @@ pub enum Kind {
     Ending {
         name: KeyName,
     },
+    /// Two keys were sent in one message. The name is that of the first; the second has the same name with the count one
+    /// higher, so that the count of the first is below `LIMIT`.
+    PairSent {
+        name: KeyName,
+    },
 }
 
 /// An exchange with a peer that isn't over, and the text that began it, of at most 1,024 bytes.

@@ -32,6 +32,7 @@ pub use key::{KeyRec, KeyStatus, RecordKey};
 pub use laws::{law_accept, law_drop, law_edits, law_party, law_put};
 pub use limits::{LARGEST_NEXT, LONGEST_TEXT, MOST_KEYS, MOST_LINKS};
 pub use link::{LinkKey, LinkRec};
+pub use names::name_behind;
 pub use prepared::{Prepared, apply};
 pub use show::show_text;
 pub use state::{State, first_state};

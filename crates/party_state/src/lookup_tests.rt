@@ -31,9 +31,9 @@ fn keys_found(rt: &impl Abort, state: &State) -> [bool; 4] {
 fn exchanges_found(rt: &impl Abort, state: &State) -> [bool; 4] {
     [
         state.exchange(&ident(rt, b"BANKD")).is_some(),
-        state.exchange_count() == 4,
-        state.exchange_at(3).is_some(),
-        state.exchange_at(4).is_none(),
+        state.exchange_count() == 5,
+        state.exchange_at(4).is_some(),
+        state.exchange_at(5).is_none(),
     ]
 }
 

@@ -1,9 +1,8 @@
 // What the types of a party's parts fix, stated by calls that do nothing.
-ghost use Rattle.std.specs.Prelude.{◌≤◌, length};
 ghost use Rattle.x_base.specs.Count.{IsCount};
 ghost use Rattle.x_base.specs.KeyName.{IsKeyName};
 ghost use Rattle.x_base.specs.Names.{IsIdent, IsLabel};
-ghost use Rattle.party_state.specs.Ranges.{IsPair, IsGen, IsNextCount, IsLink, IsRecord, IsVia, IsKind, IsExchange, IsCentreAnswer, longest_text};
+ghost use Rattle.party_state.specs.Ranges.{IsPair, IsGen, IsNextCount, IsLink, IsRecord, IsVia, IsKind, IsFittingKind, IsExchange, IsFittingExchange, IsCentreAnswer};
 ghost use Rattle.party_state.specs.Formed.{IsFormed, AreFormed};
 
 use crate::answer::Answer;
@@ -93,7 +92,7 @@ fn law_via(via: &Via)
 }
 
 fn law_kind(kind: &Kind)
-    ensures { IsKind kind.now }
+    ensures { IsFittingKind kind.now → IsKind kind.now }
 {
     match kind {
         Kind::Asked { ultimate } => {
@@ -112,12 +111,12 @@ fn law_kind(kind: &Kind)
             law_name(name);
             law_via(via);
         }
-        Kind::Ending { name } => law_name(name),
+        Kind::Ending { name } | Kind::PairSent { name } => law_name(name),
     }
 }
 
 pub(crate) fn law_exchange(exchange: &Exchange)
-    ensures { length exchange.now.text ≤ longest_text → IsExchange exchange.now }
+    ensures { IsFittingExchange exchange.now → IsExchange exchange.now }
 {
     law_ident(&exchange.peer);
     law_kind(&exchange.kind);

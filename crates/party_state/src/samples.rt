@@ -1,5 +1,5 @@
 // Parties for tests. A call here tells nothing of the state that it makes: a test sees what it asks.
-ghost use Rattle.party_state.specs.Ranges.{IsFitting, IsNextCount, IsNoBegin};
+ghost use Rattle.party_state.specs.Ranges.{IsFitting, IsFittingKind, IsNextCount, IsNoBegin};
 
 use super::*;
 use std::alloc::Global;
@@ -57,6 +57,7 @@ pub(crate) fn key(rt: &impl Abort, bytes: &[u8], status: KeyStatus) -> Edit
 }
 
 pub(crate) fn exchange(rt: &impl Abort, alloc: Global, peer: &[u8], kind: Kind) -> Edit
+    requires { IsFittingKind kind }
     ensures fitting { IsFitting result }
     ensures goes_on { IsNoBegin result }
 {
@@ -79,13 +80,17 @@ pub(crate) fn answer(rt: &impl Abort, requester: &[u8], ultimate: &[u8], cta: &[
     })
 }
 
-pub(crate) fn asked(rt: &impl Abort, ultimate: &[u8]) -> Kind {
+pub(crate) fn asked(rt: &impl Abort, ultimate: &[u8]) -> Kind
+    ensures { IsFittingKind result }
+{
     Kind::Asked {
         ultimate: ident(rt, ultimate),
     }
 }
 
-fn translating(rt: &impl Abort, ultimate: &[u8], cta: &[u8]) -> Kind {
+fn translating(rt: &impl Abort, ultimate: &[u8], cta: &[u8]) -> Kind
+    ensures { IsFittingKind result }
+{
     Kind::Translating {
         ultimate: ident(rt, ultimate),
         value: 5,
@@ -93,7 +98,9 @@ fn translating(rt: &impl Abort, ultimate: &[u8], cta: &[u8]) -> Kind {
     }
 }
 
-fn key_sent(rt: &impl Abort, bytes: &[u8]) -> Kind {
+fn key_sent(rt: &impl Abort, bytes: &[u8]) -> Kind
+    ensures { IsFittingKind result }
+{
     Kind::KeySent {
         name: name(rt, bytes),
         via: Via::Translation {
@@ -102,10 +109,20 @@ fn key_sent(rt: &impl Abort, bytes: &[u8]) -> Kind {
     }
 }
 
-pub(crate) fn ending(rt: &impl Abort, bytes: &[u8]) -> Kind {
+pub(crate) fn ending(rt: &impl Abort, bytes: &[u8]) -> Kind
+    ensures { IsFittingKind result }
+{
     Kind::Ending {
         name: name(rt, bytes),
     }
+}
+
+fn pair_sent(rt: &impl Abort, bytes: &[u8]) -> Kind
+    ensures { IsFittingKind result }
+{
+    let name = name(rt, bytes);
+    name_behind(&name).expect(rt, "a count that isn't the last");
+    Kind::PairSent { name }
 }
 
 pub(crate) fn begun(rt: &impl Abort, alloc: Global, own: &[u8], role: Role) -> State {
@@ -152,7 +169,9 @@ fn with_keys(rt: &impl Abort, state: State) -> State {
     with_key(rt, state, b"CKDX.BANKA.C.10", KeyStatus::Ended)
 }
 
-fn with_exchange(rt: &impl Abort, alloc: Global, state: State, peer: &[u8], kind: Kind) -> State {
+fn with_exchange(rt: &impl Abort, alloc: Global, state: State, peer: &[u8], kind: Kind) -> State
+    requires { IsFittingKind kind }
+{
     with(rt, state, exchange(rt, alloc, peer, kind))
 }
 
@@ -166,7 +185,14 @@ fn with_exchanges(rt: &impl Abort, alloc: Global, state: State) -> State {
         b"BANKB",
         key_sent(rt, b"BANKA.BANKA.K1.7"),
     );
-    with_exchange(rt, alloc, state, b"BANKD", ending(rt, b"BANKA.BANKA.K1.9"))
+    let state = with_exchange(rt, alloc, state, b"BANKD", ending(rt, b"BANKA.BANKA.K1.9"));
+    with_exchange(
+        rt,
+        alloc,
+        state,
+        b"BANKE",
+        pair_sent(rt, b"BANKA.BANKA.K1.10"),
+    )
 }
 
 fn with_answers(rt: &impl Abort, state: State) -> State {

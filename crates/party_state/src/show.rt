@@ -133,6 +133,10 @@ fn push_exchange(alloc: Global, out: &mut Text, exchange: &Exchange) -> Result<(
             let name = written(alloc, name)?;
             push_line(out, b"EXCHANGE", &[peer, b"ENDING", name.bytes()])
         }
+        Kind::PairSent { name } => {
+            let name = written(alloc, name)?;
+            push_line(out, b"EXCHANGE", &[peer, b"PAIRSENT", name.bytes()])
+        }
     }
 }
 
