@@ -11,9 +11,16 @@ pub mod Spent
 pub mod Unchanged
 pub mod LeftOut
 pub mod SendingApart
+pub mod TwinKeys
+pub mod Rooms
 pub mod Loaded
 pub mod Early
 pub mod Given
 pub mod Counted
 pub mod Addressed
 pub mod Unled
+pub mod Loads
+pub mod Sends
+pub mod Ordered
+pub mod Beginning
+pub mod Tested

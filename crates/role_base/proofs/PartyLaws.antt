@@ -12,7 +12,7 @@ use Rattle.party_state.specs.declared.exchange.Exchange.{Exchange}
 use Rattle.party_state.specs.declared.answer.AnswerKey.{AnswerKey}
 use Rattle.party_state.specs.declared.answer.Answer.{Answer}
 use Rattle.party_state.specs.Keys.{same_link, same_record, same_answer, link_key, record_key, exchange_key, answer_key}
-use Rattle.party_state.specs.Ranges.{IsLink, IsExchange, IsParty}
+use Rattle.party_state.specs.Ranges.{IsLink, IsRecord, IsExchange, IsParty}
 use Rattle.party_state.specs.State.{Party, apply_edit, link_with, first_link, record_with, exchange_with, answer_with}
 use Rattle.party_state.specs.Verdicts.{Test, verdict_of, Held, is_accept, all_refuse}
 
@@ -34,6 +34,9 @@ LinksFound = (k : LinkKey) (l : LinkRec) (p : Party) → link_with k p ≡ Some 
 
 abbrev pub KeysFound : Type 0
 KeysFound = (k : RecordKey) (r : KeyRec) (p : Party) → record_with k p ≡ Some r → k ≡ record_key r
+
+abbrev pub AnswersFound : Type 0
+AnswersFound = (k : AnswerKey) (a : Answer) (p : Party) → answer_with k p ≡ Some a → k ≡ answer_key a
 
 -- the links: when two keys are one, and what is found under a key, also after a put
 pub record LinkLaws : Type 0 where
@@ -65,6 +68,7 @@ LinksDropped = (k j : LinkKey) (p : Party) → link_with k (apply_edit (DropLink
 pub record StandingLaws : Type 0 where
   pub link : (l : LinkRec) (p : Party) → link_with (link_key l) p ≡ Some l → apply_edit (PutLink l) p ≡ p
   pub key : (r : KeyRec) (p : Party) → record_with (record_key r) p ≡ Some r → apply_edit (PutKey r) p ≡ p
+  pub answer : (a : Answer) (p : Party) → answer_with (answer_key a) p ≡ Some a → apply_edit (PutAnswer a) p ≡ p
   pub no_link : (k : LinkKey) (p : Party) → link_with k p ≡ None → apply_edit (DropLink k.peer k.label k.side) p ≡ p
   pub no_exchange : (peer : List ℕ) (p : Party) → exchange_with peer p ≡ None → apply_edit (DropExchange peer) p ≡ p
 
@@ -76,6 +80,9 @@ FirstLinksFound = (peer : List ℕ) (side : Side) (l : LinkRec) (p : Party) → 
 
 abbrev pub LinksInRange : Type 0
 LinksInRange = (k : LinkKey) (l : LinkRec) (p : Party) → IsParty p → link_with k p ≡ Some l → IsLink l
+
+abbrev pub KeysInRange : Type 0
+KeysInRange = (k : RecordKey) (r : KeyRec) (p : Party) → IsParty p → record_with k p ≡ Some r → IsRecord r
 
 abbrev pub ExchangesInRange : Type 0
 ExchangesInRange = (peer : List ℕ) (e : Exchange) (p : Party) → IsParty p → exchange_with peer p ≡ Some e → IsExchange e

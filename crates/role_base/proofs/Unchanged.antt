@@ -10,12 +10,13 @@ use Rattle.party_state.specs.declared.link.LinkRec.{LinkRec}
 use Rattle.party_state.specs.declared.key.KeyRec.{KeyRec}
 use Rattle.party_state.specs.declared.key.KeyStatus.{KeyStatus}
 use Rattle.party_state.specs.declared.key.KeyStatus.TheVariants.{Pending, Live, Held, Closing, Ended}
+use Rattle.party_state.specs.declared.answer.Answer.{Answer}
 use Rattle.party_state.specs.declared.edit.Edit.{Edit}
 use Rattle.party_state.specs.declared.edit.Edit.TheVariants.{Begin, PutLink, DropLink, PutKey, DropEnded, PutExchange, DropExchange, PutAnswer, SetGen}
-use Rattle.party_state.specs.Keys.{link_key, record_key}
-use Rattle.party_state.specs.State.{Party, apply_edit, same_pair, is_ended, link_with, record_with, exchange_with}
-use Rattle.role_base.specs.Differing.{same_bool, same_status, has_link, has_record, differs, always_differs}
-use Rattle.role_base.proofs.PartyLaws.{LinksFound, KeysFound, LinkLaws, KeyLaws, ExchangeLaws, LinksDropped, StandingLaws, FewerKeys, put_same, key_put_same, drop_same, exchange_dropped}
+use Rattle.party_state.specs.Keys.{link_key, record_key, answer_key}
+use Rattle.party_state.specs.State.{Party, apply_edit, same_pair, is_ended, link_with, record_with, exchange_with, answer_with}
+use Rattle.role_base.specs.Differing.{same_bool, same_status, has_link, has_record, has_answer, differs, always_differs}
+use Rattle.role_base.proofs.PartyLaws.{LinksFound, KeysFound, AnswersFound, LinkLaws, KeyLaws, AnswerLaws, ExchangeLaws, LinksDropped, StandingLaws, FewerKeys, put_same, key_put_same, answer_put, drop_same, exchange_dropped}
 
 -- the tests of contents
 
@@ -93,6 +94,24 @@ record_found found p k h = go (record_with (record_key k) p) refl h
     go None e h = cc
     go (Some old) e h = ap (λ (x : KeyRec). let s : Option KeyRec = Some x in s) (record_is old k (found (record_key k) old p e) h)
 
+answer_is : (old a : Answer) → answer_key a ≡ answer_key old → has_answer (Some old) a ≡ true → old ≡ a
+answer_is old a e h =
+    let parts = and_parts (old.cta == a.cta) (old.value == a.value) h in
+    let cta : old.cta ≡ a.cta = (Decides-eqb old.cta a.cta).0 parts.0 in
+    let value : old.value ≡ a.value = (Decides-eqb old.value a.value).0 parts.1 in
+    let key : answer_key old ≡ answer_key a = sym e in
+    λ i. record { requester = (key i).requester; ultimate = (key i).ultimate; cta = cta i; value = value i }
+
+has_same_answer : (a : Answer) → has_answer (Some a) a ≡ true
+has_same_answer a = and_from _ _ (same_number a.cta) (same_number a.value)
+
+answer_found : AnswersFound → (p : Party) (a : Answer) → has_answer (answer_with (answer_key a) p) a ≡ true → answer_with (answer_key a) p ≡ Some a
+answer_found found p a h = go (answer_with (answer_key a) p) refl h
+  where
+    go : (o : Option Answer) → answer_with (answer_key a) p ≡ o → has_answer o a ≡ true → o ≡ Some a
+    go None e h = cc
+    go (Some old) e h = ap (λ (x : Answer). let s : Option Answer = Some x in s) (answer_is old a (found (answer_key a) old p e) h)
+
 -- what is dropped
 
 none_there : {A : Type 0} (o : Option A) → is_some o ≡ false → o ≡ None
@@ -129,23 +148,23 @@ all_kept fewer (k ∷ ks) h = go (is_over k) h (all_kept fewer ks)
     go false h ih = let rest : filter is_kept ks ≡ ks = cc in ih rest
 
 -- an edit that makes no difference changes nothing
-pub unchanged : LinksFound → KeysFound → StandingLaws → (p : Party) (e : Edit) → differs p e ≡ false → apply_edit e p ≡ p
-unchanged links keys stands p (Begin own role generator) h = absurd (true≢false h)
-unchanged links keys stands p (PutLink l) h = stands.link l p (link_found links p l (not-false _ h))
-unchanged links keys stands p (DropLink peer label side) h =
+pub unchanged : LinksFound → KeysFound → AnswersFound → StandingLaws → (p : Party) (e : Edit) → differs p e ≡ false → apply_edit e p ≡ p
+unchanged links keys answers stands p (Begin own role generator) h = absurd (true≢false h)
+unchanged links keys answers stands p (PutLink l) h = stands.link l p (link_found links p l (not-false _ h))
+unchanged links keys answers stands p (DropLink peer label side) h =
     let k : LinkKey = record { peer = peer; label = label; side = side } in
     stands.no_link k p (none_there (link_with k p) h)
-unchanged links keys stands p (PutKey k) h = stands.key k p (record_found keys p k (not-false _ h))
-unchanged links keys stands p DropEnded h = ap (λ (ks : List KeyRec). record p { keys = ks }) (none_over p.keys h)
-unchanged links keys stands p (PutExchange e) h = absurd (true≢false h)
-unchanged links keys stands p (DropExchange peer) h = stands.no_exchange peer p (none_there (exchange_with peer p) h)
-unchanged links keys stands p (PutAnswer a) h = absurd (true≢false h)
-unchanged links keys stands p (SetGen v) h =
+unchanged links keys answers stands p (PutKey k) h = stands.key k p (record_found keys p k (not-false _ h))
+unchanged links keys answers stands p DropEnded h = ap (λ (ks : List KeyRec). record p { keys = ks }) (none_over p.keys h)
+unchanged links keys answers stands p (PutExchange e) h = absurd (true≢false h)
+unchanged links keys answers stands p (DropExchange peer) h = stands.no_exchange peer p (none_there (exchange_with peer p) h)
+unchanged links keys answers stands p (PutAnswer a) h = stands.answer a p (answer_found answers p a (not-false _ h))
+unchanged links keys answers stands p (SetGen v) h =
     let e : v ≡ p.generator.v = (Decides-eqb v p.generator.v).0 (not-false _ h) in
     ap (λ (x : ℕ). record p { generator = record { key = p.generator.key; v = x } }) e
 
 -- and one that changes nothing makes none, but for those that always do
-module _ (links : LinkLaws) (keys : KeyLaws) (exchanges : ExchangeLaws) (dropped : LinksDropped) (fewer : FewerKeys) where
+module _ (links : LinkLaws) (keys : KeyLaws) (answers : AnswerLaws) (exchanges : ExchangeLaws) (dropped : LinksDropped) (fewer : FewerKeys) where
   pub same_after : (p : Party) (e : Edit) → always_differs e ≡ false → apply_edit e p ≡ p → differs p e ≡ false
   same_after p (Begin own role generator) a h = absurd (true≢false a)
   same_after p (PutLink l) a h =
@@ -160,7 +179,9 @@ module _ (links : LinkLaws) (keys : KeyLaws) (exchanges : ExchangeLaws) (dropped
   same_after p DropEnded a h = all_kept (λ ks. fewer (record p { keys = ks })) p.keys (ap (λ (q : Party). q.keys) h)
   same_after p (PutExchange e) a h = absurd (true≢false a)
   same_after p (DropExchange peer) a h = not_there (exchange_with peer p) (ap (exchange_with peer) (sym h) ∙ exchange_dropped exchanges peer p)
-  same_after p (PutAnswer a) b h = absurd (true≢false b)
+  same_after p (PutAnswer a) b h =
+      let found : answer_with (answer_key a) p ≡ Some a = ap (answer_with (answer_key a)) (sym h) ∙ answer_put answers a p in
+      ap not (ap (λ (o : Option Answer). has_answer o a) found ∙ has_same_answer a)
   same_after p (SetGen v) a h =
       let e : v ≡ p.generator.v = ap (λ (q : Party). q.generator.v) h in
       ap not ((Decides-eqb v p.generator.v).1 e)

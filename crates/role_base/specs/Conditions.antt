@@ -1,5 +1,5 @@
 -- The tests that several rows have in common (this project's profile).
-use Rattle.std.specs.Prelude.{ℕ, ◌+◌, Bool, true, false, not, ◌&&◌, ◌||◌, nat_le, Option, Some, None, List, [], ◌∷◌, length, bytes_eq}
+use Rattle.std.specs.Prelude.{ℕ, ◌+◌, Bool, true, false, not, ◌&&◌, ◌||◌, nat_le, nat_lt, Option, Some, None, List, [], ◌∷◌, length, bytes_eq}
 use Rattle.x_base.specs.declared.verdict.Verdict.TheVariants.{NotForMe, UnknownPeer, WrongClass, NoExchange, CountLow, CountSpent}
 use Rattle.csm_grammar.specs.declared.message.Service.{Service}
 use Rattle.csm_grammar.specs.declared.message.Service.TheVariants as service
@@ -31,10 +31,20 @@ is_data_key service.DoubleKk = false
 is_data_key service.KkKd = false
 is_data_key service.DoubleKkKd = false
 
+-- a request for two data keys
+abbrev pub is_two_keys : Service → Bool
+is_two_keys service.Kd = false
+is_two_keys service.KdKd = true
+is_two_keys service.Kk = false
+is_two_keys service.DoubleKk = false
+is_two_keys service.KkKd = false
+is_two_keys service.DoubleKkKd = false
+
 -- who shares the key-encrypting key under which a key comes: its originator, or the centre
 abbrev pub body_issuer : List ℕ → KsmBody → List ℕ
 body_issuer originator (body.Direct idk2 new kd ctp) = originator
 body_issuer originator (body.Centre centre kdu ctb) = centre
+body_issuer originator (body.Twin idk2 first second ctp) = originator
 
 -- an answer is for this party, and belongs to an exchange that stands
 abbrev pub answer_front : Party → List ℕ → List ℕ → Bool → List Test
@@ -43,6 +53,10 @@ answer_front p receiver originator stands = (is_for p receiver originator, NotFo
 -- a count is left
 abbrev pub has_count : LinkRec → Bool
 has_count l = nat_le l.next 99999999999999
+
+-- two counts are left
+abbrev pub has_two_counts : LinkRec → Bool
+has_two_counts l = nat_lt l.next 99999999999999
 
 -- a count that arrived, against the expected one
 abbrev pub count_tests : LinkRec → ℕ → List Test
@@ -56,6 +70,15 @@ count_after (Some old) rows = length rows
 -- 1,024 key records stand at most after this one is put
 abbrev pub has_key_room : Party → RecordKey → Bool
 has_key_room p key = nat_le (count_after (record_with key p) p.keys) most_keys
+
+-- how many rows more stand after one is put, which takes the place of the one that was found
+abbrev pub one_more : {R : Type 0} → Option R → ℕ
+one_more None = 1
+one_more (Some old) = 0
+
+-- 1,024 key records stand at most after these two are put
+abbrev pub has_room_for_two : Party → RecordKey → RecordKey → Bool
+has_room_for_two p j k = nat_le (length p.keys + (one_more (record_with j p) + one_more (record_with k p))) most_keys
 
 -- 64 links stand at most after this one is put
 abbrev pub has_link_room : Party → LinkKey → Bool

@@ -5,10 +5,11 @@ use Rattle.party_state.specs.declared.link.LinkRec.{LinkRec}
 use Rattle.party_state.specs.declared.key.KeyRec.{KeyRec}
 use Rattle.party_state.specs.declared.key.KeyStatus.{KeyStatus}
 use Rattle.party_state.specs.declared.key.KeyStatus.TheVariants.{Pending, Live, Held, Closing, Ended}
+use Rattle.party_state.specs.declared.answer.Answer.{Answer}
 use Rattle.party_state.specs.declared.edit.Edit.{Edit}
 use Rattle.party_state.specs.declared.edit.Edit.TheVariants.{Begin, PutLink, DropLink, PutKey, DropEnded, PutExchange, DropExchange, PutAnswer, SetGen}
-use Rattle.party_state.specs.Keys.{link_key, record_key}
-use Rattle.party_state.specs.State.{Party, apply_edit, same_pair, is_ended, link_with, record_with, exchange_with}
+use Rattle.party_state.specs.Keys.{link_key, record_key, answer_key}
+use Rattle.party_state.specs.State.{Party, apply_edit, same_pair, is_ended, link_with, record_with, exchange_with, answer_with}
 
 abbrev pub same_bool : Bool → Bool → Bool
 same_bool true b = b
@@ -31,6 +32,10 @@ abbrev pub has_record : Option KeyRec → KeyRec → Bool
 has_record None k = false
 has_record (Some old) k = (old.value == k.value) && same_status old.status k.status
 
+abbrev pub has_answer : Option Answer → Answer → Bool
+has_answer None a = false
+has_answer (Some old) a = (old.cta == a.cta) && (old.value == a.value)
+
 abbrev pub ended_in : Option KeyRec → Bool
 ended_in None = false
 ended_in (Some k) = is_ended k.status
@@ -48,14 +53,13 @@ differs p (PutKey k) = not (has_record (record_with (record_key k) p) k)
 differs p DropEnded = has_ended p
 differs p (PutExchange e) = true
 differs p (DropExchange peer) = is_some (exchange_with peer p)
-differs p (PutAnswer a) = true
+differs p (PutAnswer a) = not (has_answer (answer_with (answer_key a) p) a)
 differs p (SetGen v) = not (v == p.generator.v)
 
 -- an edit that differs at each party
 abbrev pub always_differs : Edit → Bool
 always_differs (Begin own role generator) = true
 always_differs (PutExchange e) = true
-always_differs (PutAnswer a) = true
 always_differs _ = false
 
 -- the edits that make a difference

@@ -10,3 +10,7 @@ pub mod Deciding
 pub mod Errors
 pub mod Storable
 pub mod Load
+pub mod Loading
+pub mod Sends
+pub mod Order
+pub mod Beginning

@@ -1,16 +1,17 @@
 // The tests that several rows have in common.
-ghost use Rattle.std.specs.Prelude.{◌≡◌, ◌++◌, ◌∷◌, [], false, bytes_eq};
+ghost use Rattle.std.specs.Prelude.{◌≡◌, ◌+◌, ◌≤◌, ◌++◌, ◌∷◌, [], false, bytes_eq};
+ghost use Rattle.x_base.specs.Count.{IsCount};
 ghost use Rattle.x_base.specs.declared.verdict.Verdict.TheVariants.{BadMac};
-ghost use Rattle.party_state.specs.State.{centre_label};
+ghost use Rattle.party_state.specs.State.{centre_label, record_with};
 ghost use Rattle.party_state.specs.Verdicts.{verdict_of};
 ghost use Rattle.role_base.specs.Storable.{CanKeep};
 ghost use Rattle.role_base.specs.Deciding.{decision_of, refusal_of};
-ghost use Rattle.role_base.specs.Conditions.{is_for, other_class, is_data_key, body_issuer, answer_front, has_count, count_tests, has_key_room, has_link_room};
+ghost use Rattle.role_base.specs.Conditions.{is_for, other_class, is_data_key, is_two_keys, body_issuer, answer_front, has_count, has_two_counts, count_tests, has_key_room, one_more, has_room_for_two, has_link_room};
 
 use crate::decisions::refusal;
 use crate::verdicts::{verdict_after, verdict_of};
 use csm_grammar::{KsmBody, Service};
-use party_state::{Decision, LinkRec, MOST_KEYS, MOST_LINKS, State};
+use party_state::{Decision, LinkRec, MOST_KEYS, MOST_LINKS, RecordKey, State};
 use x_base::{Count, Ident, KeyName, LIMIT, Label, Side, Verdict};
 
 /// Whether the receiver is this party, and the originator isn't.
@@ -45,12 +46,23 @@ pub fn is_data_key(service: Service) -> bool
     }
 }
 
+/// Whether the request is for two data keys.
+pub fn is_two_keys(service: Service) -> bool
+    ensures { result ≡ is_two_keys service }
+{
+    match service {
+        Service::KdKd => true,
+        Service::Kd | Service::Kk | Service::DoubleKk | Service::KkKd | Service::DoubleKkKd =>
+            false,
+    }
+}
+
 /// Who shares the key-encrypting key under which a key comes: its originator, or the centre.
 pub fn body_issuer(originator: &Ident, body: &KsmBody) -> Ident
     ensures { result ≡ body_issuer originator.now body.now }
 {
     match body {
-        KsmBody::Direct { .. } => *originator,
+        KsmBody::Direct { .. } | KsmBody::Twin { .. } => *originator,
         KsmBody::Centre { centre, .. } => *centre,
     }
 }
@@ -60,6 +72,24 @@ pub fn has_count(link: &LinkRec) -> bool
     ensures { result ≡ has_count link.now }
 {
     link.next <= LIMIT
+}
+
+/// Whether two counts are left.
+pub fn has_two_counts(link: &LinkRec) -> bool
+    ensures { result ≡ has_two_counts link.now }
+{
+    link.next < LIMIT
+}
+
+/// The count behind this one.
+pub fn count_behind(count: Count) -> Count
+    requires { IsCount (count + 1) }
+    ensures { result ≡ count + 1 }
+{
+    match Count::of(count.value() + 1) {
+        Some(behind) => behind,
+        None => unreachable!(),
+    }
 }
 
 /// The tests of a count that arrived, against the expected one.
@@ -88,6 +118,26 @@ pub fn has_key_room(state: &State, peer: &Ident, name: &KeyName) -> bool
         Some(_) => state.key_count() <= MOST_KEYS,
         None => false,
     }
+}
+
+/// How many key records more stand after one is put under this key.
+fn one_more(state: &State, key: &RecordKey) -> usize
+    ensures more { result ≡ one_more (record_with key.now state.now) }
+    ensures few { result ≤ 1 }
+{
+    match state.key(&key.peer, &key.name) {
+        Some(_) => 0,
+        None => 1,
+    }
+}
+
+/// Whether 1,024 key records stand at most after two are put under these keys.
+#[tactic(auto, using(crate::proofs::Rooms::fits_two))]
+pub fn has_room_for_two(state: &State, first: &RecordKey, second: &RecordKey) -> bool
+    ensures { result ≡ has_room_for_two state.now first.now second.now }
+{
+    let more = one_more(state, first) + one_more(state, second);
+    state.key_count() <= MOST_KEYS - more
 }
 
 /// Whether 64 links stand at most after this one is put.

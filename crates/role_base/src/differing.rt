@@ -1,10 +1,10 @@
 // Whether an edit makes a difference to a state.
 ghost use Rattle.std.specs.Prelude.{◌≡◌, slice_get};
-ghost use Rattle.party_state.specs.State.{is_ended, link_with, record_with};
-ghost use Rattle.party_state.specs.Keys.{link_key, record_key};
-ghost use Rattle.role_base.specs.Differing.{differs, ended_in, has_ended, has_link, has_record, same_status};
+ghost use Rattle.party_state.specs.State.{is_ended, link_with, record_with, answer_with};
+ghost use Rattle.party_state.specs.Keys.{link_key, record_key, answer_key};
+ghost use Rattle.role_base.specs.Differing.{differs, ended_in, has_answer, has_ended, has_link, has_record, same_status};
 
-use party_state::{Edit, KeyRec, KeyStatus, LinkRec, State};
+use party_state::{Answer, Edit, KeyRec, KeyStatus, LinkRec, State};
 
 /// Whether that link stands with these contents.
 fn has_link(state: &State, link: &LinkRec) -> bool
@@ -33,6 +33,16 @@ fn has_record(state: &State, key: &KeyRec) -> bool
 {
     match state.key(&key.peer, &key.name) {
         Some(old) => old.value == key.value && same_status(old.status, key.status),
+        None => false,
+    }
+}
+
+/// Whether that answer stands with these contents.
+fn has_answer(state: &State, answer: &Answer) -> bool
+    ensures { result ≡ has_answer (answer_with (answer_key answer.now) state.now) answer.now }
+{
+    match state.answer(&answer.requester, &answer.ultimate) {
+        Some(old) => old.cta == answer.cta && old.value == answer.value,
         None => false,
     }
 }
@@ -76,7 +86,8 @@ pub fn differs(state: &State, edit: &Edit) -> bool
         Edit::PutKey(key) => !has_record(state, key),
         Edit::DropEnded => has_ended(state),
         Edit::DropExchange { peer } => state.exchange(peer).is_some(),
+        Edit::PutAnswer(answer) => !has_answer(state, answer),
         Edit::SetGen(v) => *v != state.generator().v,
-        Edit::Begin { .. } | Edit::PutExchange(_) | Edit::PutAnswer(_) => true,
+        Edit::Begin { .. } | Edit::PutExchange(_) => true,
     }
 }

@@ -1,8 +1,8 @@
 // The edits that rows have in common.
 ghost use Rattle.std.specs.Prelude.{◌≡◌, ◌++◌, IfOk};
-ghost use Rattle.role_base.specs.Exchanges.{readied, dropped};
+ghost use Rattle.role_base.specs.Exchanges.{readied, dropped, ended};
 
-use party_state::{Edit, LinkRec};
+use party_state::{Edit, KeyRec, KeyStatus, LinkRec};
 use std::alloc::Global;
 use x_base::NoMemory;
 
@@ -56,6 +56,19 @@ pub fn dropped(alloc: Global, link: Option<LinkRec>) -> Result<Vec<Edit>, NoMemo
                 ..
             },
         ) => list_of(alloc, [Edit::DropLink { peer, label, side }]),
+        None => Ok(Vec::new(alloc)),
+    }
+}
+
+/// A key ends, where its record stands.
+pub fn ended(alloc: Global, key: Option<KeyRec>) -> Result<Vec<Edit>, NoMemory>
+    ensures { IfOk result (λ edits. edits.items ≡ ended key) }
+{
+    match key {
+        Some(key) => {
+            let status = KeyStatus::Ended;
+            list_of(alloc, [Edit::PutKey(KeyRec { status, ..key })])
+        }
         None => Ok(Vec::new(alloc)),
     }
 }

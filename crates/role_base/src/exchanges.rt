@@ -1,8 +1,11 @@
 // What the exchange with a peer is about.
 ghost use Rattle.std.specs.Prelude.{◌≡◌};
-ghost use Rattle.role_base.specs.Exchanges.{record_of, sent_by, sent_to, ending_by, ending_with, stands_by, is_waiting, new_label, new_link};
+ghost use Rattle.party_state.specs.Names.{name_behind};
+ghost use Rattle.role_base.specs.Exchanges.{record_of, sent_by, sent_to, twins_by, twins_to, ending_by, ending_with, stands_by, is_waiting, new_label, new_link};
 
-use party_state::{Exchange, KeyRec, Kind, LinkRec, State, Via};
+use party_state::{
+    Exchange, KeyRec, Kind, LinkRec, State, Via, law_found, law_found_in_range, name_behind,
+};
 use x_base::{Ident, KeyName, Label, Side};
 
 /// A key that was sent to a peer, and the way.
@@ -12,11 +15,43 @@ pub struct Sent {
     pub way: Via,
 }
 
+/// Two keys that were sent to a peer in one message.
+#[derive(Clone, Copy)]
+pub struct Twins {
+    pub first: KeyRec,
+    pub second: KeyRec,
+}
+
+impl Twins {
+    ghost use Rattle.role_base.specs.Exchanges.{twins_value};
+
+    /// The key of 64 bits under which their message and its answers are closed: the exclusive-or of
+    /// the two.
+    pub fn value(&self) -> u64
+        ensures { result ≡ twins_value self.now }
+    {
+        self.first.value ^ self.second.value
+    }
+}
+
 /// The record of a key shared with the peer.
 pub fn record_of(state: &State, peer: &Ident, name: &KeyName) -> Option<KeyRec>
     ensures { result ≡ record_of state.now peer.now name.now }
 {
     state.key(peer, name).copied()
+}
+
+/// The record of the key behind this one, shared with the peer.
+#[tactic(auto, using(crate::proofs::TwinKeys::none_behind))]
+pub fn record_behind(state: &State, peer: &Ident, name: &KeyName) -> Option<KeyRec>
+    ensures { result ≡ record_of state.now peer.now (name_behind name.now) }
+{
+    // Tells that the count of a record that stands is a count.
+    state.law_party();
+    law_found();
+    law_found_in_range();
+    let behind = name_behind(name)?;
+    record_of(state, peer, &behind)
 }
 
 /// The key that an exchange of this kind sent to the peer.
@@ -28,7 +63,10 @@ pub fn sent_by(state: &State, peer: &Ident, kind: &Kind) -> Option<Sent>
             let key = record_of(state, peer, name)?;
             Some(Sent { key, way: *via })
         }
-        Kind::Asked { .. } | Kind::Translating { .. } | Kind::Ending { .. } => None,
+        Kind::Asked { .. }
+        | Kind::Translating { .. }
+        | Kind::Ending { .. }
+        | Kind::PairSent { .. } => None,
     }
 }
 
@@ -40,12 +78,40 @@ pub fn sent_to(state: &State, peer: &Ident) -> Option<Sent>
     sent_by(state, peer, &exchange.kind)
 }
 
+/// The two keys that an exchange of this kind sent to the peer.
+pub fn twins_by(state: &State, peer: &Ident, kind: &Kind) -> Option<Twins>
+    ensures { result ≡ twins_by state.now peer.now kind.now }
+{
+    match kind {
+        Kind::PairSent { name } => {
+            let first = record_of(state, peer, name)?;
+            let second = record_behind(state, peer, name)?;
+            Some(Twins { first, second })
+        }
+        Kind::Asked { .. }
+        | Kind::Translating { .. }
+        | Kind::KeySent { .. }
+        | Kind::Ending { .. } => None,
+    }
+}
+
+/// The two keys that were sent to the peer in one message and aren't answered yet.
+pub fn twins_to(state: &State, peer: &Ident) -> Option<Twins>
+    ensures { result ≡ twins_to state.now peer.now }
+{
+    let exchange = state.exchange(peer)?;
+    twins_by(state, peer, &exchange.kind)
+}
+
 fn ending_by(state: &State, peer: &Ident, kind: &Kind) -> Option<KeyRec>
     ensures { result ≡ ending_by state.now peer.now kind.now }
 {
     match kind {
         Kind::Ending { name } => record_of(state, peer, name),
-        Kind::Asked { .. } | Kind::Translating { .. } | Kind::KeySent { .. } => None,
+        Kind::Asked { .. }
+        | Kind::Translating { .. }
+        | Kind::KeySent { .. }
+        | Kind::PairSent { .. } => None,
     }
 }
 
@@ -64,11 +130,14 @@ fn stands_by(state: &State, peer: &Ident, kind: &Kind) -> bool
         Kind::KeySent { name, .. } | Kind::Ending { name } => {
             record_of(state, peer, name).is_some()
         }
+        Kind::PairSent { name } => {
+            record_of(state, peer, name).is_some() && record_behind(state, peer, name).is_some()
+        }
         Kind::Asked { .. } | Kind::Translating { .. } => true,
     }
 }
 
-/// Whether an exchange with the peer stands, and the record that it names.
+/// Whether an exchange with the peer stands, and each record that it names.
 pub fn is_waiting(state: &State, peer: &Ident) -> bool
     ensures { result ≡ is_waiting state.now peer.now }
 {

@@ -18,14 +18,18 @@ mod texts;
 mod verdicts;
 
 pub use conditions::{
-    answer_front, answer_verdict, body_issuer, count_tests, has_count, has_key_room, has_link_room,
-    is_data_key, is_for, is_of_centre, not_answering, other_class,
+    answer_front, answer_verdict, body_issuer, count_behind, count_tests, has_count, has_key_room,
+    has_link_room, has_room_for_two, has_two_counts, is_data_key, is_for, is_of_centre,
+    is_two_keys, not_answering, other_class,
 };
 pub use decisions::{accept, early_refusal, refusal};
-pub use edits::{dropped, joined, list_of, readied};
+pub use edits::{dropped, ended, joined, list_of, readied};
 pub use errors::{Counts, error_answer};
-pub use exchanges::{Sent, ending_with, is_waiting, new_link, record_of, sent_by, sent_to};
-pub use laws::law_differing;
+pub use exchanges::{
+    Sent, Twins, ending_with, is_waiting, new_link, record_behind, record_of, sent_by, sent_to,
+    twins_by, twins_to,
+};
+pub use laws::{law_differing, law_loads, law_sends};
 pub use leads::{key_lead, lead_under};
 pub use links::{first_link, link_with};
 pub use loading::{load, odd_pair};

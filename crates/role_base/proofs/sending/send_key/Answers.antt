@@ -26,4 +26,4 @@ returns-clause-kept c =
     let short : length (text_of (data_key_reply p l c.args.key)) ≤ longest_text = rw (← c.in_ok-written.ensures.written.text) c.in_ok-written.ensures.short in
     let count : IsCount l.next = c.used.ensures.count in
     keeps c.accept.result p c.in_ok-list_of.field-0.items (sent_edits p l c.args.key c.args.after.now.v) (Some c.in_ok-written.written) (Some (data_key_reply p l c.args.key))
-    c.accept.ensures e c.in_ok-written.ensures.written (sent_keepable p l _ _ _ l.next c.requires.stands count refl c.requires.room short) (lit≤ tt)
+    c.accept.ensures e c.in_ok-written.ensures.written (sent_keepable p l _ _ _ l.next c.requires.stands count refl c.requires.room (record { kind = tt; text = short })) (lit≤ tt)
