@@ -1,5 +1,5 @@
 -- A centre that is asked: what is decided, and that it can be kept.
-use Rattle.std.proofs.Common.{arith, ◌≡◌, ℕ, ◌+◌, ◌≤◌, true, false, Result, IfOk, Option, Some, None, List, [], ◌∷◌, ◌++◌, length, refl, ap, ◌∙◌}
+use Rattle.std.proofs.Common.{arith, ◌≡◌, ℕ, ◌+◌, true, false, Result, IfOk, Option, Some, None, List, [], ◌∷◌, ◌++◌, refl, ap, ◌∙◌}
 use Rattle.x_base.specs.Count.{IsCount}
 use Rattle.x_base.specs.declared.text.NoMemory.{NoMemory}
 use Rattle.x_base.specs.declared.verdict.Verdict.{Verdict}
@@ -10,7 +10,7 @@ use Rattle.party_state.specs.declared.link.LinkRec.{LinkRec}
 use Rattle.party_state.specs.declared.exchange.Exchange.{Exchange}
 use Rattle.party_state.specs.declared.exchange.Kind.TheVariants as kind
 use Rattle.party_state.specs.declared.edit.Edit.TheVariants.{SetGen, PutLink, PutExchange}
-use Rattle.party_state.specs.Ranges.{longest_text}
+use Rattle.party_state.specs.Ranges.{IsFittingExchange}
 use Rattle.party_state.specs.State.{Party}
 use Rattle.party_state.specs.Rows.{Plain}
 use Rattle.party_state.specs.Verdicts.{verdict_of, is_accept}
@@ -27,8 +27,8 @@ use Rattle.role_base.proofs.Spent.{spent_first}
 use Rattle.bank_orders.specs.Ask.{centre_request, centre_front, asked_edits}
 use Rattle.bank_orders.specs.Translate.{translate_tests, translate_reply, translate_edits, translate_drawn}
 
-pub asked_keepable : (p : Party) (e : Exchange) → length e.text ≤ longest_text → AreKeepable p (PutExchange e ∷ [])
-asked_keepable p e short = record { each = (short, tt); order = refl }
+pub asked_keepable : (p : Party) (e : Exchange) → IsFittingExchange e → AreKeepable p (PutExchange e ∷ [])
+asked_keepable p e fits = record { each = (fits, tt); order = refl }
 
 pub asked_same : (p : Party) (centre u text : List ℕ) (x : Exchange) → x ≡ record { peer = centre; kind = kind.Asked u; text = text } → text ≡ text_of (Plain (centre_request p centre u)) → (PutExchange x ∷ []) ≡ asked_edits p centre u
 asked_same p centre u text x i t = rw (i, t) refl
@@ -37,12 +37,12 @@ pub translate_same : (p : Party) (centre u : List ℕ) (l : LinkRec) (n key v : 
     → (SetGen v ∷ PutLink (record l { next = l.next + 1 }) ∷ PutExchange (record { peer = centre; kind = kind.Translating u key n; text = text }) ∷ []) ≡ translate_edits p centre u l key v
 translate_same p centre u l n key v text i t = rw (i, t) refl
 
-pub translated_keepable : (p : Party) (l : LinkRec) (e : Exchange) (v n : ℕ) → LinkStands p l → IsCount l.next → n ≡ l.next → length e.text ≤ longest_text → AreKeepable p (SetGen v ∷ PutLink (record l { next = n + 1 }) ∷ PutExchange e ∷ [])
-translated_keepable p l e v n s c i short =
+pub translated_keepable : (p : Party) (l : LinkRec) (e : Exchange) (v n : ℕ) → LinkStands p l → IsCount l.next → n ≡ l.next → IsFittingExchange e → AreKeepable p (SetGen v ∷ PutLink (record l { next = n + 1 }) ∷ PutExchange e ∷ [])
+translated_keepable p l e v n s c i fits =
     let low = c.low in
     let high = c.high in
     record {
-      each = (tt, ((record { low = omega (arith, low, i); high = omega (arith, high, i) }, link_room p l s), (short, tt)));
+      each = (tt, ((record { low = omega (arith, low, i); high = omega (arith, high, i) }, link_room p l s), (fits, tt)));
       order = refl;
     }
 

@@ -1,5 +1,5 @@
 -- A new key-encrypting key that is sent: what is decided with what was drawn, and that it can be kept.
-use Rattle.std.proofs.Common.{arith, ◌≡◌, ℕ, ◌+◌, ◌≤◌, Bool, true, false, not, ◌&&◌, Result, IfOk, Option, Some, None, List, [], ◌∷◌, ◌++◌, length, refl, ap, ◌∙◌, lit≤}
+use Rattle.std.proofs.Common.{arith, ◌≡◌, ℕ, ◌+◌, ◌≤◌, Bool, true, false, not, ◌&&◌, Result, IfOk, Option, Some, None, List, [], ◌∷◌, ◌++◌, refl, ap, ◌∙◌, lit≤}
 use Rattle.x_base.specs.Count.{IsCount}
 use Rattle.x_base.specs.declared.key_name.KeyName.{KeyName}
 use Rattle.x_base.specs.declared.text.NoMemory.{NoMemory}
@@ -15,7 +15,7 @@ use Rattle.party_state.specs.declared.exchange.Kind.TheVariants as kind
 use Rattle.party_state.specs.declared.exchange.Via.TheVariants as via
 use Rattle.party_state.specs.declared.edit.Edit.TheVariants.{SetGen, PutLink, PutKey, PutExchange}
 use Rattle.party_state.specs.Keys.{link_key, record_key}
-use Rattle.party_state.specs.Ranges.{longest_text}
+use Rattle.party_state.specs.Ranges.{IsFittingExchange}
 use Rattle.party_state.specs.State.{Party}
 use Rattle.party_state.specs.Verdicts.{Test, verdict_of, Held, is_accept, all_refuse}
 use Rattle.party_state.proofs.Verdicts.{held_after}
@@ -83,13 +83,13 @@ pub kk_same : (p : Party) (l : LinkRec) (new : List ℕ) (single : Bool) (keys :
 kk_same p l new single keys name text n t = rw (n, t) refl
 
 -- the link in use is put in its place, and for the new one there is room
-pub kk_keepable : (p : Party) (l fresh : LinkRec) (k : KeyRec) (e : Exchange) (v n : ℕ) → LinkStands p l → IsCount l.next → n ≡ l.next → fresh.next ≡ 2 → has_link_room p (link_key fresh) ≡ true → has_key_room p (record_key k) ≡ true → length e.text ≤ longest_text
+pub kk_keepable : (p : Party) (l fresh : LinkRec) (k : KeyRec) (e : Exchange) (v n : ℕ) → LinkStands p l → IsCount l.next → n ≡ l.next → fresh.next ≡ 2 → has_link_room p (link_key fresh) ≡ true → has_key_room p (record_key k) ≡ true → IsFittingExchange e
     → AreKeepable p (SetGen v ∷ PutLink (record l { next = n + 1 }) ∷ PutLink fresh ∷ PutKey k ∷ PutExchange e ∷ [])
-kk_keepable p l fresh k e v n s c i two place room short =
+kk_keepable p l fresh k e v n s c i two place room fits =
     let low = c.low in
     let high = c.high in
     let found = s.found in
     record {
-      each = (tt, ((record { low = omega (arith, low, i); high = omega (arith, high, i) }, link_room p l s), ((record { low = omega (arith, two); high = omega (arith, two) }, link_fits p (link_key fresh) place), (key_fits p (record_key k) room, (short, tt)))));
+      each = (tt, ((record { low = omega (arith, low, i); high = omega (arith, high, i) }, link_room p l s), ((record { low = omega (arith, two); high = omega (arith, two) }, link_fits p (link_key fresh) place), (key_fits p (record_key k) room, (fits, tt)))));
       order = rw found refl;
     }

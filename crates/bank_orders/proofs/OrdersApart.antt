@@ -18,10 +18,14 @@ use Rattle.party_state.specs.Tables.{find_row}
 use Rattle.party_state.specs.Keys.{same_link, link_key, sends}
 use Rattle.party_state.specs.Verdicts.{Held, is_accept}
 use Rattle.role_base.specs.Differing.{has_link, differs, AreApart}
-use Rattle.role_base.proofs.PartyLaws.{HeldIfAccepted, LinkLaws, put_other}
+use Rattle.role_base.proofs.PartyLaws.{HeldIfAccepted, LinkLaws, KeyLaws, put_other}
+use Rattle.role_base.proofs.TwinKeys.{key_beside, records_apart}
+use Rattle.x_base.specs.declared.key_name.KeyName.{KeyName}
+use Rattle.party_state.specs.Names.{name_behind}
+use Rattle.party_state.specs.declared.key.KeyStatus.TheVariants.{Ended}
 use Rattle.role_base.proofs.SendingApart.{sending_apart}
 use Rattle.party_state.specs.State.{Party, apply_edit, centre_label, link_with, exchange_with, is_usable}
-use Rattle.role_base.specs.Exchanges.{record_of, new_link, dropped}
+use Rattle.role_base.specs.Exchanges.{record_of, new_link, dropped, ended}
 use Rattle.bank_orders.specs.declared.draws.KkDrawn.{KkDrawn}
 use Rattle.bank_orders.specs.Start.{if_ready, sending_link, start_tests, start_under}
 use Rattle.bank_orders.specs.Draws.{kk_drawn}
@@ -29,13 +33,13 @@ use Rattle.bank_orders.specs.StartKk.{kk_tests, fresh_link, kk_sending, start_kk
 use Rattle.bank_orders.specs.Ask.{ask_of}
 use Rattle.bank_orders.specs.Translate.{translate_drawn, translate_under}
 use Rattle.bank_orders.specs.Resend.{resend_of}
-use Rattle.bank_orders.specs.GivingUp.{ended, given_up, given_up_in}
+use Rattle.bank_orders.specs.GivingUp.{given_up, given_up_in}
 use Rattle.bank_orders.specs.Ending.{end_record}
 use Rattle.bank_orders.specs.Orders.{command_row}
 
-given_up_apart : (p : Party) (peer : List ℕ) (o : Option Exchange) → AreApart p (given_up_in p peer o)
-given_up_apart p peer None = tt
-given_up_apart p peer (Some e) = by_kind e.kind
+given_up_apart : KeyLaws → (p : Party) (peer : List ℕ) (o : Option Exchange) → AreApart p (given_up_in p peer o)
+given_up_apart keys p peer None = tt
+given_up_apart keys p peer (Some e) = by_kind e.kind
   where
     by_parts : (l : Option LinkRec) (k : Option KeyRec) → AreApart p ((dropped l ++ ended k) ++ DropExchange peer ∷ [])
     by_parts None None = (tt, tt)
@@ -43,11 +47,18 @@ given_up_apart p peer (Some e) = by_kind e.kind
     by_parts (Some l) None = ((refl, tt), (tt, tt))
     by_parts (Some l) (Some k) = ((refl, (refl, tt)), ((refl, tt), (tt, tt)))
 
+    by_pair : (name : KeyName) (j k : Option KeyRec) → record_of p peer name ≡ j → record_of p peer (name_behind name) ≡ k → AreApart p ((ended j ++ ended k) ++ DropExchange peer ∷ [])
+    by_pair name None None f g = (tt, tt)
+    by_pair name None (Some k) f g = ((refl, tt), (tt, tt))
+    by_pair name (Some j) None f g = ((refl, tt), (tt, tt))
+    by_pair name (Some j) (Some k) f g = ((key_beside keys p (record j { status = Ended }) (record k { status = Ended }) (records_apart keys.found p peer name j k f g), (refl, tt)), ((refl, tt), (tt, tt)))
+
     by_kind : (k : Kind) → AreApart p (given_up p peer k ++ DropExchange peer ∷ [])
     by_kind (kind.KeySent name way) = by_parts (new_link p peer way) (record_of p peer name)
     by_kind (kind.Asked ultimate) = (tt, tt)
     by_kind (kind.Translating ultimate value cta) = (tt, tt)
     by_kind (kind.Ending name) = (tt, tt)
+    by_kind (kind.PairSent name) = by_pair name (record_of p peer name) (record_of p peer (name_behind name)) refl refl
 
 -- where a row is found by another test, one with its key stands
 found_under : {R K : Type 0} (key : R → K) (same : K → K → Bool) → ((k : K) → same k k ≡ true) → (f : R → Bool) (r : R) (rs : List R) → find f rs ≡ Some r → find_row key same (key r) rs ≡ None → ⊥
@@ -60,7 +71,7 @@ found_under key same itself f r (x ∷ xs) h n = go (f x) (same (key r) (key x))
     go false false i h n ih = ih h n
 
 -- the link to send under stands
-sending_there : LinkLaws → (p : Party) (peer : List ℕ) (label : Option (List ℕ)) (l : LinkRec) → sending_link p peer label ≡ Some l → link_with (link_key l) p ≡ None → ⊥
+pub sending_there : LinkLaws → (p : Party) (peer : List ℕ) (label : Option (List ℕ)) (l : LinkRec) → sending_link p peer label ≡ Some l → link_with (link_key l) p ≡ None → ⊥
 sending_there links p peer None l h n = found_under link_key same_link (λ k. (links.same k k).1 refl) (is_usable peer Sends) l p.links h n
 sending_there links p peer (Some label) l h n = go (bytes_eq label centre_label) h
   where
@@ -109,29 +120,29 @@ translate_apart p centre u (Some l) moment = by_draw (good_draw p.generator mome
     by_draw None = tt
     by_draw (Some d) = ((refl, (refl, tt)), ((refl, tt), (tt, tt)))
 
-pub command_apart : HeldIfAccepted → LinkLaws → (p : Party) (c : Command) (moment : ℕ) → is_accept (command_row p c moment).verdict ≡ true → AreApart p (command_row p c moment).edits
-command_apart held links p (command.Load peer label side pair) moment h = (tt, tt)
-command_apart held links p (command.Start peer label) moment h = by_link (sending_link p peer label)
+pub command_apart : HeldIfAccepted → LinkLaws → KeyLaws → (p : Party) (c : Command) (moment : ℕ) → is_accept (command_row p c moment).verdict ≡ true → AreApart p (command_row p c moment).edits
+command_apart held links keys p (command.Load peer label side pair) moment h = (tt, tt)
+command_apart held links keys p (command.Start peer label) moment h = by_link (sending_link p peer label)
   where
     by_link : (o : Option LinkRec) → AreApart p (start_under p peer o moment).edits
     by_link None = tt
     by_link (Some l) = sending_apart p (start_tests p peer (Some l)) l (good_draw p.generator moment)
-command_apart held links p (command.StartKk peer label new single) moment h = kk_apart held links p peer new single (sending_link p peer label) moment (λ l e. sending_there links p peer label l e) h
-command_apart held links p (command.Ask peer ultimate) moment h = by_ultimate ultimate
+command_apart held links keys p (command.StartKk peer label new single) moment h = kk_apart held links p peer new single (sending_link p peer label) moment (λ l e. sending_there links p peer label l e) h
+command_apart held links keys p (command.Ask peer ultimate) moment h = by_ultimate ultimate
   where
     by_ultimate : (o : Option (List ℕ)) → AreApart p (ask_of p peer o).edits
     by_ultimate None = tt
     by_ultimate (Some other) = (tt, tt)
-command_apart held links p (command.Translate centre ultimate) moment h = translate_apart p centre ultimate (link_with (sends centre centre_label) p) moment
-command_apart held links p (command.Resend peer) moment h = by_exchange (exchange_with peer p)
+command_apart held links keys p (command.Translate centre ultimate) moment h = translate_apart p centre ultimate (link_with (sends centre centre_label) p) moment
+command_apart held links keys p (command.Resend peer) moment h = by_exchange (exchange_with peer p)
   where
     by_exchange : (o : Option Exchange) → AreApart p (resend_of o).edits
     by_exchange None = tt
     by_exchange (Some e) = tt
-command_apart held links p (command.End peer name) moment h = by_record (record_of p peer name)
+command_apart held links keys p (command.End peer name) moment h = by_record (record_of p peer name)
   where
     by_record : (o : Option KeyRec) → AreApart p (end_record p peer o).edits
     by_record None = tt
     by_record (Some k) = ((refl, tt), (tt, tt))
-command_apart held links p (command.Drop peer) moment h = given_up_apart p peer (exchange_with peer p)
-command_apart held links p command.Purge moment h = (tt, tt)
+command_apart held links keys p (command.Drop peer) moment h = given_up_apart keys p peer (exchange_with peer p)
+command_apart held links keys p command.Purge moment h = (tt, tt)

@@ -11,22 +11,23 @@ use Rattle.party_state.specs.declared.exchange.Kind.{Kind}
 use Rattle.party_state.specs.declared.exchange.Kind.TheVariants as kind
 use Rattle.x_base.specs.declared.key_name.KeyName.{KeyName}
 use Rattle.party_state.specs.State.{Party, exchange_with}
-use Rattle.party_state.specs.Ranges.{longest_text}
-use Rattle.role_base.specs.Exchanges.{record_of, new_link, dropped}
-use Rattle.bank_orders.specs.GivingUp.{ended, given_up, given_up_in}
+use Rattle.party_state.specs.Ranges.{IsFittingExchange}
+use Rattle.party_state.specs.Names.{name_behind}
+use Rattle.role_base.specs.Exchanges.{record_of, new_link, dropped, ended}
+use Rattle.bank_orders.specs.GivingUp.{given_up, given_up_in}
 use Rattle.role_base.specs.Deciding.{change_of, decision_of}
 use Rattle.bank_orders.specs.Resend.{resend_of, resend}
 use Rattle.role_base.specs.Storable.{CanKeep, AreKeepable}
 use Rattle.role_base.specs.Standing.{KeyStands}
 use Rattle.role_base.proofs.Found.{key_stands}
-use Rattle.role_base.proofs.Keeping.{key_room, accepted_kept}
+use Rattle.role_base.proofs.Keeping.{key_room, key_room_behind, accepted_kept}
 use Rattle.role_base.proofs.PartyLaws.{KeysFound}
 use Rattle.role_base.specs.Texts.{text_of}
 use Rattle.bank_orders.specs.Ending.{end_reply, ended_edits}
 
 -- a key that is being closed
-pub ended_keepable : (p : Party) (k : KeyRec) (e : Exchange) → KeyStands p k → length e.text ≤ longest_text → AreKeepable p (PutKey (record k { status = Closing }) ∷ PutExchange e ∷ [])
-ended_keepable p k e s short = record { each = (key_room p k s, (short, tt)); order = refl }
+pub ended_keepable : (p : Party) (k : KeyRec) (e : Exchange) → KeyStands p k → IsFittingExchange e → AreKeepable p (PutKey (record k { status = Closing }) ∷ PutExchange e ∷ [])
+ended_keepable p k e s fits = record { each = (key_room p k s, (fits, tt)); order = refl }
 
 -- an exchange that is given up
 pub given_up_keepable : KeysFound → (p : Party) (peer : List ℕ) (e : Exchange) → AreKeepable p (given_up_in p peer (Some e))
@@ -38,11 +39,21 @@ given_up_keepable keys p peer e = by_kind e.kind
     by_record None name (Some k) h = record { each = (key_room p k (key_stands keys p (record { peer = peer; name = name }) k h), (tt, tt)); order = refl }
     by_record (Some l) name (Some k) h = record { each = (tt, (key_room p k (key_stands keys p (record { peer = peer; name = name }) k h), (tt, tt))); order = refl }
 
+    stands : (name : KeyName) (k : KeyRec) → record_of p peer name ≡ Some k → KeyStands p k
+    stands name k h = key_stands keys p (record { peer = peer; name = name }) k h
+
+    by_pair : (name : KeyName) (j k : Option KeyRec) → record_of p peer name ≡ j → record_of p peer (name_behind name) ≡ k → AreKeepable p (ended j ++ ended k ++ DropExchange peer ∷ [])
+    by_pair name None None f g = record { each = (tt, tt); order = refl }
+    by_pair name None (Some k) f g = record { each = (key_room p k (stands (name_behind name) k g), (tt, tt)); order = refl }
+    by_pair name (Some j) None f g = record { each = (key_room p j (stands name j f), (tt, tt)); order = refl }
+    by_pair name (Some j) (Some k) f g = record { each = (key_room p j (stands name j f), (key_room_behind _ p k (stands (name_behind name) k g), (tt, tt))); order = refl }
+
     by_kind : (k : Kind) → AreKeepable p (given_up p peer k ++ DropExchange peer ∷ [])
     by_kind (kind.KeySent name way) = by_record (new_link p peer way) name (record_of p peer name) refl
     by_kind (kind.Asked ultimate) = record { each = (tt, tt); order = refl }
     by_kind (kind.Translating ultimate value cta) = record { each = (tt, tt); order = refl }
     by_kind (kind.Ending name) = record { each = (tt, tt); order = refl }
+    by_kind (kind.PairSent name) = by_pair name (record_of p peer name) (record_of p peer (name_behind name)) refl refl
 
 pub given_up_few : (p : Party) (peer : List ℕ) (e : Exchange) → length (given_up_in p peer (Some e)) ≤ 9
 given_up_few p peer e = by_kind e.kind
@@ -53,11 +64,18 @@ given_up_few p peer e = by_kind e.kind
     by_parts None (Some k) = lit≤ tt
     by_parts (Some l) (Some k) = lit≤ tt
 
+    by_pair : (j k : Option KeyRec) → length (ended j ++ ended k ++ DropExchange peer ∷ []) ≤ 9
+    by_pair None None = lit≤ tt
+    by_pair None (Some k) = lit≤ tt
+    by_pair (Some j) None = lit≤ tt
+    by_pair (Some j) (Some k) = lit≤ tt
+
     by_kind : (k : Kind) → length (given_up p peer k ++ DropExchange peer ∷ []) ≤ 9
     by_kind (kind.KeySent name way) = by_parts (new_link p peer way) (record_of p peer name)
     by_kind (kind.Asked ultimate) = lit≤ tt
     by_kind (kind.Translating ultimate value cta) = lit≤ tt
     by_kind (kind.Ending name) = lit≤ tt
+    by_kind (kind.PairSent name) = by_pair (record_of p peer name) (record_of p peer (name_behind name))
 
 -- a text that is written again
 pub resend_kept : (p : Party) (peer : List ℕ) (made : Result Decision NoMemory) → IfOk made (λ d. d ≡ decision_of p (resend p peer)) → IfOk made (λ d. CanKeep p d.change)

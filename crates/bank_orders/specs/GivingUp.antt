@@ -2,21 +2,16 @@
 -- goes; a key that is being closed stays so.
 use Rattle.std.specs.Prelude.{ℕ, is_some, List, [], ◌∷◌, ◌++◌, Option, Some, None}
 use Rattle.x_base.specs.declared.verdict.Verdict.TheVariants.{NoExchange}
-use Rattle.party_state.specs.declared.key.KeyRec.{KeyRec}
-use Rattle.party_state.specs.declared.key.KeyStatus.TheVariants.{Ended}
 use Rattle.party_state.specs.declared.exchange.Kind.{Kind}
 use Rattle.party_state.specs.declared.exchange.Kind.TheVariants as kind
 use Rattle.party_state.specs.declared.exchange.Exchange.{Exchange}
 use Rattle.party_state.specs.declared.edit.Edit.{Edit}
-use Rattle.party_state.specs.declared.edit.Edit.TheVariants.{PutKey, DropExchange}
+use Rattle.party_state.specs.declared.edit.Edit.TheVariants.{DropExchange}
 use Rattle.party_state.specs.State.{Party, exchange_with}
 use Rattle.party_state.specs.Verdicts.{verdict_of}
 use Rattle.party_state.specs.Rows.{Row}
-use Rattle.role_base.specs.Exchanges.{record_of, new_link, dropped}
-
-abbrev pub ended : Option KeyRec → List Edit
-ended None = []
-ended (Some k) = PutKey (record k { status = Ended }) ∷ []
+use Rattle.party_state.specs.Names.{name_behind}
+use Rattle.role_base.specs.Exchanges.{record_of, new_link, dropped, ended}
 
 -- what becomes of what the exchange names
 abbrev pub given_up : Party → List ℕ → Kind → List Edit
@@ -24,6 +19,7 @@ given_up p peer (kind.KeySent name way) = dropped (new_link p peer way) ++ ended
 given_up p peer (kind.Asked ultimate) = []
 given_up p peer (kind.Translating ultimate value cta) = []
 given_up p peer (kind.Ending name) = []
+given_up p peer (kind.PairSent name) = ended (record_of p peer name) ++ ended (record_of p peer (name_behind name))
 
 abbrev pub given_up_in : Party → List ℕ → Option Exchange → List Edit
 given_up_in p peer None = []

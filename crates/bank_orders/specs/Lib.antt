@@ -7,3 +7,8 @@ pub mod Resend
 pub mod GivingUp
 pub mod Ending
 pub mod Orders
+pub mod Starts
+pub mod SendsKk
+pub mod Asks
+pub mod Ends
+pub mod GivesUp

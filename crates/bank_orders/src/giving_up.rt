@@ -2,25 +2,14 @@
 ghost use Rattle.std.specs.Prelude.{◌≡◌, IfOk};
 ghost use Rattle.role_base.specs.Storable.{CanKeep};
 ghost use Rattle.role_base.specs.Deciding.{decision_of};
-ghost use Rattle.bank_orders.specs.GivingUp.{ended, given_up, given_up_in, drop};
+ghost use Rattle.bank_orders.specs.GivingUp.{given_up, given_up_in, drop};
 
-use party_state::{Decision, Edit, Exchange, KeyRec, KeyStatus, Kind, State, law_found};
-use role_base::{accept, dropped, joined, list_of, new_link, record_of, refusal};
+use party_state::{Decision, Edit, Exchange, Kind, State, law_found};
+use role_base::{
+    accept, dropped, ended, joined, list_of, new_link, record_behind, record_of, refusal,
+};
 use std::alloc::Global;
 use x_base::{Ident, NoMemory, Verdict};
-
-/// The key ends.
-fn ended(alloc: Global, key: Option<KeyRec>) -> Result<Vec<Edit>, NoMemory>
-    ensures { IfOk result (λ edits. edits.items ≡ ended key) }
-{
-    match key {
-        Some(key) => {
-            let status = KeyStatus::Ended;
-            list_of(alloc, [Edit::PutKey(KeyRec { status, ..key })])
-        }
-        None => Ok(Vec::new(alloc)),
-    }
-}
 
 /// What becomes of what the exchange names.
 fn given_up(alloc: Global, state: &State, peer: &Ident, kind: &Kind) -> Result<Vec<Edit>, NoMemory>
@@ -30,6 +19,10 @@ fn given_up(alloc: Global, state: &State, peer: &Ident, kind: &Kind) -> Result<V
         Kind::KeySent { name, via } => {
             let link = dropped(alloc, new_link(state, peer, via))?;
             joined(link, ended(alloc, record_of(state, peer, name))?)
+        }
+        Kind::PairSent { name } => {
+            let first = ended(alloc, record_of(state, peer, name))?;
+            joined(first, ended(alloc, record_behind(state, peer, name))?)
         }
         Kind::Asked { .. } | Kind::Translating { .. } | Kind::Ending { .. } => {
             Ok(Vec::new(alloc))

@@ -23,4 +23,4 @@ returns-clause-kept c =
     let e : c.in_ok-edits.edits.items ≡ asked_edits p centre u = c.in_ok-edits.ensures ∙ asked_same p centre u c.in_ok-copy.field-0 c.asked-exchange.result c.asked-exchange.ensures (c.in_ok-copy.ensures ∙ c.in_ok-written.ensures.written.text) in
     let short : length (text_of (Plain (centre_request p centre u))) ≤ longest_text = rw (← c.in_ok-written.ensures.written.text) c.in_ok-written.ensures.short in
     keeps c.accept.result p c.in_ok-edits.edits.items (asked_edits p centre u) (Some c.in_ok-written.written) (Some (Plain (centre_request p centre u))) c.accept.ensures e c.in_ok-written.ensures.written
-    (asked_keepable p _ short) (lit≤ tt)
+    (asked_keepable p _ (record { kind = tt; text = short })) (lit≤ tt)

@@ -22,4 +22,4 @@ returns-clause-kept c =
     c.in_ok-list_of.ensures ∙ ended_same p k c.in_ok-copy.field-0 (c.in_ok-copy.ensures ∙ c.in_ok-written.ensures.written.text) in
     let short : length (text_of (end_reply p k)) ≤ longest_text = rw (← c.in_ok-written.ensures.written.text) c.in_ok-written.ensures.short in
     keeps c.accept.result p c.in_ok-list_of.field-0.items (ended_edits p k) (Some c.in_ok-written.written) (Some (end_reply p k)) c.accept.ensures e c.in_ok-written.ensures.written
-    (ended_keepable p k _ c.requires short) (lit≤ tt)
+    (ended_keepable p k _ c.requires (record { kind = tt; text = short })) (lit≤ tt)

@@ -31,4 +31,4 @@ returns-clause-kept c =
     let short : length (text_of (kk_reply p l new single d)) ≤ longest_text = rw (← c.in_ok-written.ensures.written.text) c.in_ok-written.ensures.short in
     let count : IsCount l.next = c.kk_changes-changes.ensures.count in
     keeps c.accept.result p c.in_ok-list_of.field-0.items (kk_edits p l new single d) (Some c.in_ok-written.written) (Some (kk_reply p l new single d))
-    c.accept.ensures e c.in_ok-written.ensures.written (kk_keepable p l (fresh_link l new d.pair) _ _ _ l.next c.requires.stands count refl refl c.requires.place c.requires.room short) (lit≤ tt)
+    c.accept.ensures e c.in_ok-written.ensures.written (kk_keepable p l (fresh_link l new d.pair) _ _ _ l.next c.requires.stands count refl refl c.requires.place c.requires.room (record { kind = tt; text = short })) (lit≤ tt)

@@ -31,4 +31,4 @@ returns-clause-kept c =
     let short : length (text_of (translate_reply p centre u l d.0)) ≤ longest_text = rw (← c.in_ok-written.ensures.written.text) c.in_ok-written.ensures.short in
     let count : IsCount l.next = c.translate_changes-changes.ensures.count in
     keeps c.accept.result p c.in_ok-list_of.field-0.items (translate_edits p centre u l d.0 d.1.v) (Some c.in_ok-written.written) (Some (translate_reply p centre u l d.0))
-    c.accept.ensures e c.in_ok-written.ensures.written (translated_keepable p l _ _ l.next c.requires.stands count refl short) (lit≤ tt)
+    c.accept.ensures e c.in_ok-written.ensures.written (translated_keepable p l _ _ l.next c.requires.stands count refl (record { kind = tt; text = short })) (lit≤ tt)
