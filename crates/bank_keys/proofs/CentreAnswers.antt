@@ -32,8 +32,8 @@ use Rattle.bank_keys.specs.Rtr.{centre_key, rtr_rest, passed_reply, used_edits, 
 
 -- the edits can be kept
 pub passed_keepable : (p : Party) (m : Rtr) (used : Option LinkRec) (value : ℕ) (way : Via) → IfSome used (λ (l : LinkRec). IsKeepable p (PutLink l)) → has_key_room p (centre_key p m) ≡ true → length (text_of (passed_reply p m value)) ≤ longest_text → AreKeepable p (used_edits used ++ passed_on p m value way)
-passed_keepable p m None value way u room short = record { each = (key_fits p (centre_key p m) room, (tt, (short, tt))); order = refl }
-passed_keepable p m (Some l) value way u room short = record { each = (u, (key_fits p (centre_key p m) room, (tt, (short, tt)))); order = refl }
+passed_keepable p m None value way u room short = record { each = (key_fits p (centre_key p m) room, (tt, (record { kind = tt; text = short }, tt))); order = refl }
+passed_keepable p m (Some l) value way u room short = record { each = (u, (key_fits p (centre_key p m) room, (tt, (record { kind = tt; text = short }, tt)))); order = refl }
 
 pub passed_few : (p : Party) (m : Rtr) (used : Option LinkRec) (value : ℕ) (way : Via) → length (used_edits used ++ passed_on p m value way) ≤ 9
 passed_few p m None value way = omega arith

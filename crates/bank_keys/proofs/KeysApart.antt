@@ -1,7 +1,7 @@
 -- No edit of an accepted key service message or of a centre's answer changes whether a later one makes a difference.
-use Rattle.std.proofs.Common.{◌≡◌, ℕ, ◌+◌, Bool, true, false, cond, not, Option, Some, None, List, [], ◌∷◌, ◌++◌, refl, ap, bytes_eq}
+use Rattle.std.proofs.Common.{◌≡◌, ℕ, Bool, true, false, cond, not, Option, Some, None, List, ◌∷◌, ◌++◌, refl, ap, bytes_eq}
 use Rattle.std.proofs.lemmas.Bool.{and_parts, false_from_ne_true}
-use Rattle.std.specs.Prelude.{is_none, ◌&&◌}
+use Rattle.std.specs.Prelude.{is_none, ◌&&◌, nat_lt}
 use Rattle.x_base.specs.declared.party.Side.TheVariants.{Takes}
 use Rattle.csm_grammar.specs.declared.message.Ksm.{Ksm}
 use Rattle.csm_grammar.specs.declared.message.KsmBody.{KsmBody}
@@ -20,10 +20,12 @@ use Rattle.party_state.specs.Verdicts.{Held, is_accept}
 use Rattle.party_state.proofs.Distinct.{first_found}
 use Rattle.party_state.proofs.Keys.{test_links}
 use Rattle.role_base.specs.Differing.{differs, has_link, AreApart}
-use Rattle.role_base.proofs.PartyLaws.{HeldIfAccepted, LinkLaws, put_other}
+use Rattle.role_base.proofs.PartyLaws.{HeldIfAccepted, LinkLaws, KeyLaws, put_other}
+use Rattle.role_base.proofs.TwinKeys.{key_beside}
+use Rattle.bank_keys.proofs.TwoKeys.{OtherKey, others_apart}
 use Rattle.bank_keys.specs.declared.waits.Waiting.{Waiting}
 use Rattle.bank_keys.specs.Waiting.{waiting_with}
-use Rattle.bank_keys.specs.Ksm.{link_in_use, body_link, body_count, body_new, body_record, body_tests, new_tests, taken_link, taken_edits, key_row, key_arrives}
+use Rattle.bank_keys.specs.Ksm.{link_in_use, body_link, body_count, body_next, body_new, body_record, second_edits, body_second, body_tests, new_tests, taken_link, taken_edits, key_row, key_arrives}
 use Rattle.bank_keys.specs.Rtr.{brought, translated, rtr_with, rtr}
 use Rattle.bank_keys.proofs.NewKeys.{all_refusing, new_held}
 
@@ -43,6 +45,11 @@ in_use_stands links p originator (Some label) l d h = go (bytes_eq label centre_
 body_stands : LinkLaws → (p : Party) (originator : List ℕ) (b : KsmBody) (l : LinkRec) → Distinct link_key same_link p.links → body_link p originator b ≡ Some l → link_with (link_key l) p ≡ Some l
 body_stands links p originator (body.Direct idk2 new kd ctp) l d h = in_use_stands links p originator idk2 l d h
 body_stands links p originator (body.Centre centre kdu ctb) l d h = by_key links p (takes centre centre_label) l h
+body_stands links p originator (body.Twin idk2 first second ctp) l d h = go (nat_lt ctp 99999999999999) h
+  where
+    go : (b : Bool) → cond b (link_in_use p originator idk2) None ≡ Some l → link_with (link_key l) p ≡ Some l
+    go true h = in_use_stands links p originator idk2 l d h
+    go false h = absurd (cc)
 
 -- a new link is put beside the one in use
 
@@ -59,21 +66,26 @@ is_free : (label : Bool) (o : Option LinkRec) → (not label && is_none o) ≡ t
 is_free label None h = refl
 is_free label (Some l) h = absurd (let t : false ≡ true = (and_parts (not label) false h).1 in cc)
 
-taken_apart : LinkLaws → (p : Party) (originator : List ℕ) (l : LinkRec) (count : ℕ) (n : Option (List ℕ × NewKk)) (k : KeyRec) → link_with (link_key l) p ≡ Some l → Held (new_tests p originator l count n) → AreApart p (PutLink (record l { next = count + 1 }) ∷ (taken_edits originator l count n ++ PutKey k ∷ []))
-taken_apart links p originator l count None k at t = ((refl, tt), (tt, tt))
-taken_apart links p originator l count (Some n) k at t =
+taken_apart : LinkLaws → KeyLaws → (p : Party) (originator : List ℕ) (l : LinkRec) (count up : ℕ) (n : Option (List ℕ × NewKk)) (k : KeyRec) (o : Option KeyRec) → OtherKey k o → link_with (link_key l) p ≡ Some l → Held (new_tests p originator l count n) → AreApart p (PutLink (record l { next = up }) ∷ (taken_edits originator l count n ++ PutKey k ∷ second_edits o))
+taken_apart links keys p originator l count up None k None ne at t = ((refl, tt), (tt, tt))
+taken_apart links keys p originator l count up None k (Some j) ne at t = ((refl, (refl, tt)), ((key_beside keys (apply_edit (PutLink (record l { next = up })) p) k j ne, tt), (tt, tt)))
+taken_apart links keys p originator l count up (Some n) k None ne at t =
     let free : link_with (takes originator n.0) p ≡ None = is_free (bytes_eq n.0 centre_label) (link_with (takes originator n.0) p) t.0 in
     let other : same_link (takes originator n.0) (link_key l) ≡ false = keys_differ links p (takes originator n.0) (link_key l) l free at in
-    ((beside links p (record l { next = count + 1 }) (taken_link originator l count n) other, (refl, tt)), ((refl, tt), (tt, tt)))
+    ((beside links p (record l { next = up }) (taken_link originator l count n) other, (refl, tt)), ((refl, tt), (tt, tt)))
+taken_apart links keys p originator l count up (Some n) k (Some j) ne at t =
+    let free : link_with (takes originator n.0) p ≡ None = is_free (bytes_eq n.0 centre_label) (link_with (takes originator n.0) p) t.0 in
+    let other : same_link (takes originator n.0) (link_key l) ≡ false = keys_differ links p (takes originator n.0) (link_key l) l free at in
+    ((beside links p (record l { next = up }) (taken_link originator l count n) other, (refl, (refl, tt))), ((refl, (refl, tt)), ((key_beside keys (apply_edit (PutLink (taken_link originator l count n)) (apply_edit (PutLink (record l { next = up })) p)) k j ne, tt), (tt, tt))))
 
-key_apart : HeldIfAccepted → LinkLaws → (p : Party) (a : Arrival) (m : Ksm) (b : KsmBody) (o : Option LinkRec) → Distinct link_key same_link p.links → body_link p m.originator b ≡ o → is_accept (key_row p a m b o).verdict ≡ true → AreApart p (key_row p a m b o).edits
-key_apart held links p a m b None d found t = tt
-key_apart held links p a m b (Some l) d found t =
+key_apart : HeldIfAccepted → LinkLaws → KeyLaws → (p : Party) (a : Arrival) (m : Ksm) (b : KsmBody) (o : Option LinkRec) → Distinct link_key same_link p.links → body_link p m.originator b ≡ o → is_accept (key_row p a m b o).verdict ≡ true → AreApart p (key_row p a m b o).edits
+key_apart held links keys p a m b None d found t = tt
+key_apart held links keys p a m b (Some l) d found t =
     let h : Held (body_tests p a m b l) = held (body_tests p a m b l) (all_refusing p a m b l) t in
-    taken_apart links p m.originator l (body_count b) (body_new b) (body_record p m b l) (body_stands links p m.originator b l d found) (new_held p a m b l h).0
+    taken_apart links keys p m.originator l (body_count b) (body_next b) (body_new b) (body_record p m b l) (body_second p m b l) (others_apart p m b l) (body_stands links p m.originator b l d found) (new_held p a m b l h).0
 
-pub ksm_apart : HeldIfAccepted → LinkLaws → (p : Party) (a : Arrival) (m : Ksm) → Distinct link_key same_link p.links → is_accept (key_arrives p a m).verdict ≡ true → AreApart p (key_arrives p a m).edits
-ksm_apart held links p a m d t = key_apart held links p a m m.body (body_link p m.originator m.body) d refl t
+pub ksm_apart : HeldIfAccepted → LinkLaws → KeyLaws → (p : Party) (a : Arrival) (m : Ksm) → Distinct link_key same_link p.links → is_accept (key_arrives p a m).verdict ≡ true → AreApart p (key_arrives p a m).edits
+ksm_apart held links keys p a m d t = key_apart held links keys p a m m.body (body_link p m.originator m.body) d refl t
 
 with_apart : (p : Party) (a : Arrival) (m : Rtr) (o : Option (ℕ × ℕ)) → AreApart p (rtr_with p a m o).edits
 with_apart p a m (Some k) = by_link (link_with (takes m.originator centre_label) p)

@@ -6,7 +6,12 @@ pub mod KeysKept
 pub mod CentreAnswers
 pub mod Early
 pub mod KeysApart
+pub mod TwoKeys
 pub mod Rooms
 pub mod Taking
 pub mod Passes
 pub mod NewTaken
+pub mod Refused
+pub mod Ordered
+pub mod BothTaken
+pub mod Beginning

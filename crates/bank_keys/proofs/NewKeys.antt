@@ -9,9 +9,10 @@ use Rattle.csm_grammar.specs.declared.arrival.Arrival.{Arrival}
 use Rattle.party_state.specs.declared.link.LinkRec.{LinkRec}
 use Rattle.party_state.specs.State.{Party}
 use Rattle.party_state.specs.Verdicts.{Held, all_refuse}
-use Rattle.role_base.specs.Conditions.{count_tests, has_key_room}
+use Rattle.role_base.specs.Conditions.{count_tests}
 use Rattle.role_base.proofs.Early.{none_early}
-use Rattle.bank_keys.specs.Ksm.{body_count, body_name, body_new, body_tests, new_tests}
+use Rattle.party_state.specs.Keys.{record_key}
+use Rattle.bank_keys.specs.Ksm.{body_count, body_new, body_record, body_second, have_room, body_tests, new_tests}
 
 -- the first count is one
 pub first_counts : IsCount 1
@@ -29,7 +30,7 @@ behind_late p originator l count (Some n) code room = refl
 -- all tests refuse
 
 abbrev pub has_room : Party → Ksm → KsmBody → LinkRec → Bool
-has_room p m b l = has_key_room p (record { peer = m.originator; name = (body_name p m.originator b l).name })
+has_room p m b l = have_room p (record_key (body_record p m b l)) (body_second p m b l)
 
 pub all_refusing : (p : Party) (a : Arrival) (m : Ksm) (b : KsmBody) (l : LinkRec) → all_refuse (body_tests p a m b l) ≡ true
 all_refusing p a m b l = refuses p m.originator l (body_count b) (body_new b) (has_room p m b l)

@@ -42,6 +42,7 @@ asked_for (Some e) u h = by_kind e.kind refl h
     by_kind (kind.Translating v value cta) i h = absurd (cc)
     by_kind (kind.KeySent name way) i h = absurd (cc)
     by_kind (kind.Ending name) i h = absurd (cc)
+    by_kind (kind.PairSent name) i h = absurd (cc)
 
 waits_for : (o : Option Exchange) (t : Waiting) → waiting_in o ≡ Some t → (e : Exchange) × (o ≡ Some e) × (e.kind ≡ kind.Translating t.ultimate t.value t.cta)
 waits_for None t h = absurd (cc)
@@ -52,6 +53,7 @@ waits_for (Some e) t h = by_kind e.kind refl h
     by_kind (kind.Translating v value cta) i h = let same : record { ultimate = v; value = value; cta = cta } ≡ t = cc in (e, refl, i ∙ ap (λ (x : Waiting). kind.Translating x.ultimate x.value x.cta) same)
     by_kind (kind.KeySent name way) i h = absurd (cc)
     by_kind (kind.Ending name) i h = absurd (cc)
+    by_kind (kind.PairSent name) i h = absurd (cc)
 
 module _ (held : HeldAtAccept) (accepted : AcceptedIfHeld) (keys : KeysCounted) where
   -- with the key

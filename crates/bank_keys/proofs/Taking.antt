@@ -1,11 +1,14 @@
 -- A key that a key service message brings is accepted exactly where it can be taken.
-use Rattle.std.proofs.Common.{◌≡◌, ℕ, ◌+◌, ◌↔◌, true, false, not, nat_le, bytes_eq, Option, Some, None, IfSome, List, length, refl, sym, ap, ◌∙◌}
+use Rattle.std.proofs.Common.{arith, ◌≡◌, ℕ, ◌+◌, ◌<◌, ◌↔◌, Bool, true, false, cond, not, nat_le, nat_lt, bytes_eq, Option, Some, None, IfSome, List, length, refl, sym, ap, ◌∙◌}
 use Rattle.std.specs.Prelude.{is_none}
-use Rattle.std.proofs.lemmas.Bool.{leb-true, le-leb, both_ways, not-true, not_from_false, and_parts, and_from, or_right}
+use Rattle.std.proofs.lemmas.Bool.{leb-true, ltb-true, le-leb, both_ways, not-true, not_from_false, and_parts, and_from, or_right}
+use Rattle.x_base.specs.Count.{IsCount}
 use Rattle.x_base.specs.declared.verdict.Verdict.TheVariants.{Accept}
 use Rattle.csm_grammar.specs.declared.message.Message.{Message}
 use Rattle.csm_grammar.specs.declared.message.Message.TheVariants as message
 use Rattle.csm_grammar.specs.declared.message.Ksm.{Ksm}
+use Rattle.csm_grammar.specs.declared.message.KsmBody.{KsmBody}
+use Rattle.csm_grammar.specs.declared.message.KsmBody.TheVariants as body
 use Rattle.csm_grammar.specs.declared.message.NewKk.{NewKk}
 use Rattle.csm_grammar.specs.declared.arrival.Arrival.{Arrival}
 use Rattle.party_state.specs.declared.command.Input.{Input}
@@ -18,11 +21,22 @@ use Rattle.party_state.specs.Limits.{most_links}
 use Rattle.role_base.specs.Conditions.{has_count, has_link_room}
 use Rattle.role_base.specs.Deciding.{decision_of}
 use Rattle.role_base.proofs.Addressed.{others, apart, for_me, mine}
-use Rattle.role_base.proofs.PartyLaws.{HeldAtAccept, AcceptedIfHeld, LinksCounted, KeysCounted}
-use Rattle.bank_keys.specs.Ksm.{body_link, body_count, body_new, body_record, body_front, body_tests, new_tests, opened_kk, taken_link, key_row, key_arrives}
+use Rattle.role_base.proofs.PartyLaws.{HeldAtAccept, AcceptedIfHeld, LinksCounted, KeysCounted, KeyLaws}
+use Rattle.bank_keys.specs.Ksm.{link_in_use, IsCounted, body_link, body_count, body_new, body_record, body_second, body_front, body_tests, new_tests, opened_kk, taken_link, key_row, key_arrives}
 use Rattle.bank_keys.specs.Taking.{CanAdd, CanTake, TakesKeys}
 use Rattle.bank_keys.proofs.NewKeys.{has_room, all_refusing, both_held, new_held}
-use Rattle.bank_keys.proofs.Rooms.{not_low, one_link_more, room_after, room_before}
+use Rattle.bank_keys.proofs.Rooms.{not_low, one_link_more, keys_room_after, keys_room_before}
+use Rattle.bank_keys.proofs.TwoKeys.{others_apart}
+
+-- under a link in use the count behind the first of two keys is one
+link_counts : (p : Party) (originator : List ℕ) (b : KsmBody) (l : LinkRec) → body_link p originator b ≡ Some l → IsCounted b
+link_counts p originator (body.Direct idk2 new kd ctp) l f = tt
+link_counts p originator (body.Centre centre kdu ctb) l f = tt
+link_counts p originator (body.Twin idk2 first second ctp) l f = go (nat_lt ctp 99999999999999) refl f
+  where
+    go : (b : Bool) → nat_lt ctp 99999999999999 ≡ b → cond b (link_in_use p originator idk2) None ≡ Some l → IsCount (ctp + 1)
+    go true e f = let below : ctp < 99999999999999 = ltb-true ctp 99999999999999 e in record { low = omega arith; high = omega arith }
+    go false e f = absurd (cc)
 
 -- a new key-encrypting key
 
@@ -30,7 +44,7 @@ absent : (o : Option LinkRec) → is_none o ≡ true → o ≡ None
 absent None h = refl
 absent (Some l) h = absurd (cc)
 
-module _ (held : HeldAtAccept) (accepted : AcceptedIfHeld) (links : LinksCounted) (keys : KeysCounted) where
+module _ (held : HeldAtAccept) (accepted : AcceptedIfHeld) (links : LinksCounted) (keys : KeysCounted) (laws : KeyLaws) where
   adds : (p : Party) (originator : List ℕ) (l : LinkRec) (count : ℕ) (n : List ℕ × NewKk) → Held (new_tests p originator l count (Some n)) → CanAdd p originator l count n
   adds p originator l count n h =
       let both : (not (bytes_eq n.0 centre_label) ≡ true) × (is_none (link_with (takes originator n.0) p) ≡ true) = and_parts (not (bytes_eq n.0 centre_label)) (is_none (link_with (takes originator n.0) p)) h.0 in
@@ -75,7 +89,8 @@ module _ (held : HeldAtAccept) (accepted : AcceptedIfHeld) (links : LinksCounted
         fresh = leb-true l.next (body_count m.body) (not_low (has_count l) (nat_le l.next (body_count m.body)) h.1.1.1.1.0 h.1.1.1.1.1.0);
         left = leb-true l.next 99999999999999 h.1.1.1.1.1.0;
         added = adds_new p m.originator l (body_count m.body) (body_new m.body) last.0;
-        room = room_after keys p (body_record p m m.body l) last.1;
+        counted = link_counts p m.originator m.body l f;
+        room = keys_room_after laws keys p (body_record p m m.body l) (body_second p m m.body l) (others_apart p m m.body l) last.1;
       }
 
   takes_under : (p : Party) (a : Arrival) (m : Ksm) (t : CanTake p a m) → verdict_of (body_tests p a m m.body t.link) ≡ Accept
@@ -91,7 +106,7 @@ module _ (held : HeldAtAccept) (accepted : AcceptedIfHeld) (links : LinksCounted
             or_right (not (has_count t.link)) (nat_le t.link.next (body_count m.body)) (le-leb t.link.next (body_count m.body) t.fresh),
             (
               le-leb t.link.next 99999999999999 t.left,
-              both_held p m.originator t.link (body_count m.body) (body_new m.body) (has_room p m m.body t.link) (added_new p m.originator t.link (body_count m.body) (body_new m.body) t.added) (room_before keys p (body_record p m m.body t.link) t.room),
+              both_held p m.originator t.link (body_count m.body) (body_new m.body) (has_room p m m.body t.link) (added_new p m.originator t.link (body_count m.body) (body_new m.body) t.added) (keys_room_before laws keys p (body_record p m m.body t.link) (body_second p m m.body t.link) (others_apart p m m.body t.link) t.room),
             ),
           ),
         ),

@@ -3,3 +3,4 @@ pub mod Waiting
 pub mod Rtr
 pub mod Taking
 pub mod Passing
+pub mod Refusing

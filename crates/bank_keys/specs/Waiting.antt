@@ -12,6 +12,7 @@ waiting_by (kind.Translating ultimate value cta) = Some (record { ultimate = ult
 waiting_by (kind.Asked ultimate) = None
 waiting_by (kind.KeySent name way) = None
 waiting_by (kind.Ending name) = None
+waiting_by (kind.PairSent name) = None
 
 abbrev pub waiting_in : Option Exchange → Option Waiting
 waiting_in None = None
@@ -26,6 +27,7 @@ is_asked_by (kind.Asked ultimate) u = bytes_eq ultimate u
 is_asked_by (kind.Translating ultimate value cta) u = false
 is_asked_by (kind.KeySent name way) u = false
 is_asked_by (kind.Ending name) u = false
+is_asked_by (kind.PairSent name) u = false
 
 abbrev pub is_asked_in : Option Exchange → List ℕ → Bool
 is_asked_in None u = false

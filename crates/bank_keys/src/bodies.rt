@@ -1,15 +1,16 @@
 // What a key service message brings, by its form: the link in use, the count, the key and its name.
-ghost use Rattle.std.specs.Prelude.{◌≡◌, IfSome, Some};
+ghost use Rattle.std.specs.Prelude.{◌≡◌, ◌+◌, cond, nat_lt, IfSome, Some, None};
 ghost use Rattle.x_base.specs.Count.{IsCount};
 ghost use Rattle.role_base.specs.Standing.{LinkStands};
-ghost use Rattle.bank_keys.specs.Ksm.{link_in_use, arriving, body_link, body_count, body_counts, body_name, opened_kk, body_new, body_value, taken_link, new_tests};
+ghost use Rattle.bank_keys.specs.Ksm.{link_in_use, IsCounted, body_link, body_count, body_next, body_counts, body_name, opened_kk, body_new, body_value, body_code, body_record, body_second, taken_link, new_tests};
 
-use csm_grammar::{KsmBody, NewKk};
-use party_state::{LinkRec, State};
+use csm_grammar::{Ksm, KsmBody, NewKk};
+use party_state::{KeyRec, KeyStatus, LinkRec, State};
 use role_base::{
-    Counts, centre_label, direct_name, first_link, has_link_room, is_of_centre, link_with, odd_pair,
+    Counts, centre_label, count_behind, direct_name, first_link, has_link_room, is_of_centre,
+    link_with, odd_pair,
 };
-use x_base::{Count, FullName, Ident, KeyName, Label, Side, Verdict};
+use x_base::{Count, FullName, Ident, KeyName, LIMIT, Label, Side, Verdict};
 use x_mac::Pair;
 use x_seal::{unseal, unwrap};
 
@@ -31,24 +32,39 @@ fn link_in_use(state: &State, originator: &Ident, idk2: &Option<Label>) -> Optio
     }
 }
 
+/// The link in use for two keys: at the last count there is none.
+fn twin_link(state: &State, originator: &Ident, idk2: &Option<Label>, ctp: Count) -> Option<LinkRec>
+    ensures link { result ≡ cond (nat_lt ctp 99999999999999) (link_in_use state.now originator.now idk2.now) None }
+    ensures stands { IfSome result (LinkStands state.now) }
+    ensures counted { IfSome result (λ _. IsCount (ctp + 1)) }
+{
+    if ctp.value() < LIMIT {
+        link_in_use(state, originator, idk2)
+    } else {
+        None
+    }
+}
+
 /// The link in use: with the originator, or with the centre.
 pub(crate) fn body_link(state: &State, originator: &Ident, body: &KsmBody) -> Option<LinkRec>
     ensures link { result ≡ body_link state.now originator.now body.now }
     ensures stands { IfSome result (LinkStands state.now) }
+    ensures counted { IfSome result (λ _. IsCounted body.now) }
 {
     match body {
         KsmBody::Direct { idk2, .. } => link_in_use(state, originator, idk2),
         KsmBody::Centre { centre, .. } => link_with(state, centre, &centre_label(), Side::Takes),
+        KsmBody::Twin { idk2, ctp, .. } => twin_link(state, originator, idk2, *ctp),
     }
 }
 
-/// The count at which the key comes.
+/// The count at which the key comes, of two keys the first.
 pub(crate) fn body_count(body: &KsmBody) -> Count
     ensures count { result ≡ body_count body.now }
     ensures range { IsCount (body_count body.now) }
 {
     let count = match body {
-        KsmBody::Direct { ctp, .. } => *ctp,
+        KsmBody::Direct { ctp, .. } | KsmBody::Twin { ctp, .. } => *ctp,
         KsmBody::Centre { ctb, .. } => *ctb,
     };
     // The value tells that it is a count.
@@ -56,12 +72,23 @@ pub(crate) fn body_count(body: &KsmBody) -> Count
     count
 }
 
+/// The count behind those of the keys.
+pub(crate) fn body_next(body: &KsmBody) -> u64
+    ensures { result ≡ body_next body.now }
+{
+    let count = body_count(body).value();
+    match body {
+        KsmBody::Direct { .. } | KsmBody::Centre { .. } => count + 1,
+        KsmBody::Twin { .. } => count + 2,
+    }
+}
+
 /// The count at which the key comes, under the tag of the message.
 pub(crate) fn body_counts(body: &KsmBody) -> Counts
     ensures { result ≡ body_counts body.now }
 {
     match body {
-        KsmBody::Direct { ctp, .. } => Counts {
+        KsmBody::Direct { ctp, .. } | KsmBody::Twin { ctp, .. } => Counts {
             ctp: Some(*ctp),
             cta: None,
             ctb: None,
@@ -74,7 +101,7 @@ pub(crate) fn body_counts(body: &KsmBody) -> Counts
     }
 }
 
-/// The full name of the key that comes under a link.
+/// The full name of the key that comes under a link, of two keys that of the first.
 pub(crate) fn body_name(
     state: &State,
     originator: &Ident,
@@ -84,7 +111,9 @@ pub(crate) fn body_name(
     ensures { result ≡ body_name state.now originator.now body.now link.now }
 {
     let name = match body {
-        KsmBody::Direct { ctp, .. } => direct_name(link.peer, link.label, *ctp),
+        KsmBody::Direct { ctp, .. } | KsmBody::Twin { ctp, .. } => {
+            direct_name(link.peer, link.label, *ctp)
+        }
         KsmBody::Centre { centre, ctb, .. } => KeyName {
             issuer: *centre,
             originator: *originator,
@@ -121,12 +150,12 @@ pub(crate) fn body_new(body: &KsmBody) -> Option<(Label, NewKk)>
 {
     match body {
         KsmBody::Direct { new, .. } => *new,
-        KsmBody::Centre { .. } => None,
+        KsmBody::Centre { .. } | KsmBody::Twin { .. } => None,
     }
 }
 
 /// The key of 64 bits that comes from an originator to a receiver under a pair: under the new
-/// key-encrypting key, where there is one, at its first count.
+/// key-encrypting key, where there is one, at its first count. Of two keys it is the first.
 pub(crate) fn body_value(pair: Pair, originator: &Ident, receiver: &Ident, body: &KsmBody) -> u64
     ensures { result ≡ body_value pair originator.now receiver.now body.now }
 {
@@ -144,6 +173,58 @@ pub(crate) fn body_value(pair: Pair, originator: &Ident, receiver: &Ident, body:
             ..
         } => unwrap(opened_kk(pair, *ctp, *new), first_count(), *kd),
         KsmBody::Centre { kdu, ctb, .. } => unseal(pair, originator, receiver, *ctb, *kdu),
+        KsmBody::Twin { first, ctp, .. } => unwrap(pair, *ctp, *first),
+    }
+}
+
+/// The key of 64 bits under which the message and its answers are closed: the one that comes, or the
+/// exclusive-or of two.
+pub(crate) fn body_code(pair: Pair, originator: &Ident, receiver: &Ident, body: &KsmBody) -> u64
+    requires { IsCounted body.now }
+    ensures { result ≡ body_code pair originator.now receiver.now body.now }
+{
+    let first = body_value(pair, originator, receiver, body);
+    match body {
+        KsmBody::Direct { .. } | KsmBody::Centre { .. } => first,
+        KsmBody::Twin { second, ctp, .. } => first ^ unwrap(pair, count_behind(*ctp), *second),
+    }
+}
+
+/// The record of the key that is held, of two keys the first. `code` is the key under which the
+/// message is closed.
+pub(crate) fn body_record(state: &State, message: &Ksm, link: &LinkRec, code: u64) -> KeyRec
+    requires { code ≡ body_code link.now.pair message.now.originator state.now.own message.now.body }
+    ensures { result ≡ body_record state.now message.now message.now.body link.now }
+{
+    let value = match &message.body {
+        KsmBody::Direct { .. } | KsmBody::Centre { .. } => code,
+        KsmBody::Twin { first, ctp, .. } => unwrap(link.pair, *ctp, *first),
+    };
+    let under = body_name(state, &message.originator, &message.body, link);
+    KeyRec {
+        peer: message.originator,
+        name: under.name,
+        value,
+        status: KeyStatus::Held,
+    }
+}
+
+/// The record of the second of two keys.
+pub(crate) fn body_second(state: &State, message: &Ksm, link: &LinkRec) -> Option<KeyRec>
+    requires { IsCounted message.now.body }
+    ensures { result ≡ body_second state.now message.now message.now.body link.now }
+{
+    match &message.body {
+        KsmBody::Direct { .. } | KsmBody::Centre { .. } => None,
+        KsmBody::Twin { second, ctp, .. } => {
+            let count = count_behind(*ctp);
+            Some(KeyRec {
+                peer: message.originator,
+                name: direct_name(link.peer, link.label, count),
+                value: unwrap(link.pair, count, *second),
+                status: KeyStatus::Held,
+            })
+        }
     }
 }
 

@@ -1,28 +1,29 @@
-// A key service message arrives: its key is held, with a new key-encrypting key where it brings one,
-// and a response goes back under the key.
+// A key service message arrives: its key is held, or its two keys are, with a new key-encrypting key
+// where it brings one, and a response goes back under the key.
 ghost use Rattle.std.specs.Prelude.{◌≡◌, ◌+◌, ◌++◌, ◌∷◌, [], Some, IfOk};
 ghost use Rattle.x_base.specs.declared.verdict.Verdict.TheVariants.{BadMac};
 ghost use Rattle.party_state.specs.declared.edit.Edit.TheVariants.{PutLink, PutKey};
-ghost use Rattle.party_state.specs.declared.key.KeyStatus.TheVariants.{Held};
+ghost use Rattle.party_state.specs.Keys.{record_key};
 ghost use Rattle.party_state.specs.Ranges.{IsLink};
 ghost use Rattle.party_state.specs.Verdicts.{verdict_of};
 ghost use Rattle.party_state.specs.Rows.Reply.{Coded};
 ghost use Rattle.role_base.specs.Texts.{lead_under};
-ghost use Rattle.role_base.specs.Conditions.{has_key_room};
 ghost use Rattle.role_base.specs.Replies.{IsWritten};
 ghost use Rattle.role_base.specs.Standing.{LinkStands};
 ghost use Rattle.role_base.specs.Storable.{CanKeep};
 ghost use Rattle.role_base.specs.Deciding.{decision_of};
-ghost use Rattle.bank_keys.specs.Ksm.{response, body_count, body_name, body_new, body_value, body_front, taken_edits, body_rest, key_row, key_arrives, key_lead_with, key_lead};
+ghost use Rattle.bank_keys.specs.Ksm.{response, IsCounted, body_count, body_next, body_name, body_new, body_code, body_record, body_second, second_edits, have_room, body_front, taken_edits, body_rest, key_row, key_arrives, key_lead_with, key_lead};
 
 use crate::bodies::{
-    body_count, body_counts, body_link, body_name, body_new, body_value, new_tests, taken_link,
+    body_code, body_count, body_counts, body_link, body_name, body_new, body_next, body_record,
+    body_second, new_tests, taken_link,
 };
 use csm_grammar::{Arrival, Ksm, Message, Rsm};
-use party_state::{Decision, Edit, KeyRec, KeyStatus, Lead, LinkRec, State, law_accept};
+use party_state::{Decision, Edit, KeyRec, Lead, LinkRec, RecordKey, State, law_accept};
 use role_base::{
     Written, accept, body_issuer, count_tests, early_refusal, error_answer, has_key_room,
-    is_accept, is_for, lead_under, list_of, no_extras, passes, refusal, verdict_after, verdict_of,
+    has_room_for_two, is_accept, is_for, lead_under, list_of, no_extras, passes, refusal,
+    verdict_after, verdict_of,
 };
 use std::alloc::Global;
 use x_base::{Ident, NoMemory, Verdict};
@@ -44,23 +45,35 @@ fn body_front(state: &State, message: &Ksm, found: &Option<LinkRec>) -> [(bool, 
     ]
 }
 
-/// Whether the key that comes has room.
-fn has_room(state: &State, message: &Ksm, link: &LinkRec) -> bool
-    ensures { result ≡ has_key_room state.now (record { peer = message.now.originator; name = (body_name state.now message.now.originator message.now.body link.now).name }) }
+/// Whether the keys that come have room.
+fn have_room(state: &State, first: &KeyRec, second: &Option<KeyRec>) -> bool
+    ensures { result ≡ have_room state.now (record_key first.now) second.now }
 {
-    let under = body_name(state, &message.originator, &message.body, link);
-    has_key_room(state, &message.originator, &under.name)
+    match second {
+        None => has_key_room(state, &first.peer, &first.name),
+        Some(second) => has_room_for_two(state, &key_of(first), &key_of(second)),
+    }
 }
 
-/// The verdict under a link, the code being tested.
-fn body_verdict(state: &State, message: &Ksm, link: &LinkRec, verified: bool) -> Verdict
+fn key_of(key: &KeyRec) -> RecordKey
+    ensures { result ≡ record_key key.now }
+{
+    RecordKey {
+        peer: key.peer,
+        name: key.name,
+    }
+}
+
+/// The verdict under a link, where the code is tested, and it is known whether the keys have room.
+fn body_verdict(state: &State, message: &Ksm, link: &LinkRec, verified: bool, room: bool) -> Verdict
+    requires { room ≡ have_room state.now (record_key (body_record state.now message.now message.now.body link.now)) (body_second state.now message.now message.now.body link.now) }
     ensures { result ≡ verdict_of (body_front state.now message.now message.now.body (Some link.now) ++ (verified, BadMac) ∷ body_rest state.now message.now message.now.body link.now) }
 {
     let front = body_front(state, message, &Some(*link));
     let count = body_count(&message.body);
     let code = (verified, Verdict::BadMac);
     let [low, spent] = count_tests(link, count);
-    let room = (has_room(state, message, link), Verdict::KeysFull);
+    let room = (room, Verdict::KeysFull);
     match body_new(&message.body) {
         None => verdict_after(&front, &[code, low, spent, room]),
         Some((label, new)) => {
@@ -77,29 +90,38 @@ fn body_verdict(state: &State, message: &Ksm, link: &LinkRec, verified: bool) ->
     }
 }
 
-/// The key is held, and a new key-encrypting key is taken.
-fn held(alloc: Global, message: &Ksm, link: &LinkRec, lead: &Lead) -> Result<Vec<Edit>, NoMemory>
+/// The keys are held, and a new key-encrypting key is taken.
+fn held(
+    alloc: Global,
+    message: &Ksm,
+    link: &LinkRec,
+    first: KeyRec,
+    second: Option<KeyRec>,
+) -> Result<Vec<Edit>, NoMemory>
     ensures { IfOk result (λ edits. edits.items ≡
-        PutLink (record link.now { next = body_count message.now.body + 1 })
+        PutLink (record link.now { next = body_next message.now.body })
         ∷ (taken_edits message.now.originator link.now (body_count message.now.body) (body_new message.now.body)
-        ++ PutKey (record { peer = message.now.originator; name = lead.now.under.name; value = lead.now.value; status = Held }) ∷ [])) }
+        ++ PutKey first ∷ second_edits second)) }
 {
-    let count = body_count(&message.body);
     let used = Edit::PutLink(LinkRec {
-        next: count.value() + 1,
+        next: body_next(&message.body),
         ..*link
     });
-    let key = Edit::PutKey(KeyRec {
-        peer: message.originator,
-        name: lead.under.name,
-        value: lead.value,
-        status: KeyStatus::Held,
-    });
-    match body_new(&message.body) {
-        None => list_of(alloc, [used, key]),
-        Some((label, new)) => {
+    let first = Edit::PutKey(first);
+    let count = body_count(&message.body);
+    match (body_new(&message.body), second) {
+        (None, None) => list_of(alloc, [used, first]),
+        (None, Some(second)) => list_of(alloc, [used, first, Edit::PutKey(second)]),
+        (Some((label, new)), None) => {
             let taken = taken_link(&message.originator, link, count, label, new);
-            list_of(alloc, [used, Edit::PutLink(taken), key])
+            list_of(alloc, [used, Edit::PutLink(taken), first])
+        }
+        (Some((label, new)), Some(second)) => {
+            let taken = taken_link(&message.originator, link, count, label, new);
+            list_of(
+                alloc,
+                [used, Edit::PutLink(taken), first, Edit::PutKey(second)],
+            )
         }
     }
 }
@@ -115,7 +137,7 @@ fn response(state: &State, originator: Ident) -> Message
     })
 }
 
-/// The response goes back under the key that came.
+/// The response goes back under the key that came, or the exclusive-or of two.
 fn response_text(
     alloc: Global,
     state: &State,
@@ -128,13 +150,14 @@ fn response_text(
     Written::coded(alloc, &reply, lead.under, lead.value)
 }
 
-/// The key that comes under a link, and whether the code is made under it.
+/// The key that closes the message under a link, and whether the code is made under it.
 fn body_lead(state: &State, arrival: &Arrival, message: &Ksm, link: &LinkRec) -> Lead
-    ensures { result ≡ lead_under arrival.now (body_name state.now message.now.originator message.now.body link.now) (body_value link.now.pair message.now.originator state.now.own message.now.body) }
+    requires { IsCounted message.now.body }
+    ensures { result ≡ lead_under arrival.now (body_name state.now message.now.originator message.now.body link.now) (body_code link.now.pair message.now.originator state.now.own message.now.body) }
 {
     let under = body_name(state, &message.originator, &message.body, link);
     let own = state.own();
-    let value = body_value(link.pair, &message.originator, &own, &message.body);
+    let value = body_code(link.pair, &message.originator, &own, &message.body);
     lead_under(arrival, under, value)
 }
 
@@ -149,15 +172,19 @@ fn key_led(
     lead: &Lead,
 ) -> Result<Decision, NoMemory>
     requires range { IsLink link.now }
-    requires lead { lead.now ≡ lead_under arrival.now (body_name state.now message.now.originator message.now.body link.now) (body_value link.now.pair message.now.originator state.now.own message.now.body) }
+    requires counted { IsCounted message.now.body }
+    requires lead { lead.now ≡ lead_under arrival.now (body_name state.now message.now.originator message.now.body link.now) (body_code link.now.pair message.now.originator state.now.own message.now.body) }
     ensures { IfOk result (λ d. d ≡ decision_of state.now (key_row state.now arrival.now message.now message.now.body (Some link.now))) }
 {
-    let verdict = body_verdict(state, message, link, lead.verified);
+    let first = body_record(state, message, link, lead.value);
+    let second = body_second(state, message, link);
+    let room = have_room(state, &first, &second);
+    let verdict = body_verdict(state, message, link, lead.verified, room);
     if !is_accept(&verdict) {
         let counts = body_counts(&message.body);
         return error_answer(alloc, state, message.originator, counts, verdict, lead);
     }
-    let edits = held(alloc, message, link, lead)?;
+    let edits = held(alloc, message, link, first, second)?;
     let written = response_text(alloc, state, message, lead)?;
     accept(alloc, state, edits, Some(written))
 }
@@ -171,6 +198,7 @@ fn key_decided(
     lead: &Option<Lead>,
 ) -> Result<Decision, NoMemory>
     requires range { IsLink link.now }
+    requires counted { IsCounted message.now.body }
     requires lead { lead.now ≡ key_lead_with state.now arrival.now message.now message.now.body (Some link.now) }
     ensures { IfOk result (λ d. d ≡ decision_of state.now (key_row state.now arrival.now message.now message.now.body (Some link.now))) }
 {
@@ -190,6 +218,7 @@ fn key_under(
     lead: &Option<Lead>,
 ) -> Result<Decision, NoMemory>
     requires stands { LinkStands state.now link.now }
+    requires counted { IsCounted message.now.body }
     requires lead { lead.now ≡ key_lead_with state.now arrival.now message.now message.now.body (Some link.now) }
     ensures decision { IfOk result (λ d. d ≡ decision_of state.now (key_row state.now arrival.now message.now message.now.body (Some link.now))) }
     ensures kept { IfOk result (λ d. CanKeep state.now d.change) }
@@ -223,8 +252,9 @@ pub fn ksm(
     }
 }
 
-/// The key under which the code of a key service message is tested: the one that it brings. There
-/// is none where the message is refused before its code is looked at.
+/// The key under which the code of a key service message is tested: the one that it brings, or the
+/// exclusive-or of two, under the name of the first. There is none where the message is refused
+/// before its code is looked at.
 pub fn ksm_lead(state: &State, arrival: &Arrival, message: &Ksm) -> Option<Lead>
     ensures { result ≡ key_lead state.now arrival.now message.now }
 {

@@ -12,6 +12,9 @@ mod responses;
 mod waits;
 
 pub use key_service::{ksm, ksm_lead};
-pub use laws::{law_apart, law_lead, law_passing, law_taken, law_taking};
+pub use laws::{
+    law_apart, law_begins, law_both_taken, law_lead, law_order, law_passing, law_refused,
+    law_taken, law_taking,
+};
 pub use responses::{rtr, rtr_lead};
 pub use waits::Waiting;

@@ -27,7 +27,8 @@ fn waiting_by(kind: &Kind) -> Option<Waiting>
             value: *value,
             cta: *cta,
         }),
-        Kind::Asked { .. } | Kind::KeySent { .. } | Kind::Ending { .. } => None,
+        Kind::Asked { .. } | Kind::KeySent { .. } | Kind::Ending { .. } | Kind::PairSent { .. } =>
+            None,
     }
 }
 
@@ -44,7 +45,10 @@ fn is_asked_by(kind: &Kind, ultimate: &Ident) -> bool
 {
     match kind {
         Kind::Asked { ultimate: asked } => *asked == *ultimate,
-        Kind::Translating { .. } | Kind::KeySent { .. } | Kind::Ending { .. } => false,
+        Kind::Translating { .. }
+        | Kind::KeySent { .. }
+        | Kind::Ending { .. }
+        | Kind::PairSent { .. } => false,
     }
 }
 
