@@ -25,13 +25,14 @@ use Rattle.party_state.specs.State.{Party}
 use Rattle.party_state.specs.Names.{full_name}
 use Rattle.party_state.specs.Verdicts.{Test}
 use Rattle.role_base.specs.declared.exchanges.Sent.{Sent}
+use Rattle.role_base.specs.declared.exchanges.Twins.{Twins}
 use Rattle.bank_arrivals.specs.declared.asking_again.Retry.{Retry}
 use Rattle.bank_arrivals.specs.declared.error_message.Subject.{Subject}
 use Rattle.bank_arrivals.specs.declared.disconnection.Named.{Named}
 use Rattle.role_base.specs.Texts.{is_verified, is_plain, lead_under}
 use Rattle.role_base.specs.Conditions.{is_for}
-use Rattle.role_base.specs.Exchanges.{sent_to, ending_with}
-use Rattle.bank_arrivals.specs.Rsm.{rsm_front, rsm_to, rsm_lead_to, end_front, answer_to, answer_lead_to, rsm_with, rsm_lead_with, rsm, rsm_lead}
+use Rattle.role_base.specs.Exchanges.{sent_to, twins_to, twins_value, ending_with}
+use Rattle.bank_arrivals.specs.Rsm.{rsm_front, rsm_to, rsm_lead_to, twins_front, rsm_by, rsm_lead_by, end_front, answer_to, answer_lead_to, rsm_with, rsm_lead_with, rsm, rsm_lead}
 use Rattle.bank_arrivals.specs.Esm.{subject_with, subject_name, subject_value, esm_front, error_of, error_with, error, esm_lead_of, esm_lead}
 use Rattle.bank_arrivals.specs.AskingAgain.{retry_in}
 use Rattle.bank_arrivals.specs.Dsm.{named_by, dsm_front, dsm_on, dsm_lead_on, dsm, dsm_lead}
@@ -54,12 +55,16 @@ rsm_led p a m = by_name m.idd
     sent None = early_refusal (for_me ∷ []) NoExchange refl refl
     sent (Some s) = led (rsm_front p m (Some s)) ((is_verified a s.key.value, BadMac) ∷ []) (lead_under a (full_name p.own s.key) s.key.value) refl refl
 
+    by_twins : (o : Option Twins) → is_none (rsm_lead_by p a m o) ≡ is_early (rsm_by p a m o).verdict
+    by_twins None = sent (sent_to p m.originator)
+    by_twins (Some t) = led (twins_front p m) ((is_verified a (twins_value t), BadMac) ∷ []) (lead_under a (full_name p.own t.first) (twins_value t)) refl refl
+
     ending : (name : KeyName) (o : Option KeyRec) → is_none (answer_lead_to p a m name o) ≡ is_early (answer_to p a m name o).verdict
     ending name None = early_refusal (for_me ∷ []) NoExchange refl refl
     ending name (Some k) = led (end_front p m name (Some k)) ((is_verified a k.value, BadMac) ∷ []) (lead_under a (full_name p.own k) k.value) refl refl
 
     by_name : (o : Option KeyName) → is_none (rsm_lead_with p a m o) ≡ is_early (rsm_with p a m o).verdict
-    by_name None = sent (sent_to p m.originator)
+    by_name None = by_twins (twins_to p m.originator)
     by_name (Some name) = ending name (ending_with p m.originator)
 
 esm_led : (p : Party) (a : Arrival) (m : Esm) → is_none (esm_lead p a m) ≡ (is_plain a.parsed.shut || is_early (error p a m).verdict)

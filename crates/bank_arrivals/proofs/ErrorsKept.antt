@@ -27,22 +27,26 @@ use Rattle.role_base.specs.Texts.{text_of, is_plain}
 use Rattle.role_base.specs.Deciding.{change_of, decision_of}
 use Rattle.role_base.specs.Storable.{CanKeep, can_put_key, AreKeepable, puts_link, AreFew}
 use Rattle.role_base.specs.Standing.{LinkStands, KeyStands}
+use Rattle.party_state.specs.Names.{name_behind}
 use Rattle.role_base.specs.declared.exchanges.Sent.{Sent}
+use Rattle.role_base.specs.declared.exchanges.Twins.{Twins}
 use Rattle.bank_arrivals.specs.declared.asking_again.Retry.{Retry}
 use Rattle.bank_arrivals.specs.declared.error_message.Subject.{Subject}
-use Rattle.bank_arrivals.specs.declared.error_message.Subject.TheVariants.{SentKey, Translated}
-use Rattle.role_base.specs.Exchanges.{record_of, new_link, dropped}
+use Rattle.bank_arrivals.specs.declared.error_message.Subject.TheVariants.{SentKey, SentTwins, Translated}
+use Rattle.role_base.specs.Exchanges.{record_of, both_of, new_link, dropped}
 use Rattle.bank_arrivals.specs.AskingAgain.{retry_by, retry_of, retry_in, ers_reply, asked_again}
 use Rattle.bank_arrivals.specs.Esm.{subject_by, subject_in, subject_with, is_renewed, way_link, subject_link, raised, error_row, error_of, plain_esm, error}
 use Rattle.bank_arrivals.proofs.AskingShort.{IsHeard, IsRetry, is_retry, ers_short}
 use Rattle.role_base.proofs.Found.{found_stands, key_stands}
-use Rattle.role_base.proofs.Keeping.{link_room, key_room}
+use Rattle.role_base.proofs.Keeping.{link_room, key_room, key_room_behind}
+use Rattle.bank_arrivals.proofs.TwinsStanding.{TwinsStand}
 use Rattle.role_base.proofs.Kept.{row_kept, made_kept}
 use Rattle.role_base.proofs.PartyLaws.{LinksFound, KeysFound, LinksInRange, ExchangesInRange}
 
 -- the record of a key that an error message speaks of stands, and its way is in its range
 abbrev SubjectStands : Party → Subject → Type 0
 SubjectStands p (SentKey s) = KeyStands p s.key × IsVia s.way
+SubjectStands p (SentTwins t) = TwinsStand p t
 SubjectStands p (Translated value cta) = Unit {0}
 
 subject_stands : KeysFound → ExchangesInRange → (p : Party) (peer : List ℕ) (s : Subject) → IsParty p → subject_with p peer ≡ Some s → SubjectStands p s
@@ -55,11 +59,20 @@ subject_stands keys in_range p peer s w h = by_exchange (exchange_with peer p) r
         let e : s ≡ SentKey t = cc in
         rw e (key_stands keys p (record { peer = peer; name = name }) k f, i)
 
+    by_records : (name : KeyName) (a b : Option KeyRec) → record_of p peer name ≡ a → record_of p peer (name_behind name) ≡ b → option_map SentTwins (both_of a b) ≡ Some s → SubjectStands p s
+    by_records name None b f g h = absurd (cc)
+    by_records name (Some j) None f g h = absurd (cc)
+    by_records name (Some j) (Some k) f g h =
+        let t : Twins = record { first = j; second = k } in
+        let e : s ≡ SentTwins t = cc in
+        rw e (record { first = key_stands keys p (record { peer = peer; name = name }) j f; second = key_stands keys p (record { peer = peer; name = name_behind name }) k g })
+
     by_kind : (x : Kind) → IsKind x → subject_by p peer x ≡ Some s → SubjectStands p s
     by_kind (kind.KeySent name way) i h = by_record name way (record_of p peer name) i.1 refl h
     by_kind (kind.Translating ultimate value cta) i h = let e : s ≡ Translated value cta = cc in rw e tt
     by_kind (kind.Asked ultimate) i h = absurd (cc)
     by_kind (kind.Ending name) i h = absurd (cc)
+    by_kind (kind.PairSent name) i h = by_records name (record_of p peer name) (record_of p peer (name_behind name)) refl refl h
 
     by_exchange : (o : Option Exchange) → exchange_with peer p ≡ o → subject_in p peer o ≡ Some s → SubjectStands p s
     by_exchange None f h = absurd (cc)
@@ -76,6 +89,7 @@ looked_up links in_range p k w = go (link_with k p) refl
 -- the link whose count the message names stands
 counted_stands : LinksFound → LinksInRange → (p : Party) (peer : List ℕ) (s : Subject) → IsParty p → IfSome (subject_link p peer s) (LinkStands p)
 counted_stands links in_range p peer (Translated value cta) w = looked_up links in_range p (sends peer centre_label) w
+counted_stands links in_range p peer (SentTwins t) w = looked_up links in_range p (sends peer t.first.name.label) w
 counted_stands links in_range p peer (SentKey s) w = by_way s.way
   where
     by_label : (label : List ℕ) (b : Bool) → IfSome (cond b None (link_with (sends peer label) p)) (LinkStands p)
@@ -126,12 +140,13 @@ about_kept links keys links_in_range in_range short p a m (Some s) w g i h = kep
 
     by_link : (x : Sent) (l : Option LinkRec) (t : Option Retry) → can_put_key p (record_key x.key) ≡ true → IsShort p m x.key.value t → AreFew p (raised (subject_link p m.originator (SentKey x)) m.ctr ++ ((dropped l ++ PutKey (record x.key { status = Ended }) ∷ []) ++ DropExchange m.originator ∷ asked_again p m x.key.value t))
     by_link x None None room c = raised_with (SentKey x) _ (record { each = (room, (tt, tt)); order = refl }) refl (lit≤ tt)
-    by_link x None (Some t) room c = raised_with (SentKey x) _ (record { each = (room, (tt, (c, tt))); order = refl }) refl (lit≤ tt)
+    by_link x None (Some t) room c = raised_with (SentKey x) _ (record { each = (room, (tt, (record { kind = tt; text = c }, tt))); order = refl }) refl (lit≤ tt)
     by_link x (Some l) None room c = raised_with (SentKey x) _ (record { each = (tt, (room, (tt, tt))); order = refl }) refl (lit≤ tt)
-    by_link x (Some l) (Some t) room c = raised_with (SentKey x) _ (record { each = (tt, (room, (tt, (c, tt)))); order = refl }) refl (lit≤ tt)
+    by_link x (Some l) (Some t) room c = raised_with (SentKey x) _ (record { each = (tt, (room, (tt, (record { kind = tt; text = c }, tt)))); order = refl }) refl (lit≤ tt)
 
     by_subject : (x : Subject) → SubjectStands p x → AreFew p (error_row p a m x (retry_of p x m.ctr)).edits
     by_subject (SentKey x) st = by_link x (new_link p m.originator x.way) (retry_by p x.way m.ctr) (key_room p x.key st.0) (asked_short short p m x.key.value (retry_by p x.way m.ctr) w g (is_retry p x.way m.ctr st.1 i))
+    by_subject (SentTwins t) st = raised_with (SentTwins t) _ (record { each = (key_room p t.first st.first, (key_room_behind _ p t.second st.second, (tt, tt))); order = refl }) refl (lit≤ tt)
     by_subject (Translated value cta) st = raised_with (Translated value cta) _ (record { each = (tt, tt); order = refl }) refl (lit≤ tt)
 
 pub esm_kept : LinksFound → KeysFound → LinksInRange → ExchangesInRange → CanonShort → (p : Party) (a : Arrival) (m : Esm) (made : Result Decision NoMemory) → IsParty p → IsHeard m → IfSome m.ctr IsCount → IfOk made (λ d. d ≡ decision_of p (error p a m)) → IfOk made (λ d. CanKeep p d.change)

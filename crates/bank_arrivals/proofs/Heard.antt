@@ -1,5 +1,5 @@
 -- What an accepted response or disconnection says.
-use Rattle.std.proofs.Common.{◌≡◌, ℕ, Bool, true, false, cond, Option, Some, None, List, [], ◌∷◌, ◌++◌, refl, sym, ap, ◌∙◌}
+use Rattle.std.proofs.Common.{◌≡◌, ◌≢◌, ◌⊎◌, inl, inr, ℕ, Bool, true, false, cond, Option, Some, None, List, [], ◌∷◌, ◌++◌, refl, sym, ap, ◌∙◌}
 use Rattle.std.proofs.lemmas.Bool.{both_ways}
 use Rattle.x_base.specs.declared.key_name.KeyName.{KeyName}
 use Rattle.x_base.specs.declared.verdict.Verdict.TheVariants.{Accept, BadMac}
@@ -10,7 +10,7 @@ use Rattle.party_state.specs.declared.link.LinkRec.{LinkRec}
 use Rattle.party_state.specs.declared.key.KeyRec.{KeyRec}
 use Rattle.party_state.specs.declared.key.RecordKey.{RecordKey}
 use Rattle.party_state.specs.declared.key.KeyStatus.{KeyStatus}
-use Rattle.party_state.specs.declared.key.KeyStatus.TheVariants.{Pending, Live, Held as IsHeld, Closing, Ended}
+use Rattle.party_state.specs.declared.key.KeyStatus.TheVariants.{Live, Ended}
 use Rattle.party_state.specs.declared.exchange.Via.{Via}
 use Rattle.party_state.specs.declared.exchange.Via.TheVariants as via
 use Rattle.party_state.specs.declared.exchange.Kind.{Kind}
@@ -23,14 +23,18 @@ use Rattle.party_state.specs.State.{Party, exchange_with, apply_edit, apply, is_
 use Rattle.party_state.specs.Names.{full_name}
 use Rattle.party_state.specs.Rows.{Reply, Coded}
 use Rattle.party_state.specs.Verdicts.{Held}
+use Rattle.party_state.specs.Names.{name_behind}
+use Rattle.role_base.proofs.TwinKeys.{records_apart}
 use Rattle.role_base.specs.declared.exchanges.Sent.{Sent}
+use Rattle.role_base.specs.declared.exchanges.Twins.{Twins}
 use Rattle.role_base.specs.Texts.{is_verified}
-use Rattle.role_base.specs.Exchanges.{record_of, sent_to, ending_with, new_link, readied, dropped}
+use Rattle.role_base.specs.Exchanges.{record_of, sent_to, twins_to, twins_value, ending_with, new_link, readied, dropped, ended}
 use Rattle.role_base.proofs.PartyLaws.{HeldAtAccept, LinkLaws, KeyLaws, ExchangeLaws, exchange_dropped}
-use Rattle.bank_arrivals.specs.Rsm.{rsm_front, end_front, rsm_to, answer_to, rsm_with, rsm}
+use Rattle.bank_arrivals.specs.Rsm.{rsm_front, twins_front, end_front, rsm_to, rsm_twins, rsm_by, answer_to, rsm_with, rsm}
 use Rattle.bank_arrivals.specs.Dsm.{paired, code_name, dsm_front, left_by, left_in, disconnected, dsm_response, dsm_on, dsm}
-use Rattle.bank_arrivals.specs.Heard.{HasKey, HasLink, HeardResponse, HeardEnd, HeardDisconnection}
-use Rattle.bank_arrivals.proofs.About.{put_found, put_link_found, is_to, FoundSent, found_sent, FoundEnding, found_ending}
+use Rattle.bank_arrivals.specs.Heard.{HasKey, HasLink, HeardResponse, HeardResponseToTwo, HeardEnd, HeardDisconnection}
+use Rattle.bank_arrivals.proofs.BothEnd.{ended_is, apart_behind, apart_before, second_ends, first_ends}
+use Rattle.bank_arrivals.proofs.About.{put_found, put_beside, put_link_found, is_to, FoundSent, found_sent, FoundTwins, found_twins, FoundEnding, found_ending}
 
 module _ (held : HeldAtAccept) (of_links : LinkLaws) (of_keys : KeyLaws) (of_exchanges : ExchangeLaws) where
   -- responses
@@ -69,10 +73,32 @@ module _ (held : HeldAtAccept) (of_links : LinkLaws) (of_keys : KeyLaws) (of_exc
       over None = exchange_dropped of_exchanges m.originator p
       over (Some l) = exchange_dropped of_exchanges m.originator p
 
-  pub heard_response : (p : Party) (a : Arrival) (m : Rsm) → m.idd ≡ None → (rsm p a m).verdict ≡ Accept → HeardResponse p (apply (rsm p a m).edits p) a m
+  heard_twins : (p : Party) (a : Arrival) (m : Rsm) (t : Twins) → twins_to p m.originator ≡ Some t → (rsm_twins p a m t).verdict ≡ Accept → HeardResponseToTwo p (apply (rsm_twins p a m t).edits p) a m
+  heard_twins p a m t f e =
+      let h : Held (twins_front p m ++ (is_verified a (twins_value t), BadMac) ∷ []) = held (twins_front p m ++ (is_verified a (twins_value t), BadMac) ∷ []) refl e in
+      let d : FoundTwins p m.originator t = found_twins p m.originator t f in
+      let ne : record_key t.second ≢ record_key t.first = records_apart of_keys.found p m.originator d.name t.first t.second d.first d.second in
+      let first : KeyRec = record t.first { status = Live } in
+      let second : KeyRec = record t.second { status = Live } in
+      record {
+        to = is_to p m.receiver m.originator h.0;
+        name = d.name;
+        first = t.first;
+        second = t.second;
+        together = record { sent = d.sent; first_stands = d.first; second_stands = d.second; code = h.1.1.0 };
+        first_live = put_beside of_keys (apply_edit (PutKey first) p) m.originator d.name first second (put_found of_keys p m.originator d.name t.first first d.first refl) ne;
+        second_live = put_found of_keys (apply_edit (PutKey first) p) m.originator (name_behind d.name) t.second second (put_beside of_keys p m.originator (name_behind d.name) t.second first d.second (λ i. ne (sym i))) refl;
+        over = exchange_dropped of_exchanges m.originator p;
+      }
+
+  heard_by : (p : Party) (a : Arrival) (m : Rsm) (o : Option Twins) → twins_to p m.originator ≡ o → (rsm_by p a m o).verdict ≡ Accept → HeardResponse p (apply (rsm_by p a m o).edits p) a m ⊎ HeardResponseToTwo p (apply (rsm_by p a m o).edits p) a m
+  heard_by p a m None f e = inl (heard_sent p a m (sent_to p m.originator) refl e)
+  heard_by p a m (Some t) f e = inr (heard_twins p a m t f e)
+
+  pub heard_response : (p : Party) (a : Arrival) (m : Rsm) → m.idd ≡ None → (rsm p a m).verdict ≡ Accept → HeardResponse p (apply (rsm p a m).edits p) a m ⊎ HeardResponseToTwo p (apply (rsm p a m).edits p) a m
   heard_response p a m i e =
-      let r : rsm p a m ≡ rsm_to p a m (sent_to p m.originator) = ap (λ (o : Option KeyName). rsm_with p a m o) i in
-      rw r (heard_sent p a m (sent_to p m.originator) refl (rw r at e))
+      let r : rsm p a m ≡ rsm_by p a m (twins_to p m.originator) = ap (λ (o : Option KeyName). rsm_with p a m o) i in
+      rw r (heard_by p a m (twins_to p m.originator) refl (rw r at e))
 
   heard_ending : (p : Party) (a : Arrival) (m : Rsm) (idd : KeyName) (o : Option KeyRec) → ending_with p m.originator ≡ o → (answer_to p a m idd o).verdict ≡ Accept → HeardEnd p (apply (answer_to p a m idd o).edits p) a m idd
   heard_ending p a m idd None f e = let h : Held (end_front p m idd None) = held (end_front p m idd None) refl e in absurd (both_ways false refl h.1.0)
@@ -101,16 +127,6 @@ module _ (held : HeldAtAccept) (of_links : LinkLaws) (of_keys : KeyLaws) (of_exc
 
   -- disconnections
 
-  ended_is : (k : KeyRec) → is_ended k.status ≡ true → k ≡ record k { status = Ended }
-  ended_is k h = ap (λ (s : KeyStatus). record k { status = s }) (go k.status h)
-    where
-      go : (s : KeyStatus) → is_ended s ≡ true → s ≡ Ended
-      go Ended h = refl
-      go Pending h = cc
-      go Live h = cc
-      go IsHeld h = cc
-      go Closing h = cc
-
   key_ends : (p : Party) (peer : List ℕ) (name : KeyName) (k : KeyRec) → HasKey p peer name k → HasKey (apply (disconnected p peer k) p) peer name (record k { status = Ended })
   key_ends p peer name k st = by_status (is_ended k.status) refl
     where
@@ -125,11 +141,21 @@ module _ (held : HeldAtAccept) (of_links : LinkLaws) (of_keys : KeyLaws) (of_exc
       by_link (Some l) true = put
       by_link l false = put
 
+      by_names : (sent : KeyName) (i j : Option KeyRec) → record_of p peer sent ≡ i → record_of p peer (name_behind sent) ≡ j → (b c : Bool) → same_name k.name sent ≡ b → same_name k.name (name_behind sent) ≡ c
+          → (let g : List Edit × List Edit = cond b ([], ended j ++ DropExchange peer ∷ []) (cond c (ended i, DropExchange peer ∷ []) ([], [])) in HasKey (apply (g.0 ++ (PutKey ends ∷ g.1)) p) peer name ends)
+      by_names sent i None f g true c b_is c_is = put
+      by_names sent i (Some x) f g true c b_is c_is = put_beside of_keys (apply_edit (PutKey ends) p) peer name ends (record x { status = Ended }) put (apart_behind of_keys p peer sent k x b_is g)
+      by_names sent None j f g false true b_is c_is = put
+      by_names sent (Some x) j f g false true b_is c_is =
+          put_found of_keys (apply_edit (PutKey (record x { status = Ended })) p) peer name k ends (put_beside of_keys p peer name k (record x { status = Ended }) st (apart_before of_keys p peer sent k x c_is f)) refl
+      by_names sent i j f g false false b_is c_is = put
+
       by_kind : (x : Kind) → (let g : List Edit × List Edit = left_by p peer k.name x in HasKey (apply (g.0 ++ (PutKey ends ∷ g.1)) p) peer name ends)
       by_kind (kind.KeySent sent way) = by_link (new_link p peer way) (same_name k.name sent)
       by_kind (kind.Ending ending) = by_link None (same_name k.name ending)
       by_kind (kind.Asked ultimate) = put
       by_kind (kind.Translating ultimate value cta) = put
+      by_kind (kind.PairSent sent) = by_names sent (record_of p peer sent) (record_of p peer (name_behind sent)) refl refl (same_name k.name sent) (same_name k.name (name_behind sent)) refl refl
 
       by_exchange : (o : Option Exchange) → (let g : List Edit × List Edit = left_in p peer k.name o in HasKey (apply (g.0 ++ (PutKey ends ∷ g.1)) p) peer name ends)
       by_exchange None = put
@@ -161,6 +187,8 @@ module _ (held : HeldAtAccept) (of_links : LinkLaws) (of_keys : KeyLaws) (of_exc
         code = h.1.1.0;
         ended = key_ends p m.originator m.idd k f;
         before = nothing p m.originator k;
+        second = λ x ne about g. second_ends of_keys of_exchanges p m.originator m.idd k x f ne about g;
+        first = λ name x ne behind about g. first_ends of_keys of_exchanges p m.originator m.idd name k x f ne behind about g;
         written = ap (λ (x : RecordKey). Some (reply x)) (sym kept);
       }
     where

@@ -1,5 +1,5 @@
 -- What an accepted error message says.
-use Rattle.std.proofs.Common.{◌≡◌, ◌≢◌, ◌⊎◌, inl, inr, ℕ, max, Bool, true, false, cond, Option, Some, None, IfSome, List, [], ◌∷◌, ◌++◌, option_map, refl, sym, ap, ◌∙◌}
+use Rattle.std.proofs.Common.{◌≡◌, ◌≢◌, ◌⊎◌, inl, inr, ℕ, max, Bool, true, false, cond, Option, Some, None, IfSome, List, [], ◌∷◌, ◌++◌, option_map, refl, sym, ap, subst, ◌∙◌}
 use Rattle.std.specs.Prelude.{bytes_eq, is_none}
 use Rattle.std.proofs.lemmas.Bool.{both_ways, false_from_ne_true}
 use Rattle.std.proofs.lemmas.Slice.Eq.{bytes_eq-Decides}
@@ -19,19 +19,24 @@ use Rattle.party_state.specs.declared.edit.Edit.{Edit}
 use Rattle.party_state.specs.declared.edit.Edit.TheVariants.{PutLink, PutKey, DropExchange}
 use Rattle.party_state.specs.Tables.{find_row, put_row}
 use Rattle.party_state.specs.Keys.{record_key, same_record, link_key, same_link, exchange_key, sends}
-use Rattle.party_state.specs.State.{Party, centre_label, exchange_with, link_with, apply_edit, apply}
+use Rattle.party_state.specs.State.{Party, centre_label, exchange_with, link_with, record_with, apply_edit, apply}
 use Rattle.party_state.specs.Verdicts.{Held}
+use Rattle.x_base.specs.declared.key_name.KeyName.{KeyName}
+use Rattle.party_state.specs.declared.key.RecordKey.{RecordKey}
+use Rattle.party_state.specs.Names.{name_behind}
+use Rattle.role_base.proofs.TwinKeys.{records_apart}
 use Rattle.role_base.specs.declared.exchanges.Sent.{Sent}
+use Rattle.role_base.specs.declared.exchanges.Twins.{Twins}
 use Rattle.role_base.specs.Texts.{text_of, is_plain, is_verified}
-use Rattle.role_base.specs.Exchanges.{new_link_at, new_link, dropped}
+use Rattle.role_base.specs.Exchanges.{new_link_at, new_link, dropped, twins_value}
 use Rattle.role_base.proofs.PartyLaws.{HeldAtAccept, LinkLaws, KeyLaws, ExchangeLaws, LinksDropped, put_other, exchange_put, exchange_put_other, drop_other, exchange_dropped}
 use Rattle.bank_arrivals.specs.declared.asking_again.Retry.{Retry}
 use Rattle.bank_arrivals.specs.declared.error_message.Subject.{Subject}
-use Rattle.bank_arrivals.specs.declared.error_message.Subject.TheVariants.{SentKey, Translated}
+use Rattle.bank_arrivals.specs.declared.error_message.Subject.TheVariants.{SentKey, SentTwins, Translated}
 use Rattle.bank_arrivals.specs.AskingAgain.{retry_by, retry_in, ers_reply, asked_again, again_reply}
 use Rattle.bank_arrivals.specs.Esm.{subject_with, is_renewed, way_link, raised, esm_front, error_row, error_of, error_with, error}
-use Rattle.bank_arrivals.specs.Heard.{IsAbout, HasLink, MayAskAgain, AsksAgain, HeardError, HeardCentre}
-use Rattle.bank_arrivals.proofs.About.{put_found, put_link_found, is_to, FoundSent, found_subject}
+use Rattle.bank_arrivals.specs.Heard.{IsAbout, HasLink, MayAskAgain, AsksAgain, HeardError, HeardErrorOfTwo, HeardCentre}
+use Rattle.bank_arrivals.proofs.About.{put_found, put_beside, put_link_found, is_to, FoundSent, FoundTwins, found_subject}
 
 -- what is asked again, and when
 
@@ -52,10 +57,10 @@ retry_none p m (via.Direct label new) c i n = refl
 retry_none p m (via.Translation centre) c i n = refl
 
 -- no exchange with the centre stands
-abbrev IsFree : Party → Retry → Type 0
+abbrev pub IsFree : Party → Retry → Type 0
 IsFree p t = exchange_with t.centre p ≡ None
 
-retry_free : (p : Party) (way : Via) (c : Option ℕ) → IfSome (retry_by p way c) (IsFree p)
+pub retry_free : (p : Party) (way : Via) (c : Option ℕ) → IfSome (retry_by p way c) (IsFree p)
 retry_free p (via.Distribution centre cta) (Some ctr) = go (exchange_with centre p) refl
   where
     t : Retry
@@ -273,13 +278,63 @@ module _ (held : HeldAtAccept) (of_links : LinkLaws) (of_keys : KeyLaws) (of_exc
             waits = ap (λ (o : Option Exchange). option_map (λ (x : Exchange). x.kind) o) (exchanges t.centre ∙ ap (λ (o : Option Retry). exchange_with t.centre (apply (asked_again p m s.key.value o) (apply_edit (DropExchange m.originator) p))) is) ∙ asked p m s.key.value u;
           }
 
+  -- about two keys that were sent in one message
+
+  heard_two : (p : Party) (a : Arrival) (m : Esm) (t : Twins) → subject_with p m.originator ≡ Some (SentTwins t) → (error_row p a m (SentTwins t) None).verdict ≡ Accept → HeardErrorOfTwo p (apply (error_row p a m (SentTwins t) None).edits p) a m (error_row p a m (SentTwins t) None)
+  heard_two p a m t f e =
+      let h : Held (esm_front p m (Some (SentTwins t)) ++ (is_verified a (twins_value t), BadMac) ∷ []) = held (esm_front p m (Some (SentTwins t)) ++ (is_verified a (twins_value t), BadMac) ∷ []) refl e in
+      let d : FoundTwins p m.originator t = found_subject p m.originator (SentTwins t) f in
+      let ne : record_key t.second ≢ record_key t.first = records_apart of_keys.found p m.originator d.name t.first t.second d.first d.second in
+      let key : record { peer = m.originator; name = d.name } ≡ record_key t.first = of_keys.found (record { peer = m.originator; name = d.name }) t.first p d.first in
+      record {
+        to = is_to p m.receiver m.originator h.0;
+        name = d.name;
+        first = t.first;
+        second = t.second;
+        together = record { sent = d.sent; first_stands = d.first; second_stands = d.second; code = h.1.1.0 };
+        first_ended = looked d.name first ∙ put_beside of_keys (apply_edit (PutKey first) p) m.originator d.name first second (put_found of_keys p m.originator d.name t.first first d.first refl) ne;
+        second_ended = looked (name_behind d.name) second ∙ put_found of_keys (apply_edit (PutKey first) p) m.originator (name_behind d.name) t.second second (put_beside of_keys p m.originator (name_behind d.name) t.second first d.second (λ i. ne (sym i))) refl;
+        over = over raises m.ctr;
+        counted = λ l ctr g i. subst (λ (x : List ℕ). HasLink p m.originator x l → HasLink (apply (edits raises m.ctr) p) m.originator x (record l { next = max l.next ctr })) (ap (λ (k : RecordKey). k.name.label) (sym key)) (λ g. counted l ctr g i) g;
+        silent = refl;
+      }
+    where
+      first : KeyRec
+      first = record t.first { status = Ended }
+
+      second : KeyRec
+      second = record t.second { status = Ended }
+
+      raises : Option LinkRec
+      raises = link_with (sends m.originator t.first.name.label) p
+
+      edits : Option LinkRec → Option ℕ → List Edit
+      edits l c = raised l c ++ ((PutKey first ∷ PutKey second ∷ []) ++ DropExchange m.originator ∷ [])
+
+      keys : (l : Option LinkRec) (c : Option ℕ) → (apply (edits l c) p).keys ≡ (apply_edit (PutKey second) (apply_edit (PutKey first) p)).keys
+      keys None c = refl
+      keys (Some l) None = refl
+      keys (Some l) (Some c) = refl
+
+      looked : (name : KeyName) (x : KeyRec) → record_with (record { peer = m.originator; name = name }) (apply (edits raises m.ctr) p) ≡ record_with (record { peer = m.originator; name = name }) (apply_edit (PutKey second) (apply_edit (PutKey first) p))
+      looked name x = ap (λ (ks : List KeyRec). find_row record_key same_record (record { peer = m.originator; name = name }) ks) (keys raises m.ctr)
+
+      over : (l : Option LinkRec) (c : Option ℕ) → exchange_with m.originator (apply (edits l c) p) ≡ None
+      over None c = exchange_dropped of_exchanges m.originator p
+      over (Some l) None = exchange_dropped of_exchanges m.originator p
+      over (Some l) (Some n) = exchange_dropped of_exchanges m.originator p
+
+      counted : (l : LinkRec) (ctr : ℕ) → HasLink p m.originator t.first.name.label l → m.ctr ≡ Some ctr → HasLink (apply (edits raises m.ctr) p) m.originator t.first.name.label (record l { next = max l.next ctr })
+      counted l ctr f i = rw f (rw i (put_link_found of_links p m.originator t.first.name.label l (record l { next = max l.next ctr }) f refl))
+
   heard_subject : (p : Party) (a : Arrival) (m : Esm) (o : Option Subject) → subject_with p m.originator ≡ o → (error_of p a m o (retry_in p o m.ctr)).verdict ≡ Accept
-      → HeardError p (apply (error_of p a m o (retry_in p o m.ctr)).edits p) a m (error_of p a m o (retry_in p o m.ctr)) ⊎ HeardCentre p (apply (error_of p a m o (retry_in p o m.ctr)).edits p) a m (error_of p a m o (retry_in p o m.ctr))
+      → HeardError p (apply (error_of p a m o (retry_in p o m.ctr)).edits p) a m (error_of p a m o (retry_in p o m.ctr)) ⊎ (HeardErrorOfTwo p (apply (error_of p a m o (retry_in p o m.ctr)).edits p) a m (error_of p a m o (retry_in p o m.ctr)) ⊎ HeardCentre p (apply (error_of p a m o (retry_in p o m.ctr)).edits p) a m (error_of p a m o (retry_in p o m.ctr)))
   heard_subject p a m None f e = let h : Held (esm_front p m None) = held (esm_front p m None) refl e in absurd (both_ways false refl h.1.0)
-  heard_subject p a m (Some (Translated value cta)) f e = inr (heard_translated p a m value cta f e)
+  heard_subject p a m (Some (Translated value cta)) f e = inr (inr (heard_translated p a m value cta f e))
+  heard_subject p a m (Some (SentTwins t)) f e = inr (inl (heard_two p a m t f e))
   heard_subject p a m (Some (SentKey s)) f e = inl (heard_sent p a m s f e)
 
-  pub heard_error : (p : Party) (a : Arrival) (m : Esm) → is_plain a.parsed.shut ≡ false → (error p a m).verdict ≡ Accept → HeardError p (apply (error p a m).edits p) a m (error p a m) ⊎ HeardCentre p (apply (error p a m).edits p) a m (error p a m)
+  pub heard_error : (p : Party) (a : Arrival) (m : Esm) → is_plain a.parsed.shut ≡ false → (error p a m).verdict ≡ Accept → HeardError p (apply (error p a m).edits p) a m (error p a m) ⊎ (HeardErrorOfTwo p (apply (error p a m).edits p) a m (error p a m) ⊎ HeardCentre p (apply (error p a m).edits p) a m (error p a m))
   heard_error p a m coded e =
       let again : Option Retry = retry_in p (subject_with p m.originator) m.ctr in
       let r : error p a m ≡ error_of p a m (subject_with p m.originator) again = ap (λ (b : Bool). error_with p a m b again) coded in

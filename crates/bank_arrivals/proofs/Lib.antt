@@ -7,6 +7,15 @@ pub mod AskingShort
 pub mod ErrorsKept
 pub mod Early
 pub mod ArrivalsApart
+pub mod TwinsSent
+pub mod TwinsStanding
 pub mod About
+pub mod BothEnd
 pub mod HeardErrors
 pub mod Heard
+pub mod Accepted
+pub mod Served
+pub mod Leaving
+pub mod Ordered
+pub mod Beginning
+pub mod SendsTwins

@@ -15,14 +15,16 @@ use Rattle.party_state.specs.Keys.{record_key, sends}
 use Rattle.party_state.specs.Ranges.{IsParty}
 use Rattle.party_state.specs.State.{Party, exchange_with}
 use Rattle.role_base.specs.declared.exchanges.Sent.{Sent}
+use Rattle.role_base.specs.declared.exchanges.Twins.{Twins}
 use Rattle.role_base.specs.Deciding.{change_of, decision_of}
 use Rattle.role_base.specs.Storable.{CanKeep, can_put_key}
 use Rattle.role_base.specs.Standing.{LinkStands, KeyStands}
-use Rattle.role_base.specs.Exchanges.{record_of, sent_by, sent_in, sent_to, ending_by, ending_in, ending_with, new_label, new_link_at, new_link}
-use Rattle.bank_arrivals.specs.Rsm.{rsm, rsm_with, rsm_to, answer_to}
+use Rattle.role_base.specs.Exchanges.{record_of, sent_by, sent_in, sent_to, twins_to, ending_by, ending_in, ending_with, new_label, new_link_at, new_link}
+use Rattle.bank_arrivals.specs.Rsm.{rsm, rsm_with, rsm_to, rsm_twins, rsm_by, answer_to}
 use Rattle.role_base.proofs.Found.{found_stands, key_stands}
 use Rattle.role_base.proofs.Kept.{row_kept, made_kept}
-use Rattle.role_base.proofs.Keeping.{link_room, key_room}
+use Rattle.role_base.proofs.Keeping.{link_room, key_room, key_room_behind}
+use Rattle.bank_arrivals.proofs.TwinsStanding.{TwinsStand, twins_stand}
 use Rattle.role_base.proofs.PartyLaws.{LinksFound, KeysFound, LinksInRange}
 
 -- the link that was found stands
@@ -46,6 +48,7 @@ sent_stands keys p peer s h = by_exchange (exchange_with peer p) h
     by_kind (kind.Asked ultimate) h = absurd (cc)
     by_kind (kind.Translating ultimate value cta) h = absurd (cc)
     by_kind (kind.Ending name) h = absurd (cc)
+    by_kind (kind.PairSent name) h = absurd (cc)
 
     by_exchange : (o : Option Exchange) → sent_in p peer o ≡ Some s → KeyStands p s.key
     by_exchange None h = absurd (cc)
@@ -64,6 +67,13 @@ rsm_to_kept links keys in_range p a m (Some s) w h = by_link (new_link p m.origi
     by_link (Some l) e = let st : LinkStands p l = new_link_stands links in_range p m.originator s.way l w e in
         row_kept p (rsm_to p a m (Some s)) (λ _. rw e (record { each = ((st.range.next, link_room p l st), (key, (tt, tt))); order = refl })) (rw e (omega arith))
 
+-- the response to two keys, or to one
+rsm_by_kept : LinksFound → KeysFound → LinksInRange → (p : Party) (a : Arrival) (m : Rsm) (o : Option Twins) → IsParty p → twins_to p m.originator ≡ o → CanKeep p (change_of p (rsm_by p a m o))
+rsm_by_kept links keys in_range p a m None w h = rsm_to_kept links keys in_range p a m (sent_to p m.originator) w refl
+rsm_by_kept links keys in_range p a m (Some t) w h =
+    let st : TwinsStand p t = twins_stand keys p m.originator t h in
+    row_kept p (rsm_twins p a m t) (λ _. record { each = (key_room p t.first st.first, (key_room_behind _ p t.second st.second, (tt, tt))); order = refl }) (omega arith)
+
 ending_stands : KeysFound → (p : Party) (peer : List ℕ) (k : KeyRec) → ending_with p peer ≡ Some k → KeyStands p k
 ending_stands keys p peer k h = by_exchange (exchange_with peer p) h
   where
@@ -72,6 +82,7 @@ ending_stands keys p peer k h = by_exchange (exchange_with peer p) h
     by_kind (kind.KeySent name way) h = absurd (cc)
     by_kind (kind.Asked ultimate) h = absurd (cc)
     by_kind (kind.Translating ultimate value cta) h = absurd (cc)
+    by_kind (kind.PairSent name) h = absurd (cc)
 
     by_exchange : (o : Option Exchange) → ending_in p peer o ≡ Some k → KeyStands p k
     by_exchange None h = absurd (cc)
@@ -86,5 +97,5 @@ pub rsm_kept : LinksFound → KeysFound → LinksInRange → (p : Party) (a : Ar
 rsm_kept links keys in_range p a m made w e = made_kept p (rsm p a m) made (by_name m.idd) e
   where
     by_name : (o : Option KeyName) → CanKeep p (change_of p (rsm_with p a m o))
-    by_name None = rsm_to_kept links keys in_range p a m (sent_to p m.originator) w refl
+    by_name None = rsm_by_kept links keys in_range p a m (twins_to p m.originator) w refl
     by_name (Some name) = answer_to_kept keys p a m name (ending_with p m.originator) refl

@@ -13,7 +13,7 @@ use Rattle.party_state.specs.State.{Party, centre_label, exchange_with}
 use Rattle.party_state.specs.Rows.{Reply, Coded}
 use Rattle.bank_arrivals.specs.declared.asking_again.Retry.{Retry}
 use Rattle.bank_arrivals.specs.declared.error_message.Subject.{Subject}
-use Rattle.bank_arrivals.specs.declared.error_message.Subject.TheVariants.{SentKey, Translated}
+use Rattle.bank_arrivals.specs.declared.error_message.Subject.TheVariants.{SentKey, SentTwins, Translated}
 use Rattle.role_base.specs.Texts.{text_of, direct_name}
 
 -- what the centre is asked, by the way of the key: where no exchange with the centre stands
@@ -25,6 +25,7 @@ retry_by p (via.Translation centre) ctr = None
 
 abbrev pub retry_of : Party → Subject → Option ℕ → Option Retry
 retry_of p (SentKey s) ctr = retry_by p s.way ctr
+retry_of p (SentTwins t) ctr = None
 retry_of p (Translated value cta) ctr = None
 
 abbrev pub retry_in : Party → Option Subject → Option ℕ → Option Retry

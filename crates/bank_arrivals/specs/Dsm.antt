@@ -16,14 +16,14 @@ use Rattle.party_state.specs.declared.edit.Edit.{Edit}
 use Rattle.party_state.specs.declared.edit.Edit.TheVariants.{PutKey, DropExchange}
 use Rattle.party_state.specs.declared.decision.Lead.{Lead}
 use Rattle.party_state.specs.Keys.{same_name}
-use Rattle.party_state.specs.Names.{full_name}
+use Rattle.party_state.specs.Names.{full_name, name_behind}
 use Rattle.party_state.specs.State.{Party, exchange_with, is_ended}
 use Rattle.party_state.specs.Verdicts.{Test, verdict_of, passes}
 use Rattle.party_state.specs.Rows.{Row, Coded, OfDsm, refused}
 use Rattle.bank_arrivals.specs.declared.disconnection.Named.{Named}
 use Rattle.role_base.specs.Texts.{no_extras, is_verified, lead_under}
 use Rattle.role_base.specs.Conditions.{is_for}
-use Rattle.role_base.specs.Exchanges.{record_of, new_link, dropped}
+use Rattle.role_base.specs.Exchanges.{record_of, new_link, dropped, ended}
 
 -- the key that ends, and the key whose code closes the message: that of IDA, or of IDD where IDA is absent
 abbrev pub paired : Option KeyRec → Option KeyRec → Option Named
@@ -41,12 +41,14 @@ named_by p m = paired (record_of p m.originator m.idd) (record_of p m.originator
 abbrev pub dsm_front : Party → Dsm → Bool → List Test
 dsm_front p m stands = (is_for p m.receiver m.originator, NotForMe) ∷ (stands, UnknownKey) ∷ []
 
--- an exchange that names the key goes, with a new key-encrypting key
+-- an exchange that names the key goes, with a new key-encrypting key; where two keys were sent, the other ends too
 abbrev pub left_by : Party → List ℕ → KeyName → Kind → List Edit × List Edit
 left_by p peer name (kind.KeySent sent way) = cond (same_name name sent) (dropped (new_link p peer way), DropExchange peer ∷ []) ([], [])
 left_by p peer name (kind.Ending ending) = cond (same_name name ending) ([], DropExchange peer ∷ []) ([], [])
 left_by p peer name (kind.Asked ultimate) = ([], [])
 left_by p peer name (kind.Translating ultimate value cta) = ([], [])
+left_by p peer name (kind.PairSent sent) = cond (same_name name sent) ([], ended (record_of p peer (name_behind sent)) ++ DropExchange peer ∷ [])
+    (cond (same_name name (name_behind sent)) (ended (record_of p peer sent), DropExchange peer ∷ []) ([], []))
 
 abbrev pub left_in : Party → List ℕ → KeyName → Option Exchange → List Edit × List Edit
 left_in p peer name None = ([], [])
@@ -68,7 +70,7 @@ dsm_on p a m (Some n) = record {
   reply = Some (Coded (dsm_response p n.key) (full_name p.own n.key) n.key.value);
   uses = [];
   makes = None;
-  accepts = Some (record { class = OfDsm; under = full_name p.own n.key });
+  accepts = Some (record { class = OfDsm; names = full_name p.own n.key ∷ [] });
   answer = None;
 }
 

@@ -23,10 +23,10 @@ use Rattle.party_state.specs.Verdicts.{Test, verdict_of, passes}
 use Rattle.party_state.specs.Rows.{Row, Accepted, OfEsm, refused}
 use Rattle.bank_arrivals.specs.declared.asking_again.Retry.{Retry}
 use Rattle.bank_arrivals.specs.declared.error_message.Subject.{Subject}
-use Rattle.bank_arrivals.specs.declared.error_message.Subject.TheVariants.{SentKey, Translated}
+use Rattle.bank_arrivals.specs.declared.error_message.Subject.TheVariants.{SentKey, SentTwins, Translated}
 use Rattle.role_base.specs.Texts.{direct_name, is_verified, is_right, is_plain, lead_under}
 use Rattle.role_base.specs.Conditions.{answer_front}
-use Rattle.role_base.specs.Exchanges.{sent_by, is_waiting, new_link, dropped}
+use Rattle.role_base.specs.Exchanges.{sent_by, twins_by, twins_value, is_waiting, new_link, dropped}
 use Rattle.bank_arrivals.specs.AskingAgain.{retry_in, asked_again, again_reply}
 
 -- what an error message from the peer speaks of: a key that was sent, or a key with a translation centre,
@@ -37,6 +37,7 @@ subject_by p peer (kind.KeySent name way) = option_map SentKey (sent_by p peer (
 subject_by p peer (kind.Translating ultimate value cta) = Some (Translated value cta)
 subject_by p peer (kind.Asked ultimate) = None
 subject_by p peer (kind.Ending name) = None
+subject_by p peer (kind.PairSent name) = option_map SentTwins (twins_by p peer (kind.PairSent name))
 
 abbrev pub subject_in : Party → List ℕ → Option Exchange → Option Subject
 subject_in p peer None = None
@@ -47,11 +48,13 @@ subject_with p peer = subject_in p peer (exchange_with peer p)
 
 abbrev pub subject_value : Subject → ℕ
 subject_value (SentKey s) = s.key.value
+subject_value (SentTwins t) = twins_value t
 subject_value (Translated value cta) = value
 
 -- the full name of its key
 abbrev pub subject_name : Party → List ℕ → Subject → FullName
 subject_name p peer (SentKey s) = full_name p.own s.key
+subject_name p peer (SentTwins t) = full_name p.own t.first
 subject_name p peer (Translated value cta) = record { name = direct_name p.own centre_label cta; recipient = peer }
 
 -- a new key-encrypting key has the label of the link under which it went
@@ -68,6 +71,7 @@ way_link p peer (via.Translation centre) = None
 -- the link whose count the partner names
 abbrev pub subject_link : Party → List ℕ → Subject → Option LinkRec
 subject_link p peer (SentKey s) = way_link p peer s.way
+subject_link p peer (SentTwins t) = link_with (sends peer t.first.name.label) p
 subject_link p peer (Translated value cta) = link_with (sends peer centre_label) p
 
 abbrev pub raised : Option LinkRec → Option ℕ → List Edit
@@ -77,10 +81,12 @@ raised None ctr = []
 
 abbrev pub subject_ended : Party → List ℕ → Subject → List Edit
 subject_ended p peer (SentKey s) = dropped (new_link p peer s.way) ++ PutKey (record s.key { status = Ended }) ∷ []
+subject_ended p peer (SentTwins t) = PutKey (record t.first { status = Ended }) ∷ PutKey (record t.second { status = Ended }) ∷ []
 subject_ended p peer (Translated value cta) = []
 
 abbrev pub subject_accepted : Party → Subject → Option Accepted
-subject_accepted p (SentKey s) = Some (record { class = OfEsm; under = full_name p.own s.key })
+subject_accepted p (SentKey s) = Some (record { class = OfEsm; names = full_name p.own s.key ∷ [] })
+subject_accepted p (SentTwins t) = Some (record { class = OfEsm; names = full_name p.own t.first ∷ full_name p.own t.second ∷ [] })
 subject_accepted p (Translated value cta) = None
 
 abbrev pub esm_front : Party → Esm → Option Subject → List Test

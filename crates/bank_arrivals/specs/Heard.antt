@@ -1,7 +1,7 @@
 -- What a response, an error message or a disconnection says that a bank accepts (ANSI X9.17): which key it is about,
 -- that its code is made under that key, and what becomes of the key and of links. "After" is the party with the edits
 -- of the row.
-use Rattle.std.specs.Prelude.{ℕ, ◌≡◌, ◌≢◌, max, IsTrue, true, List, Option, Some, None, option_map}
+use Rattle.std.specs.Prelude.{ℕ, ◌≡◌, ◌≢◌, max, bit_xor, IsTrue, true, List, Option, Some, None, option_map}
 use Rattle.x_base.specs.declared.key_name.KeyName.{KeyName}
 use Rattle.csm_grammar.specs.declared.message.Message.TheVariants as message
 use Rattle.csm_grammar.specs.declared.message.Rsm.{Rsm}
@@ -18,7 +18,7 @@ use Rattle.party_state.specs.declared.exchange.Kind.TheVariants as kind
 use Rattle.party_state.specs.declared.exchange.Exchange.{Exchange}
 use Rattle.party_state.specs.State.{Party, centre_label, exchange_with, link_with, record_with}
 use Rattle.party_state.specs.Keys.{sends}
-use Rattle.party_state.specs.Names.{full_name}
+use Rattle.party_state.specs.Names.{full_name, name_behind}
 use Rattle.party_state.specs.Rows.{Row, Coded}
 use Rattle.role_base.specs.Texts.{is_verified}
 use Rattle.bank_arrivals.specs.Dsm.{code_name}
@@ -51,6 +51,25 @@ pub record HeardResponse (p after : Party) (a : Arrival) (m : Rsm) : Type 0 wher
   pub code : IsTrue (is_verified a key.value)
   pub live : HasKey after m.originator name (record key { status = Live })
   pub ready : (label new : List ℕ) (l : LinkRec) → way ≡ via.Direct label (Some new) → HasLink p m.originator new l → HasLink after m.originator new (record l { ready = true })
+  pub over : exchange_with m.originator after ≡ None
+
+-- the records of two keys that were sent to the peer in one message, the first of this name, and the message about them
+-- is closed under the exclusive-or of the two
+pub record AreSentTogether (p : Party) (a : Arrival) (peer : List ℕ) (name : KeyName) (first second : KeyRec) : Type 0 where
+  pub sent : IsAbout p peer (kind.PairSent name)
+  pub first_stands : HasKey p peer name first
+  pub second_stands : HasKey p peer (name_behind name) second
+  pub code : IsTrue (is_verified a (bit_xor first.value second.value))
+
+-- a response to two keys: both are live
+pub record HeardResponseToTwo (p after : Party) (a : Arrival) (m : Rsm) : Type 0 where
+  pub to : IsTo p m.receiver m.originator
+  pub name : KeyName
+  pub first : KeyRec
+  pub second : KeyRec
+  pub together : AreSentTogether p a m.originator name first second
+  pub first_live : HasKey after m.originator name (record first { status = Live })
+  pub second_live : HasKey after m.originator (name_behind name) (record second { status = Live })
   pub over : exchange_with m.originator after ≡ None
 
 -- a response that names a key: its end is done
@@ -98,6 +117,20 @@ pub record HeardError (p after : Party) (a : Arrival) (m : Esm) (r : Row) : Type
   pub again : (t : MayAskAgain p m way) → AsksAgain p after m key r t.centre t.cta t.ctr
   pub silent : (MayAskAgain p m way → ⊥) → r.reply ≡ None
 
+-- an error message about two keys: both end, and the next count of the link under which they went is CTR, if that is
+-- larger
+pub record HeardErrorOfTwo (p after : Party) (a : Arrival) (m : Esm) (r : Row) : Type 0 where
+  pub to : IsTo p m.receiver m.originator
+  pub name : KeyName
+  pub first : KeyRec
+  pub second : KeyRec
+  pub together : AreSentTogether p a m.originator name first second
+  pub first_ended : HasKey after m.originator name (record first { status = Ended })
+  pub second_ended : HasKey after m.originator (name_behind name) (record second { status = Ended })
+  pub over : exchange_with m.originator after ≡ None
+  pub counted : (l : LinkRec) (ctr : ℕ) → HasLink p m.originator name.label l → m.ctr ≡ Some ctr → HasLink after m.originator name.label (record l { next = max l.next ctr })
+  pub silent : r.reply ≡ None
+
 -- an error message of a translation centre: the key that is with it is given up
 pub record HeardCentre (p after : Party) (a : Arrival) (m : Esm) (r : Row) : Type 0 where
   pub to : IsTo p m.receiver m.originator
@@ -110,6 +143,11 @@ pub record HeardCentre (p after : Party) (a : Arrival) (m : Esm) (r : Row) : Typ
   pub counted : (l : LinkRec) (ctr : ℕ) → HasLink p m.originator centre_label l → m.ctr ≡ Some ctr → HasLink after m.originator centre_label (record l { next = max l.next ctr })
   pub silent : r.reply ≡ None
 
+-- of two keys that were sent in one message and aren't answered yet, the other one ends too, and the exchange is over
+pub record EndsBoth (after : Party) (peer : List ℕ) (other : KeyName) (k : KeyRec) : Type 0 where
+  pub ended : HasKey after peer other (record k { status = Ended })
+  pub over : exchange_with peer after ≡ None
+
 -- a disconnection: the key that it names ends, if it hadn't ended before, and the response names it; its code is made
 -- under the key of IDA, or of IDD where IDA is absent
 pub record HeardDisconnection (p after : Party) (a : Arrival) (m : Dsm) (r : Row) : Type 0 where
@@ -121,6 +159,8 @@ pub record HeardDisconnection (p after : Party) (a : Arrival) (m : Dsm) (r : Row
   pub code : IsTrue (is_verified a by.value)
   pub ended : HasKey after m.originator m.idd (record key { status = Ended })
   pub before : key.status ≡ Ended → after ≡ p
+  pub second : (k : KeyRec) → key.status ≢ Ended → IsAbout p m.originator (kind.PairSent m.idd) → HasKey p m.originator (name_behind m.idd) k → EndsBoth after m.originator (name_behind m.idd) k
+  pub first : (name : KeyName) (k : KeyRec) → key.status ≢ Ended → m.idd ≡ name_behind name → IsAbout p m.originator (kind.PairSent name) → HasKey p m.originator name k → EndsBoth after m.originator name k
   pub written : r.reply ≡ Some (Coded
       (message.Rsm (record { receiver = m.originator; originator = p.own; idd = Some m.idd; extras = record { iv = None; edk = None; p = None } }))
       (full_name p.own key) key.value)

@@ -1,6 +1,10 @@
+pub mod SendingTwins
 pub mod Rsi
 pub mod Rsm
 pub mod AskingAgain
 pub mod Esm
 pub mod Dsm
 pub mod Heard
+pub mod Accepting
+pub mod Leaving
+pub mod SendsTwins

@@ -46,7 +46,7 @@ pub(crate) fn retry_of(state: &State, subject: &Subject, ctr: Option<Count>) -> 
 {
     match subject {
         Subject::SentKey(sent) => retry_by(state, &sent.way, ctr),
-        Subject::Translated(..) => None,
+        Subject::SentTwins(_) | Subject::Translated(..) => None,
     }
 }
 

@@ -1,7 +1,9 @@
 // A disconnect service message arrives: the key ends, and a response that names it goes back.
 ghost use Rattle.std.specs.Prelude.{◌≡◌, ◌++◌, ◌∷◌, [], true, IfOk};
 ghost use Rattle.x_base.specs.declared.verdict.Verdict.TheVariants.{BadMac};
-ghost use Rattle.party_state.specs.Names.{full_name};
+ghost use Rattle.party_state.specs.declared.exchange.Kind.TheVariants as kind;
+ghost use Rattle.party_state.specs.Keys.{same_name};
+ghost use Rattle.party_state.specs.Names.{full_name, name_behind};
 ghost use Rattle.party_state.specs.Rows.Reply.{Coded};
 ghost use Rattle.party_state.specs.Verdicts.{verdict_of};
 ghost use Rattle.role_base.specs.Replies.{IsWritten};
@@ -12,10 +14,10 @@ ghost use Rattle.role_base.specs.Deciding.{decision_of};
 ghost use Rattle.bank_arrivals.specs.Dsm.{named_by, dsm_front, left_by, left_in, disconnected, dsm_response, dsm_on, dsm, dsm_lead_on, dsm_lead};
 
 use csm_grammar::{Arrival, Dsm, Message, Rsm};
-use party_state::{Decision, Edit, KeyRec, KeyStatus, Kind, Lead, State, law_found};
+use party_state::{Decision, Edit, KeyRec, KeyStatus, Kind, Lead, State, law_found, name_behind};
 use role_base::{
-    Written, accept, dropped, early_refusal, is_accept, is_for, joined, key_lead, list_of,
-    new_link, no_extras, passes, record_of, refusal, verdict_after, verdict_of,
+    Written, accept, dropped, early_refusal, ended, is_accept, is_for, joined, key_lead, list_of,
+    new_link, no_extras, passes, record_behind, record_of, refusal, verdict_after, verdict_of,
 };
 use std::alloc::Global;
 use x_base::{Ident, KeyName, NoMemory, Verdict};
@@ -72,6 +74,43 @@ fn dsm_response(state: &State, key: &KeyRec) -> Message
     })
 }
 
+/// Whether it is the name of the key behind the one that was sent.
+#[tactic(auto, using(crate::proofs::Disconnections::not_behind))]
+fn is_behind(name: &KeyName, sent: &KeyName) -> bool
+    ensures { result ≡ same_name name.now (name_behind sent.now) }
+{
+    // The value tells that it is a count.
+    name.count.value();
+    match name_behind(sent) {
+        Some(behind) => *name == behind,
+        None => false,
+    }
+}
+
+/// The edits for an exchange about two keys that names this one: the other ends too, by name before
+/// it or behind it.
+fn left_of_two(
+    alloc: Global,
+    state: &State,
+    peer: Ident,
+    name: &KeyName,
+    sent: &KeyName,
+) -> Result<(Vec<Edit>, Vec<Edit>), NoMemory>
+    ensures { IfOk result (λ edits. (edits.0.items, edits.1.items) ≡ left_by state.now peer name.now (kind.PairSent sent.now)) }
+{
+    let none = Vec::new(alloc);
+    if *name == *sent {
+        let other = ended(alloc, record_behind(state, &peer, sent))?;
+        let gone = list_of(alloc, [Edit::DropExchange { peer }])?;
+        return Ok((none, joined(other, gone)?));
+    }
+    if is_behind(name, sent) {
+        let other = ended(alloc, record_of(state, &peer, sent))?;
+        return Ok((other, list_of(alloc, [Edit::DropExchange { peer }])?));
+    }
+    Ok((none, Vec::new(alloc)))
+}
+
 /// The edits before and behind that of the key, for an exchange that names it.
 fn left_by(
     alloc: Global,
@@ -97,6 +136,7 @@ fn left_by(
             }
             Ok((none, list_of(alloc, [Edit::DropExchange { peer }])?))
         }
+        Kind::PairSent { name: sent } => left_of_two(alloc, state, peer, name, sent),
         Kind::Asked { .. } | Kind::Translating { .. } => Ok((none, Vec::new(alloc))),
     }
 }

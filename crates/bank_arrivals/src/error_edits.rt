@@ -6,7 +6,7 @@ ghost use Rattle.bank_arrivals.specs.Esm.{is_renewed, way_link, subject_link, ra
 use crate::error_message::Subject;
 use csm_grammar::Esm;
 use party_state::{Edit, KeyRec, KeyStatus, LinkRec, State, Via};
-use role_base::{centre_label, dropped, joined, list_of, new_link};
+use role_base::{Twins, centre_label, dropped, joined, list_of, new_link};
 use std::alloc::Global;
 use x_base::{Count, Ident, Label, NoMemory, Side};
 
@@ -42,6 +42,11 @@ fn subject_link(state: &State, peer: &Ident, subject: &Subject) -> Option<LinkRe
 {
     match subject {
         Subject::SentKey(sent) => way_link(state, peer, &sent.way),
+        Subject::SentTwins(twins) => {
+            state
+                .link(peer, &twins.first.name.label, Side::Sends)
+                .copied()
+        }
         Subject::Translated(..) => state.link(peer, &centre_label(), Side::Sends).copied(),
     }
 }
@@ -70,6 +75,12 @@ fn subject_ended(
             let status = KeyStatus::Ended;
             let key = list_of(alloc, [Edit::PutKey(KeyRec { status, ..sent.key })])?;
             joined(dropped(alloc, new_link(state, peer, &sent.way))?, key)
+        }
+        Subject::SentTwins(Twins { first, second }) => {
+            let status = KeyStatus::Ended;
+            let first = Edit::PutKey(KeyRec { status, ..*first });
+            let second = Edit::PutKey(KeyRec { status, ..*second });
+            list_of(alloc, [first, second])
         }
         Subject::Translated(..) => Ok(Vec::new(alloc)),
     }

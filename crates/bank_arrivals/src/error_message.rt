@@ -16,16 +16,18 @@ use csm_grammar::{Arrival, Esm, law_arrived};
 use csm_write::law_canon_short;
 use party_state::{Decision, Kind, Lead, State, law_found, law_found_in_range};
 use role_base::{
-    Sent, accept, answer_front, answer_verdict, centre_label, direct_name, early_refusal,
-    is_accept, lead_under, not_answering, passes, refusal, sent_by,
+    Sent, Twins, accept, answer_front, answer_verdict, centre_label, direct_name, early_refusal,
+    is_accept, lead_under, not_answering, passes, refusal, sent_by, twins_by,
 };
 use std::alloc::Global;
 use x_base::{Count, FullName, Ident, NoMemory};
 
-/// What an error message speaks of: a key that was sent, or a key with a translation centre.
+/// What an error message speaks of: a key that was sent, two keys that were sent in one message, or a
+/// key with a translation centre.
 #[derive(Clone, Copy)]
 pub enum Subject {
     SentKey(Sent),
+    SentTwins(Twins),
     /// Its value, and the count at the centre.
     Translated(u64, Count),
 }
@@ -37,6 +39,10 @@ fn subject_by(state: &State, peer: &Ident, kind: &Kind) -> Option<Subject>
         Kind::KeySent { .. } => {
             let sent = sent_by(state, peer, kind)?;
             Some(Subject::SentKey(sent))
+        }
+        Kind::PairSent { .. } => {
+            let twins = twins_by(state, peer, kind)?;
+            Some(Subject::SentTwins(twins))
         }
         Kind::Translating { value, cta, .. } => Some(Subject::Translated(*value, *cta)),
         Kind::Asked { .. } | Kind::Ending { .. } => None,
@@ -56,16 +62,18 @@ fn subject_value(subject: &Subject) -> u64
 {
     match subject {
         Subject::SentKey(sent) => sent.key.value,
+        Subject::SentTwins(twins) => twins.value(),
         Subject::Translated(value, _) => *value,
     }
 }
 
-/// The full name of its key.
+/// The full name of its key, of two keys that of the first.
 fn subject_name(state: &State, peer: &Ident, subject: &Subject) -> FullName
     ensures { result ≡ subject_name state.now peer.now subject.now }
 {
     match subject {
         Subject::SentKey(sent) => sent.key.full_name(&state.own()),
+        Subject::SentTwins(twins) => twins.first.full_name(&state.own()),
         Subject::Translated(_, cta) => FullName {
             name: direct_name(state.own(), centre_label(), *cta),
             recipient: *peer,

@@ -16,7 +16,7 @@ ghost use Rattle.bank_arrivals.specs.Rsi.{rsi};
 ghost use Rattle.bank_arrivals.specs.Rsm.{rsm, rsm_lead};
 ghost use Rattle.bank_arrivals.specs.Esm.{error, esm_lead};
 ghost use Rattle.bank_arrivals.specs.Dsm.{dsm, dsm_lead};
-ghost use Rattle.bank_arrivals.specs.Heard.{HeardResponse, HeardEnd, HeardError, HeardCentre, HeardDisconnection};
+ghost use Rattle.bank_arrivals.specs.Heard.{HeardResponse, HeardResponseToTwo, HeardEnd, HeardError, HeardErrorOfTwo, HeardCentre, HeardDisconnection};
 
 use csm_grammar::law_arrived;
 use party_state::{law_accept, law_drop, law_found, law_put, law_same};
@@ -47,16 +47,16 @@ pub fn law_lead()
     law_arrived();
 }
 
-/// What an accepted answer says: which key it is about, that its code is made under that key, and
-/// what becomes of the key. An error message that is closed by an error detection code changes
-/// nothing.
+/// What an accepted answer says: which key it is about, or which two, that its code is made under
+/// that key, or under the exclusive-or of the two, and what becomes of them. An error message that is
+/// closed by an error detection code changes nothing.
 pub fn law_heard()
     ensures response { (p : Party) (a : TheArrival) (m : TheRsm) → m.idd ≡ None → (rsm p a m).verdict ≡ Accept →
-        HeardResponse p (apply (rsm p a m).edits p) a m }
+        (HeardResponse p (apply (rsm p a m).edits p) a m ⊎ HeardResponseToTwo p (apply (rsm p a m).edits p) a m) }
     ensures end { (p : Party) (a : TheArrival) (m : TheRsm) (idd : TheKeyName) → m.idd ≡ Some idd → (rsm p a m).verdict ≡ Accept →
         HeardEnd p (apply (rsm p a m).edits p) a m idd }
     ensures error { (p : Party) (a : TheArrival) (m : TheEsm) → is_plain a.parsed.shut ≡ false → (error p a m).verdict ≡ Accept →
-        (HeardError p (apply (error p a m).edits p) a m (error p a m) ⊎ HeardCentre p (apply (error p a m).edits p) a m (error p a m)) }
+        (HeardError p (apply (error p a m).edits p) a m (error p a m) ⊎ (HeardErrorOfTwo p (apply (error p a m).edits p) a m (error p a m) ⊎ HeardCentre p (apply (error p a m).edits p) a m (error p a m))) }
     ensures plain { (p : Party) (a : TheArrival) (m : TheEsm) → is_plain a.parsed.shut ≡ true →
         (((error p a m).edits ≡ []) × ((error p a m).reply ≡ None)) }
     ensures disconnection { (p : Party) (a : TheArrival) (m : TheDsm) → (dsm p a m).verdict ≡ Accept →

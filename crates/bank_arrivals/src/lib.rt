@@ -2,18 +2,26 @@
 //! X9.17).
 #![tactic(auto)]
 
+mod accepting;
 mod asking_again;
 mod disconnection;
+mod draws;
 mod error_edits;
 mod error_message;
 mod laws;
 mod plain_esm;
 mod request;
 mod response;
+mod sending_twins;
+mod twin_laws;
+mod twin_response;
 
+pub use accepting::{law_accepts, law_begins, law_left, law_order, law_serves};
 pub use asking_again::Retry;
 pub use disconnection::{Named, dsm, dsm_lead};
+pub use draws::TwinsDrawn;
 pub use error_message::{Subject, esm, esm_lead};
 pub use laws::{law_apart, law_heard, law_lead};
 pub use request::rsi;
 pub use response::{rsm, rsm_lead};
+pub use twin_laws::law_sends_twins;

@@ -1,12 +1,18 @@
-// A request for service initiation arrives: a data key goes back under the first link.
-ghost use Rattle.std.specs.Prelude.{◌≡◌, IfOk};
+// A request for service initiation arrives: a data key goes back under the first link, or two of
+// them.
+ghost use Rattle.std.specs.Prelude.{◌≡◌, true, IfOk};
+ghost use Rattle.party_state.specs.Verdicts.{all_refuse};
+ghost use Rattle.role_base.specs.Standing.{LinkStands};
 ghost use Rattle.role_base.specs.Storable.{CanKeep};
 ghost use Rattle.role_base.specs.Deciding.{decision_of};
-ghost use Rattle.bank_arrivals.specs.Rsi.{rsi_tests, rsi};
+ghost use Rattle.bank_arrivals.specs.Rsi.{rsi_tests, sending_by, rsi};
 
+use crate::sending_twins::send_two;
 use csm_grammar::{Arrival, Rsi};
 use party_state::{Decision, LinkRec, State};
-use role_base::{first_link, is_data_key, is_for, is_right, refusal, send, verdict_of};
+use role_base::{
+    first_link, is_data_key, is_for, is_right, is_two_keys, refusal, send, verdict_of,
+};
 use std::alloc::Global;
 use x_base::{NoMemory, Side, Verdict};
 
@@ -19,7 +25,8 @@ fn rsi_tests(
     ensures { result ≡ rsi_tests state.now arrival.now message.now found.now }
 {
     let peer = &message.originator;
-    let served = is_data_key(message.service) && message.ultimate.is_none();
+    let keys = is_data_key(message.service) || is_two_keys(message.service);
+    let served = keys && message.ultimate.is_none();
     [
         (is_for(state, &message.receiver, peer), Verdict::NotForMe),
         (state.knows(peer), Verdict::UnknownPeer),
@@ -30,7 +37,29 @@ fn rsi_tests(
     ]
 }
 
-/// What is decided of a request for a data key, at a moment. The only error is want of memory.
+/// What is decided under the link, by the keys that are asked for.
+fn rsi_row(
+    alloc: Global,
+    state: &State,
+    tests: &[(bool, Verdict)],
+    link: &LinkRec,
+    two: bool,
+    moment: u64,
+) -> Result<Decision, NoMemory>
+    requires stands { LinkStands state.now link.now }
+    requires refuse { all_refuse tests.now ≡ true }
+    ensures decision { IfOk result (λ d. d ≡ decision_of state.now (sending_by state.now tests.now link.now moment two)) }
+    ensures kept { IfOk result (λ d. CanKeep state.now d.change) }
+{
+    if two {
+        send_two(alloc, state, tests, link, moment)
+    } else {
+        send(alloc, state, tests, link, moment)
+    }
+}
+
+/// What is decided of a request for a data key, or for two, at a moment. The only error is want of
+/// memory.
 #[tactic(auto, using(role_base::proofs::ByRow::by_refused))]
 pub fn rsi(
     alloc: Global,
@@ -45,7 +74,10 @@ pub fn rsi(
     let found = first_link(state, &message.originator, Side::Sends);
     let tests = rsi_tests(state, arrival, message, &found);
     match found {
-        Some(link) => send(alloc, state, &tests, &link, moment),
+        Some(link) => {
+            let two = is_two_keys(message.service);
+            rsi_row(alloc, state, &tests, &link, two, moment)
+        }
         None => Ok(refusal(verdict_of(&tests))),
     }
 }

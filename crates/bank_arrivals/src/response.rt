@@ -1,5 +1,5 @@
-// A response service message arrives: the key that was sent is live; or, where it names a key, the
-// end of that key is done.
+// A response service message arrives: the key that was sent is live, or both are; or, where it names a
+// key, the end of that key is done.
 ghost use Rattle.std.specs.Prelude.{◌≡◌, ◌++◌, ◌∷◌, [], IfOk};
 ghost use Rattle.party_state.specs.declared.edit.Edit.TheVariants.{PutKey, DropExchange};
 ghost use Rattle.party_state.specs.declared.key.KeyStatus.TheVariants.{Live, Ended};
@@ -7,17 +7,19 @@ ghost use Rattle.party_state.specs.Names.{full_name};
 ghost use Rattle.role_base.specs.Texts.{lead_under};
 ghost use Rattle.role_base.specs.Storable.{CanKeep};
 ghost use Rattle.role_base.specs.Deciding.{decision_of};
-ghost use Rattle.role_base.specs.Exchanges.{readied, new_link};
-ghost use Rattle.bank_arrivals.specs.Rsm.{rsm, rsm_to, rsm_lead, rsm_lead_to, answer_to, answer_lead_to, is_named};
+ghost use Rattle.role_base.specs.Exchanges.{sent_to, twins_to, readied, new_link};
+ghost use Rattle.bank_arrivals.specs.Rsm.{rsm, rsm_to, rsm_by, rsm_lead, rsm_lead_to, rsm_lead_by, answer_to, answer_lead_to, is_named};
 
+use crate::twin_response::{rsm_twins, twins_lead};
 use csm_grammar::{Arrival, Rsm};
 use party_state::{Decision, Edit, KeyRec, KeyStatus, Lead, State, law_found, law_found_in_range};
 use role_base::{
-    Sent, accept, answer_front, answer_verdict, early_refusal, ending_with, is_accept, joined,
-    key_lead, list_of, new_link, not_answering, passes, readied, refusal, sent_to,
+    Sent, Twins, accept, answer_front, answer_verdict, early_refusal, ending_with, is_accept,
+    joined, key_lead, list_of, new_link, not_answering, passes, readied, refusal, sent_by,
+    twins_by,
 };
 use std::alloc::Global;
-use x_base::{KeyName, NoMemory};
+use x_base::{Ident, KeyName, NoMemory};
 
 fn live(alloc: Global, state: &State, message: &Rsm, sent: &Sent) -> Result<Vec<Edit>, NoMemory>
     ensures { IfOk result (λ edits. edits.items ≡ readied (new_link state.now message.now.originator sent.now.way)
@@ -88,6 +90,48 @@ fn rsm_to(
     match found {
         Some(sent) => rsm_sent(alloc, state, arrival, message, sent, lead),
         None => Ok(not_answering(state, &message.receiver, &message.originator)),
+    }
+}
+
+/// The two keys that were sent to the peer in one message, and the one key: at most one of them is
+/// there.
+fn unanswered(state: &State, peer: &Ident) -> (Option<Twins>, Option<Sent>)
+    ensures { result ≡ (twins_to state.now peer.now, sent_to state.now peer.now) }
+{
+    match state.exchange(peer) {
+        Some(exchange) => {
+            let kind = &exchange.kind;
+            (twins_by(state, peer, kind), sent_by(state, peer, kind))
+        }
+        None => (None, None),
+    }
+}
+
+/// The response to what the exchange sent: two keys, or one.
+fn rsm_by(
+    alloc: Global,
+    state: &State,
+    arrival: &Arrival,
+    message: &Rsm,
+    lead: &Option<Lead>,
+) -> Result<Decision, NoMemory>
+    requires { lead.now ≡ rsm_lead_by state.now arrival.now message.now (twins_to state.now message.now.originator) }
+    ensures { IfOk result (λ d. d ≡ decision_of state.now (rsm_by state.now arrival.now message.now (twins_to state.now message.now.originator))) }
+{
+    let (twins, sent) = unanswered(state, &message.originator);
+    match &twins {
+        Some(twins) => rsm_twins(alloc, state, arrival, message, twins, lead),
+        None => rsm_to(alloc, state, arrival, message, &sent, lead),
+    }
+}
+
+fn rsm_lead_by(state: &State, arrival: &Arrival, message: &Rsm) -> Option<Lead>
+    ensures { result ≡ rsm_lead_by state.now arrival.now message.now (twins_to state.now message.now.originator) }
+{
+    let (twins, sent) = unanswered(state, &message.originator);
+    match twins {
+        Some(twins) => twins_lead(state, arrival, message, &twins),
+        None => rsm_lead_to(state, arrival, message, sent),
     }
 }
 
@@ -204,11 +248,10 @@ fn rsm_decided(
     requires { lead.now ≡ rsm_lead state.now arrival.now message.now }
     ensures { IfOk result (λ d. d ≡ decision_of state.now (rsm state.now arrival.now message.now)) }
 {
-    let peer = &message.originator;
     match &message.idd {
-        None => rsm_to(alloc, state, arrival, message, &sent_to(state, peer), lead),
+        None => rsm_by(alloc, state, arrival, message, lead),
         Some(name) => {
-            let found = ending_with(state, peer);
+            let found = ending_with(state, &message.originator);
             answer_to(alloc, state, arrival, message, name, &found, lead)
         }
     }
@@ -238,11 +281,10 @@ pub fn rsm(
 pub fn rsm_lead(state: &State, arrival: &Arrival, message: &Rsm) -> Option<Lead>
     ensures { result ≡ rsm_lead state.now arrival.now message.now }
 {
-    let peer = &message.originator;
     match &message.idd {
-        None => rsm_lead_to(state, arrival, message, sent_to(state, peer)),
+        None => rsm_lead_by(state, arrival, message),
         Some(name) => {
-            let found = ending_with(state, peer);
+            let found = ending_with(state, &message.originator);
             answer_lead_to(state, arrival, message, name, found)
         }
     }
