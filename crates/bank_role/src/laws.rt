@@ -28,7 +28,7 @@ pub fn law_lead()
 }
 
 /// An edit that makes no difference changes nothing. One that changes nothing makes no difference,
-/// but for an exchange or an answer that is put, and a party that begins, which always do. Where the
+/// but for an exchange that is put and a party that begins, which always do. Where the
 /// edits of an accepted row that make none are left out, the others give the same party, if it has
 /// each link once.
 pub fn law_differing()
@@ -43,8 +43,8 @@ pub fn law_differing()
     bank_keys::law_apart();
 }
 
-/// A key that a key service message brings, from a partner or a centre, alone or with a new
-/// key-encrypting key, is accepted exactly where it can be taken.
+/// A key that a key service message brings, from a partner or a centre, alone, with a new
+/// key-encrypting key or with a second data key, is accepted exactly where it can be taken.
 pub fn law_taking()
     ensures { (p : Party) (i : TheInput) (moment : ℕ) → TakesKeys p i (decided p i moment) }
 {

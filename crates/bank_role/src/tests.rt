@@ -21,6 +21,7 @@ mod loading;
 mod new_keys;
 mod refusals;
 mod sessions;
+mod two_keys;
 
 const GENERATOR: Gen = Gen {
     key: Pair {

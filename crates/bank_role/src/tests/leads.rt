@@ -12,7 +12,7 @@ const DSM: &str = "CSM(MCL/DSM RCV/BANKB ORG/BANKA IDD/BANKA.BANKA.K1.1 MAC/F3A9
 pub(super) const VALUE: u64 = 0x7FD0388551613B61;
 
 /// The name of that key, in full.
-fn first_key() -> Option<FullName> {
+pub(super) fn first_key() -> Option<FullName> {
     Some(FullName {
         name: KeyName::read(b"BANKA.BANKA.K1.1").ok()?,
         recipient: Ident::read(b"BANKB").ok()?,

@@ -79,7 +79,7 @@ KEY BANKA BANKA.BANKA.K1.99999999999999 HELD
 }
 
 /// The state with the record of the key of BANKA that went at a count, which has ended.
-fn with_ended(alloc: Global, state: State, count: u64) -> Option<State> {
+pub(super) fn with_ended(alloc: Global, state: State, count: u64) -> Option<State> {
     let link = state.link_at(0)?;
     let originator = Ident::read(b"BANKA").ok()?;
     let key = KeyRec {
@@ -98,15 +98,23 @@ fn with_ended(alloc: Global, state: State, count: u64) -> Option<State> {
     Some(state)
 }
 
-/// The bank with the records of 1,024 keys, which have ended, the first at this count.
-fn full(alloc: Global, bank: Option<State>, first: u64) -> Option<State>
-    requires { first ≤ 2 }
+/// The bank with the records of so many keys, which have ended, the first at this count.
+pub(super) fn filled(alloc: Global, bank: Option<State>, first: u64, keys: u64) -> Option<State>
+    requires first { first ≤ 2 }
+    requires keys { keys ≤ 1024 }
 {
     let mut state = bank?;
-    for more in 0..1024 {
+    for more in 0..keys {
         state = with_ended(alloc, state, first + more)?;
     }
     Some(state)
+}
+
+/// The bank with the records of 1,024 keys.
+fn full(alloc: Global, bank: Option<State>, first: u64) -> Option<State>
+    requires { first ≤ 2 }
+{
+    filled(alloc, bank, first, 1024)
 }
 
 const SENT: [Step; 4] = [
