@@ -1,2 +1,3 @@
 pub mod OrdersApart
 pub mod Early
+pub mod Refusals

@@ -1,3 +1,4 @@
 pub mod Requests
 pub mod Unserved
 pub mod Orders
+pub mod Serving

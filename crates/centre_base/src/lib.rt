@@ -7,9 +7,11 @@ mod links;
 mod orders;
 mod refusing;
 mod requests;
+mod serving;
 
 pub use laws::law_apart;
 pub use links::behind;
 pub use orders::command;
 pub use refusing::unserved;
 pub use requests::request_front;
+pub use serving::{law_commands, law_unserved};

@@ -5,3 +5,5 @@ pub mod Early
 pub mod Serving
 pub mod Giving
 pub mod Raised
+pub mod Refusals
+pub mod Ordered

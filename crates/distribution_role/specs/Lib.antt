@@ -4,3 +4,4 @@ pub mod Recovery
 pub mod Rows
 pub mod Serving
 pub mod Giving
+pub mod Serves

@@ -10,11 +10,13 @@ mod laws;
 mod leads;
 mod recovery;
 mod requests;
+mod served;
 
 pub use answering::Links;
 pub use deciding::{decide, decide_led};
 pub use laws::{law_answers, law_apart, law_gives, law_lead};
 pub use leads::lead;
+pub use served::{law_order, law_serves};
 
 #[cfg(test)]
 mod tests;

@@ -1,2 +1,3 @@
 pub mod ByRole
 pub mod Taking
+pub mod ByClass

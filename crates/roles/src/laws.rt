@@ -1,5 +1,6 @@
 // What is known of every party, by calls that do nothing.
 ghost use Rattle.std.specs.Prelude.{◌≡◌, ◌↔◌, ◌⊎◌, ℕ, true, false, None};
+ghost use Rattle.x_base.specs.declared.verdict.Verdict.TheVariants.{Accept};
 ghost use Rattle.csm_grammar.specs.declared.arrival.Arrival.{Arrival as TheArrival};
 ghost use Rattle.party_state.specs.declared.command.Input.{Input as TheInput};
 ghost use Rattle.party_state.specs.declared.command.Input.TheVariants.{Arrived};
@@ -14,6 +15,7 @@ ghost use Rattle.role_base.specs.Differing.{differs, always_differs, differing};
 ghost use Rattle.roles.specs.Rows.{row_at};
 ghost use Rattle.roles.specs.Leads.{lead_at};
 ghost use Rattle.roles.specs.Deciding.{decision};
+ghost use Rattle.roles.specs.Serving.{Serves};
 ghost use Rattle.roles.specs.Taking.{TakesAsBank, PassesAsBank};
 
 use party_state::law_accept;
@@ -30,7 +32,7 @@ pub fn law_lead()
 }
 
 /// An edit that makes no difference changes nothing. One that changes nothing makes no difference,
-/// but for an exchange or an answer that is put, and a party that begins, which always do. Where the
+/// but for an exchange that is put and a party that begins, which always do. Where the
 /// edits of an accepted row that make none are left out, the others give the same party, if it has
 /// each link once.
 pub fn law_differing()
@@ -61,4 +63,14 @@ pub fn law_passing()
 {
     law_accept();
     bank_role::law_passing();
+}
+
+/// What a party accepts is a command or a message of a class that its role serves: a bank answers no
+/// request that is for a centre, and a centre accepts its own requests and loading under its own
+/// label, and nothing else.
+pub fn law_serves()
+    ensures { (p : Party) (i : TheInput) (moment : ℕ) → (decision p i moment).verdict ≡ Accept → Serves p.role i }
+{
+    distribution_role::law_serves();
+    translation_role::law_serves();
 }

@@ -6,5 +6,5 @@ mod laws;
 mod leads;
 
 pub use deciding::decide;
-pub use laws::{law_differing, law_lead, law_passing, law_taking};
+pub use laws::{law_differing, law_lead, law_passing, law_serves, law_taking};
 pub use leads::{decide_led, lead};

@@ -3,3 +3,5 @@ pub mod TranslatedKept
 pub mod TranslatedApart
 pub mod Early
 pub mod Serving
+pub mod Refusals
+pub mod Ordered

@@ -2,7 +2,7 @@
 use Rattle.std.proofs.Common.{◌≡◌, ◌≢◌, ℕ, ◌+◌, ◌<◌, ◌^◌, ◌↔◌, Bool, true, false, cond, not, ◌||◌, nat_le, Option, Some, None, List, [], ◌∷◌, option_map, refl, sym, ap, subst, ◌∙◌, bytes_eq}
 use Rattle.std.proofs.lemmas.Bool.{leb-true, le-leb, both_ways, or_right}
 use Rattle.x_base.specs.declared.verdict.Verdict.{Verdict}
-use Rattle.x_base.specs.declared.verdict.Verdict.TheVariants.{Accept, CountLow, CountSpent, NotForMe, UnknownPeer, WrongClass, UnknownKk}
+use Rattle.x_base.specs.declared.verdict.Verdict.TheVariants.{Accept, CountLow, CountSpent, NotForMe, UnknownPeer, WrongClass, UnknownKk, BadMac}
 use Rattle.x_mac.specs.declared.pair.Pair.{Pair}
 use Rattle.x_seal.specs.Wrapped.{unwrap_of, seal_of, unseal_of}
 use Rattle.csm_grammar.specs.declared.arrival.Arrival.{Arrival}
@@ -17,13 +17,14 @@ use Rattle.party_state.specs.State.{Party, apply, apply_edit, centre_label, link
 use Rattle.party_state.specs.Verdicts.{verdict_of, Held}
 use Rattle.party_state.specs.Rows.{Row, Coded}
 use Rattle.role_base.specs.Conditions.{is_for, has_count}
+use Rattle.role_base.specs.Texts.{is_verified}
 use Rattle.role_base.specs.Errors.{coded_under}
 use Rattle.role_base.proofs.Addressed.{others, apart, for_me, mine}
 use Rattle.role_base.proofs.PartyLaws.{HeldAtAccept, AcceptedIfHeld, LinkLaws, put_other, put_over}
 use Rattle.translation_role.specs.Service.{rfs_value, rfs_under, rfs_answer, rfs_front, rfs_tests, rfs_error, rfs_between, rfs}
 use Rattle.translation_role.specs.Rows.{translation_message}
 use Rattle.translation_role.proofs.TranslatedApart.{other_side, side_other}
-use Rattle.translation_role.specs.Serving.{carried, CanTranslate, TranslatesExactly, ReturnsKey, ReturnsKeys, count_error, AnswersLow, AnswersSpent}
+use Rattle.translation_role.specs.Serving.{carried, CanTranslate, TranslatesExactly, ReturnsKey, ReturnsKeys, count_error, AnswersLow, AnswersSpent, AnswersNoOther}
 
 not_low : (a b : Bool) → (not a || b) ≡ true → a ≡ true → b ≡ true
 not_low true b h t = h
@@ -152,3 +153,34 @@ answers_low p a m l n said f e = refused_so p a m l (CountLow n) _ (Some n) refl
 
 pub answers_spent : AnswersSpent
 answers_spent p a m l n said f e = refused_so p a m l CountSpent _ None refl (no_count p m CountSpent (λ h. cc, λ h. cc, λ h. cc, λ h. cc)) said f e
+
+-- another refusal
+
+unanswered : (p : Party) (a : Arrival) (m : Rfs) (l b : LinkRec) → ((n : ℕ) → verdict_of (rfs_tests p a m l b) ≡ CountLow n → ⊥) → (verdict_of (rfs_tests p a m l b) ≡ CountSpent → ⊥)
+    → coded_under (rfs_under p m) (rfs_value m l) (rfs_error p m (verdict_of (rfs_tests p a m l b))) ≡ None
+unanswered p a m l b low spent =
+    go (is_for p m.receiver m.originator) (knows m.originator p) (not (bytes_eq m.ultimate m.originator)) (is_verified a (rfs_value m l)) (not (has_count l) || nat_le l.next m.cta) (has_count l) (has_count b) low spent
+  where
+    told : Bool → Bool → Bool → Bool → Bool → Bool → Bool → Verdict
+    told x y z v w s t = cond x (cond y (cond z (cond v (cond w (cond s (cond t Accept CountSpent) CountSpent) (CountLow l.next)) BadMac) WrongClass) UnknownPeer) NotForMe
+
+    go : (x y z v w s t : Bool) → ((n : ℕ) → told x y z v w s t ≡ CountLow n → ⊥) → (told x y z v w s t ≡ CountSpent → ⊥) → coded_under (rfs_under p m) (rfs_value m l) (rfs_error p m (told x y z v w s t)) ≡ None
+    go true true true true true true true low spent = refl
+    go true true true true true true false low spent = absurd (spent refl)
+    go true true true true true false t low spent = absurd (spent refl)
+    go true true true true false s t low spent = absurd (low l.next refl)
+    go true true true false w s t low spent = refl
+    go true true false v w s t low spent = refl
+    go true false z v w s t low spent = refl
+    go false y z v w s t low spent = refl
+
+pub answers_no_other : AnswersNoOther
+answers_no_other p a m said low spent =
+    let row : translation_message p a a.parsed.message ≡ rfs p a m = ap (λ (x : Message). translation_message p a x) said in
+    let verdict : (translation_message p a a.parsed.message).verdict ≡ (rfs p a m).verdict = ap (λ (r : Row). r.verdict) row in
+    ap (λ (r : Row). r.answer) row ∙ by_links (link_with (takes m.originator centre_label) p) (link_with (sends m.ultimate centre_label) p) (λ n e. low n (verdict ∙ e)) (λ e. spent (verdict ∙ e))
+  where
+    by_links : (o q : Option LinkRec) → ((n : ℕ) → (rfs_between p a m o q).verdict ≡ CountLow n → ⊥) → ((rfs_between p a m o q).verdict ≡ CountSpent → ⊥) → (rfs_between p a m o q).answer ≡ None
+    by_links None q low spent = refl
+    by_links (Some l) None low spent = refl
+    by_links (Some l) (Some b) low spent = unanswered p a m l b low spent

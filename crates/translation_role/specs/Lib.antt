@@ -1,3 +1,4 @@
 pub mod Service
 pub mod Rows
 pub mod Serving
+pub mod Serves

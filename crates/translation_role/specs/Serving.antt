@@ -83,3 +83,8 @@ AnswersLow = AnswersRefused (λ n. CountLow n) (λ n. codes "C") (λ n. Some n)
 
 abbrev pub AnswersSpent : Type 0
 AnswersSpent = AnswersRefused (λ n. CountSpent) (λ n. codes "S") (λ n. None)
+
+-- no other refusal is answered
+abbrev pub AnswersNoOther : Type 0
+AnswersNoOther = (p : Party) (a : Arrival) (m : Rfs) → a.parsed.message ≡ message.Rfs m → ((n : ℕ) → (translation_message p a a.parsed.message).verdict ≢ CountLow n)
+    → (translation_message p a a.parsed.message).verdict ≢ CountSpent → (translation_message p a a.parsed.message).answer ≡ None

@@ -7,7 +7,7 @@ ghost use Rattle.role_base.specs.Texts.{is_plain};
 ghost use Rattle.role_base.specs.Differing.{AreApart};
 ghost use Rattle.role_base.specs.Errors.{is_early};
 ghost use Rattle.translation_role.specs.Rows.{translation_message, translation_lead, translation_row};
-ghost use Rattle.translation_role.specs.Serving.{TranslatesExactly, ReturnsKeys, AnswersLow, AnswersSpent};
+ghost use Rattle.translation_role.specs.Serving.{TranslatesExactly, ReturnsKeys, AnswersLow, AnswersSpent, AnswersNoOther};
 
 use csm_grammar::law_arrived;
 use party_state::{law_accept, law_found, law_put, law_same};
@@ -48,8 +48,9 @@ pub fn law_translates()
 }
 
 /// A request that is refused for a count is answered by an error message that names it, closed under
-/// the key that the request carries.
+/// the key that the request carries. No other refusal is answered.
 pub fn law_refused_counts()
     ensures low { AnswersLow }
     ensures spent { AnswersSpent }
+    ensures others { AnswersNoOther }
 {}

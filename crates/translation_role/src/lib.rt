@@ -6,11 +6,13 @@ mod arrivals;
 mod deciding;
 mod laws;
 mod leads;
+mod served;
 mod service;
 
 pub use deciding::{decide, decide_led};
 pub use laws::{law_apart, law_lead, law_refused_counts, law_translates};
 pub use leads::lead;
+pub use served::{law_order, law_serves};
 
 #[cfg(test)]
 mod tests;
