@@ -2,9 +2,10 @@
 use crate::LockingFiles;
 use std::alloc::Allocator;
 use std::cell::Cell;
-use std::fs::{Metadata, OpenFile, OpenOptions};
+use std::fs::{Metadata, OpenFile, OpenOptions, Permissions};
 use std::io;
 use std::io::{ErrorKind, Read, Seek, SeekFrom, Write};
+use std::os::unix::fs::MetadataExt;
 use std::rt::Files;
 
 /// What fails.
@@ -19,6 +20,10 @@ pub(crate) enum Failing {
     Lock,
     /// The name, which stands for another file.
     Name,
+    /// The change of the mode, which is another owner's to make.
+    Mode,
+    /// The same, but Ok is answered.
+    ModeUnsaid,
 }
 
 /// A runtime at whose files a call fails.
@@ -28,32 +33,39 @@ pub(crate) struct FailingFiles<R> {
     pub failing: Failing,
 }
 
-/// A file whose sync may fail. Before it is locked, reads and writes fail.
+/// A file whose sync, or whose change of the mode, may fail. Before it is locked, and while others have a right to it,
+/// reads and writes fail.
 #[derive(Drop)]
 pub(crate) struct FailingFile<F> {
     file: F,
     fails: bool,
+    failing: Failing,
     locked: Cell<bool>,
+}
+
+impl<F: OpenFile> FailingFile<F> {
+    fn see_that_it_is_ours(&self) -> io::Result<()> {
+        if !self.locked.get() || self.file.metadata()?.mode() & 0o077 != 0 {
+            return Err(fault());
+        }
+        Ok(())
+    }
 }
 
 fn fault() -> io::Error {
     io::Error::from(ErrorKind::Other)
 }
 
-impl<F: Read> Read for FailingFile<F> {
+impl<F: Read + OpenFile> Read for FailingFile<F> {
     fn read(&mut self, buf: &mut [u8]) -> io::Result<usize> {
-        if !self.locked.get() {
-            return Err(fault());
-        }
+        self.see_that_it_is_ours()?;
         self.file.read(buf)
     }
 }
 
-impl<F: Write> Write for FailingFile<F> {
+impl<F: Write + OpenFile> Write for FailingFile<F> {
     fn write(&mut self, buf: &[u8]) -> io::Result<usize> {
-        if !self.locked.get() {
-            return Err(fault());
-        }
+        self.see_that_it_is_ours()?;
         self.file.write(buf)
     }
 
@@ -87,6 +99,14 @@ impl<F: OpenFile> OpenFile for FailingFile<F> {
     fn sync_data(&self) -> io::Result<()> {
         self.sync_all()
     }
+
+    fn set_permissions(&self, permissions: Permissions) -> io::Result<()> {
+        match self.failing {
+            Failing::Mode => Err(fault()),
+            Failing::ModeUnsaid => Ok(()),
+            _ => self.file.set_permissions(permissions),
+        }
+    }
 }
 
 impl<R: Files> Files for FailingFiles<R> {
@@ -104,6 +124,7 @@ impl<R: Files> Files for FailingFiles<R> {
         Ok(FailingFile {
             file,
             fails,
+            failing: self.failing,
             locked: Cell::new(false),
         })
     }

@@ -4,10 +4,16 @@ ghost use Rattle.x_base.specs.Edge.{Rose};
 ghost use Rattle.x_disk.specs.Untold.{untold, untold_sound};
 
 use crate::{Disk, DiskErr, LockingFiles};
-use std::fs::{OpenFile, OpenOptions};
+use std::fs::{OpenFile, OpenOptions, Permissions};
 use std::io;
 use std::io::{ErrorKind, Read, Seek, SeekFrom, Write};
-use std::os::unix::fs::{MetadataExt, OpenOptionsExt};
+use std::os::unix::fs::{MetadataExt, OpenOptionsExt, PermissionsExt};
+
+// The rights of group and others.
+const OTHERS: u32 = 0o077;
+
+// Reading and writing, by the owner alone.
+const OWNER_ALONE: u32 = 0o600;
 
 /// A file of the current folder, whose lock it has as long as it is there. Each error of the system is counted as a fault.
 /// Once a sync has failed, every later one fails.
@@ -24,11 +30,13 @@ pub struct FileDisk<R: LockingFiles> {
     faults: u64,
 }
 
-/// The file with its lock, or none where it isn't there. Where another command has the lock, it is an error.
+/// The file with its lock, to which nobody but its owner has a right, or none where it isn't there. Where another command
+/// has the lock, or rights of others can't be taken away, it is an error.
 pub(crate) fn open_if_there<R: LockingFiles>(rt: &R, path: &str) -> io::Result<Option<R::File>> {
     match OpenOptions::new().read(true).write(true).open(rt, path) {
         Ok(file) => {
             lock(rt, path, &file)?;
+            close_to_others(&file)?;
             Ok(Some(file))
         }
         Err(e) if e.kind() == ErrorKind::NotFound => Ok(None),
@@ -46,6 +54,23 @@ fn lock<R: LockingFiles>(rt: &R, path: &str, file: &R::File) -> io::Result<()> {
     } else {
         Err(io::Error::from(ErrorKind::NotFound))
     }
+}
+
+// Takes the rights of group and others away, if they have any, and sees that none is left: there are file systems that
+// answer Ok and change nothing.
+fn close_to_others<F: OpenFile>(file: &F) -> io::Result<()> {
+    if !is_open_to_others(file)? {
+        return Ok(());
+    }
+    file.set_permissions(Permissions::from_mode(OWNER_ALONE))?;
+    if is_open_to_others(file)? {
+        return Err(io::Error::from(ErrorKind::PermissionDenied));
+    }
+    Ok(())
+}
+
+fn is_open_to_others<F: OpenFile>(file: &F) -> io::Result<bool> {
+    Ok(file.metadata()?.mode() & OTHERS != 0)
 }
 
 fn length_of<F: OpenFile>(file: &Option<F>) -> io::Result<u64> {
@@ -108,7 +133,7 @@ impl<R: LockingFiles> FileDisk<R> {
             .read(true)
             .write(true)
             .create_new(true)
-            .mode(0o600)
+            .mode(OWNER_ALONE)
             .open(&self.rt, self.path.as_str())?;
         lock(&self.rt, self.path.as_str(), &file)?;
         self.folder_synced = false;

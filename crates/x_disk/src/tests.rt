@@ -2,7 +2,8 @@ use crate::failing_files::{Failing, FailingFiles};
 use crate::files::FileDisk;
 use crate::{Disk, DiskErr, FolderShelf, Fused, FusedShelf, MemoryShelf, Shelf, TornDisk};
 use std::fs;
-use std::os::unix::fs::MetadataExt;
+use std::fs::Permissions;
+use std::os::unix::fs::{MetadataExt, PermissionsExt};
 use std::test::Fail;
 use x_base::Ident;
 
@@ -167,6 +168,21 @@ fn a_file_is_made_by_its_first_write_for_its_owner(rt: HostRuntime) -> Result<()
     Ok(())
 }
 
+// A disk over the file of this name, whose calls fail so.
+fn failing_disk(
+    rt: &HostRuntime,
+    name: &str,
+    failing: Failing,
+) -> Result<FileDisk<FailingFiles<HostRuntime>>, Fail> {
+    let mut path = String::new(rt.alloc());
+    path.push_str(name)?;
+    let rt = FailingFiles {
+        rt: rt.clone()?,
+        failing,
+    };
+    Ok(FileDisk::new(rt, path, None))
+}
+
 // Writes and syncs a disk, lets its power go, and reads it.
 fn written<D: Disk>(disk: &mut D) -> Result<[u8; 3], DiskErr> {
     disk.write_at(0, b"abc")?;
@@ -184,17 +200,44 @@ fn a_new_file_is_locked_and_then_written_and_synced(rt: HostRuntime) -> Result<(
         (Failing::Lock, Err(DiskErr::Fault), 0),
         (Failing::Name, Err(DiskErr::Fault), 0),
     ] {
-        let mut path = String::new(rt.alloc());
-        path.push_str("TEST-SYNC.x917")?;
-        let rt_failing = FailingFiles {
-            rt: rt.clone()?,
-            failing,
-        };
-        let mut disk = FileDisk::new(rt_failing, path, None);
+        let mut disk = failing_disk(&rt, "TEST-SYNC.x917", failing)?;
         assert_eq!(rt; written(&mut disk), answer, "with {failing:?}");
         let made = fs::metadata(&rt, "TEST-SYNC.x917").expect(&rt, "no file");
         assert_eq!(rt; made.len(), left, "with {failing:?}");
         fs::remove_file(&rt, "TEST-SYNC.x917").expect(&rt, "no file");
+    }
+    Ok(())
+}
+
+#[test]
+fn a_file_that_others_may_use_is_closed_to_them_and_then_read(rt: HostRuntime) -> Result<(), Fail> {
+    for (mode, failing, answer, left) in [
+        (0o600, Failing::Nothing, Ok(*b"abc"), 0o600),
+        (0o644, Failing::Nothing, Ok(*b"abc"), 0o600),
+        (0o620, Failing::Nothing, Ok(*b"abc"), 0o600),
+        (0o601, Failing::Nothing, Ok(*b"abc"), 0o600),
+        (0o700, Failing::Mode, Ok(*b"abc"), 0o700),
+        (0o604, Failing::Mode, Err(DiskErr::Fault), 0o604),
+        (0o640, Failing::ModeUnsaid, Err(DiskErr::Fault), 0o640),
+    ] {
+        fs::write(&rt, "TEST-MODE.x917", b"abc").expect(&rt, "no file");
+        let others = Permissions::from_mode(mode);
+        fs::set_permissions(&rt, "TEST-MODE.x917", others).expect(&rt, "no file");
+        let mut disk = failing_disk(&rt, "TEST-MODE.x917", failing)?;
+        let opened = disk.power_off(0);
+        let came = match opened {
+            Ok(()) => bytes_of(&mut disk),
+            Err(e) => Err(e),
+        };
+        assert_eq!(rt; came, answer, "{mode:o} with {failing:?}");
+        assert_eq!(rt;
+            disk.faults(),
+            u64::from(opened.is_err()),
+            "{mode:o} with {failing:?}"
+        );
+        let found = fs::metadata(&rt, "TEST-MODE.x917").expect(&rt, "no file");
+        assert_eq!(rt; found.mode() & 0o777, left, "{mode:o} with {failing:?}");
+        fs::remove_file(&rt, "TEST-MODE.x917").expect(&rt, "no file");
     }
     Ok(())
 }
