@@ -7,3 +7,4 @@ mod ReadLemmas
 mod SameLemmas
 mod StepLemmas
 mod SwitchLemmas
+mod WipeLemmas

@@ -18,7 +18,7 @@ pub torn_from_now : (old : View) (at n : ℕ) (image c : List ℕ) → IsDurable
 torn_from_now old at n image c durable now torn = subst (λ (l : List ℕ). IsTornAt at n l c) (durable.only image torn.0 now torn.1) torn.2
 
 module _ (old new : View) (gate end : ℕ) where
-  ready_place : IsReady old gate end → (bodies : List (List ℕ)) (image : List ℕ) → old.now ≡ Some image → Holds image bodies → (gate ≡ gate_place image bodies) × (end ≡ start image + area_size)
+  pub ready_place : IsReady old gate end → (bodies : List (List ℕ)) (image : List ℕ) → old.now ≡ Some image → Holds image bodies → (gate ≡ gate_place image bodies) × (end ≡ start image + area_size)
   ready_place ready bodies image now holds =
       let at = ready.journal image now in
       let same = same_holds image at.bodies bodies at.holds holds in (

@@ -18,7 +18,7 @@ filled_size : (at : ℕ) (old : List ℕ) → length (take at (old ++ replicate 
 filled_size at old = length-take-le at (old ++ replicate (at - length old) 0) (omega (arith, length-append old (replicate (at - length old) 0), length-replicate {A = ℕ} (at - length old) 0))
 
 -- what a write makes of the bytes in front of it and from it on
-overwrite_front : (k at : ℕ) (bytes old : List ℕ) → k ≤ at → k ≤ length old → take k (overwrite at bytes old) ≡ take k old
+pub overwrite_front : (k at : ℕ) (bytes old : List ℕ) → k ≤ at → k ≤ length old → take k (overwrite at bytes old) ≡ take k old
 overwrite_front k at bytes old low le =
     let filled = old ++ replicate (at - length old) 0 in
     let size : length (take at filled) ≡ at = filled_size at old in
@@ -26,13 +26,13 @@ overwrite_front k at bytes old low le =
     ∙ take-append-le k (take at filled) (bytes ++ drop (at + length bytes) old) (omega (arith, size, low))
     ∙ take-take k at filled low ∙ take-append-le k old (replicate (at - length old) 0) le
 
-overwrite_back : (at : ℕ) (bytes old : List ℕ) → drop at (overwrite at bytes old) ≡ bytes ++ drop (at + length bytes) old
+pub overwrite_back : (at : ℕ) (bytes old : List ℕ) → drop at (overwrite at bytes old) ≡ bytes ++ drop (at + length bytes) old
 overwrite_back at bytes old =
     let filled = old ++ replicate (at - length old) 0 in
     let size : length (take at filled) ≡ at = filled_size at old in
     ap (λ (l : List ℕ). drop at l) (append_assoc (take at filled) bytes (drop (at + length bytes) old)) ∙ drop_at (take at filled) (bytes ++ drop (at + length bytes) old) at size
 
-overwrite_long : (at : ℕ) (bytes old : List ℕ) → at + length bytes ≤ length (overwrite at bytes old)
+pub overwrite_long : (at : ℕ) (bytes old : List ℕ) → at + length bytes ≤ length (overwrite at bytes old)
 overwrite_long at bytes old =
     let filled = old ++ replicate (at - length old) 0 in
     let size : length (take at filled) ≡ at = filled_size at old in
@@ -64,7 +64,7 @@ pub record Apart (image : List ℕ) (other : ℕ) : Type 0 where
   pub which : ((start image ≡ first_start) × (other ≡ second_start)) ⊎ ((start image ≡ second_start) × (other ≡ first_start))
 
 -- the same bytes from a place on are the same from each later one
-behind_same : (s m : ℕ) (b c : List ℕ) → m ≤ s → drop m c ≡ drop m b → drop s c ≡ drop s b
+pub behind_same : (s m : ℕ) (b c : List ℕ) → m ≤ s → drop m c ≡ drop m b → drop s c ≡ drop s b
 behind_same s m b c le is =
     let sum : m + (s - m) ≡ s = omega (arith, le) in
     ap (λ (k : ℕ). drop k c) (sym sum) ∙ sym (drop-drop (s - m) m c) ∙ ap (λ (l : List ℕ). drop (s - m) l) is ∙ drop-drop (s - m) m b ∙ ap (λ (k : ℕ). drop k b) sum
@@ -89,7 +89,7 @@ other_torn image bodies other n c h apart small torn = either apart.which
         holds_of image c bodies bodies w.gate w.tail h (record { head = head }) w.closed (back ∙ w.whole) w.room h.area.some h.area.all
 
 -- two torn writes, one behind the other
-take_swap : (m n : ℕ) (xs : List ℕ) → take m (take n xs) ≡ take n (take m xs)
+pub take_swap : (m n : ℕ) (xs : List ℕ) → take m (take n xs) ≡ take n (take m xs)
 take_swap zero zero xs = refl
 take_swap zero (suc n) [] = refl
 take_swap zero (suc n) (x ∷ xs) = refl
@@ -169,7 +169,7 @@ start_is image = elim (cases_eq (get_or image 1 0) 1) [
   | inr not ↦ inl (start_else image not)
 ]
 
-apart_by : (image : List ℕ) (end : ℕ) → end ≡ start image + area_size → Apart image (other_start end)
+pub apart_by : (image : List ℕ) (end : ℕ) → end ≡ start image + area_size → Apart image (other_start end)
 apart_by image end last = record { which = either (start_is image) }
   where
     either : (start image ≡ first_start) ⊎ (start image ≡ second_start) → ((start image ≡ first_start) × (other_start end ≡ second_start)) ⊎ ((start image ≡ second_start) × (other_start end ≡ first_start))

@@ -6,4 +6,5 @@ pub mod Opening
 pub mod Reading
 pub mod Results
 pub mod States
+pub mod Wiping
 pub mod Writing

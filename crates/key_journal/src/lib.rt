@@ -16,6 +16,7 @@ mod reader;
 mod ready;
 #[cfg(test)]
 mod tests;
+mod wipe;
 
 pub use blank::{Blank, prepare};
 pub use broken::Broken;

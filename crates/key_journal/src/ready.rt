@@ -3,12 +3,14 @@ ghost use Rattle.std.specs.Prelude.{◌≡◌, ◌+◌, ◌-◌, ◌≤◌, leng
 ghost use Rattle.x_disk.specs.Disk.{IsDurable};
 ghost use Rattle.x_disk.specs.Fuse.{IsFusedView, fused_view};
 ghost use Rattle.key_journal.specs.States.{IsFrame, HasRoom};
+ghost use Rattle.key_journal.specs.Wiping.{IsWipe};
 ghost use Rattle.key_journal.specs.Writing.{IsStaging, IsSwitch, IsCommit};
 
 use crate::Broken;
 use crate::area::{lay_alone, other_start, selector_of};
 use crate::layout::AREA_SIZE;
 use crate::put::put;
+use crate::wipe::clear_idle;
 use std::marker::Model;
 use x_disk::{Disk, DiskErr, Fused};
 
@@ -136,6 +138,22 @@ impl<D: Disk> Ready<D> {
                 gate: start + frame.len() as u64,
                 end: start + AREA_SIZE,
             }),
+            Err(cause) => Err(Broken { disk, cause }),
+        }
+    }
+
+    /// Overwrites with zeros each byte of the file that doesn't count: the other area, and what lies behind the last gate
+    /// of the selected one. The file keeps its length, and a crash leaves the bytes that count. Takes no memory itself.
+    pub fn wipe(self) -> Result<Ready<D>, Broken<D>>
+        ensures { IsWipe D.told self result }
+    {
+        let Ready {
+            mut disk,
+            gate,
+            end,
+        } = self;
+        match clear_idle(&mut disk, gate, end) {
+            Ok(()) => Ok(Ready { disk, gate, end }),
             Err(cause) => Err(Broken { disk, cause }),
         }
     }

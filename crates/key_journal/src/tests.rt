@@ -211,3 +211,26 @@ fn a_switch_leaves_the_old_bodies_or_the_new(rt: HostRuntime) -> Result<(), Fail
     }
     Ok(())
 }
+
+// The same without what lies behind the closed gate.
+const WIPED: [u8; 36] =
+    *b"\x01\0X917-KEYSTORE1\x01\0\0\0\x01\x07\x01\0\0\0\x02\x08\x09\0\0\0\0\0\0\0";
+
+// The disk of the wiped journal.
+fn wiped(alloc: Global) -> Result<TornDisk, Cause> {
+    let (ready, _) = at_rest(alloc, disk_of(alloc, &IMAGE)?)?;
+    match ready.wipe() {
+        Ok(ready) => Ok(ready.into_disk()),
+        Err(broken) => Err(broken.give_up().cause),
+    }
+}
+
+#[test]
+fn what_does_not_count_is_wiped(rt: HostRuntime) -> Result<(), Fail> {
+    let mut disk = wiped(rt.alloc())?;
+    assert_eq!(rt; disk.length()?, 36);
+    let mut bytes = [255; 36];
+    disk.read(0, &mut bytes)?;
+    assert_eq!(rt; bytes[..], WIPED[..]);
+    Ok(())
+}

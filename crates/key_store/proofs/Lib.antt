@@ -1,4 +1,5 @@
 mod Folding
+mod Wiped
 mod Within
 mod Causes
 mod Keeping

@@ -5,3 +5,4 @@ pub mod Loaded
 pub mod Loading
 pub mod Store
 pub mod Compacting
+pub mod Wiping

@@ -10,6 +10,7 @@ mod image_laws;
 mod keep;
 mod loading;
 mod store;
+mod wiping;
 
 pub use image_laws::law_one_finding;
 pub use store::{Kept, Store};
