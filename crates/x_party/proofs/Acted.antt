@@ -22,16 +22,17 @@ use Rattle.x_party.proofs.Alike.{reads_alike, stands_alike, store_stands, untouc
 tells_of : (now : Option (List ℕ)) (image : List ℕ) → now ≡ Some image → is_some now ≡ true
 tells_of now image is = ap is_some is
 
-pub acted_fault : (now then : View) (room : ℕ) (p : Party) (d : Decision) (o : Outcome) → Acts now then room p d o → o ≡ outcome.Fault → Rose now.faults then.faults
-acted_fault now then room p d o acts is = subst (Acts now then room p d) is acts
+pub acted_fault : (name : List ℕ) (now then : View) (room : ℕ) (p : Party) (d : Decision) (o : Outcome) → Acts name now then room p d o → o ≡ outcome.Fault → Rose now.faults then.faults
+acted_fault name now then room p d o acts is = subst (Acts name now then room p d) is acts
 
 -- a party that isn't opened has no turn
-pub not_turned : (old new : View) (i : Input) (moment : ℕ) (o : Outcome) → IsNotOpened old new o → TakesTurn old new i moment o
-not_turned old new i moment (outcome.Done reply under) none = absurd none.refused
-not_turned old new i moment (outcome.Refused verdict reply under) none = inr none.refused
-not_turned old new i moment (outcome.Damaged place) none = none.refused
-not_turned old new i moment outcome.Fault none = tt
-not_turned old new i moment outcome.NoMemory none = tt
+pub not_turned : (name : List ℕ) (old new : View) (i : Input) (moment : ℕ) (o : Outcome) → IsNotOpened old new o → TakesTurn name old new i moment o
+not_turned name old new i moment (outcome.Done reply under) none = absurd none.refused
+not_turned name old new i moment (outcome.Refused verdict reply under) none = inr none.refused
+not_turned name old new i moment (outcome.OtherParty asked found) none = absurd none.refused
+not_turned name old new i moment (outcome.Damaged place) none = none.refused
+not_turned name old new i moment outcome.Fault none = tt
+not_turned name old new i moment outcome.NoMemory none = tt
 
 module _ (old v : View) (gate end : ℕ) (p : Party) (opened : IsOpened old v gate end p) where
   pub reads : ReadsAs old p (end - gate)
@@ -67,47 +68,62 @@ module _ (old v : View) (gate end : ℕ) (p : Party) (opened : IsOpened old v ga
       tells = ap is_some back.now ∙ (act.tells ∙ ap is_some opened.untouched.now);
     }
 
-  module _ (w new : View) (i : Input) (moment : ℕ) (back : IsAlike w new) where
-    turned_of : (o : Outcome) → Acts v w (end - gate) p (decision p i moment) o → TakesTurn old new i moment o
+  module _ (name : List ℕ) (w new : View) (i : Input) (moment : ℕ) (back : IsAlike w new) where
+    turned_of : (o : Outcome) → Acts name v w (end - gate) p (decision p i moment) o → TakesTurn name old new i moment o
     turned_of (outcome.Done reply under) acts = record {
       party = p;
       room = end - gate;
       reads = reads;
+      own = acts.0;
       holds = record {
-        accepts = acts.accepts;
-        fits = acts.fits;
-        reply = acts.reply;
-        under = acts.under;
-        stands = stands_alike w new (after (decision p i moment) p) (room_after (end - gate) (decision p i moment).change) acts.stands back;
-        unchanged = λ none. untouched_on old v w new opened.untouched (acts.unchanged none) back;
+        accepts = acts.1.accepts;
+        fits = acts.1.fits;
+        reply = acts.1.reply;
+        under = acts.1.under;
+        stands = stands_alike w new (after (decision p i moment) p) (room_after (end - gate) (decision p i moment).change) acts.1.stands back;
+        unchanged = λ none. untouched_on old v w new opened.untouched (acts.1.unchanged none) back;
       };
     }
     turned_of (outcome.Refused verdict reply under) acts = inl (record {
       party = p;
       room = end - gate;
       reads = reads;
+      own = acts.0;
       holds = record {
-        cause = acts.cause;
+        cause = acts.1.cause;
+        stands = stands_alike w new p (end - gate) acts.1.stands back;
+        untouched = untouched_on old v w new opened.untouched acts.1.untouched back;
+      };
+    })
+    turned_of (outcome.OtherParty asked found) acts = record {
+      party = p;
+      room = end - gate;
+      reads = reads;
+      holds = record {
+        called = acts.called;
+        stood = acts.stood;
+        differs = acts.differs;
         stands = stands_alike w new p (end - gate) acts.stands back;
         untouched = untouched_on old v w new opened.untouched acts.untouched back;
       };
-    })
+    }
     turned_of (outcome.Damaged place) acts = absurd acts
     turned_of outcome.Fault acts = tt
     turned_of outcome.NoMemory acts = tt
 
-    turned_closed : (o result : Outcome) (before later : ℕ) → TakesTurn old new i moment o → IsClosed o before later result → TakesTurn old new i moment result
-    turned_closed o result before later turned (inl is) = subst (TakesTurn old new i moment) (sym is) turned
-    turned_closed o result before later turned (inr (inl fault)) = subst (TakesTurn old new i moment) (sym fault.0) tt
-    turned_closed o result before later turned (inr (inr is)) = subst (TakesTurn old new i moment) (sym is) tt
+    turned_closed : (o result : Outcome) (before later : ℕ) → TakesTurn name old new i moment o → IsClosed o before later result → TakesTurn name old new i moment result
+    turned_closed o result before later turned (inl is) = subst (TakesTurn name old new i moment) (sym is) turned
+    turned_closed o result before later turned (inr (inl fault)) = subst (TakesTurn name old new i moment) (sym fault.0) tt
+    turned_closed o result before later turned (inr (inr is)) = subst (TakesTurn name old new i moment) (sym is) tt
 
-    pub turned_on : (o result : Outcome) (before later : ℕ) → HasActed v w (end - gate) p (decision p i moment) o → IsClosed o before later result → TakesTurn old new i moment result
+    pub turned_on : (o result : Outcome) (before later : ℕ) → HasActed name v w (end - gate) p (decision p i moment) o → IsClosed o before later result → TakesTurn name old new i moment result
     turned_on o result before later acted closed = turned_closed o result before later (turned_of o acted.acts) closed
 
-    pub safe_on : (o : Outcome) → HasActed v w (end - gate) p (decision p i moment) o → IsSafe old new i moment
-    safe_on o acted = safe_call w new back (Acts v w (end - gate) p (decision p i moment) o) (IsToKeep (decision p i moment) (FitsInto (end - gate) (decision p i moment).change))
-        (λ other left. IsOldOrNext other left (decision other i moment)) (λ image other. IsToKeep (decision other i moment) (FitsImage image (decision other i moment).change))
+    pub safe_on : (o : Outcome) → HasActed name v w (end - gate) p (decision p i moment) o → IsSafe name old new i moment
+    safe_on o acted = safe_call w new back (Acts name v w (end - gate) p (decision p i moment) o) (IsToKeep name p (decision p i moment) (FitsInto (end - gate) (decision p i moment).change))
+        (λ other left. IsOldOrNext other left (decision other i moment)) (λ image other. IsToKeep name other (decision other i moment) (FitsImage image (decision other i moment).change))
         acted (λ image now keep. record {
+          own = keep.own;
           accepts = keep.accepts;
           edits = keep.edits;
           change = keep.change;

@@ -10,7 +10,7 @@ use Rattle.change_code.specs.Whole.{IsTooLarge}
 use Rattle.key_store.specs.Store.{Stands, IsNothing}
 use Rattle.roles.specs.Deciding.{decision}
 use Rattle.x_party.specs.Images.{FitsImage}
-use Rattle.x_party.specs.Dues.{IsDue, IsDueCompaction, IsDueCreation, IsDueShow}
+use Rattle.x_party.specs.Dues.{IsDue, IsDueCompaction, IsDueCreation, IsDueShow, IsDueWiping}
 use Rattle.x_party.specs.declared.outcome.Outcome.{Outcome}
 use Rattle.x_party.specs.declared.outcome.Outcome.TheVariants as outcome
 
@@ -26,8 +26,8 @@ pub creation_due : (image : List ℕ) → (o : Outcome) × IsDueCreation image o
 creation_due image = creation_of image (is_blank image) refl
 
 module _ (one_of : (image : List ℕ) → AreBytes image → IsNothing image → ⊥) where
-  pub turn_due : (i : Input) (moment : ℕ) (image : List ℕ) → AreBytes image → ((o : Outcome) → IsDue i moment image o → ⊥) → ⊥
-  turn_due i moment image bytes never = one_of image bytes (record {
+  pub turn_due : (name : List ℕ) (i : Input) (moment : ℕ) (image : List ℕ) → AreBytes image → ((o : Outcome) → IsDue name i moment image o → ⊥) → ⊥
+  turn_due name i moment image bytes never = one_of image bytes (record {
     not_blank = is_false (is_blank image) (λ blank. never (outcome.Refused Blank None None) (inr (record { blank = blank; said = refl; written = refl; named = refl })));
     no_party = no_party;
     undamaged = λ place first. never (outcome.Damaged place) first;
@@ -35,12 +35,15 @@ module _ (one_of : (image : List ℕ) → AreBytes image → IsNothing image →
     no_party : (party : Party) → Stands image party → ⊥
     no_party party stood =
         let d = decision party i moment in
+        let other : (party.own ≢ name) → ⊥ = λ differs. never (outcome.OtherParty name party.own)
+        (record { party = party; stood = stood; called = refl; own = refl; differs = differs }) in
+        other (λ own.
         let refuses : (d.verdict ≢ Accept) → ⊥ = λ refused. never (outcome.Refused d.verdict d.reply d.under)
-        (inl (record { party = party; stood = stood; cause = inl (record { refuses = refused; verdict = refl; reply = refl; under = refl }) })) in
+        (inl (record { party = party; stood = stood; own = own; cause = inl (record { refuses = refused; verdict = refl; reply = refl; under = refl }) })) in
         refuses (λ accepted.
         let full : (FitsImage image d.change → ⊥) → ⊥ = λ full. never (outcome.Refused JournalFull None None)
-        (inl (record { party = party; stood = stood; cause = inr (record { accepts = accepted; full = full; verdict = refl; reply = refl; under = refl }) })) in
-        full (λ fits. never (outcome.Done d.reply d.under) (record { party = party; stood = stood; accepted = accepted; fits = fits; written = refl; named = refl })))
+        (inl (record { party = party; stood = stood; own = own; cause = inr (record { accepts = accepted; full = full; verdict = refl; reply = refl; under = refl }) })) in
+        full (λ fits. never (outcome.Done d.reply d.under) (record { party = party; stood = stood; own = own; accepted = accepted; fits = fits; written = refl; named = refl }))))
 
   pub show_due : (image : List ℕ) → AreBytes image → ((o : Outcome) → IsDueShow image o → ⊥) → ⊥
   show_due image bytes never = one_of image bytes (record {
@@ -60,3 +63,10 @@ module _ (one_of : (image : List ℕ) → AreBytes image → IsNothing image →
         let fits : IsTooLarge party → ⊥ = λ large. never (outcome.Refused JournalFull None None)
         (inl (record { party = party; stood = stood; too_large = large; said = refl; nothing = record { reply = refl; under = refl } })) in
         never (outcome.Done None None) (record { party = party; stood = stood; fits = fits; nothing = record { reply = refl; under = refl } })
+
+  pub wiping_due : (image : List ℕ) → AreBytes image → ((o : Outcome) → IsDueWiping image o → ⊥) → ⊥
+  wiping_due image bytes never = one_of image bytes (record {
+    not_blank = is_false (is_blank image) (λ blank. never (outcome.Refused Blank None None) (record { blank = blank; said = refl; written = refl; named = refl }));
+    no_party = λ party stood. never (outcome.Done None None) (record { party = party; stood = stood; nothing = record { reply = refl; under = refl } });
+    undamaged = λ place first. never (outcome.Damaged place) first;
+  })

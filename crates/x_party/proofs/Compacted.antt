@@ -77,6 +77,7 @@ compacts_fault now then room p o acts is = subst (Compacts now then room p) is a
 pub not_compacted : (old new : View) (o : Outcome) → IsNotOpened old new o → CompactsParty old new o
 not_compacted old new (outcome.Done reply under) none = absurd none.refused
 not_compacted old new (outcome.Refused verdict reply under) none = inr none.refused
+not_compacted old new (outcome.OtherParty asked found) none = absurd none.refused
 not_compacted old new (outcome.Damaged place) none = none.refused
 not_compacted old new outcome.Fault none = tt
 not_compacted old new outcome.NoMemory none = tt
@@ -101,6 +102,7 @@ module _ (old v w new : View) (gate end : ℕ) (p : Party) (opened : IsOpened ol
       untouched = untouched_on old v w new opened.untouched acts.untouched back;
     };
   })
+  compacted_of (outcome.OtherParty asked found) acts = absurd acts
   compacted_of (outcome.Damaged place) acts = absurd acts
   compacted_of outcome.Fault acts = tt
   compacted_of outcome.NoMemory acts = tt

@@ -36,6 +36,7 @@ module _ (old v w new : View) (p : Party) (out : IsAlike old v) (back : IsAlike 
     reply = makes.reply;
     under = makes.under;
   }
+  created_of (outcome.OtherParty asked found) makes = makes
   created_of (outcome.Damaged place) makes = makes
   created_of outcome.Fault makes = tt
   created_of outcome.NoMemory makes = tt

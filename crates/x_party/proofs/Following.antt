@@ -1,5 +1,5 @@
 -- An image has one outcome that is due, and a call's outcome is that one.
-use Rattle.std.proofs.Common.{◌≡◌, ◌⊎◌, inl, inr, ℕ, true, false, List, Option, Some, None, refl, sym, ap, ◌∙◌, subst}
+use Rattle.std.proofs.Common.{◌≡◌, ◌⊎◌, inl, inr, ℕ, true, false, List, Option, Some, refl, sym, ap, ◌∙◌, subst}
 use Rattle.x_base.specs.declared.key_name.FullName.{FullName}
 use Rattle.x_base.specs.declared.verdict.Verdict.{Verdict}
 use Rattle.x_base.specs.declared.verdict.Verdict.TheVariants.{Accept}
@@ -14,9 +14,9 @@ use Rattle.change_code.specs.Whole.{IsTooLarge}
 use Rattle.key_store.specs.Store.{Stands, IsFirstDamage}
 use Rattle.roles.specs.Deciding.{decision}
 use Rattle.node_core.specs.Turns.{FitsInto, IsAsDecided, IsTooLong}
-use Rattle.x_party.specs.Images.{ReadsAs, OfParty, FitsImage}
-use Rattle.x_party.specs.Outcomes.{IsRefused, IsNobody, CreatesParty, ShowsParty, CompactsParty, TakesTurn}
-use Rattle.x_party.specs.Dues.{Accepts, Refuses, FindsNobody, FitsOneFrame, PassesOneFrame, IsDue, IsDueCreation, IsDueShow, IsDueCompaction, GivesDue}
+use Rattle.x_party.specs.Images.{ReadsAs, OfOwnParty, FitsImage}
+use Rattle.x_party.specs.Outcomes.{IsRefused, IsNobody, CreatesParty, ShowsParty, CompactsParty, WipesParty, TakesTurn}
+use Rattle.x_party.specs.Dues.{Accepts, Refuses, FindsOther, FindsNobody, FitsOneFrame, PassesOneFrame, IsDue, IsDueCreation, IsDueShow, IsDueCompaction, IsDueWiping, GivesDue}
 use Rattle.x_party.specs.declared.outcome.Outcome.{Outcome}
 use Rattle.x_party.specs.declared.outcome.Outcome.TheVariants as outcome
 
@@ -45,6 +45,7 @@ refused_same v w r t n m verdict reply under = cc
 due_created : (old new : View) (p : Party) (o : Outcome) → CreatesParty old new p o → (image : List ℕ) → old.now ≡ Some image → DueOr o (IsDueCreation image o)
 due_created old new p (outcome.Done reply under) is image now = inl (is.reply, is.under, is.blank image now)
 due_created old new p (outcome.Refused verdict reply under) is image now = inl (is.verdict, is.reply, is.under, is.not_blank image now)
+due_created old new p (outcome.OtherParty asked found) is image now = absurd is
 due_created old new p (outcome.Damaged place) is image now = absurd is
 due_created old new p outcome.Fault is image now = inr (inl refl)
 due_created old new p outcome.NoMemory is image now = inr (inr refl)
@@ -56,6 +57,7 @@ nobody_due old new image verdict reply under now none = record { blank = none.bl
 due_shown : (old new : View) (o : Outcome) → ShowsParty old new o → (image : List ℕ) → old.now ≡ Some image → DueOr o (IsDueShow image o)
 due_shown old new (outcome.Done reply under) is image now = inl (is.party, is.reads.stands image now, is.holds.text, is.holds.under)
 due_shown old new (outcome.Refused verdict reply under) is image now = inl (nobody_due old new image verdict reply under now is)
+due_shown old new (outcome.OtherParty asked found) is image now = absurd is
 due_shown old new (outcome.Damaged place) is image now = inl (is.first image now)
 due_shown old new outcome.Fault is image now = inr (inl refl)
 due_shown old new outcome.NoMemory is image now = inr (inr refl)
@@ -71,9 +73,18 @@ due_compacted old new (outcome.Refused verdict reply under) (inl k) image now = 
   nothing = k.holds.nothing;
 }))
 due_compacted old new (outcome.Refused verdict reply under) (inr none) image now = inl (inr (nobody_due old new image verdict reply under now none))
+due_compacted old new (outcome.OtherParty asked found) is image now = absurd is
 due_compacted old new (outcome.Damaged place) is image now = inl (is.first image now)
 due_compacted old new outcome.Fault is image now = inr (inl refl)
 due_compacted old new outcome.NoMemory is image now = inr (inr refl)
+
+due_wiped : (old new : View) (o : Outcome) → WipesParty old new o → (image : List ℕ) → old.now ≡ Some image → DueOr o (IsDueWiping image o)
+due_wiped old new (outcome.Done reply under) k image now = inl (record { party = k.party; stood = k.reads.stands image now; nothing = k.holds.nothing })
+due_wiped old new (outcome.Refused verdict reply under) is image now = inl (nobody_due old new image verdict reply under now is)
+due_wiped old new (outcome.OtherParty asked found) is image now = absurd is
+due_wiped old new (outcome.Damaged place) is image now = inl (is.first image now)
+due_wiped old new outcome.Fault is image now = inr (inl refl)
+due_wiped old new outcome.NoMemory is image now = inr (inr refl)
 
 -- the room that is left is that of the image
 module _ (old : View) (image : List ℕ) (party : Party) (room : ℕ) (reads : ReadsAs old party room) (now : old.now ≡ Some image) (change : Option (List Edit)) where
@@ -89,12 +100,12 @@ module _ (old : View) (image : List ℕ) (party : Party) (room : ℕ) (reads : R
 abbrev Cause : Decision → Type 0 → Verdict → Option (List ℕ) → Option FullName → Type 0
 Cause d fits verdict reply under = IsAsDecided d verdict reply under ⊎ IsTooLong d fits verdict reply under
 
-module _ (old new : View) (i : Input) (moment : ℕ) (image : List ℕ) (now : old.now ≡ Some image) where
+module _ (name : List ℕ) (old new : View) (i : Input) (moment : ℕ) (image : List ℕ) (now : old.now ≡ Some image) where
   refused_due : (verdict : Verdict) (reply : Option (List ℕ)) (under : Option FullName)
-      → OfParty old (λ party room. IsRefused old new (decision party i moment) party room verdict reply under) ⊎ IsNobody old new verdict reply under
-      → Refuses image i moment verdict reply under ⊎ FindsNobody image verdict reply under
+      → OfOwnParty name old (λ party room. IsRefused old new (decision party i moment) party room verdict reply under) ⊎ IsNobody old new verdict reply under
+      → Refuses name image i moment verdict reply under ⊎ FindsNobody image verdict reply under
   refused_due verdict reply under (inr none) = inr (nobody_due old new image verdict reply under now none)
-  refused_due verdict reply under (inl k) = inl (record { party = k.party; stood = k.reads.stands image now; cause = go k.holds.cause }) where
+  refused_due verdict reply under (inl k) = inl (record { party = k.party; stood = k.reads.stands image now; own = k.own; cause = go k.holds.cause }) where
     go : Cause (decision k.party i moment) (FitsInto k.room (decision k.party i moment).change) verdict reply under
         → Cause (decision k.party i moment) (FitsImage image (decision k.party i moment).change) verdict reply under
     go (inl decided) = inl decided
@@ -106,16 +117,24 @@ module _ (old new : View) (i : Input) (moment : ℕ) (image : List ℕ) (now : o
       under = f.under;
     })
 
-  due_turned : (o : Outcome) → TakesTurn old new i moment o → DueOr o (IsDue i moment image o)
+  due_turned : (o : Outcome) → TakesTurn name old new i moment o → DueOr o (IsDue name i moment image o)
   due_turned (outcome.Done reply under) k = inl (record {
     party = k.party;
     stood = k.reads.stands image now;
+    own = k.own;
     accepted = k.holds.accepts;
     fits = fits_image old image k.party k.room k.reads now (decision k.party i moment).change k.holds.fits;
     written = k.holds.reply;
     named = k.holds.under;
   })
   due_turned (outcome.Refused verdict reply under) is = inl (refused_due verdict reply under is)
+  due_turned (outcome.OtherParty asked found) k = inl (record {
+    party = k.party;
+    stood = k.reads.stands image now;
+    called = k.holds.called;
+    own = k.holds.stood;
+    differs = λ same. k.holds.differs (k.holds.stood ∙ same);
+  })
   due_turned (outcome.Damaged place) is = inl (is.first image now)
   due_turned outcome.Fault is = inr (inl refl)
   due_turned outcome.NoMemory is = inr (inr refl)
@@ -125,14 +144,17 @@ module _ (old new : View) (i : Input) (moment : ℕ) (image : List ℕ) (now : o
 one_creation : (image : List ℕ) (a b : Outcome) → IsDueCreation image a → IsDueCreation image b → a ≡ b
 one_creation image (outcome.Done r n) (outcome.Done t m) a b = done_same r t n m (a.0 ∙ sym b.0) (a.1 ∙ sym b.1)
 one_creation image (outcome.Done r n) (outcome.Refused w t m) a b = blank_or image a.2 b.3
+one_creation image (outcome.Done r n) (outcome.OtherParty asked found) a b = absurd b
 one_creation image (outcome.Done r n) (outcome.Damaged place) a b = absurd b
 one_creation image (outcome.Done r n) outcome.Fault a b = absurd b
 one_creation image (outcome.Done r n) outcome.NoMemory a b = absurd b
 one_creation image (outcome.Refused v r n) (outcome.Done t m) a b = blank_or image b.2 a.3
 one_creation image (outcome.Refused v r n) (outcome.Refused w t m) a b = refused_same v w r t n m (a.0 ∙ sym b.0) (a.1 ∙ sym b.1) (a.2 ∙ sym b.2)
+one_creation image (outcome.Refused v r n) (outcome.OtherParty asked found) a b = absurd b
 one_creation image (outcome.Refused v r n) (outcome.Damaged place) a b = absurd b
 one_creation image (outcome.Refused v r n) outcome.Fault a b = absurd b
 one_creation image (outcome.Refused v r n) outcome.NoMemory a b = absurd b
+one_creation image (outcome.OtherParty asked found) b a c = absurd a
 one_creation image (outcome.Damaged place) b a c = absurd a
 one_creation image outcome.Fault b a c = absurd a
 one_creation image outcome.NoMemory b a c = absurd a
@@ -167,16 +189,20 @@ module _ (one_party : (image : List ℕ) (first second : Party) → Stands image
       let same = one_party image a.0 b.0 a.1 b.1 in
       done_same r t n m (a.2 ∙ (ap (λ (p : Party). Some (shown p)) same ∙ sym b.2)) (a.3 ∙ sym b.3)
   one_show image (outcome.Done r n) (outcome.Refused w t m) a b = stands_or_not image a.0 w t m a.1 b
+  one_show image (outcome.Done r n) (outcome.OtherParty asked found) a b = absurd b
   one_show image (outcome.Done r n) (outcome.Damaged place) a b = absurd (undamaged image a.0 place a.1 b)
   one_show image (outcome.Done r n) outcome.Fault a b = absurd b
   one_show image (outcome.Done r n) outcome.NoMemory a b = absurd b
   one_show image (outcome.Refused v r n) (outcome.Done t m) a b = stands_or_not image b.0 v r n b.1 a
   one_show image (outcome.Refused v r n) (outcome.Refused w t m) a b = both_nobody image v w r t n m a b
+  one_show image (outcome.Refused v r n) (outcome.OtherParty asked found) a b = absurd b
   one_show image (outcome.Refused v r n) (outcome.Damaged place) a b = blank_or image a.blank b.not_blank
   one_show image (outcome.Refused v r n) outcome.Fault a b = absurd b
   one_show image (outcome.Refused v r n) outcome.NoMemory a b = absurd b
+  one_show image (outcome.OtherParty asked found) b a c = absurd a
   one_show image (outcome.Damaged place) (outcome.Done t m) a b = absurd (undamaged image b.0 place b.1 a)
   one_show image (outcome.Damaged place) (outcome.Refused w t m) a b = blank_or image b.blank a.not_blank
+  one_show image (outcome.Damaged place) (outcome.OtherParty asked found) a b = absurd b
   one_show image (outcome.Damaged place) (outcome.Damaged other) a b = ap outcome.Damaged (one_damage image place other a b)
   one_show image (outcome.Damaged place) outcome.Fault a b = absurd b
   one_show image (outcome.Damaged place) outcome.NoMemory a b = absurd b
@@ -208,16 +234,20 @@ module _ (one_party : (image : List ℕ) (first second : Party) → Stands image
   one_compaction : (image : List ℕ) (a b : Outcome) → IsDueCompaction image a → IsDueCompaction image b → a ≡ b
   one_compaction image (outcome.Done r n) (outcome.Done t m) a b = done_same r t n m (a.nothing.reply ∙ sym b.nothing.reply) (a.nothing.under ∙ sym b.nothing.under)
   one_compaction image (outcome.Done r n) (outcome.Refused w t m) a b = fits_or image r t n m w a b
+  one_compaction image (outcome.Done r n) (outcome.OtherParty asked found) a b = absurd b
   one_compaction image (outcome.Done r n) (outcome.Damaged place) a b = absurd (undamaged image a.party place a.stood b)
   one_compaction image (outcome.Done r n) outcome.Fault a b = absurd b
   one_compaction image (outcome.Done r n) outcome.NoMemory a b = absurd b
   one_compaction image (outcome.Refused v r n) (outcome.Done t m) a b = fits_or image t r m n v b a
   one_compaction image (outcome.Refused v r n) (outcome.Refused w t m) a b = same_full image v w r t n m a b
+  one_compaction image (outcome.Refused v r n) (outcome.OtherParty asked found) a b = absurd b
   one_compaction image (outcome.Refused v r n) (outcome.Damaged place) a b = undamaged_or image place v r n b a
   one_compaction image (outcome.Refused v r n) outcome.Fault a b = absurd b
   one_compaction image (outcome.Refused v r n) outcome.NoMemory a b = absurd b
+  one_compaction image (outcome.OtherParty asked found) b a c = absurd a
   one_compaction image (outcome.Damaged place) (outcome.Done t m) a b = absurd (undamaged image b.party place b.stood a)
   one_compaction image (outcome.Damaged place) (outcome.Refused w t m) a b = undamaged_or image place w t m a b
+  one_compaction image (outcome.Damaged place) (outcome.OtherParty asked found) a b = absurd b
   one_compaction image (outcome.Damaged place) (outcome.Damaged other) a b = ap outcome.Damaged (one_damage image place other a b)
   one_compaction image (outcome.Damaged place) outcome.Fault a b = absurd b
   one_compaction image (outcome.Damaged place) outcome.NoMemory a b = absurd b
@@ -227,11 +257,39 @@ module _ (one_party : (image : List ℕ) (first second : Party) → Stands image
   pub compacted_due : (old new : View) (o : Outcome) → CompactsParty old new o → GivesDue old IsDueCompaction o
   compacted_due old new o is = gives old o IsDueCompaction (due_compacted old new o is) one_compaction
 
+  -- ---- a wiping
+
+  one_wiping : (image : List ℕ) (a b : Outcome) → IsDueWiping image a → IsDueWiping image b → a ≡ b
+  one_wiping image (outcome.Done r n) (outcome.Done t m) a b = done_same r t n m (a.nothing.reply ∙ sym b.nothing.reply) (a.nothing.under ∙ sym b.nothing.under)
+  one_wiping image (outcome.Done r n) (outcome.Refused w t m) a b = stands_or_not image a.party w t m a.stood b
+  one_wiping image (outcome.Done r n) (outcome.OtherParty asked found) a b = absurd b
+  one_wiping image (outcome.Done r n) (outcome.Damaged place) a b = absurd (undamaged image a.party place a.stood b)
+  one_wiping image (outcome.Done r n) outcome.Fault a b = absurd b
+  one_wiping image (outcome.Done r n) outcome.NoMemory a b = absurd b
+  one_wiping image (outcome.Refused v r n) (outcome.Done t m) a b = stands_or_not image b.party v r n b.stood a
+  one_wiping image (outcome.Refused v r n) (outcome.Refused w t m) a b = both_nobody image v w r t n m a b
+  one_wiping image (outcome.Refused v r n) (outcome.OtherParty asked found) a b = absurd b
+  one_wiping image (outcome.Refused v r n) (outcome.Damaged place) a b = blank_or image a.blank b.not_blank
+  one_wiping image (outcome.Refused v r n) outcome.Fault a b = absurd b
+  one_wiping image (outcome.Refused v r n) outcome.NoMemory a b = absurd b
+  one_wiping image (outcome.OtherParty asked found) b a c = absurd a
+  one_wiping image (outcome.Damaged place) (outcome.Done t m) a b = absurd (undamaged image b.party place b.stood a)
+  one_wiping image (outcome.Damaged place) (outcome.Refused w t m) a b = blank_or image b.blank a.not_blank
+  one_wiping image (outcome.Damaged place) (outcome.OtherParty asked found) a b = absurd b
+  one_wiping image (outcome.Damaged place) (outcome.Damaged other) a b = ap outcome.Damaged (one_damage image place other a b)
+  one_wiping image (outcome.Damaged place) outcome.Fault a b = absurd b
+  one_wiping image (outcome.Damaged place) outcome.NoMemory a b = absurd b
+  one_wiping image outcome.Fault b a c = absurd a
+  one_wiping image outcome.NoMemory b a c = absurd a
+
+  pub wiped_due : (old new : View) (o : Outcome) → WipesParty old new o → GivesDue old IsDueWiping o
+  wiped_due old new o is = gives old o IsDueWiping (due_wiped old new o is) one_wiping
+
   -- ---- a turn
 
-  module _ (i : Input) (moment : ℕ) where
-    accepts_or : {A : Type 0} (image : List ℕ) (r t : Option (List ℕ)) (n m : Option FullName) (w : Verdict) → Accepts image i moment r n
-        → Refuses image i moment w t m ⊎ FindsNobody image w t m → A
+  module _ (name : List ℕ) (i : Input) (moment : ℕ) where
+    accepts_or : {A : Type 0} (image : List ℕ) (r t : Option (List ℕ)) (n m : Option FullName) (w : Verdict) → Accepts name image i moment r n
+        → Refuses name image i moment w t m ⊎ FindsNobody image w t m → A
     accepts_or image r t n m w a (inl b) =
         let same : a.party ≡ b.party = one_party image a.party b.party a.stood b.stood in
         refused_or (decision b.party i moment) (FitsImage image (decision b.party i moment).change) w t m
@@ -239,18 +297,18 @@ module _ (one_party : (image : List ℕ) (first second : Party) → Stands image
         (subst (λ (p : Party). FitsImage image (decision p i moment).change) same a.fits) b.cause
     accepts_or image r t n m w a (inr b) = stands_or_not image a.party w t m a.stood b
 
-    both_accept : (image : List ℕ) (r t : Option (List ℕ)) (n m : Option FullName) → Accepts image i moment r n → Accepts image i moment t m → outcome.Done r n ≡ outcome.Done t m
+    both_accept : (image : List ℕ) (r t : Option (List ℕ)) (n m : Option FullName) → Accepts name image i moment r n → Accepts name image i moment t m → outcome.Done r n ≡ outcome.Done t m
     both_accept image r t n m a b =
         let same = one_party image a.party b.party a.stood b.stood in
         done_same r t n m (a.written ∙ (ap (λ (p : Party). (decision p i moment).reply) same ∙ sym b.written)) (a.named ∙ (ap (λ (p : Party). (decision p i moment).under) same ∙ sym b.named))
 
     damaged_or : {A : Type 0} (image : List ℕ) (place : ℕ) (w : Verdict) (t : Option (List ℕ)) (m : Option FullName) → IsFirstDamage image place
-        → Refuses image i moment w t m ⊎ FindsNobody image w t m → A
+        → Refuses name image i moment w t m ⊎ FindsNobody image w t m → A
     damaged_or image place w t m a (inl b) = absurd (undamaged image b.party place b.stood a)
     damaged_or image place w t m a (inr b) = blank_or image b.blank a.not_blank
 
-    both_refuse : (image : List ℕ) (v w : Verdict) (r t : Option (List ℕ)) (n m : Option FullName) → Refuses image i moment v r n ⊎ FindsNobody image v r n
-        → Refuses image i moment w t m ⊎ FindsNobody image w t m → outcome.Refused v r n ≡ outcome.Refused w t m
+    both_refuse : (image : List ℕ) (v w : Verdict) (r t : Option (List ℕ)) (n m : Option FullName) → Refuses name image i moment v r n ⊎ FindsNobody image v r n
+        → Refuses name image i moment w t m ⊎ FindsNobody image w t m → outcome.Refused v r n ≡ outcome.Refused w t m
     both_refuse image v w r t n m (inl a) (inl b) =
         same_refusal (decision a.party i moment) (FitsImage image (decision a.party i moment).change) v w r t n m a.cause
         (subst (λ (p : Party). Cause (decision p i moment) (FitsImage image (decision p i moment).change) w t m) (one_party image b.party a.party b.stood a.stood) b.cause)
@@ -258,24 +316,48 @@ module _ (one_party : (image : List ℕ) (first second : Party) → Stands image
     both_refuse image v w r t n m (inr a) (inl b) = stands_or_not image b.party v r n b.stood a
     both_refuse image v w r t n m (inr a) (inr b) = both_nobody image v w r t n m a b
 
-    one_turn : (image : List ℕ) (a b : Outcome) → IsDue i moment image a → IsDue i moment image b → a ≡ b
+    -- the party of the name, and another
+    own_or : {A : Type 0} (image asked found : List ℕ) (p : Party) → Stands image p → p.own ≡ name → FindsOther name image asked found → A
+    own_or image asked found p stood own b = absurd (b.differs (subst (λ (q : Party). q.own ≡ name) (one_party image p b.party stood b.stood) own))
+
+    refuses_or : {A : Type 0} (image asked found : List ℕ) (v : Verdict) (r : Option (List ℕ)) (n : Option FullName) → Refuses name image i moment v r n ⊎ FindsNobody image v r n
+        → FindsOther name image asked found → A
+    refuses_or image asked found v r n (inl a) b = own_or image asked found a.party a.stood a.own b
+    refuses_or image asked found v r n (inr a) b = stands_or_not image b.party v r n b.stood a
+
+    both_other : (image asked found called other : List ℕ) → FindsOther name image asked found → FindsOther name image called other → outcome.OtherParty asked found ≡ outcome.OtherParty called other
+    both_other image asked found called other a b =
+        let name_is : asked ≡ called = a.called ∙ sym b.called in
+        let own_is : found ≡ other = a.own ∙ (ap (λ (p : Party). p.own) (one_party image a.party b.party a.stood b.stood) ∙ sym b.own) in
+        cc
+
+    one_turn : (image : List ℕ) (a b : Outcome) → IsDue name i moment image a → IsDue name i moment image b → a ≡ b
     one_turn image (outcome.Done r n) (outcome.Done t m) a b = both_accept image r t n m a b
     one_turn image (outcome.Done r n) (outcome.Refused w t m) a b = accepts_or image r t n m w a b
+    one_turn image (outcome.Done r n) (outcome.OtherParty asked found) a b = own_or image asked found a.party a.stood a.own b
     one_turn image (outcome.Done r n) (outcome.Damaged place) a b = absurd (undamaged image a.party place a.stood b)
     one_turn image (outcome.Done r n) outcome.Fault a b = absurd b
     one_turn image (outcome.Done r n) outcome.NoMemory a b = absurd b
     one_turn image (outcome.Refused v r n) (outcome.Done t m) a b = accepts_or image t r m n v b a
     one_turn image (outcome.Refused v r n) (outcome.Refused w t m) a b = both_refuse image v w r t n m a b
+    one_turn image (outcome.Refused v r n) (outcome.OtherParty asked found) a b = refuses_or image asked found v r n a b
     one_turn image (outcome.Refused v r n) (outcome.Damaged place) a b = damaged_or image place v r n b a
     one_turn image (outcome.Refused v r n) outcome.Fault a b = absurd b
     one_turn image (outcome.Refused v r n) outcome.NoMemory a b = absurd b
+    one_turn image (outcome.OtherParty asked found) (outcome.Done t m) a b = own_or image asked found b.party b.stood b.own a
+    one_turn image (outcome.OtherParty asked found) (outcome.Refused w t m) a b = refuses_or image asked found w t m b a
+    one_turn image (outcome.OtherParty asked found) (outcome.OtherParty called other) a b = both_other image asked found called other a b
+    one_turn image (outcome.OtherParty asked found) (outcome.Damaged place) a b = absurd (undamaged image a.party place a.stood b)
+    one_turn image (outcome.OtherParty asked found) outcome.Fault a b = absurd b
+    one_turn image (outcome.OtherParty asked found) outcome.NoMemory a b = absurd b
     one_turn image (outcome.Damaged place) (outcome.Done t m) a b = absurd (undamaged image b.party place b.stood a)
     one_turn image (outcome.Damaged place) (outcome.Refused w t m) a b = damaged_or image place w t m a b
+    one_turn image (outcome.Damaged place) (outcome.OtherParty asked found) a b = absurd (undamaged image b.party place b.stood a)
     one_turn image (outcome.Damaged place) (outcome.Damaged other) a b = ap outcome.Damaged (one_damage image place other a b)
     one_turn image (outcome.Damaged place) outcome.Fault a b = absurd b
     one_turn image (outcome.Damaged place) outcome.NoMemory a b = absurd b
     one_turn image outcome.Fault b a c = absurd a
     one_turn image outcome.NoMemory b a c = absurd a
 
-  pub turned_due : (old new : View) (i : Input) (moment : ℕ) (o : Outcome) → TakesTurn old new i moment o → GivesDue old (IsDue i moment) o
-  turned_due old new i moment o is = gives old o (IsDue i moment) (λ image now. due_turned old new i moment image now o is) (one_turn i moment)
+  pub turned_due : (name : List ℕ) (old new : View) (i : Input) (moment : ℕ) (o : Outcome) → TakesTurn name old new i moment o → GivesDue old (IsDue name i moment) o
+  turned_due name old new i moment o is = gives old o (IsDue name i moment) (λ image now. due_turned name old new i moment image now o is) (one_turn name i moment)

@@ -6,4 +6,6 @@ mod Created
 mod Ended
 mod Following
 mod Opened
+mod Others
 mod Shown
+mod Wiped

@@ -17,6 +17,7 @@ text_fault p o text is = absurd (subst (IsText p) is text)
 pub not_shown : (old new : View) (o : Outcome) → IsNotOpened old new o → ShowsParty old new o
 not_shown old new (outcome.Done reply under) none = absurd none.refused
 not_shown old new (outcome.Refused verdict reply under) none = none.refused
+not_shown old new (outcome.OtherParty asked found) none = absurd none.refused
 not_shown old new (outcome.Damaged place) none = none.refused
 not_shown old new outcome.Fault none = tt
 not_shown old new outcome.NoMemory none = tt
@@ -34,6 +35,7 @@ module _ {D : Type 0} (told : D → View) (old new : View) (opened_disk disk : D
     };
   }
   shown_of (outcome.Refused verdict reply under) text = absurd text
+  shown_of (outcome.OtherParty asked found) text = absurd text
   shown_of (outcome.Damaged place) text = absurd text
   shown_of outcome.Fault text = absurd text
   shown_of outcome.NoMemory text = tt

@@ -1,5 +1,5 @@
 -- The outcome that is due of a call over a party, by the image of the party's disk (this project's profile).
-use Rattle.std.specs.Prelude.{◌≡◌, ◌⊎◌, ℕ, true, false, List, Option, Some, None}
+use Rattle.std.specs.Prelude.{◌≡◌, ◌≢◌, ◌⊎◌, ℕ, true, false, List, Option, Some, None}
 use Rattle.x_base.specs.declared.key_name.FullName.{FullName}
 use Rattle.x_base.specs.declared.verdict.Verdict.{Verdict}
 use Rattle.x_base.specs.declared.verdict.Verdict.TheVariants.{Accept, JournalFull, NotEmpty, Blank}
@@ -17,21 +17,31 @@ use Rattle.x_party.specs.Images.{FitsImage}
 use Rattle.x_party.specs.declared.outcome.Outcome.{Outcome}
 use Rattle.x_party.specs.declared.outcome.Outcome.TheVariants as outcome
 
--- the party for which the image stands accepts, and its change fits
-pub record Accepts (image : List ℕ) (i : Input) (moment : ℕ) (reply : Option (List ℕ)) (under : Option FullName) : Type 0 where
+-- the party of the name, for which the image stands, accepts, and its change fits
+pub record Accepts (name image : List ℕ) (i : Input) (moment : ℕ) (reply : Option (List ℕ)) (under : Option FullName) : Type 0 where
   pub party : Party
   pub stood : Stands image party
+  pub own : party.own ≡ name
   pub accepted : (decision party i moment).verdict ≡ Accept
   pub fits : FitsImage image (decision party i moment).change
   pub written : reply ≡ (decision party i moment).reply
   pub named : under ≡ (decision party i moment).under
 
 -- it refuses, or its change doesn't fit
-pub record Refuses (image : List ℕ) (i : Input) (moment : ℕ) (verdict : Verdict) (reply : Option (List ℕ)) (under : Option FullName) : Type 0 where
+pub record Refuses (name image : List ℕ) (i : Input) (moment : ℕ) (verdict : Verdict) (reply : Option (List ℕ)) (under : Option FullName) : Type 0 where
   pub party : Party
   pub stood : Stands image party
+  pub own : party.own ≡ name
   pub cause : IsAsDecided (decision party i moment) verdict reply under
       ⊎ IsTooLong (decision party i moment) (FitsImage image (decision party i moment).change) verdict reply under
+
+-- the image stands for a party of another identity than the name
+pub record FindsOther (name image asked found : List ℕ) : Type 0 where
+  pub party : Party
+  pub stood : Stands image party
+  pub called : asked ≡ name
+  pub own : found ≡ party.own
+  pub differs : party.own ≢ name
 
 -- no party stands on the disk
 pub record FindsNobody (image : List ℕ) (verdict : Verdict) (reply : Option (List ℕ)) (under : Option FullName) : Type 0 where
@@ -40,13 +50,14 @@ pub record FindsNobody (image : List ℕ) (verdict : Verdict) (reply : Option (L
   pub written : reply ≡ None
   pub named : under ≡ None
 
--- the outcome that is due of a party's turn with an input
-abbrev pub IsDue : Input → ℕ → List ℕ → Outcome → Type 0
-IsDue i moment image (outcome.Done reply under) = Accepts image i moment reply under
-IsDue i moment image (outcome.Refused verdict reply under) = Refuses image i moment verdict reply under ⊎ FindsNobody image verdict reply under
-IsDue i moment image (outcome.Damaged place) = IsFirstDamage image place
-IsDue i moment image outcome.Fault = ⊥
-IsDue i moment image outcome.NoMemory = ⊥
+-- the outcome that is due of the turn of the party of this name with an input
+abbrev pub IsDue : List ℕ → Input → ℕ → List ℕ → Outcome → Type 0
+IsDue name i moment image (outcome.Done reply under) = Accepts name image i moment reply under
+IsDue name i moment image (outcome.Refused verdict reply under) = Refuses name image i moment verdict reply under ⊎ FindsNobody image verdict reply under
+IsDue name i moment image (outcome.OtherParty asked found) = FindsOther name image asked found
+IsDue name i moment image (outcome.Damaged place) = IsFirstDamage image place
+IsDue name i moment image outcome.Fault = ⊥
+IsDue name i moment image outcome.NoMemory = ⊥
 
 -- where a party is created
 abbrev pub IsDueCreation : List ℕ → Outcome → Type 0
@@ -58,6 +69,7 @@ IsDueCreation image other = ⊥
 abbrev pub IsDueShow : List ℕ → Outcome → Type 0
 IsDueShow image (outcome.Done reply under) = (party : Party) × Stands image party × (reply ≡ Some (shown party)) × (under ≡ None)
 IsDueShow image (outcome.Refused verdict reply under) = FindsNobody image verdict reply under
+IsDueShow image (outcome.OtherParty asked found) = ⊥
 IsDueShow image (outcome.Damaged place) = IsFirstDamage image place
 IsDueShow image outcome.Fault = ⊥
 IsDueShow image outcome.NoMemory = ⊥
@@ -81,9 +93,25 @@ pub record PassesOneFrame (image : List ℕ) (verdict : Verdict) (reply : Option
 abbrev pub IsDueCompaction : List ℕ → Outcome → Type 0
 IsDueCompaction image (outcome.Done reply under) = FitsOneFrame image reply under
 IsDueCompaction image (outcome.Refused verdict reply under) = PassesOneFrame image verdict reply under ⊎ FindsNobody image verdict reply under
+IsDueCompaction image (outcome.OtherParty asked found) = ⊥
 IsDueCompaction image (outcome.Damaged place) = IsFirstDamage image place
 IsDueCompaction image outcome.Fault = ⊥
 IsDueCompaction image outcome.NoMemory = ⊥
+
+-- the image stands for a party
+pub record FindsParty (image : List ℕ) (reply : Option (List ℕ)) (under : Option FullName) : Type 0 where
+  pub party : Party
+  pub stood : Stands image party
+  pub nothing : AnswersNothing reply under
+
+-- where a party's file is wiped
+abbrev pub IsDueWiping : List ℕ → Outcome → Type 0
+IsDueWiping image (outcome.Done reply under) = FindsParty image reply under
+IsDueWiping image (outcome.Refused verdict reply under) = FindsNobody image verdict reply under
+IsDueWiping image (outcome.OtherParty asked found) = ⊥
+IsDueWiping image (outcome.Damaged place) = IsFirstDamage image place
+IsDueWiping image outcome.Fault = ⊥
+IsDueWiping image outcome.NoMemory = ⊥
 
 -- the outcome is the one that is due by the image, or a fault or want of memory came in its place
 abbrev pub GivesDue : View → (List ℕ → Outcome → Type 0) → Outcome → Type 0

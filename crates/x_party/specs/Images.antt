@@ -1,6 +1,6 @@
 -- What the image under a party stands for before and after a call (this project's profile). `old` and `new` are
 -- what the shelf tells of the party's disk.
-use Rattle.std.specs.Prelude.{◌≡◌, ◌⊎◌, ℕ, ◌+◌, ◌-◌, ◌≤◌, List, [], ◌∷◌, length, Option, Some, None, is_some}
+use Rattle.std.specs.Prelude.{◌≡◌, ◌⊎◌, ℕ, List, [], ◌∷◌, Option, Some, is_some}
 use Rattle.x_disk.specs.Disk.{View, IsDurable}
 use Rattle.key_journal.specs.Layout.{area_size}
 use Rattle.key_journal.specs.Journal.{Holds}
@@ -26,6 +26,14 @@ pub record OfParty (v : View) (P : Party → ℕ → Type 0) : Type 0 where
   pub party : Party
   pub room : ℕ
   pub reads : ReadsAs v party room
+  pub holds : P party room
+
+-- what a read gives stands for the party of this name, and this holds of the party and its room
+pub record OfOwnParty (name : List ℕ) (v : View) (P : Party → ℕ → Type 0) : Type 0 where
+  pub party : Party
+  pub room : ℕ
+  pub reads : ReadsAs v party room
+  pub own : party.own ≡ name
   pub holds : P party room
 
 -- a change fits into the room of an image

@@ -8,6 +8,7 @@ use Rattle.x_base.specs.declared.verdict.Verdict.TheVariants.{Accept, JournalFul
 use Rattle.x_disk.specs.Disk.{View, LeavesOnly, IsUntouched}
 use Rattle.x_disk.specs.Shelf.{OthersStay}
 use Rattle.key_journal.specs.Journal.{is_blank}
+use Rattle.key_journal.specs.Wiping.{Wipes}
 use Rattle.party_state.specs.declared.command.Input.{Input}
 use Rattle.party_state.specs.declared.decision.Decision.{Decision}
 use Rattle.party_state.specs.declared.edit.Edit.{Edit}
@@ -20,7 +21,7 @@ use Rattle.roles.specs.Deciding.{decision}
 use Rattle.node_core.specs.Compactions.{AnswersNothing}
 use Rattle.node_core.specs.Deciding.{after}
 use Rattle.node_core.specs.Turns.{IsOldOrNext, IsAsDecided, IsTooLong, FitsInto, room_after}
-use Rattle.x_party.specs.Images.{StandsFor, OfParty, FitsImage, first_room, StillTells, OrBefore}
+use Rattle.x_party.specs.Images.{StandsFor, OfParty, OfOwnParty, FitsImage, first_room, StillTells, OrBefore}
 use Rattle.x_party.specs.declared.outcome.Outcome.{Outcome}
 use Rattle.x_party.specs.declared.outcome.Outcome.TheVariants as outcome
 
@@ -38,8 +39,9 @@ pub record LeavesShelf (name : List ℕ) (o : Outcome) (is_back : Type 0) (old n
   pub fault : o ≡ outcome.Fault → Rose before after
   pub later : before ≤ after
 
--- the decision accepts, and makes a change, which fits
-pub record IsToKeep (d : Decision) (fits : Type 0) : Type 0 where
+-- the party is that of the name; the decision accepts, and makes a change, which fits
+pub record IsToKeep (name : List ℕ) (party : Party) (d : Decision) (fits : Type 0) : Type 0 where
+  pub own : party.own ≡ name
   pub accepts : d.verdict ≡ Accept
   pub edits : List Edit
   pub change : d.change ≡ Some edits
@@ -61,6 +63,14 @@ pub record IsRefused (old new : View) (d : Decision) (party : Party) (room : ℕ
   pub stands : StandsFor new party room
   pub untouched : IsUntouched old new
 
+-- the party isn't that of the name, and isn't asked: party and room stay, and nothing is written
+pub record IsOther (old new : View) (name : List ℕ) (party : Party) (room : ℕ) (asked found : List ℕ) : Type 0 where
+  pub called : asked ≡ name
+  pub stood : found ≡ party.own
+  pub differs : found ≢ name
+  pub stands : StandsFor new party room
+  pub untouched : IsUntouched old new
+
 -- no party stands on the disk, and nothing is written
 pub record IsNobody (old new : View) (said : Verdict) (answer : Option (List ℕ)) (name : Option FullName) : Type 0 where
   pub blank : (image : List ℕ) → old.now ≡ Some image → is_blank image ≡ true
@@ -74,14 +84,15 @@ pub record IsDamaged (old new : View) (place : ℕ) : Type 0 where
   pub first : (image : List ℕ) → old.now ≡ Some image → IsFirstDamage image place
   pub untouched : IsUntouched old new
 
--- what became of a party's turn with an input
-abbrev pub TakesTurn : View → View → Input → ℕ → Outcome → Type 0
-TakesTurn old new i moment (outcome.Done reply under) = OfParty old (λ party room. IsAccepted old new (decision party i moment) party room reply under)
-TakesTurn old new i moment (outcome.Refused verdict reply under) =
-    OfParty old (λ party room. IsRefused old new (decision party i moment) party room verdict reply under) ⊎ IsNobody old new verdict reply under
-TakesTurn old new i moment (outcome.Damaged place) = IsDamaged old new place
-TakesTurn old new i moment outcome.Fault = Unit {0}
-TakesTurn old new i moment outcome.NoMemory = Unit {0}
+-- what became of the turn of the party of this name with an input
+abbrev pub TakesTurn : List ℕ → View → View → Input → ℕ → Outcome → Type 0
+TakesTurn name old new i moment (outcome.Done reply under) = OfOwnParty name old (λ party room. IsAccepted old new (decision party i moment) party room reply under)
+TakesTurn name old new i moment (outcome.Refused verdict reply under) =
+    OfOwnParty name old (λ party room. IsRefused old new (decision party i moment) party room verdict reply under) ⊎ IsNobody old new verdict reply under
+TakesTurn name old new i moment (outcome.OtherParty asked found) = OfParty old (λ party room. IsOther old new name party room asked found)
+TakesTurn name old new i moment (outcome.Damaged place) = IsDamaged old new place
+TakesTurn name old new i moment outcome.Fault = Unit {0}
+TakesTurn name old new i moment outcome.NoMemory = Unit {0}
 
 -- what holds of every answer of a call over a party: what a crash leaves of a party with its room, and when anything is
 -- written
@@ -95,11 +106,11 @@ pub record IsSafeCall (old new : View) (leaves : Party → ℕ → List ℕ → 
   pub nobody : (image : List ℕ) → old.now ≡ Some image → ((party : Party) → Stands image party → ⊥) → IsUntouched old new
   pub tells : StillTells old new
 
--- a turn: a crash leaves the party before the decision or the one after it, each with its room; and where the party makes no
--- change that fits, nothing is written
-abbrev pub IsSafe : View → View → Input → ℕ → Type 0
-IsSafe old new i moment = IsSafeCall old new (λ party room. IsOldOrNext party room (decision party i moment))
-    (λ image party. IsToKeep (decision party i moment) (FitsImage image (decision party i moment).change))
+-- a turn: a crash leaves the party before the decision or the one after it, each with its room; and where the party isn't that
+-- of the name, or makes no change that fits, nothing is written
+abbrev pub IsSafe : List ℕ → View → View → Input → ℕ → Type 0
+IsSafe name old new i moment = IsSafeCall old new (λ party room. IsOldOrNext party room (decision party i moment))
+    (λ image party. IsToKeep name party (decision party i moment) (FitsImage image (decision party i moment).change))
 
 -- the party fits into one frame: it stays, with the room of its compaction
 pub record IsCompacted (new : View) (party : Party) (answer : Option (List ℕ)) (name : Option FullName) : Type 0 where
@@ -120,6 +131,7 @@ abbrev pub CompactsParty : View → View → Outcome → Type 0
 CompactsParty old new (outcome.Done reply under) = OfParty old (λ party room. IsCompacted new party reply under)
 CompactsParty old new (outcome.Refused verdict reply under) =
     OfParty old (λ party room. IsNotCompacted old new party room verdict reply under) ⊎ IsNobody old new verdict reply under
+CompactsParty old new (outcome.OtherParty asked found) = ⊥
 CompactsParty old new (outcome.Damaged place) = IsDamaged old new place
 CompactsParty old new outcome.Fault = Unit {0}
 CompactsParty old new outcome.NoMemory = Unit {0}
@@ -127,6 +139,25 @@ CompactsParty old new outcome.NoMemory = Unit {0}
 -- a compaction: a crash leaves the party, with its room or with that of its compaction; and one that is too large isn't written
 abbrev pub IsSafeCompaction : View → View → Type 0
 IsSafeCompaction old new = IsSafeCall old new (λ party room. IsOldOrWhole party room) (λ image party. IsTooLarge party → ⊥)
+
+-- the party stays with its room; what counts of its file is as it was, and each other byte is zero
+pub record IsWipedParty (old new : View) (party : Party) (room : ℕ) (answer : Option (List ℕ)) (name : Option FullName) : Type 0 where
+  pub nothing : AnswersNothing answer name
+  pub stands : StandsFor new party room
+  pub wiped : Wipes old new
+
+-- what became of wiping the party's file
+abbrev pub WipesParty : View → View → Outcome → Type 0
+WipesParty old new (outcome.Done reply under) = OfParty old (λ party room. IsWipedParty old new party room reply under)
+WipesParty old new (outcome.Refused verdict reply under) = IsNobody old new verdict reply under
+WipesParty old new (outcome.OtherParty asked found) = ⊥
+WipesParty old new (outcome.Damaged place) = IsDamaged old new place
+WipesParty old new outcome.Fault = Unit {0}
+WipesParty old new outcome.NoMemory = Unit {0}
+
+-- a crash leaves the party with its room
+abbrev pub IsSafeWiping : View → View → Type 0
+IsSafeWiping old new = IsSafeCall old new (λ party room c. StandsWith c party room) (λ image party. Unit {0})
 
 -- the image was blank, and the new one stands for the party that begins
 pub record IsCreated (old new : View) (party : Party) (answer : Option (List ℕ)) (name : Option FullName) : Type 0 where
@@ -146,6 +177,7 @@ pub record IsNotEmpty (old : View) (said : Verdict) (answer : Option (List ℕ))
 abbrev pub CreatesParty : View → View → Party → Outcome → Type 0
 CreatesParty old new party (outcome.Done reply under) = IsCreated old new party reply under
 CreatesParty old new party (outcome.Refused verdict reply under) = IsNotEmpty old verdict reply under
+CreatesParty old new party (outcome.OtherParty asked found) = ⊥
 CreatesParty old new party (outcome.Damaged place) = ⊥
 CreatesParty old new party outcome.Fault = Unit {0}
 CreatesParty old new party outcome.NoMemory = Unit {0}
@@ -160,6 +192,7 @@ pub record IsShown (new : View) (party : Party) (room : ℕ) (reply : Option (Li
 abbrev pub ShowsParty : View → View → Outcome → Type 0
 ShowsParty old new (outcome.Done reply under) = OfParty old (λ party room. IsShown new party room reply under)
 ShowsParty old new (outcome.Refused verdict reply under) = IsNobody old new verdict reply under
+ShowsParty old new (outcome.OtherParty asked found) = ⊥
 ShowsParty old new (outcome.Damaged place) = IsDamaged old new place
 ShowsParty old new outcome.Fault = Unit {0}
 ShowsParty old new outcome.NoMemory = Unit {0}

@@ -11,13 +11,13 @@ use Rattle.party_state.specs.State.{Party}
 use Rattle.party_state.specs.Show.{shown}
 use Rattle.key_journal.specs.States.{WritesOnlyToBlank}
 use Rattle.change_code.specs.Whole.{IsTooLarge}
-use Rattle.key_store.specs.Store.{Stands, IsStore, IsBlankOrFirst}
+use Rattle.key_store.specs.Store.{Stands, StandsWith, IsStore, IsBlankOrFirst}
 use Rattle.key_store.specs.Compacting.{IsOldOrWhole}
 use Rattle.node_core.specs.Turns.{IsOldOrNext, FitsInto}
 use Rattle.node_core.specs.declared.node.Turn.{Turn}
 use Rattle.node_core.specs.declared.node.Turn.TheVariants as turn
 use Rattle.x_party.specs.Images.{StillTells}
-use Rattle.x_party.specs.Outcomes.{IsToKeep, IsAccepted, IsRefused, IsNobody, IsDamaged, IsCreated, IsNotEmpty, IsCompacted, IsNotCompacted}
+use Rattle.x_party.specs.Outcomes.{IsToKeep, IsAccepted, IsRefused, IsOther, IsNobody, IsDamaged, IsCreated, IsNotEmpty, IsCompacted, IsNotCompacted, IsWipedParty}
 use Rattle.x_party.specs.declared.outcome.Outcome.{Outcome}
 use Rattle.x_party.specs.declared.outcome.Outcome.TheVariants as outcome
 
@@ -33,6 +33,7 @@ outcome_of cause.NoMemory = outcome.NoMemory
 abbrev pub HasNoParty : View → View → Outcome → Type 0
 HasNoParty old new (outcome.Done reply under) = ⊥
 HasNoParty old new (outcome.Refused verdict reply under) = IsNobody old new verdict reply under
+HasNoParty old new (outcome.OtherParty asked found) = ⊥
 HasNoParty old new (outcome.Damaged place) = IsDamaged old new place
 HasNoParty old new outcome.Fault = Unit {0}
 HasNoParty old new outcome.NoMemory = Unit {0}
@@ -48,13 +49,14 @@ pub record IsNotOpened (old new : View) (o : Outcome) : Type 0 where
   pub untouched : IsUntouched old new
   pub refused : HasNoParty old new o
 
--- what the party did with an input
-abbrev pub Acts : View → View → ℕ → Party → Decision → Outcome → Type 0
-Acts now then room p d (outcome.Done reply under) = IsAccepted now then d p room reply under
-Acts now then room p d (outcome.Refused verdict reply under) = IsRefused now then d p room verdict reply under
-Acts now then room p d (outcome.Damaged place) = ⊥
-Acts now then room p d outcome.Fault = Rose now.faults then.faults
-Acts now then room p d outcome.NoMemory = Unit {0}
+-- what the party did with an input, where it is that of the name
+abbrev pub Acts : List ℕ → View → View → ℕ → Party → Decision → Outcome → Type 0
+Acts name now then room p d (outcome.Done reply under) = (p.own ≡ name) × IsAccepted now then d p room reply under
+Acts name now then room p d (outcome.Refused verdict reply under) = (p.own ≡ name) × IsRefused now then d p room verdict reply under
+Acts name now then room p d (outcome.OtherParty asked found) = IsOther now then name p room asked found
+Acts name now then room p d (outcome.Damaged place) = ⊥
+Acts name now then room p d outcome.Fault = Rose now.faults then.faults
+Acts name now then room p d outcome.NoMemory = Unit {0}
 
 -- an open party acted: what it did, what a crash leaves at any moment, and when anything is written
 pub record IsAct (now then : View) (did : Type 0) (leaves : List ℕ → Type 0) (writes : Type 0) : Type 0 where
@@ -64,19 +66,32 @@ pub record IsAct (now then : View) (did : Type 0) (leaves : List ℕ → Type 0)
   pub tells : StillTells now then
   pub faults : now.faults ≤ then.faults
 
-abbrev pub HasActed : View → View → ℕ → Party → Decision → Outcome → Type 0
-HasActed now then room p d o = IsAct now then (Acts now then room p d o) (IsOldOrNext p room d) (IsToKeep d (FitsInto room d.change))
+abbrev pub HasActed : List ℕ → View → View → ℕ → Party → Decision → Outcome → Type 0
+HasActed name now then room p d o = IsAct now then (Acts name now then room p d o) (IsOldOrNext p room d) (IsToKeep name p d (FitsInto room d.change))
 
 -- what the party's compaction did
 abbrev pub Compacts : View → View → ℕ → Party → Outcome → Type 0
 Compacts now then room p (outcome.Done reply under) = IsCompacted then p reply under
 Compacts now then room p (outcome.Refused verdict reply under) = IsNotCompacted now then p room verdict reply under
+Compacts now then room p (outcome.OtherParty asked found) = ⊥
 Compacts now then room p (outcome.Damaged place) = ⊥
 Compacts now then room p outcome.Fault = Rose now.faults then.faults
 Compacts now then room p outcome.NoMemory = Unit {0}
 
 abbrev pub HasCompacted : View → View → ℕ → Party → Outcome → Type 0
 HasCompacted now then room p o = IsAct now then (Compacts now then room p o) (IsOldOrWhole p room) (IsTooLarge p → ⊥)
+
+-- what wiping the party's file did
+abbrev pub WipesFile : View → View → ℕ → Party → Outcome → Type 0
+WipesFile now then room p (outcome.Done reply under) = IsWipedParty now then p room reply under
+WipesFile now then room p (outcome.Refused verdict reply under) = ⊥
+WipesFile now then room p (outcome.OtherParty asked found) = ⊥
+WipesFile now then room p (outcome.Damaged place) = ⊥
+WipesFile now then room p outcome.Fault = Rose now.faults then.faults
+WipesFile now then room p outcome.NoMemory = Unit {0}
+
+abbrev pub HasWiped : View → View → ℕ → Party → Outcome → Type 0
+HasWiped now then room p o = IsAct now then (WipesFile now then room p o) (λ c. StandsWith c p room) (Unit {0})
 
 -- the outcome of what became of a node
 abbrev pub outcome_of_turn : {D : Type 0} → Turn D → Outcome
@@ -93,6 +108,7 @@ IsClosed o before after result = (result ≡ o) ⊎ (((result ≡ outcome.Fault)
 abbrev pub MakesParty : View → View → Party → Outcome → Type 0
 MakesParty now then p (outcome.Done reply under) = IsCreated now then p reply under
 MakesParty now then p (outcome.Refused verdict reply under) = IsNotEmpty now verdict reply under
+MakesParty now then p (outcome.OtherParty asked found) = ⊥
 MakesParty now then p (outcome.Damaged place) = ⊥
 MakesParty now then p outcome.Fault = Rose now.faults then.faults
 MakesParty now then p outcome.NoMemory = Unit {0}
@@ -108,6 +124,7 @@ pub record HasCreated (now then : View) (p : Party) (o : Outcome) : Type 0 where
 abbrev pub IsText : Party → Outcome → Type 0
 IsText p (outcome.Done reply under) = (reply ≡ Some (shown p)) × (under ≡ None)
 IsText p (outcome.Refused verdict reply under) = ⊥
+IsText p (outcome.OtherParty asked found) = ⊥
 IsText p (outcome.Damaged place) = ⊥
 IsText p outcome.Fault = ⊥
 IsText p outcome.NoMemory = Unit {0}

@@ -2,16 +2,17 @@
 ghost use Rattle.std.specs.Prelude.{List, ℕ};
 ghost use Rattle.key_journal.specs.Opening.{AreBytes};
 ghost use Rattle.party_state.specs.declared.command.Input.{Input as TheInput};
-ghost use Rattle.x_party.specs.Dues.{IsDue, IsDueCompaction, IsDueCreation, IsDueShow};
+ghost use Rattle.x_party.specs.Dues.{IsDue, IsDueCompaction, IsDueCreation, IsDueShow, IsDueWiping};
 ghost use Rattle.x_party.specs.declared.outcome.Outcome.{Outcome as TheOutcome};
 
 use key_store::law_one_finding;
 
 /// Whatever bytes an image holds, it can't be that no outcome is due of a call over it.
 pub fn law_always_due()
-    ensures turn { (i : TheInput) (moment : ℕ) (image : List ℕ) → AreBytes image → ((o : TheOutcome) → IsDue i moment image o → ⊥) → ⊥ }
+    ensures turn { (name : List ℕ) (i : TheInput) (moment : ℕ) (image : List ℕ) → AreBytes image → ((o : TheOutcome) → IsDue name i moment image o → ⊥) → ⊥ }
     ensures show { (image : List ℕ) → AreBytes image → ((o : TheOutcome) → IsDueShow image o → ⊥) → ⊥ }
     ensures compaction { (image : List ℕ) → AreBytes image → ((o : TheOutcome) → IsDueCompaction image o → ⊥) → ⊥ }
+    ensures wiping { (image : List ℕ) → AreBytes image → ((o : TheOutcome) → IsDueWiping image o → ⊥) → ⊥ }
     ensures creation { (image : List ℕ) → (o : TheOutcome) × IsDueCreation image o }
 {
     law_one_finding();

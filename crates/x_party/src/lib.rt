@@ -1,5 +1,5 @@
-//! A party on a shelf: it is created, shown, compacted, or has a turn with a command or a message. Its disk is fetched, and
-//! put back whatever comes.
+//! A party on a shelf: it is created, shown, compacted, wiped, or has a turn with a command or a message. Its disk is fetched,
+//! and put back whatever comes.
 #![tactic(auto)]
 
 mod acting;
@@ -11,6 +11,7 @@ mod opening;
 mod outcome;
 mod showing;
 mod turning;
+mod wiping;
 
 pub use compacting::compact;
 pub use creating::create;
@@ -18,3 +19,4 @@ pub use laws::law_always_due;
 pub use outcome::Outcome;
 pub use showing::show;
 pub use turning::turn;
+pub use wiping::wipe;

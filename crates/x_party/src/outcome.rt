@@ -1,7 +1,7 @@
 // What became of a party on a shelf.
 ghost use Rattle.std.specs.Prelude.{◌≡◌};
 
-use x_base::{FullName, Text, Verdict};
+use x_base::{FullName, Ident, Text, Verdict};
 
 /// What became of what was asked of a party.
 #[derive(Drop)]
@@ -18,6 +18,9 @@ pub enum Outcome {
         reply: Option<Text>,
         under: Option<FullName>,
     },
+    /// The image stands for a party, whose own identity is the second, and not the first, under which it was called. It
+    /// isn't asked, and nothing changed.
+    OtherParty(Ident, Ident),
     /// The image isn't blank and stands for no party; the place is that of its first damage.
     Damaged(u64),
     /// The shelf or the disk failed.
