@@ -14,6 +14,7 @@ pub mod Matched
 pub mod Backs
 pub mod Steps
 pub mod SendingRows
+pub mod TwinRows
 pub mod Standing
 pub mod StandingCentres
 pub mod StandingRows
@@ -32,3 +33,4 @@ pub mod Rows
 pub mod Roles
 pub mod HonestRuns
 pub mod Moments
+pub mod TakenKeys

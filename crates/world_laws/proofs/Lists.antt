@@ -2,3 +2,4 @@
 pub mod Pairs
 pub mod Births
 pub mod Members
+pub mod Among

@@ -12,3 +12,5 @@ pub mod DistributionStart
 pub mod DistributionRun
 pub mod TranslationStart
 pub mod TranslationRun
+pub mod TwinRun
+pub mod EndRun

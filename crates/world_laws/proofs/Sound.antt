@@ -3,6 +3,7 @@ pub mod Exchanges
 pub mod NewKks
 pub mod Keys
 pub mod Answers
+pub mod TwinKeys
 pub mod Commands
 pub mod Arrivals
 pub mod Centres

@@ -1,9 +1,9 @@
 -- A call over a party on a shelf, as an event of a network (this project's profile). `old` and `new` are what the shelf
 -- tells of the party's disk before and after.
-use Rattle.std.specs.Prelude.{◌≡◌, ℕ, Some, List, ◌++◌, Option, option_to_list}
-use Rattle.x_disk.specs.Disk.{View, LeavesOnly}
+use Rattle.std.specs.Prelude.{◌≡◌, ◌≢◌, ℕ, Some, List, ◌++◌, Option, option_to_list}
+use Rattle.x_disk.specs.Disk.{View, LeavesOnly, IsUntouched}
 use Rattle.party_state.specs.State.{Party}
-use Rattle.key_store.specs.Store.{StandsWith}
+use Rattle.key_store.specs.Store.{Stands, StandsWith}
 use Rattle.x_party.specs.Images.{StandsFor, OrBefore}
 use Rattle.x_party.specs.declared.outcome.Outcome.{Outcome}
 use Rattle.x_party.specs.declared.outcome.Outcome.TheVariants as outcome
@@ -28,6 +28,7 @@ pub record IsWholeCall (x : Member) (e : Event) (new : View) (reply : Option (Li
 abbrev pub AnswersWhole : Member → Event → View → Outcome → Type 0
 AnswersWhole x e new (outcome.Done reply under) = IsWholeCall x e new reply
 AnswersWhole x e new (outcome.Refused verdict reply under) = IsWholeCall x e new reply
+AnswersWhole x e new (outcome.OtherParty asked found) = ⊥
 AnswersWhole x e new (outcome.Damaged place) = ⊥
 AnswersWhole x e new outcome.Fault = Unit {0}
 AnswersWhole x e new outcome.NoMemory = Unit {0}
@@ -48,3 +49,20 @@ pub record IsCallEvent (x : Member) (e : Completion → Event) (old new : View) 
 abbrev pub IsCall : View → View → Action → ℕ → Outcome → Type 0
 IsCall old new action moment o = (image : List ℕ) (party : Party) (room : ℕ) → old.now ≡ Some image → StandsWith image party room
     → IsCallEvent (record { party = party; room = room }) (event_at (record { party = party; room = room }) moment action) old new o
+
+-- it answers that another party stands on the disk, or it failed
+abbrev pub AnswersOther : List ℕ → List ℕ → Outcome → Type 0
+AnswersOther name own (outcome.Done reply under) = ⊥
+AnswersOther name own (outcome.Refused verdict reply under) = ⊥
+AnswersOther name own (outcome.OtherParty asked found) = (asked ≡ name) × (found ≡ own)
+AnswersOther name own (outcome.Damaged place) = ⊥
+AnswersOther name own outcome.Fault = Unit {0}
+AnswersOther name own outcome.NoMemory = Unit {0}
+
+-- a call of the party of this name
+pub record IsNamedCall (name : List ℕ) (old new : View) (action : Action) (moment : ℕ) (o : Outcome) : Type 0 where
+  -- where that party stands on the disk, the call is this action at it, with the room that is left there
+  pub own : (image : List ℕ) (party : Party) (room : ℕ) → old.now ≡ Some image → StandsWith image party room → party.own ≡ name
+      → IsCallEvent (record { party = party; room = room }) (event_at (record { party = party; room = room }) moment action) old new o
+  -- where another does, it is no event: nothing is written to the disk, and the party answers nothing
+  pub other : (image : List ℕ) (party : Party) → old.now ≡ Some image → Stands image party → party.own ≢ name → IsUntouched old new × AnswersOther name party.own o

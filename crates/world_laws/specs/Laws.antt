@@ -19,11 +19,11 @@ SameCount a b = (a.kk ≡ b.kk) × (a.count ≡ b.count)
 abbrev pub OneKeyPerCount : World → Type 0
 OneKeyPerCount w = AllPairs (λ a b. ¬ (SameCount a b)) w.uses
 
--- each key service message takes effect at most once: of two that one party accepted, neither the names of their keys
--- nor their texts are the same
+-- each key service message takes effect at most once: of two that one party accepted, neither a name of their keys nor
+-- their texts are the same
 
 abbrev pub AcceptedApart : Acceptance → Acceptance → Type 0
-AcceptedApart a b = a.class ≡ OfKsm → b.class ≡ OfKsm → a.party ≡ b.party → (a.under ≢ b.under) × (a.text ≢ b.text)
+AcceptedApart a b = a.class ≡ OfKsm → b.class ≡ OfKsm → a.party ≡ b.party → ((u : FullName) → Contains a.names u → ¬ (Contains b.names u)) × (a.text ≢ b.text)
 
 abbrev pub Once : World → Type 0
 Once w = AllPairs AcceptedApart w.acceptances
@@ -51,7 +51,7 @@ pub record HasAccepted (accs : List Acceptance) (class : Class) (party : List �
   pub stands : Contains accs acceptance
   pub class_is : acceptance.class ≡ class
   pub party_is : acceptance.party ≡ party
-  pub under_is : acceptance.under ≡ under
+  pub among : Contains acceptance.names under
 
 -- the partner holds the key of this record, with this value
 pub record HoldsKey (ms : List Member) (partner : List ℕ) (k : RecordKey) (value : ℕ) : Type 0 where
@@ -77,4 +77,4 @@ abbrev pub IsEndedAt : List Member → List ℕ → FullName → Type 0
 IsEndedAt ms p u = (x : Member) (k : RecordKey) (r : KeyRec) → member_at p ms ≡ Some x → record_with k x.party ≡ Some r → full_name p r ≡ u → r.status ≡ Ended
 
 abbrev pub EndedBoth : World → Type 0
-EndedBoth w = All (λ (a : Acceptance). a.class ≡ OfAnswer → IsEndedAt w.members (partner_of a.party a.under) a.under) w.acceptances
+EndedBoth w = All (λ (a : Acceptance). a.class ≡ OfAnswer → (u : FullName) → Contains a.names u → IsEndedAt w.members (partner_of a.party u) u) w.acceptances

@@ -6,6 +6,7 @@ pub mod Steps
 pub mod Honest
 pub mod Starts
 pub mod Laws
+pub mod Carried
 pub mod Facts
 pub mod Nodes
 pub mod Calls

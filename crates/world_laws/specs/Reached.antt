@@ -1,11 +1,14 @@
 -- A run in which a key becomes live (this project's profile).
-use Rattle.std.specs.Prelude.{◌≡◌, List, Some, Contains}
+use Rattle.std.specs.Prelude.{◌≡◌, ℕ, List, [], ◌∷◌, Some, Contains}
 use Rattle.x_base.specs.declared.party.Role.{Role}
+use Rattle.x_base.specs.declared.key_name.KeyName.{KeyName}
 use Rattle.party_state.specs.declared.key.RecordKey.{RecordKey}
 use Rattle.party_state.specs.declared.key.KeyRec.{KeyRec}
-use Rattle.party_state.specs.declared.key.KeyStatus.TheVariants.{Live}
+use Rattle.party_state.specs.declared.key.KeyStatus.TheVariants.{Live, Ended}
+use Rattle.party_state.specs.Names.{name_behind}
+use Rattle.party_state.specs.Rows.{OfKsm}
 use Rattle.party_state.specs.State.{record_with}
-use Rattle.world_laws.specs.World.{Member, Birth, World, member_at}
+use Rattle.world_laws.specs.World.{Member, Birth, Acceptance, World, member_at}
 use Rattle.world_laws.specs.Events.{Event, AreEvents}
 use Rattle.world_laws.specs.Steps.{run}
 use Rattle.world_laws.specs.Honest.{HonestRun}
@@ -51,6 +54,17 @@ pub record IsUnderNewKk (w : World) (l : HasLiveKey w) : Type 0 where
   pub recipient : birth.recipient ≡ l.key.peer
   pub label : birth.label ≡ l.key.name.label
 
+-- it went with another in one message: the key whose count is one higher is live and held too
+pub record IsFirstOfTwo (w : World) (l : HasLiveKey w) : Type 0 where
+  pub entry : KeyRec
+  pub found : record_with (record { peer = l.key.peer; name = name_behind l.key.name }) l.member.party ≡ Some entry
+  pub live : entry.status ≡ Live
+  pub held : HoldsKey w.members l.key.peer (record { peer = l.member.party.own; name = name_behind l.key.name }) entry.value
+  pub taken : Acceptance
+  pub stands : Contains w.acceptances taken
+  pub class_is : taken.class ≡ OfKsm
+  pub names_are : taken.names ≡ record { name = l.key.name; recipient = l.key.peer } ∷ record { name = name_behind l.key.name; recipient = l.key.peer } ∷ []
+
 pub record EndsWithLive (Kind : LiveKind) (w : World) : Type 0 where
   pub live : HasLiveKey w
   pub kind : Kind w live
@@ -63,3 +77,27 @@ pub record LiveRunOf (Kind : LiveKind) : Type 0 where
   pub are_events : AreEvents events
   pub honest : HonestRun 1 start events
   pub end : EndsWithLive Kind (run 1 start events)
+
+-- an honest run from a start that ends so
+pub record HonestRunTo (P : World → Type 0) : Type 0 where
+  pub start : World
+  pub events : List Event
+  pub is_start : IsStart start
+  pub are_events : AreEvents events
+  pub honest : HonestRun 1 start events
+  pub end : P (run 1 start events)
+
+-- of two keys that went in one message the partner ended the first before its answer came: both are ended at their originator,
+-- and the partner holds the second
+pub record LeavesSecond (w : World) : Type 0 where
+  pub member : Member
+  pub at : member_at member.party.own w.members ≡ Some member
+  pub peer : List ℕ
+  pub name : KeyName
+  pub first : KeyRec
+  pub first_found : record_with (record { peer = peer; name = name }) member.party ≡ Some first
+  pub first_ended : first.status ≡ Ended
+  pub second : KeyRec
+  pub second_found : record_with (record { peer = peer; name = name_behind name }) member.party ≡ Some second
+  pub second_ended : second.status ≡ Ended
+  pub held : HoldsKey w.members peer (record { peer = member.party.own; name = name_behind name }) second.value

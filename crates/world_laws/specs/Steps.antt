@@ -53,7 +53,7 @@ kk_use bs own u = record { kk = current_kk bs own u.recipient u.label; count = u
 
 abbrev pub acceptances_of : List ℕ → List ℕ → Option Accepted → List Acceptance
 acceptances_of own text None = []
-acceptances_of own text (Some a) = record { party = own; text = text; class = a.class; under = a.under } ∷ []
+acceptances_of own text (Some a) = record { party = own; text = text; class = a.class; names = a.names } ∷ []
 
 -- the member after a row: only the edits that make a difference are kept
 abbrev pub member_after : Member → Row → Member

@@ -37,13 +37,13 @@ pub record KkUse : Type 0 where
   pub count : ℕ
   pub sealed : Sealed
 
--- a party accepted a message of this class with this authenticated text; it made the key of this name held, live or
--- ended
+-- a party accepted a message of this class with this authenticated text; it made the keys of these names held, live or
+-- ended; of a disconnection the name is that of IDD alone
 pub record Acceptance : Type 0 where
   pub party : List ℕ
   pub text : List ℕ
   pub class : Class
-  pub under : FullName
+  pub names : List FullName
 
 -- the members, each text that was written, and what happened, each list in the order of the events
 pub record World : Type 0 where

@@ -19,7 +19,6 @@ pub fn law_counts()
 {}
 
 /// Each key service message takes effect at most once.
-#[tactic(auto, using(crate::proofs::Counting::Runs::once))]
 pub fn law_once()
     ensures { (start : World) (events : List Event) → IsBareStart start → AreEvents events → Once (run 1 start events) }
 {}

@@ -3,7 +3,7 @@ use Rattle.std.proofs.Common.{◌≡◌, ◌⊎◌, ℕ, true, not, Some, None, 
 use Rattle.party_state.specs.declared.link.LinkRec.{LinkRec}
 use Rattle.party_state.specs.declared.key.RecordKey.{RecordKey}
 use Rattle.party_state.specs.declared.key.KeyRec.{KeyRec}
-use Rattle.party_state.specs.Tables.{Distinct}
+use Rattle.party_state.specs.Tables.{Distinct, put_row}
 use Rattle.party_state.specs.Keys.{same_record, record_key, sends, takes}
 use Rattle.party_state.specs.State.{Party, centre_label, link_with, record_with, exchange_with, is_ended}
 use Rattle.party_state.proofs.Keys.{test_records}
@@ -15,12 +15,13 @@ use Rattle.party_state.proofs.Distinct.{distinct_put, distinct_filter}
 use Rattle.world_laws.proofs.Agreeing.Lists.{Lists, Goes, WaitsMove}
 use Rattle.world_laws.proofs.Agreeing.Waiting.{NewsMove, AllSent}
 use Rattle.world_laws.proofs.Agreeing.Known.{KeysKnown}
-use Rattle.world_laws.proofs.Agreeing.KeyRecords.{KeysMove, unmoved, one, purged, IsPut}
+use Rattle.world_laws.proofs.Agreeing.KeyRecords.{KeysMove, unmoved, one, two, purged, IsPut}
 use Rattle.world_laws.proofs.Agreeing.Facts.{FactOk, RtrApart, AcceptedOk, LiveAccepted}
 
 pub keys_on : (v w : Lists) (s t : Party) → KeysMove v w s t → Distinct record_key same_record s.keys → Distinct record_key same_record t.keys
 keys_on v w s t (unmoved e) d = rw e d
 keys_on v w s t (one m e fine) d = rw e (distinct_put record_key same_record test_records m s.keys d)
+keys_on v w s t (two m n ne e fine second) d = rw e (distinct_put record_key same_record test_records n (put_row record_key same_record m s.keys) (distinct_put record_key same_record test_records m s.keys d))
 keys_on v w s t (purged e) d = rw e (distinct_filter record_key same_record (λ (k : KeyRec). not (is_ended k.status)) s.keys d)
 
 -- a member before and after

@@ -68,6 +68,9 @@ use Rattle.bank_keys.specs.declared.waits.Waiting.{Waiting}
 use Rattle.bank_keys.specs.Waiting.{waiting_with, waiting_by}
 use Rattle.bank_keys.specs.Rtr.{centre_name, centre_ksm, passed_reply, passed_record, brought_front, brought_value, brought_tests, brought, brought_under, brought_lead, translated_front, translated_tests, translated, translated_under, translated_lead, rtr_with, rtr_lead_with}
 use Rattle.world_laws.proofs.Sound.Answers.{brought_low}
+use Rattle.party_state.specs.Names.{name_behind}
+use Rattle.world_laws.proofs.Agreeing.Waiting.{second_name_by}
+use Rattle.world_laws.proofs.Agreeing.Facts.{at_peer, Carries, carries_one}
 use Rattle.world_laws.proofs.Agreeing.Known.{IsUsed, Issued, Known}
 use Rattle.world_laws.proofs.Agreeing.Facts.{RtrFact, RtrForm, RtrApart, WaitsAt, kdu_value}
 use Rattle.world_laws.proofs.Agreeing.Lists.{facts_after}
@@ -89,7 +92,7 @@ module _ (v : Lists) (p : List ℕ) (x : Member) (room : ℕ) (at : member_at p 
     back = back;
     news = news_both x.party (apply r.edits x.party) m.originator (passed_exchange x.party m value way) ex_is (way_new);
     keys = one (passed_record x.party m value) keys_is (record { put = came refl other not_before; live = λ no own. absurd no; known = mine (sym own_on) past; gone = λ n j held. absurd (not_there n j) });
-    exchanges = sent_both x.party (apply r.edits x.party) m.originator (passed_exchange x.party m value way) (passed_record x.party m value) own_on ex_is keys_is (inr refl) (λ name q. (let n : centre_name x.party m ≡ name = some_is (centre_name x.party m) name q in (sym n, ap (λ (z : KeyName). z.originator) (sym n), refl, refl))) sent;
+    exchanges = sent_both x.party (apply r.edits x.party) m.originator (passed_exchange x.party m value way) (passed_record x.party m value) own_on ex_is keys_is (inr refl) (λ name q. (let n : centre_name x.party m ≡ name = some_is (centre_name x.party m) name q in (sym n, ap (λ (z : KeyName). z.originator) (sym n), refl, refl))) refl sent;
     waits = waits_both x.party (apply r.edits x.party) m.originator (passed_exchange x.party m value way) ex_is refl;
     replies = subst (RepliesOk (lists_after v x room text r) x.party.own) (sym reply_is) the_fact;
     new = subst (FreshReply v.facts x.party) (sym reply_is) (refl, inr (other, not_before));
@@ -130,6 +133,9 @@ module _ (v : Lists) (p : List ℕ) (x : Member) (room : ℕ) (at : member_at p 
           known_not (mine o a) = mine_not a
           known_not (theirs o g a) = o refl
 
+      alone : (u : FullName) (val : ℕ) → Carries b.link.pair x.party.own m.ultimate (centre_ksm x.party m).body (record { name = centre_name x.party m; recipient = m.ultimate }) u val → (u ≡ record { name = centre_name x.party m; recipient = m.ultimate }) × (val ≡ unseal_of b.link.pair x.party.own m.ultimate m.ctb m.kdu)
+      alone u val c = carries_one b.link.pair x.party.own m.ultimate (centre_ksm x.party m).body (record { name = centre_name x.party m; recipient = m.ultimate }) u val refl c
+
       the_fact : KsmFact (lists_after v x room text r) (record { under = record { name = centre_name x.party m; recipient = m.ultimate }; text = auth_of (message.Ksm (centre_ksm x.party m)); maker = x.party.own }) (centre_ksm x.party m)
       the_fact = record {
         label = centre_label;
@@ -141,9 +147,13 @@ module _ (v : Lists) (p : List ℕ) (x : Member) (room : ℕ) (at : member_at p 
         ready = b.ready;
         party = after x room r;
         at = after_is v p x room at i o r grown;
-        past = past;
-        value = λ n j. (let q : passed_record x.party m value ≡ n = put_same x.party (apply r.edits x.party) (record_key (passed_record x.party m value)) (passed_record x.party m value) n keys_is refl j in
-            ap (λ (z : KeyRec). z.value) (sym q) ∙ (value_is b ∙ ap (λ (o : List ℕ). unseal_of b.link.pair o m.ultimate m.ctb m.kdu) mine_is));
+        past = λ u val c. subst (λ (z : FullName). Mine (facts_after v.facts x r.reply) (apply r.edits x.party) (at_peer z)) (sym (alone u val c).0) past;
+        value = λ u val c n g. (let j : record_with (record_key (passed_record x.party m value)) (apply r.edits x.party) ≡ Some n = subst (λ (z : FullName). record_with (at_peer z) (apply r.edits x.party) ≡ Some n) (alone u val c).0 g in let q : passed_record x.party m value ≡ n = put_same x.party (apply r.edits x.party) (record_key (passed_record x.party m value)) (passed_record x.party m value) n keys_is refl j in
+            ap (λ (z : KeyRec). z.value) (sym q) ∙ (value_is b ∙ (ap (λ (o : List ℕ). unseal_of b.link.pair o m.ultimate m.ctb m.kdu) mine_is ∙ sym (alone u val c).1)));
+        twins = λ e j is. absurd (elim (ex_put (drop_row exchange_key bytes_eq m.originator x.party.exchanges) (passed_exchange x.party m value way) m.ultimate e (rw (← ex_is) j)) [
+          | inl a ↦ (let q : None ≡ Some (name_behind (centre_name x.party m)) = ap (λ (z : Exchange). second_name_by z.kind) a.1 ∙ ap second_name_by is in cc)
+          | inr a ↦ a.1 refl
+        ]);
         waits = λ e new j nm w. absurd (elim (ex_put (drop_row exchange_key bytes_eq m.originator x.party.exchanges) (passed_exchange x.party m value way) m.ultimate e (rw (← ex_is) j)) [
           | inl a ↦ (let q : new_of e.kind ≡ None = ap (λ (z : Exchange). new_of z.kind) (sym a.1) ∙ way_new in cc)
           | inr a ↦ a.1 refl

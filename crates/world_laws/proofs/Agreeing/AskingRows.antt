@@ -56,7 +56,7 @@ module _ (v : Lists) (p : List ℕ) (x : Member) (room : ℕ) (at : member_at p 
     back = backed v.members x.party (ask_centre x.party peer u).edits (tt, tt);
     news = news_put x.party (apply (ask_centre x.party peer u).edits x.party) (record { peer = peer; kind = kind.Asked u; text = text_of (Plain (centre_request x.party peer u)) }) refl refl;
     keys = unmoved refl;
-    exchanges = sent_other x.party (apply (ask_centre x.party peer u).edits x.party) (record { peer = peer; kind = kind.Asked u; text = text_of (Plain (centre_request x.party peer u)) }) refl refl refl refl sent;
+    exchanges = sent_other x.party (apply (ask_centre x.party peer u).edits x.party) (record { peer = peer; kind = kind.Asked u; text = text_of (Plain (centre_request x.party peer u)) }) refl refl refl refl refl sent;
     waits = waits_put x.party (apply (ask_centre x.party peer u).edits x.party) (record { peer = peer; kind = kind.Asked u; text = text_of (Plain (centre_request x.party peer u)) }) refl refl;
     replies = tt;
     new = tt;
@@ -69,7 +69,7 @@ module _ (v : Lists) (p : List ℕ) (x : Member) (room : ℕ) (at : member_at p 
     back = backed v.members x.party (translate_drawn x.party centre u l (Some d)).edits (tt, (inr (inr (l, at_key, refl, refl)), (tt, tt)));
     news = news_put x.party (apply (translate_drawn x.party centre u l (Some d)).edits x.party) (translate_exchange x.party centre u l d.0) refl refl;
     keys = unmoved refl;
-    exchanges = sent_other x.party (apply (translate_drawn x.party centre u l (Some d)).edits x.party) (translate_exchange x.party centre u l d.0) refl refl refl refl sent;
+    exchanges = sent_other x.party (apply (translate_drawn x.party centre u l (Some d)).edits x.party) (translate_exchange x.party centre u l d.0) refl refl refl refl refl sent;
     waits = waits_from x.party (apply (translate_drawn x.party centre u l (Some d)).edits x.party) (λ q g n j s. elim (ex_put x.party.exchanges (translate_exchange x.party centre u l d.0) q g j) [
       | inl a ↦ inr (l, subst (λ (z : List ℕ). link_with (sends z centre_label) x.party ≡ Some l) (sym a.0) e, at_count n (ap (λ (z : Exchange). waiting_by z.kind) a.1 ∙ s))
       | inr a ↦ inl a.0

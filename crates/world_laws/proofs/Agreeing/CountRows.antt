@@ -1,4 +1,11 @@
 -- How each row moves the counts that are expected.
+use Rattle.party_state.specs.Names.{name_behind}
+use Rattle.role_base.specs.declared.exchanges.Twins.{Twins}
+use Rattle.role_base.specs.Exchanges.{twins_to, ended}
+use Rattle.role_base.specs.Conditions.{is_two_keys}
+use Rattle.bank_arrivals.specs.declared.draws.TwinsDrawn.{TwinsDrawn}
+use Rattle.bank_arrivals.specs.SendingTwins.{twins_drawn, twins_sending_drawn}
+use Rattle.bank_arrivals.specs.Rsm.{rsm_by, rsm_twins}
 use Rattle.std.proofs.Common.{arith, ◌≡◌, ℕ, ◌+◌, ◌≤◌, Bool, true, false, cond, Option, Some, None, List, [], ◌∷◌, ◌++◌, inl, refl, sym, ap, subst}
 use Rattle.std.specs.List.{AllByRecursion}
 use Rattle.x_base.specs.declared.key_name.KeyName.{KeyName}
@@ -43,12 +50,12 @@ use Rattle.role_base.specs.Sending.{sending_drawn}
 use Rattle.role_base.specs.Texts.{is_plain, auth_text}
 use Rattle.bank_orders.specs.Start.{sending_link, start_tests, start_under}
 use Rattle.bank_orders.specs.Resend.{resend_of}
-use Rattle.bank_orders.specs.GivingUp.{ended, given_up, given_up_in}
+use Rattle.bank_orders.specs.GivingUp.{given_up, given_up_in}
 use Rattle.bank_orders.specs.Ending.{end_record}
 use Rattle.bank_arrivals.specs.declared.disconnection.Named.{Named}
 use Rattle.bank_arrivals.specs.declared.error_message.Subject.{Subject}
-use Rattle.bank_arrivals.specs.declared.error_message.Subject.TheVariants.{SentKey, Translated}
-use Rattle.bank_arrivals.specs.Rsi.{rsi_tests, rsi_under}
+use Rattle.bank_arrivals.specs.declared.error_message.Subject.TheVariants.{SentKey, SentTwins, Translated}
+use Rattle.bank_arrivals.specs.Rsi.{rsi_tests, rsi_row, rsi_under}
 use Rattle.bank_arrivals.specs.Rsm.{rsm_to, answer_to, rsm_with}
 use Rattle.bank_arrivals.specs.Esm.{subject_with, subject_link, subject_value, raised, subject_ended, plain_esm, error_of, way_link, is_renewed}
 use Rattle.bank_arrivals.specs.Dsm.{named_by, left_by, left_in, dsm_on}
@@ -105,6 +112,7 @@ way_side p peer (via.Translation centre) l h = absurd (cc)
 
 subject_side : (p : Party) (peer : List ℕ) (s : Subject) (l : LinkRec) → subject_link p peer s ≡ Some l → l.side ≡ Sends
 subject_side p peer (SentKey s) l h = way_side p peer s.way l h
+subject_side p peer (SentTwins t) l h = side_of p (sends peer t.first.name.label) l h
 subject_side p peer (Translated value cta) l h = side_of p (sends peer centre_label) l h
 
 dropped_sends : (o : Option LinkRec) → AllByRecursion PutsSends (dropped o)
@@ -178,6 +186,7 @@ module _ (ms : List Member) (p : Party) (links : HasLinks p) where
       by_kind (kind.Asked ultimate) = (tt, tt)
       by_kind (kind.Translating ultimate value cta) = (tt, tt)
       by_kind (kind.Ending name) = (tt, tt)
+      by_kind (kind.PairSent name) = joined (ended (record_of p peer name) ++ ended (record_of p peer (name_behind name))) (DropExchange peer ∷ []) (joined (ended (record_of p peer name)) (ended (record_of p peer (name_behind name))) (ended_sends (record_of p peer name)) (ended_sends (record_of p peer (name_behind name)))) (tt, tt)
 
   command_counts : (c : Command) (moment : ℕ) → IsCommand c → CountsMove ms p (command_row p c moment)
   command_counts (command.Load peer label side pair) moment i = absurd i
@@ -193,18 +202,33 @@ module _ (ms : List Member) (p : Party) (links : HasLinks p) where
 
   rsi_counts : (a : Arrival) (m : Rsi) (moment : ℕ) (o : Option LinkRec) → first_link m.originator Sends p ≡ o → CountsMove ms p (rsi_under p a m o moment)
   rsi_counts a m moment None e = sending_counts ms p (rsi_under p a m None moment) tt refl
-  rsi_counts a m moment (Some l) e = sending_of (rsi_tests p a m (Some l)) l (good_draw p.generator moment) (ap (λ (k : LinkKey). k.side) (first_at p m.originator Sends l links e).at.key)
+  rsi_counts a m moment (Some l) e = by_service (is_two_keys m.service)
+    where
+      side : l.side ≡ Sends
+      side = ap (λ (k : LinkKey). k.side) (first_at p m.originator Sends l links e).at.key
+
+      by_draw : (o : Option TwinsDrawn) → CountsMove ms p (twins_sending_drawn p (rsi_tests p a m (Some l)) l o)
+      by_draw None = sending_counts ms p (twins_sending_drawn p (rsi_tests p a m (Some l)) l None) tt refl
+      by_draw (Some d) = sending_counts ms p (twins_sending_drawn p (rsi_tests p a m (Some l)) l (Some d)) (tt, (side, (tt, (tt, (tt, tt))))) refl
+
+      by_service : (b : Bool) → CountsMove ms p (rsi_row p a m l moment b)
+      by_service true = by_draw (twins_drawn p.generator moment)
+      by_service false = sending_of (rsi_tests p a m (Some l)) l (good_draw p.generator moment) side
 
   translated_counts : (a : Arrival) (m : Rtr) (o : Option Waiting) → CountsMove ms p (translated p a m o)
   translated_counts a m None = sending_counts ms p (translated p a m None) tt refl
   translated_counts a m (Some t) = sending_counts ms p (translated p a m (Some t)) (tt, (tt, (tt, tt))) refl
 
   rsm_counts : (a : Arrival) (m : Rsm) (o : Option KeyName) → CountsMove ms p (rsm_with p a m o)
-  rsm_counts a m None = go (sent_to p m.originator)
+  rsm_counts a m None = by_twins (twins_to p m.originator)
     where
       go : (o : Option Sent) → CountsMove ms p (rsm_to p a m o)
       go None = sending_counts ms p (rsm_to p a m None) tt refl
       go (Some s) = sending_counts ms p (rsm_to p a m (Some s)) (joined (readied (new_link p m.originator s.way)) _ (readied_sends (new_link p m.originator s.way) (λ l e. new_side p m.originator s.way l e)) (tt, (tt, tt))) refl
+
+      by_twins : (t : Option Twins) → CountsMove ms p (rsm_by p a m t)
+      by_twins None = go (sent_to p m.originator)
+      by_twins (Some t) = sending_counts ms p (rsm_twins p a m t) (tt, (tt, (tt, tt))) refl
   rsm_counts a m (Some name) = go (ending_with p m.originator)
     where
       go : (o : Option KeyRec) → CountsMove ms p (answer_to p a m name o)
@@ -217,6 +241,7 @@ module _ (ms : List Member) (p : Party) (links : HasLinks p) where
 
   subject_sends : (peer : List ℕ) (s : Subject) → AllByRecursion PutsSends (subject_ended p peer s)
   subject_sends peer (SentKey s) = joined (dropped (new_link p peer s.way)) _ (dropped_sends (new_link p peer s.way)) (tt, tt)
+  subject_sends peer (SentTwins t) = (tt, (tt, tt))
   subject_sends peer (Translated value cta) = tt
 
   esm_counts : (a : Arrival) (m : Esm) (b : Bool) (o : Option Subject) (again : Option Retry) → CountsMove ms p (cond b (plain_esm p a m) (error_of p a m o again))
@@ -239,11 +264,19 @@ module _ (ms : List Member) (p : Party) (links : HasLinks p) where
       by_ending true = (tt, (tt, tt))
       by_ending false = (tt, tt)
 
+      by_pair : (j k : Option KeyRec) (b c : Bool) → Both (cond b ([], ended k ++ DropExchange m.originator ∷ []) (cond c (ended j, DropExchange m.originator ∷ []) ([], [])))
+      by_pair j None true c = (tt, (tt, tt))
+      by_pair j (Some k) true c = (tt, (tt, (tt, tt)))
+      by_pair None k false true = (tt, (tt, tt))
+      by_pair (Some j) k false true = (tt, (tt, (tt, tt)))
+      by_pair j k false false = (tt, tt)
+
       by_kind : (k : Kind) → Both (left_by p m.originator n.key.name k)
       by_kind (kind.KeySent sent way) = by_sent way (same_name n.key.name sent)
       by_kind (kind.Ending ending) = by_ending (same_name n.key.name ending)
       by_kind (kind.Asked ultimate) = (tt, tt)
       by_kind (kind.Translating ultimate value cta) = (tt, tt)
+      by_kind (kind.PairSent sent) = by_pair (record_of p m.originator sent) (record_of p m.originator (name_behind sent)) (same_name n.key.name sent) (same_name n.key.name (name_behind sent))
 
       by_exchange : (o : Option Exchange) → Both (left_in p m.originator n.key.name o)
       by_exchange None = (tt, tt)

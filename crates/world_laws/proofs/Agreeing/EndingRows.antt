@@ -1,5 +1,5 @@
 -- Agreement: what is given up, ended and removed.
-use Rattle.std.proofs.Common.{◌≡◌, inl, ℕ, true, false, not, Option, Some, None, List, [], ◌∷◌, ◌++◌, refl, sym, ◌∙◌, ap, subst, bytes_eq}
+use Rattle.std.proofs.Common.{◌≡◌, ◌≢◌, inl, inr, ℕ, true, false, not, Option, Some, None, List, [], ◌∷◌, ◌++◌, refl, sym, ◌∙◌, ap, subst, bytes_eq}
 use Rattle.x_base.specs.declared.key_name.KeyName.{KeyName}
 use Rattle.party_state.specs.declared.link.LinkKey.{LinkKey}
 use Rattle.party_state.specs.declared.link.LinkRec.{LinkRec}
@@ -39,14 +39,19 @@ use Rattle.world_laws.proofs.Counting.Sound.{IsSound}
 use Rattle.world_laws.proofs.Agreeing.KeyRecords.{one, unmoved, purged}
 use Rattle.world_laws.proofs.Agreeing.Lists.{WaitsMove, waits_stay}
 use Rattle.world_laws.proofs.Agreeing.Waiting.{NewsMove, news_stay}
-use Rattle.world_laws.proofs.Agreeing.Exchanges.{waits_drop, waits_put, news_drop, news_put, sent_drop, sent_put, sent_less, sent_same, record_is, SentIs}
+use Rattle.world_laws.proofs.Agreeing.Exchanges.{waits_drop, waits_put, news_drop, news_put, sent_drop, sent_drop_two, sent_put, sent_less, sent_same, record_is, SentIs}
 use Rattle.world_laws.proofs.Agreeing.Backs.{backed, passes_backed}
 use Rattle.world_laws.proofs.Agreeing.Steps.{with_status, class_later, status_fine, ended_fine, still_agreeing, refused_agreeing}
 use Rattle.party_state.specs.Tables.{drop_row}
-use Rattle.party_state.specs.declared.edit.Edit.TheVariants.{DropExchange}
+use Rattle.party_state.specs.declared.edit.Edit.TheVariants.{PutKey, DropExchange}
+use Rattle.party_state.specs.Names.{name_behind}
+use Rattle.role_base.proofs.TwinKeys.{behind_other}
+use Rattle.world_laws.proofs.Agreeing.Waiting.{sent_name_by, second_name_by, SendsName}
+use Rattle.world_laws.proofs.Agreeing.KeyRecords.{two}
+use Rattle.world_laws.proofs.Agreeing.Steps.{pending_not_held}
 use Rattle.party_state.specs.declared.exchange.Via.{Via}
-use Rattle.role_base.specs.Exchanges.{new_link, dropped}
-use Rattle.bank_orders.specs.GivingUp.{ended, given_up, given_up_in, drop}
+use Rattle.role_base.specs.Exchanges.{new_link, dropped, ended}
+use Rattle.bank_orders.specs.GivingUp.{given_up, given_up_in, drop}
 use Rattle.bank_orders.specs.Ending.{can_end, end_tests, end_reply, end_record, purge}
 use Rattle.world_laws.proofs.Links.Waiting.{Waits}
 use Rattle.world_laws.proofs.Sound.Commands.{given_up_passes}
@@ -118,11 +123,48 @@ module _ (v : Lists) (p : List ℕ) (x : Member) (room : ℕ) (at : member_at p 
           let fine_e : KeyFine v (lists_after v x room text (drop x.party peer)) x.party (apply ((dropped (new_link x.party peer way) ++ ended (Some k)) ++ DropExchange peer ∷ []) x.party) (with_status k Ended) = subst (λ (z : List Edit). KeyFine v (lists_after v x room text (drop x.party peer)) x.party (apply z x.party) (with_status k Ended)) (sym es) fine in
           drop_with text peer ((dropped (new_link x.party peer way) ++ ended (Some k)) ++ DropExchange peer ∷ []) es parts.1 parts.0 (one (with_status k Ended) keys fine_e) (sent_drop x.party (apply ((dropped (new_link x.party peer way) ++ ended (Some k)) ++ DropExchange peer ∷ []) x.party) peer (with_status k Ended) parts.1 parts.0 keys is.1 sent)
 
+      -- the records of two keys, as many as stand
+      pair_is : (f : Exchange) (name : KeyName) (j k : Option KeyRec) → exchange_with peer x.party ≡ Some f → f.kind ≡ kind.PairSent name → record_of x.party peer name ≡ j → record_of x.party peer (name_behind name) ≡ k → (ended j ++ ended k) ++ DropExchange peer ∷ [] ≡ (drop x.party peer).edits
+      pair_is f name j k a b r q = (λ h. (ended ((sym r) h) ++ ended ((sym q) h)) ++ DropExchange peer ∷ []) ∙ edits_are f (kind.PairSent name) a b
+
+      one_fine : (f : Exchange) (name : KeyName) (k : KeyRec) → exchange_with peer x.party ≡ Some f → SendsName f.kind name → record_of x.party peer name ≡ Some k → WaitsMove x.party (apply (drop x.party peer).edits x.party) → KeyFine v (lists_after v x room text (drop x.party peer)) x.party (apply (drop x.party peer).edits x.party) (with_status k Ended)
+      one_fine f name k a n r moved =
+          let pending : k.status ≡ Pending = (sent peer f name a n).pending k r in
+          status_fine v p x room at i o text (drop x.party peer) k Ended grown moved (record_is x.party peer name k r).0 (λ e. refl) (λ no own. absurd no) (λ held. absurd (pending_not_held k.status pending held))
+
+      by_records : (f : Exchange) (name : KeyName) → exchange_with peer x.party ≡ Some f → f.kind ≡ kind.PairSent name → (j k : Option KeyRec) → record_of x.party peer name ≡ j → record_of x.party peer (name_behind name) ≡ k → Agreeing v x room text (drop x.party peer)
+      by_records f name a b None None r q =
+          let es : DropExchange peer ∷ [] ≡ (drop x.party peer).edits = pair_is f name None None a b r q in
+          drop_with text peer (DropExchange peer ∷ []) es refl refl (unmoved refl) (sent_less x.party (apply (DropExchange peer ∷ []) x.party) peer refl refl refl sent)
+      by_records f name a b (Some j) None r q =
+          let list : List Edit = PutKey (with_status j Ended) ∷ DropExchange peer ∷ [] in
+          let es : PutKey (with_status j Ended) ∷ DropExchange peer ∷ [] ≡ (drop x.party peer).edits = pair_is f name (Some j) None a b r q in
+          let moved : WaitsMove x.party (apply (drop x.party peer).edits x.party) = subst (λ (z : List Edit). WaitsMove x.party (apply z x.party)) es (waits_drop x.party (apply (PutKey (with_status j Ended) ∷ DropExchange peer ∷ []) x.party) peer refl) in
+          let fine = one_fine f name j a (inl (ap sent_name_by b)) r moved in
+          let fine_e : KeyFine v (lists_after v x room text (drop x.party peer)) x.party (apply (PutKey (with_status j Ended) ∷ DropExchange peer ∷ []) x.party) (with_status j Ended) = subst (λ (z : List Edit). KeyFine v (lists_after v x room text (drop x.party peer)) x.party (apply z x.party) (with_status j Ended)) (sym es) fine in
+          drop_with text peer (PutKey (with_status j Ended) ∷ DropExchange peer ∷ []) es refl refl (one (with_status j Ended) refl fine_e) (sent_drop x.party (apply (PutKey (with_status j Ended) ∷ DropExchange peer ∷ []) x.party) peer (with_status j Ended) refl refl refl (record_is x.party peer name j r).1 sent)
+      by_records f name a b None (Some k) r q =
+          let es : PutKey (with_status k Ended) ∷ DropExchange peer ∷ [] ≡ (drop x.party peer).edits = pair_is f name None (Some k) a b r q in
+          let moved : WaitsMove x.party (apply (drop x.party peer).edits x.party) = subst (λ (z : List Edit). WaitsMove x.party (apply z x.party)) es (waits_drop x.party (apply (PutKey (with_status k Ended) ∷ DropExchange peer ∷ []) x.party) peer refl) in
+          let fine = one_fine f (name_behind name) k a (inr (ap second_name_by b)) q moved in
+          let fine_e : KeyFine v (lists_after v x room text (drop x.party peer)) x.party (apply (PutKey (with_status k Ended) ∷ DropExchange peer ∷ []) x.party) (with_status k Ended) = subst (λ (z : List Edit). KeyFine v (lists_after v x room text (drop x.party peer)) x.party (apply z x.party) (with_status k Ended)) (sym es) fine in
+          drop_with text peer (PutKey (with_status k Ended) ∷ DropExchange peer ∷ []) es refl refl (one (with_status k Ended) refl fine_e) (sent_drop x.party (apply (PutKey (with_status k Ended) ∷ DropExchange peer ∷ []) x.party) peer (with_status k Ended) refl refl refl (record_is x.party peer (name_behind name) k q).1 sent)
+      by_records f name a b (Some j) (Some k) r q =
+          let es : PutKey (with_status j Ended) ∷ PutKey (with_status k Ended) ∷ DropExchange peer ∷ [] ≡ (drop x.party peer).edits = pair_is f name (Some j) (Some k) a b r q in
+          let moved : WaitsMove x.party (apply (drop x.party peer).edits x.party) = subst (λ (z : List Edit). WaitsMove x.party (apply z x.party)) es (waits_drop x.party (apply (PutKey (with_status j Ended) ∷ PutKey (with_status k Ended) ∷ DropExchange peer ∷ []) x.party) peer refl) in
+          let is_j = record_is x.party peer name j r in
+          let is_k = record_is x.party peer (name_behind name) k q in
+          let fine_j : KeyFine v (lists_after v x room text (drop x.party peer)) x.party (apply (PutKey (with_status j Ended) ∷ PutKey (with_status k Ended) ∷ DropExchange peer ∷ []) x.party) (with_status j Ended) = subst (λ (z : List Edit). KeyFine v (lists_after v x room text (drop x.party peer)) x.party (apply z x.party) (with_status j Ended)) (sym es) (one_fine f name j a (inl (ap sent_name_by b)) r moved) in
+          let fine_k : KeyFine v (lists_after v x room text (drop x.party peer)) x.party (apply (PutKey (with_status j Ended) ∷ PutKey (with_status k Ended) ∷ DropExchange peer ∷ []) x.party) (with_status k Ended) = subst (λ (z : List Edit). KeyFine v (lists_after v x room text (drop x.party peer)) x.party (apply z x.party) (with_status k Ended)) (sym es) (one_fine f (name_behind name) k a (inr (ap second_name_by b)) q moved) in
+          let ne : record_key k ≢ record_key j = behind_other (record_key j) (record_key k) (sym is_k.2 ∙ ap name_behind is_j.2) in
+          drop_with text peer (PutKey (with_status j Ended) ∷ PutKey (with_status k Ended) ∷ DropExchange peer ∷ []) es refl refl (two (with_status j Ended) (with_status k Ended) ne refl fine_j fine_k) (sent_drop_two x.party (apply (PutKey (with_status j Ended) ∷ PutKey (with_status k Ended) ∷ DropExchange peer ∷ []) x.party) peer (with_status j Ended) (with_status k Ended) refl refl refl is_j.1 is_k.1 sent)
+
       by_kind : (f : Exchange) → exchange_with peer x.party ≡ Some f → (k : Kind) → f.kind ≡ k → Agreeing v x room text (drop x.party peer)
       by_kind f a (kind.KeySent name way) b = by_record f name way a b (record_of x.party peer name) refl
       by_kind f a (kind.Asked ultimate) b = quiet f (kind.Asked ultimate) a b refl
       by_kind f a (kind.Translating ultimate value cta) b = quiet f (kind.Translating ultimate value cta) a b refl
       by_kind f a (kind.Ending name) b = quiet f (kind.Ending name) a b refl
+      by_kind f a (kind.PairSent name) b = by_records f name a b (record_of x.party peer name) (record_of x.party peer (name_behind name)) refl refl
 
       by_exchange : (e : Option Exchange) → exchange_with peer x.party ≡ e → Agreeing v x room text (drop x.party peer)
       by_exchange None a = still_agreeing v p x room at i text (drop x.party peer) (ap (given_up_in x.party peer) a) tt tt tt
@@ -137,7 +179,7 @@ module _ (v : Lists) (p : List ℕ) (x : Member) (room : ℕ) (at : member_at p 
     back = backed v.members x.party (end_record x.party peer (Some k)).edits (tt, (tt, tt));
     news = news_put x.party (apply (end_record x.party peer (Some k)).edits x.party) (record { peer = k.peer; kind = kind.Ending k.name; text = text_of (end_reply x.party k) }) refl refl;
     keys = one (with_status k Closing) refl (status_fine v p x room at i o text (end_record x.party peer (Some k)) k Closing grown moved is.0 (λ e. absurd (not_ended k.status can e)) (λ no own. class_later v p x room at i text (end_record x.party peer (Some k)) OfKsm k.peer (to_peer (record_key k)) (i.live p x (record_key k) k at is.0 own (counts k.status can))) (λ held. inl tt));
-    exchanges = sent_put x.party (apply (end_record x.party peer (Some k)).edits x.party) (record { peer = k.peer; kind = kind.Ending k.name; text = text_of (end_reply x.party k) }) (with_status k Closing) refl refl refl refl (λ n q. absurd (cc)) sent;
+    exchanges = sent_put x.party (apply (end_record x.party peer (Some k)).edits x.party) (record { peer = k.peer; kind = kind.Ending k.name; text = text_of (end_reply x.party k) }) (with_status k Closing) refl refl refl refl (λ n q. absurd (cc)) refl sent;
     waits = moved;
     replies = tt;
     new = tt;

@@ -30,7 +30,10 @@ use Rattle.world_laws.proofs.Links.Growth.{change_grows}
 use Rattle.world_laws.proofs.Counting.Sound.{IsSound}
 use Rattle.world_laws.proofs.Agreeing.KeyRecords.{one, unmoved}
 use Rattle.world_laws.proofs.Agreeing.Lists.{WaitsMove}
-use Rattle.world_laws.proofs.Agreeing.Exchanges.{waits_drop, waits_both, news_drop, news_both, sent_drop, sent_both, sent_less, SentIs, sent_is}
+use Rattle.world_laws.proofs.Agreeing.Exchanges.{waits_drop, waits_both, news_drop, news_both, sent_drop, sent_drop_two, sent_both, sent_less, SentIs, sent_is, TwinsIs, twins_is, twins_apart}
+use Rattle.bank_arrivals.proofs.ArrivalsApart.{subject_twins}
+use Rattle.world_laws.proofs.Agreeing.KeyRecords.{two}
+use Rattle.world_laws.proofs.Agreeing.Steps.{twins_ended}
 use Rattle.world_laws.proofs.Agreeing.Backs.{passes_backed}
 use Rattle.world_laws.proofs.Agreeing.Steps.{plain, with_status, ended_fine, still_agreeing, refused_agreeing}
 use Rattle.party_state.specs.Tables.{drop_row}
@@ -41,7 +44,7 @@ use Rattle.role_base.specs.Exchanges.{new_link, dropped}
 use Rattle.party_state.specs.Rows.{OfEsm}
 use Rattle.csm_grammar.specs.declared.message.Esm.{Esm}
 use Rattle.bank_arrivals.specs.declared.error_message.Subject.{Subject}
-use Rattle.bank_arrivals.specs.declared.error_message.Subject.TheVariants.{SentKey, Translated}
+use Rattle.bank_arrivals.specs.declared.error_message.Subject.TheVariants.{SentKey, SentTwins, Translated}
 use Rattle.bank_arrivals.specs.Esm.{subject_with, subject_link, raised, esm_front, plain_esm}
 use Rattle.bank_arrivals.specs.declared.asking_again.Retry.{Retry}
 use Rattle.bank_arrivals.specs.AskingAgain.{ers_reply, asked_again, again_reply, retry_in}
@@ -60,16 +63,19 @@ data GivenUp (s t : Party) (m : Esm) (value : ℕ) : Type 0 where
 abbrev pub AsksFor : Option Subject → Option Retry → Type 0
 AsksFor None retry = Unit {0}
 AsksFor (Some (SentKey s)) retry = Unit {0}
+AsksFor (Some (SentTwins t)) retry = retry ≡ None
 AsksFor (Some (Translated value cta)) retry = retry ≡ None
 
 pub asks_for : (p : Party) (o : Option Subject) (ctr : Option ℕ) → AsksFor o (retry_in p o ctr)
 asks_for p None ctr = tt
 asks_for p (Some (SentKey s)) ctr = tt
+asks_for p (Some (SentTwins t)) ctr = refl
 asks_for p (Some (Translated value cta)) ctr = refl
 
 pub asks_none : (o : Option Subject) → AsksFor o None
 asks_none None = tt
 asks_none (Some (SentKey s)) = tt
+asks_none (Some (SentTwins t)) = refl
 asks_none (Some (Translated value cta)) = refl
 
 given_parts : (s : Party) (m : Esm) (value : ℕ) (link : Option LinkRec) (ctr : Option ℕ) (l : Option LinkRec) (k : KeyRec) (r : Option Retry)
@@ -91,6 +97,11 @@ alone_parts : (s : Party) (peer : List ℕ) (link : Option LinkRec) (ctr : Optio
 alone_parts s peer None ctr = (refl, refl)
 alone_parts s peer (Some l) None = (refl, refl)
 alone_parts s peer (Some l) (Some n) = (refl, refl)
+
+twice_parts : (s : Party) (peer : List ℕ) (link : Option LinkRec) (ctr : Option ℕ) (j k : KeyRec) → ((apply (raised link ctr ++ ((PutKey j ∷ PutKey k ∷ []) ++ DropExchange peer ∷ [])) s).keys ≡ put_row record_key same_record k (put_row record_key same_record j s.keys)) × ((apply (raised link ctr ++ ((PutKey j ∷ PutKey k ∷ []) ++ DropExchange peer ∷ [])) s).exchanges ≡ drop_row exchange_key bytes_eq peer s.exchanges)
+twice_parts s peer None ctr j k = (refl, refl)
+twice_parts s peer (Some l) None j k = (refl, refl)
+twice_parts s peer (Some l) (Some n) j k = (refl, refl)
 
 module _ (v : Lists) (p : List ℕ) (x : Member) (room : ℕ) (at : member_at p v.members ≡ Some x) (i : Agreed v) (w : Waits x.party) where
   sent : AllSent x.party
@@ -120,6 +131,23 @@ module _ (v : Lists) (p : List ℕ) (x : Member) (room : ℕ) (at : member_at p 
         new = tt;
         accepts = tt;
       }
+  error_agreeing o a m (Some (SentTwins t)) (Some r) fits e sound = absurd (cc)
+  error_agreeing o a m (Some (SentTwins t)) None fits e sound =
+      let parts = twice_parts x.party m.originator (subject_link x.party m.originator (SentTwins t)) m.ctr (with_status t.first Ended) (with_status t.second Ended) in
+      let grown : PartyGrows o x.party (apply (error_row x.party a m (SentTwins t) None).edits x.party) = change_grows o (error_row x.party a m (SentTwins t) None).edits x.party sound.edits in
+      let is : TwinsIs x.party m.originator t = twins_is x.party m.originator t (subject_twins x.party m.originator t e) in
+      let moved : WaitsMove x.party (apply (error_row x.party a m (SentTwins t) None).edits x.party) = waits_drop x.party (apply (error_row x.party a m (SentTwins t) None).edits x.party) m.originator parts.1 in
+      let fine = twins_ended v p x room at i o (auth_text a) (error_row x.party a m (SentTwins t) None) m.originator t grown moved is in
+      record {
+        back = passes_backed v.members x.party (error_row x.party a m (SentTwins t) None).edits (error_passes x.party a m (SentTwins t) None w e);
+        news = news_drop x.party (apply (error_row x.party a m (SentTwins t) None).edits x.party) m.originator parts.1;
+        keys = two (with_status t.first Ended) (with_status t.second Ended) (twins_apart x.party m.originator t is) parts.0 fine.0 fine.1;
+        exchanges = sent_drop_two x.party (apply (error_row x.party a m (SentTwins t) None).edits x.party) m.originator (with_status t.first Ended) (with_status t.second Ended) grown.own parts.1 parts.0 is.peer_is is.other_peer sent;
+        waits = moved;
+        replies = tt;
+        new = tt;
+        accepts = plain (lists_after v x room (auth_text a) (error_row x.party a m (SentTwins t) None)) x.party.own (auth_text a) OfEsm (full_name x.party.own t.first ∷ full_name x.party.own t.second ∷ []) (λ g. cc) (λ g. cc) (λ g. cc);
+      }
   error_agreeing o a m (Some (SentKey y)) again_is fits e sound = go parts.1
     where
       parts : ((apply (error_row x.party a m (SentKey y) again_is).edits x.party).keys ≡ put_row record_key same_record (with_status y.key Ended) x.party.keys) × GivenUp x.party (apply (error_row x.party a m (SentKey y) again_is).edits x.party) m y.key.value
@@ -134,8 +162,8 @@ module _ (v : Lists) (p : List ℕ) (x : Member) (room : ℕ) (at : member_at p 
       back : Backed v.members x.party (apply (error_row x.party a m (SentKey y) again_is).edits x.party)
       back = passes_backed v.members x.party (error_row x.party a m (SentKey y) again_is).edits (error_passes x.party a m (SentKey y) again_is w e)
 
-      accepts : AcceptsOk (lists_after v x room (auth_text a) (error_row x.party a m (SentKey y) again_is)) x.party.own (auth_text a) (Some (record { class = OfEsm; under = full_name x.party.own y.key }))
-      accepts = plain (lists_after v x room (auth_text a) (error_row x.party a m (SentKey y) again_is)) x.party.own (auth_text a) OfEsm (full_name x.party.own y.key) (λ g. cc) (λ g. cc) (λ g. cc)
+      accepts : AcceptsOk (lists_after v x room (auth_text a) (error_row x.party a m (SentKey y) again_is)) x.party.own (auth_text a) (Some (record { class = OfEsm; names = full_name x.party.own y.key ∷ [] }))
+      accepts = plain (lists_after v x room (auth_text a) (error_row x.party a m (SentKey y) again_is)) x.party.own (auth_text a) OfEsm (full_name x.party.own y.key ∷ []) (λ g. cc) (λ g. cc) (λ g. cc)
 
       go : GivenUp x.party (apply (error_row x.party a m (SentKey y) again_is).edits x.party) m y.key.value → Agreeing v x room (auth_text a) (error_row x.party a m (SentKey y) again_is)
       go (quietly ex) =
@@ -157,7 +185,7 @@ module _ (v : Lists) (p : List ℕ) (x : Member) (room : ℕ) (at : member_at p 
             back = back;
             news = news_both x.party (apply (error_row x.party a m (SentKey y) again_is).edits x.party) m.originator n ex refl;
             keys = one (with_status y.key Ended) parts.0 (ended_fine v p x room at i o (auth_text a) (error_row x.party a m (SentKey y) again_is) m.originator y grown moved is);
-            exchanges = sent_both x.party (apply (error_row x.party a m (SentKey y) again_is).edits x.party) m.originator n (with_status y.key Ended) grown.own ex parts.0 (inl is.peer_is) (λ name q. absurd (cc)) sent;
+            exchanges = sent_both x.party (apply (error_row x.party a m (SentKey y) again_is).edits x.party) m.originator n (with_status y.key Ended) grown.own ex parts.0 (inl is.peer_is) (λ name q. absurd (cc)) refl sent;
             waits = moved;
             replies = again_ok a m y.key.value (lists_after v x room (auth_text a) (error_row x.party a m (SentKey y) again_is)) again_is;
             new = again_new m y.key.value again_is;

@@ -14,16 +14,18 @@ use Rattle.party_state.specs.State.{Party, centre_label, link_with, record_with,
 use Rattle.party_state.proofs.Keys.{test_idents, test_records}
 use Rattle.party_state.proofs.Tables.{one_found, find_put}
 use Rattle.bank_keys.specs.declared.waits.Waiting.{Waiting}
-use Rattle.world_laws.proofs.Links.Waiting.{new_of}
 use Rattle.std.specs.Prelude.{option_map}
 use Rattle.party_state.specs.Tables.{drop_row}
 use Rattle.party_state.proofs.Tables.{find_key, find_put_same, find_drop}
 use Rattle.party_state.specs.declared.exchange.Via.{Via}
 use Rattle.role_base.specs.declared.exchanges.Sent.{Sent}
-use Rattle.role_base.specs.Exchanges.{record_of, sent_by, sent_in, sent_to, ending_by, ending_in, ending_with}
+use Rattle.role_base.specs.Exchanges.{record_of, sent_by, sent_in, sent_to, twins_to, ending_by, ending_in, ending_with}
+use Rattle.role_base.specs.declared.exchanges.Twins.{Twins}
+use Rattle.role_base.proofs.TwinKeys.{twins_at, behind_other}
+use Rattle.party_state.specs.Names.{name_behind}
 use Rattle.bank_keys.specs.Waiting.{waiting_by, waiting_in}
 use Rattle.world_laws.proofs.Agreeing.Lists.{WaitsMove}
-use Rattle.world_laws.proofs.Agreeing.Waiting.{NewsMove, sent_name_by, SentOk, AllSent}
+use Rattle.world_laws.proofs.Agreeing.Waiting.{NewsMove, sent_name_by, second_name_by, mark_of, SendsName, SentOk, AllSent}
 
 -- Records
 
@@ -37,6 +39,9 @@ put_other s t k m r is ne h = go (same_record k (record_key m)) refl
     go : (b : Bool) → same_record k (record_key m) ≡ b → record_with k s ≡ Some r
     go true i = absurd (ne ((test_records.decides k (record_key m)).0 i))
     go false i = at_put false i
+
+pub put_other_two : (s t : Party) (k : RecordKey) (m n r : KeyRec) → t.keys ≡ put_row record_key same_record n (put_row record_key same_record m s.keys) → k ≢ record_key m → k ≢ record_key n → record_with k t ≡ Some r → record_with k s ≡ Some r
+put_other_two s t k m n r is ne_m ne_n h = put_other s (record s { keys = put_row record_key same_record m s.keys }) k m r refl ne_m (put_other (record s { keys = put_row record_key same_record m s.keys }) t k n r is ne_n h)
 
 pub put_same : (s t : Party) (k : RecordKey) (m r : KeyRec) → t.keys ≡ put_row record_key same_record m s.keys → k ≡ record_key m → record_with k t ≡ Some r → m ≡ r
 put_same s t k m r is key h =
@@ -90,27 +95,32 @@ waits_both s t j n is none = waits_from s t (λ peer e v h k. elim (ex_put (drop
   | inr a ↦ inl (ex_drop s.exchanges j peer e a.0).0
 ])
 
--- no exchange with a new label comes
-pub news_from : (s t : Party) → ((peer : List ℕ) (e : Exchange) (new : List ℕ) → exchange_with peer t ≡ Some e → new_of e.kind ≡ Some new → exchange_with peer s ≡ Some e) → NewsMove s t
+-- no exchange with a new label comes, and none for two keys
+pub news_from : (s t : Party) → ((peer : List ℕ) (e : Exchange) (new : List ℕ) → exchange_with peer t ≡ Some e → mark_of e.kind ≡ Some new → exchange_with peer s ≡ Some e) → NewsMove s t
 news_from s t f peer e name new h n w = inl (f peer e new h w)
 
 pub news_drop : (s t : Party) (j : List ℕ) → t.exchanges ≡ drop_row exchange_key bytes_eq j s.exchanges → NewsMove s t
 news_drop s t j is = news_from s t (λ peer e v h k. (ex_drop s.exchanges j peer e (rw (← is) h)).0)
 
-pub news_put : (s t : Party) (n : Exchange) → t.exchanges ≡ put_row exchange_key bytes_eq n s.exchanges → new_of n.kind ≡ None → NewsMove s t
+pub news_put : (s t : Party) (n : Exchange) → t.exchanges ≡ put_row exchange_key bytes_eq n s.exchanges → mark_of n.kind ≡ None → NewsMove s t
 news_put s t n is none = news_from s t (λ peer e v h k. elim (ex_put s.exchanges n peer e (rw (← is) h)) [
-  | inl a ↦ absurd (let q : new_of e.kind ≡ None = ap (λ (z : Exchange). new_of z.kind) (sym a.1) ∙ none in cc)
+  | inl a ↦ absurd (let q : mark_of e.kind ≡ None = ap (λ (z : Exchange). mark_of z.kind) (sym a.1) ∙ none in cc)
   | inr a ↦ a.0
 ])
 
-pub news_both : (s t : Party) (j : List ℕ) (n : Exchange) → t.exchanges ≡ put_row exchange_key bytes_eq n (drop_row exchange_key bytes_eq j s.exchanges) → new_of n.kind ≡ None → NewsMove s t
+pub news_both : (s t : Party) (j : List ℕ) (n : Exchange) → t.exchanges ≡ put_row exchange_key bytes_eq n (drop_row exchange_key bytes_eq j s.exchanges) → mark_of n.kind ≡ None → NewsMove s t
 news_both s t j n is none = news_from s t (λ peer e v h k. elim (ex_put (drop_row exchange_key bytes_eq j s.exchanges) n peer e (rw (← is) h)) [
-  | inl a ↦ absurd (let q : new_of e.kind ≡ None = ap (λ (z : Exchange). new_of z.kind) (sym a.1) ∙ none in cc)
+  | inl a ↦ absurd (let q : mark_of e.kind ≡ None = ap (λ (z : Exchange). mark_of z.kind) (sym a.1) ∙ none in cc)
   | inr a ↦ (ex_drop s.exchanges j peer e a.0).0
 ])
 
+-- an exchange that waits for one key
+sends_one : (k : Kind) (name : KeyName) → second_name_by k ≡ None → SendsName k name → sent_name_by k ≡ Some name
+sends_one k name none (inl h) = h
+sends_one k name none (inr h) = absurd (let e : None ≡ Some name = sym none ∙ h in cc)
+
 -- what waits for a key goes on waiting for it, where its record isn't the one that was put
-pub sent_keep : (s t : Party) → t.own ≡ s.own → ((peer : List ℕ) (e : Exchange) (name : KeyName) → exchange_with peer t ≡ Some e → sent_name_by e.kind ≡ Some name → ((exchange_with peer s ≡ Some e) × ((r : KeyRec) → record_with (record { peer = peer; name = name }) t ≡ Some r → record_with (record { peer = peer; name = name }) s ≡ Some r)) ⊎ SentOk t peer name) → AllSent s → AllSent t
+pub sent_keep : (s t : Party) → t.own ≡ s.own → ((peer : List ℕ) (e : Exchange) (name : KeyName) → exchange_with peer t ≡ Some e → SendsName e.kind name → ((exchange_with peer s ≡ Some e) × ((r : KeyRec) → record_with (record { peer = peer; name = name }) t ≡ Some r → record_with (record { peer = peer; name = name }) s ≡ Some r)) ⊎ SentOk t peer name) → AllSent s → AllSent t
 sent_keep s t own f a peer e name h n = elim (f peer e name h n) [
   | inl g ↦ (let o = a peer e name g.0 n in record { own = o.own ∙ sym own; pending = λ r at. o.pending r (g.1 r at) })
   | inr g ↦ g
@@ -124,9 +134,9 @@ pub sent_drop : (s t : Party) (j : List ℕ) (m : KeyRec) → t.own ≡ s.own �
 sent_drop s t j m own ex ks is = sent_keep s t own (λ peer e name h n. (let d = ex_drop s.exchanges j peer e (rw (← ex) h) in inl (d.0, λ r at. put_other s t (record { peer = peer; name = name }) m r ks (peer_ne peer j name m is d.1) at)))
 
 -- or another takes its place
-pub sent_put : (s t : Party) (n : Exchange) (m : KeyRec) → t.own ≡ s.own → t.exchanges ≡ put_row exchange_key bytes_eq n s.exchanges → t.keys ≡ put_row record_key same_record m s.keys → m.peer ≡ n.peer → ((name : KeyName) → sent_name_by n.kind ≡ Some name → (name ≡ m.name) × (name.originator ≡ s.own) × (m.status ≡ Pending)) → AllSent s → AllSent t
-sent_put s t n m own ex ks is new = sent_keep s t own (λ peer e name h k. elim (ex_put s.exchanges n peer e (rw (← ex) h)) [
-  | inl a ↦ inr (new_ok s t n m own ks is new peer e name a.0 a.1 k)
+pub sent_put : (s t : Party) (n : Exchange) (m : KeyRec) → t.own ≡ s.own → t.exchanges ≡ put_row exchange_key bytes_eq n s.exchanges → t.keys ≡ put_row record_key same_record m s.keys → m.peer ≡ n.peer → ((name : KeyName) → sent_name_by n.kind ≡ Some name → (name ≡ m.name) × (name.originator ≡ s.own) × (m.status ≡ Pending)) → second_name_by n.kind ≡ None → AllSent s → AllSent t
+sent_put s t n m own ex ks is new single = sent_keep s t own (λ peer e name h k. elim (ex_put s.exchanges n peer e (rw (← ex) h)) [
+  | inl a ↦ inr (new_ok s t n m own ks is new peer e name a.0 a.1 (sends_one e.kind name (ap (λ (z : Exchange). second_name_by z.kind) (sym a.1) ∙ single) k))
   | inr a ↦ inl (a.0, λ r at. put_other s t (record { peer = peer; name = name }) m r ks (peer_ne peer n.peer name m is a.1) at)
 ])
   where
@@ -137,9 +147,9 @@ sent_put s t n m own ex ks is new = sent_keep s t own (λ peer e name h k. elim 
         record { own = q.1 ∙ sym own; pending = λ r f. ap (λ (z : KeyRec). z.status) (sym (put_same s t (record { peer = peer; name = name }) m r ks key f)) ∙ q.2 }
 
 -- or one goes and another comes
-pub sent_both : (s t : Party) (j : List ℕ) (n : Exchange) (m : KeyRec) → t.own ≡ s.own → t.exchanges ≡ put_row exchange_key bytes_eq n (drop_row exchange_key bytes_eq j s.exchanges) → t.keys ≡ put_row record_key same_record m s.keys → (m.peer ≡ j) ⊎ (m.peer ≡ n.peer) → ((name : KeyName) → sent_name_by n.kind ≡ Some name → (name ≡ m.name) × (name.originator ≡ s.own) × (m.status ≡ Pending) × (m.peer ≡ n.peer)) → AllSent s → AllSent t
-sent_both s t j n m own ex ks is new = sent_keep s t own (λ peer e name h k. elim (ex_put (drop_row exchange_key bytes_eq j s.exchanges) n peer e (rw (← ex) h)) [
-  | inl a ↦ inr (new_ok peer e name a.0 a.1 k)
+pub sent_both : (s t : Party) (j : List ℕ) (n : Exchange) (m : KeyRec) → t.own ≡ s.own → t.exchanges ≡ put_row exchange_key bytes_eq n (drop_row exchange_key bytes_eq j s.exchanges) → t.keys ≡ put_row record_key same_record m s.keys → (m.peer ≡ j) ⊎ (m.peer ≡ n.peer) → ((name : KeyName) → sent_name_by n.kind ≡ Some name → (name ≡ m.name) × (name.originator ≡ s.own) × (m.status ≡ Pending) × (m.peer ≡ n.peer)) → second_name_by n.kind ≡ None → AllSent s → AllSent t
+sent_both s t j n m own ex ks is new single = sent_keep s t own (λ peer e name h k. elim (ex_put (drop_row exchange_key bytes_eq j s.exchanges) n peer e (rw (← ex) h)) [
+  | inl a ↦ inr (new_ok peer e name a.0 a.1 (sends_one e.kind name (ap (λ (z : Exchange). second_name_by z.kind) (sym a.1) ∙ single) k))
   | inr a ↦ (let d = ex_drop s.exchanges j peer e a.0 in inl (d.0, λ r at. put_other s t (record { peer = peer; name = name }) m r ks (ne peer name d.1 a.1 is) at))
 ])
   where
@@ -154,9 +164,9 @@ sent_both s t j n m own ex ks is new = sent_keep s t own (λ peer e name h k. el
         record { own = q.1 ∙ sym own; pending = λ r f. ap (λ (z : KeyRec). z.status) (sym (put_same s t (record { peer = peer; name = name }) m r ks key f)) ∙ q.2 }
 
 -- the keys stay, and the new exchange waits for none
-pub sent_other : (s t : Party) (n : Exchange) → t.own ≡ s.own → t.exchanges ≡ put_row exchange_key bytes_eq n s.exchanges → t.keys ≡ s.keys → sent_name_by n.kind ≡ None → AllSent s → AllSent t
-sent_other s t n own ex ks none = sent_keep s t own (λ peer e name h k. elim (ex_put s.exchanges n peer e (rw (← ex) h)) [
-  | inl a ↦ (let q : sent_name_by e.kind ≡ None = ap (λ (z : Exchange). sent_name_by z.kind) (sym a.1) ∙ none in absurd (cc))
+pub sent_other : (s t : Party) (n : Exchange) → t.own ≡ s.own → t.exchanges ≡ put_row exchange_key bytes_eq n s.exchanges → t.keys ≡ s.keys → sent_name_by n.kind ≡ None → second_name_by n.kind ≡ None → AllSent s → AllSent t
+sent_other s t n own ex ks none single = sent_keep s t own (λ peer e name h k. elim (ex_put s.exchanges n peer e (rw (← ex) h)) [
+  | inl a ↦ absurd (let q : sent_name_by e.kind ≡ None = ap (λ (z : Exchange). sent_name_by z.kind) (sym a.1) ∙ none in let h : sent_name_by e.kind ≡ Some name = sends_one e.kind name (ap (λ (z : Exchange). second_name_by z.kind) (sym a.1) ∙ single) k in cc)
   | inr a ↦ inl (a.0, λ r at. rw (← ks) at)
 ])
 
@@ -165,6 +175,17 @@ sent_less s t j own ex ks = sent_keep s t own (λ peer e name h k. inl ((ex_drop
 
 pub sent_same : (s t : Party) → t.own ≡ s.own → t.exchanges ≡ s.exchanges → ((k : RecordKey) (r : KeyRec) → record_with k t ≡ Some r → record_with k s ≡ Some r) → AllSent s → AllSent t
 sent_same s t own ex ks = sent_keep s t own (λ peer e name h k. inl (rw (← ex) h, λ r at. ks (record { peer = peer; name = name }) r at))
+
+-- two records are put, and the exchange with their peer goes
+pub sent_drop_two : (s t : Party) (j : List ℕ) (m n : KeyRec) → t.own ≡ s.own → t.exchanges ≡ drop_row exchange_key bytes_eq j s.exchanges → t.keys ≡ put_row record_key same_record n (put_row record_key same_record m s.keys) → m.peer ≡ j → n.peer ≡ j → AllSent s → AllSent t
+sent_drop_two s t j m n own ex ks is_m is_n = sent_keep s t own (λ peer e name h k. (let d = ex_drop s.exchanges j peer e (rw (← ex) h) in inl (d.0, λ r at. put_other_two s t (record { peer = peer; name = name }) m n r ks (peer_ne peer j name m is_m d.1) (peer_ne peer j name n is_n d.1) at)))
+
+-- or one that waits for both takes its place
+pub sent_put_two : (s t : Party) (e : Exchange) (m n : KeyRec) → t.own ≡ s.own → t.exchanges ≡ put_row exchange_key bytes_eq e s.exchanges → t.keys ≡ put_row record_key same_record n (put_row record_key same_record m s.keys) → m.peer ≡ e.peer → n.peer ≡ e.peer → ((name : KeyName) → SendsName e.kind name → SentOk t e.peer name) → AllSent s → AllSent t
+sent_put_two s t x m n own ex ks is_m is_n new = sent_keep s t own (λ peer e name h k. elim (ex_put s.exchanges x peer e (rw (← ex) h)) [
+  | inl a ↦ inr (subst (λ (q : List ℕ). SentOk t q name) (sym a.0) (new name (subst (λ (z : Exchange). SendsName z.kind name) (sym a.1) k)))
+  | inr a ↦ inl (a.0, λ r at. put_other_two s t (record { peer = peer; name = name }) m n r ks (peer_ne peer x.peer name m is_m a.1) (peer_ne peer x.peer name n is_n a.1) at)
+])
 
 -- What an exchange is about
 
@@ -197,6 +218,7 @@ sent_is s peer x h = go (exchange_with peer s) refl h
     by_kind e (kind.Asked u) i k h = absurd (cc)
     by_kind e (kind.Translating u value cta) i k h = absurd (cc)
     by_kind e (kind.Ending name) i k h = absurd (cc)
+    by_kind e (kind.PairSent name) i k h = absurd (cc)
 
     go : (o : Option Exchange) → exchange_with peer s ≡ o → sent_in s peer o ≡ Some x → SentIs s peer x
     go None i h = absurd (cc)
@@ -205,9 +227,39 @@ sent_is s peer x h = go (exchange_with peer s) refl h
 -- the record of an exchange that waits is the party's own, and pending
 pub sent_own : (s : Party) (peer : List ℕ) (x : Sent) → AllSent s → SentIs s peer x → (x.key.name.originator ≡ s.own) × (x.key.status ≡ Pending)
 sent_own s peer x a h =
-    let o = a peer h.exchange x.key.name h.stands (ap sent_name_by h.kind_is) in
+    let o = a peer h.exchange x.key.name h.stands (inl (ap sent_name_by h.kind_is)) in
     let key : record_key x.key ≡ record { peer = peer; name = x.key.name } = (let p = h.peer_is in λ i. record { peer = p i; name = x.key.name }) in
     (o.own, o.pending x.key (subst (λ (m : RecordKey). record_with m s ≡ Some x.key) key h.at))
+
+-- two keys that were sent at once: their records stand
+pub record TwinsIs (s : Party) (peer : List ℕ) (x : Twins) : Type 0 where
+  pub first : record_with (record_key x.first) s ≡ Some x.first
+  pub second : record_with (record_key x.second) s ≡ Some x.second
+  pub peer_is : x.first.peer ≡ peer
+  pub other_peer : x.second.peer ≡ peer
+  pub behind : x.second.name ≡ name_behind x.first.name
+  pub exchange : Exchange
+  pub stands : exchange_with peer s ≡ Some exchange
+  pub kind_is : exchange.kind ≡ kind.PairSent x.first.name
+
+pub twins_is : (s : Party) (peer : List ℕ) (x : Twins) → twins_to s peer ≡ Some x → TwinsIs s peer x
+twins_is s peer x h =
+    let t = twins_at s peer x h in
+    let a = record_is s peer t.name x.first t.first in
+    let b = record_is s peer (name_behind t.name) x.second t.second in
+    record { first = a.0; second = b.0; peer_is = a.1; other_peer = b.1; behind = sym b.2 ∙ ap name_behind a.2; exchange = t.exchange; stands = t.at; kind_is = t.kind_is ∙ ap (λ (n : KeyName). kind.PairSent n) a.2 }
+
+-- they are the party's own, and pending
+pub twins_own : (s : Party) (peer : List ℕ) (x : Twins) → AllSent s → TwinsIs s peer x → (x.first.name.originator ≡ s.own) × (x.first.status ≡ Pending) × (x.second.name.originator ≡ s.own) × (x.second.status ≡ Pending)
+twins_own s peer x a h =
+    let o = a peer h.exchange x.first.name h.stands (inl (ap sent_name_by h.kind_is)) in
+    let q = a peer h.exchange x.second.name h.stands (inr (ap second_name_by h.kind_is ∙ (λ i. Some ((sym h.behind) i)))) in
+    let key : record_key x.first ≡ record { peer = peer; name = x.first.name } = (let p = h.peer_is in λ i. record { peer = p i; name = x.first.name }) in
+    let other : record_key x.second ≡ record { peer = peer; name = x.second.name } = (let p = h.other_peer in λ i. record { peer = p i; name = x.second.name }) in
+    (o.own, o.pending x.first (subst (λ (m : RecordKey). record_with m s ≡ Some x.first) key h.first), q.own, q.pending x.second (subst (λ (m : RecordKey). record_with m s ≡ Some x.second) other h.second))
+
+pub twins_apart : (s : Party) (peer : List ℕ) (x : Twins) → TwinsIs s peer x → record_key x.second ≢ record_key x.first
+twins_apart s peer x h = behind_other (record_key x.first) (record_key x.second) h.behind
 
 pub ending_is : (s : Party) (peer : List ℕ) (k : KeyRec) → ending_with s peer ≡ Some k → (record_with (record_key k) s ≡ Some k) × (k.peer ≡ peer)
 ending_is s peer k h = go (exchange_with peer s) h
@@ -217,6 +269,7 @@ ending_is s peer k h = go (exchange_with peer s) h
     by_kind (kind.KeySent name way) h = absurd (cc)
     by_kind (kind.Asked u) h = absurd (cc)
     by_kind (kind.Translating u value cta) h = absurd (cc)
+    by_kind (kind.PairSent name) h = absurd (cc)
 
     go : (o : Option Exchange) → ending_in s peer o ≡ Some k → (record_with (record_key k) s ≡ Some k) × (k.peer ≡ peer)
     go None h = absurd (cc)

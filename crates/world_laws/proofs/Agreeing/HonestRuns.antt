@@ -4,7 +4,6 @@ use Rattle.std.proofs.lemmas.List.Elements.{All-nil}
 use Rattle.std.proofs.lemmas.List.Elements.{All-same}
 use Rattle.std.proofs.Common.{append-nil}
 use Rattle.x_base.specs.declared.verdict.Verdict.TheVariants as verdict
-use Rattle.bank_keys.specs.Ksm.{body_value}
 use Rattle.csm_write.specs.Canon.{auth_of}
 use Rattle.party_state.proofs.Keys.{test_idents, test_records}
 use Rattle.party_state.proofs.Tables.{find_key, put_stands}
@@ -27,16 +26,14 @@ use Rattle.world_laws.proofs.Counting.Sound.{IsSound}
 use Rattle.world_laws.proofs.Links.Growth.{PartyGrows, change_grows}
 use Rattle.world_laws.specs.Laws.{HasAccepted, partner_of, IsEndedAt}
 use Rattle.world_laws.specs.World.{Member, Fact, Acceptance, World, own_of, member_at}
-use Rattle.x_base.specs.declared.key_name.FullName.{FullName}
 use Rattle.x_base.specs.declared.key_name.KeyName.{KeyName}
 use Rattle.x_base.specs.declared.verdict.Verdict.TheVariants.{BadMac, WeakDraws, UnknownKk}
-use Rattle.x_mac.specs.declared.pair.Pair.{Pair}
 use Rattle.party_state.specs.declared.command.Input.{Input}
 use Rattle.party_state.specs.declared.command.Input.TheVariants as input
 use Rattle.world_laws.proofs.Texts.Names.{IsNamed}
 use Rattle.world_laws.proofs.Agreeing.Moves.{OwnReply, OwnText}
 use Rattle.world_laws.proofs.Speaking.Makers.{SentBy, row_self}
-use Rattle.world_laws.proofs.Agreeing.Standing.{AllNewStand, row_stand}
+use Rattle.world_laws.proofs.Agreeing.Standing.{AllNewStand, AllTwinsStand, row_stand, row_twins}
 use Rattle.world_laws.proofs.Agreeing.StandingRows.{row_news}
 use Rattle.world_laws.proofs.Agreeing.MeetingCounts.{AllMet, AllBegun, CountsMove, sending_counts, met_on, begun_on}
 use Rattle.world_laws.proofs.Agreeing.CountRows.{row_counts}
@@ -60,7 +57,7 @@ use Rattle.world_laws.proofs.Texts.Names.{change_named, party_named}
 use Rattle.world_laws.proofs.Agreeing.Lists.{Lists, lists_of, after, facts_after, acceptances_after, lists_after, Counts, to_peer, full_at}
 use Rattle.world_laws.proofs.Agreeing.Moves.{Agreeing, RepliesOk, FreshReply, FreshMessage}
 use Rattle.world_laws.proofs.Agreeing.KeyRecords.{Gone}
-use Rattle.world_laws.proofs.Agreeing.Facts.{TakenKsm, Keeps, DsmOk, AcceptedOk, FactOk, MessageOk, ksm_key}
+use Rattle.world_laws.proofs.Agreeing.Facts.{TakenKsm, Keeps, DsmOk, AcceptedOk, FactOk, MessageOk}
 use Rattle.world_laws.proofs.Agreeing.Known.{full_mine}
 use Rattle.world_laws.proofs.Agreeing.Agreed.{Agreed}
 use Rattle.world_laws.proofs.Agreeing.Kept.{kept_agreed}
@@ -74,6 +71,7 @@ pub record AgreedAt (w : World) : Type 0 where
   pub agreed : Agreed (lists_of w)
   pub named : Each (λ x. IsNamed x.party) w.members
   pub stand : Each (λ x. AllNewStand x.party) w.members
+  pub twins : Each (λ x. AllTwinsStand x.party) w.members
   pub met : AllMet w.members
   pub begun : AllBegun w.members
 
@@ -154,15 +152,17 @@ module _ (n : ℕ) (w : World) (p : List ℕ) (x : Member) (moment : ℕ) (j : I
         named = each_on w.members p x (member_after x (row_at x.party j moment)) found own (λ m. IsNamed m.party) i.named (λ q. subst IsNamed (sym left) (change_named (row_at x.party j moment).edits x.party s.names q));
         stand = each_on w.members p x (member_after x (row_at x.party j moment)) found own (λ m. AllNewStand m.party) i.stand
             (λ q. subst AllNewStand (sym left) (row_stand (lists_of w) (lists_after (lists_of w) x (member_after x (row_at x.party j moment)).room (received_text j) (row_at x.party j moment)) x.party (row_at x.party j moment).edits (row_news x.party j moment) a.keys (i.agreed.sent p x found) q));
+        twins = each_on w.members p x (member_after x (row_at x.party j moment)) found own (λ m. AllTwinsStand m.party) i.twins
+            (λ q. subst AllTwinsStand (sym left) (row_twins (lists_of w) (lists_after (lists_of w) x (member_after x (row_at x.party j moment)).room (received_text j) (row_at x.party j moment)) x.party (row_at x.party j moment).edits (row_news x.party j moment) a.keys (i.agreed.sent p x found) q));
         met = subst (λ (m : Member). AllMet (put_row own_of bytes_eq m w.members)) y (met_on g.new (lists_of w) p x (member_after x (row_at x.party j moment)).room (received_text j) (row_at x.party j moment) found g.sound (own_text x.party.own (row_at x.party j moment).reply s.reply (row_self x.party j moment).reply) a i.agreed (counts h) i.met i.begun);
         begun = subst (λ (m : Member). AllBegun (put_row own_of bytes_eq m w.members)) y (begun_on g.new (lists_of w) p x (member_after x (row_at x.party j moment)).room (received_text j) (row_at x.party j moment) found g.sound (own_text x.party.own (row_at x.party j moment).reply s.reply (row_self x.party j moment).reply) a i.agreed (counts h) i.met i.begun);
       }
 
   answered_at : AgreedAt (world_with_text (world_with_answer w x.party.own (row_at x.party j moment)) (row_at x.party j moment).answer)
-  answered_at = record { agreed = answer_agreed w p x (row_at x.party j moment) found tells (row_self x.party j moment).answer i.agreed; named = i.named; stand = i.stand; met = i.met; begun = i.begun }
+  answered_at = record { agreed = answer_agreed w p x (row_at x.party j moment) found tells (row_self x.party j moment).answer i.agreed; named = i.named; stand = i.stand; twins = i.twins; met = i.met; begun = i.begun }
 
   told_at : (v : World) → AgreedAt v → (o : Option Reply) → AgreedAt (world_with_text v o)
-  told_at v a o = record { agreed = a.agreed; named = a.named; stand = a.stand; met = a.met; begun = a.begun }
+  told_at v a o = record { agreed = a.agreed; named = a.named; stand = a.stand; twins = a.twins; met = a.met; begun = a.begun }
 
   pub turned_agreed : (how : Completion) → AgreedAt (world_by_row n w x (received_text j) (row_at x.party j moment) how)
   turned_agreed Whole = go (is_accept (row_at x.party j moment).verdict) refl (fits x.room (differing x.party (row_at x.party j moment).edits))
@@ -185,6 +185,7 @@ room_at w p x room found i = record {
   agreed = subst (λ (fs : List Fact). Agreed (record { members = put_row own_of bytes_eq (record { party = x.party; room = room }) w.members; facts = fs; acceptances = w.acceptances })) (append-nil w.facts) (room_agreed w p x room (refused verdict.WrongClass) found tt tt i.agreed);
   named = each_on w.members p x (record { party = x.party; room = room }) found refl (λ m. IsNamed m.party) i.named (λ q. q);
   stand = each_on w.members p x (record { party = x.party; room = room }) found refl (λ m. AllNewStand m.party) i.stand (λ q. q);
+  twins = each_on w.members p x (record { party = x.party; room = room }) found refl (λ m. AllTwinsStand m.party) i.twins (λ q. q);
   met = met_on None (lists_of w) p x room [] (answer_row (refused verdict.WrongClass)) found (quiet_row x.party [] (refused verdict.WrongClass)) tt row i.agreed counts i.met i.begun;
   begun = begun_on None (lists_of w) p x room [] (answer_row (refused verdict.WrongClass)) found (quiet_row x.party [] (refused verdict.WrongClass)) tt row i.agreed counts i.met i.begun;
 }
@@ -243,6 +244,7 @@ start_agreed w s = record {
   };
   named = λ p x h. party_named x.party (s.parties p x h) (s.only_links p x h).keys (s.only_links p x h).exchanges;
   stand = λ p x h peer e name new f k l. (let none = subst (λ (es : List Exchange). find_row exchange_key bytes_eq peer es ≡ Some e) (s.only_links p x h).exchanges f in absurd (cc));
+  twins = λ p x h peer e first name f k l. (let none = subst (λ (es : List Exchange). find_row exchange_key bytes_eq peer es ≡ Some e) (s.only_links p x h).exchanges f in absurd (cc));
   met = λ q y peer label m h f. (let e = s.takes_ends q y peer label m h f in
       let one = (s.unused q y h (takes peer label) m f).next in
       let other = s.unused peer e.member e.at (sends q label) e.link e.found in
@@ -257,11 +259,11 @@ end_agreed start events s d honest = run_agreed events 1 start d honest (bare_co
 -- the laws
 
 ended_both : (w : World) → Agreed (lists_of w) → EndedBoth w
-ended_both w i k d l class =
+ended_both w i k d l class u among =
     let a : Acceptance = get_or w.acceptances k d in
-    let b : HasAccepted w.acceptances OfDsm (partner_of a.party a.under) a.under = (i.accepted k d l).answer class in
-    let g : DsmOk (lists_of w) b.acceptance = (All-contains (AcceptedOk (lists_of w)) w.acceptances b.acceptance i.accepted b.stands).dsm b.class_is in
-    subst (IsEndedAt w.members (partner_of a.party a.under)) b.under_is (subst (λ (p : List ℕ). IsEndedAt w.members p b.acceptance.under) b.party_is g.ended)
+    let b : HasAccepted w.acceptances OfDsm (partner_of a.party u) u = (i.accepted k d l).answer class u among in
+    let g : DsmOk (lists_of w) b.acceptance.party u = (All-contains (AcceptedOk (lists_of w)) w.acceptances b.acceptance i.accepted b.stands).dsm b.class_is u b.among in
+    subst (λ (p : List ℕ). IsEndedAt w.members p u) b.party_is g.ended
 
 live_counts : (s : KeyStatus) → IsLive s → Counts s
 live_counts Pending h = h
@@ -275,23 +277,21 @@ module _ (w : World) (i : Agreed (lists_of w)) (p : List ℕ) (x : Member) (peer
   key = record { peer = peer; name = name }
 
   -- the partner holds what the text carried
-  value_agrees : (a : HasAccepted w.acceptances OfKsm peer (record { name = name; recipient = peer })) → (tk : TakenKsm (lists_of w) a.acceptance) → Keeps tk.party.party a.acceptance.under (body_value tk.link.pair tk.ksm.originator a.acceptance.party tk.ksm.body) → HoldsKey w.members peer (record { peer = p; name = name }) r.value
-  value_agrees a tk kp =
-      let m : Matched (lists_of w) p x (record { peer = peer; name = name }) a.acceptance tk = matched (lists_of w) i p x (record { peer = peer; name = name }) h own a.acceptance a.party_is a.under_is tk in
-      let found_f : record_with (ksm_key tk.ksm m.fact.label) m.fact.party.party ≡ Some r = rw (m.key_is, m.party_is) found in
-      let value : r.value ≡ body_value m.fact.link.pair tk.ksm.originator tk.ksm.receiver tk.ksm.body = m.fact.value r found_f in
-      let same_value : kp.0.value ≡ r.value = kp.3 ∙ (ap (λ (q : Pair). body_value q tk.ksm.originator a.acceptance.party tk.ksm.body) m.pair ∙ (ap (λ (q : List ℕ). body_value m.fact.link.pair tk.ksm.originator q tk.ksm.body) m.receiver ∙ sym value)) in
-      let record_b : record_with (record { peer = p; name = name }) tk.party.party ≡ Some kp.0 = subst (λ (z : RecordKey). record_with z tk.party.party ≡ Some kp.0) (let o = m.org in let q = m.name in λ j. record { peer = o j; name = q j }) kp.1 in
-      record { member = tk.party; at = m.at; entry = kp.0; found = record_b; held = kp.2; value_is = same_value }
+  value_agrees : (a : HasAccepted w.acceptances OfKsm peer (record { name = name; recipient = peer })) → (tk : TakenKsm (lists_of w) a.acceptance) → (m : Matched (lists_of w) p x (record { peer = peer; name = name }) a.acceptance tk) → Keeps tk.party.party (record { name = name; recipient = peer }) m.value → HoldsKey w.members peer (record { peer = p; name = name }) r.value
+  value_agrees a tk m kp =
+      let found_f : record_with (record { peer = peer; name = name }) m.fact.party.party ≡ Some r = rw m.party_is found in
+      let value : r.value ≡ m.value = m.fact.value (record { name = name; recipient = peer }) m.value m.made r found_f in
+      let record_b : record_with (record { peer = p; name = name }) tk.party.party ≡ Some kp.0 = subst (λ (z : List ℕ). record_with (record { peer = z; name = name }) tk.party.party ≡ Some kp.0) own kp.1 in
+      record { member = tk.party; at = m.at; entry = kp.0; found = record_b; held = kp.2; value_is = kp.3 ∙ sym value }
 
   -- where the partner gave the key up, it accepted its end
   gone_agrees : Counts r.status → Gone w.acceptances peer (record { name = name; recipient = peer }) → HasAccepted w.acceptances OfDsm peer (record { name = name; recipient = peer })
   gone_agrees is (inl a) = a
   gone_agrees is (inr a) =
-      let b : HasAccepted w.acceptances OfDsm (partner_of a.acceptance.party a.acceptance.under) a.acceptance.under = (All-contains (AcceptedOk (lists_of w)) w.acceptances a.acceptance i.accepted a.stands).answer a.class_is in
-      let at : partner_of a.acceptance.party a.acceptance.under ≡ p = (λ j. partner_of (a.party_is j) (a.under_is j)) ∙ partner_p in
-      let d : DsmOk (lists_of w) b.acceptance = (All-contains (AcceptedOk (lists_of w)) w.acceptances b.acceptance i.accepted b.stands).dsm b.class_is in
-      let ended : IsEndedAt w.members p (to_peer (record { peer = peer; name = name })) = subst (IsEndedAt w.members p) (b.under_is ∙ a.under_is) (subst (λ (q : List ℕ). IsEndedAt w.members q b.acceptance.under) (b.party_is ∙ at) d.ended) in
+      let b : HasAccepted w.acceptances OfDsm (partner_of a.acceptance.party (record { name = name; recipient = peer })) (record { name = name; recipient = peer }) = (All-contains (AcceptedOk (lists_of w)) w.acceptances a.acceptance i.accepted a.stands).answer a.class_is (record { name = name; recipient = peer }) a.among in
+      let at : partner_of a.acceptance.party (record { name = name; recipient = peer }) ≡ p = (λ j. partner_of (a.party_is j) (record { name = name; recipient = peer })) ∙ partner_p in
+      let d : DsmOk (lists_of w) b.acceptance.party (record { name = name; recipient = peer }) = (All-contains (AcceptedOk (lists_of w)) w.acceptances b.acceptance i.accepted b.stands).dsm b.class_is (record { name = name; recipient = peer }) b.among in
+      let ended : IsEndedAt w.members p (to_peer (record { peer = peer; name = name })) = subst (λ (q : List ℕ). IsEndedAt w.members q (record { name = name; recipient = peer })) (b.party_is ∙ at) d.ended in
       let key : record { peer = peer; name = name } ≡ record_key r = find_key record_key same_record test_records (record { peer = peer; name = name }) r x.party.keys found in
       let full_r : full_name p r ≡ to_peer (record { peer = peer; name = name }) = ap (full_at p) (sym key) ∙ full_mine p (record { peer = peer; name = name }) own in
       absurd (subst Counts (ended x (record { peer = peer; name = name }) r h found full_r) is)
@@ -309,9 +309,10 @@ module _ (w : World) (i : Agreed (lists_of w)) (p : List ℕ) (x : Member) (peer
       let counts : Counts r.status = live_counts r.status is in
       let a : HasAccepted w.acceptances OfKsm peer (record { name = name; recipient = peer }) = i.live p x (record { peer = peer; name = name }) r h found (own ∙ p_is) counts in
       let tk : TakenKsm (lists_of w) a.acceptance = (All-contains (AcceptedOk (lists_of w)) w.acceptances a.acceptance i.accepted a.stands).ksm a.class_is in
-      elim tk.keeps [
-        | inl k ↦ inl (value_agrees a tk k)
-        | inr g ↦ inr (gone_agrees counts (subst (λ (z : FullName). Gone w.acceptances peer z) a.under_is (subst (λ (z : List ℕ). Gone w.acceptances z a.acceptance.under) a.party_is g)))
+      let m : Matched (lists_of w) p x (record { peer = peer; name = name }) a.acceptance tk = matched (lists_of w) i p x (record { peer = peer; name = name }) h own a.acceptance a.party_is a.among tk in
+      elim (tk.keeps (record { name = name; recipient = peer }) m.value m.taken) [
+        | inl k ↦ inl (value_agrees a tk m k)
+        | inr g ↦ inr (gone_agrees counts (subst (λ (z : List ℕ). Gone w.acceptances z (record { name = name; recipient = peer })) a.party_is g))
       ]
 
 agrees : (w : World) → Agreed (lists_of w) → Agreement w

@@ -12,7 +12,7 @@ use Rattle.party_state.specs.Names.{full_name}
 use Rattle.party_state.specs.State.{Party, link_with, record_with, is_ended}
 use Rattle.party_state.specs.Rows.{OfKsm, OfDsm, OfAnswer}
 use Rattle.party_state.proofs.Keys.{test_records}
-use Rattle.party_state.proofs.Tables.{one_found, find_put, filter_keeps}
+use Rattle.party_state.proofs.Tables.{one_found, find_put, find_put_same, filter_keeps}
 use Rattle.party_state.proofs.Distinct.{filter_back}
 use Rattle.world_laws.specs.World.{Acceptance}
 use Rattle.world_laws.specs.Laws.{IsHeld, HasAccepted}
@@ -68,26 +68,54 @@ pub record KeyFine (v w : Lists) (s t : Party) (m : KeyRec) : Type 0 where
 pub data KeysMove (v w : Lists) (s t : Party) : Type 0 where
   unmoved : t.keys ≡ s.keys → KeysMove v w s t
   one : (m : KeyRec) → t.keys ≡ put_row record_key same_record m s.keys → KeyFine v w s t m → KeysMove v w s t
+  two : (m n : KeyRec) → record_key n ≢ record_key m → t.keys ≡ put_row record_key same_record n (put_row record_key same_record m s.keys) → KeyFine v w s t m → KeyFine v w s t n → KeysMove v w s t
   purged : t.keys ≡ filter (λ (k : KeyRec). not (is_ended k.status)) s.keys → KeysMove v w s t
 
 pub record IsPut (v w : Lists) (s t : Party) (k : RecordKey) (r : KeyRec) : Type 0 where
   pub key : k ≡ record_key r
   pub fine : KeyFine v w s t r
 
+-- what is found after a record was put is that one, or was found before
+pub put_case : (ks : List KeyRec) (k : RecordKey) (m r : KeyRec) → find_row record_key same_record k (put_row record_key same_record m ks) ≡ Some r → ((k ≡ record_key m) × (m ≡ r)) ⊎ (find_row record_key same_record k ks ≡ Some r)
+put_case ks k m r h = go (same_record k (record_key m)) refl (sym (find_put record_key same_record test_records k m ks) ∙ h)
+  where
+    go : (b : Bool) → same_record k (record_key m) ≡ b → cond b (Some m) (find_row record_key same_record k ks) ≡ Some r → ((k ≡ record_key m) × (m ≡ r)) ⊎ (find_row record_key same_record k ks ≡ Some r)
+    go true i h = inl ((test_records.decides k (record_key m)).0 i, cc)
+    go false i h = inr h
+
+-- under its key it is found, and under another what was found before
+
+pub put_is : (ks : List KeyRec) (k : RecordKey) (m r : KeyRec) → k ≡ record_key m → find_row record_key same_record k (put_row record_key same_record m ks) ≡ Some r → m ≡ r
+put_is ks k m r key h = one_found m r (subst (λ (z : RecordKey). find_row record_key same_record z (put_row record_key same_record m ks) ≡ Some m) (sym key) (find_put_same record_key same_record test_records m ks)) h
+
+pub put_under : (ks : List KeyRec) (k : RecordKey) (m r : KeyRec) → k ≢ record_key m → find_row record_key same_record k (put_row record_key same_record m ks) ≡ Some r → find_row record_key same_record k ks ≡ Some r
+put_under ks k m r ne h = elim (put_case ks k m r h) [ inl a ↦ absurd (ne a.0) | inr a ↦ a ]
+
+-- or as it was found before
+pub put_then : (ks : List KeyRec) (k : RecordKey) (m : KeyRec) → ((k ≡ record_key m) × (find_row record_key same_record k (put_row record_key same_record m ks) ≡ Some m)) ⊎ (find_row record_key same_record k (put_row record_key same_record m ks) ≡ find_row record_key same_record k ks)
+put_then ks k m = go (same_record k (record_key m)) refl (find_put record_key same_record test_records k m ks)
+  where
+    go : (b : Bool) → same_record k (record_key m) ≡ b → find_row record_key same_record k (put_row record_key same_record m ks) ≡ cond b (Some m) (find_row record_key same_record k ks) → ((k ≡ record_key m) × (find_row record_key same_record k (put_row record_key same_record m ks) ≡ Some m)) ⊎ (find_row record_key same_record k (put_row record_key same_record m ks) ≡ find_row record_key same_record k ks)
+    go true i h = inl ((test_records.decides k (record_key m)).0 i, h)
+    go false i h = inr h
+
+pub put_beside : (ks : List KeyRec) (k : RecordKey) (m : KeyRec) → k ≢ record_key m → find_row record_key same_record k (put_row record_key same_record m ks) ≡ find_row record_key same_record k ks
+put_beside ks k m ne = elim (put_then ks k m) [ inl a ↦ absurd (ne a.0) | inr a ↦ a ]
+
 pub key_cases : (v w : Lists) (s t : Party) → Distinct record_key same_record s.keys → KeysMove v w s t → (k : RecordKey) (r : KeyRec) → record_with k t ≡ Some r → (record_with k s ≡ Some r) ⊎ IsPut v w s t k r
 key_cases v w s t d (unmoved e) k r h = inl (rw (← e) h)
 key_cases v w s t d (purged e) k r h = inl (filter_back record_key same_record test_records (λ (y : KeyRec). not (is_ended y.status)) k r s.keys d (rw (← e) h))
-key_cases v w s t d (one m e fine) k r h = go (same_record k (record_key m)) refl
-  where
-    at_put : (b : Bool) → same_record k (record_key m) ≡ b → cond b (Some m) (find_row record_key same_record k s.keys) ≡ Some r
-    at_put b i = rw (← i, ← find_put record_key same_record test_records k m s.keys, ← e) h
-
-    go : (b : Bool) → same_record k (record_key m) ≡ b → (record_with k s ≡ Some r) ⊎ IsPut v w s t k r
-    go true i =
-        let is : m ≡ r = (let j = at_put true i in cc) in
-        let key : k ≡ record_key m = (test_records.decides k (record_key m)).0 i in
-        inr (subst (λ (n : KeyRec). IsPut v w s t k n) is (record { key = key; fine = fine }))
-    go false i = inl (at_put false i)
+key_cases v w s t d (one m e fine) k r h = elim (put_case s.keys k m r (rw (← e) h)) [
+  | inl a ↦ inr (subst (λ (n : KeyRec). IsPut v w s t k n) a.1 (record { key = a.0; fine = fine }))
+  | inr a ↦ inl a
+]
+key_cases v w s t d (two m n ne e fine other) k r h = elim (put_case (put_row record_key same_record m s.keys) k n r (rw (← e) h)) [
+  | inl a ↦ inr (subst (λ (z : KeyRec). IsPut v w s t k z) a.1 (record { key = a.0; fine = other }))
+  | inr b ↦ elim (put_case s.keys k m r b) [
+    | inl a ↦ inr (subst (λ (z : KeyRec). IsPut v w s t k z) a.1 (record { key = a.0; fine = fine }))
+    | inr a ↦ inl a
+  ]
+]
 
 pub held_not_ended : (x : KeyStatus) → IsHeld x → not (is_ended x) ≡ true
 held_not_ended Pending h = refl
@@ -96,17 +124,12 @@ held_not_ended Held h = refl
 held_not_ended Closing h = refl
 held_not_ended Ended h = absurd h
 
--- another's key that was accepted is held on with its value, or gone
-pub held_forward : (v w : Lists) (s t : Party) → KeysMove v w s t → (k : RecordKey) (r : KeyRec) → record_with k s ≡ Some r → IsHeld r.status → k.name.originator ≢ s.own → k.peer ≡ k.name.originator → HasAccepted v.acceptances OfKsm s.own (to_own k s.own) → ((q : KeyRec) × (record_with k t ≡ Some q) × IsHeld q.status × (q.value ≡ r.value)) ⊎ Gone w.acceptances s.own (to_own k s.own)
-held_forward v w s t (unmoved e) k r h held other peer a = inl (r, rw e h, held, refl)
-held_forward v w s t (purged e) k r h held other peer a = inl (r, rw e (filter_keeps record_key same_record (λ (y : KeyRec). not (is_ended y.status)) k r s.keys (held_not_ended r.status held) h), held, refl)
-held_forward v w s t (one m e fine) k r h held other peer a = go (same_record k (record_key m)) refl
+-- another's key that is put
+put_forward : (v w : Lists) (s t : Party) (k : RecordKey) (r : KeyRec) → record_with k s ≡ Some r → IsHeld r.status → k.name.originator ≢ s.own → k.peer ≡ k.name.originator → HasAccepted v.acceptances OfKsm s.own (to_own k s.own) → (m : KeyRec) → KeyFine v w s t m → k ≡ record_key m → record_with k t ≡ Some m → ((q : KeyRec) × (record_with k t ≡ Some q) × IsHeld q.status × (q.value ≡ r.value)) ⊎ Gone w.acceptances s.own (to_own k s.own)
+put_forward v w s t k r h held other peer a m fine key at = go (known_stands v s k m key (theirs other peer a) fine.put)
   where
-    at_put : (b : Bool) → same_record k (record_key m) ≡ b → record_with k t ≡ cond b (Some m) (find_row record_key same_record k s.keys)
-    at_put b i = rw (← i, e) (find_put record_key same_record test_records k m s.keys)
-
-    put : k ≡ record_key m → record_with k t ≡ Some m → StandsBefore s m → ((q : KeyRec) × (record_with k t ≡ Some q) × IsHeld q.status × (q.value ≡ r.value)) ⊎ Gone w.acceptances s.own (to_own k s.own)
-    put key at (before u i value ended) =
+    go : StandsBefore s m → ((q : KeyRec) × (record_with k t ≡ Some q) × IsHeld q.status × (q.value ≡ r.value)) ⊎ Gone w.acceptances s.own (to_own k s.own)
+    go (before u i value ended) =
         let i_k : record_with (record_key m) s ≡ Some r = rw (← key) h in
         let is : u ≡ r = one_found u r i i_k in
         let u_held : IsHeld u.status = subst (λ (z : KeyRec). IsHeld z.status) (sym is) held in
@@ -117,6 +140,18 @@ held_forward v w s t (one m e fine) k r h held other peer a = go (same_record k 
           | inr x ↦ inr (subst (Gone w.acceptances s.own) full_is x)
         ]
 
-    go : (b : Bool) → same_record k (record_key m) ≡ b → ((q : KeyRec) × (record_with k t ≡ Some q) × IsHeld q.status × (q.value ≡ r.value)) ⊎ Gone w.acceptances s.own (to_own k s.own)
-    go true i = let key : k ≡ record_key m = (test_records.decides k (record_key m)).0 i in put key (at_put true i) (known_stands v s k m key (theirs other peer a) fine.put)
-    go false i = inl (r, at_put false i ∙ h, held, refl)
+-- another's key that was accepted is held on with its value, or gone
+pub held_forward : (v w : Lists) (s t : Party) → KeysMove v w s t → (k : RecordKey) (r : KeyRec) → record_with k s ≡ Some r → IsHeld r.status → k.name.originator ≢ s.own → k.peer ≡ k.name.originator → HasAccepted v.acceptances OfKsm s.own (to_own k s.own) → ((q : KeyRec) × (record_with k t ≡ Some q) × IsHeld q.status × (q.value ≡ r.value)) ⊎ Gone w.acceptances s.own (to_own k s.own)
+held_forward v w s t (unmoved e) k r h held other peer a = inl (r, rw e h, held, refl)
+held_forward v w s t (purged e) k r h held other peer a = inl (r, rw e (filter_keeps record_key same_record (λ (y : KeyRec). not (is_ended y.status)) k r s.keys (held_not_ended r.status held) h), held, refl)
+held_forward v w s t (one m e fine) k r h held other peer a = elim (put_then s.keys k m) [
+  | inl b ↦ put_forward v w s t k r h held other peer a m fine b.0 (rw e b.1)
+  | inr b ↦ inl (r, rw e (b ∙ h), held, refl)
+]
+held_forward v w s t (two m n ne e fine second) k r h held other peer a = elim (put_then (put_row record_key same_record m s.keys) k n) [
+  | inl b ↦ put_forward v w s t k r h held other peer a n second b.0 (rw e b.1)
+  | inr b ↦ elim (put_then s.keys k m) [
+    | inl c ↦ put_forward v w s t k r h held other peer a m fine c.0 (rw e (b ∙ c.1))
+    | inr c ↦ inl (r, rw e (b ∙ (c ∙ h)), held, refl)
+  ]
+]

@@ -50,7 +50,7 @@ abbrev pub KeysKnown : Lists → Party → Type 0
 KeysKnown v s = (k : RecordKey) (r : KeyRec) → record_with k s ≡ Some r → Known v s k
 
 pub class_more : (accs more : List Acceptance) (class : Class) (p : List ℕ) (u : FullName) → HasAccepted accs class p u → HasAccepted (accs ++ more) class p u
-class_more accs more class p u h = record { acceptance = h.acceptance; stands = Contains-append_left accs more h.acceptance h.stands; class_is = h.class_is; party_is = h.party_is; under_is = h.under_is }
+class_more accs more class p u h = record { acceptance = h.acceptance; stands = Contains-append_left accs more h.acceptance h.stands; class_is = h.class_is; party_is = h.party_is; among = h.among }
 
 pub fact_more : (fs more : List Fact) (u : FullName) (t : List ℕ) → HasFact fs u t → HasFact (fs ++ more) u t
 fact_more fs more u t h = record { fact = h.fact; stands = Contains-append_left fs more h.fact h.stands; under_is = h.under_is; text_is = h.text_is }

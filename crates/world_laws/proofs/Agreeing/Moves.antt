@@ -42,7 +42,7 @@ FreshReply fs s (Some (Again text)) = Unit {0}
 
 abbrev pub AcceptsOk : Lists → List ℕ → List ℕ → Option Accepted → Type 0
 AcceptsOk w own text None = Unit {0}
-AcceptsOk w own text (Some k) = AcceptedOk w (record { party = own; text = text; class = k.class; under = k.under })
+AcceptsOk w own text (Some k) = AcceptedOk w (record { party = own; text = text; class = k.class; names = k.names })
 
 -- each ready link for sending was ready before, or has its other end
 abbrev pub Backed : List Member → Party → Party → Type 0

@@ -1,7 +1,10 @@
 -- Agreement: what answers a key, or its end, arrives.
+use Rattle.std.proofs.Common.{Contains}
 use Rattle.world_laws.proofs.Agreeing.Moves.{Backed}
 use Rattle.std.proofs.Common.{◌≡◌, ◌⊎◌, inl, inr, ℕ, Bool, true, false, cond, Option, Some, None, List, [], ◌∷◌, ◌++◌, refl, sym, ◌∙◌, ap, subst, bytes_eq}
 use Rattle.x_base.specs.declared.key_name.KeyName.{KeyName}
+use Rattle.x_base.specs.declared.key_name.FullName.{FullName}
+use Rattle.party_state.specs.declared.exchange.Kind.TheVariants as kind
 use Rattle.x_mac.specs.declared.pair.Pair.{Pair}
 use Rattle.csm_grammar.specs.declared.message.Message.TheVariants as message
 use Rattle.csm_grammar.specs.declared.message.Rsm.{Rsm}
@@ -67,9 +70,18 @@ use Rattle.role_base.specs.Exchanges.{new_link, new_link_at, new_label, readied}
 use Rattle.world_laws.proofs.Agreeing.AnswerRows.{HonestAs}
 use Rattle.x_base.specs.declared.verdict.Verdict.TheVariants.{BadMac}
 use Rattle.party_state.specs.Rows.{OfRsm}
-use Rattle.bank_arrivals.specs.Rsm.{rsm_front, rsm_to, rsm_lead_to, end_front, answer_to, answer_lead_to, rsm_with, rsm_lead_with}
+use Rattle.bank_arrivals.specs.Rsm.{rsm_front, twins_front, rsm_to, rsm_twins, rsm_by, rsm_lead_by, rsm_lead_to, end_front, answer_to, answer_lead_to, rsm_with, rsm_lead_with}
 use Rattle.world_laws.proofs.Links.Found.{link_at}
-use Rattle.world_laws.proofs.Agreeing.Facts.{TakenKsm, RsmOk, AcceptedOk}
+use Rattle.world_laws.proofs.Agreeing.Facts.{TakenKsm, RsmOk, AcceptedOk, taken_accepted, taken_first}
+use Rattle.role_base.specs.declared.exchanges.Twins.{Twins}
+use Rattle.role_base.specs.Exchanges.{twins_to, twins_value}
+use Rattle.party_state.specs.Names.{full_behind}
+use Rattle.bank_keys.specs.Ksm.{body_twin, key_names}
+use Rattle.world_laws.proofs.Agreeing.Exchanges.{TwinsIs, twins_is, twins_own, twins_apart, sent_drop_two}
+use Rattle.world_laws.proofs.Agreeing.KeyRecords.{two}
+use Rattle.world_laws.specs.Facts.{HasTaken}
+use Rattle.world_laws.proofs.Lists.Among.{of_one, first_in}
+use Rattle.world_laws.proofs.Agreeing.Matched.{first_key}
 use Rattle.world_laws.proofs.Agreeing.Known.{full_mine}
 use Rattle.party_state.proofs.Tables.{find_put}
 use Rattle.world_laws.proofs.Agreeing.Matched.{Matched, matched}
@@ -113,6 +125,84 @@ module _ (v : Lists) (p : List ℕ) (x : Member) (room : ℕ) (at : member_at p 
           let label_is : label ≡ l.label = sym (ap (λ (k : LinkKey). k.label) la.key) in
           (subst (λ (z : List ℕ). link_with (sends peer z) x.party ≡ Some l) label_is h, ap (λ (z : List ℕ). let o : Option (List ℕ) = Some z in o) label_is, ap (λ (k : LinkKey). k.peer) la.key)
 
+  -- the recipient took the text of a key that was sent
+  taken_there : (o : Option LinkKey) (a : Arrival) (m : Rsm) (k : KeyRec) → Says (auth_text a) (message.Rsm m) → m.idd ≡ None → k.peer ≡ m.originator → k.name.originator ≡ x.party.own → HasFact v.facts (full_name x.party.own k) (auth_text a) → HasTaken v.acceptances k.peer (to_peer (record_key k))
+  taken_there o a m k said idd peer_is own fact =
+      let b : RsmOk v.acceptances fact.fact m m.idd = fact_says v p x room at i (full_name x.party.own k) (auth_text a) fact (message.Rsm m) said in
+      let d : HasTaken v.acceptances m.originator fact.fact.under = subst (RsmOk v.acceptances fact.fact m) idd b in
+      let under : fact.fact.under ≡ to_peer (record_key k) = fact.under_is ∙ full_mine x.party.own (record_key k) own in
+      record { acceptance = d.acceptance; stands = d.stands; class_is = d.class_is; party_is = d.party_is ∙ sym peer_is; more = d.more; names_are = d.names_are ∙ ap (λ (u : FullName). u ∷ d.more) under }
+
+  -- the keys that were sent at once are live
+
+  twins_agreeing : (o : Option LinkKey) (a : Arrival) (m : Rsm) (y : Twins) → Says (auth_text a) (message.Rsm m) → m.idd ≡ None → twins_to x.party m.originator ≡ Some y → HonestAs v.facts a (rsm_lead_by x.party a m (Some y)) → is_accept (rsm_twins x.party a m y).verdict ≡ true → IsSound o x.party (auth_text a) (rsm_twins x.party a m y) → Agreeing v x room (auth_text a) (rsm_twins x.party a m y)
+  twins_agreeing o a m y said idd e honest h sound = record {
+    back = backed v.members x.party (rsm_twins x.party a m y).edits (tt, (tt, (tt, tt)));
+    news = news_drop x.party (apply (rsm_twins x.party a m y).edits x.party) m.originator refl;
+    keys = two (with_status y.first Live) (with_status y.second Live) (twins_apart x.party m.originator y is) refl
+        (status_fine v p x room at i o (auth_text a) (rsm_twins x.party a m y) y.first Live grown moved is.first (pending_not_ended y.first.status Live own.1) (λ counts w. class_later v p x room at i (auth_text a) (rsm_twins x.party a m y) OfKsm y.first.peer (to_peer (record_key y.first)) accepted) (λ held. absurd (pending_not_held y.first.status own.1 held)))
+        (status_fine v p x room at i o (auth_text a) (rsm_twins x.party a m y) y.second Live grown moved is.second (pending_not_ended y.second.status Live own.3) (λ counts w. class_later v p x room at i (auth_text a) (rsm_twins x.party a m y) OfKsm y.second.peer (to_peer (record_key y.second)) accepted_second) (λ held. absurd (pending_not_held y.second.status own.3 held)));
+    exchanges = sent_drop_two x.party (apply (rsm_twins x.party a m y).edits x.party) m.originator (with_status y.first Live) (with_status y.second Live) refl refl refl is.peer_is is.other_peer sent;
+    waits = moved;
+    replies = tt;
+    new = tt;
+    accepts = plain (lists_after v x room (auth_text a) (rsm_twins x.party a m y)) x.party.own (auth_text a) OfRsm (full_name x.party.own y.first ∷ full_name x.party.own y.second ∷ []) (λ g. cc) (λ g. cc) (λ g. cc);
+  }
+    where
+      grown : PartyGrows o x.party (apply (rsm_twins x.party a m y).edits x.party)
+      grown = change_grows o (rsm_twins x.party a m y).edits x.party sound.edits
+
+      moved : WaitsMove x.party (apply (rsm_twins x.party a m y).edits x.party)
+      moved = waits_drop x.party (apply (rsm_twins x.party a m y).edits x.party) m.originator refl
+
+      is : TwinsIs x.party m.originator y
+      is = twins_is x.party m.originator y e
+
+      own : (y.first.name.originator ≡ x.party.own) × (y.first.status ≡ Pending) × (y.second.name.originator ≡ x.party.own) × (y.second.status ≡ Pending)
+      own = twins_own x.party m.originator y sent is
+
+      t : TestsHold (twins_front x.party m ++ (is_verified a (twins_value y), BadMac) ∷ [])
+      t = held (twins_front x.party m ++ (is_verified a (twins_value y), BadMac) ∷ []) refl h
+
+      front : passes (twins_front x.party m) ≡ true
+      front = rw (t.0, t.1.0) refl
+
+      fact : HasFact v.facts (full_name x.party.own y.first) (auth_text a)
+      fact = honest (lead_under a (full_name x.party.own y.first) (twins_value y)) (rw front refl) t.1.1.0
+
+      first : HasTaken v.acceptances y.first.peer (to_peer (record_key y.first))
+      first = taken_there o a m y.first said idd is.peer_is own.0 fact
+
+      accepted : HasAccepted v.acceptances OfKsm y.first.peer (to_peer (record_key y.first))
+      accepted = taken_accepted v.acceptances y.first.peer (to_peer (record_key y.first)) first
+
+      tk : TakenKsm v accepted.acceptance
+      tk = (All-contains (AcceptedOk v) v.acceptances accepted.acceptance i.accepted accepted.stands).ksm accepted.class_is
+
+      mt : Matched v x.party.own x (record_key y.first) accepted.acceptance tk
+      mt = matched v i x.party.own x (record_key y.first) (own_at v p x room at i) own.0 accepted.acceptance accepted.party_is accepted.among tk
+
+      under : tk.under ≡ to_peer (record_key y.first)
+      under = taken_first v y.first.peer (to_peer (record_key y.first)) first tk
+
+      key_is : ksm_key tk.ksm mt.fact.label ≡ record_key y.first
+      key_is = first_key v accepted.acceptance tk mt.fact (record_key y.first) under
+
+      -- so the text that it took has two keys, since the exchange still waits for both
+      carried : (kd : ℕ) × (body_twin tk.ksm.body ≡ Some kd)
+      carried =
+          let receiver : tk.ksm.receiver ≡ m.originator = ap (λ (z : RecordKey). z.peer) key_is ∙ is.peer_is in
+          let stands : exchange_with tk.ksm.receiver mt.fact.party.party ≡ Some is.exchange = rw (receiver, mt.party_is) is.stands in
+          mt.fact.twins is.exchange stands (is.kind_is ∙ ap (λ (z : RecordKey). kind.PairSent z.name) (sym key_is))
+
+      behind : full_behind tk.under ≡ to_peer (record_key y.second)
+      behind = ap full_behind under ∙ (let name = is.behind in let peer : y.first.peer ≡ y.second.peer = is.peer_is ∙ sym is.other_peer in λ j. record { name = (sym name) j; recipient = peer j })
+
+      accepted_second : HasAccepted v.acceptances OfKsm y.second.peer (to_peer (record_key y.second))
+      accepted_second =
+          let names : accepted.acceptance.names ≡ tk.under ∷ full_behind tk.under ∷ [] = tk.names ∙ ap (key_names tk.under) carried.1 in
+          record { acceptance = accepted.acceptance; stands = accepted.stands; class_is = accepted.class_is; party_is = accepted.party_is ∙ (is.peer_is ∙ sym is.other_peer); among = subst (λ (us : List FullName). Contains us (to_peer (record_key y.second))) (sym names) (subst (Contains (tk.under ∷ full_behind tk.under ∷ [])) behind (Contains-push (tk.under ∷ []) (full_behind tk.under))) }
+
   -- the key that was sent is live
 
   rsm_agreeing : (o : Option LinkKey) (a : Arrival) (m : Rsm) (found : Option Sent) → Says (auth_text a) (message.Rsm m) → m.idd ≡ None → sent_to x.party m.originator ≡ found → HonestAs v.facts a (rsm_lead_to x.party a m found) → is_accept (rsm_to x.party a m found).verdict ≡ true → IsSound o x.party (auth_text a) (rsm_to x.party a m found) → Agreeing v x room (auth_text a) (rsm_to x.party a m found)
@@ -125,7 +215,7 @@ module _ (v : Lists) (p : List ℕ) (x : Member) (room : ℕ) (at : member_at p 
     waits = moved;
     replies = tt;
     new = tt;
-    accepts = plain (lists_after v x room (auth_text a) (rsm_to x.party a m (Some y))) x.party.own (auth_text a) OfRsm (full_name x.party.own y.key) (λ g. cc) (λ g. cc) (λ g. cc);
+    accepts = plain (lists_after v x room (auth_text a) (rsm_to x.party a m (Some y))) x.party.own (auth_text a) OfRsm (full_name x.party.own y.key ∷ []) (λ g. cc) (λ g. cc) (λ g. cc);
   }
     where
       parts : ((apply (rsm_to x.party a m (Some y)).edits x.party).own ≡ x.party.own) × ((apply (rsm_to x.party a m (Some y)).edits x.party).keys ≡ put_row record_key same_record (with_status y.key Live) x.party.keys) × ((apply (rsm_to x.party a m (Some y)).edits x.party).exchanges ≡ drop_row exchange_key bytes_eq m.originator x.party.exchanges)
@@ -152,32 +242,35 @@ module _ (v : Lists) (p : List ℕ) (x : Member) (room : ℕ) (at : member_at p 
       fact : HasFact v.facts (full_name x.party.own y.key) (auth_text a)
       fact = honest (lead_under a (full_name x.party.own y.key) y.key.value) (rw front refl) t.1.1.0
 
+      first : HasTaken v.acceptances y.key.peer (to_peer (record_key y.key))
+      first = taken_there o a m y.key said idd is.peer_is own.0 fact
+
       accepted : HasAccepted v.acceptances OfKsm y.key.peer (to_peer (record_key y.key))
-      accepted =
-          let b : RsmOk v.acceptances fact.fact m m.idd = fact_says v p x room at i (full_name x.party.own y.key) (auth_text a) fact (message.Rsm m) said in
-          let d : HasAccepted v.acceptances OfKsm m.originator fact.fact.under = subst (RsmOk v.acceptances fact.fact m) idd b in
-          record { acceptance = d.acceptance; stands = d.stands; class_is = d.class_is; party_is = d.party_is ∙ sym is.peer_is; under_is = d.under_is ∙ (fact.under_is ∙ full_mine x.party.own (record_key y.key) own.0) }
+      accepted = taken_accepted v.acceptances y.key.peer (to_peer (record_key y.key)) first
 
       tk : TakenKsm v accepted.acceptance
       tk = (All-contains (AcceptedOk v) v.acceptances accepted.acceptance i.accepted accepted.stands).ksm accepted.class_is
 
       mt : Matched v x.party.own x (record_key y.key) accepted.acceptance tk
-      mt = matched v i x.party.own x (record_key y.key) (own_at v p x room at i) own.0 accepted.acceptance accepted.party_is accepted.under_is tk
+      mt = matched v i x.party.own x (record_key y.key) (own_at v p x room at i) own.0 accepted.acceptance accepted.party_is accepted.among tk
+
+      key_is : ksm_key tk.ksm mt.fact.label ≡ record_key y.key
+      key_is = first_key v accepted.acceptance tk mt.fact (record_key y.key) (taken_first v y.key.peer (to_peer (record_key y.key)) first tk)
 
       -- the new link has its other end, since the recipient accepted the text that carries its pair
       end : (l : LinkRec) → new_link x.party m.originator y.way ≡ Some l → (l.peer ≡ m.originator) × HasOtherEnd v.members m.originator (takes x.party.own l.label) l
       end l found =
           let new = new_link_is m.originator y.way l found in
-          let receiver : tk.ksm.receiver ≡ m.originator = ap (λ (z : RecordKey). z.peer) mt.key_is ∙ is.peer_is in
+          let receiver : tk.ksm.receiver ≡ m.originator = ap (λ (z : RecordKey). z.peer) key_is ∙ is.peer_is in
           let stands : exchange_with tk.ksm.receiver mt.fact.party.party ≡ Some is.exchange = rw (receiver, mt.party_is) is.stands in
-          let names : sent_name_by is.exchange.kind ≡ Some (ksm_key tk.ksm mt.fact.label).name = ap sent_name_by is.kind_is ∙ (λ j. Some ((sym (ap (λ (z : RecordKey). z.name) mt.key_is)) j)) in
+          let names : sent_name_by is.exchange.kind ≡ Some (ksm_key tk.ksm mt.fact.label).name = ap sent_name_by is.kind_is ∙ (λ j. Some ((sym (ap (λ (z : RecordKey). z.name) key_is)) j)) in
           let label : new_of is.exchange.kind ≡ Some l.label = ap new_of is.kind_is ∙ new.1 in
           let nf : NewFits mt.fact.party.party tk.ksm.receiver mt.fact.link.pair tk.ksm.body l.label = mt.fact.waits is.exchange l.label stands names label in
           let l_at : link_with (sends tk.ksm.receiver l.label) mt.fact.party.party ≡ Some l = rw (receiver, mt.party_is) new.0 in
           let l_pair : l.pair ≡ opened_kk mt.fact.link.pair (body_count tk.ksm.body) nf.kk.1 = nf.pair_is l l_at in
           let tn = tk.new nf.kk nf.carried in
           let pair : tn.0.pair ≡ l.pair = tn.2 ∙ (ap (λ (q : Pair). opened_kk q (body_count tk.ksm.body) nf.kk.1) mt.pair ∙ sym l_pair) in
-          let key : takes accepted.acceptance.under.name.originator nf.kk.0 ≡ takes x.party.own l.label = (let a = mt.org in let b = nf.label in λ j. takes (a j) (b j)) in
+          let key : takes tk.under.name.originator nf.kk.0 ≡ takes x.party.own l.label = (let a = mt.org in let b = nf.label in λ j. takes (a j) (b j)) in
           (new.2, record { member = tk.party; at = subst (λ (z : List ℕ). member_at z v.members ≡ Some tk.party) is.peer_is mt.at; link = tn.0; found = subst (λ (z : LinkKey). link_with z tk.party.party ≡ Some tn.0) key tn.1; pair = pair })
 
   -- the partner under a record's name
@@ -201,7 +294,7 @@ module _ (v : Lists) (p : List ℕ) (x : Member) (room : ℕ) (at : member_at p 
     waits = moved;
     replies = tt;
     new = tt;
-    accepts = record { ksm = λ class. absurd (cc); dsm = λ class. absurd (cc); answer = λ class. class_later v p x room at i (auth_text a) (answer_to x.party a m n (Some k)) OfDsm (partner_of x.party.own (full_name x.party.own k)) (full_name x.party.own k) ended_there };
+    accepts = record { ksm = λ class. absurd (cc); dsm = λ class. absurd (cc); answer = λ class u among. subst (λ (z : FullName). HasAccepted (acceptances_after v.acceptances x (auth_text a) (answer_to x.party a m n (Some k))) OfDsm (partner_of x.party.own z) z) (of_one (full_name x.party.own k) u among) (class_later v p x room at i (auth_text a) (answer_to x.party a m n (Some k)) OfDsm (partner_of x.party.own (full_name x.party.own k)) (full_name x.party.own k) ended_there) };
   }
     where
       grown : PartyGrows o x.party (apply (answer_to x.party a m n (Some k)).edits x.party)
@@ -214,7 +307,7 @@ module _ (v : Lists) (p : List ℕ) (x : Member) (room : ℕ) (at : member_at p 
       is = ending_is x.party m.originator k e
 
       new : HasAccepted (acceptances_after v.acceptances x (auth_text a) (answer_to x.party a m n (Some k))) OfAnswer x.party.own (full_name x.party.own k)
-      new = record { acceptance = record { party = x.party.own; text = auth_text a; class = OfAnswer; under = full_name x.party.own k }; stands = Contains-push v.acceptances _; class_is = refl; party_is = refl; under_is = refl }
+      new = record { acceptance = record { party = x.party.own; text = auth_text a; class = OfAnswer; names = full_name x.party.own k ∷ [] }; stands = Contains-push v.acceptances _; class_is = refl; party_is = refl; among = first_in (full_name x.party.own k) [] }
 
       t : TestsHold (end_front x.party m n (Some k) ++ (is_verified a k.value, BadMac) ∷ [])
       t = held (end_front x.party m n (Some k) ++ (is_verified a k.value, BadMac) ∷ []) refl h
@@ -230,8 +323,12 @@ module _ (v : Lists) (p : List ℕ) (x : Member) (room : ℕ) (at : member_at p 
           let b : RsmOk v.acceptances fact.fact m m.idd = fact_says v p x room at i (full_name x.party.own k) (auth_text a) fact (message.Rsm m) said in
           let d : HasAccepted v.acceptances OfDsm m.originator fact.fact.under = subst (RsmOk v.acceptances fact.fact m) idd b in
           let partner = partner_own k (i.known p x at (record_key k) k is.0) in
-          record { acceptance = d.acceptance; stands = d.stands; class_is = d.class_is; party_is = d.party_is ∙ (sym is.1 ∙ sym partner); under_is = d.under_is ∙ fact.under_is }
+          record { acceptance = d.acceptance; stands = d.stands; class_is = d.class_is; party_is = d.party_is ∙ (sym is.1 ∙ sym partner); among = subst (Contains d.acceptance.names) fact.under_is d.among }
 
   pub rsm_row_agreeing : (o : Option LinkKey) (a : Arrival) (m : Rsm) (idd : Option KeyName) → m.idd ≡ idd → Says (auth_text a) (message.Rsm m) → HonestAs v.facts a (rsm_lead_with x.party a m idd) → is_accept (rsm_with x.party a m idd).verdict ≡ true → IsSound o x.party (auth_text a) (rsm_with x.party a m idd) → Agreeing v x room (auth_text a) (rsm_with x.party a m idd)
-  rsm_row_agreeing o a m None e said honest h sound = rsm_agreeing o a m (sent_to x.party m.originator) said e refl honest h sound
+  rsm_row_agreeing o a m None e said honest h sound = by_twins (twins_to x.party m.originator) refl honest h sound
+    where
+      by_twins : (t : Option Twins) → twins_to x.party m.originator ≡ t → HonestAs v.facts a (rsm_lead_by x.party a m t) → is_accept (rsm_by x.party a m t).verdict ≡ true → IsSound o x.party (auth_text a) (rsm_by x.party a m t) → Agreeing v x room (auth_text a) (rsm_by x.party a m t)
+      by_twins None f honest h sound = rsm_agreeing o a m (sent_to x.party m.originator) said e refl honest h sound
+      by_twins (Some t) f honest h sound = twins_agreeing o a m t said e f honest h sound
   rsm_row_agreeing o a m (Some n) e said honest h sound = answer_agreeing o a m n (ending_with x.party m.originator) said e refl honest h sound

@@ -1,11 +1,17 @@
 -- Agreement: each accepted row of the standard, by role.
+use Rattle.std.proofs.Common.{Contains}
 use Rattle.world_laws.proofs.Roles.Inputs.{IsInput}
 use Rattle.csm_grammar.proofs.Arrived.{arrival_says}
 use Rattle.role_base.specs.Texts.{is_plain}
 use Rattle.csm_grammar.specs.declared.message.Message.TheVariants as message
 use Rattle.bank_orders.specs.Draws.{kk_drawn}
 use Rattle.bank_arrivals.specs.AskingAgain.{retry_in}
-use Rattle.bank_keys.specs.Ksm.{body_link, body_name, body_front, body_edits, key_row, key_lead_with}
+use Rattle.bank_keys.specs.Ksm.{body_link, body_twin, body_name, body_front, body_edits, key_names, key_row, key_lead_with}
+use Rattle.x_base.specs.declared.key_name.FullName.{FullName}
+use Rattle.role_base.specs.Conditions.{is_two_keys}
+use Rattle.bank_arrivals.specs.SendingTwins.{twins_drawn}
+use Rattle.world_laws.proofs.Sound.TwinKeys.{twins_sound}
+use Rattle.world_laws.proofs.Agreeing.TwinRows.{twins_below, twins_agreeing}
 use Rattle.bank_orders.specs.StartKk.{start_kk_under}
 use Rattle.bank_arrivals.specs.Dsm.{named_by}
 use Rattle.bank_arrivals.specs.Esm.{subject_with}
@@ -26,7 +32,7 @@ use Rattle.party_state.specs.Verdicts.{verdict_of, is_accept}
 use Rattle.party_state.specs.declared.exchange.Exchange.{Exchange}
 use Rattle.party_state.specs.declared.link.LinkKey.{LinkKey}
 use Rattle.party_state.specs.declared.link.LinkRec.{LinkRec}
-use Rattle.std.proofs.Common.{◌≡◌, ℕ, Bool, true, Option, Some, None, List, [], refl}
+use Rattle.std.proofs.Common.{◌≡◌, ℕ, Bool, true, false, Option, Some, None, List, [], refl}
 use Rattle.std.proofs.lemmas.List.Elements.{All-contains}
 use Rattle.world_laws.proofs.Counting.Counts.{CountedAt, AcceptedBelow, ksm_apart}
 use Rattle.world_laws.proofs.Counting.Sound.{IsSound}
@@ -45,7 +51,7 @@ use Rattle.party_state.specs.declared.command.Input.TheVariants as input
 use Rattle.x_base.specs.declared.party.Role.{Role}
 use Rattle.x_base.specs.declared.party.Role.TheVariants as role
 use Rattle.party_state.specs.State.{answer_with, first_link}
-use Rattle.bank_arrivals.specs.Rsi.{rsi_tests as bank_rsi_tests, rsi_under}
+use Rattle.bank_arrivals.specs.Rsi.{rsi_tests as bank_rsi_tests, rsi_row as bank_rsi_row, rsi_under}
 use Rattle.bank_orders.specs.Start.{sending_link}
 use Rattle.bank_orders.specs.Resend.{resend_of}
 use Rattle.bank_keys.specs.Ksm.{body_front, body_link}
@@ -100,10 +106,17 @@ module _ (n : ℕ) (w : World) (p : List ℕ) (x : Member) (room : ℕ) (at : me
 
   pub rsi_row : (a : Arrival) (m : Rsi) (found : Option LinkRec) (moment : ℕ) → first_link m.originator Sends x.party ≡ found → Agreeing (lists_of w) x room (auth_text a) (rsi_under x.party a m found moment)
   rsi_row a m None moment s = refused_row (auth_text a) (verdict_of (bank_rsi_tests x.party a m None))
-  rsi_row a m (Some l) moment s =
-      let f : FirstAt x.party m.originator Sends l = first_at x.party m.originator Sends l links s in
-      let st : SendingAt x.party m.originator l = record { at = f.at; ready = f.ready } in
-      sending_agreeing (lists_of w) p x room at i (auth_text a) (bank_rsi_tests x.party a m (Some l)) m.originator l moment (good_draw x.party.generator moment) refl st (sending_sound x.party (auth_text a) (bank_rsi_tests x.party a m (Some l)) m.originator l (good_draw x.party.generator moment) st)
+  rsi_row a m (Some l) moment s = by_service (is_two_keys m.service)
+    where
+      f : FirstAt x.party m.originator Sends l
+      f = first_at x.party m.originator Sends l links s
+
+      st : SendingAt x.party m.originator l
+      st = record { at = f.at; ready = f.ready }
+
+      by_service : (b : Bool) → Agreeing (lists_of w) x room (auth_text a) (bank_rsi_row x.party a m l moment b)
+      by_service true = twins_agreeing (lists_of w) p x room at i (auth_text a) (bank_rsi_tests x.party a m (Some l)) m.originator l (twins_drawn x.party.generator moment) (λ d e. twins_below x.party.generator moment d e) st (twins_sound x.party (auth_text a) (bank_rsi_tests x.party a m (Some l)) m.originator l (twins_drawn x.party.generator moment) st)
+      by_service false = sending_agreeing (lists_of w) p x room at i (auth_text a) (bank_rsi_tests x.party a m (Some l)) m.originator l moment (good_draw x.party.generator moment) refl st (sending_sound x.party (auth_text a) (bank_rsi_tests x.party a m (Some l)) m.originator l (good_draw x.party.generator moment) st)
 
   pub kk_row : (o : Option LinkKey) (peer new : List ℕ) (single : Bool) (label : Option (List ℕ)) (found : Option LinkRec) (moment : ℕ) → sending_link x.party peer label ≡ found → is_accept (start_kk_under x.party peer new single found moment).verdict ≡ true → IsSound o x.party [] (start_kk_under x.party peer new single found moment) → Agreeing (lists_of w) x room [] (start_kk_under x.party peer new single found moment)
   kk_row o peer new single label None moment s h sound = refused_row [] (verdict_of (start_tests x.party peer None))
@@ -134,9 +147,9 @@ module _ (n : ℕ) (w : World) (p : List ℕ) (x : Member) (room : ℕ) (at : me
       moved : Moves o x.party (apply (body_edits x.party m b l) x.party) (auth_text a) (key_row x.party a m b (Some l))
       moved = moves o x.party (apply (body_edits x.party m b l) x.party) (auth_text a) (key_row x.party a m b (Some l)) refl sound
 
-      not_before : HasAccepted w.acceptances OfKsm x.party.own (body_name x.party m.originator b l) → ⊥
-      not_before g = (ksm_apart o n w p x (record { party = apply (body_edits x.party m b l) x.party; room = room }) (auth_text a) (key_row x.party a m b (Some l)) at moved c.links g.acceptance (record { class = OfKsm; under = body_name x.party m.originator b l })
-          (All-contains (AcceptedBelow w.members) w.acceptances g.acceptance c.accepted g.stands) moved.accepts g.class_is refl g.party_is).0 g.under_is
+      not_before : (u : FullName) → Contains (key_names (body_name x.party m.originator b l) (body_twin b)) u → HasAccepted w.acceptances OfKsm x.party.own u → ⊥
+      not_before u in_row g = (ksm_apart o n w p x (record { party = apply (body_edits x.party m b l) x.party; room = room }) (auth_text a) (key_row x.party a m b (Some l)) at moved c.links g.acceptance (record { class = OfKsm; names = key_names (body_name x.party m.originator b l) (body_twin b) })
+          (All-contains (AcceptedBelow w.members) w.acceptances g.acceptance c.accepted g.stands) moved.accepts g.class_is refl g.party_is).0 u g.among in_row
 
   pub message_agrees : (o : Option LinkKey) (a : Arrival) (m : Message) (moment : ℕ) → Says (auth_text a) m → HonestAs w.facts a (message_lead x.party a m) → is_accept (message_row x.party a m moment).verdict ≡ true → IsSound o x.party (auth_text a) (message_row x.party a m moment) → Agreeing (lists_of w) x room (auth_text a) (message_row x.party a m moment)
   message_agrees o a (message.Rsi m) moment said honest h sound = rsi_row a m (first_link m.originator Sends x.party) moment refl

@@ -23,9 +23,9 @@ use Rattle.world_laws.specs.World.{Member, member_at}
 use Rattle.world_laws.proofs.Links.Growth.{PartyGrows}
 use Rattle.world_laws.proofs.Links.Waiting.{new_of}
 use Rattle.party_state.proofs.Tables.{find_put_same}
-use Rattle.world_laws.proofs.Agreeing.Waiting.{sent_name_by}
+use Rattle.world_laws.proofs.Agreeing.Waiting.{sent_name_by, second_name_by}
 use Rattle.world_laws.proofs.Links.Growth.{PartyGrows}
-use Rattle.world_laws.proofs.Agreeing.Lists.{Lists, after, lists_after}
+use Rattle.world_laws.proofs.Agreeing.Lists.{Lists, after, facts_after, lists_after}
 use Rattle.world_laws.proofs.Agreeing.Known.{Known}
 use Rattle.world_laws.proofs.Agreeing.Moves.{Agreeing}
 use Rattle.world_laws.proofs.Agreeing.Agreed.{Agreed}
@@ -49,7 +49,9 @@ use Rattle.world_laws.proofs.Texts.Drawn.{drawn_below}
 use Rattle.world_laws.proofs.Texts.Drawn.{drawn_odd}
 use Rattle.world_laws.proofs.Agreeing.Known.{Mine, counted, issued, mine, theirs}
 use Rattle.world_laws.proofs.Agreeing.KeyRecords.{fresh, one}
-use Rattle.world_laws.proofs.Agreeing.Facts.{KsmFact}
+use Rattle.x_base.specs.declared.key_name.FullName.{FullName}
+use Rattle.party_state.specs.Names.{name_behind}
+use Rattle.world_laws.proofs.Agreeing.Facts.{at_peer, Carries, carries_one, KsmFact}
 use Rattle.world_laws.proofs.Agreeing.Waiting.{NewFits, NewSent}
 use Rattle.world_laws.proofs.Agreeing.Exchanges.{ex_put, waits_put, news_put, sent_put}
 use Rattle.world_laws.proofs.Agreeing.Backs.{backed}
@@ -130,7 +132,7 @@ kk_draw_sound g moment single d h = go single (good_draw g moment) refl h
 
 module _ (v : Lists) (p : List ℕ) (x : Member) (room : ℕ) (at : member_at p v.members ≡ Some x) (i : Agreed v) where
   -- the name that goes next is no one's yet
-  next_absent : (l : LinkRec) (key : ℕ) → link_with (sends l.peer l.label) x.party ≡ Some l → (u : KeyRec) → record_with (record_key (sent_record x.party l key)) x.party ≡ Some u → ⊥
+  pub next_absent : (l : LinkRec) (key : ℕ) → link_with (sends l.peer l.label) x.party ≡ Some l → (u : KeyRec) → record_with (record_key (sent_record x.party l key)) x.party ≡ Some u → ⊥
   next_absent l key at_l u j = known_not (i.known p x at (record_key (sent_record x.party l key)) u j)
     where
       mine_not : Mine v.facts x.party (record_key (sent_record x.party l key)) → ⊥
@@ -147,7 +149,7 @@ module _ (v : Lists) (p : List ℕ) (x : Member) (room : ℕ) (at : member_at p 
     back = backed v.members x.party (sending_drawn x.party front l (Some d)).edits (tt, (inr (inr (l, at_key, refl, refl)), (tt, (tt, tt))));
     news = news_put x.party (apply (sending_drawn x.party front l (Some d)).edits x.party) (sent_exchange x.party l d.0) refl refl;
     keys = one (sent_record x.party l d.0) refl (record { put = fresh l at_l (omega arith) refl refl; live = λ no own. absurd no; known = mine refl (counted refl up at_up s.ready (omega arith)); gone = λ u j held. absurd (next_absent l d.0 at_l u j) });
-    exchanges = sent_put x.party (apply (sending_drawn x.party front l (Some d)).edits x.party) (sent_exchange x.party l d.0) (sent_record x.party l d.0) refl refl refl refl (λ name q. (let n : next_name x.party l ≡ name = some_is (next_name x.party l) name q in (sym n, ap (λ (m : KeyName). m.originator) (sym n), refl))) (i.sent p x at);
+    exchanges = sent_put x.party (apply (sending_drawn x.party front l (Some d)).edits x.party) (sent_exchange x.party l d.0) (sent_record x.party l d.0) refl refl refl refl (λ name q. (let n : next_name x.party l ≡ name = some_is (next_name x.party l) name q in (sym n, ap (λ (m : KeyName). m.originator) (sym n), refl))) refl (i.sent p x at);
     waits = waits_put x.party (apply (sending_drawn x.party front l (Some d)).edits x.party) (sent_exchange x.party l d.0) refl refl;
     replies = the_fact;
     new = (refl, inl (record { link = l; found = at_l; low = omega arith; issuer = refl }));
@@ -172,6 +174,9 @@ module _ (v : Lists) (p : List ℕ) (x : Member) (room : ℕ) (at : member_at p 
       grown : PartyGrows None x.party (apply (sending_drawn x.party front l (Some d)).edits x.party)
       grown = change_grows None (sending_drawn x.party front l (Some d)).edits x.party sound.edits
 
+      alone : (u : FullName) (value : ℕ) → Carries l.pair x.party.own l.peer (sent_ksm x.party l d.0).body (record { name = next_name x.party l; recipient = l.peer }) u value → (u ≡ record { name = next_name x.party l; recipient = l.peer }) × (value ≡ unwrap_of l.pair l.next (wrap_of l.pair l.next d.0))
+      alone u value c = carries_one l.pair x.party.own l.peer (sent_ksm x.party l d.0).body (record { name = next_name x.party l; recipient = l.peer }) u value refl c
+
       the_fact : KsmFact (lists_after v x room text (sending_drawn x.party front l (Some d))) (record { under = record { name = next_name x.party l; recipient = l.peer }; text = auth_of (message.Ksm (sent_ksm x.party l d.0)); maker = x.party.own }) (sent_ksm x.party l d.0)
       the_fact = record {
         label = l.label;
@@ -183,8 +188,9 @@ module _ (v : Lists) (p : List ℕ) (x : Member) (room : ℕ) (at : member_at p 
         ready = s.ready;
         party = after x room (sending_drawn x.party front l (Some d));
         at = after_is v p x room at i None (sending_drawn x.party front l (Some d)) grown;
-        past = counted refl up at_up s.ready (omega arith);
-        value = λ n f. (let k : sent_record x.party l d.0 ≡ n = one_found (sent_record x.party l d.0) n (find_put_same record_key same_record test_records (sent_record x.party l d.0) x.party.keys) f in ap (λ (z : KeyRec). z.value) (sym k) ∙ sym (unwraps l.pair l.next d.0 (drawn_below x.party.generator moment d drew)));
+        past = λ u value c. subst (λ (z : FullName). Mine (facts_after v.facts x (sending_drawn x.party front l (Some d)).reply) (apply (sending_drawn x.party front l (Some d)).edits x.party) (at_peer z)) (sym (alone u value c).0) (counted refl up at_up s.ready (omega arith));
+        value = λ u value c n g. (let f : record_with (record_key (sent_record x.party l d.0)) (apply (sending_drawn x.party front l (Some d)).edits x.party) ≡ Some n = subst (λ (z : FullName). record_with (at_peer z) (apply (sending_drawn x.party front l (Some d)).edits x.party) ≡ Some n) (alone u value c).0 g in let k : sent_record x.party l d.0 ≡ n = one_found (sent_record x.party l d.0) n (find_put_same record_key same_record test_records (sent_record x.party l d.0) x.party.keys) f in ap (λ (z : KeyRec). z.value) (sym k) ∙ (sym (unwraps l.pair l.next d.0 (drawn_below x.party.generator moment d drew)) ∙ sym (alone u value c).1));
+        twins = λ e j is. absurd (let same : sent_exchange x.party l d.0 ≡ e = one_found (sent_exchange x.party l d.0) e (find_put_same exchange_key bytes_eq test_idents (sent_exchange x.party l d.0) x.party.exchanges) j in let g : None ≡ Some (name_behind (next_name x.party l)) = ap (λ (z : Exchange). second_name_by z.kind) same ∙ ap second_name_by is in cc);
         waits = λ e new j nm w. absurd (let same : sent_exchange x.party l d.0 ≡ e = one_found (sent_exchange x.party l d.0) e (find_put_same exchange_key bytes_eq test_idents (sent_exchange x.party l d.0) x.party.exchanges) j in let g : None ≡ Some new = ap (λ (z : Exchange). new_of z.kind) same ∙ w in cc);
       }
 
@@ -198,7 +204,7 @@ module _ (v : Lists) (p : List ℕ) (x : Member) (room : ℕ) (at : member_at p 
       | inr a ↦ inl a.0
     ];
     keys = one (sent_record x.party l d.key) refl (record { put = fresh l at_l (omega arith) refl refl; live = λ no own. absurd no; known = mine refl (counted refl up at_up s.ready (omega arith)); gone = λ u j held. absurd (next_absent l d.key at_l u j) });
-    exchanges = sent_put x.party (apply (kk_edits x.party l new single d) x.party) (kk_exchange x.party l new single d) (sent_record x.party l d.key) refl refl refl refl (λ name q. (let m : next_name x.party l ≡ name = some_is (next_name x.party l) name q in (sym m, ap (λ (z : KeyName). z.originator) (sym m), refl))) (i.sent p x at);
+    exchanges = sent_put x.party (apply (kk_edits x.party l new single d) x.party) (kk_exchange x.party l new single d) (sent_record x.party l d.key) refl refl refl refl (λ name q. (let m : next_name x.party l ≡ name = some_is (next_name x.party l) name q in (sym m, ap (λ (z : KeyName). z.originator) (sym m), refl))) refl (i.sent p x at);
     waits = waits_put x.party (apply (kk_edits x.party l new single d) x.party) (kk_exchange x.party l new single d) refl refl;
     replies = the_fact;
     new = (refl, inl (record { link = l; found = at_l; low = omega arith; issuer = refl }));
@@ -232,6 +238,9 @@ module _ (v : Lists) (p : List ℕ) (x : Member) (room : ℕ) (at : member_at p 
       fits : (m : LinkRec) → link_with (sends l.peer new) (apply (kk_edits x.party l new single d) x.party) ≡ Some m → m.pair ≡ opened_kk l.pair l.next (sealed_kk l.pair l.next single d.pair)
       fits m f = ap (λ (z : LinkRec). z.pair) (one_found m (fresh_link l new d.pair) f (kk_fresh x.party text peer new single l d s h)) ∙ sym (opened_is l.pair l.next single d ks)
 
+      alone : (u : FullName) (value : ℕ) → Carries l.pair x.party.own l.peer (kk_ksm x.party l new single d).body (record { name = next_name x.party l; recipient = l.peer }) u value → (u ≡ record { name = next_name x.party l; recipient = l.peer }) × (value ≡ unwrap_of (opened_kk l.pair l.next (sealed_kk l.pair l.next single d.pair)) 1 (wrap_of d.pair 1 d.key))
+      alone u value c = carries_one l.pair x.party.own l.peer (kk_ksm x.party l new single d).body (record { name = next_name x.party l; recipient = l.peer }) u value refl c
+
       the_fact : KsmFact (lists_after v x room text (kk_sending x.party (start_tests x.party peer (Some l)) l new single (Some d))) (record { under = record { name = next_name x.party l; recipient = l.peer }; text = auth_of (message.Ksm (kk_ksm x.party l new single d)); maker = x.party.own }) (kk_ksm x.party l new single d)
       the_fact = record {
         label = l.label;
@@ -243,8 +252,9 @@ module _ (v : Lists) (p : List ℕ) (x : Member) (room : ℕ) (at : member_at p 
         ready = s.ready;
         party = after x room (kk_sending x.party (start_tests x.party peer (Some l)) l new single (Some d));
         at = after_is v p x room at i o (kk_sending x.party (start_tests x.party peer (Some l)) l new single (Some d)) grown;
-        past = counted refl up at_up s.ready (omega arith);
-        value = λ m f. (let k : sent_record x.party l d.key ≡ m = one_found (sent_record x.party l d.key) m (find_put_same record_key same_record test_records (sent_record x.party l d.key) x.party.keys) f in ap (λ (z : KeyRec). z.value) (sym k) ∙ key_is);
+        past = λ u value c. subst (λ (z : FullName). Mine (facts_after v.facts x (kk_sending x.party (start_tests x.party peer (Some l)) l new single (Some d)).reply) (apply (kk_edits x.party l new single d) x.party) (at_peer z)) (sym (alone u value c).0) (counted refl up at_up s.ready (omega arith));
+        value = λ u value c m g. (let f : record_with (record_key (sent_record x.party l d.key)) (apply (kk_edits x.party l new single d) x.party) ≡ Some m = subst (λ (z : FullName). record_with (at_peer z) (apply (kk_edits x.party l new single d) x.party) ≡ Some m) (alone u value c).0 g in let k : sent_record x.party l d.key ≡ m = one_found (sent_record x.party l d.key) m (find_put_same record_key same_record test_records (sent_record x.party l d.key) x.party.keys) f in ap (λ (z : KeyRec). z.value) (sym k) ∙ (key_is ∙ sym (alone u value c).1));
+        twins = λ e j is. absurd (let same : kk_exchange x.party l new single d ≡ e = one_found (kk_exchange x.party l new single d) e (find_put_same exchange_key bytes_eq test_idents (kk_exchange x.party l new single d) x.party.exchanges) j in let g : None ≡ Some (name_behind (next_name x.party l)) = ap (λ (z : Exchange). second_name_by z.kind) same ∙ ap second_name_by is in cc);
         waits = λ e label j nm w. (let same : kk_exchange x.party l new single d ≡ e = one_found (kk_exchange x.party l new single d) e (find_put_same exchange_key bytes_eq test_idents (kk_exchange x.party l new single d) x.party.exchanges) j in
             let l_is : new ≡ label = some_is new label (ap (λ (z : Exchange). new_of z.kind) same ∙ w) in
             subst (NewFits (apply (kk_edits x.party l new single d) x.party) l.peer l.pair (body.Direct (Some l.label) (Some (new, sealed_kk l.pair l.next single d.pair)) (wrap_of d.pair 1 d.key) l.next)) l_is

@@ -1,5 +1,14 @@
 -- The edits of each row: a link goes only where the exchange with its peer goes, and an exchange with a new label comes
 -- only where a new key-encrypting key is sent.
+use Rattle.std.specs.Prelude.{option_map}
+use Rattle.party_state.specs.Names.{name_behind}
+use Rattle.role_base.specs.declared.exchanges.Twins.{Twins}
+use Rattle.role_base.specs.Exchanges.{twins_to, ended}
+use Rattle.role_base.specs.Conditions.{is_two_keys}
+use Rattle.bank_keys.specs.Ksm.{body_twin, second_record, second_edits, body_second}
+use Rattle.bank_arrivals.specs.declared.draws.TwinsDrawn.{TwinsDrawn}
+use Rattle.bank_arrivals.specs.SendingTwins.{twins_drawn, twins_sending_drawn}
+use Rattle.bank_arrivals.specs.Rsm.{rsm_by}
 use Rattle.std.proofs.Common.{◌≡◌, ℕ, Bool, true, false, cond, Option, Some, None, List, [], ◌∷◌, ◌++◌, inl, inr, refl, ap, subst}
 use Rattle.std.specs.List.{AllByRecursion}
 use Rattle.x_base.specs.declared.key_name.KeyName.{KeyName}
@@ -45,12 +54,12 @@ use Rattle.role_base.specs.Sending.{sending_drawn}
 use Rattle.role_base.specs.Texts.{is_plain}
 use Rattle.bank_orders.specs.Start.{sending_link, start_tests, start_under}
 use Rattle.bank_orders.specs.Resend.{resend_of}
-use Rattle.bank_orders.specs.GivingUp.{ended, given_up, given_up_in}
+use Rattle.bank_orders.specs.GivingUp.{given_up, given_up_in}
 use Rattle.bank_orders.specs.Ending.{end_record}
 use Rattle.bank_arrivals.specs.declared.disconnection.Named.{Named}
 use Rattle.bank_arrivals.specs.declared.error_message.Subject.{Subject}
-use Rattle.bank_arrivals.specs.declared.error_message.Subject.TheVariants.{SentKey, Translated}
-use Rattle.bank_arrivals.specs.Rsi.{rsi_tests, rsi_under}
+use Rattle.bank_arrivals.specs.declared.error_message.Subject.TheVariants.{SentKey, SentTwins, Translated}
+use Rattle.bank_arrivals.specs.Rsi.{rsi_tests, rsi_row, rsi_under}
 use Rattle.bank_arrivals.specs.Rsm.{rsm_to, answer_to, rsm_with}
 use Rattle.bank_arrivals.specs.Esm.{subject_with, subject_link, subject_value, raised, subject_ended, plain_esm}
 use Rattle.bank_arrivals.specs.Dsm.{named_by, left_by, left_in, dsm_on}
@@ -69,7 +78,7 @@ use Rattle.roles.specs.Rows.{row_by}
 use Rattle.bank_orders.specs.Orders.{command_row}
 use Rattle.bank_role.specs.Rows.{message_row}
 use Rattle.roles.specs.Rows.{row_at}
-use Rattle.world_laws.proofs.Agreeing.Standing.{Freed, TidyIn, Tidy, RowNews, tidy, starts, tidy_join, freed_behind}
+use Rattle.world_laws.proofs.Agreeing.Standing.{Freed, TidyIn, Tidy, RowNews, tidy, starts, twice, tidy_join, freed_behind}
 use Rattle.world_laws.proofs.Agreeing.StandingCentres.{distribution_tidy, translation_tidy, centre_tidy}
 
 new_peer : (p : Party) (peer : List ℕ) (way : Via) (l : LinkRec) → new_link p peer way ≡ Some l → peer ≡ l.peer
@@ -144,6 +153,10 @@ module _ (p : Party) where
       by_kind (kind.Asked ultimate) = (tt, tt)
       by_kind (kind.Translating ultimate value cta) = (tt, tt)
       by_kind (kind.Ending name) = (tt, tt)
+      by_kind (kind.PairSent name) =
+          let all : List Edit = given_up p peer (kind.PairSent name) ++ DropExchange peer ∷ [] in
+          tidy_join all (given_up p peer (kind.PairSent name)) (DropExchange peer ∷ [])
+          (tidy_join all (ended (record_of p peer name)) (ended (record_of p peer (name_behind name))) (ended_tidy all (record_of p peer name)) (ended_tidy all (record_of p peer (name_behind name)))) (tt, tt)
 
   command_news : (c : Command) (moment : ℕ) → RowNews p (command_row p c moment).edits
   command_news (command.Load peer label side pair) moment = tidy (tt, tt)
@@ -157,17 +170,29 @@ module _ (p : Party) where
   command_news (command.Drop peer) moment = tidy (drop_tidy peer (exchange_with peer p))
   command_news command.Purge moment = tidy (tt, tt)
 
-  rsi_tidy : (a : Arrival) (m : Rsi) (moment : ℕ) (o : Option LinkRec) → Tidy (rsi_under p a m o moment).edits
-  rsi_tidy a m moment None = tt
-  rsi_tidy a m moment (Some l) = sending_tidy (rsi_tests p a m (Some l)) l (good_draw p.generator moment)
+  rsi_news : (a : Arrival) (m : Rsi) (moment : ℕ) (o : Option LinkRec) → RowNews p (rsi_under p a m o moment).edits
+  rsi_news a m moment None = tidy tt
+  rsi_news a m moment (Some l) = by_service (is_two_keys m.service)
+    where
+      by_draw : (o : Option TwinsDrawn) → RowNews p (twins_sending_drawn p (rsi_tests p a m (Some l)) l o).edits
+      by_draw None = tidy tt
+      by_draw (Some d) = twice l d refl
+
+      by_service : (b : Bool) → RowNews p (rsi_row p a m l moment b).edits
+      by_service true = by_draw (twins_drawn p.generator moment)
+      by_service false = tidy (sending_tidy (rsi_tests p a m (Some l)) l (good_draw p.generator moment))
 
   key_tidy : (a : Arrival) (m : Ksm) (b : KsmBody) (o : Option LinkRec) → Tidy (key_row p a m b o).edits
   key_tidy a m b None = tt
   key_tidy a m b (Some l) = (tt, go (body_new b))
     where
-      go : (n : Option (List ℕ × NewKk)) → AllByRecursion (TidyIn (key_row p a m b (Some l)).edits) (taken_edits m.originator l (body_count b) n ++ PutKey (body_record p m b l) ∷ [])
-      go None = (tt, tt)
-      go (Some n) = (tt, (tt, tt))
+      second : (o : Option ℕ) → AllByRecursion (TidyIn (key_row p a m b (Some l)).edits) (second_edits (option_map (λ kd. second_record p m b l kd) o))
+      second None = tt
+      second (Some kd) = (tt, tt)
+
+      go : (n : Option (List ℕ × NewKk)) → AllByRecursion (TidyIn (key_row p a m b (Some l)).edits) (taken_edits m.originator l (body_count b) n ++ PutKey (body_record p m b l) ∷ second_edits (body_second p m b l))
+      go None = (tt, second (body_twin b))
+      go (Some n) = (tt, (tt, second (body_twin b)))
 
   rtr_tidy : (a : Arrival) (m : Rtr) (kd : Option (ℕ × ℕ)) → Tidy (rtr_with p a m kd).edits
   rtr_tidy a m (Some k) = go (link_with (takes m.originator centre_label) p)
@@ -182,11 +207,15 @@ module _ (p : Party) where
       go (Some t) = (tt, (tt, (refl, tt)))
 
   rsm_tidy : (a : Arrival) (m : Rsm) (o : Option KeyName) → Tidy (rsm_with p a m o).edits
-  rsm_tidy a m None = go (sent_to p m.originator)
+  rsm_tidy a m None = by_twins (twins_to p m.originator)
     where
       go : (o : Option Sent) → Tidy (rsm_to p a m o).edits
       go None = tt
       go (Some s) = tidy_join (rsm_to p a m (Some s)).edits (readied (new_link p m.originator s.way)) _ (readied_tidy (rsm_to p a m (Some s)).edits (new_link p m.originator s.way)) (tt, (tt, tt))
+
+      by_twins : (t : Option Twins) → Tidy (rsm_by p a m t).edits
+      by_twins None = go (sent_to p m.originator)
+      by_twins (Some t) = (tt, (tt, (tt, tt)))
   rsm_tidy a m (Some name) = go (ending_with p m.originator)
     where
       go : (o : Option KeyRec) → Tidy (answer_to p a m name o).edits
@@ -199,6 +228,7 @@ module _ (p : Party) where
 
   subject_tidy : (all : List Edit) (peer : List ℕ) (s : Subject) → Freed all peer → AllByRecursion (TidyIn all) (subject_ended p peer s)
   subject_tidy all peer (SentKey s) f = tidy_join all (dropped (new_link p peer s.way)) _ (dropped_tidy all p peer s.way f) (tt, tt)
+  subject_tidy all peer (SentTwins t) f = (tt, (tt, tt))
   subject_tidy all peer (Translated value cta) f = tt
 
   esm_tidy : (a : Arrival) (m : Esm) (b : Bool) (o : Option Subject) (again : Option Retry) → Tidy (cond b (plain_esm p a m) (error_of p a m o again)).edits
@@ -230,11 +260,19 @@ module _ (p : Party) where
       by_ending true = (tt, (tt, tt))
       by_ending false = (tt, tt)
 
+      by_pair : (j k : Option KeyRec) (b c : Bool) → BothTidy (cond b ([], ended k ++ DropExchange m.originator ∷ []) (cond c (ended j, DropExchange m.originator ∷ []) ([], [])))
+      by_pair j None true c = (tt, (tt, tt))
+      by_pair j (Some k) true c = (tt, (tt, (tt, tt)))
+      by_pair None k false true = (tt, (tt, tt))
+      by_pair (Some j) k false true = (tt, (tt, (tt, tt)))
+      by_pair j k false false = (tt, tt)
+
       by_kind : (k : Kind) → BothTidy (left_by p m.originator n.key.name k)
       by_kind (kind.KeySent sent way) = by_sent way (same_name n.key.name sent)
       by_kind (kind.Ending ending) = by_ending (same_name n.key.name ending)
       by_kind (kind.Asked ultimate) = (tt, tt)
       by_kind (kind.Translating ultimate value cta) = (tt, tt)
+      by_kind (kind.PairSent sent) = by_pair (record_of p m.originator sent) (record_of p m.originator (name_behind sent)) (same_name n.key.name sent) (same_name n.key.name (name_behind sent))
 
       by_exchange : (o : Option Exchange) → BothTidy (left_in p m.originator n.key.name o)
       by_exchange None = (tt, tt)
@@ -244,19 +282,19 @@ module _ (p : Party) where
       by_status true = tt
       by_status false = by_exchange (exchange_with m.originator p)
 
-  message_tidy : (a : Arrival) (m : Message) (moment : ℕ) → Tidy (message_row p a m moment).edits
-  message_tidy a (message.Rsi m) moment = rsi_tidy a m moment (first_link m.originator Sends p)
-  message_tidy a (message.Rfs m) moment = tt
-  message_tidy a (message.Rtr m) moment = rtr_tidy a m m.kd
-  message_tidy a (message.Ksm m) moment = key_tidy a m m.body (body_link p m.originator m.body)
-  message_tidy a (message.Rsm m) moment = rsm_tidy a m m.idd
-  message_tidy a (message.Ers m) moment = tt
-  message_tidy a (message.Esm m) moment = esm_tidy a m (is_plain a.parsed.shut) (subject_with p m.originator) (retry_in p (subject_with p m.originator) m.ctr)
-  message_tidy a (message.Dsm m) moment = dsm_tidy a m (named_by p m)
+  message_news : (a : Arrival) (m : Message) (moment : ℕ) → RowNews p (message_row p a m moment).edits
+  message_news a (message.Rsi m) moment = rsi_news a m moment (first_link m.originator Sends p)
+  message_news a (message.Rfs m) moment = tidy tt
+  message_news a (message.Rtr m) moment = tidy (rtr_tidy a m m.kd)
+  message_news a (message.Ksm m) moment = tidy (key_tidy a m m.body (body_link p m.originator m.body))
+  message_news a (message.Rsm m) moment = tidy (rsm_tidy a m m.idd)
+  message_news a (message.Ers m) moment = tidy tt
+  message_news a (message.Esm m) moment = tidy (esm_tidy a m (is_plain a.parsed.shut) (subject_with p m.originator) (retry_in p (subject_with p m.originator) m.ctr))
+  message_news a (message.Dsm m) moment = tidy (dsm_tidy a m (named_by p m))
 
   role_news : (r : Role) (j : Input) (moment : ℕ) → RowNews p (row_by r p j moment).edits
   role_news Bank (input.Ordered c) moment = command_news c moment
-  role_news Bank (input.Arrived a) moment = tidy (message_tidy a a.parsed.message moment)
+  role_news Bank (input.Arrived a) moment = message_news a a.parsed.message moment
   role_news Distribution (input.Ordered c) moment = tidy (centre_tidy p c)
   role_news Distribution (input.Arrived a) moment = tidy (distribution_tidy p a a.parsed.message moment)
   role_news Translation (input.Ordered c) moment = tidy (centre_tidy p c)

@@ -42,7 +42,8 @@ use Rattle.world_laws.proofs.Agreeing.Lists.{Counts, Lists, after, members_after
 use Rattle.world_laws.proofs.Agreeing.Waiting.{NewsMove, news_stay, AllSent}
 use Rattle.world_laws.proofs.Agreeing.Known.{Known, known_on, class_more}
 use Rattle.world_laws.proofs.Agreeing.Facts.{MessageOk, FactOk, AcceptedOk}
-use Rattle.world_laws.proofs.Agreeing.Exchanges.{SentIs, sent_own}
+use Rattle.role_base.specs.declared.exchanges.Twins.{Twins}
+use Rattle.world_laws.proofs.Agreeing.Exchanges.{SentIs, sent_own, TwinsIs, twins_own}
 use Rattle.world_laws.proofs.Agreeing.Agreed.{Agreed}
 
 -- a text for this party comes from another
@@ -58,8 +59,8 @@ pub pending_not_ended : (x y : KeyStatus) → x ≡ Pending → x ≡ Ended → 
 pending_not_ended x y e f = absurd (let g = sym e ∙ f in cc)
 
 -- an accepted row whose class is none of the three
-pub plain : (v : Lists) (p text : List ℕ) (class : Class) (u : FullName) → class ≢ OfKsm → class ≢ OfDsm → class ≢ OfAnswer → AcceptedOk v (record { party = p; text = text; class = class; under = u })
-plain v p text class u a b d = record { ksm = λ e. absurd (a e); dsm = λ e. absurd (b e); answer = λ e. absurd (d e) }
+pub plain : (v : Lists) (p text : List ℕ) (class : Class) (us : List FullName) → class ≢ OfKsm → class ≢ OfDsm → class ≢ OfAnswer → AcceptedOk v (record { party = p; text = text; class = class; names = us })
+plain v p text class us a b d = record { ksm = λ e. absurd (a e); dsm = λ e. absurd (b e); answer = λ e. absurd (d e) }
 
 -- of two elements, either they are one or one stands before the other
 pub pairs_or_same : {X : Type 0} (R : X → X → Type 0) (xs : List X) (a b : X) → AllPairs R xs → Contains xs a → Contains xs b → (a ≡ b) ⊎ (R a b ⊎ R b a)
@@ -138,3 +139,11 @@ module _ (v : Lists) (p : List ℕ) (x : Member) (room : ℕ) (at : member_at p 
   -- a row that is refused does nothing
   pub refused_agreeing : (text : List ℕ) (verdict : Verdict) → Agreeing v x room text (refused verdict)
   refused_agreeing text verdict = still_agreeing text (refused verdict) refl tt tt tt
+
+  -- the records of two keys that are given up
+  pub twins_ended : (o : Option LinkKey) (text : List ℕ) (r : Row) (peer : List ℕ) (y : Twins) → PartyGrows o x.party (apply r.edits x.party) → WaitsMove x.party (apply r.edits x.party) → TwinsIs x.party peer y → KeyFine v (lists_after v x room text r) x.party (apply r.edits x.party) (with_status y.first Ended) × KeyFine v (lists_after v x room text r) x.party (apply r.edits x.party) (with_status y.second Ended)
+  twins_ended o text r peer y g w h =
+      let own = twins_own x.party peer y (i.sent p x at) h in (
+        status_fine o text r y.first Ended g w h.first (λ e. refl) (λ no own. absurd no) (λ held. absurd (pending_not_held y.first.status own.1 held)),
+        status_fine o text r y.second Ended g w h.second (λ e. refl) (λ no own. absurd no) (λ held. absurd (pending_not_held y.second.status own.3 held)),
+      )

@@ -1,5 +1,9 @@
 -- The rows that raise the count that a link expects: what comes is honest, so the sending end is past that count.
-use Rattle.std.proofs.Common.{arith, ◌≡◌, ◌≢◌, ◌⊎◌, inl, inr, ℕ, ◌+◌, Bool, true, false, Option, Some, None, List, [], ◌∷◌, ◌++◌, refl, sym, ◌∙◌, ap, subst, bytes_eq}
+use Rattle.party_state.specs.Names.{full_behind}
+use Rattle.bank_keys.specs.Ksm.{body_twin, body_next, body_value, second_value, body_code, count_behind, body_second}
+use Rattle.world_laws.proofs.Sound.Keys.{taking_edits}
+use Rattle.world_laws.proofs.Agreeing.Facts.{at_peer, as_first, as_second}
+use Rattle.std.proofs.Common.{arith, ◌≡◌, ◌≢◌, ◌⊎◌, inl, inr, ℕ, ◌+◌, Bool, true, false, Option, Some, None, List, refl, sym, ◌∙◌, ap, subst, bytes_eq}
 use Rattle.std.proofs.lemmas.List.Elements.{All-contains}
 use Rattle.x_base.specs.declared.key_name.FullName.{FullName}
 use Rattle.x_base.specs.declared.party.Side.TheVariants.{Sends, Takes}
@@ -12,11 +16,10 @@ use Rattle.csm_grammar.specs.declared.message.NewKk.{NewKk}
 use Rattle.csm_grammar.specs.declared.message.Rfs.{Rfs}
 use Rattle.csm_grammar.specs.declared.message.Rtr.{Rtr}
 use Rattle.csm_grammar.specs.Spelling.{Says}
-use Rattle.party_state.specs.declared.edit.Edit.TheVariants.{PutLink, PutKey}
 use Rattle.party_state.specs.declared.key.KeyRec.{KeyRec}
 use Rattle.party_state.specs.declared.link.LinkKey.{LinkKey}
 use Rattle.party_state.specs.declared.link.LinkRec.{LinkRec}
-use Rattle.party_state.specs.Tables.{put_row}
+use Rattle.party_state.specs.Tables.{find_row, put_row}
 use Rattle.party_state.specs.Keys.{same_link, link_key, sends, takes}
 use Rattle.party_state.specs.State.{Party, centre_label, link_with, apply}
 use Rattle.party_state.specs.Verdicts.{Held as TestsHold, is_accept, passes}
@@ -25,7 +28,7 @@ use Rattle.party_state.proofs.Tables.{find_key}
 use Rattle.party_state.proofs.Verdicts.{held}
 use Rattle.role_base.specs.Conditions.{body_issuer}
 use Rattle.role_base.specs.Texts.{auth_text, lead_under}
-use Rattle.bank_keys.specs.Ksm.{body_link, body_count, body_name, body_new, body_value, body_front, body_tests, body_record, taken_edits, taken_link, key_row, key_lead_with}
+use Rattle.bank_keys.specs.Ksm.{body_link, body_count, body_name, body_new, body_value, body_front, body_tests, body_record, taken_link, key_row, key_lead_with}
 use Rattle.bank_keys.specs.Rtr.{brought_front, brought_value, brought_tests, brought, brought_under, brought_lead}
 use Rattle.translation_role.specs.Service.{rfs_front, rfs_value, rfs_under, rfs_tests, rfs_between, rfs_lead_between}
 use Rattle.world_laws.specs.World.{Member, own_of, member_at}
@@ -41,20 +44,34 @@ use Rattle.world_laws.proofs.Agreeing.AnswerRows.{HonestAs}
 use Rattle.world_laws.proofs.Agreeing.Steps.{other_of, fact_says, here}
 use Rattle.world_laws.proofs.Agreeing.MeetingCounts.{IsReached, IsUnready, IsMet, CountsMove, put_cases, sending_counts}
 
--- a link after a key was taken
-taken_cases : (s : Party) (originator : List ℕ) (l : LinkRec) (count : ℕ) (n : Option (List ℕ × NewKk)) (r : KeyRec) (k : LinkKey) (z : LinkRec) → link_with k (apply (PutLink (record l { next = count + 1 }) ∷ (taken_edits originator l count n ++ PutKey r ∷ [])) s) ≡ Some z
-    → (link_with k s ≡ Some z) ⊎ (((k ≡ link_key l) × (z.next ≡ count + 1)) ⊎ ((kk : List ℕ × NewKk) × (n ≡ Some kk) × (k ≡ takes originator kk.0) × (z.next ≡ 2)))
-taken_cases s originator l count None r k z h = elim (put_cases (record l { next = count + 1 }) s.links k z h) [
-  | inl a ↦ inr (inl (a.0, ap (λ (y : LinkRec). y.next) (sym a.1)))
-  | inr a ↦ inl a
-]
-taken_cases s originator l count (Some n) r k z h = elim (put_cases (taken_link originator l count n) (put_row link_key same_link (record l { next = count + 1 }) s.links) k z h) [
-  | inl a ↦ inr (inr (n, refl, a.0, ap (λ (y : LinkRec). y.next) (sym a.1)))
-  | inr b ↦ elim (put_cases (record l { next = count + 1 }) s.links k z b) [
-    | inl a ↦ inr (inl (a.0, ap (λ (y : LinkRec). y.next) (sym a.1)))
-    | inr a ↦ inl a
-  ]
-]
+-- a link after keys were taken
+taken_cases : (s : Party) (originator : List ℕ) (l : LinkRec) (count up : ℕ) (n : Option (List ℕ × NewKk)) (r : KeyRec) (o : Option KeyRec) (k : LinkKey) (z : LinkRec) → link_with k (apply (taking_edits originator l count up n r o) s) ≡ Some z
+    → (link_with k s ≡ Some z) ⊎ (((k ≡ link_key l) × (z.next ≡ up)) ⊎ ((kk : List ℕ × NewKk) × (n ≡ Some kk) × (k ≡ takes originator kk.0) × (z.next ≡ 2)))
+taken_cases s originator l count up n r o k z h = by_new n (links_of n o h)
+  where
+    -- the links that its edits leave
+    left : Option (List ℕ × NewKk) → List LinkRec
+    left None = put_row link_key same_link (record l { next = up }) s.links
+    left (Some n) = put_row link_key same_link (taken_link originator l count n) (put_row link_key same_link (record l { next = up }) s.links)
+
+    links_of : (n : Option (List ℕ × NewKk)) (o : Option KeyRec) → link_with k (apply (taking_edits originator l count up n r o) s) ≡ Some z → find_row link_key same_link k (left n) ≡ Some z
+    links_of None None h = h
+    links_of None (Some j) h = h
+    links_of (Some n) None h = h
+    links_of (Some n) (Some j) h = h
+
+    by_new : (n : Option (List ℕ × NewKk)) → find_row link_key same_link k (left n) ≡ Some z → (link_with k s ≡ Some z) ⊎ (((k ≡ link_key l) × (z.next ≡ up)) ⊎ ((kk : List ℕ × NewKk) × (n ≡ Some kk) × (k ≡ takes originator kk.0) × (z.next ≡ 2)))
+    by_new None h = elim (put_cases (record l { next = up }) s.links k z h) [
+      | inl a ↦ inr (inl (a.0, ap (λ (y : LinkRec). y.next) (sym a.1)))
+      | inr a ↦ inl a
+    ]
+    by_new (Some n) h = elim (put_cases (taken_link originator l count n) (put_row link_key same_link (record l { next = up }) s.links) k z h) [
+      | inl a ↦ inr (inr (n, refl, a.0, ap (λ (y : LinkRec). y.next) (sym a.1)))
+      | inr b ↦ elim (put_cases (record l { next = up }) s.links k z b) [
+        | inl a ↦ inr (inl (a.0, ap (λ (y : LinkRec). y.next) (sym a.1)))
+        | inr a ↦ inl a
+      ]
+    ]
 
 module _ (v : Lists) (p : List ℕ) (x : Member) (room : ℕ) (at : member_at p v.members ≡ Some x) (i : Agreed v) where
   -- the sending end of the link of this key here is past the count
@@ -75,7 +92,7 @@ module _ (v : Lists) (p : List ℕ) (x : Member) (room : ℕ) (at : member_at p 
     front = rw (t.0, t.1.0) refl
 
     fact : HasFact v.facts (body_name x.party m.originator b l) (auth_text a)
-    fact = honest (lead_under a (body_name x.party m.originator b l) (body_value l.pair m.originator x.party.own b)) (rw front refl) t.1.1.1.0
+    fact = honest (lead_under a (body_name x.party m.originator b l) (body_code l.pair m.originator x.party.own b)) (rw front refl) t.1.1.1.0
 
     f : KsmFact v fact.fact m
     f = fact_says v p x room at i (body_name x.party m.originator b l) (auth_text a) fact (message.Ksm m) said
@@ -95,37 +112,47 @@ module _ (v : Lists) (p : List ℕ) (x : Member) (room : ℕ) (at : member_at p 
     own_f : m.originator ≡ f.party.party.own
     own_f = find_key own_of bytes_eq test_idents m.originator f.party v.members f.at
 
-    by_mine : Mine v.facts f.party.party (ksm_key m f.label) → IsReached v.members (body_issuer m.originator m.body) (sends x.party.own f.label) (body_count b + 1)
-    by_mine (counted own j g ready below) = record {
-      member = f.party;
-      at = subst (λ (q : List ℕ). member_at q v.members ≡ Some f.party) (own_f ∙ sym own) f.at;
-      link = j;
-      found = subst (λ (q : List ℕ). link_with (sends q f.label) f.party.party ≡ Some j) mine_is.0 g;
-      ready = ready;
-      next = omega (arith, below, count);
-    }
-    by_mine (issued other j) = by_body b is
-      where
-        b_rtr : RtrFact v.members j.fact j.rtr
-        b_rtr = All-contains (FactOk v) v.facts j.fact i.facts j.stands (message.Rtr j.rtr) j.said
+    -- a key that the text brings, by its name at the sending end
+    module _ (u : FullName) (recipient : u.recipient ≡ m.receiver) (label_u : u.name.label ≡ f.label) (issuer_u : u.name.issuer ≡ body_issuer m.originator m.body) (last : body_next b ≡ u.name.count + 1) where
+      by_mine : Mine v.facts f.party.party (at_peer u) → IsReached v.members (body_issuer m.originator m.body) (sends x.party.own f.label) (body_next b)
+      by_mine (counted own j g ready below) = record {
+        member = f.party;
+        at = subst (λ (q : List ℕ). member_at q v.members ≡ Some f.party) (own_f ∙ (sym own ∙ issuer_u)) f.at;
+        link = j;
+        found = subst (λ (q : LinkKey). link_with q f.party.party ≡ Some j) (λ h. sends ((recipient ∙ mine_is.0) h) (label_u h)) g;
+        ready = ready;
+        next = omega (arith, below, last);
+      }
+      by_mine (issued other j) = by_body b is
+        where
+          b_rtr : RtrFact v.members j.fact j.rtr
+          b_rtr = All-contains (FactOk v) v.facts j.fact i.facts j.stands (message.Rtr j.rtr) j.said
 
-        by_body : (c : KsmBody) → m.body ≡ c → IsReached v.members (body_issuer m.originator m.body) (sends x.party.own f.label) (body_count b + 1)
-        by_body (body.Direct idk2 new kd ctp) e = absurd (other (ap (body_issuer m.originator) e ∙ own_f))
-        by_body (body.Centre centre kdu ctb) e =
-            let central : centre_label ≡ f.label = sym (ap (λ (c : KsmBody). (body_name x.party m.originator c l).name.label) (sym is ∙ e)) ∙ label in
-            let low = b_rtr.below in
-            let same = j.count in
-            record {
-              member = b_rtr.party;
-              at = subst (λ (q : List ℕ). member_at q v.members ≡ Some b_rtr.party) j.centre b_rtr.at;
-              link = b_rtr.link;
-              found = subst (λ (k : List ℕ). link_with (sends x.party.own k) b_rtr.party.party ≡ Some b_rtr.link) central (subst (λ (q : List ℕ). link_with (sends q centre_label) b_rtr.party.party ≡ Some b_rtr.link) (j.ultimate ∙ mine_is.0) b_rtr.found);
-              ready = b_rtr.ready;
-              next = omega (arith, low, same, count);
-            }
+          by_body : (c : KsmBody) → m.body ≡ c → IsReached v.members (body_issuer m.originator m.body) (sends x.party.own f.label) (body_next b)
+          by_body (body.Direct idk2 new kd ctp) e = absurd (other (issuer_u ∙ (ap (body_issuer m.originator) e ∙ own_f)))
+          by_body (body.Twin idk2 first second ctp) e = absurd (other (issuer_u ∙ (ap (body_issuer m.originator) e ∙ own_f)))
+          by_body (body.Centre centre kdu ctb) e =
+              let central : centre_label ≡ f.label = sym (ap (λ (c : KsmBody). (body_name x.party m.originator c l).name.label) (sym is ∙ e)) ∙ label in
+              let low = b_rtr.below in
+              let same = j.count in
+              record {
+                member = b_rtr.party;
+                at = subst (λ (q : List ℕ). member_at q v.members ≡ Some b_rtr.party) (j.centre ∙ issuer_u) b_rtr.at;
+                link = b_rtr.link;
+                found = subst (λ (k : List ℕ). link_with (sends x.party.own k) b_rtr.party.party ≡ Some b_rtr.link) central (subst (λ (q : List ℕ). link_with (sends q centre_label) b_rtr.party.party ≡ Some b_rtr.link) (j.ultimate ∙ (recipient ∙ mine_is.0)) b_rtr.found);
+                ready = b_rtr.ready;
+                next = omega (arith, low, same, last);
+              }
 
-    reached : ReachedBy (takes (body_name x.party m.originator b l).name.issuer (body_name x.party m.originator b l).name.label) (body_count b + 1)
-    reached = subst (λ (q : List ℕ). IsReached v.members q (sends x.party.own (body_name x.party m.originator b l).name.label) (body_count b + 1)) (sym issuer) (subst (λ (k : List ℕ). IsReached v.members (body_issuer m.originator m.body) (sends x.party.own k) (body_count b + 1)) (sym label) (by_mine f.past))
+    -- the count of the last of its keys is past there
+    by_last : (o : Option ℕ) → body_twin b ≡ o → IsReached v.members (body_issuer m.originator m.body) (sends x.party.own f.label) (body_next b)
+    by_last None e = by_mine fact.fact.under (ap (λ (z : FullName). z.recipient) f.under) (ap (λ (z : FullName). z.name.label) f.under) (ap (λ (z : FullName). z.name.issuer) f.under) (ap (count_behind (body_count b)) e ∙ ap (λ (n : ℕ). n + 1) (count ∙ sym (ap (λ (z : FullName). z.name.count) f.under))) (f.past fact.fact.under (body_value f.link.pair m.originator m.receiver m.body) (as_first refl refl))
+    by_last (Some kd) e = by_mine (full_behind fact.fact.under) (ap (λ (z : FullName). z.recipient) f.under) (ap (λ (z : FullName). z.name.label) f.under) (ap (λ (z : FullName). z.name.issuer) f.under)
+        (let next : body_next b ≡ body_count b + 2 = ap (count_behind (body_count b)) e in let under : fact.fact.under.name.count ≡ body_count m.body = ap (λ (z : FullName). z.name.count) f.under in omega (arith, next, under, count))
+        (f.past (full_behind fact.fact.under) (second_value f.link.pair m.body kd) (as_second kd (ap body_twin is ∙ e) refl refl))
+
+    reached : ReachedBy (takes (body_name x.party m.originator b l).name.issuer (body_name x.party m.originator b l).name.label) (body_next b)
+    reached = subst (λ (q : List ℕ). IsReached v.members q (sends x.party.own (body_name x.party m.originator b l).name.label) (body_next b)) (sym issuer) (subst (λ (k : List ℕ). IsReached v.members (body_issuer m.originator m.body) (sends x.party.own k) (body_next b)) (sym label) (by_last (body_twin b) refl))
 
     la : LinkAt x.party (takes (body_name x.party m.originator b l).name.issuer (body_name x.party m.originator b l).name.label) l
     la = link_at x.party (takes (body_name x.party m.originator b l).name.issuer (body_name x.party m.originator b l).name.label) l (key_link x.party a m b l links is found h)
@@ -147,10 +174,10 @@ module _ (v : Lists) (p : List ℕ) (x : Member) (room : ℕ) (at : member_at p 
     taken_counts = record { takes_on = moved; begun = λ mk e z g. absurd (cc) }
       where
         moved : (peer label : List ℕ) (z : LinkRec) → link_with (takes peer label) (apply (key_row x.party a m b (Some l)).edits x.party) ≡ Some z → ((y : LinkRec) × (link_with (takes peer label) x.party ≡ Some y) × (z.next ≡ y.next)) ⊎ IsMet v.members peer (sends x.party.own label) z.next
-        moved peer label z g = elim (taken_cases x.party m.originator l (body_count b) (body_new b) (body_record x.party m b l) (takes peer label) z g) [
+        moved peer label z g = elim (taken_cases x.party m.originator l (body_count b) (body_next b) (body_new b) (body_record x.party m b l) (body_second x.party m b l) (takes peer label) z g) [
           | inl old ↦ inl (z, old, refl)
           | inr other ↦ elim other [
-            | inl up ↦ inr (met_by peer label (takes (body_name x.party m.originator b l).name.issuer (body_name x.party m.originator b l).name.label) z.next (body_count b + 1) (up.0 ∙ la.key) up.1 reached)
+            | inl up ↦ inr (met_by peer label (takes (body_name x.party m.originator b l).name.issuer (body_name x.party m.originator b l).name.label) z.next (body_next b) (up.0 ∙ la.key) up.1 reached)
             | inr new ↦ inr (inr ((let two = new.3 in omega (arith, two)), subst (λ (k : LinkKey). IsUnready v.members k.peer (sends x.party.own k.label)) (sym new.2) (unready new.0 new.1)))
           ]
         ]

@@ -1,6 +1,7 @@
 -- No count offsets two keys under one key-encrypting key, and each key service message takes effect at most
 -- once: what each moment of each run keeps, and the row that stands.
-use Rattle.std.proofs.Common.{arith, ◌≡◌, ◌≢◌, ℕ, suc, ◌<◌, ◌⊎◌, inl, inr, Option, Some, None, List, ◌++◌, map, refl, sym, ◌∙◌, ap, subst, AllPairs, All, get_or, append-nil}
+use Rattle.std.proofs.Common.{Contains}
+use Rattle.std.proofs.Common.{arith, ◌≡◌, ◌≢◌, ℕ, suc, ◌≤◌, ◌<◌, ◌⊎◌, inl, inr, Option, Some, None, List, ◌++◌, map, refl, sym, ◌∙◌, ap, subst, AllPairs, All, get_or, append-nil}
 use Rattle.std.proofs.lemmas.List.Elements.{All-append, All-weaker, All-from_recursion, All-push, All-map, recursion_from_All}
 use Rattle.std.proofs.lemmas.List.Quantifiers.{all_pairs_push}
 use Rattle.csm_grammar.specs.declared.message.Ksm.{Ksm}
@@ -17,6 +18,7 @@ use Rattle.party_state.proofs.Tables.{one_found}
 use Rattle.world_laws.specs.World.{World, Member, Kk, Birth, KkUse, Acceptance, member_at}
 use Rattle.world_laws.specs.Steps.{last_birth, births_of, current_kk, kk_use, acceptances_of, world_after_row}
 use Rattle.world_laws.specs.Starts.{Each}
+use Rattle.bank_keys.specs.Ksm.{body_twin, count_behind, key_names}
 use Rattle.world_laws.specs.Laws.{SameCount, AcceptedApart}
 use Rattle.world_laws.proofs.Lists.Pairs.{AllPairs-append, AllPairs-map}
 use Rattle.world_laws.proofs.Lists.Births.{last_below, born_now, born_cases, births_on}
@@ -24,7 +26,7 @@ use Rattle.world_laws.proofs.Lists.Members.{own_is, after_at, member_cases, memb
 use Rattle.world_laws.proofs.Links.Growth.{LinkGrows}
 use Rattle.world_laws.proofs.Links.Found.{HasLinks}
 use Rattle.world_laws.proofs.Links.Waiting.{Waits}
-use Rattle.world_laws.proofs.Links.Taken.{ksm_link, ksm_count, ksm_name, name_count, name_link, ksm_link_grows, ksm_name_stays}
+use Rattle.world_laws.proofs.Links.Taken.{ksm_link, ksm_count, ksm_name, ksm_names, ksm_next, count_less, among_tells, name_count, name_link, ksm_link_grows, ksm_name_stays}
 use Rattle.world_laws.proofs.Counting.Sound.{UseFine, KsmFine, AcceptsFine, Moves}
 
 -- a use's count is below the next of its link, as long as that stands
@@ -40,8 +42,8 @@ pub record KsmBelow (ms : List Member) (a : Acceptance) : Type 0 where
   pub said : Says a.text (message.Ksm ksm)
   pub link : LinkRec
   pub found : ksm_link member.party ksm ≡ Some link
-  pub under : a.under ≡ ksm_name member.party ksm link
-  pub below : ksm_count ksm < link.next
+  pub names : a.names ≡ ksm_names member.party ksm link
+  pub below : ksm_next ksm ≤ link.next
 
 abbrev pub AcceptedBelow : List Member → Acceptance → Type 0
 AcceptedBelow ms a = a.class ≡ OfKsm → KsmBelow ms a
@@ -154,14 +156,14 @@ module _ (o : Option LinkKey) (n : ℕ) (w : World) (p : List ℕ) (x y : Member
       let b : KsmBelow w.members a = f is in
       elim (cases a.party b.member b.at) [
         | inl t ↦ (let i : ksm_link x.party b.ksm ≡ Some b.link = subst (λ (v : Member). ksm_link v.party b.ksm ≡ Some b.link) t.1 b.found in
-            let u : a.under ≡ ksm_name x.party b.ksm b.link = subst (λ (v : Member). a.under ≡ ksm_name v.party b.ksm b.link) t.1 b.under in
+            let u : a.names ≡ ksm_names x.party b.ksm b.link = subst (λ (v : Member). a.names ≡ ksm_names v.party b.ksm b.link) t.1 b.names in
             let g = ksm_link_grows o x.party y.party b.ksm.originator b.ksm.body b.link m.grown i in
-            record { member = y; at = t.2; ksm = b.ksm; said = b.said; link = g.0; found = g.1; under = u ∙ ksm_name_stays x.party y.party b.ksm.originator b.ksm.body b.link g.0 m.grown.own g.2; below = omega (arith, b.below, g.2.next) })
-        | inr t ↦ record { member = b.member; at = t; ksm = b.ksm; said = b.said; link = b.link; found = b.found; under = b.under; below = b.below }
+            record { member = y; at = t.2; ksm = b.ksm; said = b.said; link = g.0; found = g.1; names = u ∙ ap (λ (z : FullName). key_names z (body_twin b.ksm.body)) (ksm_name_stays x.party y.party b.ksm.originator b.ksm.body b.link g.0 m.grown.own g.2); below = omega (arith, b.below, g.2.next) })
+        | inr t ↦ record { member = b.member; at = t; ksm = b.ksm; said = b.said; link = b.link; found = b.found; names = b.names; below = b.below }
       ]
 
   -- a message that was accepted has another name and another text than the one that is
-  pub ksm_apart : Each (λ v. HasLinks v.party) w.members → (a : Acceptance) (k : Accepted) → AcceptedBelow w.members a → AcceptsFine x.party y.party text (Some k) → AcceptedApart a (record { party = x.party.own; text = text; class = k.class; under = k.under })
+  pub ksm_apart : Each (λ v. HasLinks v.party) w.members → (a : Acceptance) (k : Accepted) → AcceptedBelow w.members a → AcceptsFine x.party y.party text (Some k) → AcceptedApart a (record { party = x.party.own; text = text; class = k.class; names = k.names })
   ksm_apart links a k below fine ca ck same_party = (by_name, by_text)
     where
       b : KsmBelow w.members a
@@ -176,18 +178,24 @@ module _ (o : Option LinkKey) (n : ℕ) (w : World) (p : List ℕ) (x y : Member
       found_b : ksm_link x.party b.ksm ≡ Some b.link
       found_b = subst (λ (v : Member). ksm_link v.party b.ksm ≡ Some b.link) same b.found
 
-      under_b : a.under ≡ ksm_name x.party b.ksm b.link
-      under_b = subst (λ (v : Member). a.under ≡ ksm_name v.party b.ksm b.link) same b.under
+      names_b : a.names ≡ ksm_names x.party b.ksm b.link
+      names_b = subst (λ (v : Member). a.names ≡ ksm_names v.party b.ksm b.link) same b.names
 
-      by_name : a.under ≢ k.under
-      by_name e =
-          let name : ksm_name x.party b.ksm b.link ≡ ksm_name x.party f.ksm f.link = sym under_b ∙ (e ∙ f.under) in
-          let count : ksm_count b.ksm ≡ ksm_count f.ksm = sym (name_count x.party b.ksm.originator b.ksm.body b.link) ∙ (ap (λ (z : FullName). z.name.count) name ∙ name_count x.party f.ksm.originator f.ksm.body f.link) in
+      by_name : (u : FullName) → Contains a.names u → Contains k.names u → ⊥
+      by_name u in_a in_k =
+          let i = among_tells (ksm_name x.party b.ksm b.link) u (body_twin b.ksm.body) (subst (λ (z : List FullName). Contains z u) names_b in_a) in
+          let j = among_tells (ksm_name x.party f.ksm f.link) u (body_twin f.ksm.body) (subst (λ (z : List FullName). Contains z u) f.names in_k) in
+          let issuer : (ksm_name x.party b.ksm b.link).name.issuer ≡ (ksm_name x.party f.ksm f.link).name.issuer = sym i.0 ∙ j.0 in
+          let label : (ksm_name x.party b.ksm b.link).name.label ≡ (ksm_name x.party f.ksm f.link).name.label = sym i.1 ∙ j.1 in
+          let count_b : (ksm_name x.party b.ksm b.link).name.count ≡ ksm_count b.ksm = name_count x.party b.ksm.originator b.ksm.body b.link in
+          let count_f : (ksm_name x.party f.ksm f.link).name.count ≡ ksm_count f.ksm = name_count x.party f.ksm.originator f.ksm.body f.link in
+          let next_b : count_behind (ksm_name x.party b.ksm b.link).name.count (body_twin b.ksm.body) ≡ ksm_next b.ksm = ap (λ (c : ℕ). count_behind c (body_twin b.ksm.body)) count_b in
           let at_b = name_link x.party b.ksm.originator b.ksm.body b.link (links p x found) found_b in
           let at_f : link_with (takes (ksm_name x.party f.ksm f.link).name.issuer (ksm_name x.party f.ksm f.link).name.label) x.party ≡ Some f.link = name_link x.party f.ksm.originator f.ksm.body f.link (links p x found) f.before in
-          let at_c : link_with (takes (ksm_name x.party f.ksm f.link).name.issuer (ksm_name x.party f.ksm f.link).name.label) x.party ≡ Some b.link = subst (λ (z : FullName). link_with (takes z.name.issuer z.name.label) x.party ≡ Some b.link) name at_b in
+          let key : takes (ksm_name x.party b.ksm b.link).name.issuer (ksm_name x.party b.ksm b.link).name.label ≡ takes (ksm_name x.party f.ksm f.link).name.issuer (ksm_name x.party f.ksm f.link).name.label = (λ h. takes (issuer h) (label h)) in
+          let at_c : link_with (takes (ksm_name x.party f.ksm f.link).name.issuer (ksm_name x.party f.ksm f.link).name.label) x.party ≡ Some b.link = subst (λ (z : LinkKey). link_with z x.party ≡ Some b.link) key at_b in
           let next : b.link.next ≡ f.link.next = ap (λ (z : LinkRec). z.next) (one_found b.link f.link at_c at_f) in
-          omega (arith, b.below, f.low, next, count)
+          omega (arith, b.below, f.low, next, next_b, count_f, i.3, j.2)
 
       by_text : a.text ≢ text
       by_text e =
@@ -197,15 +205,16 @@ module _ (o : Option LinkKey) (n : ℕ) (w : World) (p : List ℕ) (x y : Member
           let at_c : ksm_link x.party f.ksm ≡ Some b.link = subst (λ (z : Ksm). ksm_link x.party z ≡ Some b.link) is found_b in
           let next : b.link.next ≡ f.link.next = ap (λ (z : LinkRec). z.next) (one_found b.link f.link at_c f.before) in
           let count : ksm_count b.ksm ≡ ksm_count f.ksm = ap ksm_count is in
-          omega (arith, b.below, f.low, next, count)
+          let less : ksm_count b.ksm < ksm_next b.ksm = count_less (ksm_count b.ksm) (body_twin b.ksm.body) in
+          omega (arith, b.below, f.low, next, count, less)
 
-  new_accepted : (k : Accepted) → AcceptsFine x.party y.party text (Some k) → AcceptedBelow (world_after_row n w x.party.own text r y).members (record { party = x.party.own; text = text; class = k.class; under = k.under })
+  new_accepted : (k : Accepted) → AcceptsFine x.party y.party text (Some k) → AcceptedBelow (world_after_row n w x.party.own text r y).members (record { party = x.party.own; text = text; class = k.class; names = k.names })
   new_accepted k fine ck =
       let f : KsmFine x.party y.party text k = fine ck in
       let g = ksm_link_grows o x.party y.party f.ksm.originator f.ksm.body f.link m.grown f.before in
       let same : g.0 ≡ f.later = one_found g.0 f.later g.1 f.after in
       let u : ksm_name x.party f.ksm f.link ≡ ksm_name y.party f.ksm f.later = ksm_name_stays x.party y.party f.ksm.originator f.ksm.body f.link f.later m.grown.own (subst (LinkGrows f.link) same g.2) in
-      record { member = y; at = at_after; ksm = f.ksm; said = f.said; link = f.later; found = f.after; under = f.under ∙ u; below = f.past }
+      record { member = y; at = at_after; ksm = f.ksm; said = f.said; link = f.later; found = f.after; names = f.names ∙ ap (λ (z : FullName). key_names z (body_twin f.ksm.body)) u; below = f.past }
 
   kept_accepted : (o : Option Accepted) → AcceptsFine x.party y.party text o → All (AcceptedBelow w.members) w.acceptances → All (AcceptedBelow (world_after_row n w x.party.own text r y).members) (w.acceptances ++ acceptances_of x.party.own text o)
   kept_accepted o f a = go o f
@@ -215,11 +224,11 @@ module _ (o : Option LinkKey) (n : ℕ) (w : World) (p : List ℕ) (x y : Member
 
       go : (o : Option Accepted) → AcceptsFine x.party y.party text o → All (AcceptedBelow (world_after_row n w x.party.own text r y).members) (w.acceptances ++ acceptances_of x.party.own text o)
       go None f = rw append-nil old
-      go (Some k) f = All-push (AcceptedBelow (world_after_row n w x.party.own text r y).members) w.acceptances (record { party = x.party.own; text = text; class = k.class; under = k.under }) old (new_accepted k f)
+      go (Some k) f = All-push (AcceptedBelow (world_after_row n w x.party.own text r y).members) w.acceptances (record { party = x.party.own; text = text; class = k.class; names = k.names }) old (new_accepted k f)
 
   kept_once : Each (λ v. HasLinks v.party) w.members → (o : Option Accepted) → AcceptsFine x.party y.party text o → All (AcceptedBelow w.members) w.acceptances → AllPairs AcceptedApart w.acceptances → AllPairs AcceptedApart (w.acceptances ++ acceptances_of x.party.own text o)
   kept_once links None f a once = rw append-nil once
-  kept_once links (Some k) f a once = all_pairs_push AcceptedApart w.acceptances (record { party = x.party.own; text = text; class = k.class; under = k.under }) once (λ i d l. ksm_apart links (get_or w.acceptances i d) k (a i d l) f)
+  kept_once links (Some k) f a once = all_pairs_push AcceptedApart w.acceptances (record { party = x.party.own; text = text; class = k.class; names = k.names }) once (λ i d l. ksm_apart links (get_or w.acceptances i d) k (a i d l) f)
 
   pub kept_counted : CountedAt n w → CountedAt (suc n) (world_after_row n w x.party.own text r y)
   kept_counted i = record {

@@ -8,7 +8,7 @@ use Rattle.world_laws.specs.Steps.{world_with_room}
 use Rattle.world_laws.proofs.Lists.Members.{own_is, member_cases, member_back, each_on}
 use Rattle.world_laws.proofs.Links.Found.{HasLinks}
 use Rattle.world_laws.proofs.Links.Waiting.{Waits}
-use Rattle.world_laws.proofs.Links.Taken.{ksm_link, ksm_name}
+use Rattle.world_laws.proofs.Links.Taken.{ksm_link, ksm_names}
 use Rattle.world_laws.proofs.Counting.Counts.{UseBelow, KsmBelow, AcceptedBelow, CountedAt}
 
 module _ (n : ℕ) (w : World) (p : List ℕ) (x : Member) (room : ℕ) (found : member_at p w.members ≡ Some x) where
@@ -29,8 +29,8 @@ module _ (n : ℕ) (w : World) (p : List ℕ) (x : Member) (room : ℕ) (found :
   ksm_same a f is =
       let b : KsmBelow w.members a = f is in
       elim (member_cases w.members p x (record { party = x.party; room = room }) found refl a.party b.member b.at) [
-        | inl t ↦ record { member = record { party = x.party; room = room }; at = t.2; ksm = b.ksm; said = b.said; link = b.link; found = subst (λ (v : Member). ksm_link v.party b.ksm ≡ Some b.link) t.1 b.found; under = subst (λ (v : Member). a.under ≡ ksm_name v.party b.ksm b.link) t.1 b.under; below = b.below }
-        | inr t ↦ record { member = b.member; at = t; ksm = b.ksm; said = b.said; link = b.link; found = b.found; under = b.under; below = b.below }
+        | inl t ↦ record { member = record { party = x.party; room = room }; at = t.2; ksm = b.ksm; said = b.said; link = b.link; found = subst (λ (v : Member). ksm_link v.party b.ksm ≡ Some b.link) t.1 b.found; names = subst (λ (v : Member). a.names ≡ ksm_names v.party b.ksm b.link) t.1 b.names; below = b.below }
+        | inr t ↦ record { member = b.member; at = t; ksm = b.ksm; said = b.said; link = b.link; found = b.found; names = b.names; below = b.below }
       ]
 
   pub room_counted : CountedAt n w → CountedAt n (world_with_room w x room)

@@ -19,7 +19,7 @@ use Rattle.party_state.proofs.Keys.{test_links}
 use Rattle.party_state.proofs.Distinct.{distinct_put, distinct_drop}
 use Rattle.world_laws.proofs.Links.Growth.{PartyGrows, AllFine, change_grows}
 use Rattle.world_laws.proofs.Links.Found.{HasLinks}
-use Rattle.world_laws.proofs.Links.Taken.{ksm_link, ksm_count, ksm_name}
+use Rattle.world_laws.proofs.Links.Taken.{ksm_link, ksm_count, ksm_names, ksm_next}
 use Rattle.world_laws.proofs.Links.Waiting.{Waits}
 
 -- a use takes a count that its link had not reached, or is of the link that the row makes; and the link is past it afterwards
@@ -37,11 +37,11 @@ pub record KsmFine (s t : Party) (text : List ℕ) (a : Accepted) : Type 0 where
   pub said : Says text (message.Ksm ksm)
   pub link : LinkRec
   pub before : ksm_link s ksm ≡ Some link
-  pub under : a.under ≡ ksm_name s ksm link
+  pub names : a.names ≡ ksm_names s ksm link
   pub low : link.next ≤ ksm_count ksm
   pub later : LinkRec
   pub after : ksm_link t ksm ≡ Some later
-  pub past : ksm_count ksm < later.next
+  pub past : ksm_next ksm ≤ later.next
 
 abbrev pub AcceptsFine : Party → Party → List ℕ → Option Accepted → Type 0
 AcceptsFine s t text None = Unit {0}

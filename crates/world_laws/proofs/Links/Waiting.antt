@@ -22,6 +22,7 @@ new_of (kind.KeySent name way) = new_label way
 new_of (kind.Asked ultimate) = None
 new_of (kind.Translating ultimate value cta) = None
 new_of (kind.Ending name) = None
+new_of (kind.PairSent name) = None
 
 abbrev pub WaitsFor : Party → List ℕ → Option (List ℕ) → Type 0
 WaitsFor p peer None = Unit {0}

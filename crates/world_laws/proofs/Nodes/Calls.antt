@@ -1,11 +1,11 @@
 -- A call over a party on a shelf is an event at its member.
-use Rattle.std.proofs.Common.{arith, ◌≡◌, ◌⊎◌, inl, inr, ℕ, ◌+◌, Bool, true, false, length, Option, Some, None, List, ◌++◌, refl, sym, ◌∙◌, ap, subst}
+use Rattle.std.proofs.Common.{arith, ◌≡◌, ◌≢◌, ◌⊎◌, inl, inr, ℕ, ◌+◌, Bool, true, false, length, Option, Some, None, List, ◌++◌, refl, sym, ◌∙◌, ap, subst}
 use Rattle.std.specs.Prelude.{nat_le, option_to_list}
 use Rattle.std.proofs.lemmas.Bool.{le-leb, leb-true, leb-false}
 use Rattle.std.proofs.lemmas.List.{append-nil}
 use Rattle.x_base.specs.declared.key_name.FullName.{FullName}
 use Rattle.x_base.specs.declared.verdict.Verdict.{Verdict}
-use Rattle.x_disk.specs.Disk.{View, LeavesOnly}
+use Rattle.x_disk.specs.Disk.{View, LeavesOnly, IsUntouched}
 use Rattle.key_journal.specs.Journal.{is_blank}
 use Rattle.party_state.specs.declared.edit.Edit.{Edit}
 use Rattle.party_state.specs.declared.command.Command.{Command}
@@ -22,8 +22,8 @@ use Rattle.roles.specs.Rows.{row_at}
 use Rattle.node_core.specs.Deciding.{after}
 use Rattle.node_core.specs.Turns.{FitsInto, IsOldOrNext}
 use Rattle.node_core.specs.Turns as turns
-use Rattle.x_party.specs.Images.{StandsFor, OfParty, OrBefore}
-use Rattle.x_party.specs.Outcomes.{IsAccepted, IsRefused, IsNobody, IsCompacted, IsNotCompacted, IsSafe, IsSafeCompaction, TakesTurn, CompactsParty}
+use Rattle.x_party.specs.Images.{StandsFor, OfParty, OfOwnParty, OrBefore}
+use Rattle.x_party.specs.Outcomes.{IsAccepted, IsRefused, IsOther, IsNobody, IsCompacted, IsNotCompacted, IsSafe, IsSafeCompaction, TakesTurn, CompactsParty}
 use Rattle.x_party.specs.declared.outcome.Outcome.{Outcome}
 use Rattle.x_party.specs.declared.outcome.Outcome.TheVariants as outcome
 use Rattle.world_laws.specs.World.{Member, World, HasMember, member_at}
@@ -31,7 +31,7 @@ use Rattle.world_laws.specs.Events.{Action, Orders, Hears, Compacts, Completion,
 use Rattle.world_laws.specs.Rooms.{room_after_compaction}
 use Rattle.world_laws.specs.Steps.{received_text, world_after_row, world_with_answer, world_after_input, world_after_action, step, step_at}
 use Rattle.world_laws.specs.Nodes.{world_with_reply, IsCutInput, IsCutCompaction}
-use Rattle.world_laws.specs.Calls.{event_at, IsWholeCall, IsCutCall, AnswersWhole, IsCall}
+use Rattle.world_laws.specs.Calls.{event_at, IsWholeCall, IsCutCall, AnswersWhole, AnswersOther, IsCall, IsNamedCall}
 use Rattle.world_laws.proofs.Lists.Members.{after_at}
 use Rattle.world_laws.proofs.Nodes.Binding.{accepted_event, refused_event, full_event, own_after, cut_input}
 use Rattle.world_laws.proofs.Nodes.Compactions.{whole_compaction, no_compaction, cut_compaction}
@@ -133,8 +133,8 @@ module _ (p : Party) (left : ℕ) (i : Input) (moment : ℕ) (action : Action) (
         stands = λ n w at. in_network is.completion (λ v. HasMember v p.own (StandsWith image)) n w at (is.stands n w at);
       }
 
-  pub turn_cut : (image : List ℕ) → old.now ≡ Some image → StandsWith image p left → IsSafe old new i moment → LeavesOnly old new (OrBefore old (IsCutCall here (event_at here moment action)))
-  turn_cut image now stood safe = elim (fits_or_not left (decision p i moment).change) [
+  pub turn_cut : (name image : List ℕ) → old.now ≡ Some image → StandsWith image p left → IsSafe name old new i moment → LeavesOnly old new (OrBefore old (IsCutCall here (event_at here moment action)))
+  turn_cut name image now stood safe = elim (fits_or_not left (decision p i moment).change) [
     | inl fits ↦ leaves_more old new (OrBefore old (IsOldOrNext p left (decision p i moment))) (OrBefore old (IsCutCall here (event_at here moment action)))
         (or_before old (IsOldOrNext p left (decision p i moment)) (IsCutCall here (event_at here moment action)) (cut_call fits)) (safe.party image p left now stood)
     | inr full ↦ leaves_more old new old.may_leave (OrBefore old (IsCutCall here (event_at here moment action))) (λ c was. inr was)
@@ -194,30 +194,65 @@ module _ (one_party : (image : List ℕ) (first second : Party) → Stands image
       let room : is.room ≡ left = sym (is.reads.left stood.bodies (record { image = image; now = now; holds = stood.holds })) ∙ stood.left in
       subst (λ (r : ℕ). P p r) room (subst (λ (q : Party). P q is.room) party is.holds)
 
+  of_own : (name : List ℕ) (old : View) (P : Party → ℕ → Type 0) → OfOwnParty name old P → OfParty old P
+  of_own name old P is = record { party = is.party; room = is.room; reads = is.reads; holds = is.holds }
+
   somebody : {A : Type 0} (old new : View) (image : List ℕ) (p : Party) (left : ℕ) (said : Verdict) (reply : Option (List ℕ)) (under : Option FullName) → old.now ≡ Some image → StandsWith image p left → IsNobody old new said reply under → A
   somebody old new image p left said reply under now stood none =
       let blank : is_blank image ≡ true = none.blank image now in
       let not : is_blank image ≡ false = not_blank image p (record { bodies = stood.bodies; holds = stood.holds; fold = stood.fold }) in
       absurd cc
 
-  pub turn_is_call : (old new : View) (i : Input) (moment : ℕ) (action : Action) (o : Outcome) → Gives action i → TakesTurn old new i moment o → IsSafe old new i moment → IsCall old new action moment o
-  turn_is_call old new i moment action o gives turned safe image p left now stood = record { whole = by_outcome o turned; cut = turn_cut p left i moment action gives old new image now stood safe }
-    where
-      by_outcome : (o : Outcome) → TakesTurn old new i moment o → AnswersWhole (record { party = p; room = left }) (event_at (record { party = p; room = left }) moment action Whole) new o
-      by_outcome (outcome.Done reply under) is =
-          accepted_call p left i moment action gives old new reply under (of_party old (λ q room. IsAccepted old new (decision q i moment) q room reply under) image p left now stood is)
-      by_outcome (outcome.Refused said reply under) (inl is) =
-          refused_call p left i moment action gives old new said reply under (of_party old (λ q room. IsRefused old new (decision q i moment) q room said reply under) image p left now stood is)
-      by_outcome (outcome.Refused said reply under) (inr none) = somebody old new image p left said reply under now stood none
-      by_outcome (outcome.Damaged place) is = absurd (undamaged image p place (record { bodies = stood.bodies; holds = stood.holds; fold = stood.fold }) (is.first image now))
-      by_outcome outcome.Fault is = tt
-      by_outcome outcome.NoMemory is = tt
+  -- the party of the name has the turn
+  own_call : (name : List ℕ) (old new : View) (i : Input) (moment : ℕ) (action : Action) (image : List ℕ) (p : Party) (left : ℕ) → Gives action i → old.now ≡ Some image → StandsWith image p left
+      → p.own ≡ name → (o : Outcome) → TakesTurn name old new i moment o → AnswersWhole (record { party = p; room = left }) (event_at (record { party = p; room = left }) moment action Whole) new o
+  own_call name old new i moment action image p left gives now stood own (outcome.Done reply under) is =
+      accepted_call p left i moment action gives old new reply under (of_party old (λ q room. IsAccepted old new (decision q i moment) q room reply under) image p left now stood (of_own name old _ is))
+  own_call name old new i moment action image p left gives now stood own (outcome.Refused said reply under) (inl is) =
+      refused_call p left i moment action gives old new said reply under (of_party old (λ q room. IsRefused old new (decision q i moment) q room said reply under) image p left now stood (of_own name old _ is))
+  own_call name old new i moment action image p left gives now stood own (outcome.Refused said reply under) (inr none) = somebody old new image p left said reply under now stood none
+  own_call name old new i moment action image p left gives now stood own (outcome.OtherParty asked found) is =
+      let other = of_party old (λ q room. IsOther old new name q room asked found) image p left now stood is in
+      absurd (other.differs (other.stood ∙ own))
+  own_call name old new i moment action image p left gives now stood own (outcome.Damaged place) is =
+      absurd (undamaged image p place (record { bodies = stood.bodies; holds = stood.holds; fold = stood.fold }) (is.first image now))
+  own_call name old new i moment action image p left gives now stood own outcome.Fault is = tt
+  own_call name old new i moment action image p left gives now stood own outcome.NoMemory is = tt
 
-  pub command_is_call : (old new : View) (c : Command) (moment : ℕ) (o : Outcome) → TakesTurn old new (Ordered c) moment o → IsSafe old new (Ordered c) moment → IsCall old new (Orders c) moment o
-  command_is_call old new c moment o = turn_is_call old new (Ordered c) moment (Orders c) o (λ n w x moment c. refl)
+  -- another party has none
+  other_call : (name : List ℕ) (old new : View) (i : Input) (moment : ℕ) (image : List ℕ) (p : Party) → old.now ≡ Some image → Stands image p → p.own ≢ name
+      → (o : Outcome) → TakesTurn name old new i moment o → AnswersOther name p.own o
+  other_call name old new i moment image p now stood differs (outcome.Done reply under) is =
+      absurd (differs (subst (λ (q : Party). q.own ≡ name) (one_party image is.party p (is.reads.stands image now) stood) is.own))
+  other_call name old new i moment image p now stood differs (outcome.Refused said reply under) (inl is) =
+      absurd (differs (subst (λ (q : Party). q.own ≡ name) (one_party image is.party p (is.reads.stands image now) stood) is.own))
+  other_call name old new i moment image p now stood differs (outcome.Refused said reply under) (inr none) =
+      let blank : is_blank image ≡ true = none.blank image now in
+      let not : is_blank image ≡ false = not_blank image p stood in
+      absurd cc
+  other_call name old new i moment image p now stood differs (outcome.OtherParty asked found) is =
+      (is.holds.called, is.holds.stood ∙ ap (λ (q : Party). q.own) (one_party image is.party p (is.reads.stands image now) stood))
+  other_call name old new i moment image p now stood differs (outcome.Damaged place) is = absurd (undamaged image p place stood (is.first image now))
+  other_call name old new i moment image p now stood differs outcome.Fault is = tt
+  other_call name old new i moment image p now stood differs outcome.NoMemory is = tt
 
-  pub arrival_is_call : (old new : View) (bytes : List ℕ) (a : Arrival) (moment : ℕ) (o : Outcome) → TakesTurn old new (Arrived a) moment o → IsSafe old new (Arrived a) moment → IsCall old new (Hears bytes (Some a)) moment o
-  arrival_is_call old new bytes a moment o = turn_is_call old new (Arrived a) moment (Hears bytes (Some a)) o (λ n w x moment c. refl)
+  pub turn_is_call : (name : List ℕ) (old new : View) (i : Input) (moment : ℕ) (action : Action) (o : Outcome) → Gives action i → TakesTurn name old new i moment o → IsSafe name old new i moment
+      → IsNamedCall name old new action moment o
+  turn_is_call name old new i moment action o gives turned safe = record {
+    own = λ image p left now stood own. record {
+      whole = own_call name old new i moment action image p left gives now stood own o turned;
+      cut = turn_cut p left i moment action gives old new name image now stood safe;
+    };
+    other = λ image p now stood differs. (safe.still image p now stood (λ keeps. differs keeps.own), other_call name old new i moment image p now stood differs o turned);
+  }
+
+  pub command_is_call : (name : List ℕ) (old new : View) (c : Command) (moment : ℕ) (o : Outcome) → TakesTurn name old new (Ordered c) moment o → IsSafe name old new (Ordered c) moment
+      → IsNamedCall name old new (Orders c) moment o
+  command_is_call name old new c moment o = turn_is_call name old new (Ordered c) moment (Orders c) o (λ n w x moment c. refl)
+
+  pub arrival_is_call : (name : List ℕ) (old new : View) (bytes : List ℕ) (a : Arrival) (moment : ℕ) (o : Outcome) → TakesTurn name old new (Arrived a) moment o → IsSafe name old new (Arrived a) moment
+      → IsNamedCall name old new (Hears bytes (Some a)) moment o
+  arrival_is_call name old new bytes a moment o = turn_is_call name old new (Arrived a) moment (Hears bytes (Some a)) o (λ n w x moment c. refl)
 
   pub compaction_is_call : (old new : View) (moment : ℕ) (o : Outcome) → CompactsParty old new o → IsSafeCompaction old new → IsCall old new Compacts moment o
   compaction_is_call old new moment o compacted safe image p left now stood = record { whole = by_outcome o compacted; cut = compaction_cut_call p left moment old new image now stood safe }
@@ -228,6 +263,7 @@ module _ (one_party : (image : List ℕ) (first second : Party) → Stands image
       by_outcome (outcome.Refused said reply under) (inl is) =
           uncompacted_call p left moment old new said reply under (of_party old (λ q room. IsNotCompacted old new q room said reply under) image p left now stood is)
       by_outcome (outcome.Refused said reply under) (inr none) = somebody old new image p left said reply under now stood none
+      by_outcome (outcome.OtherParty asked found) is = absurd is
       by_outcome (outcome.Damaged place) is = absurd (undamaged image p place (record { bodies = stood.bodies; holds = stood.holds; fold = stood.fold }) (is.first image now))
       by_outcome outcome.Fault is = tt
       by_outcome outcome.NoMemory is = tt

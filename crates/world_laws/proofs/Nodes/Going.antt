@@ -7,7 +7,7 @@ use Rattle.bank_arrivals.specs.Esm.{subject_value}
 use Rattle.bank_orders.specs.declared.draws.KkDrawn.{KkDrawn}
 use Rattle.bank_orders.specs.Draws.{kk_drawn}
 use Rattle.bank_orders.specs.StartKk.{kk_sending, start_kk_under}
-use Rattle.bank_keys.specs.Ksm.{body_link, body_count, body_new, body_record, taken_edits, key_row}
+use Rattle.bank_keys.specs.Ksm.{body_link, body_count, body_new, body_record, body_second, second_edits, taken_edits, key_row}
 use Rattle.bank_keys.specs.declared.waits.Waiting.{Waiting}
 use Rattle.bank_keys.specs.Waiting.{waiting_with}
 use Rattle.bank_orders.specs.Translate.{translate_drawn, translate_under}
@@ -48,18 +48,23 @@ use Rattle.party_state.specs.Ranges.{IsNoBegin}
 use Rattle.party_state.specs.State.{Party, apply_edit, apply, first_link, exchange_with, is_ended}
 use Rattle.party_state.specs.Verdicts.{Test}
 use Rattle.role_base.specs.declared.exchanges.Sent.{Sent}
+use Rattle.role_base.specs.declared.exchanges.Twins.{Twins}
+use Rattle.role_base.specs.Conditions.{is_two_keys}
+use Rattle.party_state.specs.Names.{name_behind}
+use Rattle.bank_arrivals.specs.declared.draws.TwinsDrawn.{TwinsDrawn}
+use Rattle.bank_arrivals.specs.SendingTwins.{twins_drawn, twins_sending_drawn}
 use Rattle.bank_arrivals.specs.declared.error_message.Subject.{Subject}
-use Rattle.bank_arrivals.specs.declared.error_message.Subject.TheVariants.{SentKey, Translated}
+use Rattle.bank_arrivals.specs.declared.error_message.Subject.TheVariants.{SentKey, SentTwins, Translated}
 use Rattle.bank_arrivals.specs.declared.disconnection.Named.{Named}
 use Rattle.role_base.specs.Texts.{is_plain}
-use Rattle.role_base.specs.Exchanges.{record_of, sent_to, ending_with, new_link, readied, dropped}
+use Rattle.role_base.specs.Exchanges.{ended, record_of, sent_to, twins_to, ending_with, new_link, readied, dropped}
 use Rattle.role_base.specs.Sending.{sending_drawn}
 use Rattle.bank_orders.specs.Start.{sending_link, start_tests, start_under}
 use Rattle.bank_orders.specs.Resend.{resend_of}
-use Rattle.bank_orders.specs.GivingUp.{ended, given_up, given_up_in}
+use Rattle.bank_orders.specs.GivingUp.{given_up, given_up_in}
 use Rattle.bank_orders.specs.Ending.{end_record}
-use Rattle.bank_arrivals.specs.Rsi.{rsi_tests, rsi_under}
-use Rattle.bank_arrivals.specs.Rsm.{rsm_to, answer_to, rsm_with}
+use Rattle.bank_arrivals.specs.Rsi.{rsi_tests, rsi_row, rsi_under}
+use Rattle.bank_arrivals.specs.Rsm.{rsm_to, rsm_by, answer_to, rsm_with}
 use Rattle.bank_arrivals.specs.Esm.{subject_with, subject_link, raised, subject_ended, plain_esm}
 use Rattle.bank_arrivals.specs.Dsm.{named_by, left_by, left_in, dsm_on}
 
@@ -121,6 +126,7 @@ given_up_goes p peer (Some e) = joined (given_up p peer e.kind) (DropExchange pe
     by_kind (kind.Asked ultimate) = tt
     by_kind (kind.Translating ultimate value cta) = tt
     by_kind (kind.Ending name) = tt
+    by_kind (kind.PairSent name) = joined (ended (record_of p peer name)) (ended (record_of p peer (name_behind name))) (ended_goes (record_of p peer name)) (ended_goes (record_of p peer (name_behind name)))
 
 pub kk_goes : (p : Party) (peer new : List ℕ) (single : Bool) (o : Option LinkRec) (moment : ℕ) → GoesOn (start_kk_under p peer new single o moment).edits
 kk_goes p peer new single None moment = tt
@@ -164,15 +170,27 @@ command_goes p command.Purge moment = (ok, tt)
 
 pub rsi_goes : (p : Party) (a : Arrival) (m : Rsi) (moment : ℕ) (o : Option LinkRec) → GoesOn (rsi_under p a m o moment).edits
 rsi_goes p a m moment None = tt
-rsi_goes p a m moment (Some l) = sending_goes p (rsi_tests p a m (Some l)) l (good_draw p.generator moment)
+rsi_goes p a m moment (Some l) = by_service (is_two_keys m.service)
+  where
+    by_draw : (o : Option TwinsDrawn) → GoesOn (twins_sending_drawn p (rsi_tests p a m (Some l)) l o).edits
+    by_draw None = tt
+    by_draw (Some d) = (ok, (ok, (ok, (ok, (ok, tt)))))
+
+    by_service : (b : Bool) → GoesOn (rsi_row p a m l moment b).edits
+    by_service true = by_draw (twins_drawn p.generator moment)
+    by_service false = sending_goes p (rsi_tests p a m (Some l)) l (good_draw p.generator moment)
 
 pub key_goes : (p : Party) (a : Arrival) (m : Ksm) (b : KsmBody) (o : Option LinkRec) → GoesOn (key_row p a m b o).edits
 key_goes p a m b None = tt
 key_goes p a m b (Some l) = (ok, go (body_new b))
   where
-    go : (n : Option (List ℕ × NewKk)) → GoesOn (taken_edits m.originator l (body_count b) n ++ PutKey (body_record p m b l) ∷ [])
-    go None = (ok, tt)
-    go (Some n) = (ok, (ok, tt))
+    behind : (o : Option KeyRec) → GoesOn (PutKey (body_record p m b l) ∷ second_edits o)
+    behind None = (ok, tt)
+    behind (Some k) = (ok, (ok, tt))
+
+    go : (n : Option (List ℕ × NewKk)) → GoesOn (taken_edits m.originator l (body_count b) n ++ PutKey (body_record p m b l) ∷ second_edits (body_second p m b l))
+    go None = behind (body_second p m b l)
+    go (Some n) = (ok, behind (body_second p m b l))
 
 pub rtr_goes : (p : Party) (a : Arrival) (m : Rtr) (kd : Option (ℕ × ℕ)) → GoesOn (rtr_with p a m kd).edits
 rtr_goes p a m (Some k) = go (link_with (takes m.originator centre_label) p)
@@ -187,11 +205,15 @@ rtr_goes p a m None = go (waiting_with p m.originator)
     go (Some t) = (ok, (ok, (ok, tt)))
 
 pub rsm_goes : (p : Party) (a : Arrival) (m : Rsm) (o : Option KeyName) → GoesOn (rsm_with p a m o).edits
-rsm_goes p a m None = go (sent_to p m.originator)
+rsm_goes p a m None = by_twins (twins_to p m.originator)
   where
     go : (o : Option Sent) → GoesOn (rsm_to p a m o).edits
     go None = tt
     go (Some s) = joined (readied (new_link p m.originator s.way)) _ (readied_goes (new_link p m.originator s.way)) (ok, (ok, tt))
+
+    by_twins : (t : Option Twins) → GoesOn (rsm_by p a m t).edits
+    by_twins None = go (sent_to p m.originator)
+    by_twins (Some t) = (ok, (ok, (ok, tt)))
 rsm_goes p a m (Some name) = go (ending_with p m.originator)
   where
     go : (o : Option KeyRec) → GoesOn (answer_to p a m name o).edits
@@ -200,6 +222,7 @@ rsm_goes p a m (Some name) = go (ending_with p m.originator)
 
 pub subject_goes : (p : Party) (peer : List ℕ) (s : Subject) → GoesOn (subject_ended p peer s)
 subject_goes p peer (SentKey s) = joined (dropped (new_link p peer s.way)) _ (dropped_goes (new_link p peer s.way)) (ok, tt)
+subject_goes p peer (SentTwins t) = (ok, (ok, tt))
 subject_goes p peer (Translated value cta) = tt
 
 pub again_goes : (p : Party) (m : Esm) (value : ℕ) (t : Option Retry) → GoesOn (DropExchange m.originator ∷ asked_again p m value t)
@@ -227,11 +250,17 @@ dsm_goes p a m (Some n) = by_status (is_ended n.key.status)
     by_ending true = (tt, (ok, tt))
     by_ending false = (tt, tt)
 
+    by_pair : (sent : KeyName) (b d : Bool) → BothGo (cond b ([], ended (record_of p m.originator (name_behind sent)) ++ DropExchange m.originator ∷ []) (cond d (ended (record_of p m.originator sent), DropExchange m.originator ∷ []) ([], [])))
+    by_pair sent true d = (tt, joined (ended (record_of p m.originator (name_behind sent))) (DropExchange m.originator ∷ []) (ended_goes (record_of p m.originator (name_behind sent))) (ok, tt))
+    by_pair sent false true = (ended_goes (record_of p m.originator sent), (ok, tt))
+    by_pair sent false false = (tt, tt)
+
     by_kind : (k : Kind) → BothGo (left_by p m.originator n.key.name k)
     by_kind (kind.KeySent sent way) = by_sent (new_link p m.originator way) (same_name n.key.name sent)
     by_kind (kind.Ending ending) = by_ending (same_name n.key.name ending)
     by_kind (kind.Asked ultimate) = (tt, tt)
     by_kind (kind.Translating ultimate value cta) = (tt, tt)
+    by_kind (kind.PairSent sent) = by_pair sent (same_name n.key.name sent) (same_name n.key.name (name_behind sent))
 
     by_exchange : (o : Option Exchange) → BothGo (left_in p m.originator n.key.name o)
     by_exchange None = (tt, tt)

@@ -32,12 +32,16 @@ use Rattle.party_state.specs.State.{Party, link_with, first_link, apply, apply_e
 use Rattle.party_state.specs.Verdicts.{verdict_of, is_accept}
 use Rattle.role_base.specs.declared.exchanges.Sent.{Sent}
 use Rattle.bank_arrivals.specs.declared.error_message.Subject.{Subject}
-use Rattle.bank_arrivals.specs.declared.error_message.Subject.TheVariants.{SentKey, Translated}
+use Rattle.bank_arrivals.specs.declared.error_message.Subject.TheVariants.{SentKey, SentTwins, Translated}
 use Rattle.bank_arrivals.specs.declared.disconnection.Named.{Named}
 use Rattle.role_base.specs.Texts.{auth_text, is_plain}
-use Rattle.role_base.specs.Exchanges.{new_link, sent_to, ending_with, readied, dropped}
-use Rattle.bank_arrivals.specs.Rsi.{rsi_tests, rsi_under}
-use Rattle.bank_arrivals.specs.Rsm.{rsm_front, end_front, rsm_to, answer_to, rsm_with}
+use Rattle.role_base.specs.declared.exchanges.Twins.{Twins}
+use Rattle.party_state.specs.Names.{name_behind}
+use Rattle.role_base.specs.Conditions.{is_two_keys}
+use Rattle.role_base.specs.Exchanges.{record_of, new_link, sent_to, twins_to, twins_value, ending_with, readied, dropped, ended}
+use Rattle.bank_arrivals.specs.SendingTwins.{twins_drawn}
+use Rattle.bank_arrivals.specs.Rsi.{rsi_tests, rsi_row, rsi_under}
+use Rattle.bank_arrivals.specs.Rsm.{rsm_front, end_front, rsm_to, rsm_twins, rsm_by, answer_to, rsm_with}
 use Rattle.bank_arrivals.specs.Esm.{subject_with, subject_link, raised, subject_accepted, esm_front, plain_esm}
 use Rattle.bank_arrivals.specs.Dsm.{named_by, dsm_front, dsm_on, left_by, left_in}
 use Rattle.world_laws.proofs.Links.Growth.{AllFine, next_up}
@@ -47,6 +51,7 @@ use Rattle.world_laws.proofs.Counting.Sound.{IsSound}
 use Rattle.world_laws.proofs.Counting.Quiet.{NoKsm, pairs_none, no_new, quiet_sound, refused_sound, Passes, passes_sound}
 use Rattle.world_laws.proofs.Sound.Exchanges.{SentAt, sent_at, new_peer, subject_sent, subject_link_at}
 use Rattle.world_laws.proofs.Sound.Commands.{sending_sound}
+use Rattle.world_laws.proofs.Sound.TwinKeys.{twins_sound}
 use Rattle.party_state.specs.declared.exchange.Exchange.{Exchange}
 use Rattle.party_state.specs.declared.exchange.Via.{Via}
 use Rattle.party_state.specs.declared.exchange.Kind.{Kind}
@@ -54,9 +59,14 @@ use Rattle.party_state.specs.declared.exchange.Kind.TheVariants as kind
 
 rsi_sound : (p : Party) (a : Arrival) (m : Rsi) (moment : ℕ) (o : Option LinkRec) → HasLinks p → first_link m.originator Sends p ≡ o → IsSound None p (auth_text a) (rsi_under p a m o moment)
 rsi_sound p a m moment None d h = refused_sound p (auth_text a) (verdict_of (rsi_tests p a m None))
-rsi_sound p a m moment (Some l) d h =
-    let f : FirstAt p m.originator Sends l = first_at p m.originator Sends l d h in
-    sending_sound p (auth_text a) (rsi_tests p a m (Some l)) m.originator l (good_draw p.generator moment) (record { at = f.at; ready = f.ready })
+rsi_sound p a m moment (Some l) d h = by_service (is_two_keys m.service)
+  where
+    f : FirstAt p m.originator Sends l
+    f = first_at p m.originator Sends l d h
+
+    by_service : (b : Bool) → IsSound None p (auth_text a) (rsi_row p a m l moment b)
+    by_service true = twins_sound p (auth_text a) (rsi_tests p a m (Some l)) m.originator l (twins_drawn p.generator moment) (record { at = f.at; ready = f.ready })
+    by_service false = sending_sound p (auth_text a) (rsi_tests p a m (Some l)) m.originator l (good_draw p.generator moment) (record { at = f.at; ready = f.ready })
 
 -- its answers
 
@@ -91,7 +101,11 @@ answer_sound p a m name None = refused_sound p (auth_text a) (verdict_of (end_fr
 answer_sound p a m name (Some k) = quiet_sound p (auth_text a) (answer_to p a m name (Some k)) (tt, (tt, tt)) refl (λ k e class. absurd (cc))
 
 rsm_row_sound : (p : Party) (a : Arrival) (m : Rsm) (o : Option KeyName) → Waits p → IsSound None p (auth_text a) (rsm_with p a m o)
-rsm_row_sound p a m None n = rsm_sound p a m (sent_to p m.originator) n refl
+rsm_row_sound p a m None n = by_twins (twins_to p m.originator)
+  where
+    by_twins : (t : Option Twins) → IsSound None p (auth_text a) (rsm_by p a m t)
+    by_twins None = rsm_sound p a m (sent_to p m.originator) n refl
+    by_twins (Some t) = quiet_sound p (auth_text a) (rsm_twins p a m t) (tt, (tt, (tt, tt))) refl (λ k e class. absurd (cc))
 rsm_row_sound p a m (Some name) n = answer_sound p a m name (ending_with p m.originator)
 
 -- an error message
@@ -121,8 +135,15 @@ raised_alone p peer None ctr more q f = ((tt, all_fine more _ q), (tt, all_calm 
 raised_alone p peer (Some l) None more q f = ((tt, all_fine more _ q), (tt, all_calm more _ q))
 raised_alone p peer (Some l) (Some n) more q f = ((inl (l, f l refl, next_up l (max l.next n) (omega arith)), (tt, all_fine more _ q)), ((l, f l refl, refl), (tt, all_calm more _ q)))
 
+-- a count is raised, and two keys end
+raised_twice : (p : Party) (peer : List ℕ) (found : Option LinkRec) (ctr : Option ℕ) (j k : KeyRec) (more : List Edit) → AllByRecursion IsQuiet more → ((l : LinkRec) → found ≡ Some l → link_with (link_key l) p ≡ Some l) → Passes p (raised found ctr ++ ((PutKey j ∷ PutKey k ∷ []) ++ DropExchange peer ∷ more))
+raised_twice p peer None ctr j k more q f = ((tt, (tt, (tt, all_fine more _ q))), (tt, (tt, (tt, all_calm more _ q))))
+raised_twice p peer (Some l) None j k more q f = ((tt, (tt, (tt, all_fine more _ q))), (tt, (tt, (tt, all_calm more _ q))))
+raised_twice p peer (Some l) (Some n) j k more q f = ((inl (l, f l refl, next_up l (max l.next n) (omega arith)), (tt, (tt, (tt, all_fine more _ q)))), ((l, f l refl, refl), (tt, (tt, (tt, all_calm more _ q)))))
+
 esm_no_ksm : (p : Party) (s : Subject) → NoKsm (subject_accepted p s)
 esm_no_ksm p (SentKey s) a e class = absurd (cc)
+esm_no_ksm p (SentTwins t) a e class = absurd (cc)
 esm_no_ksm p (Translated value cta) a e class = absurd (cc)
 
 again_quiet : (p : Party) (m : Esm) (value : ℕ) (t : Option Retry) → AllByRecursion IsQuiet (asked_again p m value t)
@@ -134,6 +155,7 @@ pub error_passes : (p : Party) (a : Arrival) (m : Esm) (s : Subject) (again : Op
 error_passes p a m (SentKey s) again w h =
     let at : SentAt p m.originator s = sent_at p m.originator s (subject_sent p m.originator s h) in
     raised_passes p m.originator (subject_link p m.originator (SentKey s)) m.ctr (new_link p m.originator s.way) (record s.key { status = Ended }) (asked_again p m s.key.value again) (again_quiet p m s.key.value again) (λ l e. subject_link_at p m.originator (SentKey s) l e) (λ l e. (new_may_go p m.originator at.exchange at.name s.way w at.at at.kind_is l e).1)
+error_passes p a m (SentTwins t) again w h = raised_twice p m.originator (subject_link p m.originator (SentTwins t)) m.ctr (record t.first { status = Ended }) (record t.second { status = Ended }) (asked_again p m (twins_value t) again) (again_quiet p m (twins_value t) again) (λ l e. subject_link_at p m.originator (SentTwins t) l e)
 error_passes p a m (Translated value cta) again w h = raised_alone p m.originator (subject_link p m.originator (Translated value cta)) m.ctr (asked_again p m value again) (again_quiet p m value again) (λ l e. subject_link_at p m.originator (Translated value cta) l e)
 
 esm_sound : (p : Party) (a : Arrival) (m : Esm) (o : Option Subject) (again : Option Retry) → Waits p → subject_with p m.originator ≡ o → IsSound None p (auth_text a) (error_of p a m o again)
@@ -162,11 +184,20 @@ dsm_passes p a m n w = by_status (is_ended n.key.status)
     by_ending true = ((tt, (tt, tt)), (tt, (tt, tt)))
     by_ending false = ((tt, tt), (tt, tt))
 
+    -- of two keys the other ends too
+    by_pair : (first second : Option KeyRec) (b c : Bool) → Passes p (around (record n.key { status = Ended }) (cond b ([], ended second ++ DropExchange m.originator ∷ []) (cond c (ended first, DropExchange m.originator ∷ []) ([], []))))
+    by_pair first None true c = ((tt, (tt, tt)), (tt, (tt, tt)))
+    by_pair first (Some k) true c = ((tt, (tt, (tt, tt))), (tt, (tt, (tt, tt))))
+    by_pair None second false true = ((tt, (tt, tt)), (tt, (tt, tt)))
+    by_pair (Some k) second false true = ((tt, (tt, (tt, tt))), (tt, (tt, (tt, tt))))
+    by_pair first second false false = ((tt, tt), (tt, tt))
+
     by_kind : (e : Exchange) → exchange_with m.originator p ≡ Some e → (k : Kind) → e.kind ≡ k → Passes p (around (record n.key { status = Ended }) (left_by p m.originator n.key.name k))
     by_kind e at (kind.KeySent name way) is = by_sent e name way at is (new_link p m.originator way) refl (same_name n.key.name name)
     by_kind e at (kind.Ending name) is = by_ending (same_name n.key.name name)
     by_kind e at (kind.Asked ultimate) is = ((tt, tt), (tt, tt))
     by_kind e at (kind.Translating ultimate value cta) is = ((tt, tt), (tt, tt))
+    by_kind e at (kind.PairSent name) is = by_pair (record_of p m.originator name) (record_of p m.originator (name_behind name)) (same_name n.key.name name) (same_name n.key.name (name_behind name))
 
     by_exchange : (o : Option Exchange) → exchange_with m.originator p ≡ o → Passes p (around (record n.key { status = Ended }) (left_in p m.originator n.key.name o))
     by_exchange None at = ((tt, tt), (tt, tt))

@@ -28,12 +28,13 @@ use Rattle.party_state.specs.State.{Party, link_with, exchange_with}
 use Rattle.party_state.specs.Verdicts.{Test, verdict_of}
 use Rattle.party_state.proofs.Keys.{test_links}
 use Rattle.party_state.proofs.Tables.{find_put_same}
-use Rattle.role_base.specs.Exchanges.{record_of, new_link, dropped}
+use Rattle.party_state.specs.Names.{name_behind}
+use Rattle.role_base.specs.Exchanges.{record_of, new_link, dropped, ended}
 use Rattle.role_base.specs.Sending.{sending_tests, sending_drawn}
 use Rattle.bank_orders.specs.Start.{sending_link, start_tests, start_under}
 use Rattle.bank_orders.specs.Ask.{ask_peer}
 use Rattle.bank_orders.specs.Resend.{resend_of}
-use Rattle.bank_orders.specs.GivingUp.{ended, given_up, given_up_in, drop}
+use Rattle.bank_orders.specs.GivingUp.{given_up, given_up_in, drop}
 use Rattle.bank_orders.specs.Ending.{end_record, purge}
 use Rattle.world_laws.specs.Events.{IsCommand}
 use Rattle.world_laws.proofs.Links.Growth.{next_up}
@@ -82,6 +83,13 @@ gone_passes p peer None (Some k) f = ((tt, (tt, tt)), (tt, (tt, tt)))
 gone_passes p peer (Some l) None f = let g = f l refl in (((g.side, (g.link, g.found, g.unready)), (tt, tt)), (tt, (tt, tt)))
 gone_passes p peer (Some l) (Some k) f = let g = f l refl in (((g.side, (g.link, g.found, g.unready)), (tt, (tt, tt))), (tt, (tt, (tt, tt))))
 
+-- two records
+pub ended_passes : (p : Party) (peer : List ℕ) (r s : Option KeyRec) → Passes p ((ended r ++ ended s) ++ DropExchange peer ∷ [])
+ended_passes p peer None None = ((tt, tt), (tt, tt))
+ended_passes p peer None (Some k) = ((tt, (tt, tt)), (tt, (tt, tt)))
+ended_passes p peer (Some k) None = ((tt, (tt, tt)), (tt, (tt, tt)))
+ended_passes p peer (Some j) (Some k) = ((tt, (tt, (tt, tt))), (tt, (tt, (tt, tt))))
+
 pub given_up_passes : (p : Party) (peer : List ℕ) (o : Option Exchange) → exchange_with peer p ≡ o → Waits p → Passes p (given_up_in p peer o)
 given_up_passes p peer None at w = (tt, tt)
 given_up_passes p peer (Some e) at w = by_kind e.kind refl
@@ -91,6 +99,7 @@ given_up_passes p peer (Some e) at w = by_kind e.kind refl
     by_kind (kind.Asked ultimate) is = ((tt, tt), (tt, tt))
     by_kind (kind.Translating ultimate value cta) is = ((tt, tt), (tt, tt))
     by_kind (kind.Ending name) is = ((tt, tt), (tt, tt))
+    by_kind (kind.PairSent name) is = ended_passes p peer (record_of p peer name) (record_of p peer (name_behind name))
 
 abbrev plain_sound : {p : Party} {text : List ℕ} {r : Row} → IsSound None p text r → SoundRow p text r
 plain_sound {p} {text} {r} g = record { new = None; sound = g }

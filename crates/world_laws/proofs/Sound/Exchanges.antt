@@ -16,8 +16,10 @@ use Rattle.party_state.proofs.Keys.{test_records}
 use Rattle.party_state.proofs.Tables.{find_key}
 use Rattle.role_base.specs.declared.exchanges.Sent.{Sent}
 use Rattle.bank_arrivals.specs.declared.error_message.Subject.{Subject}
-use Rattle.bank_arrivals.specs.declared.error_message.Subject.TheVariants.{SentKey, Translated}
-use Rattle.role_base.specs.Exchanges.{record_of, sent_by, sent_in, sent_to, ending_by, ending_in, ending_with, new_link, new_label, new_link_at}
+use Rattle.bank_arrivals.specs.declared.error_message.Subject.TheVariants.{SentKey, SentTwins, Translated}
+use Rattle.role_base.specs.declared.exchanges.Twins.{Twins}
+use Rattle.party_state.specs.Names.{name_behind}
+use Rattle.role_base.specs.Exchanges.{record_of, both_of, sent_by, sent_in, sent_to, ending_by, ending_in, ending_with, new_link, new_label, new_link_at}
 use Rattle.bank_arrivals.specs.Esm.{subject_by, subject_in, subject_with, way_link, subject_link, is_renewed}
 use Rattle.world_laws.proofs.Links.Found.{LinkAt, link_at}
 
@@ -55,6 +57,7 @@ sent_at p peer s h = by_exchange (exchange_with peer p) refl h
     by_kind e at (kind.Asked ultimate) k h = absurd (cc)
     by_kind e at (kind.Translating ultimate value cta) k h = absurd (cc)
     by_kind e at (kind.Ending name) k h = absurd (cc)
+    by_kind e at (kind.PairSent name) k h = absurd (cc)
 
     by_exchange : (o : Option Exchange) → exchange_with peer p ≡ o → sent_in p peer o ≡ Some s → SentAt p peer s
     by_exchange None at h = absurd (cc)
@@ -76,6 +79,7 @@ ending_at p peer r h = by_exchange (exchange_with peer p) refl h
     by_kind e at (kind.Asked ultimate) k h = absurd (cc)
     by_kind e at (kind.Translating ultimate value cta) k h = absurd (cc)
     by_kind e at (kind.Ending name) k h = record { exchange = e; at = at; name = name; kind_is = k; key = record_at p peer name r h }
+    by_kind e at (kind.PairSent name) k h = absurd (cc)
 
     by_exchange : (o : Option Exchange) → exchange_with peer p ≡ o → ending_in p peer o ≡ Some r → EndingAt p peer r
     by_exchange None at h = absurd (cc)
@@ -89,11 +93,16 @@ subject_sent p peer s h = by_exchange (exchange_with peer p) h
     by_option None h = absurd (cc)
     by_option (Some t) h = (let is : t ≡ s = cc in ap (λ (z : Sent). let o : Option Sent = Some z in o) is)
 
+    by_twins : {A : Type 0} (o : Option Twins) → option_map SentTwins o ≡ Some (SentKey s) → A
+    by_twins None h = absurd (cc)
+    by_twins (Some t) h = absurd (cc)
+
     by_kind : (k : Kind) → subject_by p peer k ≡ Some (SentKey s) → sent_by p peer k ≡ Some s
     by_kind (kind.KeySent name way) h = by_option (sent_by p peer (kind.KeySent name way)) h
     by_kind (kind.Asked ultimate) h = absurd (cc)
     by_kind (kind.Translating ultimate value cta) h = absurd (cc)
     by_kind (kind.Ending name) h = absurd (cc)
+    by_kind (kind.PairSent name) h = by_twins (both_of (record_of p peer name) (record_of p peer (name_behind name))) h
 
     by_exchange : (o : Option Exchange) → subject_in p peer o ≡ Some (SentKey s) → sent_in p peer o ≡ Some s
     by_exchange None h = absurd (cc)
@@ -119,4 +128,5 @@ subject_link_at p peer (SentKey s) l h = by_way s.way h
     by_way (via.Direct label new) h = by_new label (is_renewed label new) h
     by_way (via.Distribution centre cta) h = absurd (cc)
     by_way (via.Translation centre) h = absurd (cc)
+subject_link_at p peer (SentTwins t) l h = (let at : LinkAt p (sends peer t.first.name.label) l = link_at p (sends peer t.first.name.label) l h in rw at.key h)
 subject_link_at p peer (Translated value cta) l h = (let at : LinkAt p (sends peer centre_label) l = link_at p (sends peer centre_label) l h in rw at.key h)

@@ -1,4 +1,10 @@
 -- Each answer to a refused text is an error message.
+use Rattle.role_base.specs.declared.exchanges.Twins.{Twins}
+use Rattle.role_base.specs.Exchanges.{twins_to}
+use Rattle.role_base.specs.Conditions.{is_two_keys}
+use Rattle.bank_arrivals.specs.declared.draws.TwinsDrawn.{TwinsDrawn}
+use Rattle.bank_arrivals.specs.SendingTwins.{twins_drawn, twins_sending_drawn}
+use Rattle.bank_arrivals.specs.Rsm.{rsm_by}
 use Rattle.world_laws.proofs.Roles.Inputs.{IsInput}
 use Rattle.csm_grammar.proofs.Arrived.{arrival_says}
 use Rattle.role_base.specs.Texts.{is_plain}
@@ -58,7 +64,7 @@ use Rattle.party_state.specs.declared.command.Input.TheVariants as input
 use Rattle.x_base.specs.declared.party.Role.{Role}
 use Rattle.x_base.specs.declared.party.Role.TheVariants as role
 use Rattle.party_state.specs.State.{answer_with, first_link}
-use Rattle.bank_arrivals.specs.Rsi.{rsi_tests as bank_rsi_tests, rsi_under}
+use Rattle.bank_arrivals.specs.Rsi.{rsi_tests as bank_rsi_tests, rsi_row as bank_rsi_row, rsi_under}
 use Rattle.bank_orders.specs.Start.{sending_link}
 use Rattle.bank_orders.specs.Resend.{resend_of}
 use Rattle.bank_keys.specs.Ksm.{body_link}
@@ -124,7 +130,15 @@ module _ (p : Party) (i : IsNamed p) where
 
   rsi_none : (a : Arrival) (m : Rsi) (moment : ℕ) (o : Option LinkRec) → (rsi_under p a m o moment).answer ≡ None
   rsi_none a m moment None = refl
-  rsi_none a m moment (Some l) = sending_none (bank_rsi_tests p a m (Some l)) l (good_draw p.generator moment)
+  rsi_none a m moment (Some l) = by_service (is_two_keys m.service)
+    where
+      by_draw : (o : Option TwinsDrawn) → (twins_sending_drawn p (bank_rsi_tests p a m (Some l)) l o).answer ≡ None
+      by_draw None = refl
+      by_draw (Some d) = refl
+
+      by_service : (b : Bool) → (bank_rsi_row p a m l moment b).answer ≡ None
+      by_service true = by_draw (twins_drawn p.generator moment)
+      by_service false = sending_none (bank_rsi_tests p a m (Some l)) l (good_draw p.generator moment)
 
   rtr_none : (a : Arrival) (m : Rtr) (kd : Option (ℕ × ℕ)) → (rtr_with p a m kd).answer ≡ None
   rtr_none a m (Some k) = go (link_with (takes m.originator centre_label) p)
@@ -139,11 +153,15 @@ module _ (p : Party) (i : IsNamed p) where
       go (Some t) = refl
 
   rsm_none : (a : Arrival) (m : Rsm) (o : Option KeyName) → (rsm_with p a m o).answer ≡ None
-  rsm_none a m None = go (sent_to p m.originator)
+  rsm_none a m None = by_twins (twins_to p m.originator)
     where
       go : (o : Option Sent) → (rsm_to p a m o).answer ≡ None
       go None = refl
       go (Some s) = refl
+
+      by_twins : (t : Option Twins) → (rsm_by p a m t).answer ≡ None
+      by_twins None = go (sent_to p m.originator)
+      by_twins (Some t) = refl
   rsm_none a m (Some name) = go (ending_with p m.originator)
     where
       go : (o : Option KeyRec) → (answer_to p a m name o).answer ≡ None

@@ -1,4 +1,15 @@
 -- What the rows of a bank's arrivals write and put is well formed.
+use Rattle.std.proofs.Common.{◌<◌, ltb-true, sym}
+use Rattle.std.specs.Prelude.{option_map}
+use Rattle.party_state.specs.Names.{name_behind}
+use Rattle.party_state.specs.Ranges.{IsNextCount}
+use Rattle.role_base.specs.declared.exchanges.Twins.{Twins}
+use Rattle.role_base.specs.Exchanges.{twins_to, ended}
+use Rattle.bank_keys.specs.Ksm.{body_twin, body_next, second_record, second_edits, body_second}
+use Rattle.bank_arrivals.specs.Rsm.{rsm_by}
+use Rattle.bank_arrivals.proofs.ArrivalsApart.{subject_twins}
+use Rattle.world_laws.proofs.Links.Taken.{twin_link, name_count}
+use Rattle.world_laws.proofs.Agreeing.Exchanges.{TwinsIs, twins_is}
 use Rattle.x_base.specs.KeyName.{IsKeyName}
 use Rattle.std.proofs.Common.{◌⊎◌, inl, inr}
 use Rattle.world_laws.proofs.Links.Taken.{name_link}
@@ -22,7 +33,7 @@ use Rattle.bank_arrivals.specs.Rsm.{rsm_to, answer_to, rsm_with}
 use Rattle.role_base.specs.Texts.{auth_text}
 use Rattle.bank_arrivals.specs.declared.disconnection.Named.{Named}
 use Rattle.bank_arrivals.specs.declared.error_message.Subject.{Subject}
-use Rattle.bank_arrivals.specs.declared.error_message.Subject.TheVariants.{SentKey, Translated}
+use Rattle.bank_arrivals.specs.declared.error_message.Subject.TheVariants.{SentKey, SentTwins, Translated}
 use Rattle.role_base.specs.declared.exchanges.Sent.{Sent}
 use Rattle.csm_grammar.specs.Spelling.{Says}
 use Rattle.csm_grammar.specs.declared.arrival.Arrival.{Arrival}
@@ -92,10 +103,21 @@ module _ (p : Party) (i : IsNamed p) where
 
   pub key_speaks : (a : Arrival) (m : Ksm) (b : KsmBody) (o : Option LinkRec) → HasLinks p → m.body ≡ b → body_link p m.originator b ≡ o → Says (auth_text a) (message.Ksm m) → Speaks (key_row p a m b o)
   key_speaks a m b None d is found said = record { names = tt; reply = tt }
-  key_speaks a m b (Some l) d is found said = record { names = (up_named p i l (body_count b + 1) named (next_after (body_count b) count), taken_named (body_new b) refl); reply = response_own p m.originator i.own org }
+  key_speaks a m b (Some l) d is found said = record { names = (up_named p i l (body_next b) named next_named, taken_named (body_new b) refl); reply = response_own p m.originator i.own org }
     where
       count : IsCount (body_count b)
       count = body_counts (auth_text a) m b is said
+
+      -- the count behind those of the keys; of two the second is a count
+      bounds : (c : KsmBody) → body_link p m.originator c ≡ Some l → IsCount (body_count c) → IsNextCount (body_next c) × ((kd : ℕ) → body_twin c ≡ Some kd → IsCount (body_count c + 1))
+      bounds (body.Direct idk2 new kd ctp) h n = (next_after ctp n, λ kd e. absurd (cc))
+      bounds (body.Centre centre kdu ctb) h n = (next_after ctb n, λ kd e. absurd (cc))
+      bounds (body.Twin idk2 first second ctp) h n =
+          let less : ctp < 99999999999999 = ltb-true ctp 99999999999999 (twin_link p m.originator idk2 ctp l h).0 in
+          (record { low = omega arith; high = omega (arith, less) }, λ kd e. record { low = omega arith; high = omega (arith, less) })
+
+      next_named : IsNextCount (body_next b)
+      next_named = (bounds b found count).0
 
       org : IsIdent m.originator
       org = ksm_org (auth_text a) m said
@@ -108,14 +130,19 @@ module _ (p : Party) (i : IsNamed p) where
 
       name_named : (c : KsmBody) → body_link p m.originator c ≡ Some l → IsCount (body_count c) → IsKeyName (body_name p m.originator c l).name
       name_named (body.Direct idk2 new kd ctp) h n = record { issuer = named.peer; originator = named.peer; label = named.label; count = n }
+      name_named (body.Twin idk2 first second ctp) h n = record { issuer = named.peer; originator = named.peer; label = named.label; count = n }
       name_named (body.Centre centre kdu ctb) h n = record { issuer = subst IsIdent (ap (λ (k : LinkKey). k.peer) (link_at p (takes centre centre_label) l h).key) named.peer; originator = org; label = label_c; count = n }
 
       put_named : RecordNamed (body_record p m b l)
       put_named = record { peer = org; name = name_named b found count }
 
-      taken_named : (n : Option (List ℕ × NewKk)) → body_new b ≡ n → AllByRecursion NamesFine (taken_edits m.originator l (body_count b) n ++ PutKey (body_record p m b l) ∷ [])
-      taken_named None e = (put_named, tt)
-      taken_named (Some n) e = (record { peer = org; label = body_label (auth_text a) m b n is e said; next = record { low = omega arith; high = omega arith } }, (put_named, tt))
+      second_named : (o : Option ℕ) → body_twin b ≡ o → AllByRecursion NamesFine (second_edits (option_map (λ kd. second_record p m b l kd) o))
+      second_named None e = tt
+      second_named (Some kd) e = (let n = put_named.name in record { peer = org; name = record { issuer = n.issuer; originator = n.originator; label = n.label; count = subst (λ (c : ℕ). IsCount (c + 1)) (sym (name_count p m.originator b l)) ((bounds b found count).1 kd e) } }, tt)
+
+      taken_named : (n : Option (List ℕ × NewKk)) → body_new b ≡ n → AllByRecursion NamesFine (taken_edits m.originator l (body_count b) n ++ PutKey (body_record p m b l) ∷ second_edits (body_second p m b l))
+      taken_named None e = (put_named, second_named (body_twin b) refl)
+      taken_named (Some n) e = (record { peer = org; label = body_label (auth_text a) m b n is e said; next = record { low = omega arith; high = omega arith } }, (put_named, second_named (body_twin b) refl))
 
   pub new_named : (peer : List ℕ) (way : Via) (l : LinkRec) → new_link p peer way ≡ Some l → LinkNamed l
   new_named peer way l h = by (new_label way) h
@@ -139,7 +166,13 @@ module _ (p : Party) (i : IsNamed p) where
       go (Some l) f = (let n : LinkNamed l = new_named m.originator s.way l f in (record { peer = n.peer; label = n.label; next = n.next }, (put_named, (tt, tt))))
 
   pub rsm_row_speaks : (a : Arrival) (m : Rsm) (o : Option KeyName) → Speaks (rsm_with p a m o)
-  rsm_row_speaks a m None = rsm_speaks a m (sent_to p m.originator) refl
+  rsm_row_speaks a m None = by_twins (twins_to p m.originator) refl
+    where
+      by_twins : (t : Option Twins) → twins_to p m.originator ≡ t → Speaks (rsm_by p a m t)
+      by_twins None e = rsm_speaks a m (sent_to p m.originator) refl
+      by_twins (Some t) e =
+          let is : TwinsIs p m.originator t = twins_is p m.originator t e in
+          record { names = (again_named p i t.first Live (record_named p (record_key t.first) t.first i is.first), (again_named p i t.second Live (record_named p (record_key t.second) t.second i is.second), (tt, tt))); reply = tt }
   rsm_row_speaks a m (Some n) = go (ending_with p m.originator) refl
     where
       go : (o : Option KeyRec) → ending_with p m.originator ≡ o → Speaks (answer_to p a m n o)
@@ -168,6 +201,14 @@ module _ (p : Party) (i : IsNamed p) where
   error_speaks a m None again asks e said = record { names = tt; reply = tt }
   error_speaks a m (Some (Translated value cta)) None asks e said = record { names = raised_named (subject_link p m.originator (Translated value cta)) m.ctr (DropExchange m.originator ∷ []) (subject_named m.originator (Translated value cta)) (λ n j. esm_counts (auth_text a) m n j said) (tt, tt); reply = tt }
   error_speaks a m (Some (Translated value cta)) (Some t) asks e said = absurd (elim asks [ inl q ↦ cc | inr q ↦ cc ])
+  error_speaks a m (Some (SentTwins t)) (Some r) asks e said = absurd (elim asks [ inl q ↦ cc | inr q ↦ cc ])
+  error_speaks a m (Some (SentTwins t)) None asks e said =
+      let is : TwinsIs p m.originator t = twins_is p m.originator t (subject_twins p m.originator t e) in
+      record {
+        names = raised_named (subject_link p m.originator (SentTwins t)) m.ctr (PutKey (record t.first { status = Ended }) ∷ PutKey (record t.second { status = Ended }) ∷ DropExchange m.originator ∷ []) (subject_named m.originator (SentTwins t)) (λ n j. esm_counts (auth_text a) m n j said)
+            (again_named p i t.first Ended (record_named p (record_key t.first) t.first i is.first), (again_named p i t.second Ended (record_named p (record_key t.second) t.second i is.second), (tt, tt)));
+        reply = tt;
+      }
   error_speaks a m (Some (SentKey s)) again asks e said = record {
     names = raised_named (subject_link p m.originator (SentKey s)) m.ctr ((dropped (new_link p m.originator s.way) ++ PutKey (record s.key { status = Ended }) ∷ []) ++ DropExchange m.originator ∷ asked_again p m s.key.value again) (subject_named m.originator (SentKey s)) (λ n j. esm_counts (auth_text a) m n j said) (gone_named m.originator (new_link p m.originator s.way) (record s.key { status = Ended }) m s.key.value again (again_named p i s.key Ended (record_named p (record_key s.key) s.key i is.at)));
     reply = reply_own again asks;
@@ -222,11 +263,20 @@ module _ (p : Party) (i : IsNamed p) where
       by_ending true = (put, (tt, tt))
       by_ending false = (put, tt)
 
+      by_pair : (name : KeyName) (j k : Option KeyRec) → record_of p m.originator name ≡ j → record_of p m.originator (name_behind name) ≡ k → (b c : Bool)
+          → AllByRecursion NamesFine ((cond {A = List Edit × List Edit} b ([], ended k ++ DropExchange m.originator ∷ []) (cond {A = List Edit × List Edit} c (ended j, DropExchange m.originator ∷ []) ([], []))).0 ++ (PutKey (record n.key { status = Ended }) ∷ (cond {A = List Edit × List Edit} b ([], ended k ++ DropExchange m.originator ∷ []) (cond {A = List Edit × List Edit} c (ended j, DropExchange m.originator ∷ []) ([], []))).1))
+      by_pair name j None f g true c = (put, (tt, tt))
+      by_pair name j (Some k) f g true c = (put, (again_named p i k Ended (at_record p i m.originator (name_behind name) k g), (tt, tt)))
+      by_pair name None k f g false true = (put, (tt, tt))
+      by_pair name (Some j) k f g false true = (again_named p i j Ended (at_record p i m.originator name j f), (put, (tt, tt)))
+      by_pair name j k f g false false = (put, tt)
+
       by_kind : (k : Kind) → AllByRecursion NamesFine ((left_by p m.originator n.key.name k).0 ++ (PutKey (record n.key { status = Ended }) ∷ (left_by p m.originator n.key.name k).1))
       by_kind (kind.KeySent name way) = by_sent (new_link p m.originator way) (same_name n.key.name name)
       by_kind (kind.Ending name) = by_ending (same_name n.key.name name)
       by_kind (kind.Asked ultimate) = (put, tt)
       by_kind (kind.Translating ultimate value cta) = (put, tt)
+      by_kind (kind.PairSent name) = by_pair name (record_of p m.originator name) (record_of p m.originator (name_behind name)) refl refl (same_name n.key.name name) (same_name n.key.name (name_behind name))
 
       by_exchange : (o : Option Exchange) → AllByRecursion NamesFine ((left_in p m.originator n.key.name o).0 ++ (PutKey (record n.key { status = Ended }) ∷ (left_in p m.originator n.key.name o).1))
       by_exchange None = (put, tt)

@@ -1,4 +1,11 @@
 -- What the rows of commands, and of a request for a key, write and put is well formed.
+use Rattle.std.proofs.Common.{Bool, true, false, ◌<◌, ◌≤◌, ltb-true}
+use Rattle.party_state.specs.Names.{name_behind}
+use Rattle.role_base.specs.Exchanges.{ended}
+use Rattle.role_base.specs.Conditions.{is_two_keys}
+use Rattle.bank_arrivals.specs.declared.draws.TwinsDrawn.{TwinsDrawn}
+use Rattle.bank_arrivals.specs.SendingTwins.{twins_drawn, twins_tests, twins_sending_drawn}
+use Rattle.world_laws.proofs.Texts.OwnMessages.{twins_own}
 use Rattle.party_state.specs.Verdicts.{Held as TestsHold}
 use Rattle.party_state.specs.declared.exchange.Kind.TheVariants as kind
 use Rattle.bank_orders.specs.Ask.{centre_front, ask_of}
@@ -8,7 +15,7 @@ use Rattle.bank_orders.specs.Draws.{kk_drawn}
 use Rattle.bank_orders.specs.StartKk.{kk_tests, kk_sending, start_kk_under}
 use Rattle.bank_orders.specs.Ending.{end_record}
 use Rattle.role_base.specs.Exchanges.{record_of, new_link, dropped}
-use Rattle.bank_orders.specs.GivingUp.{ended, given_up, given_up_in, drop}
+use Rattle.bank_orders.specs.GivingUp.{given_up, given_up_in, drop}
 use Rattle.role_base.specs.Sending.{sending_tests, sending_drawn}
 use Rattle.bank_orders.specs.Start.{start_tests, start_under}
 use Rattle.csm_grammar.specs.declared.arrival.Arrival.{Arrival}
@@ -38,7 +45,7 @@ use Rattle.party_state.specs.declared.edit.Edit.TheVariants.{DropExchange}
 use Rattle.party_state.specs.declared.command.Command.{Command}
 use Rattle.party_state.specs.declared.command.Command.TheVariants as command
 use Rattle.party_state.specs.State.{first_link}
-use Rattle.bank_arrivals.specs.Rsi.{rsi_tests as bank_rsi_tests, rsi_under}
+use Rattle.bank_arrivals.specs.Rsi.{rsi_tests as bank_rsi_tests, rsi_row as bank_rsi_row, rsi_under}
 use Rattle.bank_orders.specs.Start.{sending_link}
 use Rattle.bank_orders.specs.Resend.{resend_of}
 use Rattle.bank_orders.specs.Orders.{command_row}
@@ -58,6 +65,21 @@ module _ (p : Party) (i : IsNamed p) where
       record {
         names = (tt, (up_named p i l (l.next + 1) named (next_after l.next count), (record { peer = named.peer; name = record { issuer = i.own; originator = i.own; label = named.label; count = count } }, (tt, tt))));
         reply = data_key_own p l d.0 i.own named count;
+      }
+
+  pub twins_speaks : (front : List Test) (peer : List ℕ) (l : LinkRec) (drawn : Option TwinsDrawn) → ((d : TwinsDrawn) → all_refuse (front ++ twins_tests p l (Some d)) ≡ true) → SendingAt p peer l → is_accept (twins_sending_drawn p front l drawn).verdict ≡ true → Speaks (twins_sending_drawn p front l drawn)
+  twins_speaks front peer l None r s h = record { names = tt; reply = tt }
+  twins_speaks front peer l (Some d) r s h =
+      let named : LinkNamed l = linked p i (sends peer l.label) l s.at.found in
+      let t : TestsHold front × TestsHold (twins_tests p l (Some d)) = held_after front (twins_tests p l (Some d)) (held (front ++ twins_tests p l (Some d)) (r d) h) in
+      let low = named.next.low in
+      let below : l.next < 99999999999999 = ltb-true l.next 99999999999999 t.1.0 in
+      let room : l.next + 1 ≤ 99999999999999 = omega (arith, below) in
+      let count : IsCount l.next = record { low = low; high = omega (arith, room) } in
+      let count_behind : IsCount (l.next + 1) = record { low = omega arith; high = room } in
+      record {
+        names = (tt, (up_named p i l (l.next + 2) named (record { low = omega arith; high = omega (arith, room) }), (record { peer = named.peer; name = record { issuer = i.own; originator = i.own; label = named.label; count = count } }, (record { peer = named.peer; name = record { issuer = i.own; originator = i.own; label = named.label; count = count_behind } }, (tt, tt)))));
+        reply = twins_own p l d i.own named count;
       }
 
   pub kk_speaks : (peer new : List ℕ) (single : Bool) (o : Option LinkRec) (moment : ℕ) → IsLabel new → ((l : LinkRec) → o ≡ Some l → SendingAt p peer l) → is_accept (start_kk_under p peer new single o moment).verdict ≡ true → Speaks (start_kk_under p peer new single o moment)
@@ -125,11 +147,18 @@ module _ (p : Party) (i : IsNamed p) where
       by_record (Some l) name None e = (tt, (tt, tt))
       by_record (Some l) name (Some k) e = (tt, (again_named k Ended (at_record peer name k e), (tt, tt)))
 
+      by_records : (name : KeyName) (j k : Option KeyRec) → record_of p peer name ≡ j → record_of p peer (name_behind name) ≡ k → AllByRecursion NamesFine ((ended j ++ ended k) ++ DropExchange peer ∷ [])
+      by_records name None None e f = (tt, tt)
+      by_records name None (Some k) e f = (again_named k Ended (at_record peer (name_behind name) k f), (tt, tt))
+      by_records name (Some j) None e f = (again_named j Ended (at_record peer name j e), (tt, tt))
+      by_records name (Some j) (Some k) e f = (again_named j Ended (at_record peer name j e), (again_named k Ended (at_record peer (name_behind name) k f), (tt, tt)))
+
       by_kind : (k : Kind) → AllByRecursion NamesFine (given_up p peer k ++ DropExchange peer ∷ [])
       by_kind (kind.KeySent name way) = by_record (new_link p peer way) name (record_of p peer name) refl
       by_kind (kind.Asked ultimate) = (tt, tt)
       by_kind (kind.Translating ultimate value cta) = (tt, tt)
       by_kind (kind.Ending name) = (tt, tt)
+      by_kind (kind.PairSent name) = by_records name (record_of p peer name) (record_of p peer (name_behind name)) refl refl
 
       by_exchange : (o : Option Exchange) → AllByRecursion NamesFine (given_up_in p peer o)
       by_exchange None = tt
@@ -150,4 +179,11 @@ module _ (p : Party) (i : IsNamed p) where
 
   pub rsi_speaks : (a : Arrival) (m : Rsi) (o : Option LinkRec) (moment : ℕ) → HasLinks p → first_link m.originator Sends p ≡ o → is_accept (rsi_under p a m o moment).verdict ≡ true → Speaks (rsi_under p a m o moment)
   rsi_speaks a m None moment d e h = record { names = tt; reply = tt }
-  rsi_speaks a m (Some l) moment d e h = let f : FirstAt p m.originator Sends l = first_at p m.originator Sends l d e in sending_speaks (bank_rsi_tests p a m (Some l)) m.originator l (good_draw p.generator moment) (λ d. refl) (record { at = f.at; ready = f.ready }) h
+  rsi_speaks a m (Some l) moment d e h = by_service (is_two_keys m.service) h
+    where
+      f : FirstAt p m.originator Sends l
+      f = first_at p m.originator Sends l d e
+
+      by_service : (b : Bool) → is_accept (bank_rsi_row p a m l moment b).verdict ≡ true → Speaks (bank_rsi_row p a m l moment b)
+      by_service true h = twins_speaks (bank_rsi_tests p a m (Some l)) m.originator l (twins_drawn p.generator moment) (λ d. refl) (record { at = f.at; ready = f.ready }) h
+      by_service false h = sending_speaks (bank_rsi_tests p a m (Some l)) m.originator l (good_draw p.generator moment) (λ d. refl) (record { at = f.at; ready = f.ready }) h

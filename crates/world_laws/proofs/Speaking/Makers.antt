@@ -1,4 +1,11 @@
 -- Each text that a party writes under a key names the party as its originator.
+use Rattle.role_base.specs.declared.exchanges.Twins.{Twins}
+use Rattle.role_base.specs.Exchanges.{twins_to}
+use Rattle.role_base.specs.Conditions.{is_two_keys}
+use Rattle.bank_keys.specs.Ksm.{body_code}
+use Rattle.bank_arrivals.specs.declared.draws.TwinsDrawn.{TwinsDrawn}
+use Rattle.bank_arrivals.specs.SendingTwins.{twins_drawn, twins_sending_drawn}
+use Rattle.bank_arrivals.specs.Rsm.{rsm_by}
 use Rattle.std.proofs.Common.{◌≡◌, ℕ, Bool, true, false, cond, max, Option, Some, None, List, refl, option_map, bytes_eq}
 use Rattle.x_base.specs.declared.key_name.KeyName.{KeyName}
 use Rattle.x_base.specs.declared.key_name.FullName.{FullName}
@@ -42,7 +49,7 @@ use Rattle.role_base.specs.Load.{load}
 use Rattle.bank_orders.specs.Start.{sending_link, start_tests, start_under}
 use Rattle.bank_orders.specs.Resend.{resend_of}
 use Rattle.bank_orders.specs.Ending.{end_record}
-use Rattle.bank_arrivals.specs.Rsi.{rsi_tests as bank_rsi_tests, rsi_under}
+use Rattle.bank_arrivals.specs.Rsi.{rsi_tests as bank_rsi_tests, rsi_row as bank_rsi_row, rsi_under}
 use Rattle.bank_arrivals.specs.Rsm.{rsm_to, answer_to, rsm_with}
 use Rattle.bank_arrivals.specs.Esm.{subject_with}
 use Rattle.bank_arrivals.specs.Dsm.{named_by, dsm_on}
@@ -58,7 +65,7 @@ use Rattle.bank_orders.specs.Draws.{kk_drawn}
 use Rattle.bank_arrivals.specs.Esm.{error_of, error_with}
 use Rattle.bank_arrivals.specs.AskingAgain.{retry_in}
 use Rattle.bank_arrivals.specs.declared.asking_again.Retry.{Retry}
-use Rattle.bank_keys.specs.Ksm.{body_link, body_name, body_value, body_tests, body_message, key_row}
+use Rattle.bank_keys.specs.Ksm.{body_link, body_name, body_tests, body_message, key_row}
 use Rattle.bank_orders.specs.StartKk.{kk_sending, start_kk_under}
 use Rattle.translation_role.specs.Service.{rfs_between, rfs_tests, rfs_under, rfs_value, rfs_message}
 use Rattle.bank_keys.specs.declared.waits.Waiting.{Waiting}
@@ -130,7 +137,15 @@ module _ (p : Party) where
 
   rsi_self : (a : Arrival) (m : Rsi) (moment : ℕ) (o : Option LinkRec) → BySelf p.own (rsi_under p a m o moment)
   rsi_self a m moment None = record { reply = tt; answer = tt }
-  rsi_self a m moment (Some l) = sending_self (bank_rsi_tests p a m (Some l)) l (good_draw p.generator moment)
+  rsi_self a m moment (Some l) = by_service (is_two_keys m.service)
+    where
+      by_draw : (o : Option TwinsDrawn) → BySelf p.own (twins_sending_drawn p (bank_rsi_tests p a m (Some l)) l o)
+      by_draw None = record { reply = tt; answer = tt }
+      by_draw (Some d) = record { reply = refl; answer = tt }
+
+      by_service : (b : Bool) → BySelf p.own (bank_rsi_row p a m l moment b)
+      by_service true = by_draw (twins_drawn p.generator moment)
+      by_service false = sending_self (bank_rsi_tests p a m (Some l)) l (good_draw p.generator moment)
 
   rtr_self : (a : Arrival) (m : Rtr) (kd : Option (ℕ × ℕ)) → BySelf p.own (rtr_with p a m kd)
   rtr_self a m (Some k) = go (link_with (takes m.originator centre_label) p)
@@ -149,20 +164,25 @@ module _ (p : Party) where
   error_self originator b under value ctr None = tt
   error_self originator (body.Direct idk2 new kd ctp) under value ctr (Some erf) = refl
   error_self originator (body.Centre centre kdu ctb) under value ctr (Some erf) = refl
+  error_self originator (body.Twin idk2 first second ctp) under value ctr (Some erf) = refl
 
   key_self : (a : Arrival) (m : Ksm) (b : KsmBody) (o : Option LinkRec) → BySelf p.own (key_row p a m b o)
   key_self a m b None = record { reply = tt; answer = tt }
   key_self a m b (Some l) = record {
     reply = refl;
-    answer = error_self m.originator b (body_name p m.originator b l) (body_value l.pair m.originator p.own b) (expected_count (verdict_of (body_tests p a m b l))) (error_letter (verdict_of (body_tests p a m b l)));
+    answer = error_self m.originator b (body_name p m.originator b l) (body_code l.pair m.originator p.own b) (expected_count (verdict_of (body_tests p a m b l))) (error_letter (verdict_of (body_tests p a m b l)));
   }
 
   rsm_self : (a : Arrival) (m : Rsm) (o : Option KeyName) → BySelf p.own (rsm_with p a m o)
-  rsm_self a m None = go (sent_to p m.originator)
+  rsm_self a m None = by_twins (twins_to p m.originator)
     where
       go : (o : Option Sent) → BySelf p.own (rsm_to p a m o)
       go None = record { reply = tt; answer = tt }
       go (Some s) = record { reply = tt; answer = tt }
+
+      by_twins : (t : Option Twins) → BySelf p.own (rsm_by p a m t)
+      by_twins None = go (sent_to p m.originator)
+      by_twins (Some t) = record { reply = tt; answer = tt }
   rsm_self a m (Some name) = go (ending_with p m.originator)
     where
       go : (o : Option KeyRec) → BySelf p.own (answer_to p a m name o)

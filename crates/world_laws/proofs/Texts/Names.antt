@@ -43,6 +43,7 @@ KindNamed (kind.Asked ultimate) = Unit {0}
 KindNamed (kind.Translating ultimate value cta) = Unit {0}
 KindNamed (kind.KeySent name way) = WayNamed way
 KindNamed (kind.Ending name) = Unit {0}
+KindNamed (kind.PairSent name) = Unit {0}
 
 pub record ExchangeNamed (e : Exchange) : Type 0 where
   pub kind : KindNamed e.kind

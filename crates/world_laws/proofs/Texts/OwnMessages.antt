@@ -1,5 +1,5 @@
 -- The messages that a bank writes under keys are such that their texts say them.
-use Rattle.std.proofs.Common.{◌<◌, ◌^◌, Bool, true, false, Option}
+use Rattle.std.proofs.Common.{◌+◌, ◌<◌, ◌^◌, Bool, true, false, Option}
 use Rattle.x_base.specs.Names.{IsLabel}
 use Rattle.csm_grammar.specs.declared.message.Message.TheVariants as message
 use Rattle.csm_grammar.specs.declared.message.KsmBody.{KsmBody}
@@ -8,6 +8,8 @@ use Rattle.csm_grammar.specs.declared.message.Rtr.{Rtr}
 use Rattle.csm_grammar.specs.declared.message.Rfs.{Rfs}
 use Rattle.csm_grammar.specs.declared.message.Esm.{Esm}
 use Rattle.bank_orders.specs.declared.draws.KkDrawn.{KkDrawn}
+use Rattle.bank_arrivals.specs.declared.draws.TwinsDrawn.{TwinsDrawn}
+use Rattle.bank_arrivals.specs.SendingTwins.{twins_message}
 use Rattle.bank_orders.specs.StartKk.{kk_message}
 use Rattle.bank_keys.specs.Ksm.{body_count, body_message}
 use Rattle.bank_orders.specs.Translate.{translate_message}
@@ -119,6 +121,14 @@ kk_own p l new false d own named label count = record {
   free = omega arith;
 }
 
+pub twins_own : (p : Party) (l : LinkRec) (d : TwinsDrawn) → IsIdent p.own → LinkNamed l → IsCount l.next → IsOwn (twins_message p l d)
+twins_own p l d own named count = record {
+  fields = All-from_recursion IsTypedField (fields_of (twins_message p l d)) (named.peer, (own, (named.label, (wrapped_below l.pair l.next d.first, (wrapped_below l.pair (l.next + 1) d.second, (count, tt))))));
+  texts = All-from_recursion ProperField (fields_of (twins_message p l d)) (tt, (tt, (tt, (tt, (tt, (tt, tt))))));
+  allowed = refl;
+  free = omega arith;
+}
+
 pub translate_own : (p : Party) (centre u : List ℕ) (l : LinkRec) (key : ℕ) → IsIdent p.own → IsIdent centre → IsIdent u → IsCount l.next → IsOwn (translate_message p centre u l key)
 translate_own p centre u l key own to for count = record {
   fields = All-from_recursion IsTypedField (fields_of (translate_message p centre u l key)) (to, (own, (for, (wrapped_below l.pair l.next key, (count, tt)))));
@@ -162,6 +172,7 @@ ers_own p m t own from to count reason = let short = reason.short in record {
 -- the error messages to refused texts of the other forms
 pub body_error_own : (p : Party) (originator : List ℕ) (b : KsmBody) (erf : List ℕ) (ctr : Option ℕ) → IsIdent p.own → IsIdent originator → IsCount (body_count b) → IsLetter erf → IfSome ctr IsCount → IsOwn (body_message p originator b erf ctr)
 body_error_own p originator (body.Direct idk2 new kd ctp) erf ctr own peer count letter told = error_own p originator ctp erf ctr own peer count letter told
+body_error_own p originator (body.Twin idk2 first second ctp) erf ctr own peer count letter told = error_own p originator ctp erf ctr own peer count letter told
 body_error_own p originator (body.Centre centre kdu ctb) erf None own peer count letter told = let short = letter.short in record {
   fields = All-from_recursion IsTypedField (fields_of (body_message p originator (body.Centre centre kdu ctb) erf None)) (peer, (own, (count, (tt, tt))));
   texts = All-from_recursion ProperField (fields_of (body_message p originator (body.Centre centre kdu ctb) erf None)) (tt, (tt, (tt, (letter.proper, tt))));

@@ -1,4 +1,4 @@
-use Rattle.world_laws.proofs.Agreeing.Moments.{ready_at_both_ends, counts_meet, waiting_stands, made_by_senders, one_ksm_per_name}
+use Rattle.world_laws.proofs.Agreeing.Moments.{ready_at_both_ends, counts_meet, waiting_stands, twins_stand, twins_carried, made_by_senders, one_ksm_per_name, answers_were_taken, keys_were_taken}
 use Rattle.world_laws.proofs.moments.law_moments.Goals as goal
 
 pub returns-clause-ends : goal.returns-clause-ends
@@ -15,3 +15,15 @@ returns-clause-makers c = made_by_senders
 
 pub returns-clause-names : goal.returns-clause-names
 returns-clause-names c = one_ksm_per_name
+
+pub returns-clause-twins : goal.returns-clause-twins
+returns-clause-twins c = twins_stand
+
+pub returns-clause-carried : goal.returns-clause-carried
+returns-clause-carried c = twins_carried
+
+pub returns-clause-answers : goal.returns-clause-answers
+returns-clause-answers c = answers_were_taken
+
+pub returns-clause-taken : goal.returns-clause-taken
+returns-clause-taken c = keys_were_taken

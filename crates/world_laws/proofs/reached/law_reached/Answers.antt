@@ -1,3 +1,5 @@
+use Rattle.world_laws.proofs.LiveKeys.EndRun.{end_run}
+use Rattle.world_laws.proofs.LiveKeys.TwinRun.{twin_run}
 use Rattle.world_laws.proofs.LiveKeys.DirectRun.{live_run}
 use Rattle.world_laws.proofs.LiveKeys.NewKkRun.{new_kk_run}
 use Rattle.world_laws.proofs.LiveKeys.DistributionRun.{distribution_run}
@@ -15,3 +17,9 @@ returns-clause-distributed c = distribution_run
 
 pub returns-clause-translated : goal.returns-clause-translated
 returns-clause-translated c = translation_run
+
+pub returns-clause-two_at_once : goal.returns-clause-two_at_once
+returns-clause-two_at_once c = twin_run
+
+pub returns-clause-left : goal.returns-clause-left
+returns-clause-left c = end_run

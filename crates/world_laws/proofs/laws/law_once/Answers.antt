@@ -1,0 +1,5 @@
+use Rattle.world_laws.proofs.Counting.Runs.{once}
+use Rattle.world_laws.proofs.laws.law_once.Goals as goal
+
+pub returns : goal.returns
+returns c = once
