@@ -108,20 +108,20 @@ module _ (one : OneHearing) where
   heard_or_not : {A : Type 0} (all : List ℕ) (a : Arrival) (u : Unheard) → IsHeard all a → Heard (taken all) (Err u) → A
   heard_or_not all a u h k = let no : Ok a.parsed ≡ Err u = same_heard (taken all) (Ok a.parsed) (Err u) h.heard k in absurd cc
 
-  pub follows_heard : (left rest : Option (List ℕ)) (old : View) (moment : ℕ) (s : Status) (a : Arrival) → IfSome left (λ all. IsHeard all a × (rest ≡ Some []))
-      → Follows old (IsDue (Arrived a) moment) s → IfSome left (λ all. FollowsBytes all old moment s)
-  follows_heard None rest old moment s a h f = tt
-  follows_heard (Some all) rest old moment s a h f = record {
+  pub follows_heard : (left rest : Option (List ℕ)) (name : List ℕ) (old : View) (moment : ℕ) (s : Status) (a : Arrival) → IfSome left (λ all. IsHeard all a × (rest ≡ Some []))
+      → Follows old (IsDue name (Arrived a) moment) s → IfSome left (λ all. FollowsBytes all name old moment s)
+  follows_heard None rest name old moment s a h f = tt
+  follows_heard (Some all) rest name old moment s a h f = record {
     unheard = λ u k. heard_or_not all a u h.0 k;
-    heard = λ b k. subst (λ (x : Arrival). Follows old (IsDue (Arrived x) moment) s) (one_arrival all a b h.0 k) f;
+    heard = λ b k. subst (λ (x : Arrival). Follows old (IsDue name (Arrived x) moment) s) (one_arrival all a b h.0 k) f;
   }
 
-  pub follows_unheard : (left : Option (List ℕ)) (old : View) (moment : ℕ) (s : Status) (read reads : ℕ) → IsUnheard left s → (s ≡ status.ReadFault → Rose read reads)
-      → IsQuiet read reads → IfSome left (λ all. FollowsBytes all old moment s)
-  follows_unheard None old moment s read reads is cause quiet = tt
-  follows_unheard (Some all) old moment s read reads (inl (inl fault)) cause quiet = absurd (quiet (cause fault))
-  follows_unheard (Some all) old moment s read reads (inl (inr memory)) cause quiet = record { unheard = λ u k. inr memory; heard = λ a k image o now due. inr memory }
-  follows_unheard (Some all) old moment s read reads (inr (u, is, possible, h)) cause quiet = record {
+  pub follows_unheard : (left : Option (List ℕ)) (name : List ℕ) (old : View) (moment : ℕ) (s : Status) (read reads : ℕ) → IsUnheard left s → (s ≡ status.ReadFault → Rose read reads)
+      → IsQuiet read reads → IfSome left (λ all. FollowsBytes all name old moment s)
+  follows_unheard None name old moment s read reads is cause quiet = tt
+  follows_unheard (Some all) name old moment s read reads (inl (inl fault)) cause quiet = absurd (quiet (cause fault))
+  follows_unheard (Some all) name old moment s read reads (inl (inr memory)) cause quiet = record { unheard = λ u k. inr memory; heard = λ a k image o now due. inr memory }
+  follows_unheard (Some all) name old moment s read reads (inr (u, is, possible, h)) cause quiet = record {
     unheard = λ v k. (let e : Err u ≡ Err v = same_heard (taken all) (Err u) (Err v) h k in let q : u ≡ v = cc in inl (is ∙ ap (λ (x : Unheard). status.Refused (refusal_of x)) q));
     heard = λ a k. heard_or_not all a u k h;
   }

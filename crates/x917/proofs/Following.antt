@@ -21,6 +21,7 @@ put_status (Some text) ending answer s before after (inr puts) = inr puts.0
 pub ended : (o : Outcome) (ending : List ℕ) (s : Status) (before after : Option (List ℕ)) → Ends o ending s before after → (s ≡ status_of_outcome o) ⊎ (s ≡ status.WriteFault)
 ended (outcome.Done reply under) ending s before after ends = put_status reply ending status.Done s before after ends
 ended (outcome.Refused verdict reply under) ending s before after ends = put_status reply ending (status.Refused (Decided verdict)) s before after ends
+ended (outcome.OtherParty asked found) ending s before after ends = inl ends.0
 ended (outcome.Damaged place) ending s before after ends = inl ends.0
 ended outcome.Fault ending s before after ends = inl ends.0
 ended outcome.NoMemory ending s before after ends = inl ends.0
@@ -29,6 +30,7 @@ ended outcome.NoMemory ending s before after ends = inl ends.0
 fault_of : (o : Outcome) → status.DiskFault ≡ status_of_outcome o → o ≡ outcome.Fault
 fault_of (outcome.Done reply under) is = absurd cc
 fault_of (outcome.Refused verdict reply under) is = absurd cc
+fault_of (outcome.OtherParty asked found) is = absurd cc
 fault_of (outcome.Damaged place) is = absurd cc
 fault_of outcome.Fault is = refl
 fault_of outcome.NoMemory is = absurd cc

@@ -16,13 +16,15 @@ use Rattle.party_state.specs.declared.command.Command.TheVariants as command
 use Rattle.party_state.specs.declared.command.Input.TheVariants.{Ordered, Arrived}
 use Rattle.x_party.specs.Outcomes.{TakesTurn, IsSafe, CompactsParty, IsSafeCompaction}
 use Rattle.x_party.specs.declared.outcome.Outcome.{Outcome}
-use Rattle.world_laws.specs.Events.{Orders, Hears, Compacts, IsCommand}
-use Rattle.world_laws.specs.Calls.{IsCall}
+use Rattle.x_party.specs.declared.outcome.Outcome.TheVariants as outcome
+use Rattle.world_laws.specs.Events.{Action, Orders, Hears, Compacts, IsAction, IsCommand}
+use Rattle.world_laws.specs.Calls.{IsCall, IsNamedCall, AnswersOther}
 use Rattle.x917.specs.declared.status.Status.{Status}
 use Rattle.x917.specs.Check.{taken}
+use Rattle.x917.specs.Ends.{Ends}
 use Rattle.x917.specs.Dues.{IsHeard}
 use Rattle.x917.specs.Obeys.{Obeys, IsPartyTurn, IsTaken}
-use Rattle.x917.specs.Network.{IsEvent, IsArrivalEvent, IsNetworkEvent}
+use Rattle.x917.specs.Network.{IsNamedEvent, IsArrivalEvent, IsNetworkEvent}
 
 -- a value that an option gives
 
@@ -41,46 +43,55 @@ ident_given : (o : Option (List ℕ)) (new : List ℕ) → option_and_then ident
 ident_given None new h = absurd (cc)
 ident_given (Some text) new h = name_given 4 text new h
 
+-- a party of another name writes nothing
+unwritten : (name own : List ℕ) (o : Outcome) (ending : List ℕ) (s : Status) (before after : Option (List ℕ)) → AnswersOther name own o → Ends o ending s before after → after ≡ before
+unwritten name own (outcome.Done reply under) ending s before after other ends = absurd other
+unwritten name own (outcome.Refused verdict reply under) ending s before after other ends = absurd other
+unwritten name own (outcome.OtherParty asked found) ending s before after other ends = ends.1
+unwritten name own (outcome.Damaged place) ending s before after other ends = absurd other
+unwritten name own outcome.Fault ending s before after other ends = ends.1
+unwritten name own outcome.NoMemory ending s before after other ends = ends.1
+
 -- over a shelf
 
 module _ {S : Type 0} (entry : S → List ℕ → View)
-    (commands : (old new : S) (name : List ℕ) (c : Command) (moment : ℕ) (o : Outcome) → TakesTurn (entry old name) (entry new name) (Ordered c) moment o → IsSafe (entry old name) (entry new name) (Ordered c) moment
-    → IsCall (entry old name) (entry new name) (Orders c) moment o)
-    (arrivals : (old new : S) (name bytes : List ℕ) (a : Arrival) (moment : ℕ) (o : Outcome) → TakesTurn (entry old name) (entry new name) (Arrived a) moment o → IsSafe (entry old name) (entry new name) (Arrived a) moment
-    → IsCall (entry old name) (entry new name) (Hears bytes (Some a)) moment o)
+    (commands : (old new : S) (name : List ℕ) (c : Command) (moment : ℕ) (o : Outcome) → TakesTurn name (entry old name) (entry new name) (Ordered c) moment o → IsSafe name (entry old name) (entry new name) (Ordered c) moment
+    → IsNamedCall name (entry old name) (entry new name) (Orders c) moment o)
+    (arrivals : (old new : S) (name bytes : List ℕ) (a : Arrival) (moment : ℕ) (o : Outcome) → TakesTurn name (entry old name) (entry new name) (Arrived a) moment o → IsSafe name (entry old name) (entry new name) (Arrived a) moment
+    → IsNamedCall name (entry old name) (entry new name) (Hears bytes (Some a)) moment o)
     (compactions : (old new : S) (name : List ℕ) (moment : ℕ) (o : Outcome) → CompactsParty (entry old name) (entry new name) o → IsSafeCompaction (entry old name) (entry new name)
     → IsCall (entry old name) (entry new name) Compacts moment o)
     (moment : ℕ) (s : Status) (left rest before after : Option (List ℕ)) (old new : S) where
-  arrival_event : (name : List ℕ) → IsTaken moment left rest (entry old name) (entry new name) s before after → IsArrivalEvent moment left (entry old name) (entry new name) s before after
+  named_event : (action : Action) (name : List ℕ) (o : Outcome) → IsAction action → IsNamedCall name (entry old name) (entry new name) action moment o → Ends o (10 ∷ []) s before after
+      → IsNamedEvent name action moment (10 ∷ []) (entry old name) (entry new name) s before after
+  named_event action name o is call ends = record {
+    is_action = is;
+    outcome = o;
+    event = call;
+    ends = ends;
+    other = λ image p now stood differs. (let other = call.other image p now stood differs in (other.0, unwritten name p.own o (10 ∷ []) s before after other.1 ends));
+  }
+
+  arrival_event : (name : List ℕ) → IsTaken name moment left rest (entry old name) (entry new name) s before after → IsArrivalEvent name moment left (entry old name) (entry new name) s before after
   arrival_event name (inl unheard) = inl unheard.0
   arrival_event name (inr (a, heard, turned)) = inr (by_source left heard)
     where
       by_source : (o : Option (List ℕ)) → IfSome o (λ all. IsHeard all a × (rest ≡ Some []))
-          → IfSome o (λ all. (arrival : Arrival) × IsEvent (Hears (taken all) (Some arrival)) moment (10 ∷ []) (entry old name) (entry new name) s before after)
+          → IfSome o (λ all. (arrival : Arrival) × IsNamedEvent name (Hears (taken all) (Some arrival)) moment (10 ∷ []) (entry old name) (entry new name) s before after)
       by_source None heard = tt
-      by_source (Some all) heard = (
-        a,
-        record {
-          is_action = (heard.0.heard, heard.0.text);
-          outcome = turned.outcome;
-          event = arrivals old new name (taken all) a moment turned.outcome turned.turned turned.safe;
-          ends = turned.ends;
-        },
-      )
+      by_source (Some all) heard =
+          let call = arrivals old new name (taken all) a moment turned.outcome turned.turned turned.safe in
+          (a, named_event (Hears (taken all) (Some a)) name turned.outcome (heard.0.heard, heard.0.text) call turned.ends)
 
-  command_event : (c : Command) (name : List ℕ) → IsCommand c → IsPartyTurn (Ordered c) moment (entry old name) (entry new name) s before after → IsEvent (Orders c) moment (10 ∷ []) (entry old name) (entry new name) s before after
-  command_event c name is turned = record {
-    is_action = is;
-    outcome = turned.outcome;
-    event = commands old new name c moment turned.outcome turned.turned turned.safe;
-    ends = turned.ends;
-  }
+  command_event : (c : Command) (name : List ℕ) → IsCommand c → IsPartyTurn name (Ordered c) moment (entry old name) (entry new name) s before after → IsNamedEvent name (Orders c) moment (10 ∷ []) (entry old name) (entry new name) s before after
+  command_event c name is turned = named_event (Orders c) name turned.outcome is (commands old new name c moment turned.outcome turned.turned turned.safe) turned.ends
 
   pub network_event : (rows : List Row) (o : Order) → HasValues rows o → Obeys o moment s left rest before after (entry old) (entry new) → IsNetworkEvent o moment s left before after (entry old) (entry new)
   network_event rows order.Check values obeys = tt
   network_event rows (order.Init party role key v) values obeys = tt
   network_event rows (order.Load party peer label side pair) values obeys = tt
   network_event rows (order.Show party) values obeys = tt
+  network_event rows (order.Wipe party) values obeys = tt
   network_event rows order.Replay values obeys = tt
   network_event rows (order.Drill seed events) values obeys = tt
   network_event rows (order.Compact party) values obeys = record {

@@ -10,12 +10,12 @@ use Rattle.party_state.specs.declared.command.Command.TheVariants as command
 use Rattle.party_state.specs.declared.command.Input.{Input}
 use Rattle.party_state.specs.declared.command.Input.TheVariants.{Ordered}
 use Rattle.party_state.specs.State.{begun}
-use Rattle.key_store.specs.Store.{IsBlankOrFirst}
+use Rattle.key_store.specs.Store.{IsBlankOrFirst, StandsWith}
 use Rattle.key_store.specs.Compacting.{IsOldOrWhole}
 use Rattle.roles.specs.Deciding.{decision}
 use Rattle.node_core.specs.Turns.{IsOldOrNext}
 use Rattle.x_party.specs.Images.{OrBefore}
-use Rattle.x_party.specs.Outcomes.{IsSafe, IsSafeCompaction}
+use Rattle.x_party.specs.Outcomes.{IsSafe, IsSafeCompaction, IsSafeWiping}
 use Rattle.x_party.specs.declared.outcome.Outcome.{Outcome}
 use Rattle.x_party.specs.declared.outcome.Outcome.TheVariants as outcome
 use Rattle.x917.specs.declared.status.Status.{Status}
@@ -41,6 +41,7 @@ module _ (read reads put puts disk disks : ℕ) where
     each : (o : Outcome) → s ≡ status_of_outcome o → HasCause (status_of_outcome o) read reads put puts disk disks
     each (outcome.Done reply under) is = tt
     each (outcome.Refused verdict reply under) is = tt
+    each (outcome.OtherParty asked found) is = tt
     each (outcome.Damaged place) is = tt
     each outcome.Fault is = disk_cause is
     each outcome.NoMemory is = tt
@@ -49,14 +50,14 @@ module _ (read reads put puts disk disks : ℕ) where
     go (inl is) = subst (λ (x : Status). HasCause x read reads put puts disk disks) (sym is) (each o is)
     go (inr is) = subst (λ (x : Status). HasCause x read reads put puts disk disks) (sym is) (put_cause is)
 
-  pub cause_taken : (moment : ℕ) (left rest : Option (List ℕ)) (old new : View) (s : Status) (before after : Option (List ℕ)) → IsTaken moment left rest old new s before after
+  pub cause_taken : (name : List ℕ) (moment : ℕ) (left rest : Option (List ℕ)) (old new : View) (s : Status) (before after : Option (List ℕ)) → IsTaken name moment left rest old new s before after
       → (s ≡ status.ReadFault → Rose read reads) → (s ≡ status.WriteFault → Rose put puts) → (s ≡ status.DiskFault → Rose disk disks) → HasCause s read reads put puts disk disks
-  cause_taken moment left rest old new s before after (inl none) read_cause put_cause disk_cause = go none.0 where
+  cause_taken name moment left rest old new s before after (inl none) read_cause put_cause disk_cause = go none.0 where
     go : IsUnheard left s → HasCause s read reads put puts disk disks
     go (inl (inl is)) = subst (λ (x : Status). HasCause x read reads put puts disk disks) (sym is) (read_cause is)
     go (inl (inr is)) = subst (λ (x : Status). HasCause x read reads put puts disk disks) (sym is) tt
     go (inr (u, is, possible, heard)) = subst (λ (x : Status). HasCause x read reads put puts disk disks) (sym is) tt
-  cause_taken moment left rest old new s before after (inr turned) read_cause put_cause disk_cause =
+  cause_taken name moment left rest old new s before after (inr turned) read_cause put_cause disk_cause =
       cause_ended turned.2.outcome (10 ∷ []) s before after turned.2.ends put_cause disk_cause
 
 -- ---- what an order of a party leaves
@@ -72,10 +73,10 @@ leaves_one o party s is_back unread unwritten old new put puts disk disks is res
 -- ---- a command of a party
 
 module _ (t : PartyCommand) (moment : ℕ) (s : Status) (left rest before after : Option (List ℕ)) (old new : List ℕ → View) where
-  obeys_some : (x : Option PartyCommand) → x ≡ Some t → IsPartyTurn (Ordered t.command) moment (old t.party) (new t.party) s before after → ObeysCommand x moment old new s before after
+  obeys_some : (x : Option PartyCommand) → x ≡ Some t → IsPartyTurn t.party (Ordered t.command) moment (old t.party) (new t.party) s before after → ObeysCommand x moment old new s before after
   obeys_some x is turned = subst (λ (y : Option PartyCommand). ObeysCommand y moment old new s before after) (sym is) turned
 
-  pub obeys_command : (o : Order) → command_of o ≡ Some t → IsPartyTurn (Ordered t.command) moment (old t.party) (new t.party) s before after
+  pub obeys_command : (o : Order) → command_of o ≡ Some t → IsPartyTurn t.party (Ordered t.command) moment (old t.party) (new t.party) s before after
       → Obeys o moment s left rest before after old new
   obeys_command order.Check is turned = absurd cc
   obeys_command (order.Init party role key v) is turned = absurd cc
@@ -92,12 +93,13 @@ module _ (t : PartyCommand) (moment : ℕ) (s : Status) (left rest before after 
   obeys_command (order.StartKk party peer new label single) is turned = obeys_some (command_of (order.StartKk party peer new label single)) is turned
   obeys_command (order.Translate party peer ultimate) is turned = obeys_some (command_of (order.Translate party peer ultimate)) is turned
   obeys_command (order.Compact party) is turned = absurd cc
+  obeys_command (order.Wipe party) is turned = absurd cc
   obeys_command (order.Drill seed events) is turned = tt
 
-  expects_some : (x : Option PartyCommand) → x ≡ Some t → Follows (old t.party) (IsDue (Ordered t.command) moment) s → ExpectsCommand x moment old s
+  expects_some : (x : Option PartyCommand) → x ≡ Some t → Follows (old t.party) (IsDue t.party (Ordered t.command) moment) s → ExpectsCommand x moment old s
   expects_some x is follows = subst (λ (y : Option PartyCommand). ExpectsCommand y moment old s) (sym is) follows
 
-  pub expects_command : (o : Order) → command_of o ≡ Some t → Follows (old t.party) (IsDue (Ordered t.command) moment) s → Expects o moment left old s
+  pub expects_command : (o : Order) → command_of o ≡ Some t → Follows (old t.party) (IsDue t.party (Ordered t.command) moment) s → Expects o moment left old s
   expects_command order.Check is follows = absurd cc
   expects_command (order.Init party role key v) is follows = absurd cc
   expects_command (order.Show party) is follows = absurd cc
@@ -113,6 +115,7 @@ module _ (t : PartyCommand) (moment : ℕ) (s : Status) (left rest before after 
   expects_command (order.StartKk party peer new label single) is follows = expects_some (command_of (order.StartKk party peer new label single)) is follows
   expects_command (order.Translate party peer ultimate) is follows = expects_some (command_of (order.Translate party peer ultimate)) is follows
   expects_command (order.Compact party) is follows = absurd cc
+  expects_command (order.Wipe party) is follows = absurd cc
   expects_command (order.Drill seed events) is follows = absurd cc
 
   party_given : (x : Option PartyCommand) → x ≡ Some t → option_map (λ (t : PartyCommand). t.party) x ≡ Some t.party
@@ -134,6 +137,7 @@ module _ (t : PartyCommand) (moment : ℕ) (s : Status) (left rest before after 
   is_party (order.StartKk party peer new label single) is = party_given (command_of (order.StartKk party peer new label single)) is
   is_party (order.Translate party peer ultimate) is = party_given (command_of (order.Translate party peer ultimate)) is
   is_party (order.Compact party) is = absurd cc
+  is_party (order.Wipe party) is = absurd cc
   is_party (order.Drill seed events) is = party_given (command_of (order.Drill seed events)) is
 
   pub leaves_of : (o : Order) (is_back : List ℕ → Type 0) (unread unwritten : Type 0) (put puts disk disks : ℕ) → command_of o ≡ Some t
@@ -163,8 +167,8 @@ module _ (moment : ℕ) (left before : Option (List ℕ)) (e : List ℕ → View
   untouched : (v : View) → IsSound v → IsUntouched v v
   untouched v is = record { now = refl; images = λ c left. left; any_moment = began v v.may_leave is (λ c left. left) }
 
-  safe : (v : View) (i : Input) → IsSound v → IsSafe v v i moment
-  safe v i is = record {
+  safe : (name : List ℕ) (v : View) (i : Input) → IsSound v → IsSafe name v v i moment
+  safe name v i is = record {
     party = λ image p left now stands. began v (OrBefore v (IsOldOrNext p left (decision p i moment))) is (λ c left. inr left);
     still = λ image p now stands none. untouched v is;
     nobody = λ image now none. untouched v is;
@@ -179,8 +183,16 @@ module _ (moment : ℕ) (left before : Option (List ℕ)) (e : List ℕ → View
     tells = refl;
   }
 
-  still_turn : (party : List ℕ) (i : Input) → IsPartyTurn i moment (e party) (e party) status.NoMemory before before
-  still_turn party i = record { outcome = outcome.NoMemory; turned = tt; safe = safe (e party) i (sound party); ends = (refl, refl) }
+  still_wiping : (v : View) → IsSound v → IsSafeWiping v v
+  still_wiping v is = record {
+    party = λ image p left now stands. began v (OrBefore v (λ c. StandsWith c p left)) is (λ c left. inr left);
+    still = λ image p now stands none. untouched v is;
+    nobody = λ image now none. untouched v is;
+    tells = refl;
+  }
+
+  still_turn : (party : List ℕ) (i : Input) → IsPartyTurn party i moment (e party) (e party) status.NoMemory before before
+  still_turn party i = record { outcome = outcome.NoMemory; turned = tt; safe = safe party (e party) i (sound party); ends = (refl, refl) }
 
   pub idle : (o : Order) → Obeys o moment status.NoMemory left left before before e e
   idle order.Check = refl
@@ -205,4 +217,5 @@ module _ (moment : ℕ) (left before : Option (List ℕ)) (e : List ℕ → View
   idle (order.StartKk party peer new label single) = still_turn party (Ordered (command.StartKk peer label new single))
   idle (order.Translate party peer ultimate) = still_turn party (Ordered (command.Translate peer ultimate))
   idle (order.Compact party) = record { outcome = outcome.NoMemory; compacted = tt; safe = still_compaction (e party) (sound party); ends = (refl, refl) }
+  idle (order.Wipe party) = record { outcome = outcome.NoMemory; wiped = tt; safe = still_wiping (e party) (sound party); ends = (refl, refl) }
   idle (order.Drill seed events) = tt

@@ -14,7 +14,7 @@ use Rattle.csm_write.specs.declared.closing.Closing.{Closing}
 use Rattle.csm_write.specs.declared.closing.Closing.TheVariants as closings
 use Rattle.csm_write.specs.Canon.{canon}
 use Rattle.x917.specs.declared.status.Refusal.{Refusal}
-use Rattle.x917.specs.declared.status.Refusal.TheVariants.{Text, Trailing, Decided}
+use Rattle.x917.specs.declared.status.Refusal.TheVariants.{Text, Trailing, Decided, OtherParty}
 use Rattle.x917.specs.declared.status.Status.{Status}
 use Rattle.x917.specs.declared.status.Status.TheVariants as status
 use Rattle.x917.specs.Transfer.{WrotePrefix, input_limit}
@@ -59,6 +59,7 @@ IsPossible (Text NoMemory) = ⊥
 IsPossible (Text refusal) = Unit {0}
 IsPossible (Trailing place) = Unit {0}
 IsPossible (Decided verdict) = verdict ≡ BadEdc
+IsPossible (OtherParty asked found) = ⊥
 
 -- the status of what was decided
 abbrev pub status_of : Result Parsed Refusal → Status

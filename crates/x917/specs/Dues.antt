@@ -21,7 +21,7 @@ pub record IsHeard (all : List ℕ) (arrival : Arrival) : Type 0 where
   pub heard : Heard (taken all) (Ok arrival.parsed)
   pub text : arrival.text ≡ take arrival.parsed.len (behind (taken all))
 
--- where bytes arrive: the refusal to hear them, or what is due of the message
-pub record FollowsBytes (all : List ℕ) (old : View) (moment : ℕ) (s : Status) : Type 0 where
+-- where bytes arrive at the party of this name: the refusal to hear them, or what is due of the message
+pub record FollowsBytes (all name : List ℕ) (old : View) (moment : ℕ) (s : Status) : Type 0 where
   pub unheard : (u : Unheard) → Heard (taken all) (Err u) → (s ≡ status.Refused (refusal_of u)) ⊎ (s ≡ status.NoMemory)
-  pub heard : (arrival : Arrival) → IsHeard all arrival → Follows old (IsDue (Arrived arrival) moment) s
+  pub heard : (arrival : Arrival) → IsHeard all arrival → Follows old (IsDue name (Arrived arrival) moment) s

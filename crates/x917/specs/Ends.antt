@@ -5,7 +5,7 @@ use Rattle.x_disk.specs.Disk.{View}
 use Rattle.x_disk.specs.Shelf.{OthersStay}
 use Rattle.x_party.specs.declared.outcome.Outcome.{Outcome}
 use Rattle.x_party.specs.declared.outcome.Outcome.TheVariants as outcome
-use Rattle.x917.specs.declared.status.Refusal.TheVariants.{Decided}
+use Rattle.x917.specs.declared.status.Refusal.TheVariants.{Decided, OtherParty}
 use Rattle.x917.specs.declared.status.Status.{Status}
 use Rattle.x917.specs.declared.status.Status.TheVariants as status
 use Rattle.x917.specs.Transfer.{WrotePrefix}
@@ -14,6 +14,7 @@ use Rattle.x917.specs.Transfer.{WrotePrefix}
 abbrev pub status_of_outcome : Outcome → Status
 status_of_outcome (outcome.Done reply under) = status.Done
 status_of_outcome (outcome.Refused verdict reply under) = status.Refused (Decided verdict)
+status_of_outcome (outcome.OtherParty asked found) = status.Refused (OtherParty asked found)
 status_of_outcome (outcome.Damaged place) = status.Damaged place
 status_of_outcome outcome.Fault = status.DiskFault
 status_of_outcome outcome.NoMemory = status.NoMemory
@@ -28,6 +29,7 @@ Puts (Some text) ending answer s before after = ((s ≡ answer) × AppendsTo bef
 abbrev pub Ends : Outcome → List ℕ → Status → Option (List ℕ) → Option (List ℕ) → Type 0
 Ends (outcome.Done reply under) ending s before after = Puts reply ending status.Done s before after
 Ends (outcome.Refused verdict reply under) ending s before after = Puts reply ending (status.Refused (Decided verdict)) s before after
+Ends (outcome.OtherParty asked found) ending s before after = (s ≡ status.Refused (OtherParty asked found)) × (after ≡ before)
 Ends (outcome.Damaged place) ending s before after = (s ≡ status.Damaged place) × (after ≡ before)
 Ends outcome.Fault ending s before after = (s ≡ status.DiskFault) × (after ≡ before)
 Ends outcome.NoMemory ending s before after = (s ≡ status.NoMemory) × (after ≡ before)
@@ -43,6 +45,7 @@ IsSilent s = Unit {0}
 abbrev pub IsOfParty : Status → Type 0
 IsOfParty status.Done = Unit {0}
 IsOfParty (status.Refused (Decided verdict)) = Unit {0}
+IsOfParty (status.Refused (OtherParty asked found)) = Unit {0}
 IsOfParty (status.Damaged place) = Unit {0}
 IsOfParty status.WriteFault = Unit {0}
 IsOfParty s = ⊥

@@ -8,7 +8,7 @@ use Rattle.csm_grammar.specs.declared.refusal.ReadRefusal.TheVariants.{NotCsm, T
 use Rattle.csm_grammar.specs.Places.{place_of}
 use Rattle.x_line.specs.Usage as usage
 use Rattle.x917.specs.declared.status.Refusal.{Refusal}
-use Rattle.x917.specs.declared.status.Refusal.TheVariants.{Text, Trailing, Decided}
+use Rattle.x917.specs.declared.status.Refusal.TheVariants.{Text, Trailing, Decided, OtherParty}
 use Rattle.x917.specs.declared.status.Status.{Status}
 use Rattle.x917.specs.declared.status.Status.TheVariants as status
 
@@ -32,6 +32,7 @@ refusal_text (Text refusal) = decimal (read_number refusal) ++ (codes " at " ++ 
 refusal_text (Trailing place) = codes "38 at " ++ decimal place
 refusal_text (Decided (CountLow expected)) = codes "30 expected " ++ decimal expected
 refusal_text (Decided verdict) = decimal (number_of verdict)
+refusal_text (OtherParty asked found) = codes "42"
 
 -- the line, which ends with a line feed; `Done` has none. A refusal to read for want of memory, which no run
 -- answers, is told as want of memory

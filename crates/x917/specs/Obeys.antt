@@ -19,8 +19,8 @@ use Rattle.party_state.specs.declared.command.Input.TheVariants.{Ordered, Arrive
 use Rattle.party_state.specs.State.{Party, begun}
 use Rattle.key_store.specs.Store.{IsBlankOrFirst}
 use Rattle.x_party.specs.Images.{StillTells, OrBefore}
-use Rattle.x_party.specs.Outcomes.{CreatesParty, ShowsParty, CompactsParty, TakesTurn, IsSafe, IsSafeCompaction}
-use Rattle.x_party.specs.Dues.{IsDue, IsDueCompaction, IsDueCreation, IsDueShow}
+use Rattle.x_party.specs.Outcomes.{CreatesParty, ShowsParty, CompactsParty, WipesParty, TakesTurn, IsSafe, IsSafeCompaction, IsSafeWiping}
+use Rattle.x_party.specs.Dues.{IsDue, IsDueCompaction, IsDueCreation, IsDueShow, IsDueWiping}
 use Rattle.x_party.specs.declared.outcome.Outcome.{Outcome}
 use Rattle.x917.specs.declared.party_command.PartyCommand.{PartyCommand}
 use Rattle.x917.specs.declared.status.Status.{Status}
@@ -44,11 +44,11 @@ command_of (order.Drop party peer) = Some (record { party = party; command = com
 command_of (order.Purge party) = Some (record { party = party; command = command.Purge })
 command_of o = None
 
--- a party had its turn with an input, and its reply was written, with a line feed
-pub record IsPartyTurn (i : Input) (moment : ℕ) (old new : View) (s : Status) (before after : Option (List ℕ)) : Type 0 where
+-- the party of this name had its turn with an input, and its reply was written, with a line feed
+pub record IsPartyTurn (name : List ℕ) (i : Input) (moment : ℕ) (old new : View) (s : Status) (before after : Option (List ℕ)) : Type 0 where
   pub outcome : Outcome
-  pub turned : TakesTurn old new i moment outcome
-  pub safe : IsSafe old new i moment
+  pub turned : TakesTurn name old new i moment outcome
+  pub safe : IsSafe name old new i moment
   pub ends : Ends outcome (10 ∷ []) s before after
 
 -- a party was created, and nothing was written
@@ -74,18 +74,25 @@ pub record IsCompacting (old new : View) (s : Status) (before after : Option (Li
   pub safe : IsSafeCompaction old new
   pub ends : Ends outcome [] s before after
 
+-- what doesn't count of a party's file was wiped, and nothing was written
+pub record IsWiping (old new : View) (s : Status) (before after : Option (List ℕ)) : Type 0 where
+  pub outcome : Outcome
+  pub wiped : WipesParty old new outcome
+  pub safe : IsSafeWiping old new
+  pub ends : Ends outcome [] s before after
+
 -- no message arrived: the source failed, or no memory was left, or the bytes are refused
 abbrev pub IsUnheard : Option (List ℕ) → Status → Type 0
 IsUnheard left s = ((s ≡ status.ReadFault) ⊎ (s ≡ status.NoMemory))
     ⊎ ((u : Unheard) × (s ≡ status.Refused (refusal_of u)) × IsPossible (refusal_of u) × IfSome left (λ all. Heard (taken all) (Err u)))
 
 -- bytes arrived: no message was heard, and nothing was changed or written; or the party had its turn with it
-abbrev pub IsTaken : ℕ → Option (List ℕ) → Option (List ℕ) → View → View → Status → Option (List ℕ) → Option (List ℕ) → Type 0
-IsTaken moment left rest old new s before after = (IsUnheard left s × (after ≡ before) × IsAlike old new)
-    ⊎ ((arrival : Arrival) × IfSome left (λ all. IsHeard all arrival × (rest ≡ Some [])) × IsPartyTurn (Arrived arrival) moment old new s before after)
+abbrev pub IsTaken : List ℕ → ℕ → Option (List ℕ) → Option (List ℕ) → View → View → Status → Option (List ℕ) → Option (List ℕ) → Type 0
+IsTaken name moment left rest old new s before after = (IsUnheard left s × (after ≡ before) × IsAlike old new)
+    ⊎ ((arrival : Arrival) × IfSome left (λ all. IsHeard all arrival × (rest ≡ Some [])) × IsPartyTurn name (Arrived arrival) moment old new s before after)
 
 abbrev pub ObeysCommand : Option PartyCommand → ℕ → (List ℕ → View) → (List ℕ → View) → Status → Option (List ℕ) → Option (List ℕ) → Type 0
-ObeysCommand (Some t) moment old new s before after = IsPartyTurn (Ordered t.command) moment (old t.party) (new t.party) s before after
+ObeysCommand (Some t) moment old new s before after = IsPartyTurn t.party (Ordered t.command) moment (old t.party) (new t.party) s before after
 ObeysCommand None moment old new s before after = ⊥
 
 -- what each order does at a party, or with a message; what the playing of a scenario says stands in Headline
@@ -95,13 +102,14 @@ Obeys (order.Init party role key v) moment s left rest before after old new =
     IsCreation (begun party role (record { key = key; v = v })) (old party) (new party) s before after
 Obeys (order.Show party) moment s left rest before after old new = IsListing (old party) (new party) s before after
 Obeys (order.Compact party) moment s left rest before after old new = IsCompacting (old party) (new party) s before after
+Obeys (order.Wipe party) moment s left rest before after old new = IsWiping (old party) (new party) s before after
 Obeys order.Replay moment s left rest before after old new = Unit {0}
 Obeys (order.Drill seed events) moment s left rest before after old new = Unit {0}
-Obeys (order.Take party) moment s left rest before after old new = IsTaken moment left rest (old party) (new party) s before after
+Obeys (order.Take party) moment s left rest before after old new = IsTaken party moment left rest (old party) (new party) s before after
 Obeys o moment s left rest before after old new = ObeysCommand (command_of o) moment old new s before after
 
 abbrev pub ExpectsCommand : Option PartyCommand → ℕ → (List ℕ → View) → Status → Type 0
-ExpectsCommand (Some t) moment old s = Follows (old t.party) (IsDue (Ordered t.command) moment) s
+ExpectsCommand (Some t) moment old s = Follows (old t.party) (IsDue t.party (Ordered t.command) moment) s
 ExpectsCommand None moment old s = Unit {0}
 
 -- where no count of faults rises: the status is the one that is due, or no memory was left
@@ -110,9 +118,10 @@ Expects order.Check moment left old s = IsExact left s
 Expects (order.Init party role key v) moment left old s = Follows (old party) IsDueCreation s
 Expects (order.Show party) moment left old s = Follows (old party) IsDueShow s
 Expects (order.Compact party) moment left old s = Follows (old party) IsDueCompaction s
+Expects (order.Wipe party) moment left old s = Follows (old party) IsDueWiping s
 Expects order.Replay moment left old s = IfSome left (λ all. ExpectsReplay all old s)
 Expects (order.Drill seed events) moment left old s = ExpectsDrill seed events s
-Expects (order.Take party) moment left old s = IfSome left (λ all. FollowsBytes all (old party) moment s)
+Expects (order.Take party) moment left old s = IfSome left (λ all. FollowsBytes all party (old party) moment s)
 Expects o moment left old s = ExpectsCommand (command_of o) moment old s
 
 -- the party of an order
@@ -121,6 +130,7 @@ party_of order.Check = None
 party_of (order.Init party role key v) = Some party
 party_of (order.Show party) = Some party
 party_of (order.Compact party) = Some party
+party_of (order.Wipe party) = Some party
 party_of (order.Take party) = Some party
 party_of o = option_map (λ (t : PartyCommand). t.party) (command_of o)
 

@@ -48,6 +48,7 @@ pub fn finish<K: Sink>(sink: &mut K, outcome: Outcome, ending: &[u8]) -> Status
             let answer = Status::Refused(Refusal::Decided(verdict));
             put_text(sink, reply, ending, answer)
         }
+        Outcome::OtherParty(asked, found) => Status::Refused(Refusal::OtherParty(asked, found)),
         Outcome::Damaged(place) => Status::Damaged(place),
         Outcome::Fault => Status::DiskFault,
         Outcome::NoMemory => Status::NoMemory,

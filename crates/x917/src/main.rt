@@ -18,13 +18,32 @@ mod transfer;
 
 use status::{Status, exit_code, status_line};
 use std::alloc::AllocGlobal;
+use std::fs::OpenOptions;
 use std::io::Write;
+use std::os::fd::AsRawFd;
 use std::process::ExitCode;
-use std::rt::{Clock, Env};
+use std::rt::{Clock, Env, Files};
 use std::{env, io};
 use x_base::{NoMemory, StdSink, StdSource, Words};
 use x_disk::FolderShelf;
 use x_line::UsageKind;
+
+/// The highest of the numbers 0, 1 and 2 of standard input, output and error.
+const LAST_STANDARD: i32 = 2;
+
+/// A folder, opened in place of the first of the standard descriptors that is closed, if any. It can be neither read as a
+/// stream nor written, so what was closed answers faults, and no file that is opened later gets its number.
+fn stand_in<R: Files>(rt: &R) -> io::Result<Option<R::File>>
+where
+    R::File: AsRawFd,
+{
+    let folder = OpenOptions::new().read(true).open(rt, "/")?;
+    if folder.as_raw_fd() <= LAST_STANDARD {
+        Ok(Some(folder))
+    } else {
+        Ok(None)
+    }
+}
 
 /// The arguments without the program's name.
 fn words_of<R: Env + AllocGlobal>(rt: &R) -> io::Result<Result<Words, NoMemory>> {
@@ -44,6 +63,8 @@ fn moment_of<R: Clock>(rt: &R) -> io::Result<u64> {
 }
 
 fn main(rt: HostRuntime) -> io::Result<ExitCode> {
+    // Held to the end.
+    let _closed = [stand_in(&rt)?, stand_in(&rt)?, stand_in(&rt)?];
     let mut source = StdSource::new(rt.stdin());
     let mut sink = StdSink::new(rt.stdout());
     let mut shelf = FolderShelf::new(rt.clone()?, rt.alloc());

@@ -1,11 +1,11 @@
 // Calls over one party on a shelf.
 ghost use Rattle.std.specs.Prelude.{◌≡◌};
 ghost use Rattle.party_state.specs.State.{begun};
-ghost use Rattle.x_party.specs.Dues.{IsDue, IsDueCompaction, IsDueCreation, IsDueShow};
+ghost use Rattle.x_party.specs.Dues.{IsDue, IsDueCompaction, IsDueCreation, IsDueShow, IsDueWiping};
 ghost use Rattle.x917.specs.Transfer.{IsQuiet};
 ghost use Rattle.x917.specs.Ends.{LeavesRest};
 ghost use Rattle.x917.specs.Dues.{Follows};
-ghost use Rattle.x917.specs.Obeys.{IsCompacting, IsCreation, IsListing, IsPartyTurn};
+ghost use Rattle.x917.specs.Obeys.{IsCompacting, IsCreation, IsListing, IsPartyTurn, IsWiping};
 
 use crate::finish::finish;
 use crate::status::Status;
@@ -57,6 +57,16 @@ pub fn compact<K: Sink, H: Shelf>(
     finish(sink, outcome, b"")
 }
 
+/// Wipes what doesn't count of a party's file. Nothing is written.
+pub fn wipe<K: Sink, H: Shelf>(alloc: Global, sink: &mut K, shelf: &mut H, party: &Ident) -> Status
+    ensures wiped { IsWiping (H.entry shelf.old party.now) (H.entry shelf.new party.now) result (K.written sink.old) (K.written sink.new) }
+    ensures follows { IsQuiet (K.faults sink.old) (K.faults sink.new) → IsQuiet (H.faults shelf.old) (H.faults shelf.new) → Follows (H.entry shelf.old party.now) IsDueWiping result }
+    ensures rest { LeavesRest party.now result (H.is_back shelf.new party.now) (sink.new ≡ sink.old) (H.entry shelf.old) (H.entry shelf.new) (K.faults sink.old) (K.faults sink.new) (H.faults shelf.old) (H.faults shelf.new) }
+{
+    let outcome = x_party::wipe(alloc, shelf, party);
+    finish(sink, outcome, b"")
+}
+
 /// A party's turn with a command or a message that arrived: its reply is written.
 pub fn turn<K: Sink, H: Shelf>(
     alloc: Global,
@@ -66,8 +76,8 @@ pub fn turn<K: Sink, H: Shelf>(
     input: Input,
     moment: u64,
 ) -> Status
-    ensures turned { IsPartyTurn input moment (H.entry shelf.old party.now) (H.entry shelf.new party.now) result (K.written sink.old) (K.written sink.new) }
-    ensures follows { IsQuiet (K.faults sink.old) (K.faults sink.new) → IsQuiet (H.faults shelf.old) (H.faults shelf.new) → Follows (H.entry shelf.old party.now) (IsDue input moment) result }
+    ensures turned { IsPartyTurn party.now input moment (H.entry shelf.old party.now) (H.entry shelf.new party.now) result (K.written sink.old) (K.written sink.new) }
+    ensures follows { IsQuiet (K.faults sink.old) (K.faults sink.new) → IsQuiet (H.faults shelf.old) (H.faults shelf.new) → Follows (H.entry shelf.old party.now) (IsDue party.now input moment) result }
     ensures rest { LeavesRest party.now result (H.is_back shelf.new party.now) (sink.new ≡ sink.old) (H.entry shelf.old) (H.entry shelf.new) (K.faults sink.old) (K.faults sink.new) (H.faults shelf.old) (H.faults shelf.new) }
 {
     let outcome = x_party::turn(alloc, shelf, party, input, moment);

@@ -4,10 +4,10 @@ ghost use Rattle.x917.specs.Lines.{read_number, refusal_text, line_of, exit_code
 
 use csm_grammar::ReadRefusal;
 use std::alloc::{AllocError, Global};
-use x_base::{NoMemory, Text, Verdict};
+use x_base::{Ident, NoMemory, Text, Verdict};
 use x_line::UsageKind;
 
-/// Why an input was refused.
+/// Why an input or a command was refused.
 #[derive(Clone, Copy, Debug, PartialEq, Eq)]
 pub enum Refusal {
     /// It was not read as a message. Never with the `NoMemory` of `ReadRefusal`.
@@ -16,6 +16,8 @@ pub enum Refusal {
     Trailing(u64),
     /// It is a message that isn't accepted.
     Decided(Verdict),
+    /// The command is for a party of the first identity, and on its disk stands one of the second.
+    OtherParty(Ident, Ident),
 }
 
 /// How a run ended.
@@ -77,6 +79,7 @@ fn refusal_text(alloc: Global, refusal: &Refusal) -> Result<String, AllocError>
             let number = verdict.number();
             format!(in alloc; "{number}")
         }
+        Refusal::OtherParty(_, _) => format!(in alloc; "42"),
     }
 }
 

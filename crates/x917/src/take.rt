@@ -45,9 +45,9 @@ pub fn take<S: Source, K: Sink, H: Shelf>(
     party: &Ident,
     moment: u64,
 ) -> Status
-    ensures taken { IsTaken moment (S.left source.old) (S.left source.new) (H.entry shelf.old party.now) (H.entry shelf.new party.now) result (K.written sink.old) (K.written sink.new) }
+    ensures taken { IsTaken party.now moment (S.left source.old) (S.left source.new) (H.entry shelf.old party.now) (H.entry shelf.new party.now) result (K.written sink.old) (K.written sink.new) }
     ensures follows { IsQuiet (S.faults source.old) (S.faults source.new) → IsQuiet (K.faults sink.old) (K.faults sink.new) → IsQuiet (H.faults shelf.old) (H.faults shelf.new)
-        → IfSome (S.left source.old) (λ all. FollowsBytes all (H.entry shelf.old party.now) moment result) }
+        → IfSome (S.left source.old) (λ all. FollowsBytes all party.now (H.entry shelf.old party.now) moment result) }
     ensures rest { LeavesRest party.now result (H.is_back shelf.new party.now) (sink.new ≡ sink.old) (H.entry shelf.old) (H.entry shelf.new) (K.faults sink.old) (K.faults sink.new) (H.faults shelf.old) (H.faults shelf.new) }
     ensures read_fault { result ≡ Status.ReadFault → Rose (S.faults source.old) (S.faults source.new) }
     ensures most { TookAtMost input_limit (S.left source.old) (S.left source.new) }

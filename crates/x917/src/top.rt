@@ -12,7 +12,7 @@ ghost use Rattle.x917.specs.Network.{IsNetworkEvent};
 
 use crate::check::check;
 use crate::drilling::drill_all;
-use crate::party::{compact, create, list, turn};
+use crate::party::{compact, create, list, turn, wipe};
 use crate::party_command::command_of;
 use crate::replaying::replay_all;
 use crate::status::Status;
@@ -53,6 +53,7 @@ fn obey<S: Source, K: Sink, H: Shelf>(
         } => create(alloc, sink, shelf, party, role, Gen { key, v }),
         Order::Show { party } => list(alloc, sink, shelf, &party),
         Order::Compact { party } => compact(alloc, sink, shelf, &party),
+        Order::Wipe { party } => wipe(alloc, sink, shelf, &party),
         Order::Take { party } => take(alloc, source, sink, shelf, &party, moment),
         _ => match command_of(order) {
             Some(given) => {
@@ -112,7 +113,8 @@ pub fn run<S: Source, K: Sink, H: Shelf>(
     ensures complete { (order : Order) → IsOrder words.now order → IsQuiet (S.faults source.old) (S.faults source.new) → IsQuiet (K.faults sink.old) (K.faults sink.new) → IsQuiet (H.faults shelf.old) (H.faults shelf.new)
         → Expects order moment (S.left source.old) (H.entry shelf.old) result }
 
-    // A call that opened a party is an event of a network at that one party, whole or cut off.
+    // A call that opened the party of its name is an event of a network at that one party, whole or cut off. Where another
+    // party lies under that name, a command or a message changes nothing, and a compaction is the event at that party.
     ensures network { (order : Order) → IsOrder words.now order → IsNetworkEvent order moment result (S.left source.old) (K.written sink.old) (K.written sink.new) (H.entry shelf.old) (H.entry shelf.new) }
 
     // Where the party answered, its disk is back on the shelf; the other disks stay, and a source that isn't read.

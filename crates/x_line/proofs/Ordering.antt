@@ -46,6 +46,7 @@ made kinds.Take rows = for_party rows order.Take
 made kinds.Purge rows = for_party rows order.Purge
 made kinds.Show rows = for_party rows order.Show
 made kinds.Compact rows = for_party rows order.Compact
+made kinds.Wipe rows = for_party rows order.Wipe
 made kinds.Resend rows = for_peer rows (λ p q. Some (order.Resend p q))
 made kinds.Drop rows = for_peer rows (λ p q. Some (order.Drop p q))
 made kinds.End rows = for_peer rows (λ p q. with (given key_name_of opt.Name rows) (λ n. Some (order.End p q n)))
@@ -64,6 +65,7 @@ made_is rows (order.Take p) h = rw h refl
 made_is rows (order.Purge p) h = rw h refl
 made_is rows (order.Show p) h = rw h refl
 made_is rows (order.Compact p) h = rw h refl
+made_is rows (order.Wipe p) h = rw h refl
 made_is rows (order.Resend p q) h = rw (h.0, h.1) refl
 made_is rows (order.Drop p q) h = rw (h.0, h.1) refl
 made_is rows (order.End p q n) h = rw (h.0, h.1, h.2) refl
@@ -131,6 +133,7 @@ has_made kinds.Take rows h = let p = first (given ident_of opt.Party rows) _ h i
 has_made kinds.Purge rows h = let p = first (given ident_of opt.Party rows) _ h in (order.Purge p.value, refl, p.is)
 has_made kinds.Show rows h = let p = first (given ident_of opt.Party rows) _ h in (order.Show p.value, refl, p.is)
 has_made kinds.Compact rows h = let p = first (given ident_of opt.Party rows) _ h in (order.Compact p.value, refl, p.is)
+has_made kinds.Wipe rows h = let p = first (given ident_of opt.Party rows) _ h in (order.Wipe p.value, refl, p.is)
 has_made kinds.Resend rows h =
     let p = first (given ident_of opt.Party rows) _ h in
     let q = first (given ident_of opt.Peer rows) _ p.more in

@@ -7,8 +7,8 @@ use Rattle.x_line.specs.declared.order_kind.OrderKind.TheVariants as kinds
 abbrev pub order_kinds : List OrderKind
 order_kinds = kinds.Check ∷ kinds.Replay ∷ kinds.Init ∷ kinds.Load ∷ kinds.Start
     ∷ kinds.StartKk ∷ kinds.Ask ∷ kinds.Translate ∷ kinds.Take ∷ kinds.Purge
-    ∷ kinds.Show ∷ kinds.Compact ∷ kinds.Resend ∷ kinds.Drop ∷ kinds.End
-    ∷ kinds.Drill ∷ []
+    ∷ kinds.Show ∷ kinds.Compact ∷ kinds.Wipe ∷ kinds.Resend ∷ kinds.Drop
+    ∷ kinds.End ∷ kinds.Drill ∷ []
 
 abbrev pub name_of_kind : OrderKind → List ℕ
 name_of_kind kinds.Check = codes "check"
@@ -23,6 +23,7 @@ name_of_kind kinds.Take = codes "take"
 name_of_kind kinds.Purge = codes "purge"
 name_of_kind kinds.Show = codes "show"
 name_of_kind kinds.Compact = codes "compact"
+name_of_kind kinds.Wipe = codes "wipe"
 name_of_kind kinds.Resend = codes "resend"
 name_of_kind kinds.Drop = codes "drop"
 name_of_kind kinds.End = codes "end"

@@ -31,6 +31,7 @@ kind_of (order.Take party) = kinds.Take
 kind_of (order.Purge party) = kinds.Purge
 kind_of (order.Show party) = kinds.Show
 kind_of (order.Compact party) = kinds.Compact
+kind_of (order.Wipe party) = kinds.Wipe
 kind_of (order.Resend party peer) = kinds.Resend
 kind_of (order.Drop party peer) = kinds.Drop
 kind_of (order.End party peer name) = kinds.End
@@ -63,6 +64,7 @@ HasValues rows (order.Take party) = given ident_of opt.Party rows ≡ Some party
 HasValues rows (order.Purge party) = given ident_of opt.Party rows ≡ Some party
 HasValues rows (order.Show party) = given ident_of opt.Party rows ≡ Some party
 HasValues rows (order.Compact party) = given ident_of opt.Party rows ≡ Some party
+HasValues rows (order.Wipe party) = given ident_of opt.Party rows ≡ Some party
 HasValues rows (order.Resend party peer) =
     (given ident_of opt.Party rows ≡ Some party) × (given ident_of opt.Peer rows ≡ Some peer)
 HasValues rows (order.Drop party peer) =

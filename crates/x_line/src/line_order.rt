@@ -109,6 +109,7 @@ pub(crate) fn order_of(kind: OrderKind, line: &Line<'_>) -> Option<Order>
         OrderKind::Purge => Some(Order::Purge { party: party? }),
         OrderKind::Show => Some(Order::Show { party: party? }),
         OrderKind::Compact => Some(Order::Compact { party: party? }),
+        OrderKind::Wipe => Some(Order::Wipe { party: party? }),
         OrderKind::Resend => Some(Order::Resend {
             party: party?,
             peer: peer?,

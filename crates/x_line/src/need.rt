@@ -31,7 +31,11 @@ impl OrderKind {
             (OrderKind::Ask, Opt::Ultimate) => Need::Optional,
             (OrderKind::Translate, Opt::Party | Opt::Peer | Opt::Ultimate) => Need::Required,
             (
-                OrderKind::Take | OrderKind::Purge | OrderKind::Show | OrderKind::Compact,
+                OrderKind::Take
+                | OrderKind::Purge
+                | OrderKind::Show
+                | OrderKind::Compact
+                | OrderKind::Wipe,
                 Opt::Party,
             ) => { Need::Required }
             (OrderKind::Resend | OrderKind::Drop, Opt::Party | Opt::Peer) => Need::Required,

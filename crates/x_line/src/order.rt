@@ -76,6 +76,10 @@ pub enum Order {
     Compact {
         party: Ident,
     },
+    /// Overwrite what doesn't count of the party's file with zeros.
+    Wipe {
+        party: Ident,
+    },
     /// Write the last message to a peer again.
     Resend {
         party: Ident,

@@ -16,13 +16,14 @@ pub(crate) enum OrderKind {
     Purge,
     Show,
     Compact,
+    Wipe,
     Resend,
     Drop,
     End,
     Drill,
 }
 
-const ORDER_KINDS: [OrderKind; 16] = [
+const ORDER_KINDS: [OrderKind; 17] = [
     OrderKind::Check,
     OrderKind::Replay,
     OrderKind::Init,
@@ -35,6 +36,7 @@ const ORDER_KINDS: [OrderKind; 16] = [
     OrderKind::Purge,
     OrderKind::Show,
     OrderKind::Compact,
+    OrderKind::Wipe,
     OrderKind::Resend,
     OrderKind::Drop,
     OrderKind::End,
@@ -58,6 +60,7 @@ impl OrderKind {
             OrderKind::Purge => "purge",
             OrderKind::Show => "show",
             OrderKind::Compact => "compact",
+            OrderKind::Wipe => "wipe",
             OrderKind::Resend => "resend",
             OrderKind::Drop => "drop",
             OrderKind::End => "end",

@@ -150,6 +150,7 @@ fn orders_are_read(rt: HostRuntime) -> Result<(), Fail> {
         ("-- check", Order::Check),
         ("--party BANKA take", Order::Take { party }),
         ("show --party=BANKA", Order::Show { party }),
+        ("wipe --party BANKA", Order::Wipe { party }),
         (
             "drop --peer CKDX --party BANKA",
             Order::Drop { party, peer },

@@ -1,7 +1,7 @@
 // Parties on a shelf in memory.
 use super::texts::{DSM, ENDED, ESM, KSM, PLAIN_ESM, RSM, START};
 use super::{Answer, called_over};
-use crate::status::{Status, exit_code};
+use crate::status::{Refusal, Status, exit_code};
 use std::alloc::{AllocError, Global};
 use std::test::Fail;
 use x_base::{Ident, NoMemory, Text, Words};
@@ -382,12 +382,22 @@ fn shelf_with(alloc: Global, party: &str, image: &[u8]) -> Result<MemoryShelf, D
     Ok(shelf)
 }
 
-/// A shelf on which a party's disk holds so many pieces of its image.
-pub(crate) fn standing(alloc: Global, party: &str, pieces: usize) -> Result<MemoryShelf, DiskErr> {
+/// A shelf on which under a name so many pieces of a party's image lie.
+fn standing_as(
+    alloc: Global,
+    name: &str,
+    party: &str,
+    pieces: usize,
+) -> Result<MemoryShelf, DiskErr> {
     let Ok(image) = hex::decode(alloc, image_of(alloc, party, pieces)?) else {
         return Err(DiskErr::NoMemory);
     };
-    shelf_with(alloc, party, &image)
+    shelf_with(alloc, name, &image)
+}
+
+/// A shelf on which a party's disk holds so many pieces of its image.
+pub(crate) fn standing(alloc: Global, party: &str, pieces: usize) -> Result<MemoryShelf, DiskErr> {
+    standing_as(alloc, party, party, pieces)
 }
 
 #[test]
@@ -450,5 +460,103 @@ fn damage_is_told_with_its_place(rt: HostRuntime) -> Result<(), Fail> {
     let mut shelf = shelf_with(alloc, "BANKA", &image)?;
     assert_eq!(rt; wrong_step(alloc, &mut shelf, &DAMAGED)?, None);
     assert_eq!(rt; exit_code(&Status::Damaged(2)), 6);
+    Ok(())
+}
+
+const COPY_SHOWN: &str =
+    "PARTY BANKA BANK\nLINK BANKB K1 OUT 2 READY\nKEY BANKB BANKA.BANKA.K1.1 PENDING\nEXCHANGE BANKB KEYSENT BANKA.BANKA.K1.1\n";
+
+const OTHER: &str = "x917: refused 42\n";
+
+/// BANKA's file under another name is shown and compacted, and neither obeys a command nor takes a message.
+const COPIED: [Step; 15] = [
+    ("show --party COPY", "", COPY_SHOWN, ""),
+    ("compact --party COPY", "", "", ""),
+    ("purge --party COPY", "", "", OTHER),
+    ("start --party COPY --peer BANKB", "", "", OTHER),
+    ("resend --party COPY --peer BANKB", "", "", OTHER),
+    ("drop --party COPY --peer BANKB", "", "", OTHER),
+    (
+        "load --party COPY --peer BANKC --label K1 --side out --key 0123456789ABCDE1FEDCBA987654321E",
+        "",
+        "",
+        OTHER,
+    ),
+    ("ask --party COPY --peer BANKB", "", "", OTHER),
+    ("startkk --party COPY --peer BANKB --new K2", "", "", OTHER),
+    (
+        "translate --party COPY --peer BANKB --ultimate BANKC",
+        "",
+        "",
+        OTHER,
+    ),
+    (
+        "end --party COPY --peer BANKB --name BANKA.BANKA.K1.1",
+        "",
+        "",
+        OTHER,
+    ),
+    ("take --party COPY", RSM, "", OTHER),
+    ("take --party COPY", "CSM(", "", "x917: refused 7 at 4\n"),
+    (
+        "init --party COPY --role bank --genkey 0123456789ABCDEFFEDCBA9876543210 --genseed 0000000000000001",
+        "",
+        "",
+        "x917: refused 18\n",
+    ),
+    ("show --party COPY", "", COPY_SHOWN, ""),
+];
+
+#[test]
+fn another_partys_file_is_not_served(rt: HostRuntime) -> Result<(), Fail> {
+    let alloc = rt.alloc();
+    let mut shelf = standing_as(alloc, "COPY", "BANKA", 4)?;
+    assert_eq!(rt; wrong_step(alloc, &mut shelf, &COPIED)?, None);
+    let name = Ident::read(b"COPY")?;
+    let own = Ident::read(b"BANKA")?;
+    let status = Status::Refused(Refusal::OtherParty(name, own));
+    assert_eq!(rt; exit_code(&status), 1);
+    Ok(())
+}
+
+/// An ended key is purged, and its bytes are overwritten.
+const WIPED: [Step; 5] = [
+    ("compact --party BANKA", "", "", ""),
+    ("wipe --party BANKA", "", "", ""),
+    (
+        "show --party BANKA",
+        "",
+        "PARTY BANKA BANK\nLINK BANKB K1 OUT 2 READY\n",
+        "",
+    ),
+    ("wipe --party BANKA", "", "", ""),
+    ("wipe --party BANKC", "", "", "x917: refused 37\n"),
+];
+
+/// Whether the first area of a party's file is zero.
+fn is_first_area_zero(
+    alloc: Global,
+    shelf: &mut MemoryShelf,
+    party: &str,
+) -> Result<bool, DiskErr> {
+    let Ok(name) = Ident::read(party.as_bytes()) else {
+        return Ok(false);
+    };
+    let mut disk = shelf.fetch(&name)?;
+    let length = disk.length()? as usize;
+    let mut image = vec![in alloc; 0u8; length]?;
+    disk.read(0, &mut image)?;
+    shelf.put_back(&name, disk)?;
+    let area = image.iter().skip(16).take(8_388_600);
+    Ok(area.copied().max() == Some(0))
+}
+
+#[test]
+fn what_a_party_no_longer_has_is_wiped(rt: HostRuntime) -> Result<(), Fail> {
+    let alloc = rt.alloc();
+    let mut shelf = standing(alloc, "BANKA", 8)?;
+    assert!(rt; !is_first_area_zero(alloc, &mut shelf, "BANKA")?);
+    assert_eq!(rt; wrong_step(alloc, &mut shelf, &WIPED)?, None);
+    assert!(rt; is_first_area_zero(alloc, &mut shelf, "BANKA")?);
     Ok(())
 }

@@ -7,7 +7,7 @@ pub returns-clause-follows : goal.returns-clause-follows
 returns-clause-follows g c = λ put_quiet disk_quiet.
     follows c.turn-outcome.result (10 ∷ []) c.finish.result (g.K.Sink.written c.args.sink.now) (g.K.Sink.written c.finish.new.sink)
     (g.K.Sink.faults c.args.sink.now) (g.K.Sink.faults c.finish.new.sink) (g.H.Shelf.faults c.args.shelf.now) (g.H.Shelf.faults c.turn-outcome.new.shelf)
-    c.finish.ensures.ends c.finish.ensures.write_fault (g.H.Shelf.entry c.args.shelf.now c.args.party.now) (IsDue c.args.input c.args.moment)
+    c.finish.ensures.ends c.finish.ensures.write_fault (g.H.Shelf.entry c.args.shelf.now c.args.party.now) (IsDue c.args.party.now c.args.input c.args.moment)
     c.turn-outcome.ensures.due c.turn-outcome.ensures.shelf.fault put_quiet disk_quiet
 
 pub returns-clause-rest : goal.returns-clause-rest

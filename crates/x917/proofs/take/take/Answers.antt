@@ -7,12 +7,12 @@ returns-in-Ok-clause-taken g c = inr (c.in-Ok.arrival, c.in-Ok.ensures.heard, c.
 
 pub returns-in-Ok-clause-follows : goal.returns-in-Ok-clause-follows
 returns-in-Ok-clause-follows g c = λ read_quiet put_quiet disk_quiet.
-    follows_heard c.law_one_hearing.ensures (g.S.Source.left c.args.source.now) (g.S.Source.left c.listen.new.source) (g.H.Shelf.entry c.args.shelf.now c.args.party.now)
+    follows_heard c.law_one_hearing.ensures (g.S.Source.left c.args.source.now) (g.S.Source.left c.listen.new.source) c.args.party.now (g.H.Shelf.entry c.args.shelf.now c.args.party.now)
     c.args.moment c.turn.result c.in-Ok.arrival c.in-Ok.ensures.heard (c.turn.ensures.follows put_quiet disk_quiet)
 
 pub returns-in-Err-clause-follows : goal.returns-in-Err-clause-follows
 returns-in-Err-clause-follows g c = λ read_quiet put_quiet disk_quiet.
-    follows_unheard c.law_one_hearing.ensures (g.S.Source.left c.args.source.now) (g.H.Shelf.entry c.args.shelf.now c.args.party.now) c.args.moment c.in-Err.status
+    follows_unheard c.law_one_hearing.ensures (g.S.Source.left c.args.source.now) c.args.party.now (g.H.Shelf.entry c.args.shelf.now c.args.party.now) c.args.moment c.in-Err.status
     (g.S.Source.faults c.args.source.now) (g.S.Source.faults c.listen.new.source) c.in-Err.ensures.unheard c.in-Err.ensures.read_fault read_quiet
 
 pub returns-in-Err-clause-rest : goal.returns-in-Err-clause-rest

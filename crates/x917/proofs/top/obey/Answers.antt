@@ -65,6 +65,24 @@ returns-in-Compact-clause-expects g c = λ read_quiet put_quiet disk_quiet.
     subst (λ (o : Order). Expects o c.args.moment (g.S.Source.left c.args.source.now) (g.H.Shelf.entry c.args.shelf.now) c.compact.result) (sym c.in-Compact.is)
     (c.compact.ensures.follows put_quiet disk_quiet)
 
+pub returns-in-Wipe-clause-others : goal.returns-in-Wipe-clause-others
+returns-in-Wipe-clause-others g c =
+    leaves_one c.args.order c.in-Wipe.party c.wipe.result (g.H.Shelf.is_back c.wipe.new.shelf) (c.args.source.now ≡ c.args.source.now) (c.wipe.new.sink ≡ c.args.sink.now)
+    (g.H.Shelf.entry c.args.shelf.now) (g.H.Shelf.entry c.wipe.new.shelf) (g.K.Sink.faults c.args.sink.now) (g.K.Sink.faults c.wipe.new.sink)
+    (g.H.Shelf.faults c.args.shelf.now) (g.H.Shelf.faults c.wipe.new.shelf) (ap party_of c.in-Wipe.is) c.wipe.ensures.rest (λ reading. refl)
+
+pub returns-in-Wipe-clause-cause : goal.returns-in-Wipe-clause-cause
+returns-in-Wipe-clause-cause g c =
+    let reads = g.S.Source.faults c.args.source.now in
+    let done = c.wipe.ensures.wiped in
+    cause_ended reads reads (g.K.Sink.faults c.args.sink.now) (g.K.Sink.faults c.wipe.new.sink) (g.H.Shelf.faults c.args.shelf.now) (g.H.Shelf.faults c.wipe.new.shelf)
+    done.outcome [] c.wipe.result (g.K.Sink.written c.args.sink.now) (g.K.Sink.written c.wipe.new.sink) done.ends c.wipe.ensures.rest.write_fault c.wipe.ensures.rest.disk_fault
+
+pub returns-in-Wipe-clause-expects : goal.returns-in-Wipe-clause-expects
+returns-in-Wipe-clause-expects g c = λ read_quiet put_quiet disk_quiet.
+    subst (λ (o : Order). Expects o c.args.moment (g.S.Source.left c.args.source.now) (g.H.Shelf.entry c.args.shelf.now) c.wipe.result) (sym c.in-Wipe.is)
+    (c.wipe.ensures.follows put_quiet disk_quiet)
+
 pub returns-in-Take-clause-others : goal.returns-in-Take-clause-others
 returns-in-Take-clause-others g c =
     leaves_one c.args.order c.in-Take.party c.take.result (g.H.Shelf.is_back c.take.new.shelf) (c.take.new.source ≡ c.args.source.now) (c.take.new.sink ≡ c.args.sink.now)
@@ -75,7 +93,7 @@ pub returns-in-Take-clause-cause : goal.returns-in-Take-clause-cause
 returns-in-Take-clause-cause g c =
     let rest = c.take.ensures.rest in
     cause_taken (g.S.Source.faults c.args.source.now) (g.S.Source.faults c.take.new.source) (g.K.Sink.faults c.args.sink.now) (g.K.Sink.faults c.take.new.sink)
-    (g.H.Shelf.faults c.args.shelf.now) (g.H.Shelf.faults c.take.new.shelf) c.args.moment (g.S.Source.left c.args.source.now) (g.S.Source.left c.take.new.source)
+    (g.H.Shelf.faults c.args.shelf.now) (g.H.Shelf.faults c.take.new.shelf) c.in-Take.party c.args.moment (g.S.Source.left c.args.source.now) (g.S.Source.left c.take.new.source)
     (g.H.Shelf.entry c.args.shelf.now c.in-Take.party) (g.H.Shelf.entry c.take.new.shelf c.in-Take.party) c.take.result (g.K.Sink.written c.args.sink.now) (g.K.Sink.written c.take.new.sink)
     c.take.ensures.taken c.take.ensures.read_fault rest.write_fault rest.disk_fault
 
