@@ -11,7 +11,7 @@ fn lines_of(alloc: Global, name: &Ident, shelf: &mut MemoryShelf) -> Result<Opti
         Outcome::Done { reply, .. } => Ok(reply),
         Outcome::Refused { .. } => Ok(None),
         Outcome::NoMemory => Err(DiskErr::NoMemory),
-        Outcome::Damaged(_) | Outcome::Fault => Err(DiskErr::Fault),
+        Outcome::OtherParty(_, _) | Outcome::Damaged(_) | Outcome::Fault => Err(DiskErr::Fault),
     }
 }
 
