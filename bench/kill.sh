@@ -273,6 +273,9 @@ keep
 subject end BANKA 'end --party BANKA --peer BANKB --name BANKA.BANKA.K1.1'
 keep
 subject compact BANKA 'compact --party BANKA' stays
+keep
+subject wipe BANKA 'wipe --party BANKA' stays
+keep
 one=0123456789ABCDEDFEDCBA9876543212
 other=0123456789ABCDEBFEDCBA9876543214
 words="init --party CKDX --role distribution --genkey $pair --genseed 0000000000000003"

@@ -109,6 +109,7 @@ each answer BANKA ../request take --party BANKA
 each centre_ksm BANKB ../answer take --party BANKB
 each centre_rsm BANKA ../centre_ksm take --party BANKA
 each compact BANKA /dev/null compact --party BANKA
+each wipe BANKA /dev/null wipe --party BANKA
 each drill - /dev/null drill --seed 7 --events 3
 party=BANKA
 shown | tail -n 2
