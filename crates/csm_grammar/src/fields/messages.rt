@@ -217,8 +217,17 @@ impl Fields<'_> {
         })
     }
 
-    /// The message of the form. Never inlined: the reader is faster so.
+    // A function of its own, so that the other messages don't pay for its locals.
     #[inline(never)]
+    fn two_keys(&self, alloc: Global) -> Result<Message, NoMemory>
+        requires present { ArePresent self.now.slots F13 }
+        requires second { IsSome (second_value self.now.slots) }
+        ensures { IfOk result (IsBuilt self.now.slots F13) }
+    {
+        Ok(self.ksm_with_two_keys(self.extras(alloc)?))
+    }
+
+    /// The message of the form.
     pub fn message(&self, alloc: Global, form: Form) -> Result<Message, NoMemory>
         requires present { ArePresent self.now.slots form }
         requires second { IsSecondPresent self.now.slots form }
@@ -233,7 +242,7 @@ impl Fields<'_> {
             Form::F6 => Ok(self.ksm_with_pair(self.extras(alloc)?)),
             Form::F7 => Ok(self.ksm_with_key(self.extras(alloc)?)),
             Form::F8 => Ok(self.ksm_of_centre(self.extras(alloc)?)),
-            Form::F13 => Ok(self.ksm_with_two_keys(self.extras(alloc)?)),
+            Form::F13 => self.two_keys(alloc),
             Form::F9 => Ok(self.rsm(self.extras(alloc)?)),
             Form::F10 => Ok(self.ers(self.reason(alloc)?)),
             Form::F11 => Ok(self.esm(self.reason(alloc)?)),
