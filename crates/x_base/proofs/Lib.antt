@@ -3,3 +3,4 @@ pub mod Expanding
 pub mod Naming
 pub mod Spelling
 pub mod Splitting
+mod Pieces

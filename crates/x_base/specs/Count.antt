@@ -2,10 +2,14 @@
 use Rattle.std.specs.Prelude.{ℕ, ◌≤◌, ◌≢◌, List, length}
 use Rattle.std.specs.Str.Parse.{digits_value, AllDigits}
 
+-- the highest count
+abbrev pub count_limit : ℕ
+count_limit = 99999999999999
+
 -- from 1 to the limit
 pub record IsCount (n : ℕ) : Type 0 where
   pub low : 1 ≤ n
-  pub high : n ≤ 99999999999999
+  pub high : n ≤ count_limit
 
 -- 1 to 14 digits, not all of them zero
 pub record SpellsCount (bytes : List ℕ) : Type 0 where

@@ -21,7 +21,7 @@ pub use ident::{BadIdent, Ident};
 pub use key_name::{FullName, KeyName, NameFault};
 pub use label::{BadLabel, Label};
 pub use party::{Role, Side};
-pub use sink::{MemorySink, Sink, SinkFault, StdSink};
+pub use sink::{MemorySink, Sink, SinkFault, StdSink, put_all};
 pub use source::{MemorySource, Source, SourceFault, StdSource};
 pub use text::{NoMemory, Text};
 pub use verdict::Verdict;

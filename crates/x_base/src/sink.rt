@@ -1,6 +1,6 @@
-ghost use Rattle.std.specs.Prelude.{◌≡◌, ◌≤◌, ◌<◌, ℕ, List, [], Option, Some, None, length, take, IfOk, OnErr, min, ◌-◌, is_ok, not, ◌||◌, ◌&&◌, ◌==◌, nat_lt, if◌then◌else◌};
-ghost use Rattle.x_base.specs.Edge.{Rose, AppendsTo};
-ghost use Rattle.x_base.specs.Memory.{is_due, next_number};
+ghost use Rattle.std.specs.Prelude.{◌≡◌, ◌≤◌, ℕ, List, [], Option, Some, None, length, IfOk, OnOk, OnErr};
+ghost use Rattle.x_base.specs.Edge.{Rose, AppendsTo, WrotePrefix, IsPut};
+ghost use Rattle.x_base.specs.Memory.{IsPutOf};
 
 use crate::due::is_due;
 use crate::text::NoMemory;
@@ -25,17 +25,12 @@ pub trait Sink {
     /// Appends a prefix of the piece, and answers its length; of a piece that isn't empty at least
     /// one byte.
     fn put(&mut self, piece: &[u8]) -> Result<usize, SinkFault>
-        ensures bound { IfOk result (λ n. n ≤ length piece.now) }
-        ensures moves { 0 < length piece.now → IfOk result (λ n. 0 < n) }
-        ensures appends { IfOk result (λ n. AppendsTo (written self.old) (written self.new) (take n piece.now)) }
-        ensures fault { OnErr result (Rose (faults self.old) (faults self.new)) }
-        ensures kept { OnErr result (written self.new ≡ written self.old) }
-        ensures climbs { faults self.old ≤ faults self.new };
+        ensures { IsPut piece.now result (written self.old) (written self.new) (faults self.old) (faults self.new) };
 }
 
 /// A sink in memory of a fixed size, which shows what was written. It fails at the calls that it is
 /// made with, and where no room is left.
-#[derive(Debug, Drop)]
+#[derive(Drop)]
 pub struct MemorySink {
     bytes: Vec<u8>,
     room: usize,
@@ -84,23 +79,10 @@ impl Sink for MemorySink {
 
     ghost faults = { λ s. s.faults };
 
-    // The first six clauses are the trait's.
+    // The first clause is the trait's.
     fn put(&mut self, piece: &[u8]) -> Result<usize, SinkFault>
-        ensures bound { IfOk result (λ n. n ≤ length piece.now) }
-        ensures moves { 0 < length piece.now → IfOk result (λ n. 0 < n) }
-        ensures appends { IfOk result (λ n. AppendsTo (Some self.old.written) (Some self.new.written) (take n piece.now)) }
-        ensures fault { OnErr result (Rose self.old.faults self.new.faults) }
-        ensures kept { OnErr result (Some self.new.written ≡ Some self.old.written) }
-        ensures climbs { self.old.faults ≤ self.new.faults }
-
-        // It takes all that fits, and fails at the calls that are due and where nothing fits alone.
-        ensures fits { IfOk result (λ n. n ≡ min (length piece.now) (self.old.room - length self.old.written)) }
-        ensures due { is_ok result ≡ not (is_due self.new.calls self.old.fails
-            || (nat_lt 0 (length piece.now) && self.old.room == length self.old.written)) }
-        ensures called { self.new.calls ≡ next_number self.old.calls }
-        ensures counted { self.new.faults ≡ (if is_ok result then self.old.faults else next_number self.old.faults) }
-        ensures same_fails { self.new.fails ≡ self.old.fails }
-        ensures same_room { self.new.room ≡ self.old.room }
+        ensures put { IsPut piece.now result (Some self.old.written) (Some self.new.written) self.old.faults self.new.faults }
+        ensures memory { IsPutOf self.old self.new (length piece.now) result }
     {
         self.calls = self.calls.saturating_add(1);
         let call = self.calls;
@@ -152,4 +134,19 @@ impl<W: Write> Sink for StdSink<W> {
             }
         }
     }
+}
+
+/// Puts the whole text.
+pub fn put_all<K: Sink>(sink: &mut K, text: &[u8]) -> Result<(), SinkFault>
+    ensures whole { OnOk result (AppendsTo (K.written sink.old) (K.written sink.new) text.now) }
+    ensures part { OnErr result (WrotePrefix (K.written sink.old) (K.written sink.new) text.now) }
+    ensures fault { OnErr result (Rose (K.faults sink.old) (K.faults sink.new)) }
+    ensures later { K.faults sink.old ≤ K.faults sink.new }
+{
+    let mut at = 0;
+    while at < text.len() {
+        let n = sink.put(&text[at..])?;
+        at += n;
+    }
+    Ok(())
 }

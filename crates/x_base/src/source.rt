@@ -1,6 +1,6 @@
-ghost use Rattle.std.specs.Prelude.{◌≡◌, ◌≤◌, ◌<◌, ℕ, List, Option, Some, None, length, IfOk, OnErr, min, is_ok, not, if◌then◌else◌};
-ghost use Rattle.x_base.specs.Edge.{Rose, TakesFront};
-ghost use Rattle.x_base.specs.Memory.{is_due, next_number};
+ghost use Rattle.std.specs.Prelude.{◌≡◌, ◌<◌, ℕ, List, Option, Some, None, length};
+ghost use Rattle.x_base.specs.Edge.{IsTake};
+ghost use Rattle.x_base.specs.Memory.{IsTakeOf};
 
 use crate::due::is_due;
 use crate::text::Text;
@@ -25,15 +25,11 @@ pub trait Source {
     /// the end.
     fn take(&mut self, buf: &mut [u8]) -> Result<usize, SourceFault>
         requires { 0 < length buf.old }
-        ensures bound { IfOk result (λ n. n ≤ length buf.new) }
-        ensures front { IfOk result (λ n. TakesFront (left self.old) (left self.new) n buf.new) }
-        ensures fault { OnErr result (Rose (faults self.old) (faults self.new)) }
-        ensures kept { OnErr result (left self.new ≡ left self.old) }
-        ensures climbs { faults self.old ≤ faults self.new };
+        ensures { IsTake buf.new result (left self.old) (left self.new) (faults self.old) (faults self.new) };
 }
 
 /// A source of bytes in memory, which it shows. It fails at the calls that it is made with.
-#[derive(Debug, Drop)]
+#[derive(Drop)]
 pub struct MemorySource {
     bytes: Text,
     at: usize,
@@ -73,21 +69,11 @@ impl Source for MemorySource {
 
     ghost faults = { λ s. s.faults };
 
-    // The first five clauses are the trait's.
+    // The first clause is the trait's.
     fn take(&mut self, buf: &mut [u8]) -> Result<usize, SourceFault>
         requires { 0 < length buf.old }
-        ensures bound { IfOk result (λ n. n ≤ length buf.new) }
-        ensures front { IfOk result (λ n. TakesFront (Some self.old.left) (Some self.new.left) n buf.new) }
-        ensures fault { OnErr result (Rose self.old.faults self.new.faults) }
-        ensures kept { OnErr result (Some self.new.left ≡ Some self.old.left) }
-        ensures climbs { self.old.faults ≤ self.new.faults }
-
-        // It gives all that the buffer can hold, and fails at the calls that are due alone.
-        ensures whole { IfOk result (λ n. n ≡ min (length self.old.left) (length buf.old)) }
-        ensures due { is_ok result ≡ not (is_due self.new.calls self.old.fails) }
-        ensures called { self.new.calls ≡ next_number self.old.calls }
-        ensures counted { self.new.faults ≡ (if is_ok result then self.old.faults else next_number self.old.faults) }
-        ensures same { self.new.fails ≡ self.old.fails }
+        ensures take { IsTake buf.new result (Some self.old.left) (Some self.new.left) self.old.faults self.new.faults }
+        ensures memory { IsTakeOf self.old self.new (length buf.old) result }
     {
         self.calls = self.calls.saturating_add(1);
         let call = self.calls;

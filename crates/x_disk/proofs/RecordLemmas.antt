@@ -4,7 +4,7 @@ use Rattle.std.proofs.lemmas.List.{take_all, drop_all, take-append-le, drop-appe
 use Rattle.x_disk.specs.Disk.{overwrite}
 use Rattle.x_disk.specs.History.{Step, Write, Sync, PowerOff, State, state_of, after_step, all_bytes, left_by}
 use Rattle.x_disk.specs.HistoryLaw.{replay-push, length-overwrite}
-use Rattle.x_disk.specs.Record.{steps_of, lengths, ranges_of, written, Represents, IsApplied}
+use Rattle.x_disk.specs.Record.{steps_of, lengths, ranges_of, written, IsMadeUpTo, Represents, IsApplied}
 use Rattle.x_disk.specs.declared.disk_record.Entry.{Entry}
 use Rattle.x_disk.specs.declared.disk_record.Entry.TheVariants as E
 
@@ -87,17 +87,60 @@ written-sync (E.Write a len ∷ entries) payload image = written-sync entries (d
 written-sync (E.Sync ∷ entries) payload image = written-sync entries payload image
 written-sync (E.PowerOff choice ∷ entries) payload image = written-sync entries payload image
 
+-- an image that is made up is so behind one write more
+made_write : (image : List ℕ) (entries : List Entry) (payload : List ℕ) (n m at : ℕ) (new : List ℕ) → lengths entries ≡ length payload → IsMadeUpTo image entries payload n m
+    → IsMadeUpTo image (entries ++ E.Write at (length new) ∷ []) (payload ++ new) n m
+made_write image entries payload n m at new size kept =
+    let state : state_of (steps_of (entries ++ E.Write at (length new) ∷ []) (payload ++ new)) ≡ after_step (Write at new) (state_of (steps_of entries payload)) =
+    ap state_of (steps-push entries payload at new size) ∙ replay-push (steps_of entries payload) (Write at new) blank in
+    let rest = drop n entries in
+    let left = drop m payload in
+    let rest_is : drop n (entries ++ E.Write at (length new) ∷ []) ≡ rest ++ E.Write at (length new) ∷ [] = drop-append-le n entries (E.Write at (length new) ∷ []) kept.entries_in in
+    let left_is : drop m (payload ++ new) ≡ left ++ new = drop-append-le m payload new kept.bytes_in in
+    record {
+      entries_in = omega (arith, kept.entries_in, length-append entries (E.Write at (length new) ∷ []));
+      bytes_in = omega (arith, kept.bytes_in, length-append payload new);
+      rest = ap lengths rest_is ∙ lengths-append rest (E.Write at (length new) ∷ []) ∙ omega (arith, kept.rest, length-append left new) ∙ ap (λ (l : List ℕ). length l) (sym left_is);
+      now_made =
+          ap (λ (l : List Entry). written l (drop m (payload ++ new)) image) rest_is ∙ ap (λ (l : List ℕ). written (rest ++ E.Write at (length new) ∷ []) l image) left_is
+          ∙ written-push rest left at new image kept.rest ∙ ap (λ (l : List ℕ). overwrite at new l) kept.now_made ∙ ap (λ (s : State). s.now) (sym state);
+    }
+
+-- and behind a sync
+made_sync : (image : List ℕ) (entries : List Entry) (payload : List ℕ) (n m : ℕ) → IsMadeUpTo image entries payload n m → IsMadeUpTo image (entries ++ E.Sync ∷ []) payload n m
+made_sync image entries payload n m kept =
+    let state : state_of (steps_of (entries ++ E.Sync ∷ []) payload) ≡ after_step Sync (state_of (steps_of entries payload)) =
+    ap state_of (steps-sync entries payload) ∙ replay-push (steps_of entries payload) Sync blank in
+    let rest = drop n entries in
+    let rest_is : drop n (entries ++ E.Sync ∷ []) ≡ rest ++ E.Sync ∷ [] = drop-append-le n entries (E.Sync ∷ []) kept.entries_in in
+    record {
+      entries_in = omega (arith, kept.entries_in, length-append entries (E.Sync ∷ []));
+      bytes_in = kept.bytes_in;
+      rest = ap lengths rest_is ∙ lengths-append rest (E.Sync ∷ []) ∙ omega (arith, kept.rest);
+      now_made = ap (λ (l : List Entry). written l (drop m payload) image) rest_is ∙ written-sync rest (drop m payload) image ∙ kept.now_made ∙ ap (λ (s : State). s.now) (sym state);
+    }
+
+-- an image with everything in it
+pub made_all : (image : List ℕ) (entries : List Entry) (payload : List ℕ) → image ≡ (state_of (steps_of entries payload)).now → IsMadeUpTo image entries payload (length entries) (length payload)
+made_all image entries payload is =
+    let none : drop (length entries) entries ≡ [] = drop_all (length entries) entries (omega arith) in
+    let over : drop (length payload) payload ≡ [] = drop_all (length payload) payload (omega arith) in
+    record {
+      entries_in = omega arith;
+      bytes_in = omega arith;
+      rest = ap lengths none ∙ ap (λ (l : List ℕ). length l) (sym over);
+      now_made = ap (λ (l : List Entry). written l (drop (length payload) payload) image) none ∙ is;
+    }
+
 pub represents_write : (entries : List Entry) (payload : List ℕ) (first : ℕ) (base : List ℕ) (n m at : ℕ) (new : List ℕ) → Represents entries payload first base n m
     → Represents (entries ++ E.Write at (length new) ∷ []) (payload ++ new) first base n m
 represents_write entries payload first base n m at new kept =
-    let steps = steps-push entries payload at new kept.size in
     let state : state_of (steps_of (entries ++ E.Write at (length new) ∷ []) (payload ++ new)) ≡ after_step (Write at new) (state_of (steps_of entries payload)) =
-    ap state_of steps ∙ replay-push (steps_of entries payload) (Write at new) blank in
+    ap state_of (steps-push entries payload at new kept.size) ∙ replay-push (steps_of entries payload) (Write at new) blank in
     let rest = drop n entries in
     let left = drop m payload in
-    let low : n ≤ length entries = omega (arith, kept.base_in, kept.within) in
-    let rest_is : drop n (entries ++ E.Write at (length new) ∷ []) ≡ rest ++ E.Write at (length new) ∷ [] = drop-append-le n entries (E.Write at (length new) ∷ []) low in
-    let left_is : drop m (payload ++ new) ≡ left ++ new = drop-append-le m payload new kept.base_within in
+    let rest_is : drop n (entries ++ E.Write at (length new) ∷ []) ≡ rest ++ E.Write at (length new) ∷ [] = drop-append-le n entries (E.Write at (length new) ∷ []) kept.made.entries_in in
+    let left_is : drop m (payload ++ new) ≡ left ++ new = drop-append-le m payload new kept.made.bytes_in in
     let part : take (first - n) (drop n (entries ++ E.Write at (length new) ∷ [])) ≡ take (first - n) rest =
     ap (λ (l : List Entry). take (first - n) l) rest_is ∙ take-append-le (first - n) rest (E.Write at (length new) ∷ []) (omega (arith, kept.within, kept.base_in, length-drop n entries)) in
     record {
@@ -107,14 +150,10 @@ represents_write entries payload first base n m at new kept =
           ap ranges_of (drop-append-le first entries (E.Write at (length new) ∷ []) kept.within) ∙ ranges-append (drop first entries) (E.Write at (length new) ∷ [])
           ∙ ap (λ (l : List (ℕ × ℕ)). l ++ (at, length new) ∷ []) kept.pending_is ∙ ap (λ (s : State). s.pending) (sym state);
       base_in = kept.base_in;
-      base_within = omega (arith, kept.base_within, length-append payload new);
-      behind = ap lengths rest_is ∙ lengths-append rest (E.Write at (length new) ∷ []) ∙ omega (arith, kept.behind, length-append left new) ∙ ap (λ (l : List ℕ). length l) (sym left_is);
-      now_made =
-          ap (λ (l : List Entry). written l (drop m (payload ++ new)) base) rest_is ∙ ap (λ (l : List ℕ). written (rest ++ E.Write at (length new) ∷ []) l base) left_is
-          ∙ written-push rest left at new base kept.behind ∙ ap (λ (l : List ℕ). overwrite at new l) kept.now_made ∙ ap (λ (s : State). s.now) (sym state);
+      made = made_write base entries payload n m at new kept.size kept.made;
       stable_made =
           ap (λ (l : List Entry). written l (drop m (payload ++ new)) base) part ∙ ap (λ (l : List ℕ). written (take (first - n) rest) l base) left_is
-          ∙ written-more (take (first - n) rest) left new base (omega (arith, lengths-take (first - n) rest, kept.behind)) ∙ kept.stable_made ∙ ap (λ (s : State). s.stable) (sym state);
+          ∙ written-more (take (first - n) rest) left new base (omega (arith, lengths-take (first - n) rest, kept.made.rest)) ∙ kept.stable_made ∙ ap (λ (s : State). s.stable) (sym state);
     }
 
 pub represents_sync : (entries : List Entry) (payload : List ℕ) (first : ℕ) (base : List ℕ) (n m : ℕ) → Represents entries payload first base n m
@@ -122,23 +161,16 @@ pub represents_sync : (entries : List Entry) (payload : List ℕ) (first : ℕ) 
 represents_sync entries payload first base n m kept =
     let state : state_of (steps_of (entries ++ E.Sync ∷ []) payload) ≡ after_step Sync (state_of (steps_of entries payload)) =
     ap state_of (steps-sync entries payload) ∙ replay-push (steps_of entries payload) Sync blank in
-    let rest = drop n entries in
-    let low : n ≤ length entries = omega (arith, kept.base_in, kept.within) in
-    let long : length (entries ++ E.Sync ∷ []) ≡ length entries + 1 = length-append entries (E.Sync ∷ []) in
-    let rest_is : drop n (entries ++ E.Sync ∷ []) ≡ rest ++ E.Sync ∷ [] = drop-append-le n entries (E.Sync ∷ []) low in
     let all : take (length (entries ++ E.Sync ∷ []) - n) (drop n (entries ++ E.Sync ∷ [])) ≡ drop n (entries ++ E.Sync ∷ []) =
     take_all (length (entries ++ E.Sync ∷ []) - n) (drop n (entries ++ E.Sync ∷ [])) (omega (arith, length-drop n (entries ++ E.Sync ∷ []))) in
-    let made : written (drop n (entries ++ E.Sync ∷ [])) (drop m payload) base ≡ (state_of (steps_of entries payload)).now =
-    ap (λ (l : List Entry). written l (drop m payload) base) rest_is ∙ written-sync rest (drop m payload) base ∙ kept.now_made in
+    let made = made_sync base entries payload n m kept.made in
     record {
       size = lengths-append entries (E.Sync ∷ []) ∙ omega (arith, kept.size);
       within = omega arith;
       pending_is = ap ranges_of (drop_all (length (entries ++ E.Sync ∷ [])) (entries ++ E.Sync ∷ []) (omega arith)) ∙ ap (λ (s : State). s.pending) (sym state);
-      base_in = omega (arith, low, long);
-      base_within = kept.base_within;
-      behind = ap lengths rest_is ∙ lengths-append rest (E.Sync ∷ []) ∙ omega (arith, kept.behind);
-      now_made = made ∙ ap (λ (s : State). s.now) (sym state);
-      stable_made = ap (λ (l : List Entry). written l (drop m payload) base) all ∙ made ∙ ap (λ (s : State). s.stable) (sym state);
+      base_in = made.entries_in;
+      made = made;
+      stable_made = ap (λ (l : List Entry). written l (drop m payload) base) all ∙ made.now_made ∙ ap (λ (s : State). s.now) state ∙ ap (λ (s : State). s.stable) (sym state);
     }
 
 pub bytes-steps : (entries : List Entry) (payload : List ℕ) → lengths entries ≡ length payload → all_bytes (steps_of entries payload) ≡ length payload
@@ -171,16 +203,13 @@ represents_power_off entries payload choice image size left =
     ap state_of (steps-power_off entries payload choice) ∙ replay-push (steps_of entries payload) (PowerOff choice) blank in
     let all = entries ++ E.PowerOff choice ∷ [] in
     let none : drop (length all) all ≡ [] = drop_all (length all) all (omega arith) in
-    let over : drop (length payload) payload ≡ [] = drop_all (length payload) payload (omega arith) in
     let taken : take (length all - length all) (drop (length all) all) ≡ [] = ap (λ (l : List Entry). take (length all - length all) l) none ∙ take_all (length all - length all) [] (omega arith) in
     record {
       size = lengths-append entries (E.PowerOff choice ∷ []) ∙ omega (arith, size);
       within = omega arith;
       pending_is = ap ranges_of none ∙ ap (λ (t : State). t.pending) (sym state);
       base_in = omega arith;
-      base_within = omega arith;
-      behind = ap lengths none ∙ ap (λ (l : List ℕ). length l) (sym over);
-      now_made = ap (λ (l : List Entry). written l (drop (length payload) payload) image) none ∙ left ∙ ap (λ (t : State). t.now) (sym state);
+      made = made_all image all payload (left ∙ ap (λ (t : State). t.now) (sym state));
       stable_made = ap (λ (l : List Entry). written l (drop (length payload) payload) image) taken ∙ left ∙ ap (λ (t : State). t.stable) (sym state);
     }
 
@@ -204,53 +233,26 @@ applied_write image entries payload n m end at new size kept =
     let state : state_of (steps_of (entries ++ E.Write at (length new) ∷ []) (payload ++ new)) ≡ after_step (Write at new) (state_of (steps_of entries payload)) =
     ap state_of (steps-push entries payload at new size) ∙ replay-push (steps_of entries payload) (Write at new) blank in
     let now : overwrite at new (state_of (steps_of entries payload)).now ≡ (state_of (steps_of (entries ++ E.Write at (length new) ∷ []) (payload ++ new))).now = ap (λ (s : State). s.now) (sym state) in
-    let rest = drop n entries in
-    let left = drop m payload in
-    let rest_is : drop n (entries ++ E.Write at (length new) ∷ []) ≡ rest ++ E.Write at (length new) ∷ [] = drop-append-le n entries (E.Write at (length new) ∷ []) kept.entries_in in
-    let left_is : drop m (payload ++ new) ≡ left ++ new = drop-append-le m payload new kept.bytes_in in
     record {
-      entries_in = omega (arith, kept.entries_in, length-append entries (E.Write at (length new) ∷ []));
-      bytes_in = omega (arith, kept.bytes_in, length-append payload new);
-      rest = ap lengths rest_is ∙ lengths-append rest (E.Write at (length new) ∷ []) ∙ omega (arith, kept.rest, length-append left new) ∙ ap (λ (l : List ℕ). length l) (sym left_is);
-      now_made =
-          ap (λ (l : List Entry). written l (drop m (payload ++ new)) image) rest_is ∙ ap (λ (l : List ℕ). written (rest ++ E.Write at (length new) ∷ []) l image) left_is
-          ∙ written-push rest left at new image kept.rest ∙ ap (λ (l : List ℕ). overwrite at new l) kept.now_made ∙ now;
+      made = made_write image entries payload n m at new size kept.made;
       end_is = omega (arith, kept.end_is, length-overwrite at new (state_of (steps_of entries payload)).now) ∙ ap (λ (l : List ℕ). length l) now;
     }
 
 -- an image isn't longer than what a read gives
 pub applied_short : (image : List ℕ) (entries : List Entry) (payload : List ℕ) (n m end : ℕ) → IsApplied image entries payload n m end → length image ≤ end
 applied_short image entries payload n m end kept =
-    let made = ap (λ (l : List ℕ). length l) kept.now_made in
+    let made = ap (λ (l : List ℕ). length l) kept.made.now_made in
     omega (arith, written-longer (drop n entries) (drop m payload) image, made, kept.end_is)
 
 pub applied_sync : (image : List ℕ) (entries : List Entry) (payload : List ℕ) (n m end : ℕ) → IsApplied image entries payload n m end → IsApplied image (entries ++ E.Sync ∷ []) payload n m end
 applied_sync image entries payload n m end kept =
     let state : state_of (steps_of (entries ++ E.Sync ∷ []) payload) ≡ after_step Sync (state_of (steps_of entries payload)) =
     ap state_of (steps-sync entries payload) ∙ replay-push (steps_of entries payload) Sync blank in
-    let now : (state_of (steps_of entries payload)).now ≡ (state_of (steps_of (entries ++ E.Sync ∷ []) payload)).now = ap (λ (s : State). s.now) (sym state) in
-    let rest = drop n entries in
-    let rest_is : drop n (entries ++ E.Sync ∷ []) ≡ rest ++ E.Sync ∷ [] = drop-append-le n entries (E.Sync ∷ []) kept.entries_in in
-    record {
-      entries_in = omega (arith, kept.entries_in, length-append entries (E.Sync ∷ []));
-      bytes_in = kept.bytes_in;
-      rest = ap lengths rest_is ∙ lengths-append rest (E.Sync ∷ []) ∙ omega (arith, kept.rest);
-      now_made = ap (λ (l : List Entry). written l (drop m payload) image) rest_is ∙ written-sync rest (drop m payload) image ∙ kept.now_made ∙ now;
-      end_is = kept.end_is ∙ ap (λ (l : List ℕ). length l) now;
-    }
+    record { made = made_sync image entries payload n m kept.made; end_is = kept.end_is ∙ ap (λ (s : State). length s.now) (sym state) }
 
 -- an image with everything in it
 pub applied_all : (image : List ℕ) (entries : List Entry) (payload : List ℕ) → image ≡ (state_of (steps_of entries payload)).now → IsApplied image entries payload (length entries) (length payload) (length image)
-applied_all image entries payload is =
-    let none : drop (length entries) entries ≡ [] = drop_all (length entries) entries (omega arith) in
-    let over : drop (length payload) payload ≡ [] = drop_all (length payload) payload (omega arith) in
-    record {
-      entries_in = omega arith;
-      bytes_in = omega arith;
-      rest = ap lengths none ∙ ap (λ (l : List ℕ). length l) (sym over);
-      now_made = ap (λ (l : List Entry). written l (drop (length payload) payload) image) none ∙ is;
-      end_is = ap (λ (l : List ℕ). length l) is;
-    }
+applied_all image entries payload is = record { made = made_all image entries payload is; end_is = ap (λ (l : List ℕ). length l) is }
 
 pub now_power_off : (entries : List Entry) (payload : List ℕ) (choice : ℕ) (image : List ℕ) → image ≡ left_by choice (state_of (steps_of entries payload))
     → image ≡ (state_of (steps_of (entries ++ E.PowerOff choice ∷ []) payload)).now

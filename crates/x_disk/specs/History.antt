@@ -1,5 +1,5 @@
 -- A disk in memory, as the list of what was done to it (this project's profile).
-use Rattle.std.specs.Prelude.{Result, OnOk, OnErr, ℕ, zero, suc, ◌+◌, ◌*◌, ◌/◌, ◌%◌, ◌^◌, ◌<◌, ◌≤◌, ◌≡◌, if◌then◌else◌, Bool, false, ◌&&◌, ◌||◌, nat_lt, nat_le, List, [], ◌∷◌, ◌++◌, length, get_or, take, Some, None}
+use Rattle.std.specs.Prelude.{Result, OnOk, OnErr, IsOk, ℕ, zero, suc, ◌+◌, ◌*◌, ◌/◌, ◌%◌, ◌^◌, ◌<◌, ◌≤◌, ◌≡◌, if◌then◌else◌, Bool, false, ◌&&◌, ◌||◌, nat_lt, nat_le, List, [], ◌∷◌, ◌++◌, length, get_or, take, Some, None}
 use Rattle.x_disk.specs.Disk.{View, overwrite}
 
 pub data Step : Type 0 where
@@ -83,6 +83,16 @@ pub record IsReserved (h : History) (end bytes calls : ℕ) : Type 0 where
   pub holds : length (state_of h.steps).now ≤ h.room
   pub records : bytes + all_bytes h.steps ≤ h.room
   pub counts : calls + length h.steps ≤ h.room / 16
+
+-- a write is added, and is where memory was reserved for it
+pub record IsWriteAdded {E : Type 0} (at : ℕ) (bytes : List ℕ) (old new : History) (result : Result Unit E) : Type 0 where
+  pub added : IsAdded (Write at bytes) old new result
+  pub covered : (end n calls : ℕ) → IsReserved old end n (suc calls) → at + length bytes ≤ end → length bytes ≤ n → IsOk result
+
+-- the same of a sync
+pub record IsSyncAdded {E : Type 0} (old new : History) (result : Result Unit E) : Type 0 where
+  pub added : IsAdded Sync old new result
+  pub covered : (end n calls : ℕ) → IsReserved old end n (suc calls) → IsOk result
 
 -- what the disk tells
 abbrev pub view_of : History → View

@@ -1,5 +1,5 @@
 -- How a disk in memory keeps its record.
-use Rattle.std.specs.Prelude.{◌≡◌, ℕ, ◌+◌, ◌-◌, ◌/◌, ◌≤◌, List, [], ◌∷◌, length, take, drop}
+use Rattle.std.specs.Prelude.{◌≡◌, ℕ, ◌+◌, ◌-◌, ◌/◌, ◌≤◌, List, [], ◌∷◌, length, take, drop, Result, IsOk}
 use Rattle.x_disk.specs.Disk.{overwrite}
 use Rattle.x_disk.specs.History.{Step, Write, Sync, PowerOff, state_of}
 use Rattle.x_disk.specs.declared.disk_record.Entry.{Entry}
@@ -31,6 +31,14 @@ written (E.Write at len ∷ entries) bytes image = written entries (drop len byt
 written (E.Sync ∷ entries) bytes image = written entries bytes image
 written (E.PowerOff choice ∷ entries) bytes image = written entries bytes image
 
+-- an image that the entries behind the first so many, and the bytes of the payload behind the first so many, make what a
+-- read gives
+pub record IsMadeUpTo (image : List ℕ) (entries : List Entry) (payload : List ℕ) (count bytes : ℕ) : Type 0 where
+  pub entries_in : count ≤ length entries
+  pub bytes_in : bytes ≤ length payload
+  pub rest : lengths (drop count entries) ≡ length (drop bytes payload)
+  pub now_made : written (drop count entries) (drop bytes payload) image ≡ (state_of (steps_of entries payload)).now
+
 -- The record stands for the history: `first` is the first entry after the last sync or power-off, and `base` what the last
 -- power-off left, behind so many entries and bytes of the payload.
 pub record Represents (entries : List Entry) (payload : List ℕ) (first : ℕ) (base : List ℕ) (base_entries base_bytes : ℕ) : Type 0 where
@@ -38,18 +46,12 @@ pub record Represents (entries : List Entry) (payload : List ℕ) (first : ℕ) 
   pub within : first ≤ length entries
   pub pending_is : ranges_of (drop first entries) ≡ (state_of (steps_of entries payload)).pending
   pub base_in : base_entries ≤ first
-  pub base_within : base_bytes ≤ length payload
-  pub behind : lengths (drop base_entries entries) ≡ length (drop base_bytes payload)
-  pub now_made : written (drop base_entries entries) (drop base_bytes payload) base ≡ (state_of (steps_of entries payload)).now
+  pub made : IsMadeUpTo base entries payload base_entries base_bytes
   pub stable_made : written (take (first - base_entries) (drop base_entries entries)) (drop base_bytes payload) base ≡ (state_of (steps_of entries payload)).stable
 
--- an image to which the first so many entries were applied, whose bytes are the first of the payload; with the rest it is
--- what a read gives, of this length
+-- an image to which the first so many entries were applied; with the rest it is what a read gives, of this length
 pub record IsApplied (image : List ℕ) (entries : List Entry) (payload : List ℕ) (applied_entries applied_bytes end : ℕ) : Type 0 where
-  pub entries_in : applied_entries ≤ length entries
-  pub bytes_in : applied_bytes ≤ length payload
-  pub rest : lengths (drop applied_entries entries) ≡ length (drop applied_bytes payload)
-  pub now_made : written (drop applied_entries entries) (drop applied_bytes payload) image ≡ (state_of (steps_of entries payload)).now
+  pub made : IsMadeUpTo image entries payload applied_entries applied_bytes
   pub end_is : end ≡ length (state_of (steps_of entries payload)).now
 
 -- the memory that was reserved
@@ -58,3 +60,8 @@ pub record HasRoom (room end bytes payload entries : ℕ) : Type 0 where
   pub for_end : end ≤ bytes
   pub for_payload : room ≤ payload
   pub for_entries : room / 16 ≤ entries
+
+-- memory for so much suffices, and is never given back
+pub record Grows {E : Type 0} (need before after : ℕ) (result : Result Unit E) : Type 0 where
+  pub capacity : before ≤ after
+  pub succeeds : need ≤ before → IsOk result

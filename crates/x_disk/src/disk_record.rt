@@ -56,9 +56,9 @@ impl Model for DiskRecord {
 }
 
 impl DiskRecord {
-    ghost use Rattle.std.specs.Prelude.{◌≡◌, ◌+◌, ◌≤◌, ℕ, suc, [], length, take, drop, IfOk, IsOk};
+    ghost use Rattle.std.specs.Prelude.{◌≡◌, ◌+◌, ◌≤◌, [], length, take, drop, IfOk};
     ghost use Rattle.x_disk.specs.Disk.{disk_size};
-    ghost use Rattle.x_disk.specs.History.{Write, Sync, PowerOff, IsAdded, IsReserved, state_of};
+    ghost use Rattle.x_disk.specs.History.{PowerOff, IsAdded, IsWriteAdded, IsSyncAdded, state_of};
 
     /// The record of an empty disk. Reserves `room` bytes or more each for what a read gives, for the image of the last sync
     /// and for the bytes of the writes, and places for `room / 16` steps; beyond that it grows.
@@ -97,19 +97,18 @@ impl DiskRecord {
     {
         apply_rest(
             &mut self.bytes,
-            &self.entries[self.applied_entries..],
-            &self.payload[self.applied_bytes..],
+            &self.entries,
+            &self.payload,
+            &mut self.applied_entries,
+            &mut self.applied_bytes,
         );
-        self.applied_entries = self.entries.len();
-        self.applied_bytes = self.payload.len();
         let at = at as usize;
         buf.copy_from_slice(&self.bytes[at..at + buf.len()]);
     }
 
     pub(crate) fn add_write(&mut self, at: u64, bytes: &[u8]) -> Result<(), AllocError>
         requires { at + length bytes.now ≤ disk_size }
-        ensures added { IsAdded (Write at bytes.now) self.old self.new result }
-        ensures covered { (end n calls : ℕ) → IsReserved self.old end n (suc calls) → at + length bytes.now ≤ end → length bytes.now ≤ n → IsOk result }
+        ensures { IsWriteAdded at bytes.now self.old self.new result }
     {
         let end = self.end.max(at as usize + bytes.len());
         self.bytes.reserve(end - self.bytes.len())?;
@@ -124,8 +123,7 @@ impl DiskRecord {
     }
 
     pub(crate) fn add_sync(&mut self) -> Result<(), AllocError>
-        ensures added { IsAdded Sync self.old self.new result }
-        ensures covered { (end n calls : ℕ) → IsReserved self.old end n (suc calls) → IsOk result }
+        ensures { IsSyncAdded self.old self.new result }
     {
         self.entries.push(Entry::Sync)?;
         self.first = self.entries.len();
@@ -153,11 +151,11 @@ impl DiskRecord {
         self.entries.reserve(1)?;
         apply_rest(
             &mut self.bytes,
-            &self.entries[self.applied_entries..],
-            &self.payload[self.applied_bytes..],
+            &self.entries,
+            &self.payload,
+            &mut self.applied_entries,
+            &mut self.applied_bytes,
         );
-        self.applied_entries = self.entries.len();
-        self.applied_bytes = self.payload.len();
         settle(
             &mut self.bytes,
             &mut left,

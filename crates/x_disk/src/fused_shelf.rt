@@ -25,8 +25,8 @@ impl<H: Shelf> Model for FusedShelf<H> {
 }
 
 impl<H: Shelf> FusedShelf<H> {
-    ghost use Rattle.std.specs.Prelude.{◌≡◌, ◌-◌, ◌<◌, ◌≤◌, IsErrOf, OnOk};
-    ghost use Rattle.x_base.specs.Edge.{Rose};
+    ghost use Rattle.std.specs.Prelude.{◌≡◌};
+    ghost use Rattle.x_disk.specs.FusedShelf.{IsFaultCounted, IsPass};
 
     /// The shelf with so many calls that pass, and so many of each disk that is fetched. Takes no memory.
     pub fn new(inner: H, shelf_calls: u64, disk_calls: u64) -> FusedShelf<H>
@@ -52,24 +52,14 @@ impl<H: Shelf> FusedShelf<H> {
 
     // Counts a fault.
     fn add_fault(&mut self)
-        ensures inner { self.new.inner ≡ self.old.inner }
-        ensures shelf_calls { self.new.shelf_calls ≡ self.old.shelf_calls }
-        ensures disk_calls { self.new.disk_calls ≡ self.old.disk_calls }
-        ensures later { self.old.faults ≤ self.new.faults }
-        ensures faults { Rose self.old.faults self.new.faults }
+        ensures { IsFaultCounted self.old self.new }
     {
         self.faults = self.faults.saturating_add(1);
     }
 
     // Counts a call, which fails where none passes any more.
     fn pass(&mut self) -> Result<(), DiskErr>
-        ensures inner { self.new.inner ≡ self.old.inner }
-        ensures shelf_calls { self.new.shelf_calls ≡ self.old.shelf_calls - 1 }
-        ensures disk_calls { self.new.disk_calls ≡ self.old.disk_calls }
-        ensures passes { OnOk result ((0 < self.old.shelf_calls) × (self.new.faults ≡ self.old.faults)) }
-        ensures fails { IsErrOf result DiskErr.Fault → (self.old.shelf_calls ≡ 0) × Rose self.old.faults self.new.faults }
-        ensures later { self.old.faults ≤ self.new.faults }
-        ensures only { IsErrOf result DiskErr.NoMemory → ⊥ }
+        ensures { IsPass self.old self.new result }
     {
         if self.shelf_calls == 0 {
             self.add_fault();

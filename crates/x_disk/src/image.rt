@@ -1,9 +1,9 @@
 // The bytes of a disk in memory: how they are written over, copied and torn.
-ghost use Rattle.std.specs.Prelude.{◌≡◌, ◌+◌, ◌<◌, ◌≤◌, ◌-◌, ◌^◌, ◌++◌, max, length, take, drop, replicate, OnOk, OnErr, IsOk};
+ghost use Rattle.std.specs.Prelude.{◌≡◌, ◌+◌, ◌<◌, ◌≤◌, ◌-◌, ◌^◌, ◌++◌, max, length, take, drop, replicate, OnOk, OnErr};
 ghost use Rattle.std.specs.Vec.{vec_capacity};
 ghost use Rattle.x_disk.specs.Disk.{overwrite};
-ghost use Rattle.x_disk.specs.History.{covers_place, torn_byte, torn_or, torn_from, left_by};
-ghost use Rattle.x_disk.specs.Record.{lengths, ranges_of, written};
+ghost use Rattle.x_disk.specs.History.{covers_place, torn_byte, torn_or, torn_from, left_by, state_of};
+ghost use Rattle.x_disk.specs.Record.{steps_of, lengths, ranges_of, written, IsMadeUpTo, Grows};
 
 use crate::disk_record::Entry;
 use std::alloc::AllocError;
@@ -13,9 +13,7 @@ fn fill_gap(bytes: &mut Vec<u8>, at: usize, more: usize) -> Result<(), AllocErro
     requires { at + more < 2 ^ 64 }
     ensures ok { OnOk result (bytes.new.items ≡ bytes.old.items ++ replicate (at - length bytes.old.items) 0) }
     ensures room { OnOk result (length bytes.old.items < at → at + more ≤ vec_capacity bytes.new) }
-    ensures err { OnErr result (bytes.new.items ≡ bytes.old.items) }
-    ensures capacity { vec_capacity bytes.old ≤ vec_capacity bytes.new }
-    ensures succeeds { max (length bytes.old.items) (at + more) ≤ vec_capacity bytes.old → IsOk result }
+    ensures grows { Grows (max (length bytes.old.items) (at + more)) (vec_capacity bytes.old) (vec_capacity bytes.new) result }
 {
     if bytes.len() < at {
         bytes.reserve(at + more - bytes.len())?;
@@ -37,8 +35,7 @@ fn paste_across(bytes: &mut Vec<u8>, at: usize, new: &[u8]) -> Result<(), AllocE
     requires { at ≤ length bytes.old.items }
     ensures ok { OnOk result (bytes.new.items ≡ take at bytes.old.items ++ new.now ++ drop (at + length new.now) bytes.old.items) }
     ensures err { OnErr result (bytes.new.items ≡ bytes.old.items) }
-    ensures capacity { vec_capacity bytes.old ≤ vec_capacity bytes.new }
-    ensures succeeds { max (length bytes.old.items) (at + length new.now) ≤ vec_capacity bytes.old → IsOk result }
+    ensures grows { Grows (max (length bytes.old.items) (at + length new.now)) (vec_capacity bytes.old) (vec_capacity bytes.new) result }
 {
     if at == bytes.len() {
         return bytes.extend_from_slice(new);
@@ -57,9 +54,7 @@ fn paste_across(bytes: &mut Vec<u8>, at: usize, new: &[u8]) -> Result<(), AllocE
 fn write_over(bytes: &mut Vec<u8>, at: usize, new: &[u8]) -> Result<(), AllocError>
     requires { at < 2 ^ 32 }
     ensures ok { OnOk result (bytes.new.items ≡ overwrite at new.now bytes.old.items) }
-    ensures err { OnErr result (bytes.new.items ≡ bytes.old.items) }
-    ensures capacity { vec_capacity bytes.old ≤ vec_capacity bytes.new }
-    ensures succeeds { max (length bytes.old.items) (at + length new.now) ≤ vec_capacity bytes.old → IsOk result }
+    ensures grows { Grows (max (length bytes.old.items) (at + length new.now)) (vec_capacity bytes.old) (vec_capacity bytes.new) result }
 {
     fill_gap(bytes, at, new.len())?;
     paste_across(bytes, at, new)
@@ -84,8 +79,7 @@ pub(crate) fn write_all(
 ) -> Result<(), AllocError>
     requires { lengths entries.now ≤ length payload.now }
     ensures ok { OnOk result (image.new.items ≡ written entries.now payload.now image.old.items) }
-    ensures capacity { vec_capacity image.old ≤ vec_capacity image.new }
-    ensures succeeds { length (written entries.now payload.now image.old.items) ≤ vec_capacity image.old → IsOk result }
+    ensures grows { Grows (length (written entries.now payload.now image.old.items)) (vec_capacity image.old) (vec_capacity image.new) result }
 {
     let mut rest = entries;
     let mut behind = payload;
@@ -100,17 +94,32 @@ pub(crate) fn write_all(
     Ok(())
 }
 
-/// The same of an image that has room for what comes of it, which takes no memory.
-pub(crate) fn apply_rest(image: &mut Vec<u8>, entries: &[Entry], payload: &[u8])
-    requires lie { lengths entries.now ≤ length payload.now }
-    requires room { length (written entries.now payload.now image.old.items) ≤ vec_capacity image.old }
-    ensures made { image.new.items ≡ written entries.now payload.now image.old.items }
+/// Applies to an image the entries that aren't applied to it yet, and counts them. The image has room for what comes of it,
+/// so that this takes no memory.
+pub(crate) fn apply_rest(
+    image: &mut Vec<u8>,
+    entries: &[Entry],
+    payload: &[u8],
+    applied_entries: &mut usize,
+    applied_bytes: &mut usize,
+)
+    requires made { IsMadeUpTo image.old.items entries.now payload.now applied_entries.old applied_bytes.old }
+    requires room { length (state_of (steps_of entries.now payload.now)).now ≤ vec_capacity image.old }
+    ensures whole { image.new.items ≡ (state_of (steps_of entries.now payload.now)).now }
+    ensures made { IsMadeUpTo image.new.items entries.now payload.now applied_entries.new applied_bytes.new }
+    ensures bytes { applied_bytes.new ≡ length payload.now }
     ensures capacity { vec_capacity image.old ≤ vec_capacity image.new }
 {
-    match write_all(image, entries, payload) {
+    match write_all(
+        image,
+        &entries[*applied_entries..],
+        &payload[*applied_bytes..],
+    ) {
         Ok(()) => {}
         Err(_) => unreachable!(),
     }
+    *applied_entries = entries.len();
+    *applied_bytes = payload.len();
 }
 
 // Whether one of these writes has this place in its range.

@@ -21,9 +21,9 @@ impl Model for TornDisk {
 }
 
 impl TornDisk {
-    ghost use Rattle.std.specs.Prelude.{◌≡◌, ◌+◌, ◌≤◌, ℕ, suc, [], length, IfOk, IsOk};
+    ghost use Rattle.std.specs.Prelude.{◌≡◌, ◌+◌, ◌≤◌, [], length, IfOk};
     ghost use Rattle.x_disk.specs.Disk.{disk_size};
-    ghost use Rattle.x_disk.specs.History.{Write, Sync, PowerOff, IsAdded, IsReserved};
+    ghost use Rattle.x_disk.specs.History.{PowerOff, IsAdded, IsWriteAdded, IsSyncAdded};
 
     /// An empty disk. Reserves `room` bytes each for what a read gives, for the image of the last sync and for the bytes
     /// in the record, and places for `room / 16` steps; beyond that it grows.
@@ -37,15 +37,13 @@ impl TornDisk {
 
     fn add_write(&mut self, at: u64, bytes: &[u8]) -> Result<(), AllocError>
         requires { at + length bytes.now ≤ disk_size }
-        ensures added { IsAdded (Write at bytes.now) self.old self.new result }
-        ensures covered { (end n calls : ℕ) → IsReserved self.old end n (suc calls) → at + length bytes.now ≤ end → length bytes.now ≤ n → IsOk result }
+        ensures { IsWriteAdded at bytes.now self.old self.new result }
     {
         self.record.add_write(at, bytes)
     }
 
     fn add_sync(&mut self) -> Result<(), AllocError>
-        ensures added { IsAdded Sync self.old self.new result }
-        ensures covered { (end n calls : ℕ) → IsReserved self.old end n (suc calls) → IsOk result }
+        ensures { IsSyncAdded self.old self.new result }
     {
         self.record.add_sync()
     }

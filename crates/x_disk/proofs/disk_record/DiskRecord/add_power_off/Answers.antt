@@ -1,7 +1,7 @@
 use Rattle.std.proofs.Common.{rules, ◌≡◌, ◌-◌, ℕ, List, [], ◌∷◌, ◌++◌, length, take, drop, ◌∙◌, ap, subst, sym, arith}
 use Rattle.std.proofs.lemmas.List.{take_rest}
 use Rattle.x_disk.specs.History.{Step, PowerOff, History, and_then, left_by, state_of}
-use Rattle.x_disk.specs.Record.{steps_of, ranges_of, written, Represents, IsApplied}
+use Rattle.x_disk.specs.Record.{steps_of, ranges_of, Represents, IsApplied}
 use Rattle.x_disk.specs.declared.disk_record.Entry.{Entry}
 use Rattle.x_disk.specs.declared.disk_record.Entry.TheVariants as E
 use Rattle.x_disk.proofs.RecordLemmas.{steps-power_off, represents_power_off, left_by_state, applied_all, now_power_off}
@@ -13,14 +13,8 @@ invariant_of-self-2 c =
     let image = c.settle.new.bytes.items in
     let entry = E.PowerOff c.args.choice in
     let held : c.deref.result.now ≡ i.entries.items = c.deref.ensures.value ∙ c.reserve.ensures.items in
-    let spent : c.deref-2.result.now ≡ i.payload.items = c.deref-2.ensures.value in
-    let unseen : take (length c.deref.result.now - i.applied_entries) (drop i.applied_entries c.deref.result.now) ≡ drop i.applied_entries i.entries.items =
-    take_rest c.deref.result.now i.applied_entries ∙ ap (λ (l : List Entry). drop i.applied_entries l) held in
-    let behind : take (length c.deref-2.result.now - i.applied_bytes) (drop i.applied_bytes c.deref-2.result.now) ≡ drop i.applied_bytes i.payload.items =
-    take_rest c.deref-2.result.now i.applied_bytes ∙ ap (λ (l : List ℕ). drop i.applied_bytes l) spent in
     let now : c.apply_rest.new.image.items ≡ (state_of (steps_of i.entries.items i.payload.items)).now =
-    c.apply_rest.ensures.made ∙ ap (λ (l : List Entry). written l (take (length c.deref-2.result.now - i.applied_bytes) (drop i.applied_bytes c.deref-2.result.now)) i.bytes.items) unseen
-    ∙ ap (λ (l : List ℕ). written (drop i.applied_entries i.entries.items) l i.bytes.items) behind ∙ c.self.invariant.1.now_made in
+    c.apply_rest.ensures.whole ∙ ap (λ (l : List Entry). (state_of (steps_of l c.deref-2.result.now)).now) held ∙ ap (λ (l : List ℕ). (state_of (steps_of i.entries.items l)).now) c.deref-2.ensures.value in
     let stable = c.in_ok-left.ensures ∙ ap (λ (h : History). (state_of h.steps).stable) (sym c.self.view_is) in
     let ranges : take (length c.deref-3.result.now - i.first) (drop i.first c.deref-3.result.now) ≡ drop i.first i.entries.items =
     take_rest c.deref-3.result.now i.first ∙ ap (λ (l : List Entry). drop i.first l) (c.deref-3.ensures.value ∙ c.reserve.ensures.items) in
@@ -34,18 +28,18 @@ invariant_of-self-2 c =
     let pushed = subst (λ (l : List Entry). Represents l i.payload.items (length l) image (length l) (length i.payload.items)) (sym entries) kept in
     let all = subst (λ (l : List ℕ). Represents c.push.new.self.items i.payload.items (length c.push.new.self.items) l (length c.push.new.self.items) (length i.payload.items)) same pushed in
     let caught = subst (λ (l : List Entry). IsApplied image l i.payload.items (length l) (length i.payload.items) (length image)) (sym entries) whole in
-    let size : length c.push.new.self.items ≡ c.len-self-inside-3.result = omega (arith, c.len-self-inside-3.ensures) in
-    let applied : length i.payload.items ≡ c.len-self-inside-2.result = omega (arith, c.len-self-inside-2.ensures) in
-    let used : length i.payload.items ≡ c.len-self-inside-4.result = omega (arith, c.len-self-inside-4.ensures) in
-    let end : length image ≡ c.len-self-inside-5.result = omega (arith, c.len-self-inside-5.ensures) in (
-      subst (λ (n : ℕ). Represents c.push.new.self.items i.payload.items n c.settle.new.stable.items n c.len-self-inside-4.result) size
+    let size : length c.push.new.self.items ≡ c.len-self-inside.result = omega (arith, c.len-self-inside.ensures) in
+    let applied : length i.payload.items ≡ c.apply_rest.new.applied_bytes = sym (c.apply_rest.ensures.bytes ∙ ap (λ (l : List ℕ). length l) c.deref-2.ensures.value) in
+    let used : length i.payload.items ≡ c.len-self-inside-2.result = omega (arith, c.len-self-inside-2.ensures) in
+    let end : length image ≡ c.len-self-inside-3.result = omega (arith, c.len-self-inside-3.ensures) in (
+      subst (λ (n : ℕ). Represents c.push.new.self.items i.payload.items n c.settle.new.stable.items n c.len-self-inside-2.result) size
           (subst (λ (n : ℕ). Represents c.push.new.self.items i.payload.items (length c.push.new.self.items) c.settle.new.stable.items (length c.push.new.self.items) n) used all),
-      subst (λ (n : ℕ). IsApplied image c.push.new.self.items i.payload.items n c.len-self-inside-2.result c.len-self-inside-5.result) size
-          (subst (λ (n : ℕ). IsApplied image c.push.new.self.items i.payload.items (length c.push.new.self.items) n c.len-self-inside-5.result) applied
+      subst (λ (n : ℕ). IsApplied image c.push.new.self.items i.payload.items n c.apply_rest.new.applied_bytes c.len-self-inside-3.result) size
+          (subst (λ (n : ℕ). IsApplied image c.push.new.self.items i.payload.items (length c.push.new.self.items) n c.len-self-inside-3.result) applied
           (subst (λ (n : ℕ). IsApplied image c.push.new.self.items i.payload.items (length c.push.new.self.items) (length i.payload.items) n) end caught)),
       record {
         for_bytes = omega (arith, c.self.invariant.2.for_bytes, c.apply_rest.ensures.capacity, c.settle.ensures.capacity);
-        for_end = omega (arith, c.len-self-inside-5.ensures, c.settle.new.bytes.ok);
+        for_end = omega (arith, c.len-self-inside-3.ensures, c.settle.new.bytes.ok);
         for_payload = c.self.invariant.2.for_payload;
         for_entries = omega (arith, c.self.invariant.2.for_entries, c.reserve.ensures.capacity, c.push.ensures.capacity);
       },

@@ -5,10 +5,13 @@ use Rattle.x_disk.specs.declared.disk_record.Entry.{Entry}
 use Rattle.x_disk.proofs.RecordLemmas.{steps-sync, represents_sync, applied_sync, length-steps}
 use Rattle.x_disk.proofs.disk_record.DiskRecord.add_sync.Goals as goal
 
-pub returns-in_err-push-clause-covered : goal.returns-in_err-push-clause-covered
-returns-in_err-push-clause-covered c = λ end n calls covers.
-    let there = subst (λ h. IsReserved h end n (suc calls)) (sym c.self.view_is) covers in
-    absurd (omega (arith, there.counts, c.self.invariant.2.for_entries, c.in_err-push.ensures.full, length-steps c.self.inside.entries.items c.self.inside.payload.items))
+pub returns-in_err-push : goal.returns-in_err-push
+returns-in_err-push c = record {
+  added = record { ok = search rules; err = search rules };
+  covered = λ end n calls covers.
+      let there = subst (λ h. IsReserved h end n (suc calls)) (sym c.self.view_is) covers in
+      absurd (omega (arith, there.counts, c.self.invariant.2.for_entries, c.in_err-push.ensures.full, length-steps c.self.inside.entries.items c.self.inside.payload.items));
+}
 
 pub invariant_of-self-2 : goal.invariant_of-self-2
 invariant_of-self-2 c =
@@ -28,12 +31,15 @@ invariant_of-self-2 c =
       },
     )
 
-pub returns-clause-added : goal.returns-clause-added
-returns-clause-added c = record {
-  ok = let i = c.self.inside in
-      let entries = c.in_ok-push.ensures.items in
-      let steps : steps_of c.push.new.self.items i.payload.items ≡ steps_of i.entries.items i.payload.items ++ Sync ∷ [] =
-      ap (λ (l : List Entry). steps_of l i.payload.items) entries ∙ steps-sync i.entries.items i.payload.items in
-      ap (λ (l : List Step). let h : History = record { room = i.room; steps = l } in h) steps ∙ ap (λ (h : History). and_then h Sync) c.self.view_is;
-  err = search rules;
+pub returns : goal.returns
+returns c = record {
+  added = record {
+    ok = let i = c.self.inside in
+        let entries = c.in_ok-push.ensures.items in
+        let steps : steps_of c.push.new.self.items i.payload.items ≡ steps_of i.entries.items i.payload.items ++ Sync ∷ [] =
+        ap (λ (l : List Entry). steps_of l i.payload.items) entries ∙ steps-sync i.entries.items i.payload.items in
+        ap (λ (l : List Step). let h : History = record { room = i.room; steps = l } in h) steps ∙ ap (λ (h : History). and_then h Sync) c.self.view_is;
+    err = search rules;
+  };
+  covered = search rules;
 }

@@ -9,20 +9,29 @@ use Rattle.x_disk.proofs.disk_record.DiskRecord.add_write.Goals as goal
 pub overflow_sub-end : goal.overflow_sub-end
 overflow_sub-end c = let i = c.self.inside in omega (arith, applied_short i.bytes.items i.entries.items i.payload.items i.applied_entries i.applied_bytes i.end c.self.invariant.1)
 
-pub returns-in_err-reserve-clause-covered : goal.returns-in_err-reserve-clause-covered
-returns-in_err-reserve-clause-covered c = λ end n calls covers le small.
-    let there = subst (λ h. IsReserved h end n (suc calls)) (sym c.self.view_is) covers in
-    absurd (omega (arith, there.reaches, there.holds, le, c.self.invariant.2.for_bytes, c.self.invariant.1.end_is, c.in_err-reserve.ensures.full))
+pub returns-in_err-reserve : goal.returns-in_err-reserve
+returns-in_err-reserve c = record {
+  added = record { ok = search rules; err = search rules };
+  covered = λ end n calls covers le small.
+      let there = subst (λ h. IsReserved h end n (suc calls)) (sym c.self.view_is) covers in
+      absurd (omega (arith, there.reaches, there.holds, le, c.self.invariant.2.for_bytes, c.self.invariant.1.end_is, c.in_err-reserve.ensures.full));
+}
 
-pub returns-in_err-reserve-2-clause-covered : goal.returns-in_err-reserve-2-clause-covered
-returns-in_err-reserve-2-clause-covered c = λ end n calls covers le small.
-    let there = subst (λ h. IsReserved h end n (suc calls)) (sym c.self.view_is) covers in
-    absurd (omega (arith, there.counts, c.self.invariant.2.for_entries, c.in_err-reserve-2.ensures.full, length-steps c.self.inside.entries.items c.self.inside.payload.items))
+pub returns-in_err-reserve-2 : goal.returns-in_err-reserve-2
+returns-in_err-reserve-2 c = record {
+  added = record { ok = search rules; err = search rules };
+  covered = λ end n calls covers le small.
+      let there = subst (λ h. IsReserved h end n (suc calls)) (sym c.self.view_is) covers in
+      absurd (omega (arith, there.counts, c.self.invariant.2.for_entries, c.in_err-reserve-2.ensures.full, length-steps c.self.inside.entries.items c.self.inside.payload.items));
+}
 
-pub returns-in_err-extend_from_slice-clause-covered : goal.returns-in_err-extend_from_slice-clause-covered
-returns-in_err-extend_from_slice-clause-covered c = λ end n calls covers le small.
-    let there = subst (λ h. IsReserved h end n (suc calls)) (sym c.self.view_is) covers in
-    absurd (omega (arith, there.records, small, c.self.invariant.2.for_payload, c.in_err-extend_from_slice.ensures.full, bytes-steps c.self.inside.entries.items c.self.inside.payload.items c.self.invariant.0.size))
+pub returns-in_err-extend_from_slice : goal.returns-in_err-extend_from_slice
+returns-in_err-extend_from_slice c = record {
+  added = record { ok = search rules; err = search rules };
+  covered = λ end n calls covers le small.
+      let there = subst (λ h. IsReserved h end n (suc calls)) (sym c.self.view_is) covers in
+      absurd (omega (arith, there.records, small, c.self.invariant.2.for_payload, c.in_err-extend_from_slice.ensures.full, bytes-steps c.self.inside.entries.items c.self.inside.payload.items c.self.invariant.0.size));
+}
 
 pub invariant_of-self-2 : goal.invariant_of-self-2
 invariant_of-self-2 c =
@@ -47,15 +56,18 @@ invariant_of-self-2 c =
       },
     )
 
-pub returns-clause-added : goal.returns-clause-added
-returns-clause-added c = record {
-  ok = let i = c.self.inside in
-      let entry = E.Write c.args.at (length c.args.bytes.now) in
-      let entries = c.in_ok-push.ensures.items ∙ ap (λ (l : List Entry). l ++ entry ∷ []) c.reserve-2.ensures.items in
-      let payload = c.in_ok-extend_from_slice.ensures.items in
-      let steps : steps_of c.push.new.self.items c.extend_from_slice.new.self.items ≡ steps_of i.entries.items i.payload.items ++ Write c.args.at c.args.bytes.now ∷ [] =
-      ap (λ (l : List Entry). steps_of l c.extend_from_slice.new.self.items) entries ∙ ap (λ (l : List ℕ). steps_of (i.entries.items ++ entry ∷ []) l) payload
-      ∙ steps-push i.entries.items i.payload.items c.args.at c.args.bytes.now c.self.invariant.0.size in
-      ap (λ (l : List Step). let h : History = record { room = i.room; steps = l } in h) steps ∙ ap (λ (h : History). and_then h (Write c.args.at c.args.bytes.now)) c.self.view_is;
-  err = search rules;
+pub returns : goal.returns
+returns c = record {
+  added = record {
+    ok = let i = c.self.inside in
+        let entry = E.Write c.args.at (length c.args.bytes.now) in
+        let entries = c.in_ok-push.ensures.items ∙ ap (λ (l : List Entry). l ++ entry ∷ []) c.reserve-2.ensures.items in
+        let payload = c.in_ok-extend_from_slice.ensures.items in
+        let steps : steps_of c.push.new.self.items c.extend_from_slice.new.self.items ≡ steps_of i.entries.items i.payload.items ++ Write c.args.at c.args.bytes.now ∷ [] =
+        ap (λ (l : List Entry). steps_of l c.extend_from_slice.new.self.items) entries ∙ ap (λ (l : List ℕ). steps_of (i.entries.items ++ entry ∷ []) l) payload
+        ∙ steps-push i.entries.items i.payload.items c.args.at c.args.bytes.now c.self.invariant.0.size in
+        ap (λ (l : List Step). let h : History = record { room = i.room; steps = l } in h) steps ∙ ap (λ (h : History). and_then h (Write c.args.at c.args.bytes.now)) c.self.view_is;
+    err = search rules;
+  };
+  covered = search rules;
 }
