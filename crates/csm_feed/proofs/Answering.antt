@@ -9,7 +9,7 @@ use Rattle.csm_grammar.specs.declared.refusal.ReadRefusal.{ReadRefusal}
 use Rattle.csm_grammar.specs.declared.refusal.ReadRefusal.TheVariants as refusal
 use Rattle.csm_grammar.specs.Spelling.{is_separator, Spells}
 use Rattle.csm_grammar.specs.Reading.{IsRead, IsArrival}
-use Rattle.csm_grammar.specs.Laws.{OneAnswer, FaultEnds}
+use Rattle.csm_read.specs.Laws.{OneAnswer, FaultEnds}
 use Rattle.csm_feed.specs.declared.next.Next.{Next}
 use Rattle.csm_feed.specs.declared.next.Next.TheVariants.{Message, NotYet, Refused, NoMemory}
 use Rattle.csm_grammar.specs.Places.{moved}

@@ -7,7 +7,7 @@ use Rattle.csm_grammar.specs.declared.arrival.Arrival.{Arrival}
 use Rattle.csm_grammar.specs.declared.refusal.ReadRefusal.{ReadRefusal}
 use Rattle.csm_grammar.specs.declared.refusal.ReadRefusal.TheVariants as refusal
 use Rattle.csm_grammar.specs.Spelling.{is_separator, AreSeparators}
-use Rattle.csm_grammar.specs.Laws.{OneAnswer, FaultStays, ReadStays}
+use Rattle.csm_read.specs.Laws.{OneAnswer, FaultStays, ReadStays}
 use Rattle.csm_grammar.specs.Places.{moved}
 use Rattle.csm_feed.specs.Streams.{Leads, AreMessages, IsBegun, IsWaiting, IsRefused, EndsWith}
 use Rattle.csm_feed.specs.Laws.{OneHolding, RefusalStays, FirstHeld}

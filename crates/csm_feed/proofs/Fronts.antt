@@ -9,8 +9,9 @@ use Rattle.csm_grammar.specs.declared.arrival.Arrival.{Arrival}
 use Rattle.csm_grammar.specs.declared.parsed.Parsed.{Parsed}
 use Rattle.csm_grammar.specs.declared.refusal.ReadRefusal.{ReadRefusal}
 use Rattle.csm_grammar.specs.Spelling.{is_separator, AreSeparators}
-use Rattle.csm_grammar.specs.Reading.{IsRead, IsArrival, IsFault}
-use Rattle.csm_grammar.specs.Laws.{OneAnswer, OneSpelling, OneFault, ReadStays}
+use Rattle.csm_grammar.specs.Reading.{IsRead, IsArrival}
+use Rattle.csm_read.specs.Faults.{IsFault}
+use Rattle.csm_read.specs.Laws.{OneAnswer, OneSpelling, OneFault, ReadStays}
 use Rattle.csm_feed.specs.Streams.{Leads, IsBegun}
 
 -- bytes in which no message begins

@@ -5,7 +5,7 @@ use Rattle.std.proofs.lemmas.List.{take-append-drop, length-take-le, length-take
 use Rattle.std.proofs.lemmas.List.Sums.{prefix_len-le-length}
 use Rattle.csm_grammar.specs.declared.refusal.ReadRefusal.{ReadRefusal}
 use Rattle.csm_grammar.specs.Spelling.{is_separator, AreSeparators}
-use Rattle.csm_grammar.specs.Laws.{FaultStays}
+use Rattle.csm_read.specs.Laws.{FaultStays}
 use Rattle.csm_feed.specs.Streams.{IsBegun, IsRefused}
 use Rattle.csm_feed.specs.Held.{Feeding, IsKept}
 use Rattle.csm_feed.specs.Feeding.{gap_before, with_bytes, Feeds}

@@ -1,5 +1,5 @@
 -- The separators in front of bytes.
-use Rattle.std.proofs.Common.{◌≡◌, ℕ, zero, suc, ◌+◌, ◌≤◌, ◌<◌, ◌++◌, Bool, true, false, List, [], ◌∷◌, length, take, drop, refl, sym, ◌∙◌, ap, subst, arith}
+use Rattle.std.proofs.Common.{◌≡◌, ℕ, zero, suc, ◌+◌, ◌≤◌, Bool, true, false, List, [], ◌∷◌, length, take, drop, refl, sym, ◌∙◌, ap, subst, arith}
 use Rattle.std.specs.List.{prefix_len}
 use Rattle.std.proofs.lemmas.Bool.{and_from}
 use Rattle.std.proofs.lemmas.List.Sums.{prefix_len-le-length}
@@ -39,13 +39,3 @@ span_take (suc n) (b ∷ bs) h = go (is_separator b) refl (span_take n bs) where
 
 pub span_within : (b : List ℕ) → prefix_len is_separator b ≤ length b
 span_within b = prefix_len-le-length is_separator b
-
--- what stands behind bytes that aren't all separators adds none in front
-pub span_front : (b more : List ℕ) → prefix_len is_separator b < length b → prefix_len is_separator (b ++ more) ≡ prefix_len is_separator b
-span_front [] more h = absurd (omega (arith, h))
-span_front (b ∷ bs) more h = go (is_separator b) refl (span_front bs more) where
-  go : (c : Bool) → is_separator b ≡ c → (prefix_len is_separator bs < length bs → prefix_len is_separator (bs ++ more) ≡ prefix_len is_separator bs) → prefix_len is_separator (b ∷ bs ++ more) ≡ prefix_len is_separator (b ∷ bs)
-  go true e k =
-      let one = one_front b bs e in
-      one_front b (bs ++ more) e ∙ ap suc (k (omega (arith, h, one))) ∙ sym one
-  go false e k = none_front b (bs ++ more) e ∙ sym (none_front b bs e)

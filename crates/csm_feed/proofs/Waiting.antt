@@ -3,9 +3,9 @@ use Rattle.std.proofs.Common.{◌≡◌, ℕ, ◌≤◌, ◌<◌, true, List, �
 use Rattle.std.specs.List.{list_all}
 use Rattle.std.proofs.lemmas.List.{take-append-drop, take-append-le, take_all, length-take-le}
 use Rattle.csm_grammar.specs.declared.refusal.ReadRefusal.TheVariants as refusal
-use Rattle.csm_grammar.specs.Reading.{IsFault}
-use Rattle.csm_grammar.specs.Judging.{is_plain}
-use Rattle.csm_grammar.specs.Laws.{UnendedStays}
+use Rattle.csm_read.specs.Faults.{IsFault}
+use Rattle.csm_read.specs.Judging.{is_plain}
+use Rattle.csm_read.specs.Laws.{UnendedStays}
 use Rattle.csm_feed.specs.Streams.{IsWaiting}
 use Rattle.csm_feed.specs.Held.{IsKnown}
 

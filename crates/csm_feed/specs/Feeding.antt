@@ -9,7 +9,7 @@ use Rattle.csm_grammar.specs.Reading.{IsRead}
 use Rattle.csm_feed.specs.declared.next.Next.{Next}
 use Rattle.csm_feed.specs.declared.next.Next.TheVariants.{Message, NotYet, Refused, NoMemory}
 use Rattle.csm_feed.specs.Streams.{AreMessages, Holds, IsWaiting, IsRefused}
-use Rattle.csm_feed.specs.Held.{Feeding}
+use Rattle.csm_feed.specs.Held.{Feeding, held_limit}
 
 -- how many bytes were pushed
 abbrev pub pushed : Feeding → ℕ
@@ -17,7 +17,7 @@ pushed f = f.before + length f.held
 
 -- no byte more can be held, or counted
 abbrev pub IsFull : Feeding → Type 0
-IsFull f = (length f.held ≡ 1025) ⊎ (pushed f ≡ 2 ^ 64 - 1)
+IsFull f = (length f.held ≡ held_limit) ⊎ (pushed f ≡ 2 ^ 64 - 1)
 
 -- the separators in front of bytes, where nothing is held
 abbrev pub gap_before : List ℕ → List ℕ → ℕ

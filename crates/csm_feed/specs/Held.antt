@@ -3,6 +3,10 @@ use Rattle.std.specs.Prelude.{◌≡◌, ◌≤◌, ◌<◌, ℕ, ◌+◌, ◌^�
 use Rattle.csm_grammar.specs.declared.refusal.ReadRefusal.{ReadRefusal}
 use Rattle.csm_feed.specs.Streams.{IsBegun, IsWaiting, IsRefused}
 
+-- how many bytes are held at most: those of the longest message, and one more
+abbrev pub held_limit : ℕ
+held_limit = 1025
+
 -- the bytes that are held, how many were pushed before them, and the refusal that was given
 pub record Feeding : Type 0 where
   pub held : List ℕ
@@ -11,7 +15,7 @@ pub record Feeding : Type 0 where
 
 -- what a feed keeps
 pub record IsKept (f : Feeding) : Type 0 where
-  pub short : length f.held ≤ 1025
+  pub short : length f.held ≤ held_limit
   pub counted : f.before + length f.held < 2 ^ 64
   pub begun : IsBegun f.held
   pub refused : (r : ReadRefusal) → f.refusal ≡ Some r → IsRefused f.before f.held r

@@ -5,7 +5,8 @@ use Rattle.csm_grammar.specs.declared.arrival.Arrival.{Arrival}
 use Rattle.csm_grammar.specs.declared.refusal.ReadRefusal.{ReadRefusal}
 use Rattle.csm_grammar.specs.declared.refusal.ReadRefusal.TheVariants as refusal
 use Rattle.csm_grammar.specs.Spelling.{is_separator, AreSeparators}
-use Rattle.csm_grammar.specs.Reading.{IsArrival, IsFault}
+use Rattle.csm_grammar.specs.Reading.{IsArrival}
+use Rattle.csm_read.specs.Faults.{IsFault}
 use Rattle.csm_grammar.specs.Places.{moved}
 
 -- the bytes are separators and then a message as it was received, and so on

@@ -1,7 +1,7 @@
 ghost use Rattle.std.specs.Prelude.{◌≡◌, ◌+◌, ◌≢◌, ◌≤◌, ◌<◌, ◌↔◌, ◌^◌, ◌-◌, ℕ, List, [], length, take, Some, None, Err, IfOk, IsOk, IsTrue};
 ghost use Rattle.csm_grammar.specs.declared.arrival.Arrival.{Arrival};
 ghost use Rattle.csm_grammar.specs.declared.refusal.ReadRefusal.{ReadRefusal};
-ghost use Rattle.csm_grammar.specs.Reading.{IsFault};
+ghost use Rattle.csm_read.specs.Faults.{IsFault};
 ghost use Rattle.csm_feed.specs.declared.next.Next.{Next};
 ghost use Rattle.csm_feed.specs.Streams.{AreMessages, IsWaiting};
 ghost use Rattle.csm_feed.specs.Held.{Feeding, IsKept};
@@ -9,9 +9,10 @@ ghost use Rattle.csm_feed.specs.Feeding.{pushed, IsFull, gap_before, with_bytes,
 
 use crate::next::Next;
 use crate::separators::{are_plain, leading_separators};
-use csm_grammar::{
-    Arrival, ReadRefusal, law_fault_ends, law_fault_stays, law_fault_within, law_one_answer,
-    law_unended_stays,
+use csm_grammar::ReadRefusal;
+use csm_read::{
+    law_fault_ends, law_fault_stays, law_fault_within, law_one_answer, law_unended_stays,
+    read_arrival,
 };
 use std::alloc::Global;
 use std::marker::Model;
@@ -36,13 +37,13 @@ pub struct Feed {
 impl Model for Feed {
     ghost use Rattle.std.specs.Prelude.{◌≤◌};
     ghost use Rattle.std.specs.Vec.{vec_capacity};
-    ghost use Rattle.csm_feed.specs.Held.{Feeding, IsKept, IsKnown};
+    ghost use Rattle.csm_feed.specs.Held.{Feeding, IsKept, IsKnown, held_limit};
 
     ghost Value = { Feeding };
 
     ghost view = { λ f. record { held = f.held.items; before = f.before; refusal = f.refusal } };
 
-    ghost invariant = { λ f. IsKept (record { held = f.held.items; before = f.before; refusal = f.refusal }) × (1025 ≤ vec_capacity f.held) × IsKnown f.unended f.held.items };
+    ghost invariant = { λ f. IsKept (record { held = f.held.items; before = f.before; refusal = f.refusal }) × (held_limit ≤ vec_capacity f.held) × IsKnown f.unended f.held.items };
 }
 
 impl Feed {
@@ -114,7 +115,7 @@ impl Feed {
         if self.held.is_empty() || self.is_unended() {
             return self.wait();
         }
-        match Arrival::read(alloc, self.held.as_slice()) {
+        match read_arrival(alloc, self.held.as_slice()) {
             Ok(arrival) => {
                 self.release(arrival.parsed.len);
                 Next::Message(arrival)

@@ -1,7 +1,7 @@
 // What is promised of every stream, whatever cuts it.
 ghost use Rattle.csm_feed.specs.Laws.{OneHolding, RefusalStays, FirstHeld, OneHearing};
 
-use csm_grammar::{law_fault_stays, law_one_answer, law_read_stays};
+use csm_read::{law_fault_stays, law_one_answer, law_read_stays};
 
 /// A stream holds one list of messages, and behind them one refusal or none.
 pub fn law_one_holding()

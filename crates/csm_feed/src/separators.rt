@@ -1,10 +1,11 @@
 ghost use Rattle.std.specs.Prelude.{◌≡◌, ◌≤◌, length, drop};
 ghost use Rattle.std.specs.List.{prefix_len, list_all};
 ghost use Rattle.csm_grammar.specs.Spelling.{is_separator};
-ghost use Rattle.csm_grammar.specs.Judging.{is_plain};
+ghost use Rattle.csm_read.specs.Judging.{is_plain};
 ghost use Rattle.csm_feed.specs.Streams.{IsBegun};
 
-use csm_grammar::{is_plain, is_separator};
+use csm_grammar::is_separator;
+use csm_read::is_plain;
 
 /// How many separators come first.
 #[tactic(auto, using(crate::proofs::Spans::span_within, crate::proofs::Spans::span_begun))]

@@ -14,11 +14,12 @@ use Rattle.x_base.specs.KeyName.{parts_of}
 use Rattle.csm_grammar.specs.declared.tag.Tag.{Tag}
 use Rattle.csm_grammar.specs.declared.message.Service.{Service}
 use Rattle.csm_grammar.specs.declared.message.Message.{Message}
+use Rattle.csm_grammar.specs.declared.parsed.Shut.{Shut}
 use Rattle.csm_grammar.specs.Tags.{same_tag}
 use Rattle.csm_grammar.specs.Classes.{class_text, forms}
 use Rattle.csm_grammar.specs.Values.{Value, AText, AName, AService, ANumber, APair, Kind, OfClass, OfIdent, OfService, OfName, OfLabel, OfPair, OfKey, OfCount, OfReason, OfText, OfCode, Unsupported, kind_of, is_hex, is_count, is_reason_byte, is_text_byte, services, service_text, name_of_parts, value_if, value_of}
 use Rattle.csm_grammar.specs.Messages.{Valued, fields_of, shut_field, all_fields}
-use Rattle.csm_grammar.specs.Spelling.{Field, values_in, values_for, Says, fields_in}
+use Rattle.csm_grammar.specs.Spelling.{Field, values_in, values_for, Spells, Says, fields_in}
 use Rattle.csm_grammar.specs.Kinds.{IsOfKind, IsFieldOfKind}
 use Rattle.csm_grammar.specs.Arrivals.{SaidTyped}
 use Rattle.csm_grammar.proofs.TagLemmas.{same_tags, same_itself}
@@ -175,8 +176,11 @@ unwrapped k [] h = tt
 unwrapped k (v ∷ vs) h = (h.0, unwrapped k vs h.1)
 
 -- the values that a message has for a tag are of its kind
+spelled_values : (t : Tag) (b : List ℕ) (m : Message) (shut : Shut) (n : ℕ) (s : Spells b m shut n) → AllByRecursion (IsOfKind (kind_of t)) (values_for t (all_fields m shut))
+spelled_values t b m shut n s = unwrapped (kind_of t) (values_for t (all_fields m shut)) (subst (AllByRecursion (OfKindIfAny (kind_of t))) (s.values t) (typed_in t (fields_in (s.fields ++ s.last ∷ []))))
+
 pub values_typed : (t : Tag) (text : List ℕ) (m : Message) (s : Says text m) → AllByRecursion (IsOfKind (kind_of t)) (values_for t (all_fields m s.shut))
-values_typed t text m s = unwrapped (kind_of t) (values_for t (all_fields m s.shut)) (subst (AllByRecursion (OfKindIfAny (kind_of t))) (s.spelled.values t) (typed_in t (fields_in (s.spelled.fields ++ s.spelled.last ∷ []))))
+values_typed t text m s = spelled_values t (text ++ s.rest) m s.shut (length text) s.spelled
 
 -- so each field is
 
@@ -199,5 +203,8 @@ in_front : (vs ws : List Valued) → AllByRecursion IsFieldOfKind (vs ++ ws) →
 in_front [] ws h = tt
 in_front (v ∷ vs) ws h = (h.0, in_front vs ws h.1)
 
+pub spelled_typed : (b : List ℕ) (m : Message) (shut : Shut) (n : ℕ) → Spells b m shut n → AllByRecursion IsFieldOfKind (fields_of m)
+spelled_typed b m shut n s = in_front (fields_of m) (shut_field shut ∷ []) (each_typed (all_fields m shut) (λ t. spelled_values t b m shut n s)).1
+
 pub said_typed : SaidTyped
-said_typed text m s = in_front (fields_of m) (shut_field s.shut ∷ []) (each_typed (all_fields m s.shut) (λ t. values_typed t text m s)).1
+said_typed text m s = spelled_typed (text ++ s.rest) m s.shut (length text) s.spelled

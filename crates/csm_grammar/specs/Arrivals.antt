@@ -28,10 +28,6 @@ SaidTyped = (text : List ℕ) (m : Message) → Says text m → AllByRecursion I
 
 -- what holds of every arrival
 pub record IsArrived (a : Arrival) : Type 0 where
-  -- what it keeps is read of its text
-  pub read : IsRead a.text a.parsed
-  -- its authenticated text says its message
-  pub says : Says (authenticated a) a.parsed.message
   -- it is closed by a code that its form allows
   pub allowed : AllowsItsCode a.parsed
   -- its values are of the kinds of their tags

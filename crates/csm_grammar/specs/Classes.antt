@@ -1,5 +1,5 @@
 -- The forms of each class, and the tags that a form has (this project's profile).
-use Rattle.std.specs.Prelude.{ℕ, ◌==◌, Bool, List, [], ◌∷◌, ◌++◌, length, codes, bytes_eq, if◌then◌else◌}
+use Rattle.std.specs.Prelude.{ℕ, ◌==◌, Bool, List, [], ◌∷◌, ◌++◌, length, slice_get, unwrap_or, codes, bytes_eq, if◌then◌else◌}
 use Rattle.std.specs.List.{filter}
 use Rattle.csm_grammar.specs.declared.tag.Tag.{Tag}
 use Rattle.csm_grammar.specs.declared.tag.Tag.TheVariants.{Mcl, Rcv, Org, Svr, Idu, Idc, Idd, Ida, Idk1, Idk2, DoubleKk, Kk, Kd, Kdu, Ctp, Cta, Ctb, Ctr, Erf, Iv, Edk, P, Mac, Edc}
@@ -81,6 +81,10 @@ closing F10 = Mac ∷ []
 closing F11 = Mac ∷ Edc ∷ []
 closing F12 = Mac ∷ []
 closing F13 = Mac ∷ []
+
+-- the first closing tag of a form
+abbrev pub code_tag : Form → Tag
+code_tag f = unwrap_or (slice_get (closing f) 0) Mac
 
 -- a form's only closing tag is required; where it has two, each is optional
 abbrev pub need_of : Form → Tag → Need

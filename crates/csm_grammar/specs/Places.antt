@@ -1,7 +1,21 @@
--- The places of refusals (this project's profile).
+-- The numbers and the places of refusals (this project's profile).
 use Rattle.std.specs.Prelude.{ℕ, ◌+◌}
 use Rattle.csm_grammar.specs.declared.refusal.ReadRefusal.{ReadRefusal}
 use Rattle.csm_grammar.specs.declared.refusal.ReadRefusal.TheVariants as refusal
+
+-- the number of a refusal to read; want of memory has none, and gives 0
+abbrev pub read_number : ReadRefusal → ℕ
+read_number (refusal.NotCsm place) = 5
+read_number (refusal.TooLong place) = 6
+read_number (refusal.Unended place) = 7
+read_number (refusal.BadTag place) = 8
+read_number (refusal.UnknownTag place) = 9
+read_number (refusal.Repeated tag place) = 10
+read_number (refusal.Missing tag place) = 11
+read_number (refusal.Unwanted tag place) = 12
+read_number (refusal.BadContents tag place) = 13
+read_number (refusal.Unsupported tag place) = 14
+read_number refusal.NoMemory = 0
 
 -- how many bytes stand before a fault; want of memory has no place
 abbrev pub place_of : ReadRefusal → ℕ

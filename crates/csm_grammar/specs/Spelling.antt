@@ -71,6 +71,10 @@ values_for t vs = map (λ v. v.value) (filter (λ v. same_tag v.tag t) vs)
 abbrev pub StandFor : List Field → Message → Shut → Type 0
 StandFor fs m shut = (t : Tag) → values_in t fs ≡ map Some (values_for t (all_fields m shut))
 
+-- how many bytes a message has at most
+abbrev pub message_limit : ℕ
+message_limit = 1024
+
 -- the bytes are the spelling of the message, closed by the code: MCL comes first, the code last, the
 -- other fields in any order. The first `a` bytes end before the tag of the code
 pub record Spells (b : List ℕ) (m : Message) (shut : Shut) (a : ℕ) : Type 0 where
@@ -78,7 +82,7 @@ pub record Spells (b : List ℕ) (m : Message) (shut : Shut) (a : ℕ) : Type 0 
   pub fields : List Spelled
   pub last : Spelled
   pub text : b ≡ codes "CSM(" ++ (front ++ (flat_map spelled_text (fields ++ last ∷ []) ++ codes ")"))
-  pub short : length b ≤ 1024
+  pub short : length b ≤ message_limit
   pub separators : AreSeparators front
   pub parted : AreParted (fields ++ last ∷ [])
   pub others : List Tag

@@ -1,20 +1,18 @@
 // What the contents of a field stand for (ANSI X9.17).
-ghost use Rattle.std.specs.Prelude.{◌≡◌, ◌++◌, option_map, is_some, false, take, drop, MatchOption};
+ghost use Rattle.std.specs.Prelude.{◌≡◌, ◌++◌, option_map, take, drop, MatchOption};
 ghost use Rattle.std.specs.List.{list_all};
 ghost use Rattle.std.specs.Str.Parse.{digits_value};
 ghost use Rattle.csm_grammar.specs.Halves.{IsHalved};
-ghost use Rattle.csm_grammar.specs.Values.{value_of, kind_of, value_if, is_hex, is_capital_or_digit, is_reason_byte, is_text_byte};
+ghost use Rattle.csm_grammar.specs.Values.{value_of, value_if, is_hex, is_capital_or_digit, is_reason_byte, is_text_byte};
 ghost use Rattle.csm_grammar.specs.Values.Value.{AText, AName, AService, ANumber, APair};
-ghost use Rattle.csm_grammar.specs.Denoting.{is_number, IsDenoted};
 ghost use Rattle.csm_grammar.specs.Values.Kind.{OfClass, OfIdent, OfService, OfName, OfLabel, OfPair, OfKey, OfCount, OfReason, OfText, OfCode};
 
 use crate::message::Service;
-use crate::tag::Tag;
 use hex::FromHex;
 use x_base::{Count, Ident, KeyName, Label};
 
 /// One of the eight classes.
-fn class(contents: &[u8]) -> Option<&[u8]>
+pub fn class(contents: &[u8]) -> Option<&[u8]>
     ensures { option_map (λ x. AText x.now) result ≡ value_of OfClass contents.now }
 {
     match contents {
@@ -174,89 +172,5 @@ pub fn text(contents: &[u8]) -> Option<&[u8]>
         Some(contents)
     } else {
         None
-    }
-}
-
-macro_rules! reads {
-    ($tag:expr, $contents:expr; $($name:ident by $reader:ident),*) => {
-        match $tag {
-            $(Tag::$name => $reader($contents).is_some(),)*
-            Tag::Kku | Tag::DoubleKku | Tag::Nos => false,
-        }
-    };
-}
-
-/// Whether the contents of the tag stand for something.
-fn is_contents(tag: Tag, contents: &[u8]) -> bool
-    ensures { result ≡ is_some (value_of (kind_of tag) contents.now) }
-{
-    reads!(tag, contents;
-        Mcl by class, Rcv by ident, Org by ident, Svr by service, Idu by ident, Idc by ident,
-        Idd by name, Ida by name, Idk1 by label, Idk2 by label, DoubleKk by pair, Kk by key,
-        Kd by key, Kdu by key, Ctp by count, Cta by count, Ctb by count, Ctr by count,
-        Erf by reason, Iv by text, Edk by text, P by text, Mac by code, Edc by code)
-}
-
-fn key_denoted(contents: &[u8]) -> Option<u64>
-    ensures { IsDenoted OfKey contents.now result }
-{
-    key(contents)
-}
-
-fn count_denoted(contents: &[u8]) -> Option<u64>
-    ensures { IsDenoted OfCount contents.now result }
-{
-    match count(contents) {
-        Some(count) => Some(count.value()),
-        None => None,
-    }
-}
-
-fn code_denoted(contents: &[u8]) -> Option<u64>
-    ensures { IsDenoted OfCode contents.now result }
-{
-    match code(contents) {
-        Some(code) => Some(code as u64),
-        None => None,
-    }
-}
-
-fn other_denoted(tag: Tag, contents: &[u8]) -> Option<u64>
-    requires { is_number (kind_of tag) ≡ false }
-    ensures { IsDenoted (kind_of tag) contents.now result }
-{
-    if is_contents(tag, contents) {
-        Some(0)
-    } else {
-        None
-    }
-}
-
-/// The number that the contents of the tag stand for, or 0 where they stand for another value.
-pub fn denoted(tag: Tag, contents: &[u8]) -> Option<u64>
-    ensures { IsDenoted (kind_of tag) contents.now result }
-{
-    match tag {
-        Tag::Kk | Tag::Kd | Tag::Kdu => key_denoted(contents),
-        Tag::Ctp | Tag::Cta | Tag::Ctb | Tag::Ctr => count_denoted(contents),
-        Tag::Mac | Tag::Edc => code_denoted(contents),
-        Tag::Mcl
-        | Tag::Rcv
-        | Tag::Org
-        | Tag::Svr
-        | Tag::Idu
-        | Tag::Idc
-        | Tag::Idd
-        | Tag::Ida
-        | Tag::Idk1
-        | Tag::Idk2
-        | Tag::DoubleKk
-        | Tag::Erf
-        | Tag::Iv
-        | Tag::Edk
-        | Tag::P
-        | Tag::Kku
-        | Tag::DoubleKku
-        | Tag::Nos => other_denoted(tag, contents),
     }
 }

@@ -1,6 +1,5 @@
 ghost use Rattle.std.specs.Prelude.{◌≡◌, nat_le};
-ghost use Rattle.csm_grammar.specs.Classes.{times};
-ghost use Rattle.csm_grammar.specs.Slotting.{code_tag};
+ghost use Rattle.csm_grammar.specs.Classes.{code_tag, times};
 
 use crate::tag::Tag;
 

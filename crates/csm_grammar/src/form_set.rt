@@ -11,8 +11,8 @@ use crate::tag::Tag;
 /// A set of forms, a bit for each: that of RSI is the lowest, that of DSM the highest.
 #[derive(Clone, Copy)]
 pub struct FormSet {
-    bits: u16,
-    ghost small: { bits < 8192 },
+    pub bits: u16,
+    pub ghost small: { bits < 8192 },
 }
 
 fn class_bits(class: &[u8]) -> u16

@@ -1,5 +1,5 @@
 ghost use Rattle.std.specs.Prelude.{◌≡◌, ◌+◌, ◌<◌, ◌^◌};
-ghost use Rattle.csm_grammar.specs.Places.{place_of, moved};
+ghost use Rattle.csm_grammar.specs.Places.{read_number, place_of, moved};
 
 use crate::tag::Tag;
 
@@ -26,6 +26,26 @@ pub enum ReadRefusal {
 }
 
 impl ReadRefusal {
+    /// The number of the refusal in a status line (this project's profile). Want of memory has none,
+    /// and gives 0.
+    pub fn number(self) -> u32
+        ensures { result ≡ read_number self }
+    {
+        match self {
+            ReadRefusal::NotCsm(_) => 5,
+            ReadRefusal::TooLong(_) => 6,
+            ReadRefusal::Unended(_) => 7,
+            ReadRefusal::BadTag(_) => 8,
+            ReadRefusal::UnknownTag(_) => 9,
+            ReadRefusal::Repeated(_, _) => 10,
+            ReadRefusal::Missing(_, _) => 11,
+            ReadRefusal::Unwanted(_, _) => 12,
+            ReadRefusal::BadContents(_, _) => 13,
+            ReadRefusal::Unsupported(_, _) => 14,
+            ReadRefusal::NoMemory => 0,
+        }
+    }
+
     /// How many bytes stand before the fault. Want of memory has no place, and gives 0.
     pub fn place(self) -> u64
         ensures { result ≡ place_of self }

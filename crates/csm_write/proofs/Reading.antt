@@ -11,7 +11,8 @@ use Rattle.csm_grammar.specs.declared.parsed.Parsed.{Parsed}
 use Rattle.csm_grammar.specs.Values.{kind_of}
 use Rattle.csm_grammar.specs.Messages.{Valued, form_of, fields_of, shut_field, all_fields}
 use Rattle.csm_grammar.specs.Reading.{IsRead}
-use Rattle.csm_grammar.specs.Laws.{IsFor, OneAnswer, WrittenRead}
+use Rattle.csm_grammar.specs.Written.{IsFor}
+use Rattle.csm_read.specs.Laws.{OneAnswer, WrittenRead}
 use Rattle.csm_write.specs.declared.closing.Closing.{Closing}
 use Rattle.csm_write.specs.declared.closing.Closing.TheVariants as closings
 use Rattle.csm_write.specs.Canon.{field_for, front_fields, auth_of, shut_over, shut_of, canon}

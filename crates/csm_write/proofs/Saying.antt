@@ -3,7 +3,7 @@ use Rattle.std.proofs.Common.{◌≡◌, ℕ, List, [], ◌++◌, length, take, 
 use Rattle.std.proofs.Math.Seq.{take-append_seam}
 use Rattle.std.specs.Prelude.{codes}
 use Rattle.csm_grammar.specs.declared.message.Message.{Message}
-use Rattle.csm_grammar.specs.Laws.{OneMeaning, ReadSays}
+use Rattle.csm_read.specs.Laws.{OneMeaning, ReadSays}
 use Rattle.csm_grammar.specs.Messages.{shut_field}
 use Rattle.csm_grammar.specs.Spelling.{Says, field_text}
 use Rattle.csm_write.specs.declared.closing.Closing.{Closing}

@@ -14,7 +14,7 @@ use Rattle.csm_grammar.specs.Classes.{class_text}
 use Rattle.csm_grammar.specs.Values.{Value, AText, AName, AService, ANumber, APair, Kind, OfKey, OfCode, kind_of, service_text}
 use Rattle.csm_grammar.specs.Messages.{Valued, valued, form_of, fields_of, shut_field}
 use Rattle.csm_grammar.specs.Spelling.{Field}
-use Rattle.csm_grammar.specs.Laws.{auth_text, blank_text}
+use Rattle.csm_grammar.specs.Written.{auth_text, blank_text}
 use Rattle.csm_write.specs.declared.closing.Closing.{Closing}
 use Rattle.csm_write.specs.declared.closing.Closing.TheVariants as closings
 

@@ -3,6 +3,7 @@ use Rattle.std.specs.Prelude.{ℕ, ◌≤◌, length, sum_by}
 use Rattle.csm_grammar.specs.declared.message.Message.{Message}
 use Rattle.csm_grammar.specs.Values.{Value, AText, Kind, OfReason, OfText, kind_of}
 use Rattle.csm_grammar.specs.Messages.{fields_of}
+use Rattle.csm_grammar.specs.Spelling.{message_limit}
 use Rattle.csm_write.specs.declared.closing.Closing.{Closing}
 use Rattle.csm_write.specs.Canon.{canon}
 use Rattle.csm_write.specs.Writable.{AreTyped}
@@ -19,4 +20,4 @@ free_length m = sum_by (λ v. free_bytes (kind_of v.tag) v.value) (fields_of m)
 
 -- where they are 64 at most, the text is short enough to be read back
 abbrev pub CanonShort : Type 0
-CanonShort = (m : Message) (c : Closing) → AreTyped m c → free_length m ≤ 64 → length (canon m c) ≤ 1024
+CanonShort = (m : Message) (c : Closing) → AreTyped m c → free_length m ≤ 64 → length (canon m c) ≤ message_limit

@@ -8,6 +8,7 @@ use Rattle.csm_grammar.specs.declared.message.Message.{Message}
 use Rattle.csm_grammar.specs.Classes.{allows}
 use Rattle.csm_grammar.specs.Values.{Value, AText, AName, AService, ANumber, APair, Kind, OfIdent, OfService, OfName, OfLabel, OfPair, OfKey, OfCount, OfReason, OfText, OfCode, kind_of, Denotes}
 use Rattle.csm_grammar.specs.Messages.{Valued, form_of, fields_of, shut_field}
+use Rattle.csm_grammar.specs.Spelling.{message_limit}
 use Rattle.csm_write.specs.declared.closing.Closing.{Closing}
 use Rattle.csm_write.specs.declared.closing.Closing.TheVariants as closings
 use Rattle.csm_write.specs.Canon.{shut_of, canon}
@@ -22,7 +23,7 @@ IsProperText k v = Unit {0}
 pub record Writable (m : Message) (c : Closing) : Type 0 where
   pub texts : All (λ v. IsProperText (kind_of v.tag) v.value) (fields_of m)
   pub allowed : allows (form_of m) (shut_field (shut_of m c)).tag ≡ true
-  pub short : length (canon m c) ≤ 1024
+  pub short : length (canon m c) ≤ message_limit
 
 -- the values that the type of a field holds
 abbrev pub IsTyped : Kind → Value → Type 0

@@ -1,7 +1,7 @@
 // What is promised of every canonical text.
 ghost use Rattle.csm_write.specs.Laws.{AuthSays, CanonReadsBack, CanonRewrites};
 
-use csm_grammar::{law_one_answer, law_one_meaning, law_read_says, law_written_read};
+use csm_read::{law_one_answer, law_one_meaning, law_read_says, law_written_read};
 
 /// The canonical text of a writable message is read as this message, whatever follows.
 pub fn law_canon_reads_back()

@@ -10,4 +10,4 @@ pub(crate) const SECOND_START: u64 = 8_388_616;
 pub(crate) const AREA_SIZE: u64 = 8_388_600;
 
 /// The length of the largest body.
-pub(crate) const LARGEST_BODY: u64 = 4_194_304;
+pub const LARGEST_BODY: u64 = 4_194_304;

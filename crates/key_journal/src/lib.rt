@@ -23,5 +23,6 @@ pub use broken::Broken;
 pub use cause::{Cause, Unmade};
 pub use frame_text::{close_frame, frame};
 pub use laws::{law_blank_sound_or_damaged, law_gates, law_one_damage, law_one_list};
+pub use layout::LARGEST_BODY;
 pub use opened::{Opened, open_disk};
 pub use ready::{Ready, Staged};

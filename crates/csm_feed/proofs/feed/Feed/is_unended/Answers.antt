@@ -1,6 +1,6 @@
 use Rattle.std.proofs.Common.{rules, arith, ◌≡◌, ◌≤◌, ◌<◌, true, length, drop, subst}
 use Rattle.std.specs.List.{list_all}
-use Rattle.csm_grammar.specs.Judging.{is_plain}
+use Rattle.csm_read.specs.Judging.{is_plain}
 use Rattle.csm_feed.specs.Streams.{IsWaiting}
 use Rattle.csm_feed.proofs.Waiting.{known_waiting}
 use Rattle.csm_feed.proofs.feed.Feed.is_unended.Goals as goal

@@ -1,6 +1,0 @@
-use Rattle.std.proofs.Common.{sym}
-use Rattle.csm_grammar.proofs.UnitLemmas.{not_half_long}
-use Rattle.csm_grammar.proofs.units.waits.Goals as goal
-
-pub returns-then-len-ne8 : goal.returns-then-len-ne8
-returns-then-len-ne8 c = sym (not_half_long c.args.len c.args.bytes.now _ c.requires c.if-len-ne8.true)

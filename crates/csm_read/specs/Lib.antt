@@ -1,0 +1,9 @@
+pub mod Units
+pub mod Faults
+pub mod Judging
+pub mod Laws
+pub mod Scanning
+pub mod Slotting
+pub mod Denoting
+pub mod Building
+pub mod Answers
