@@ -4,7 +4,7 @@ use Rattle.std.specs.Prelude.{option_map}
 use Rattle.std.proofs.lemmas.Bool.Decides.{Decides-and, Decides-like}
 use Rattle.std.proofs.lemmas.List.{take_all, take-take}
 use Rattle.x_base.specs.declared.key_name.FullName.{FullName}
-use Rattle.party_state.proofs.Keys.{test_idents, test_names}
+use Rattle.party_tables.proofs.Keys.{test_idents, test_names}
 use Rattle.fact_book.specs.declared.entry.Entry.{Entry}
 use Rattle.fact_book.specs.Facts.{NamedText, same_full_name, has_named}
 use Rattle.fact_book.specs.Book.{latest_of, facts_of, is_this_text, Reaches}

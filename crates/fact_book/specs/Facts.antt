@@ -2,7 +2,7 @@
 use Rattle.std.specs.Prelude.{ℕ, Bool, ◌&&◌, List, bytes_eq}
 use Rattle.std.specs.List.{list_any}
 use Rattle.x_base.specs.declared.key_name.FullName.{FullName}
-use Rattle.party_state.specs.Keys.{same_name}
+use Rattle.party_tables.specs.Keys.{same_name}
 
 -- the key of this name made the code of this authenticated text
 pub record NamedText : Type 0 where

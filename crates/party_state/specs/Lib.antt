@@ -1,13 +1,8 @@
-pub mod Tables
-pub mod Keys
-pub mod Keyed
 pub mod State
 pub mod Rooms
 pub mod Prepared
 pub mod Ranges
 pub mod Formed
-pub mod Names
 pub mod Verdicts
 pub mod Limits
 pub mod Rows
-pub mod Show

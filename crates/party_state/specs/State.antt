@@ -1,24 +1,23 @@
 -- A party's state, what is looked up in it, and what an edit makes of it (this project's profile).
-use Rattle.std.specs.Prelude.{ℕ, ◌==◌, Bool, true, false, not, ◌&&◌, ◌||◌, Option, List, [], ◌∷◌, filter, bytes_eq, codes}
+use Rattle.std.specs.Prelude.{ℕ, ◌==◌, Bool, not, ◌&&◌, ◌||◌, Option, List, [], ◌∷◌, filter, bytes_eq, codes}
 use Rattle.std.specs.List.{find, list_any}
 use Rattle.x_base.specs.Ident.{expanded}
 use Rattle.x_base.specs.declared.party.Role.{Role}
 use Rattle.x_base.specs.declared.party.Side.{Side}
 use Rattle.x_mac.specs.declared.pair.Pair.{Pair}
 use Rattle.x_gen.specs.declared.generator.Gen.{Gen}
-use Rattle.party_state.specs.declared.link.LinkKey.{LinkKey}
-use Rattle.party_state.specs.declared.link.LinkRec.{LinkRec}
-use Rattle.party_state.specs.declared.key.RecordKey.{RecordKey}
-use Rattle.party_state.specs.declared.key.KeyRec.{KeyRec}
-use Rattle.party_state.specs.declared.key.KeyStatus.{KeyStatus}
-use Rattle.party_state.specs.declared.key.KeyStatus.TheVariants.{Ended}
-use Rattle.party_state.specs.declared.exchange.Exchange.{Exchange}
-use Rattle.party_state.specs.declared.answer.AnswerKey.{AnswerKey}
-use Rattle.party_state.specs.declared.answer.Answer.{Answer}
+use Rattle.party_tables.specs.declared.link.LinkKey.{LinkKey}
+use Rattle.party_tables.specs.declared.link.LinkRec.{LinkRec}
+use Rattle.party_tables.specs.declared.key.RecordKey.{RecordKey}
+use Rattle.party_tables.specs.declared.key.KeyRec.{KeyRec}
+use Rattle.party_tables.specs.declared.exchange.Exchange.{Exchange}
+use Rattle.party_tables.specs.declared.answer.AnswerKey.{AnswerKey}
+use Rattle.party_tables.specs.declared.answer.Answer.{Answer}
 use Rattle.party_state.specs.declared.edit.Edit.{Edit}
 use Rattle.party_state.specs.declared.edit.Edit.TheVariants.{Begin, PutLink, DropLink, PutKey, DropEnded, PutExchange, DropExchange, PutAnswer, SetGen}
-use Rattle.party_state.specs.Tables.{find_row, put_row, drop_row}
-use Rattle.party_state.specs.Keys.{same_side, same_link, same_record, same_answer, link_key, record_key, exchange_key, answer_key}
+use Rattle.party_tables.specs.Tables.{find_row, put_row, drop_row}
+use Rattle.party_tables.specs.Statuses.{is_ended}
+use Rattle.party_tables.specs.Keys.{same_side, same_link, same_record, same_answer, link_key, record_key, exchange_key, answer_key}
 
 -- a party: who it is, its generator, and its four tables
 pub record Party : Type 0 where
@@ -81,10 +80,6 @@ abbrev pub aliases : List ℕ → Party → Bool
 aliases peer p = expands_alike peer p.own || list_any (λ l. not (bytes_eq peer l.peer) && expands_alike peer l.peer) p.links
 
 -- edits
-
-abbrev pub is_ended : KeyStatus → Bool
-is_ended Ended = true
-is_ended _ = false
 
 -- the party after an edit
 abbrev pub apply_edit : Edit → Party → Party

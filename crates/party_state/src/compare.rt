@@ -2,7 +2,7 @@
 ghost use Rattle.std.specs.Prelude.{◌≡◌, ◌&&◌, not, bytes_eq};
 ghost use Rattle.party_state.specs.State.{is_usable, same_pair, expands_alike};
 
-use crate::link::LinkRec;
+use party_tables::LinkRec;
 use x_base::{Ident, Side};
 use x_mac::Pair;
 

@@ -1,5 +1,62 @@
+ghost use Rattle.std.specs.Prelude.{◌≡◌, ◌≢◌, [], option_map, IfNone, IfSome};
+
 use crate::edit::Change;
+use std::marker::Model;
 use x_base::{FullName, Text, Verdict};
+
+/// The edits of a decision, in order; none where nothing changes.
+#[derive(Drop)]
+pub struct Edits {
+    change: Option<Change>,
+}
+
+impl Model for Edits {
+    ghost use Rattle.std.specs.Prelude.{◌≢◌, List, [], IfSome, unwrap_or};
+    ghost use Rattle.party_state.specs.declared.edit.Edit.{Edit};
+
+    ghost Value = { List Edit };
+
+    ghost view = { λ e. unwrap_or e.change [] };
+
+    ghost invariant = { λ e. IfSome e.change (λ change. change ≢ []) };
+}
+
+impl Edits {
+    /// No edits. It takes no memory.
+    pub fn none() -> Edits
+        ensures { result ≡ [] }
+    {
+        Edits { change: None }
+    }
+
+    /// The edits of a change.
+    pub fn of(change: Change) -> Edits
+        ensures { result ≡ change }
+    {
+        if change.is_empty() {
+            return Edits::none();
+        }
+        Edits {
+            change: Some(change),
+        }
+    }
+
+    /// The change that they make, and none exactly where there are no edits.
+    pub fn into_change(self) -> Option<Change>
+        ensures some { IfSome result (λ change. (change ≡ self) × (self ≢ [])) }
+        ensures none { IfNone result (self ≡ []) }
+    {
+        self.change
+    }
+
+    /// The same, by reference.
+    pub fn change(&self) -> &Option<Change>
+        ensures some { IfSome result.now (λ change. (change ≡ self.now) × (self.now ≢ [])) }
+        ensures none { IfNone result.now (self.now ≡ []) }
+    {
+        &self.change
+    }
+}
 
 /// What a party decides: what changes, what it writes, and the key under which it makes a code.
 ///
@@ -7,7 +64,7 @@ use x_base::{FullName, Text, Verdict};
 /// code, and where a text that is kept is written again.
 #[derive(Drop)]
 pub struct Decision {
-    pub change: Option<Change>,
+    pub change: Edits,
     pub reply: Option<Text>,
     pub under: Option<FullName>,
     pub verdict: Verdict,

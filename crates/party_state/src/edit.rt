@@ -1,11 +1,8 @@
 ghost use Rattle.std.specs.Prelude.{◌≡◌, ◌==◌, ◌++◌, ◌∷◌, [], length, IfOk, OnOk, OnErr, option_map, slice_get};
 ghost use Rattle.party_state.specs.Ranges.{InRange, AreInRange, IsFitting, AreFitting};
 
-use crate::answer::Answer;
-use crate::exchange::Exchange;
-use crate::key::KeyRec;
-use crate::link::LinkRec;
 use crate::ranges::{law_each_edit, law_edit};
+use party_tables::{Answer, Exchange, KeyRec, LinkRec};
 use std::alloc::Global;
 use std::marker::Model;
 use x_base::{Ident, Label, NoMemory, Role, Side};

@@ -6,16 +6,17 @@ ghost use Rattle.x_base.specs.declared.verdict.Verdict.TheVariants.{Accept};
 ghost use Rattle.x_gen.specs.declared.generator.Gen.{Gen as TheGen};
 ghost use Rattle.party_state.specs.declared.edit.Edit.{Edit as TheEdit};
 ghost use Rattle.party_state.specs.declared.edit.Edit.TheVariants.{PutLink, DropLink, PutKey, DropEnded, PutExchange, DropExchange, PutAnswer};
-ghost use Rattle.party_state.specs.declared.link.LinkKey.{LinkKey as TheLinkKey};
-ghost use Rattle.party_state.specs.declared.link.LinkRec.{LinkRec as TheLink};
-ghost use Rattle.party_state.specs.declared.key.RecordKey.{RecordKey as TheRecordKey};
-ghost use Rattle.party_state.specs.declared.key.KeyRec.{KeyRec as TheRecord};
-ghost use Rattle.party_state.specs.declared.exchange.Exchange.{Exchange as TheExchange};
-ghost use Rattle.party_state.specs.declared.answer.AnswerKey.{AnswerKey as TheAnswerKey};
-ghost use Rattle.party_state.specs.declared.answer.Answer.{Answer as TheAnswer};
-ghost use Rattle.party_state.specs.Keys.{same_link, same_record, same_answer, link_key, record_key, exchange_key, answer_key};
+ghost use Rattle.party_tables.specs.declared.link.LinkKey.{LinkKey as TheLinkKey};
+ghost use Rattle.party_tables.specs.declared.link.LinkRec.{LinkRec as TheLink};
+ghost use Rattle.party_tables.specs.declared.key.RecordKey.{RecordKey as TheRecordKey};
+ghost use Rattle.party_tables.specs.declared.key.KeyRec.{KeyRec as TheRecord};
+ghost use Rattle.party_tables.specs.declared.exchange.Exchange.{Exchange as TheExchange};
+ghost use Rattle.party_tables.specs.declared.answer.AnswerKey.{AnswerKey as TheAnswerKey};
+ghost use Rattle.party_tables.specs.declared.answer.Answer.{Answer as TheAnswer};
+ghost use Rattle.party_tables.specs.Keys.{same_link, same_record, same_answer, link_key, record_key, exchange_key, answer_key};
 ghost use Rattle.party_state.specs.Ranges.{IsGen, AreInRange, IsParty};
-ghost use Rattle.party_state.specs.State.{Party, begun, apply, apply_edit, link_with, record_with, exchange_with, answer_with, is_ended};
+ghost use Rattle.party_tables.specs.Statuses.{is_ended};
+ghost use Rattle.party_state.specs.State.{Party, begun, apply, apply_edit, link_with, record_with, exchange_with, answer_with};
 ghost use Rattle.party_state.specs.Verdicts.{Test, verdict_of, Held, is_accept, all_refuse};
 
 /// A verdict is Accept exactly where each test held.
@@ -27,14 +28,14 @@ pub fn law_accept()
 {}
 
 /// A party that begins is in range, and stays so after edits that are.
-#[tactic(auto, using(crate::proofs::Edits::party_new, crate::proofs::Edits::party_apply))]
+#[tactic(auto, using(crate::proofs::Editing::party_new, crate::proofs::Editing::party_apply))]
 pub fn law_party()
     ensures begins { (own : List ℕ) (role : TheRole) (g : TheGen) → IsIdent own → IsGen g → IsParty (begun own role g) }
     ensures stays { (es : List TheEdit) (p : Party) → AreInRange es → IsParty p → IsParty (apply es p) }
 {}
 
 /// Edits one after another.
-#[tactic(auto, using(crate::proofs::Edits::apply_append))]
+#[tactic(auto, using(crate::proofs::Editing::apply_append))]
 pub fn law_edits()
     ensures { (es fs : List TheEdit) (p : Party) → apply (es ++ fs) p ≡ apply fs (apply es p) }
 {}

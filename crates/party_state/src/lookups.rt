@@ -1,19 +1,18 @@
 ghost use Rattle.std.specs.Prelude.{◌≡◌, ◌&&◌, not, bytes_eq, length, slice_get, IfSome, option_map};
 ghost use Rattle.std.specs.List.{find, list_any};
 ghost use Rattle.x_base.specs.Names.{IsIdent};
-ghost use Rattle.party_state.specs.declared.link.LinkRec.{LinkRec as TheLink};
-ghost use Rattle.party_state.specs.Ranges.{IsGen, IsLink, IsRecord, IsExchange, IsCentreAnswer};
+ghost use Rattle.party_tables.specs.declared.link.LinkRec.{LinkRec as TheLink};
+ghost use Rattle.party_tables.specs.Ranges.{IsLink, IsRecord, IsExchange, IsCentreAnswer};
+ghost use Rattle.party_state.specs.Ranges.{IsGen};
 ghost use Rattle.party_state.specs.State as party;
 
-use crate::answer::{Answer, AnswerKey};
 use crate::compare::{are_same, can_be_used, expand_alike, is_alias};
-use crate::exchange::Exchange;
-use crate::key::{KeyRec, RecordKey};
-use crate::link::{LinkKey, LinkRec};
 use crate::parts::Parts;
-use crate::ranges::{law_generator, law_ident};
+use crate::ranges::law_generator;
 use crate::state::State;
-use crate::table::Table;
+use party_tables::{
+    Answer, AnswerKey, Exchange, KeyRec, LinkKey, LinkRec, RecordKey, Table, law_ident,
+};
 use x_base::{Ident, KeyName, Label, Role, Side};
 use x_gen::Gen;
 use x_mac::Pair;

@@ -1,19 +1,17 @@
 ghost use Rattle.std.specs.Prelude.{◌≡◌, ◌∷◌, [], List, IsOk, IfOk, OnOk, OnErr};
-ghost use Rattle.party_state.specs.declared.link.LinkKey.{LinkKey as TheKey};
-ghost use Rattle.party_state.specs.Keys.{same_link};
+ghost use Rattle.party_tables.specs.declared.link.LinkKey.{LinkKey as TheKey};
+ghost use Rattle.party_tables.specs.Keys.{same_link};
 ghost use Rattle.party_state.specs.Ranges.{IsFitting, IsNoBegin, IsParty};
 ghost use Rattle.party_state.specs.Rooms.{HasSpaceFor};
 ghost use Rattle.party_state.specs.State.{begun, apply_edit};
 ghost use Rattle.party_state.specs.declared.edit.Edit.{Edit as TheEdit};
 
-use crate::answer::{Answer, AnswerKey};
 use crate::edit::Edit;
-use crate::exchange::Exchange;
-use crate::key::{KeyRec, RecordKey};
-use crate::link::{LinkKey, LinkRec};
-use crate::ranges::{law_generator, law_ident};
+use crate::ranges::law_generator;
 use crate::rooms::{answers_put, exchanges_put, keys_put, links_put};
-use crate::table::Table;
+use party_tables::{
+    Answer, AnswerKey, Exchange, KeyRec, LinkKey, LinkRec, RecordKey, Table, law_ident,
+};
 use std::alloc::Global;
 use std::marker::Model;
 use x_base::{Ident, NoMemory, Role};
@@ -103,19 +101,8 @@ impl Parts {
         self.answers.reserve(answers_put(edits))
     }
 
-    /// Does an edit, which can't fail where there is room for it.
-    pub(crate) fn edit(&mut self, mut edit: Edit) -> Result<(), NoMemory>
-        requires fitting { IsFitting edit }
-        requires goes_on { IsNoBegin edit }
-        ensures done { OnOk result (self.new.0 ≡ apply_edit edit self.old.0) }
-        ensures kept { OnErr result (self.new.0 ≡ self.old.0) }
-        ensures succeeds { HasSpaceFor (edit ∷ []) self.old.1 → IsOk result }
-        ensures room { (es : List TheEdit) → HasSpaceFor (edit ∷ es) self.old.1 → HasSpaceFor es self.new.1 }
-    {
-        self.take(&mut edit)
-    }
-
-    /// The same of an edit that stands in a list, out of which it isn't moved, since edits are large. Its text goes over to the party.
+    /// Does an edit, which can't fail where there is room for it. It isn't moved, since edits are large; its text goes over to
+    /// the party.
     pub(crate) fn take(&mut self, edit: &mut Edit) -> Result<(), NoMemory>
         requires fitting { IsFitting edit.old }
         requires goes_on { IsNoBegin edit.old }

@@ -50,13 +50,13 @@ impl State {
     }
 
     /// Does an edit in place. Where there is no memory for it, all stays as it was.
-    pub fn edit(&mut self, edit: Edit) -> Result<(), NoMemory>
+    pub fn edit(&mut self, mut edit: Edit) -> Result<(), NoMemory>
         requires fitting { IsFitting edit }
         requires goes_on { IsNoBegin edit }
         ensures done { OnOk result (self.new ≡ apply_edit edit self.old) }
         ensures kept { OnErr result (self.new ≡ self.old) }
     {
-        self.parts.edit(edit)
+        self.parts.take(&mut edit)
     }
 }
 

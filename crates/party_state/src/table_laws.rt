@@ -2,15 +2,16 @@
 ghost use Rattle.std.specs.Prelude.{◌≡◌, ◌↔◌, ◌+◌, ◌≤◌, cond, is_some, true, Some, None, List, ℕ, length};
 ghost use Rattle.x_base.specs.declared.party.Side.{Side as TheSide};
 ghost use Rattle.party_state.specs.declared.edit.Edit.TheVariants.{PutLink, DropLink, PutKey, DropEnded, PutExchange, DropExchange, PutAnswer};
-ghost use Rattle.party_state.specs.declared.link.LinkKey.{LinkKey as TheLinkKey};
-ghost use Rattle.party_state.specs.declared.link.LinkRec.{LinkRec as TheLink};
-ghost use Rattle.party_state.specs.declared.key.RecordKey.{RecordKey as TheRecordKey};
-ghost use Rattle.party_state.specs.declared.key.KeyRec.{KeyRec as TheRecord};
-ghost use Rattle.party_state.specs.declared.exchange.Exchange.{Exchange as TheExchange};
-ghost use Rattle.party_state.specs.declared.answer.AnswerKey.{AnswerKey as TheAnswerKey};
-ghost use Rattle.party_state.specs.declared.answer.Answer.{Answer as TheAnswer};
-ghost use Rattle.party_state.specs.Keys.{same_link, same_record, same_answer, link_key, record_key, exchange_key, answer_key};
-ghost use Rattle.party_state.specs.Ranges.{IsLink, IsRecord, IsExchange, IsCentreAnswer, IsParty};
+ghost use Rattle.party_tables.specs.declared.link.LinkKey.{LinkKey as TheLinkKey};
+ghost use Rattle.party_tables.specs.declared.link.LinkRec.{LinkRec as TheLink};
+ghost use Rattle.party_tables.specs.declared.key.RecordKey.{RecordKey as TheRecordKey};
+ghost use Rattle.party_tables.specs.declared.key.KeyRec.{KeyRec as TheRecord};
+ghost use Rattle.party_tables.specs.declared.exchange.Exchange.{Exchange as TheExchange};
+ghost use Rattle.party_tables.specs.declared.answer.AnswerKey.{AnswerKey as TheAnswerKey};
+ghost use Rattle.party_tables.specs.declared.answer.Answer.{Answer as TheAnswer};
+ghost use Rattle.party_tables.specs.Keys.{same_link, same_record, same_answer, link_key, record_key, exchange_key, answer_key};
+ghost use Rattle.party_tables.specs.Ranges.{IsLink, IsRecord, IsExchange, IsCentreAnswer};
+ghost use Rattle.party_state.specs.Ranges.{IsParty};
 ghost use Rattle.party_state.specs.State.{Party, apply_edit, link_with, record_with, exchange_with, answer_with, first_link};
 
 /// Keys are compared by what they hold.

@@ -1,10 +1,10 @@
 use Rattle.std.proofs.Common.{bytes_eq, not, ap, true, false, ◌≡◌, Bool, refl}
-use Rattle.party_state.specs.declared.key.KeyRec.{KeyRec}
-use Rattle.party_state.specs.Keys.{same_link, same_record, link_key, record_key, exchange_key}
-use Rattle.party_state.specs.State.{is_ended}
-use Rattle.party_state.proofs.Keys.{test_idents, test_links, test_records}
-use Rattle.party_state.proofs.Tables.{find_drop, filter_keeps}
-use Rattle.party_state.proofs.Distinct.{filter_back, filter_passed}
+use Rattle.party_tables.specs.declared.key.KeyRec.{KeyRec}
+use Rattle.party_tables.specs.Keys.{same_link, same_record, link_key, record_key, exchange_key}
+use Rattle.party_tables.specs.Statuses.{is_ended}
+use Rattle.party_tables.proofs.Keys.{test_idents, test_links, test_records}
+use Rattle.party_tables.proofs.Tables.{find_drop, filter_keeps}
+use Rattle.party_tables.proofs.Distinct.{filter_back, filter_passed}
 use Rattle.party_state.proofs.laws.law_drop.Goals as goal
 
 not_true : (b : Bool) → not b ≡ true → b ≡ false

@@ -1,7 +1,7 @@
 use Rattle.std.proofs.Common.{bytes_eq}
-use Rattle.party_state.specs.Keys.{same_link, same_record, same_answer, link_key, record_key, exchange_key, answer_key}
-use Rattle.party_state.proofs.Keys.{test_idents, test_links, test_records, test_answers}
-use Rattle.party_state.proofs.Tables.{find_put}
+use Rattle.party_tables.specs.Keys.{same_link, same_record, same_answer, link_key, record_key, exchange_key, answer_key}
+use Rattle.party_tables.proofs.Keys.{test_idents, test_links, test_records, test_answers}
+use Rattle.party_tables.proofs.Tables.{find_put}
 use Rattle.party_state.proofs.laws.law_put.Goals as goal
 
 pub returns-clause-link : goal.returns-clause-link

@@ -1,8 +1,8 @@
 use Rattle.std.proofs.Common.{not}
-use Rattle.party_state.specs.declared.key.KeyRec.{KeyRec}
-use Rattle.party_state.specs.Keys.{same_link, same_record, link_key, record_key}
-use Rattle.party_state.specs.State.{is_ended}
-use Rattle.party_state.proofs.Lengths.{length_put, length_filter_most, length_drop_most}
+use Rattle.party_tables.specs.declared.key.KeyRec.{KeyRec}
+use Rattle.party_tables.specs.Keys.{same_link, same_record, link_key, record_key}
+use Rattle.party_tables.specs.Statuses.{is_ended}
+use Rattle.party_tables.proofs.Lengths.{length_put, length_filter_most, length_drop_most}
 use Rattle.party_state.proofs.table_laws.law_counts.Goals as goal
 
 pub returns-clause-link : goal.returns-clause-link

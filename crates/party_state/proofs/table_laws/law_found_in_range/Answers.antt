@@ -1,7 +1,7 @@
 use Rattle.std.proofs.Common.{bytes_eq}
-use Rattle.party_state.specs.Keys.{same_link, same_record, same_answer, link_key, record_key, exchange_key, answer_key}
-use Rattle.party_state.specs.Ranges.{IsLink, IsRecord, IsExchange, IsCentreAnswer}
-use Rattle.party_state.proofs.Each.{find_all}
+use Rattle.party_tables.specs.Keys.{same_link, same_record, same_answer, link_key, record_key, exchange_key, answer_key}
+use Rattle.party_tables.specs.Ranges.{IsLink, IsRecord, IsExchange, IsCentreAnswer}
+use Rattle.party_tables.proofs.Each.{find_all}
 use Rattle.party_state.proofs.table_laws.law_found_in_range.Goals as goal
 
 pub returns-clause-link : goal.returns-clause-link

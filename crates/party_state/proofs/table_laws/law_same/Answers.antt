@@ -1,4 +1,4 @@
-use Rattle.party_state.proofs.Keys.{test_links, test_records, test_answers}
+use Rattle.party_tables.proofs.Keys.{test_links, test_records, test_answers}
 use Rattle.party_state.proofs.table_laws.law_same.Goals as goal
 
 pub returns-clause-link : goal.returns-clause-link

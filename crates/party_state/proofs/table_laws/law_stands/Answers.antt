@@ -1,11 +1,11 @@
 use Rattle.std.proofs.Common.{List, bytes_eq, ap}
-use Rattle.party_state.specs.declared.link.LinkRec.{LinkRec}
-use Rattle.party_state.specs.declared.key.KeyRec.{KeyRec}
-use Rattle.party_state.specs.declared.exchange.Exchange.{Exchange}
-use Rattle.party_state.specs.declared.answer.Answer.{Answer}
-use Rattle.party_state.specs.Keys.{same_link, same_record, same_answer, link_key, record_key, exchange_key, answer_key}
-use Rattle.party_state.proofs.Tables.{put_stands}
-use Rattle.party_state.proofs.Lengths.{drop_absent}
+use Rattle.party_tables.specs.declared.link.LinkRec.{LinkRec}
+use Rattle.party_tables.specs.declared.key.KeyRec.{KeyRec}
+use Rattle.party_tables.specs.declared.exchange.Exchange.{Exchange}
+use Rattle.party_tables.specs.declared.answer.Answer.{Answer}
+use Rattle.party_tables.specs.Keys.{same_link, same_record, same_answer, link_key, record_key, exchange_key, answer_key}
+use Rattle.party_tables.proofs.Tables.{put_stands}
+use Rattle.party_tables.proofs.Lengths.{drop_absent}
 use Rattle.party_state.proofs.table_laws.law_stands.Goals as goal
 
 pub returns-clause-link : goal.returns-clause-link

@@ -1,5 +1,5 @@
-use Rattle.party_state.specs.Keys.{link_key, same_link}
-use Rattle.party_state.proofs.Rows.{distinct_alike}
+use Rattle.party_tables.specs.Keys.{link_key, same_link}
+use Rattle.party_tables.proofs.Rows.{distinct_alike}
 use Rattle.party_state.proofs.parts.Parts.law.Goals as goal
 
 pub returns : goal.returns

@@ -1,6 +1,6 @@
-use Rattle.party_state.specs.Ranges.{IsLink}
+use Rattle.party_tables.specs.Ranges.{IsLink}
 use Rattle.party_state.specs.State.{is_usable}
-use Rattle.party_state.proofs.Rows.{find_row_of, if_copied}
+use Rattle.party_tables.proofs.Rows.{find_row_of, if_copied}
 use Rattle.party_state.proofs.state.State.first_link.Goals as goal
 
 pub returns-clause-in_range : goal.returns-clause-in_range

@@ -1,0 +1,8 @@
+use Rattle.std.proofs.Common.{◌≡◌, ◌++◌, map, take}
+use Rattle.std.specs.List.{concat}
+use Rattle.party_show.specs.Show.{key_line}
+use Rattle.party_show.proofs.show.push_keys.Given as goal
+
+-- the lines of the keys gone over are appended
+abbrev pub invariant-loop-i : goal.invariant-loop-i
+invariant-loop-i l = l.out ≡ l.initial.out ++ concat (map key_line (take l.i l.state.keys))

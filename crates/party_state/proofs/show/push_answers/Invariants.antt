@@ -1,8 +1,0 @@
-use Rattle.std.proofs.Common.{◌≡◌, ◌++◌, map, take}
-use Rattle.std.specs.List.{concat}
-use Rattle.party_state.specs.Show.{answer_line}
-use Rattle.party_state.proofs.show.push_answers.Given as goal
-
--- the lines of the answers gone over are appended
-abbrev pub invariant-loop-i : goal.invariant-loop-i
-invariant-loop-i l = l.out ≡ l.initial.out ++ concat (map answer_line (take l.i l.state.answers))
