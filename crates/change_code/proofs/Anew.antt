@@ -5,20 +5,20 @@ use Rattle.std.specs.List.{All}
 use Rattle.std.proofs.lemmas.List.{append-nil}
 use Rattle.std.proofs.Math.Nat.{le_refl}
 use Rattle.std.proofs.lemmas.List.Elements.{All-map, All-append, All-nil, All-cons}
-use Rattle.party_state.specs.declared.link.LinkRec.{LinkRec}
-use Rattle.party_state.specs.declared.key.KeyRec.{KeyRec}
-use Rattle.party_state.specs.declared.exchange.Exchange.{Exchange}
-use Rattle.party_state.specs.declared.answer.Answer.{Answer}
+use Rattle.party_tables.specs.declared.link.LinkRec.{LinkRec}
+use Rattle.party_tables.specs.declared.key.KeyRec.{KeyRec}
+use Rattle.party_tables.specs.declared.exchange.Exchange.{Exchange}
+use Rattle.party_tables.specs.declared.answer.Answer.{Answer}
 use Rattle.party_state.specs.declared.edit.Edit.{Edit}
 use Rattle.party_state.specs.declared.edit.Edit.TheVariants.{PutLink, PutKey, PutExchange, PutAnswer}
-use Rattle.party_state.specs.Tables.{find_row, put_row, Distinct}
-use Rattle.party_state.specs.Keys.{same_link, same_record, same_answer, link_key, record_key, exchange_key, answer_key}
+use Rattle.party_tables.specs.Tables.{find_row, put_row, Distinct}
+use Rattle.party_tables.specs.Keys.{same_link, same_record, same_answer, link_key, record_key, exchange_key, answer_key}
 use Rattle.party_state.specs.Ranges.{InRange, AreInRange, IsNoBegin, HasNoBegin, IsParty}
 use Rattle.party_state.specs.Limits.{most_links, most_keys, IsWithinLimits, StaysWithinLimits}
 use Rattle.party_state.specs.State.{Party, begun, apply, apply_edit}
-use Rattle.party_state.proofs.Tables.{IsTest}
-use Rattle.party_state.proofs.Keys.{test_idents, test_links, test_records, test_answers}
-use Rattle.party_state.proofs.Edits.{apply_append}
+use Rattle.party_tables.proofs.Tables.{IsTest}
+use Rattle.party_tables.proofs.Keys.{test_idents, test_links, test_records, test_answers}
+use Rattle.party_state.proofs.Editing.{apply_append}
 use Rattle.change_code.specs.Code.{IsCode, most_edits}
 use Rattle.change_code.specs.Whole.{row_edits, whole_edits, whole_of}
 

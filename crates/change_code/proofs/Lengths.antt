@@ -9,19 +9,20 @@ use Rattle.x_base.specs.declared.party.Role.TheVariants as role
 use Rattle.x_base.specs.declared.party.Side.{Side}
 use Rattle.x_base.specs.declared.party.Side.TheVariants.{Sends, Takes}
 use Rattle.x_mac.specs.declared.pair.Pair.{Pair}
-use Rattle.party_state.specs.declared.link.LinkRec.{LinkRec}
-use Rattle.party_state.specs.declared.key.KeyRec.{KeyRec}
-use Rattle.party_state.specs.declared.key.KeyStatus.{KeyStatus}
-use Rattle.party_state.specs.declared.key.KeyStatus.TheVariants.{Pending, Live, Held, Closing, Ended}
-use Rattle.party_state.specs.declared.exchange.Via.{Via}
-use Rattle.party_state.specs.declared.exchange.Via.TheVariants as via
-use Rattle.party_state.specs.declared.exchange.Kind.{Kind}
-use Rattle.party_state.specs.declared.exchange.Kind.TheVariants as kind
-use Rattle.party_state.specs.declared.exchange.Exchange.{Exchange}
-use Rattle.party_state.specs.declared.answer.Answer.{Answer}
+use Rattle.party_tables.specs.declared.link.LinkRec.{LinkRec}
+use Rattle.party_tables.specs.declared.key.KeyRec.{KeyRec}
+use Rattle.party_tables.specs.declared.key.KeyStatus.{KeyStatus}
+use Rattle.party_tables.specs.declared.key.KeyStatus.TheVariants.{Pending, Live, Held, Closing, Ended}
+use Rattle.party_tables.specs.declared.exchange.Via.{Via}
+use Rattle.party_tables.specs.declared.exchange.Via.TheVariants as via
+use Rattle.party_tables.specs.declared.exchange.Kind.{Kind}
+use Rattle.party_tables.specs.declared.exchange.Kind.TheVariants as kind
+use Rattle.party_tables.specs.declared.exchange.Exchange.{Exchange}
+use Rattle.party_tables.specs.declared.answer.Answer.{Answer}
 use Rattle.party_state.specs.declared.edit.Edit.{Edit}
 use Rattle.party_state.specs.declared.edit.Edit.TheVariants.{Begin, PutLink, DropLink, PutKey, DropEnded, PutExchange, DropExchange, PutAnswer, SetGen}
-use Rattle.party_state.specs.Ranges.{InRange, AreInRange, IsLink, IsRecord, IsVia, IsKind, IsExchange, IsCentreAnswer, longest_text}
+use Rattle.party_tables.specs.Ranges.{IsLink, IsRecord, IsVia, IsKind, IsExchange, IsCentreAnswer, longest_text}
+use Rattle.party_state.specs.Ranges.{InRange, AreInRange}
 use Rattle.change_code.specs.Code.{two, eight, short, name_code, pair_code, role_code, side_code, status_code, flag_code, link_code, key_code, via_code, kind_code, exchange_code, answer_code, edit_code, edits_code, code_of_change, head_length, longest_edit}
 use Rattle.change_code.proofs.Numbers.{two_long, eight_long}
 

@@ -10,3 +10,4 @@ pub mod Changes
 mod Undoing
 mod OneChange
 pub mod Anew
+mod Sizes

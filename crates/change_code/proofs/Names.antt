@@ -3,7 +3,7 @@ use Rattle.std.proofs.Common.{◌≡◌, ℕ, ◌<◌, ◌≤◌, ◌^◌, List,
 use Rattle.std.specs.Option.{MatchOption}
 use Rattle.std.specs.Result.{result_ok}
 use Rattle.x_base.specs.declared.key_name.KeyName.{KeyName}
-use Rattle.party_state.specs.Ranges.{longest_text}
+use Rattle.party_tables.specs.Ranges.{longest_text}
 use Rattle.change_code.specs.Code.{two, short, long}
 use Rattle.change_code.specs.Reading.{Form, Lacks, StartsWith, IsPieceRead, LacksLong, ident_form, label_form, name_form, first_name_form, word_form, count_form, pair_form, gen_form, text_form}
 use Rattle.change_code.proofs.Joining.{Apart, Shape, both, apart_both, apart_as}

@@ -6,7 +6,7 @@ use Rattle.std.proofs.lemmas.Nat.{from_be_bytes-to_be_bytes_2, from_be_bytes-to_
 use Rattle.std.proofs.lemmas.List.{take-append-drop}
 use Rattle.std.specs.Option.{SomeIff}
 use Rattle.x_base.specs.Count.{IsCount}
-use Rattle.party_state.specs.Ranges.{IsWord, IsNextCount}
+use Rattle.party_tables.specs.Ranges.{IsWord, IsNextCount}
 use Rattle.change_code.specs.Code.{two, eight}
 use Rattle.change_code.specs.Reading.{Form, Lacks, StartsWith, IsPieceRead, word_form, count_form, next_form}
 use Rattle.change_code.proofs.Joining.{Apart}

@@ -4,8 +4,8 @@ use Rattle.x_base.specs.declared.party.Side.{Side}
 use Rattle.x_base.specs.declared.party.Side.TheVariants.{Sends, Takes}
 use Rattle.x_base.specs.declared.party.Role.{Role}
 use Rattle.x_base.specs.declared.party.Role.TheVariants as role
-use Rattle.party_state.specs.declared.key.KeyStatus.{KeyStatus}
-use Rattle.party_state.specs.declared.key.KeyStatus.TheVariants.{Pending, Live, Held, Closing, Ended}
+use Rattle.party_tables.specs.declared.key.KeyStatus.{KeyStatus}
+use Rattle.party_tables.specs.declared.key.KeyStatus.TheVariants.{Pending, Live, Held, Closing, Ended}
 use Rattle.change_code.specs.Reading.{Any, ident_form, label_form, word_form, count_form, next_form, name_form, pair_form, role_form, side_form, status_form, flag_form, maybe_form, link_form, key_form, answer_form}
 use Rattle.change_code.proofs.Joining.{Apart, Shape, both, apart_both, apart_as}
 use Rattle.change_code.proofs.Numbers.{word_apart, count_apart, next_apart}

@@ -1,3 +1,5 @@
 pub mod Code
+pub mod Cost
+pub mod Framed
 pub mod Reading
 pub mod Whole

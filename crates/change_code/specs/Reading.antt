@@ -8,16 +8,17 @@ use Rattle.x_base.specs.declared.party.Role.{Role}
 use Rattle.x_base.specs.declared.party.Side.{Side}
 use Rattle.x_mac.specs.declared.pair.Pair.{Pair}
 use Rattle.x_gen.specs.declared.generator.Gen.{Gen}
-use Rattle.party_state.specs.declared.link.LinkRec.{LinkRec}
-use Rattle.party_state.specs.declared.key.KeyRec.{KeyRec}
-use Rattle.party_state.specs.declared.key.KeyStatus.{KeyStatus}
-use Rattle.party_state.specs.declared.exchange.Via.{Via}
-use Rattle.party_state.specs.declared.exchange.Kind.{Kind}
-use Rattle.party_state.specs.declared.exchange.Exchange.{Exchange}
-use Rattle.party_state.specs.declared.answer.Answer.{Answer}
+use Rattle.party_tables.specs.declared.link.LinkRec.{LinkRec}
+use Rattle.party_tables.specs.declared.key.KeyRec.{KeyRec}
+use Rattle.party_tables.specs.declared.key.KeyStatus.{KeyStatus}
+use Rattle.party_tables.specs.declared.exchange.Via.{Via}
+use Rattle.party_tables.specs.declared.exchange.Kind.{Kind}
+use Rattle.party_tables.specs.declared.exchange.Exchange.{Exchange}
+use Rattle.party_tables.specs.declared.answer.Answer.{Answer}
 use Rattle.party_state.specs.declared.edit.Edit.{Edit}
-use Rattle.party_state.specs.Names.{name_behind}
-use Rattle.party_state.specs.Ranges.{IsWord, IsPair, IsGen, IsNextCount, IsLink, IsRecord, IsVia, IsKind, IsExchange, IsCentreAnswer, InRange, AreInRange, longest_text}
+use Rattle.party_tables.specs.Names.{name_behind}
+use Rattle.party_tables.specs.Ranges.{IsWord, IsPair, IsNextCount, IsLink, IsRecord, IsVia, IsKind, IsExchange, IsCentreAnswer, longest_text}
+use Rattle.party_state.specs.Ranges.{IsGen, InRange, AreInRange}
 use Rattle.change_code.specs.declared.fault.CodeFault.{CodeFault}
 use Rattle.change_code.specs.declared.fault.CodeFault.TheVariants.{Bad, NoMemory}
 use Rattle.change_code.specs.Code.{eight, short, long, name_code, pair_code, gen_code, role_code, side_code, status_code, flag_code, maybe_code, link_code, key_code, via_code, kind_code, exchange_code, answer_code, edit_code, edits_code}

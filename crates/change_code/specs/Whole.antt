@@ -1,5 +1,6 @@
 -- A party as one change (this project's profile).
 use Rattle.std.specs.Prelude.{ℕ, ◌⊎◌, ◌<◌, List, ◌∷◌, ◌++◌, length, map}
+use Rattle.key_journal.specs.Layout.{largest_body}
 use Rattle.party_state.specs.State.{Party}
 use Rattle.party_state.specs.declared.edit.Edit.{Edit}
 use Rattle.party_state.specs.declared.edit.Edit.TheVariants.{Begin, PutLink, PutKey, PutExchange, PutAnswer}
@@ -17,10 +18,6 @@ whole_edits p = Begin p.own p.role p.generator ∷ row_edits p
 abbrev pub whole_of : Party → List ℕ
 whole_of p = code_of_change (whole_edits p)
 
--- how many bytes a body has at most
-abbrev pub longest_body : ℕ
-longest_body = 4194304
-
 -- the change has too many edits, or its code too many bytes
 abbrev pub IsTooLarge : Party → Type 0
-IsTooLarge p = (most_edits < length (whole_edits p)) ⊎ (longest_body < length (whole_of p))
+IsTooLarge p = (most_edits < length (whole_edits p)) ⊎ (largest_body < length (whole_of p))

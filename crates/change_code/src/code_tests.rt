@@ -1,10 +1,11 @@
 // The codes of edits, byte by byte.
 ghost use Rattle.std.specs.Prelude.{◌+◌, IfOk};
 ghost use Rattle.x_base.specs.Count.{IsCount};
-ghost use Rattle.party_state.specs.Ranges.{IsFitting, IsFittingKind};
+ghost use Rattle.party_tables.specs.Ranges.{IsFittingKind};
+ghost use Rattle.party_state.specs.Ranges.{IsFitting};
 
 use crate::decoding::decode;
-use crate::encoding::encode;
+use crate::encoding::encode_behind;
 use crate::fault::CodeFault;
 use crate::laws::law_decode_undoes;
 use party_state::{
@@ -27,7 +28,7 @@ fn is_coded(alloc: Global, edit: Edit, bytes: &[u8]) -> Result<bool, CodeFault>
 {
     let mut change = Change::new(alloc);
     change.push(edit)?;
-    let code = encode(alloc, &change)?;
+    let code = encode_behind(alloc, &[], &change)?;
     let back = law_decode_undoes(alloc, &change)?;
     Ok(code.bytes() == bytes && decode(alloc, bytes)?.len() == 1 && back.len() == 1)
 }

@@ -1,5 +1,5 @@
 // A party as one change.
-ghost use Rattle.std.specs.Prelude.{◌≡◌, ◌≤◌, ◌<◌, ◌+◌, ◌++◌, ℕ, List, length, map, take, OnOk, IfOk, IfErr};
+ghost use Rattle.std.specs.Prelude.{◌≡◌, ◌<◌, ◌+◌, ◌++◌, length, map, OnOk, IfOk, IfErr};
 ghost use Rattle.party_state.specs.declared.edit.Edit.TheVariants.{PutLink, PutKey, PutExchange, PutAnswer};
 ghost use Rattle.change_code.specs.Code.{edits_code, IsCode};
 ghost use Rattle.change_code.specs.Whole.{row_edits, whole_edits, whole_of, IsTooLarge};
@@ -10,85 +10,55 @@ use crate::encoding::{
 };
 use crate::fault::WholeFault;
 use crate::room::room_behind_whole;
+use key_journal::LARGEST_BODY;
 use party_state::State;
 use std::alloc::Global;
 use x_base::{NoMemory, Text};
-
-/// The most bytes that a body may have.
-const LONGEST_BODY: usize = 4_194_304;
-
-fn put_link_at(out: &mut Text, state: &State, i: usize) -> Result<(), NoMemory>
-    requires { i < length state.now.links }
-    ensures { OnOk result ((front : List ℕ) → out.old ≡ front ++ edits_code (take i (map PutLink state.now.links)) → out.new ≡ front ++ edits_code (take (i + 1) (map PutLink state.now.links))) }
-{
-    match state.link_at(i) {
-        Some(link) => put_link_edit(out, link),
-        None => unreachable!(),
-    }
-}
 
 fn put_links(out: &mut Text, state: &State) -> Result<(), NoMemory>
     ensures { OnOk result (out.new ≡ out.old ++ edits_code (map PutLink state.now.links)) }
 {
     for i in 0..state.link_count() {
-        put_link_at(out, state, i)?;
+        match state.link_at(i) {
+            Some(link) => put_link_edit(out, link)?,
+            None => unreachable!(),
+        }
     }
     Ok(())
-}
-
-fn put_key_at(out: &mut Text, state: &State, i: usize) -> Result<(), NoMemory>
-    requires { i < length state.now.keys }
-    ensures { OnOk result ((front : List ℕ) → out.old ≡ front ++ edits_code (take i (map PutKey state.now.keys)) → out.new ≡ front ++ edits_code (take (i + 1) (map PutKey state.now.keys))) }
-{
-    match state.key_at(i) {
-        Some(key) => put_key_edit(out, key),
-        None => unreachable!(),
-    }
 }
 
 fn put_keys(out: &mut Text, state: &State) -> Result<(), NoMemory>
     ensures { OnOk result (out.new ≡ out.old ++ edits_code (map PutKey state.now.keys)) }
 {
     for i in 0..state.key_count() {
-        put_key_at(out, state, i)?;
+        match state.key_at(i) {
+            Some(key) => put_key_edit(out, key)?,
+            None => unreachable!(),
+        }
     }
     Ok(())
-}
-
-fn put_exchange_at(out: &mut Text, state: &State, i: usize) -> Result<(), NoMemory>
-    requires { i < length state.now.exchanges }
-    ensures { OnOk result ((front : List ℕ) → out.old ≡ front ++ edits_code (take i (map PutExchange state.now.exchanges)) → out.new ≡ front ++ edits_code (take (i + 1) (map PutExchange state.now.exchanges))) }
-{
-    match state.exchange_at(i) {
-        Some(exchange) => put_exchange_edit(out, exchange),
-        None => unreachable!(),
-    }
 }
 
 fn put_exchanges(out: &mut Text, state: &State) -> Result<(), NoMemory>
     ensures { OnOk result (out.new ≡ out.old ++ edits_code (map PutExchange state.now.exchanges)) }
 {
     for i in 0..state.exchange_count() {
-        put_exchange_at(out, state, i)?;
+        match state.exchange_at(i) {
+            Some(exchange) => put_exchange_edit(out, exchange)?,
+            None => unreachable!(),
+        }
     }
     Ok(())
-}
-
-fn put_answer_at(out: &mut Text, state: &State, i: usize) -> Result<(), NoMemory>
-    requires { i < length state.now.answers }
-    ensures { OnOk result ((front : List ℕ) → out.old ≡ front ++ edits_code (take i (map PutAnswer state.now.answers)) → out.new ≡ front ++ edits_code (take (i + 1) (map PutAnswer state.now.answers))) }
-{
-    match state.answer_at(i) {
-        Some(answer) => put_answer_edit(out, answer),
-        None => unreachable!(),
-    }
 }
 
 fn put_answers(out: &mut Text, state: &State) -> Result<(), NoMemory>
     ensures { OnOk result (out.new ≡ out.old ++ edits_code (map PutAnswer state.now.answers)) }
 {
     for i in 0..state.answer_count() {
-        put_answer_at(out, state, i)?;
+        match state.answer_at(i) {
+            Some(answer) => put_answer_edit(out, answer)?,
+            None => unreachable!(),
+        }
     }
     Ok(())
 }
@@ -124,18 +94,8 @@ fn whole_code(alloc: Global, front: &[u8], state: &State, edits: u16) -> Result<
     Ok(out)
 }
 
-/// The body of a compaction: the code of the one change that makes the party from nothing. Comes with `TooLarge` exactly
-/// where that change has more than 65,535 edits or its code more than 4,194,304 bytes.
-pub fn whole(alloc: Global, state: &State) -> Result<Text, WholeFault>
-    ensures whole { IfOk result (λ text. text ≡ whole_of state.now) }
-    ensures code { OnOk result (IsCode (whole_of state.now) (whole_edits state.now)) }
-    ensures fits { OnOk result (IsTooLarge state.now → ⊥) }
-    ensures too_large { IfErr result (λ fault. fault ≡ WholeFault.TooLarge → IsTooLarge state.now) }
-{
-    whole_behind(alloc, &[], state)
-}
-
-/// The same behind other bytes, in one text.
+/// Bytes, and behind them the body of a compaction: the code of the one change that makes the party from nothing. Comes
+/// with `TooLarge` exactly where that change has more than 65,535 edits or its code more than 4,194,304 bytes.
 pub fn whole_behind(alloc: Global, front: &[u8], state: &State) -> Result<Text, WholeFault>
     ensures whole { IfOk result (λ text. text ≡ front.now ++ whole_of state.now) }
     ensures code { OnOk result (IsCode (whole_of state.now) (whole_edits state.now)) }
@@ -148,7 +108,7 @@ pub fn whole_behind(alloc: Global, front: &[u8], state: &State) -> Result<Text, 
         return Err(WholeFault::TooLarge);
     }
     let text = whole_code(alloc, front, state, edits as u16)?;
-    if text.bytes().len() - front.len() > LONGEST_BODY {
+    if text.bytes().len() - front.len() > LARGEST_BODY as usize {
         return Err(WholeFault::TooLarge);
     }
     Ok(text)

@@ -1,8 +1,9 @@
 // Writing the code of a change.
-ghost use Rattle.std.specs.Prelude.{◌≡◌, ◌≤◌, ◌<◌, ◌+◌, ◌++◌, ◌∷◌, ℕ, List, length, take, OnOk, IfOk};
-ghost use Rattle.party_state.specs.Ranges.{IsFitting, AreFitting, longest_text};
+ghost use Rattle.std.specs.Prelude.{◌≡◌, ◌≤◌, ◌<◌, ◌+◌, ◌++◌, ◌∷◌, length, OnOk, IfOk};
+ghost use Rattle.party_tables.specs.Ranges.{longest_text};
+ghost use Rattle.party_state.specs.Ranges.{IsFitting, AreFitting};
 ghost use Rattle.party_state.specs.declared.edit.Edit.TheVariants.{Begin, DropExchange, DropLink, PutAnswer, PutExchange, PutKey, PutLink, SetGen};
-ghost use Rattle.change_code.specs.Code.{IsCode, two, link_code, key_code, via_code, kind_code, answer_code, edit_code, edits_code, code_in, code_of_change, most_edits};
+ghost use Rattle.change_code.specs.Code.{IsCode, two, via_code, kind_code, edit_code, edits_code, code_of_change, most_edits};
 
 use crate::edit_code::EditCode;
 use crate::room::room_behind;
@@ -14,30 +15,6 @@ use party_state::{Answer, Change, Edit, Exchange, KeyRec, Kind, LinkRec, Via};
 use std::alloc::Global;
 use x_base::{Ident, Label, NoMemory, Role, Side, Text};
 use x_gen::Gen;
-
-fn put_link(out: &mut EditCode, link: &LinkRec)
-    requires room { length out.old + 60 ≤ 128 }
-    ensures code { out.new ≡ out.old ++ link_code link.now }
-    ensures most { length out.new ≤ length out.old + 60 }
-{
-    put_ident(out, &link.peer);
-    put_label(out, &link.label);
-    put_side(out, link.side);
-    put_pair(out, link.pair);
-    put_word(out, link.next);
-    put_flag(out, link.ready);
-}
-
-fn put_key(out: &mut EditCode, key: &KeyRec)
-    requires room { length out.old + 85 ≤ 128 }
-    ensures code { out.new ≡ out.old ++ key_code key.now }
-    ensures most { length out.new ≤ length out.old + 85 }
-{
-    put_ident(out, &key.peer);
-    put_name(out, &key.name);
-    put_word(out, key.value);
-    put_status(out, key.status);
-}
 
 fn put_via(out: &mut EditCode, via: &Via)
     requires room { length out.old + 36 ≤ 128 }
@@ -98,17 +75,6 @@ fn put_kind(out: &mut EditCode, kind: &Kind)
     }
 }
 
-fn put_answer(out: &mut EditCode, answer: &Answer)
-    requires room { length out.old + 50 ≤ 128 }
-    ensures code { out.new ≡ out.old ++ answer_code answer.now }
-    ensures most { length out.new ≤ length out.old + 50 }
-{
-    put_ident(out, &answer.requester);
-    put_ident(out, &answer.ultimate);
-    put_word(out, answer.cta.value());
-    put_word(out, answer.value);
-}
-
 /// The party begins.
 pub(crate) fn put_begin(
     out: &mut Text,
@@ -132,7 +98,12 @@ pub(crate) fn put_link_edit(out: &mut Text, link: &LinkRec) -> Result<(), NoMemo
 {
     let mut code = EditCode::new();
     code.put(&[2]);
-    put_link(&mut code, link);
+    put_ident(&mut code, &link.peer);
+    put_label(&mut code, &link.label);
+    put_side(&mut code, link.side);
+    put_pair(&mut code, link.pair);
+    put_word(&mut code, link.next);
+    put_flag(&mut code, link.ready);
     out.push(code.bytes())
 }
 
@@ -153,7 +124,10 @@ pub(crate) fn put_key_edit(out: &mut Text, key: &KeyRec) -> Result<(), NoMemory>
 {
     let mut code = EditCode::new();
     code.put(&[4]);
-    put_key(&mut code, key);
+    put_ident(&mut code, &key.peer);
+    put_name(&mut code, &key.name);
+    put_word(&mut code, key.value);
+    put_status(&mut code, key.status);
     out.push(code.bytes())
 }
 
@@ -186,7 +160,10 @@ pub(crate) fn put_answer_edit(out: &mut Text, answer: &Answer) -> Result<(), NoM
 {
     let mut code = EditCode::new();
     code.put(&[8]);
-    put_answer(&mut code, answer);
+    put_ident(&mut code, &answer.requester);
+    put_ident(&mut code, &answer.ultimate);
+    put_word(&mut code, answer.cta.value());
+    put_word(&mut code, answer.value);
     out.push(code.bytes())
 }
 
@@ -226,24 +203,15 @@ pub(crate) const FORMAT: u8 = 1;
 /// The most edits of a change that has a code.
 pub const MOST_EDITS: u16 = 65_535;
 
-/// The edit at this place.
-fn put_edit_at(out: &mut Text, change: &Change, i: usize) -> Result<(), NoMemory>
-    requires within { i < length change.now }
-    requires fitting { AreFitting change.now }
-    ensures { OnOk result ((front : List ℕ) → out.old ≡ front ++ edits_code (take i change.now) → out.new ≡ front ++ edits_code (take (i + 1) change.now)) }
-{
-    match change.edit_at(i) {
-        Some(edit) => put_edit(out, edit),
-        None => unreachable!(),
-    }
-}
-
 fn put_edits(out: &mut Text, change: &Change) -> Result<(), NoMemory>
     requires { AreFitting change.now }
     ensures { OnOk result (out.new ≡ out.old ++ edits_code change.now) }
 {
     for i in 0..change.len() {
-        put_edit_at(out, change, i)?;
+        match change.edit_at(i) {
+            Some(edit) => put_edit(out, edit)?,
+            None => unreachable!(),
+        }
     }
     Ok(())
 }
@@ -258,28 +226,8 @@ pub(crate) fn put_head(out: &mut Text, number: u8, edits: u16) -> Result<(), NoM
     out.push(code.bytes())
 }
 
-/// The code in the format of this number.
-fn put_change(out: &mut Text, number: u8, change: &Change) -> Result<(), NoMemory>
-    requires few { length change.now ≤ most_edits }
-    requires fitting { AreFitting change.now }
-    ensures { OnOk result (out.new ≡ out.old ++ code_in number change.now) }
-{
-    put_head(out, number, change.len() as u16)?;
-    put_edits(out, change)
-}
-
-/// The code of a change of at most 65,535 edits, in which each `next` is from 1 to 10^14, each text has at most 1,024
-/// bytes, and the count of a `PairSent` is below `LIMIT`.
-pub fn encode(alloc: Global, change: &Change) -> Result<Text, NoMemory>
-    requires few { length change.now ≤ most_edits }
-    requires fitting { AreFitting change.now }
-    ensures code { IfOk result (λ text. text ≡ code_of_change change.now) }
-    ensures is_code { IsCode (code_of_change change.now) change.now }
-{
-    encode_behind(alloc, &[], change)
-}
-
-/// The same behind other bytes, in one text.
+/// Bytes, and behind them the code of a change of at most 65,535 edits, in which each `next` is from 1 to 10^14, each text
+/// has at most 1,024 bytes, and the count of a `PairSent` is below `LIMIT`.
 pub fn encode_behind(alloc: Global, front: &[u8], change: &Change) -> Result<Text, NoMemory>
     requires few { length change.now ≤ most_edits }
     requires fitting { AreFitting change.now }
@@ -289,6 +237,7 @@ pub fn encode_behind(alloc: Global, front: &[u8], change: &Change) -> Result<Tex
     change.law_in_range();
     let mut out = Text::with_capacity(alloc, room_behind(front.len(), change))?;
     out.push(front)?;
-    put_change(&mut out, FORMAT, change)?;
+    put_head(&mut out, FORMAT, change.len() as u16)?;
+    put_edits(&mut out, change)?;
     Ok(out)
 }

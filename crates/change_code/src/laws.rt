@@ -1,14 +1,15 @@
 // What holds of every code.
-ghost use Rattle.std.specs.Prelude.{◌≡◌, ◌+◌, ◌*◌, ◌≤◌, ℕ, List, length, IfOk};
+ghost use Rattle.std.specs.Prelude.{◌≡◌, ◌+◌, ◌*◌, ◌≤◌, ℕ, true, false, List, length, IfOk};
 ghost use Rattle.party_state.specs.declared.edit.Edit.{Edit};
 ghost use Rattle.party_state.specs.Limits.{IsWithinLimits, StaysWithinLimits};
 ghost use Rattle.party_state.specs.Ranges.{AreFitting, HasNoBegin, IsParty};
 ghost use Rattle.party_state.specs.State.{Party, apply, begun};
 ghost use Rattle.change_code.specs.Code.{code_of_change, IsCode, most_edits, head_length, longest_edit};
-ghost use Rattle.change_code.specs.Whole.{row_edits};
+ghost use Rattle.change_code.specs.Cost.{can_compact};
+ghost use Rattle.change_code.specs.Whole.{row_edits, IsTooLarge};
 
 use crate::decoding::decode;
-use crate::encoding::encode;
+use crate::encoding::encode_behind;
 use crate::fault::CodeFault;
 use party_state::Change;
 use std::alloc::Global;
@@ -44,6 +45,13 @@ pub fn law_whole()
     ensures goes_on { (p : Party) → HasNoBegin (row_edits p) }
 {}
 
+/// A party can be kept as one change exactly where it isn't too large for one.
+#[tactic(auto, using(crate::proofs::Sizes::small_enough, crate::proofs::Sizes::too_large))]
+pub fn law_can_compact()
+    ensures fits { (p : Party) → can_compact p ≡ true → IsTooLarge p → ⊥ }
+    ensures too_large { (p : Party) → can_compact p ≡ false → IsTooLarge p }
+{}
+
 /// Decoding the code of a change gives back an equal change.
 #[tactic(auto, using(crate::proofs::Undoing::undone, crate::proofs::Undoing::never_bad))]
 pub fn law_decode_undoes(alloc: Global, change: &Change) -> Result<Change, NoMemory>
@@ -51,7 +59,7 @@ pub fn law_decode_undoes(alloc: Global, change: &Change) -> Result<Change, NoMem
     requires fitting { AreFitting change.now }
     ensures { IfOk result (λ back. back ≡ change.now) }
 {
-    let code = encode(alloc, change)?;
+    let code = encode_behind(alloc, &[], change)?;
     match decode(alloc, code.bytes()) {
         Ok(back) => Ok(back),
         Err(CodeFault::NoMemory) => Err(NoMemory),

@@ -10,6 +10,7 @@ mod edits;
 mod encoding;
 mod exchanges;
 mod fault;
+mod framed;
 mod laws;
 mod pieces;
 mod reader;
@@ -17,8 +18,11 @@ mod room;
 mod rows;
 mod writing;
 
-pub use compaction::{whole, whole_behind};
+pub use compaction::whole_behind;
 pub use decoding::decode;
-pub use encoding::{MOST_EDITS, encode, encode_behind};
+pub use encoding::{MOST_EDITS, encode_behind};
 pub use fault::{CodeFault, WholeFault};
-pub use laws::{law_decode_undoes, law_one_change, law_one_code, law_short_code, law_whole};
+pub use framed::{Framed, frame_text};
+pub use laws::{
+    law_can_compact, law_decode_undoes, law_one_change, law_one_code, law_short_code, law_whole,
+};

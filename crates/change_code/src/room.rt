@@ -1,5 +1,5 @@
 // How much room a code wants.
-use party_state::{Change, Edit, Exchange, State};
+use party_state::{Change, Edit, LONGEST_TEXT, State};
 
 /// What stands in front of the edits, and one byte behind them.
 const HEAD_AND_END: usize = 4;
@@ -7,19 +7,25 @@ const HEAD_AND_END: usize = 4;
 /// As many bytes as the code of a key that is put has at most, or a few more.
 const ROOM_OF_KEY: usize = 90;
 
+/// The same of an exchange without its text, and with one.
+const ROOM_OF_SHORT_EXCHANGE: usize = 120;
+
+const ROOM_OF_EXCHANGE: usize = ROOM_OF_SHORT_EXCHANGE + LONGEST_TEXT;
+
 /// The same of an edit that is neither a key nor an exchange that is put.
 const ROOM_OF_OTHER: usize = 64;
-
-/// The same of an exchange that is put.
-fn room_of_exchange(exchange: &Exchange) -> usize {
-    exchange.text.bytes().len().saturating_add(120)
-}
 
 /// The same of an edit.
 fn room_of(edit: Option<&Edit>) -> usize {
     match edit {
         None => 0,
-        Some(Edit::PutExchange(exchange)) => room_of_exchange(exchange),
+        Some(Edit::PutExchange(exchange)) => {
+            exchange
+                .text
+                .bytes()
+                .len()
+                .saturating_add(ROOM_OF_SHORT_EXCHANGE)
+        }
         Some(Edit::PutKey(_)) => ROOM_OF_KEY,
         Some(_) => ROOM_OF_OTHER,
     }
@@ -34,18 +40,6 @@ pub(crate) fn room_behind(front: usize, change: &Change) -> usize {
     room
 }
 
-/// The room of a party's exchanges.
-fn room_of_exchanges(state: &State) -> usize {
-    let mut room: usize = 0;
-    for i in 0..state.exchange_count() {
-        match state.exchange_at(i) {
-            Some(exchange) => room = room.saturating_add(room_of_exchange(exchange)),
-            None => unreachable!(),
-        }
-    }
-    room
-}
-
 /// The room for so many bytes and the code of a party behind them.
 pub(crate) fn room_behind_whole(front: usize, state: &State) -> usize {
     let others = state
@@ -56,5 +50,5 @@ pub(crate) fn room_behind_whole(front: usize, state: &State) -> usize {
         .saturating_add(HEAD_AND_END)
         .saturating_add(others.saturating_mul(ROOM_OF_OTHER))
         .saturating_add(state.key_count().saturating_mul(ROOM_OF_KEY))
-        .saturating_add(room_of_exchanges(state))
+        .saturating_add(state.exchange_count().saturating_mul(ROOM_OF_EXCHANGE))
 }

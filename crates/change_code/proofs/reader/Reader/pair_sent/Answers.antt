@@ -1,5 +1,5 @@
 use Rattle.std.proofs.Common.{arith}
-use Rattle.party_state.specs.declared.exchange.Kind.TheVariants as kind
+use Rattle.party_tables.specs.declared.exchange.Kind.TheVariants as kind
 use Rattle.change_code.specs.Reading.{kind_form, first_name_form}
 use Rattle.change_code.proofs.ExchangeForms.{pair_sent_tagged}
 use Rattle.change_code.proofs.Names.{lacks_last_count}

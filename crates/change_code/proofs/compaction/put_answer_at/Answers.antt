@@ -1,7 +1,0 @@
-use Rattle.std.proofs.lemmas.Result.{on_ok_weaker}
-use Rattle.party_state.specs.declared.edit.Edit.TheVariants.{PutAnswer}
-use Rattle.change_code.proofs.OneChange.{row_more}
-use Rattle.change_code.proofs.compaction.put_answer_at.Goals as goal
-
-pub returns : goal.returns
-returns c = on_ok_weaker c.put_answer_edit.result (λ is front was. row_more (λ x. PutAnswer x) c.args.state.now.answers c.args.out.now _ front c.args.i c.in-Some.answer.now (cc c.in-Some.ensures.found) is was) c.put_answer_edit.ensures
