@@ -7,14 +7,14 @@ use Rattle.csm_grammar.specs.declared.message.Rsm.{Rsm}
 use Rattle.csm_grammar.specs.declared.message.Esm.{Esm}
 use Rattle.csm_grammar.specs.declared.message.Dsm.{Dsm}
 use Rattle.csm_grammar.specs.declared.arrival.Arrival.{Arrival}
-use Rattle.party_state.specs.declared.key.KeyRec.{KeyRec}
-use Rattle.party_state.specs.declared.key.RecordKey.{RecordKey}
-use Rattle.party_state.specs.declared.exchange.Via.{Via}
-use Rattle.party_state.specs.declared.exchange.Kind.{Kind}
-use Rattle.party_state.specs.declared.exchange.Kind.TheVariants as kind
-use Rattle.party_state.specs.declared.exchange.Exchange.{Exchange}
-use Rattle.party_state.specs.Keys.{same_name}
-use Rattle.party_state.specs.Names.{name_behind}
+use Rattle.party_tables.specs.declared.key.KeyRec.{KeyRec}
+use Rattle.party_tables.specs.declared.key.RecordKey.{RecordKey}
+use Rattle.party_tables.specs.declared.exchange.Via.{Via}
+use Rattle.party_tables.specs.declared.exchange.Kind.{Kind}
+use Rattle.party_tables.specs.declared.exchange.Kind.TheVariants as kind
+use Rattle.party_tables.specs.declared.exchange.Exchange.{Exchange}
+use Rattle.party_tables.specs.Keys.{same_name}
+use Rattle.party_tables.specs.Names.{name_behind}
 use Rattle.party_state.specs.State.{Party, exchange_with}
 use Rattle.party_state.specs.Verdicts.{Held}
 use Rattle.role_base.specs.declared.exchanges.Sent.{Sent}

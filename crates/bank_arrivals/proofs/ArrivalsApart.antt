@@ -9,19 +9,19 @@ use Rattle.csm_grammar.specs.declared.message.Dsm.{Dsm}
 use Rattle.csm_grammar.specs.declared.message.Rsi.{Rsi}
 use Rattle.csm_grammar.specs.declared.arrival.Arrival.{Arrival}
 use Rattle.x_base.specs.declared.party.Side.TheVariants.{Sends}
-use Rattle.party_state.specs.declared.link.LinkKey.{LinkKey}
-use Rattle.party_state.specs.declared.link.LinkRec.{LinkRec}
-use Rattle.party_state.specs.declared.key.KeyRec.{KeyRec}
-use Rattle.party_state.specs.declared.key.KeyStatus.TheVariants.{Live, Ended}
-use Rattle.party_state.specs.declared.exchange.Via.{Via}
-use Rattle.party_state.specs.declared.exchange.Via.TheVariants as via
-use Rattle.party_state.specs.declared.exchange.Kind.{Kind}
-use Rattle.party_state.specs.declared.exchange.Kind.TheVariants as kind
-use Rattle.party_state.specs.declared.exchange.Exchange.{Exchange}
+use Rattle.party_tables.specs.declared.link.LinkKey.{LinkKey}
+use Rattle.party_tables.specs.declared.link.LinkRec.{LinkRec}
+use Rattle.party_tables.specs.declared.key.KeyRec.{KeyRec}
+use Rattle.party_tables.specs.declared.key.KeyStatus.TheVariants.{Live, Ended}
+use Rattle.party_tables.specs.declared.exchange.Via.{Via}
+use Rattle.party_tables.specs.declared.exchange.Via.TheVariants as via
+use Rattle.party_tables.specs.declared.exchange.Kind.{Kind}
+use Rattle.party_tables.specs.declared.exchange.Kind.TheVariants as kind
+use Rattle.party_tables.specs.declared.exchange.Exchange.{Exchange}
 use Rattle.party_state.specs.declared.edit.Edit.{Edit}
 use Rattle.party_state.specs.declared.edit.Edit.TheVariants.{SetGen, PutLink, PutKey, DropExchange}
-use Rattle.party_state.specs.declared.key.RecordKey.{RecordKey}
-use Rattle.party_state.specs.Names.{name_behind}
+use Rattle.party_tables.specs.declared.key.RecordKey.{RecordKey}
+use Rattle.party_tables.specs.Names.{name_behind}
 use Rattle.party_state.specs.Verdicts.{Test}
 use Rattle.bank_arrivals.proofs.About.{names_same}
 use Rattle.role_base.specs.declared.exchanges.Twins.{Twins}
@@ -29,10 +29,11 @@ use Rattle.bank_arrivals.specs.declared.draws.TwinsDrawn.{TwinsDrawn}
 use Rattle.role_base.specs.Conditions.{is_two_keys}
 use Rattle.role_base.proofs.TwinKeys.{TwinsAt, twins_at, behind_other, key_beside, records_apart}
 use Rattle.bank_arrivals.specs.SendingTwins.{twins_drawn, first_pending, second_pending, twins_sending_drawn}
-use Rattle.party_state.specs.Keys.{same_link, link_key, record_key, same_name, sends}
+use Rattle.party_tables.specs.Keys.{same_link, link_key, record_key, same_name, sends}
 use Rattle.role_base.specs.Differing.{differs, AreApart}
 use Rattle.role_base.proofs.SendingApart.{sending_apart}
-use Rattle.party_state.specs.State.{Party, apply_edit, apply, centre_label, link_with, exchange_with, first_link, is_ended}
+use Rattle.party_tables.specs.Statuses.{is_ended}
+use Rattle.party_state.specs.State.{Party, apply_edit, apply, centre_label, link_with, exchange_with, first_link}
 use Rattle.role_base.specs.declared.exchanges.Sent.{Sent}
 use Rattle.bank_arrivals.specs.declared.asking_again.Retry.{Retry}
 use Rattle.bank_arrivals.specs.declared.error_message.Subject.{Subject}

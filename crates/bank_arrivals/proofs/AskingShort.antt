@@ -16,9 +16,9 @@ use Rattle.csm_grammar.specs.Arrivals.{IsArrived}
 use Rattle.csm_write.specs.declared.closing.Closing.TheVariants as closing
 use Rattle.csm_write.specs.Shortness.{CanonShort, free_length}
 use Rattle.csm_write.specs.Writable.{IsTypedField, AreTyped}
-use Rattle.party_state.specs.declared.exchange.Via.{Via}
-use Rattle.party_state.specs.declared.exchange.Via.TheVariants as via
-use Rattle.party_state.specs.Ranges.{IsVia, longest_text}
+use Rattle.party_tables.specs.declared.exchange.Via.{Via}
+use Rattle.party_tables.specs.declared.exchange.Via.TheVariants as via
+use Rattle.party_tables.specs.Ranges.{IsVia, longest_text}
 use Rattle.party_state.specs.State.{Party, exchange_with}
 use Rattle.role_base.specs.Texts.{text_of}
 use Rattle.bank_arrivals.specs.declared.asking_again.Retry.{Retry}

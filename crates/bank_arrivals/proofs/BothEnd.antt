@@ -2,18 +2,19 @@
 use Rattle.std.proofs.Common.{◌≡◌, ◌≢◌, ℕ, Bool, true, false, cond, Option, Some, None, option_map, List, [], ◌∷◌, ◌++◌, refl, sym, ap, ◌∙◌}
 use Rattle.std.proofs.lemmas.Bool.{false_from_ne_true}
 use Rattle.x_base.specs.declared.key_name.KeyName.{KeyName}
-use Rattle.party_state.specs.declared.key.KeyRec.{KeyRec}
-use Rattle.party_state.specs.declared.key.RecordKey.{RecordKey}
-use Rattle.party_state.specs.declared.key.KeyStatus.{KeyStatus}
-use Rattle.party_state.specs.declared.key.KeyStatus.TheVariants.{Pending, Live, Held as IsHeld, Closing, Ended}
-use Rattle.party_state.specs.declared.exchange.Kind.{Kind}
-use Rattle.party_state.specs.declared.exchange.Kind.TheVariants as kind
-use Rattle.party_state.specs.declared.exchange.Exchange.{Exchange}
+use Rattle.party_tables.specs.declared.key.KeyRec.{KeyRec}
+use Rattle.party_tables.specs.declared.key.RecordKey.{RecordKey}
+use Rattle.party_tables.specs.declared.key.KeyStatus.{KeyStatus}
+use Rattle.party_tables.specs.declared.key.KeyStatus.TheVariants.{Pending, Live, Held as IsHeld, Closing, Ended}
+use Rattle.party_tables.specs.declared.exchange.Kind.{Kind}
+use Rattle.party_tables.specs.declared.exchange.Kind.TheVariants as kind
+use Rattle.party_tables.specs.declared.exchange.Exchange.{Exchange}
 use Rattle.party_state.specs.declared.edit.Edit.{Edit}
 use Rattle.party_state.specs.declared.edit.Edit.TheVariants.{PutKey, DropExchange}
-use Rattle.party_state.specs.Keys.{record_key, same_name}
-use Rattle.party_state.specs.Names.{name_behind}
-use Rattle.party_state.specs.State.{Party, exchange_with, apply_edit, apply, is_ended}
+use Rattle.party_tables.specs.Keys.{record_key, same_name}
+use Rattle.party_tables.specs.Names.{name_behind}
+use Rattle.party_tables.specs.Statuses.{is_ended}
+use Rattle.party_state.specs.State.{Party, exchange_with, apply_edit, apply}
 use Rattle.role_base.proofs.PartyLaws.{KeyLaws, ExchangeLaws, exchange_dropped}
 use Rattle.role_base.proofs.TwinKeys.{behind_other}
 use Rattle.bank_arrivals.specs.Dsm.{left_by, left_in, disconnected}

@@ -12,8 +12,8 @@ use Rattle.csm_grammar.specs.declared.arrival.Arrival.{Arrival}
 use Rattle.party_state.specs.declared.edit.Edit.{Edit}
 use Rattle.party_state.specs.declared.decision.Decision.{Decision}
 use Rattle.party_state.specs.declared.decision.Lead.{Lead}
-use Rattle.party_state.specs.Keys.{same_name}
-use Rattle.party_state.specs.Names.{full_name, name_behind}
+use Rattle.party_tables.specs.Keys.{same_name}
+use Rattle.party_tables.specs.Names.{full_name, name_behind}
 use Rattle.party_state.specs.State.{Party}
 use Rattle.party_state.specs.Verdicts.{verdict_of, is_accept}
 use Rattle.party_state.specs.Rows.{Reply, Coded}

@@ -4,20 +4,21 @@ use Rattle.x_base.specs.declared.text.NoMemory.{NoMemory}
 use Rattle.csm_grammar.specs.declared.arrival.Arrival.{Arrival}
 use Rattle.csm_grammar.specs.declared.message.Dsm.{Dsm}
 use Rattle.party_state.specs.declared.decision.Decision.{Decision}
-use Rattle.party_state.specs.declared.link.LinkRec.{LinkRec}
-use Rattle.party_state.specs.declared.key.KeyRec.{KeyRec}
-use Rattle.party_state.specs.declared.key.KeyStatus.TheVariants.{Ended}
-use Rattle.party_state.specs.declared.exchange.Kind.{Kind}
-use Rattle.party_state.specs.declared.exchange.Kind.TheVariants as kind
-use Rattle.party_state.specs.declared.exchange.Exchange.{Exchange}
+use Rattle.party_tables.specs.declared.link.LinkRec.{LinkRec}
+use Rattle.party_tables.specs.declared.key.KeyRec.{KeyRec}
+use Rattle.party_tables.specs.declared.key.KeyStatus.TheVariants.{Ended}
+use Rattle.party_tables.specs.declared.exchange.Kind.{Kind}
+use Rattle.party_tables.specs.declared.exchange.Kind.TheVariants as kind
+use Rattle.party_tables.specs.declared.exchange.Exchange.{Exchange}
 use Rattle.party_state.specs.declared.edit.Edit.{Edit}
 use Rattle.party_state.specs.declared.edit.Edit.TheVariants.{PutKey, DropExchange}
-use Rattle.party_state.specs.Keys.{record_key, same_name}
+use Rattle.party_tables.specs.Keys.{record_key, same_name}
 use Rattle.x_base.specs.declared.key_name.KeyName.{KeyName}
-use Rattle.party_state.specs.Names.{name_behind}
-use Rattle.party_state.specs.State.{Party, exchange_with, is_ended}
-use Rattle.role_base.specs.Deciding.{decision_of}
-use Rattle.role_base.specs.Storable.{CanKeep, can_put_key, AreFew}
+use Rattle.party_tables.specs.Names.{name_behind}
+use Rattle.party_tables.specs.Statuses.{is_ended}
+use Rattle.party_state.specs.State.{Party, exchange_with}
+use Rattle.role_base.specs.Deciding.{decision_of, Decides}
+use Rattle.role_base.specs.Storable.{can_put_key, AreFew}
 use Rattle.role_base.specs.Standing.{KeyStands}
 use Rattle.role_base.specs.Exchanges.{record_of, new_link, dropped, ended}
 use Rattle.bank_arrivals.specs.declared.disconnection.Named.{Named}
@@ -82,7 +83,7 @@ disconnected_few keys p peer k st = by_status (is_ended k.status) (by_exchange (
     by_status true f = record { keepable = record { each = tt; order = refl }; few = lit≤ tt }
     by_status false f = f
 
-pub dsm_kept : KeysFound → (p : Party) (a : Arrival) (m : Dsm) (o : Option Named) (made : Result Decision NoMemory) → o ≡ named_by p m → IfOk made (λ d. d ≡ decision_of p (dsm_on p a m o)) → IfOk made (λ d. CanKeep p d.change)
+pub dsm_kept : KeysFound → (p : Party) (a : Arrival) (m : Dsm) (o : Option Named) (made : Result Decision NoMemory) → o ≡ named_by p m → IfOk made (λ d. d ≡ decision_of p (dsm_on p a m o)) → Decides p (dsm_on p a m o) made
 dsm_kept keys p a m None made h e = made_kept p (dsm_on p a m None) made (row_kept p (dsm_on p a m None) (λ _. record { each = tt; order = refl }) (lit≤ tt)) e
 dsm_kept keys p a m (Some n) made h e =
     let f : AreFew p (disconnected p m.originator n.key) = disconnected_few keys p m.originator n.key (named_stands keys p m n (sym h)) in

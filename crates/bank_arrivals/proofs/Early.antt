@@ -19,10 +19,10 @@ use Rattle.csm_grammar.specs.declared.form.Form.TheVariants.{F1, F9, F12}
 use Rattle.csm_grammar.specs.Classes.{allows}
 use Rattle.csm_grammar.specs.Arrivals.{AllArrived}
 use Rattle.csm_grammar.specs.Messages.{form_of, shut_field}
-use Rattle.party_state.specs.declared.key.KeyRec.{KeyRec}
+use Rattle.party_tables.specs.declared.key.KeyRec.{KeyRec}
 use Rattle.party_state.specs.declared.decision.Lead.{Lead}
 use Rattle.party_state.specs.State.{Party}
-use Rattle.party_state.specs.Names.{full_name}
+use Rattle.party_tables.specs.Names.{full_name}
 use Rattle.party_state.specs.Verdicts.{Test}
 use Rattle.role_base.specs.declared.exchanges.Sent.{Sent}
 use Rattle.role_base.specs.declared.exchanges.Twins.{Twins}

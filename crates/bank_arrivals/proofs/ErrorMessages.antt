@@ -1,11 +1,10 @@
 -- What is decided of an error message, by what it speaks of.
-use Rattle.std.proofs.Common.{◌≡◌, true, false, Option, None, Result, Ok, Err, IfOk, List, [], ◌∷◌, ◌++◌, refl, ap, ◌∙◌}
+use Rattle.std.proofs.Common.{◌≡◌, true, false, Option, None, Result, IfOk, List, [], ◌∷◌, ◌++◌, refl, ap, ◌∙◌}
 use Rattle.x_base.specs.declared.text.NoMemory.{NoMemory}
 use Rattle.x_base.specs.declared.verdict.Verdict.{Verdict}
 use Rattle.x_base.specs.declared.verdict.Verdict.TheVariants.{BadMac}
 use Rattle.csm_grammar.specs.declared.arrival.Arrival.{Arrival}
 use Rattle.party_state.specs.declared.edit.Edit.{Edit}
-use Rattle.party_state.specs.declared.edit.Edit.TheVariants.{DropExchange}
 use Rattle.party_state.specs.declared.decision.Decision.{Decision}
 use Rattle.party_state.specs.declared.decision.Lead.{Lead}
 use Rattle.party_state.specs.State.{Party}
@@ -14,14 +13,12 @@ use Rattle.party_state.specs.Rows.{Row, Reply}
 use Rattle.role_base.specs.Deciding.{decision_of, refusal_of, accepting}
 use Rattle.role_base.specs.Replies.{AreWritten}
 use Rattle.role_base.specs.Texts.{lead_under}
-use Rattle.role_base.specs.declared.texts.Written.{Written}
-use Rattle.role_base.proofs.ByRow.{by_answered, by_accepted, by_accept}
+use Rattle.role_base.proofs.ByRow.{by_answered, by_accept}
 use Rattle.csm_grammar.specs.declared.message.Esm.{Esm}
 use Rattle.bank_arrivals.specs.declared.error_message.Subject.{Subject}
 use Rattle.role_base.specs.Conditions.{answer_front}
-use Rattle.bank_arrivals.specs.declared.asking_again.Retry.{Retry}
-use Rattle.bank_arrivals.specs.AskingAgain.{retry_of, asked_again, again_reply}
-use Rattle.bank_arrivals.specs.Esm.{subject_name, subject_value, subject_link, raised, subject_ended, error_row, plain_tests, plain_esm}
+use Rattle.bank_arrivals.specs.AskingAgain.{retry_of}
+use Rattle.bank_arrivals.specs.Esm.{subject_name, subject_value, error_row, plain_tests, plain_esm}
 
 -- the row of the message, by what it speaks of
 abbrev row_of : Party → Arrival → Esm → Subject → Row
@@ -29,20 +26,6 @@ row_of p a m s = error_row p a m s (retry_of p s m.ctr)
 
 verdict_is : (p : Party) (a : Arrival) (m : Esm) (s : Subject) (l : Lead) (v : Verdict) → v ≡ verdict_of (answer_front p m.receiver m.originator true ++ (l.verified, BadMac) ∷ []) → l ≡ lead_under a (subject_name p m.originator s) (subject_value s) → v ≡ (row_of p a m s).verdict
 verdict_is p a m s l v e i = e ∙ ap (λ (k : Lead). verdict_of (answer_front p m.receiver m.originator true ++ (k.verified, BadMac) ∷ [])) i
-
-pub esm_refuses : (p : Party) (a : Arrival) (m : Esm) (s : Subject) (l : Lead) (v : Verdict) → v ≡ verdict_of (answer_front p m.receiver m.originator true ++ (l.verified, BadMac) ∷ []) → l ≡ lead_under a (subject_name p m.originator s) (subject_value s) → is_accept v ≡ false → refusal_of v ≡ decision_of p (error_row p a m s (retry_of p s m.ctr))
-esm_refuses p a m s l v e i f = by_answered p (row_of p a m s) v (verdict_is p a m s l v e i) f
-
-pub esm_accepts : (p : Party) (a : Arrival) (m : Esm) (s : Subject) (l : Lead) (v : Verdict) (t : Option Retry) (asked es : List Edit) (w : Option Written) (made : Result Decision NoMemory) → v ≡ verdict_of (answer_front p m.receiver m.originator true ++ (l.verified, BadMac) ∷ []) → l ≡ lead_under a (subject_name p m.originator s) (subject_value s) → is_accept v ≡ true
-    → t ≡ retry_of p s m.ctr → asked ≡ asked_again p m (subject_value s) t → AreWritten w (again_reply p m (subject_value s) t) → es ≡ raised (subject_link p m.originator s) m.ctr ++ (subject_ended p m.originator s ++ DropExchange m.originator ∷ asked)
-    → IfOk made (λ d. (r : Option Reply) → AreWritten w r → d ≡ accepting p es r) → IfOk made (λ d. d ≡ decision_of p (error_row p a m s (retry_of p s m.ctr)))
-esm_accepts p a m s l v t asked es w (Ok d) e i h f g written j k =
-    let edits : List Edit → List Edit = λ fs. raised (subject_link p m.originator s) m.ctr ++ (subject_ended p m.originator s ++ DropExchange m.originator ∷ fs) in
-    k (again_reply p m (subject_value s) t) written
-    ∙ ap (λ (fs : List Edit). accepting p fs (again_reply p m (subject_value s) t)) (j ∙ ap edits g)
-    ∙ by_accepted p (error_row p a m s t) v (verdict_is p a m s l v e i) h
-    ∙ ap (λ (u : Option Retry). decision_of p (error_row p a m s u)) f
-esm_accepts p a m s l v t asked es w (Err f) e i h g j written x k = tt
 
 pub plain_refuses : (p : Party) (a : Arrival) (m : Esm) (v : Verdict) → v ≡ verdict_of (plain_tests p a m) → is_accept v ≡ false → refusal_of v ≡ decision_of p (plain_esm p a m)
 plain_refuses p a m v e f = by_answered p (plain_esm p a m) v e f

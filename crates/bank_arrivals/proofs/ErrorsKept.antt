@@ -7,27 +7,28 @@ use Rattle.x_base.specs.declared.key_name.KeyName.{KeyName}
 use Rattle.csm_grammar.specs.declared.arrival.Arrival.{Arrival}
 use Rattle.csm_grammar.specs.declared.message.Esm.{Esm}
 use Rattle.party_state.specs.declared.decision.Decision.{Decision}
-use Rattle.party_state.specs.declared.link.LinkKey.{LinkKey}
-use Rattle.party_state.specs.declared.link.LinkRec.{LinkRec}
-use Rattle.party_state.specs.declared.key.KeyRec.{KeyRec}
-use Rattle.party_state.specs.declared.key.KeyStatus.TheVariants.{Ended}
-use Rattle.party_state.specs.declared.exchange.Via.{Via}
-use Rattle.party_state.specs.declared.exchange.Via.TheVariants as via
-use Rattle.party_state.specs.declared.exchange.Kind.{Kind}
-use Rattle.party_state.specs.declared.exchange.Kind.TheVariants as kind
-use Rattle.party_state.specs.declared.exchange.Exchange.{Exchange}
+use Rattle.party_tables.specs.declared.link.LinkKey.{LinkKey}
+use Rattle.party_tables.specs.declared.link.LinkRec.{LinkRec}
+use Rattle.party_tables.specs.declared.key.KeyRec.{KeyRec}
+use Rattle.party_tables.specs.declared.key.KeyStatus.TheVariants.{Ended}
+use Rattle.party_tables.specs.declared.exchange.Via.{Via}
+use Rattle.party_tables.specs.declared.exchange.Via.TheVariants as via
+use Rattle.party_tables.specs.declared.exchange.Kind.{Kind}
+use Rattle.party_tables.specs.declared.exchange.Kind.TheVariants as kind
+use Rattle.party_tables.specs.declared.exchange.Exchange.{Exchange}
 use Rattle.party_state.specs.declared.edit.Edit.{Edit}
 use Rattle.party_state.specs.declared.edit.Edit.TheVariants.{PutKey, DropExchange}
-use Rattle.party_state.specs.Keys.{record_key, sends}
-use Rattle.party_state.specs.Ranges.{IsNextCount, IsParty, IsVia, IsKind, longest_text}
+use Rattle.party_tables.specs.Keys.{record_key, sends}
+use Rattle.party_tables.specs.Ranges.{IsNextCount, IsVia, IsKind, longest_text}
+use Rattle.party_state.specs.Ranges.{IsParty}
 use Rattle.party_state.specs.State.{Party, centre_label, link_with, exchange_with}
 use Rattle.csm_write.specs.Shortness.{CanonShort}
 use Rattle.party_state.specs.Rows.{Row}
 use Rattle.role_base.specs.Texts.{text_of, is_plain}
-use Rattle.role_base.specs.Deciding.{change_of, decision_of}
-use Rattle.role_base.specs.Storable.{CanKeep, can_put_key, AreKeepable, puts_link, AreFew}
+use Rattle.role_base.specs.Deciding.{change_of, decision_of, Decides}
+use Rattle.role_base.specs.Storable.{IsStorable, can_put_key, AreKeepable, puts_link, AreFew}
 use Rattle.role_base.specs.Standing.{LinkStands, KeyStands}
-use Rattle.party_state.specs.Names.{name_behind}
+use Rattle.party_tables.specs.Names.{name_behind}
 use Rattle.role_base.specs.declared.exchanges.Sent.{Sent}
 use Rattle.role_base.specs.declared.exchanges.Twins.{Twins}
 use Rattle.bank_arrivals.specs.declared.asking_again.Retry.{Retry}
@@ -128,11 +129,11 @@ asked_short short p m value None w i r = tt
 asked_short short p m value (Some t) w i r = ers_short short p m value t w.own i r
 
 -- an error message with an authentication code
-about_kept : LinksFound → KeysFound → LinksInRange → ExchangesInRange → CanonShort → (p : Party) (a : Arrival) (m : Esm) (o : Option Subject) → IsParty p → IsHeard m → IfSome m.ctr IsCount → subject_with p m.originator ≡ o → CanKeep p (change_of p (error_of p a m o (retry_in p o m.ctr)))
+about_kept : LinksFound → KeysFound → LinksInRange → ExchangesInRange → CanonShort → (p : Party) (a : Arrival) (m : Esm) (o : Option Subject) → IsParty p → IsHeard m → IfSome m.ctr IsCount → subject_with p m.originator ≡ o → IsStorable p (change_of p (error_of p a m o (retry_in p o m.ctr)))
 about_kept links keys links_in_range in_range short p a m None w g i h = row_kept p (error_of p a m None None) (λ _. record { each = tt; order = refl }) (lit≤ tt)
 about_kept links keys links_in_range in_range short p a m (Some s) w g i h = kept (by_subject s (subject_stands keys in_range p m.originator s w h))
   where
-    kept : AreFew p (error_row p a m s (retry_of p s m.ctr)).edits → CanKeep p (change_of p (error_row p a m s (retry_of p s m.ctr)))
+    kept : AreFew p (error_row p a m s (retry_of p s m.ctr)).edits → IsStorable p (change_of p (error_row p a m s (retry_of p s m.ctr)))
     kept f = row_kept p (error_row p a m s (retry_of p s m.ctr)) (λ _. f.keepable) f.few
 
     raised_with : (x : Subject) (rest : List Edit) → AreKeepable p rest → list_any puts_link rest ≡ false → length rest ≤ 8 → AreFew p (raised (subject_link p m.originator x) m.ctr ++ rest)
@@ -149,15 +150,15 @@ about_kept links keys links_in_range in_range short p a m (Some s) w g i h = kep
     by_subject (SentTwins t) st = raised_with (SentTwins t) _ (record { each = (key_room p t.first st.first, (key_room_behind _ p t.second st.second, (tt, tt))); order = refl }) refl (lit≤ tt)
     by_subject (Translated value cta) st = raised_with (Translated value cta) _ (record { each = (tt, tt); order = refl }) refl (lit≤ tt)
 
-pub esm_kept : LinksFound → KeysFound → LinksInRange → ExchangesInRange → CanonShort → (p : Party) (a : Arrival) (m : Esm) (made : Result Decision NoMemory) → IsParty p → IsHeard m → IfSome m.ctr IsCount → IfOk made (λ d. d ≡ decision_of p (error p a m)) → IfOk made (λ d. CanKeep p d.change)
+pub esm_kept : LinksFound → KeysFound → LinksInRange → ExchangesInRange → CanonShort → (p : Party) (a : Arrival) (m : Esm) (made : Result Decision NoMemory) → IsParty p → IsHeard m → IfSome m.ctr IsCount → IfOk made (λ d. d ≡ decision_of p (error p a m)) → Decides p (error p a m) made
 esm_kept links keys links_in_range in_range short p a m made w g i e = made_kept p (error p a m) made (by_closing (is_plain a.parsed.shut) (about_kept links keys links_in_range in_range short p a m (subject_with p m.originator) w g i refl)) e
   where
-    plain : CanKeep p (change_of p (plain_esm p a m))
+    plain : IsStorable p (change_of p (plain_esm p a m))
     plain = row_kept p (plain_esm p a m) (λ _. record { each = tt; order = refl }) (lit≤ tt)
 
     about : Row
     about = error_of p a m (subject_with p m.originator) (retry_in p (subject_with p m.originator) m.ctr)
 
-    by_closing : (b : Bool) → CanKeep p (change_of p about) → CanKeep p (change_of p (cond b (plain_esm p a m) about))
+    by_closing : (b : Bool) → IsStorable p (change_of p about) → IsStorable p (change_of p (cond b (plain_esm p a m) about))
     by_closing true k = plain
     by_closing false k = k

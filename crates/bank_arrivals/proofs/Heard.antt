@@ -6,24 +6,25 @@ use Rattle.x_base.specs.declared.verdict.Verdict.TheVariants.{Accept, BadMac}
 use Rattle.csm_grammar.specs.declared.message.Rsm.{Rsm}
 use Rattle.csm_grammar.specs.declared.message.Dsm.{Dsm}
 use Rattle.csm_grammar.specs.declared.arrival.Arrival.{Arrival}
-use Rattle.party_state.specs.declared.link.LinkRec.{LinkRec}
-use Rattle.party_state.specs.declared.key.KeyRec.{KeyRec}
-use Rattle.party_state.specs.declared.key.RecordKey.{RecordKey}
-use Rattle.party_state.specs.declared.key.KeyStatus.{KeyStatus}
-use Rattle.party_state.specs.declared.key.KeyStatus.TheVariants.{Live, Ended}
-use Rattle.party_state.specs.declared.exchange.Via.{Via}
-use Rattle.party_state.specs.declared.exchange.Via.TheVariants as via
-use Rattle.party_state.specs.declared.exchange.Kind.{Kind}
-use Rattle.party_state.specs.declared.exchange.Kind.TheVariants as kind
-use Rattle.party_state.specs.declared.exchange.Exchange.{Exchange}
+use Rattle.party_tables.specs.declared.link.LinkRec.{LinkRec}
+use Rattle.party_tables.specs.declared.key.KeyRec.{KeyRec}
+use Rattle.party_tables.specs.declared.key.RecordKey.{RecordKey}
+use Rattle.party_tables.specs.declared.key.KeyStatus.{KeyStatus}
+use Rattle.party_tables.specs.declared.key.KeyStatus.TheVariants.{Live, Ended}
+use Rattle.party_tables.specs.declared.exchange.Via.{Via}
+use Rattle.party_tables.specs.declared.exchange.Via.TheVariants as via
+use Rattle.party_tables.specs.declared.exchange.Kind.{Kind}
+use Rattle.party_tables.specs.declared.exchange.Kind.TheVariants as kind
+use Rattle.party_tables.specs.declared.exchange.Exchange.{Exchange}
 use Rattle.party_state.specs.declared.edit.Edit.{Edit}
 use Rattle.party_state.specs.declared.edit.Edit.TheVariants.{PutKey, DropExchange}
-use Rattle.party_state.specs.Keys.{record_key, same_name}
-use Rattle.party_state.specs.State.{Party, exchange_with, apply_edit, apply, is_ended}
-use Rattle.party_state.specs.Names.{full_name}
+use Rattle.party_tables.specs.Keys.{record_key, same_name}
+use Rattle.party_tables.specs.Statuses.{is_ended}
+use Rattle.party_state.specs.State.{Party, exchange_with, apply_edit, apply}
+use Rattle.party_tables.specs.Names.{full_name}
 use Rattle.party_state.specs.Rows.{Reply, Coded}
 use Rattle.party_state.specs.Verdicts.{Held}
-use Rattle.party_state.specs.Names.{name_behind}
+use Rattle.party_tables.specs.Names.{name_behind}
 use Rattle.role_base.proofs.TwinKeys.{records_apart}
 use Rattle.role_base.specs.declared.exchanges.Sent.{Sent}
 use Rattle.role_base.specs.declared.exchanges.Twins.{Twins}

@@ -4,19 +4,19 @@ use Rattle.std.proofs.lemmas.Bool.{both_ways}
 use Rattle.x_base.specs.declared.key_name.KeyName.{KeyName}
 use Rattle.csm_grammar.specs.declared.message.Dsm.{Dsm}
 use Rattle.csm_grammar.specs.declared.arrival.Arrival.{Arrival}
-use Rattle.party_state.specs.declared.link.LinkRec.{LinkRec}
-use Rattle.party_state.specs.declared.key.KeyRec.{KeyRec}
-use Rattle.party_state.specs.declared.key.RecordKey.{RecordKey}
-use Rattle.party_state.specs.declared.key.KeyStatus.TheVariants.{Ended}
-use Rattle.party_state.specs.declared.exchange.Via.{Via}
-use Rattle.party_state.specs.declared.exchange.Via.TheVariants as via
-use Rattle.party_state.specs.declared.exchange.Kind.{Kind}
-use Rattle.party_state.specs.declared.exchange.Kind.TheVariants as kind
-use Rattle.party_state.specs.declared.exchange.Exchange.{Exchange}
+use Rattle.party_tables.specs.declared.link.LinkRec.{LinkRec}
+use Rattle.party_tables.specs.declared.key.KeyRec.{KeyRec}
+use Rattle.party_tables.specs.declared.key.RecordKey.{RecordKey}
+use Rattle.party_tables.specs.declared.key.KeyStatus.TheVariants.{Ended}
+use Rattle.party_tables.specs.declared.exchange.Via.{Via}
+use Rattle.party_tables.specs.declared.exchange.Via.TheVariants as via
+use Rattle.party_tables.specs.declared.exchange.Kind.{Kind}
+use Rattle.party_tables.specs.declared.exchange.Kind.TheVariants as kind
+use Rattle.party_tables.specs.declared.exchange.Exchange.{Exchange}
 use Rattle.party_state.specs.declared.edit.Edit.{Edit}
 use Rattle.party_state.specs.declared.edit.Edit.TheVariants.{PutKey, DropExchange}
-use Rattle.party_state.specs.Keys.{link_key, same_link, same_name, sends}
-use Rattle.party_state.specs.Names.{name_behind}
+use Rattle.party_tables.specs.Keys.{link_key, same_link, same_name, sends}
+use Rattle.party_tables.specs.Names.{name_behind}
 use Rattle.party_state.specs.State.{Party, exchange_with, link_with, apply}
 use Rattle.role_base.specs.Exchanges.{record_of, new_link, dropped, ended}
 use Rattle.role_base.proofs.PartyLaws.{LinkLaws, KeyLaws, ExchangeLaws, LinksDropped, exchange_dropped}

@@ -8,8 +8,8 @@ use Rattle.csm_grammar.specs.declared.message.Rsm.{Rsm}
 use Rattle.csm_grammar.specs.declared.message.Esm.{Esm}
 use Rattle.csm_grammar.specs.declared.message.Dsm.{Dsm}
 use Rattle.csm_grammar.specs.declared.arrival.Arrival.{Arrival}
-use Rattle.party_state.specs.declared.key.KeyRec.{KeyRec}
-use Rattle.party_state.specs.declared.link.LinkRec.{LinkRec}
+use Rattle.party_tables.specs.declared.key.KeyRec.{KeyRec}
+use Rattle.party_tables.specs.declared.link.LinkRec.{LinkRec}
 use Rattle.party_state.specs.State.{Party}
 use Rattle.role_base.specs.declared.exchanges.Sent.{Sent}
 use Rattle.role_base.specs.declared.exchanges.Twins.{Twins}

@@ -6,11 +6,11 @@ use Rattle.x_base.specs.declared.verdict.Verdict.TheVariants.{BadMac}
 use Rattle.csm_grammar.specs.declared.arrival.Arrival.{Arrival}
 use Rattle.party_state.specs.declared.edit.Edit.{Edit}
 use Rattle.party_state.specs.declared.edit.Edit.TheVariants.{PutKey, DropExchange}
-use Rattle.party_state.specs.declared.key.KeyRec.{KeyRec}
-use Rattle.party_state.specs.declared.key.KeyStatus.TheVariants.{Live, Ended}
+use Rattle.party_tables.specs.declared.key.KeyRec.{KeyRec}
+use Rattle.party_tables.specs.declared.key.KeyStatus.TheVariants.{Live, Ended}
 use Rattle.party_state.specs.declared.decision.Decision.{Decision}
 use Rattle.party_state.specs.declared.decision.Lead.{Lead}
-use Rattle.party_state.specs.Names.{full_name}
+use Rattle.party_tables.specs.Names.{full_name}
 use Rattle.party_state.specs.State.{Party}
 use Rattle.party_state.specs.Verdicts.{verdict_of, is_accept}
 use Rattle.party_state.specs.Rows.{Reply}
@@ -23,7 +23,7 @@ use Rattle.csm_grammar.specs.declared.message.Rsm.{Rsm}
 use Rattle.role_base.specs.declared.exchanges.Sent.{Sent}
 use Rattle.role_base.specs.declared.exchanges.Twins.{Twins}
 use Rattle.role_base.specs.Conditions.{answer_front}
-use Rattle.party_state.specs.Keys.{same_name}
+use Rattle.party_tables.specs.Keys.{same_name}
 use Rattle.role_base.specs.Exchanges.{readied, new_link, twins_value}
 use Rattle.bank_arrivals.specs.Rsm.{rsm_to, rsm_twins, answer_to}
 

@@ -13,12 +13,12 @@ use Rattle.csm_grammar.specs.declared.message.KsmBody.TheVariants as body
 use Rattle.csm_grammar.specs.declared.message.Ksm.{Ksm}
 use Rattle.csm_grammar.specs.declared.message.Rsi.{Rsi}
 use Rattle.csm_grammar.specs.declared.arrival.Arrival.{Arrival}
-use Rattle.party_state.specs.declared.link.LinkRec.{LinkRec}
-use Rattle.party_state.specs.declared.exchange.Exchange.{Exchange}
-use Rattle.party_state.specs.declared.exchange.Kind.TheVariants as kind
+use Rattle.party_tables.specs.declared.link.LinkRec.{LinkRec}
+use Rattle.party_tables.specs.declared.exchange.Exchange.{Exchange}
+use Rattle.party_tables.specs.declared.exchange.Kind.TheVariants as kind
 use Rattle.party_state.specs.declared.edit.Edit.TheVariants.{PutKey}
-use Rattle.party_state.specs.Keys.{record_key}
-use Rattle.party_state.specs.Names.{name_behind}
+use Rattle.party_tables.specs.Keys.{record_key}
+use Rattle.party_tables.specs.Names.{name_behind}
 use Rattle.party_state.specs.State.{Party, first_link, apply, apply_edit}
 use Rattle.party_state.specs.Rows.{Row}
 use Rattle.party_state.specs.Verdicts.{Test, Held}

@@ -10,9 +10,9 @@ use Rattle.csm_grammar.specs.declared.message.Service.{Service}
 use Rattle.csm_grammar.specs.declared.message.Service.TheVariants as service
 use Rattle.csm_grammar.specs.declared.message.Rsi.{Rsi}
 use Rattle.csm_grammar.specs.declared.arrival.Arrival.{Arrival}
-use Rattle.party_state.specs.declared.key.KeyRec.{KeyRec}
-use Rattle.party_state.specs.declared.key.RecordKey.{RecordKey}
-use Rattle.party_state.specs.declared.link.LinkRec.{LinkRec}
+use Rattle.party_tables.specs.declared.key.KeyRec.{KeyRec}
+use Rattle.party_tables.specs.declared.key.RecordKey.{RecordKey}
+use Rattle.party_tables.specs.declared.link.LinkRec.{LinkRec}
 use Rattle.party_state.specs.Limits.{most_keys}
 use Rattle.party_state.specs.State.{Party, first_link, record_with, exchange_with, apply}
 use Rattle.party_state.specs.Rows.{Row}

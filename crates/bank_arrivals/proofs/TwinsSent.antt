@@ -1,5 +1,5 @@
 -- Two keys that are sent in one message: what is decided with what was drawn, and that it can be kept.
-use Rattle.std.proofs.Common.{arith, ◌≡◌, ℕ, ◌+◌, ◌<◌, true, false, Result, IfOk, Option, Some, None, List, [], ◌∷◌, ◌++◌, refl, ap, ◌∙◌}
+use Rattle.std.proofs.Common.{arith, ◌≡◌, ℕ, ◌+◌, ◌<◌, true, false, Result, Option, Some, None, List, [], ◌∷◌, ◌++◌, refl, ap, ◌∙◌}
 use Rattle.std.proofs.lemmas.Bool.{ltb-true, false_from_ne_true}
 use Rattle.x_base.specs.Count.{IsCount}
 use Rattle.x_base.specs.declared.key_name.KeyName.{KeyName}
@@ -7,26 +7,26 @@ use Rattle.x_base.specs.declared.text.NoMemory.{NoMemory}
 use Rattle.x_base.specs.declared.verdict.Verdict.{Verdict}
 use Rattle.x_base.specs.declared.verdict.Verdict.TheVariants.{CountSpent}
 use Rattle.party_state.specs.declared.decision.Decision.{Decision}
-use Rattle.party_state.specs.declared.link.LinkRec.{LinkRec}
-use Rattle.party_state.specs.declared.key.KeyRec.{KeyRec}
-use Rattle.party_state.specs.declared.key.KeyStatus.TheVariants.{Pending}
-use Rattle.party_state.specs.declared.exchange.Exchange.{Exchange}
-use Rattle.party_state.specs.declared.exchange.Kind.TheVariants as kind
+use Rattle.party_tables.specs.declared.link.LinkRec.{LinkRec}
+use Rattle.party_tables.specs.declared.key.KeyRec.{KeyRec}
+use Rattle.party_tables.specs.declared.key.KeyStatus.TheVariants.{Pending}
+use Rattle.party_tables.specs.declared.exchange.Exchange.{Exchange}
+use Rattle.party_tables.specs.declared.exchange.Kind.TheVariants as kind
 use Rattle.party_state.specs.declared.edit.Edit.TheVariants.{SetGen, PutLink, PutKey, PutExchange}
-use Rattle.party_state.specs.Keys.{record_key}
-use Rattle.party_state.specs.Names.{name_behind}
-use Rattle.party_state.specs.Ranges.{IsNextCount, IsFittingExchange}
+use Rattle.party_tables.specs.Keys.{record_key}
+use Rattle.party_tables.specs.Names.{name_behind}
+use Rattle.party_tables.specs.Ranges.{IsNextCount, IsFittingExchange}
 use Rattle.party_state.specs.State.{Party}
 use Rattle.party_state.specs.Verdicts.{Test, verdict_of, is_accept, all_refuse}
 use Rattle.role_base.specs.Conditions.{has_two_counts, has_room_for_two}
-use Rattle.role_base.specs.Deciding.{decision_of, refusal_of, accepting}
+use Rattle.role_base.specs.Deciding.{decision_of, refusal_of, Decides, AcceptsWith}
 use Rattle.role_base.specs.Sending.{next_name}
 use Rattle.role_base.specs.Standing.{LinkStands}
 use Rattle.role_base.specs.Storable.{AreKeepable}
 use Rattle.role_base.specs.Texts.{text_of}
 use Rattle.role_base.proofs.ByRow.{by_refused}
 use Rattle.role_base.proofs.Counted.{next_on}
-use Rattle.role_base.proofs.Decided.{refuses, decides_row}
+use Rattle.role_base.proofs.Decided.{refuses, decides_with}
 use Rattle.role_base.proofs.Failing.{unspent}
 use Rattle.role_base.proofs.Keeping.{link_room}
 use Rattle.role_base.proofs.Spent.{spent_first}
@@ -64,12 +64,12 @@ twins_undrawn p front l None v i e = ap refusal_of e ∙ by_refused p (verdict_o
 twins_undrawn p front l (Some d) v i e = cc
 
 pub twins_sent : (result : Result Decision NoMemory) (p : Party) (front : List Test) (l : LinkRec) (o : Option TwinsDrawn) (keys : TwinsDrawn) (v : Verdict) → o ≡ Some keys
-    → IfOk result (λ d. d ≡ accepting p (twins_edits p l keys) (Some (twins_reply p l keys))) → v ≡ verdict_of (front ++ twins_tests p l o) → is_accept v ≡ true
-    → IfOk result (λ d. d ≡ decision_of p (twins_sending_drawn p front l o))
+    → AcceptsWith p (twins_edits p l keys) (Some (twins_reply p l keys)) result → v ≡ verdict_of (front ++ twins_tests p l o) → is_accept v ≡ true
+    → Decides p (twins_sending_drawn p front l o) result
 twins_sent result p front l None keys v i h e t = cc
 twins_sent result p front l (Some d) keys v i h e t =
     let j : d ≡ keys = cc in
-    decides_row result p (twins_sending_drawn p front l (Some d)) v (rw j h) e t
+    decides_with result p (twins_sending_drawn p front l (Some d)) v (rw j h) e t
 
 -- the edits
 

@@ -1,7 +1,7 @@
 -- The records of two keys that were sent in one message stand.
 use Rattle.std.proofs.Common.{◌≡◌, ℕ, Some, List}
 use Rattle.party_state.specs.State.{Party}
-use Rattle.party_state.specs.Names.{name_behind}
+use Rattle.party_tables.specs.Names.{name_behind}
 use Rattle.role_base.specs.declared.exchanges.Twins.{Twins}
 use Rattle.role_base.specs.Exchanges.{twins_to}
 use Rattle.role_base.specs.Standing.{KeyStands}

@@ -2,6 +2,7 @@
 -- project's profile). An exchange that names a key of which no record stands counts as absent, and so does one that names two
 -- keys, where the record of either doesn't stand.
 use Rattle.std.specs.Prelude.{ℕ, ◌≡◌, ◌+◌, ◌<◌, ◌≤◌, IsTrue, cond, is_some, List, length, Option, Some, None}
+use Rattle.x_base.specs.Count.{count_limit}
 use Rattle.x_base.specs.declared.key_name.KeyName.{KeyName}
 use Rattle.x_base.specs.declared.party.Side.TheVariants.{Sends}
 use Rattle.x_gen.specs.declared.generator.Gen.{Gen}
@@ -12,14 +13,14 @@ use Rattle.csm_grammar.specs.declared.message.Rsm.{Rsm}
 use Rattle.csm_grammar.specs.declared.message.Esm.{Esm}
 use Rattle.csm_grammar.specs.declared.message.Dsm.{Dsm}
 use Rattle.csm_grammar.specs.declared.arrival.Arrival.{Arrival}
-use Rattle.party_state.specs.declared.link.LinkRec.{LinkRec}
-use Rattle.party_state.specs.declared.key.KeyRec.{KeyRec}
-use Rattle.party_state.specs.declared.key.RecordKey.{RecordKey}
-use Rattle.party_state.specs.declared.exchange.Via.{Via}
-use Rattle.party_state.specs.declared.exchange.Kind.{Kind}
-use Rattle.party_state.specs.declared.exchange.Kind.TheVariants as kind
+use Rattle.party_tables.specs.declared.link.LinkRec.{LinkRec}
+use Rattle.party_tables.specs.declared.key.KeyRec.{KeyRec}
+use Rattle.party_tables.specs.declared.key.RecordKey.{RecordKey}
+use Rattle.party_tables.specs.declared.exchange.Via.{Via}
+use Rattle.party_tables.specs.declared.exchange.Kind.{Kind}
+use Rattle.party_tables.specs.declared.exchange.Kind.TheVariants as kind
 use Rattle.party_state.specs.Limits.{most_keys}
-use Rattle.party_state.specs.Names.{name_behind}
+use Rattle.party_tables.specs.Names.{name_behind}
 use Rattle.party_state.specs.State.{Party, first_link, record_with, exchange_with, knows}
 use Rattle.role_base.specs.Texts.{is_verified, is_right}
 use Rattle.bank_arrivals.specs.Heard.{IsAbout, HasKey, IsTo, AreSentTogether}
@@ -43,7 +44,7 @@ pub record CanServe (p : Party) (a : Arrival) (m : Rsi) (moment : ℕ) : Type 0 
   pub link : LinkRec
   pub first : first_link m.originator Sends p ≡ Some link
   pub code : IsTrue (is_right a)
-  pub left : link.next ≤ 99999999999999
+  pub left : link.next ≤ count_limit
   -- with its record 1,024 stand at most
   pub room : length p.keys + more_with p (key_at p link link.next) ≤ most_keys
   pub drawn : ℕ × Gen
@@ -61,7 +62,7 @@ pub record CanServeTwo (p : Party) (a : Arrival) (m : Rsi) (moment : ℕ) : Type
   pub first : first_link m.originator Sends p ≡ Some link
   pub code : IsTrue (is_right a)
   -- the next count isn't the last
-  pub left : link.next < 99999999999999
+  pub left : link.next < count_limit
   -- with both records 1,024 stand at most
   pub room : length p.keys + (more_with p (key_at p link link.next) + more_with p (key_at p link (link.next + 1))) ≤ most_keys
   pub drawn : ℕ × Gen

@@ -8,17 +8,17 @@ use Rattle.csm_grammar.specs.declared.message.Rsm.{Rsm}
 use Rattle.csm_grammar.specs.declared.message.Esm.{Esm}
 use Rattle.csm_grammar.specs.declared.message.Dsm.{Dsm}
 use Rattle.csm_grammar.specs.declared.arrival.Arrival.{Arrival}
-use Rattle.party_state.specs.declared.link.LinkRec.{LinkRec}
-use Rattle.party_state.specs.declared.key.KeyRec.{KeyRec}
-use Rattle.party_state.specs.declared.key.KeyStatus.TheVariants.{Live, Ended}
-use Rattle.party_state.specs.declared.exchange.Via.{Via}
-use Rattle.party_state.specs.declared.exchange.Via.TheVariants as via
-use Rattle.party_state.specs.declared.exchange.Kind.{Kind}
-use Rattle.party_state.specs.declared.exchange.Kind.TheVariants as kind
-use Rattle.party_state.specs.declared.exchange.Exchange.{Exchange}
+use Rattle.party_tables.specs.declared.link.LinkRec.{LinkRec}
+use Rattle.party_tables.specs.declared.key.KeyRec.{KeyRec}
+use Rattle.party_tables.specs.declared.key.KeyStatus.TheVariants.{Live, Ended}
+use Rattle.party_tables.specs.declared.exchange.Via.{Via}
+use Rattle.party_tables.specs.declared.exchange.Via.TheVariants as via
+use Rattle.party_tables.specs.declared.exchange.Kind.{Kind}
+use Rattle.party_tables.specs.declared.exchange.Kind.TheVariants as kind
+use Rattle.party_tables.specs.declared.exchange.Exchange.{Exchange}
 use Rattle.party_state.specs.State.{Party, centre_label, exchange_with, link_with, record_with}
-use Rattle.party_state.specs.Keys.{sends}
-use Rattle.party_state.specs.Names.{full_name, name_behind}
+use Rattle.party_tables.specs.Keys.{sends}
+use Rattle.party_tables.specs.Names.{full_name, name_behind}
 use Rattle.party_state.specs.Rows.{Row, Coded}
 use Rattle.role_base.specs.Texts.{is_verified}
 use Rattle.bank_arrivals.specs.Dsm.{code_name}

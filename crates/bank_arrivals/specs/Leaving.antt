@@ -4,13 +4,13 @@
 use Rattle.std.specs.Prelude.{ℕ, ◌≡◌, ◌⊎◌, List, Some, None}
 use Rattle.x_base.specs.declared.key_name.KeyName.{KeyName}
 use Rattle.csm_grammar.specs.declared.message.Dsm.{Dsm}
-use Rattle.party_state.specs.declared.key.KeyRec.{KeyRec}
-use Rattle.party_state.specs.declared.key.KeyStatus.TheVariants.{Ended}
-use Rattle.party_state.specs.declared.exchange.Via.{Via}
-use Rattle.party_state.specs.declared.exchange.Via.TheVariants as via
-use Rattle.party_state.specs.declared.exchange.Kind.TheVariants as kind
-use Rattle.party_state.specs.Keys.{sends}
-use Rattle.party_state.specs.Names.{name_behind}
+use Rattle.party_tables.specs.declared.key.KeyRec.{KeyRec}
+use Rattle.party_tables.specs.declared.key.KeyStatus.TheVariants.{Ended}
+use Rattle.party_tables.specs.declared.exchange.Via.{Via}
+use Rattle.party_tables.specs.declared.exchange.Via.TheVariants as via
+use Rattle.party_tables.specs.declared.exchange.Kind.TheVariants as kind
+use Rattle.party_tables.specs.Keys.{sends}
+use Rattle.party_tables.specs.Names.{name_behind}
 use Rattle.party_state.specs.State.{Party, exchange_with, link_with}
 use Rattle.bank_arrivals.specs.Heard.{IsAbout, HasKey}
 

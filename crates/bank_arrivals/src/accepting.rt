@@ -10,9 +10,9 @@ ghost use Rattle.csm_grammar.specs.declared.message.Service.TheVariants as servi
 ghost use Rattle.csm_grammar.specs.declared.message.Rsm.{Rsm as TheRsm};
 ghost use Rattle.csm_grammar.specs.declared.message.Esm.{Esm as TheEsm};
 ghost use Rattle.csm_grammar.specs.declared.message.Dsm.{Dsm as TheDsm};
-ghost use Rattle.party_state.specs.declared.key.KeyRec.{KeyRec as TheRecord};
-ghost use Rattle.party_state.specs.declared.key.KeyStatus.TheVariants.{Ended};
-ghost use Rattle.party_state.specs.declared.link.LinkRec.{LinkRec as TheLink};
+ghost use Rattle.party_tables.specs.declared.key.KeyRec.{KeyRec as TheRecord};
+ghost use Rattle.party_tables.specs.declared.key.KeyStatus.TheVariants.{Ended};
+ghost use Rattle.party_tables.specs.declared.link.LinkRec.{LinkRec as TheLink};
 ghost use Rattle.party_state.specs.State.{Party, apply, first_link};
 ghost use Rattle.role_base.specs.declared.exchanges.Sent.{Sent as TheSent};
 ghost use Rattle.party_state.specs.Verdicts.{is_accept};

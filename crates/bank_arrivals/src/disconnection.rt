@@ -1,17 +1,15 @@
 // A disconnect service message arrives: the key ends, and a response that names it goes back.
 ghost use Rattle.std.specs.Prelude.{◌≡◌, ◌++◌, ◌∷◌, [], true, IfOk};
 ghost use Rattle.x_base.specs.declared.verdict.Verdict.TheVariants.{BadMac};
-ghost use Rattle.party_state.specs.declared.exchange.Kind.TheVariants as kind;
-ghost use Rattle.party_state.specs.Keys.{same_name};
-ghost use Rattle.party_state.specs.Names.{full_name, name_behind};
+ghost use Rattle.party_tables.specs.declared.exchange.Kind.TheVariants as kind;
+ghost use Rattle.party_tables.specs.Keys.{same_name};
+ghost use Rattle.party_tables.specs.Names.{full_name, name_behind};
 ghost use Rattle.party_state.specs.Rows.Reply.{Coded};
 ghost use Rattle.party_state.specs.Verdicts.{verdict_of};
 ghost use Rattle.role_base.specs.Replies.{IsWritten};
-ghost use Rattle.role_base.specs.Texts.{lead_under};
-ghost use Rattle.role_base.specs.Storable.{CanKeep};
 ghost use Rattle.party_state.specs.State.{exchange_with};
-ghost use Rattle.role_base.specs.Deciding.{decision_of};
-ghost use Rattle.bank_arrivals.specs.Dsm.{named_by, dsm_front, left_by, left_in, disconnected, dsm_response, dsm_on, dsm, dsm_lead_on, dsm_lead};
+ghost use Rattle.role_base.specs.Deciding.{Decides};
+ghost use Rattle.bank_arrivals.specs.Dsm.{named_by, dsm_front, left_by, left_in, disconnected, dsm_response, dsm, dsm_lead};
 
 use csm_grammar::{Arrival, Dsm, Message, Rsm};
 use party_state::{Decision, Edit, KeyRec, KeyStatus, Kind, Lead, State, law_found, name_behind};
@@ -181,78 +179,6 @@ fn dsm_reply(alloc: Global, state: &State, key: &KeyRec) -> Result<Written, NoMe
     Written::coded(alloc, &response, key.full_name(&state.own()), key.value)
 }
 
-/// What is decided where the tests before the code's hold.
-#[tactic(auto, using(crate::proofs::Disconnections::dsm_refuses, crate::proofs::Disconnections::dsm_accepts))]
-fn dsm_led(
-    alloc: Global,
-    state: &State,
-    arrival: &Arrival,
-    message: &Dsm,
-    named: &Named,
-    lead: &Lead,
-) -> Result<Decision, NoMemory>
-    requires { lead.now ≡ lead_under arrival.now (full_name state.now.own named.now.by) named.now.by.value }
-    ensures { IfOk result (λ d. d ≡ decision_of state.now (dsm_on state.now arrival.now message.now (Some named.now))) }
-{
-    let verdict = dsm_verdict(state, message, lead.verified);
-    if !is_accept(&verdict) {
-        return Ok(refusal(verdict));
-    }
-    let edits = disconnected(alloc, state, message.originator, &named.key)?;
-    let written = dsm_reply(alloc, state, &named.key)?;
-    accept(alloc, state, edits, Some(written))
-}
-
-fn dsm_of(
-    alloc: Global,
-    state: &State,
-    arrival: &Arrival,
-    message: &Dsm,
-    named: &Named,
-    lead: &Option<Lead>,
-) -> Result<Decision, NoMemory>
-    requires { lead.now ≡ dsm_lead_on state.now arrival.now message.now (Some named.now) }
-    ensures { IfOk result (λ d. d ≡ decision_of state.now (dsm_on state.now arrival.now message.now (Some named.now))) }
-{
-    match lead {
-        Some(lead) => dsm_led(alloc, state, arrival, message, named, lead),
-        None => Ok(early_refusal(&dsm_front(state, message, true))),
-    }
-}
-
-fn dsm_on(
-    alloc: Global,
-    state: &State,
-    arrival: &Arrival,
-    message: &Dsm,
-    found: &Option<Named>,
-    lead: &Option<Lead>,
-) -> Result<Decision, NoMemory>
-    requires { lead.now ≡ dsm_lead_on state.now arrival.now message.now found.now }
-    ensures { IfOk result (λ d. d ≡ decision_of state.now (dsm_on state.now arrival.now message.now found.now)) }
-{
-    match found {
-        Some(named) => dsm_of(alloc, state, arrival, message, named, lead),
-        None => Ok(refusal(verdict_of(&dsm_front(state, message, false)))),
-    }
-}
-
-fn dsm_lead_on(
-    state: &State,
-    arrival: &Arrival,
-    message: &Dsm,
-    found: Option<Named>,
-) -> Option<Lead>
-    ensures { result ≡ dsm_lead_on state.now arrival.now message.now found }
-{
-    let named = found?;
-    if passes(&dsm_front(state, message, true)) {
-        Some(key_lead(state, arrival, &named.by))
-    } else {
-        None
-    }
-}
-
 /// What is decided of a disconnection, with the key under which its code is tested. The only error is want of
 /// memory.
 pub fn dsm(
@@ -263,24 +189,33 @@ pub fn dsm(
     lead: &Option<Lead>,
 ) -> Result<Decision, NoMemory>
     requires { lead.now ≡ dsm_lead state.now arrival.now message.now }
-    ensures decision { IfOk result (λ d. d ≡ decision_of state.now (dsm state.now arrival.now message.now)) }
-    ensures kept { IfOk result (λ d. CanKeep state.now d.change) }
+    ensures { Decides state.now (dsm state.now arrival.now message.now) result }
 {
     // Tells that what is found has the key under which it was looked for.
     law_found();
-    dsm_on(
-        alloc,
-        state,
-        arrival,
-        message,
-        &named_by(state, message),
-        lead,
-    )
+    let Some(named) = named_by(state, message) else {
+        return Ok(refusal(verdict_of(&dsm_front(state, message, false))));
+    };
+    let Some(lead) = lead else {
+        return Ok(early_refusal(&dsm_front(state, message, true)));
+    };
+    let verdict = dsm_verdict(state, message, lead.verified);
+    if !is_accept(&verdict) {
+        return Ok(refusal(verdict));
+    }
+    let edits = disconnected(alloc, state, message.originator, &named.key)?;
+    let written = dsm_reply(alloc, state, &named.key)?;
+    accept(alloc, state, edits, Some(written))
 }
 
 /// The key under which the code of a disconnection is tested. It takes no memory.
 pub fn dsm_lead(state: &State, arrival: &Arrival, message: &Dsm) -> Option<Lead>
     ensures { result ≡ dsm_lead state.now arrival.now message.now }
 {
-    dsm_lead_on(state, arrival, message, named_by(state, message))
+    let named = named_by(state, message)?;
+    if passes(&dsm_front(state, message, true)) {
+        Some(key_lead(state, arrival, &named.by))
+    } else {
+        None
+    }
 }

@@ -3,11 +3,10 @@
 ghost use Rattle.std.specs.Prelude.{◌≡◌, IfSome, IfOk};
 ghost use Rattle.x_base.specs.Count.{IsCount};
 ghost use Rattle.csm_grammar.specs.declared.message.Message.TheVariants as messages;
-ghost use Rattle.role_base.specs.Storable.{CanKeep};
-ghost use Rattle.role_base.specs.Deciding.{decision_of};
+ghost use Rattle.role_base.specs.Deciding.{decision_of, Decides};
 ghost use Rattle.role_base.specs.Texts.{lead_under};
-ghost use Rattle.bank_arrivals.specs.AskingAgain.{retry_of, retry_in};
-ghost use Rattle.bank_arrivals.specs.Esm.{subject_by, subject_with, subject_value, subject_name, error_row, error_of, error, esm_lead_of, esm_lead};
+ghost use Rattle.bank_arrivals.specs.AskingAgain.{retry_in};
+ghost use Rattle.bank_arrivals.specs.Esm.{subject_by, subject_with, subject_value, subject_name, error_of, error, esm_lead_of, esm_lead};
 
 use crate::asking_again::{asked_again, retry_of};
 use crate::error_edits::error_edits;
@@ -88,49 +87,8 @@ fn subject_lead(state: &State, arrival: &Arrival, peer: &Ident, subject: &Subjec
     lead_under(arrival, under, subject_value(subject))
 }
 
-/// What is decided where the tests before the code's hold.
-#[tactic(auto, using(crate::proofs::ErrorMessages::esm_refuses, crate::proofs::ErrorMessages::esm_accepts))]
-fn esm_led(
-    alloc: Global,
-    state: &State,
-    arrival: &Arrival,
-    message: &Esm,
-    subject: &Subject,
-    lead: &Lead,
-) -> Result<Decision, NoMemory>
-    requires { lead.now ≡ lead_under arrival.now (subject_name state.now message.now.originator subject.now) (subject_value subject.now) }
-    ensures { IfOk result (λ d. d ≡ decision_of state.now (error_row state.now arrival.now message.now subject.now (retry_of state.now subject.now message.now.ctr))) }
-{
-    let (receiver, originator) = (&message.receiver, &message.originator);
-    let verdict = answer_verdict(state, receiver, originator, true, lead.verified);
-    if !is_accept(&verdict) {
-        return Ok(refusal(verdict));
-    }
-    let again = retry_of(state, subject, message.ctr);
-    let (asked, written) = asked_again(alloc, state, message, subject_value(subject), &again)?;
-    let edits = error_edits(alloc, state, message, subject, asked)?;
-    accept(alloc, state, edits, written)
-}
-
+/// What is decided of one with an authentication code, with the key under which the code is tested.
 fn esm_about(
-    alloc: Global,
-    state: &State,
-    arrival: &Arrival,
-    message: &Esm,
-    subject: &Subject,
-    lead: &Option<Lead>,
-) -> Result<Decision, NoMemory>
-    requires { lead.now ≡ esm_lead_of state.now arrival.now message.now (Some subject.now) }
-    ensures { IfOk result (λ d. d ≡ decision_of state.now (error_row state.now arrival.now message.now subject.now (retry_of state.now subject.now message.now.ctr))) }
-{
-    let (receiver, originator) = (&message.receiver, &message.originator);
-    match lead {
-        Some(lead) => esm_led(alloc, state, arrival, message, subject, lead),
-        None => Ok(early_refusal(&answer_front(state, receiver, originator, true))),
-    }
-}
-
-fn esm_of(
     alloc: Global,
     state: &State,
     arrival: &Arrival,
@@ -141,58 +99,21 @@ fn esm_of(
     requires { lead.now ≡ esm_lead_of state.now arrival.now message.now found.now }
     ensures { IfOk result (λ d. d ≡ decision_of state.now (error_of state.now arrival.now message.now found.now (retry_in state.now found.now message.now.ctr))) }
 {
-    match found {
-        Some(subject) => esm_about(alloc, state, arrival, message, subject, lead),
-        None => Ok(not_answering(state, &message.receiver, &message.originator)),
+    let (receiver, originator) = (&message.receiver, &message.originator);
+    let Some(subject) = found else {
+        return Ok(not_answering(state, receiver, originator));
+    };
+    let Some(lead) = lead else {
+        return Ok(early_refusal(&answer_front(state, receiver, originator, true)));
+    };
+    let verdict = answer_verdict(state, receiver, originator, true, lead.verified);
+    if !is_accept(&verdict) {
+        return Ok(refusal(verdict));
     }
-}
-
-fn esm_lead_about(
-    state: &State,
-    arrival: &Arrival,
-    message: &Esm,
-    subject: &Subject,
-) -> Option<Lead>
-    ensures { result ≡ esm_lead_of state.now arrival.now message.now (Some subject.now) }
-{
-    let peer = &message.originator;
-    if passes(&answer_front(state, &message.receiver, peer, true)) {
-        Some(subject_lead(state, arrival, peer, subject))
-    } else {
-        None
-    }
-}
-
-fn esm_lead_of(
-    state: &State,
-    arrival: &Arrival,
-    message: &Esm,
-    found: &Option<Subject>,
-) -> Option<Lead>
-    ensures { result ≡ esm_lead_of state.now arrival.now message.now found.now }
-{
-    match found {
-        Some(subject) => esm_lead_about(state, arrival, message, subject),
-        None => None,
-    }
-}
-
-fn esm_decided(
-    alloc: Global,
-    state: &State,
-    arrival: &Arrival,
-    message: &Esm,
-    lead: &Option<Lead>,
-) -> Result<Decision, NoMemory>
-    requires { lead.now ≡ esm_lead state.now arrival.now message.now }
-    ensures { IfOk result (λ d. d ≡ decision_of state.now (error state.now arrival.now message.now)) }
-{
-    if is_plain(arrival) {
-        plain_esm(alloc, state, arrival, message)
-    } else {
-        let found = subject_with(state, &message.originator);
-        esm_of(alloc, state, arrival, message, &found, lead)
-    }
+    let again = retry_of(state, subject, message.ctr);
+    let (asked, written) = asked_again(alloc, state, message, subject_value(subject), &again)?;
+    let edits = error_edits(alloc, state, message, subject, asked)?;
+    accept(alloc, state, edits, written)
 }
 
 /// The count that is named.
@@ -216,8 +137,7 @@ pub fn esm(
 ) -> Result<Decision, NoMemory>
     requires message { arrival.now.parsed.message ≡ messages.Esm message.now }
     requires lead { lead.now ≡ esm_lead state.now arrival.now message.now }
-    ensures decision { IfOk result (λ d. d ≡ decision_of state.now (error state.now arrival.now message.now)) }
-    ensures kept { IfOk result (λ d. CanKeep state.now d.change) }
+    ensures { Decides state.now (error state.now arrival.now message.now) result }
 {
     // Tells that what stands is in its range.
     state.law_party();
@@ -227,7 +147,30 @@ pub fn esm(
     law_arrived();
     law_canon_short();
     named_count(message);
-    esm_decided(alloc, state, arrival, message, lead)
+    if is_plain(arrival) {
+        return plain_esm(alloc, state, arrival, message);
+    }
+    let found = subject_with(state, &message.originator);
+    esm_about(alloc, state, arrival, message, &found, lead)
+}
+
+fn esm_lead_of(
+    state: &State,
+    arrival: &Arrival,
+    message: &Esm,
+    found: &Option<Subject>,
+) -> Option<Lead>
+    ensures { result ≡ esm_lead_of state.now arrival.now message.now found.now }
+{
+    let Some(subject) = found else {
+        return None;
+    };
+    let peer = &message.originator;
+    if passes(&answer_front(state, &message.receiver, peer, true)) {
+        Some(subject_lead(state, arrival, peer, subject))
+    } else {
+        None
+    }
 }
 
 /// The key under which the code of an error message is tested. It takes no memory.
@@ -235,13 +178,8 @@ pub fn esm_lead(state: &State, arrival: &Arrival, message: &Esm) -> Option<Lead>
     ensures { result ≡ esm_lead state.now arrival.now message.now }
 {
     if is_plain(arrival) {
-        None
-    } else {
-        esm_lead_of(
-            state,
-            arrival,
-            message,
-            &subject_with(state, &message.originator),
-        )
+        return None;
     }
+    let found = subject_with(state, &message.originator);
+    esm_lead_of(state, arrival, message, &found)
 }

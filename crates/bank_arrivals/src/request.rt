@@ -1,10 +1,9 @@
 // A request for service initiation arrives: a data key goes back under the first link, or two of
 // them.
-ghost use Rattle.std.specs.Prelude.{◌≡◌, true, IfOk};
+ghost use Rattle.std.specs.Prelude.{◌≡◌, true};
 ghost use Rattle.party_state.specs.Verdicts.{all_refuse};
 ghost use Rattle.role_base.specs.Standing.{LinkStands};
-ghost use Rattle.role_base.specs.Storable.{CanKeep};
-ghost use Rattle.role_base.specs.Deciding.{decision_of};
+ghost use Rattle.role_base.specs.Deciding.{Decides};
 ghost use Rattle.bank_arrivals.specs.Rsi.{rsi_tests, sending_by, rsi};
 
 use crate::sending_twins::send_two;
@@ -48,8 +47,7 @@ fn rsi_row(
 ) -> Result<Decision, NoMemory>
     requires stands { LinkStands state.now link.now }
     requires refuse { all_refuse tests.now ≡ true }
-    ensures decision { IfOk result (λ d. d ≡ decision_of state.now (sending_by state.now tests.now link.now moment two)) }
-    ensures kept { IfOk result (λ d. CanKeep state.now d.change) }
+    ensures { Decides state.now (sending_by state.now tests.now link.now moment two) result }
 {
     if two {
         send_two(alloc, state, tests, link, moment)
@@ -60,7 +58,7 @@ fn rsi_row(
 
 /// What is decided of a request for a data key, or for two, at a moment. The only error is want of
 /// memory.
-#[tactic(auto, using(role_base::proofs::ByRow::by_refused))]
+#[tactic(auto, using(role_base::proofs::Kept::is_refused))]
 pub fn rsi(
     alloc: Global,
     state: &State,
@@ -68,8 +66,7 @@ pub fn rsi(
     message: &Rsi,
     moment: u64,
 ) -> Result<Decision, NoMemory>
-    ensures decision { IfOk result (λ d. d ≡ decision_of state.now (rsi state.now arrival.now message.now moment)) }
-    ensures kept { IfOk result (λ d. CanKeep state.now d.change) }
+    ensures { Decides state.now (rsi state.now arrival.now message.now moment) result }
 {
     let found = first_link(state, &message.originator, Side::Sends);
     let tests = rsi_tests(state, arrival, message, &found);

@@ -2,13 +2,10 @@
 // key, the end of that key is done.
 ghost use Rattle.std.specs.Prelude.{◌≡◌, ◌++◌, ◌∷◌, [], IfOk};
 ghost use Rattle.party_state.specs.declared.edit.Edit.TheVariants.{PutKey, DropExchange};
-ghost use Rattle.party_state.specs.declared.key.KeyStatus.TheVariants.{Live, Ended};
-ghost use Rattle.party_state.specs.Names.{full_name};
-ghost use Rattle.role_base.specs.Texts.{lead_under};
-ghost use Rattle.role_base.specs.Storable.{CanKeep};
-ghost use Rattle.role_base.specs.Deciding.{decision_of};
+ghost use Rattle.party_tables.specs.declared.key.KeyStatus.TheVariants.{Live};
+ghost use Rattle.role_base.specs.Deciding.{decision_of, Decides};
 ghost use Rattle.role_base.specs.Exchanges.{sent_to, twins_to, readied, new_link};
-ghost use Rattle.bank_arrivals.specs.Rsm.{rsm, rsm_to, rsm_by, rsm_lead, rsm_lead_to, rsm_lead_by, answer_to, answer_lead_to, is_named};
+ghost use Rattle.bank_arrivals.specs.Rsm.{rsm, rsm_to, rsm_lead, rsm_lead_to, answer_to, answer_lead_to, is_named};
 
 use crate::twin_response::{rsm_twins, twins_lead};
 use csm_grammar::{Arrival, Rsm};
@@ -35,47 +32,7 @@ fn live(alloc: Global, state: &State, message: &Rsm, sent: &Sent) -> Result<Vec<
     joined(readied(alloc, link)?, rest)
 }
 
-/// The response to a key that was sent, where the tests before the code's hold.
-#[tactic(auto, using(crate::proofs::Responses::rsm_refuses, crate::proofs::Responses::rsm_accepts))]
-fn rsm_led(
-    alloc: Global,
-    state: &State,
-    arrival: &Arrival,
-    message: &Rsm,
-    sent: &Sent,
-    lead: &Lead,
-) -> Result<Decision, NoMemory>
-    requires { lead.now ≡ lead_under arrival.now (full_name state.now.own sent.now.key) sent.now.key.value }
-    ensures { IfOk result (λ d. d ≡ decision_of state.now (rsm_to state.now arrival.now message.now (Some sent.now))) }
-{
-    let (receiver, originator) = (&message.receiver, &message.originator);
-    let verdict = answer_verdict(state, receiver, originator, true, lead.verified);
-    if !is_accept(&verdict) {
-        return Ok(refusal(verdict));
-    }
-    let edits = live(alloc, state, message, sent)?;
-    accept(alloc, state, edits, None)
-}
-
-/// The response to a key that was sent.
-fn rsm_sent(
-    alloc: Global,
-    state: &State,
-    arrival: &Arrival,
-    message: &Rsm,
-    sent: &Sent,
-    lead: &Option<Lead>,
-) -> Result<Decision, NoMemory>
-    requires { lead.now ≡ rsm_lead_to state.now arrival.now message.now (Some sent.now) }
-    ensures { IfOk result (λ d. d ≡ decision_of state.now (rsm_to state.now arrival.now message.now (Some sent.now))) }
-{
-    let (receiver, originator) = (&message.receiver, &message.originator);
-    match lead {
-        Some(lead) => rsm_led(alloc, state, arrival, message, sent, lead),
-        None => Ok(early_refusal(&answer_front(state, receiver, originator, true))),
-    }
-}
-
+/// The response to a key that was sent, with the key under which its code is tested.
 fn rsm_to(
     alloc: Global,
     state: &State,
@@ -87,10 +44,19 @@ fn rsm_to(
     requires { lead.now ≡ rsm_lead_to state.now arrival.now message.now found.now }
     ensures { IfOk result (λ d. d ≡ decision_of state.now (rsm_to state.now arrival.now message.now found.now)) }
 {
-    match found {
-        Some(sent) => rsm_sent(alloc, state, arrival, message, sent, lead),
-        None => Ok(not_answering(state, &message.receiver, &message.originator)),
+    let (receiver, originator) = (&message.receiver, &message.originator);
+    let Some(sent) = found else {
+        return Ok(not_answering(state, receiver, originator));
+    };
+    let Some(lead) = lead else {
+        return Ok(early_refusal(&answer_front(state, receiver, originator, true)));
+    };
+    let verdict = answer_verdict(state, receiver, originator, true, lead.verified);
+    if !is_accept(&verdict) {
+        return Ok(refusal(verdict));
     }
+    let edits = live(alloc, state, message, sent)?;
+    accept(alloc, state, edits, None)
 }
 
 /// The two keys that were sent to the peer in one message, and the one key: at most one of them is
@@ -104,34 +70,6 @@ fn unanswered(state: &State, peer: &Ident) -> (Option<Twins>, Option<Sent>)
             (twins_by(state, peer, kind), sent_by(state, peer, kind))
         }
         None => (None, None),
-    }
-}
-
-/// The response to what the exchange sent: two keys, or one.
-fn rsm_by(
-    alloc: Global,
-    state: &State,
-    arrival: &Arrival,
-    message: &Rsm,
-    lead: &Option<Lead>,
-) -> Result<Decision, NoMemory>
-    requires { lead.now ≡ rsm_lead_by state.now arrival.now message.now (twins_to state.now message.now.originator) }
-    ensures { IfOk result (λ d. d ≡ decision_of state.now (rsm_by state.now arrival.now message.now (twins_to state.now message.now.originator))) }
-{
-    let (twins, sent) = unanswered(state, &message.originator);
-    match &twins {
-        Some(twins) => rsm_twins(alloc, state, arrival, message, twins, lead),
-        None => rsm_to(alloc, state, arrival, message, &sent, lead),
-    }
-}
-
-fn rsm_lead_by(state: &State, arrival: &Arrival, message: &Rsm) -> Option<Lead>
-    ensures { result ≡ rsm_lead_by state.now arrival.now message.now (twins_to state.now message.now.originator) }
-{
-    let (twins, sent) = unanswered(state, &message.originator);
-    match twins {
-        Some(twins) => twins_lead(state, arrival, message, &twins),
-        None => rsm_lead_to(state, arrival, message, sent),
     }
 }
 
@@ -155,53 +93,7 @@ fn is_named(name: &KeyName, found: &Option<KeyRec>) -> bool
     }
 }
 
-/// The response to the end of a key, where the tests before the code's hold.
-#[tactic(auto, using(crate::proofs::Responses::answer_refuses, crate::proofs::Responses::answer_accepts))]
-fn answer_led(
-    alloc: Global,
-    state: &State,
-    arrival: &Arrival,
-    message: &Rsm,
-    name: &KeyName,
-    key: &KeyRec,
-    lead: &Lead,
-) -> Result<Decision, NoMemory>
-    requires { lead.now ≡ lead_under arrival.now (full_name state.now.own key.now) key.now.value }
-    ensures { IfOk result (λ d. d ≡ decision_of state.now (answer_to state.now arrival.now message.now name.now (Some key.now))) }
-{
-    let (receiver, originator) = (&message.receiver, &message.originator);
-    let named = is_named(name, &Some(*key));
-    let verdict = answer_verdict(state, receiver, originator, named, lead.verified);
-    if !is_accept(&verdict) {
-        return Ok(refusal(verdict));
-    }
-    let (peer, status) = (message.originator, KeyStatus::Ended);
-    let ended = KeyRec { status, ..*key };
-    let edits = list_of(alloc, [Edit::PutKey(ended), Edit::DropExchange { peer }])?;
-    accept(alloc, state, edits, None)
-}
-
-/// The response to the end of a key.
-fn answer_for(
-    alloc: Global,
-    state: &State,
-    arrival: &Arrival,
-    message: &Rsm,
-    name: &KeyName,
-    key: &KeyRec,
-    lead: &Option<Lead>,
-) -> Result<Decision, NoMemory>
-    requires { lead.now ≡ answer_lead_to state.now arrival.now message.now name.now (Some key.now) }
-    ensures { IfOk result (λ d. d ≡ decision_of state.now (answer_to state.now arrival.now message.now name.now (Some key.now))) }
-{
-    let (receiver, originator) = (&message.receiver, &message.originator);
-    let named = is_named(name, &Some(*key));
-    match lead {
-        Some(lead) => answer_led(alloc, state, arrival, message, name, key, lead),
-        None => Ok(early_refusal(&answer_front(state, receiver, originator, named))),
-    }
-}
-
+/// The response to the end of a key, with the key under which its code is tested.
 fn answer_to(
     alloc: Global,
     state: &State,
@@ -214,10 +106,22 @@ fn answer_to(
     requires { lead.now ≡ answer_lead_to state.now arrival.now message.now name.now found.now }
     ensures { IfOk result (λ d. d ≡ decision_of state.now (answer_to state.now arrival.now message.now name.now found.now)) }
 {
-    match found {
-        Some(key) => answer_for(alloc, state, arrival, message, name, key, lead),
-        None => Ok(not_answering(state, &message.receiver, &message.originator)),
+    let (receiver, originator) = (&message.receiver, &message.originator);
+    let named = is_named(name, found);
+    let Some(key) = found else {
+        return Ok(not_answering(state, receiver, originator));
+    };
+    let Some(lead) = lead else {
+        return Ok(early_refusal(&answer_front(state, receiver, originator, named)));
+    };
+    let verdict = answer_verdict(state, receiver, originator, named, lead.verified);
+    if !is_accept(&verdict) {
+        return Ok(refusal(verdict));
     }
+    let (peer, status) = (message.originator, KeyStatus::Ended);
+    let ended = KeyRec { status, ..*key };
+    let edits = list_of(alloc, [Edit::PutKey(ended), Edit::DropExchange { peer }])?;
+    accept(alloc, state, edits, None)
 }
 
 fn answer_lead_to(
@@ -238,25 +142,6 @@ fn answer_lead_to(
     }
 }
 
-fn rsm_decided(
-    alloc: Global,
-    state: &State,
-    arrival: &Arrival,
-    message: &Rsm,
-    lead: &Option<Lead>,
-) -> Result<Decision, NoMemory>
-    requires { lead.now ≡ rsm_lead state.now arrival.now message.now }
-    ensures { IfOk result (λ d. d ≡ decision_of state.now (rsm state.now arrival.now message.now)) }
-{
-    match &message.idd {
-        None => rsm_by(alloc, state, arrival, message, lead),
-        Some(name) => {
-            let found = ending_with(state, &message.originator);
-            answer_to(alloc, state, arrival, message, name, &found, lead)
-        }
-    }
-}
-
 /// What is decided of a response, with the key under which its code is tested. The only error is want of
 /// memory.
 pub fn rsm(
@@ -267,25 +152,34 @@ pub fn rsm(
     lead: &Option<Lead>,
 ) -> Result<Decision, NoMemory>
     requires { lead.now ≡ rsm_lead state.now arrival.now message.now }
-    ensures decision { IfOk result (λ d. d ≡ decision_of state.now (rsm state.now arrival.now message.now)) }
-    ensures kept { IfOk result (λ d. CanKeep state.now d.change) }
+    ensures { Decides state.now (rsm state.now arrival.now message.now) result }
 {
     // Tells that the links that stand are in their ranges.
     state.law_party();
     law_found();
     law_found_in_range();
-    rsm_decided(alloc, state, arrival, message, lead)
+    let Some(name) = &message.idd else {
+        let (twins, sent) = unanswered(state, &message.originator);
+        return match &twins {
+            Some(twins) => rsm_twins(alloc, state, arrival, message, twins, lead),
+            None => rsm_to(alloc, state, arrival, message, &sent, lead),
+        };
+    };
+    let found = ending_with(state, &message.originator);
+    answer_to(alloc, state, arrival, message, name, &found, lead)
 }
 
 /// The key under which the code of a response is tested. It takes no memory.
 pub fn rsm_lead(state: &State, arrival: &Arrival, message: &Rsm) -> Option<Lead>
     ensures { result ≡ rsm_lead state.now arrival.now message.now }
 {
-    match &message.idd {
-        None => rsm_lead_by(state, arrival, message),
-        Some(name) => {
-            let found = ending_with(state, &message.originator);
-            answer_lead_to(state, arrival, message, name, found)
-        }
-    }
+    let Some(name) = &message.idd else {
+        let (twins, sent) = unanswered(state, &message.originator);
+        return match twins {
+            Some(twins) => twins_lead(state, arrival, message, &twins),
+            None => rsm_lead_to(state, arrival, message, sent),
+        };
+    };
+    let found = ending_with(state, &message.originator);
+    answer_lead_to(state, arrival, message, name, found)
 }

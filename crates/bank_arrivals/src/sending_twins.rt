@@ -2,15 +2,14 @@
 // counts, kept as pending, and sent.
 ghost use Rattle.std.specs.Prelude.{◌≡◌, ◌+◌, ◌≤◌, true, false, length, IfOk, IfSome, Some, None};
 ghost use Rattle.x_base.specs.Count.{IsCount};
-ghost use Rattle.party_state.specs.Names.{name_behind};
-ghost use Rattle.party_state.specs.Ranges.{IsNextCount, longest_text};
+ghost use Rattle.party_tables.specs.Names.{name_behind};
+ghost use Rattle.party_tables.specs.Ranges.{IsNextCount, longest_text};
 ghost use Rattle.party_state.specs.Verdicts.{all_refuse};
 ghost use Rattle.role_base.specs.Conditions.{has_two_counts, has_room_for_two};
-ghost use Rattle.role_base.specs.Deciding.{decision_of, accepting};
+ghost use Rattle.role_base.specs.Deciding.{Decides, AcceptsWith};
 ghost use Rattle.role_base.specs.Replies.{IsWritten};
 ghost use Rattle.role_base.specs.Sending.{next_name};
 ghost use Rattle.role_base.specs.Standing.{LinkStands};
-ghost use Rattle.role_base.specs.Storable.{CanKeep};
 ghost use Rattle.bank_arrivals.specs.SendingTwins.{twins_drawn, twins_message, twins_reply, first_key, second_key, twins_tests, twins_edits, twins_sending, twins_sending_drawn};
 
 use crate::draws::{TwinsDrawn, twins_drawn};
@@ -115,8 +114,7 @@ fn send_twins(
     requires behind { IsCount (count + 1) }
     requires stands { LinkStands state.now link.now }
     requires room { has_room_for_two state.now (first_key state.now link.now) (second_key state.now link.now) ≡ true }
-    ensures decision { IfOk result (λ d. d ≡ accepting state.now (twins_edits state.now link.now drawn.now) (Some (twins_reply state.now link.now drawn.now))) }
-    ensures kept { IfOk result (λ d. CanKeep state.now d.change) }
+    ensures { AcceptsWith state.now (twins_edits state.now link.now drawn.now) (Some (twins_reply state.now link.now drawn.now)) result }
 {
     let written = twins_text(alloc, state, link, count, drawn)?;
     let name = next_name(state, link, count);
@@ -175,8 +173,7 @@ fn send_drawn(
     requires behind { IsCount (count + 1) }
     requires stands { LinkStands state.now link.now }
     requires refuse { all_refuse front.now ≡ true }
-    ensures decision { IfOk result (λ d. d ≡ decision_of state.now (twins_sending_drawn state.now front.now link.now drawn.now)) }
-    ensures kept { IfOk result (λ d. CanKeep state.now d.change) }
+    ensures { Decides state.now (twins_sending_drawn state.now front.now link.now drawn.now) result }
 {
     let verdict = verdict_after(front, &twins_tests(state, link, count, drawn));
     match drawn {
@@ -202,8 +199,7 @@ pub(crate) fn send_two(
 ) -> Result<Decision, NoMemory>
     requires stands { LinkStands state.now link.now }
     requires refuse { all_refuse front.now ≡ true }
-    ensures decision { IfOk result (λ d. d ≡ decision_of state.now (twins_sending state.now front.now link.now moment)) }
-    ensures kept { IfOk result (λ d. CanKeep state.now d.change) }
+    ensures { Decides state.now (twins_sending state.now front.now link.now moment) result }
 {
     match two_counts(link) {
         Some(count) => {

@@ -5,7 +5,7 @@ ghost use Rattle.x_base.specs.declared.verdict.Verdict.TheVariants.{Accept};
 ghost use Rattle.csm_grammar.specs.declared.arrival.Arrival.{Arrival as TheArrival};
 ghost use Rattle.csm_grammar.specs.declared.message.Rsi.{Rsi as TheRsi};
 ghost use Rattle.csm_grammar.specs.declared.message.Service.TheVariants as services;
-ghost use Rattle.party_state.specs.declared.link.LinkRec.{LinkRec as TheLink};
+ghost use Rattle.party_tables.specs.declared.link.LinkRec.{LinkRec as TheLink};
 ghost use Rattle.party_state.specs.State.{Party, apply, first_link};
 ghost use Rattle.party_state.specs.Verdicts.{Test};
 ghost use Rattle.bank_arrivals.specs.declared.draws.TwinsDrawn.{TwinsDrawn as TheTwins};

@@ -1,10 +1,7 @@
 // A response service message to two keys that were sent in one message arrives: both are live.
 ghost use Rattle.std.specs.Prelude.{◌≡◌, ◌∷◌, [], IfOk};
 ghost use Rattle.party_state.specs.declared.edit.Edit.TheVariants.{PutKey, DropExchange};
-ghost use Rattle.party_state.specs.declared.key.KeyStatus.TheVariants.{Live};
-ghost use Rattle.party_state.specs.Names.{full_name};
-ghost use Rattle.role_base.specs.Texts.{lead_under};
-ghost use Rattle.role_base.specs.Exchanges.{twins_value};
+ghost use Rattle.party_tables.specs.declared.key.KeyStatus.TheVariants.{Live};
 ghost use Rattle.role_base.specs.Deciding.{decision_of};
 ghost use Rattle.bank_arrivals.specs.Rsm.{rsm_twins, twins_lead};
 
@@ -32,29 +29,7 @@ fn both_live(alloc: Global, peer: Ident, twins: &Twins) -> Result<Vec<Edit>, NoM
     list_of(alloc, [first, second, Edit::DropExchange { peer }])
 }
 
-/// The response to two keys, where the tests before the code's hold.
-#[tactic(auto, using(crate::proofs::Responses::twins_refuses, crate::proofs::Responses::twins_accepts))]
-fn twins_led(
-    alloc: Global,
-    state: &State,
-    arrival: &Arrival,
-    message: &Rsm,
-    twins: &Twins,
-    lead: &Lead,
-) -> Result<Decision, NoMemory>
-    requires { lead.now ≡ lead_under arrival.now (full_name state.now.own twins.now.first) (twins_value twins.now) }
-    ensures { IfOk result (λ d. d ≡ decision_of state.now (rsm_twins state.now arrival.now message.now twins.now)) }
-{
-    let (receiver, originator) = (&message.receiver, &message.originator);
-    let verdict = answer_verdict(state, receiver, originator, true, lead.verified);
-    if !is_accept(&verdict) {
-        return Ok(refusal(verdict));
-    }
-    let edits = both_live(alloc, message.originator, twins)?;
-    accept(alloc, state, edits, None)
-}
-
-/// The response to two keys that were sent.
+/// The response to two keys that were sent, with the key under which its code is tested.
 pub(crate) fn rsm_twins(
     alloc: Global,
     state: &State,
@@ -67,10 +42,15 @@ pub(crate) fn rsm_twins(
     ensures { IfOk result (λ d. d ≡ decision_of state.now (rsm_twins state.now arrival.now message.now twins.now)) }
 {
     let (receiver, originator) = (&message.receiver, &message.originator);
-    match lead {
-        Some(lead) => twins_led(alloc, state, arrival, message, twins, lead),
-        None => Ok(early_refusal(&answer_front(state, receiver, originator, true))),
+    let Some(lead) = lead else {
+        return Ok(early_refusal(&answer_front(state, receiver, originator, true)));
+    };
+    let verdict = answer_verdict(state, receiver, originator, true, lead.verified);
+    if !is_accept(&verdict) {
+        return Ok(refusal(verdict));
     }
+    let edits = both_live(alloc, message.originator, twins)?;
+    accept(alloc, state, edits, None)
 }
 
 /// The exclusive-or of the two keys, under the name of the first.

@@ -6,10 +6,10 @@ use Rattle.csm_grammar.specs.declared.message.Ksm.{Ksm}
 use Rattle.csm_grammar.specs.declared.message.KsmBody.{KsmBody}
 use Rattle.csm_grammar.specs.declared.message.KsmBody.TheVariants as body
 use Rattle.csm_grammar.specs.declared.arrival.Arrival.{Arrival}
-use Rattle.party_state.specs.declared.link.LinkRec.{LinkRec}
-use Rattle.party_state.specs.declared.key.KeyRec.{KeyRec}
+use Rattle.party_tables.specs.declared.link.LinkRec.{LinkRec}
+use Rattle.party_tables.specs.declared.key.KeyRec.{KeyRec}
 use Rattle.party_state.specs.declared.edit.Edit.TheVariants.{PutLink, PutKey}
-use Rattle.party_state.specs.Keys.{record_key}
+use Rattle.party_tables.specs.Keys.{record_key}
 use Rattle.party_state.specs.State.{Party, apply, apply_edit}
 use Rattle.party_state.specs.Verdicts.{Held}
 use Rattle.role_base.proofs.PartyLaws.{HeldAtAccept, LinkLaws, KeyLaws, put_same, key_put_same}

@@ -1,34 +1,36 @@
 -- What is decided of a centre's answer whose tests before the code's hold.
-use Rattle.std.proofs.Common.{◌≡◌, ℕ, ◌+◌, ◌≤◌, Bool, true, false, Option, Some, None, Result, IfSome, IfOk, ◌∷◌, ◌++◌, length, refl, ap, ◌∙◌, arith}
+use Rattle.std.proofs.Common.{◌≡◌, ◌⊎◌, inl, inr, ℕ, ◌+◌, ◌≤◌, Bool, true, false, Option, Some, None, Result, IfSome, List, [], ◌∷◌, ◌++◌, length, refl, ap, subst, ◌∙◌, arith}
+use Rattle.std.specs.Prelude.{is_none}
 use Rattle.x_base.specs.Count.{IsCount}
 use Rattle.x_base.specs.declared.text.NoMemory.{NoMemory}
 use Rattle.x_base.specs.declared.verdict.Verdict.{Verdict}
-use Rattle.x_base.specs.declared.verdict.Verdict.TheVariants.{BadMac}
+use Rattle.x_base.specs.declared.verdict.Verdict.TheVariants.{NotForMe, UnknownPeer, NoExchange, Outstanding, UnknownKk, BadMac}
 use Rattle.csm_grammar.specs.declared.message.Rtr.{Rtr}
 use Rattle.csm_grammar.specs.declared.arrival.Arrival.{Arrival}
-use Rattle.party_state.specs.declared.link.LinkRec.{LinkRec}
+use Rattle.party_tables.specs.declared.link.LinkRec.{LinkRec}
 use Rattle.party_state.specs.declared.edit.Edit.TheVariants.{PutLink}
-use Rattle.party_state.specs.declared.exchange.Via.{Via}
-use Rattle.party_state.specs.declared.exchange.Via.TheVariants as via
+use Rattle.party_tables.specs.declared.exchange.Via.{Via}
+use Rattle.party_tables.specs.declared.exchange.Via.TheVariants as via
 use Rattle.party_state.specs.declared.decision.Decision.{Decision}
 use Rattle.party_state.specs.declared.decision.Lead.{Lead}
-use Rattle.party_state.specs.Ranges.{longest_text}
-use Rattle.party_state.specs.State.{Party}
-use Rattle.party_state.specs.Rows.{refused}
-use Rattle.party_state.specs.Verdicts.{Held, verdict_of, is_accept}
-use Rattle.role_base.specs.Texts.{text_of, lead_under}
-use Rattle.role_base.specs.Conditions.{count_tests, has_key_room}
-use Rattle.role_base.specs.Deciding.{decision_of, refusal_of, accepting}
+use Rattle.party_tables.specs.Ranges.{longest_text}
+use Rattle.party_state.specs.State.{Party, exchange_with, knows}
+use Rattle.party_state.specs.Verdicts.{Test, Held, verdict_of, is_accept}
+use Rattle.role_base.specs.Texts.{text_of, is_verified, lead_under}
+use Rattle.role_base.specs.Conditions.{is_for, count_tests, has_key_room}
+use Rattle.role_base.specs.Deciding.{decision_of, refusal_of, IsDecision, Decides, AcceptsWith, RefusesEarly}
 use Rattle.role_base.specs.Standing.{LinkStands}
-use Rattle.role_base.specs.Storable.{IsKeepable, AreKeepable, CanKeep}
+use Rattle.role_base.specs.Storable.{IsKeepable, AreKeepable}
 use Rattle.role_base.proofs.Counted.{next_on}
-use Rattle.role_base.proofs.Decided.{decides_row, refuses}
+use Rattle.role_base.proofs.Decided.{decides_with, refuses}
 use Rattle.role_base.proofs.Keeping.{link_room}
-use Rattle.role_base.proofs.Kept.{row_kept}
+use Rattle.role_base.proofs.Failing.{fails_at}
+use Rattle.role_base.proofs.Given.{given_none}
 use Rattle.role_base.proofs.PartyLaws.{HeldIfAccepted}
 use Rattle.role_base.proofs.Storable.{key_fits}
 use Rattle.bank_keys.specs.declared.waits.Waiting.{Waiting}
-use Rattle.bank_keys.specs.Rtr.{centre_key, rtr_rest, passed_reply, used_edits, passed_on, brought_front, brought_value, brought, brought_under, translated_front, translated, translated_under}
+use Rattle.bank_keys.specs.Waiting.{is_asked_in}
+use Rattle.bank_keys.specs.Rtr.{centre_key, rtr_front, rtr_rest, passed_reply, used_edits, passed_on, brought_front, brought_value, brought, brought_under, brought_lead, translated_front, translated, translated_under, translated_lead}
 
 -- the edits can be kept
 pub passed_keepable : (p : Party) (m : Rtr) (used : Option LinkRec) (value : ℕ) (way : Via) → IfSome used (λ (l : LinkRec). IsKeepable p (PutLink l)) → has_key_room p (centre_key p m) ≡ true → length (text_of (passed_reply p m value)) ≤ longest_text → AreKeepable p (used_edits used ++ passed_on p m value way)
@@ -54,9 +56,25 @@ translated_room held p m t code v e x =
     let h : Held (translated_front p m (Some t) ++ (code, BadMac) ∷ rtr_rest p m) = held (translated_front p m (Some t) ++ (code, BadMac) ∷ rtr_rest p m) refl (rw (← e) x) in
     h.1.1.1.1.1.1.0
 
--- one that is refused before its code is looked at changes nothing
-pub unled_kept : (p : Party) (d : Decision) (v : Verdict) → d ≡ decision_of p (refused v) → CanKeep p d.change
-unled_kept p d v e = rw e (row_kept p (refused v) (λ _. record { each = tt; order = refl }) (omega arith))
+-- one for which no link or no key to test the code under is there
+
+pub brought_early : (p : Party) (a : Arrival) (m : Rtr) (k : ℕ × ℕ) (o : Option LinkRec) (x : Option Lead) (front : List Test) (d : Decision) → x ≡ brought_lead p a m k o → front ≡ brought_front p m o → (o ≡ None) ⊎ (x ≡ None) → RefusesEarly front d → IsDecision p (brought p a m k o) d
+brought_early p a m k None x front d l f w e =
+    let g : RefusesEarly (brought_front p m None) d = subst (λ ts. RefusesEarly ts d) f e in
+    g p (brought p a m k None) [] refl (fails_at (rtr_front p m (is_asked_in (exchange_with m.originator p) m.ultimate)) [] UnknownKk) refl refl
+brought_early p a m k (Some y) x front d l f (inl n) e = absurd (cc)
+brought_early p a m k (Some y) x front d l f (inr n) e =
+    let g : RefusesEarly (brought_front p m (Some y)) d = subst (λ ts. RefusesEarly ts d) f e in
+    g p (brought p a m k (Some y)) ((is_verified a (brought_value y k), BadMac) ∷ (count_tests y k.1 ++ rtr_rest p m)) refl (given_none _ (lead_under a (brought_under p m k.1) (brought_value y k)) x l n) refl refl
+
+pub translated_early : (p : Party) (a : Arrival) (m : Rtr) (o : Option Waiting) (x : Option Lead) (front : List Test) (d : Decision) → x ≡ translated_lead p a m o → front ≡ translated_front p m o → (o ≡ None) ⊎ (x ≡ None) → RefusesEarly front d → IsDecision p (translated p a m o) d
+translated_early p a m None x front d l f w e =
+    let g : RefusesEarly (translated_front p m None) d = subst (λ ts. RefusesEarly ts d) f e in
+    g p (translated p a m None) [] refl (fails_at ((is_for p m.receiver m.originator, NotForMe) ∷ (knows m.originator p, UnknownPeer) ∷ []) ((is_none (exchange_with m.ultimate p), Outstanding) ∷ []) NoExchange) refl refl
+translated_early p a m (Some t) x front d l f (inl n) e = absurd (cc)
+translated_early p a m (Some t) x front d l f (inr n) e =
+    let g : RefusesEarly (translated_front p m (Some t)) d = subst (λ ts. RefusesEarly ts d) f e in
+    g p (translated p a m (Some t)) ((is_verified a t.value, BadMac) ∷ rtr_rest p m) refl (given_none _ (lead_under a (translated_under p m t) t.value) x l n) refl refl
 
 -- what is decided
 
@@ -67,10 +85,10 @@ pub brought_refuses : (p : Party) (a : Arrival) (m : Rtr) (k : ℕ × ℕ) (l : 
 brought_refuses p a m k l x v e i f = refuses p (brought p a m k (Some l)) v (brought_verdict p a m k l x v e i) f refl
 
 pub brought_accepts : (p : Party) (a : Arrival) (m : Rtr) (k : ℕ × ℕ) (l used : LinkRec) (x : Lead) (v : Verdict) (made : Result Decision NoMemory) → v ≡ verdict_of (brought_front p m (Some l) ++ (x.verified, BadMac) ∷ (count_tests l k.1 ++ rtr_rest p m)) → x ≡ lead_under a (brought_under p m k.1) (brought_value l k) → is_accept v ≡ true → used ≡ record l { next = k.1 + 1 }
-    → IfOk made (λ d. d ≡ accepting p (used_edits (Some used) ++ passed_on p m x.value (via.Distribution m.originator k.1)) (Some (passed_reply p m x.value))) → IfOk made (λ d. d ≡ decision_of p (brought p a m k (Some l)))
+    → AcceptsWith p (used_edits (Some used) ++ passed_on p m x.value (via.Distribution m.originator k.1)) (Some (passed_reply p m x.value)) made → Decides p (brought p a m k (Some l)) made
 brought_accepts p a m k l used x v made e i t u h =
     let value : x.value ≡ brought_value l k = ap (λ (y : Lead). y.value) i in
-    decides_row made p (brought p a m k (Some l)) v (rw (u, value) at h) (brought_verdict p a m k l x v e i) t
+    decides_with made p (brought p a m k (Some l)) v (rw (u, value) at h) (brought_verdict p a m k l x v e i) t
 
 translated_verdict : (p : Party) (a : Arrival) (m : Rtr) (t : Waiting) (x : Lead) (v : Verdict) → v ≡ verdict_of (translated_front p m (Some t) ++ (x.verified, BadMac) ∷ rtr_rest p m) → x ≡ lead_under a (translated_under p m t) t.value → v ≡ (translated p a m (Some t)).verdict
 translated_verdict p a m t x v e i = e ∙ ap (λ (y : Lead). verdict_of (translated_front p m (Some t) ++ (y.verified, BadMac) ∷ rtr_rest p m)) i
@@ -79,7 +97,7 @@ pub translated_refuses : (p : Party) (a : Arrival) (m : Rtr) (t : Waiting) (x : 
 translated_refuses p a m t x v e i f = refuses p (translated p a m (Some t)) v (translated_verdict p a m t x v e i) f refl
 
 pub translated_accepts : (p : Party) (a : Arrival) (m : Rtr) (t : Waiting) (x : Lead) (v : Verdict) (made : Result Decision NoMemory) → v ≡ verdict_of (translated_front p m (Some t) ++ (x.verified, BadMac) ∷ rtr_rest p m) → x ≡ lead_under a (translated_under p m t) t.value → is_accept v ≡ true
-    → IfOk made (λ d. d ≡ accepting p (used_edits None ++ passed_on p m x.value (via.Translation m.originator)) (Some (passed_reply p m x.value))) → IfOk made (λ d. d ≡ decision_of p (translated p a m (Some t)))
+    → AcceptsWith p (used_edits None ++ passed_on p m x.value (via.Translation m.originator)) (Some (passed_reply p m x.value)) made → Decides p (translated p a m (Some t)) made
 translated_accepts p a m t x v made e i y h =
     let value : x.value ≡ t.value = ap (λ (z : Lead). z.value) i in
-    decides_row made p (translated p a m (Some t)) v (rw value at h) (translated_verdict p a m t x v e i) y
+    decides_with made p (translated p a m (Some t)) v (rw value at h) (translated_verdict p a m t x v e i) y

@@ -4,8 +4,8 @@ use Rattle.x_base.specs.declared.verdict.Verdict.TheVariants.{BadMac, KeysFull}
 use Rattle.csm_grammar.specs.declared.message.Ksm.{Ksm}
 use Rattle.csm_grammar.specs.declared.message.KsmBody.{KsmBody}
 use Rattle.csm_grammar.specs.declared.message.NewKk.{NewKk}
-use Rattle.party_state.specs.declared.link.LinkRec.{LinkRec}
-use Rattle.party_state.specs.Ranges.{IsLink}
+use Rattle.party_tables.specs.declared.link.LinkRec.{LinkRec}
+use Rattle.party_tables.specs.Ranges.{IsLink}
 use Rattle.party_state.specs.State.{Party}
 use Rattle.party_state.specs.Verdicts.{verdict_of}
 use Rattle.role_base.specs.Conditions.{count_tests}

@@ -18,9 +18,9 @@ use Rattle.csm_grammar.specs.declared.tag.Tag.TheVariants.{Edc}
 use Rattle.csm_grammar.specs.Classes.{allows}
 use Rattle.csm_grammar.specs.Arrivals.{AllArrived}
 use Rattle.csm_grammar.specs.Messages.{form_of, shut_field}
-use Rattle.party_state.specs.declared.link.LinkRec.{LinkRec}
+use Rattle.party_tables.specs.declared.link.LinkRec.{LinkRec}
 use Rattle.party_state.specs.declared.decision.Lead.{Lead}
-use Rattle.party_state.specs.Keys.{takes}
+use Rattle.party_tables.specs.Keys.{takes}
 use Rattle.party_state.specs.State.{Party, centre_label, link_with, exchange_with, knows}
 use Rattle.role_base.specs.Texts.{is_verified, is_plain, lead_under}
 use Rattle.role_base.specs.Conditions.{is_for, body_issuer, count_tests}

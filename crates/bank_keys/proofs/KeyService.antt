@@ -1,12 +1,15 @@
 -- What is decided of a key service message under a link.
-use Rattle.std.proofs.Common.{◌≡◌, true, false, Option, Some, Result, Ok, Err, IfOk, List, ◌∷◌, ◌++◌, refl, ap, subst, ◌∙◌}
+use Rattle.std.proofs.Common.{◌≡◌, Bool, true, false, Option, Some, Result, Ok, Err, IfOk, List, [], ◌∷◌, ◌++◌, refl, ap, subst, ◌∙◌}
 use Rattle.x_base.specs.declared.text.NoMemory.{NoMemory}
 use Rattle.x_base.specs.declared.verdict.Verdict.{Verdict}
-use Rattle.x_base.specs.declared.verdict.Verdict.TheVariants.{BadMac}
+use Rattle.x_base.specs.declared.verdict.Verdict.TheVariants.{BadMac, KeysFull}
 use Rattle.csm_grammar.specs.declared.arrival.Arrival.{Arrival}
 use Rattle.csm_grammar.specs.declared.message.Ksm.{Ksm}
 use Rattle.csm_grammar.specs.declared.message.KsmBody.{KsmBody}
-use Rattle.party_state.specs.declared.link.LinkRec.{LinkRec}
+use Rattle.party_tables.specs.declared.link.LinkRec.{LinkRec}
+use Rattle.party_tables.specs.declared.key.KeyRec.{KeyRec}
+use Rattle.party_state.specs.declared.edit.Edit.TheVariants.{PutLink, PutKey}
+use Rattle.party_tables.specs.Keys.{record_key}
 use Rattle.party_state.specs.declared.edit.Edit.{Edit}
 use Rattle.party_state.specs.declared.decision.Decision.{Decision}
 use Rattle.party_state.specs.declared.decision.Lead.{Lead}
@@ -20,14 +23,36 @@ use Rattle.role_base.specs.Replies.{AreWritten, IsWritten}
 use Rattle.role_base.specs.declared.texts.Written.{Written}
 use Rattle.role_base.specs.Texts.{lead_under}
 use Rattle.role_base.proofs.ByRow.{by_answered, by_accept_with}
-use Rattle.bank_keys.specs.Ksm.{response, body_counts, body_name, body_code, body_front, body_rest, body_edits, key_row}
+use Rattle.role_base.specs.Conditions.{count_tests}
+use Rattle.role_base.proofs.Given.{given_is}
+use Rattle.bank_keys.specs.Ksm.{response, body_count, body_next, body_counts, body_name, body_code, body_taken, body_record, body_second, have_room, link_tests, link_edits, second_edits, body_front, body_rest, body_edits, key_row, key_lead_with}
 
 -- the key that the row says
-abbrev row_lead : Party → Arrival → Ksm → KsmBody → LinkRec → Lead
+abbrev pub row_lead : Party → Arrival → Ksm → KsmBody → LinkRec → Lead
 row_lead p a m b l = lead_under a (body_name p m.originator b l) (body_code l.pair m.originator p.own b)
 
 verdict_is : (p : Party) (a : Arrival) (m : Ksm) (b : KsmBody) (l : LinkRec) (x : Lead) (v : Verdict) → v ≡ verdict_of (body_front p m b (Some l) ++ (x.verified, BadMac) ∷ body_rest p m b l) → x ≡ row_lead p a m b l → v ≡ (key_row p a m b (Some l)).verdict
 verdict_is p a m b l x v e i = e ∙ ap (λ (y : Lead). verdict_of (body_front p m b (Some l) ++ (y.verified, BadMac) ∷ body_rest p m b l)) i
+
+-- the verdict, with what was found of the keys that come
+pub key_verdict : (p : Party) (m : Ksm) (b : KsmBody) (l : LinkRec) (taken : Option LinkRec) (first : KeyRec) (second : Option KeyRec) (room code : Bool) (v : Verdict) → taken ≡ body_taken m.originator l b → first ≡ body_record p m b l → second ≡ body_second p m b l → room ≡ have_room p (record_key first) second
+    → v ≡ verdict_of (body_front p m b (Some l) ++ (code, BadMac) ∷ (count_tests l (body_count b) ++ (link_tests p taken ++ (room, KeysFull) ∷ []))) → v ≡ verdict_of (body_front p m b (Some l) ++ (code, BadMac) ∷ body_rest p m b l)
+key_verdict p m b l taken first second room code v t f s r e =
+    e ∙ (ap (λ (o : Option LinkRec). verdict_of (body_front p m b (Some l) ++ (code, BadMac) ∷ (count_tests l (body_count b) ++ (link_tests p o ++ (room, KeysFull) ∷ [])))) t
+    ∙ ap (λ (x : Bool). verdict_of (body_front p m b (Some l) ++ (code, BadMac) ∷ (count_tests l (body_count b) ++ (link_tests p (body_taken m.originator l b) ++ (x, KeysFull) ∷ []))))
+    (r ∙ (ap (λ (k : KeyRec). have_room p (record_key k) second) f ∙ ap (λ (o : Option KeyRec). have_room p (record_key (body_record p m b l)) o) s)))
+
+-- the edits, with what was found of them
+pub key_edits : (p : Party) (m : Ksm) (b : KsmBody) (l : LinkRec) (taken : Option LinkRec) (first : KeyRec) (second : Option KeyRec) (es : List Edit) → taken ≡ body_taken m.originator l b → first ≡ body_record p m b l → second ≡ body_second p m b l
+    → es ≡ PutLink (record l { next = body_next b }) ∷ (link_edits taken ++ PutKey first ∷ second_edits second) → es ≡ body_edits p m b l
+key_edits p m b l taken first second es t f s e =
+    e ∙ (ap (λ (o : Option LinkRec). PutLink (record l { next = body_next b }) ∷ (link_edits o ++ PutKey first ∷ second_edits second)) t
+    ∙ (ap (λ (k : KeyRec). PutLink (record l { next = body_next b }) ∷ (link_edits (body_taken m.originator l b) ++ PutKey k ∷ second_edits second)) f
+    ∙ ap (λ (o : Option KeyRec). PutLink (record l { next = body_next b }) ∷ (link_edits (body_taken m.originator l b) ++ PutKey (body_record p m b l) ∷ second_edits o)) s))
+
+-- the key under which its code is tested, where it was found under a link
+pub key_led : (p : Party) (a : Arrival) (m : Ksm) (b : KsmBody) (l : LinkRec) (o : Option LinkRec) (x : Option Lead) (y : Lead) → o ≡ Some l → x ≡ key_lead_with p a m b o → x ≡ Some y → y ≡ row_lead p a m b l
+key_led p a m b l o x y f h i = given_is _ (row_lead p a m b l) y x (h ∙ ap (λ (k : Option LinkRec). key_lead_with p a m b k) f) i
 
 pub key_refuses : (p : Party) (a : Arrival) (m : Ksm) (b : KsmBody) (l : LinkRec) (x : Lead) (v : Verdict) (counts : Counts) (made : Result Decision NoMemory) → v ≡ verdict_of (body_front p m b (Some l) ++ (x.verified, BadMac) ∷ body_rest p m b l) → x ≡ lead_under a (body_name p m.originator b l) (body_code l.pair m.originator p.own b) → is_accept v ≡ false → counts ≡ body_counts b
     → IfOk made (λ d. d ≡ answering v (coded_under x.under x.value (error_for p m.originator counts v))) → IfOk made (λ d. d ≡ decision_of p (key_row p a m b (Some l)))

@@ -9,16 +9,16 @@ use Rattle.csm_grammar.specs.declared.message.KsmBody.TheVariants as body
 use Rattle.csm_grammar.specs.declared.message.NewKk.{NewKk}
 use Rattle.csm_grammar.specs.declared.message.Rtr.{Rtr}
 use Rattle.csm_grammar.specs.declared.arrival.Arrival.{Arrival}
-use Rattle.party_state.specs.declared.link.LinkKey.{LinkKey}
-use Rattle.party_state.specs.declared.link.LinkRec.{LinkRec}
-use Rattle.party_state.specs.declared.key.KeyRec.{KeyRec}
+use Rattle.party_tables.specs.declared.link.LinkKey.{LinkKey}
+use Rattle.party_tables.specs.declared.link.LinkRec.{LinkRec}
+use Rattle.party_tables.specs.declared.key.KeyRec.{KeyRec}
 use Rattle.party_state.specs.declared.edit.Edit.TheVariants.{PutLink, PutKey}
-use Rattle.party_state.specs.Keys.{same_link, link_key, takes}
+use Rattle.party_tables.specs.Keys.{same_link, link_key, takes}
 use Rattle.party_state.specs.State.{Party, apply_edit, centre_label, link_with, is_usable}
-use Rattle.party_state.specs.Tables.{Distinct}
+use Rattle.party_tables.specs.Tables.{Distinct}
 use Rattle.party_state.specs.Verdicts.{Held, is_accept}
-use Rattle.party_state.proofs.Distinct.{first_found}
-use Rattle.party_state.proofs.Keys.{test_links}
+use Rattle.party_tables.proofs.Distinct.{first_found}
+use Rattle.party_tables.proofs.Keys.{test_links}
 use Rattle.role_base.specs.Differing.{differs, has_link, AreApart}
 use Rattle.role_base.proofs.PartyLaws.{HeldIfAccepted, LinkLaws, KeyLaws, put_other}
 use Rattle.role_base.proofs.TwinKeys.{key_beside}

@@ -9,15 +9,15 @@ use Rattle.csm_grammar.specs.declared.message.KsmBody.TheVariants as body
 use Rattle.csm_grammar.specs.declared.message.NewKk.{NewKk}
 use Rattle.party_state.specs.declared.decision.Decision.{Decision}
 use Rattle.party_state.specs.declared.edit.Edit.TheVariants.{PutLink, PutKey}
-use Rattle.party_state.specs.declared.link.LinkRec.{LinkRec}
-use Rattle.party_state.specs.declared.key.KeyRec.{KeyRec}
-use Rattle.party_state.specs.Keys.{record_key, takes}
-use Rattle.party_state.specs.Ranges.{IsNextCount}
+use Rattle.party_tables.specs.declared.link.LinkRec.{LinkRec}
+use Rattle.party_tables.specs.declared.key.KeyRec.{KeyRec}
+use Rattle.party_tables.specs.Keys.{record_key, takes}
+use Rattle.party_tables.specs.Ranges.{IsNextCount}
 use Rattle.party_state.specs.State.{Party, record_with}
 use Rattle.party_state.specs.Verdicts.{Held, is_accept}
 use Rattle.role_base.specs.Conditions.{one_more}
-use Rattle.role_base.specs.Deciding.{decision_of}
-use Rattle.role_base.specs.Storable.{CanKeep, can_put_key_behind, can_put_key, AreKeepable}
+use Rattle.role_base.specs.Deciding.{decision_of, Decides}
+use Rattle.role_base.specs.Storable.{can_put_key_behind, can_put_key, AreKeepable}
 use Rattle.role_base.specs.Standing.{LinkStands}
 use Rattle.role_base.proofs.Counted.{next_on}
 use Rattle.role_base.proofs.Kept.{row_kept, made_kept}
@@ -62,7 +62,7 @@ few originator l count next None k (Some j) = omega arith
 few originator l count next (Some n) k None = omega arith
 few originator l count next (Some n) k (Some j) = omega arith
 
-pub key_kept : HeldIfAccepted → (p : Party) (a : Arrival) (m : Ksm) (b : KsmBody) (l : LinkRec) (made : Result Decision NoMemory) → LinkStands p l → IsCount (body_count b) → IsCounted b → IfOk made (λ d. d ≡ decision_of p (key_row p a m b (Some l))) → IfOk made (λ d. CanKeep p d.change)
+pub key_kept : HeldIfAccepted → (p : Party) (a : Arrival) (m : Ksm) (b : KsmBody) (l : LinkRec) (made : Result Decision NoMemory) → LinkStands p l → IsCount (body_count b) → IsCounted b → IfOk made (λ d. d ≡ decision_of p (key_row p a m b (Some l))) → Decides p (key_row p a m b (Some l)) made
 key_kept held p a m b l made st i c e = made_kept p (key_row p a m b (Some l)) made (row_kept p (key_row p a m b (Some l)) keepable (few m.originator l (body_count b) (body_next b) (body_new b) (body_record p m b l) (body_second p m b l))) e
   where
     keepable : is_accept (key_row p a m b (Some l)).verdict ≡ true → AreKeepable p (key_row p a m b (Some l)).edits

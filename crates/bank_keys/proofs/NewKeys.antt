@@ -6,12 +6,12 @@ use Rattle.csm_grammar.specs.declared.message.Ksm.{Ksm}
 use Rattle.csm_grammar.specs.declared.message.KsmBody.{KsmBody}
 use Rattle.csm_grammar.specs.declared.message.NewKk.{NewKk}
 use Rattle.csm_grammar.specs.declared.arrival.Arrival.{Arrival}
-use Rattle.party_state.specs.declared.link.LinkRec.{LinkRec}
+use Rattle.party_tables.specs.declared.link.LinkRec.{LinkRec}
 use Rattle.party_state.specs.State.{Party}
 use Rattle.party_state.specs.Verdicts.{Held, all_refuse}
 use Rattle.role_base.specs.Conditions.{count_tests}
 use Rattle.role_base.proofs.Early.{none_early}
-use Rattle.party_state.specs.Keys.{record_key}
+use Rattle.party_tables.specs.Keys.{record_key}
 use Rattle.bank_keys.specs.Ksm.{body_count, body_new, body_record, body_second, have_room, body_tests, new_tests}
 
 -- the first count is one

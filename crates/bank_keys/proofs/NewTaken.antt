@@ -5,10 +5,10 @@ use Rattle.x_base.specs.declared.verdict.Verdict.TheVariants.{Accept}
 use Rattle.csm_grammar.specs.declared.message.Ksm.{Ksm}
 use Rattle.csm_grammar.specs.declared.message.NewKk.{NewKk}
 use Rattle.csm_grammar.specs.declared.arrival.Arrival.{Arrival}
-use Rattle.party_state.specs.declared.link.LinkRec.{LinkRec}
-use Rattle.party_state.specs.declared.key.KeyRec.{KeyRec}
+use Rattle.party_tables.specs.declared.link.LinkRec.{LinkRec}
+use Rattle.party_tables.specs.declared.key.KeyRec.{KeyRec}
 use Rattle.party_state.specs.declared.edit.Edit.TheVariants.{PutLink, PutKey}
-use Rattle.party_state.specs.Keys.{takes}
+use Rattle.party_tables.specs.Keys.{takes}
 use Rattle.party_state.specs.State.{Party, link_with, apply, apply_edit}
 use Rattle.party_state.specs.Verdicts.{Held}
 use Rattle.role_base.proofs.PartyLaws.{HeldAtAccept, LinkLaws, put_same}

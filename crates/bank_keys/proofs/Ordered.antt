@@ -5,7 +5,7 @@ use Rattle.csm_grammar.specs.declared.message.KsmBody.{KsmBody}
 use Rattle.csm_grammar.specs.declared.message.KsmBody.TheVariants as body
 use Rattle.csm_grammar.specs.declared.message.Rtr.{Rtr}
 use Rattle.csm_grammar.specs.declared.arrival.Arrival.{Arrival}
-use Rattle.party_state.specs.declared.link.LinkRec.{LinkRec}
+use Rattle.party_tables.specs.declared.link.LinkRec.{LinkRec}
 use Rattle.party_state.specs.State.{Party}
 use Rattle.role_base.specs.Order.{InOrder}
 use Rattle.bank_keys.specs.declared.waits.Waiting.{Waiting}

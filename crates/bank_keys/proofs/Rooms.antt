@@ -2,9 +2,9 @@
 use Rattle.std.proofs.Common.{arith, ◌≡◌, ◌≢◌, ◌+◌, Bool, true, false, cond, not, ◌||◌, is_some, Option, Some, None, length, refl, ap, ◌∙◌}
 use Rattle.std.proofs.lemmas.Bool.{leb-true, le-leb, false_from_ne_true}
 use Rattle.party_state.specs.declared.edit.Edit.TheVariants.{PutLink, PutKey}
-use Rattle.party_state.specs.declared.link.LinkRec.{LinkRec}
-use Rattle.party_state.specs.declared.key.KeyRec.{KeyRec}
-use Rattle.party_state.specs.Keys.{same_record, link_key, record_key}
+use Rattle.party_tables.specs.declared.link.LinkRec.{LinkRec}
+use Rattle.party_tables.specs.declared.key.KeyRec.{KeyRec}
+use Rattle.party_tables.specs.Keys.{same_record, link_key, record_key}
 use Rattle.party_state.specs.State.{Party, apply_edit, link_with, record_with}
 use Rattle.party_state.specs.Limits.{most_keys}
 use Rattle.role_base.specs.Conditions.{count_after, has_key_room, one_more}

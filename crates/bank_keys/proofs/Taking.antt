@@ -13,8 +13,8 @@ use Rattle.csm_grammar.specs.declared.message.NewKk.{NewKk}
 use Rattle.csm_grammar.specs.declared.arrival.Arrival.{Arrival}
 use Rattle.party_state.specs.declared.command.Input.{Input}
 use Rattle.party_state.specs.declared.command.Input.TheVariants as input
-use Rattle.party_state.specs.declared.link.LinkRec.{LinkRec}
-use Rattle.party_state.specs.Keys.{takes}
+use Rattle.party_tables.specs.declared.link.LinkRec.{LinkRec}
+use Rattle.party_tables.specs.Keys.{takes}
 use Rattle.party_state.specs.State.{Party, centre_label, link_with, has_pair}
 use Rattle.party_state.specs.Verdicts.{Held, verdict_of}
 use Rattle.party_state.specs.Limits.{most_links}

@@ -3,9 +3,9 @@ use Rattle.std.proofs.Common.{◌≢◌, ℕ, Option, Some, None, refl}
 use Rattle.std.specs.Prelude.{option_map}
 use Rattle.csm_grammar.specs.declared.message.Ksm.{Ksm}
 use Rattle.csm_grammar.specs.declared.message.KsmBody.{KsmBody}
-use Rattle.party_state.specs.declared.link.LinkRec.{LinkRec}
-use Rattle.party_state.specs.declared.key.KeyRec.{KeyRec}
-use Rattle.party_state.specs.Keys.{record_key}
+use Rattle.party_tables.specs.declared.link.LinkRec.{LinkRec}
+use Rattle.party_tables.specs.declared.key.KeyRec.{KeyRec}
+use Rattle.party_tables.specs.Keys.{record_key}
 use Rattle.party_state.specs.State.{Party}
 use Rattle.role_base.proofs.TwinKeys.{behind_other}
 use Rattle.bank_keys.specs.Ksm.{body_twin, body_record, second_record, body_second}

@@ -3,7 +3,7 @@
 -- a refusal for a count, a label, a pair or want of room is answered by an error message. A partner may send two keys in
 -- one message. One row has all four.
 use Rattle.std.specs.Prelude.{ℕ, ◌+◌, nat_lt, bit_xor, true, not, ◌&&◌, Bool, is_none, is_some, cond, List, [], ◌∷◌, ◌++◌, Option, Some, None, option_map, bytes_eq}
-use Rattle.x_base.specs.Count.{IsCount}
+use Rattle.x_base.specs.Count.{IsCount, count_limit}
 use Rattle.x_base.specs.declared.key_name.FullName.{FullName}
 use Rattle.x_base.specs.declared.party.Side.TheVariants.{Takes}
 use Rattle.x_base.specs.declared.verdict.Verdict.{Verdict}
@@ -18,15 +18,15 @@ use Rattle.csm_grammar.specs.declared.message.Ksm.{Ksm}
 use Rattle.csm_grammar.specs.declared.message.NewKk.{NewKk}
 use Rattle.csm_grammar.specs.declared.message.NewKk.TheVariants as new_kk
 use Rattle.csm_grammar.specs.declared.arrival.Arrival.{Arrival}
-use Rattle.party_state.specs.declared.link.LinkRec.{LinkRec}
-use Rattle.party_state.specs.declared.key.KeyRec.{KeyRec}
-use Rattle.party_state.specs.declared.key.KeyStatus.TheVariants.{Held}
+use Rattle.party_tables.specs.declared.link.LinkRec.{LinkRec}
+use Rattle.party_tables.specs.declared.key.KeyRec.{KeyRec}
+use Rattle.party_tables.specs.declared.key.KeyStatus.TheVariants.{Held}
 use Rattle.party_state.specs.declared.edit.Edit.{Edit}
 use Rattle.party_state.specs.declared.edit.Edit.TheVariants.{PutLink, PutKey}
 use Rattle.party_state.specs.declared.decision.Lead.{Lead}
-use Rattle.party_state.specs.declared.key.RecordKey.{RecordKey}
-use Rattle.party_state.specs.Names.{name_behind, full_behind}
-use Rattle.party_state.specs.Keys.{takes, record_key}
+use Rattle.party_tables.specs.declared.key.RecordKey.{RecordKey}
+use Rattle.party_tables.specs.Names.{name_behind, full_behind}
+use Rattle.party_tables.specs.Keys.{takes, record_key}
 use Rattle.party_state.specs.State.{Party, centre_label, link_with, first_link, has_pair, knows}
 use Rattle.party_state.specs.Verdicts.{Test, verdict_of, passes}
 use Rattle.party_state.specs.Rows.{Row, Coded, OfKsm, refused}
@@ -56,7 +56,7 @@ response p originator = message.Rsm (record { receiver = originator; originator 
 abbrev pub body_link : Party → List ℕ → KsmBody → Option LinkRec
 body_link p originator (body.Direct idk2 new kd ctp) = link_in_use p originator idk2
 body_link p originator (body.Centre centre kdu ctb) = link_with (takes centre centre_label) p
-body_link p originator (body.Twin idk2 first second ctp) = cond (nat_lt ctp 99999999999999) (link_in_use p originator idk2) None
+body_link p originator (body.Twin idk2 first second ctp) = cond (nat_lt ctp count_limit) (link_in_use p originator idk2) None
 
 abbrev pub body_count : KsmBody → ℕ
 body_count (body.Direct idk2 new kd ctp) = ctp
@@ -131,15 +131,25 @@ body_front p m b found =
 abbrev pub taken_link : List ℕ → LinkRec → ℕ → List ℕ × NewKk → LinkRec
 taken_link originator l count new = record { peer = originator; label = new.0; side = Takes; pair = opened_kk l.pair count new.1; next = 2; ready = true }
 
+abbrev pub link_edits : Option LinkRec → List Edit
+link_edits None = []
+link_edits (Some t) = PutLink t ∷ []
+
+-- its label is free and isn't a centre's, its pair is new, and it has room
+abbrev pub link_tests : Party → Option LinkRec → List Test
+link_tests p None = []
+link_tests p (Some t) =
+    (not (bytes_eq t.label centre_label) && is_none (link_with (takes t.peer t.label) p), verdict.LabelTaken)
+    ∷ (not (has_pair t.pair p), verdict.SameKey) ∷ (has_link_room p (takes t.peer t.label), verdict.LinksFull) ∷ []
+
 abbrev pub taken_edits : List ℕ → LinkRec → ℕ → Option (List ℕ × NewKk) → List Edit
-taken_edits originator l count None = []
-taken_edits originator l count (Some new) = PutLink (taken_link originator l count new) ∷ []
+taken_edits originator l count new = link_edits (option_map (λ n. taken_link originator l count n) new)
 
 abbrev pub new_tests : Party → List ℕ → LinkRec → ℕ → Option (List ℕ × NewKk) → List Test
-new_tests p originator l count None = []
-new_tests p originator l count (Some new) =
-    (not (bytes_eq new.0 centre_label) && is_none (link_with (takes originator new.0) p), verdict.LabelTaken)
-    ∷ (not (has_pair (opened_kk l.pair count new.1) p), verdict.SameKey) ∷ (has_link_room p (takes originator new.0), verdict.LinksFull) ∷ []
+new_tests p originator l count new = link_tests p (option_map (λ n. taken_link originator l count n) new)
+
+abbrev pub body_taken : List ℕ → LinkRec → KsmBody → Option LinkRec
+body_taken originator l b = option_map (λ n. taken_link originator l (body_count b) n) (body_new b)
 
 -- the key that is held
 abbrev pub body_record : Party → Ksm → KsmBody → LinkRec → KeyRec

@@ -1,6 +1,7 @@
 -- When the key of a centre's answer goes on to its ultimate recipient (ANSI X9.17; the bounds are this project's
 -- profile).
 use Rattle.std.specs.Prelude.{ℕ, ◌≡◌, ◌≢◌, ◌≤◌, ◌↔◌, IsTrue, Option, Some, None}
+use Rattle.x_base.specs.Count.{count_limit}
 use Rattle.x_base.specs.declared.verdict.Verdict.TheVariants.{Accept}
 use Rattle.x_seal.specs.Wrapped.{unwrap_of}
 use Rattle.csm_grammar.specs.declared.message.Message.TheVariants as message
@@ -8,11 +9,11 @@ use Rattle.csm_grammar.specs.declared.message.Rtr.{Rtr}
 use Rattle.csm_grammar.specs.declared.arrival.Arrival.{Arrival}
 use Rattle.party_state.specs.declared.command.Input.{Input}
 use Rattle.party_state.specs.declared.command.Input.TheVariants as input
-use Rattle.party_state.specs.declared.link.LinkRec.{LinkRec}
-use Rattle.party_state.specs.declared.exchange.Kind.TheVariants as kind
-use Rattle.party_state.specs.declared.exchange.Exchange.{Exchange}
+use Rattle.party_tables.specs.declared.link.LinkRec.{LinkRec}
+use Rattle.party_tables.specs.declared.exchange.Kind.TheVariants as kind
+use Rattle.party_tables.specs.declared.exchange.Exchange.{Exchange}
 use Rattle.party_state.specs.declared.decision.Decision.{Decision}
-use Rattle.party_state.specs.Keys.{takes}
+use Rattle.party_tables.specs.Keys.{takes}
 use Rattle.party_state.specs.State.{Party, centre_label, link_with, record_with, exchange_with, knows}
 use Rattle.role_base.specs.Texts.{is_verified}
 use Rattle.bank_keys.specs.Rtr.{centre_key, passed_record}
@@ -34,7 +35,7 @@ pub record Brought (p : Party) (m : Rtr) (value : ℕ) (kd : ℕ × ℕ) : Type 
   pub unwrapped : value ≡ unwrap_of link.pair kd.1 kd.0
   -- the count is not below the expected one, which is a count
   pub fresh : link.next ≤ kd.1
-  pub left : link.next ≤ 99999999999999
+  pub left : link.next ≤ count_limit
 
 -- this key is with the centre, for the very recipient that the answer names
 pub record Waits (p : Party) (m : Rtr) (value : ℕ) : Type 0 where

@@ -1,6 +1,7 @@
 -- How a refused key service message is answered (ANSI X9.17, error service message; the letters are this project's
 -- profile).
 use Rattle.std.specs.Prelude.{ℕ, ◌≡◌, ◌≢◌, ◌+◌, ◌≤◌, bit_xor, List, Option, Some, None, codes}
+use Rattle.x_base.specs.Count.{count_limit}
 use Rattle.x_base.specs.declared.key_name.KeyName.{KeyName}
 use Rattle.x_base.specs.declared.party.Side.TheVariants.{Takes}
 use Rattle.x_base.specs.declared.verdict.Verdict.{Verdict}
@@ -15,8 +16,8 @@ use Rattle.csm_grammar.specs.declared.message.Ksm.{Ksm}
 use Rattle.csm_grammar.specs.declared.message.NewKk.{NewKk}
 use Rattle.csm_grammar.specs.declared.message.NewKk.TheVariants as new_kk
 use Rattle.csm_grammar.specs.declared.arrival.Arrival.{Arrival}
-use Rattle.party_state.specs.declared.link.LinkRec.{LinkRec}
-use Rattle.party_state.specs.Keys.{takes}
+use Rattle.party_tables.specs.declared.link.LinkRec.{LinkRec}
+use Rattle.party_tables.specs.Keys.{takes}
 use Rattle.party_state.specs.State.{Party, centre_label, link_with, first_link}
 use Rattle.party_state.specs.Rows.{Row, Coded}
 use Rattle.bank_keys.specs.Ksm.{key_arrives}
@@ -52,7 +53,7 @@ Carries p originator (body.Direct idk2 None kd ctp) c = (l : LinkRec) × (InUse 
 Carries p originator (body.Direct idk2 (Some new) kd ctp) c = (l : LinkRec) × (InUse p originator idk2 l × (c ≡ from_partner originator l ctp (unwrap_of (new_pair l.pair ctp new.1) 1 kd)))
 Carries p originator (body.Centre centre kdu ctb) c = (l : LinkRec) × ((link_with (takes centre centre_label) p ≡ Some l) × (c ≡ from_centre p originator centre l kdu ctb))
 Carries p originator (body.Twin idk2 first second ctp) c =
-    (l : LinkRec) × (InUse p originator idk2 l × ((ctp + 1 ≤ 99999999999999) × (c ≡ from_partner originator l ctp (bit_xor (unwrap_of l.pair ctp first) (unwrap_of l.pair (ctp + 1) second)))))
+    (l : LinkRec) × (InUse p originator idk2 l × ((ctp + 1 ≤ count_limit) × (c ≡ from_partner originator l ctp (bit_xor (unwrap_of l.pair ctp first) (unwrap_of l.pair (ctp + 1) second)))))
 
 -- the refusals that are answered: the letter, and the expected count, which one of them tells
 abbrev pub told_by : Verdict → Option (List ℕ × Option ℕ)

@@ -1,5 +1,6 @@
 -- When the key of a key service message is taken (ANSI X9.17; the bounds are this project's profile).
 use Rattle.std.specs.Prelude.{ℕ, ◌+◌, ◌≡◌, ◌≢◌, ◌<◌, ◌≤◌, ◌↔◌, bit_xor, IsTrue, true, false, IfSome, List, length, Option, Some, None}
+use Rattle.x_base.specs.Count.{count_limit}
 use Rattle.x_base.specs.declared.party.Side.TheVariants.{Takes}
 use Rattle.x_base.specs.declared.verdict.Verdict.TheVariants.{Accept}
 use Rattle.csm_grammar.specs.declared.message.Message.TheVariants as message
@@ -8,12 +9,12 @@ use Rattle.csm_grammar.specs.declared.message.NewKk.{NewKk}
 use Rattle.csm_grammar.specs.declared.arrival.Arrival.{Arrival}
 use Rattle.party_state.specs.declared.command.Input.{Input}
 use Rattle.party_state.specs.declared.command.Input.TheVariants as input
-use Rattle.party_state.specs.declared.link.LinkRec.{LinkRec}
-use Rattle.party_state.specs.declared.key.KeyRec.{KeyRec}
+use Rattle.party_tables.specs.declared.link.LinkRec.{LinkRec}
+use Rattle.party_tables.specs.declared.key.KeyRec.{KeyRec}
 use Rattle.party_state.specs.declared.decision.Decision.{Decision}
 use Rattle.party_state.specs.declared.edit.Edit.TheVariants.{PutLink, PutKey}
-use Rattle.party_state.specs.declared.key.KeyStatus.TheVariants.{Held}
-use Rattle.party_state.specs.Keys.{takes, link_key}
+use Rattle.party_tables.specs.declared.key.KeyStatus.TheVariants.{Held}
+use Rattle.party_tables.specs.Keys.{takes, link_key}
 use Rattle.party_state.specs.Rows.{Row, Coded}
 use Rattle.party_state.specs.State.{Party, centre_label, link_with, record_with, has_pair, knows, apply_edit}
 use Rattle.party_state.specs.Limits.{most_links, most_keys}
@@ -56,7 +57,7 @@ pub record CanTake (p : Party) (a : Arrival) (m : Ksm) : Type 0 where
   pub code : IsTrue (is_verified a (body_code link.pair m.originator p.own m.body))
   -- the count is not below the expected one, which is a count
   pub fresh : link.next ≤ body_count m.body
-  pub left : link.next ≤ 99999999999999
+  pub left : link.next ≤ count_limit
   -- the count behind the first of two keys is one
   pub counted : IsCounted m.body
   pub added : IfSome (body_new m.body) (CanAdd p m.originator link (body_count m.body))
@@ -86,7 +87,7 @@ pub record TakesNew (p after : Party) (m : Ksm) (new : List ℕ × NewKk) : Type
 pub record TakesTwo (p after : Party) (a : Arrival) (m : Ksm) (r : Row) (idk2 : Option (List ℕ)) (first second ctp : ℕ) : Type 0 where
   pub link : LinkRec
   pub in_use : link_in_use p m.originator idk2 ≡ Some link
-  pub counted : ctp < 99999999999999
+  pub counted : ctp < count_limit
   pub code : IsTrue (is_verified a (bit_xor (unwrap_of link.pair ctp first) (unwrap_of link.pair (ctp + 1) second)))
   pub first_held : record_with (record { peer = m.originator; name = direct_name link.peer link.label ctp }) after ≡ Some (record {
     peer = m.originator;

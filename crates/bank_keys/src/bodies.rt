@@ -1,8 +1,8 @@
 // What a key service message brings, by its form: the link in use, the count, the key and its name.
 ghost use Rattle.std.specs.Prelude.{◌≡◌, ◌+◌, cond, nat_lt, IfSome, Some, None};
-ghost use Rattle.x_base.specs.Count.{IsCount};
+ghost use Rattle.x_base.specs.Count.{IsCount, count_limit};
 ghost use Rattle.role_base.specs.Standing.{LinkStands};
-ghost use Rattle.bank_keys.specs.Ksm.{link_in_use, IsCounted, body_link, body_count, body_next, body_counts, body_name, opened_kk, body_new, body_value, body_code, body_record, body_second, taken_link, new_tests};
+ghost use Rattle.bank_keys.specs.Ksm.{link_in_use, IsCounted, body_link, body_count, body_next, body_counts, body_name, opened_kk, body_new, body_value, body_code, body_record, body_second, body_taken, link_tests};
 
 use csm_grammar::{Ksm, KsmBody, NewKk};
 use party_state::{KeyRec, KeyStatus, LinkRec, State};
@@ -12,7 +12,7 @@ use role_base::{
 };
 use x_base::{Count, FullName, Ident, KeyName, LIMIT, Label, Side, Verdict};
 use x_mac::Pair;
-use x_seal::{unseal, unwrap};
+use x_seal::{unseal, unwrap, unwrap_pair};
 
 /// The link in use for a key without a centre: the one with that label, which isn't a centre's, or
 /// the first.
@@ -34,7 +34,7 @@ fn link_in_use(state: &State, originator: &Ident, idk2: &Option<Label>) -> Optio
 
 /// The link in use for two keys: at the last count there is none.
 fn twin_link(state: &State, originator: &Ident, idk2: &Option<Label>, ctp: Count) -> Option<LinkRec>
-    ensures link { result ≡ cond (nat_lt ctp 99999999999999) (link_in_use state.now originator.now idk2.now) None }
+    ensures link { result ≡ cond (nat_lt ctp count_limit) (link_in_use state.now originator.now idk2.now) None }
     ensures stands { IfSome result (LinkStands state.now) }
     ensures counted { IfSome result (λ _. IsCount (ctp + 1)) }
 {
@@ -133,19 +133,19 @@ fn opened_kk(pair: Pair, count: Count, new: NewKk) -> Pair
     ensures { result ≡ opened_kk pair count new }
 {
     match new {
-        NewKk::Double(left, right) => odd_pair(Pair {
-            left: unwrap(pair, count, left),
-            right: unwrap(pair, count, right),
-        }),
-        NewKk::Single(key) => odd_pair(Pair {
-            left: unwrap(pair, count, key),
-            right: unwrap(pair, count, key),
-        }),
+        NewKk::Double(left, right) => odd_pair(unwrap_pair(pair, count, Pair { left, right })),
+        NewKk::Single(sealed) => {
+            let key = unwrap(pair, count, sealed);
+            odd_pair(Pair {
+                left: key,
+                right: key,
+            })
+        }
     }
 }
 
 /// The label of the new key-encrypting key, and the key as encrypted.
-pub(crate) fn body_new(body: &KsmBody) -> Option<(Label, NewKk)>
+fn body_new(body: &KsmBody) -> Option<(Label, NewKk)>
     ensures { result ≡ body_new body.now }
 {
     match body {
@@ -239,44 +239,37 @@ fn first_count() -> Count
     }
 }
 
-/// The link of the new key-encrypting key, whose first count is used.
-pub(crate) fn taken_link(
-    originator: &Ident,
-    link: &LinkRec,
-    count: Count,
-    label: Label,
-    new: NewKk,
-) -> LinkRec
-    ensures { result ≡ taken_link originator.now link.now count (label, new) }
+/// The link of the new key-encrypting key that comes, whose first count is used. The key is opened
+/// here, once.
+pub(crate) fn body_taken(message: &Ksm, link: &LinkRec) -> Option<LinkRec>
+    ensures taken { result ≡ body_taken message.now.originator link.now message.now.body }
+    ensures range { IsCount (body_count message.now.body) }
 {
-    LinkRec {
-        peer: *originator,
-        label,
-        side: Side::Takes,
-        pair: opened_kk(link.pair, count, new),
-        next: 2,
-        ready: true,
+    let count = body_count(&message.body);
+    match body_new(&message.body) {
+        Some((label, new)) => Some(LinkRec {
+            peer: message.originator,
+            label,
+            side: Side::Takes,
+            pair: opened_kk(link.pair, count, new),
+            next: 2,
+            ready: true,
+        }),
+        None => None,
     }
 }
 
 /// The tests for a new key-encrypting key: its label is free, its pair is new, and it has room.
-pub(crate) fn new_tests(
-    state: &State,
-    originator: &Ident,
-    link: &LinkRec,
-    count: Count,
-    label: &Label,
-    new: NewKk,
-) -> [(bool, Verdict); 3]
-    ensures { result ≡ new_tests state.now originator.now link.now count (Some (label.now, new)) }
+pub(crate) fn link_tests(state: &State, taken: &LinkRec) -> [(bool, Verdict); 3]
+    ensures { result ≡ link_tests state.now (Some taken.now) }
 {
-    let free = !is_of_centre(label) && state.link(originator, label, Side::Takes).is_none();
-    let pair = opened_kk(link.pair, count, new);
+    let (peer, label) = (&taken.peer, &taken.label);
+    let free = !is_of_centre(label) && state.link(peer, label, Side::Takes).is_none();
     [
         (free, Verdict::LabelTaken),
-        (!state.has_pair(pair), Verdict::SameKey),
+        (!state.has_pair(taken.pair), Verdict::SameKey),
         (
-            has_link_room(state, originator, label, Side::Takes),
+            has_link_room(state, peer, label, Side::Takes),
             Verdict::LinksFull,
         ),
     ]

@@ -1,24 +1,22 @@
 // An answer of a distribution centre: it brings the key, under the link with the centre.
-ghost use Rattle.std.specs.Prelude.{◌≡◌, ◌+◌, ◌++◌, ◌∷◌, Some, IfSome, IfOk};
-ghost use Rattle.x_base.specs.Count.{IsCount};
+ghost use Rattle.std.specs.Prelude.{◌≡◌, ◌+◌, ◌++◌, ◌∷◌, Some, IfSome};
 ghost use Rattle.x_base.specs.declared.verdict.Verdict.TheVariants.{BadMac};
-ghost use Rattle.party_state.specs.Keys.{takes};
+ghost use Rattle.party_tables.specs.Keys.{takes};
 ghost use Rattle.party_state.specs.State.{centre_label, link_with};
 ghost use Rattle.party_state.specs.Verdicts.{verdict_of};
 ghost use Rattle.role_base.specs.Texts.{lead_under};
 ghost use Rattle.role_base.specs.Conditions.{count_tests};
 ghost use Rattle.role_base.specs.Standing.{LinkStands};
-ghost use Rattle.role_base.specs.Storable.{CanKeep};
-ghost use Rattle.role_base.specs.Deciding.{decision_of};
-ghost use Rattle.bank_keys.specs.Rtr.{rtr_rest, brought_front, brought_value, brought, brought_under, brought_lead};
+ghost use Rattle.role_base.specs.Deciding.{Decides};
+ghost use Rattle.bank_keys.specs.Rtr.{rtr_rest, brought_front, brought, brought_under, brought_lead};
 
 use crate::passing::{pass_on, rtr_front, rtr_rest};
 use crate::waits::is_asked;
 use csm_grammar::{Arrival, Rtr};
 use party_state::{Decision, Lead, LinkRec, State, Via, law_accept};
 use role_base::{
-    centre_label, count_tests, direct_name, early_refusal, is_accept, lead_under, link_with,
-    passes, refusal, verdict_after, verdict_of,
+    centre_label, count_tests, direct_name, early_refusal, is_accept, lead_under, link_behind,
+    link_with, passes, refusal, verdict_after,
 };
 use std::alloc::Global;
 use x_base::{Count, FullName, Ident, NoMemory, Side, Verdict};
@@ -52,67 +50,6 @@ fn brought_verdict(
     )
 }
 
-/// The link behind this count.
-fn used_link(link: &LinkRec, cta: Count) -> LinkRec
-    ensures used { result ≡ record link.now { next = cta + 1 } }
-    ensures count { IsCount cta }
-{
-    LinkRec {
-        next: cta.value() + 1,
-        ..*link
-    }
-}
-
-/// What is decided where the tests before the code's hold.
-#[tactic(auto, using(crate::proofs::CentreAnswers::used_keepable, crate::proofs::CentreAnswers::brought_room, crate::proofs::CentreAnswers::brought_refuses, crate::proofs::CentreAnswers::brought_accepts))]
-fn brought_led(
-    alloc: Global,
-    state: &State,
-    arrival: &Arrival,
-    message: &Rtr,
-    kd: &(u64, Count),
-    link: &LinkRec,
-    lead: &Lead,
-) -> Result<Decision, NoMemory>
-    requires stands { LinkStands state.now link.now }
-    requires lead { lead.now ≡ lead_under arrival.now (brought_under state.now message.now kd.now.1) (brought_value link.now kd.now) }
-    ensures decision { IfOk result (λ d. d ≡ decision_of state.now (brought state.now arrival.now message.now kd.now (Some link.now))) }
-    ensures kept { IfOk result (λ d. CanKeep state.now d.change) }
-{
-    // Tells what an accepted verdict says of the tests.
-    law_accept();
-    let verdict = brought_verdict(state, message, kd, link, lead.verified);
-    if !is_accept(&verdict) {
-        return Ok(refusal(verdict));
-    }
-    let way = Via::Distribution {
-        centre: message.originator,
-        cta: kd.1,
-    };
-    let used = used_link(link, kd.1);
-    pass_on(alloc, state, message, Some(used), lead.value, way)
-}
-
-fn brought_decided(
-    alloc: Global,
-    state: &State,
-    arrival: &Arrival,
-    message: &Rtr,
-    kd: &(u64, Count),
-    link: &LinkRec,
-    lead: &Option<Lead>,
-) -> Result<Decision, NoMemory>
-    requires stands { LinkStands state.now link.now }
-    requires lead { lead.now ≡ brought_lead state.now arrival.now message.now kd.now (Some link.now) }
-    ensures decision { IfOk result (λ d. d ≡ decision_of state.now (brought state.now arrival.now message.now kd.now (Some link.now))) }
-    ensures kept { IfOk result (λ d. CanKeep state.now d.change) }
-{
-    match lead {
-        Some(lead) => brought_led(alloc, state, arrival, message, kd, link, lead),
-        None => Ok(early_refusal(&brought_front(state, message, &Some(*link)))),
-    }
-}
-
 /// The link with a centre under which keys come.
 fn centre_link(state: &State, centre: &Ident) -> Option<LinkRec>
     ensures link { result ≡ link_with (takes centre.now centre_label) state.now }
@@ -121,7 +58,8 @@ fn centre_link(state: &State, centre: &Ident) -> Option<LinkRec>
     link_with(state, centre, &centre_label(), Side::Takes)
 }
 
-#[tactic(auto, using(role_base::proofs::ByRow::by_refused))]
+/// Decides of an answer that brings a key, with the key under which its code is tested.
+#[tactic(auto, using(crate::proofs::CentreAnswers::used_keepable, crate::proofs::CentreAnswers::brought_room))]
 pub(crate) fn brought(
     alloc: Global,
     state: &State,
@@ -131,14 +69,27 @@ pub(crate) fn brought(
     lead: &Option<Lead>,
 ) -> Result<Decision, NoMemory>
     requires { lead.now ≡ brought_lead state.now arrival.now message.now kd.now (link_with (takes message.now.originator centre_label) state.now) }
-    ensures decision { IfOk result (λ d. d ≡ decision_of state.now (brought state.now arrival.now message.now kd.now (link_with (takes message.now.originator centre_label) state.now))) }
-    ensures kept { IfOk result (λ d. CanKeep state.now d.change) }
+    ensures { Decides state.now (brought state.now arrival.now message.now kd.now (link_with (takes message.now.originator centre_label) state.now)) result }
 {
+    // Tells what an accepted verdict says of the tests.
+    law_accept();
     let found = centre_link(state, &message.originator);
-    match &found {
-        Some(link) => brought_decided(alloc, state, arrival, message, kd, link, lead),
-        None => Ok(refusal(verdict_of(&brought_front(state, message, &found)))),
+    let Some(link) = &found else {
+        return Ok(early_refusal(&brought_front(state, message, &found)));
+    };
+    let Some(lead) = lead else {
+        return Ok(early_refusal(&brought_front(state, message, &found)));
+    };
+    let verdict = brought_verdict(state, message, kd, link, lead.verified);
+    if !is_accept(&verdict) {
+        return Ok(refusal(verdict));
     }
+    let way = Via::Distribution {
+        centre: message.originator,
+        cta: kd.1,
+    };
+    let used = link_behind(link, kd.1);
+    pass_on(alloc, state, message, Some(used), lead.value, way)
 }
 
 /// The name of the key as it came.

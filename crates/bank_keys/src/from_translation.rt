@@ -1,10 +1,9 @@
 // An answer of a translation centre: its key is the one that waits there.
-ghost use Rattle.std.specs.Prelude.{◌≡◌, ◌++◌, ◌∷◌, Some, IfOk};
+ghost use Rattle.std.specs.Prelude.{◌≡◌, ◌++◌, ◌∷◌, Some};
 ghost use Rattle.x_base.specs.declared.verdict.Verdict.TheVariants.{BadMac};
 ghost use Rattle.party_state.specs.Verdicts.{verdict_of};
 ghost use Rattle.role_base.specs.Texts.{lead_under};
-ghost use Rattle.role_base.specs.Storable.{CanKeep};
-ghost use Rattle.role_base.specs.Deciding.{decision_of};
+ghost use Rattle.role_base.specs.Deciding.{Decides};
 ghost use Rattle.bank_keys.specs.Waiting.{waiting_with};
 ghost use Rattle.bank_keys.specs.Rtr.{rtr_rest, is_ultimate, translated_front, translated, translated_under, translated_lead};
 
@@ -13,8 +12,7 @@ use crate::waits::{Waiting, waiting_with};
 use csm_grammar::{Arrival, Rtr};
 use party_state::{Decision, Lead, State, Via, law_accept};
 use role_base::{
-    centre_label, direct_name, early_refusal, is_accept, lead_under, passes, refusal,
-    verdict_after, verdict_of,
+    centre_label, direct_name, early_refusal, is_accept, lead_under, passes, refusal, verdict_after,
 };
 use std::alloc::Global;
 use x_base::{FullName, Ident, NoMemory, Verdict};
@@ -43,51 +41,8 @@ fn translated_verdict(state: &State, message: &Rtr, waiting: &Waiting, verified:
     verdict_after(&front, &[(verified, Verdict::BadMac), other, room])
 }
 
-/// What is decided where the tests before the code's hold.
-#[tactic(auto, using(crate::proofs::CentreAnswers::translated_room, crate::proofs::CentreAnswers::translated_refuses, crate::proofs::CentreAnswers::translated_accepts))]
-fn translated_led(
-    alloc: Global,
-    state: &State,
-    arrival: &Arrival,
-    message: &Rtr,
-    waiting: &Waiting,
-    lead: &Lead,
-) -> Result<Decision, NoMemory>
-    requires { lead.now ≡ lead_under arrival.now (translated_under state.now message.now waiting.now) waiting.now.value }
-    ensures decision { IfOk result (λ d. d ≡ decision_of state.now (translated state.now arrival.now message.now (Some waiting.now))) }
-    ensures kept { IfOk result (λ d. CanKeep state.now d.change) }
-{
-    // Tells what an accepted verdict says of the tests.
-    law_accept();
-    let verdict = translated_verdict(state, message, waiting, lead.verified);
-    if !is_accept(&verdict) {
-        return Ok(refusal(verdict));
-    }
-    let way = Via::Translation {
-        centre: message.originator,
-    };
-    pass_on(alloc, state, message, None, lead.value, way)
-}
-
-fn translated_decided(
-    alloc: Global,
-    state: &State,
-    arrival: &Arrival,
-    message: &Rtr,
-    waiting: &Waiting,
-    lead: &Option<Lead>,
-) -> Result<Decision, NoMemory>
-    requires { lead.now ≡ translated_lead state.now arrival.now message.now (Some waiting.now) }
-    ensures decision { IfOk result (λ d. d ≡ decision_of state.now (translated state.now arrival.now message.now (Some waiting.now))) }
-    ensures kept { IfOk result (λ d. CanKeep state.now d.change) }
-{
-    match lead {
-        Some(lead) => translated_led(alloc, state, arrival, message, waiting, lead),
-        None => Ok(early_refusal(&translated_front(state, message, &Some(*waiting)))),
-    }
-}
-
-#[tactic(auto, using(role_base::proofs::ByRow::by_refused))]
+/// Decides of an answer to a key that waits, with the key under which its code is tested.
+#[tactic(auto, using(crate::proofs::CentreAnswers::translated_room))]
 pub(crate) fn translated(
     alloc: Global,
     state: &State,
@@ -96,14 +51,25 @@ pub(crate) fn translated(
     lead: &Option<Lead>,
 ) -> Result<Decision, NoMemory>
     requires { lead.now ≡ translated_lead state.now arrival.now message.now (waiting_with state.now message.now.originator) }
-    ensures decision { IfOk result (λ d. d ≡ decision_of state.now (translated state.now arrival.now message.now (waiting_with state.now message.now.originator))) }
-    ensures kept { IfOk result (λ d. CanKeep state.now d.change) }
+    ensures { Decides state.now (translated state.now arrival.now message.now (waiting_with state.now message.now.originator)) result }
 {
+    // Tells what an accepted verdict says of the tests.
+    law_accept();
     let found = waiting_with(state, &message.originator);
-    match &found {
-        Some(waiting) => translated_decided(alloc, state, arrival, message, waiting, lead),
-        None => Ok(refusal(verdict_of(&translated_front(state, message, &found)))),
+    let Some(waiting) = &found else {
+        return Ok(early_refusal(&translated_front(state, message, &found)));
+    };
+    let Some(lead) = lead else {
+        return Ok(early_refusal(&translated_front(state, message, &found)));
+    };
+    let verdict = translated_verdict(state, message, waiting, lead.verified);
+    if !is_accept(&verdict) {
+        return Ok(refusal(verdict));
     }
+    let way = Via::Translation {
+        centre: message.originator,
+    };
+    pass_on(alloc, state, message, None, lead.value, way)
 }
 
 /// The name of the key as it went to the centre.

@@ -1,13 +1,13 @@
 // The key of a centre's answer goes on to the ultimate recipient.
 ghost use Rattle.std.specs.Prelude.{◌≡◌, ◌≤◌, ◌++◌, true, Some, length, IfSome, IfOk};
 ghost use Rattle.party_state.specs.declared.edit.Edit.TheVariants.{PutLink};
-ghost use Rattle.party_state.specs.declared.link.LinkRec.{LinkRec as TheLink};
-ghost use Rattle.party_state.specs.Ranges.{longest_text};
+ghost use Rattle.party_tables.specs.declared.link.LinkRec.{LinkRec as TheLink};
+ghost use Rattle.party_tables.specs.Ranges.{longest_text};
 ghost use Rattle.role_base.specs.Texts.{text_of};
 ghost use Rattle.role_base.specs.Conditions.{has_key_room};
 ghost use Rattle.role_base.specs.Replies.{IsWritten};
-ghost use Rattle.role_base.specs.Storable.{IsKeepable, CanKeep};
-ghost use Rattle.role_base.specs.Deciding.{accepting};
+ghost use Rattle.role_base.specs.Storable.{IsKeepable};
+ghost use Rattle.role_base.specs.Deciding.{AcceptsWith};
 ghost use Rattle.bank_keys.specs.Rtr.{centre_name, centre_key, rtr_front, rtr_rest, centre_ksm, passed_reply, used_edits, passed_on};
 
 use csm_grammar::{Ksm, KsmBody, Message, Rtr};
@@ -152,8 +152,7 @@ pub(crate) fn pass_on(
 ) -> Result<Decision, NoMemory>
     requires used { IfSome used (λ (l : TheLink). IsKeepable state.now (PutLink l)) }
     requires room { has_key_room state.now (centre_key state.now message.now) ≡ true }
-    ensures decision { IfOk result (λ d. d ≡ accepting state.now (used_edits used ++ passed_on state.now message.now value way) (Some (passed_reply state.now message.now value))) }
-    ensures kept { IfOk result (λ d. CanKeep state.now d.change) }
+    ensures { AcceptsWith state.now (used_edits used ++ passed_on state.now message.now value way) (Some (passed_reply state.now message.now value)) result }
 {
     let written = passed_text(alloc, state, message, value)?;
     let text = written.text.copy(alloc)?;

@@ -1,7 +1,6 @@
 // A centre's answer arrives, with the key or without.
-ghost use Rattle.std.specs.Prelude.{◌≡◌, IfOk};
-ghost use Rattle.role_base.specs.Storable.{CanKeep};
-ghost use Rattle.role_base.specs.Deciding.{decision_of};
+ghost use Rattle.std.specs.Prelude.{◌≡◌};
+ghost use Rattle.role_base.specs.Deciding.{Decides};
 ghost use Rattle.bank_keys.specs.Rtr.{rtr, rtr_lead};
 
 use crate::from_distribution::{brought, brought_lead};
@@ -22,8 +21,7 @@ pub fn rtr(
     lead: &Option<Lead>,
 ) -> Result<Decision, NoMemory>
     requires { lead.now ≡ rtr_lead state.now arrival.now message.now }
-    ensures decision { IfOk result (λ d. d ≡ decision_of state.now (rtr state.now arrival.now message.now)) }
-    ensures kept { IfOk result (λ d. CanKeep state.now d.change) }
+    ensures { Decides state.now (rtr state.now arrival.now message.now) result }
 {
     match &message.kd {
         Some(kd) => brought(alloc, state, arrival, message, kd, lead),

@@ -11,11 +11,11 @@ use Rattle.x_seal.specs.Wrapped.{wrap_of}
 use Rattle.csm_grammar.specs.declared.message.Rsi.{Rsi}
 use Rattle.csm_grammar.specs.declared.message.Rfs.{Rfs}
 use Rattle.csm_grammar.specs.declared.message.Service.TheVariants as service
-use Rattle.party_state.specs.declared.link.LinkKey.{LinkKey}
-use Rattle.party_state.specs.declared.link.LinkRec.{LinkRec}
-use Rattle.party_state.specs.declared.exchange.Exchange.{Exchange}
-use Rattle.party_state.specs.declared.exchange.Kind.TheVariants as kind
-use Rattle.party_state.specs.Keys.{same_link, link_key, sends, takes}
+use Rattle.party_tables.specs.declared.link.LinkKey.{LinkKey}
+use Rattle.party_tables.specs.declared.link.LinkRec.{LinkRec}
+use Rattle.party_tables.specs.declared.exchange.Exchange.{Exchange}
+use Rattle.party_tables.specs.declared.exchange.Kind.TheVariants as kind
+use Rattle.party_tables.specs.Keys.{same_link, link_key, sends, takes}
 use Rattle.party_state.specs.State.{Party, apply, centre_label, link_with, exchange_with, knows}
 use Rattle.party_state.specs.Rows.{Row, Plain}
 use Rattle.party_state.specs.Verdicts.{Test, Held}

@@ -7,15 +7,15 @@ use Rattle.x_gen.specs.declared.generator.Gen.{Gen}
 use Rattle.x_gen.specs.Gen.{good_draw}
 use Rattle.party_state.specs.declared.command.Command.{Command}
 use Rattle.party_state.specs.declared.command.Command.TheVariants as command
-use Rattle.party_state.specs.declared.link.LinkRec.{LinkRec}
-use Rattle.party_state.specs.declared.key.RecordKey.{RecordKey}
-use Rattle.party_state.specs.declared.key.KeyRec.{KeyRec}
-use Rattle.party_state.specs.declared.exchange.Kind.{Kind}
-use Rattle.party_state.specs.declared.exchange.Kind.TheVariants as kind
-use Rattle.party_state.specs.declared.exchange.Exchange.{Exchange}
+use Rattle.party_tables.specs.declared.link.LinkRec.{LinkRec}
+use Rattle.party_tables.specs.declared.key.RecordKey.{RecordKey}
+use Rattle.party_tables.specs.declared.key.KeyRec.{KeyRec}
+use Rattle.party_tables.specs.declared.exchange.Kind.{Kind}
+use Rattle.party_tables.specs.declared.exchange.Kind.TheVariants as kind
+use Rattle.party_tables.specs.declared.exchange.Exchange.{Exchange}
 use Rattle.party_state.specs.declared.edit.Edit.TheVariants.{DropExchange}
-use Rattle.party_state.specs.Keys.{sends}
-use Rattle.party_state.specs.Names.{name_behind}
+use Rattle.party_tables.specs.Keys.{sends}
+use Rattle.party_tables.specs.Names.{name_behind}
 use Rattle.party_state.specs.State.{Party, centre_label, link_with, exchange_with}
 use Rattle.party_state.specs.Verdicts.{Held, is_accept}
 use Rattle.role_base.specs.Beginning.{AllBeginFree}

@@ -1,26 +1,26 @@
 -- A centre that is asked: what is decided, and that it can be kept.
-use Rattle.std.proofs.Common.{arith, ◌≡◌, ℕ, ◌+◌, true, false, Result, IfOk, Option, Some, None, List, [], ◌∷◌, ◌++◌, refl, ap, ◌∙◌}
+use Rattle.std.proofs.Common.{arith, ◌≡◌, ℕ, ◌+◌, true, false, Result, Option, Some, None, List, [], ◌∷◌, ◌++◌, refl, ap, ◌∙◌}
 use Rattle.x_base.specs.Count.{IsCount}
 use Rattle.x_base.specs.declared.text.NoMemory.{NoMemory}
 use Rattle.x_base.specs.declared.verdict.Verdict.{Verdict}
 use Rattle.x_base.specs.declared.verdict.Verdict.TheVariants.{CountSpent, WeakDraws}
 use Rattle.x_gen.specs.declared.generator.Gen.{Gen}
 use Rattle.party_state.specs.declared.decision.Decision.{Decision}
-use Rattle.party_state.specs.declared.link.LinkRec.{LinkRec}
-use Rattle.party_state.specs.declared.exchange.Exchange.{Exchange}
-use Rattle.party_state.specs.declared.exchange.Kind.TheVariants as kind
+use Rattle.party_tables.specs.declared.link.LinkRec.{LinkRec}
+use Rattle.party_tables.specs.declared.exchange.Exchange.{Exchange}
+use Rattle.party_tables.specs.declared.exchange.Kind.TheVariants as kind
 use Rattle.party_state.specs.declared.edit.Edit.TheVariants.{SetGen, PutLink, PutExchange}
-use Rattle.party_state.specs.Ranges.{IsFittingExchange}
+use Rattle.party_tables.specs.Ranges.{IsFittingExchange}
 use Rattle.party_state.specs.State.{Party}
 use Rattle.party_state.specs.Rows.{Plain}
 use Rattle.party_state.specs.Verdicts.{verdict_of, is_accept}
 use Rattle.role_base.specs.Conditions.{has_count}
-use Rattle.role_base.specs.Deciding.{decision_of, refusal_of, accepting}
+use Rattle.role_base.specs.Deciding.{decision_of, refusal_of, Decides, AcceptsWith}
 use Rattle.role_base.specs.Standing.{LinkStands}
 use Rattle.role_base.specs.Storable.{AreKeepable}
 use Rattle.role_base.specs.Texts.{text_of}
 use Rattle.role_base.proofs.ByRow.{by_refused}
-use Rattle.role_base.proofs.Decided.{refuses, decides_row}
+use Rattle.role_base.proofs.Decided.{refuses, decides_with}
 use Rattle.role_base.proofs.Failing.{unspent}
 use Rattle.role_base.proofs.Keeping.{link_room}
 use Rattle.role_base.proofs.Spent.{spent_first}
@@ -62,9 +62,9 @@ translate_undrawn p centre u l None v i e = ap refusal_of e ∙ by_refused p (ve
 translate_undrawn p centre u l (Some d) v i e = cc
 
 pub translate_sent : (result : Result Decision NoMemory) (p : Party) (centre u : List ℕ) (l : LinkRec) (o : Option (ℕ × Gen)) (key : ℕ × Gen) (v : Verdict) → o ≡ Some key
-    → IfOk result (λ d. d ≡ accepting p (translate_edits p centre u l key.0 key.1.v) (Some (translate_reply p centre u l key.0))) → v ≡ verdict_of (centre_front p centre u ++ translate_tests p l o) → is_accept v ≡ true
-    → IfOk result (λ d. d ≡ decision_of p (translate_drawn p centre u l o))
+    → AcceptsWith p (translate_edits p centre u l key.0 key.1.v) (Some (translate_reply p centre u l key.0)) result → v ≡ verdict_of (centre_front p centre u ++ translate_tests p l o) → is_accept v ≡ true
+    → Decides p (translate_drawn p centre u l o) result
 translate_sent result p centre u l None key v i h e t = cc
 translate_sent result p centre u l (Some d) key v i h e t =
     let j : d ≡ key = cc in
-    decides_row result p (translate_drawn p centre u l (Some d)) v (rw j h) e t
+    decides_with result p (translate_drawn p centre u l (Some d)) v (rw j h) e t

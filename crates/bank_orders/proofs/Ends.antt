@@ -5,16 +5,17 @@ use Rattle.std.proofs.lemmas.Slice.Eq.{bytes_eq-Decides}
 use Rattle.x_base.specs.declared.key_name.KeyName.{KeyName}
 use Rattle.x_base.specs.declared.verdict.Verdict.TheVariants.{Accept}
 use Rattle.csm_grammar.specs.declared.message.Dsm.{Dsm}
-use Rattle.party_state.specs.declared.key.KeyRec.{KeyRec}
-use Rattle.party_state.specs.declared.key.RecordKey.{RecordKey}
-use Rattle.party_state.specs.declared.key.KeyStatus.{KeyStatus}
-use Rattle.party_state.specs.declared.key.KeyStatus.TheVariants.{Pending, Live, Held as IsHeld, Closing, Ended}
-use Rattle.party_state.specs.declared.exchange.Exchange.{Exchange}
-use Rattle.party_state.specs.declared.exchange.Kind.TheVariants as kind
+use Rattle.party_tables.specs.declared.key.KeyRec.{KeyRec}
+use Rattle.party_tables.specs.declared.key.RecordKey.{RecordKey}
+use Rattle.party_tables.specs.declared.key.KeyStatus.{KeyStatus}
+use Rattle.party_tables.specs.declared.key.KeyStatus.TheVariants.{Pending, Live, Held as IsHeld, Closing, Ended}
+use Rattle.party_tables.specs.declared.exchange.Exchange.{Exchange}
+use Rattle.party_tables.specs.declared.exchange.Kind.TheVariants as kind
 use Rattle.party_state.specs.declared.edit.Edit.TheVariants.{DropEnded}
-use Rattle.party_state.specs.Keys.{same_record, record_key}
+use Rattle.party_tables.specs.Keys.{same_record, record_key}
 use Rattle.party_state.specs.Ranges.{IsParty}
-use Rattle.party_state.specs.State.{Party, apply, apply_edit, record_with, exchange_with, is_ended}
+use Rattle.party_tables.specs.Statuses.{is_ended}
+use Rattle.party_state.specs.State.{Party, apply, apply_edit, record_with, exchange_with}
 use Rattle.party_state.specs.Rows.{Row}
 use Rattle.party_state.specs.Verdicts.{Held}
 use Rattle.role_base.specs.Texts.{text_of}

@@ -1,5 +1,5 @@
 -- A new key-encrypting key that is sent: what is decided with what was drawn, and that it can be kept.
-use Rattle.std.proofs.Common.{arith, ◌≡◌, ℕ, ◌+◌, ◌≤◌, Bool, true, false, not, ◌&&◌, Result, IfOk, Option, Some, None, List, [], ◌∷◌, ◌++◌, refl, ap, ◌∙◌, lit≤}
+use Rattle.std.proofs.Common.{arith, ◌≡◌, ℕ, ◌+◌, ◌≤◌, Bool, true, false, not, ◌&&◌, Result, Option, Some, None, List, [], ◌∷◌, ◌++◌, refl, ap, ◌∙◌, lit≤}
 use Rattle.x_base.specs.Count.{IsCount}
 use Rattle.x_base.specs.declared.key_name.KeyName.{KeyName}
 use Rattle.x_base.specs.declared.text.NoMemory.{NoMemory}
@@ -7,26 +7,26 @@ use Rattle.x_base.specs.declared.verdict.Verdict.{Verdict}
 use Rattle.x_base.specs.declared.verdict.Verdict.TheVariants.{CountSpent}
 use Rattle.csm_write.specs.Shortness.{free_length}
 use Rattle.party_state.specs.declared.decision.Decision.{Decision}
-use Rattle.party_state.specs.declared.link.LinkRec.{LinkRec}
-use Rattle.party_state.specs.declared.key.KeyRec.{KeyRec}
-use Rattle.party_state.specs.declared.key.KeyStatus.TheVariants.{Pending}
-use Rattle.party_state.specs.declared.exchange.Exchange.{Exchange}
-use Rattle.party_state.specs.declared.exchange.Kind.TheVariants as kind
-use Rattle.party_state.specs.declared.exchange.Via.TheVariants as via
+use Rattle.party_tables.specs.declared.link.LinkRec.{LinkRec}
+use Rattle.party_tables.specs.declared.key.KeyRec.{KeyRec}
+use Rattle.party_tables.specs.declared.key.KeyStatus.TheVariants.{Pending}
+use Rattle.party_tables.specs.declared.exchange.Exchange.{Exchange}
+use Rattle.party_tables.specs.declared.exchange.Kind.TheVariants as kind
+use Rattle.party_tables.specs.declared.exchange.Via.TheVariants as via
 use Rattle.party_state.specs.declared.edit.Edit.TheVariants.{SetGen, PutLink, PutKey, PutExchange}
-use Rattle.party_state.specs.Keys.{link_key, record_key}
-use Rattle.party_state.specs.Ranges.{IsFittingExchange}
+use Rattle.party_tables.specs.Keys.{link_key, record_key}
+use Rattle.party_tables.specs.Ranges.{IsFittingExchange}
 use Rattle.party_state.specs.State.{Party}
 use Rattle.party_state.specs.Verdicts.{Test, verdict_of, Held, is_accept, all_refuse}
 use Rattle.party_state.proofs.Verdicts.{held_after}
 use Rattle.role_base.specs.Conditions.{has_count, has_key_room, has_link_room}
-use Rattle.role_base.specs.Deciding.{decision_of, refusal_of, accepting}
+use Rattle.role_base.specs.Deciding.{decision_of, refusal_of, Decides, AcceptsWith}
 use Rattle.role_base.specs.Sending.{next_name}
 use Rattle.role_base.specs.Standing.{LinkStands}
 use Rattle.role_base.specs.Storable.{AreKeepable}
 use Rattle.role_base.specs.Texts.{text_of}
 use Rattle.role_base.proofs.ByRow.{by_refused}
-use Rattle.role_base.proofs.Decided.{refuses, decides_row}
+use Rattle.role_base.proofs.Decided.{refuses, decides_with}
 use Rattle.role_base.proofs.Failing.{unspent}
 use Rattle.role_base.proofs.Keeping.{link_room}
 use Rattle.role_base.proofs.PartyLaws.{HeldIfAccepted}
@@ -68,12 +68,12 @@ kk_undrawn p front l new single None v i e = ap refusal_of e ∙ by_refused p (v
 kk_undrawn p front l new single (Some d) v i e = cc
 
 pub kk_sent : (result : Result Decision NoMemory) (p : Party) (front : List Test) (l : LinkRec) (new : List ℕ) (single : Bool) (o : Option KkDrawn) (keys : KkDrawn) (v : Verdict) → o ≡ Some keys
-    → IfOk result (λ d. d ≡ accepting p (kk_edits p l new single keys) (Some (kk_reply p l new single keys))) → v ≡ verdict_of (front ++ kk_tests p l new o) → is_accept v ≡ true
-    → IfOk result (λ d. d ≡ decision_of p (kk_sending p front l new single o))
+    → AcceptsWith p (kk_edits p l new single keys) (Some (kk_reply p l new single keys)) result → v ≡ verdict_of (front ++ kk_tests p l new o) → is_accept v ≡ true
+    → Decides p (kk_sending p front l new single o) result
 kk_sent result p front l new single None keys v i h e t = cc
 kk_sent result p front l new single (Some d) keys v i h e t =
     let j : d ≡ keys = cc in
-    decides_row result p (kk_sending p front l new single (Some d)) v (rw j h) e t
+    decides_with result p (kk_sending p front l new single (Some d)) v (rw j h) e t
 
 -- the edits
 

@@ -2,7 +2,7 @@
 use Rattle.std.proofs.Common.{ℕ, Bool, false, Option, List, [], ◌∷◌, ◌++◌, refl}
 use Rattle.x_base.specs.declared.verdict.Verdict.TheVariants.{UnknownKk}
 use Rattle.x_gen.specs.declared.generator.Gen.{Gen}
-use Rattle.party_state.specs.declared.link.LinkRec.{LinkRec}
+use Rattle.party_tables.specs.declared.link.LinkRec.{LinkRec}
 use Rattle.party_state.specs.State.{Party}
 use Rattle.role_base.specs.Order.{InOrder}
 use Rattle.role_base.specs.Sending.{sending_tests}

@@ -7,22 +7,22 @@ use Rattle.x_gen.specs.declared.generator.Gen.{Gen}
 use Rattle.x_gen.specs.Gen.{good_draw}
 use Rattle.party_state.specs.declared.command.Command.{Command}
 use Rattle.party_state.specs.declared.command.Command.TheVariants as command
-use Rattle.party_state.specs.declared.link.LinkKey.{LinkKey}
-use Rattle.party_state.specs.declared.link.LinkRec.{LinkRec}
-use Rattle.party_state.specs.declared.key.KeyRec.{KeyRec}
-use Rattle.party_state.specs.declared.exchange.Kind.{Kind}
-use Rattle.party_state.specs.declared.exchange.Kind.TheVariants as kind
-use Rattle.party_state.specs.declared.exchange.Exchange.{Exchange}
+use Rattle.party_tables.specs.declared.link.LinkKey.{LinkKey}
+use Rattle.party_tables.specs.declared.link.LinkRec.{LinkRec}
+use Rattle.party_tables.specs.declared.key.KeyRec.{KeyRec}
+use Rattle.party_tables.specs.declared.exchange.Kind.{Kind}
+use Rattle.party_tables.specs.declared.exchange.Kind.TheVariants as kind
+use Rattle.party_tables.specs.declared.exchange.Exchange.{Exchange}
 use Rattle.party_state.specs.declared.edit.Edit.TheVariants.{SetGen, PutLink, DropExchange}
-use Rattle.party_state.specs.Tables.{find_row}
-use Rattle.party_state.specs.Keys.{same_link, link_key, sends}
+use Rattle.party_tables.specs.Tables.{find_row}
+use Rattle.party_tables.specs.Keys.{same_link, link_key, sends}
 use Rattle.party_state.specs.Verdicts.{Held, is_accept}
 use Rattle.role_base.specs.Differing.{has_link, differs, AreApart}
 use Rattle.role_base.proofs.PartyLaws.{HeldIfAccepted, LinkLaws, KeyLaws, put_other}
 use Rattle.role_base.proofs.TwinKeys.{key_beside, records_apart}
 use Rattle.x_base.specs.declared.key_name.KeyName.{KeyName}
-use Rattle.party_state.specs.Names.{name_behind}
-use Rattle.party_state.specs.declared.key.KeyStatus.TheVariants.{Ended}
+use Rattle.party_tables.specs.Names.{name_behind}
+use Rattle.party_tables.specs.declared.key.KeyStatus.TheVariants.{Ended}
 use Rattle.role_base.proofs.SendingApart.{sending_apart}
 use Rattle.party_state.specs.State.{Party, apply_edit, centre_label, link_with, exchange_with, is_usable}
 use Rattle.role_base.specs.Exchanges.{record_of, new_link, dropped, ended}

@@ -1,26 +1,22 @@
 -- The changes of the commands can be kept.
-use Rattle.std.proofs.Common.{◌≡◌, ℕ, ◌≤◌, Option, Some, None, Result, Ok, Err, IfOk, List, [], ◌∷◌, ◌++◌, length, refl, lit≤}
-use Rattle.x_base.specs.declared.text.NoMemory.{NoMemory}
-use Rattle.party_state.specs.declared.decision.Decision.{Decision}
-use Rattle.party_state.specs.declared.link.LinkRec.{LinkRec}
-use Rattle.party_state.specs.declared.key.KeyRec.{KeyRec}
-use Rattle.party_state.specs.declared.exchange.Exchange.{Exchange}
+use Rattle.std.proofs.Common.{◌≡◌, ℕ, ◌≤◌, Option, Some, None, List, [], ◌∷◌, ◌++◌, length, refl, lit≤}
+use Rattle.party_tables.specs.declared.link.LinkRec.{LinkRec}
+use Rattle.party_tables.specs.declared.key.KeyRec.{KeyRec}
+use Rattle.party_tables.specs.declared.exchange.Exchange.{Exchange}
 use Rattle.party_state.specs.declared.edit.Edit.TheVariants.{PutKey, PutExchange, DropExchange}
-use Rattle.party_state.specs.declared.key.KeyStatus.TheVariants.{Closing}
-use Rattle.party_state.specs.declared.exchange.Kind.{Kind}
-use Rattle.party_state.specs.declared.exchange.Kind.TheVariants as kind
+use Rattle.party_tables.specs.declared.key.KeyStatus.TheVariants.{Closing}
+use Rattle.party_tables.specs.declared.exchange.Kind.{Kind}
+use Rattle.party_tables.specs.declared.exchange.Kind.TheVariants as kind
 use Rattle.x_base.specs.declared.key_name.KeyName.{KeyName}
-use Rattle.party_state.specs.State.{Party, exchange_with}
-use Rattle.party_state.specs.Ranges.{IsFittingExchange}
-use Rattle.party_state.specs.Names.{name_behind}
+use Rattle.party_state.specs.State.{Party}
+use Rattle.party_tables.specs.Ranges.{IsFittingExchange}
+use Rattle.party_tables.specs.Names.{name_behind}
 use Rattle.role_base.specs.Exchanges.{record_of, new_link, dropped, ended}
 use Rattle.bank_orders.specs.GivingUp.{given_up, given_up_in}
-use Rattle.role_base.specs.Deciding.{change_of, decision_of}
-use Rattle.bank_orders.specs.Resend.{resend_of, resend}
-use Rattle.role_base.specs.Storable.{CanKeep, AreKeepable}
+use Rattle.role_base.specs.Storable.{AreKeepable}
 use Rattle.role_base.specs.Standing.{KeyStands}
 use Rattle.role_base.proofs.Found.{key_stands}
-use Rattle.role_base.proofs.Keeping.{key_room, key_room_behind, accepted_kept}
+use Rattle.role_base.proofs.Keeping.{key_room, key_room_behind}
 use Rattle.role_base.proofs.PartyLaws.{KeysFound}
 use Rattle.role_base.specs.Texts.{text_of}
 use Rattle.bank_orders.specs.Ending.{end_reply, ended_edits}
@@ -76,15 +72,6 @@ given_up_few p peer e = by_kind e.kind
     by_kind (kind.Translating ultimate value cta) = lit≤ tt
     by_kind (kind.Ending name) = lit≤ tt
     by_kind (kind.PairSent name) = by_pair (record_of p peer name) (record_of p peer (name_behind name))
-
--- a text that is written again
-pub resend_kept : (p : Party) (peer : List ℕ) (made : Result Decision NoMemory) → IfOk made (λ d. d ≡ decision_of p (resend p peer)) → IfOk made (λ d. CanKeep p d.change)
-resend_kept p peer (Err f) e = tt
-resend_kept p peer (Ok d) e = rw e (by_exchange (exchange_with peer p))
-  where
-    by_exchange : (o : Option Exchange) → CanKeep p (change_of p (resend_of o))
-    by_exchange None = tt
-    by_exchange (Some x) = accepted_kept p [] None (record { each = tt; order = refl }) (lit≤ tt)
 
 pub ended_same : (p : Party) (k : KeyRec) (text : List ℕ) → text ≡ text_of (end_reply p k)
     → (PutKey (record k { status = Closing }) ∷ PutExchange (record { peer = k.peer; kind = kind.Ending k.name; text = text }) ∷ []) ≡ ended_edits p k

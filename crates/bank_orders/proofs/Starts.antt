@@ -6,10 +6,10 @@ use Rattle.x_base.specs.declared.party.Side.TheVariants.{Sends}
 use Rattle.x_base.specs.declared.verdict.Verdict.TheVariants.{Accept}
 use Rattle.x_gen.specs.declared.generator.Gen.{Gen}
 use Rattle.x_gen.specs.Gen.{good_draw}
-use Rattle.party_state.specs.declared.link.LinkKey.{LinkKey}
-use Rattle.party_state.specs.declared.link.LinkRec.{LinkRec}
+use Rattle.party_tables.specs.declared.link.LinkKey.{LinkKey}
+use Rattle.party_tables.specs.declared.link.LinkRec.{LinkRec}
 use Rattle.party_state.specs.Limits.{most_keys}
-use Rattle.party_state.specs.Keys.{sends}
+use Rattle.party_tables.specs.Keys.{sends}
 use Rattle.party_state.specs.State.{Party, apply, centre_label, link_with, record_with, exchange_with}
 use Rattle.party_state.specs.Rows.{Row}
 use Rattle.party_state.specs.Verdicts.{Test, Held}

@@ -11,16 +11,16 @@ use Rattle.x_gen.specs.Laws.{IsOdd, DrawsOdd}
 use Rattle.x_seal.specs.Wrapped.{wrap_of, unwrap_of}
 use Rattle.csm_grammar.specs.declared.message.KsmBody.TheVariants as body
 use Rattle.csm_grammar.specs.declared.message.Ksm.{Ksm}
-use Rattle.party_state.specs.declared.link.LinkKey.{LinkKey}
-use Rattle.party_state.specs.declared.link.LinkRec.{LinkRec}
-use Rattle.party_state.specs.declared.key.KeyRec.{KeyRec}
-use Rattle.party_state.specs.declared.key.KeyStatus.TheVariants.{Pending}
-use Rattle.party_state.specs.declared.exchange.Exchange.{Exchange}
-use Rattle.party_state.specs.declared.exchange.Via.TheVariants as via
-use Rattle.party_state.specs.declared.exchange.Kind.TheVariants as kind
+use Rattle.party_tables.specs.declared.link.LinkKey.{LinkKey}
+use Rattle.party_tables.specs.declared.link.LinkRec.{LinkRec}
+use Rattle.party_tables.specs.declared.key.KeyRec.{KeyRec}
+use Rattle.party_tables.specs.declared.key.KeyStatus.TheVariants.{Pending}
+use Rattle.party_tables.specs.declared.exchange.Exchange.{Exchange}
+use Rattle.party_tables.specs.declared.exchange.Via.TheVariants as via
+use Rattle.party_tables.specs.declared.exchange.Kind.TheVariants as kind
 use Rattle.party_state.specs.declared.edit.Edit.TheVariants.{PutLink}
 use Rattle.party_state.specs.Limits.{most_links, most_keys}
-use Rattle.party_state.specs.Keys.{same_link, link_key, sends}
+use Rattle.party_tables.specs.Keys.{same_link, link_key, sends}
 use Rattle.party_state.specs.State.{Party, apply, apply_edit, centre_label, link_with, record_with, exchange_with}
 use Rattle.party_state.specs.Rows.{Row}
 use Rattle.party_state.specs.Verdicts.{Test, Held}

@@ -5,10 +5,10 @@ use Rattle.x_base.specs.declared.verdict.Verdict.TheVariants.{UnknownPeer, Wrong
 use Rattle.csm_grammar.specs.declared.message.Message.{Message}
 use Rattle.csm_grammar.specs.declared.message.Message.TheVariants as message
 use Rattle.csm_grammar.specs.declared.message.Service.TheVariants as service
-use Rattle.party_state.specs.declared.exchange.Kind.TheVariants as kind
+use Rattle.party_tables.specs.declared.exchange.Kind.TheVariants as kind
 use Rattle.party_state.specs.declared.edit.Edit.{Edit}
 use Rattle.party_state.specs.declared.edit.Edit.TheVariants.{PutExchange}
-use Rattle.party_state.specs.Keys.{takes}
+use Rattle.party_tables.specs.Keys.{takes}
 use Rattle.party_state.specs.State.{Party, centre_label, link_with, exchange_with, knows}
 use Rattle.party_state.specs.Verdicts.{Test, verdict_of}
 use Rattle.party_state.specs.Rows.{Row, Plain}

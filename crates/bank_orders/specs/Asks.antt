@@ -2,6 +2,7 @@
 -- (ANSI X9.17, request for service initiation and request for service; the bounds are this project's profile). "After" is
 -- the party with the edits of the row.
 use Rattle.std.specs.Prelude.{ℕ, ◌≡◌, ◌≢◌, ◌+◌, ◌≤◌, IsTrue, List, Some, None}
+use Rattle.x_base.specs.Count.{count_limit}
 use Rattle.x_base.specs.declared.party.Side.TheVariants.{Sends, Takes}
 use Rattle.x_gen.specs.declared.generator.Gen.{Gen}
 use Rattle.x_gen.specs.Gen.{good_draw}
@@ -12,9 +13,9 @@ use Rattle.csm_grammar.specs.declared.message.Rsi.{Rsi}
 use Rattle.csm_grammar.specs.declared.message.Rfs.{Rfs}
 use Rattle.csm_write.specs.declared.closing.Closing.TheVariants as closing
 use Rattle.csm_write.specs.Canon.{canon}
-use Rattle.party_state.specs.declared.link.LinkKey.{LinkKey}
-use Rattle.party_state.specs.declared.link.LinkRec.{LinkRec}
-use Rattle.party_state.specs.declared.exchange.Kind.TheVariants as kind
+use Rattle.party_tables.specs.declared.link.LinkKey.{LinkKey}
+use Rattle.party_tables.specs.declared.link.LinkRec.{LinkRec}
+use Rattle.party_tables.specs.declared.exchange.Kind.TheVariants as kind
 use Rattle.party_state.specs.State.{Party, centre_label, link_with, exchange_with, knows}
 use Rattle.party_state.specs.Rows.{Row, Plain, Coded}
 
@@ -60,7 +61,7 @@ pub record CanAskToTranslate (p : Party) (centre u : List ℕ) (moment : ℕ) : 
   pub turns : CanTurnTo p centre u
   pub link : LinkRec
   pub in_use : link_with (record { peer = centre; label = centre_label; side = Sends }) p ≡ Some link
-  pub left : link.next ≤ 99999999999999
+  pub left : link.next ≤ count_limit
   pub drawn : ℕ × Gen
   pub draws : good_draw p.generator moment ≡ Some drawn
 

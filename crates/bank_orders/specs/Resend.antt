@@ -1,7 +1,7 @@
 -- Writing the text of an exchange again, as it is kept (this project's profile).
 use Rattle.std.specs.Prelude.{ℕ, true, false, List, [], ◌∷◌, Option, Some, None}
 use Rattle.x_base.specs.declared.verdict.Verdict.TheVariants.{NoExchange}
-use Rattle.party_state.specs.declared.exchange.Exchange.{Exchange}
+use Rattle.party_tables.specs.declared.exchange.Exchange.{Exchange}
 use Rattle.party_state.specs.State.{Party, exchange_with}
 use Rattle.party_state.specs.Verdicts.{verdict_of}
 use Rattle.party_state.specs.Rows.{Row, Again, refused}

@@ -2,8 +2,8 @@
 use Rattle.std.specs.Prelude.{ℕ, is_none, is_some, cond, List, [], ◌∷◌, Option, Some, None, bytes_eq}
 use Rattle.x_base.specs.declared.party.Side.TheVariants.{Sends}
 use Rattle.x_base.specs.declared.verdict.Verdict.TheVariants.{UnknownPeer, Outstanding, UnknownKk}
-use Rattle.party_state.specs.declared.link.LinkRec.{LinkRec}
-use Rattle.party_state.specs.Keys.{sends}
+use Rattle.party_tables.specs.declared.link.LinkRec.{LinkRec}
+use Rattle.party_tables.specs.Keys.{sends}
 use Rattle.party_state.specs.State.{Party, centre_label, link_with, first_link, exchange_with, knows}
 use Rattle.party_state.specs.Verdicts.{Test, verdict_of}
 use Rattle.party_state.specs.Rows.{Row, refused}

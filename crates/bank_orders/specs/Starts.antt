@@ -1,12 +1,13 @@
 -- When a bank starts with a new data key, alone or with a new key-encrypting key (ANSI X9.17, point to point; the bounds
 -- are this project's profile). "After" is the party with the edits of the row.
 use Rattle.std.specs.Prelude.{ℕ, ◌≡◌, ◌≢◌, ◌+◌, ◌≤◌, IsTrue, Bool, true, false, cond, is_some, List, length, Option, Some, None}
+use Rattle.x_base.specs.Count.{count_limit}
 use Rattle.x_base.specs.declared.party.Side.TheVariants.{Sends}
 use Rattle.x_mac.specs.declared.pair.Pair.{Pair}
 use Rattle.x_gen.specs.declared.generator.Gen.{Gen}
 use Rattle.x_gen.specs.Gen.{good_draw}
-use Rattle.party_state.specs.declared.link.LinkRec.{LinkRec}
-use Rattle.party_state.specs.declared.key.RecordKey.{RecordKey}
+use Rattle.party_tables.specs.declared.link.LinkRec.{LinkRec}
+use Rattle.party_tables.specs.declared.key.RecordKey.{RecordKey}
 use Rattle.party_state.specs.Limits.{most_links, most_keys}
 use Rattle.party_state.specs.State.{Party, centre_label, link_with, first_link, record_with, exchange_with, knows}
 use Rattle.party_state.specs.Rows.{Row}
@@ -31,7 +32,7 @@ pub record CanStart (p : Party) (peer : List ℕ) (label : Option (List ℕ)) (m
   pub free : exchange_with peer p ≡ None
   pub link : LinkRec
   pub in_use : SendsUnder p peer label link
-  pub left : link.next ≤ 99999999999999
+  pub left : link.next ≤ count_limit
   pub room : HasRoomNext p link
   pub drawn : ℕ × Gen
   pub draws : good_draw p.generator moment ≡ Some drawn
@@ -55,7 +56,7 @@ pub record CanStartKk (p : Party) (peer : List ℕ) (label : Option (List ℕ)) 
   pub free : exchange_with peer p ≡ None
   pub link : LinkRec
   pub in_use : SendsUnder p peer label link
-  pub left : link.next ≤ 99999999999999
+  pub left : link.next ≤ count_limit
   -- the new label is no centre's, and no link for sending to the peer has it
   pub proper : new ≢ centre_label
   pub absent : link_with (record { peer = peer; label = new; side = Sends }) p ≡ None

@@ -7,11 +7,11 @@ use Rattle.x_gen.specs.Gen.{good_draw}
 use Rattle.x_seal.specs.Wrapped.{wrap_of}
 use Rattle.csm_grammar.specs.declared.message.Message.{Message}
 use Rattle.csm_grammar.specs.declared.message.Message.TheVariants as message
-use Rattle.party_state.specs.declared.link.LinkRec.{LinkRec}
-use Rattle.party_state.specs.declared.exchange.Kind.TheVariants as kind
+use Rattle.party_tables.specs.declared.link.LinkRec.{LinkRec}
+use Rattle.party_tables.specs.declared.exchange.Kind.TheVariants as kind
 use Rattle.party_state.specs.declared.edit.Edit.{Edit}
 use Rattle.party_state.specs.declared.edit.Edit.TheVariants.{PutLink, PutExchange, SetGen}
-use Rattle.party_state.specs.Keys.{sends}
+use Rattle.party_tables.specs.Keys.{sends}
 use Rattle.party_state.specs.State.{Party, centre_label, link_with}
 use Rattle.party_state.specs.Verdicts.{Test, verdict_of}
 use Rattle.party_state.specs.Rows.{Row, Reply, Coded, OneKey, refused}

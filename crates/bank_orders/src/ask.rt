@@ -1,11 +1,10 @@
 // Asking a peer for a data key, or a distribution centre for one that is shared with another.
 ghost use Rattle.std.specs.Prelude.{◌≡◌, ◌≤◌, length, IfOk, Some};
-ghost use Rattle.party_state.specs.declared.exchange.Kind.TheVariants.{Asked};
-ghost use Rattle.party_state.specs.Ranges.{longest_text};
+ghost use Rattle.party_tables.specs.declared.exchange.Kind.TheVariants.{Asked};
+ghost use Rattle.party_tables.specs.Ranges.{longest_text};
 ghost use Rattle.party_state.specs.Rows.Reply.{Plain};
 ghost use Rattle.role_base.specs.Replies.{IsWritten};
-ghost use Rattle.role_base.specs.Storable.{CanKeep};
-ghost use Rattle.role_base.specs.Deciding.{decision_of, accepting};
+ghost use Rattle.role_base.specs.Deciding.{Decides, AcceptsWith};
 ghost use Rattle.party_state.specs.Verdicts.{verdict_of};
 ghost use Rattle.bank_orders.specs.Ask.{request, ask_peer, centre_request, centre_front, ask_tests, asked_edits, ask_centre, ask_of};
 
@@ -33,10 +32,9 @@ fn request_text(alloc: Global, state: &State, peer: &Ident) -> Result<Written, N
 }
 
 /// What a bank decides where a peer is asked for a key.
-#[tactic(auto, using(role_base::proofs::ByRow::by_refused, role_base::proofs::ByRow::by_accepted))]
+#[tactic(auto, using(role_base::proofs::Kept::is_refused))]
 fn ask_peer(alloc: Global, state: &State, peer: &Ident) -> Result<Decision, NoMemory>
-    ensures decision { IfOk result (λ d. d ≡ decision_of state.now (ask_peer state.now peer.now)) }
-    ensures kept { IfOk result (λ d. CanKeep state.now d.change) }
+    ensures { Decides state.now (ask_peer state.now peer.now) result }
 {
     if !state.knows(peer) {
         return Ok(refusal(Verdict::UnknownPeer));
@@ -108,8 +106,7 @@ fn centre_asked(
     centre: &Ident,
     ultimate: &Ident,
 ) -> Result<Decision, NoMemory>
-    ensures decision { IfOk result (λ d. d ≡ accepting state.now (asked_edits state.now centre.now ultimate.now) (Some (Plain (centre_request state.now centre.now ultimate.now)))) }
-    ensures kept { IfOk result (λ d. CanKeep state.now d.change) }
+    ensures { AcceptsWith state.now (asked_edits state.now centre.now ultimate.now) (Some (Plain (centre_request state.now centre.now ultimate.now))) result }
 {
     let written = centre_text(alloc, state, centre, ultimate)?;
     let exchange = asked(centre, ultimate, written.text.copy(alloc)?);
@@ -118,15 +115,14 @@ fn centre_asked(
 }
 
 /// What a bank decides where a centre is asked for a key that is shared with an ultimate recipient.
-#[tactic(auto, using(role_base::proofs::ByRow::by_refused, role_base::proofs::ByRow::by_accepted))]
+#[tactic(auto, using(role_base::proofs::Kept::is_refused))]
 fn ask_centre(
     alloc: Global,
     state: &State,
     centre: &Ident,
     ultimate: &Ident,
 ) -> Result<Decision, NoMemory>
-    ensures decision { IfOk result (λ d. d ≡ decision_of state.now (ask_centre state.now centre.now ultimate.now)) }
-    ensures kept { IfOk result (λ d. CanKeep state.now d.change) }
+    ensures { Decides state.now (ask_centre state.now centre.now ultimate.now) result }
 {
     let verdict = centre_verdict(state, centre, ultimate);
     if is_accept(&verdict) {
@@ -144,8 +140,7 @@ pub(crate) fn ask(
     peer: &Ident,
     ultimate: &Option<Ident>,
 ) -> Result<Decision, NoMemory>
-    ensures decision { IfOk result (λ d. d ≡ decision_of state.now (ask_of state.now peer.now ultimate.now)) }
-    ensures kept { IfOk result (λ d. CanKeep state.now d.change) }
+    ensures { Decides state.now (ask_of state.now peer.now ultimate.now) result }
 {
     match ultimate {
         Some(ultimate) => ask_centre(alloc, state, peer, ultimate),

@@ -1,7 +1,5 @@
 // What an operator asks of a bank.
-ghost use Rattle.std.specs.Prelude.{◌≡◌, IfOk};
-ghost use Rattle.role_base.specs.Storable.{CanKeep};
-ghost use Rattle.role_base.specs.Deciding.{decision_of};
+ghost use Rattle.role_base.specs.Deciding.{Decides};
 ghost use Rattle.bank_orders.specs.Orders.{command_row};
 
 use crate::ask::ask;
@@ -23,8 +21,7 @@ pub fn command(
     command: &Command,
     moment: u64,
 ) -> Result<Decision, NoMemory>
-    ensures decision { IfOk result (λ d. d ≡ decision_of state.now (command_row state.now command.now moment)) }
-    ensures kept { IfOk result (λ d. CanKeep state.now d.change) }
+    ensures { Decides state.now (command_row state.now command.now moment) result }
 {
     match command {
         Command::Load {

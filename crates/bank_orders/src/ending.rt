@@ -1,10 +1,9 @@
 // Discontinuing a data key, and removing the records of ended keys.
 ghost use Rattle.std.specs.Prelude.{◌≡◌, ◌≤◌, length, IfOk, Some};
-ghost use Rattle.party_state.specs.Ranges.{longest_text};
+ghost use Rattle.party_tables.specs.Ranges.{longest_text};
 ghost use Rattle.role_base.specs.Replies.{IsWritten};
 ghost use Rattle.role_base.specs.Standing.{KeyStands};
-ghost use Rattle.role_base.specs.Storable.{CanKeep};
-ghost use Rattle.role_base.specs.Deciding.{decision_of, accepting};
+ghost use Rattle.role_base.specs.Deciding.{Decides, AcceptsWith};
 ghost use Rattle.bank_orders.specs.Ending.{can_end, end_tests, end_message, end_reply, ended_edits, end, purge};
 
 use csm_grammar::{Dsm, Message};
@@ -54,8 +53,7 @@ fn end_text(alloc: Global, state: &State, key: &KeyRec) -> Result<Written, NoMem
 /// The key is being closed, and the peer hears of it.
 fn end_key(alloc: Global, state: &State, key: &KeyRec) -> Result<Decision, NoMemory>
     requires { KeyStands state.now key.now }
-    ensures decision { IfOk result (λ d. d ≡ accepting state.now (ended_edits state.now key.now) (Some (end_reply state.now key.now))) }
-    ensures kept { IfOk result (λ d. CanKeep state.now d.change) }
+    ensures { AcceptsWith state.now (ended_edits state.now key.now) (Some (end_reply state.now key.now)) result }
 {
     let written = end_text(alloc, state, key)?;
     let exchange = Exchange {
@@ -72,15 +70,14 @@ fn end_key(alloc: Global, state: &State, key: &KeyRec) -> Result<Decision, NoMem
 }
 
 /// What a bank decides where a key that it shares with a peer is to end.
-#[tactic(auto, using(role_base::proofs::ByRow::by_refused, role_base::proofs::ByRow::by_accepted))]
+#[tactic(auto, using(role_base::proofs::Kept::is_refused))]
 pub(crate) fn end(
     alloc: Global,
     state: &State,
     peer: &Ident,
     name: &KeyName,
 ) -> Result<Decision, NoMemory>
-    ensures decision { IfOk result (λ d. d ≡ decision_of state.now (end state.now peer.now name.now)) }
-    ensures kept { IfOk result (λ d. CanKeep state.now d.change) }
+    ensures { Decides state.now (end state.now peer.now name.now) result }
 {
     // Tells that what is found has the key under which it was looked for.
     law_found();
@@ -98,10 +95,8 @@ pub(crate) fn end(
 }
 
 /// What a bank decides where the records of ended keys are to go.
-#[tactic(auto, using(role_base::proofs::ByRow::by_accepted))]
 pub(crate) fn purge(alloc: Global, state: &State) -> Result<Decision, NoMemory>
-    ensures decision { IfOk result (λ d. d ≡ decision_of state.now purge) }
-    ensures kept { IfOk result (λ d. CanKeep state.now d.change) }
+    ensures { Decides state.now purge result }
 {
     accept(alloc, state, list_of(alloc, [Edit::DropEnded])?, None)
 }

@@ -1,7 +1,6 @@
 // Giving an exchange up.
 ghost use Rattle.std.specs.Prelude.{◌≡◌, IfOk};
-ghost use Rattle.role_base.specs.Storable.{CanKeep};
-ghost use Rattle.role_base.specs.Deciding.{decision_of};
+ghost use Rattle.role_base.specs.Deciding.{Decides};
 ghost use Rattle.bank_orders.specs.GivingUp.{given_up, given_up_in, drop};
 
 use party_state::{Decision, Edit, Exchange, Kind, State, law_found};
@@ -43,14 +42,13 @@ fn given_up_in(
 }
 
 /// What a bank decides where the exchange with a peer is to be given up.
-#[tactic(auto, using(role_base::proofs::ByRow::by_refused, role_base::proofs::ByRow::by_accepted))]
+#[tactic(auto, using(role_base::proofs::Kept::is_refused))]
 pub(crate) fn drop_exchange(
     alloc: Global,
     state: &State,
     peer: &Ident,
 ) -> Result<Decision, NoMemory>
-    ensures decision { IfOk result (λ d. d ≡ decision_of state.now (drop state.now peer.now)) }
-    ensures kept { IfOk result (λ d. CanKeep state.now d.change) }
+    ensures { Decides state.now (drop state.now peer.now) result }
 {
     // Tells that what is found has the key under which it was looked for.
     law_found();

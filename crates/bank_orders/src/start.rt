@@ -1,8 +1,7 @@
 // Starting: a new data key for a peer.
-ghost use Rattle.std.specs.Prelude.{◌≡◌, IfOk, IfSome};
-ghost use Rattle.role_base.specs.Storable.{CanKeep};
+ghost use Rattle.std.specs.Prelude.{◌≡◌, IfSome};
 ghost use Rattle.role_base.specs.Standing.{LinkStands};
-ghost use Rattle.role_base.specs.Deciding.{decision_of};
+ghost use Rattle.role_base.specs.Deciding.{Decides};
 ghost use Rattle.bank_orders.specs.Start.{labelled_link, sending_link, start_tests, start};
 
 use party_state::{Decision, LinkRec, State};
@@ -49,7 +48,7 @@ pub(crate) fn start_tests(
 
 /// What a bank decides where a new data key is to be sent to a peer, under the link with that label
 /// or the first one.
-#[tactic(auto, using(role_base::proofs::ByRow::by_refused))]
+#[tactic(auto, using(role_base::proofs::Kept::is_refused))]
 pub(crate) fn start(
     alloc: Global,
     state: &State,
@@ -57,8 +56,7 @@ pub(crate) fn start(
     label: &Option<Label>,
     moment: u64,
 ) -> Result<Decision, NoMemory>
-    ensures decision { IfOk result (λ d. d ≡ decision_of state.now (start state.now peer.now label.now moment)) }
-    ensures kept { IfOk result (λ d. CanKeep state.now d.change) }
+    ensures { Decides state.now (start state.now peer.now label.now moment) result }
 {
     let found = sending_link(state, peer, label);
     let front = start_tests(state, peer, &found);

@@ -1,17 +1,16 @@
 // Starting with a new key-encrypting key, under the link in use, and a data key under it.
 ghost use Rattle.std.specs.Prelude.{◌≡◌, ◌+◌, ◌≤◌, true, length, IfOk, Some, [], ◌∷◌};
 ghost use Rattle.x_base.specs.Count.{IsCount};
-ghost use Rattle.party_state.specs.declared.key.KeyStatus.TheVariants.{Pending};
+ghost use Rattle.party_tables.specs.declared.key.KeyStatus.TheVariants.{Pending};
 ghost use Rattle.party_state.specs.declared.edit.Edit.TheVariants.{SetGen, PutLink, PutKey, PutExchange};
-ghost use Rattle.party_state.specs.Keys.{sends};
-ghost use Rattle.party_state.specs.Ranges.{longest_text};
+ghost use Rattle.party_tables.specs.Keys.{sends};
+ghost use Rattle.party_tables.specs.Ranges.{longest_text};
 ghost use Rattle.party_state.specs.Verdicts.{all_refuse};
 ghost use Rattle.role_base.specs.Conditions.{has_key_room, has_link_room};
-ghost use Rattle.role_base.specs.Deciding.{decision_of, accepting};
+ghost use Rattle.role_base.specs.Deciding.{Decides, AcceptsWith};
 ghost use Rattle.role_base.specs.Replies.{IsWritten};
 ghost use Rattle.role_base.specs.Sending.{next_name};
 ghost use Rattle.role_base.specs.Standing.{LinkStands};
-ghost use Rattle.role_base.specs.Storable.{CanKeep};
 ghost use Rattle.bank_orders.specs.Draws.{kk_drawn};
 ghost use Rattle.bank_orders.specs.StartKk.{sealed_kk, is_free, kk_tests, kk_message, kk_reply, fresh_link, kk_edits, kk_sending, start_kk};
 
@@ -185,8 +184,7 @@ fn send_kk(
     requires stands { LinkStands state.now link.now }
     requires place { has_link_room state.now (sends link.now.peer wanted.now.label) ≡ true }
     requires room { has_key_room state.now (record { peer = link.now.peer; name = next_name state.now link.now }) ≡ true }
-    ensures decision { IfOk result (λ d. d ≡ accepting state.now (kk_edits state.now link.now wanted.now.label wanted.now.single drawn.now) (Some (kk_reply state.now link.now wanted.now.label wanted.now.single drawn.now))) }
-    ensures kept { IfOk result (λ d. CanKeep state.now d.change) }
+    ensures { AcceptsWith state.now (kk_edits state.now link.now wanted.now.label wanted.now.single drawn.now) (Some (kk_reply state.now link.now wanted.now.label wanted.now.single drawn.now)) result }
 {
     let written = kk_text(alloc, state, link, count, wanted, drawn)?;
     let name = next_name(state, link, count);
@@ -217,8 +215,7 @@ fn kk_decided(
     requires at_next { count ≡ link.now.next }
     requires stands { LinkStands state.now link.now }
     requires refuse { all_refuse front.now ≡ true }
-    ensures decision { IfOk result (λ d. d ≡ decision_of state.now (kk_sending state.now front.now link.now wanted.now.label wanted.now.single drawn)) }
-    ensures kept { IfOk result (λ d. CanKeep state.now d.change) }
+    ensures { Decides state.now (kk_sending state.now front.now link.now wanted.now.label wanted.now.single drawn) result }
 {
     // Tells what an accepted verdict says of the tests.
     law_accept();
@@ -247,8 +244,7 @@ fn kk_under(
 ) -> Result<Decision, NoMemory>
     requires stands { LinkStands state.now link.now }
     requires refuse { all_refuse front.now ≡ true }
-    ensures decision { IfOk result (λ d. d ≡ decision_of state.now (kk_sending state.now front.now link.now wanted.now.label wanted.now.single (kk_drawn state.now.generator moment wanted.now.single))) }
-    ensures kept { IfOk result (λ d. CanKeep state.now d.change) }
+    ensures { Decides state.now (kk_sending state.now front.now link.now wanted.now.label wanted.now.single (kk_drawn state.now.generator moment wanted.now.single)) result }
 {
     match Count::of(link.next) {
         Some(count) => {
@@ -261,7 +257,7 @@ fn kk_under(
 
 /// What a bank decides where a new key-encrypting key is to be sent to a peer, under the link with
 /// that label or the first one, and a data key under it.
-#[tactic(auto, using(role_base::proofs::ByRow::by_refused))]
+#[tactic(auto, using(role_base::proofs::Kept::is_refused))]
 pub(crate) fn start_kk(
     alloc: Global,
     state: &State,
@@ -270,8 +266,7 @@ pub(crate) fn start_kk(
     wanted: &Wanted,
     moment: u64,
 ) -> Result<Decision, NoMemory>
-    ensures decision { IfOk result (λ d. d ≡ decision_of state.now (start_kk state.now peer.now label.now wanted.now.label wanted.now.single moment)) }
-    ensures kept { IfOk result (λ d. CanKeep state.now d.change) }
+    ensures { Decides state.now (start_kk state.now peer.now label.now wanted.now.label wanted.now.single moment) result }
 {
     let found = sending_link(state, peer, label);
     let front = start_tests(state, peer, &found);

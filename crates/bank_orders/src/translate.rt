@@ -2,12 +2,11 @@
 ghost use Rattle.std.specs.Prelude.{◌≡◌, ◌+◌, ◌≤◌, length, IfOk, Some, [], ◌∷◌};
 ghost use Rattle.x_base.specs.Count.{IsCount};
 ghost use Rattle.party_state.specs.declared.edit.Edit.TheVariants.{SetGen, PutLink, PutExchange};
-ghost use Rattle.party_state.specs.Ranges.{longest_text};
+ghost use Rattle.party_tables.specs.Ranges.{longest_text};
 ghost use Rattle.party_state.specs.State.{Party};
-ghost use Rattle.role_base.specs.Deciding.{decision_of, accepting};
+ghost use Rattle.role_base.specs.Deciding.{Decides, AcceptsWith};
 ghost use Rattle.role_base.specs.Replies.{IsWritten};
 ghost use Rattle.role_base.specs.Standing.{LinkStands};
-ghost use Rattle.role_base.specs.Storable.{CanKeep};
 ghost use Rattle.x_gen.specs.Gen.{good_draw};
 ghost use Rattle.bank_orders.specs.Translate.{translate_tests, translate_message, translate_reply, translate_edits, translate_drawn, translate};
 
@@ -101,8 +100,7 @@ fn send_for_translation(
 ) -> Result<Decision, NoMemory>
     requires at_next { count ≡ link.now.next }
     requires stands { LinkStands state.now link.now }
-    ensures decision { IfOk result (λ d. d ≡ accepting state.now (translate_edits state.now centre.now ultimate.now link.now drawn.now.0 drawn.now.1.v) (Some (translate_reply state.now centre.now ultimate.now link.now drawn.now.0))) }
-    ensures kept { IfOk result (λ d. CanKeep state.now d.change) }
+    ensures { AcceptsWith state.now (translate_edits state.now centre.now ultimate.now link.now drawn.now.0 drawn.now.1.v) (Some (translate_reply state.now centre.now ultimate.now link.now drawn.now.0)) result }
 {
     let written = translate_text(alloc, state, centre, ultimate, link, count, drawn.0)?;
     let exchange = Exchange {
@@ -130,8 +128,7 @@ fn translate_drawn(
 ) -> Result<Decision, NoMemory>
     requires at_next { count ≡ link.now.next }
     requires stands { LinkStands state.now link.now }
-    ensures decision { IfOk result (λ d. d ≡ decision_of state.now (translate_drawn state.now centre.now ultimate.now link.now drawn)) }
-    ensures kept { IfOk result (λ d. CanKeep state.now d.change) }
+    ensures { Decides state.now (translate_drawn state.now centre.now ultimate.now link.now drawn) result }
 {
     let front = centre_front(state, centre, ultimate);
     let verdict = verdict_after(&front, &translate_tests(link, &drawn));
@@ -157,8 +154,7 @@ fn translate_under(
     moment: u64,
 ) -> Result<Decision, NoMemory>
     requires { LinkStands state.now link.now }
-    ensures decision { IfOk result (λ d. d ≡ decision_of state.now (translate_drawn state.now centre.now ultimate.now link.now (good_draw state.now.generator moment))) }
-    ensures kept { IfOk result (λ d. CanKeep state.now d.change) }
+    ensures { Decides state.now (translate_drawn state.now centre.now ultimate.now link.now (good_draw state.now.generator moment)) result }
 {
     match Count::of(link.next) {
         Some(count) => {
@@ -174,7 +170,7 @@ fn translate_under(
 
 /// What a bank decides where a translation centre is asked to pass a new key on to an ultimate
 /// recipient.
-#[tactic(auto, using(role_base::proofs::ByRow::by_refused))]
+#[tactic(auto, using(role_base::proofs::Kept::is_refused))]
 pub(crate) fn translate(
     alloc: Global,
     state: &State,
@@ -182,8 +178,7 @@ pub(crate) fn translate(
     ultimate: &Ident,
     moment: u64,
 ) -> Result<Decision, NoMemory>
-    ensures decision { IfOk result (λ d. d ≡ decision_of state.now (translate state.now centre.now ultimate.now moment)) }
-    ensures kept { IfOk result (λ d. CanKeep state.now d.change) }
+    ensures { Decides state.now (translate state.now centre.now ultimate.now moment) result }
 {
     match link_with(state, centre, &centre_label(), Side::Sends) {
         Some(link) => translate_under(alloc, state, centre, ultimate, &link, moment),

@@ -12,8 +12,8 @@ use Rattle.csm_grammar.specs.declared.arrival.Arrival.{Arrival}
 use Rattle.party_state.specs.declared.command.Command.{Command}
 use Rattle.party_state.specs.declared.command.Input.{Input}
 use Rattle.party_state.specs.declared.command.Input.TheVariants as input
-use Rattle.party_state.specs.Keys.{link_key, same_link}
-use Rattle.party_state.specs.Tables.{Distinct}
+use Rattle.party_tables.specs.Keys.{link_key, same_link}
+use Rattle.party_tables.specs.Tables.{Distinct}
 use Rattle.party_state.specs.State.{Party}
 use Rattle.party_state.specs.Verdicts.{is_accept}
 use Rattle.role_base.specs.Differing.{AreApart}

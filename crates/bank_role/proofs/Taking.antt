@@ -1,6 +1,5 @@
 -- A key that comes is accepted exactly where it can be taken, and a centre's answer where its key can go on.
-use Rattle.std.proofs.Common.{◌≡◌, ℕ, Result, Ok, Err, IfOk, ap, ◌∙◌}
-use Rattle.x_base.specs.declared.text.NoMemory.{NoMemory}
+use Rattle.std.proofs.Common.{◌≡◌, ℕ, ap, ◌∙◌}
 use Rattle.csm_grammar.specs.declared.message.Message.{Message}
 use Rattle.csm_grammar.specs.declared.message.Message.TheVariants as message
 use Rattle.csm_grammar.specs.declared.message.Ksm.{Ksm}
@@ -8,7 +7,6 @@ use Rattle.csm_grammar.specs.declared.message.Rtr.{Rtr}
 use Rattle.csm_grammar.specs.declared.arrival.Arrival.{Arrival}
 use Rattle.party_state.specs.declared.command.Input.{Input}
 use Rattle.party_state.specs.declared.command.Input.TheVariants as input
-use Rattle.party_state.specs.declared.decision.Decision.{Decision}
 use Rattle.party_state.specs.State.{Party}
 use Rattle.role_base.specs.Deciding.{decision_of}
 use Rattle.bank_keys.specs.Ksm.{key_arrives}
@@ -45,7 +43,3 @@ passes keys p (input.Arrived a) moment = λ b m brought.
     let row : message_row p a a.parsed.message moment ≡ rtr p a m = ap (λ (n : Message). message_row p a n moment) is in
     rw row (keys p a m is b m brought)
 passes keys p (input.Ordered c) moment = λ a m brought. absurd (cc (brought.arrived))
-
-pub takes_keys : ((p : Party) (i : Input) (moment : ℕ) → TakesKeys p i (decided p i moment)) → (p : Party) (i : Input) (moment : ℕ) (made : Result Decision NoMemory) → IfOk made (λ d. d ≡ decided p i moment) → IfOk made (λ d. TakesKeys p i d)
-takes_keys law p i moment (Ok d) e = rw e (law p i moment)
-takes_keys law p i moment (Err f) e = tt

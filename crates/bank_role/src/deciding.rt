@@ -1,72 +1,44 @@
-ghost use Rattle.std.specs.Prelude.{◌≡◌, IfOk};
-ghost use Rattle.x_base.specs.declared.party.Role.TheVariants.{Bank};
-ghost use Rattle.party_state.specs.declared.command.Input.TheVariants.{Arrived};
-ghost use Rattle.role_base.specs.Storable.{CanKeep};
-ghost use Rattle.bank_keys.specs.Taking.{TakesKeys};
+// What a bank decides: of a command, or of a message that arrives, by its class.
+ghost use Rattle.std.specs.Prelude.{◌≡◌};
+ghost use Rattle.role_base.specs.Deciding.{Decides};
+ghost use Rattle.role_base.specs.Leads.{of_arrival};
 ghost use Rattle.bank_role.specs.Leads.{lead_of};
-ghost use Rattle.bank_role.specs.Deciding.{decided};
+ghost use Rattle.bank_role.specs.Rows.{row_of};
 
-use crate::arrivals::arrived;
-use crate::laws::law_taking;
-use crate::leading::lead;
+use bank_arrivals::{dsm, esm, rsi, rsm};
+use bank_keys::{ksm, rtr};
 use bank_orders::command;
-use csm_grammar::Arrival;
+use csm_grammar::Message;
 use party_state::{Decision, Input, Lead, State};
+use role_base::other_class;
 use std::alloc::Global;
 use x_base::NoMemory;
 
-/// What a bank decides of a message that arrives, where its caller has asked for the key under
-/// which the code is tested: so the code is tested once.
-///
-/// The change has the edits that make a difference. The only error is want of memory.
-pub fn decide_led(
-    alloc: Global,
-    state: &State,
-    arrival: &Arrival,
-    lead: &Option<Lead>,
-    moment: u64,
-) -> Result<Decision, NoMemory>
-    requires bank { state.now.role ≡ Bank }
-    requires lead { lead.now ≡ lead_of state.now arrival.now }
-    ensures decision { IfOk result (λ d. d ≡ decided state.now (Arrived arrival.now) moment) }
-    ensures kept { IfOk result (λ d. CanKeep state.now d.change) }
-    ensures complete { IfOk result (λ d. TakesKeys state.now (Arrived arrival.now) d) }
-{
-    // Tells which keys are taken.
-    law_taking();
-    arrived(alloc, state, arrival, lead, moment)
-}
-
-fn decided(alloc: Global, state: &State, input: &Input, moment: u64) -> Result<Decision, NoMemory>
-    requires { state.now.role ≡ Bank }
-    ensures decision { IfOk result (λ d. d ≡ decided state.now input.now moment) }
-    ensures kept { IfOk result (λ d. CanKeep state.now d.change) }
-{
-    match input {
-        Input::Ordered(order) => command(alloc, state, order, moment),
-        Input::Arrived(arrival) => {
-            let tested = lead(state, arrival);
-            decide_led(alloc, state, arrival, &tested, moment)
-        }
-    }
-}
-
-/// What a bank decides of a command or of a message that arrives, at a moment (ANSI X9.17; the
-/// order of the tests is this project's profile).
+/// What a bank decides of a command or of a message that arrives, at a moment, with the key under
+/// which the message's code is tested (ANSI X9.17; the order of the tests is this project's profile).
 ///
 /// The change has the edits that make a difference. The only error is want of memory.
 pub fn decide(
     alloc: Global,
     state: &State,
     input: &Input,
+    lead: &Option<Lead>,
     moment: u64,
 ) -> Result<Decision, NoMemory>
-    requires { state.now.role ≡ Bank }
-    ensures decision { IfOk result (λ d. d ≡ decided state.now input.now moment) }
-    ensures kept { IfOk result (λ d. CanKeep state.now d.change) }
-    ensures complete { IfOk result (λ d. TakesKeys state.now input.now d) }
+    requires { lead.now ≡ of_arrival (lead_of state.now) input.now }
+    ensures { Decides state.now (row_of state.now input.now moment) result }
 {
-    // Tells which keys are taken.
-    law_taking();
-    decided(alloc, state, input, moment)
+    match input {
+        Input::Ordered(order) => command(alloc, state, order, moment),
+        Input::Arrived(arrival) => match &arrival.parsed.message {
+            Message::Rsi(message) => rsi(alloc, state, arrival, message, moment),
+            Message::Rfs(m) => Ok(other_class(state, &m.receiver, &m.originator, &m.originator)),
+            Message::Rtr(message) => rtr(alloc, state, arrival, message, lead),
+            Message::Ksm(message) => ksm(alloc, state, arrival, message, lead),
+            Message::Rsm(message) => rsm(alloc, state, arrival, message, lead),
+            Message::Ers(m) => Ok(other_class(state, &m.receiver, &m.originator, &m.originator)),
+            Message::Esm(message) => esm(alloc, state, arrival, message, lead),
+            Message::Dsm(message) => dsm(alloc, state, arrival, message, lead),
+        },
+    }
 }

@@ -4,8 +4,8 @@ ghost use Rattle.csm_grammar.specs.declared.arrival.Arrival.{Arrival as TheArriv
 ghost use Rattle.party_state.specs.declared.command.Input.TheVariants.{Arrived};
 ghost use Rattle.party_state.specs.declared.edit.Edit.{Edit as TheEdit};
 ghost use Rattle.party_state.specs.declared.command.Input.{Input as TheInput};
-ghost use Rattle.party_state.specs.Keys.{link_key, same_link};
-ghost use Rattle.party_state.specs.Tables.{Distinct};
+ghost use Rattle.party_tables.specs.Keys.{link_key, same_link};
+ghost use Rattle.party_tables.specs.Tables.{Distinct};
 ghost use Rattle.party_state.specs.State.{Party, apply_edit, apply};
 ghost use Rattle.party_state.specs.Verdicts.{is_accept};
 ghost use Rattle.role_base.specs.Texts.{is_plain};

@@ -1,12 +1,11 @@
 //! What a bank decides (ANSI X9.17): of commands, and of service messages that arrive.
 #![tactic(auto)]
 
-mod arrivals;
 mod deciding;
 mod laws;
 mod leading;
 
-pub use deciding::{decide, decide_led};
+pub use deciding::decide;
 pub use laws::{law_differing, law_lead, law_passing, law_taking};
 pub use leading::lead;
 

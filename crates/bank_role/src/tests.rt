@@ -1,12 +1,12 @@
 // What banks decide, step by step, against the texts that other programs write.
-ghost use Rattle.party_state.specs.Ranges.{IsNextCount};
-ghost use Rattle.role_base.specs.Storable.{CanKeep};
+ghost use Rattle.party_tables.specs.Ranges.{IsNextCount};
+ghost use Rattle.role_base.specs.Storable.{IsStorable};
 
-use crate::decide;
+use crate::{decide, lead};
 use csm_grammar::Arrival;
+use party_show::show_text;
 use party_state::{
-    Change, Command, Decision, Edit, Input, LinkRec, Role, Side, State, apply, first_state,
-    show_text,
+    Command, Decision, Edit, Edits, Input, LinkRec, Role, Side, State, apply, first_state,
 };
 use std::alloc::Global;
 use x_base::{Ident, KeyName, Label, Text};
@@ -186,7 +186,7 @@ fn input_of(alloc: Global, peer: Ident, act: Act) -> Option<Input> {
             name: KeyName::read(name.as_bytes()).ok()?,
         },
         Act::Take(text) => {
-            let arrival = Arrival::read(alloc, text.as_bytes()).ok()?;
+            let arrival = read_arrival(alloc, text.as_bytes()).ok()?;
             return Some(Input::Arrived(arrival));
         }
     };
@@ -201,11 +201,11 @@ fn writes(reply: &Option<Text>, text: &str) -> bool {
     }
 }
 
-/// The state after a change, if there is one.
-fn changed(alloc: Global, state: State, change: Option<Change>) -> Option<State>
-    requires { CanKeep state change }
+/// The state after the edits of a decision.
+fn changed(alloc: Global, state: State, edits: Edits) -> Option<State>
+    requires { IsStorable state edits }
 {
-    match change {
+    match edits.into_change() {
         Some(change) => apply(alloc, &state, &change).ok(),
         None => Some(state),
     }
@@ -224,12 +224,13 @@ fn step(
     if state.role() != Role::Bank {
         return None;
     }
+    let found = lead(&state, input);
     let Decision {
         change,
         reply,
         verdict,
         ..
-    } = decide(alloc, &state, input, moment).ok()?;
+    } = decide(alloc, &state, input, &found, moment).ok()?;
     if verdict.number() != number || !writes(&reply, text) {
         return None;
     }

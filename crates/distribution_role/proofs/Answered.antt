@@ -1,25 +1,27 @@
 -- What is decided behind the tests that come before, with what is drawn.
-use Rattle.std.proofs.Common.{◌≡◌, ℕ, Bool, true, false, ◌&&◌, is_some, Result, Option, Some, None, IfOk, List, [], ◌∷◌, ◌++◌, refl, sym, ap, ◌∙◌}
-use Rattle.std.proofs.lemmas.Bool.{and_parts, and_from}
+use Rattle.std.proofs.Common.{◌≡◌, ℕ, Bool, true, false, cond, ◌&&◌, is_some, Result, Option, Some, None, IfOk, List, [], ◌∷◌, ◌++◌, refl, ap, ◌∙◌}
 use Rattle.x_base.specs.declared.text.NoMemory.{NoMemory}
 use Rattle.x_base.specs.declared.verdict.Verdict.{Verdict}
 use Rattle.x_base.specs.declared.verdict.Verdict.TheVariants.{BadMac, CountSpent, WeakDraws}
 use Rattle.x_gen.specs.declared.generator.Gen.{Gen}
+use Rattle.x_gen.specs.Gen.{good_draw}
 use Rattle.csm_grammar.specs.declared.arrival.Arrival.{Arrival}
 use Rattle.csm_grammar.specs.declared.message.Rsi.{Rsi}
 use Rattle.csm_grammar.specs.declared.message.Ers.{Ers}
+use Rattle.party_tables.specs.declared.answer.Answer.{Answer}
 use Rattle.party_state.specs.declared.decision.Decision.{Decision}
-use Rattle.party_state.specs.declared.link.LinkRec.{LinkRec}
-use Rattle.party_state.specs.State.{Party}
-use Rattle.party_state.specs.Verdicts.{Test, verdict_of, is_accept, passes, Held}
-use Rattle.party_state.proofs.Verdicts.{held_passes}
+use Rattle.party_tables.specs.declared.link.LinkRec.{LinkRec}
+use Rattle.party_tables.specs.Keys.{sends}
+use Rattle.party_state.specs.State.{Party, centre_label, link_with, answer_with}
+use Rattle.party_state.specs.Verdicts.{Test, verdict_of, is_accept, passes}
 use Rattle.role_base.specs.Conditions.{has_count}
+use Rattle.role_base.specs.Texts.{lead_under}
 use Rattle.role_base.specs.Deciding.{decision_of, refusal_of, accepting}
 use Rattle.role_base.proofs.ByRow.{by_refused}
 use Rattle.role_base.proofs.Decided.{refuses, decides_row}
-use Rattle.distribution_role.specs.Answering.{answer_edits, answer_reply, answering}
-use Rattle.distribution_role.specs.Requests.{rsi_tests}
-use Rattle.distribution_role.specs.Recovery.{ers_front}
+use Rattle.distribution_role.specs.Answering.{answer_under, answer_edits, answer_reply, answering}
+use Rattle.distribution_role.specs.Requests.{rsi_between, rsi}
+use Rattle.distribution_role.specs.Recovery.{ers_front, ers_between, ers, ers_lead}
 
 pub drawn_refused : (p : Party) (r u : List ℕ) (ts : List Test) (a b : LinkRec) (o : Option (ℕ × Gen)) (v : Verdict) → v ≡ verdict_of (ts ++ (is_some o, WeakDraws) ∷ []) → is_accept v ≡ false → refusal_of v ≡ decision_of p (answering p r u ts a b o)
 drawn_refused p r u ts a b None v e f = ap refusal_of e ∙ by_refused p (verdict_of (ts ++ (false, WeakDraws) ∷ []))
@@ -49,15 +51,24 @@ not_answered p r u ts a b (Some d) = refl
 
 -- tests that hold say that both counts are left
 
-pub rsi_counted : (p : Party) (a : Arrival) (m : Rsi) (u : List ℕ) (l b : LinkRec) (ts : List Test) → ts ≡ rsi_tests p a m u l b → passes ts ≡ true → (has_count l && has_count b) ≡ true
-rsi_counted p a m u l b ts e h = let k : Held (rsi_tests p a m u l b) = held_passes (rsi_tests p a m u l b) (ap passes (sym e) ∙ h) in k.1.1.1.1.1.0
-
 -- the tests of a request that comes again, the code being tested
 abbrev pub tested : Party → Ers → Bool → LinkRec → LinkRec → List Test
 tested p m v l b = ers_front p m true true ++ (v, BadMac) ∷ (has_count l && has_count b, CountSpent) ∷ []
 
-pub ers_counted : (p : Party) (m : Ers) (v : Bool) (l b x : LinkRec) (ts : List Test) → ts ≡ tested p m v l b → (has_count b ≡ true → has_count x ≡ true) → passes ts ≡ true → (has_count l && has_count x) ≡ true
-ers_counted p m v l b x ts e on h =
-    let k : Held (tested p m v l b) = held_passes (tested p m v l b) (ap passes (sym e) ∙ h) in
-    let left : (has_count l ≡ true) × (has_count b ≡ true) = and_parts (has_count l) (has_count b) k.1.1.1.1.1.1.0 in
-    and_from (has_count l) (has_count x) left.0 (on left.1)
+-- what was found, in the words of the row and of the key to test the code under
+
+pub kept_found : (o : Option Answer) → is_some o ≡ true → (x : Answer) × (o ≡ Some x)
+kept_found None h = absurd (cc)
+kept_found (Some x) h = (x, refl)
+
+pub rsi_is : (p : Party) (a : Arrival) (m : Rsi) (u : List ℕ) (l b : LinkRec) (moment : ℕ) → m.ultimate ≡ Some u → link_with (sends m.originator centre_label) p ≡ Some l → link_with (sends u centre_label) p ≡ Some b
+    → rsi_between p a m u (Some l) (Some b) (good_draw p.generator moment) ≡ rsi p a m moment
+rsi_is p a m u l b moment k f g = rw (k, f, g) refl
+
+pub ers_is : (p : Party) (a : Arrival) (m : Ers) (x : Answer) (l b : LinkRec) (moment : ℕ) → answer_with (record { requester = m.originator; ultimate = m.ultimate }) p ≡ Some x → link_with (sends m.originator centre_label) p ≡ Some l → link_with (sends m.ultimate centre_label) p ≡ Some b
+    → ers_between p a m (Some x) (Some l) (Some b) (good_draw p.generator moment) ≡ ers p a m moment
+ers_is p a m x l b moment k f g = rw (k, f, g) refl
+
+pub ers_lead_is : (p : Party) (a : Arrival) (m : Ers) (x : Answer) (l b : LinkRec) → answer_with (record { requester = m.originator; ultimate = m.ultimate }) p ≡ Some x → link_with (sends m.originator centre_label) p ≡ Some l → link_with (sends m.ultimate centre_label) p ≡ Some b
+    → ers_lead p a m ≡ cond (passes (ers_front p m true true)) (Some (lead_under a (answer_under p m.originator x.cta) x.value)) None
+ers_lead_is p a m x l b k f g = rw (k, f, g) refl

@@ -10,21 +10,21 @@ use Rattle.csm_grammar.specs.declared.message.Message.{Message}
 use Rattle.csm_grammar.specs.declared.message.Message.TheVariants as message
 use Rattle.csm_grammar.specs.declared.message.Rsi.{Rsi}
 use Rattle.csm_grammar.specs.declared.message.Ers.{Ers}
-use Rattle.party_state.specs.declared.answer.Answer.{Answer}
+use Rattle.party_tables.specs.declared.answer.Answer.{Answer}
 use Rattle.party_state.specs.declared.command.Command.{Command}
 use Rattle.party_state.specs.declared.command.Input.{Input}
 use Rattle.party_state.specs.declared.command.Input.TheVariants as input
 use Rattle.party_state.specs.declared.edit.Edit.TheVariants.{PutLink, SetGen}
-use Rattle.party_state.specs.declared.link.LinkKey.{LinkKey}
-use Rattle.party_state.specs.declared.link.LinkRec.{LinkRec}
-use Rattle.party_state.specs.Keys.{same_link, link_key, sends}
+use Rattle.party_tables.specs.declared.link.LinkKey.{LinkKey}
+use Rattle.party_tables.specs.declared.link.LinkRec.{LinkRec}
+use Rattle.party_tables.specs.Keys.{same_link, link_key, sends}
 use Rattle.party_state.specs.State.{Party, apply_edit, centre_label, link_with, answer_with}
 use Rattle.party_state.specs.Verdicts.{Test, is_accept, all_refuse, Held}
 use Rattle.role_base.specs.Conditions.{is_data_key}
 use Rattle.role_base.specs.Differing.{has_link, AreApart}
 use Rattle.role_base.proofs.Addressed.{others}
 use Rattle.role_base.proofs.PartyLaws.{HeldIfAccepted, LinkLaws, put_other}
-use Rattle.centre_base.specs.Orders.{centre_command}
+use Rattle.role_base.specs.Centres.{centre_command}
 use Rattle.distribution_role.specs.Answering.{answering}
 use Rattle.distribution_role.specs.Requests.{rsi_tests, rsi_between, rsi_for}
 use Rattle.distribution_role.specs.Recovery.{at_least, ers_tests, ers_between}

@@ -3,40 +3,34 @@ use Rattle.std.proofs.Common.{arith, ◌≡◌, ℕ, ◌+◌, max, true, false, 
 use Rattle.std.proofs.lemmas.Bool.{and_parts}
 use Rattle.x_base.specs.Count.{IsCount}
 use Rattle.x_base.specs.declared.text.NoMemory.{NoMemory}
-use Rattle.x_base.specs.declared.verdict.Verdict.{Verdict}
 use Rattle.x_base.specs.declared.verdict.Verdict.TheVariants.{WeakDraws}
 use Rattle.x_gen.specs.declared.generator.Gen.{Gen}
-use Rattle.x_gen.specs.Gen.{good_draw}
 use Rattle.csm_grammar.specs.declared.arrival.Arrival.{Arrival}
 use Rattle.csm_grammar.specs.declared.message.Rsi.{Rsi}
 use Rattle.csm_grammar.specs.declared.message.Ers.{Ers}
-use Rattle.party_state.specs.declared.answer.Answer.{Answer}
+use Rattle.party_tables.specs.declared.answer.Answer.{Answer}
 use Rattle.party_state.specs.declared.decision.Decision.{Decision}
-use Rattle.party_state.specs.declared.link.LinkRec.{LinkRec}
-use Rattle.party_state.specs.Keys.{link_key, sends}
-use Rattle.party_state.specs.Ranges.{IsNextCount, IsParty}
-use Rattle.party_state.specs.State.{Party, centre_label, link_with, answer_with}
+use Rattle.party_tables.specs.declared.link.LinkRec.{LinkRec}
+use Rattle.party_tables.specs.Keys.{link_key}
+use Rattle.party_tables.specs.Ranges.{IsNextCount}
+use Rattle.party_state.specs.State.{Party, link_with}
 use Rattle.party_state.specs.Verdicts.{Test, verdict_of, is_accept, all_refuse, Held}
 use Rattle.party_state.specs.Rows.{refused}
 use Rattle.role_base.specs.Conditions.{has_count}
-use Rattle.role_base.specs.Deciding.{change_of, decision_of}
+use Rattle.role_base.specs.Deciding.{change_of, decision_of, Decides}
 use Rattle.role_base.specs.Standing.{LinkStands}
-use Rattle.role_base.specs.Storable.{CanKeep, can_put_link, AreKeepable}
+use Rattle.role_base.specs.Storable.{IsStorable, can_put_link, AreKeepable}
 use Rattle.role_base.proofs.Counted.{left_is_count, next_on}
-use Rattle.role_base.proofs.Found.{found_stands}
 use Rattle.role_base.proofs.Kept.{row_kept, made_kept}
-use Rattle.role_base.proofs.PartyLaws.{HeldIfAccepted, LinksFound, LinksInRange}
+use Rattle.role_base.proofs.PartyLaws.{HeldIfAccepted}
 use Rattle.distribution_role.specs.Answering.{answer_edits, answering}
-use Rattle.distribution_role.specs.Requests.{rsi_tests, rsi_between, rsi_for, rsi}
-use Rattle.distribution_role.specs.Recovery.{at_least, ers_tests, ers_between, ers}
-
-refused_kept : (p : Party) (v : Verdict) → CanKeep p (change_of p (refused v))
-refused_kept p v = row_kept p (refused v) (λ _. record { each = tt; order = refl }) (lit≤ tt)
+use Rattle.distribution_role.specs.Requests.{rsi_tests, rsi_between}
+use Rattle.distribution_role.specs.Recovery.{at_least, ers_tests, ers_between}
 
 -- behind tests that say that both next counts can go on, under links that stand
 answering_kept : HeldIfAccepted → (p : Party) (r u : List ℕ) (ts : List Test) (a b x y : LinkRec) (o : Option (ℕ × Gen)) → all_refuse (ts ++ (true, WeakDraws) ∷ []) ≡ true → (Held (ts ++ (true, WeakDraws) ∷ []) → IsNextCount (a.next + 1) × IsNextCount (b.next + 1))
-    → link_with (link_key a) p ≡ Some x → link_with (link_key b) p ≡ Some y → CanKeep p (change_of p (answering p r u ts a b o))
-answering_kept held p r u ts a b x y None f n s t = refused_kept p (verdict_of (ts ++ (false, WeakDraws) ∷ []))
+    → link_with (link_key a) p ≡ Some x → link_with (link_key b) p ≡ Some y → IsStorable p (change_of p (answering p r u ts a b o))
+answering_kept held p r u ts a b x y None f n s t = row_kept p (refused (verdict_of (ts ++ (false, WeakDraws) ∷ []))) (λ _. record { each = tt; order = refl }) (lit≤ tt)
 answering_kept held p r u ts a b x y (Some d) f n s t = row_kept p (answering p r u ts a b (Some d)) keepable (lit≤ tt)
   where
     room : (l z : LinkRec) → link_with (link_key l) p ≡ Some z → can_put_link p (link_key l) ≡ true
@@ -50,34 +44,15 @@ answering_kept held p r u ts a b x y (Some d) f n s t = row_kept p (answering p 
 larger : (n m : ℕ) → IsCount n → IsCount m → IsCount (max n m)
 larger n m c d = let low = c.low in let high = c.high in let most = d.high in record { low = omega (arith, low); high = omega (arith, high, most) }
 
-pub rsi_kept : HeldIfAccepted → LinksFound → LinksInRange → (p : Party) (a : Arrival) (m : Rsi) (moment : ℕ) (made : Result Decision NoMemory) → IsParty p → IfOk made (λ d. d ≡ decision_of p (rsi p a m moment)) → IfOk made (λ d. CanKeep p d.change)
-rsi_kept held links in_range p a m moment made w e = made_kept p (rsi p a m moment) made (by_ultimate m.ultimate) e
-  where
-    by_links : (u : List ℕ) (o q : Option LinkRec) → link_with (sends m.originator centre_label) p ≡ o → link_with (sends u centre_label) p ≡ q → CanKeep p (change_of p (rsi_between p a m u o q (good_draw p.generator moment)))
-    by_links u None q f g = refused_kept p _
-    by_links u (Some l) None f g = refused_kept p _
-    by_links u (Some l) (Some b) f g =
-        let s : LinkStands p l = found_stands links in_range p (sends m.originator centre_label) l w f in
-        let t : LinkStands p b = found_stands links in_range p (sends u centre_label) b w g in
-        answering_kept held p m.originator u (rsi_tests p a m u l b) l b l b (good_draw p.generator moment) refl
-        (λ h. let left : (has_count l ≡ true) × (has_count b ≡ true) = and_parts (has_count l) (has_count b) h.1.1.1.1.1.0 in (next_on l.next _ (left_is_count l s.range.next left.0) refl, next_on b.next _ (left_is_count b t.range.next left.1) refl))
-        s.found t.found
+pub rsi_kept : HeldIfAccepted → (p : Party) (a : Arrival) (m : Rsi) (u : List ℕ) (l b : LinkRec) (o : Option (ℕ × Gen)) (made : Result Decision NoMemory) → LinkStands p l → LinkStands p b → IfOk made (λ d. d ≡ decision_of p (rsi_between p a m u (Some l) (Some b) o)) → Decides p (rsi_between p a m u (Some l) (Some b) o) made
+rsi_kept held p a m u l b o made s t e =
+    made_kept p (rsi_between p a m u (Some l) (Some b) o) made (answering_kept held p m.originator u (rsi_tests p a m u l b) l b l b o refl
+    (λ h. let left : (has_count l ≡ true) × (has_count b ≡ true) = and_parts (has_count l) (has_count b) h.1.1.1.1.1.0 in (next_on l.next _ (left_is_count l s.range.next left.0) refl, next_on b.next _ (left_is_count b t.range.next left.1) refl))
+    s.found t.found) e
 
-    by_ultimate : (u : Option (List ℕ)) → CanKeep p (change_of p (rsi_for p a m u moment))
-    by_ultimate None = refused_kept p _
-    by_ultimate (Some u) = by_links u (link_with (sends m.originator centre_label) p) (link_with (sends u centre_label) p) refl refl
-
-pub ers_kept : HeldIfAccepted → LinksFound → LinksInRange → (p : Party) (a : Arrival) (m : Ers) (moment : ℕ) (made : Result Decision NoMemory) → IsParty p → IsCount m.ctr → IfOk made (λ d. d ≡ decision_of p (ers p a m moment)) → IfOk made (λ d. CanKeep p d.change)
-ers_kept held links in_range p a m moment made w i e = made_kept p (ers p a m moment) made (by_links (answer_with (record { requester = m.originator; ultimate = m.ultimate }) p) (link_with (sends m.originator centre_label) p) (link_with (sends m.ultimate centre_label) p) refl refl) e
-  where
-    by_links : (t : Option Answer) (o q : Option LinkRec) → link_with (sends m.originator centre_label) p ≡ o → link_with (sends m.ultimate centre_label) p ≡ q → CanKeep p (change_of p (ers_between p a m t o q (good_draw p.generator moment)))
-    by_links None o q f g = refused_kept p _
-    by_links (Some x) None q f g = refused_kept p _
-    by_links (Some x) (Some l) None f g = refused_kept p _
-    by_links (Some x) (Some l) (Some b) f g =
-        let s : LinkStands p l = found_stands links in_range p (sends m.originator centre_label) l w f in
-        let t : LinkStands p b = found_stands links in_range p (sends m.ultimate centre_label) b w g in
-        answering_kept held p m.originator m.ultimate (ers_tests p a m x l b) l (at_least b m.ctr) l b (good_draw p.generator moment) refl
-        (λ h. let left : (has_count l ≡ true) × (has_count b ≡ true) = and_parts (has_count l) (has_count b) h.1.1.1.1.1.1.0 in
-        (next_on l.next _ (left_is_count l s.range.next left.0) refl, next_on (max b.next m.ctr) _ (larger b.next m.ctr (left_is_count b t.range.next left.1) i) refl))
-        s.found t.found
+pub ers_kept : HeldIfAccepted → (p : Party) (a : Arrival) (m : Ers) (x : Answer) (l b : LinkRec) (o : Option (ℕ × Gen)) (made : Result Decision NoMemory) → LinkStands p l → LinkStands p b → IsCount m.ctr → IfOk made (λ d. d ≡ decision_of p (ers_between p a m (Some x) (Some l) (Some b) o)) → Decides p (ers_between p a m (Some x) (Some l) (Some b) o) made
+ers_kept held p a m x l b o made s t i e =
+    made_kept p (ers_between p a m (Some x) (Some l) (Some b) o) made (answering_kept held p m.originator m.ultimate (ers_tests p a m x l b) l (at_least b m.ctr) l b o refl
+    (λ h. let left : (has_count l ≡ true) × (has_count b ≡ true) = and_parts (has_count l) (has_count b) h.1.1.1.1.1.1.0 in
+    (next_on l.next _ (left_is_count l s.range.next left.0) refl, next_on (max b.next m.ctr) _ (larger b.next m.ctr (left_is_count b t.range.next left.1) i) refl))
+    s.found t.found) e

@@ -17,9 +17,9 @@ use Rattle.csm_grammar.specs.declared.form.Form.TheVariants.{F1, F10}
 use Rattle.csm_grammar.specs.Classes.{allows}
 use Rattle.csm_grammar.specs.Arrivals.{AllArrived}
 use Rattle.csm_grammar.specs.Messages.{form_of, shut_field}
-use Rattle.party_state.specs.declared.answer.Answer.{Answer}
-use Rattle.party_state.specs.declared.link.LinkRec.{LinkRec}
-use Rattle.party_state.specs.Keys.{sends}
+use Rattle.party_tables.specs.declared.answer.Answer.{Answer}
+use Rattle.party_tables.specs.declared.link.LinkRec.{LinkRec}
+use Rattle.party_tables.specs.Keys.{sends}
 use Rattle.party_state.specs.State.{Party, centre_label, link_with, answer_with}
 use Rattle.party_state.specs.Verdicts.{Test}
 use Rattle.role_base.specs.Texts.{is_verified, is_plain, lead_under}
@@ -27,8 +27,8 @@ use Rattle.role_base.specs.Conditions.{has_count, body_issuer}
 use Rattle.role_base.specs.Errors.{is_early}
 use Rattle.role_base.proofs.Early.{early_refusal, led}
 use Rattle.role_base.proofs.Unled.{other_early, none_exactly}
-use Rattle.centre_base.specs.Requests.{request_front}
-use Rattle.centre_base.proofs.Early.{unserved_early}
+use Rattle.role_base.specs.Centres.{request_front}
+use Rattle.role_base.proofs.CentresEarly.{unserved_early}
 use Rattle.distribution_role.specs.Answering.{answer_under}
 use Rattle.distribution_role.specs.Recovery.{ers_front, ers_between, ers, ers_lead_between, ers_lead}
 use Rattle.distribution_role.specs.Rows.{distribution_message, distribution_lead}

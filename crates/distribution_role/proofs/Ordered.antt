@@ -4,11 +4,11 @@ use Rattle.x_base.specs.declared.verdict.Verdict.TheVariants.{WeakDraws}
 use Rattle.csm_grammar.specs.declared.arrival.Arrival.{Arrival}
 use Rattle.csm_grammar.specs.declared.message.Rsi.{Rsi}
 use Rattle.csm_grammar.specs.declared.message.Ers.{Ers}
-use Rattle.party_state.specs.declared.answer.Answer.{Answer}
-use Rattle.party_state.specs.declared.link.LinkRec.{LinkRec}
+use Rattle.party_tables.specs.declared.answer.Answer.{Answer}
+use Rattle.party_tables.specs.declared.link.LinkRec.{LinkRec}
 use Rattle.party_state.specs.State.{Party}
 use Rattle.role_base.specs.Order.{InOrder}
-use Rattle.centre_base.specs.Requests.{request_front}
+use Rattle.role_base.specs.Centres.{request_front}
 use Rattle.distribution_role.specs.Requests.{rsi_front, rsi_tests}
 use Rattle.distribution_role.specs.Recovery.{ers_front, ers_tests}
 

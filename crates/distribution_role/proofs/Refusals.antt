@@ -11,10 +11,10 @@ use Rattle.party_state.specs.declared.command.Input.{Input}
 use Rattle.party_state.specs.declared.command.Input.TheVariants as input
 use Rattle.party_state.specs.State.{Party}
 use Rattle.role_base.specs.Conditions.{other_class, body_issuer}
-use Rattle.centre_base.specs.Orders.{centre_command}
-use Rattle.centre_base.specs.Serving.{LoadsOwn, RefusesAnswer, RefusesOther, names}
-use Rattle.centre_base.specs.Unserved.{unserved}
-use Rattle.centre_base.proofs.Refusals.{no_answer, no_other, own_load}
+use Rattle.role_base.specs.Centres.{centre_command}
+use Rattle.role_base.specs.Serving.{LoadsOwn, RefusesAnswer, RefusesOther, names}
+use Rattle.role_base.specs.Centres.{unserved}
+use Rattle.role_base.proofs.CentreRefusals.{no_answer, no_other, own_load}
 use Rattle.distribution_role.specs.Rows.{distribution_message, distribution_row}
 use Rattle.distribution_role.specs.Serves.{IsRequest, IsServed, Refuses}
 

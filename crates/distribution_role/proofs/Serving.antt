@@ -11,15 +11,15 @@ use Rattle.csm_grammar.specs.declared.message.Service.{Service}
 use Rattle.csm_grammar.specs.declared.message.Service.TheVariants as service
 use Rattle.csm_grammar.specs.declared.message.Rsi.{Rsi}
 use Rattle.csm_grammar.specs.declared.message.Ers.{Ers}
-use Rattle.party_state.specs.declared.answer.Answer.{Answer}
-use Rattle.party_state.specs.declared.link.LinkRec.{LinkRec}
-use Rattle.party_state.specs.Keys.{sends}
+use Rattle.party_tables.specs.declared.answer.Answer.{Answer}
+use Rattle.party_tables.specs.declared.link.LinkRec.{LinkRec}
+use Rattle.party_tables.specs.Keys.{sends}
 use Rattle.party_state.specs.State.{Party, centre_label, link_with, answer_with}
 use Rattle.party_state.specs.Verdicts.{Test, Held}
 use Rattle.role_base.specs.Conditions.{has_count, is_data_key}
 use Rattle.role_base.proofs.Addressed.{others, apart, for_me, mine}
 use Rattle.role_base.proofs.PartyLaws.{HeldAtAccept, AcceptedIfHeld}
-use Rattle.centre_base.specs.Requests.{request_front}
+use Rattle.role_base.specs.Centres.{request_front}
 use Rattle.distribution_role.specs.Requests.{rsi_front, rsi_tests, rsi_between, rsi_for}
 use Rattle.distribution_role.specs.Recovery.{ers_front, at_least, ers_tests, ers_between}
 use Rattle.distribution_role.specs.Rows.{distribution_message}

@@ -7,7 +7,7 @@ use Rattle.x_gen.specs.declared.generator.Gen.{Gen}
 use Rattle.x_seal.specs.Wrapped.{wrap_of, seal_of}
 use Rattle.csm_grammar.specs.declared.message.Message.TheVariants as message
 use Rattle.csm_grammar.specs.declared.message.Rtr.{Rtr}
-use Rattle.party_state.specs.declared.link.LinkRec.{LinkRec}
+use Rattle.party_tables.specs.declared.link.LinkRec.{LinkRec}
 use Rattle.party_state.specs.declared.edit.Edit.{Edit}
 use Rattle.party_state.specs.declared.edit.Edit.TheVariants.{PutLink, PutAnswer, SetGen}
 use Rattle.party_state.specs.State.{Party, centre_label}

@@ -6,16 +6,16 @@ use Rattle.x_gen.specs.declared.generator.Gen.{Gen}
 use Rattle.x_gen.specs.Gen.{good_draw}
 use Rattle.csm_grammar.specs.declared.message.Ers.{Ers}
 use Rattle.csm_grammar.specs.declared.arrival.Arrival.{Arrival}
-use Rattle.party_state.specs.declared.link.LinkRec.{LinkRec}
-use Rattle.party_state.specs.declared.answer.Answer.{Answer}
+use Rattle.party_tables.specs.declared.link.LinkRec.{LinkRec}
+use Rattle.party_tables.specs.declared.answer.Answer.{Answer}
 use Rattle.party_state.specs.declared.decision.Lead.{Lead}
-use Rattle.party_state.specs.Keys.{sends}
+use Rattle.party_tables.specs.Keys.{sends}
 use Rattle.party_state.specs.State.{Party, centre_label, link_with, answer_with}
 use Rattle.party_state.specs.Verdicts.{Test, verdict_of, passes}
 use Rattle.party_state.specs.Rows.{Row, refused}
 use Rattle.role_base.specs.Texts.{is_verified, lead_under}
 use Rattle.role_base.specs.Conditions.{has_count}
-use Rattle.centre_base.specs.Requests.{request_front}
+use Rattle.role_base.specs.Centres.{request_front}
 use Rattle.distribution_role.specs.Answering.{answer_under, answering}
 
 abbrev pub ers_front : Party → Ers → Bool → Bool → List Test

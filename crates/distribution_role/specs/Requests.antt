@@ -5,14 +5,14 @@ use Rattle.x_gen.specs.declared.generator.Gen.{Gen}
 use Rattle.x_gen.specs.Gen.{good_draw}
 use Rattle.csm_grammar.specs.declared.message.Rsi.{Rsi}
 use Rattle.csm_grammar.specs.declared.arrival.Arrival.{Arrival}
-use Rattle.party_state.specs.declared.link.LinkRec.{LinkRec}
-use Rattle.party_state.specs.Keys.{sends}
+use Rattle.party_tables.specs.declared.link.LinkRec.{LinkRec}
+use Rattle.party_tables.specs.Keys.{sends}
 use Rattle.party_state.specs.State.{Party, centre_label, link_with}
 use Rattle.party_state.specs.Verdicts.{Test, verdict_of}
 use Rattle.party_state.specs.Rows.{Row, refused}
 use Rattle.role_base.specs.Texts.{is_right}
 use Rattle.role_base.specs.Conditions.{has_count, is_data_key}
-use Rattle.centre_base.specs.Requests.{request_front}
+use Rattle.role_base.specs.Centres.{request_front}
 use Rattle.distribution_role.specs.Answering.{answering}
 
 abbrev pub serves_rsi : Rsi → List ℕ → Bool

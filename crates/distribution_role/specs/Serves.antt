@@ -1,13 +1,12 @@
 -- What a key distribution centre serves, and the number with which it refuses everything else (ANSI X9.17; the numbers are
 -- this project's profile).
-use Rattle.std.specs.Prelude.{ℕ}
 use Rattle.x_base.specs.declared.verdict.Verdict.{Verdict}
 use Rattle.csm_grammar.specs.declared.message.Message.{Message}
 use Rattle.csm_grammar.specs.declared.message.Message.TheVariants as message
 use Rattle.party_state.specs.declared.command.Input.{Input}
 use Rattle.party_state.specs.declared.command.Input.TheVariants as input
 use Rattle.party_state.specs.State.{Party}
-use Rattle.centre_base.specs.Serving.{IsOwnLoad, RefusesAnswer, RefusesOther, names}
+use Rattle.role_base.specs.Serving.{IsOwnLoad, RefusesAnswer, RefusesOther, names}
 
 -- a request for a key, and one that comes again
 abbrev pub IsRequest : Message → Type 0

@@ -1,5 +1,6 @@
 -- Which requests a key distribution centre answers (ANSI X9.17; the bounds are this project's profile).
 use Rattle.std.specs.Prelude.{ℕ, ◌≡◌, ◌≢◌, ◌≤◌, ◌↔◌, IsTrue, List, Some}
+use Rattle.x_base.specs.Count.{count_limit}
 use Rattle.x_base.specs.declared.verdict.Verdict.TheVariants.{Accept}
 use Rattle.x_gen.specs.declared.generator.Gen.{Gen}
 use Rattle.x_gen.specs.Gen.{good_draw}
@@ -8,9 +9,9 @@ use Rattle.csm_grammar.specs.declared.message.Service.TheVariants as service
 use Rattle.csm_grammar.specs.declared.message.Rsi.{Rsi}
 use Rattle.csm_grammar.specs.declared.message.Ers.{Ers}
 use Rattle.csm_grammar.specs.declared.arrival.Arrival.{Arrival}
-use Rattle.party_state.specs.declared.answer.Answer.{Answer}
-use Rattle.party_state.specs.declared.link.LinkRec.{LinkRec}
-use Rattle.party_state.specs.Keys.{sends}
+use Rattle.party_tables.specs.declared.answer.Answer.{Answer}
+use Rattle.party_tables.specs.declared.link.LinkRec.{LinkRec}
+use Rattle.party_tables.specs.Keys.{sends}
 use Rattle.party_state.specs.State.{Party, centre_label, link_with, answer_with, knows}
 use Rattle.role_base.specs.Texts.{is_verified, is_right}
 use Rattle.distribution_role.specs.Rows.{distribution_message}
@@ -21,10 +22,10 @@ pub record CanSend (p : Party) (requester u : List ℕ) (moment : ℕ) : Type 0 
   pub other : u ≢ requester
   pub from : LinkRec
   pub with_requester : link_with (sends requester centre_label) p ≡ Some from
-  pub from_left : from.next ≤ 99999999999999
+  pub from_left : from.next ≤ count_limit
   pub to : LinkRec
   pub with_ultimate : link_with (sends u centre_label) p ≡ Some to
-  pub to_left : to.next ≤ 99999999999999
+  pub to_left : to.next ≤ count_limit
   pub drawn : ℕ × Gen
   pub draws : good_draw p.generator moment ≡ Some drawn
 

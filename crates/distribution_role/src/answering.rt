@@ -2,19 +2,18 @@
 ghost use Rattle.std.specs.Prelude.{◌≡◌, ◌++◌, ◌∷◌, ◌&&◌, [], true, cond, is_some, Some, None, IfOk};
 ghost use Rattle.x_base.specs.declared.verdict.Verdict.TheVariants.{WeakDraws};
 ghost use Rattle.x_gen.specs.Gen.{good_draw};
-ghost use Rattle.party_state.specs.Ranges.{IsNextCount};
+ghost use Rattle.party_tables.specs.Ranges.{IsNextCount};
 ghost use Rattle.party_state.specs.Verdicts.{verdict_of, passes, all_refuse};
 ghost use Rattle.role_base.specs.Replies.{IsWritten};
 ghost use Rattle.role_base.specs.Conditions.{has_count};
 ghost use Rattle.role_base.specs.Deciding.{decision_of, accepting};
 ghost use Rattle.distribution_role.specs.Answering.{links_of, rtr_of, answer_under, answer_reply, answer_edits, answering};
 
-use centre_base::behind;
 use csm_grammar::{Message, Rtr};
 use party_state::{Answer, AnswerKey, Decision, Edit, LinkRec, State};
 use role_base::{
-    Written, accept, centre_label, direct_name, early_refusal, has_count, is_accept, list_of,
-    no_extras, refusal, verdict_after,
+    Written, accept, centre_label, direct_name, early_refusal, has_count, is_accept, link_behind,
+    list_of, no_extras, refusal, verdict_after,
 };
 use std::alloc::Global;
 use x_base::{Count, FullName, Ident, NoMemory, Verdict};
@@ -93,8 +92,8 @@ fn answer_edits(
     };
     let edits = [
         Edit::SetGen(v),
-        Edit::PutLink(behind(&links.requester, links.cta)),
-        Edit::PutLink(behind(&links.ultimate, links.ctb)),
+        Edit::PutLink(link_behind(&links.requester, links.cta)),
+        Edit::PutLink(link_behind(&links.ultimate, links.ctb)),
         Edit::PutAnswer(answer),
     ];
     list_of(alloc, edits)

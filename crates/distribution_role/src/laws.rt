@@ -25,7 +25,7 @@ pub fn law_apart()
     law_same();
     law_found();
     law_put();
-    centre_base::law_apart();
+    role_base::law_commands();
 }
 
 /// There is no key to test the code of an arrival under exactly where the arrival is closed by an

@@ -4,7 +4,6 @@
 #![tactic(auto)]
 
 mod answering;
-mod arrivals;
 mod deciding;
 mod laws;
 mod leads;
@@ -13,7 +12,7 @@ mod requests;
 mod served;
 
 pub use answering::Links;
-pub use deciding::{decide, decide_led};
+pub use deciding::decide;
 pub use laws::{law_answers, law_apart, law_gives, law_lead};
 pub use leads::lead;
 pub use served::{law_order, law_serves};

@@ -1,24 +1,20 @@
 // A request that comes again, with the count that the ultimate recipient expects.
-ghost use Rattle.std.specs.Prelude.{◌≡◌, ◌++◌, ◌∷◌, ◌&&◌, [], true, Some, IfOk};
+ghost use Rattle.std.specs.Prelude.{◌≡◌, ◌++◌, ◌∷◌, ◌&&◌, [], true};
 ghost use Rattle.x_base.specs.declared.verdict.Verdict.TheVariants.{BadMac, CountSpent};
-ghost use Rattle.x_gen.specs.Gen.{good_draw};
-ghost use Rattle.party_state.specs.Ranges.{IsNextCount};
+ghost use Rattle.party_tables.specs.Ranges.{IsNextCount};
 ghost use Rattle.party_state.specs.State.{answer_with};
-ghost use Rattle.role_base.specs.Storable.{CanKeep};
 ghost use Rattle.role_base.specs.Conditions.{has_count};
 ghost use Rattle.role_base.specs.Texts.{lead_under};
-ghost use Rattle.role_base.specs.Deciding.{decision_of};
+ghost use Rattle.role_base.specs.Deciding.{Decides};
 ghost use Rattle.distribution_role.specs.Answering.{answer_under};
-ghost use Rattle.distribution_role.specs.Recovery.{ers_front, at_least, ers_between, ers, ers_lead_between, ers_lead};
+ghost use Rattle.distribution_role.specs.Recovery.{ers_front, at_least, ers, ers_lead};
 
 use crate::answering::{answer, answer_under};
-use centre_base::request_front;
 use csm_grammar::{Arrival, Ers};
-use party_state::{
-    Answer, AnswerKey, Decision, Lead, LinkRec, State, law_accept, law_found, law_found_in_range,
-};
+use party_state::{Answer, AnswerKey, Decision, Lead, LinkRec, State, law_accept};
 use role_base::{
-    centre_label, early_refusal, has_count, lead_under, link_with, passes, refusal, verdict_of,
+    centre_label, early_refusal, has_count, lead_under, link_with, passes, refusal, request_front,
+    verdict_of,
 };
 use std::alloc::Global;
 use x_base::{Count, NoMemory, Side, Verdict};
@@ -91,82 +87,8 @@ fn answer_lead(state: &State, arrival: &Arrival, message: &Ers, kept: &Answer) -
     lead_under(arrival, under, kept.value)
 }
 
-/// What is decided where the tests before the code's hold.
-fn ers_led(
-    alloc: Global,
-    state: &State,
-    arrival: &Arrival,
-    message: &Ers,
-    kept: &Answer,
-    from: &LinkRec,
-    to: &LinkRec,
-    lead: &Lead,
-    moment: u64,
-) -> Result<Decision, NoMemory>
-    requires from { IsNextCount from.now.next }
-    requires to { IsNextCount to.now.next }
-    requires lead { lead.now ≡ lead_under arrival.now (answer_under state.now message.now.originator kept.now.cta) kept.now.value }
-    ensures { IfOk result (λ d. d ≡ decision_of state.now (ers_between state.now arrival.now message.now (Some kept.now) (Some from.now) (Some to.now) (good_draw state.now.generator moment))) }
-{
-    let tests = ers_tests(state, message, lead.verified, from, to);
-    let asked = AnswerKey {
-        requester: message.originator,
-        ultimate: message.ultimate,
-    };
-    let raised = at_least(to, message.ctr);
-    answer(alloc, state, &tests, &asked, from, &raised, moment)
-}
-
-fn ers_under(
-    alloc: Global,
-    state: &State,
-    arrival: &Arrival,
-    message: &Ers,
-    kept: &Answer,
-    from: &LinkRec,
-    to: &LinkRec,
-    lead: &Option<Lead>,
-    moment: u64,
-) -> Result<Decision, NoMemory>
-    requires from { IsNextCount from.now.next }
-    requires to { IsNextCount to.now.next }
-    requires lead { lead.now ≡ ers_lead_between state.now arrival.now message.now (Some kept.now) (Some from.now) (Some to.now) }
-    ensures { IfOk result (λ d. d ≡ decision_of state.now (ers_between state.now arrival.now message.now (Some kept.now) (Some from.now) (Some to.now) (good_draw state.now.generator moment))) }
-{
-    match lead {
-        Some(lead) => ers_led(alloc, state, arrival, message, kept, from, to, lead, moment),
-        None => Ok(early_refusal(&ers_front(state, message, true, true))),
-    }
-}
-
-#[tactic(auto, using(role_base::proofs::ByRow::by_refused))]
-fn ers_decided(
-    alloc: Global,
-    state: &State,
-    arrival: &Arrival,
-    message: &Ers,
-    lead: &Option<Lead>,
-    moment: u64,
-) -> Result<Decision, NoMemory>
-    requires { lead.now ≡ ers_lead state.now arrival.now message.now }
-    ensures { IfOk result (λ d. d ≡ decision_of state.now (ers state.now arrival.now message.now moment)) }
-{
-    let label = centre_label();
-    let Some(kept) = kept_answer(state, message) else {
-        return Ok(refusal(verdict_of(&ers_front(state, message, false, false))));
-    };
-    let Some(from) = link_with(state, &message.originator, &label, Side::Sends) else {
-        return Ok(refusal(verdict_of(&ers_front(state, message, true, false))));
-    };
-    let Some(to) = link_with(state, &message.ultimate, &label, Side::Sends) else {
-        return Ok(refusal(verdict_of(&ers_front(state, message, true, false))));
-    };
-    ers_under(
-        alloc, state, arrival, message, &kept, &from, &to, lead, moment,
-    )
-}
-
 /// Decides of a request that comes again, with the key under which its code is tested.
+#[tactic(auto, using(role_base::proofs::Kept::is_refused))]
 pub(crate) fn ers(
     alloc: Global,
     state: &State,
@@ -176,18 +98,32 @@ pub(crate) fn ers(
     moment: u64,
 ) -> Result<Decision, NoMemory>
     requires { lead.now ≡ ers_lead state.now arrival.now message.now }
-    ensures decision { IfOk result (λ d. d ≡ decision_of state.now (ers state.now arrival.now message.now moment)) }
-    ensures kept { IfOk result (λ d. CanKeep state.now d.change) }
+    ensures { Decides state.now (ers state.now arrival.now message.now moment) result }
 {
-    // Tells that the links that stand are in their ranges.
-    state.law_party();
-    law_found();
-    law_found_in_range();
     // Tells what an accepted verdict says of the tests.
     law_accept();
     // The value tells that it is a count.
     message.ctr.value();
-    ers_decided(alloc, state, arrival, message, lead, moment)
+    let (requester, ultimate, label) = (message.originator, message.ultimate, centre_label());
+    if kept_answer(state, message).is_none() {
+        return Ok(refusal(verdict_of(&ers_front(state, message, false, false))));
+    }
+    let Some(from) = link_with(state, &requester, &label, Side::Sends) else {
+        return Ok(refusal(verdict_of(&ers_front(state, message, true, false))));
+    };
+    let Some(to) = link_with(state, &ultimate, &label, Side::Sends) else {
+        return Ok(refusal(verdict_of(&ers_front(state, message, true, false))));
+    };
+    let Some(lead) = lead else {
+        return Ok(early_refusal(&ers_front(state, message, true, true)));
+    };
+    let tests = ers_tests(state, message, lead.verified, &from, &to);
+    let asked = AnswerKey {
+        requester,
+        ultimate,
+    };
+    let raised = at_least(&to, message.ctr);
+    answer(alloc, state, &tests, &asked, &from, &raised, moment)
 }
 
 /// The key under which its code is tested.

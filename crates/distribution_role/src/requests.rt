@@ -1,16 +1,14 @@
 // A request for a data key arrives: a drawn key goes back, for both banks.
-ghost use Rattle.std.specs.Prelude.{◌≡◌, Some, IfOk};
-ghost use Rattle.x_gen.specs.Gen.{good_draw};
-ghost use Rattle.party_state.specs.Ranges.{IsNextCount};
-ghost use Rattle.role_base.specs.Storable.{CanKeep};
-ghost use Rattle.role_base.specs.Deciding.{decision_of};
-ghost use Rattle.distribution_role.specs.Requests.{rsi_front, rsi_tests, rsi_between, rsi_for, rsi};
+ghost use Rattle.std.specs.Prelude.{◌≡◌};
+ghost use Rattle.role_base.specs.Deciding.{Decides};
+ghost use Rattle.distribution_role.specs.Requests.{rsi_front, rsi_tests, rsi};
 
 use crate::answering::answer;
-use centre_base::request_front;
 use csm_grammar::{Arrival, Rsi};
-use party_state::{AnswerKey, Decision, LinkRec, State, law_accept, law_found, law_found_in_range};
-use role_base::{centre_label, has_count, is_data_key, is_right, link_with, refusal, verdict_of};
+use party_state::{AnswerKey, Decision, LinkRec, State, law_accept};
+use role_base::{
+    centre_label, has_count, is_data_key, is_right, link_with, refusal, request_front, verdict_of,
+};
 use std::alloc::Global;
 use x_base::{Ident, NoMemory, Side, Verdict};
 
@@ -46,68 +44,8 @@ fn rsi_tests(
     ]
 }
 
-/// What is decided under the links with both banks.
-fn rsi_under(
-    alloc: Global,
-    state: &State,
-    arrival: &Arrival,
-    message: &Rsi,
-    ultimate: &Ident,
-    from: &LinkRec,
-    to: &LinkRec,
-    moment: u64,
-) -> Result<Decision, NoMemory>
-    requires from { IsNextCount from.now.next }
-    requires to { IsNextCount to.now.next }
-    ensures { IfOk result (λ d. d ≡ decision_of state.now (rsi_between state.now arrival.now message.now ultimate.now (Some from.now) (Some to.now) (good_draw state.now.generator moment))) }
-{
-    let tests = rsi_tests(state, arrival, message, ultimate, from, to);
-    let asked = AnswerKey {
-        requester: message.originator,
-        ultimate: *ultimate,
-    };
-    answer(alloc, state, &tests, &asked, from, to, moment)
-}
-
-#[tactic(auto, using(role_base::proofs::ByRow::by_refused))]
-fn rsi_between(
-    alloc: Global,
-    state: &State,
-    arrival: &Arrival,
-    message: &Rsi,
-    ultimate: &Ident,
-    moment: u64,
-) -> Result<Decision, NoMemory>
-    ensures { IfOk result (λ d. d ≡ decision_of state.now (rsi_for state.now arrival.now message.now (Some ultimate.now) moment)) }
-{
-    let label = centre_label();
-    let Some(from) = link_with(state, &message.originator, &label, Side::Sends) else {
-        return Ok(refusal(verdict_of(&rsi_front(state, message, ultimate, false))));
-    };
-    let Some(to) = link_with(state, ultimate, &label, Side::Sends) else {
-        return Ok(refusal(verdict_of(&rsi_front(state, message, ultimate, false))));
-    };
-    rsi_under(alloc, state, arrival, message, ultimate, &from, &to, moment)
-}
-
-#[tactic(auto, using(role_base::proofs::ByRow::by_refused))]
-fn rsi_decided(
-    alloc: Global,
-    state: &State,
-    arrival: &Arrival,
-    message: &Rsi,
-    moment: u64,
-) -> Result<Decision, NoMemory>
-    ensures { IfOk result (λ d. d ≡ decision_of state.now (rsi state.now arrival.now message.now moment)) }
-{
-    let (receiver, originator) = (&message.receiver, &message.originator);
-    match &message.ultimate {
-        Some(ultimate) => rsi_between(alloc, state, arrival, message, ultimate, moment),
-        None => Ok(refusal(verdict_of(&request_front(state, receiver, originator, false)))),
-    }
-}
-
 /// Decides of a request.
+#[tactic(auto, using(role_base::proofs::Kept::is_refused))]
 pub(crate) fn rsi(
     alloc: Global,
     state: &State,
@@ -115,14 +53,25 @@ pub(crate) fn rsi(
     message: &Rsi,
     moment: u64,
 ) -> Result<Decision, NoMemory>
-    ensures decision { IfOk result (λ d. d ≡ decision_of state.now (rsi state.now arrival.now message.now moment)) }
-    ensures kept { IfOk result (λ d. CanKeep state.now d.change) }
+    ensures { Decides state.now (rsi state.now arrival.now message.now moment) result }
 {
-    // Tells that the links that stand are in their ranges.
-    state.law_party();
-    law_found();
-    law_found_in_range();
     // Tells what an accepted verdict says of the tests.
     law_accept();
-    rsi_decided(alloc, state, arrival, message, moment)
+    let (requester, label) = (message.originator, centre_label());
+    let Some(ultimate) = message.ultimate else {
+        let front = request_front(state, &message.receiver, &requester, false);
+        return Ok(refusal(verdict_of(&front)));
+    };
+    let Some(from) = link_with(state, &requester, &label, Side::Sends) else {
+        return Ok(refusal(verdict_of(&rsi_front(state, message, &ultimate, false))));
+    };
+    let Some(to) = link_with(state, &ultimate, &label, Side::Sends) else {
+        return Ok(refusal(verdict_of(&rsi_front(state, message, &ultimate, false))));
+    };
+    let tests = rsi_tests(state, arrival, message, &ultimate, &from, &to);
+    let asked = AnswerKey {
+        requester,
+        ultimate,
+    };
+    answer(alloc, state, &tests, &asked, &from, &to, moment)
 }

@@ -4,21 +4,21 @@ ghost use Rattle.x_base.specs.declared.verdict.Verdict.TheVariants.{Accept, Weak
 ghost use Rattle.csm_grammar.specs.declared.arrival.Arrival.{Arrival as TheArrival};
 ghost use Rattle.csm_grammar.specs.declared.message.Rsi.{Rsi as TheRsi};
 ghost use Rattle.csm_grammar.specs.declared.message.Ers.{Ers as TheErs};
-ghost use Rattle.party_state.specs.declared.answer.Answer.{Answer as TheAnswer};
+ghost use Rattle.party_tables.specs.declared.answer.Answer.{Answer as TheAnswer};
 ghost use Rattle.party_state.specs.declared.command.Command.{Command as TheCommand};
 ghost use Rattle.party_state.specs.declared.command.Input.{Input as TheInput};
 ghost use Rattle.party_state.specs.declared.command.Input.TheVariants.{Arrived, Ordered};
-ghost use Rattle.party_state.specs.declared.link.LinkRec.{LinkRec as TheLink};
+ghost use Rattle.party_tables.specs.declared.link.LinkRec.{LinkRec as TheLink};
 ghost use Rattle.party_state.specs.State.{Party};
 ghost use Rattle.role_base.specs.Order.{InOrder};
-ghost use Rattle.centre_base.specs.Requests.{request_front};
-ghost use Rattle.centre_base.specs.Serving.{IsOwnLoad, LoadsOwn};
+ghost use Rattle.role_base.specs.Centres.{request_front};
+ghost use Rattle.role_base.specs.Serving.{IsOwnLoad, LoadsOwn};
 ghost use Rattle.distribution_role.specs.Requests.{rsi_front, rsi_tests};
 ghost use Rattle.distribution_role.specs.Recovery.{ers_front, ers_tests};
 ghost use Rattle.distribution_role.specs.Rows.{distribution_row};
 ghost use Rattle.distribution_role.specs.Serves.{IsServed, Refuses};
 
-use centre_base::{law_commands, law_unserved};
+use role_base::{law_commands, law_unserved};
 
 /// A distribution centre accepts requests, also those that come again, and loading under its own
 /// label, and nothing else; the rest is refused with the number of its class.

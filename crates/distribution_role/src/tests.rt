@@ -1,11 +1,11 @@
 // What a distribution centre decides, step by step, against the texts that other programs write.
-ghost use Rattle.role_base.specs.Storable.{CanKeep};
 
-use crate::decide;
+ghost use Rattle.role_base.specs.Storable.{IsStorable};
+
+use crate::{decide, lead};
 use csm_grammar::Arrival;
-use party_state::{
-    Change, Command, Decision, Input, Role, Side, State, apply, first_state, show_text,
-};
+use party_show::show_text;
+use party_state::{Command, Decision, Edits, Input, Role, Side, State, apply, first_state};
 use std::alloc::Global;
 use x_base::{Ident, Label, Text};
 use x_gen::Gen;
@@ -86,7 +86,7 @@ fn input_of(alloc: Global, act: Act) -> Option<Input> {
             label: None,
         },
         Act::Take(text) => {
-            let arrival = Arrival::read(alloc, text.as_bytes()).ok()?;
+            let arrival = read_arrival(alloc, text.as_bytes()).ok()?;
             return Some(Input::Arrived(arrival));
         }
     };
@@ -101,11 +101,11 @@ fn writes(reply: &Option<Text>, text: &str) -> bool {
     }
 }
 
-/// The state after a change, if there is one.
-fn changed(alloc: Global, state: State, change: Option<Change>) -> Option<State>
-    requires { CanKeep state change }
+/// The state after the edits of a decision.
+fn changed(alloc: Global, state: State, edits: Edits) -> Option<State>
+    requires { IsStorable state edits }
 {
-    match change {
+    match edits.into_change() {
         Some(change) => apply(alloc, &state, &change).ok(),
         None => Some(state),
     }
@@ -115,12 +115,13 @@ fn changed(alloc: Global, state: State, change: Option<Change>) -> Option<State>
 fn after(alloc: Global, state: State, row: Step) -> Option<State> {
     let (act, number, text) = row;
     let input = input_of(alloc, act)?;
+    let found = lead(&state, &input);
     let Decision {
         change,
         reply,
         verdict,
         ..
-    } = decide(alloc, &state, &input, 0).ok()?;
+    } = decide(alloc, &state, &input, &found, 0).ok()?;
     if verdict.number() != number || !writes(&reply, text) {
         return None;
     }

@@ -10,7 +10,7 @@ use Rattle.party_state.specs.Verdicts.{is_accept}
 use Rattle.party_state.specs.Rows.{Row, Reply, refused}
 use Rattle.role_base.specs.Texts.{text_of}
 use Rattle.role_base.specs.Differing.{differing}
-use Rattle.role_base.specs.Deciding.{some_edits, name_of, decision_of, refusal_of, accepting}
+use Rattle.role_base.specs.Deciding.{name_of, decision_of, refusal_of, accepting}
 use Rattle.role_base.specs.declared.texts.Written.{Written}
 use Rattle.role_base.specs.Replies.{IsWritten, AreWritten}
 use Rattle.role_base.specs.Errors.{answering}
@@ -21,7 +21,7 @@ use Rattle.role_base.proofs.Failing.{accept_is}
 pub by_refused : (p : Party) (v : Verdict) → refusal_of v ≡ decision_of p (refused v)
 by_refused p v = go (is_accept v)
   where
-    go : (b : Bool) → refusal_of v ≡ record { change = cond b (some_edits (differing p [])) None; reply = option_map text_of (cond b None None); under = name_of (cond b None None); verdict = v }
+    go : (b : Bool) → refusal_of v ≡ record { change = cond b (differing p []) []; reply = option_map text_of (cond b None None); under = name_of (cond b None None); verdict = v }
     go true = rw (differing_none p) refl
     go false = refl
 
@@ -30,7 +30,7 @@ pub by_accepted : (p : Party) (r : Row) (v : Verdict) → v ≡ r.verdict → is
 by_accepted p r v i h =
     let a : is_accept r.verdict ≡ true = rw (← i) h in
     let e : r.verdict ≡ Accept = accept_is r.verdict a in
-    rw a (ap (λ (w : Verdict). record { change = some_edits (differing p r.edits); reply = option_map text_of r.reply; under = name_of r.reply; verdict = w }) (sym e))
+    rw a (ap (λ (w : Verdict). record { change = differing p r.edits; reply = option_map text_of r.reply; under = name_of r.reply; verdict = w }) (sym e))
 
 -- refused, with the row's answer
 pub by_answered : (p : Party) (r : Row) (v : Verdict) → v ≡ r.verdict → is_accept v ≡ false → answering v r.answer ≡ decision_of p r

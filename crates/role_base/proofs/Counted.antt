@@ -3,8 +3,8 @@ use Rattle.std.proofs.Common.{arith, ◌≡◌, ℕ, ◌+◌, ◌≤◌, nat_le,
 use Rattle.std.proofs.lemmas.Bool.{leb-true}
 use Rattle.std.specs.List.{AllByRecursion}
 use Rattle.x_base.specs.Count.{IsCount}
-use Rattle.party_state.specs.declared.link.LinkRec.{LinkRec}
-use Rattle.party_state.specs.Ranges.{IsNextCount}
+use Rattle.party_tables.specs.declared.link.LinkRec.{LinkRec}
+use Rattle.party_tables.specs.Ranges.{IsNextCount}
 use Rattle.party_state.specs.Verdicts.{Test, verdict_of}
 use Rattle.role_base.specs.Conditions.{has_count}
 use Rattle.role_base.specs.Errors.{TellsCount}

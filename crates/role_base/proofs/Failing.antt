@@ -97,6 +97,15 @@ fails_early (t ∷ ts) us h = go t.0 h (fails_early ts us)
     go true h ih = ih h
     go false h ih = refl
 
+-- where one of them fails, not all pass
+pub fails_at : (ts us : List Test) (v : Verdict) → passes (ts ++ (false, v) ∷ us) ≡ false
+fails_at [] us v = refl
+fails_at (t ∷ ts) us v = go t.0 (fails_at ts us v)
+  where
+    go : (b : Bool) → passes (ts ++ (false, v) ∷ us) ≡ false → (b && passes (ts ++ (false, v) ∷ us)) ≡ false
+    go true ih = ih
+    go false ih = refl
+
 -- tests that refuse, one of which fails, don't accept
 pub refuses_early : (ts : List Test) → all_refuse ts ≡ true → passes ts ≡ false → is_accept (verdict_of ts) ≡ false
 refuses_early [] r h = absurd (true≢false h)

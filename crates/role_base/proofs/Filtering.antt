@@ -1,13 +1,11 @@
 -- The edits that make a difference, one after another.
-use Rattle.std.proofs.Common.{◌≡◌, ℕ, zero, suc, ◌+◌, Bool, true, false, cond, ◌||◌, take, slice_get, add-one, Some, None, List, [], ◌∷◌, ◌++◌, length, filter, refl, ◌∙◌, ap, arith}
-use Rattle.std.specs.Prelude.{◌==◌}
+use Rattle.std.proofs.Common.{◌≡◌, ℕ, zero, suc, ◌+◌, Bool, true, false, cond, ◌||◌, take, slice_get, add-one, List, [], ◌∷◌, ◌++◌, filter, refl, ◌∙◌, ap}
 use Rattle.std.specs.List.{list_any}
-use Rattle.std.proofs.lemmas.Bool.{eqb-true}
-use Rattle.party_state.specs.declared.key.KeyRec.{KeyRec}
+use Rattle.party_tables.specs.declared.key.KeyRec.{KeyRec}
 use Rattle.party_state.specs.declared.edit.Edit.{Edit}
-use Rattle.party_state.specs.State.{Party, is_ended}
+use Rattle.party_tables.specs.Statuses.{is_ended}
+use Rattle.party_state.specs.State.{Party}
 use Rattle.role_base.specs.Differing.{differs, differing, ended_in}
-use Rattle.role_base.specs.Deciding.{some_edits}
 
 pub differing_none : (p : Party) → differing p [] ≡ []
 unfolding differing
@@ -36,14 +34,6 @@ differing_same p es e h = filter_more (differs p) es e ∙ ap (λ (b : Bool). fi
     append_none : (xs : List Edit) → xs ++ [] ≡ xs
     append_none [] = refl
     append_none (x ∷ xs) = ap (λ (ys : List Edit). x ∷ ys) (append_none xs)
-
-pub no_edits : (es : List Edit) → (length es == 0) ≡ true → some_edits es ≡ None
-no_edits [] h = refl
-no_edits (e ∷ es) h = let z : length (e ∷ es) ≡ 0 = eqb-true (length (e ∷ es)) 0 h in absurd (omega arith)
-
-pub with_edits : (es : List Edit) → (length es == 0) ≡ false → some_edits es ≡ Some es
-with_edits [] h = cc
-with_edits (e ∷ es) h = refl
 
 -- the records of ended keys
 

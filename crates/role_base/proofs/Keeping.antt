@@ -1,29 +1,17 @@
 -- The changes of the commands can be kept.
-use Rattle.std.proofs.Common.{◌≡◌, ℕ, ◌+◌, ◌≤◌, true, Option, List, [], ◌∷◌, length, refl, arith}
-use Rattle.std.specs.Prelude.{IfSome}
+use Rattle.std.proofs.Common.{◌≡◌, ℕ, ◌+◌, true, [], ◌∷◌, refl, arith}
 use Rattle.x_base.specs.Count.{IsCount}
-use Rattle.party_state.specs.declared.link.LinkRec.{LinkRec}
-use Rattle.party_state.specs.declared.key.KeyRec.{KeyRec}
-use Rattle.party_state.specs.declared.exchange.Exchange.{Exchange}
-use Rattle.party_state.specs.declared.edit.Edit.{Edit}
+use Rattle.party_tables.specs.declared.link.LinkRec.{LinkRec}
+use Rattle.party_tables.specs.declared.key.KeyRec.{KeyRec}
+use Rattle.party_tables.specs.declared.exchange.Exchange.{Exchange}
 use Rattle.party_state.specs.declared.edit.Edit.TheVariants.{PutLink, PutKey, PutExchange, SetGen}
 use Rattle.party_state.specs.State.{Party}
-use Rattle.party_state.specs.Keys.{record_key, link_key}
-use Rattle.party_state.specs.Rows.{Reply}
-use Rattle.party_state.specs.Ranges.{IsFittingExchange}
+use Rattle.party_tables.specs.Keys.{record_key, link_key}
+use Rattle.party_tables.specs.Ranges.{IsFittingExchange}
 use Rattle.role_base.specs.Conditions.{has_key_room}
-use Rattle.role_base.specs.Differing.{differing}
-use Rattle.role_base.specs.Deciding.{some_edits, accepting}
-use Rattle.role_base.specs.Storable.{IsStorable, CanKeep, can_put_link, can_put_key_behind, can_put_key, AreKeepable}
+use Rattle.role_base.specs.Storable.{can_put_link, can_put_key_behind, can_put_key, AreKeepable}
 use Rattle.role_base.specs.Standing.{LinkStands, KeyStands}
-use Rattle.role_base.proofs.Storable.{key_fits, storable}
-
-pub accepted_kept : (p : Party) (es : List Edit) (r : Option Reply) → AreKeepable p es → length es ≤ 9 → CanKeep p (accepting p es r).change
-accepted_kept p es r t few = go (differing p es) (storable p es t few)
-  where
-    go : (ds : List Edit) → IsStorable p ds → IfSome (some_edits ds) (IsStorable p)
-    go [] h = _
-    go (d ∷ ds) h = h
+use Rattle.role_base.proofs.Storable.{key_fits}
 
 pub link_room : (p : Party) (l : LinkRec) → LinkStands p l → can_put_link p (link_key l) ≡ true
 link_room p l s = let e = s.found in rw e refl

@@ -24,3 +24,6 @@ pub mod Sends
 pub mod Ordered
 pub mod Beginning
 pub mod Tested
+pub mod CentresApart
+pub mod CentreRefusals
+pub mod CentresEarly

@@ -2,10 +2,10 @@
 use Rattle.std.proofs.Common.{◌≡◌, true, [], ◌∷◌, refl, arith}
 use Rattle.x_base.specs.declared.verdict.Verdict.{Verdict}
 use Rattle.x_mac.specs.declared.pair.Pair.{Pair}
-use Rattle.party_state.specs.declared.link.LinkKey.{LinkKey}
-use Rattle.party_state.specs.declared.link.LinkRec.{LinkRec}
+use Rattle.party_tables.specs.declared.link.LinkKey.{LinkKey}
+use Rattle.party_tables.specs.declared.link.LinkRec.{LinkRec}
 use Rattle.party_state.specs.declared.edit.Edit.TheVariants.{PutLink}
-use Rattle.party_state.specs.Keys.{link_key}
+use Rattle.party_tables.specs.Keys.{link_key}
 use Rattle.party_state.specs.State.{Party}
 use Rattle.party_state.specs.Verdicts.{verdict_of, is_accept, Held}
 use Rattle.role_base.specs.Conditions.{has_link_room}

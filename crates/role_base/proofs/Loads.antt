@@ -4,10 +4,10 @@ use Rattle.std.proofs.lemmas.Bool.{leb-true, le-leb, not-true, not_from_false, f
 use Rattle.x_base.specs.declared.party.Side.{Side}
 use Rattle.x_base.specs.declared.verdict.Verdict.TheVariants.{Accept}
 use Rattle.x_mac.specs.declared.pair.Pair.{Pair}
-use Rattle.party_state.specs.declared.link.LinkKey.{LinkKey}
-use Rattle.party_state.specs.declared.link.LinkRec.{LinkRec}
+use Rattle.party_tables.specs.declared.link.LinkKey.{LinkKey}
+use Rattle.party_tables.specs.declared.link.LinkRec.{LinkRec}
 use Rattle.party_state.specs.Limits.{most_links}
-use Rattle.party_state.specs.Keys.{same_link, link_key}
+use Rattle.party_tables.specs.Keys.{same_link, link_key}
 use Rattle.party_state.specs.State.{Party, apply, link_with, has_pair, aliases}
 use Rattle.party_state.specs.Verdicts.{Held}
 use Rattle.role_base.specs.Conditions.{has_link_room}

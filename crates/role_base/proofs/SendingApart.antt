@@ -1,7 +1,7 @@
 -- No edit with which a key is sent changes whether a later one makes a difference.
 use Rattle.std.proofs.Common.{ℕ, Option, Some, None, List, refl}
 use Rattle.x_gen.specs.declared.generator.Gen.{Gen}
-use Rattle.party_state.specs.declared.link.LinkRec.{LinkRec}
+use Rattle.party_tables.specs.declared.link.LinkRec.{LinkRec}
 use Rattle.party_state.specs.State.{Party}
 use Rattle.party_state.specs.Verdicts.{Test}
 use Rattle.role_base.specs.Differing.{AreApart}

@@ -6,18 +6,19 @@ use Rattle.std.specs.List.{AllByRecursion, list_any}
 use Rattle.std.proofs.lemmas.List.Elements.{All-from_recursion, All-filter}
 use Rattle.party_state.specs.declared.edit.Edit.{Edit}
 use Rattle.party_state.specs.declared.edit.Edit.TheVariants.{Begin, PutLink, DropLink, PutKey, DropEnded, PutExchange, DropExchange, PutAnswer, SetGen}
-use Rattle.party_state.specs.declared.key.KeyRec.{KeyRec}
-use Rattle.party_state.specs.declared.key.RecordKey.{RecordKey}
-use Rattle.party_state.specs.declared.link.LinkKey.{LinkKey}
-use Rattle.party_state.specs.Tables.{find_row, put_row}
-use Rattle.party_state.specs.Keys.{same_link, same_record, link_key, record_key}
-use Rattle.party_state.specs.State.{Party, apply_edit, link_with, record_with, is_ended}
+use Rattle.party_tables.specs.declared.key.KeyRec.{KeyRec}
+use Rattle.party_tables.specs.declared.key.RecordKey.{RecordKey}
+use Rattle.party_tables.specs.declared.link.LinkKey.{LinkKey}
+use Rattle.party_tables.specs.Tables.{find_row, put_row}
+use Rattle.party_tables.specs.Keys.{same_link, same_record, link_key, record_key}
+use Rattle.party_tables.specs.Statuses.{is_ended}
+use Rattle.party_state.specs.State.{Party, apply_edit, link_with, record_with}
 use Rattle.party_state.specs.Ranges.{IsFitting, IsNoBegin}
 use Rattle.party_state.specs.Limits.{IsWithinLimits, StaysWithinLimits, most_links, most_keys}
-use Rattle.party_state.specs.declared.link.LinkRec.{LinkRec}
-use Rattle.party_state.proofs.Keys.{test_links, test_records}
-use Rattle.party_state.proofs.Tables.{find_put}
-use Rattle.party_state.proofs.Lengths.{length_put, length_put_found, length_put_absent, length_filter_most, length_drop_most}
+use Rattle.party_tables.specs.declared.link.LinkRec.{LinkRec}
+use Rattle.party_tables.proofs.Keys.{test_links, test_records}
+use Rattle.party_tables.proofs.Tables.{find_put}
+use Rattle.party_tables.proofs.Lengths.{length_put, length_put_found, length_put_absent, length_filter_most, length_drop_most}
 use Rattle.role_base.specs.Conditions.{count_after, has_link_room, has_key_room, one_more, has_room_for_two}
 use Rattle.role_base.specs.Differing.{differs, differing}
 use Rattle.role_base.specs.Storable.{IsStorable, can_put_link, can_put_key_behind, can_put_key, IsKeepableBehind, AllKeepableBehind, new_keys, puts_link, puts_key, moves_links, drops_keys, puts_first, AreKeepable}

@@ -3,20 +3,21 @@
 use Rattle.std.proofs.Common.{arith, ◌≡◌, ◌≢◌, ◌+◌, ℕ, false, not, Option, Some, None, List, refl, sym, ◌∙◌, ap, subst}
 use Rattle.std.proofs.lemmas.Bool.{false_from_ne_true}
 use Rattle.x_base.specs.declared.key_name.KeyName.{KeyName}
-use Rattle.party_state.specs.declared.exchange.Exchange.{Exchange}
-use Rattle.party_state.specs.declared.exchange.Kind.{Kind}
-use Rattle.party_state.specs.declared.exchange.Kind.TheVariants as kind
-use Rattle.party_state.specs.declared.key.KeyRec.{KeyRec}
-use Rattle.party_state.specs.declared.key.RecordKey.{RecordKey}
+use Rattle.party_tables.specs.declared.exchange.Exchange.{Exchange}
+use Rattle.party_tables.specs.declared.exchange.Kind.{Kind}
+use Rattle.party_tables.specs.declared.exchange.Kind.TheVariants as kind
+use Rattle.party_tables.specs.declared.key.KeyRec.{KeyRec}
+use Rattle.party_tables.specs.declared.key.RecordKey.{RecordKey}
 use Rattle.party_state.specs.declared.edit.Edit.TheVariants.{PutKey}
-use Rattle.party_state.specs.Keys.{same_record, record_key}
-use Rattle.party_state.specs.Names.{name_behind}
+use Rattle.party_tables.specs.Keys.{same_record, record_key}
+use Rattle.party_tables.specs.Names.{name_behind}
 use Rattle.party_state.specs.State.{Party, record_with, exchange_with, apply_edit}
 use Rattle.role_base.specs.declared.exchanges.Twins.{Twins}
 use Rattle.role_base.specs.Exchanges.{record_of, both_of, twins_by, twins_in, twins_to}
 use Rattle.role_base.specs.Differing.{has_record, differs}
 use Rattle.role_base.proofs.PartyLaws.{KeysFound, KeyLaws, KeysInRange, key_put_same}
-use Rattle.party_state.specs.Ranges.{IsRecord, IsParty}
+use Rattle.party_tables.specs.Ranges.{IsRecord}
+use Rattle.party_state.specs.Ranges.{IsParty}
 use Rattle.x_base.specs.Count.{IsCount}
 
 -- the exchange with the peer waits for the answer to these two keys

@@ -5,16 +5,17 @@ use Rattle.std.specs.List.{list_any}
 use Rattle.std.proofs.lemmas.Bool.{and_parts, and_from, not-false, true≢false}
 use Rattle.std.proofs.lemmas.Bool.Decides.{Decides-eqb}
 use Rattle.x_mac.specs.declared.pair.Pair.{Pair}
-use Rattle.party_state.specs.declared.link.LinkKey.{LinkKey}
-use Rattle.party_state.specs.declared.link.LinkRec.{LinkRec}
-use Rattle.party_state.specs.declared.key.KeyRec.{KeyRec}
-use Rattle.party_state.specs.declared.key.KeyStatus.{KeyStatus}
-use Rattle.party_state.specs.declared.key.KeyStatus.TheVariants.{Pending, Live, Held, Closing, Ended}
-use Rattle.party_state.specs.declared.answer.Answer.{Answer}
+use Rattle.party_tables.specs.declared.link.LinkKey.{LinkKey}
+use Rattle.party_tables.specs.declared.link.LinkRec.{LinkRec}
+use Rattle.party_tables.specs.declared.key.KeyRec.{KeyRec}
+use Rattle.party_tables.specs.declared.key.KeyStatus.{KeyStatus}
+use Rattle.party_tables.specs.declared.key.KeyStatus.TheVariants.{Pending, Live, Held, Closing, Ended}
+use Rattle.party_tables.specs.declared.answer.Answer.{Answer}
 use Rattle.party_state.specs.declared.edit.Edit.{Edit}
 use Rattle.party_state.specs.declared.edit.Edit.TheVariants.{Begin, PutLink, DropLink, PutKey, DropEnded, PutExchange, DropExchange, PutAnswer, SetGen}
-use Rattle.party_state.specs.Keys.{link_key, record_key, answer_key}
-use Rattle.party_state.specs.State.{Party, apply_edit, same_pair, is_ended, link_with, record_with, exchange_with, answer_with}
+use Rattle.party_tables.specs.Keys.{link_key, record_key, answer_key}
+use Rattle.party_tables.specs.Statuses.{is_ended}
+use Rattle.party_state.specs.State.{Party, apply_edit, same_pair, link_with, record_with, exchange_with, answer_with}
 use Rattle.role_base.specs.Differing.{same_bool, same_status, has_link, has_record, has_answer, differs, always_differs}
 use Rattle.role_base.proofs.PartyLaws.{LinksFound, KeysFound, AnswersFound, LinkLaws, KeyLaws, AnswerLaws, ExchangeLaws, LinksDropped, StandingLaws, FewerKeys, put_same, key_put_same, answer_put, drop_same, exchange_dropped}
 

@@ -1,13 +1,14 @@
 -- The tests that several rows have in common (this project's profile).
 use Rattle.std.specs.Prelude.{ℕ, ◌+◌, Bool, true, false, not, ◌&&◌, ◌||◌, nat_le, nat_lt, Option, Some, None, List, [], ◌∷◌, length, bytes_eq}
+use Rattle.x_base.specs.Count.{count_limit}
 use Rattle.x_base.specs.declared.verdict.Verdict.TheVariants.{NotForMe, UnknownPeer, WrongClass, NoExchange, CountLow, CountSpent}
 use Rattle.csm_grammar.specs.declared.message.Service.{Service}
 use Rattle.csm_grammar.specs.declared.message.Service.TheVariants as service
 use Rattle.csm_grammar.specs.declared.message.KsmBody.{KsmBody}
 use Rattle.csm_grammar.specs.declared.message.KsmBody.TheVariants as body
-use Rattle.party_state.specs.declared.link.LinkKey.{LinkKey}
-use Rattle.party_state.specs.declared.link.LinkRec.{LinkRec}
-use Rattle.party_state.specs.declared.key.RecordKey.{RecordKey}
+use Rattle.party_tables.specs.declared.link.LinkKey.{LinkKey}
+use Rattle.party_tables.specs.declared.link.LinkRec.{LinkRec}
+use Rattle.party_tables.specs.declared.key.RecordKey.{RecordKey}
 use Rattle.party_state.specs.State.{Party, link_with, record_with, knows}
 use Rattle.party_state.specs.Verdicts.{Test, verdict_of}
 use Rattle.party_state.specs.Rows.{Row, refused}
@@ -52,11 +53,11 @@ answer_front p receiver originator stands = (is_for p receiver originator, NotFo
 
 -- a count is left
 abbrev pub has_count : LinkRec → Bool
-has_count l = nat_le l.next 99999999999999
+has_count l = nat_le l.next count_limit
 
 -- two counts are left
 abbrev pub has_two_counts : LinkRec → Bool
-has_two_counts l = nat_lt l.next 99999999999999
+has_two_counts l = nat_lt l.next count_limit
 
 -- a count that arrived, against the expected one
 abbrev pub count_tests : LinkRec → ℕ → List Test

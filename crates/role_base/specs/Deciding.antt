@@ -1,23 +1,21 @@
 -- From the row of an input to the decision: the edits that make a difference, and the text.
-use Rattle.std.specs.Prelude.{cond, List, [], ◌∷◌, Option, Some, None, option_map}
+use Rattle.std.specs.Prelude.{◌≡◌, ◌++◌, true, false, cond, List, [], Option, Some, None, option_map, Result, IfOk}
 use Rattle.x_base.specs.declared.key_name.FullName.{FullName}
+use Rattle.x_base.specs.declared.text.NoMemory.{NoMemory}
 use Rattle.x_base.specs.declared.verdict.Verdict.{Verdict}
 use Rattle.x_base.specs.declared.verdict.Verdict.TheVariants.{Accept}
 use Rattle.party_state.specs.declared.edit.Edit.{Edit}
 use Rattle.party_state.specs.declared.decision.Decision.{Decision}
 use Rattle.party_state.specs.State.{Party}
-use Rattle.party_state.specs.Verdicts.{is_accept}
+use Rattle.party_state.specs.Verdicts.{Test, verdict_of, passes, all_refuse, is_accept}
 use Rattle.party_state.specs.Rows.{Row, Reply}
 use Rattle.role_base.specs.Texts.{text_of, name_under}
 use Rattle.role_base.specs.Differing.{differing}
+use Rattle.role_base.specs.Storable.{IsStorable}
 
--- the edits that make a difference, if there are any
-abbrev pub some_edits : List Edit → Option (List Edit)
-some_edits [] = None
-some_edits (e ∷ es) = Some (e ∷ es)
-
-abbrev pub change_of : Party → Row → Option (List Edit)
-change_of p r = cond (is_accept r.verdict) (some_edits (differing p r.edits)) None
+-- the edits that make a difference, where the verdict is Accept
+abbrev pub change_of : Party → Row → List Edit
+change_of p r = cond (is_accept r.verdict) (differing p r.edits) []
 
 -- the reply where the verdict is Accept, and otherwise the answer
 abbrev pub reply_of : Row → Option Reply
@@ -35,15 +33,37 @@ decision_of p r = record {
   verdict = r.verdict;
 }
 
+-- a decision is the one of this row, and the store can keep its change
+pub record IsDecision (p : Party) (r : Row) (d : Decision) : Type 0 where
+  pub is : d ≡ decision_of p r
+  pub kept : IsStorable p d.change
+
+-- this row is decided, or no memory was left
+abbrev pub Decides : Party → Row → Result Decision NoMemory → Type 0
+Decides p r result = IfOk result (IsDecision p r)
+
 -- refused, with nothing written
 abbrev pub refusal_of : Verdict → Decision
-refusal_of v = record { change = None; reply = None; under = None; verdict = v }
+refusal_of v = record { change = []; reply = None; under = None; verdict = v }
+
+-- the refusal of each row that begins with these tests, one of which fails, and that isn't answered
+abbrev pub RefusesEarly : List Test → Decision → Type 0
+RefusesEarly front d = (p : Party) (r : Row) (rest : List Test) → all_refuse front ≡ true → passes front ≡ false → r.verdict ≡ verdict_of (front ++ rest) → r.answer ≡ None → IsDecision p r d
 
 -- accepted, with these edits and this reply
 abbrev pub accepting : Party → List Edit → Option Reply → Decision
 accepting p es reply = record {
-  change = some_edits (differing p es);
+  change = differing p es;
   reply = option_map text_of reply;
   under = name_of reply;
   verdict = Accept;
 }
+
+-- a decision accepts with these edits and this reply, and the store can keep its change
+pub record IsAccepted (p : Party) (es : List Edit) (reply : Option Reply) (d : Decision) : Type 0 where
+  pub is : d ≡ accepting p es reply
+  pub kept : IsStorable p d.change
+
+-- so it is decided, or no memory was left
+abbrev pub AcceptsWith : Party → List Edit → Option Reply → Result Decision NoMemory → Type 0
+AcceptsWith p es reply result = IfOk result (IsAccepted p es reply)

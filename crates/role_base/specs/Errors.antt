@@ -1,5 +1,5 @@
 -- A refusal that is answered by an error message (ANSI X9.17).
-use Rattle.std.specs.Prelude.{ℕ, Bool, true, false, List, Option, Some, None, option_map, codes}
+use Rattle.std.specs.Prelude.{ℕ, Bool, true, false, List, [], Option, Some, None, option_map, codes}
 use Rattle.x_base.specs.Count.{IsCount}
 use Rattle.x_base.specs.declared.key_name.FullName.{FullName}
 use Rattle.x_base.specs.declared.verdict.Verdict.{Verdict}
@@ -20,7 +20,7 @@ TellsCount v = Unit {0}
 
 -- refused, with this answer
 abbrev pub answering : Verdict → Option Reply → Decision
-answering v answer = record { change = None; reply = option_map text_of answer; under = name_of answer; verdict = v }
+answering v answer = record { change = []; reply = option_map text_of answer; under = name_of answer; verdict = v }
 
 -- the error message, with the refused counts, and the expected one where it is named
 abbrev pub error_message : Party → List ℕ → Counts → List ℕ → Option ℕ → Message

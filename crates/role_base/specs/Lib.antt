@@ -6,6 +6,7 @@ pub mod Differing
 pub mod Failing
 pub mod Standing
 pub mod Replies
+pub mod Leads
 pub mod Deciding
 pub mod Errors
 pub mod Storable
@@ -14,3 +15,5 @@ pub mod Loading
 pub mod Sends
 pub mod Order
 pub mod Beginning
+pub mod Centres
+pub mod Serving

@@ -4,7 +4,7 @@ use Rattle.std.specs.Prelude.{ℕ, ◌≡◌, ◌≢◌, ◌+◌, ◌≤◌, tru
 use Rattle.x_base.specs.declared.party.Side.{Side}
 use Rattle.x_mac.specs.declared.pair.Pair.{Pair}
 use Rattle.x_gen.specs.Parity.{odd_of}
-use Rattle.party_state.specs.declared.link.LinkKey.{LinkKey}
+use Rattle.party_tables.specs.declared.link.LinkKey.{LinkKey}
 use Rattle.party_state.specs.State.{Party, link_with, has_pair, aliases}
 use Rattle.party_state.specs.Rows.{Row}
 use Rattle.party_state.specs.Limits.{most_links}

@@ -1,9 +1,9 @@
 -- Rows that stand in a party's tables.
 use Rattle.std.specs.Prelude.{◌≡◌, Some}
-use Rattle.party_state.specs.declared.link.LinkRec.{LinkRec}
-use Rattle.party_state.specs.declared.key.KeyRec.{KeyRec}
-use Rattle.party_state.specs.Keys.{link_key, record_key}
-use Rattle.party_state.specs.Ranges.{IsLink}
+use Rattle.party_tables.specs.declared.link.LinkRec.{LinkRec}
+use Rattle.party_tables.specs.declared.key.KeyRec.{KeyRec}
+use Rattle.party_tables.specs.Keys.{link_key, record_key}
+use Rattle.party_tables.specs.Ranges.{IsLink}
 use Rattle.party_state.specs.State.{Party, link_with, record_with}
 
 -- the link stands, in its range

@@ -1,13 +1,14 @@
 -- What the store asks of a change (this project's profile).
-use Rattle.std.specs.Prelude.{◌≡◌, ◌≤◌, Bool, true, false, not, ◌&&◌, ◌||◌, ℕ, ◌+◌, ◌-◌, nat_lt, is_some, List, [], ◌∷◌, length, Option, IfSome}
+use Rattle.std.specs.Prelude.{◌≡◌, ◌≤◌, Bool, true, false, not, ◌&&◌, ◌||◌, ℕ, ◌+◌, ◌-◌, nat_lt, is_some, List, [], ◌∷◌, length}
 use Rattle.std.specs.List.{list_any}
 use Rattle.party_state.specs.declared.edit.Edit.{Edit}
 use Rattle.party_state.specs.declared.edit.Edit.TheVariants.{Begin, PutLink, DropLink, PutKey, DropEnded, PutExchange, DropExchange, PutAnswer, SetGen}
-use Rattle.party_state.specs.declared.key.RecordKey.{RecordKey}
-use Rattle.party_state.specs.declared.link.LinkKey.{LinkKey}
-use Rattle.party_state.specs.Keys.{link_key, record_key}
+use Rattle.party_tables.specs.declared.key.RecordKey.{RecordKey}
+use Rattle.party_tables.specs.declared.link.LinkKey.{LinkKey}
+use Rattle.party_tables.specs.Keys.{link_key, record_key}
 use Rattle.party_state.specs.State.{Party, link_with, record_with}
-use Rattle.party_state.specs.Ranges.{IsNextCount, AreFitting, IsFittingExchange, HasNoBegin}
+use Rattle.party_tables.specs.Ranges.{IsNextCount, IsFittingExchange}
+use Rattle.party_state.specs.Ranges.{AreFitting, HasNoBegin}
 use Rattle.role_base.specs.Conditions.{one_more}
 use Rattle.party_state.specs.Limits.{IsWithinLimits, StaysWithinLimits, most_links, most_keys}
 
@@ -17,9 +18,6 @@ pub record IsStorable (p : Party) (es : List Edit) : Type 0 where
   pub goes_on : HasNoBegin es
   pub fitting : AreFitting es
   pub within : IsWithinLimits p → StaysWithinLimits es p
-
-abbrev pub CanKeep : Party → Option (List Edit) → Type 0
-CanKeep p change = IfSome change (IsStorable p)
 
 -- edits that the store can keep, however many of them make a difference
 

@@ -1,5 +1,5 @@
 -- The texts that a bank writes, and the codes of those that arrive (ANSI X9.17).
-use Rattle.std.specs.Prelude.{ℕ, ◌==◌, Bool, false, true, take, List, Option, Some, None}
+use Rattle.std.specs.Prelude.{ℕ, ◌==◌, Bool, false, true, List, Option, Some, None}
 use Rattle.x_base.specs.declared.key_name.KeyName.{KeyName}
 use Rattle.x_base.specs.declared.key_name.FullName.{FullName}
 use Rattle.x_mac.specs.Code.{mac_of, edc_of}
@@ -7,6 +7,7 @@ use Rattle.csm_grammar.specs.declared.message.Extras.{Extras}
 use Rattle.csm_grammar.specs.declared.parsed.Shut.{Shut}
 use Rattle.csm_grammar.specs.declared.parsed.Shut.TheVariants as shut
 use Rattle.csm_grammar.specs.declared.arrival.Arrival.{Arrival}
+use Rattle.csm_grammar.specs.Arrivals.{authenticated}
 use Rattle.csm_write.specs.declared.closing.Closing.TheVariants as closing
 use Rattle.csm_write.specs.Canon.{canon}
 use Rattle.party_state.specs.declared.decision.Lead.{Lead}
@@ -31,10 +32,6 @@ no_extras = record { iv = None; edk = None; p = None }
 abbrev pub direct_name : List ℕ → List ℕ → ℕ → KeyName
 direct_name originator label count = record { issuer = originator; originator = originator; label = label; count = count }
 
--- the authenticated text of an arrival, as it was received
-abbrev pub auth_text : Arrival → List ℕ
-auth_text a = take a.parsed.auth_len a.text
-
 abbrev pub is_mac_of : ℕ → List ℕ → Shut → Bool
 is_mac_of value auth (shut.Mac digits) = mac_of value auth == digits
 is_mac_of value auth (shut.Edc digits) = false
@@ -45,7 +42,7 @@ is_edc_of auth (shut.Edc digits) = edc_of auth == digits
 
 -- the arrival's authentication code is made under this key
 unfoldable pub is_verified : Arrival → ℕ → Bool
-is_verified a value = is_mac_of value (auth_text a) a.parsed.shut
+is_verified a value = is_mac_of value (authenticated a) a.parsed.shut
 
 -- a key, and whether the arrival's code is made under it
 abbrev pub lead_under : Arrival → FullName → ℕ → Lead
@@ -53,7 +50,7 @@ lead_under a under value = record { under = under; value = value; verified = is_
 
 -- its error detection code is right
 unfoldable pub is_right : Arrival → Bool
-is_right a = is_edc_of (auth_text a) a.parsed.shut
+is_right a = is_edc_of (authenticated a) a.parsed.shut
 
 abbrev pub is_plain : Shut → Bool
 is_plain (shut.Mac digits) = false

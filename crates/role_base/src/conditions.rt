@@ -4,8 +4,7 @@ ghost use Rattle.x_base.specs.Count.{IsCount};
 ghost use Rattle.x_base.specs.declared.verdict.Verdict.TheVariants.{BadMac};
 ghost use Rattle.party_state.specs.State.{centre_label, record_with};
 ghost use Rattle.party_state.specs.Verdicts.{verdict_of};
-ghost use Rattle.role_base.specs.Storable.{CanKeep};
-ghost use Rattle.role_base.specs.Deciding.{decision_of, refusal_of};
+ghost use Rattle.role_base.specs.Deciding.{refusal_of, IsDecision};
 ghost use Rattle.role_base.specs.Conditions.{is_for, other_class, is_data_key, is_two_keys, body_issuer, answer_front, has_count, has_two_counts, count_tests, has_key_room, one_more, has_room_for_two, has_link_room};
 
 use crate::decisions::refusal;
@@ -23,10 +22,9 @@ pub fn is_for(state: &State, receiver: &Ident, originator: &Ident) -> bool
 }
 
 /// A message that isn't served. Its sender, or the centre that it names, is to be known.
-#[tactic(auto, using(crate::proofs::ByRow::by_refused))]
+#[tactic(auto, using(crate::proofs::Kept::is_refused))]
 pub fn other_class(state: &State, receiver: &Ident, originator: &Ident, known: &Ident) -> Decision
-    ensures decision { result ≡ decision_of state.now (other_class state.now receiver.now originator.now known.now) }
-    ensures kept { CanKeep state.now result.change }
+    ensures { IsDecision state.now (other_class state.now receiver.now originator.now known.now) result }
 {
     refusal(verdict_of(&[
         (is_for(state, receiver, originator), Verdict::NotForMe),

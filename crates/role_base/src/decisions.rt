@@ -1,16 +1,15 @@
 // Decisions, from a verdict or from edits and a reply.
-ghost use Rattle.std.specs.Prelude.{◌≡◌, ◌++◌, true, false, IfOk, IsTrue, Option, None, List};
-ghost use Rattle.party_state.specs.State.{Party};
-ghost use Rattle.party_state.specs.Verdicts.{Test, verdict_of, passes, all_refuse};
-ghost use Rattle.party_state.specs.Rows.{Reply, Row};
+ghost use Rattle.std.specs.Prelude.{◌≡◌, true, false, IfOk, IsTrue, Option, None};
+ghost use Rattle.party_state.specs.Verdicts.{verdict_of};
+ghost use Rattle.party_state.specs.Rows.{Reply};
 ghost use Rattle.role_base.specs.Differing.{differing};
-ghost use Rattle.role_base.specs.Deciding.{decision_of, refusal_of, accepting, some_edits};
+ghost use Rattle.role_base.specs.Deciding.{RefusesEarly, refusal_of, accepting};
 ghost use Rattle.role_base.specs.Replies.{AreWritten};
 
 use crate::differing::differs;
 use crate::texts::Written;
 use crate::verdicts::verdict_of;
-use party_state::{Change, Decision, Edit, State};
+use party_state::{Change, Decision, Edit, Edits, State};
 use std::alloc::Global;
 use x_base::{NoMemory, Verdict};
 
@@ -19,18 +18,16 @@ pub fn refusal(verdict: Verdict) -> Decision
     ensures { result ≡ refusal_of verdict }
 {
     Decision {
-        change: None,
+        change: Edits::none(),
         reply: None,
         under: None,
         verdict,
     }
 }
 
-/// Refused, since one of the tests fails that stand before a code's.
+/// Refused, where one of the tests fails that stand before a code's.
 pub fn early_refusal(front: &[(bool, Verdict)]) -> Decision
-    requires refuse { all_refuse front.now ≡ true }
-    requires fails { passes front.now ≡ false }
-    ensures { (p : Party) (r : Row) (rest : List Test) → r.verdict ≡ verdict_of (front.now ++ rest) → r.answer ≡ None → result ≡ decision_of p r }
+    ensures { RefusesEarly front.now result }
 {
     refusal(verdict_of(front))
 }
@@ -65,18 +62,6 @@ fn differing(alloc: Global, state: &State, edits: Vec<Edit>) -> Result<Change, N
     Ok(change)
 }
 
-/// The change, where it has edits.
-#[tactic(auto, using(crate::proofs::Filtering::no_edits, crate::proofs::Filtering::with_edits))]
-fn some_edits(change: Change) -> Option<Change>
-    ensures { result ≡ some_edits change }
-{
-    if change.is_empty() {
-        None
-    } else {
-        Some(change)
-    }
-}
-
 /// Accepted, with those of the edits that make a difference, and the reply.
 pub fn accept(
     alloc: Global,
@@ -86,7 +71,7 @@ pub fn accept(
 ) -> Result<Decision, NoMemory>
     ensures { IfOk result (λ d. (r : Option Reply) → AreWritten reply r → d ≡ accepting state.now edits.items r) }
 {
-    let change = some_edits(differing(alloc, state, edits)?);
+    let change = Edits::of(differing(alloc, state, edits)?);
     let (reply, under) = match reply {
         Some(written) => (Some(written.text), written.under),
         None => (None, None),

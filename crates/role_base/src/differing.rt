@@ -1,7 +1,8 @@
 // Whether an edit makes a difference to a state.
 ghost use Rattle.std.specs.Prelude.{◌≡◌, slice_get};
-ghost use Rattle.party_state.specs.State.{is_ended, link_with, record_with, answer_with};
-ghost use Rattle.party_state.specs.Keys.{link_key, record_key, answer_key};
+ghost use Rattle.party_tables.specs.Statuses.{is_ended};
+ghost use Rattle.party_state.specs.State.{link_with, record_with, answer_with};
+ghost use Rattle.party_tables.specs.Keys.{link_key, record_key, answer_key};
 ghost use Rattle.role_base.specs.Differing.{differs, ended_in, has_answer, has_ended, has_link, has_record, same_status};
 
 use party_state::{Answer, Edit, KeyRec, KeyStatus, LinkRec, State};

@@ -1,13 +1,12 @@
 // The error service message that answers a refused message with a key.
 ghost use Rattle.std.specs.Prelude.{◌≡◌, IfOk, option_map};
-ghost use Rattle.party_state.specs.Rows.Reply.{Coded};
-ghost use Rattle.role_base.specs.Errors.{error_letter, expected_count, error_message, error_for, coded_under};
+ghost use Rattle.role_base.specs.Errors.{error_letter, expected_count, error_for, coded_under};
 ghost use Rattle.role_base.specs.Errors.{TellsCount, answering};
 
 use crate::decisions::refusal;
 use crate::texts::Written;
 use csm_grammar::{Esm, Message};
-use party_state::{Decision, Lead, State};
+use party_state::{Decision, Edits, Lead, State};
 use std::alloc::Global;
 use x_base::{Count, Ident, NoMemory, Text, Verdict};
 
@@ -88,7 +87,7 @@ pub fn error_answer(
     };
     let written = Written::coded(alloc, &message, lead.under, lead.value)?;
     Ok(Decision {
-        change: None,
+        change: Edits::none(),
         reply: Some(written.text),
         under: written.under,
         verdict,

@@ -1,7 +1,7 @@
 // What the exchange with a peer is about.
 ghost use Rattle.std.specs.Prelude.{◌≡◌};
-ghost use Rattle.party_state.specs.Names.{name_behind};
-ghost use Rattle.role_base.specs.Exchanges.{record_of, sent_by, sent_to, twins_by, twins_to, ending_by, ending_with, stands_by, is_waiting, new_label, new_link};
+ghost use Rattle.party_tables.specs.Names.{name_behind};
+ghost use Rattle.role_base.specs.Exchanges.{record_of, sent_by, twins_by, ending_by, ending_with, stands_by, is_waiting, new_label, new_link};
 
 use party_state::{
     Exchange, KeyRec, Kind, LinkRec, State, Via, law_found, law_found_in_range, name_behind,
@@ -70,14 +70,6 @@ pub fn sent_by(state: &State, peer: &Ident, kind: &Kind) -> Option<Sent>
     }
 }
 
-/// The key that was sent to the peer and isn't answered yet.
-pub fn sent_to(state: &State, peer: &Ident) -> Option<Sent>
-    ensures { result ≡ sent_to state.now peer.now }
-{
-    let exchange = state.exchange(peer)?;
-    sent_by(state, peer, &exchange.kind)
-}
-
 /// The two keys that an exchange of this kind sent to the peer.
 pub fn twins_by(state: &State, peer: &Ident, kind: &Kind) -> Option<Twins>
     ensures { result ≡ twins_by state.now peer.now kind.now }
@@ -93,14 +85,6 @@ pub fn twins_by(state: &State, peer: &Ident, kind: &Kind) -> Option<Twins>
         | Kind::KeySent { .. }
         | Kind::Ending { .. } => None,
     }
-}
-
-/// The two keys that were sent to the peer in one message and aren't answered yet.
-pub fn twins_to(state: &State, peer: &Ident) -> Option<Twins>
-    ensures { result ≡ twins_to state.now peer.now }
-{
-    let exchange = state.exchange(peer)?;
-    twins_by(state, peer, &exchange.kind)
 }
 
 fn ending_by(state: &State, peer: &Ident, kind: &Kind) -> Option<KeyRec>

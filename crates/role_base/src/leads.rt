@@ -1,6 +1,6 @@
 // A key, and whether the code of an arrival is made under it.
 ghost use Rattle.std.specs.Prelude.{◌≡◌};
-ghost use Rattle.party_state.specs.Names.{full_name};
+ghost use Rattle.party_tables.specs.Names.{full_name};
 ghost use Rattle.role_base.specs.Texts.{lead_under};
 
 use crate::texts::is_verified;

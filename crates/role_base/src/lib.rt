@@ -2,6 +2,8 @@
 //! make a difference, and decisions (ANSI X9.17; the order of the tests is this project's profile).
 #![tactic(auto)]
 
+mod centre_laws;
+mod centres;
 mod conditions;
 mod decisions;
 mod differing;
@@ -17,6 +19,8 @@ mod sending;
 mod texts;
 mod verdicts;
 
+pub use centre_laws::{law_commands, law_unserved};
+pub use centres::{centre_command, request_front, unserved};
 pub use conditions::{
     answer_front, answer_verdict, body_issuer, count_behind, count_tests, has_count, has_key_room,
     has_link_room, has_room_for_two, has_two_counts, is_data_key, is_for, is_of_centre,
@@ -26,12 +30,11 @@ pub use decisions::{accept, early_refusal, refusal};
 pub use edits::{dropped, ended, joined, list_of, readied};
 pub use errors::{Counts, error_answer};
 pub use exchanges::{
-    Sent, Twins, ending_with, is_waiting, new_link, record_behind, record_of, sent_by, sent_to,
-    twins_by, twins_to,
+    Sent, Twins, ending_with, is_waiting, new_link, record_behind, record_of, sent_by, twins_by,
 };
 pub use laws::{law_differing, law_loads, law_sends};
 pub use leads::{key_lead, lead_under};
-pub use links::{first_link, link_with};
+pub use links::{first_link, link_behind, link_with};
 pub use loading::{load, odd_pair};
 pub use names::{centre_label, direct_name, no_extras};
 pub use sending::{next_name, pending, send, used};

@@ -1,7 +1,6 @@
 // Loading a key-encrypting key that both ends were given.
-ghost use Rattle.std.specs.Prelude.{◌≡◌, IfOk};
-ghost use Rattle.role_base.specs.Storable.{CanKeep};
-ghost use Rattle.role_base.specs.Deciding.{decision_of};
+ghost use Rattle.std.specs.Prelude.{◌≡◌};
+ghost use Rattle.role_base.specs.Deciding.{Decides};
 ghost use Rattle.role_base.specs.Load.{odd_pair, load_tests, load};
 
 use crate::conditions::has_link_room;
@@ -42,7 +41,7 @@ fn load_tests(
 }
 
 /// What is decided where a key-encrypting key is loaded.
-#[tactic(auto, using(crate::proofs::ByRow::by_refused, crate::proofs::ByRow::by_accepted))]
+#[tactic(auto, using(crate::proofs::Kept::is_refused, crate::proofs::ByRow::by_accepted))]
 pub fn load(
     alloc: Global,
     state: &State,
@@ -51,8 +50,7 @@ pub fn load(
     side: Side,
     pair: Pair,
 ) -> Result<Decision, NoMemory>
-    ensures decision { IfOk result (λ d. d ≡ decision_of state.now (load state.now peer.now label.now side pair)) }
-    ensures kept { IfOk result (λ d. CanKeep state.now d.change) }
+    ensures { Decides state.now (load state.now peer.now label.now side pair) result }
 {
     // Tells what an accepted verdict says of the tests.
     law_accept();

@@ -1,12 +1,11 @@
 // A new data key under a link: drawn, encrypted at the link's next count, kept as pending, and sent.
 ghost use Rattle.std.specs.Prelude.{◌≡◌, ◌+◌, ◌≤◌, true, length, IfOk};
 ghost use Rattle.x_base.specs.Count.{IsCount};
-ghost use Rattle.party_state.specs.declared.key.KeyStatus.TheVariants.{Pending};
+ghost use Rattle.party_tables.specs.declared.key.KeyStatus.TheVariants.{Pending};
 ghost use Rattle.party_state.specs.Verdicts.{all_refuse};
-ghost use Rattle.party_state.specs.Ranges.{longest_text};
-ghost use Rattle.role_base.specs.Storable.{CanKeep};
+ghost use Rattle.party_tables.specs.Ranges.{longest_text};
 ghost use Rattle.role_base.specs.Replies.{IsWritten};
-ghost use Rattle.role_base.specs.Deciding.{decision_of, accepting};
+ghost use Rattle.role_base.specs.Deciding.{Decides, AcceptsWith};
 ghost use Rattle.role_base.specs.Standing.{LinkStands};
 ghost use Rattle.role_base.specs.Conditions.{has_key_room};
 ghost use Rattle.role_base.specs.Sending.{next_name, data_key_message, data_key_reply, sending_tests, sent_edits, sending, sending_drawn};
@@ -106,8 +105,7 @@ fn send_key(
     requires at_next { count ≡ link.now.next }
     requires stands { LinkStands state.now link.now }
     requires room { has_key_room state.now (record { peer = link.now.peer; name = next_name state.now link.now }) ≡ true }
-    ensures decision { IfOk result (λ d. d ≡ accepting state.now (sent_edits state.now link.now key after.now.v) (Some (data_key_reply state.now link.now key))) }
-    ensures kept { IfOk result (λ d. CanKeep state.now d.change) }
+    ensures { AcceptsWith state.now (sent_edits state.now link.now key after.now.v) (Some (data_key_reply state.now link.now key)) result }
 {
     let written = data_key_text(alloc, state, link, count, key)?;
     let name = next_name(state, link, count);
@@ -159,8 +157,7 @@ fn send_drawn(
     requires at_next { count ≡ link.now.next }
     requires stands { LinkStands state.now link.now }
     requires refuse { all_refuse front.now ≡ true }
-    ensures decision { IfOk result (λ d. d ≡ decision_of state.now (sending_drawn state.now front.now link.now drawn)) }
-    ensures kept { IfOk result (λ d. CanKeep state.now d.change) }
+    ensures { Decides state.now (sending_drawn state.now front.now link.now drawn) result }
 {
     let verdict = verdict_after(front, &sending_tests(state, link, count, &drawn));
     match drawn {
@@ -185,8 +182,7 @@ pub fn send(
 ) -> Result<Decision, NoMemory>
     requires stands { LinkStands state.now link.now }
     requires refuse { all_refuse front.now ≡ true }
-    ensures decision { IfOk result (λ d. d ≡ decision_of state.now (sending state.now front.now link.now moment)) }
-    ensures kept { IfOk result (λ d. CanKeep state.now d.change) }
+    ensures { Decides state.now (sending state.now front.now link.now moment) result }
 {
     match Count::of(link.next) {
         Some(count) => {

@@ -2,7 +2,7 @@
 ghost use Rattle.std.specs.Prelude.{◌≡◌, ◌≤◌, length, IfOk};
 ghost use Rattle.csm_write.specs.Shortness.{free_length};
 ghost use Rattle.party_state.specs.Rows.Reply.{Coded, Plain, Again};
-ghost use Rattle.party_state.specs.Ranges.{longest_text};
+ghost use Rattle.party_tables.specs.Ranges.{longest_text};
 ghost use Rattle.role_base.specs.Texts.{is_verified, is_right};
 
 use csm_grammar::{Arrival, Message, Shut};

@@ -7,8 +7,8 @@ use Rattle.party_state.specs.declared.command.Input.{Input}
 use Rattle.party_state.specs.declared.command.Input.TheVariants as input
 use Rattle.party_state.specs.declared.decision.Lead.{Lead}
 use Rattle.party_state.specs.declared.edit.Edit.{Edit}
-use Rattle.party_state.specs.Keys.{link_key, same_link}
-use Rattle.party_state.specs.Tables.{Distinct}
+use Rattle.party_tables.specs.Keys.{link_key, same_link}
+use Rattle.party_tables.specs.Tables.{Distinct}
 use Rattle.party_state.specs.State.{Party, apply}
 use Rattle.party_state.specs.Verdicts.{is_accept}
 use Rattle.party_state.specs.Rows.{Row}

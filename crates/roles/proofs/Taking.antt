@@ -15,14 +15,15 @@ use Rattle.party_state.specs.State.{Party, knows}
 use Rattle.party_state.specs.Verdicts.{Test, Held}
 use Rattle.party_state.specs.Rows.{Row}
 use Rattle.role_base.specs.Conditions.{is_for, other_class, body_issuer}
+use Rattle.role_base.specs.Deciding.{decision_of, Decides}
 use Rattle.role_base.proofs.PartyLaws.{HeldAtAccept}
 use Rattle.bank_keys.specs.Taking.{Brings, CanTake, TakesKeys}
 use Rattle.bank_keys.specs.Passing.{Responds, CanPassOn, PassesKeys}
 use Rattle.bank_role.specs.Deciding.{decided}
 use Rattle.distribution_role.specs.Rows.{distribution_message, distribution_row}
 use Rattle.translation_role.specs.Rows.{translation_message, translation_row}
-use Rattle.roles.specs.Rows.{row_by}
-use Rattle.roles.specs.Deciding.{decision}
+use Rattle.roles.specs.Rows.{row_by, row_at}
+use Rattle.roles.specs.Deciding.{decision, IsDecided}
 use Rattle.roles.specs.Taking.{TakesAsBank, PassesAsBank}
 
 -- a message of a class that isn't served is refused
@@ -64,10 +65,10 @@ passes held bank p i moment = λ a m brought. by_role a m brought p.role refl
 
 -- what is known of every decision is known of one that is made
 
-pub takes_made : ((p : Party) (i : Input) (moment : ℕ) → TakesAsBank p i (decision p i moment)) → (p : Party) (i : Input) (moment : ℕ) (made : Result Decision NoMemory) → IfOk made (λ d. d ≡ decision p i moment) → IfOk made (λ d. TakesAsBank p i d)
-takes_made law p i moment (Ok d) e = rw e (law p i moment)
-takes_made law p i moment (Err f) e = tt
-
-pub passes_made : ((p : Party) (i : Input) (moment : ℕ) → PassesAsBank p i (decision p i moment)) → (p : Party) (i : Input) (moment : ℕ) (made : Result Decision NoMemory) → IfOk made (λ d. d ≡ decision p i moment) → IfOk made (λ d. PassesAsBank p i d)
-passes_made law p i moment (Ok d) e = rw e (law p i moment)
-passes_made law p i moment (Err f) e = tt
+pub decided_by : ((p : Party) (i : Input) (moment : ℕ) → TakesAsBank p i (decision p i moment)) → ((p : Party) (i : Input) (moment : ℕ) → PassesAsBank p i (decision p i moment))
+    → (p : Party) (i : Input) (moment : ℕ) (role : Role) (made : Result Decision NoMemory) → p.role ≡ role → Decides p (row_by role p i moment) made → IfOk made (IsDecided p i moment)
+unfolding decision
+decided_by takes passes p i moment role (Ok d) r e =
+    let is : d ≡ decision_of p (row_at p i moment) = e.is ∙ ap (λ (x : Role). decision_of p (row_by x p i moment)) (sym r) in
+    record { is = is; kept = e.kept; complete = rw is (takes p i moment); passed_on = rw is (passes p i moment) }
+decided_by takes passes p i moment role (Err f) r e = tt

@@ -3,8 +3,10 @@ use Rattle.std.specs.Prelude.{Option}
 use Rattle.x_base.specs.declared.party.Role.{Role}
 use Rattle.x_base.specs.declared.party.Role.TheVariants.{Bank, Distribution, Translation}
 use Rattle.csm_grammar.specs.declared.arrival.Arrival.{Arrival}
+use Rattle.party_state.specs.declared.command.Input.{Input}
 use Rattle.party_state.specs.declared.decision.Lead.{Lead}
 use Rattle.party_state.specs.State.{Party}
+use Rattle.role_base.specs.Leads.{of_arrival}
 use Rattle.bank_role.specs.Leads.{lead_of}
 use Rattle.distribution_role.specs.Rows.{distribution_lead}
 use Rattle.translation_role.specs.Rows.{translation_lead}
@@ -16,3 +18,7 @@ lead_by Translation p a = translation_lead p a a.parsed.message
 
 abbrev pub lead_at : Party → Arrival → Option Lead
 lead_at p a = lead_by p.role p a
+
+-- of an input: of a command there is none
+abbrev pub lead_in : Party → Input → Option Lead
+lead_in p i = of_arrival (lead_at p) i

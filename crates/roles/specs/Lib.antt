@@ -1,5 +1,5 @@
 pub mod Rows
+pub mod Taking
 pub mod Deciding
 pub mod Leads
-pub mod Taking
 pub mod Serving

@@ -1,41 +1,31 @@
 // What a party decides, by its role.
 ghost use Rattle.std.specs.Prelude.{◌≡◌, IfOk};
-ghost use Rattle.role_base.specs.Storable.{CanKeep};
-ghost use Rattle.roles.specs.Deciding.{decision};
-ghost use Rattle.roles.specs.Taking.{TakesAsBank, PassesAsBank};
+ghost use Rattle.roles.specs.Deciding.{IsDecided};
+ghost use Rattle.roles.specs.Leads.{lead_in};
 
 use crate::laws::{law_passing, law_taking};
-use party_state::{Decision, Input, State};
+use party_state::{Decision, Input, Lead, State};
 use std::alloc::Global;
 use x_base::{NoMemory, Role};
 
-#[tactic(auto, unfolding(crate::specs::Deciding::decision))]
-fn decided(alloc: Global, state: &State, input: &Input, moment: u64) -> Result<Decision, NoMemory>
-    ensures decision { IfOk result (λ d. d ≡ decision state.now input.now moment) }
-    ensures kept { IfOk result (λ d. CanKeep state.now d.change) }
-{
-    match state.role() {
-        Role::Bank => bank_role::decide(alloc, state, input, moment),
-        Role::Distribution => distribution_role::decide(alloc, state, input, moment),
-        Role::Translation => translation_role::decide(alloc, state, input, moment),
-    }
-}
-
-/// What a party decides of a command or of a message that arrives, at a moment. The only error is
-/// want of memory.
+/// What a party decides of a command or of a message that arrives, at a moment, with the key under
+/// which the message's code is tested: so the code is tested once. The only error is want of memory.
 pub fn decide(
     alloc: Global,
     state: &State,
     input: &Input,
+    lead: &Option<Lead>,
     moment: u64,
 ) -> Result<Decision, NoMemory>
-    ensures decision { IfOk result (λ d. d ≡ decision state.now input.now moment) }
-    ensures kept { IfOk result (λ d. CanKeep state.now d.change) }
-    ensures complete { IfOk result (λ d. TakesAsBank state.now input.now d) }
-    ensures passed_on { IfOk result (λ d. PassesAsBank state.now input.now d) }
+    requires { lead.now ≡ lead_in state.now input.now }
+    ensures { IfOk result (IsDecided state.now input.now moment) }
 {
     // Tell which keys are taken, and which go on.
     law_taking();
     law_passing();
-    decided(alloc, state, input, moment)
+    match state.role() {
+        Role::Bank => bank_role::decide(alloc, state, input, lead, moment),
+        Role::Distribution => distribution_role::decide(alloc, state, input, lead, moment),
+        Role::Translation => translation_role::decide(alloc, state, input, lead, moment),
+    }
 }

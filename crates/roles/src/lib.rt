@@ -7,4 +7,4 @@ mod leads;
 
 pub use deciding::decide;
 pub use laws::{law_differing, law_lead, law_passing, law_serves, law_taking};
-pub use leads::{decide_led, lead};
+pub use leads::lead;

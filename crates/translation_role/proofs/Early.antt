@@ -15,8 +15,8 @@ use Rattle.csm_grammar.specs.declared.form.Form.TheVariants.{F2}
 use Rattle.csm_grammar.specs.Classes.{allows}
 use Rattle.csm_grammar.specs.Arrivals.{AllArrived}
 use Rattle.csm_grammar.specs.Messages.{form_of, shut_field}
-use Rattle.party_state.specs.declared.link.LinkRec.{LinkRec}
-use Rattle.party_state.specs.Keys.{sends, takes}
+use Rattle.party_tables.specs.declared.link.LinkRec.{LinkRec}
+use Rattle.party_tables.specs.Keys.{sends, takes}
 use Rattle.party_state.specs.State.{Party, centre_label, link_with}
 use Rattle.party_state.specs.Verdicts.{Test}
 use Rattle.role_base.specs.Texts.{is_verified, is_plain, lead_under}
@@ -24,8 +24,8 @@ use Rattle.role_base.specs.Conditions.{body_issuer}
 use Rattle.role_base.specs.Errors.{is_early}
 use Rattle.role_base.proofs.Early.{early_refusal, led}
 use Rattle.role_base.proofs.Unled.{other_early, none_exactly}
-use Rattle.centre_base.specs.Requests.{request_front}
-use Rattle.centre_base.proofs.Early.{unserved_early}
+use Rattle.role_base.specs.Centres.{request_front}
+use Rattle.role_base.proofs.CentresEarly.{unserved_early}
 use Rattle.translation_role.specs.Service.{rfs_value, rfs_under, rfs_front, rfs_rest, rfs_between, rfs, rfs_lead_between, rfs_lead}
 use Rattle.translation_role.specs.Rows.{translation_message, translation_lead}
 

@@ -10,9 +10,9 @@ use Rattle.csm_grammar.specs.declared.message.Message.{Message}
 use Rattle.csm_grammar.specs.declared.message.Message.TheVariants as message
 use Rattle.csm_grammar.specs.declared.message.Rfs.{Rfs}
 use Rattle.party_state.specs.declared.edit.Edit.TheVariants.{PutLink}
-use Rattle.party_state.specs.declared.link.LinkKey.{LinkKey}
-use Rattle.party_state.specs.declared.link.LinkRec.{LinkRec}
-use Rattle.party_state.specs.Keys.{same_link, link_key, sends, takes}
+use Rattle.party_tables.specs.declared.link.LinkKey.{LinkKey}
+use Rattle.party_tables.specs.declared.link.LinkRec.{LinkRec}
+use Rattle.party_tables.specs.Keys.{same_link, link_key, sends, takes}
 use Rattle.party_state.specs.State.{Party, apply, apply_edit, centre_label, link_with, knows}
 use Rattle.party_state.specs.Verdicts.{verdict_of, Held}
 use Rattle.party_state.specs.Rows.{Row, Coded}

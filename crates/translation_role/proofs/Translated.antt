@@ -8,9 +8,10 @@ use Rattle.csm_grammar.specs.declared.arrival.Arrival.{Arrival}
 use Rattle.csm_grammar.specs.declared.message.Rfs.{Rfs}
 use Rattle.party_state.specs.declared.decision.Decision.{Decision}
 use Rattle.party_state.specs.declared.decision.Lead.{Lead}
-use Rattle.party_state.specs.declared.link.LinkRec.{LinkRec}
-use Rattle.party_state.specs.Ranges.{IsNextCount}
-use Rattle.party_state.specs.State.{Party, knows}
+use Rattle.party_tables.specs.declared.link.LinkRec.{LinkRec}
+use Rattle.party_tables.specs.Ranges.{IsNextCount}
+use Rattle.party_tables.specs.Keys.{sends, takes}
+use Rattle.party_state.specs.State.{Party, centre_label, link_with, knows}
 use Rattle.party_state.specs.Verdicts.{Test, verdict_of, is_accept, passes}
 use Rattle.role_base.specs.Conditions.{is_for}
 use Rattle.role_base.specs.Deciding.{decision_of, accepting}
@@ -19,7 +20,7 @@ use Rattle.role_base.specs.Texts.{is_verified, lead_under}
 use Rattle.role_base.proofs.ByRow.{by_answered}
 use Rattle.role_base.proofs.Counted.{tells_by, expected_is_count}
 use Rattle.role_base.proofs.Decided.{decides_row}
-use Rattle.translation_role.specs.Service.{rfs_value, rfs_under, rfs_reply, rfs_edits, rfs_front, rfs_rest, rfs_tests, rfs_error, rfs_between}
+use Rattle.translation_role.specs.Service.{rfs_value, rfs_under, rfs_reply, rfs_edits, rfs_front, rfs_rest, rfs_tests, rfs_error, rfs_between, rfs, rfs_lead}
 
 -- the tests, the code being tested
 abbrev pub tested : Party → Rfs → LinkRec → LinkRec → Bool → List Test
@@ -61,3 +62,12 @@ rfs_unanswered p a m l b f = go (is_for p m.receiver m.originator) (knows m.orig
     go true true false h = refl
     go true false z h = refl
     go false y z h = refl
+
+-- what was found, in the words of the row and of the key to test the code under
+
+pub rfs_is : (p : Party) (a : Arrival) (m : Rfs) (l b : LinkRec) → link_with (takes m.originator centre_label) p ≡ Some l → link_with (sends m.ultimate centre_label) p ≡ Some b → rfs_between p a m (Some l) (Some b) ≡ rfs p a m
+rfs_is p a m l b f g = rw (f, g) refl
+
+pub rfs_lead_is : (p : Party) (a : Arrival) (m : Rfs) (l b : LinkRec) → link_with (takes m.originator centre_label) p ≡ Some l → link_with (sends m.ultimate centre_label) p ≡ Some b
+    → rfs_lead p a m ≡ cond (passes (rfs_front p m true)) (Some (lead_under a (rfs_under p m) (rfs_value m l))) None
+rfs_lead_is p a m l b f g = rw (f, g) refl

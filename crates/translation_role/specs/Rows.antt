@@ -10,8 +10,8 @@ use Rattle.party_state.specs.declared.decision.Lead.{Lead}
 use Rattle.party_state.specs.State.{Party}
 use Rattle.party_state.specs.Rows.{Row}
 use Rattle.role_base.specs.Conditions.{other_class, body_issuer}
-use Rattle.centre_base.specs.Unserved.{unserved}
-use Rattle.centre_base.specs.Orders.{centre_command}
+use Rattle.role_base.specs.Centres.{unserved}
+use Rattle.role_base.specs.Centres.{centre_command}
 use Rattle.translation_role.specs.Service.{rfs, rfs_lead}
 
 abbrev pub translation_message : Party → Arrival → Message → Row

@@ -10,11 +10,11 @@ use Rattle.csm_grammar.specs.declared.message.Message.TheVariants as message
 use Rattle.csm_grammar.specs.declared.message.Rfs.{Rfs}
 use Rattle.csm_grammar.specs.declared.message.Rtr.{Rtr}
 use Rattle.csm_grammar.specs.declared.arrival.Arrival.{Arrival}
-use Rattle.party_state.specs.declared.link.LinkRec.{LinkRec}
+use Rattle.party_tables.specs.declared.link.LinkRec.{LinkRec}
 use Rattle.party_state.specs.declared.edit.Edit.{Edit}
 use Rattle.party_state.specs.declared.edit.Edit.TheVariants.{PutLink}
 use Rattle.party_state.specs.declared.decision.Lead.{Lead}
-use Rattle.party_state.specs.Keys.{sends, takes}
+use Rattle.party_tables.specs.Keys.{sends, takes}
 use Rattle.party_state.specs.State.{Party, centre_label, link_with}
 use Rattle.party_state.specs.Verdicts.{Test, verdict_of, passes}
 use Rattle.party_state.specs.Rows.{Row, Reply, Coded, OneKey, refused}
@@ -22,7 +22,7 @@ use Rattle.role_base.specs.declared.errors.Counts.{Counts}
 use Rattle.role_base.specs.Texts.{direct_name, no_extras, is_verified, lead_under}
 use Rattle.role_base.specs.Conditions.{has_count, count_tests}
 use Rattle.role_base.specs.Errors.{error_message, error_for, coded_under}
-use Rattle.centre_base.specs.Requests.{request_front}
+use Rattle.role_base.specs.Centres.{request_front}
 
 -- the key that came, and its full name
 abbrev pub rfs_value : Rfs → LinkRec → ℕ

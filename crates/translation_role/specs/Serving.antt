@@ -1,6 +1,7 @@
 -- Which requests for service a key translation centre answers, what its answer gives, and how it answers a refused
 -- count (ANSI X9.17; the bounds are this project's profile).
 use Rattle.std.specs.Prelude.{ℕ, ◌≡◌, ◌≢◌, ◌+◌, ◌≤◌, ◌↔◌, IsTrue, List, Option, Some, None, option_map, codes}
+use Rattle.x_base.specs.Count.{count_limit}
 use Rattle.x_base.specs.declared.verdict.Verdict.{Verdict}
 use Rattle.x_base.specs.declared.verdict.Verdict.TheVariants.{Accept, CountLow, CountSpent}
 use Rattle.x_seal.specs.Wrapped.{unwrap_of, unseal_of}
@@ -9,9 +10,9 @@ use Rattle.csm_grammar.specs.declared.message.Message.TheVariants as message
 use Rattle.csm_grammar.specs.declared.message.Rfs.{Rfs}
 use Rattle.csm_grammar.specs.declared.message.Rtr.{Rtr}
 use Rattle.csm_grammar.specs.declared.arrival.Arrival.{Arrival}
-use Rattle.party_state.specs.declared.link.LinkKey.{LinkKey}
-use Rattle.party_state.specs.declared.link.LinkRec.{LinkRec}
-use Rattle.party_state.specs.Keys.{sends, takes}
+use Rattle.party_tables.specs.declared.link.LinkKey.{LinkKey}
+use Rattle.party_tables.specs.declared.link.LinkRec.{LinkRec}
+use Rattle.party_tables.specs.Keys.{sends, takes}
 use Rattle.party_state.specs.State.{Party, centre_label, link_with, knows, apply}
 use Rattle.party_state.specs.Rows.{Row, Coded}
 use Rattle.role_base.specs.Texts.{is_verified}
@@ -36,8 +37,8 @@ pub record CanTranslate (p : Party) (a : Arrival) (m : Rfs) : Type 0 where
   -- the code is made under the key that came
   pub code : IsTrue (is_verified a (carried m from))
   pub fresh : from.next ≤ m.cta
-  pub left : from.next ≤ 99999999999999
-  pub to_left : to.next ≤ 99999999999999
+  pub left : from.next ≤ count_limit
+  pub to_left : to.next ≤ count_limit
 
 -- the requests that are accepted are those
 abbrev pub TranslatesExactly : Type 0

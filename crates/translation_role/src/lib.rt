@@ -2,14 +2,13 @@
 //! encrypted for the ultimate recipient (the order of the tests is this project's profile).
 #![tactic(auto)]
 
-mod arrivals;
 mod deciding;
 mod laws;
 mod leads;
 mod served;
 mod service;
 
-pub use deciding::{decide, decide_led};
+pub use deciding::decide;
 pub use laws::{law_apart, law_lead, law_refused_counts, law_translates};
 pub use leads::lead;
 pub use served::{law_order, law_serves};

@@ -6,15 +6,15 @@ ghost use Rattle.csm_grammar.specs.declared.message.Rfs.{Rfs as TheRfs};
 ghost use Rattle.party_state.specs.declared.command.Command.{Command as TheCommand};
 ghost use Rattle.party_state.specs.declared.command.Input.{Input as TheInput};
 ghost use Rattle.party_state.specs.declared.command.Input.TheVariants.{Arrived, Ordered};
-ghost use Rattle.party_state.specs.declared.link.LinkRec.{LinkRec as TheLink};
+ghost use Rattle.party_tables.specs.declared.link.LinkRec.{LinkRec as TheLink};
 ghost use Rattle.party_state.specs.State.{Party};
 ghost use Rattle.role_base.specs.Order.{InOrder};
-ghost use Rattle.centre_base.specs.Serving.{IsOwnLoad, LoadsOwn};
+ghost use Rattle.role_base.specs.Serving.{IsOwnLoad, LoadsOwn};
 ghost use Rattle.translation_role.specs.Rows.{translation_row};
 ghost use Rattle.translation_role.specs.Serves.{IsServed, Refuses};
 ghost use Rattle.translation_role.specs.Service.{rfs_front, rfs_tests};
 
-use centre_base::{law_commands, law_unserved};
+use role_base::{law_commands, law_unserved};
 
 /// A translation centre accepts requests for service and loading under its own label, and nothing
 /// else; the rest is refused with the number of its class.

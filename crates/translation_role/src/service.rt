@@ -1,23 +1,18 @@
 // A data key arrives: it goes back to its originator, encrypted for the ultimate recipient.
 ghost use Rattle.std.specs.Prelude.{◌≡◌, ◌++◌, ◌∷◌, true, Some, IfOk};
 ghost use Rattle.x_base.specs.declared.verdict.Verdict.TheVariants.{BadMac};
-ghost use Rattle.party_state.specs.Ranges.{IsNextCount};
 ghost use Rattle.party_state.specs.Verdicts.{verdict_of};
-ghost use Rattle.role_base.specs.Storable.{CanKeep};
 ghost use Rattle.role_base.specs.Replies.{IsWritten};
 ghost use Rattle.role_base.specs.Texts.{lead_under};
-ghost use Rattle.role_base.specs.Deciding.{decision_of, accepting};
-ghost use Rattle.translation_role.specs.Service.{rfs_value, rfs_under, rfs_answer, rfs_reply, rfs_edits, rfs_front, rfs_rest, rfs_counts, rfs_between, rfs, rfs_lead_between, rfs_lead};
+ghost use Rattle.role_base.specs.Deciding.{accepting, Decides};
+ghost use Rattle.translation_role.specs.Service.{rfs_value, rfs_under, rfs_answer, rfs_reply, rfs_edits, rfs_front, rfs_rest, rfs_counts, rfs, rfs_lead};
 
-use centre_base::{behind, request_front};
 use csm_grammar::{Arrival, Message, Rfs, Rtr};
-use party_state::{
-    Decision, Edit, Lead, LinkRec, State, law_accept, law_found, law_found_in_range,
-};
+use party_state::{Decision, Edit, Lead, LinkRec, State, law_accept};
 use role_base::{
     Counts, Written, accept, centre_label, count_tests, direct_name, early_refusal, error_answer,
-    has_count, is_accept, lead_under, link_with, list_of, no_extras, passes, refusal,
-    verdict_after, verdict_of,
+    has_count, is_accept, lead_under, link_behind, link_with, list_of, no_extras, passes, refusal,
+    request_front, verdict_after, verdict_of,
 };
 use std::alloc::Global;
 use x_base::{Count, FullName, NoMemory, Side, Verdict};
@@ -128,8 +123,8 @@ fn rfs_edits(
     requires { ctb ≡ to.now.next }
     ensures { IfOk result (λ edits. edits.items ≡ rfs_edits message.now from.now to.now) }
 {
-    let taken = behind(from, message.cta);
-    let sent = behind(to, ctb);
+    let taken = link_behind(from, message.cta);
+    let sent = link_behind(to, ctb);
     list_of(alloc, [Edit::PutLink(taken), Edit::PutLink(sent)])
 }
 
@@ -164,75 +159,8 @@ fn rfs_counts(message: &Rfs) -> Counts
     }
 }
 
-/// What is decided where the tests before the code's hold.
-#[tactic(auto, using(crate::proofs::Translated::rfs_tells_count, crate::proofs::Translated::rfs_refuses, crate::proofs::Translated::rfs_accepts))]
-fn rfs_led(
-    alloc: Global,
-    state: &State,
-    arrival: &Arrival,
-    message: &Rfs,
-    from: &LinkRec,
-    to: &LinkRec,
-    lead: &Lead,
-) -> Result<Decision, NoMemory>
-    requires from { IsNextCount from.now.next }
-    requires to { IsNextCount to.now.next }
-    requires lead { lead.now ≡ lead_under arrival.now (rfs_under state.now message.now) (rfs_value message.now from.now) }
-    ensures { IfOk result (λ d. d ≡ decision_of state.now (rfs_between state.now arrival.now message.now (Some from.now) (Some to.now))) }
-{
-    let verdict = rfs_verdict(state, message, from, to, lead.verified);
-    if !is_accept(&verdict) {
-        let counts = rfs_counts(message);
-        return error_answer(alloc, state, message.originator, counts, verdict, lead);
-    }
-    match Count::of(to.next) {
-        Some(ctb) => rfs_accepted(alloc, state, arrival, message, from, to, ctb, lead),
-        None => unreachable!(),
-    }
-}
-
-fn rfs_under_links(
-    alloc: Global,
-    state: &State,
-    arrival: &Arrival,
-    message: &Rfs,
-    from: &LinkRec,
-    to: &LinkRec,
-    lead: &Option<Lead>,
-) -> Result<Decision, NoMemory>
-    requires from { IsNextCount from.now.next }
-    requires to { IsNextCount to.now.next }
-    requires lead { lead.now ≡ rfs_lead_between state.now arrival.now message.now (Some from.now) (Some to.now) }
-    ensures { IfOk result (λ d. d ≡ decision_of state.now (rfs_between state.now arrival.now message.now (Some from.now) (Some to.now))) }
-{
-    match lead {
-        Some(lead) => rfs_led(alloc, state, arrival, message, from, to, lead),
-        None => Ok(early_refusal(&rfs_front(state, message, true))),
-    }
-}
-
-#[tactic(auto, using(role_base::proofs::ByRow::by_refused))]
-fn rfs_decided(
-    alloc: Global,
-    state: &State,
-    arrival: &Arrival,
-    message: &Rfs,
-    lead: &Option<Lead>,
-) -> Result<Decision, NoMemory>
-    requires { lead.now ≡ rfs_lead state.now arrival.now message.now }
-    ensures { IfOk result (λ d. d ≡ decision_of state.now (rfs state.now arrival.now message.now)) }
-{
-    let label = centre_label();
-    let Some(from) = link_with(state, &message.originator, &label, Side::Takes) else {
-        return Ok(refusal(verdict_of(&rfs_front(state, message, false))));
-    };
-    let Some(to) = link_with(state, &message.ultimate, &label, Side::Sends) else {
-        return Ok(refusal(verdict_of(&rfs_front(state, message, false))));
-    };
-    rfs_under_links(alloc, state, arrival, message, &from, &to, lead)
-}
-
 /// Decides of a request for service, with the key under which its code is tested.
+#[tactic(auto, using(crate::proofs::Translated::rfs_tells_count, role_base::proofs::Kept::is_refused))]
 pub(crate) fn rfs(
     alloc: Global,
     state: &State,
@@ -241,18 +169,31 @@ pub(crate) fn rfs(
     lead: &Option<Lead>,
 ) -> Result<Decision, NoMemory>
     requires { lead.now ≡ rfs_lead state.now arrival.now message.now }
-    ensures decision { IfOk result (λ d. d ≡ decision_of state.now (rfs state.now arrival.now message.now)) }
-    ensures kept { IfOk result (λ d. CanKeep state.now d.change) }
+    ensures { Decides state.now (rfs state.now arrival.now message.now) result }
 {
-    // Tells that the links that stand are in their ranges.
-    state.law_party();
-    law_found();
-    law_found_in_range();
     // Tells what an accepted verdict says of the tests.
     law_accept();
     // The value tells that it is a count.
     message.cta.value();
-    rfs_decided(alloc, state, arrival, message, lead)
+    let label = centre_label();
+    let Some(from) = link_with(state, &message.originator, &label, Side::Takes) else {
+        return Ok(refusal(verdict_of(&rfs_front(state, message, false))));
+    };
+    let Some(to) = link_with(state, &message.ultimate, &label, Side::Sends) else {
+        return Ok(refusal(verdict_of(&rfs_front(state, message, false))));
+    };
+    let Some(lead) = lead else {
+        return Ok(early_refusal(&rfs_front(state, message, true)));
+    };
+    let verdict = rfs_verdict(state, message, &from, &to, lead.verified);
+    if !is_accept(&verdict) {
+        let counts = rfs_counts(message);
+        return error_answer(alloc, state, message.originator, counts, verdict, lead);
+    }
+    match Count::of(to.next) {
+        Some(ctb) => rfs_accepted(alloc, state, arrival, message, &from, &to, ctb, lead),
+        None => unreachable!(),
+    }
 }
 
 /// The key under which its code is tested.

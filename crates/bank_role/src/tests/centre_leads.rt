@@ -4,7 +4,7 @@ use super::leads::{VALUE, is_closed_under};
 use super::{Act, Place, Step, placed, played};
 use crate::lead;
 use csm_grammar::Arrival;
-use party_state::Lead;
+use party_state::{Input, Lead};
 use std::alloc::Global;
 use x_base::{FullName, Ident, KeyName};
 
@@ -45,10 +45,10 @@ fn is_tested(alloc: Global, row: Tested) -> bool {
     let Ok(state) = played(alloc, placed(alloc, &place), steps) else {
         return false;
     };
-    let Ok(arrival) = Arrival::read(alloc, text.as_bytes()) else {
+    let Ok(arrival) = read_arrival(alloc, text.as_bytes()) else {
         return false;
     };
-    let found = lead(&state, &arrival);
+    let found = lead(&state, &Input::Arrived(arrival));
     found.is_some() && found == named_lead(name, recipient)
 }
 

@@ -1,6 +1,6 @@
 // The key under which the code of an arrival is tested, and the key under which a text is closed.
 use super::{Act, KSM, RSM, Step, input_of, played, sender, taker};
-use crate::{decide, decide_led, lead};
+use crate::{decide, lead};
 use csm_grammar::Arrival;
 use party_state::{Input, Lead, Role, State};
 use std::alloc::Global;
@@ -30,22 +30,19 @@ fn lead_of(verified: Option<bool>) -> Option<Lead> {
     })
 }
 
-/// Whether a message is tested so, and whether the decision that is handed the key is that of
-/// `decide`.
+/// Whether a message is tested so, and whether it is refused for its code exactly where that is wrong.
 fn is_tested(alloc: Global, state: &State, row: Tested) -> bool {
     let (text, verified) = row;
-    let Ok(arrival) = Arrival::read(alloc, text.as_bytes()) else {
+    let Ok(arrival) = read_arrival(alloc, text.as_bytes()) else {
         return false;
     };
-    let found = lead(state, &arrival);
+    let input = Input::Arrived(arrival);
+    let found = lead(state, &input);
     if found != lead_of(verified) || state.role() != Role::Bank {
         return false;
     }
-    let Ok(led) = decide_led(alloc, state, &arrival, &found, 0) else {
-        return false;
-    };
-    match decide(alloc, state, &Input::Arrived(arrival), 0) {
-        Ok(decision) => decision.verdict == led.verdict,
+    match decide(alloc, state, &input, &found, 0) {
+        Ok(decision) => (decision.verdict == Verdict::BadMac) == (verified == Some(false)),
         Err(_) => false,
     }
 }
@@ -125,7 +122,8 @@ pub(super) fn is_closed_under(
     if state.role() != Role::Bank {
         return false;
     }
-    match decide(alloc, state, &input, 0) {
+    let found = lead(state, &input);
+    match decide(alloc, state, &input, &found, 0) {
         Ok(decision) => {
             decision.verdict == Verdict::Accept && decision.reply.is_some() && decision.under == key
         }

@@ -4,7 +4,7 @@ use super::limits::{filled, with_ended};
 use super::{Act, Side, Step, bank, played, sender, taker, wrong_at};
 use crate::lead;
 use csm_grammar::Arrival;
-use party_state::{Lead, State};
+use party_state::{Input, Lead, State};
 use std::alloc::Global;
 
 const REQUEST: &str = "CSM(MCL/RSI RCV/BANKA ORG/BANKB SVR/KD.KD EDC/AB1B4979)";
@@ -267,13 +267,13 @@ const BOTH: u64 = 0xCD079825578C7601 ^ 0xEF85AD529243DA2F;
 
 /// Whether the code of a message is tested under it, in the name of the first key.
 fn is_tested(alloc: Global, bank: Option<State>, text: &str) -> bool {
-    let Ok(arrival) = Arrival::read(alloc, text.as_bytes()) else {
+    let Ok(arrival) = read_arrival(alloc, text.as_bytes()) else {
         return false;
     };
     let (Some(state), Some(under)) = (bank, first_key()) else {
         return false;
     };
-    lead(&state, &arrival)
+    lead(&state, &Input::Arrived(arrival))
         == Some(Lead {
             under,
             value: BOTH,

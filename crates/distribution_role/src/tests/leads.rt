@@ -1,9 +1,9 @@
 // The key under which the code of a request that comes again is tested, and under which an answer is
 // closed.
 use super::{ASKED_TWICE, Act, ERS, RSI, input_of, played};
-use crate::{decide, decide_led, lead};
+use crate::{decide, lead};
 use csm_grammar::Arrival;
-use party_state::{Lead, State};
+use party_state::{Input, Lead, State};
 use std::alloc::Global;
 use x_base::{FullName, Ident, KeyName};
 
@@ -22,14 +22,15 @@ fn first_key(verified: bool) -> Option<Lead> {
 /// Whether a message is tested under the first key, and the decision that is handed the key has this
 /// number.
 fn is_tested(alloc: Global, state: &State, text: &str, verified: bool, number: u32) -> bool {
-    let Ok(arrival) = Arrival::read(alloc, text.as_bytes()) else {
+    let Ok(arrival) = read_arrival(alloc, text.as_bytes()) else {
         return false;
     };
-    let found = lead(state, &arrival);
+    let input = Input::Arrived(arrival);
+    let found = lead(state, &input);
     if found != first_key(verified) {
         return false;
     }
-    match decide_led(alloc, state, &arrival, &found, 0) {
+    match decide(alloc, state, &input, &found, 0) {
         Ok(decision) => decision.verdict.number() == number,
         Err(_) => false,
     }
@@ -42,7 +43,8 @@ fn an_answer_is_closed_under_its_key(rt: HostRuntime) {
     let state = state.expect(&rt, "two links");
     let input = input_of(alloc, Act::Take(RSI));
     let input = input.expect(&rt, "a message");
-    let sent = decide(alloc, &state, &input, 0).ok();
+    let found = lead(&state, &input);
+    let sent = decide(alloc, &state, &input, &found, 0).ok();
     let sent = sent.expect(&rt, "a decision");
     assert!(rt; sent.under == first_key(true).map(|key| key.under));
 }

@@ -1,8 +1,8 @@
 // Counts that are refused.
-ghost use Rattle.party_state.specs.Ranges.{IsNextCount};
+ghost use Rattle.party_tables.specs.Ranges.{IsNextCount};
 
 use super::{Act, RFS, TRANSLATED, centre, input_of, played};
-use crate::decide;
+use crate::{decide, lead};
 use party_state::{Decision, Edit, LinkRec, State};
 use std::alloc::Global;
 use x_base::Text;
@@ -32,7 +32,8 @@ const PAST: u64 = 100_000_000_000_000;
 fn answered(alloc: Global, state: Option<State>) -> Option<(u32, Text)> {
     let state = state?;
     let input = input_of(alloc, Act::Take(RFS))?;
-    let Decision { reply, verdict, .. } = decide(alloc, &state, &input, 0).ok()?;
+    let found = lead(&state, &input);
+    let Decision { reply, verdict, .. } = decide(alloc, &state, &input, &found, 0).ok()?;
     Some((verdict.number(), reply?))
 }
 

@@ -1,15 +1,22 @@
-use Rattle.std.proofs.Common.{List, [], ◌∷◌, ◌++◌, ap, sym, refl}
+use Rattle.std.proofs.Common.{◌≡◌, true, Option, Some, [], ◌∷◌, refl, ap, sym, ◌∙◌}
 use Rattle.x_base.specs.declared.verdict.Verdict.TheVariants.{BadMac}
-use Rattle.party_state.specs.Verdicts.{Test, verdict_of}
-use Rattle.role_base.specs.Texts.{is_verified}
-use Rattle.bank_arrivals.specs.AskingAgain.{retry_of}
-use Rattle.bank_arrivals.specs.Esm.{subject_value, error_row}
+use Rattle.role_base.specs.Conditions.{answer_front}
+use Rattle.role_base.specs.Deciding.{IsDecision, decision_of}
+use Rattle.role_base.specs.Texts.{is_verified, lead_under}
+use Rattle.role_base.proofs.Decided.{decided_early}
+use Rattle.bank_arrivals.specs.declared.error_message.Subject.{Subject}
+use Rattle.bank_arrivals.specs.AskingAgain.{retry_of, retry_in}
+use Rattle.bank_arrivals.specs.Esm.{subject_value, subject_name, error_row, error_of, esm_lead_of}
 use Rattle.bank_arrivals.proofs.error_message.esm_about.Goals as goal
 
-pub returns-in-None : goal.returns-in-None
-returns-in-None c =
+pub returns-in_default-lead : goal.returns-in_default-lead
+returns-in_default-lead c =
     let p = c.args.state.now in
     let a = c.args.arrival.now in
     let m = c.args.message.now in
-    let rest : List Test = (is_verified a (subject_value c.args.subject.now), BadMac) ∷ [] in
-    c.early_refusal.ensures p (error_row p a m c.args.subject.now (retry_of p c.args.subject.now m.ctr)) rest (ap (λ (ts : List Test). verdict_of (ts ++ rest)) (sym c.answer_front.ensures)) refl
+    let s = c.in-Some.subject in
+    let h : c.args.lead.now ≡ esm_lead_of p a m (Some s) = c.requires ∙ ap (λ (o : Option Subject). esm_lead_of p a m o) c.in-Some.is in
+    let d : IsDecision p (error_row p a m s (retry_of p s m.ctr)) c.early_refusal.result =
+    decided_early p (answer_front p m.receiver m.originator true) c.answer_front.result ((is_verified a (subject_value s), BadMac) ∷ []) c.early_refusal.result (error_row p a m s (retry_of p s m.ctr)) (lead_under a (subject_name p m.originator s) (subject_value s)) c.args.lead.now
+    c.early_refusal.ensures c.answer_front.ensures refl h c.in_default-lead.is refl refl in
+    d.is ∙ ap (λ (o : Option Subject). decision_of p (error_of p a m o (retry_in p o m.ctr))) (sym c.in-Some.is)

@@ -7,7 +7,7 @@ use Rattle.party_state.specs.declared.decision.Decision.{Decision}
 use Rattle.party_state.specs.Verdicts.{passes}
 use Rattle.party_state.specs.Rows.{Row}
 use Rattle.role_base.specs.Conditions.{has_count}
-use Rattle.role_base.specs.Deciding.{decision_of}
+use Rattle.role_base.specs.Deciding.{decision_of, IsDecision}
 use Rattle.role_base.proofs.Given.{given_is, given_none}
 use Rattle.distribution_role.specs.declared.answering.Links.{Links}
 use Rattle.distribution_role.specs.Answering.{links_of, answering}
@@ -36,13 +36,6 @@ returns-in-Some c =
     ∙ ap (λ (o : Option (ℕ × Gen)). answering p asked.requester asked.ultimate c.args.tests.now a b o) c.draw-drawn.ensures in
     subst (λ (r : Row). IfOk c.answer_drawn.result (λ (d : Decision). d ≡ decision_of p r)) row c.answer_drawn.ensures
 
-pub early_refusal-requires-clause-fails : goal.early_refusal-requires-clause-fails
-early_refusal-requires-clause-fails c =
-    let a = c.args.requester.now in
-    let b = c.args.ultimate.now in
-    let spent : (has_count a && has_count b) ≡ false = given_none _ (links_of a b) c.counted-found.result c.counted-found.ensures c.in-None.is in
-    false_from_ne_true (passes c.args.tests.now) (λ h. both_ways (has_count a && has_count b) spent (c.requires.counted h))
-
 pub returns-in-None : goal.returns-in-None
 returns-in-None c =
     let p = c.args.state.now in
@@ -50,5 +43,9 @@ returns-in-None c =
     let a = c.args.requester.now in
     let b = c.args.ultimate.now in
     let drawn : Option (ℕ × Gen) = good_draw p.generator c.args.moment in
-    c.early_refusal.ensures p (answering p asked.requester asked.ultimate c.args.tests.now a b drawn) ((is_some drawn, WeakDraws) ∷ [])
-    (sent_tests p asked.requester asked.ultimate c.args.tests.now a b drawn) (not_answered p asked.requester asked.ultimate c.args.tests.now a b drawn)
+    let row = answering p asked.requester asked.ultimate c.args.tests.now a b drawn in
+    let spent : (has_count a && has_count b) ≡ false = given_none _ (links_of a b) c.counted-found.result c.counted-found.ensures c.in-None.is in
+    let fails : passes c.args.tests.now ≡ false = false_from_ne_true (passes c.args.tests.now) (λ h. both_ways (has_count a && has_count b) spent (c.requires.counted h)) in
+    let d : IsDecision p row c.early_refusal.result = c.early_refusal.ensures p row ((is_some drawn, WeakDraws) ∷ []) c.requires.refuse fails
+    (sent_tests p asked.requester asked.ultimate c.args.tests.now a b drawn) (not_answered p asked.requester asked.ultimate c.args.tests.now a b drawn) in
+    d.is

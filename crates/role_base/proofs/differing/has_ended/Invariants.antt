@@ -1,7 +1,7 @@
 use Rattle.std.proofs.Common.{◌≡◌, false, take}
 use Rattle.std.specs.List.{list_any}
-use Rattle.party_state.specs.declared.key.KeyRec.{KeyRec}
-use Rattle.party_state.specs.State.{is_ended}
+use Rattle.party_tables.specs.declared.key.KeyRec.{KeyRec}
+use Rattle.party_tables.specs.Statuses.{is_ended}
 use Rattle.role_base.proofs.differing.has_ended.Given as goal
 
 abbrev pub invariant-loop-i : goal.invariant-loop-i

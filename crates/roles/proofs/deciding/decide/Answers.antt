@@ -1,8 +1,13 @@
-use Rattle.roles.proofs.Taking.{takes_made, passes_made}
+use Rattle.std.proofs.Common.{sym, ◌∙◌}
+use Rattle.x_base.specs.declared.party.Role.TheVariants.{Bank, Distribution, Translation}
+use Rattle.roles.proofs.Taking.{decided_by}
 use Rattle.roles.proofs.deciding.decide.Goals as goal
 
-pub returns-clause-complete : goal.returns-clause-complete
-returns-clause-complete c = takes_made c.law_taking.ensures c.args.state.now c.args.input.now c.args.moment c.decided.result c.decided.ensures.decision
+pub returns-in-Bank : goal.returns-in-Bank
+returns-in-Bank c = decided_by c.law_taking.ensures c.law_passing.ensures c.args.state.now c.args.input.now c.args.moment Bank c.decide.result (sym c.role.ensures ∙ c.in-Bank.is) c.decide.ensures
 
-pub returns-clause-passed_on : goal.returns-clause-passed_on
-returns-clause-passed_on c = passes_made c.law_passing.ensures c.args.state.now c.args.input.now c.args.moment c.decided.result c.decided.ensures.decision
+pub returns-in-Distribution : goal.returns-in-Distribution
+returns-in-Distribution c = decided_by c.law_taking.ensures c.law_passing.ensures c.args.state.now c.args.input.now c.args.moment Distribution c.decide-in-Distribution.result (sym c.role.ensures ∙ c.in-Distribution.is) c.decide-in-Distribution.ensures
+
+pub returns-in-Translation : goal.returns-in-Translation
+returns-in-Translation c = decided_by c.law_taking.ensures c.law_passing.ensures c.args.state.now c.args.input.now c.args.moment Translation c.decide-in-Translation.result (sym c.role.ensures ∙ c.in-Translation.is) c.decide-in-Translation.ensures

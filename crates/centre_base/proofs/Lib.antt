@@ -1,3 +1,0 @@
-pub mod OrdersApart
-pub mod Early
-pub mod Refusals

@@ -1,4 +1,0 @@
-pub mod Requests
-pub mod Unserved
-pub mod Orders
-pub mod Serving
