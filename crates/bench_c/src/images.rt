@@ -1,7 +1,7 @@
 // Images in memory, which are opened again and again.
 use key_journal::{Cause, Opened, open_disk};
 use node_core::Node;
-use party_state::show_text;
+use party_show::show_text;
 use std::alloc::Global;
 use x_base::Text;
 use x_disk::{Disk, DiskErr, TornDisk};

@@ -76,7 +76,7 @@ pub extern "C" fn bench_unwrap(left: u64, right: u64, count: u64, sealed: u64) -
 pub extern "C" fn bench_read(alloc: Global, text: &[u8]) -> usize
     ensures { 0 < result → (p : Parsed) × IsRead text.now p × (p.len ≡ result) }
 {
-    match csm_grammar::read(alloc, text) {
+    match csm_read::read(alloc, text) {
         Ok(parsed) => parsed.len,
         Err(_) => 0,
     }

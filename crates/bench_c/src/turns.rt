@@ -1,10 +1,10 @@
 // Two banks in memory that exchange keys and end them, turn by turn.
-use csm_grammar::Arrival;
+use csm_read::read_arrival;
 use key_store::Store;
 use node_core::{Node, Turn};
 use party_state::Command;
 use std::alloc::Global;
-use x_base::{Count, Ident, KeyName, Label, Role, Side, Text};
+use x_base::{Count, Ident, KeyName, Label, Role, Side, Text, Verdict};
 use x_disk::Disk;
 use x_gen::Gen;
 use x_mac::Pair;
@@ -29,7 +29,12 @@ pub struct Banks<D: Disk> {
 
 fn done<D: Disk>(turn: Turn<D>) -> Option<(Node<D>, Option<Text>)> {
     match turn {
-        Turn::Done { node, reply, .. } => Some((node, reply)),
+        Turn::Done {
+            node,
+            verdict: Verdict::Accept,
+            reply,
+            ..
+        } => Some((node, reply)),
         _ => None,
     }
 }
@@ -65,7 +70,7 @@ fn take<D: Disk>(
     moment: u64,
 ) -> Option<(Node<D>, Option<Text>)> {
     let text = text?;
-    let arrival = Arrival::read(alloc, text.bytes()).ok()?;
+    let arrival = read_arrival(alloc, text.bytes()).ok()?;
     done(node.take(alloc, arrival, moment))
 }
 

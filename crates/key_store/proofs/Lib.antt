@@ -3,10 +3,10 @@ mod Wiped
 mod Within
 mod Causes
 mod Keeping
+mod Carrying
 mod Making
 mod Wholes
 mod Frames
-mod Alike
 mod NeverRefused
 mod Nothing
 mod Loaded

@@ -1,7 +1,7 @@
 -- A party is compacted: what a crash leaves, and what stands behind it.
-use Rattle.std.proofs.Common.{◌≡◌, inl, inr, ℕ, ◌+◌, ◌-◌, List, [], ◌∷◌, ◌++◌, length, Some, Ok, Err, refl, sym, ◌∙◌, ap, subst, arith, length-append}
+use Rattle.std.proofs.Common.{◌≡◌, inl, inr, ℕ, ◌+◌, ◌-◌, ◌<◌, ◌≤◌, List, [], ◌∷◌, ◌++◌, length, Some, Ok, Err, refl, sym, ◌∙◌, ap, subst, arith, length-append}
 use Rattle.std.proofs.Math.Nat.{le_refl}
-use Rattle.x_disk.specs.Disk.{View, Tells, LeavesOnly, IsSound, one_less}
+use Rattle.x_disk.specs.Disk.{View, Tells, LeavesOnly, IsSound}
 use Rattle.x_disk.proofs.Runs.{weaker}
 use Rattle.key_journal.specs.Layout.{area_size}
 use Rattle.key_journal.specs.Journal.{Holds, IsBody, frame_of, frames, four_bytes}
@@ -15,7 +15,9 @@ use Rattle.party_state.specs.Limits.{StaysWithinLimits}
 use Rattle.change_code.specs.Code.{IsCode}
 use Rattle.change_code.specs.Whole.{row_edits, whole_edits, whole_of, IsTooLarge}
 use Rattle.key_store.specs.Store.{Stored, Fold, StandsWith, IsStore, room}
-use Rattle.key_store.specs.Compacting.{room_of_whole, IsOldOrWhole, IsCompacting}
+use Rattle.change_code.specs.Cost.{room_of_whole}
+use Rattle.key_store.specs.Compacting.{IsOldOrWhole, IsCompacting}
+use Rattle.key_store.specs.Keeping.{Makes}
 use Rattle.key_store.proofs.Keeping.{here, frame_long, at_rest, never_err, done_same, broken_same}
 use Rattle.key_store.proofs.Making.{made}
 
@@ -74,6 +76,10 @@ memory_same : {D : Type 0} (a b : Stored D) → kept.NoMemory a ≡ kept.NoMemor
 memory_same a b is = cc is
 
 -- what became of a compaction, by the answer of its switch
+-- five calls pass, or more
+five_pass : (calls : ℕ) → (calls < 5 → ⊥) → 5 ≤ calls
+five_pass calls few = omega (arith, few)
+
 module _ {D : Type 0} (told : D → View) (old : Stored D) (sound : IsSound (told old.disk)) (store : IsStore (told old.disk) old.gate old.end old.party) where
   at_rest_either : Tells (told old.disk) → LeavesOnly (told old.disk) (told old.disk) (IsOldOrWhole old.party (room old))
   at_rest_either tells =
@@ -92,8 +98,7 @@ module _ {D : Type 0} (told : D → View) (old : Stored D) (sound : IsSound (tol
     faults = le_refl _;
     tells = refl;
     covered = λ b is. absurd (cc is);
-    blows = λ calls passes few s is. absurd (cc is);
-    passes = λ s is. absurd (cc is);
+    calls = λ s is. absurd (cc is);
     stable = λ b is. absurd (cc is);
   }
 
@@ -110,8 +115,7 @@ module _ {D : Type 0} (told : D → View) (old : Stored D) (sound : IsSound (tol
     faults = le_refl _;
     tells = refl;
     covered = λ b is. absurd (cc is);
-    blows = λ calls passes few s is. absurd (cc is);
-    passes = λ s is. absurd (cc is);
+    calls = λ s is. absurd (cc is);
     stable = λ b is. absurd (cc is);
   }
 
@@ -137,8 +141,9 @@ module _ {D : Type 0} (told : D → View) (old : Stored D) (sound : IsSound (tol
           faults = switch.faults;
           tells = switch.tells;
           covered = λ b is. absurd (cc is);
-          blows = λ calls passes few t is. never_err (switch.blows calls passes few);
-          passes = λ t is. subst (λ (x : Stored D). (told x.disk).passes ≡ one_less (one_less (one_less (one_less (one_less (told old.disk).passes))))) (done_same new t is) switch.passes;
+          calls = λ t is.
+              subst (λ (x : Stored D). Makes 5 (told old.disk) (told x.disk)) (done_same new t is)
+              (record { passes = switch.passes; enough = λ calls passes. five_pass calls (λ few. never_err (switch.blows calls passes few)) });
           stable = λ b is. absurd (cc is);
         }
 
@@ -158,8 +163,7 @@ module _ {D : Type 0} (told : D → View) (old : Stored D) (sound : IsSound (tol
           let same : b ≡ d = broken_same b d is in
           let size : length frame ≡ length (whole_of old.party) + 5 = ap length is_frame ∙ frame_long (whole_of old.party) in
           switch.covered end n calls covers (omega (arith, size, in_end)) (omega (arith, size, in_n)) (ap (λ (x : Failed D). x.cause) same ∙ wants);
-      blows = λ calls passes few s is. absurd (cc is);
-      passes = λ s is. absurd (cc is);
+      calls = λ s is. absurd (cc is);
       stable = λ d is tells image stable.
           let same : b ≡ d = broken_same b d is in
           switched_stable (told old.disk) old.gate old.end old.party store is_new (told b.disk) switch.stable tells image (ap (λ (x : Failed D). (told x.disk).stable) same ∙ stable);

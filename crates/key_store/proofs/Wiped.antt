@@ -1,11 +1,10 @@
 -- A store's file is wiped.
-use Rattle.std.proofs.Common.{◌≡◌, ℕ, ◌+◌, ◌-◌, true, List, Option, Some, None, is_some, Ok, Err, refl, sym, ◌∙◌, subst, arith}
+use Rattle.std.proofs.Common.{◌≡◌, ℕ, ◌+◌, true, List, Option, Some, None, is_some, Ok, Err, refl, sym, ◌∙◌, subst, arith}
 use Rattle.x_disk.specs.Disk.{View, Tells, LeavesOnly}
 use Rattle.x_disk.proofs.Runs.{weaker}
 use Rattle.key_journal.specs.States.{Site, Failed, room_of}
-use Rattle.key_journal.specs.Wiping.{KeepsCounting, LeavesCounting, Wipes, IsWipe}
-use Rattle.party_state.specs.State.{Party}
-use Rattle.key_store.specs.Store.{Stored, Stands, StandsWith, IsStore, room}
+use Rattle.key_journal.specs.Wiping.{KeepsCounting, LeavesCounting, IsWipe}
+use Rattle.key_store.specs.Store.{Stored, StandsWith, IsStore, room}
 use Rattle.key_store.specs.Wiping.{IsStoreWipe}
 
 told_now : (now : Option (List ℕ)) → is_some now ≡ true → (image : List ℕ) × (now ≡ Some image)
@@ -47,7 +46,7 @@ module _ {D : Type 0} (told : D → View) (old : Stored D) (store : IsStore (tol
   pub wiped_over : (new : Site D) → IsWipe told site (Ok new) → IsStoreWipe told old (Ok (record { disk = new.disk; gate = new.gate; end = new.end; party = old.party }))
   wiped_over new done = record {
     party = refl;
-    left = omega (arith, done.place.0, done.place.1);
+    place = done.place;
     stands = wiped_store new done;
     wiped = done.wiped;
     any_moment = kept_moment (told new.disk) done.any_moment;
@@ -59,7 +58,7 @@ module _ {D : Type 0} (told : D → View) (old : Stored D) (store : IsStore (tol
   pub wipe_failed : (b : Failed D) → IsWipe told site (Err b) → IsStoreWipe told old (Err b)
   wipe_failed b done = record {
     party = tt;
-    left = tt;
+    place = tt;
     stands = tt;
     wiped = tt;
     any_moment = kept_moment (told b.disk) done.any_moment;

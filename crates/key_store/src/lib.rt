@@ -2,15 +2,16 @@
 #![tactic(auto)]
 
 mod bodies;
+mod changing;
 mod compact;
 mod creating;
 mod follow;
-mod fusing;
 mod image_laws;
 mod keep;
 mod loading;
 mod store;
 mod wiping;
 
+pub use changing::Changing;
 pub use image_laws::law_one_finding;
 pub use store::{Kept, Store};

@@ -1,20 +1,18 @@
 -- A party acts on an input, and its disk is put back.
 use Rattle.std.proofs.Common.{◌≡◌, inl, inr, ℕ, ◌-◌, true, List, Option, Some, is_some, sym, ◌∙◌, ap, subst}
-use Rattle.x_base.specs.Edge.{Rose}
 use Rattle.x_disk.specs.Disk.{View, LeavesOnly, IsUntouched}
 use Rattle.x_disk.specs.Shelf.{IsAlike}
 use Rattle.x_disk.proofs.Runs.{joined, weaker, ends_alike}
 use Rattle.party_state.specs.declared.edit.Edit.{Edit}
-use Rattle.party_state.specs.declared.decision.Decision.{Decision}
 use Rattle.party_state.specs.declared.command.Input.{Input}
-use Rattle.party_state.specs.State.{Party}
-use Rattle.key_store.specs.Store.{StandsWith}
+use Rattle.party_state.specs.State.{Party, apply}
+use Rattle.key_store.specs.Store.{StandsWith, IsOldOrNew}
 use Rattle.roles.specs.Deciding.{decision}
-use Rattle.node_core.specs.Deciding.{after}
-use Rattle.node_core.specs.Turns.{IsOldOrNext, FitsInto, room_after}
+use Rattle.change_code.specs.Cost.{fits, room_after}
 use Rattle.x_party.specs.Images.{ReadsAs, FitsImage, OrBefore}
 use Rattle.x_party.specs.Outcomes.{IsToKeep, TakesTurn, IsSafe, IsSafeCall}
-use Rattle.x_party.specs.Steps.{IsOpened, IsNotOpened, IsAct, Acts, HasActed, IsClosed}
+use Rattle.x_party.specs.Steps.{IsOpened, IsNotOpened, IsClosed}
+use Rattle.x_party.proofs.Acts.{IsAct, Acts, HasActed}
 use Rattle.x_party.specs.declared.outcome.Outcome.{Outcome}
 use Rattle.x_party.specs.declared.outcome.Outcome.TheVariants as outcome
 use Rattle.x_party.proofs.Alike.{reads_alike, stands_alike, store_stands, untouched_on}
@@ -22,13 +20,10 @@ use Rattle.x_party.proofs.Alike.{reads_alike, stands_alike, store_stands, untouc
 tells_of : (now : Option (List ℕ)) (image : List ℕ) → now ≡ Some image → is_some now ≡ true
 tells_of now image is = ap is_some is
 
-pub acted_fault : (name : List ℕ) (now then : View) (room : ℕ) (p : Party) (d : Decision) (o : Outcome) → Acts name now then room p d o → o ≡ outcome.Fault → Rose now.faults then.faults
-acted_fault name now then room p d o acts is = subst (Acts name now then room p d) is acts
-
 -- a party that isn't opened has no turn
 pub not_turned : (name : List ℕ) (old new : View) (i : Input) (moment : ℕ) (o : Outcome) → IsNotOpened old new o → TakesTurn name old new i moment o
-not_turned name old new i moment (outcome.Done reply under) none = absurd none.refused
-not_turned name old new i moment (outcome.Refused verdict reply under) none = inr none.refused
+not_turned name old new i moment (outcome.Done reply) none = absurd none.refused
+not_turned name old new i moment (outcome.Refused verdict reply) none = inr none.refused
 not_turned name old new i moment (outcome.OtherParty asked found) none = absurd none.refused
 not_turned name old new i moment (outcome.Damaged place) none = none.refused
 not_turned name old new i moment outcome.Fault none = tt
@@ -38,9 +33,9 @@ module _ (old v : View) (gate end : ℕ) (p : Party) (opened : IsOpened old v ga
   pub reads : ReadsAs old p (end - gate)
   reads = reads_alike v old p (end - gate) (store_stands v gate end p opened.store).reads (sym opened.untouched.now)
 
-  fits_image : (image : List ℕ) (change : Option (List Edit)) → old.now ≡ Some image → FitsInto (end - gate) change → FitsImage image change
-  fits_image image change now fits = λ bodies holds.
-      subst (λ (n : ℕ). FitsInto n change) (sym (reads.left bodies (record { image = image; now = now; holds = holds }))) fits
+  fits_image : (image : List ℕ) (change : List Edit) → old.now ≡ Some image → fits (end - gate) change ≡ true → FitsImage image change
+  fits_image image change now fit = λ bodies holds.
+      subst (λ (n : ℕ). fits n change ≡ true) (sym (reads.left bodies (record { image = image; now = now; holds = holds }))) fit
 
   -- what holds of every answer of a call in which the party acted so
   module _ (w new : View) (back : IsAlike w new) (did here : Type 0) (leaves : Party → ℕ → List ℕ → Type 0) (writes : List ℕ → Party → Type 0)
@@ -70,7 +65,7 @@ module _ (old v : View) (gate end : ℕ) (p : Party) (opened : IsOpened old v ga
 
   module _ (name : List ℕ) (w new : View) (i : Input) (moment : ℕ) (back : IsAlike w new) where
     turned_of : (o : Outcome) → Acts name v w (end - gate) p (decision p i moment) o → TakesTurn name old new i moment o
-    turned_of (outcome.Done reply under) acts = record {
+    turned_of (outcome.Done reply) acts = record {
       party = p;
       room = end - gate;
       reads = reads;
@@ -79,12 +74,11 @@ module _ (old v : View) (gate end : ℕ) (p : Party) (opened : IsOpened old v ga
         accepts = acts.1.accepts;
         fits = acts.1.fits;
         reply = acts.1.reply;
-        under = acts.1.under;
-        stands = stands_alike w new (after (decision p i moment) p) (room_after (end - gate) (decision p i moment).change) acts.1.stands back;
+        stands = stands_alike w new (apply (decision p i moment).change p) (room_after (end - gate) (decision p i moment).change) acts.1.stands back;
         unchanged = λ none. untouched_on old v w new opened.untouched (acts.1.unchanged none) back;
       };
     }
-    turned_of (outcome.Refused verdict reply under) acts = inl (record {
+    turned_of (outcome.Refused verdict reply) acts = inl (record {
       party = p;
       room = end - gate;
       reads = reads;
@@ -120,12 +114,11 @@ module _ (old v : View) (gate end : ℕ) (p : Party) (opened : IsOpened old v ga
     turned_on o result before later acted closed = turned_closed o result before later (turned_of o acted.acts) closed
 
     pub safe_on : (o : Outcome) → HasActed name v w (end - gate) p (decision p i moment) o → IsSafe name old new i moment
-    safe_on o acted = safe_call w new back (Acts name v w (end - gate) p (decision p i moment) o) (IsToKeep name p (decision p i moment) (FitsInto (end - gate) (decision p i moment).change))
-        (λ other left. IsOldOrNext other left (decision other i moment)) (λ image other. IsToKeep name other (decision other i moment) (FitsImage image (decision other i moment).change))
+    safe_on o acted = safe_call w new back (Acts name v w (end - gate) p (decision p i moment) o) (IsToKeep name p (decision p i moment) (fits (end - gate) (decision p i moment).change ≡ true))
+        (λ other left. IsOldOrNew other left (decision other i moment).change) (λ image other. IsToKeep name other (decision other i moment) (FitsImage image (decision other i moment).change))
         acted (λ image now keep. record {
           own = keep.own;
           accepts = keep.accepts;
-          edits = keep.edits;
-          change = keep.change;
+          changes = keep.changes;
           enough = fits_image image (decision p i moment).change now keep.enough;
         })

@@ -5,7 +5,7 @@ use Rattle.key_journal.specs.Journal.{is_blank}
 use Rattle.key_journal.specs.Opening.{AreBytes}
 use Rattle.party_state.specs.declared.command.Input.{Input}
 use Rattle.party_state.specs.State.{Party}
-use Rattle.party_state.specs.Show.{shown}
+use Rattle.party_show.specs.Show.{shown}
 use Rattle.change_code.specs.Whole.{IsTooLarge}
 use Rattle.key_store.specs.Store.{Stands, IsNothing}
 use Rattle.roles.specs.Deciding.{decision}
@@ -19,8 +19,8 @@ is_false true never = absurd (never refl)
 is_false false never = refl
 
 creation_of : (image : List ℕ) (b : Bool) → is_blank image ≡ b → (o : Outcome) × IsDueCreation image o
-creation_of image true blank = (outcome.Done None None, (refl, refl, blank))
-creation_of image false marked = (outcome.Refused NotEmpty None None, (refl, refl, refl, marked))
+creation_of image true blank = (outcome.Done None, (refl, blank))
+creation_of image false marked = (outcome.Refused NotEmpty None, (refl, refl, marked))
 
 pub creation_due : (image : List ℕ) → (o : Outcome) × IsDueCreation image o
 creation_due image = creation_of image (is_blank image) refl
@@ -28,7 +28,7 @@ creation_due image = creation_of image (is_blank image) refl
 module _ (one_of : (image : List ℕ) → AreBytes image → IsNothing image → ⊥) where
   pub turn_due : (name : List ℕ) (i : Input) (moment : ℕ) (image : List ℕ) → AreBytes image → ((o : Outcome) → IsDue name i moment image o → ⊥) → ⊥
   turn_due name i moment image bytes never = one_of image bytes (record {
-    not_blank = is_false (is_blank image) (λ blank. never (outcome.Refused Blank None None) (inr (record { blank = blank; said = refl; written = refl; named = refl })));
+    not_blank = is_false (is_blank image) (λ blank. never (outcome.Refused Blank None) (inr (record { blank = blank; said = refl; written = refl })));
     no_party = no_party;
     undamaged = λ place first. never (outcome.Damaged place) first;
   }) where
@@ -38,35 +38,35 @@ module _ (one_of : (image : List ℕ) → AreBytes image → IsNothing image →
         let other : (party.own ≢ name) → ⊥ = λ differs. never (outcome.OtherParty name party.own)
         (record { party = party; stood = stood; called = refl; own = refl; differs = differs }) in
         other (λ own.
-        let refuses : (d.verdict ≢ Accept) → ⊥ = λ refused. never (outcome.Refused d.verdict d.reply d.under)
-        (inl (record { party = party; stood = stood; own = own; cause = inl (record { refuses = refused; verdict = refl; reply = refl; under = refl }) })) in
+        let refuses : (d.verdict ≢ Accept) → ⊥ = λ refused. never (outcome.Refused d.verdict d.reply)
+        (inl (record { party = party; stood = stood; own = own; cause = inl (record { refuses = refused; verdict = refl; reply = refl }) })) in
         refuses (λ accepted.
-        let full : (FitsImage image d.change → ⊥) → ⊥ = λ full. never (outcome.Refused JournalFull None None)
-        (inl (record { party = party; stood = stood; own = own; cause = inr (record { accepts = accepted; full = full; verdict = refl; reply = refl; under = refl }) })) in
-        full (λ fits. never (outcome.Done d.reply d.under) (record { party = party; stood = stood; own = own; accepted = accepted; fits = fits; written = refl; named = refl }))))
+        let full : (FitsImage image d.change → ⊥) → ⊥ = λ full. never (outcome.Refused JournalFull None)
+        (inl (record { party = party; stood = stood; own = own; cause = inr (record { accepts = accepted; full = full; verdict = refl; reply = refl }) })) in
+        full (λ fits. never (outcome.Done d.reply) (record { party = party; stood = stood; own = own; accepted = accepted; fits = fits; written = refl }))))
 
   pub show_due : (image : List ℕ) → AreBytes image → ((o : Outcome) → IsDueShow image o → ⊥) → ⊥
   show_due image bytes never = one_of image bytes (record {
-    not_blank = is_false (is_blank image) (λ blank. never (outcome.Refused Blank None None) (record { blank = blank; said = refl; written = refl; named = refl }));
-    no_party = λ party stood. never (outcome.Done (Some (shown party)) None) (party, stood, refl, refl);
+    not_blank = is_false (is_blank image) (λ blank. never (outcome.Refused Blank None) (record { blank = blank; said = refl; written = refl }));
+    no_party = λ party stood. never (outcome.Done (Some (shown party))) (party, stood, refl);
     undamaged = λ place first. never (outcome.Damaged place) first;
   })
 
   pub compaction_due : (image : List ℕ) → AreBytes image → ((o : Outcome) → IsDueCompaction image o → ⊥) → ⊥
   compaction_due image bytes never = one_of image bytes (record {
-    not_blank = is_false (is_blank image) (λ blank. never (outcome.Refused Blank None None) (inr (record { blank = blank; said = refl; written = refl; named = refl })));
+    not_blank = is_false (is_blank image) (λ blank. never (outcome.Refused Blank None) (inr (record { blank = blank; said = refl; written = refl })));
     no_party = no_party;
     undamaged = λ place first. never (outcome.Damaged place) first;
   }) where
     no_party : (party : Party) → Stands image party → ⊥
     no_party party stood =
-        let fits : IsTooLarge party → ⊥ = λ large. never (outcome.Refused JournalFull None None)
-        (inl (record { party = party; stood = stood; too_large = large; said = refl; nothing = record { reply = refl; under = refl } })) in
-        never (outcome.Done None None) (record { party = party; stood = stood; fits = fits; nothing = record { reply = refl; under = refl } })
+        let fits : IsTooLarge party → ⊥ = λ large. never (outcome.Refused JournalFull None)
+        (inl (record { party = party; stood = stood; too_large = large; said = refl; nothing = refl })) in
+        never (outcome.Done None) (record { party = party; stood = stood; fits = fits; nothing = refl })
 
   pub wiping_due : (image : List ℕ) → AreBytes image → ((o : Outcome) → IsDueWiping image o → ⊥) → ⊥
   wiping_due image bytes never = one_of image bytes (record {
-    not_blank = is_false (is_blank image) (λ blank. never (outcome.Refused Blank None None) (record { blank = blank; said = refl; written = refl; named = refl }));
-    no_party = λ party stood. never (outcome.Done None None) (record { party = party; stood = stood; nothing = record { reply = refl; under = refl } });
+    not_blank = is_false (is_blank image) (λ blank. never (outcome.Refused Blank None) (record { blank = blank; said = refl; written = refl }));
+    no_party = λ party stood. never (outcome.Done None) (record { party = party; stood = stood; nothing = refl });
     undamaged = λ place first. never (outcome.Damaged place) first;
   })

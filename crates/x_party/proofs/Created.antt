@@ -1,5 +1,5 @@
 -- A party is set up, and its disk is put back.
-use Rattle.std.proofs.Common.{◌≡◌, ◌⊎◌, inl, inr, ℕ, ◌+◌, ◌-◌, ◌≤◌, true, List, [], ◌∷◌, length, Some, None, is_some, refl, sym, ◌∙◌, subst, arith}
+use Rattle.std.proofs.Common.{◌≡◌, ◌⊎◌, inl, inr, ℕ, ◌+◌, ◌-◌, ◌≤◌, true, List, [], ◌∷◌, Some, None, is_some, refl, sym, ◌∙◌, subst, arith}
 use Rattle.x_base.specs.Edge.{Rose}
 use Rattle.x_base.specs.declared.party.Role.{Role}
 use Rattle.x_gen.specs.declared.generator.Gen.{Gen}
@@ -7,10 +7,10 @@ use Rattle.x_disk.specs.Disk.{View, Tells, LeavesOnly}
 use Rattle.x_disk.specs.Shelf.{IsAlike}
 use Rattle.party_state.specs.declared.edit.Edit.TheVariants.{Begin}
 use Rattle.party_state.specs.State.{Party, begun}
-use Rattle.key_journal.specs.Layout.{second_start}
+use Rattle.key_journal.specs.Layout.{first_start, second_start}
 use Rattle.key_journal.specs.Journal.{is_blank}
 use Rattle.key_journal.specs.States.{WritesOnlyToBlank}
-use Rattle.change_code.specs.Code.{code_of_change}
+use Rattle.change_code.specs.Cost.{cost}
 use Rattle.key_store.specs.Store.{Stored, IsStore, IsBlankOrFirst}
 use Rattle.x_party.specs.Images.{StandsFor, first_room}
 use Rattle.x_party.specs.Outcomes.{CreatesParty}
@@ -24,17 +24,15 @@ made_fault now then p o makes is = subst (MakesParty now then p) is makes
 
 module _ (old v w new : View) (p : Party) (out : IsAlike old v) (back : IsAlike w new) where
   created_of : (o : Outcome) → MakesParty v w p o → CreatesParty old new p o
-  created_of (outcome.Done reply under) makes = record {
+  created_of (outcome.Done reply) makes = record {
     blank = λ image now. makes.blank image (out.now ∙ now);
     reply = makes.reply;
-    under = makes.under;
     stands = stands_alike w new p (first_room p) makes.stands back;
   }
-  created_of (outcome.Refused verdict reply under) makes = record {
+  created_of (outcome.Refused verdict reply) makes = record {
     not_blank = λ image now. makes.not_blank image (out.now ∙ now);
     verdict = makes.verdict;
     reply = makes.reply;
-    under = makes.under;
   }
   created_of (outcome.OtherParty asked found) makes = makes
   created_of (outcome.Damaged place) makes = makes
@@ -48,7 +46,7 @@ module _ (old v w new : View) (p : Party) (out : IsAlike old v) (back : IsAlike 
 
 module _ {D : Type 0} (told : D → View) (was : D) (new : Stored D) (own : List ℕ) (role : Role) (generator : Gen) where
   first_stands : IsStore (told new.disk) new.gate new.end new.party → new.party ≡ begun own role generator
-      → (new.gate ≡ 21 + length (code_of_change (Begin own role generator ∷ []))) × (new.end ≡ second_start)
+      → (new.gate ≡ first_start + cost (Begin own role generator ∷ [])) × (new.end ≡ second_start)
       → StandsFor (told new.disk) (begun own role generator) (first_room (begun own role generator))
   first_stands store party place =
       let left : new.end - new.gate ≡ first_room (begun own role generator) = omega (arith, place.0, place.1) in
@@ -56,14 +54,14 @@ module _ {D : Type 0} (told : D → View) (was : D) (new : Stored D) (own : List
       (subst (λ (n : ℕ). StandsFor (told new.disk) new.party n) left (store_stands (told new.disk) new.gate new.end new.party store))
 
   pub create_done : (disk : D) → disk ≡ new.disk → IsStore (told new.disk) new.gate new.end new.party → new.party ≡ begun own role generator
-      → (new.gate ≡ 21 + length (code_of_change (Begin own role generator ∷ []))) × (new.end ≡ second_start)
+      → (new.gate ≡ first_start + cost (Begin own role generator ∷ [])) × (new.end ≡ second_start)
       → ((image : List ℕ) → (told was).now ≡ Some image → is_blank image ≡ true) → WritesOnlyToBlank (told was) (told new.disk)
       → (Tells (told was) → LeavesOnly (told was) (told new.disk) (λ c. IsBlankOrFirst (begun own role generator) c ⊎ (told was).may_leave c))
       → is_some (told new.disk).now ≡ is_some (told was).now → (told was).faults ≤ (told new.disk).faults
-      → HasCreated (told was) (told disk) (begun own role generator) (outcome.Done None None)
+      → HasCreated (told was) (told disk) (begun own role generator) (outcome.Done None)
   create_done disk is store party place blank nothing_written run tells faults =
-      subst (λ (d : D). HasCreated (told was) (told d) (begun own role generator) (outcome.Done None None)) (sym is) (record {
-        makes = record { blank = blank; reply = refl; under = refl; stands = first_stands store party place };
+      subst (λ (d : D). HasCreated (told was) (told d) (begun own role generator) (outcome.Done None)) (sym is) (record {
+        makes = record { blank = blank; reply = refl; stands = first_stands store party place };
         nothing_written = nothing_written;
         any_moment = run;
         tells = tells;

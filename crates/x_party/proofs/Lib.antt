@@ -9,3 +9,4 @@ mod Opened
 mod Others
 mod Shown
 mod Wiped
+mod Acts

@@ -29,7 +29,7 @@ opened old v w gate end party out store same images run exact = record {
 no_party : (old v new : View) (reason : Cause) → old.now ≡ v.now → IsUntouched old new → (reason ≡ cause.NotEmpty → ⊥)
     → ((image : List ℕ) → v.now ≡ Some image → IsRefusal image reason) → HasNoParty old new (outcome_of reason)
 no_party old v new cause.Blank same untouched named refused =
-    record { blank = λ image now. refused image (sym same ∙ now); verdict = refl; reply = refl; under = refl; untouched = untouched }
+    record { blank = λ image now. refused image (sym same ∙ now); verdict = refl; reply = refl; untouched = untouched }
 no_party old v new cause.NotEmpty same untouched named refused = absurd (named refl)
 no_party old v new (cause.Damaged place) same untouched named refused = record { first = λ image now. refused image (sym same ∙ now); untouched = untouched }
 no_party old v new cause.Fault same untouched named refused = tt

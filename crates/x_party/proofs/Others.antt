@@ -6,9 +6,8 @@ use Rattle.x_disk.proofs.Runs.{began}
 use Rattle.party_state.specs.declared.decision.Decision.{Decision}
 use Rattle.party_state.specs.State.{Party}
 use Rattle.key_journal.specs.States.{room_of}
-use Rattle.key_store.specs.Store.{Stored, StandsWith, IsStore}
-use Rattle.node_core.specs.Turns.{IsOldOrNext}
-use Rattle.x_party.specs.Steps.{HasActed}
+use Rattle.key_store.specs.Store.{Stored, StandsWith, IsStore, IsOldOrNew}
+use Rattle.x_party.proofs.Acts.{HasActed}
 use Rattle.x_party.specs.declared.outcome.Outcome.TheVariants as outcome
 use Rattle.x_party.proofs.Alike.{untouched_self, store_stands}
 
@@ -34,7 +33,7 @@ left_over end gate room is = omega (arith, is)
 
 module _ (v : View) (gate end : ℕ) (p : Party) (d : Decision) (sound : IsSound v) (store : IsStore v gate end p) where
   -- no disk call was made
-  at_rest : Tells v → LeavesOnly v v (IsOldOrNext p (end - gate) d)
+  at_rest : Tells v → LeavesOnly v v (IsOldOrNew p (end - gate) d.change)
   at_rest tells =
       let now = told_now v.now tells in
       let s = store.stands now.0 now.1 in
@@ -44,7 +43,7 @@ module _ (v : View) (gate end : ℕ) (p : Party) (d : Decision) (sound : IsSound
         fold = s.fold;
         left = left_over end gate (room_of s.bodies) (store.room s.bodies (record { image = now.0; now = now.1; holds = s.holds }));
       } in
-      began v (IsOldOrNext p (end - gate) d) sound (λ c left. inl (subst (λ (i : List ℕ). StandsWith i p (end - gate)) (sym (store.durable.only now.0 c now.1 left)) with))
+      began v (IsOldOrNew p (end - gate) d.change) sound (λ c left. inl (subst (λ (i : List ℕ). StandsWith i p (end - gate)) (sym (store.durable.only now.0 c now.1 left)) with))
 
   not_asked : (name : List ℕ) → p.own ≢ name → HasActed name v v (end - gate) p d (outcome.OtherParty name p.own)
   not_asked name differs = record {

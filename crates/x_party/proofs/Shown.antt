@@ -15,8 +15,8 @@ text_fault p o text is = absurd (subst (IsText p) is text)
 
 -- a party that isn't opened isn't shown
 pub not_shown : (old new : View) (o : Outcome) → IsNotOpened old new o → ShowsParty old new o
-not_shown old new (outcome.Done reply under) none = absurd none.refused
-not_shown old new (outcome.Refused verdict reply under) none = none.refused
+not_shown old new (outcome.Done reply) none = absurd none.refused
+not_shown old new (outcome.Refused verdict reply) none = none.refused
 not_shown old new (outcome.OtherParty asked found) none = absurd none.refused
 not_shown old new (outcome.Damaged place) none = none.refused
 not_shown old new outcome.Fault none = tt
@@ -24,17 +24,16 @@ not_shown old new outcome.NoMemory none = tt
 
 module _ {D : Type 0} (told : D → View) (old new : View) (opened_disk disk : D) (gate end : ℕ) (p : Party) (opened : IsOpened old (told opened_disk) gate end p) (is : disk ≡ opened_disk) (back : IsAlike (told disk) new) where
   shown_of : (o : Outcome) → IsText p o → ShowsParty old new o
-  shown_of (outcome.Done reply under) text = record {
+  shown_of (outcome.Done reply) text = record {
     party = p;
     room = end - gate;
     reads = reads old (told opened_disk) gate end p opened;
     holds = record {
-      text = text.0;
-      under = text.1;
+      text = text;
       stands = stands_alike (told opened_disk) new p (end - gate) (store_stands (told opened_disk) gate end p opened.store) (subst (λ d. IsAlike (told d) new) is back);
     };
   }
-  shown_of (outcome.Refused verdict reply under) text = absurd text
+  shown_of (outcome.Refused verdict reply) text = absurd text
   shown_of (outcome.OtherParty asked found) text = absurd text
   shown_of (outcome.Damaged place) text = absurd text
   shown_of outcome.Fault text = absurd text

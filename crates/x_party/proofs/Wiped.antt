@@ -1,65 +1,64 @@
 -- A party's file is wiped, and its disk is put back.
 use Rattle.std.proofs.Common.{◌≡◌, inl, inr, ℕ, ◌-◌, refl, sym, ◌∙◌, subst}
-use Rattle.x_base.specs.Edge.{Rose}
+use Rattle.x_base.specs.declared.verdict.Verdict.{Verdict}
 use Rattle.x_disk.specs.Disk.{View}
+use Rattle.x_disk.proofs.Runs.{weaker}
 use Rattle.x_disk.specs.Shelf.{IsAlike}
 use Rattle.x_disk.specs.declared.disk.DiskErr.{DiskErr}
 use Rattle.x_disk.specs.declared.disk.DiskErr.TheVariants as error
 use Rattle.key_journal.specs.Causes.{cause_of}
 use Rattle.key_journal.specs.Wiping.{Wipes}
 use Rattle.party_state.specs.State.{Party}
-use Rattle.key_store.specs.Store.{Stored, StandsWith, IsStore}
-use Rattle.node_core.specs.Turns.{turn_disk}
-use Rattle.node_core.specs.Wipings.{IsNodeWipe}
+use Rattle.key_store.specs.Store.{Stored, StandsWith}
+use Rattle.member.specs.Acts.{wiping}
+use Rattle.node_core.specs.Turns.{member_of, IsOldOrNext, IsTurn, turn_disk}
 use Rattle.node_core.specs.declared.node.Turn.{Turn}
 use Rattle.node_core.specs.declared.node.Turn.TheVariants as turn
-use Rattle.x_party.specs.Images.{StandsFor}
 use Rattle.x_party.specs.Outcomes.{WipesParty, IsSafeWiping}
-use Rattle.x_party.specs.Steps.{IsOpened, IsNotOpened, WipesFile, HasWiped, IsClosed, outcome_of, outcome_of_turn}
+use Rattle.x_party.specs.Steps.{IsOpened, IsNotOpened, IsClosed, outcome_of, outcome_with, outcome_of_turn}
 use Rattle.x_party.specs.declared.outcome.Outcome.{Outcome}
 use Rattle.x_party.specs.declared.outcome.Outcome.TheVariants as outcome
 use Rattle.x_party.proofs.Acted.{reads, safe_call}
-use Rattle.x_party.proofs.Alike.{stands_alike, store_stands}
+use Rattle.x_party.proofs.Acts.{WipesFile, HasWiped}
+use Rattle.x_party.proofs.Alike.{stands_alike}
+use Rattle.x_party.proofs.Ended.{member_stands}
 
 -- ---- an open party
 
 module _ {D : Type 0} (told : D → View) (old : Stored D) where
-  stays : (new : Stored D) → IsStore (told new.disk) new.gate new.end new.party → new.party ≡ old.party → new.end - new.gate ≡ old.end - old.gate
-      → StandsFor (told new.disk) old.party (old.end - old.gate)
-  stays new store party left =
-      subst (λ (p : Party). StandsFor (told new.disk) p (old.end - old.gate)) party
-      (subst (λ (n : ℕ). StandsFor (told new.disk) new.party n) left (store_stands (told new.disk) new.gate new.end new.party store))
-
-  wipes : (t : Turn D) → IsNodeWipe told old t → WipesFile (told old.disk) (told (turn_disk t)) (old.end - old.gate) old.party (outcome_of_turn t)
-  wipes (turn.Done new reply under) is = record { nothing = is.answer.nothing; stands = stays new is.stands is.answer.party is.answer.left; wiped = is.answer.wiped }
-  wipes (turn.Refused new verdict reply under) is = absurd is.answer
-  wipes (turn.NoMemory new) is = absurd is.answer
+  wipes : (t : Turn D) → IsTurn told old wiping t → WipesFile (told old.disk) (told (turn_disk t)) (old.end - old.gate) old.party (outcome_of_turn t)
+  wipes (turn.Done new verdict reply under) is =
+      subst (λ (v : Verdict). WipesFile (told old.disk) (told new.disk) (old.end - old.gate) old.party (outcome_with v reply)) (sym is.answer.verdict) (record {
+        nothing = is.answer.reply;
+        stands = member_stands (told new.disk) new.gate new.end new.party (member_of old) is.stands is.answer.next;
+        wiped = is.answer.work;
+      })
+  wipes (turn.NoMemory new) is = tt
   wipes (turn.Broken b) is = go b.cause refl where
     go : (e : DiskErr) → b.cause ≡ e → WipesFile (told old.disk) (told b.disk) (old.end - old.gate) old.party (outcome_of (cause_of b.cause))
-    go error.Fault same = subst (λ (e : DiskErr). WipesFile (told old.disk) (told b.disk) (old.end - old.gate) old.party (outcome_of (cause_of e))) (sym same) (is.answer.fault same)
+    go error.Fault same = subst (λ (e : DiskErr). WipesFile (told old.disk) (told b.disk) (old.end - old.gate) old.party (outcome_of (cause_of e))) (sym same) (is.answer.cause.fault same)
     go error.NoMemory same = subst (λ (e : DiskErr). WipesFile (told old.disk) (told b.disk) (old.end - old.gate) old.party (outcome_of (cause_of e))) (sym same) tt
 
-  pub wiped_by : (t : Turn D) (o : Outcome) (disk : D) → IsNodeWipe told old t → disk ≡ turn_disk t → o ≡ outcome_of_turn t
+  pub wiped_by : (t : Turn D) (o : Outcome) (disk : D) → IsTurn told old wiping t → disk ≡ turn_disk t → o ≡ outcome_of_turn t
       → HasWiped (told old.disk) (told disk) (old.end - old.gate) old.party o
   wiped_by t o disk done disk_is is =
       subst (λ (x : D). HasWiped (told old.disk) (told x) (old.end - old.gate) old.party o) (sym disk_is)
       (subst (λ (x : Outcome). HasWiped (told old.disk) (told (turn_disk t)) (old.end - old.gate) old.party x) (sym is) (record {
         acts = wipes t done;
-        any_moment = done.any_moment;
+        any_moment = λ tells.
+            weaker (told old.disk) (told (turn_disk t)) (IsOldOrNext (member_of old) (member_of old)) (λ c. StandsWith c old.party (old.end - old.gate)) (done.any_moment tells)
+            (λ c either. elim either [ inl stays ↦ stays | inr stays ↦ stays ]);
         still = λ none. absurd (none tt);
         tells = done.tells;
         faults = done.faults;
       }))
 
-pub wipes_fault : (now then : View) (room : ℕ) (p : Party) (o : Outcome) → WipesFile now then room p o → o ≡ outcome.Fault → Rose now.faults then.faults
-wipes_fault now then room p o acts is = subst (WipesFile now then room p) is acts
-
 -- ---- a party on the shelf
 
 -- the file of a party that isn't opened isn't wiped
 pub not_wiped : (old new : View) (o : Outcome) → IsNotOpened old new o → WipesParty old new o
-not_wiped old new (outcome.Done reply under) none = absurd none.refused
-not_wiped old new (outcome.Refused verdict reply under) none = none.refused
+not_wiped old new (outcome.Done reply) none = absurd none.refused
+not_wiped old new (outcome.Refused verdict reply) none = none.refused
 not_wiped old new (outcome.OtherParty asked found) none = absurd none.refused
 not_wiped old new (outcome.Damaged place) none = none.refused
 not_wiped old new outcome.Fault none = tt
@@ -72,7 +71,7 @@ wipes_between old v w new first last wiped = λ image bodies now holds.
 
 module _ (old v w new : View) (gate end : ℕ) (p : Party) (opened : IsOpened old v gate end p) (back : IsAlike w new) where
   wiped_of : (o : Outcome) → WipesFile v w (end - gate) p o → WipesParty old new o
-  wiped_of (outcome.Done reply under) acts = record {
+  wiped_of (outcome.Done reply) acts = record {
     party = p;
     room = end - gate;
     reads = reads old v gate end p opened;
@@ -82,7 +81,7 @@ module _ (old v w new : View) (gate end : ℕ) (p : Party) (opened : IsOpened ol
       wiped = wipes_between old v w new opened.untouched.now back.now acts.wiped;
     };
   }
-  wiped_of (outcome.Refused verdict reply under) acts = absurd acts
+  wiped_of (outcome.Refused verdict reply) acts = absurd acts
   wiped_of (outcome.OtherParty asked found) acts = absurd acts
   wiped_of (outcome.Damaged place) acts = absurd acts
   wiped_of outcome.Fault acts = tt

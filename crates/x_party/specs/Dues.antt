@@ -1,39 +1,36 @@
 -- The outcome that is due of a call over a party, by the image of the party's disk (this project's profile).
 use Rattle.std.specs.Prelude.{◌≡◌, ◌≢◌, ◌⊎◌, ℕ, true, false, List, Option, Some, None}
-use Rattle.x_base.specs.declared.key_name.FullName.{FullName}
 use Rattle.x_base.specs.declared.verdict.Verdict.{Verdict}
 use Rattle.x_base.specs.declared.verdict.Verdict.TheVariants.{Accept, JournalFull, NotEmpty, Blank}
 use Rattle.x_disk.specs.Disk.{View}
 use Rattle.key_journal.specs.Journal.{is_blank}
 use Rattle.party_state.specs.declared.command.Input.{Input}
 use Rattle.party_state.specs.State.{Party}
-use Rattle.party_state.specs.Show.{shown}
+use Rattle.party_show.specs.Show.{shown}
 use Rattle.change_code.specs.Whole.{IsTooLarge}
 use Rattle.key_store.specs.Store.{Stands, IsFirstDamage}
 use Rattle.roles.specs.Deciding.{decision}
-use Rattle.node_core.specs.Compactions.{AnswersNothing}
-use Rattle.node_core.specs.Turns.{IsAsDecided, IsTooLong}
 use Rattle.x_party.specs.Images.{FitsImage}
+use Rattle.x_party.specs.Outcomes.{IsAsDecided, IsTooLong}
 use Rattle.x_party.specs.declared.outcome.Outcome.{Outcome}
 use Rattle.x_party.specs.declared.outcome.Outcome.TheVariants as outcome
 
 -- the party of the name, for which the image stands, accepts, and its change fits
-pub record Accepts (name image : List ℕ) (i : Input) (moment : ℕ) (reply : Option (List ℕ)) (under : Option FullName) : Type 0 where
+pub record Accepts (name image : List ℕ) (i : Input) (moment : ℕ) (reply : Option (List ℕ)) : Type 0 where
   pub party : Party
   pub stood : Stands image party
   pub own : party.own ≡ name
   pub accepted : (decision party i moment).verdict ≡ Accept
   pub fits : FitsImage image (decision party i moment).change
   pub written : reply ≡ (decision party i moment).reply
-  pub named : under ≡ (decision party i moment).under
 
 -- it refuses, or its change doesn't fit
-pub record Refuses (name image : List ℕ) (i : Input) (moment : ℕ) (verdict : Verdict) (reply : Option (List ℕ)) (under : Option FullName) : Type 0 where
+pub record Refuses (name image : List ℕ) (i : Input) (moment : ℕ) (verdict : Verdict) (reply : Option (List ℕ)) : Type 0 where
   pub party : Party
   pub stood : Stands image party
   pub own : party.own ≡ name
-  pub cause : IsAsDecided (decision party i moment) verdict reply under
-      ⊎ IsTooLong (decision party i moment) (FitsImage image (decision party i moment).change) verdict reply under
+  pub cause : IsAsDecided (decision party i moment) verdict reply
+      ⊎ IsTooLong (decision party i moment) (FitsImage image (decision party i moment).change) verdict reply
 
 -- the image stands for a party of another identity than the name
 pub record FindsOther (name image asked found : List ℕ) : Type 0 where
@@ -44,16 +41,15 @@ pub record FindsOther (name image asked found : List ℕ) : Type 0 where
   pub differs : party.own ≢ name
 
 -- no party stands on the disk
-pub record FindsNobody (image : List ℕ) (verdict : Verdict) (reply : Option (List ℕ)) (under : Option FullName) : Type 0 where
+pub record FindsNobody (image : List ℕ) (verdict : Verdict) (reply : Option (List ℕ)) : Type 0 where
   pub blank : is_blank image ≡ true
   pub said : verdict ≡ Blank
   pub written : reply ≡ None
-  pub named : under ≡ None
 
 -- the outcome that is due of the turn of the party of this name with an input
 abbrev pub IsDue : List ℕ → Input → ℕ → List ℕ → Outcome → Type 0
-IsDue name i moment image (outcome.Done reply under) = Accepts name image i moment reply under
-IsDue name i moment image (outcome.Refused verdict reply under) = Refuses name image i moment verdict reply under ⊎ FindsNobody image verdict reply under
+IsDue name i moment image (outcome.Done reply) = Accepts name image i moment reply
+IsDue name i moment image (outcome.Refused verdict reply) = Refuses name image i moment verdict reply ⊎ FindsNobody image verdict reply
 IsDue name i moment image (outcome.OtherParty asked found) = FindsOther name image asked found
 IsDue name i moment image (outcome.Damaged place) = IsFirstDamage image place
 IsDue name i moment image outcome.Fault = ⊥
@@ -61,53 +57,53 @@ IsDue name i moment image outcome.NoMemory = ⊥
 
 -- where a party is created
 abbrev pub IsDueCreation : List ℕ → Outcome → Type 0
-IsDueCreation image (outcome.Done reply under) = (reply ≡ None) × (under ≡ None) × (is_blank image ≡ true)
-IsDueCreation image (outcome.Refused verdict reply under) = (verdict ≡ NotEmpty) × (reply ≡ None) × (under ≡ None) × (is_blank image ≡ false)
+IsDueCreation image (outcome.Done reply) = (reply ≡ None) × (is_blank image ≡ true)
+IsDueCreation image (outcome.Refused verdict reply) = (verdict ≡ NotEmpty) × (reply ≡ None) × (is_blank image ≡ false)
 IsDueCreation image other = ⊥
 
 -- where a party is shown
 abbrev pub IsDueShow : List ℕ → Outcome → Type 0
-IsDueShow image (outcome.Done reply under) = (party : Party) × Stands image party × (reply ≡ Some (shown party)) × (under ≡ None)
-IsDueShow image (outcome.Refused verdict reply under) = FindsNobody image verdict reply under
+IsDueShow image (outcome.Done reply) = (party : Party) × Stands image party × (reply ≡ Some (shown party))
+IsDueShow image (outcome.Refused verdict reply) = FindsNobody image verdict reply
 IsDueShow image (outcome.OtherParty asked found) = ⊥
 IsDueShow image (outcome.Damaged place) = IsFirstDamage image place
 IsDueShow image outcome.Fault = ⊥
 IsDueShow image outcome.NoMemory = ⊥
 
 -- the party for which the image stands fits into one frame
-pub record FitsOneFrame (image : List ℕ) (reply : Option (List ℕ)) (under : Option FullName) : Type 0 where
+pub record FitsOneFrame (image : List ℕ) (reply : Option (List ℕ)) : Type 0 where
   pub party : Party
   pub stood : Stands image party
   pub fits : IsTooLarge party → ⊥
-  pub nothing : AnswersNothing reply under
+  pub nothing : reply ≡ None
 
 -- it is too large for one
-pub record PassesOneFrame (image : List ℕ) (verdict : Verdict) (reply : Option (List ℕ)) (under : Option FullName) : Type 0 where
+pub record PassesOneFrame (image : List ℕ) (verdict : Verdict) (reply : Option (List ℕ)) : Type 0 where
   pub party : Party
   pub stood : Stands image party
   pub too_large : IsTooLarge party
   pub said : verdict ≡ JournalFull
-  pub nothing : AnswersNothing reply under
+  pub nothing : reply ≡ None
 
 -- where a party is compacted
 abbrev pub IsDueCompaction : List ℕ → Outcome → Type 0
-IsDueCompaction image (outcome.Done reply under) = FitsOneFrame image reply under
-IsDueCompaction image (outcome.Refused verdict reply under) = PassesOneFrame image verdict reply under ⊎ FindsNobody image verdict reply under
+IsDueCompaction image (outcome.Done reply) = FitsOneFrame image reply
+IsDueCompaction image (outcome.Refused verdict reply) = PassesOneFrame image verdict reply ⊎ FindsNobody image verdict reply
 IsDueCompaction image (outcome.OtherParty asked found) = ⊥
 IsDueCompaction image (outcome.Damaged place) = IsFirstDamage image place
 IsDueCompaction image outcome.Fault = ⊥
 IsDueCompaction image outcome.NoMemory = ⊥
 
 -- the image stands for a party
-pub record FindsParty (image : List ℕ) (reply : Option (List ℕ)) (under : Option FullName) : Type 0 where
+pub record FindsParty (image : List ℕ) (reply : Option (List ℕ)) : Type 0 where
   pub party : Party
   pub stood : Stands image party
-  pub nothing : AnswersNothing reply under
+  pub nothing : reply ≡ None
 
 -- where a party's file is wiped
 abbrev pub IsDueWiping : List ℕ → Outcome → Type 0
-IsDueWiping image (outcome.Done reply under) = FindsParty image reply under
-IsDueWiping image (outcome.Refused verdict reply under) = FindsNobody image verdict reply under
+IsDueWiping image (outcome.Done reply) = FindsParty image reply
+IsDueWiping image (outcome.Refused verdict reply) = FindsNobody image verdict reply
 IsDueWiping image (outcome.OtherParty asked found) = ⊥
 IsDueWiping image (outcome.Damaged place) = IsFirstDamage image place
 IsDueWiping image outcome.Fault = ⊥

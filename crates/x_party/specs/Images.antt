@@ -1,6 +1,6 @@
 -- What the image under a party stands for before and after a call (this project's profile). `old` and `new` are
 -- what the shelf tells of the party's disk.
-use Rattle.std.specs.Prelude.{◌≡◌, ◌⊎◌, ℕ, List, [], ◌∷◌, Option, Some, is_some}
+use Rattle.std.specs.Prelude.{◌≡◌, ◌⊎◌, ℕ, true, List, [], ◌∷◌, Some, is_some}
 use Rattle.x_disk.specs.Disk.{View, IsDurable}
 use Rattle.key_journal.specs.Layout.{area_size}
 use Rattle.key_journal.specs.Journal.{Holds}
@@ -8,8 +8,8 @@ use Rattle.key_journal.specs.States.{HasBodies, room_of}
 use Rattle.party_state.specs.declared.edit.Edit.{Edit}
 use Rattle.party_state.specs.declared.edit.Edit.TheVariants.{Begin}
 use Rattle.party_state.specs.State.{Party}
+use Rattle.change_code.specs.Cost.{fits, room_after}
 use Rattle.key_store.specs.Store.{Stands}
-use Rattle.node_core.specs.Turns.{FitsInto, room_after}
 
 -- where the disk tells, what a read gives stands for this party, and so much room is left
 pub record ReadsAs (v : View) (party : Party) (room : ℕ) : Type 0 where
@@ -37,12 +37,12 @@ pub record OfOwnParty (name : List ℕ) (v : View) (P : Party → ℕ → Type 0
   pub holds : P party room
 
 -- a change fits into the room of an image
-abbrev pub FitsImage : List ℕ → Option (List Edit) → Type 0
-FitsImage image change = (bodies : List (List ℕ)) → Holds image bodies → FitsInto (room_of bodies) change
+abbrev pub FitsImage : List ℕ → List Edit → Type 0
+FitsImage image change = (bodies : List (List ℕ)) → Holds image bodies → fits (room_of bodies) change ≡ true
 
 -- the room that a party leaves of an empty area where it is created
 abbrev pub first_room : Party → ℕ
-first_room p = room_after area_size (Some (Begin p.own p.role p.generator ∷ []))
+first_room p = room_after area_size (Begin p.own p.role p.generator ∷ [])
 
 -- a disk that told its bytes still tells them, and one that didn't still doesn't
 abbrev pub StillTells : View → View → Type 0

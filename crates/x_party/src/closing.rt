@@ -15,8 +15,8 @@ pub(crate) fn outcome_of(cause: Cause) -> Outcome
     ensures { result ≡ outcome_of cause }
 {
     match cause {
-        Cause::Blank => Outcome::refused(Verdict::Blank, None, None),
-        Cause::NotEmpty => Outcome::refused(Verdict::NotEmpty, None, None),
+        Cause::Blank => Outcome::with(Verdict::Blank, None),
+        Cause::NotEmpty => Outcome::with(Verdict::NotEmpty, None),
         Cause::Damaged(place) => Outcome::Damaged(place),
         Cause::Fault => Outcome::Fault,
         Cause::NoMemory => Outcome::NoMemory,

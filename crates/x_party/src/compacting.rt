@@ -2,10 +2,11 @@
 ghost use Rattle.x_party.specs.Outcomes.{CompactsParty, IsSafeCompaction, LeavesShelf};
 ghost use Rattle.x_party.specs.Dues.{IsDueCompaction, GivesDue};
 
-use crate::acting::act_compact;
 use crate::closing::close;
+use crate::ending::ended;
 use crate::opening::open;
 use crate::outcome::Outcome;
+use change_code::law_can_compact;
 use key_store::law_one_finding;
 use std::alloc::Global;
 use x_base::Ident;
@@ -20,9 +21,10 @@ pub fn compact<H: Shelf>(alloc: Global, shelf: &mut H, name: &Ident) -> Outcome
     ensures shelf { LeavesShelf name.now result (H.is_back shelf.new name.now) (H.entry shelf.old) (H.entry shelf.new) (H.faults shelf.old) (H.faults shelf.new) }
 {
     law_one_finding();
+    law_can_compact();
     match open(alloc, shelf, name) {
         Ok(node) => {
-            let (disk, outcome) = act_compact(node, alloc);
+            let (disk, outcome) = ended(node.compact(alloc));
             close(shelf, name, disk, outcome)
         }
         Err(outcome) => outcome,

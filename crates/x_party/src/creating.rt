@@ -27,13 +27,7 @@ fn create_on<D: Disk>(
     ensures { HasCreated (D.told disk) (D.told result.0) (begun own role generator) result.1 }
 {
     match Store::create(alloc, disk, own, role, generator) {
-        Ok(store) => (
-            store.into_disk(),
-            Outcome::Done {
-                reply: None,
-                under: None,
-            },
-        ),
+        Ok(store) => (store.into_disk(), Outcome::Done { reply: None }),
         Err(unmade) => (unmade.disk, outcome_of(unmade.cause)),
     }
 }

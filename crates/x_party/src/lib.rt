@@ -2,10 +2,10 @@
 //! and put back whatever comes.
 #![tactic(auto)]
 
-mod acting;
 mod closing;
 mod compacting;
 mod creating;
+mod ending;
 mod laws;
 mod opening;
 mod outcome;

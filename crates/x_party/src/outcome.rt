@@ -1,22 +1,21 @@
 // What became of a party on a shelf.
 ghost use Rattle.std.specs.Prelude.{◌≡◌};
+ghost use Rattle.x_party.specs.Steps.{outcome_with};
 
-use x_base::{FullName, Ident, Text, Verdict};
+use x_base::{Ident, Text, Verdict};
 
 /// What became of what was asked of a party.
 #[derive(Drop)]
 pub enum Outcome {
-    /// It is done, and this is written. `under` names the key under which the reply's code was made.
+    /// It is done, and this is written.
     Done {
         reply: Option<Text>,
-        under: Option<FullName>,
     },
     /// It is refused, nothing changed, and this is written. `Blank` where no party stands on the disk, `NotEmpty`
     /// where none can be created on it.
     Refused {
         verdict: Verdict,
         reply: Option<Text>,
-        under: Option<FullName>,
     },
     /// The image stands for a party, whose own identity is the second, and not the first, under which it was called. It
     /// isn't asked, and nothing changed.
@@ -30,13 +29,13 @@ pub enum Outcome {
 }
 
 impl Outcome {
-    pub(crate) fn refused(verdict: Verdict, reply: Option<Text>, under: Option<FullName>) -> Outcome
-        ensures { result ≡ Outcome.Refused verdict reply under }
+    /// Done where the verdict accepts, and otherwise refused.
+    pub(crate) fn with(verdict: Verdict, reply: Option<Text>) -> Outcome
+        ensures { result ≡ outcome_with verdict reply }
     {
-        Outcome::Refused {
-            verdict,
-            reply,
-            under,
+        if verdict == Verdict::Accept {
+            return Outcome::Done { reply };
         }
+        Outcome::Refused { verdict, reply }
     }
 }

@@ -8,7 +8,8 @@ use crate::closing::close;
 use crate::opening::open;
 use crate::outcome::Outcome;
 use key_store::law_one_finding;
-use party_state::{State, show_text};
+use party_show::show_text;
+use party_state::State;
 use std::alloc::Global;
 use x_base::Ident;
 use x_disk::Shelf;
@@ -17,10 +18,7 @@ fn text_of(alloc: Global, state: &State) -> Outcome
     ensures { IsText state.now result }
 {
     match show_text(alloc, state) {
-        Ok(text) => Outcome::Done {
-            reply: Some(text),
-            under: None,
-        },
+        Ok(text) => Outcome::Done { reply: Some(text) },
         Err(_) => Outcome::NoMemory,
     }
 }

@@ -2,11 +2,12 @@
 ghost use Rattle.x_party.specs.Outcomes.{TakesTurn, IsSafe, LeavesShelf};
 ghost use Rattle.x_party.specs.Dues.{IsDue, GivesDue};
 
-use crate::acting::act;
 use crate::closing::close;
+use crate::ending::ended;
 use crate::opening::open;
 use crate::outcome::Outcome;
 use key_store::law_one_finding;
+use member::law_refusal;
 use party_state::Input;
 use std::alloc::Global;
 use x_base::Ident;
@@ -19,20 +20,29 @@ pub fn turn<H: Shelf>(
     alloc: Global,
     shelf: &mut H,
     name: &Ident,
-    input: Input,
+    input: &Input,
     moment: u64,
 ) -> Outcome
-    ensures turned { TakesTurn name.now (H.entry shelf.old name.now) (H.entry shelf.new name.now) input moment result }
-    ensures safe { IsSafe name.now (H.entry shelf.old name.now) (H.entry shelf.new name.now) input moment }
-    ensures due { GivesDue (H.entry shelf.old name.now) (IsDue name.now input moment) result }
+    ensures turned { TakesTurn name.now (H.entry shelf.old name.now) (H.entry shelf.new name.now) input.now moment result }
+    ensures safe { IsSafe name.now (H.entry shelf.old name.now) (H.entry shelf.new name.now) input.now moment }
+    ensures due { GivesDue (H.entry shelf.old name.now) (IsDue name.now input.now moment) result }
     ensures shelf { LeavesShelf name.now result (H.is_back shelf.new name.now) (H.entry shelf.old) (H.entry shelf.new) (H.faults shelf.old) (H.faults shelf.new) }
 {
     law_one_finding();
-    match open(alloc, shelf, name) {
-        Ok(node) => {
-            let (disk, outcome) = act(node, alloc, name, input, moment);
-            close(shelf, name, disk, outcome)
-        }
-        Err(outcome) => outcome,
+    law_refusal();
+    let node = match open(alloc, shelf, name) {
+        Ok(node) => node,
+        Err(outcome) => return outcome,
+    };
+    let own = node.view().own();
+    if own != *name {
+        return close(
+            shelf,
+            name,
+            node.into_disk(),
+            Outcome::OtherParty(*name, own),
+        );
     }
+    let (disk, outcome) = ended(node.turn(alloc, input, moment));
+    close(shelf, name, disk, outcome)
 }

@@ -2,8 +2,8 @@
 ghost use Rattle.x_party.specs.Outcomes.{WipesParty, IsSafeWiping, LeavesShelf};
 ghost use Rattle.x_party.specs.Dues.{IsDueWiping, GivesDue};
 
-use crate::acting::act_wipe;
 use crate::closing::close;
+use crate::ending::ended;
 use crate::opening::open;
 use crate::outcome::Outcome;
 use key_store::law_one_finding;
@@ -22,7 +22,7 @@ pub fn wipe<H: Shelf>(alloc: Global, shelf: &mut H, name: &Ident) -> Outcome
     law_one_finding();
     match open(alloc, shelf, name) {
         Ok(node) => {
-            let (disk, outcome) = act_wipe(node);
+            let (disk, outcome) = ended(node.wipe());
             close(shelf, name, disk, outcome)
         }
         Err(outcome) => outcome,

@@ -1,8 +1,5 @@
-use Rattle.std.proofs.Common.{◌-◌, arith}
-use Rattle.x_party.proofs.Alike.{others_on}
-use Rattle.x_party.proofs.Wiped.{wiped_on, safe_wiping, wipes_fault, not_wiped}
+use Rattle.x_party.proofs.Wiped.{wiped_by, wiped_on, safe_wiping, not_wiped}
 use Rattle.x_party.proofs.Following.{wiped_due}
-use Rattle.x_party.proofs.Opened.{shown_fault}
 use Rattle.x_party.proofs.wiping.wipe.Goals as goal
 
 pub returns-in-Ok-clause-wiped : goal.returns-in-Ok-clause-wiped
@@ -10,16 +7,22 @@ returns-in-Ok-clause-wiped g c =
     let told = g.H.Disk.Disk.told in
     let entry = g.H.Shelf.entry in
     let faults = g.H.Shelf.faults in
-    wiped_on (entry c.args.shelf.now c.args.name.now) (told c.in-Ok.node.disk) (told c.act_wipe-disk.result.0) (entry c.close.new.shelf c.args.name.now)
-    c.in-Ok.node.gate c.in-Ok.node.end c.in-Ok.node.party c.in-Ok.ensures.node c.close.ensures.disk c.act_wipe-disk.result.1 c.close.result
-    (faults c.open.new.shelf) (faults c.close.new.shelf) c.act_wipe-disk.ensures c.close.ensures.outcome
+    let node = c.in-Ok.node in
+    let acted = wiped_by told node
+    c.wipe.result c.ended-disk.result.1 c.ended-disk.result.0 c.wipe.ensures c.ended-disk.ensures.disk c.ended-disk.ensures.outcome in
+    wiped_on (entry c.args.shelf.now c.args.name.now) (told node.disk) (told c.ended-disk.result.0) (entry c.close.new.shelf c.args.name.now)
+    node.gate node.end node.party c.in-Ok.ensures.node c.close.ensures.disk c.ended-disk.result.1 c.close.result
+    (faults c.open.new.shelf) (faults c.close.new.shelf) acted c.close.ensures.outcome
 
 pub returns-in-Ok-clause-safe : goal.returns-in-Ok-clause-safe
 returns-in-Ok-clause-safe g c =
     let told = g.H.Disk.Disk.told in
     let entry = g.H.Shelf.entry in
-    safe_wiping (entry c.args.shelf.now c.args.name.now) (told c.in-Ok.node.disk) (told c.act_wipe-disk.result.0) (entry c.close.new.shelf c.args.name.now)
-    c.in-Ok.node.gate c.in-Ok.node.end c.in-Ok.node.party c.in-Ok.ensures.node c.close.ensures.disk c.act_wipe-disk.result.1 c.act_wipe-disk.ensures
+    let node = c.in-Ok.node in
+    let acted = wiped_by told node
+    c.wipe.result c.ended-disk.result.1 c.ended-disk.result.0 c.wipe.ensures c.ended-disk.ensures.disk c.ended-disk.ensures.outcome in
+    safe_wiping (entry c.args.shelf.now c.args.name.now) (told node.disk) (told c.ended-disk.result.0) (entry c.close.new.shelf c.args.name.now)
+    node.gate node.end node.party c.in-Ok.ensures.node c.close.ensures.disk c.ended-disk.result.1 acted
 
 pub returns-in-Ok-clause-due : goal.returns-in-Ok-clause-due
 returns-in-Ok-clause-due g c =
@@ -27,22 +30,6 @@ returns-in-Ok-clause-due g c =
     let entry = g.H.Shelf.entry in
     wiped_due law.party law.not_blank law.undamaged law.one_damage (entry c.args.shelf.now c.args.name.now) (entry c.close.new.shelf c.args.name.now)
     c.close.result (returns-in-Ok-clause-wiped g c)
-
-pub returns-in-Ok-clause-shelf : goal.returns-in-Ok-clause-shelf
-returns-in-Ok-clause-shelf g c =
-    let told = g.H.Disk.Disk.told in
-    let entry = g.H.Shelf.entry in
-    let faults = g.H.Shelf.faults in
-    let node = c.in-Ok.node in
-    record {
-      back = c.close.ensures.back;
-      others = others_on c.args.name.now (entry c.args.shelf.now) (entry c.open.new.shelf) (entry c.close.new.shelf) c.open.ensures.others c.close.ensures.others;
-      fault = shown_fault c.act_wipe-disk.result.1 c.close.result (faults c.args.shelf.now) (faults c.open.new.shelf) (faults c.close.new.shelf)
-          (told node.disk).faults (told c.act_wipe-disk.result.0).faults c.open.ensures.later
-          (wipes_fault (told node.disk) (told c.act_wipe-disk.result.0) (node.end - node.gate) node.party c.act_wipe-disk.result.1 c.act_wipe-disk.ensures.acts)
-          c.close.ensures.seen c.close.ensures.outcome;
-      later = omega (arith, c.open.ensures.later, c.close.ensures.later);
-    }
 
 pub returns-in-Err-clause-due : goal.returns-in-Err-clause-due
 returns-in-Err-clause-due g c =

@@ -1,7 +1,0 @@
-use Rattle.std.proofs.Common.{◌≡◌, length}
-use Rattle.std.specs.List.{All}
-use Rattle.full_journal.specs.Seeds.{IsSeed}
-use Rattle.full_journal.proofs.seeds.Given as goal
-
-abbrev pub invariant-filling : goal.invariant-filling
-invariant-filling l = record { few : length l.change ≡ l.counter; all : All IsSeed l.change }
