@@ -3,7 +3,9 @@ pub mod Longer
 pub mod Honesty
 pub mod Going
 pub mod GoingRows
+pub mod Noting
 pub mod Binding
+pub mod Turning
 pub mod Compactions
 pub mod Named
 pub mod Calls

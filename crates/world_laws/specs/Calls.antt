@@ -7,7 +7,8 @@ use Rattle.key_store.specs.Store.{Stands, StandsWith}
 use Rattle.x_party.specs.Images.{StandsFor, OrBefore}
 use Rattle.x_party.specs.declared.outcome.Outcome.{Outcome}
 use Rattle.x_party.specs.declared.outcome.Outcome.TheVariants as outcome
-use Rattle.world_laws.specs.World.{Member, World, HasMember, member_at}
+use Rattle.member.specs.Member.{Member}
+use Rattle.world_laws.specs.World.{World, HasMember, member_at}
 use Rattle.world_laws.specs.Events.{Action, Completion, Whole, IsCutOff, Event}
 use Rattle.world_laws.specs.Steps.{step}
 
@@ -26,8 +27,8 @@ pub record IsWholeCall (x : Member) (e : Event) (new : View) (reply : Option (Li
 
 -- a party that answered did the whole event; of one that stands the disk isn't damaged
 abbrev pub AnswersWhole : Member → Event → View → Outcome → Type 0
-AnswersWhole x e new (outcome.Done reply under) = IsWholeCall x e new reply
-AnswersWhole x e new (outcome.Refused verdict reply under) = IsWholeCall x e new reply
+AnswersWhole x e new (outcome.Done reply) = IsWholeCall x e new reply
+AnswersWhole x e new (outcome.Refused verdict reply) = IsWholeCall x e new reply
 AnswersWhole x e new (outcome.OtherParty asked found) = ⊥
 AnswersWhole x e new (outcome.Damaged place) = ⊥
 AnswersWhole x e new outcome.Fault = Unit {0}
@@ -52,8 +53,8 @@ IsCall old new action moment o = (image : List ℕ) (party : Party) (room : ℕ)
 
 -- it answers that another party stands on the disk, or it failed
 abbrev pub AnswersOther : List ℕ → List ℕ → Outcome → Type 0
-AnswersOther name own (outcome.Done reply under) = ⊥
-AnswersOther name own (outcome.Refused verdict reply under) = ⊥
+AnswersOther name own (outcome.Done reply) = ⊥
+AnswersOther name own (outcome.Refused verdict reply) = ⊥
 AnswersOther name own (outcome.OtherParty asked found) = (asked ≡ name) × (found ≡ own)
 AnswersOther name own (outcome.Damaged place) = ⊥
 AnswersOther name own outcome.Fault = Unit {0}

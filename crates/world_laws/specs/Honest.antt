@@ -1,13 +1,14 @@
 -- Honest runs: each code that agrees was made by a holder of its key (this project's profile).
-use Rattle.std.specs.Prelude.{◌≡◌, ℕ, zero, suc, Bool, true, not, ◌&&◌, ◌||◌, bytes_eq, Option, Some, None, List, [], ◌∷◌, Contains}
+use Rattle.std.specs.Prelude.{◌≡◌, ℕ, zero, suc, Bool, true, not, ◌&&◌, ◌||◌, bytes_eq, Option, Some, None, List, [], ◌∷◌, map, Contains}
 use Rattle.std.specs.List.{list_any}
 use Rattle.x_base.specs.declared.key_name.FullName.{FullName}
 use Rattle.csm_grammar.specs.declared.arrival.Arrival.{Arrival}
 use Rattle.party_state.specs.declared.decision.Lead.{Lead}
 use Rattle.party_state.specs.State.{Party}
-use Rattle.role_base.specs.Texts.{auth_text}
-use Rattle.fact_book.specs.Facts.{NamedText, same_full_name}
-use Rattle.world_laws.specs.World.{Member, Fact, World, member_at}
+use Rattle.csm_grammar.specs.Arrivals.{authenticated}
+use Rattle.fact_book.specs.Facts.{NamedText, has_named, same_full_name}
+use Rattle.member.specs.Member.{Member}
+use Rattle.world_laws.specs.World.{Fact, World, member_at}
 use Rattle.roles.specs.Leads.{lead_at}
 use Rattle.world_laws.specs.Events.{Action, Orders, Hears, Compacts, Event}
 use Rattle.world_laws.specs.Steps.{step}
@@ -21,7 +22,7 @@ pub record HasFact (facts : List Fact) (under : FullName) (text : List ℕ) : Ty
 
 -- where the code of a message agrees with the key under which it is tested, the fact stands already
 abbrev pub HonestArrival : List Fact → Party → Arrival → Type 0
-HonestArrival facts p a = (l : Lead) → lead_at p a ≡ Some l → l.verified ≡ true → HasFact facts l.under (auth_text a)
+HonestArrival facts p a = (l : Lead) → lead_at p a ≡ Some l → l.verified ≡ true → HasFact facts l.under (authenticated a)
 
 abbrev pub HonestAction : List Fact → Party → Action → Type 0
 HonestAction facts p (Orders c) = Unit {0}
@@ -56,13 +57,14 @@ named_text f = record { under = f.under; text = f.text }
 abbrev pub has_fact : List Fact → FullName → List ℕ → Bool
 has_fact facts under text = list_any (is_fact under text) facts
 
-abbrev pub is_honest_lead : List Fact → List ℕ → Option Lead → Bool
+-- where the code of this authenticated text agrees with the key under which it is tested, a fact has it
+abbrev pub is_honest_lead : List NamedText → List ℕ → Option Lead → Bool
 is_honest_lead facts text None = true
-is_honest_lead facts text (Some l) = not l.verified || has_fact facts l.under text
+is_honest_lead facts text (Some l) = not l.verified || has_named facts l.under text
 
 abbrev pub is_honest_action : List Fact → Party → Action → Bool
 is_honest_action facts p (Orders c) = true
-is_honest_action facts p (Hears bytes (Some a)) = is_honest_lead facts (auth_text a) (lead_at p a)
+is_honest_action facts p (Hears bytes (Some a)) = is_honest_lead (map named_text facts) (authenticated a) (lead_at p a)
 is_honest_action facts p (Hears bytes None) = true
 is_honest_action facts p Compacts = true
 

@@ -2,14 +2,15 @@
 use Rattle.std.specs.Prelude.{◌≡◌, ◌≢◌, ◌⊎◌, ℕ, Some, List, All, AllPairs, Contains, cond, bytes_eq}
 use Rattle.x_base.specs.declared.key_name.KeyName.{KeyName}
 use Rattle.x_base.specs.declared.key_name.FullName.{FullName}
-use Rattle.party_state.specs.declared.key.RecordKey.{RecordKey}
-use Rattle.party_state.specs.declared.key.KeyRec.{KeyRec}
-use Rattle.party_state.specs.declared.key.KeyStatus.{KeyStatus}
-use Rattle.party_state.specs.declared.key.KeyStatus.TheVariants.{Pending, Live, Held, Closing, Ended}
-use Rattle.party_state.specs.Names.{full_name}
+use Rattle.party_tables.specs.declared.key.RecordKey.{RecordKey}
+use Rattle.party_tables.specs.declared.key.KeyRec.{KeyRec}
+use Rattle.party_tables.specs.declared.key.KeyStatus.{KeyStatus}
+use Rattle.party_tables.specs.declared.key.KeyStatus.TheVariants.{Pending, Live, Held, Closing, Ended}
+use Rattle.party_tables.specs.Names.{full_name}
 use Rattle.party_state.specs.State.{record_with}
 use Rattle.party_state.specs.Rows.{Class, OfKsm, OfAnswer, OfDsm}
-use Rattle.world_laws.specs.World.{Member, KkUse, Acceptance, World, member_at}
+use Rattle.member.specs.Member.{Member}
+use Rattle.world_laws.specs.World.{KkUse, Acceptance, World, member_at}
 
 -- no count of a key-encrypting key is used twice
 

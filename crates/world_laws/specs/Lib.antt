@@ -1,9 +1,9 @@
 pub mod World
 pub mod Hearing
-pub mod Rooms
 pub mod Events
 pub mod Steps
 pub mod Honest
+pub mod Noted
 pub mod Starts
 pub mod Laws
 pub mod Carried

@@ -2,13 +2,14 @@
 use Rattle.std.specs.Prelude.{◌≡◌, ℕ, List, [], ◌∷◌, Some, Contains}
 use Rattle.x_base.specs.declared.party.Role.{Role}
 use Rattle.x_base.specs.declared.key_name.KeyName.{KeyName}
-use Rattle.party_state.specs.declared.key.RecordKey.{RecordKey}
-use Rattle.party_state.specs.declared.key.KeyRec.{KeyRec}
-use Rattle.party_state.specs.declared.key.KeyStatus.TheVariants.{Live, Ended}
-use Rattle.party_state.specs.Names.{name_behind}
+use Rattle.party_tables.specs.declared.key.RecordKey.{RecordKey}
+use Rattle.party_tables.specs.declared.key.KeyRec.{KeyRec}
+use Rattle.party_tables.specs.declared.key.KeyStatus.TheVariants.{Live, Ended}
+use Rattle.party_tables.specs.Names.{name_behind}
 use Rattle.party_state.specs.Rows.{OfKsm}
 use Rattle.party_state.specs.State.{record_with}
-use Rattle.world_laws.specs.World.{Member, Birth, Acceptance, World, member_at}
+use Rattle.member.specs.Member.{Member}
+use Rattle.world_laws.specs.World.{Birth, Acceptance, World, member_at}
 use Rattle.world_laws.specs.Events.{Event, AreEvents}
 use Rattle.world_laws.specs.Steps.{run}
 use Rattle.world_laws.specs.Honest.{HonestRun}

@@ -1,13 +1,14 @@
 -- The start of a run (this project's profile).
 use Rattle.std.specs.Prelude.{◌≡◌, ℕ, true, false, Some, List, [], AllPairs, bytes_eq}
 use Rattle.x_base.specs.declared.party.Side.TheVariants.{Sends}
-use Rattle.party_state.specs.declared.link.LinkKey.{LinkKey}
-use Rattle.party_state.specs.declared.link.LinkRec.{LinkRec}
-use Rattle.party_state.specs.Tables.{Distinct}
-use Rattle.party_state.specs.Keys.{same_link, link_key, sends, takes}
+use Rattle.party_tables.specs.declared.link.LinkKey.{LinkKey}
+use Rattle.party_tables.specs.declared.link.LinkRec.{LinkRec}
+use Rattle.party_tables.specs.Tables.{Distinct}
+use Rattle.party_tables.specs.Keys.{same_link, link_key, sends, takes}
 use Rattle.party_state.specs.Ranges.{IsParty}
 use Rattle.party_state.specs.State.{Party, link_with, expands_alike}
-use Rattle.world_laws.specs.World.{Member, World, own_of, member_at}
+use Rattle.member.specs.Member.{Member}
+use Rattle.world_laws.specs.World.{World, own_of, member_at}
 
 -- this holds of each member
 abbrev pub Each : (Member → Type 0) → List Member → Type 0

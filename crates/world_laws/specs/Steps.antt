@@ -3,21 +3,22 @@ use Rattle.std.specs.Prelude.{ℕ, suc, Bool, cond, ◌&&◌, Option, Some, None
 use Rattle.csm_write.specs.Canon.{auth_of}
 use Rattle.party_state.specs.declared.command.Input.{Input}
 use Rattle.party_state.specs.declared.command.Input.TheVariants as input
-use Rattle.party_state.specs.Tables.{put_row}
-use Rattle.party_state.specs.State.{apply}
+use Rattle.party_tables.specs.Tables.{put_row}
 use Rattle.party_state.specs.Verdicts.{is_accept}
 use Rattle.party_state.specs.Rows.{Row, Reply, Coded, Plain, Again, Use, Made, Accepted}
-use Rattle.role_base.specs.Texts.{text_of, auth_text}
+use Rattle.csm_grammar.specs.Arrivals.{authenticated}
+use Rattle.role_base.specs.Texts.{text_of}
 use Rattle.role_base.specs.Differing.{differing}
-use Rattle.world_laws.specs.World.{Member, Fact, Kk, Birth, KkUse, Acceptance, World, own_of, member_at}
+use Rattle.change_code.specs.Cost.{fits, is_change, can_compact, room_of_whole}
+use Rattle.member.specs.Member.{Member, after}
+use Rattle.world_laws.specs.World.{Fact, Kk, Birth, KkUse, Acceptance, World, own_of, member_at}
 use Rattle.roles.specs.Rows.{row_at}
-use Rattle.world_laws.specs.Rooms.{fits, room_after, is_change, can_compact, room_after_compaction}
 use Rattle.world_laws.specs.Events.{Action, Orders, Hears, Compacts, Completion, Whole, CutOld, CutNew, Event}
 
 -- the authenticated text of an input
 abbrev pub received_text : Input → List ℕ
 received_text (input.Ordered c) = []
-received_text (input.Arrived a) = auth_text a
+received_text (input.Arrived a) = authenticated a
 
 -- what a row adds to the lists: a text, a fact, a birth, uses and an acceptance
 
@@ -57,7 +58,7 @@ acceptances_of own text (Some a) = record { party = own; text = text; class = a.
 
 -- the member after a row: only the edits that make a difference are kept
 abbrev pub member_after : Member → Row → Member
-member_after x r = record { party = apply (differing x.party r.edits) x.party; room = room_after x.room (differing x.party r.edits) }
+member_after x r = after x (differing x.party r.edits)
 
 -- the network after a row, but for its text: the number of the event, who took the input, the authenticated text of the
 -- input, the row, and the member afterwards
@@ -93,7 +94,7 @@ world_with_room w x room = record w { members = put_row own_of bytes_eq (record 
 
 abbrev pub world_after_compaction : World → Member → Completion → World
 world_after_compaction w x CutOld = w
-world_after_compaction w x completion = cond (can_compact x.party) (world_with_room w x (room_after_compaction x.party)) w
+world_after_compaction w x completion = cond (can_compact x.party) (world_with_room w x (room_of_whole x.party)) w
 
 abbrev pub world_after_input : ℕ → World → Member → Input → ℕ → Completion → World
 world_after_input n w x i moment completion = world_by_row n w x (received_text i) (row_at x.party i moment) completion

@@ -3,12 +3,8 @@ use Rattle.std.specs.Prelude.{◌≡◌, ℕ, Option, Some, List, bytes_eq}
 use Rattle.x_base.specs.declared.key_name.FullName.{FullName}
 use Rattle.party_state.specs.State.{Party}
 use Rattle.party_state.specs.Rows.{Sealed, Class}
-use Rattle.party_state.specs.Tables.{find_row}
-
--- a party, and the room that is left on its disk
-pub record Member : Type 0 where
-  pub party : Party
-  pub room : ℕ
+use Rattle.party_tables.specs.Tables.{find_row}
+use Rattle.member.specs.Member.{Member}
 
 -- a fact: this party made the code of this authenticated text, under the key of this name
 pub record Fact : Type 0 where

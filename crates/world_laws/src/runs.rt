@@ -1,7 +1,8 @@
 // Runs with one event more, and up to the forged event, told by a call that does nothing.
 ghost use Rattle.std.specs.Prelude.{◌≡◌, ◌⊎◌, ◌↔◌, ◌++◌, ◌∷◌, [], true, Option, List, take, ℕ};
 ghost use Rattle.x_base.specs.declared.key_name.FullName.{FullName as TheFullName};
-ghost use Rattle.world_laws.specs.World.{World, Member, Fact, member_at};
+ghost use Rattle.member.specs.Member.{Member};
+ghost use Rattle.world_laws.specs.World.{World, Fact, member_at};
 ghost use Rattle.world_laws.specs.Events.{Action, Event};
 ghost use Rattle.world_laws.specs.Steps.{run, step, number_after};
 ghost use Rattle.world_laws.specs.Honest.{HasFact, HonestAt, HonestRun, IsForged, has_fact, is_honest};

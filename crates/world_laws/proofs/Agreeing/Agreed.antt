@@ -1,17 +1,19 @@
 -- What each moment of an honest run keeps.
 use Rattle.std.proofs.Common.{◌≡◌, ◌⊎◌, ℕ, true, not, Some, None, List}
-use Rattle.party_state.specs.declared.link.LinkRec.{LinkRec}
-use Rattle.party_state.specs.declared.key.RecordKey.{RecordKey}
-use Rattle.party_state.specs.declared.key.KeyRec.{KeyRec}
-use Rattle.party_state.specs.Tables.{Distinct, put_row}
-use Rattle.party_state.specs.Keys.{same_record, record_key, sends, takes}
-use Rattle.party_state.specs.State.{Party, centre_label, link_with, record_with, exchange_with, is_ended}
-use Rattle.party_state.proofs.Keys.{test_records}
-use Rattle.world_laws.specs.World.{Member, member_at}
+use Rattle.party_tables.specs.declared.link.LinkRec.{LinkRec}
+use Rattle.party_tables.specs.declared.key.RecordKey.{RecordKey}
+use Rattle.party_tables.specs.declared.key.KeyRec.{KeyRec}
+use Rattle.party_tables.specs.Tables.{Distinct, put_row}
+use Rattle.party_tables.specs.Keys.{same_record, record_key, sends, takes}
+use Rattle.party_tables.specs.Statuses.{is_ended}
+use Rattle.party_state.specs.State.{Party, centre_label, link_with, record_with, exchange_with}
+use Rattle.party_tables.proofs.Keys.{test_records}
+use Rattle.member.specs.Member.{Member}
+use Rattle.world_laws.specs.World.{member_at}
 use Rattle.world_laws.specs.Starts.{HasOtherEnd}
 use Rattle.world_laws.specs.Facts.{IsMadeBySender, KsmApart}
 use Rattle.std.proofs.Common.{AllPairs, All}
-use Rattle.party_state.proofs.Distinct.{distinct_put, distinct_filter}
+use Rattle.party_tables.proofs.Distinct.{distinct_put, distinct_filter}
 use Rattle.world_laws.proofs.Agreeing.Lists.{Lists, Goes, WaitsMove}
 use Rattle.world_laws.proofs.Agreeing.Waiting.{NewsMove, AllSent}
 use Rattle.world_laws.proofs.Agreeing.Known.{KeysKnown}

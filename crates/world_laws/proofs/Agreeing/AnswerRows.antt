@@ -1,5 +1,5 @@
 -- Agreement: a centre's answer arrives.
-use Rattle.csm_grammar.proofs.Lawful.{one_meaning}
+use Rattle.csm_read.proofs.Lawful.{one_meaning}
 use Rattle.world_laws.proofs.Agreeing.Moves.{Backed}
 use Rattle.std.proofs.Common.{arith, ◌≡◌, ◌≢◌, ◌⊎◌, inl, inr, ℕ, ◌≤◌, ◌+◌, true, Option, Some, None, List, refl, sym, ◌∙◌, ap, subst, bytes_eq}
 use Rattle.std.proofs.lemmas.List.Elements.{Contains-append_left}
@@ -11,26 +11,27 @@ use Rattle.csm_grammar.specs.declared.message.Message.TheVariants as message
 use Rattle.csm_grammar.specs.declared.message.Rtr.{Rtr}
 use Rattle.csm_grammar.specs.Spelling.{Says}
 use Rattle.csm_write.specs.Canon.{auth_of}
-use Rattle.party_state.specs.declared.link.LinkKey.{LinkKey}
-use Rattle.party_state.specs.declared.link.LinkRec.{LinkRec}
-use Rattle.party_state.specs.declared.key.KeyRec.{KeyRec}
-use Rattle.party_state.specs.declared.exchange.Exchange.{Exchange}
-use Rattle.party_state.specs.declared.exchange.Kind.TheVariants as kind
-use Rattle.party_state.specs.Tables.{find_row, put_row}
-use Rattle.party_state.specs.Keys.{same_record, record_key, exchange_key, sends, takes}
+use Rattle.party_tables.specs.declared.link.LinkKey.{LinkKey}
+use Rattle.party_tables.specs.declared.link.LinkRec.{LinkRec}
+use Rattle.party_tables.specs.declared.key.KeyRec.{KeyRec}
+use Rattle.party_tables.specs.declared.exchange.Exchange.{Exchange}
+use Rattle.party_tables.specs.declared.exchange.Kind.TheVariants as kind
+use Rattle.party_tables.specs.Tables.{find_row, put_row}
+use Rattle.party_tables.specs.Keys.{same_record, record_key, exchange_key, sends, takes}
 use Rattle.party_state.specs.State.{Party, centre_label, link_with, record_with, exchange_with, apply}
 use Rattle.party_state.specs.Rows.{Row, Coded}
-use Rattle.party_state.proofs.Tables.{one_found}
+use Rattle.party_tables.proofs.Tables.{one_found}
 use Rattle.bank_keys.specs.declared.waits.Waiting.{Waiting}
 use Rattle.bank_keys.specs.Waiting.{waiting_with}
-use Rattle.world_laws.specs.World.{Member, Fact, member_at}
+use Rattle.member.specs.Member.{Member}
+use Rattle.world_laws.specs.World.{Fact, member_at}
 use Rattle.world_laws.specs.Steps.{facts_of}
 use Rattle.world_laws.specs.Honest.{HasFact}
 use Rattle.world_laws.specs.Starts.{HasOtherEnd}
 use Rattle.world_laws.proofs.Links.Growth.{PartyGrows}
 use Rattle.world_laws.proofs.Links.Waiting.{new_of}
-use Rattle.party_state.specs.Tables.{drop_row}
-use Rattle.party_state.specs.declared.exchange.Via.{Via}
+use Rattle.party_tables.specs.Tables.{drop_row}
+use Rattle.party_tables.specs.declared.exchange.Via.{Via}
 use Rattle.bank_keys.specs.Waiting.{waiting_by}
 use Rattle.world_laws.proofs.Agreeing.Waiting.{AllSent}
 use Rattle.world_laws.proofs.Links.Growth.{PartyGrows}
@@ -40,8 +41,8 @@ use Rattle.world_laws.proofs.Agreeing.Known.{Known}
 use Rattle.world_laws.proofs.Agreeing.Waiting.{AllSent}
 use Rattle.world_laws.proofs.Agreeing.Agreed.{Agreed}
 use Rattle.x_seal.specs.Wrapped.{unwrap_of}
-use Rattle.party_state.specs.declared.exchange.Via.TheVariants as via
-use Rattle.party_state.specs.Keys.{link_key, same_link}
+use Rattle.party_tables.specs.declared.exchange.Via.TheVariants as via
+use Rattle.party_tables.specs.Keys.{link_key, same_link}
 use Rattle.party_state.specs.Verdicts.{Held as TestsHold, verdict_of, is_accept}
 use Rattle.party_state.proofs.Verdicts.{held}
 use Rattle.role_base.specs.Texts.{text_of}
@@ -56,19 +57,20 @@ use Rattle.world_laws.proofs.Agreeing.Exchanges.{put_same, ex_drop, ex_put, wait
 use Rattle.world_laws.proofs.Agreeing.Backs.{backed}
 use Rattle.world_laws.proofs.Agreeing.Steps.{other_of, pairs_or_same, some_is, fact_says, here, there, after_is, refused_agreeing}
 use Rattle.std.proofs.lemmas.List.Elements.{Contains-append_left}
-use Rattle.party_state.specs.Tables.{drop_row}
-use Rattle.party_state.specs.declared.exchange.Via.{Via}
+use Rattle.party_tables.specs.Tables.{drop_row}
+use Rattle.party_tables.specs.declared.exchange.Via.{Via}
 use Rattle.party_state.specs.Verdicts.{passes}
 use Rattle.party_state.specs.declared.decision.Lead.{Lead}
 use Rattle.csm_grammar.specs.declared.arrival.Arrival.{Arrival}
 use Rattle.x_seal.specs.Wrapped.{unseal_of}
-use Rattle.role_base.specs.Texts.{auth_text, lead_under}
+use Rattle.csm_grammar.specs.Arrivals.{authenticated}
+use Rattle.role_base.specs.Texts.{lead_under}
 use Rattle.role_base.specs.Exchanges.{new_label}
 use Rattle.bank_keys.specs.declared.waits.Waiting.{Waiting}
 use Rattle.bank_keys.specs.Waiting.{waiting_with, waiting_by}
 use Rattle.bank_keys.specs.Rtr.{centre_name, centre_ksm, passed_reply, passed_record, brought_front, brought_value, brought_tests, brought, brought_under, brought_lead, translated_front, translated_tests, translated, translated_under, translated_lead, rtr_with, rtr_lead_with}
 use Rattle.world_laws.proofs.Sound.Answers.{brought_low}
-use Rattle.party_state.specs.Names.{name_behind}
+use Rattle.party_tables.specs.Names.{name_behind}
 use Rattle.world_laws.proofs.Agreeing.Waiting.{second_name_by}
 use Rattle.world_laws.proofs.Agreeing.Facts.{at_peer, Carries, carries_one}
 use Rattle.world_laws.proofs.Agreeing.Known.{IsUsed, Issued, Known}
@@ -79,7 +81,7 @@ abbrev passed_exchange : Party → Rtr → ℕ → Via → Exchange
 passed_exchange p m value way = record { peer = m.ultimate; kind = kind.KeySent (centre_name p m) way; text = text_of (passed_reply p m value) }
 
 abbrev pub HonestAs : List Fact → Arrival → Option Lead → Type 0
-HonestAs fs a o = (l : Lead) → o ≡ Some l → l.verified ≡ true → HasFact fs l.under (auth_text a)
+HonestAs fs a o = (l : Lead) → o ≡ Some l → l.verified ≡ true → HasFact fs l.under (authenticated a)
 
 module _ (v : Lists) (p : List ℕ) (x : Member) (room : ℕ) (at : member_at p v.members ≡ Some x) (i : Agreed v) where
   sent : AllSent x.party
@@ -161,9 +163,9 @@ module _ (v : Lists) (p : List ℕ) (x : Member) (room : ℕ) (at : member_at p 
       }
 
   -- with the key
-  brought_agreeing : (o : Option LinkKey) (a : Arrival) (m : Rtr) (k : ℕ × ℕ) (found : Option LinkRec) → Says (auth_text a) (message.Rtr m) → m.kd ≡ Some k → link_with (takes m.originator centre_label) x.party ≡ found → HonestAs v.facts a (brought_lead x.party a m k found) → is_accept (brought x.party a m k found).verdict ≡ true → IsSound o x.party (auth_text a) (brought x.party a m k found) → Agreeing v x room (auth_text a) (brought x.party a m k found)
-  brought_agreeing o a m k None said kd_is e honest h sound = refused_agreeing v p x room at i (auth_text a) (verdict_of (brought_front x.party m None))
-  brought_agreeing o a m k (Some l) said kd_is e honest h sound = passed_agreeing o (auth_text a) (brought x.party a m k (Some l)) m (brought_value l k) (via.Distribution m.originator k.1) (brought_under x.party m k.1) refl (change_grows o (brought x.party a m k (Some l)).edits x.party sound.edits) (backed v.members x.party (brought x.party a m k (Some l)).edits (inr (inr (l, at_key, refl, refl)), (tt, (tt, (tt, tt))))) refl refl refl refl mine_is.0 mine_is.1 said fact (λ u. unused (subst (IsUsed x.party m fact.fact.under) kd_is u)) (subst (IsUsed (apply (brought x.party a m k (Some l)).edits x.party) m fact.fact.under) (sym kd_is) (up, at_up, omega arith)) value_is
+  brought_agreeing : (o : Option LinkKey) (a : Arrival) (m : Rtr) (k : ℕ × ℕ) (found : Option LinkRec) → Says (authenticated a) (message.Rtr m) → m.kd ≡ Some k → link_with (takes m.originator centre_label) x.party ≡ found → HonestAs v.facts a (brought_lead x.party a m k found) → is_accept (brought x.party a m k found).verdict ≡ true → IsSound o x.party (authenticated a) (brought x.party a m k found) → Agreeing v x room (authenticated a) (brought x.party a m k found)
+  brought_agreeing o a m k None said kd_is e honest h sound = refused_agreeing v p x room at i (authenticated a) (verdict_of (brought_front x.party m None))
+  brought_agreeing o a m k (Some l) said kd_is e honest h sound = passed_agreeing o (authenticated a) (brought x.party a m k (Some l)) m (brought_value l k) (via.Distribution m.originator k.1) (brought_under x.party m k.1) refl (change_grows o (brought x.party a m k (Some l)).edits x.party sound.edits) (backed v.members x.party (brought x.party a m k (Some l)).edits (inr (inr (l, at_key, refl, refl)), (tt, (tt, (tt, tt))))) refl refl refl refl mine_is.0 mine_is.1 said fact (λ u. unused (subst (IsUsed x.party m fact.fact.under) kd_is u)) (subst (IsUsed (apply (brought x.party a m k (Some l)).edits x.party) m fact.fact.under) (sym kd_is) (up, at_up, omega arith)) value_is
     where
       up : LinkRec
       up = record l { next = k.1 + 1 }
@@ -183,7 +185,7 @@ module _ (v : Lists) (p : List ℕ) (x : Member) (room : ℕ) (at : member_at p 
       front : passes (brought_front x.party m (Some l)) ≡ true
       front = rw (t.0, t.1.0, t.1.1.0, t.1.1.1.0) refl
 
-      fact : HasFact v.facts (brought_under x.party m k.1) (auth_text a)
+      fact : HasFact v.facts (brought_under x.party m k.1) (authenticated a)
       fact = honest (lead_under a (brought_under x.party m k.1) (brought_value l k)) (rw front refl) t.1.1.1.1.1.0
 
       at_up : find_row link_key same_link (takes m.originator centre_label) (put_row link_key same_link (record l { next = k.1 + 1 }) x.party.links) ≡ Some (record l { next = k.1 + 1 })
@@ -204,9 +206,9 @@ module _ (v : Lists) (p : List ℕ) (x : Member) (room : ℕ) (at : member_at p 
           ap (λ (q : Pair). unwrap_of q k.1 k.0) (ap (λ (y : LinkRec). y.pair) (sym link) ∙ ends.pair) ∙ form.3
 
   -- without it
-  translated_agreeing : (o : Option LinkKey) (a : Arrival) (m : Rtr) (found : Option Waiting) → Says (auth_text a) (message.Rtr m) → m.kd ≡ None → waiting_with x.party m.originator ≡ found → HonestAs v.facts a (translated_lead x.party a m found) → is_accept (translated x.party a m found).verdict ≡ true → IsSound o x.party (auth_text a) (translated x.party a m found) → Agreeing v x room (auth_text a) (translated x.party a m found)
-  translated_agreeing o a m None said kd_is e honest h sound = refused_agreeing v p x room at i (auth_text a) (verdict_of (translated_front x.party m None))
-  translated_agreeing o a m (Some n) said kd_is e honest h sound = passed_agreeing o (auth_text a) (translated x.party a m (Some n)) m n.value (via.Translation m.originator) (translated_under x.party m n) refl (change_grows o (translated x.party a m (Some n)).edits x.party sound.edits) (backed v.members x.party (translated x.party a m (Some n)).edits (tt, (tt, (tt, tt)))) refl refl refl refl mine_is.0 mine_is.1 said fact (λ u. unused (subst (IsUsed x.party m fact.fact.under) kd_is u)) (subst (IsUsed (apply (translated x.party a m (Some n)).edits x.party) m fact.fact.under) (sym kd_is) used) value_is
+  translated_agreeing : (o : Option LinkKey) (a : Arrival) (m : Rtr) (found : Option Waiting) → Says (authenticated a) (message.Rtr m) → m.kd ≡ None → waiting_with x.party m.originator ≡ found → HonestAs v.facts a (translated_lead x.party a m found) → is_accept (translated x.party a m found).verdict ≡ true → IsSound o x.party (authenticated a) (translated x.party a m found) → Agreeing v x room (authenticated a) (translated x.party a m found)
+  translated_agreeing o a m None said kd_is e honest h sound = refused_agreeing v p x room at i (authenticated a) (verdict_of (translated_front x.party m None))
+  translated_agreeing o a m (Some n) said kd_is e honest h sound = passed_agreeing o (authenticated a) (translated x.party a m (Some n)) m n.value (via.Translation m.originator) (translated_under x.party m n) refl (change_grows o (translated x.party a m (Some n)).edits x.party sound.edits) (backed v.members x.party (translated x.party a m (Some n)).edits (tt, (tt, (tt, tt)))) refl refl refl refl mine_is.0 mine_is.1 said fact (λ u. unused (subst (IsUsed x.party m fact.fact.under) kd_is u)) (subst (IsUsed (apply (translated x.party a m (Some n)).edits x.party) m fact.fact.under) (sym kd_is) used) value_is
     where
       t : TestsHold (translated_tests x.party a m n)
       t = held (translated_tests x.party a m n) refl h
@@ -217,14 +219,14 @@ module _ (v : Lists) (p : List ℕ) (x : Member) (room : ℕ) (at : member_at p 
       front : passes (translated_front x.party m (Some n)) ≡ true
       front = rw (t.0, t.1.0, t.1.1.0, t.1.1.1.0) refl
 
-      fact : HasFact v.facts (translated_under x.party m n) (auth_text a)
+      fact : HasFact v.facts (translated_under x.party m n) (authenticated a)
       fact = honest (lead_under a (translated_under x.party m n) n.value) (rw front refl) t.1.1.1.1.0
 
       count : n.cta ≡ fact.fact.under.name.count
       count = ap (λ (z : FullName). z.name.count) (sym fact.under_is)
 
       b : RtrFact v.members fact.fact m
-      b = fact_says v p x room at i (translated_under x.party m n) (auth_text a) fact (message.Rtr m) said
+      b = fact_says v p x room at i (translated_under x.party m n) (authenticated a) fact (message.Rtr m) said
 
       waits_of : (b : RtrFact v.members fact.fact m) → WaitsAt v.members m.receiver m.originator fact.fact.under.name.count (kdu_value b.link m)
       waits_of b = subst (RtrForm v.members b.party.party fact.fact.under m (kdu_value b.link m)) kd_is b.form
@@ -254,6 +256,6 @@ module _ (v : Lists) (p : List ℕ) (x : Member) (room : ℕ) (at : member_at p 
                 | inr d ↦ (ex_drop x.party.exchanges m.originator m.originator g d.0).1 refl
               ]
 
-  pub rtr_agreeing : (o : Option LinkKey) (a : Arrival) (m : Rtr) (kd : Option (ℕ × ℕ)) → m.kd ≡ kd → Says (auth_text a) (message.Rtr m) → HonestAs v.facts a (rtr_lead_with x.party a m kd) → is_accept (rtr_with x.party a m kd).verdict ≡ true → IsSound o x.party (auth_text a) (rtr_with x.party a m kd) → Agreeing v x room (auth_text a) (rtr_with x.party a m kd)
+  pub rtr_agreeing : (o : Option LinkKey) (a : Arrival) (m : Rtr) (kd : Option (ℕ × ℕ)) → m.kd ≡ kd → Says (authenticated a) (message.Rtr m) → HonestAs v.facts a (rtr_lead_with x.party a m kd) → is_accept (rtr_with x.party a m kd).verdict ≡ true → IsSound o x.party (authenticated a) (rtr_with x.party a m kd) → Agreeing v x room (authenticated a) (rtr_with x.party a m kd)
   rtr_agreeing o a m (Some k) e said honest h sound = brought_agreeing o a m k (link_with (takes m.originator centre_label) x.party) said e refl honest h sound
   rtr_agreeing o a m None e said honest h sound = translated_agreeing o a m (waiting_with x.party m.originator) said e refl honest h sound

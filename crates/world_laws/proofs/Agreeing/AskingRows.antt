@@ -1,18 +1,19 @@
 -- Agreement: a centre is asked.
 use Rattle.std.proofs.Common.{arith, ◌≡◌, inl, inr, ℕ, ◌≤◌, ◌+◌, false, Option, Some, None, List, [], ◌∷◌, ◌++◌, refl, sym, ◌∙◌, ap, subst, bytes_eq}
-use Rattle.party_state.specs.declared.link.LinkKey.{LinkKey}
-use Rattle.party_state.specs.declared.link.LinkRec.{LinkRec}
-use Rattle.party_state.specs.declared.exchange.Exchange.{Exchange}
-use Rattle.party_state.specs.declared.exchange.Kind.TheVariants as kind
-use Rattle.party_state.specs.Keys.{exchange_key, sends}
+use Rattle.party_tables.specs.declared.link.LinkKey.{LinkKey}
+use Rattle.party_tables.specs.declared.link.LinkRec.{LinkRec}
+use Rattle.party_tables.specs.declared.exchange.Exchange.{Exchange}
+use Rattle.party_tables.specs.declared.exchange.Kind.TheVariants as kind
+use Rattle.party_tables.specs.Keys.{exchange_key, sends}
 use Rattle.party_state.specs.State.{Party, centre_label, link_with, apply}
 use Rattle.party_state.specs.Rows.{Plain}
-use Rattle.party_state.proofs.Keys.{test_idents}
+use Rattle.party_tables.proofs.Keys.{test_idents}
 use Rattle.x_base.specs.declared.verdict.Verdict.TheVariants.{UnknownKk}
 use Rattle.bank_keys.specs.declared.waits.Waiting.{Waiting}
-use Rattle.world_laws.specs.World.{Member, member_at}
+use Rattle.member.specs.Member.{Member}
+use Rattle.world_laws.specs.World.{member_at}
 use Rattle.world_laws.proofs.Links.Growth.{PartyGrows}
-use Rattle.party_state.proofs.Tables.{find_put_same}
+use Rattle.party_tables.proofs.Tables.{find_put_same}
 use Rattle.bank_keys.specs.Waiting.{waiting_by, waiting_in}
 use Rattle.world_laws.proofs.Agreeing.Waiting.{AllSent}
 use Rattle.world_laws.proofs.Links.Growth.{PartyGrows}
@@ -23,7 +24,7 @@ use Rattle.world_laws.proofs.Agreeing.Waiting.{AllSent}
 use Rattle.world_laws.proofs.Agreeing.Agreed.{Agreed}
 use Rattle.x_gen.specs.declared.generator.Gen.{Gen}
 use Rattle.x_gen.specs.Gen.{good_draw}
-use Rattle.party_state.specs.Keys.{link_key}
+use Rattle.party_tables.specs.Keys.{link_key}
 use Rattle.party_state.specs.Verdicts.{verdict_of}
 use Rattle.role_base.specs.Texts.{text_of}
 use Rattle.world_laws.proofs.Links.Growth.{change_grows}

@@ -9,18 +9,18 @@ use Rattle.csm_grammar.specs.declared.message.Message.TheVariants as message
 use Rattle.csm_grammar.specs.declared.message.Rsi.{Rsi}
 use Rattle.party_state.specs.declared.command.Command.{Command}
 use Rattle.party_state.specs.declared.command.Command.TheVariants as command
-use Rattle.party_state.specs.declared.link.LinkRec.{LinkRec}
-use Rattle.party_state.specs.Keys.{sends}
+use Rattle.party_tables.specs.declared.link.LinkRec.{LinkRec}
+use Rattle.party_tables.specs.Keys.{sends}
 use Rattle.party_state.specs.State.{Party, centre_label, link_with, answer_with}
 use Rattle.party_state.specs.Verdicts.{Test}
 use Rattle.csm_grammar.specs.declared.message.Ers.{Ers}
-use Rattle.party_state.specs.declared.answer.Answer.{Answer}
+use Rattle.party_tables.specs.declared.answer.Answer.{Answer}
 use Rattle.distribution_role.specs.Answering.{answering}
 use Rattle.distribution_role.specs.Requests.{rsi_tests as centre_tests, rsi_between, rsi_for}
 use Rattle.distribution_role.specs.Recovery.{ers_tests, ers_between}
-use Rattle.centre_base.specs.Orders.{centre_command}
+use Rattle.role_base.specs.Centres.{centre_command}
 use Rattle.distribution_role.specs.Rows.{distribution_message}
-use Rattle.world_laws.specs.World.{Member}
+use Rattle.member.specs.Member.{Member}
 use Rattle.world_laws.specs.Events.{IsCommand}
 use Rattle.world_laws.proofs.Agreeing.MeetingCounts.{side_of, CountsMove, sending_counts}
 

@@ -1,5 +1,5 @@
 -- How each row moves the counts that are expected.
-use Rattle.party_state.specs.Names.{name_behind}
+use Rattle.party_tables.specs.Names.{name_behind}
 use Rattle.role_base.specs.declared.exchanges.Twins.{Twins}
 use Rattle.role_base.specs.Exchanges.{twins_to, ended}
 use Rattle.role_base.specs.Conditions.{is_two_keys}
@@ -30,24 +30,26 @@ use Rattle.party_state.specs.declared.command.Input.{Input}
 use Rattle.party_state.specs.declared.command.Input.TheVariants as input
 use Rattle.party_state.specs.declared.edit.Edit.{Edit}
 use Rattle.party_state.specs.declared.edit.Edit.TheVariants.{PutKey, DropExchange}
-use Rattle.party_state.specs.declared.exchange.Exchange.{Exchange}
-use Rattle.party_state.specs.declared.exchange.Kind.{Kind}
-use Rattle.party_state.specs.declared.exchange.Kind.TheVariants as kind
-use Rattle.party_state.specs.declared.exchange.Via.{Via}
-use Rattle.party_state.specs.declared.exchange.Via.TheVariants as via
-use Rattle.party_state.specs.declared.key.KeyRec.{KeyRec}
-use Rattle.party_state.specs.declared.key.KeyStatus.TheVariants.{Ended}
-use Rattle.party_state.specs.declared.link.LinkKey.{LinkKey}
-use Rattle.party_state.specs.declared.link.LinkRec.{LinkRec}
-use Rattle.party_state.specs.Keys.{same_link, link_key, same_name, sends, takes}
-use Rattle.party_state.specs.State.{Party, apply, centre_label, link_with, exchange_with, first_link, is_ended}
+use Rattle.party_tables.specs.declared.exchange.Exchange.{Exchange}
+use Rattle.party_tables.specs.declared.exchange.Kind.{Kind}
+use Rattle.party_tables.specs.declared.exchange.Kind.TheVariants as kind
+use Rattle.party_tables.specs.declared.exchange.Via.{Via}
+use Rattle.party_tables.specs.declared.exchange.Via.TheVariants as via
+use Rattle.party_tables.specs.declared.key.KeyRec.{KeyRec}
+use Rattle.party_tables.specs.declared.key.KeyStatus.TheVariants.{Ended}
+use Rattle.party_tables.specs.declared.link.LinkKey.{LinkKey}
+use Rattle.party_tables.specs.declared.link.LinkRec.{LinkRec}
+use Rattle.party_tables.specs.Keys.{same_link, link_key, same_name, sends, takes}
+use Rattle.party_tables.specs.Statuses.{is_ended}
+use Rattle.party_state.specs.State.{Party, apply, centre_label, link_with, exchange_with, first_link}
 use Rattle.party_state.specs.Verdicts.{Test, is_accept}
-use Rattle.party_state.proofs.Keys.{test_links}
-use Rattle.party_state.proofs.Tables.{one_found, find_put_same}
+use Rattle.party_tables.proofs.Keys.{test_links}
+use Rattle.party_tables.proofs.Tables.{one_found, find_put_same}
 use Rattle.role_base.specs.declared.exchanges.Sent.{Sent}
 use Rattle.role_base.specs.Exchanges.{record_of, sent_to, ending_with, new_link, readied, dropped}
 use Rattle.role_base.specs.Sending.{sending_drawn}
-use Rattle.role_base.specs.Texts.{is_plain, auth_text}
+use Rattle.csm_grammar.specs.Arrivals.{authenticated}
+use Rattle.role_base.specs.Texts.{is_plain}
 use Rattle.bank_orders.specs.Start.{sending_link, start_tests, start_under}
 use Rattle.bank_orders.specs.Resend.{resend_of}
 use Rattle.bank_orders.specs.GivingUp.{given_up, given_up_in}
@@ -74,12 +76,13 @@ use Rattle.bank_orders.specs.Orders.{command_row}
 use Rattle.bank_role.specs.Rows.{message_row}
 use Rattle.party_state.specs.Rows.{Made}
 use Rattle.translation_role.specs.Rows.{translation_message, translation_lead}
-use Rattle.party_state.specs.Tables.{put_row}
+use Rattle.party_tables.specs.Tables.{put_row}
 use Rattle.csm_grammar.specs.Spelling.{Says}
-use Rattle.csm_grammar.proofs.Arrived.{arrival_says}
+use Rattle.csm_read.proofs.Arrived.{arrival_says}
 use Rattle.roles.specs.Leads.{lead_by}
 use Rattle.bank_role.specs.Leads.{message_lead}
-use Rattle.world_laws.specs.World.{Member, member_at}
+use Rattle.member.specs.Member.{Member}
+use Rattle.world_laws.specs.World.{member_at}
 use Rattle.world_laws.specs.Events.{IsCommand}
 use Rattle.world_laws.proofs.Roles.Inputs.{IsInput, HonestInput}
 use Rattle.world_laws.proofs.Links.Found.{HasLinks, first_at, sending_at}
@@ -287,15 +290,15 @@ module _ (ms : List Member) (p : Party) (links : HasLinks p) where
       by_status false = by_exchange (exchange_with m.originator p)
 
 module _ (v : Lists) (p : List ℕ) (x : Member) (room : ℕ) (at : member_at p v.members ≡ Some x) (i : Agreed v) (links : HasLinks x.party) where
-  key_counts : (a : Arrival) (m : Ksm) (b : KsmBody) (o : Option LinkRec) → Says (auth_text a) (message.Ksm m) → m.body ≡ b → body_link x.party m.originator b ≡ o → HonestAs v.facts a (key_lead_with x.party a m b o) → is_accept (key_row x.party a m b o).verdict ≡ true → CountsMove v.members x.party (key_row x.party a m b o)
+  key_counts : (a : Arrival) (m : Ksm) (b : KsmBody) (o : Option LinkRec) → Says (authenticated a) (message.Ksm m) → m.body ≡ b → body_link x.party m.originator b ≡ o → HonestAs v.facts a (key_lead_with x.party a m b o) → is_accept (key_row x.party a m b o).verdict ≡ true → CountsMove v.members x.party (key_row x.party a m b o)
   key_counts a m b None said is found honest h = sending_counts v.members x.party (key_row x.party a m b None) tt refl
   key_counts a m b (Some l) said is found honest h = taken_counts v p x room at i links a m b l said is found honest h
 
-  rtr_counts : (a : Arrival) (m : Rtr) (kd : Option (ℕ × ℕ)) → m.kd ≡ kd → Says (auth_text a) (message.Rtr m) → HonestAs v.facts a (rtr_lead_with x.party a m kd) → is_accept (rtr_with x.party a m kd).verdict ≡ true → CountsMove v.members x.party (rtr_with x.party a m kd)
+  rtr_counts : (a : Arrival) (m : Rtr) (kd : Option (ℕ × ℕ)) → m.kd ≡ kd → Says (authenticated a) (message.Rtr m) → HonestAs v.facts a (rtr_lead_with x.party a m kd) → is_accept (rtr_with x.party a m kd).verdict ≡ true → CountsMove v.members x.party (rtr_with x.party a m kd)
   rtr_counts a m (Some k) is said honest h = rtr_brought_counts v p x room at i a m k (link_with (takes m.originator centre_label) x.party) said is refl honest h
   rtr_counts a m None is said honest h = translated_counts v.members x.party links a m (waiting_with x.party m.originator)
 
-  message_counts : (a : Arrival) (m : Message) (moment : ℕ) → Says (auth_text a) m → HonestAs v.facts a (message_lead x.party a m) → is_accept (message_row x.party a m moment).verdict ≡ true → CountsMove v.members x.party (message_row x.party a m moment)
+  message_counts : (a : Arrival) (m : Message) (moment : ℕ) → Says (authenticated a) m → HonestAs v.facts a (message_lead x.party a m) → is_accept (message_row x.party a m moment).verdict ≡ true → CountsMove v.members x.party (message_row x.party a m moment)
   message_counts a (message.Rsi m) moment said honest h = rsi_counts v.members x.party links a m moment (first_link m.originator Sends x.party) refl
   message_counts a (message.Rfs m) moment said honest h = sending_counts v.members x.party (message_row x.party a (message.Rfs m) moment) tt refl
   message_counts a (message.Rtr m) moment said honest h = rtr_counts a m m.kd refl said honest h
@@ -305,7 +308,7 @@ module _ (v : Lists) (p : List ℕ) (x : Member) (room : ℕ) (at : member_at p 
   message_counts a (message.Esm m) moment said honest h = esm_counts v.members x.party links a m (is_plain a.parsed.shut) (subject_with x.party m.originator) (retry_in x.party (subject_with x.party m.originator) m.ctr)
   message_counts a (message.Dsm m) moment said honest h = dsm_counts v.members x.party links a m (named_by x.party m)
 
-  translation_counts : (a : Arrival) (m : Message) → Says (auth_text a) m → HonestAs v.facts a (translation_lead x.party a m) → is_accept (translation_message x.party a m).verdict ≡ true → CountsMove v.members x.party (translation_message x.party a m)
+  translation_counts : (a : Arrival) (m : Message) → Says (authenticated a) m → HonestAs v.facts a (translation_lead x.party a m) → is_accept (translation_message x.party a m).verdict ≡ true → CountsMove v.members x.party (translation_message x.party a m)
   translation_counts a (message.Rfs m) said honest h = rfs_counts v p x room at i a m (link_with (takes m.originator centre_label) x.party) (link_with (sends m.ultimate centre_label) x.party) said refl refl honest h
   translation_counts a (message.Rsi m) said honest h = sending_counts v.members x.party (translation_message x.party a (message.Rsi m)) tt refl
   translation_counts a (message.Rtr m) said honest h = sending_counts v.members x.party (translation_message x.party a (message.Rtr m)) tt refl

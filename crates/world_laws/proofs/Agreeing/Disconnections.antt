@@ -1,33 +1,35 @@
 -- Agreement: the end of a key arrives.
 use Rattle.std.proofs.Common.{◌≡◌, ◌≢◌, inl, inr, ℕ, Bool, true, false, cond, Option, Some, None, List, [], ◌∷◌, ◌++◌, refl, sym, ◌∙◌, ap, subst, bytes_eq}
 use Rattle.x_base.specs.declared.key_name.KeyName.{KeyName}
-use Rattle.party_state.specs.declared.link.LinkKey.{LinkKey}
-use Rattle.party_state.specs.declared.link.LinkRec.{LinkRec}
-use Rattle.party_state.specs.declared.key.RecordKey.{RecordKey}
-use Rattle.party_state.specs.declared.key.KeyRec.{KeyRec}
-use Rattle.party_state.specs.declared.key.KeyStatus.{KeyStatus}
-use Rattle.party_state.specs.declared.key.KeyStatus.TheVariants.{Pending, Live, Held, Closing, Ended}
-use Rattle.party_state.specs.declared.exchange.Exchange.{Exchange}
-use Rattle.party_state.specs.declared.exchange.Kind.{Kind}
-use Rattle.party_state.specs.declared.exchange.Kind.TheVariants as kind
-use Rattle.party_state.specs.Tables.{find_row, put_row}
-use Rattle.party_state.specs.Keys.{same_record, record_key, exchange_key}
-use Rattle.party_state.specs.Names.{full_name}
-use Rattle.party_state.specs.State.{Party, record_with, exchange_with, is_ended, apply}
+use Rattle.party_tables.specs.declared.link.LinkKey.{LinkKey}
+use Rattle.party_tables.specs.declared.link.LinkRec.{LinkRec}
+use Rattle.party_tables.specs.declared.key.RecordKey.{RecordKey}
+use Rattle.party_tables.specs.declared.key.KeyRec.{KeyRec}
+use Rattle.party_tables.specs.declared.key.KeyStatus.{KeyStatus}
+use Rattle.party_tables.specs.declared.key.KeyStatus.TheVariants.{Pending, Live, Held, Closing, Ended}
+use Rattle.party_tables.specs.declared.exchange.Exchange.{Exchange}
+use Rattle.party_tables.specs.declared.exchange.Kind.{Kind}
+use Rattle.party_tables.specs.declared.exchange.Kind.TheVariants as kind
+use Rattle.party_tables.specs.Tables.{find_row, put_row}
+use Rattle.party_tables.specs.Keys.{same_record, record_key, exchange_key}
+use Rattle.party_tables.specs.Names.{full_name}
+use Rattle.party_tables.specs.Statuses.{is_ended}
+use Rattle.party_state.specs.State.{Party, record_with, exchange_with, apply}
 use Rattle.party_state.specs.Rows.{OfDsm}
-use Rattle.party_state.proofs.Keys.{test_records}
-use Rattle.party_state.proofs.Tables.{one_found}
-use Rattle.world_laws.specs.World.{Member, member_at}
+use Rattle.party_tables.proofs.Keys.{test_records}
+use Rattle.party_tables.proofs.Tables.{one_found}
+use Rattle.member.specs.Member.{Member}
+use Rattle.world_laws.specs.World.{member_at}
 use Rattle.world_laws.specs.Laws.{HasAccepted, IsEndedAt}
 use Rattle.world_laws.proofs.Links.Growth.{PartyGrows}
-use Rattle.party_state.specs.Tables.{drop_row}
-use Rattle.party_state.proofs.Tables.{find_key}
-use Rattle.party_state.specs.declared.exchange.Via.{Via}
+use Rattle.party_tables.specs.Tables.{drop_row}
+use Rattle.party_tables.proofs.Tables.{find_key}
+use Rattle.party_tables.specs.declared.exchange.Via.{Via}
 use Rattle.role_base.specs.Exchanges.{record_of}
 use Rattle.world_laws.proofs.Lists.Among.{of_one, first_in}
 use Rattle.world_laws.proofs.Agreeing.Lists.{WaitsMove}
 use Rattle.world_laws.proofs.Agreeing.Waiting.{sent_name_by, second_name_by, SendsName, SentOk, AllSent}
-use Rattle.party_state.specs.Names.{name_behind}
+use Rattle.party_tables.specs.Names.{name_behind}
 use Rattle.role_base.proofs.TwinKeys.{behind_other}
 use Rattle.world_laws.proofs.Agreeing.Facts.{DsmOk}
 use Rattle.std.proofs.Common.{◌⊎◌}
@@ -48,15 +50,15 @@ use Rattle.world_laws.proofs.Agreeing.Exchanges.{ex_drop, waits_from, news_from,
 use Rattle.world_laws.proofs.Agreeing.Backs.{passes_backed}
 use Rattle.world_laws.proofs.Agreeing.Steps.{some_is, pending_not_held, with_status, after_is, known_later, status_fine, refused_agreeing}
 use Rattle.std.proofs.lemmas.List.Elements.{Contains-push}
-use Rattle.party_state.specs.Tables.{drop_row}
+use Rattle.party_tables.specs.Tables.{drop_row}
 use Rattle.party_state.specs.declared.edit.Edit.TheVariants.{DropExchange}
-use Rattle.party_state.specs.declared.exchange.Via.{Via}
+use Rattle.party_tables.specs.declared.exchange.Via.{Via}
 use Rattle.csm_grammar.specs.declared.arrival.Arrival.{Arrival}
-use Rattle.role_base.specs.Texts.{auth_text}
+use Rattle.csm_grammar.specs.Arrivals.{authenticated}
 use Rattle.role_base.specs.Exchanges.{new_link, dropped, ended}
-use Rattle.party_state.specs.Keys.{same_name}
-use Rattle.party_state.proofs.Keys.{test_names}
-use Rattle.party_state.proofs.Tables.{put_stands}
+use Rattle.party_tables.specs.Keys.{same_name}
+use Rattle.party_tables.proofs.Keys.{test_names}
+use Rattle.party_tables.proofs.Tables.{put_stands}
 use Rattle.csm_grammar.specs.declared.message.Dsm.{Dsm}
 use Rattle.bank_arrivals.specs.declared.disconnection.Named.{Named}
 use Rattle.role_base.specs.Exchanges.{record_of}
@@ -263,8 +265,8 @@ module _ (v : Lists) (p : List ℕ) (x : Member) (room : ℕ) (at : member_at p 
   sent : AllSent x.party
   sent = i.sent p x at
 
-  pub dsm_agreeing : (o : Option LinkKey) (a : Arrival) (m : Dsm) (found : Option Named) → named_by x.party m ≡ found → IsSound o x.party (auth_text a) (dsm_on x.party a m found) → Agreeing v x room (auth_text a) (dsm_on x.party a m found)
-  dsm_agreeing o a m None e sound = refused_agreeing v p x room at i (auth_text a) (verdict_of (dsm_front x.party m false))
+  pub dsm_agreeing : (o : Option LinkKey) (a : Arrival) (m : Dsm) (found : Option Named) → named_by x.party m ≡ found → IsSound o x.party (authenticated a) (dsm_on x.party a m found) → Agreeing v x room (authenticated a) (dsm_on x.party a m found)
+  dsm_agreeing o a m None e sound = refused_agreeing v p x room at i (authenticated a) (verdict_of (dsm_front x.party m false))
   dsm_agreeing o a m (Some n) e sound = record {
     back = passes_backed v.members x.party (disconnected x.party m.originator n.key) (dsm_passes x.party a m n w);
     news = news_from x.party (apply (disconnected x.party m.originator n.key) x.party) (λ q g new j s. left.stood q g j);
@@ -273,7 +275,7 @@ module _ (v : Lists) (p : List ℕ) (x : Member) (room : ℕ) (at : member_at p 
     waits = moved;
     replies = new;
     new = tt;
-    accepts = record { ksm = λ class. absurd (cc); answer = λ class. absurd (cc); dsm = λ class u among. subst (DsmOk (lists_after v x room (auth_text a) (dsm_on x.party a m (Some n))) x.party.own) (of_one (full_name x.party.own n.key) u among) ended_key };
+    accepts = record { ksm = λ class. absurd (cc); answer = λ class. absurd (cc); dsm = λ class u among. subst (DsmOk (lists_after v x room (authenticated a) (dsm_on x.party a m (Some n))) x.party.own) (of_one (full_name x.party.own n.key) u among) ended_key };
   }
     where
       is : (record_with (record_key n.key) x.party ≡ Some n.key) × (n.key.peer ≡ m.originator) × (m.idd ≡ n.key.name)
@@ -291,19 +293,19 @@ module _ (v : Lists) (p : List ℕ) (x : Member) (room : ℕ) (at : member_at p 
       known_s : Known v x.party (record_key n.key)
       known_s = i.known p x at (record_key n.key) n.key is.0
 
-      known_k : Known (lists_after v x room (auth_text a) (dsm_on x.party a m (Some n))) (apply (disconnected x.party m.originator n.key) x.party) (record_key n.key)
-      known_k = known_later v p x room at i o (auth_text a) (dsm_on x.party a m (Some n)) (record_key n.key) grown moved known_s
+      known_k : Known (lists_after v x room (authenticated a) (dsm_on x.party a m (Some n))) (apply (disconnected x.party m.originator n.key) x.party) (record_key n.key)
+      known_k = known_later v p x room at i o (authenticated a) (dsm_on x.party a m (Some n)) (record_key n.key) grown moved known_s
 
-      new : HasAccepted (acceptances_after v.acceptances x (auth_text a) (dsm_on x.party a m (Some n))) OfDsm x.party.own (full_name x.party.own n.key)
-      new = record { acceptance = record { party = x.party.own; text = auth_text a; class = OfDsm; names = full_name x.party.own n.key ∷ [] }; stands = Contains-push v.acceptances _; class_is = refl; party_is = refl; among = first_in (full_name x.party.own n.key) [] }
+      new : HasAccepted (acceptances_after v.acceptances x (authenticated a) (dsm_on x.party a m (Some n))) OfDsm x.party.own (full_name x.party.own n.key)
+      new = record { acceptance = record { party = x.party.own; text = authenticated a; class = OfDsm; names = full_name x.party.own n.key ∷ [] }; stands = Contains-push v.acceptances _; class_is = refl; party_is = refl; among = first_in (full_name x.party.own n.key) [] }
 
-      fine : KeyFine v (lists_after v x room (auth_text a) (dsm_on x.party a m (Some n))) x.party (apply (disconnected x.party m.originator n.key) x.party) (with_status n.key Ended)
-      fine = status_fine v p x room at i o (auth_text a) (dsm_on x.party a m (Some n)) n.key Ended grown moved is.0 (λ g. refl) (λ no own. absurd no) (λ held. inr (inl new))
+      fine : KeyFine v (lists_after v x room (authenticated a) (dsm_on x.party a m (Some n))) x.party (apply (disconnected x.party m.originator n.key) x.party) (with_status n.key Ended)
+      fine = status_fine v p x room at i o (authenticated a) (dsm_on x.party a m (Some n)) n.key Ended grown moved is.0 (λ g. refl) (λ no own. absurd no) (λ held. inr (inl new))
 
-      other_fine : (j : KeyRec) → OtherTwin x.party m.originator n.key j → KeyFine v (lists_after v x room (auth_text a) (dsm_on x.party a m (Some n))) x.party (apply (disconnected x.party m.originator n.key) x.party) (with_status j Ended)
-      other_fine j t = status_fine v p x room at i o (auth_text a) (dsm_on x.party a m (Some n)) j Ended grown moved t.found (λ g. refl) (λ no own. absurd no) (λ held. absurd (pending_not_held j.status t.pending held))
+      other_fine : (j : KeyRec) → OtherTwin x.party m.originator n.key j → KeyFine v (lists_after v x room (authenticated a) (dsm_on x.party a m (Some n))) x.party (apply (disconnected x.party m.originator n.key) x.party) (with_status j Ended)
+      other_fine j t = status_fine v p x room at i o (authenticated a) (dsm_on x.party a m (Some n)) j Ended grown moved t.found (λ g. refl) (λ no own. absurd no) (λ held. absurd (pending_not_held j.status t.pending held))
 
-      keys_move : LeftKeys x.party (apply (disconnected x.party m.originator n.key) x.party) m.originator n.key → KeysMove v (lists_after v x room (auth_text a) (dsm_on x.party a m (Some n))) x.party (apply (disconnected x.party m.originator n.key) x.party)
+      keys_move : LeftKeys x.party (apply (disconnected x.party m.originator n.key) x.party) m.originator n.key → KeysMove v (lists_after v x room (authenticated a) (dsm_on x.party a m (Some n))) x.party (apply (disconnected x.party m.originator n.key) x.party)
       keys_move (one_left ks) = one (with_status n.key Ended) ks fine
       keys_move (behind_left j t none ks) = two (with_status n.key Ended) (with_status j Ended) t.other ks fine (other_fine j t)
       keys_move (front_left j t none ks) = two (with_status j Ended) (with_status n.key Ended) (λ e. t.other (sym e)) ks (other_fine j t) fine
@@ -327,5 +329,5 @@ module _ (v : Lists) (p : List ℕ) (x : Member) (room : ℕ) (at : member_at p 
               let kr : Known v x.party (record_key r) = subst (Known v x.party) key (i.known p x at z r old) in
               absurd (ne (key ∙ one_key v x.party (record_key r) (record_key n.key) kr known_s full_r))
 
-      ended_key : DsmOk (lists_after v x room (auth_text a) (dsm_on x.party a m (Some n))) x.party.own (full_name x.party.own n.key)
-      ended_key = record { ended = ended; key = record_key n.key; full_is = refl; known = λ y f. subst (λ (z : Member). Known (lists_after v x room (auth_text a) (dsm_on x.party a m (Some n))) z.party (record_key n.key)) (one_found (after x room (dsm_on x.party a m (Some n))) y after_here f) known_k }
+      ended_key : DsmOk (lists_after v x room (authenticated a) (dsm_on x.party a m (Some n))) x.party.own (full_name x.party.own n.key)
+      ended_key = record { ended = ended; key = record_key n.key; full_is = refl; known = λ y f. subst (λ (z : Member). Known (lists_after v x room (authenticated a) (dsm_on x.party a m (Some n))) z.party (record_key n.key)) (one_found (after x room (dsm_on x.party a m (Some n))) y after_here f) known_k }

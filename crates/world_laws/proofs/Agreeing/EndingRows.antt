@@ -1,24 +1,26 @@
 -- Agreement: what is given up, ended and removed.
 use Rattle.std.proofs.Common.{◌≡◌, ◌≢◌, inl, inr, ℕ, true, false, not, Option, Some, None, List, [], ◌∷◌, ◌++◌, refl, sym, ◌∙◌, ap, subst, bytes_eq}
 use Rattle.x_base.specs.declared.key_name.KeyName.{KeyName}
-use Rattle.party_state.specs.declared.link.LinkKey.{LinkKey}
-use Rattle.party_state.specs.declared.link.LinkRec.{LinkRec}
-use Rattle.party_state.specs.declared.key.KeyRec.{KeyRec}
-use Rattle.party_state.specs.declared.key.KeyStatus.{KeyStatus}
-use Rattle.party_state.specs.declared.key.KeyStatus.TheVariants.{Pending, Live, Held, Closing, Ended}
-use Rattle.party_state.specs.declared.exchange.Exchange.{Exchange}
-use Rattle.party_state.specs.declared.exchange.Kind.{Kind}
-use Rattle.party_state.specs.declared.exchange.Kind.TheVariants as kind
-use Rattle.party_state.specs.Tables.{put_row}
-use Rattle.party_state.specs.Keys.{same_record, record_key, exchange_key}
-use Rattle.party_state.specs.State.{Party, record_with, exchange_with, is_ended, apply}
+use Rattle.party_tables.specs.declared.link.LinkKey.{LinkKey}
+use Rattle.party_tables.specs.declared.link.LinkRec.{LinkRec}
+use Rattle.party_tables.specs.declared.key.KeyRec.{KeyRec}
+use Rattle.party_tables.specs.declared.key.KeyStatus.{KeyStatus}
+use Rattle.party_tables.specs.declared.key.KeyStatus.TheVariants.{Pending, Live, Held, Closing, Ended}
+use Rattle.party_tables.specs.declared.exchange.Exchange.{Exchange}
+use Rattle.party_tables.specs.declared.exchange.Kind.{Kind}
+use Rattle.party_tables.specs.declared.exchange.Kind.TheVariants as kind
+use Rattle.party_tables.specs.Tables.{put_row}
+use Rattle.party_tables.specs.Keys.{same_record, record_key, exchange_key}
+use Rattle.party_tables.specs.Statuses.{is_ended}
+use Rattle.party_state.specs.State.{Party, record_with, exchange_with, apply}
 use Rattle.party_state.specs.Rows.{Row, OfKsm}
-use Rattle.party_state.proofs.Keys.{test_records}
-use Rattle.party_state.proofs.Distinct.{filter_back}
-use Rattle.world_laws.specs.World.{Member, member_at}
+use Rattle.party_tables.proofs.Keys.{test_records}
+use Rattle.party_tables.proofs.Distinct.{filter_back}
+use Rattle.member.specs.Member.{Member}
+use Rattle.world_laws.specs.World.{member_at}
 use Rattle.world_laws.proofs.Links.Growth.{PartyGrows}
-use Rattle.party_state.specs.Tables.{drop_row}
-use Rattle.party_state.specs.declared.exchange.Via.{Via}
+use Rattle.party_tables.specs.Tables.{drop_row}
+use Rattle.party_tables.specs.declared.exchange.Via.{Via}
 use Rattle.role_base.specs.declared.exchanges.Sent.{Sent}
 use Rattle.role_base.specs.Exchanges.{record_of}
 use Rattle.world_laws.proofs.Agreeing.Lists.{WaitsMove}
@@ -42,14 +44,14 @@ use Rattle.world_laws.proofs.Agreeing.Waiting.{NewsMove, news_stay}
 use Rattle.world_laws.proofs.Agreeing.Exchanges.{waits_drop, waits_put, news_drop, news_put, sent_drop, sent_drop_two, sent_put, sent_less, sent_same, record_is, SentIs}
 use Rattle.world_laws.proofs.Agreeing.Backs.{backed, passes_backed}
 use Rattle.world_laws.proofs.Agreeing.Steps.{with_status, class_later, status_fine, ended_fine, still_agreeing, refused_agreeing}
-use Rattle.party_state.specs.Tables.{drop_row}
+use Rattle.party_tables.specs.Tables.{drop_row}
 use Rattle.party_state.specs.declared.edit.Edit.TheVariants.{PutKey, DropExchange}
-use Rattle.party_state.specs.Names.{name_behind}
+use Rattle.party_tables.specs.Names.{name_behind}
 use Rattle.role_base.proofs.TwinKeys.{behind_other}
 use Rattle.world_laws.proofs.Agreeing.Waiting.{sent_name_by, second_name_by, SendsName}
 use Rattle.world_laws.proofs.Agreeing.KeyRecords.{two}
 use Rattle.world_laws.proofs.Agreeing.Steps.{pending_not_held}
-use Rattle.party_state.specs.declared.exchange.Via.{Via}
+use Rattle.party_tables.specs.declared.exchange.Via.{Via}
 use Rattle.role_base.specs.Exchanges.{new_link, dropped, ended}
 use Rattle.bank_orders.specs.GivingUp.{given_up, given_up_in, drop}
 use Rattle.bank_orders.specs.Ending.{can_end, end_tests, end_reply, end_record, purge}

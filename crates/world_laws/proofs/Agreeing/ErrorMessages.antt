@@ -1,19 +1,20 @@
 -- Agreement: an error message arrives, and a centre may be asked again.
 use Rattle.world_laws.proofs.Agreeing.Moves.{Backed}
 use Rattle.std.proofs.Common.{◌≡◌, inl, ℕ, Bool, true, false, Option, Some, None, List, [], ◌∷◌, ◌++◌, refl, bytes_eq}
-use Rattle.party_state.specs.declared.link.LinkKey.{LinkKey}
-use Rattle.party_state.specs.declared.link.LinkRec.{LinkRec}
-use Rattle.party_state.specs.declared.key.KeyRec.{KeyRec}
-use Rattle.party_state.specs.declared.key.KeyStatus.TheVariants.{Ended}
-use Rattle.party_state.specs.declared.exchange.Exchange.{Exchange}
-use Rattle.party_state.specs.declared.exchange.Kind.TheVariants as kind
-use Rattle.party_state.specs.Tables.{put_row}
-use Rattle.party_state.specs.Keys.{same_record, record_key, exchange_key}
-use Rattle.party_state.specs.Names.{full_name}
+use Rattle.party_tables.specs.declared.link.LinkKey.{LinkKey}
+use Rattle.party_tables.specs.declared.link.LinkRec.{LinkRec}
+use Rattle.party_tables.specs.declared.key.KeyRec.{KeyRec}
+use Rattle.party_tables.specs.declared.key.KeyStatus.TheVariants.{Ended}
+use Rattle.party_tables.specs.declared.exchange.Exchange.{Exchange}
+use Rattle.party_tables.specs.declared.exchange.Kind.TheVariants as kind
+use Rattle.party_tables.specs.Tables.{put_row}
+use Rattle.party_tables.specs.Keys.{same_record, record_key, exchange_key}
+use Rattle.party_tables.specs.Names.{full_name}
 use Rattle.party_state.specs.State.{Party, apply}
-use Rattle.world_laws.specs.World.{Member, member_at}
+use Rattle.member.specs.Member.{Member}
+use Rattle.world_laws.specs.World.{member_at}
 use Rattle.world_laws.proofs.Links.Growth.{PartyGrows}
-use Rattle.party_state.specs.Tables.{drop_row}
+use Rattle.party_tables.specs.Tables.{drop_row}
 use Rattle.world_laws.proofs.Agreeing.Lists.{WaitsMove}
 use Rattle.world_laws.proofs.Agreeing.Waiting.{AllSent}
 use Rattle.world_laws.proofs.Links.Growth.{PartyGrows}
@@ -36,10 +37,10 @@ use Rattle.world_laws.proofs.Agreeing.KeyRecords.{two}
 use Rattle.world_laws.proofs.Agreeing.Steps.{twins_ended}
 use Rattle.world_laws.proofs.Agreeing.Backs.{passes_backed}
 use Rattle.world_laws.proofs.Agreeing.Steps.{plain, with_status, ended_fine, still_agreeing, refused_agreeing}
-use Rattle.party_state.specs.Tables.{drop_row}
+use Rattle.party_tables.specs.Tables.{drop_row}
 use Rattle.party_state.specs.declared.edit.Edit.TheVariants.{DropExchange}
 use Rattle.csm_grammar.specs.declared.arrival.Arrival.{Arrival}
-use Rattle.role_base.specs.Texts.{auth_text}
+use Rattle.csm_grammar.specs.Arrivals.{authenticated}
 use Rattle.role_base.specs.Exchanges.{new_link, dropped}
 use Rattle.party_state.specs.Rows.{OfEsm}
 use Rattle.csm_grammar.specs.declared.message.Esm.{Esm}
@@ -115,8 +116,8 @@ module _ (v : Lists) (p : List ℕ) (x : Member) (room : ℕ) (at : member_at p 
   again_new m value None = tt
   again_new m value (Some r) = tt
 
-  error_agreeing : (o : Option LinkKey) (a : Arrival) (m : Esm) (found : Option Subject) (again_is : Option Retry) → AsksFor found again_is → subject_with x.party m.originator ≡ found → IsSound o x.party (auth_text a) (error_of x.party a m found again_is) → Agreeing v x room (auth_text a) (error_of x.party a m found again_is)
-  error_agreeing o a m None again_is fits e sound = refused_agreeing v p x room at i (auth_text a) (verdict_of (esm_front x.party m None))
+  error_agreeing : (o : Option LinkKey) (a : Arrival) (m : Esm) (found : Option Subject) (again_is : Option Retry) → AsksFor found again_is → subject_with x.party m.originator ≡ found → IsSound o x.party (authenticated a) (error_of x.party a m found again_is) → Agreeing v x room (authenticated a) (error_of x.party a m found again_is)
+  error_agreeing o a m None again_is fits e sound = refused_agreeing v p x room at i (authenticated a) (verdict_of (esm_front x.party m None))
   error_agreeing o a m (Some (Translated value cta)) (Some r) fits e sound = absurd (cc)
   error_agreeing o a m (Some (Translated value cta)) None fits e sound =
       let parts = alone_parts x.party m.originator (subject_link x.party m.originator (Translated value cta)) m.ctr in
@@ -137,7 +138,7 @@ module _ (v : Lists) (p : List ℕ) (x : Member) (room : ℕ) (at : member_at p 
       let grown : PartyGrows o x.party (apply (error_row x.party a m (SentTwins t) None).edits x.party) = change_grows o (error_row x.party a m (SentTwins t) None).edits x.party sound.edits in
       let is : TwinsIs x.party m.originator t = twins_is x.party m.originator t (subject_twins x.party m.originator t e) in
       let moved : WaitsMove x.party (apply (error_row x.party a m (SentTwins t) None).edits x.party) = waits_drop x.party (apply (error_row x.party a m (SentTwins t) None).edits x.party) m.originator parts.1 in
-      let fine = twins_ended v p x room at i o (auth_text a) (error_row x.party a m (SentTwins t) None) m.originator t grown moved is in
+      let fine = twins_ended v p x room at i o (authenticated a) (error_row x.party a m (SentTwins t) None) m.originator t grown moved is in
       record {
         back = passes_backed v.members x.party (error_row x.party a m (SentTwins t) None).edits (error_passes x.party a m (SentTwins t) None w e);
         news = news_drop x.party (apply (error_row x.party a m (SentTwins t) None).edits x.party) m.originator parts.1;
@@ -146,7 +147,7 @@ module _ (v : Lists) (p : List ℕ) (x : Member) (room : ℕ) (at : member_at p 
         waits = moved;
         replies = tt;
         new = tt;
-        accepts = plain (lists_after v x room (auth_text a) (error_row x.party a m (SentTwins t) None)) x.party.own (auth_text a) OfEsm (full_name x.party.own t.first ∷ full_name x.party.own t.second ∷ []) (λ g. cc) (λ g. cc) (λ g. cc);
+        accepts = plain (lists_after v x room (authenticated a) (error_row x.party a m (SentTwins t) None)) x.party.own (authenticated a) OfEsm (full_name x.party.own t.first ∷ full_name x.party.own t.second ∷ []) (λ g. cc) (λ g. cc) (λ g. cc);
       }
   error_agreeing o a m (Some (SentKey y)) again_is fits e sound = go parts.1
     where
@@ -162,19 +163,19 @@ module _ (v : Lists) (p : List ℕ) (x : Member) (room : ℕ) (at : member_at p 
       back : Backed v.members x.party (apply (error_row x.party a m (SentKey y) again_is).edits x.party)
       back = passes_backed v.members x.party (error_row x.party a m (SentKey y) again_is).edits (error_passes x.party a m (SentKey y) again_is w e)
 
-      accepts : AcceptsOk (lists_after v x room (auth_text a) (error_row x.party a m (SentKey y) again_is)) x.party.own (auth_text a) (Some (record { class = OfEsm; names = full_name x.party.own y.key ∷ [] }))
-      accepts = plain (lists_after v x room (auth_text a) (error_row x.party a m (SentKey y) again_is)) x.party.own (auth_text a) OfEsm (full_name x.party.own y.key ∷ []) (λ g. cc) (λ g. cc) (λ g. cc)
+      accepts : AcceptsOk (lists_after v x room (authenticated a) (error_row x.party a m (SentKey y) again_is)) x.party.own (authenticated a) (Some (record { class = OfEsm; names = full_name x.party.own y.key ∷ [] }))
+      accepts = plain (lists_after v x room (authenticated a) (error_row x.party a m (SentKey y) again_is)) x.party.own (authenticated a) OfEsm (full_name x.party.own y.key ∷ []) (λ g. cc) (λ g. cc) (λ g. cc)
 
-      go : GivenUp x.party (apply (error_row x.party a m (SentKey y) again_is).edits x.party) m y.key.value → Agreeing v x room (auth_text a) (error_row x.party a m (SentKey y) again_is)
+      go : GivenUp x.party (apply (error_row x.party a m (SentKey y) again_is).edits x.party) m y.key.value → Agreeing v x room (authenticated a) (error_row x.party a m (SentKey y) again_is)
       go (quietly ex) =
           let moved : WaitsMove x.party (apply (error_row x.party a m (SentKey y) again_is).edits x.party) = waits_drop x.party (apply (error_row x.party a m (SentKey y) again_is).edits x.party) m.originator ex in
           record {
             back = back;
             news = news_drop x.party (apply (error_row x.party a m (SentKey y) again_is).edits x.party) m.originator ex;
-            keys = one (with_status y.key Ended) parts.0 (ended_fine v p x room at i o (auth_text a) (error_row x.party a m (SentKey y) again_is) m.originator y grown moved is);
+            keys = one (with_status y.key Ended) parts.0 (ended_fine v p x room at i o (authenticated a) (error_row x.party a m (SentKey y) again_is) m.originator y grown moved is);
             exchanges = sent_drop x.party (apply (error_row x.party a m (SentKey y) again_is).edits x.party) m.originator (with_status y.key Ended) grown.own ex parts.0 is.peer_is sent;
             waits = moved;
-            replies = again_ok a m y.key.value (lists_after v x room (auth_text a) (error_row x.party a m (SentKey y) again_is)) again_is;
+            replies = again_ok a m y.key.value (lists_after v x room (authenticated a) (error_row x.party a m (SentKey y) again_is)) again_is;
             new = again_new m y.key.value again_is;
             accepts = accepts;
           }
@@ -184,15 +185,15 @@ module _ (v : Lists) (p : List ℕ) (x : Member) (room : ℕ) (at : member_at p 
           record {
             back = back;
             news = news_both x.party (apply (error_row x.party a m (SentKey y) again_is).edits x.party) m.originator n ex refl;
-            keys = one (with_status y.key Ended) parts.0 (ended_fine v p x room at i o (auth_text a) (error_row x.party a m (SentKey y) again_is) m.originator y grown moved is);
+            keys = one (with_status y.key Ended) parts.0 (ended_fine v p x room at i o (authenticated a) (error_row x.party a m (SentKey y) again_is) m.originator y grown moved is);
             exchanges = sent_both x.party (apply (error_row x.party a m (SentKey y) again_is).edits x.party) m.originator n (with_status y.key Ended) grown.own ex parts.0 (inl is.peer_is) (λ name q. absurd (cc)) refl sent;
             waits = moved;
-            replies = again_ok a m y.key.value (lists_after v x room (auth_text a) (error_row x.party a m (SentKey y) again_is)) again_is;
+            replies = again_ok a m y.key.value (lists_after v x room (authenticated a) (error_row x.party a m (SentKey y) again_is)) again_is;
             new = again_new m y.key.value again_is;
             accepts = accepts;
           }
 
   -- one that is closed by an error detection code changes nothing
-  pub error_row_agreeing : (o : Option LinkKey) (a : Arrival) (m : Esm) (b : Bool) (again_is : Option Retry) → AsksFor (subject_with x.party m.originator) again_is → IsSound o x.party (auth_text a) (error_with x.party a m b again_is) → Agreeing v x room (auth_text a) (error_with x.party a m b again_is)
-  error_row_agreeing o a m true again_is fits sound = still_agreeing v p x room at i (auth_text a) (plain_esm x.party a m) refl tt tt tt
+  pub error_row_agreeing : (o : Option LinkKey) (a : Arrival) (m : Esm) (b : Bool) (again_is : Option Retry) → AsksFor (subject_with x.party m.originator) again_is → IsSound o x.party (authenticated a) (error_with x.party a m b again_is) → Agreeing v x room (authenticated a) (error_with x.party a m b again_is)
+  error_row_agreeing o a m true again_is fits sound = still_agreeing v p x room at i (authenticated a) (plain_esm x.party a m) refl tt tt tt
   error_row_agreeing o a m false again_is fits sound = error_agreeing o a m (subject_with x.party m.originator) again_is fits refl sound

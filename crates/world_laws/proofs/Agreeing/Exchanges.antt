@@ -1,28 +1,28 @@
 -- How records and exchanges move, and what an exchange is about.
 use Rattle.std.proofs.Common.{◌≡◌, ◌≢◌, ◌⊎◌, inl, inr, ℕ, ◌≤◌, Bool, true, false, cond, Option, Some, None, List, refl, sym, ◌∙◌, ap, subst, bytes_eq}
 use Rattle.x_base.specs.declared.key_name.KeyName.{KeyName}
-use Rattle.party_state.specs.declared.link.LinkRec.{LinkRec}
-use Rattle.party_state.specs.declared.key.RecordKey.{RecordKey}
-use Rattle.party_state.specs.declared.key.KeyRec.{KeyRec}
-use Rattle.party_state.specs.declared.key.KeyStatus.TheVariants.{Pending}
-use Rattle.party_state.specs.declared.exchange.Exchange.{Exchange}
-use Rattle.party_state.specs.declared.exchange.Kind.{Kind}
-use Rattle.party_state.specs.declared.exchange.Kind.TheVariants as kind
-use Rattle.party_state.specs.Tables.{find_row, put_row}
-use Rattle.party_state.specs.Keys.{same_record, record_key, exchange_key, sends}
+use Rattle.party_tables.specs.declared.link.LinkRec.{LinkRec}
+use Rattle.party_tables.specs.declared.key.RecordKey.{RecordKey}
+use Rattle.party_tables.specs.declared.key.KeyRec.{KeyRec}
+use Rattle.party_tables.specs.declared.key.KeyStatus.TheVariants.{Pending}
+use Rattle.party_tables.specs.declared.exchange.Exchange.{Exchange}
+use Rattle.party_tables.specs.declared.exchange.Kind.{Kind}
+use Rattle.party_tables.specs.declared.exchange.Kind.TheVariants as kind
+use Rattle.party_tables.specs.Tables.{find_row, put_row}
+use Rattle.party_tables.specs.Keys.{same_record, record_key, exchange_key, sends}
 use Rattle.party_state.specs.State.{Party, centre_label, link_with, record_with, exchange_with}
-use Rattle.party_state.proofs.Keys.{test_idents, test_records}
-use Rattle.party_state.proofs.Tables.{one_found, find_put}
+use Rattle.party_tables.proofs.Keys.{test_idents, test_records}
+use Rattle.party_tables.proofs.Tables.{one_found, find_put}
 use Rattle.bank_keys.specs.declared.waits.Waiting.{Waiting}
 use Rattle.std.specs.Prelude.{option_map}
-use Rattle.party_state.specs.Tables.{drop_row}
-use Rattle.party_state.proofs.Tables.{find_key, find_put_same, find_drop}
-use Rattle.party_state.specs.declared.exchange.Via.{Via}
+use Rattle.party_tables.specs.Tables.{drop_row}
+use Rattle.party_tables.proofs.Tables.{find_key, find_put_same, find_drop}
+use Rattle.party_tables.specs.declared.exchange.Via.{Via}
 use Rattle.role_base.specs.declared.exchanges.Sent.{Sent}
 use Rattle.role_base.specs.Exchanges.{record_of, sent_by, sent_in, sent_to, twins_to, ending_by, ending_in, ending_with}
 use Rattle.role_base.specs.declared.exchanges.Twins.{Twins}
 use Rattle.role_base.proofs.TwinKeys.{twins_at, behind_other}
-use Rattle.party_state.specs.Names.{name_behind}
+use Rattle.party_tables.specs.Names.{name_behind}
 use Rattle.bank_keys.specs.Waiting.{waiting_by, waiting_in}
 use Rattle.world_laws.proofs.Agreeing.Lists.{WaitsMove}
 use Rattle.world_laws.proofs.Agreeing.Waiting.{NewsMove, sent_name_by, second_name_by, mark_of, SendsName, SentOk, AllSent}

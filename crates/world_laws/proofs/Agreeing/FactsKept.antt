@@ -17,21 +17,22 @@ use Rattle.csm_grammar.specs.declared.message.KsmBody.{KsmBody}
 use Rattle.csm_grammar.specs.declared.message.KsmBody.TheVariants as body
 use Rattle.csm_grammar.specs.Spelling.{Says}
 use Rattle.csm_write.specs.Canon.{auth_of}
-use Rattle.party_state.specs.declared.link.LinkKey.{LinkKey}
-use Rattle.party_state.specs.declared.link.LinkRec.{LinkRec}
-use Rattle.party_state.specs.declared.key.KeyRec.{KeyRec}
-use Rattle.party_state.specs.declared.exchange.Exchange.{Exchange}
-use Rattle.party_state.specs.Keys.{sends}
-use Rattle.party_state.specs.Names.{name_behind, full_behind}
+use Rattle.party_tables.specs.declared.link.LinkKey.{LinkKey}
+use Rattle.party_tables.specs.declared.link.LinkRec.{LinkRec}
+use Rattle.party_tables.specs.declared.key.KeyRec.{KeyRec}
+use Rattle.party_tables.specs.declared.exchange.Exchange.{Exchange}
+use Rattle.party_tables.specs.Keys.{sends}
+use Rattle.party_tables.specs.Names.{name_behind, full_behind}
 use Rattle.party_state.specs.State.{Party, centre_label, link_with, record_with, exchange_with, apply}
 use Rattle.party_state.specs.Rows.{Row, Reply, Coded, Plain, Again, OfDsm}
-use Rattle.party_state.proofs.Keys.{test_idents}
-use Rattle.party_state.proofs.Tables.{one_found}
+use Rattle.party_tables.proofs.Keys.{test_idents}
+use Rattle.party_tables.proofs.Tables.{one_found}
 use Rattle.role_base.specs.Conditions.{body_issuer}
 use Rattle.bank_keys.specs.Ksm.{body_twin, body_value, key_names}
 use Rattle.bank_keys.specs.declared.waits.Waiting.{Waiting}
 use Rattle.bank_keys.specs.Waiting.{waiting_with}
-use Rattle.world_laws.specs.World.{Member, Fact, own_of, member_at}
+use Rattle.member.specs.Member.{Member}
+use Rattle.world_laws.specs.World.{Fact, own_of, member_at}
 use Rattle.world_laws.specs.Steps.{facts_of, acceptances_of}
 use Rattle.world_laws.specs.Facts.{IsMadeBySender, KsmApart, sender_of}
 use Rattle.world_laws.proofs.Links.Growth.{LinkGrows}
@@ -40,7 +41,7 @@ use Rattle.world_laws.proofs.Links.Waiting.{new_of}
 use Rattle.world_laws.proofs.Texts.Own.{IsOwn}
 use Rattle.std.proofs.Common.{AllPairs, All, get_or}
 use Rattle.std.proofs.lemmas.List.Elements.{All-weaker, All-push}
-use Rattle.party_state.proofs.Tables.{find_key}
+use Rattle.party_tables.proofs.Tables.{find_key}
 use Rattle.world_laws.proofs.Links.Putting.{some_none}
 use Rattle.world_laws.proofs.Counting.Sound.{IsSound}
 use Rattle.world_laws.proofs.Texts.Own.{own_means}
@@ -48,7 +49,7 @@ use Rattle.world_laws.proofs.Agreeing.Lists.{Lists, members_after, facts_after, 
 use Rattle.world_laws.proofs.Agreeing.Waiting.{NewSent, sent_name_by, mark_of, marked, mine_not_new, NewFits}
 use Rattle.world_laws.proofs.Agreeing.Known.{Mine, counted, issued, mine_on}
 use Rattle.world_laws.proofs.Agreeing.KeyRecords.{StandsBefore, before, mine_stands, IsPut}
-use Rattle.party_state.specs.declared.exchange.Kind.TheVariants as kind
+use Rattle.party_tables.specs.declared.exchange.Kind.TheVariants as kind
 use Rattle.world_laws.proofs.Agreeing.Facts.{ksm_key, at_peer, Carries, as_first, carries_same, among_carries, taken_more, KsmFact, WaitsAt, RfsFact, kdu_value, RtrForm, RtrFact, RsmOk, MessageOk, FactOk, RtrApart}
 use Rattle.world_laws.proofs.Agreeing.Moves.{RepliesOk, NewName, FreshMessage, FreshReply, OwnText, Agreeing}
 use Rattle.world_laws.proofs.Agreeing.Agreed.{Forward, Agreed}

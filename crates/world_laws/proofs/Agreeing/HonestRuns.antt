@@ -5,19 +5,19 @@ use Rattle.std.proofs.lemmas.List.Elements.{All-same}
 use Rattle.std.proofs.Common.{append-nil}
 use Rattle.x_base.specs.declared.verdict.Verdict.TheVariants as verdict
 use Rattle.csm_write.specs.Canon.{auth_of}
-use Rattle.party_state.proofs.Keys.{test_idents, test_records}
-use Rattle.party_state.proofs.Tables.{find_key, put_stands}
-use Rattle.party_state.specs.Keys.{same_record, record_key, exchange_key, sends, takes}
-use Rattle.party_state.specs.Names.{full_name}
+use Rattle.party_tables.proofs.Keys.{test_idents, test_records}
+use Rattle.party_tables.proofs.Tables.{find_key, put_stands}
+use Rattle.party_tables.specs.Keys.{same_record, record_key, exchange_key, sends, takes}
+use Rattle.party_tables.specs.Names.{full_name}
 use Rattle.party_state.specs.Rows.{Row, Reply, Coded, Plain, Again, OfKsm, OfDsm, refused}
 use Rattle.party_state.specs.State.{Party, centre_label, record_with, apply}
-use Rattle.party_state.specs.Tables.{find_row, put_row}
+use Rattle.party_tables.specs.Tables.{find_row, put_row}
 use Rattle.party_state.specs.Verdicts.{is_accept}
-use Rattle.party_state.specs.declared.exchange.Exchange.{Exchange}
-use Rattle.party_state.specs.declared.key.KeyRec.{KeyRec}
-use Rattle.party_state.specs.declared.key.KeyStatus.{KeyStatus}
-use Rattle.party_state.specs.declared.key.KeyStatus.TheVariants.{Pending, Live, Held, Closing, Ended}
-use Rattle.party_state.specs.declared.key.RecordKey.{RecordKey}
+use Rattle.party_tables.specs.declared.exchange.Exchange.{Exchange}
+use Rattle.party_tables.specs.declared.key.KeyRec.{KeyRec}
+use Rattle.party_tables.specs.declared.key.KeyStatus.{KeyStatus}
+use Rattle.party_tables.specs.declared.key.KeyStatus.TheVariants.{Pending, Live, Held, Closing, Ended}
+use Rattle.party_tables.specs.declared.key.RecordKey.{RecordKey}
 use Rattle.std.proofs.Common.{arith, ◌≡◌, ◌⊎◌, inl, inr, ℕ, Bool, true, false, cond, Option, Some, None, List, [], ◌∷◌, refl, sym, ◌∙◌, ap, subst, bytes_eq, get_or}
 use Rattle.std.proofs.lemmas.List.Elements.{All-contains}
 use Rattle.world_laws.proofs.Roles.Inputs.{HonestInput, IsInput}
@@ -25,7 +25,8 @@ use Rattle.world_laws.proofs.Counting.Counts.{CountedAt}
 use Rattle.world_laws.proofs.Counting.Sound.{IsSound}
 use Rattle.world_laws.proofs.Links.Growth.{PartyGrows, change_grows}
 use Rattle.world_laws.specs.Laws.{HasAccepted, partner_of, IsEndedAt}
-use Rattle.world_laws.specs.World.{Member, Fact, Acceptance, World, own_of, member_at}
+use Rattle.member.specs.Member.{Member}
+use Rattle.world_laws.specs.World.{Fact, Acceptance, World, own_of, member_at}
 use Rattle.x_base.specs.declared.key_name.KeyName.{KeyName}
 use Rattle.x_base.specs.declared.verdict.Verdict.TheVariants.{BadMac, WeakDraws, UnknownKk}
 use Rattle.party_state.specs.declared.command.Input.{Input}
@@ -40,7 +41,7 @@ use Rattle.world_laws.proofs.Agreeing.CountRows.{row_counts}
 use Rattle.world_laws.specs.Facts.{IsMadeBySender}
 use Rattle.std.proofs.Common.{suc}
 use Rattle.world_laws.specs.World.{World}
-use Rattle.world_laws.specs.Rooms.{fits, is_change, can_compact, room_after_compaction}
+use Rattle.change_code.specs.Cost.{fits, is_change, can_compact, room_of_whole}
 use Rattle.roles.specs.Rows.{row_at}
 use Rattle.world_laws.specs.Events.{Action, Orders, Hears, Compacts, Completion, Whole, CutOld, CutNew, Event, IsAction, AreEvents}
 use Rattle.world_laws.specs.Steps.{received_text, member_after, world_after_row, world_with_answer, world_with_text, world_by_row, world_with_room, world_after_compaction, world_after_action, step_at, step, run}
@@ -199,8 +200,8 @@ room_at w p x room found i = record {
 compacted_agreed : (w : World) (p : List ℕ) (x : Member) (how : Completion) → member_at p w.members ≡ Some x → AgreedAt w → AgreedAt (world_after_compaction w x how)
 compacted_agreed w p x how found i = by how
   where
-    go : (b : Bool) → AgreedAt (cond b (world_with_room w x (room_after_compaction x.party)) w)
-    go true = room_at w p x (room_after_compaction x.party) found i
+    go : (b : Bool) → AgreedAt (cond b (world_with_room w x (room_of_whole x.party)) w)
+    go true = room_at w p x (room_of_whole x.party) found i
     go false = i
 
     by : (how : Completion) → AgreedAt (world_after_compaction w x how)

@@ -3,22 +3,23 @@ use Rattle.std.proofs.Common.{append-nil}
 use Rattle.std.proofs.Common.{◌≡◌, ◌⊎◌, inl, inr, ℕ, Option, Some, None, List, ◌++◌, refl, sym, ◌∙◌, ap, subst, Contains}
 use Rattle.x_base.specs.declared.key_name.FullName.{FullName}
 use Rattle.x_mac.specs.declared.pair.Pair.{Pair}
-use Rattle.party_state.specs.declared.link.LinkKey.{LinkKey}
-use Rattle.party_state.specs.declared.key.RecordKey.{RecordKey}
-use Rattle.party_state.specs.declared.key.KeyRec.{KeyRec}
-use Rattle.party_state.specs.declared.key.KeyStatus.TheVariants.{Ended}
-use Rattle.party_state.specs.Keys.{same_record, record_key, takes}
-use Rattle.party_state.specs.Names.{full_name}
+use Rattle.party_tables.specs.declared.link.LinkKey.{LinkKey}
+use Rattle.party_tables.specs.declared.key.RecordKey.{RecordKey}
+use Rattle.party_tables.specs.declared.key.KeyRec.{KeyRec}
+use Rattle.party_tables.specs.declared.key.KeyStatus.TheVariants.{Ended}
+use Rattle.party_tables.specs.Keys.{same_record, record_key, takes}
+use Rattle.party_tables.specs.Names.{full_name}
 use Rattle.party_state.specs.State.{link_with, record_with, apply}
 use Rattle.party_state.specs.Rows.{Row, OfKsm, OfDsm, OfAnswer, Accepted}
-use Rattle.party_state.proofs.Keys.{test_records}
+use Rattle.party_tables.proofs.Keys.{test_records}
 use Rattle.bank_keys.specs.Ksm.{body_count, opened_kk}
-use Rattle.world_laws.specs.World.{Member, Acceptance, member_at}
+use Rattle.member.specs.Member.{Member}
+use Rattle.world_laws.specs.World.{Acceptance, member_at}
 use Rattle.world_laws.specs.Steps.{facts_of, acceptances_of}
 use Rattle.world_laws.specs.Laws.{HasAccepted, partner_of, IsEndedAt}
 use Rattle.std.proofs.Common.{All}
 use Rattle.std.proofs.lemmas.List.Elements.{All-push, Contains-get_or}
-use Rattle.party_state.proofs.Tables.{find_key}
+use Rattle.party_tables.proofs.Tables.{find_key}
 use Rattle.world_laws.proofs.Counting.Sound.{IsSound}
 use Rattle.world_laws.proofs.Agreeing.Lists.{Lists, after, members_after, acceptances_after, lists_after, to_own, full_at}
 use Rattle.world_laws.proofs.Agreeing.Known.{Known, fact_more, one_key}

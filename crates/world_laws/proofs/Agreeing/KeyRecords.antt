@@ -1,19 +1,20 @@
 -- How key records change: why one may be put, and what stays of the others.
 use Rattle.std.proofs.Common.{arith, ◌≡◌, ◌≢◌, ◌⊎◌, inl, inr, ℕ, ◌≤◌, Bool, true, false, not, cond, Some, List, refl, sym, ◌∙◌, ap, subst, filter}
 use Rattle.x_base.specs.declared.key_name.FullName.{FullName}
-use Rattle.party_state.specs.declared.link.LinkRec.{LinkRec}
-use Rattle.party_state.specs.declared.key.RecordKey.{RecordKey}
-use Rattle.party_state.specs.declared.key.KeyRec.{KeyRec}
-use Rattle.party_state.specs.declared.key.KeyStatus.{KeyStatus}
-use Rattle.party_state.specs.declared.key.KeyStatus.TheVariants.{Pending, Live, Held, Closing, Ended}
-use Rattle.party_state.specs.Tables.{Distinct, find_row, put_row}
-use Rattle.party_state.specs.Keys.{same_record, record_key, sends}
-use Rattle.party_state.specs.Names.{full_name}
-use Rattle.party_state.specs.State.{Party, link_with, record_with, is_ended}
+use Rattle.party_tables.specs.declared.link.LinkRec.{LinkRec}
+use Rattle.party_tables.specs.declared.key.RecordKey.{RecordKey}
+use Rattle.party_tables.specs.declared.key.KeyRec.{KeyRec}
+use Rattle.party_tables.specs.declared.key.KeyStatus.{KeyStatus}
+use Rattle.party_tables.specs.declared.key.KeyStatus.TheVariants.{Pending, Live, Held, Closing, Ended}
+use Rattle.party_tables.specs.Tables.{Distinct, find_row, put_row}
+use Rattle.party_tables.specs.Keys.{same_record, record_key, sends}
+use Rattle.party_tables.specs.Names.{full_name}
+use Rattle.party_tables.specs.Statuses.{is_ended}
+use Rattle.party_state.specs.State.{Party, link_with, record_with}
 use Rattle.party_state.specs.Rows.{OfKsm, OfDsm, OfAnswer}
-use Rattle.party_state.proofs.Keys.{test_records}
-use Rattle.party_state.proofs.Tables.{one_found, find_put, find_put_same, filter_keeps}
-use Rattle.party_state.proofs.Distinct.{filter_back}
+use Rattle.party_tables.proofs.Keys.{test_records}
+use Rattle.party_tables.proofs.Tables.{one_found, find_put, find_put_same, filter_keeps}
+use Rattle.party_tables.proofs.Distinct.{filter_back}
 use Rattle.world_laws.specs.World.{Acceptance}
 use Rattle.world_laws.specs.Laws.{IsHeld, HasAccepted}
 use Rattle.world_laws.proofs.Agreeing.Lists.{Counts, Lists, to_peer, to_own}

@@ -6,17 +6,18 @@ use Rattle.x_base.specs.declared.key_name.FullName.{FullName}
 use Rattle.csm_grammar.specs.declared.message.Message.TheVariants as message
 use Rattle.csm_grammar.specs.declared.message.Rtr.{Rtr}
 use Rattle.csm_grammar.specs.Spelling.{Says}
-use Rattle.party_state.specs.declared.link.LinkRec.{LinkRec}
-use Rattle.party_state.specs.declared.key.RecordKey.{RecordKey}
-use Rattle.party_state.specs.declared.key.KeyRec.{KeyRec}
-use Rattle.party_state.specs.Keys.{sends, takes}
+use Rattle.party_tables.specs.declared.link.LinkRec.{LinkRec}
+use Rattle.party_tables.specs.declared.key.RecordKey.{RecordKey}
+use Rattle.party_tables.specs.declared.key.KeyRec.{KeyRec}
+use Rattle.party_tables.specs.Keys.{sends, takes}
 use Rattle.party_state.specs.State.{Party, centre_label, link_with, record_with}
 use Rattle.party_state.specs.Rows.{Class, OfKsm}
-use Rattle.party_state.proofs.Keys.{test_idents}
-use Rattle.party_state.proofs.Tables.{one_found}
+use Rattle.party_tables.proofs.Keys.{test_idents}
+use Rattle.party_tables.proofs.Tables.{one_found}
 use Rattle.bank_keys.specs.declared.waits.Waiting.{Waiting}
 use Rattle.bank_keys.specs.Waiting.{waiting_with}
-use Rattle.world_laws.specs.World.{Member, Fact, Acceptance}
+use Rattle.member.specs.Member.{Member}
+use Rattle.world_laws.specs.World.{Fact, Acceptance}
 use Rattle.world_laws.specs.Honest.{HasFact}
 use Rattle.world_laws.specs.Laws.{HasAccepted}
 use Rattle.world_laws.proofs.Agreeing.Lists.{Lists, to_peer, to_own, full_at, Goes, WaitsMove}

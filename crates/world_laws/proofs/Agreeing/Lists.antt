@@ -2,19 +2,20 @@
 use Rattle.std.proofs.Common.{◌≡◌, ◌⊎◌, inl, inr, ℕ, ◌≤◌, true, cond, Option, Some, List, ◌++◌, refl, subst, bytes_eq}
 use Rattle.x_base.specs.declared.key_name.FullName.{FullName}
 use Rattle.x_base.specs.declared.party.Side.TheVariants.{Takes}
-use Rattle.party_state.specs.declared.link.LinkKey.{LinkKey}
-use Rattle.party_state.specs.declared.link.LinkRec.{LinkRec}
-use Rattle.party_state.specs.declared.key.RecordKey.{RecordKey}
-use Rattle.party_state.specs.declared.key.KeyStatus.{KeyStatus}
-use Rattle.party_state.specs.declared.key.KeyStatus.TheVariants.{Pending, Live, Held, Closing, Ended}
-use Rattle.party_state.specs.declared.exchange.Exchange.{Exchange}
-use Rattle.party_state.specs.Tables.{put_row}
-use Rattle.party_state.specs.Keys.{sends}
+use Rattle.party_tables.specs.declared.link.LinkKey.{LinkKey}
+use Rattle.party_tables.specs.declared.link.LinkRec.{LinkRec}
+use Rattle.party_tables.specs.declared.key.RecordKey.{RecordKey}
+use Rattle.party_tables.specs.declared.key.KeyStatus.{KeyStatus}
+use Rattle.party_tables.specs.declared.key.KeyStatus.TheVariants.{Pending, Live, Held, Closing, Ended}
+use Rattle.party_tables.specs.declared.exchange.Exchange.{Exchange}
+use Rattle.party_tables.specs.Tables.{put_row}
+use Rattle.party_tables.specs.Keys.{sends}
 use Rattle.party_state.specs.State.{Party, centre_label, link_with, apply}
 use Rattle.party_state.specs.Rows.{Row, Reply}
 use Rattle.bank_keys.specs.declared.waits.Waiting.{Waiting}
 use Rattle.bank_keys.specs.Waiting.{waiting_with}
-use Rattle.world_laws.specs.World.{Member, Fact, Acceptance, World, own_of}
+use Rattle.member.specs.Member.{Member}
+use Rattle.world_laws.specs.World.{Fact, Acceptance, World, own_of}
 use Rattle.world_laws.specs.Steps.{facts_of, acceptances_of}
 use Rattle.world_laws.proofs.Links.Growth.{LinkGrows, PartyGrows, link_stays}
 

@@ -5,14 +5,15 @@ use Rattle.x_base.specs.declared.key_name.FullName.{FullName}
 use Rattle.x_base.specs.declared.party.Side.TheVariants.{Takes}
 use Rattle.csm_grammar.specs.declared.message.Message.TheVariants as message
 use Rattle.csm_grammar.specs.Spelling.{Says}
-use Rattle.party_state.specs.declared.link.LinkKey.{LinkKey}
-use Rattle.party_state.specs.declared.link.LinkRec.{LinkRec}
-use Rattle.party_state.specs.declared.key.RecordKey.{RecordKey}
-use Rattle.party_state.specs.Keys.{takes}
+use Rattle.party_tables.specs.declared.link.LinkKey.{LinkKey}
+use Rattle.party_tables.specs.declared.link.LinkRec.{LinkRec}
+use Rattle.party_tables.specs.declared.key.RecordKey.{RecordKey}
+use Rattle.party_tables.specs.Keys.{takes}
 use Rattle.party_state.specs.State.{link_with}
-use Rattle.party_state.proofs.Tables.{one_found}
+use Rattle.party_tables.proofs.Tables.{one_found}
 use Rattle.role_base.specs.Conditions.{body_issuer}
-use Rattle.world_laws.specs.World.{Member, Acceptance, member_at}
+use Rattle.member.specs.Member.{Member}
+use Rattle.world_laws.specs.World.{Acceptance, member_at}
 use Rattle.world_laws.specs.Starts.{HasOtherEnd}
 use Rattle.std.proofs.lemmas.List.Elements.{All-contains}
 use Rattle.world_laws.proofs.Agreeing.Lists.{Lists, to_peer}

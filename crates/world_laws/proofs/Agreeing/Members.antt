@@ -3,16 +3,17 @@ use Rattle.std.proofs.Common.{◌≡◌, ◌⊎◌, inl, inr, ℕ, Option, Some,
 use Rattle.x_base.specs.declared.key_name.FullName.{FullName}
 use Rattle.x_mac.specs.declared.pair.Pair.{Pair}
 use Rattle.csm_grammar.specs.declared.message.KsmBody.{KsmBody}
-use Rattle.party_state.specs.declared.link.LinkKey.{LinkKey}
-use Rattle.party_state.specs.declared.link.LinkRec.{LinkRec}
-use Rattle.party_state.specs.declared.key.RecordKey.{RecordKey}
-use Rattle.party_state.specs.declared.key.KeyRec.{KeyRec}
-use Rattle.party_state.specs.Tables.{Distinct}
-use Rattle.party_state.specs.Keys.{same_record, record_key, sends, takes}
+use Rattle.party_tables.specs.declared.link.LinkKey.{LinkKey}
+use Rattle.party_tables.specs.declared.link.LinkRec.{LinkRec}
+use Rattle.party_tables.specs.declared.key.RecordKey.{RecordKey}
+use Rattle.party_tables.specs.declared.key.KeyRec.{KeyRec}
+use Rattle.party_tables.specs.Tables.{Distinct}
+use Rattle.party_tables.specs.Keys.{same_record, record_key, sends, takes}
 use Rattle.party_state.specs.State.{Party, centre_label, link_with, record_with, exchange_with, apply}
 use Rattle.party_state.specs.Rows.{Row, Class, OfKsm}
 use Rattle.bank_keys.specs.Ksm.{body_value}
-use Rattle.world_laws.specs.World.{Member, Acceptance, member_at}
+use Rattle.member.specs.Member.{Member}
+use Rattle.world_laws.specs.World.{Acceptance, member_at}
 use Rattle.world_laws.specs.Steps.{facts_of, acceptances_of}
 use Rattle.world_laws.specs.Starts.{HasOtherEnd}
 use Rattle.world_laws.specs.Laws.{HasAccepted}

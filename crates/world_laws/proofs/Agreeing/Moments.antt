@@ -6,17 +6,18 @@ use Rattle.csm_grammar.specs.declared.message.Message.TheVariants as message
 use Rattle.csm_grammar.specs.declared.message.KsmBody.{KsmBody}
 use Rattle.csm_grammar.specs.declared.message.KsmBody.TheVariants as body
 use Rattle.x_base.specs.declared.key_name.KeyName.{KeyName}
-use Rattle.party_state.specs.declared.exchange.Kind.{Kind}
-use Rattle.party_state.specs.declared.exchange.Kind.TheVariants as kind
-use Rattle.party_state.specs.Names.{name_behind}
-use Rattle.party_state.specs.declared.link.LinkRec.{LinkRec}
-use Rattle.party_state.specs.Keys.{sends}
+use Rattle.party_tables.specs.declared.exchange.Kind.{Kind}
+use Rattle.party_tables.specs.declared.exchange.Kind.TheVariants as kind
+use Rattle.party_tables.specs.Names.{name_behind}
+use Rattle.party_tables.specs.declared.link.LinkRec.{LinkRec}
+use Rattle.party_tables.specs.Keys.{sends}
 use Rattle.party_state.specs.State.{link_with, exchange_with}
-use Rattle.party_state.proofs.Tables.{one_found}
-use Rattle.party_state.proofs.Keys.{test_idents}
-use Rattle.party_state.proofs.Tables.{find_key}
+use Rattle.party_tables.proofs.Tables.{one_found}
+use Rattle.party_tables.proofs.Keys.{test_idents}
+use Rattle.party_tables.proofs.Tables.{find_key}
 use Rattle.bank_keys.specs.Ksm.{body_twin}
-use Rattle.world_laws.specs.World.{Member, World, own_of, member_at}
+use Rattle.member.specs.Member.{Member}
+use Rattle.world_laws.specs.World.{World, own_of, member_at}
 use Rattle.world_laws.specs.Carried.{IsOfTwo}
 use Rattle.world_laws.proofs.Agreeing.Lists.{lists_of, to_peer}
 use Rattle.world_laws.proofs.Agreeing.Facts.{ksm_key, KsmFact, FactOk}

@@ -4,11 +4,12 @@ use Rattle.x_base.specs.declared.key_name.FullName.{FullName}
 use Rattle.csm_grammar.specs.declared.message.Message.{Message}
 use Rattle.csm_grammar.specs.declared.message.Message.TheVariants as message
 use Rattle.csm_write.specs.Canon.{auth_of}
-use Rattle.party_state.specs.declared.link.LinkRec.{LinkRec}
-use Rattle.party_state.specs.Keys.{sends, takes}
+use Rattle.party_tables.specs.declared.link.LinkRec.{LinkRec}
+use Rattle.party_tables.specs.Keys.{sends, takes}
 use Rattle.party_state.specs.State.{Party, centre_label, link_with, apply}
 use Rattle.party_state.specs.Rows.{Row, Reply, Coded, Plain, Again, Accepted}
-use Rattle.world_laws.specs.World.{Member, Fact}
+use Rattle.member.specs.Member.{Member}
+use Rattle.world_laws.specs.World.{Fact}
 use Rattle.world_laws.specs.Facts.{sender_of}
 use Rattle.world_laws.specs.Starts.{HasOtherEnd}
 use Rattle.world_laws.proofs.Texts.Own.{IsOwn}

@@ -2,10 +2,11 @@
 use Rattle.std.proofs.Common.{◌≡◌, ℕ, true, Option, Some, List}
 use Rattle.party_state.specs.declared.command.Input.{Input}
 use Rattle.party_state.specs.declared.command.Input.TheVariants as input
-use Rattle.party_state.specs.declared.link.LinkKey.{LinkKey}
+use Rattle.party_tables.specs.declared.link.LinkKey.{LinkKey}
 use Rattle.party_state.specs.State.{Party}
 use Rattle.party_state.specs.Verdicts.{is_accept}
-use Rattle.world_laws.specs.World.{Member, World, member_at}
+use Rattle.member.specs.Member.{Member}
+use Rattle.world_laws.specs.World.{World, member_at}
 use Rattle.roles.specs.Rows.{row_at}
 use Rattle.world_laws.specs.Steps.{received_text}
 use Rattle.world_laws.proofs.Roles.Inputs.{IsInput, HonestInput}

@@ -1,7 +1,7 @@
 -- Agreement: each accepted row of the standard, by role.
 use Rattle.std.proofs.Common.{Contains}
 use Rattle.world_laws.proofs.Roles.Inputs.{IsInput}
-use Rattle.csm_grammar.proofs.Arrived.{arrival_says}
+use Rattle.csm_read.proofs.Arrived.{arrival_says}
 use Rattle.role_base.specs.Texts.{is_plain}
 use Rattle.csm_grammar.specs.declared.message.Message.TheVariants as message
 use Rattle.bank_orders.specs.Draws.{kk_drawn}
@@ -18,20 +18,20 @@ use Rattle.bank_arrivals.specs.Esm.{subject_with}
 use Rattle.role_base.specs.Exchanges.{record_of}
 use Rattle.role_base.specs.Sending.{sending_drawn}
 use Rattle.bank_orders.specs.Start.{start_tests, start_under}
-use Rattle.role_base.specs.Texts.{auth_text}
+use Rattle.csm_grammar.specs.Arrivals.{authenticated}
 use Rattle.csm_grammar.specs.Spelling.{Says}
 use Rattle.csm_grammar.specs.declared.arrival.Arrival.{Arrival}
 use Rattle.csm_grammar.specs.declared.message.Ksm.{Ksm}
 use Rattle.csm_grammar.specs.declared.message.KsmBody.{KsmBody}
 use Rattle.csm_grammar.specs.declared.message.Message.{Message}
 use Rattle.csm_grammar.specs.declared.message.Rsi.{Rsi}
-use Rattle.party_state.specs.Keys.{sends, takes}
+use Rattle.party_tables.specs.Keys.{sends, takes}
 use Rattle.party_state.specs.Rows.{OfKsm, refused}
 use Rattle.party_state.specs.State.{centre_label, link_with, exchange_with, apply}
 use Rattle.party_state.specs.Verdicts.{verdict_of, is_accept}
-use Rattle.party_state.specs.declared.exchange.Exchange.{Exchange}
-use Rattle.party_state.specs.declared.link.LinkKey.{LinkKey}
-use Rattle.party_state.specs.declared.link.LinkRec.{LinkRec}
+use Rattle.party_tables.specs.declared.exchange.Exchange.{Exchange}
+use Rattle.party_tables.specs.declared.link.LinkKey.{LinkKey}
+use Rattle.party_tables.specs.declared.link.LinkRec.{LinkRec}
 use Rattle.std.proofs.Common.{◌≡◌, ℕ, Bool, true, false, Option, Some, None, List, [], refl}
 use Rattle.std.proofs.lemmas.List.Elements.{All-contains}
 use Rattle.world_laws.proofs.Counting.Counts.{CountedAt, AcceptedBelow, ksm_apart}
@@ -39,7 +39,8 @@ use Rattle.world_laws.proofs.Counting.Sound.{IsSound}
 use Rattle.world_laws.proofs.Links.Found.{HasLinks, SendingAt}
 use Rattle.world_laws.proofs.Links.Waiting.{Waits}
 use Rattle.world_laws.specs.Laws.{HasAccepted}
-use Rattle.world_laws.specs.World.{Member, World, member_at}
+use Rattle.member.specs.Member.{Member}
+use Rattle.world_laws.specs.World.{World, member_at}
 use Rattle.x_base.specs.declared.party.Side.TheVariants.{Sends}
 use Rattle.x_base.specs.declared.verdict.Verdict.{Verdict}
 use Rattle.x_gen.specs.Gen.{good_draw}
@@ -58,7 +59,7 @@ use Rattle.bank_keys.specs.Ksm.{body_front, body_link}
 use Rattle.roles.specs.Rows.{row_by}
 use Rattle.bank_orders.specs.Orders.{command_row}
 use Rattle.bank_role.specs.Rows.{message_row}
-use Rattle.centre_base.specs.Orders.{centre_command}
+use Rattle.role_base.specs.Centres.{centre_command}
 use Rattle.distribution_role.specs.Rows.{distribution_message}
 use Rattle.translation_role.specs.Rows.{translation_message}
 use Rattle.world_laws.specs.Events.{IsCommand}
@@ -104,8 +105,8 @@ module _ (n : ℕ) (w : World) (p : List ℕ) (x : Member) (room : ℕ) (at : me
       sent_sound : (o : Option LinkKey) (d : Option (ℕ × Gen)) → IsSound o x.party [] (sending_drawn x.party (start_tests x.party peer (Some l)) l d) → IsSound None x.party [] (sending_drawn x.party (start_tests x.party peer (Some l)) l d)
       sent_sound o d g = sending_sound x.party [] (start_tests x.party peer (Some l)) peer l d (sending_at x.party peer label l links s)
 
-  pub rsi_row : (a : Arrival) (m : Rsi) (found : Option LinkRec) (moment : ℕ) → first_link m.originator Sends x.party ≡ found → Agreeing (lists_of w) x room (auth_text a) (rsi_under x.party a m found moment)
-  rsi_row a m None moment s = refused_row (auth_text a) (verdict_of (bank_rsi_tests x.party a m None))
+  pub rsi_row : (a : Arrival) (m : Rsi) (found : Option LinkRec) (moment : ℕ) → first_link m.originator Sends x.party ≡ found → Agreeing (lists_of w) x room (authenticated a) (rsi_under x.party a m found moment)
+  rsi_row a m None moment s = refused_row (authenticated a) (verdict_of (bank_rsi_tests x.party a m None))
   rsi_row a m (Some l) moment s = by_service (is_two_keys m.service)
     where
       f : FirstAt x.party m.originator Sends l
@@ -114,9 +115,9 @@ module _ (n : ℕ) (w : World) (p : List ℕ) (x : Member) (room : ℕ) (at : me
       st : SendingAt x.party m.originator l
       st = record { at = f.at; ready = f.ready }
 
-      by_service : (b : Bool) → Agreeing (lists_of w) x room (auth_text a) (bank_rsi_row x.party a m l moment b)
-      by_service true = twins_agreeing (lists_of w) p x room at i (auth_text a) (bank_rsi_tests x.party a m (Some l)) m.originator l (twins_drawn x.party.generator moment) (λ d e. twins_below x.party.generator moment d e) st (twins_sound x.party (auth_text a) (bank_rsi_tests x.party a m (Some l)) m.originator l (twins_drawn x.party.generator moment) st)
-      by_service false = sending_agreeing (lists_of w) p x room at i (auth_text a) (bank_rsi_tests x.party a m (Some l)) m.originator l moment (good_draw x.party.generator moment) refl st (sending_sound x.party (auth_text a) (bank_rsi_tests x.party a m (Some l)) m.originator l (good_draw x.party.generator moment) st)
+      by_service : (b : Bool) → Agreeing (lists_of w) x room (authenticated a) (bank_rsi_row x.party a m l moment b)
+      by_service true = twins_agreeing (lists_of w) p x room at i (authenticated a) (bank_rsi_tests x.party a m (Some l)) m.originator l (twins_drawn x.party.generator moment) (λ d e. twins_below x.party.generator moment d e) st (twins_sound x.party (authenticated a) (bank_rsi_tests x.party a m (Some l)) m.originator l (twins_drawn x.party.generator moment) st)
+      by_service false = sending_agreeing (lists_of w) p x room at i (authenticated a) (bank_rsi_tests x.party a m (Some l)) m.originator l moment (good_draw x.party.generator moment) refl st (sending_sound x.party (authenticated a) (bank_rsi_tests x.party a m (Some l)) m.originator l (good_draw x.party.generator moment) st)
 
   pub kk_row : (o : Option LinkKey) (peer new : List ℕ) (single : Bool) (label : Option (List ℕ)) (found : Option LinkRec) (moment : ℕ) → sending_link x.party peer label ≡ found → is_accept (start_kk_under x.party peer new single found moment).verdict ≡ true → IsSound o x.party [] (start_kk_under x.party peer new single found moment) → Agreeing (lists_of w) x room [] (start_kk_under x.party peer new single found moment)
   kk_row o peer new single label None moment s h sound = refused_row [] (verdict_of (start_tests x.party peer None))
@@ -137,49 +138,49 @@ module _ (n : ℕ) (w : World) (p : List ℕ) (x : Member) (room : ℕ) (at : me
   command_agrees o (command.Drop peer) moment e h sound = drop_agreeing (lists_of w) p x room at i waits o [] peer sound
   command_agrees o command.Purge moment e h sound = purge_agreeing (lists_of w) p x room at i waits []
 
-  pub key_row_agrees : (o : Option LinkKey) (a : Arrival) (m : Ksm) (b : KsmBody) (found : Option LinkRec) → Says (auth_text a) (message.Ksm m) → m.body ≡ b → body_link x.party m.originator b ≡ found → HonestAs w.facts a (key_lead_with x.party a m b found) → is_accept (key_row x.party a m b found).verdict ≡ true → IsSound o x.party (auth_text a) (key_row x.party a m b found) → Agreeing (lists_of w) x room (auth_text a) (key_row x.party a m b found)
-  key_row_agrees o a m b None said is found honest h sound = refused_row (auth_text a) (verdict_of (body_front x.party m b None))
+  pub key_row_agrees : (o : Option LinkKey) (a : Arrival) (m : Ksm) (b : KsmBody) (found : Option LinkRec) → Says (authenticated a) (message.Ksm m) → m.body ≡ b → body_link x.party m.originator b ≡ found → HonestAs w.facts a (key_lead_with x.party a m b found) → is_accept (key_row x.party a m b found).verdict ≡ true → IsSound o x.party (authenticated a) (key_row x.party a m b found) → Agreeing (lists_of w) x room (authenticated a) (key_row x.party a m b found)
+  key_row_agrees o a m b None said is found honest h sound = refused_row (authenticated a) (verdict_of (body_front x.party m b None))
   key_row_agrees o a m b (Some l) said is found honest h sound = taken_agreeing (lists_of w) p x room at i links a m b l said is found honest h o sound not_before
     where
       y : Member
       y = record { party = apply (body_edits x.party m b l) x.party; room = room }
 
-      moved : Moves o x.party (apply (body_edits x.party m b l) x.party) (auth_text a) (key_row x.party a m b (Some l))
-      moved = moves o x.party (apply (body_edits x.party m b l) x.party) (auth_text a) (key_row x.party a m b (Some l)) refl sound
+      moved : Moves o x.party (apply (body_edits x.party m b l) x.party) (authenticated a) (key_row x.party a m b (Some l))
+      moved = moves o x.party (apply (body_edits x.party m b l) x.party) (authenticated a) (key_row x.party a m b (Some l)) refl sound
 
       not_before : (u : FullName) → Contains (key_names (body_name x.party m.originator b l) (body_twin b)) u → HasAccepted w.acceptances OfKsm x.party.own u → ⊥
-      not_before u in_row g = (ksm_apart o n w p x (record { party = apply (body_edits x.party m b l) x.party; room = room }) (auth_text a) (key_row x.party a m b (Some l)) at moved c.links g.acceptance (record { class = OfKsm; names = key_names (body_name x.party m.originator b l) (body_twin b) })
+      not_before u in_row g = (ksm_apart o n w p x (record { party = apply (body_edits x.party m b l) x.party; room = room }) (authenticated a) (key_row x.party a m b (Some l)) at moved c.links g.acceptance (record { class = OfKsm; names = key_names (body_name x.party m.originator b l) (body_twin b) })
           (All-contains (AcceptedBelow w.members) w.acceptances g.acceptance c.accepted g.stands) moved.accepts g.class_is refl g.party_is).0 u g.among in_row
 
-  pub message_agrees : (o : Option LinkKey) (a : Arrival) (m : Message) (moment : ℕ) → Says (auth_text a) m → HonestAs w.facts a (message_lead x.party a m) → is_accept (message_row x.party a m moment).verdict ≡ true → IsSound o x.party (auth_text a) (message_row x.party a m moment) → Agreeing (lists_of w) x room (auth_text a) (message_row x.party a m moment)
+  pub message_agrees : (o : Option LinkKey) (a : Arrival) (m : Message) (moment : ℕ) → Says (authenticated a) m → HonestAs w.facts a (message_lead x.party a m) → is_accept (message_row x.party a m moment).verdict ≡ true → IsSound o x.party (authenticated a) (message_row x.party a m moment) → Agreeing (lists_of w) x room (authenticated a) (message_row x.party a m moment)
   message_agrees o a (message.Rsi m) moment said honest h sound = rsi_row a m (first_link m.originator Sends x.party) moment refl
-  message_agrees o a (message.Rfs m) moment said honest h sound = still_agreeing (lists_of w) p x room at i (auth_text a) (message_row x.party a (message.Rfs m) moment) refl tt tt tt
+  message_agrees o a (message.Rfs m) moment said honest h sound = still_agreeing (lists_of w) p x room at i (authenticated a) (message_row x.party a (message.Rfs m) moment) refl tt tt tt
   message_agrees o a (message.Rtr m) moment said honest h sound = rtr_agreeing (lists_of w) p x room at i o a m m.kd refl said honest h sound
   message_agrees o a (message.Ksm m) moment said honest h sound = key_row_agrees o a m m.body (body_link x.party m.originator m.body) said refl refl honest h sound
   message_agrees o a (message.Rsm m) moment said honest h sound = rsm_row_agreeing (lists_of w) p x room at i links o a m m.idd refl said honest h sound
-  message_agrees o a (message.Ers m) moment said honest h sound = still_agreeing (lists_of w) p x room at i (auth_text a) (message_row x.party a (message.Ers m) moment) refl tt tt tt
+  message_agrees o a (message.Ers m) moment said honest h sound = still_agreeing (lists_of w) p x room at i (authenticated a) (message_row x.party a (message.Ers m) moment) refl tt tt tt
   message_agrees o a (message.Esm m) moment said honest h sound = error_row_agreeing (lists_of w) p x room at i waits o a m (is_plain a.parsed.shut) (retry_in x.party (subject_with x.party m.originator) m.ctr) (asks_for x.party (subject_with x.party m.originator) m.ctr) sound
   message_agrees o a (message.Dsm m) moment said honest h sound = dsm_agreeing (lists_of w) p x room at i waits o a m (named_by x.party m) refl sound
 
-  pub distribution_agrees : (o : Option LinkKey) (a : Arrival) (m : Message) (moment : ℕ) → is_accept (distribution_message x.party a m moment).verdict ≡ true → IsSound o x.party (auth_text a) (distribution_message x.party a m moment) → Agreeing (lists_of w) x room (auth_text a) (distribution_message x.party a m moment)
+  pub distribution_agrees : (o : Option LinkKey) (a : Arrival) (m : Message) (moment : ℕ) → is_accept (distribution_message x.party a m moment).verdict ≡ true → IsSound o x.party (authenticated a) (distribution_message x.party a m moment) → Agreeing (lists_of w) x room (authenticated a) (distribution_message x.party a m moment)
   distribution_agrees o a (message.Rsi m) moment h sound = rsi_row_agreeing (lists_of w) p x room at i o a m m.ultimate moment h sound
   distribution_agrees o a (message.Ers m) moment h sound = ers_agreeing (lists_of w) p x room at i o a m (answer_with (record { requester = m.originator; ultimate = m.ultimate }) x.party) (link_with (sends m.originator centre_label) x.party) (link_with (sends m.ultimate centre_label) x.party) moment refl refl h sound
-  distribution_agrees o a (message.Rfs m) moment h sound = still_agreeing (lists_of w) p x room at i (auth_text a) (distribution_message x.party a (message.Rfs m) moment) refl tt tt tt
-  distribution_agrees o a (message.Rtr m) moment h sound = still_agreeing (lists_of w) p x room at i (auth_text a) (distribution_message x.party a (message.Rtr m) moment) refl tt tt tt
-  distribution_agrees o a (message.Ksm m) moment h sound = still_agreeing (lists_of w) p x room at i (auth_text a) (distribution_message x.party a (message.Ksm m) moment) refl tt tt tt
-  distribution_agrees o a (message.Rsm m) moment h sound = still_agreeing (lists_of w) p x room at i (auth_text a) (distribution_message x.party a (message.Rsm m) moment) refl tt tt tt
-  distribution_agrees o a (message.Esm m) moment h sound = still_agreeing (lists_of w) p x room at i (auth_text a) (distribution_message x.party a (message.Esm m) moment) refl tt tt tt
-  distribution_agrees o a (message.Dsm m) moment h sound = still_agreeing (lists_of w) p x room at i (auth_text a) (distribution_message x.party a (message.Dsm m) moment) refl tt tt tt
+  distribution_agrees o a (message.Rfs m) moment h sound = still_agreeing (lists_of w) p x room at i (authenticated a) (distribution_message x.party a (message.Rfs m) moment) refl tt tt tt
+  distribution_agrees o a (message.Rtr m) moment h sound = still_agreeing (lists_of w) p x room at i (authenticated a) (distribution_message x.party a (message.Rtr m) moment) refl tt tt tt
+  distribution_agrees o a (message.Ksm m) moment h sound = still_agreeing (lists_of w) p x room at i (authenticated a) (distribution_message x.party a (message.Ksm m) moment) refl tt tt tt
+  distribution_agrees o a (message.Rsm m) moment h sound = still_agreeing (lists_of w) p x room at i (authenticated a) (distribution_message x.party a (message.Rsm m) moment) refl tt tt tt
+  distribution_agrees o a (message.Esm m) moment h sound = still_agreeing (lists_of w) p x room at i (authenticated a) (distribution_message x.party a (message.Esm m) moment) refl tt tt tt
+  distribution_agrees o a (message.Dsm m) moment h sound = still_agreeing (lists_of w) p x room at i (authenticated a) (distribution_message x.party a (message.Dsm m) moment) refl tt tt tt
 
-  pub translation_agrees : (o : Option LinkKey) (a : Arrival) (m : Message) → Says (auth_text a) m → HonestAs w.facts a (translation_lead x.party a m) → is_accept (translation_message x.party a m).verdict ≡ true → IsSound o x.party (auth_text a) (translation_message x.party a m) → Agreeing (lists_of w) x room (auth_text a) (translation_message x.party a m)
+  pub translation_agrees : (o : Option LinkKey) (a : Arrival) (m : Message) → Says (authenticated a) m → HonestAs w.facts a (translation_lead x.party a m) → is_accept (translation_message x.party a m).verdict ≡ true → IsSound o x.party (authenticated a) (translation_message x.party a m) → Agreeing (lists_of w) x room (authenticated a) (translation_message x.party a m)
   translation_agrees o a (message.Rfs m) said honest h sound = rfs_agreeing (lists_of w) p x room at i o a m (link_with (takes m.originator centre_label) x.party) (link_with (sends m.ultimate centre_label) x.party) said refl refl honest h sound
-  translation_agrees o a (message.Rsi m) said honest h sound = still_agreeing (lists_of w) p x room at i (auth_text a) (translation_message x.party a (message.Rsi m)) refl tt tt tt
-  translation_agrees o a (message.Rtr m) said honest h sound = still_agreeing (lists_of w) p x room at i (auth_text a) (translation_message x.party a (message.Rtr m)) refl tt tt tt
-  translation_agrees o a (message.Ksm m) said honest h sound = still_agreeing (lists_of w) p x room at i (auth_text a) (translation_message x.party a (message.Ksm m)) refl tt tt tt
-  translation_agrees o a (message.Rsm m) said honest h sound = still_agreeing (lists_of w) p x room at i (auth_text a) (translation_message x.party a (message.Rsm m)) refl tt tt tt
-  translation_agrees o a (message.Ers m) said honest h sound = still_agreeing (lists_of w) p x room at i (auth_text a) (translation_message x.party a (message.Ers m)) refl tt tt tt
-  translation_agrees o a (message.Esm m) said honest h sound = still_agreeing (lists_of w) p x room at i (auth_text a) (translation_message x.party a (message.Esm m)) refl tt tt tt
-  translation_agrees o a (message.Dsm m) said honest h sound = still_agreeing (lists_of w) p x room at i (auth_text a) (translation_message x.party a (message.Dsm m)) refl tt tt tt
+  translation_agrees o a (message.Rsi m) said honest h sound = still_agreeing (lists_of w) p x room at i (authenticated a) (translation_message x.party a (message.Rsi m)) refl tt tt tt
+  translation_agrees o a (message.Rtr m) said honest h sound = still_agreeing (lists_of w) p x room at i (authenticated a) (translation_message x.party a (message.Rtr m)) refl tt tt tt
+  translation_agrees o a (message.Ksm m) said honest h sound = still_agreeing (lists_of w) p x room at i (authenticated a) (translation_message x.party a (message.Ksm m)) refl tt tt tt
+  translation_agrees o a (message.Rsm m) said honest h sound = still_agreeing (lists_of w) p x room at i (authenticated a) (translation_message x.party a (message.Rsm m)) refl tt tt tt
+  translation_agrees o a (message.Ers m) said honest h sound = still_agreeing (lists_of w) p x room at i (authenticated a) (translation_message x.party a (message.Ers m)) refl tt tt tt
+  translation_agrees o a (message.Esm m) said honest h sound = still_agreeing (lists_of w) p x room at i (authenticated a) (translation_message x.party a (message.Esm m)) refl tt tt tt
+  translation_agrees o a (message.Dsm m) said honest h sound = still_agreeing (lists_of w) p x room at i (authenticated a) (translation_message x.party a (message.Dsm m)) refl tt tt tt
 
   pub centre_agrees : (k : Command) → IsCommand k → Agreeing (lists_of w) x room [] (centre_command x.party k)
   centre_agrees (command.Load peer label side pair) e = absurd e

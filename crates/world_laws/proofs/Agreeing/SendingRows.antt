@@ -7,22 +7,23 @@ use Rattle.x_seal.specs.Wrapped.{unwrap_of}
 use Rattle.csm_grammar.specs.declared.message.Message.TheVariants as message
 use Rattle.csm_grammar.specs.declared.message.Ksm.{Ksm}
 use Rattle.csm_write.specs.Canon.{auth_of}
-use Rattle.party_state.specs.declared.link.LinkKey.{LinkKey}
-use Rattle.party_state.specs.declared.link.LinkRec.{LinkRec}
-use Rattle.party_state.specs.declared.key.KeyRec.{KeyRec}
-use Rattle.party_state.specs.declared.key.KeyStatus.TheVariants.{Pending}
-use Rattle.party_state.specs.declared.exchange.Exchange.{Exchange}
-use Rattle.party_state.specs.declared.exchange.Kind.TheVariants as kind
-use Rattle.party_state.specs.Tables.{find_row, put_row}
-use Rattle.party_state.specs.Keys.{same_record, record_key, exchange_key, sends}
+use Rattle.party_tables.specs.declared.link.LinkKey.{LinkKey}
+use Rattle.party_tables.specs.declared.link.LinkRec.{LinkRec}
+use Rattle.party_tables.specs.declared.key.KeyRec.{KeyRec}
+use Rattle.party_tables.specs.declared.key.KeyStatus.TheVariants.{Pending}
+use Rattle.party_tables.specs.declared.exchange.Exchange.{Exchange}
+use Rattle.party_tables.specs.declared.exchange.Kind.TheVariants as kind
+use Rattle.party_tables.specs.Tables.{find_row, put_row}
+use Rattle.party_tables.specs.Keys.{same_record, record_key, exchange_key, sends}
 use Rattle.party_state.specs.State.{Party, link_with, record_with, apply}
-use Rattle.party_state.proofs.Keys.{test_idents, test_records}
-use Rattle.party_state.proofs.Tables.{one_found}
+use Rattle.party_tables.proofs.Keys.{test_idents, test_records}
+use Rattle.party_tables.proofs.Tables.{one_found}
 use Rattle.bank_keys.specs.Ksm.{opened_kk}
-use Rattle.world_laws.specs.World.{Member, member_at}
+use Rattle.member.specs.Member.{Member}
+use Rattle.world_laws.specs.World.{member_at}
 use Rattle.world_laws.proofs.Links.Growth.{PartyGrows}
 use Rattle.world_laws.proofs.Links.Waiting.{new_of}
-use Rattle.party_state.proofs.Tables.{find_put_same}
+use Rattle.party_tables.proofs.Tables.{find_put_same}
 use Rattle.world_laws.proofs.Agreeing.Waiting.{sent_name_by, second_name_by}
 use Rattle.world_laws.proofs.Links.Growth.{PartyGrows}
 use Rattle.world_laws.proofs.Agreeing.Lists.{Lists, after, facts_after, lists_after}
@@ -34,8 +35,8 @@ use Rattle.x_gen.specs.Gen.{good_draw}
 use Rattle.x_gen.specs.Parity.{odd_of}
 use Rattle.x_seal.specs.Wrapped.{wrap_of, unwrap_of}
 use Rattle.csm_grammar.specs.declared.message.KsmBody.TheVariants as body
-use Rattle.party_state.specs.declared.exchange.Via.TheVariants as via
-use Rattle.party_state.specs.Keys.{link_key, same_link}
+use Rattle.party_tables.specs.declared.exchange.Via.TheVariants as via
+use Rattle.party_tables.specs.Keys.{link_key, same_link}
 use Rattle.party_state.specs.Verdicts.{Test, verdict_of, is_accept}
 use Rattle.role_base.specs.Texts.{text_of, no_extras}
 use Rattle.role_base.specs.Sending.{next_name, data_key_reply, sending_tests, sending_drawn}
@@ -50,7 +51,7 @@ use Rattle.world_laws.proofs.Texts.Drawn.{drawn_odd}
 use Rattle.world_laws.proofs.Agreeing.Known.{Mine, counted, issued, mine, theirs}
 use Rattle.world_laws.proofs.Agreeing.KeyRecords.{fresh, one}
 use Rattle.x_base.specs.declared.key_name.FullName.{FullName}
-use Rattle.party_state.specs.Names.{name_behind}
+use Rattle.party_tables.specs.Names.{name_behind}
 use Rattle.world_laws.proofs.Agreeing.Facts.{at_peer, Carries, carries_one, KsmFact}
 use Rattle.world_laws.proofs.Agreeing.Waiting.{NewFits, NewSent}
 use Rattle.world_laws.proofs.Agreeing.Exchanges.{ex_put, waits_put, news_put, sent_put}

@@ -4,21 +4,22 @@ use Rattle.std.specs.List.{AllByRecursion}
 use Rattle.x_base.specs.declared.key_name.KeyName.{KeyName}
 use Rattle.party_state.specs.declared.edit.Edit.{Edit}
 use Rattle.party_state.specs.declared.edit.Edit.TheVariants.{Begin, PutLink, DropLink, PutKey, DropEnded, PutExchange, DropExchange, PutAnswer, SetGen}
-use Rattle.party_state.specs.declared.exchange.Exchange.{Exchange}
-use Rattle.party_state.specs.declared.exchange.Kind.{Kind}
-use Rattle.party_state.specs.declared.exchange.Kind.TheVariants as kind
-use Rattle.party_state.specs.Names.{name_behind}
-use Rattle.party_state.specs.declared.key.KeyRec.{KeyRec}
-use Rattle.party_state.specs.declared.key.KeyStatus.{KeyStatus}
-use Rattle.party_state.specs.declared.key.KeyStatus.TheVariants.{Pending}
-use Rattle.party_state.specs.declared.key.RecordKey.{RecordKey}
-use Rattle.party_state.specs.declared.link.LinkKey.{LinkKey}
-use Rattle.party_state.specs.declared.link.LinkRec.{LinkRec}
-use Rattle.party_state.specs.Tables.{find_row, put_row}
-use Rattle.party_state.specs.Keys.{same_link, same_record, link_key, record_key, sends}
-use Rattle.party_state.specs.State.{Party, apply_edit, apply, link_with, record_with, exchange_with, is_ended}
-use Rattle.party_state.proofs.Keys.{test_links, test_records}
-use Rattle.party_state.proofs.Tables.{find_put, find_put_same, find_drop, filter_keeps}
+use Rattle.party_tables.specs.declared.exchange.Exchange.{Exchange}
+use Rattle.party_tables.specs.declared.exchange.Kind.{Kind}
+use Rattle.party_tables.specs.declared.exchange.Kind.TheVariants as kind
+use Rattle.party_tables.specs.Names.{name_behind}
+use Rattle.party_tables.specs.declared.key.KeyRec.{KeyRec}
+use Rattle.party_tables.specs.declared.key.KeyStatus.{KeyStatus}
+use Rattle.party_tables.specs.declared.key.KeyStatus.TheVariants.{Pending}
+use Rattle.party_tables.specs.declared.key.RecordKey.{RecordKey}
+use Rattle.party_tables.specs.declared.link.LinkKey.{LinkKey}
+use Rattle.party_tables.specs.declared.link.LinkRec.{LinkRec}
+use Rattle.party_tables.specs.Tables.{find_row, put_row}
+use Rattle.party_tables.specs.Keys.{same_link, same_record, link_key, record_key, sends}
+use Rattle.party_tables.specs.Statuses.{is_ended}
+use Rattle.party_state.specs.State.{Party, apply_edit, apply, link_with, record_with, exchange_with}
+use Rattle.party_tables.proofs.Keys.{test_links, test_records}
+use Rattle.party_tables.proofs.Tables.{find_put, find_put_same, find_drop, filter_keeps}
 use Rattle.role_base.specs.Sending.{next_name}
 use Rattle.bank_orders.specs.declared.draws.KkDrawn.{KkDrawn}
 use Rattle.bank_orders.specs.StartKk.{fresh_link, kk_edits}

@@ -4,23 +4,24 @@ use Rattle.std.proofs.lemmas.Bool.{false_from_ne_true}
 use Rattle.x_base.specs.declared.key_name.FullName.{FullName}
 use Rattle.csm_grammar.specs.declared.message.Message.{Message}
 use Rattle.csm_grammar.specs.Spelling.{Says}
-use Rattle.party_state.specs.declared.link.LinkKey.{LinkKey}
-use Rattle.party_state.specs.declared.key.RecordKey.{RecordKey}
-use Rattle.party_state.specs.declared.key.KeyRec.{KeyRec}
-use Rattle.party_state.specs.declared.key.KeyStatus.{KeyStatus}
-use Rattle.party_state.specs.declared.key.KeyStatus.TheVariants.{Pending, Ended}
-use Rattle.party_state.specs.Keys.{record_key, sends}
-use Rattle.party_state.specs.Names.{full_name}
+use Rattle.party_tables.specs.declared.link.LinkKey.{LinkKey}
+use Rattle.party_tables.specs.declared.key.RecordKey.{RecordKey}
+use Rattle.party_tables.specs.declared.key.KeyRec.{KeyRec}
+use Rattle.party_tables.specs.declared.key.KeyStatus.{KeyStatus}
+use Rattle.party_tables.specs.declared.key.KeyStatus.TheVariants.{Pending, Ended}
+use Rattle.party_tables.specs.Keys.{record_key, sends}
+use Rattle.party_tables.specs.Names.{full_name}
 use Rattle.party_state.specs.State.{Party, link_with, record_with, apply}
 use Rattle.party_state.specs.Rows.{Row, Class, OfKsm, OfDsm, OfAnswer}
-use Rattle.party_state.proofs.Keys.{test_idents}
-use Rattle.party_state.proofs.Tables.{one_found}
-use Rattle.world_laws.specs.World.{Member, own_of, member_at}
+use Rattle.party_tables.proofs.Keys.{test_idents}
+use Rattle.party_tables.proofs.Tables.{one_found}
+use Rattle.member.specs.Member.{Member}
+use Rattle.world_laws.specs.World.{own_of, member_at}
 use Rattle.world_laws.specs.Steps.{facts_of, acceptances_of}
 use Rattle.world_laws.specs.Honest.{HasFact}
 use Rattle.world_laws.specs.Laws.{IsHeld, HasAccepted}
 use Rattle.world_laws.proofs.Links.Growth.{PartyGrows}
-use Rattle.party_state.proofs.Tables.{find_key}
+use Rattle.party_tables.proofs.Tables.{find_key}
 use Rattle.role_base.specs.declared.exchanges.Sent.{Sent}
 use Rattle.world_laws.proofs.Agreeing.Lists.{WaitsMove}
 use Rattle.world_laws.proofs.Agreeing.Waiting.{NewsMove, AllSent}
@@ -31,7 +32,7 @@ use Rattle.std.proofs.lemmas.List.Elements.{All-contains}
 use Rattle.x_base.specs.declared.verdict.Verdict.{Verdict}
 use Rattle.party_state.specs.Rows.{refused}
 use Rattle.role_base.specs.Conditions.{is_for}
-use Rattle.party_state.proofs.Tables.{find_put_other}
+use Rattle.party_tables.proofs.Tables.{find_put_other}
 use Rattle.world_laws.proofs.Lists.Members.{after_at}
 use Rattle.world_laws.proofs.Links.Growth.{PartyGrows}
 use Rattle.world_laws.proofs.Links.Putting.{not_eq}

@@ -11,15 +11,16 @@ use Rattle.csm_grammar.specs.declared.message.KsmBody.TheVariants as body
 use Rattle.csm_grammar.specs.declared.message.NewKk.{NewKk}
 use Rattle.csm_grammar.specs.declared.message.NewKk.TheVariants as new_kk
 use Rattle.csm_grammar.specs.declared.message.Ksm.{Ksm}
-use Rattle.party_state.specs.declared.link.LinkKey.{LinkKey}
-use Rattle.party_state.specs.declared.key.KeyRec.{KeyRec}
-use Rattle.party_state.specs.Keys.{same_link, link_key, takes}
+use Rattle.party_tables.specs.declared.link.LinkKey.{LinkKey}
+use Rattle.party_tables.specs.declared.key.KeyRec.{KeyRec}
+use Rattle.party_tables.specs.Keys.{same_link, link_key, takes}
 use Rattle.party_state.specs.State.{link_with, record_with}
 use Rattle.party_state.specs.Rows.{OfKsm, OfDsm}
-use Rattle.party_state.proofs.Keys.{test_links}
-use Rattle.party_state.proofs.Tables.{find_key, one_found}
+use Rattle.party_tables.proofs.Keys.{test_links}
+use Rattle.party_tables.proofs.Tables.{find_key, one_found}
 use Rattle.bank_keys.specs.Ksm.{body_count, body_new, body_twin, key_names, opened_kk}
-use Rattle.world_laws.specs.World.{Member, Acceptance, World, member_at}
+use Rattle.member.specs.Member.{Member}
+use Rattle.world_laws.specs.World.{Acceptance, World, member_at}
 use Rattle.world_laws.specs.Carried.{CarriedKey, carried_kk, body_keys, carried_keys, carried_name, label_given}
 use Rattle.world_laws.specs.Facts.{IsMadeBySender, AnswersTaken, IsAnswerTaken, HasOneValue, TakesUnder, IsTaken, KeysTaken}
 use Rattle.world_laws.specs.Honest.{HasFact}

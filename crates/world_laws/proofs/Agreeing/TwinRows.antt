@@ -10,25 +10,26 @@ use Rattle.csm_grammar.specs.declared.message.Message.TheVariants as message
 use Rattle.csm_grammar.specs.declared.message.KsmBody.TheVariants as body
 use Rattle.csm_grammar.specs.declared.message.Ksm.{Ksm}
 use Rattle.csm_write.specs.Canon.{auth_of}
-use Rattle.party_state.specs.declared.link.LinkKey.{LinkKey}
-use Rattle.party_state.specs.declared.link.LinkRec.{LinkRec}
-use Rattle.party_state.specs.declared.key.KeyRec.{KeyRec}
-use Rattle.party_state.specs.declared.key.RecordKey.{RecordKey}
-use Rattle.party_state.specs.declared.exchange.Exchange.{Exchange}
-use Rattle.party_state.specs.declared.exchange.Kind.TheVariants as kind
-use Rattle.party_state.specs.Tables.{find_row, put_row}
-use Rattle.party_state.specs.Keys.{same_link, same_record, link_key, record_key, exchange_key, sends}
-use Rattle.party_state.specs.Names.{name_behind}
+use Rattle.party_tables.specs.declared.link.LinkKey.{LinkKey}
+use Rattle.party_tables.specs.declared.link.LinkRec.{LinkRec}
+use Rattle.party_tables.specs.declared.key.KeyRec.{KeyRec}
+use Rattle.party_tables.specs.declared.key.RecordKey.{RecordKey}
+use Rattle.party_tables.specs.declared.exchange.Exchange.{Exchange}
+use Rattle.party_tables.specs.declared.exchange.Kind.TheVariants as kind
+use Rattle.party_tables.specs.Tables.{find_row, put_row}
+use Rattle.party_tables.specs.Keys.{same_link, same_record, link_key, record_key, exchange_key, sends}
+use Rattle.party_tables.specs.Names.{name_behind}
 use Rattle.party_state.specs.State.{Party, link_with, record_with, apply}
 use Rattle.party_state.specs.Verdicts.{Test, verdict_of}
-use Rattle.party_state.proofs.Keys.{test_idents, test_records}
-use Rattle.party_state.proofs.Tables.{one_found, find_put_same}
+use Rattle.party_tables.proofs.Keys.{test_idents, test_records}
+use Rattle.party_tables.proofs.Tables.{one_found, find_put_same}
 use Rattle.role_base.specs.Texts.{text_of, no_extras}
 use Rattle.role_base.specs.Sending.{next_name}
 use Rattle.role_base.proofs.TwinKeys.{behind_other}
 use Rattle.bank_arrivals.specs.declared.draws.TwinsDrawn.{TwinsDrawn}
 use Rattle.bank_arrivals.specs.SendingTwins.{second_drawn, first_drawn, twins_drawn, twins_reply, first_pending, second_pending, twins_tests, twins_sending_drawn}
-use Rattle.world_laws.specs.World.{Member, member_at}
+use Rattle.member.specs.Member.{Member}
+use Rattle.world_laws.specs.World.{member_at}
 use Rattle.world_laws.proofs.Texts.Drawn.{drawn_below}
 use Rattle.world_laws.proofs.Links.Growth.{PartyGrows, change_grows}
 use Rattle.world_laws.proofs.Links.Found.{SendingAt}

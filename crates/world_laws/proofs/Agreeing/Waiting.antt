@@ -4,18 +4,18 @@ use Rattle.x_base.specs.declared.key_name.KeyName.{KeyName}
 use Rattle.x_mac.specs.declared.pair.Pair.{Pair}
 use Rattle.csm_grammar.specs.declared.message.KsmBody.{KsmBody}
 use Rattle.csm_grammar.specs.declared.message.NewKk.{NewKk}
-use Rattle.party_state.specs.declared.link.LinkRec.{LinkRec}
-use Rattle.party_state.specs.declared.key.RecordKey.{RecordKey}
-use Rattle.party_state.specs.declared.key.KeyRec.{KeyRec}
-use Rattle.party_state.specs.declared.key.KeyStatus.TheVariants.{Pending}
-use Rattle.party_state.specs.declared.exchange.Exchange.{Exchange}
-use Rattle.party_state.specs.declared.exchange.Kind.{Kind}
-use Rattle.party_state.specs.declared.exchange.Kind.TheVariants as kind
-use Rattle.party_state.specs.Names.{name_behind}
-use Rattle.party_state.specs.Keys.{sends}
+use Rattle.party_tables.specs.declared.link.LinkRec.{LinkRec}
+use Rattle.party_tables.specs.declared.key.RecordKey.{RecordKey}
+use Rattle.party_tables.specs.declared.key.KeyRec.{KeyRec}
+use Rattle.party_tables.specs.declared.key.KeyStatus.TheVariants.{Pending}
+use Rattle.party_tables.specs.declared.exchange.Exchange.{Exchange}
+use Rattle.party_tables.specs.declared.exchange.Kind.{Kind}
+use Rattle.party_tables.specs.declared.exchange.Kind.TheVariants as kind
+use Rattle.party_tables.specs.Names.{name_behind}
+use Rattle.party_tables.specs.Keys.{sends}
 use Rattle.role_base.specs.Exchanges.{new_label}
 use Rattle.party_state.specs.State.{Party, link_with, record_with, exchange_with}
-use Rattle.party_state.proofs.Tables.{one_found}
+use Rattle.party_tables.proofs.Tables.{one_found}
 use Rattle.bank_keys.specs.Ksm.{body_count, body_new, opened_kk}
 use Rattle.world_laws.specs.World.{Fact}
 use Rattle.world_laws.proofs.Links.Waiting.{new_of}

@@ -7,15 +7,16 @@ use Rattle.std.proofs.lemmas.List.Quantifiers.{all_pairs_push}
 use Rattle.csm_grammar.specs.declared.message.Ksm.{Ksm}
 use Rattle.csm_grammar.specs.declared.message.Message.TheVariants as message
 use Rattle.csm_grammar.specs.Spelling.{Says}
-use Rattle.csm_grammar.proofs.Lawful.{one_meaning}
+use Rattle.csm_read.proofs.Lawful.{one_meaning}
 use Rattle.x_base.specs.declared.key_name.FullName.{FullName}
-use Rattle.party_state.specs.declared.link.LinkKey.{LinkKey}
-use Rattle.party_state.specs.declared.link.LinkRec.{LinkRec}
-use Rattle.party_state.specs.Keys.{sends, takes}
+use Rattle.party_tables.specs.declared.link.LinkKey.{LinkKey}
+use Rattle.party_tables.specs.declared.link.LinkRec.{LinkRec}
+use Rattle.party_tables.specs.Keys.{sends, takes}
 use Rattle.party_state.specs.State.{link_with}
 use Rattle.party_state.specs.Rows.{Row, Use, Accepted, OfKsm}
-use Rattle.party_state.proofs.Tables.{one_found}
-use Rattle.world_laws.specs.World.{World, Member, Kk, Birth, KkUse, Acceptance, member_at}
+use Rattle.party_tables.proofs.Tables.{one_found}
+use Rattle.member.specs.Member.{Member}
+use Rattle.world_laws.specs.World.{World, Kk, Birth, KkUse, Acceptance, member_at}
 use Rattle.world_laws.specs.Steps.{last_birth, births_of, current_kk, kk_use, acceptances_of, world_after_row}
 use Rattle.world_laws.specs.Starts.{Each}
 use Rattle.bank_keys.specs.Ksm.{body_twin, count_behind, key_names}

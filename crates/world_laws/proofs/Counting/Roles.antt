@@ -8,7 +8,7 @@ use Rattle.world_laws.proofs.Rows.LeftOut.{LeftOut, left_out_by}
 use Rattle.std.proofs.Common.{◌≡◌, ℕ, true, None}
 use Rattle.x_base.specs.declared.party.Role.{Role}
 use Rattle.x_base.specs.declared.party.Role.TheVariants.{Bank, Distribution, Translation}
-use Rattle.csm_grammar.proofs.Arrived.{arrival_says}
+use Rattle.csm_read.proofs.Arrived.{arrival_says}
 use Rattle.party_state.specs.declared.command.Input.{Input}
 use Rattle.party_state.specs.declared.command.Input.TheVariants as input
 use Rattle.party_state.specs.State.{Party, apply}

@@ -1,9 +1,10 @@
 -- A compaction changes no party.
 use Rattle.std.proofs.Common.{◌≡◌, ℕ, Some, List, inl, inr, refl, sym, ◌∙◌, subst}
 use Rattle.std.proofs.lemmas.List.Elements.{All-weaker}
-use Rattle.party_state.specs.Keys.{sends}
+use Rattle.party_tables.specs.Keys.{sends}
 use Rattle.party_state.specs.State.{link_with}
-use Rattle.world_laws.specs.World.{World, Member, KkUse, Acceptance, member_at}
+use Rattle.member.specs.Member.{Member}
+use Rattle.world_laws.specs.World.{World, KkUse, Acceptance, member_at}
 use Rattle.world_laws.specs.Steps.{world_with_room}
 use Rattle.world_laws.proofs.Lists.Members.{own_is, member_cases, member_back, each_on}
 use Rattle.world_laws.proofs.Links.Found.{HasLinks}

@@ -1,15 +1,16 @@
 -- The first two laws, of every run.
 use Rattle.std.proofs.Common.{arith, ◌≡◌, ℕ, suc, ◌<◌, Bool, true, false, cond, ◌&&◌, Option, Some, None, List, [], ◌∷◌, refl, subst, bytes_eq}
 use Rattle.std.proofs.lemmas.List.Elements.{All-weaker, All-nil, All-same}
-use Rattle.party_state.specs.declared.exchange.Exchange.{Exchange}
-use Rattle.party_state.specs.Tables.{find_row}
-use Rattle.party_state.specs.Keys.{exchange_key}
+use Rattle.party_tables.specs.declared.exchange.Exchange.{Exchange}
+use Rattle.party_tables.specs.Tables.{find_row}
+use Rattle.party_tables.specs.Keys.{exchange_key}
 use Rattle.party_state.specs.Verdicts.{is_accept}
 use Rattle.party_state.specs.Rows.{Row}
 use Rattle.role_base.specs.Differing.{differing}
-use Rattle.world_laws.specs.World.{World, Member, Birth, member_at}
+use Rattle.member.specs.Member.{Member}
+use Rattle.world_laws.specs.World.{World, Birth, member_at}
 use Rattle.roles.specs.Rows.{row_at}
-use Rattle.world_laws.specs.Rooms.{fits, is_change, can_compact, room_after_compaction}
+use Rattle.change_code.specs.Cost.{fits, is_change, can_compact, room_of_whole}
 use Rattle.party_state.specs.declared.command.Input.{Input}
 use Rattle.party_state.specs.declared.command.Input.TheVariants as input
 use Rattle.world_laws.proofs.Roles.Inputs.{IsInput}
@@ -50,11 +51,11 @@ turned_counted n w p x text r CutNew found sound i = go (is_accept r.verdict) re
     go true e false = later n w i
     go false e d = later n w i
 
-room_later : (n : ℕ) (w : World) (p : List ℕ) (x : Member) → member_at p w.members ≡ Some x → CountedAt n w → CountedAt (suc n) (cond (can_compact x.party) (world_with_room w x (room_after_compaction x.party)) w)
+room_later : (n : ℕ) (w : World) (p : List ℕ) (x : Member) → member_at p w.members ≡ Some x → CountedAt n w → CountedAt (suc n) (cond (can_compact x.party) (world_with_room w x (room_of_whole x.party)) w)
 room_later n w p x found i = go (can_compact x.party)
   where
-    go : (b : Bool) → CountedAt (suc n) (cond b (world_with_room w x (room_after_compaction x.party)) w)
-    go true = later n (world_with_room w x (room_after_compaction x.party)) (room_counted n w p x (room_after_compaction x.party) found i)
+    go : (b : Bool) → CountedAt (suc n) (cond b (world_with_room w x (room_of_whole x.party)) w)
+    go true = later n (world_with_room w x (room_of_whole x.party)) (room_counted n w p x (room_of_whole x.party) found i)
     go false = later n w i
 
 compacted_counted : (n : ℕ) (w : World) (p : List ℕ) (x : Member) (how : Completion) → member_at p w.members ≡ Some x → CountedAt n w → CountedAt (suc n) (world_after_compaction w x how)

@@ -8,15 +8,15 @@ use Rattle.x_base.specs.declared.party.Side.TheVariants.{Sends}
 use Rattle.csm_grammar.specs.declared.message.Ksm.{Ksm}
 use Rattle.csm_grammar.specs.declared.message.Message.TheVariants as message
 use Rattle.csm_grammar.specs.Spelling.{Says}
-use Rattle.party_state.specs.declared.link.LinkKey.{LinkKey}
-use Rattle.party_state.specs.declared.link.LinkRec.{LinkRec}
+use Rattle.party_tables.specs.declared.link.LinkKey.{LinkKey}
+use Rattle.party_tables.specs.declared.link.LinkRec.{LinkRec}
 use Rattle.party_state.specs.declared.edit.Edit.{Edit}
 use Rattle.party_state.specs.declared.edit.Edit.TheVariants.{Begin, PutLink, DropLink, PutKey, DropEnded, PutExchange, DropExchange, PutAnswer, SetGen}
-use Rattle.party_state.specs.Keys.{same_link, link_key, sends}
+use Rattle.party_tables.specs.Keys.{same_link, link_key, sends}
 use Rattle.party_state.specs.State.{Party, link_with, apply_edit, apply}
 use Rattle.party_state.specs.Rows.{Row, Use, Made, Accepted, OfKsm}
-use Rattle.party_state.proofs.Keys.{test_links}
-use Rattle.party_state.proofs.Distinct.{distinct_put, distinct_drop}
+use Rattle.party_tables.proofs.Keys.{test_links}
+use Rattle.party_tables.proofs.Distinct.{distinct_put, distinct_drop}
 use Rattle.world_laws.proofs.Links.Growth.{PartyGrows, AllFine, change_grows}
 use Rattle.world_laws.proofs.Links.Found.{HasLinks}
 use Rattle.world_laws.proofs.Links.Taken.{ksm_link, ksm_count, ksm_names, ksm_next}

@@ -3,14 +3,14 @@ use Rattle.std.proofs.Common.{◌≡◌, ℕ, Bool, true, false, cond, not, ◌&
 use Rattle.std.proofs.lemmas.Bool.{and_parts}
 use Rattle.x_base.specs.declared.party.Side.{Side}
 use Rattle.x_base.specs.declared.party.Side.TheVariants.{Sends, Takes}
-use Rattle.party_state.specs.declared.link.LinkKey.{LinkKey}
-use Rattle.party_state.specs.declared.link.LinkRec.{LinkRec}
-use Rattle.party_state.specs.Tables.{Distinct}
-use Rattle.party_state.specs.Keys.{same_link, same_side, link_key, sends, takes}
+use Rattle.party_tables.specs.declared.link.LinkKey.{LinkKey}
+use Rattle.party_tables.specs.declared.link.LinkRec.{LinkRec}
+use Rattle.party_tables.specs.Tables.{Distinct}
+use Rattle.party_tables.specs.Keys.{same_link, same_side, link_key, sends, takes}
 use Rattle.party_state.specs.State.{Party, centre_label, link_with, first_link, is_usable}
-use Rattle.party_state.proofs.Keys.{test_idents, test_links, test_sides}
-use Rattle.party_state.proofs.Tables.{find_key}
-use Rattle.party_state.proofs.Distinct.{first_found, first_passes}
+use Rattle.party_tables.proofs.Keys.{test_idents, test_links, test_sides}
+use Rattle.party_tables.proofs.Tables.{find_key}
+use Rattle.party_tables.proofs.Distinct.{first_found, first_passes}
 use Rattle.bank_orders.specs.Start.{if_ready, sending_link}
 use Rattle.bank_keys.specs.Ksm.{link_in_use}
 use Rattle.world_laws.proofs.Links.Growth.{LinkGrows, PartyGrows}

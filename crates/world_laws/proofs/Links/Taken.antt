@@ -2,15 +2,15 @@
 use Rattle.bank_keys.specs.Ksm.{link_in_use, body_link, body_count, body_twin, body_name, count_behind, body_next, key_names}
 use Rattle.std.proofs.Common.{arith, ◌≡◌, ◌⊎◌, ◌≤◌, ◌<◌, ◌+◌, ℕ, Bool, true, false, cond, Option, Some, None, List, Contains, refl, sym, ap, subst, inl, inr}
 use Rattle.std.specs.Prelude.{nat_lt}
-use Rattle.party_state.specs.Names.{full_behind}
+use Rattle.party_tables.specs.Names.{full_behind}
 use Rattle.world_laws.proofs.Lists.Among.{of_one, of_two}
 use Rattle.x_base.specs.declared.key_name.FullName.{FullName}
 use Rattle.csm_grammar.specs.declared.message.KsmBody.{KsmBody}
 use Rattle.csm_grammar.specs.declared.message.KsmBody.TheVariants as body
 use Rattle.csm_grammar.specs.declared.message.Ksm.{Ksm}
-use Rattle.party_state.specs.declared.link.LinkKey.{LinkKey}
-use Rattle.party_state.specs.declared.link.LinkRec.{LinkRec}
-use Rattle.party_state.specs.Keys.{takes}
+use Rattle.party_tables.specs.declared.link.LinkKey.{LinkKey}
+use Rattle.party_tables.specs.declared.link.LinkRec.{LinkRec}
+use Rattle.party_tables.specs.Keys.{takes}
 use Rattle.party_state.specs.State.{Party, centre_label, link_with}
 use Rattle.world_laws.proofs.Links.Growth.{LinkGrows, PartyGrows}
 use Rattle.world_laws.proofs.Links.Found.{HasLinks, LinkAt, in_use_at, in_use_grows}

@@ -14,9 +14,10 @@ use Rattle.role_base.specs.Sending.{data_key_message, sending_drawn}
 use Rattle.role_base.specs.Differing.{differing}
 use Rattle.bank_orders.specs.Start.{start_tests}
 use Rattle.bank_keys.specs.Ksm.{response}
-use Rattle.world_laws.specs.World.{World, Member}
+use Rattle.member.specs.Member.{Member}
+use Rattle.world_laws.specs.World.{World}
 use Rattle.roles.specs.Rows.{row_at}
-use Rattle.world_laws.specs.Rooms.{code_length}
+use Rattle.change_code.specs.Cost.{cost}
 use Rattle.world_laws.specs.Events.{Event, Orders, Hears, Whole}
 use Rattle.world_laws.specs.Steps.{step, run}
 use Rattle.world_laws.specs.Honest.{HonestArrival, HonestRun}
@@ -86,13 +87,13 @@ answered = rw (verified_as answer_message taken_value answer_own key (sym value_
 -- rooms
 
 abbrev sent_length : ℕ
-sent_length = code_length (differing first start_row.edits)
+sent_length = cost (differing first start_row.edits)
 
 abbrev taken_length : ℕ
-taken_length = code_length (differing second take_row.edits)
+taken_length = cost (differing second take_row.edits)
 
 abbrev live_length : ℕ
-live_length = code_length (differing first_sent live_row.edits)
+live_length = cost (differing first_sent live_row.edits)
 
 abbrev room : ℕ
 room = sent_length + taken_length + live_length + 20
@@ -132,7 +133,7 @@ second_step : step 2 world_sent takes_it ≡ world_taken
 second_step = row_step 2 world_sent (member_with room second) (input.Arrived key_arrives) 0 take_row tt (refl, tt) refl taken (omega arith)
 
 third_step : step 3 world_taken hears_answer ≡ world_live
-third_step = row_step 3 world_taken sent_member (input.Arrived answer_arrives) 0 live_row tt (refl, tt) refl answered (room_left (differing first start_row.edits) room (live_length + 6) (omega arith))
+third_step = row_step 3 world_taken sent_member (input.Arrived answer_arrives) 0 live_row tt (refl, tt) refl answered (room_left (differing first start_row.edits) room (live_length + 1) (omega arith))
 
 -- each code that agrees was made
 

@@ -5,10 +5,10 @@ use Rattle.std.specs.List.{All}
 use Rattle.std.proofs.lemmas.List.Elements.{All-nil, All-from_recursion}
 use Rattle.x_base.specs.declared.party.Role.TheVariants.{Bank, Distribution}
 use Rattle.x_base.specs.declared.party.Side.TheVariants.{Sends, Takes}
-use Rattle.party_state.specs.declared.link.LinkRec.{LinkRec}
-use Rattle.party_state.specs.Keys.{sends}
+use Rattle.party_tables.specs.declared.link.LinkRec.{LinkRec}
+use Rattle.party_tables.specs.Keys.{sends}
 use Rattle.party_state.specs.State.{Party, centre_label, expands_alike}
-use Rattle.world_laws.specs.World.{Member}
+use Rattle.member.specs.Member.{Member}
 use Rattle.world_laws.specs.Starts.{IsStart}
 use Rattle.world_laws.proofs.LiveKeys.Networks.{Origin, StartLink, StartMember, pairs_more, beginning, is_start}
 use Rattle.world_laws.proofs.LiveKeys.Parties.{banka, bankb, centre, first_pair, second_pair, loaded, party_with, member_with, first_pair_fits, second_pair_fits, apart_ab, apart_ac, apart_bc, sending_start, taking_start, member_start}

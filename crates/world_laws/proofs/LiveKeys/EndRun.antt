@@ -7,17 +7,18 @@ use Rattle.csm_grammar.specs.declared.message.Message.{Message}
 use Rattle.party_state.specs.declared.command.Command.{Command}
 use Rattle.party_state.specs.declared.command.Command.TheVariants as command
 use Rattle.party_state.specs.declared.command.Input.TheVariants as input
-use Rattle.party_state.specs.declared.key.KeyRec.{KeyRec}
-use Rattle.party_state.specs.declared.key.KeyStatus.TheVariants.{Held}
+use Rattle.party_tables.specs.declared.key.KeyRec.{KeyRec}
+use Rattle.party_tables.specs.declared.key.KeyStatus.TheVariants.{Held}
 use Rattle.party_state.specs.State.{Party, apply}
 use Rattle.party_state.specs.Verdicts.{is_accept}
 use Rattle.party_state.specs.Rows.{Row}
 use Rattle.role_base.specs.Texts.{direct_name}
 use Rattle.role_base.specs.Differing.{differing}
 use Rattle.bank_orders.specs.Ending.{end_message}
-use Rattle.world_laws.specs.World.{World, Member}
+use Rattle.member.specs.Member.{Member}
+use Rattle.world_laws.specs.World.{World}
 use Rattle.roles.specs.Rows.{row_at}
-use Rattle.world_laws.specs.Rooms.{code_length}
+use Rattle.change_code.specs.Cost.{cost}
 use Rattle.world_laws.specs.Events.{Event, Orders, Hears, Whole}
 use Rattle.world_laws.specs.Steps.{step, run}
 use Rattle.world_laws.specs.Honest.{HonestArrival, HonestRun}
@@ -66,16 +67,16 @@ left : is_accept left_row.verdict ≡ true
 left = rw (verified_as dsm_message value1 dsm_own key (sym value1_is)) refl
 
 abbrev length1 : ℕ
-length1 = code_length (differing first send_row.edits)
+length1 = cost (differing first send_row.edits)
 
 abbrev length2 : ℕ
-length2 = code_length (differing second take_row.edits)
+length2 = cost (differing second take_row.edits)
 
 abbrev length3 : ℕ
-length3 = code_length (differing second_taken end_row.edits)
+length3 = cost (differing second_taken end_row.edits)
 
 abbrev length4 : ℕ
-length4 = code_length (differing first_sent left_row.edits)
+length4 = cost (differing first_sent left_row.edits)
 
 abbrev room : ℕ
 room = length1 + length2 + length3 + length4 + 30
@@ -120,10 +121,10 @@ step2 : step 2 world1 event2 ≡ world2
 step2 = row_step 2 world1 (member_with room second) (input.Arrived key_arrives) 0 take_row tt (refl, tt) refl taken (omega arith)
 
 step3 : step 3 world2 event3 ≡ world3
-step3 = row_step 3 world2 taken_member (input.Ordered end_command) 0 end_row tt (refl, tt) refl refl (room_left (differing second take_row.edits) room (length3 + 6) (omega arith))
+step3 = row_step 3 world2 taken_member (input.Ordered end_command) 0 end_row tt (refl, tt) refl refl (room_left (differing second take_row.edits) room (length3 + 1) (omega arith))
 
 step4 : step 4 world3 event4 ≡ world4
-step4 = row_step 4 world3 sent_member (input.Arrived dsm_arrives) 0 left_row tt (refl, tt) refl left (room_left (differing first send_row.edits) room (length4 + 6) (omega arith))
+step4 = row_step 4 world3 sent_member (input.Arrived dsm_arrives) 0 left_row tt (refl, tt) refl left (room_left (differing first send_row.edits) room (length4 + 1) (omega arith))
 
 honest2 : HonestArrival world1.facts second key_arrives
 honest2 = fact_at world1.facts second key_arrives _ taken_code _ banka refl (0, omega arith, refl) (auth_is key_message code key_own)

@@ -5,16 +5,18 @@ use Rattle.std.proofs.lemmas.List.Elements.{All-nil, All-weaker}
 use Rattle.x_base.specs.Names.{IsIdent}
 use Rattle.x_mac.specs.declared.pair.Pair.{Pair}
 use Rattle.x_base.specs.declared.party.Side.TheVariants.{Sends, Takes}
-use Rattle.party_state.specs.declared.link.LinkKey.{LinkKey}
-use Rattle.party_state.specs.declared.link.LinkRec.{LinkRec}
-use Rattle.party_state.specs.Tables.{Distinct}
-use Rattle.party_state.specs.Keys.{same_link, same_record, same_answer, link_key, record_key, exchange_key, answer_key, sends, takes}
-use Rattle.party_state.specs.Ranges.{IsGen, IsLink, IsRecord, IsExchange, IsCentreAnswer, IsParty}
+use Rattle.party_tables.specs.declared.link.LinkKey.{LinkKey}
+use Rattle.party_tables.specs.declared.link.LinkRec.{LinkRec}
+use Rattle.party_tables.specs.Tables.{Distinct}
+use Rattle.party_tables.specs.Keys.{same_link, same_record, same_answer, link_key, record_key, exchange_key, answer_key, sends, takes}
+use Rattle.party_tables.specs.Ranges.{IsLink, IsRecord, IsExchange, IsCentreAnswer}
+use Rattle.party_state.specs.Ranges.{IsGen, IsParty}
 use Rattle.party_state.specs.State.{link_with, expands_alike}
-use Rattle.party_state.proofs.Each.{find_all}
-use Rattle.party_state.proofs.Keys.{test_idents, test_links}
-use Rattle.party_state.proofs.Tables.{find_key}
-use Rattle.world_laws.specs.World.{Member, World, own_of, member_at}
+use Rattle.party_tables.proofs.Each.{find_all}
+use Rattle.party_tables.proofs.Keys.{test_idents, test_links}
+use Rattle.party_tables.proofs.Tables.{find_key}
+use Rattle.member.specs.Member.{Member}
+use Rattle.world_laws.specs.World.{World, own_of, member_at}
 use Rattle.world_laws.specs.Starts.{Each, HasOnlyLinks, HasOtherEnd, IsUnused, LinksUnused, SendsEnds, TakesEnds, PairsApart, IsStart}
 
 -- the end at which a pair's key-encrypting key is for sending: its party and its link

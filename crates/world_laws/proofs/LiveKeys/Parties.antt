@@ -7,12 +7,12 @@ use Rattle.x_base.specs.declared.party.Role.{Role}
 use Rattle.x_base.specs.declared.party.Side.{Side}
 use Rattle.x_base.specs.declared.party.Side.TheVariants.{Sends, Takes}
 use Rattle.x_mac.specs.declared.pair.Pair.{Pair}
-use Rattle.party_state.specs.declared.link.LinkRec.{LinkRec}
-use Rattle.party_state.specs.Tables.{Distinct}
-use Rattle.party_state.specs.Keys.{same_link, link_key, sends, takes}
-use Rattle.party_state.specs.Ranges.{IsPair}
+use Rattle.party_tables.specs.declared.link.LinkRec.{LinkRec}
+use Rattle.party_tables.specs.Tables.{Distinct}
+use Rattle.party_tables.specs.Keys.{same_link, link_key, sends, takes}
+use Rattle.party_tables.specs.Ranges.{IsPair}
 use Rattle.party_state.specs.State.{Party, expands_alike}
-use Rattle.world_laws.specs.World.{Member}
+use Rattle.member.specs.Member.{Member}
 use Rattle.world_laws.specs.Starts.{HasOtherEnd}
 use Rattle.world_laws.proofs.LiveKeys.Drawing.{generator, seed_below}
 use Rattle.world_laws.proofs.LiveKeys.Networks.{Origin, StartLink, StartMember}

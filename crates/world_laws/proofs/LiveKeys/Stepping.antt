@@ -10,11 +10,13 @@ use Rattle.party_state.specs.State.{Party, apply}
 use Rattle.party_state.specs.Verdicts.{is_accept}
 use Rattle.party_state.specs.Rows.{Row}
 use Rattle.role_base.specs.Differing.{differing}
-use Rattle.role_base.specs.Texts.{auth_text, lead_under}
-use Rattle.world_laws.specs.World.{World, Member, Fact, member_at}
+use Rattle.csm_grammar.specs.Arrivals.{authenticated}
+use Rattle.role_base.specs.Texts.{lead_under}
+use Rattle.member.specs.Member.{Member}
+use Rattle.world_laws.specs.World.{World, Fact, member_at}
 use Rattle.roles.specs.Rows.{row_at}
 use Rattle.roles.specs.Leads.{lead_at}
-use Rattle.world_laws.specs.Rooms.{code_length, fits, room_after}
+use Rattle.change_code.specs.Cost.{cost, fits, room_after}
 use Rattle.world_laws.specs.Events.{Event, Whole}
 use Rattle.world_laws.specs.Steps.{received_text, member_after, world_after_row, world_with_answer, world_with_text, world_by_row, world_after_input, step, run}
 use Rattle.world_laws.specs.Honest.{HonestAt, HonestArrival, HonestRun}
@@ -22,11 +24,11 @@ use Rattle.world_laws.proofs.Roles.Inputs.{IsInput}
 use Rattle.world_laws.proofs.Counting.Roles.{row_left_out}
 use Rattle.world_laws.proofs.Links.Found.{HasLinks}
 
-pub fits_large : (es : List Edit) (room : ℕ) → code_length es + 6 ≤ room → fits room es ≡ true
+pub fits_large : (es : List Edit) (room : ℕ) → cost es + 1 ≤ room → fits room es ≡ true
 fits_large [] room h = refl
 fits_large (e ∷ es) room h = le-leb _ _ h
 
-pub room_left : (es : List Edit) (room more : ℕ) → code_length es + 5 + more ≤ room → more ≤ room_after room es
+pub room_left : (es : List Edit) (room more : ℕ) → cost es + more ≤ room → more ≤ room_after room es
 room_left [] room more h = omega (arith, h)
 room_left (e ∷ es) room more h = omega (arith, h)
 
@@ -53,7 +55,7 @@ abbrev pub next_world : ℕ → World → Member → Input → Row → World
 next_world n w x i r = world_with_text (world_after_row n w x.party.own (received_text i) r (next_member x r)) r.reply
 
 pub row_step : (n : ℕ) (w : World) (x : Member) (i : Input) (moment : ℕ) (r : Row) → IsInput i → HasLinks x.party → row_at x.party i moment ≡ r → is_accept r.verdict ≡ true
-    → code_length (differing x.party r.edits) + 6 ≤ x.room → world_after_input n w x i moment Whole ≡ next_world n w x i r
+    → cost (differing x.party r.edits) + 1 ≤ x.room → world_after_input n w x i moment Whole ≡ next_world n w x i r
 row_step n w x i moment r input links row h room =
     let there : is_accept (row_at x.party i moment).verdict ≡ true = ap (λ (z : Row). is_accept z.verdict) row ∙ h in
     accepted_step n w x i moment r (apply r.edits x.party) row h (fits_large (differing x.party r.edits) x.room room)
@@ -68,7 +70,7 @@ run_on n w v u e es is rest = ap (λ (z : World). run (suc n) z es) is ∙ rest
 
 -- the lead of an arrival, whose code agrees, is that of a fact
 pub fact_at : (facts : List Fact) (p : Party) (a : Arrival) (under : FullName) (value : ℕ) (text maker : List ℕ) → lead_at p a ≡ Some (lead_under a under value) → Contains facts (record { under = under; text = text; maker = maker })
-    → auth_text a ≡ text → HonestArrival facts p a
+    → authenticated a ≡ text → HonestArrival facts p a
 fact_at facts p a under value text maker lead stands is l e verified =
     let same : lead_under a under value ≡ l = some_same (lead_under a under value) l (sym lead ∙ e) in
     record { fact = record { under = under; text = text; maker = maker }; stands = stands; under_is = ap (λ (z : Lead). z.under) same; text_is = sym is }

@@ -15,9 +15,10 @@ use Rattle.party_state.specs.Verdicts.{is_accept}
 use Rattle.party_state.specs.Rows.{Row}
 use Rattle.role_base.specs.Differing.{differing}
 use Rattle.bank_keys.specs.Ksm.{response}
-use Rattle.world_laws.specs.World.{World, Member}
+use Rattle.member.specs.Member.{Member}
+use Rattle.world_laws.specs.World.{World}
 use Rattle.roles.specs.Rows.{row_at}
-use Rattle.world_laws.specs.Rooms.{code_length}
+use Rattle.change_code.specs.Cost.{cost}
 use Rattle.world_laws.specs.Events.{Event, Orders, Hears, Whole}
 use Rattle.world_laws.specs.Steps.{step, run}
 use Rattle.world_laws.specs.Honest.{HonestArrival, HonestRun}
@@ -135,19 +136,19 @@ live = rw (verified_as last_message taken_value last_own key (sym taken_is)) ref
 -- rooms
 
 abbrev length1 : ℕ
-length1 = code_length (differing first ask_row.edits)
+length1 = cost (differing first ask_row.edits)
 
 abbrev length2 : ℕ
-length2 = code_length (differing middle centre_row.edits)
+length2 = cost (differing middle centre_row.edits)
 
 abbrev length3 : ℕ
-length3 = code_length (differing first_asked pass_row.edits)
+length3 = cost (differing first_asked pass_row.edits)
 
 abbrev length4 : ℕ
-length4 = code_length (differing second take_row.edits)
+length4 = cost (differing second take_row.edits)
 
 abbrev length5 : ℕ
-length5 = code_length (differing first_passed live_row.edits)
+length5 = cost (differing first_passed live_row.edits)
 
 abbrev room : ℕ
 room = length1 + length2 + length3 + length4 + length5 + 40
@@ -205,14 +206,14 @@ step2 : step 2 world1 event2 ≡ world2
 step2 = row_step 2 world1 (member_c room) (input.Arrived ask_arrives) 0 centre_row tt (refl, (refl, tt)) refl served (omega arith)
 
 step3 : step 3 world2 event3 ≡ world3
-step3 = row_step 3 world2 asked_member (input.Arrived rtr_arrives) 0 pass_row tt (refl, tt) refl passed (room_left (differing first ask_row.edits) room (length3 + 6) (omega arith))
+step3 = row_step 3 world2 asked_member (input.Arrived rtr_arrives) 0 pass_row tt (refl, tt) refl passed (room_left (differing first ask_row.edits) room (length3 + 1) (omega arith))
 
 step4 : step 4 world3 event4 ≡ world4
 step4 = row_step 4 world3 (member_b room) (input.Arrived ksm_arrives) 0 take_row tt (refl, tt) refl taken (omega arith)
 
 step5 : step 5 world4 event5 ≡ world5
 step5 = row_step 5 world4 passed_member (input.Arrived last_arrives) 0 live_row tt (refl, tt) refl live
-    (room_left (differing first_asked pass_row.edits) asked_member.room (length5 + 6) (room_left (differing first ask_row.edits) room (length3 + 5 + (length5 + 6)) (omega arith)))
+    (room_left (differing first_asked pass_row.edits) asked_member.room (length5 + 1) (room_left (differing first ask_row.edits) room (length3 + (length5 + 1)) (omega arith)))
 
 -- each code that agrees was made
 

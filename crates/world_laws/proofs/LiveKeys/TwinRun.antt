@@ -23,9 +23,10 @@ use Rattle.bank_arrivals.specs.declared.draws.TwinsDrawn.{TwinsDrawn}
 use Rattle.bank_arrivals.specs.SendingTwins.{first_drawn, second_drawn, twins_drawn, twins_message, twins_sending_drawn}
 use Rattle.bank_arrivals.specs.Rsi.{rsi_tests}
 use Rattle.bank_keys.specs.Ksm.{response}
-use Rattle.world_laws.specs.World.{World, Member}
+use Rattle.member.specs.Member.{Member}
+use Rattle.world_laws.specs.World.{World}
 use Rattle.roles.specs.Rows.{row_at}
-use Rattle.world_laws.specs.Rooms.{code_length}
+use Rattle.change_code.specs.Cost.{cost}
 use Rattle.world_laws.specs.Events.{Event, Hears, Whole}
 use Rattle.world_laws.specs.Steps.{step, run}
 use Rattle.world_laws.specs.Honest.{HonestArrival, HonestRun}
@@ -136,13 +137,13 @@ answered = rw (verified_as answer_message taken_code answer_own code (sym code_i
 -- rooms
 
 abbrev pub length1 : ℕ
-length1 = code_length (differing first send_row.edits)
+length1 = cost (differing first send_row.edits)
 
 abbrev pub length2 : ℕ
-length2 = code_length (differing second take_row.edits)
+length2 = cost (differing second take_row.edits)
 
 abbrev pub length3 : ℕ
-length3 = code_length (differing first_sent live_row.edits)
+length3 = cost (differing first_sent live_row.edits)
 
 abbrev pub room : ℕ
 room = length1 + length2 + length3 + 20
@@ -182,7 +183,7 @@ step2 : step 2 world1 event2 ≡ world2
 step2 = row_step 2 world1 (member_with room second) (input.Arrived key_arrives) 0 take_row tt (refl, tt) refl taken (omega arith)
 
 step3 : step 3 world2 event3 ≡ world3
-step3 = row_step 3 world2 sent_member (input.Arrived answer_arrives) 0 live_row tt (refl, tt) refl answered (room_left (differing first send_row.edits) room (length3 + 6) (omega arith))
+step3 = row_step 3 world2 sent_member (input.Arrived answer_arrives) 0 live_row tt (refl, tt) refl answered (room_left (differing first send_row.edits) room (length3 + 1) (omega arith))
 
 -- each code that agrees was made
 

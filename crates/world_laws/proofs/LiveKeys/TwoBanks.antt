@@ -4,10 +4,11 @@ use Rattle.std.specs.List.{All}
 use Rattle.std.proofs.lemmas.List.Elements.{All-nil, All-from_recursion}
 use Rattle.x_base.specs.declared.party.Role.TheVariants.{Bank}
 use Rattle.x_base.specs.declared.party.Side.TheVariants.{Sends, Takes}
-use Rattle.party_state.specs.declared.link.LinkRec.{LinkRec}
-use Rattle.party_state.specs.Keys.{sends}
+use Rattle.party_tables.specs.declared.link.LinkRec.{LinkRec}
+use Rattle.party_tables.specs.Keys.{sends}
 use Rattle.party_state.specs.State.{Party, expands_alike}
-use Rattle.world_laws.specs.World.{Member, World}
+use Rattle.member.specs.Member.{Member}
+use Rattle.world_laws.specs.World.{World}
 use Rattle.world_laws.specs.Starts.{IsStart}
 use Rattle.world_laws.proofs.LiveKeys.Networks.{Origin, StartLink, StartMember, pairs_more, beginning, is_start}
 use Rattle.world_laws.proofs.LiveKeys.Parties.{banka, bankb, first_pair, loaded, party_with, member_with, first_pair_fits, apart_ab, sending_start, taking_start, member_start}

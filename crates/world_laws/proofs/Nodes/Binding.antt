@@ -1,226 +1,151 @@
--- A turn of a node is an event at its member.
-use Rattle.std.proofs.Common.{arith, ◌≡◌, ◌≢◌, inl, inr, ℕ, ◌-◌, Bool, true, false, cond, ◌&&◌, Option, Some, None, List, [], ◌∷◌, ◌++◌, option_map, unwrap_or, refl, sym, ◌∙◌, ap, subst}
-use Rattle.std.specs.Prelude.{option_to_list}
-use Rattle.std.proofs.lemmas.Bool.{le-leb, leb-true, false_from_ne_true}
-use Rattle.x_base.specs.declared.verdict.Verdict.{Verdict}
-use Rattle.x_base.specs.declared.verdict.Verdict.TheVariants.{Accept}
-use Rattle.x_disk.specs.Disk.{View}
+-- What a member plans for an input is the event of that input at it.
+use Rattle.std.proofs.Common.{arith, ◌≡◌, ℕ, ◌-◌, Bool, true, false, cond, ◌&&◌, Option, Some, None, List, [], ◌++◌, map, option_map, refl, sym, ◌∙◌, ap, bytes_eq}
+use Rattle.std.proofs.lemmas.List.{append-nil}
 use Rattle.party_state.specs.declared.edit.Edit.{Edit}
 use Rattle.party_state.specs.declared.command.Input.{Input}
 use Rattle.party_state.specs.declared.decision.Decision.{Decision}
-use Rattle.party_state.specs.State.{Party, apply}
+use Rattle.party_state.specs.declared.decision.Lead.{Lead}
+use Rattle.party_state.specs.State.{apply}
+use Rattle.party_tables.specs.Tables.{put_row}
 use Rattle.party_state.specs.Verdicts.{is_accept}
-use Rattle.party_state.specs.Rows.{Row, Reply}
+use Rattle.party_state.specs.Rows.{Row}
 use Rattle.role_base.specs.Texts.{text_of}
 use Rattle.role_base.specs.Differing.{differing}
-use Rattle.role_base.specs.Deciding.{some_edits, reply_of, decision_of}
-use Rattle.key_store.specs.Store.{Stored, StandsWith, room}
-use Rattle.node_core.specs.Deciding.{after}
-use Rattle.node_core.specs.Turns.{FitsInto, gate_after, IsAnswer, IsTurn, IsOldOrNext}
-use Rattle.node_core.specs.Turns as turns
-use Rattle.node_core.specs.declared.node.Turn.{Turn}
-use Rattle.node_core.specs.declared.node.Turn.TheVariants as turn
+use Rattle.role_base.specs.Deciding.{name_of}
+use Rattle.change_code.specs.Cost.{fits, is_change}
 use Rattle.roles.specs.Deciding.{decision}
-use Rattle.world_laws.specs.World.{World, Member, member_at}
+use Rattle.roles.specs.Leads.{lead_in}
 use Rattle.roles.specs.Rows.{row_at}
-use Rattle.world_laws.specs.Rooms.{fits, room_after, is_change}
-use Rattle.world_laws.specs.Events.{Whole, CutOld, CutNew}
-use Rattle.world_laws.specs.Steps.{received_text, texts_of, member_after, world_after_row, world_with_answer, world_with_text, world_by_row, world_after_input}
-use Rattle.world_laws.specs.Nodes.{member_of, world_with_reply, IsAcceptedEvent, IsRefusedEvent, IsNoEvent, IsWholeEvent, MayBeCut, IsCutInput, IsCutEvent}
-use Rattle.world_laws.proofs.Lists.Members.{after_at}
+use Rattle.member.specs.Member.{Member, Plan, plan_of, plan_at, as_decided, as_full, after}
+use Rattle.member.specs.Acts.{taking}
+use Rattle.world_laws.specs.World.{World, own_of, member_at}
+use Rattle.world_laws.specs.Honest.{named_text}
+use Rattle.world_laws.specs.Noted.{noted}
+use Rattle.world_laws.specs.Steps.{received_text, member_after, world_after_row, world_with_answer, world_with_text}
+use Rattle.world_laws.specs.Nodes.{IsAfter, IsEventOf, input_event}
+use Rattle.world_laws.proofs.Lists.Members.{put_stands}
 use Rattle.world_laws.proofs.Nodes.Going.{own_stays}
 use Rattle.world_laws.proofs.Nodes.GoingRows.{row_goes, differing_goes}
+use Rattle.world_laws.proofs.Nodes.Noting.{texts_same, facts_noted}
 
--- what a node decides is the decision of the row
+-- a member stays where no edits are kept
+pub same_member : (x : Member) → after x [] ≡ x
+same_member x = let room : x.room - 0 ≡ x.room = omega arith in λ i. record { party = x.party; room = room i }
 
-pub decides_row : (p : Party) (i : Input) (moment : ℕ) → decision p i moment ≡ decision_of p (row_at p i moment)
+-- nothing happens
+pub nothing_after : (x : Member) (w : World) → member_at x.party.own w.members ≡ Some x → IsAfter w w (after x []) None []
+nothing_after x w at = record {
+  members = sym (ap (λ (y : Member). put_row own_of bytes_eq y w.members) (same_member x) ∙ put_stands x w.members at);
+  texts = sym (append-nil w.texts);
+  facts_are = sym (append-nil (map named_text w.facts));
+}
+
+-- a row at a member, by its verdict, and what is planned of it
+module _ (x : Member) (text : List ℕ) (r : Row) (l : Option Lead) where
+  abbrev pub edits : List Edit
+  edits = differing x.party r.edits
+
+  abbrev pub decided : Bool → Decision
+  decided b = record {
+    change = cond b edits [];
+    reply = option_map text_of (cond b r.reply r.answer);
+    under = name_of (cond b r.reply r.answer);
+    verdict = r.verdict;
+  }
+
+  abbrev pub planned : Bool → Plan
+  planned b = plan_of x.room l (decided b)
+
+  abbrev pub IsPlanned : World → World → Plan → Option (List ℕ) → Type 0
+  IsPlanned w later plan reply = IsAfter w later (after x plan.edits) reply (noted plan.under plan.reply)
+
+  abbrev pub accepted : ℕ → World → World
+  accepted n w = world_after_row n w x.party.own text r (member_after x r)
+
+  row_after : (n : ℕ) (w : World) → IsPlanned w (world_with_text (accepted n w) r.reply) (as_decided l (decided true)) (option_map text_of r.reply)
+  row_after n w = record {
+    members = refl;
+    texts = ap (λ (o : List (List ℕ)). w.texts ++ o) (texts_same r.reply);
+    facts_are = facts_noted w.facts x.party.own r.reply;
+  }
+
+  row_cut : (n : ℕ) (w : World) → IsPlanned w (accepted n w) (as_decided l (decided true)) None
+  row_cut n w = record {
+    members = refl;
+    texts = sym (append-nil w.texts);
+    facts_are = facts_noted w.facts x.party.own r.reply;
+  }
+
+  answer_after : (w : World) → member_at x.party.own w.members ≡ Some x → IsPlanned w (world_with_text (world_with_answer w x.party.own r) r.answer) (as_decided l (decided false)) (option_map text_of r.answer)
+  answer_after w at = record {
+    members = sym (ap (λ (y : Member). put_row own_of bytes_eq y w.members) (same_member x) ∙ put_stands x w.members at);
+    texts = ap (λ (o : List (List ℕ)). w.texts ++ o) (texts_same r.answer);
+    facts_are = facts_noted w.facts x.party.own r.answer;
+  }
+
+  whole : (b : Bool) (n : ℕ) (w : World) → member_at x.party.own w.members ≡ Some x
+      → IsPlanned w (cond b (cond (fits x.room edits) (world_with_text (accepted n w) r.reply) w) (world_with_text (world_with_answer w x.party.own r) r.answer)) (planned b) (planned b).reply
+  whole false n w at = answer_after w at
+  whole true n w at = go (fits x.room edits)
+    where
+      go : (c : Bool) → IsPlanned w (cond c (world_with_text (accepted n w) r.reply) w) (cond c (as_decided l (decided true)) (as_full l)) (cond c (as_decided l (decided true)) (as_full l)).reply
+      go true = row_after n w
+      go false = nothing_after x w at
+
+  new : (b : Bool) (n : ℕ) (w : World) → is_change (planned b).edits ≡ true → IsPlanned w (cond (b && (is_change edits && fits x.room edits)) (accepted n w) w) (planned b) None
+  new false n w some = absurd (cc some)
+  new true n w some = go (fits x.room edits) some
+    where
+      by_change : (d : Bool) → d ≡ true → IsPlanned w (cond (d && true) (accepted n w) w) (as_decided l (decided true)) None
+      by_change true is = row_cut n w
+      by_change false is = absurd (cc is)
+
+      go : (c : Bool) → is_change (cond c (as_decided l (decided true)) (as_full l)).edits ≡ true
+          → IsPlanned w (cond (is_change edits && c) (accepted n w) w) (cond c (as_decided l (decided true)) (as_full l)) None
+      go true is = by_change (is_change edits) is
+      go false is = absurd (cc is)
+
+  none : (b : Bool) (n : ℕ) (w : World) → is_change (planned b).edits ≡ false → cond (b && (is_change edits && fits x.room edits)) (accepted n w) w ≡ w
+  none false n w is = refl
+  none true n w is = go (fits x.room edits) is
+    where
+      by_change : (d c : Bool) → d ≡ false → cond (d && c) (accepted n w) w ≡ w
+      by_change true c still = absurd (cc still)
+      by_change false c still = refl
+
+      unfit : (d : Bool) → cond (d && false) (accepted n w) w ≡ w
+      unfit true = refl
+      unfit false = refl
+
+      go : (c : Bool) → is_change (cond c (as_decided l (decided true)) (as_full l)).edits ≡ false → cond (is_change edits && c) (accepted n w) w ≡ w
+      go true still = by_change (is_change edits) true still
+      go false still = unfit (is_change edits)
+
+  own_after : (apply edits x.party).own ≡ x.party.own → (b : Bool) → (apply (planned b).edits x.party).own ≡ x.party.own
+  own_after stays false = refl
+  own_after stays true = go (fits x.room edits)
+    where
+      go : (c : Bool) → (apply (cond c (as_decided l (decided true)) (as_full l)).edits x.party).own ≡ x.party.own
+      go true = stays
+      go false = refl
+
+pub input_is : (x : Member) (i : Input) (moment : ℕ) → IsEventOf x (taking (plan_at x i moment)) (input_event x i moment)
 unfolding decision
-decides_row p i moment = refl
+input_is x i moment = record {
+  own = own_after x text r l (own_stays (differing x.party r.edits) x.party (differing_goes x.party r.edits (row_goes x.party i moment))) b;
+  whole = whole x text r l b;
+  old = λ n w. refl;
+  new = λ n w at some. new x text r l b n w some;
+  none = none x text r l b;
+} where
+  text : List ℕ
+  text = received_text i
 
--- lists of edits as changes
+  r : Row
+  r = row_at x.party i moment
 
-edits_back : (es : List Edit) → unwrap_or (some_edits es) [] ≡ es
-edits_back [] = refl
-edits_back (e ∷ es) = refl
+  l : Option Lead
+  l = lead_in x.party i
 
-texts_same : (o : Option Reply) → texts_of o ≡ option_to_list (option_map text_of o)
-texts_same None = refl
-texts_same (Some r) = refl
-
-fits_so : (room : ℕ) (es : List Edit) → FitsInto room (some_edits es) → fits room es ≡ true
-fits_so room [] f = refl
-fits_so room (e ∷ es) f = le-leb _ _ f
-
-full_so : (room : ℕ) (es : List Edit) → (FitsInto room (some_edits es) → ⊥) → fits room es ≡ false
-full_so room [] f = absurd (f tt)
-full_so room (e ∷ es) f = false_from_ne_true _ (λ t. f (leb-true _ _ t))
-
-room_so : (room : ℕ) (es : List Edit) → turns.room_after room (some_edits es) ≡ room_after room es
-room_so room [] = refl
-room_so room (e ∷ es) = refl
-
-not_accept : (v : Verdict) → v ≢ Accept → is_accept v ≡ false
-not_accept Accept ne = absurd (ne refl)
-not_accept _ ne = refl
-
--- a row at a party with so much room, and the decision of the row
-module _ (p : Party) (left : ℕ) (text : List ℕ) (r : Row) where
-  abbrev pub here : Member
-  here = record { party = p; room = left }
-
-  abbrev pub later : Member
-  later = record { party = after (decision_of p r) p; room = turns.room_after left (decision_of p r).change }
-
-  pub change_so : is_accept r.verdict ≡ true → (decision_of p r).change ≡ some_edits (differing p r.edits)
-  change_so h = rw h refl
-
-  pub after_so : is_accept r.verdict ≡ true → after (decision_of p r) p ≡ apply (differing p r.edits) p
-  after_so h = ap (λ (c : Option (List Edit)). apply (unwrap_or c []) p) (change_so h) ∙ ap (λ (xs : List Edit). apply xs p) (edits_back (differing p r.edits))
-
-  whole_at : (n : ℕ) (w : World) (b c : Bool) → is_accept r.verdict ≡ b → fits left (differing p r.edits) ≡ c
-      → world_by_row n w here text r Whole ≡ cond b (cond c (world_with_text (world_after_row n w p.own text r (member_after here r)) r.reply) w) (world_with_text (world_with_answer w p.own r) r.answer)
-  whole_at n w b c h f i = cond (h i) (cond (f i) (world_with_text (world_after_row n w p.own text r (member_after here r)) r.reply) w) (world_with_text (world_with_answer w p.own r) r.answer)
-
-  pub accepted_so : (decision_of p r).verdict ≡ Accept → FitsInto left (decision_of p r).change → (n : ℕ) (w : World) → world_by_row n w here text r Whole ≡ world_with_reply (world_after_row n w p.own text r later) (decision_of p r).reply
-  accepted_so accepts f n w =
-      let accept : is_accept r.verdict ≡ true = ap is_accept accepts in
-      let change = change_so accept in
-      let fit : fits left (differing p r.edits) ≡ true = fits_so left (differing p r.edits) (subst (FitsInto left) change f) in
-      let party : apply (differing p r.edits) p ≡ after (decision_of p r) p = sym (after_so accept) in
-      let room : room_after left (differing p r.edits) ≡ turns.room_after left (decision_of p r).change = sym (ap (turns.room_after left) change ∙ room_so left (differing p r.edits)) in
-      let is : member_after here r ≡ later = (λ j. record { party = party j; room = room j }) in
-      let out : texts_of r.reply ≡ option_to_list (decision_of p r).reply = texts_same r.reply ∙ ap option_to_list (ap (λ (o : Option Reply). option_map text_of o) (sym (reply_so accept))) in
-      whole_at n w true true accept fit ∙ (λ j. record (world_after_row n w p.own text r (is j)) { texts = w.texts ++ out j })
-    where
-      reply_so : is_accept r.verdict ≡ true → reply_of r ≡ r.reply
-      reply_so h = rw h refl
-
-  pub refused_so : (decision_of p r).verdict ≢ Accept → (n : ℕ) (w : World) → world_by_row n w here text r Whole ≡ world_with_reply (world_with_answer w p.own r) (decision_of p r).reply
-  refused_so refuses n w =
-      let refuse : is_accept r.verdict ≡ false = not_accept r.verdict refuses in
-      let out : texts_of r.answer ≡ option_to_list (decision_of p r).reply = texts_same r.answer ∙ ap option_to_list (ap (λ (o : Option Reply). option_map text_of o) (sym (answer_so refuse))) in
-      whole_at n w false (fits left (differing p r.edits)) refuse refl ∙ (λ j. record (world_with_answer w p.own r) { texts = w.texts ++ out j })
-    where
-      answer_so : is_accept r.verdict ≡ false → reply_of r ≡ r.answer
-      answer_so h = rw h refl
-
-  pub full_at : (decision_of p r).verdict ≡ Accept → (FitsInto left (decision_of p r).change → ⊥) → (n : ℕ) (w : World) → world_by_row n w here text r Whole ≡ w
-  full_at accepts full n w =
-      let accept : is_accept r.verdict ≡ true = ap is_accept accepts in
-      let unfit : fits left (differing p r.edits) ≡ false = full_so left (differing p r.edits) (λ f. full (subst (FitsInto left) (sym (change_so accept)) f)) in
-      whole_at n w true false accept unfit
-
-  -- what a crash leaves
-
-  cut_at : (n : ℕ) (w : World) (b c : Bool) → is_accept r.verdict ≡ b → (is_change (differing p r.edits) && fits left (differing p r.edits)) ≡ c → world_by_row n w here text r CutNew ≡ cond (b && c) (world_after_row n w p.own text r (member_after here r)) w
-  cut_at n w b c h f i = cond (h i && f i) (world_after_row n w p.own text r (member_after here r)) w
-
-  -- the member after a cut that leaves the new state
-  pub cut_new : is_accept r.verdict ≡ true → is_change (differing p r.edits) ≡ true → fits left (differing p r.edits) ≡ true → (apply (differing p r.edits) p).own ≡ p.own → (n : ℕ) (w : World) → member_at p.own w.members ≡ Some here
-      → member_at p.own (world_by_row n w here text r CutNew).members ≡ Some (member_after here r)
-  cut_new accept changes fit own n w at =
-      let both : (is_change (differing p r.edits) && fits left (differing p r.edits)) ≡ true = rw (changes, fit) refl in
-      ap (λ (v : World). member_at p.own v.members) (cut_at n w true true accept both) ∙ after_at w.members p.own here (member_after here r) at own
-
--- what is decided of an input at a party
-
-module _ (p : Party) (left : ℕ) (i : Input) (moment : ℕ) where
-  pub accepted_event : (decision p i moment).verdict ≡ Accept → FitsInto left (decision p i moment).change → IsAcceptedEvent p left i moment
-  accepted_event = subst (λ (d : Decision). d.verdict ≡ Accept → FitsInto left d.change → (n : ℕ) (w : World) → world_after_input n w (record { party = p; room = left }) i moment Whole
-      ≡ world_with_reply (world_after_row n w p.own (received_text i) (row_at p i moment) (record { party = after d p; room = turns.room_after left d.change })) d.reply) (sym (decides_row p i moment)) (accepted_so p left (received_text i) (row_at p i moment))
-
-  pub refused_event : (decision p i moment).verdict ≢ Accept → IsRefusedEvent p left i moment
-  refused_event = subst (λ (d : Decision). d.verdict ≢ Accept → (n : ℕ) (w : World) → world_after_input n w (record { party = p; room = left }) i moment Whole
-      ≡ world_with_reply (world_with_answer w p.own (row_at p i moment)) d.reply) (sym (decides_row p i moment)) (refused_so p left (received_text i) (row_at p i moment))
-
-  pub full_event : (decision p i moment).verdict ≡ Accept → (FitsInto left (decision p i moment).change → ⊥) → IsNoEvent p left i moment
-  full_event = subst (λ (d : Decision). d.verdict ≡ Accept → (FitsInto left d.change → ⊥) → (n : ℕ) (w : World) → world_after_input n w (record { party = p; room = left }) i moment Whole ≡ w)
-      (sym (decides_row p i moment)) (full_at p left (received_text i) (row_at p i moment))
-
--- the turns of a node
-
-room_is : {D : Type 0} (old : Stored D) (c : Option (List Edit)) (gate end : ℕ) → gate ≡ gate_after old.gate c → end ≡ old.end → end - gate ≡ turns.room_after (room old) c
-room_is old None gate end g e = rw (g, e) refl
-room_is old (Some es) gate end g e = omega (arith, g, e)
-
-pub whole_turn : {D : Type 0} (told : D → View) (old : Stored D) (i : Input) (moment : ℕ) (t : Turn D) → IsTurn told old (decision old.party i moment) t → IsWholeEvent old i moment t
-whole_turn {D} told old i moment t is = by_answer t is
-  where
-    by_answer : (t : Turn D) → IsTurn told old (decision old.party i moment) t → IsWholeEvent old i moment t
-    by_answer (turn.Done node reply under) is =
-        let done = is.answer in
-        let left : turns.room_after (room old) (decision old.party i moment).change ≡ room node = sym (room_is old (decision old.party i moment).change node.gate node.end done.gate done.end) in
-        let member : record { party = after (decision old.party i moment) old.party; room = turns.room_after (room old) (decision old.party i moment).change } ≡ member_of node = (λ j. record { party = (sym done.party) j; room = left j }) in
-        λ n w. accepted_event old.party (room old) i moment done.accepted done.fits n w
-        ∙ (λ j. world_with_reply (world_after_row n w old.party.own (received_text i) (row_at old.party i moment) (member j)) ((sym done.reply) j))
-    by_answer (turn.Refused node said reply under) is = (
-      is.answer.0,
-      λ n w. (elim is.answer.1 [
-        | inl refusal ↦ inl (refused_event old.party (room old) i moment refusal.refuses n w ∙ ap (world_with_reply (world_with_answer w old.party.own (row_at old.party i moment))) (sym refusal.reply))
-        | inr full ↦ inr (full.verdict, full.reply, full_event old.party (room old) i moment full.accepts full.full n w)
-      ]),
-    )
-    by_answer (turn.Broken b) is = tt
-    by_answer (turn.NoMemory node) is = is.answer
-
--- what a crash leaves
-
-module _ (p : Party) (left : ℕ) (i : Input) (moment : ℕ) where
-  own_now : (apply (differing p (row_at p i moment).edits) p).own ≡ p.own
-  own_now = own_stays (differing p (row_at p i moment).edits) p (differing_goes p (row_at p i moment).edits (row_goes p i moment))
-
-  -- the party's name stays
-  pub own_after : (decision p i moment).verdict ≡ Accept → (after (decision p i moment) p).own ≡ p.own
-  own_after = subst (λ (d : Decision). d.verdict ≡ Accept → (after d p).own ≡ p.own) (sym (decides_row p i moment))
-      (λ accepts. ap (λ (q : Party). q.own) (after_so p left (received_text i) (row_at p i moment) (ap is_accept accepts)) ∙ own_now)
-
-  pub cut_input : (image : List ℕ) → FitsInto left (decision p i moment).change → IsOldOrNext p left (decision p i moment) image → IsCutInput (record { party = p; room = left }) i moment image
-  cut_input image = subst (λ (d : Decision). FitsInto left d.change → IsOldOrNext p left d image → IsCutInput x i moment image) (sym (decides_row p i moment)) by_row
-    where
-      x : Member
-      x = record { party = p; room = left }
-
-      r : Row
-      r = row_at p i moment
-
-      stays : StandsWith image p left → IsCutInput x i moment image
-      stays s = record { completion = CutOld; cut = tt; stands = λ n w at. record { member = x; at = at; holds = s } }
-
-      by_edits : is_accept r.verdict ≡ true → (es : List Edit) → differing p r.edits ≡ es → FitsInto left (some_edits es) → StandsWith image (apply es p) (turns.room_after left (some_edits es)) → IsCutInput x i moment image
-      by_edits accept [] e f s = stays s
-      by_edits accept (y ∷ ys) e f s =
-          let changes : is_change (differing p r.edits) ≡ true = rw e refl in
-          let fits_now : fits left (differing p r.edits) ≡ true = ap (fits left) e ∙ fits_so left (y ∷ ys) f in
-          record {
-            completion = CutNew;
-            cut = tt;
-            stands = λ n w at. record {
-              member = member_after x r;
-              at = cut_new p left (received_text i) r accept changes fits_now own_now n w at;
-              holds = subst (λ (es : List Edit). StandsWith image (apply es p) (room_after left es)) (sym e) s;
-            };
-          }
-
-      by_verdict : (b : Bool) → is_accept r.verdict ≡ b → FitsInto left (decision_of p r).change → StandsWith image (after (decision_of p r) p) (turns.room_after left (decision_of p r).change) → IsCutInput x i moment image
-      by_verdict true accept f s =
-          let change = change_so p left (received_text i) r accept in
-          let party = after_so p left (received_text i) r accept in
-          by_edits accept (differing p r.edits) refl (subst (FitsInto left) change f)
-          (subst (λ (c : Option (List Edit)). StandsWith image (apply (differing p r.edits) p) (turns.room_after left c)) change
-          (subst (λ (q : Party). StandsWith image q (turns.room_after left (decision_of p r).change)) party s))
-      by_verdict false refuse f s =
-          let none : (decision_of p r).change ≡ None = rw refuse refl in
-          stays (subst (λ (c : Option (List Edit)). StandsWith image (apply (unwrap_or c []) p) (turns.room_after left c)) none s)
-
-      by_row : FitsInto left (decision_of p r).change → IsOldOrNext p left (decision_of p r) image → IsCutInput x i moment image
-      by_row f (inl s) = stays s
-      by_row f (inr s) = by_verdict (is_accept r.verdict) refl f s
-
-fits_of : {D : Type 0} (told : D → View) (old : Stored D) (d : Decision) (t : Turn D) → IsAnswer told old d t → MayBeCut t → FitsInto (room old) d.change
-fits_of told old d (turn.Done node reply under) a may = a.fits
-fits_of told old d (turn.Refused node said reply under) a may = absurd may
-fits_of told old d (turn.Broken b) a may = subst (FitsInto (room old)) (sym a.change) a.fits
-fits_of told old d (turn.NoMemory node) a may = absurd may
-
-pub cut_turn : {D : Type 0} (told : D → View) (old : Stored D) (i : Input) (moment : ℕ) (t : Turn D) (image : List ℕ) → IsTurn told old (decision old.party i moment) t → MayBeCut t → IsOldOrNext old.party (room old) (decision old.party i moment) image → IsCutEvent old i moment image
-cut_turn told old i moment t image is may left = cut_input old.party (room old) i moment image (fits_of told old (decision old.party i moment) t is.answer may) left
+  b : Bool
+  b = is_accept r.verdict

@@ -1,40 +1,41 @@
 -- A call over a party on a shelf is an event at its member.
-use Rattle.std.proofs.Common.{arith, ◌≡◌, ◌≢◌, ◌⊎◌, inl, inr, ℕ, ◌+◌, Bool, true, false, length, Option, Some, None, List, ◌++◌, refl, sym, ◌∙◌, ap, subst}
+use Rattle.std.proofs.Common.{arith, ◌≡◌, ◌≢◌, ◌⊎◌, inl, inr, ℕ, ◌<◌, Bool, true, false, cond, ◌&&◌, Option, Some, List, [], ◌++◌, refl, sym, ◌∙◌, ap, subst}
 use Rattle.std.specs.Prelude.{nat_le, option_to_list}
-use Rattle.std.proofs.lemmas.Bool.{le-leb, leb-true, leb-false}
-use Rattle.std.proofs.lemmas.List.{append-nil}
-use Rattle.x_base.specs.declared.key_name.FullName.{FullName}
+use Rattle.std.proofs.lemmas.Bool.{le-leb, leb-true, false_from_ne_true}
 use Rattle.x_base.specs.declared.verdict.Verdict.{Verdict}
-use Rattle.x_disk.specs.Disk.{View, LeavesOnly, IsUntouched}
+use Rattle.x_base.specs.declared.verdict.Verdict.TheVariants.{Accept, JournalFull}
+use Rattle.x_disk.specs.Disk.{View, LeavesOnly}
 use Rattle.key_journal.specs.Journal.{is_blank}
-use Rattle.party_state.specs.declared.edit.Edit.{Edit}
 use Rattle.party_state.specs.declared.command.Command.{Command}
 use Rattle.party_state.specs.declared.command.Input.{Input}
 use Rattle.party_state.specs.declared.command.Input.TheVariants.{Ordered, Arrived}
 use Rattle.party_state.specs.State.{Party}
+use Rattle.party_state.specs.Verdicts.{is_accept}
 use Rattle.csm_grammar.specs.declared.arrival.Arrival.{Arrival}
-use Rattle.change_code.specs.Code.{most_edits, code_of_change}
-use Rattle.change_code.specs.Whole.{longest_body, whole_edits, whole_of, IsTooLarge}
-use Rattle.key_store.specs.Store.{Stands, StandsWith, IsFirstDamage}
+use Rattle.role_base.specs.Differing.{differing}
+use Rattle.change_code.specs.Cost.{fits, can_compact, room_of_whole}
+use Rattle.change_code.specs.Whole.{IsTooLarge}
+use Rattle.key_store.specs.Store.{Stands, StandsWith, IsFirstDamage, IsOldOrNew}
 use Rattle.key_store.specs.Compacting.{IsOldOrWhole}
 use Rattle.roles.specs.Deciding.{decision}
+use Rattle.roles.specs.Leads.{lead_in}
 use Rattle.roles.specs.Rows.{row_at}
-use Rattle.node_core.specs.Deciding.{after}
-use Rattle.node_core.specs.Turns.{FitsInto, IsOldOrNext}
-use Rattle.node_core.specs.Turns as turns
+use Rattle.member.specs.Member.{Member, Plan, plan_at, as_decided, as_full, after}
+use Rattle.member.specs.Acts.{Act, Keeps, WritesWhole, verdict_alone, taking, compacting, member_after}
+use Rattle.node_core.specs.Turns.{IsOldOrNext}
 use Rattle.x_party.specs.Images.{StandsFor, OfParty, OfOwnParty, OrBefore}
 use Rattle.x_party.specs.Outcomes.{IsAccepted, IsRefused, IsOther, IsNobody, IsCompacted, IsNotCompacted, IsSafe, IsSafeCompaction, TakesTurn, CompactsParty}
 use Rattle.x_party.specs.declared.outcome.Outcome.{Outcome}
 use Rattle.x_party.specs.declared.outcome.Outcome.TheVariants as outcome
-use Rattle.world_laws.specs.World.{Member, World, HasMember, member_at}
+use Rattle.world_laws.specs.World.{World, HasMember, member_at}
 use Rattle.world_laws.specs.Events.{Action, Orders, Hears, Compacts, Completion, Whole}
-use Rattle.world_laws.specs.Rooms.{room_after_compaction}
-use Rattle.world_laws.specs.Steps.{received_text, world_after_row, world_with_answer, world_after_input, world_after_action, step, step_at}
-use Rattle.world_laws.specs.Nodes.{world_with_reply, IsCutInput, IsCutCompaction}
+use Rattle.world_laws.specs.Steps.{world_after_action, world_after_compaction, world_after_input, step, step_at}
+use Rattle.world_laws.specs.Nodes.{IsEventOf, input_event}
 use Rattle.world_laws.specs.Calls.{event_at, IsWholeCall, IsCutCall, AnswersWhole, AnswersOther, IsCall, IsNamedCall}
 use Rattle.world_laws.proofs.Lists.Members.{after_at}
-use Rattle.world_laws.proofs.Nodes.Binding.{accepted_event, refused_event, full_event, own_after, cut_input}
-use Rattle.world_laws.proofs.Nodes.Compactions.{whole_compaction, no_compaction, cut_compaction}
+use Rattle.world_laws.proofs.Nodes.Binding.{input_is, same_member}
+use Rattle.world_laws.proofs.Nodes.Compactions.{compaction_is}
+use Rattle.world_laws.proofs.Nodes.Turning.{cut_is}
 
 -- a crash leaves images of which more holds
 leaves_more : (old new : View) (P Q : List ℕ → Type 0) → ((c : List ℕ) → P c → Q c) → LeavesOnly old new P → LeavesOnly old new Q
@@ -51,137 +52,162 @@ or_before : (old : View) (P Q : List ℕ → Type 0) → ((c : List ℕ) → P c
 or_before old P Q more c (inl here) = inl (more c here)
 or_before old P Q more c (inr was) = inr was
 
-small_or_not : (p : Party) → (IsTooLarge p → ⊥) ⊎ IsTooLarge p
-small_or_not p = by_tests (nat_le (length (whole_edits p)) most_edits) (nat_le (length (whole_of p)) longest_body) refl refl
-  where
-    by_tests : (a b : Bool) → nat_le (length (whole_edits p)) most_edits ≡ a → nat_le (length (whole_of p)) longest_body ≡ b → (IsTooLarge p → ⊥) ⊎ IsTooLarge p
-    by_tests true true few short = inl (λ large. elim large [
-      | inl many ↦ omega (arith, many, leb-true _ _ few)
-      | inr long ↦ omega (arith, long, leb-true _ _ short)
-    ])
-    by_tests true false few long = inr (inr (leb-false _ _ long))
-    by_tests false b many short = inr (inl (leb-false _ _ many))
+stands_so : (image : List ℕ) (p : Party) (left : ℕ) → StandsWith image p left → Stands image p
+stands_so image p left stood = record { bodies = stood.bodies; holds = stood.holds; fold = stood.fold }
 
-fits_or_not : (left : ℕ) (c : Option (List Edit)) → FitsInto left c ⊎ (FitsInto left c → ⊥)
-fits_or_not left None = inl tt
-fits_or_not left (Some es) = by_test (nat_le (length (code_of_change es) + 6) left) refl
-  where
-    by_test : (b : Bool) → nat_le (length (code_of_change es) + 6) left ≡ b → FitsInto left (Some es) ⊎ (FitsInto left (Some es) → ⊥)
-    by_test true is = inl (leb-true _ _ is)
-    by_test false is = inr (λ f. let t : nat_le (length (code_of_change es) + 6) left ≡ true = le-leb _ _ f in absurd cc)
+-- ---- what a member does by an action, as a call
 
-no_more : (xs : List (List ℕ)) (reply : Option (List ℕ)) → reply ≡ None → xs ≡ xs ++ option_to_list reply
-no_more xs reply none = sym (append-nil xs) ∙ ap (λ (o : Option (List ℕ)). xs ++ option_to_list o) (sym none)
+module _ (x : Member) (act : Act) (moment : ℕ) (action : Action) (event : ℕ → World → Completion → World) (is : IsEventOf x act event)
+    (gives : (n : ℕ) (w : World) (c : Completion) → world_after_action n w x moment c action ≡ event n w c) where
+  in_network : (c : Completion) (P : World → Type 0) (n : ℕ) (w : World) → member_at x.party.own w.members ≡ Some x → P (event n w c) → P (step n w (event_at x moment action c))
+  in_network c P n w at p = subst (λ (o : Option Member). P (step_at n w (event_at x moment action c) o)) (sym at) (subst P (sym (gives n w c)) p)
 
--- the event of this action at a member is its action
-at_member : (x : Member) (moment : ℕ) (action : Action) (c : Completion) (P : World → Type 0) (n : ℕ) (w : World) → member_at x.party.own w.members ≡ Some x
-    → P (world_after_action n w x moment c action) → P (step n w (event_at x moment action c))
-at_member x moment action c P n w at p = subst (λ (o : Option Member). P (step_at n w (event_at x moment action c) o)) (sym at) p
+  whole_call : (y : Member) (reply : Option (List ℕ)) (new : View) → member_after x act.work ≡ y → act.reply ≡ reply → StandsFor new y.party y.room → IsWholeCall x (event_at x moment action Whole) new reply
+  whole_call y reply new next out stood = record {
+    stands = λ n w at. in_network Whole (λ v. HasMember v x.party.own (StandsFor new)) n w at (record {
+      member = member_after x act.work;
+      at = ap (λ (ms : List Member). member_at x.party.own ms) (is.whole n w at).members ∙ after_at w.members x.party.own x (member_after x act.work) at is.own;
+      holds = subst (λ (z : Member). StandsFor new z.party z.room) (sym next) stood;
+    });
+    texts = λ n w at. in_network Whole (λ v. v.texts ≡ w.texts ++ option_to_list reply) n w at
+        ((is.whole n w at).texts ∙ ap (λ (o : Option (List ℕ)). w.texts ++ option_to_list o) out);
+  }
+
+  cut_call : (image : List ℕ) → IsOldOrNext x (member_after x act.work) image → IsCutCall x (event_at x moment action) image
+  cut_call image leaves =
+      let c = cut_is x act event image is leaves in
+      record {
+        completion = c.completion;
+        cut = c.cut;
+        stands = λ n w at. in_network c.completion (λ v. HasMember v x.party.own (StandsWith image)) n w at (c.stands n w at);
+      }
 
 -- the action gives the party an input
 abbrev pub Gives : Action → Input → Type 0
 Gives action i = (n : ℕ) (w : World) (x : Member) (moment : ℕ) (c : Completion) → world_after_action n w x moment c action ≡ world_after_input n w x i moment c
+
+not_accept : (v : Verdict) → v ≢ Accept → is_accept v ≡ false
+not_accept Accept differs = absurd (differs refl)
+not_accept _ differs = refl
+
+refuses_nothing : (p : Party) (i : Input) (moment : ℕ) → (decision p i moment).verdict ≢ Accept → (decision p i moment).change ≡ []
+unfolding decision
+refuses_nothing p i moment refuses = ap (λ (b : Bool). cond b (differing p (row_at p i moment).edits) []) (not_accept (row_at p i moment).verdict refuses)
 
 -- a turn of a party with so much room
 module _ (p : Party) (left : ℕ) (i : Input) (moment : ℕ) (action : Action) (gives : Gives action i) (old new : View) where
   abbrev here : Member
   here = record { party = p; room = left }
 
-  in_network : (c : Completion) (P : World → Type 0) (n : ℕ) (w : World) → member_at p.own w.members ≡ Some here → P (world_after_input n w here i moment c) → P (step n w (event_at here moment action c))
-  in_network c P n w at q = at_member here moment action c P n w at (subst P (sym (gives n w here moment c)) q)
+  abbrev act : Act
+  act = taking (plan_at here i moment)
 
-  -- what the network is after the whole event
-  whole_by : (reply : Option (List ℕ)) (after : ℕ → World → World) → ((n : ℕ) (w : World) → world_after_input n w here i moment Whole ≡ after n w)
-      → ((n : ℕ) (w : World) → member_at p.own w.members ≡ Some here → HasMember (after n w) p.own (StandsFor new)) → ((n : ℕ) (w : World) → (after n w).texts ≡ w.texts ++ option_to_list reply)
-      → IsWholeCall here (event_at here moment action Whole) new reply
-  whole_by reply after is has texts = record {
-    stands = λ n w at. in_network Whole (λ v. HasMember v p.own (StandsFor new)) n w at (subst (λ (v : World). HasMember v p.own (StandsFor new)) (sym (is n w)) (has n w at));
-    texts = λ n w at. in_network Whole (λ v. v.texts ≡ w.texts ++ option_to_list reply) n w at (ap (λ (v : World). v.texts) (is n w) ∙ texts n w);
-  }
+  is_whole : (y : Member) (reply : Option (List ℕ)) → member_after here act.work ≡ y → act.reply ≡ reply → StandsFor new y.party y.room → IsWholeCall here (event_at here moment action Whole) new reply
+  is_whole y reply = whole_call here act moment action (input_event here i moment) (input_is here i moment) (λ n w c. gives n w here moment c) y reply new
 
-  accepted_call : (reply : Option (List ℕ)) (under : Option FullName) → IsAccepted old new (decision p i moment) p left reply under → IsWholeCall here (event_at here moment action Whole) new reply
-  accepted_call reply under a = whole_by reply
-      (λ n w. world_with_reply (world_after_row n w p.own (received_text i) (row_at p i moment) next) (decision p i moment).reply)
-      (λ n w. accepted_event p left i moment a.accepts a.fits n w)
-      (λ n w at. record { member = next; at = after_at w.members p.own here next at (own_after p left i moment a.accepts); holds = a.stands })
-      (λ n w. ap (λ (o : Option (List ℕ)). w.texts ++ option_to_list o) (sym a.reply))
-    where
-      next : Member
-      next = record { party = after (decision p i moment) p; room = turns.room_after left (decision p i moment).change }
+  plan_fits : fits left (decision p i moment).change ≡ true → plan_at here i moment ≡ as_decided (lead_in p i) (decision p i moment)
+  plan_fits enough = ap (λ (b : Bool). cond b (as_decided (lead_in p i) (decision p i moment)) (as_full (lead_in p i))) enough
 
-  refused_call : (said : Verdict) (reply : Option (List ℕ)) (under : Option FullName) → IsRefused old new (decision p i moment) p left said reply under → IsWholeCall here (event_at here moment action Whole) new reply
-  refused_call said reply under r = elim r.cause [
-    | inl refusal ↦ whole_by reply
-        (λ n w. world_with_reply (world_with_answer w p.own (row_at p i moment)) (decision p i moment).reply)
-        (λ n w. refused_event p left i moment refusal.refuses n w)
-        (λ n w at. record { member = here; at = at; holds = r.stands })
-        (λ n w. ap (λ (o : Option (List ℕ)). w.texts ++ option_to_list o) (sym refusal.reply))
-    | inr full ↦ whole_by reply
-        (λ n w. w)
-        (λ n w. full_event p left i moment full.accepts full.full n w)
-        (λ n w at. record { member = here; at = at; holds = r.stands })
-        (λ n w. no_more w.texts reply full.reply)
+  plan_full : fits left (decision p i moment).change ≡ false → plan_at here i moment ≡ as_full (lead_in p i)
+  plan_full full = ap (λ (b : Bool). cond b (as_decided (lead_in p i) (decision p i moment)) (as_full (lead_in p i))) full
+
+  accepted_call : (reply : Option (List ℕ)) → IsAccepted old new (decision p i moment) p left reply → IsWholeCall here (event_at here moment action Whole) new reply
+  accepted_call reply a =
+      is_whole (after here (decision p i moment).change) reply (ap (λ (plan : Plan). after here plan.edits) (plan_fits a.fits)) (ap (λ (plan : Plan). plan.reply) (plan_fits a.fits) ∙ sym a.reply) a.stands
+
+  refused_call : (said : Verdict) (reply : Option (List ℕ)) → IsRefused old new (decision p i moment) p left said reply → IsWholeCall here (event_at here moment action Whole) new reply
+  refused_call said reply r = elim r.cause [
+    | inl refusal ↦
+        let none = refuses_nothing p i moment refusal.refuses in
+        let plan = plan_fits (ap (λ es. fits left es) none) in
+        is_whole here reply (ap (λ (plan : Plan). after here plan.edits) plan ∙ (ap (λ es. after here es) none ∙ same_member here)) (ap (λ (plan : Plan). plan.reply) plan ∙ sym refusal.reply) r.stands
+    | inr full ↦
+        let plan = plan_full (false_from_ne_true _ full.full) in
+        is_whole here reply (ap (λ (plan : Plan). after here plan.edits) plan ∙ same_member here) (ap (λ (plan : Plan). plan.reply) plan ∙ sym full.reply) r.stands
   ]
 
   -- a crash leaves the party after the event that is cut off
-  cut_call : FitsInto left (decision p i moment).change → (image : List ℕ) → IsOldOrNext p left (decision p i moment) image → IsCutCall here (event_at here moment action) image
-  cut_call fits image leaves =
-      let is : IsCutInput here i moment image = cut_input p left i moment image fits leaves in
-      record {
-        completion = is.completion;
-        cut = is.cut;
-        stands = λ n w at. in_network is.completion (λ v. HasMember v p.own (StandsWith image)) n w at (is.stands n w at);
-      }
+  cut_turn : fits left (decision p i moment).change ≡ true → (image : List ℕ) → IsOldOrNew p left (decision p i moment).change image → IsCutCall here (event_at here moment action) image
+  cut_turn enough image leaves =
+      cut_call here act moment action (input_event here i moment) (input_is here i moment) (λ n w c. gives n w here moment c) image
+      (subst (λ (plan : Plan). IsOldOrNext here (after here plan.edits) image) (sym (plan_fits enough)) leaves)
 
   pub turn_cut : (name image : List ℕ) → old.now ≡ Some image → StandsWith image p left → IsSafe name old new i moment → LeavesOnly old new (OrBefore old (IsCutCall here (event_at here moment action)))
-  turn_cut name image now stood safe = elim (fits_or_not left (decision p i moment).change) [
-    | inl fits ↦ leaves_more old new (OrBefore old (IsOldOrNext p left (decision p i moment))) (OrBefore old (IsCutCall here (event_at here moment action)))
-        (or_before old (IsOldOrNext p left (decision p i moment)) (IsCutCall here (event_at here moment action)) (cut_call fits)) (safe.party image p left now stood)
-    | inr full ↦ leaves_more old new old.may_leave (OrBefore old (IsCutCall here (event_at here moment action))) (λ c was. inr was)
-        (safe.still image p now (record { bodies = stood.bodies; holds = stood.holds; fold = stood.fold })
-        (λ keeps. full (subst (λ (room : ℕ). FitsInto room (decision p i moment).change) stood.left (keeps.enough stood.bodies stood.holds)))).any_moment
-  ]
+  turn_cut name image now stood safe = by_test (fits left (decision p i moment).change) refl
+    where
+      by_test : (b : Bool) → fits left (decision p i moment).change ≡ b → LeavesOnly old new (OrBefore old (IsCutCall here (event_at here moment action)))
+      by_test true enough = leaves_more old new (OrBefore old (IsOldOrNew p left (decision p i moment).change)) (OrBefore old (IsCutCall here (event_at here moment action)))
+          (or_before old (IsOldOrNew p left (decision p i moment).change) (IsCutCall here (event_at here moment action)) (cut_turn enough)) (safe.party image p left now stood)
+      by_test false full = leaves_more old new old.may_leave (OrBefore old (IsCutCall here (event_at here moment action))) (λ c was. inr was)
+          (safe.still image p now (stands_so image p left stood)
+          (λ keeps. (let enough : fits left (decision p i moment).change ≡ true = subst (λ (room : ℕ). fits room (decision p i moment).change ≡ true) stood.left (keeps.enough stood.bodies stood.holds) in
+          let lie : false ≡ true = sym full ∙ enough in cc lie))).any_moment
 
--- a compaction of a party with so much room
+-- ---- a compaction
+
+both : (a b : Bool) → a ≡ true → b ≡ true → (a && b) ≡ true
+both true true is1 is2 = refl
+both true false is1 is2 = is2
+both false b is1 is2 = is1
+
+neither : (a b : Bool) → (a ≡ false) ⊎ (b ≡ false) → (a && b) ≡ false
+neither true true (inl is) = is
+neither true true (inr is) = is
+neither true false either = refl
+neither false b either = refl
+
+not_more : (a b : ℕ) → ¬ (b < a) → nat_le a b ≡ true
+not_more a b few = le-leb a b (omega (arith, few))
+
+more : (a b : ℕ) → b < a → nat_le a b ≡ false
+more a b many = false_from_ne_true _ (λ is. omega (arith, many, leb-true a b is))
+
+small : (p : Party) → (IsTooLarge p → ⊥) → can_compact p ≡ true
+small p fits = both _ _ (not_more _ _ (λ many. fits (inl many))) (not_more _ _ (λ long. fits (inr long)))
+
+large : (p : Party) → IsTooLarge p → can_compact p ≡ false
+large p (inl many) = neither _ _ (inl (more _ _ many))
+large p (inr long) = neither _ _ (inr (more _ _ long))
+
 module _ (p : Party) (left : ℕ) (moment : ℕ) (old new : View) where
   abbrev it : Member
   it = record { party = p; room = left }
 
-  compacted_call : (reply : Option (List ℕ)) (under : Option FullName) → IsCompacted new p reply under → IsWholeCall it (event_at it moment Compacts Whole) new reply
-  compacted_call reply under a = record {
-    stands = λ n w at. at_member it moment Compacts Whole (λ v. HasMember v p.own (StandsFor new)) n w at
-        (subst (λ (v : World). HasMember v p.own (StandsFor new)) (sym (whole_compaction it w a.fits)) (record { member = next; at = after_at w.members p.own it next at refl; holds = a.stands }));
-    texts = λ n w at. at_member it moment Compacts Whole (λ v. v.texts ≡ w.texts ++ option_to_list reply) n w at
-        (ap (λ (v : World). v.texts) (whole_compaction it w a.fits) ∙ no_more w.texts reply a.nothing.reply);
-  }
-    where
-      next : Member
-      next = record { party = p; room = room_after_compaction p }
+  abbrev whole_of_it : Member
+  whole_of_it = record { party = p; room = room_of_whole p }
 
-  uncompacted_call : (said : Verdict) (reply : Option (List ℕ)) (under : Option FullName) → IsNotCompacted old new p left said reply under → IsWholeCall it (event_at it moment Compacts Whole) new reply
-  uncompacted_call said reply under r = record {
-    stands = λ n w at. at_member it moment Compacts Whole (λ v. HasMember v p.own (StandsFor new)) n w at
-        (subst (λ (v : World). HasMember v p.own (StandsFor new)) (sym (no_compaction it w r.too_large)) (record { member = it; at = at; holds = r.stands }));
-    texts = λ n w at. at_member it moment Compacts Whole (λ v. v.texts ≡ w.texts ++ option_to_list reply) n w at
-        (ap (λ (v : World). v.texts) (no_compaction it w r.too_large) ∙ no_more w.texts reply r.nothing.reply);
-  }
+  is_compacted : (y : Member) (reply : Option (List ℕ)) → member_after it (compacting p).work ≡ y → (compacting p).reply ≡ reply → StandsFor new y.party y.room → IsWholeCall it (event_at it moment Compacts Whole) new reply
+  is_compacted y reply = whole_call it (compacting p) moment Compacts (λ n w c. world_after_compaction w it c) (compaction_is it) (λ n w c. refl) y reply new
 
-  cut_compacting : (IsTooLarge p → ⊥) → (image : List ℕ) → IsOldOrWhole p left image → IsCutCall it (event_at it moment Compacts) image
-  cut_compacting fits image leaves =
-      let is : IsCutCompaction it image = cut_compaction it image fits leaves in
-      record {
-        completion = is.completion;
-        cut = is.cut;
-        stands = λ n w at. at_member it moment Compacts is.completion (λ v. HasMember v p.own (StandsWith image)) n w at (is.stands w at);
-      }
+  acts_whole : can_compact p ≡ true → compacting p ≡ verdict_alone WritesWhole Accept
+  acts_whole is = ap (λ (b : Bool). cond b (verdict_alone WritesWhole Accept) (verdict_alone (Keeps []) JournalFull)) is
+
+  acts_not : can_compact p ≡ false → compacting p ≡ verdict_alone (Keeps []) JournalFull
+  acts_not is = ap (λ (b : Bool). cond b (verdict_alone WritesWhole Accept) (verdict_alone (Keeps []) JournalFull)) is
+
+  compacted_call : (reply : Option (List ℕ)) → IsCompacted new p reply → IsWholeCall it (event_at it moment Compacts Whole) new reply
+  compacted_call reply a =
+      let acts = acts_whole (small p a.fits) in
+      is_compacted whole_of_it reply (ap (λ (z : Act). member_after it z.work) acts) (ap (λ (z : Act). z.reply) acts ∙ sym a.nothing) a.stands
+
+  uncompacted_call : (said : Verdict) (reply : Option (List ℕ)) → IsNotCompacted old new p left said reply → IsWholeCall it (event_at it moment Compacts Whole) new reply
+  uncompacted_call said reply r =
+      let acts = acts_not (large p r.too_large) in
+      is_compacted it reply (ap (λ (z : Act). member_after it z.work) acts ∙ same_member it) (ap (λ (z : Act). z.reply) acts ∙ sym r.nothing) r.stands
+
+  cut_compacting : can_compact p ≡ true → (image : List ℕ) → IsOldOrWhole p left image → IsCutCall it (event_at it moment Compacts) image
+  cut_compacting is image leaves =
+      cut_call it (compacting p) moment Compacts (λ n w c. world_after_compaction w it c) (compaction_is it) (λ n w c. refl) image
+      (subst (λ (z : Act). IsOldOrNext it (member_after it z.work) image) (sym (acts_whole is)) leaves)
 
   pub compaction_cut_call : (image : List ℕ) → old.now ≡ Some image → StandsWith image p left → IsSafeCompaction old new → LeavesOnly old new (OrBefore old (IsCutCall it (event_at it moment Compacts)))
-  compaction_cut_call image now stood safe = elim (small_or_not p) [
-    | inl fits ↦ leaves_more old new (OrBefore old (IsOldOrWhole p left)) (OrBefore old (IsCutCall it (event_at it moment Compacts)))
-        (or_before old (IsOldOrWhole p left) (IsCutCall it (event_at it moment Compacts)) (cut_compacting fits)) (safe.party image p left now stood)
-    | inr large ↦ leaves_more old new old.may_leave (OrBefore old (IsCutCall it (event_at it moment Compacts))) (λ c was. inr was)
-        (safe.still image p now (record { bodies = stood.bodies; holds = stood.holds; fold = stood.fold }) (λ fits. fits large)).any_moment
-  ]
+  compaction_cut_call image now stood safe = by_test (can_compact p) refl
+    where
+      by_test : (b : Bool) → can_compact p ≡ b → LeavesOnly old new (OrBefore old (IsCutCall it (event_at it moment Compacts)))
+      by_test true is = leaves_more old new (OrBefore old (IsOldOrWhole p left)) (OrBefore old (IsCutCall it (event_at it moment Compacts)))
+          (or_before old (IsOldOrWhole p left) (IsCutCall it (event_at it moment Compacts)) (cut_compacting is)) (safe.party image p left now stood)
+      by_test false is = leaves_more old new old.may_leave (OrBefore old (IsCutCall it (event_at it moment Compacts))) (λ c was. inr was)
+          (safe.still image p now (stands_so image p left stood) (λ fits. (let lie : true ≡ false = sym (small p fits) ∙ is in cc lie))).any_moment
 
 -- an image stands for one party, isn't blank then and has no damage
 module _ (one_party : (image : List ℕ) (first second : Party) → Stands image first → Stands image second → first ≡ second)
@@ -190,43 +216,43 @@ module _ (one_party : (image : List ℕ) (first second : Party) → Stands image
   -- what is told of the party that was opened is told of the one that stands, with its room
   of_party : (old : View) (P : Party → ℕ → Type 0) (image : List ℕ) (p : Party) (left : ℕ) → old.now ≡ Some image → StandsWith image p left → OfParty old P → P p left
   of_party old P image p left now stood is =
-      let party : is.party ≡ p = one_party image is.party p (is.reads.stands image now) (record { bodies = stood.bodies; holds = stood.holds; fold = stood.fold }) in
+      let party : is.party ≡ p = one_party image is.party p (is.reads.stands image now) (stands_so image p left stood) in
       let room : is.room ≡ left = sym (is.reads.left stood.bodies (record { image = image; now = now; holds = stood.holds })) ∙ stood.left in
       subst (λ (r : ℕ). P p r) room (subst (λ (q : Party). P q is.room) party is.holds)
 
   of_own : (name : List ℕ) (old : View) (P : Party → ℕ → Type 0) → OfOwnParty name old P → OfParty old P
   of_own name old P is = record { party = is.party; room = is.room; reads = is.reads; holds = is.holds }
 
-  somebody : {A : Type 0} (old new : View) (image : List ℕ) (p : Party) (left : ℕ) (said : Verdict) (reply : Option (List ℕ)) (under : Option FullName) → old.now ≡ Some image → StandsWith image p left → IsNobody old new said reply under → A
-  somebody old new image p left said reply under now stood none =
+  somebody : {A : Type 0} (old new : View) (image : List ℕ) (p : Party) (left : ℕ) (said : Verdict) (reply : Option (List ℕ)) → old.now ≡ Some image → StandsWith image p left → IsNobody old new said reply → A
+  somebody old new image p left said reply now stood none =
       let blank : is_blank image ≡ true = none.blank image now in
-      let not : is_blank image ≡ false = not_blank image p (record { bodies = stood.bodies; holds = stood.holds; fold = stood.fold }) in
+      let not : is_blank image ≡ false = not_blank image p (stands_so image p left stood) in
       absurd cc
 
   -- the party of the name has the turn
   own_call : (name : List ℕ) (old new : View) (i : Input) (moment : ℕ) (action : Action) (image : List ℕ) (p : Party) (left : ℕ) → Gives action i → old.now ≡ Some image → StandsWith image p left
       → p.own ≡ name → (o : Outcome) → TakesTurn name old new i moment o → AnswersWhole (record { party = p; room = left }) (event_at (record { party = p; room = left }) moment action Whole) new o
-  own_call name old new i moment action image p left gives now stood own (outcome.Done reply under) is =
-      accepted_call p left i moment action gives old new reply under (of_party old (λ q room. IsAccepted old new (decision q i moment) q room reply under) image p left now stood (of_own name old _ is))
-  own_call name old new i moment action image p left gives now stood own (outcome.Refused said reply under) (inl is) =
-      refused_call p left i moment action gives old new said reply under (of_party old (λ q room. IsRefused old new (decision q i moment) q room said reply under) image p left now stood (of_own name old _ is))
-  own_call name old new i moment action image p left gives now stood own (outcome.Refused said reply under) (inr none) = somebody old new image p left said reply under now stood none
+  own_call name old new i moment action image p left gives now stood own (outcome.Done reply) is =
+      accepted_call p left i moment action gives old new reply (of_party old (λ q room. IsAccepted old new (decision q i moment) q room reply) image p left now stood (of_own name old _ is))
+  own_call name old new i moment action image p left gives now stood own (outcome.Refused said reply) (inl is) =
+      refused_call p left i moment action gives old new said reply (of_party old (λ q room. IsRefused old new (decision q i moment) q room said reply) image p left now stood (of_own name old _ is))
+  own_call name old new i moment action image p left gives now stood own (outcome.Refused said reply) (inr none) = somebody old new image p left said reply now stood none
   own_call name old new i moment action image p left gives now stood own (outcome.OtherParty asked found) is =
       let other = of_party old (λ q room. IsOther old new name q room asked found) image p left now stood is in
       absurd (other.differs (other.stood ∙ own))
   own_call name old new i moment action image p left gives now stood own (outcome.Damaged place) is =
-      absurd (undamaged image p place (record { bodies = stood.bodies; holds = stood.holds; fold = stood.fold }) (is.first image now))
+      absurd (undamaged image p place (stands_so image p left stood) (is.first image now))
   own_call name old new i moment action image p left gives now stood own outcome.Fault is = tt
   own_call name old new i moment action image p left gives now stood own outcome.NoMemory is = tt
 
   -- another party has none
   other_call : (name : List ℕ) (old new : View) (i : Input) (moment : ℕ) (image : List ℕ) (p : Party) → old.now ≡ Some image → Stands image p → p.own ≢ name
       → (o : Outcome) → TakesTurn name old new i moment o → AnswersOther name p.own o
-  other_call name old new i moment image p now stood differs (outcome.Done reply under) is =
+  other_call name old new i moment image p now stood differs (outcome.Done reply) is =
       absurd (differs (subst (λ (q : Party). q.own ≡ name) (one_party image is.party p (is.reads.stands image now) stood) is.own))
-  other_call name old new i moment image p now stood differs (outcome.Refused said reply under) (inl is) =
+  other_call name old new i moment image p now stood differs (outcome.Refused said reply) (inl is) =
       absurd (differs (subst (λ (q : Party). q.own ≡ name) (one_party image is.party p (is.reads.stands image now) stood) is.own))
-  other_call name old new i moment image p now stood differs (outcome.Refused said reply under) (inr none) =
+  other_call name old new i moment image p now stood differs (outcome.Refused said reply) (inr none) =
       let blank : is_blank image ≡ true = none.blank image now in
       let not : is_blank image ≡ false = not_blank image p stood in
       absurd cc
@@ -258,12 +284,12 @@ module _ (one_party : (image : List ℕ) (first second : Party) → Stands image
   compaction_is_call old new moment o compacted safe image p left now stood = record { whole = by_outcome o compacted; cut = compaction_cut_call p left moment old new image now stood safe }
     where
       by_outcome : (o : Outcome) → CompactsParty old new o → AnswersWhole (record { party = p; room = left }) (event_at (record { party = p; room = left }) moment Compacts Whole) new o
-      by_outcome (outcome.Done reply under) is =
-          compacted_call p left moment old new reply under (of_party old (λ q room. IsCompacted new q reply under) image p left now stood is)
-      by_outcome (outcome.Refused said reply under) (inl is) =
-          uncompacted_call p left moment old new said reply under (of_party old (λ q room. IsNotCompacted old new q room said reply under) image p left now stood is)
-      by_outcome (outcome.Refused said reply under) (inr none) = somebody old new image p left said reply under now stood none
+      by_outcome (outcome.Done reply) is =
+          compacted_call p left moment old new reply (of_party old (λ q room. IsCompacted new q reply) image p left now stood is)
+      by_outcome (outcome.Refused said reply) (inl is) =
+          uncompacted_call p left moment old new said reply (of_party old (λ q room. IsNotCompacted old new q room said reply) image p left now stood is)
+      by_outcome (outcome.Refused said reply) (inr none) = somebody old new image p left said reply now stood none
       by_outcome (outcome.OtherParty asked found) is = absurd is
-      by_outcome (outcome.Damaged place) is = absurd (undamaged image p place (record { bodies = stood.bodies; holds = stood.holds; fold = stood.fold }) (is.first image now))
+      by_outcome (outcome.Damaged place) is = absurd (undamaged image p place (stands_so image p left stood) (is.first image now))
       by_outcome outcome.Fault is = tt
       by_outcome outcome.NoMemory is = tt

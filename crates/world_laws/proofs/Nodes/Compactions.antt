@@ -1,81 +1,45 @@
--- A compaction of a node is an event at its member.
-use Rattle.std.proofs.Common.{arith, ◌≡◌, ◌⊎◌, inl, inr, ℕ, ◌<◌, Bool, true, false, cond, ◌&&◌, Some, List, refl, sym, ◌∙◌, ap}
-use Rattle.std.specs.Prelude.{nat_le}
-use Rattle.std.proofs.lemmas.Bool.{le-leb, leb-true}
-use Rattle.x_disk.specs.Disk.{View}
-use Rattle.party_state.specs.State.{Party}
-use Rattle.change_code.specs.Whole.{IsTooLarge}
-use Rattle.key_store.specs.Store.{Stored, room}
-use Rattle.key_store.specs.Compacting.{IsOldOrWhole}
-use Rattle.node_core.specs.Compactions.{IsCompaction}
-use Rattle.node_core.specs.declared.node.Turn.{Turn}
-use Rattle.node_core.specs.declared.node.Turn.TheVariants as turn
-use Rattle.world_laws.specs.World.{World, Member, member_at}
-use Rattle.world_laws.specs.Events.{Whole, CutOld, CutNew}
-use Rattle.world_laws.specs.Rooms.{can_compact, room_after_compaction}
+-- What a member does at a compaction is the compaction at it.
+use Rattle.std.proofs.Common.{◌≡◌, Bool, true, false, cond, Some, None, [], map, refl, sym}
+use Rattle.std.proofs.lemmas.List.{append-nil}
+use Rattle.x_base.specs.declared.verdict.Verdict.TheVariants.{Accept, JournalFull}
+use Rattle.change_code.specs.Cost.{can_compact, room_of_whole}
+use Rattle.member.specs.Member.{Member}
+use Rattle.member.specs.Acts.{Act, Keeps, WritesWhole, verdict_alone, compacting, member_after}
+use Rattle.world_laws.specs.World.{World, member_at}
+use Rattle.world_laws.specs.Honest.{named_text}
+use Rattle.world_laws.specs.Noted.{noted}
 use Rattle.world_laws.specs.Steps.{world_with_room, world_after_compaction}
-use Rattle.world_laws.specs.Nodes.{member_of, IsCompactionEvent, IsCutCompaction, IsCompactionCutEvent}
-use Rattle.world_laws.proofs.Lists.Members.{after_at}
+use Rattle.world_laws.specs.Nodes.{IsAfter, IsEventOf, changes}
+use Rattle.world_laws.proofs.Nodes.Binding.{nothing_after}
 
-not_more : (a b : ℕ) → ¬ (b < a) → nat_le a b ≡ true
-not_more a b few = le-leb a b (omega (arith, few))
+module _ (x : Member) where
+  abbrev pub act : Bool → Act
+  act c = cond c (verdict_alone WritesWhole Accept) (verdict_alone (Keeps []) JournalFull)
 
-more : (a b : ℕ) → b < a → nat_le a b ≡ false
-more a b many = go (nat_le a b) refl
-  where
-    go : (t : Bool) → nat_le a b ≡ t → t ≡ false
-    go true is = absurd (omega (arith, many, leb-true a b is))
-    go false is = refl
+  abbrev pub done : Bool → World → World
+  done c w = cond c (world_with_room w x (room_of_whole x.party)) w
 
-both : (a b : Bool) → a ≡ true → b ≡ true → (a && b) ≡ true
-both true true is1 is2 = refl
-both true false is1 is2 = is2
-both false b is1 is2 = is1
+  after_it : (c : Bool) (w : World) → member_at x.party.own w.members ≡ Some x → IsAfter w (done c w) (member_after x (act c).work) None (noted (act c).under (act c).reply)
+  after_it true w at = record { members = refl; texts = sym (append-nil w.texts); facts_are = sym (append-nil (map named_text w.facts)) }
+  after_it false w at = nothing_after x w at
 
-small : (p : Party) → (IsTooLarge p → ⊥) → can_compact p ≡ true
-small p fits = both _ _ (not_more _ _ (λ many. fits (inl many))) (not_more _ _ (λ long. fits (inr long)))
+  own_after : (c : Bool) → (member_after x (act c).work).party.own ≡ x.party.own
+  own_after true = refl
+  own_after false = refl
 
-neither : (a b : Bool) → (a ≡ false) ⊎ (b ≡ false) → (a && b) ≡ false
-neither true true (inl is) = is
-neither true true (inr is) = is
-neither true false either = refl
-neither false b either = refl
+  whole : (c : Bool) (w : World) → member_at x.party.own w.members ≡ Some x → IsAfter w (done c w) (member_after x (act c).work) (act c).reply (noted (act c).under (act c).reply)
+  whole true w at = after_it true w at
+  whole false w at = after_it false w at
 
-large : (p : Party) → IsTooLarge p → can_compact p ≡ false
-large p (inl many) = neither _ _ (inl (more _ _ many))
-large p (inr long) = neither _ _ (inr (more _ _ long))
+  none : (c : Bool) (w : World) → changes (act c).work ≡ false → done c w ≡ w
+  none true w is = absurd (cc is)
+  none false w is = refl
 
-chosen : (t : Bool) (a b : World) → t ≡ true → cond t a b ≡ a
-chosen true a b is = refl
-chosen false a b is = absurd (cc is)
-
-left_out : (t : Bool) (a b : World) → t ≡ false → cond t a b ≡ b
-left_out true a b is = absurd (cc is)
-left_out false a b is = refl
-
-pub whole_compaction : (x : Member) (w : World) → (IsTooLarge x.party → ⊥) → world_after_compaction w x Whole ≡ world_with_room w x (room_after_compaction x.party)
-whole_compaction x w fits = chosen (can_compact x.party) _ _ (small x.party fits)
-
-pub no_compaction : (x : Member) (w : World) → IsTooLarge x.party → world_after_compaction w x Whole ≡ w
-no_compaction x w long = left_out (can_compact x.party) _ _ (large x.party long)
-
-pub compaction_event : {D : Type 0} (told : D → View) (old : Stored D) (t : Turn D) → IsCompaction told old t → IsCompactionEvent old t
-compaction_event told old (turn.Done node reply under) is = λ w.
-    whole_compaction (member_of old) w is.answer.0.fits ∙ ap (λ (n : ℕ). world_with_room w (member_of old) n) (sym is.answer.0.left)
-compaction_event told old (turn.Refused node verdict reply under) is = (is.answer.0, λ w. no_compaction (member_of old) w is.answer.1)
-compaction_event told old (turn.Broken b) is = tt
-compaction_event told old (turn.NoMemory node) is = is.answer
-
-module _ (x : Member) (image : List ℕ) (fits : IsTooLarge x.party → ⊥) where
-  pub cut_compaction : IsOldOrWhole x.party x.room image → IsCutCompaction x image
-  cut_compaction (inl stays) = record { completion = CutOld; cut = tt; stands = λ w at. record { member = x; at = at; holds = stays } }
-  cut_compaction (inr new) = record { completion = CutNew; cut = tt; stands = λ w at. record { member = after; at = there w at; holds = new } }
-    where
-      after : Member
-      after = record { party = x.party; room = room_after_compaction x.party }
-
-      there : (w : World) → member_at x.party.own w.members ≡ Some x → member_at x.party.own (world_after_compaction w x CutNew).members ≡ Some after
-      there w at = ap (λ (v : World). member_at x.party.own v.members) (chosen (can_compact x.party) (world_with_room w x (room_after_compaction x.party)) w (small x.party fits)) ∙ after_at w.members x.party.own x after at refl
-
-pub compaction_cut : {D : Type 0} (old : Stored D) (image : List ℕ) → (IsTooLarge old.party → ⊥) → IsOldOrWhole old.party (room old) image → IsCompactionCutEvent old image
-compaction_cut old image fits = cut_compaction (member_of old) image fits
+pub compaction_is : (x : Member) → IsEventOf x (compacting x.party) (λ n w completion. world_after_compaction w x completion)
+compaction_is x = record {
+  own = own_after x (can_compact x.party);
+  whole = λ n w at. whole x (can_compact x.party) w at;
+  old = λ n w. refl;
+  new = λ n w at some. after_it x (can_compact x.party) w at;
+  none = λ n w is. none x (can_compact x.party) w is;
+}

@@ -1,7 +1,7 @@
 -- No row of a bank begins a party, so its name stays.
 use Rattle.csm_grammar.specs.declared.message.NewKk.{NewKk}
 use Rattle.csm_grammar.specs.declared.message.Rtr.{Rtr}
-use Rattle.party_state.specs.Keys.{sends, takes}
+use Rattle.party_tables.specs.Keys.{sends, takes}
 use Rattle.party_state.specs.State.{link_with, centre_label}
 use Rattle.bank_arrivals.specs.Esm.{subject_value}
 use Rattle.bank_orders.specs.declared.draws.KkDrawn.{KkDrawn}
@@ -33,24 +33,25 @@ use Rattle.csm_grammar.specs.declared.message.Dsm.{Dsm}
 use Rattle.csm_grammar.specs.declared.message.Message.{Message}
 use Rattle.csm_grammar.specs.declared.message.Message.TheVariants as message
 use Rattle.csm_grammar.specs.declared.arrival.Arrival.{Arrival}
-use Rattle.party_state.specs.declared.link.LinkRec.{LinkRec}
-use Rattle.party_state.specs.declared.key.KeyRec.{KeyRec}
-use Rattle.party_state.specs.declared.key.KeyStatus.TheVariants.{Ended}
-use Rattle.party_state.specs.declared.exchange.Kind.{Kind}
-use Rattle.party_state.specs.declared.exchange.Kind.TheVariants as kind
-use Rattle.party_state.specs.declared.exchange.Exchange.{Exchange}
+use Rattle.party_tables.specs.declared.link.LinkRec.{LinkRec}
+use Rattle.party_tables.specs.declared.key.KeyRec.{KeyRec}
+use Rattle.party_tables.specs.declared.key.KeyStatus.TheVariants.{Ended}
+use Rattle.party_tables.specs.declared.exchange.Kind.{Kind}
+use Rattle.party_tables.specs.declared.exchange.Kind.TheVariants as kind
+use Rattle.party_tables.specs.declared.exchange.Exchange.{Exchange}
 use Rattle.party_state.specs.declared.edit.Edit.{Edit}
 use Rattle.party_state.specs.declared.edit.Edit.TheVariants.{Begin, PutLink, DropLink, PutKey, DropEnded, PutExchange, DropExchange, PutAnswer, SetGen}
 use Rattle.party_state.specs.declared.command.Command.{Command}
 use Rattle.party_state.specs.declared.command.Command.TheVariants as command
-use Rattle.party_state.specs.Keys.{same_name}
+use Rattle.party_tables.specs.Keys.{same_name}
 use Rattle.party_state.specs.Ranges.{IsNoBegin}
-use Rattle.party_state.specs.State.{Party, apply_edit, apply, first_link, exchange_with, is_ended}
+use Rattle.party_tables.specs.Statuses.{is_ended}
+use Rattle.party_state.specs.State.{Party, apply_edit, apply, first_link, exchange_with}
 use Rattle.party_state.specs.Verdicts.{Test}
 use Rattle.role_base.specs.declared.exchanges.Sent.{Sent}
 use Rattle.role_base.specs.declared.exchanges.Twins.{Twins}
 use Rattle.role_base.specs.Conditions.{is_two_keys}
-use Rattle.party_state.specs.Names.{name_behind}
+use Rattle.party_tables.specs.Names.{name_behind}
 use Rattle.bank_arrivals.specs.declared.draws.TwinsDrawn.{TwinsDrawn}
 use Rattle.bank_arrivals.specs.SendingTwins.{twins_drawn, twins_sending_drawn}
 use Rattle.bank_arrivals.specs.declared.error_message.Subject.{Subject}

@@ -2,8 +2,8 @@
 use Rattle.std.proofs.Common.{filter, max, bytes_eq}
 use Rattle.x_base.specs.declared.verdict.Verdict.TheVariants.{WrongClass}
 use Rattle.csm_grammar.specs.declared.message.Ers.{Ers}
-use Rattle.party_state.specs.declared.answer.Answer.{Answer}
-use Rattle.party_state.specs.Keys.{sends, takes}
+use Rattle.party_tables.specs.declared.answer.Answer.{Answer}
+use Rattle.party_tables.specs.Keys.{sends, takes}
 use Rattle.party_state.specs.State.{link_with, centre_label, answer_with}
 use Rattle.party_state.specs.Rows.{refused}
 use Rattle.role_base.specs.Load.{load}
@@ -12,7 +12,7 @@ use Rattle.distribution_role.specs.Answering.{answering}
 use Rattle.distribution_role.specs.Requests.{rsi_tests as centre_tests, rsi_between, rsi_for}
 use Rattle.distribution_role.specs.Recovery.{ers_tests, ers_between}
 use Rattle.translation_role.specs.Service.{rfs_between}
-use Rattle.centre_base.specs.Orders.{centre_command}
+use Rattle.role_base.specs.Centres.{centre_command}
 use Rattle.distribution_role.specs.Rows.{distribution_message}
 use Rattle.translation_role.specs.Rows.{translation_message}
 use Rattle.roles.specs.Rows.{row_by, row_at}
@@ -25,7 +25,7 @@ use Rattle.csm_grammar.specs.declared.message.Rsi.{Rsi}
 use Rattle.csm_grammar.specs.declared.message.Message.{Message}
 use Rattle.csm_grammar.specs.declared.message.Message.TheVariants as message
 use Rattle.csm_grammar.specs.declared.arrival.Arrival.{Arrival}
-use Rattle.party_state.specs.declared.link.LinkRec.{LinkRec}
+use Rattle.party_tables.specs.declared.link.LinkRec.{LinkRec}
 use Rattle.party_state.specs.declared.edit.Edit.{Edit}
 use Rattle.party_state.specs.declared.command.Command.{Command}
 use Rattle.party_state.specs.declared.command.Command.TheVariants as command

@@ -1,18 +1,20 @@
 -- Whether an event is honest is decided by a search among the facts; so a run is honest, or has a forged event.
-use Rattle.std.proofs.Common.{arith, ◌≡◌, ◌⊎◌, inl, inr, ℕ, zero, suc, ◌<◌, Bool, true, false, not, ◌||◌, Option, Some, None, List, [], ◌∷◌, length, slice_index_or, refl, sym, ◌∙◌, ap, subst, Contains, Decides}
+use Rattle.std.proofs.Common.{arith, ◌≡◌, ◌⊎◌, inl, inr, ℕ, zero, suc, ◌<◌, Bool, true, false, not, ◌||◌, Option, Some, None, List, [], ◌∷◌, length, map, slice_index_or, refl, sym, ◌∙◌, ap, subst, Contains, Decides}
 use Rattle.std.specs.List.{list_any}
 use Rattle.std.proofs.lemmas.Bool.Decides.{Decides-and, Decides-like}
 use Rattle.x_base.specs.declared.key_name.FullName.{FullName}
 use Rattle.party_state.specs.declared.decision.Lead.{Lead}
 use Rattle.party_state.specs.State.{Party}
-use Rattle.party_state.proofs.Keys.{test_idents, test_names}
-use Rattle.role_base.specs.Texts.{auth_text}
-use Rattle.world_laws.specs.World.{World, Member, Fact, member_at}
+use Rattle.party_tables.proofs.Keys.{test_idents, test_names}
+use Rattle.csm_grammar.specs.Arrivals.{authenticated}
+use Rattle.member.specs.Member.{Member}
+use Rattle.world_laws.specs.World.{World, Fact, member_at}
 use Rattle.roles.specs.Leads.{lead_at}
 use Rattle.world_laws.specs.Events.{Action, Orders, Hears, Compacts, Event}
 use Rattle.world_laws.specs.Steps.{step}
-use Rattle.fact_book.specs.Facts.{same_full_name}
-use Rattle.world_laws.specs.Honest.{HasFact, is_fact, has_fact, HonestAction, HonestAt, HonestRun, IsForged, is_honest_lead, is_honest_action, is_honest}
+use Rattle.fact_book.specs.Facts.{has_named, same_full_name}
+use Rattle.world_laws.specs.Honest.{HasFact, is_fact, named_text, has_fact, HonestAction, HonestAt, HonestRun, IsForged, is_honest_lead, is_honest_action, is_honest}
+use Rattle.world_laws.proofs.Nodes.Named.{named_facts}
 
 -- an entry that passes a test
 
@@ -45,27 +47,30 @@ fact_decides facts under text = (
   λ h. has_any (is_fact under text) facts h.fact h.stands.0 h.stands.1 h.stands.2 ((decides_fact under text h.fact).1 (h.under_is, h.text_is)),
 )
 
-lead_decides : (facts : List Fact) (text : List ℕ) (o : Option Lead) → Decides (is_honest_lead facts text o) ((l : Lead) → o ≡ Some l → l.verified ≡ true → HasFact facts l.under text)
+lead_decides : (facts : List Fact) (text : List ℕ) (o : Option Lead) → Decides (is_honest_lead (map named_text facts) text o) ((l : Lead) → o ≡ Some l → l.verified ≡ true → HasFact facts l.under text)
 lead_decides facts text None = (λ h l e v. absurd (cc), λ h. refl)
 lead_decides facts text (Some k) = (yes, back)
   where
-    verified : (b : Bool) → k.verified ≡ b → (not b || has_fact facts k.under text) ≡ true → k.verified ≡ true → HasFact facts k.under text
-    verified true i h v = (fact_decides facts k.under text).0 h
+    same : has_named (map named_text facts) k.under text ≡ has_fact facts k.under text
+    same = named_facts facts k.under text
+
+    verified : (b : Bool) → k.verified ≡ b → (not b || has_named (map named_text facts) k.under text) ≡ true → k.verified ≡ true → HasFact facts k.under text
+    verified true i h v = (fact_decides facts k.under text).0 (sym same ∙ h)
     verified false i h v = absurd (let both : true ≡ false = sym v ∙ i in cc)
 
-    yes : is_honest_lead facts text (Some k) ≡ true → (l : Lead) → Some k ≡ Some l → l.verified ≡ true → HasFact facts l.under text
+    yes : is_honest_lead (map named_text facts) text (Some k) ≡ true → (l : Lead) → Some k ≡ Some l → l.verified ≡ true → HasFact facts l.under text
     yes h l e v = (let is : k ≡ l = cc in let m : k.verified ≡ true = ap (λ (z : Lead). z.verified) is ∙ v in subst (λ (z : Lead). HasFact facts z.under text) is (verified k.verified refl h m))
 
-    unverified : (b : Bool) → k.verified ≡ b → (k.verified ≡ true → has_fact facts k.under text ≡ true) → (not b || has_fact facts k.under text) ≡ true
+    unverified : (b : Bool) → k.verified ≡ b → (k.verified ≡ true → has_named (map named_text facts) k.under text ≡ true) → (not b || has_named (map named_text facts) k.under text) ≡ true
     unverified true i h = h i
     unverified false i h = refl
 
-    back : ((l : Lead) → Some k ≡ Some l → l.verified ≡ true → HasFact facts l.under text) → is_honest_lead facts text (Some k) ≡ true
-    back h = unverified k.verified refl (λ v. (fact_decides facts k.under text).1 (h k refl v))
+    back : ((l : Lead) → Some k ≡ Some l → l.verified ≡ true → HasFact facts l.under text) → is_honest_lead (map named_text facts) text (Some k) ≡ true
+    back h = unverified k.verified refl (λ v. same ∙ (fact_decides facts k.under text).1 (h k refl v))
 
 deed_decides : (facts : List Fact) (p : Party) (d : Action) → Decides (is_honest_action facts p d) (HonestAction facts p d)
 deed_decides facts p (Orders c) = (λ h. tt, λ h. refl)
-deed_decides facts p (Hears bytes (Some a)) = lead_decides facts (auth_text a) (lead_at p a)
+deed_decides facts p (Hears bytes (Some a)) = lead_decides facts (authenticated a) (lead_at p a)
 deed_decides facts p (Hears bytes None) = (λ h. tt, λ h. refl)
 deed_decides facts p Compacts = (λ h. tt, λ h. refl)
 

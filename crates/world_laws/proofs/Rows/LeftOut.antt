@@ -3,18 +3,18 @@ use Rattle.std.proofs.Common.{◌≡◌, ℕ, true, false, List, bytes_eq, ap}
 use Rattle.x_base.specs.declared.party.Role.{Role}
 use Rattle.x_base.specs.declared.party.Role.TheVariants.{Bank, Distribution, Translation}
 use Rattle.party_state.specs.declared.command.Input.{Input}
-use Rattle.party_state.specs.declared.answer.Answer.{Answer}
+use Rattle.party_tables.specs.declared.answer.Answer.{Answer}
 use Rattle.party_state.specs.declared.edit.Edit.{Edit}
-use Rattle.party_state.specs.declared.exchange.Exchange.{Exchange}
-use Rattle.party_state.specs.declared.key.KeyRec.{KeyRec}
-use Rattle.party_state.specs.declared.link.LinkRec.{LinkRec}
-use Rattle.party_state.specs.Keys.{same_link, same_record, same_answer, link_key, record_key, exchange_key, answer_key}
+use Rattle.party_tables.specs.declared.exchange.Exchange.{Exchange}
+use Rattle.party_tables.specs.declared.key.KeyRec.{KeyRec}
+use Rattle.party_tables.specs.declared.link.LinkRec.{LinkRec}
+use Rattle.party_tables.specs.Keys.{same_link, same_record, same_answer, link_key, record_key, exchange_key, answer_key}
 use Rattle.party_state.specs.State.{Party, apply_edit, apply}
 use Rattle.party_state.specs.Verdicts.{is_accept}
 use Rattle.party_state.specs.Rows.{Row}
-use Rattle.party_state.proofs.Keys.{test_links, test_records, test_answers}
-use Rattle.party_state.proofs.Tables.{find_key, find_put, put_stands}
-use Rattle.party_state.proofs.Lengths.{drop_absent}
+use Rattle.party_tables.proofs.Keys.{test_links, test_records, test_answers}
+use Rattle.party_tables.proofs.Tables.{find_key, find_put, put_stands}
+use Rattle.party_tables.proofs.Lengths.{drop_absent}
 use Rattle.party_state.proofs.Verdicts.{held}
 use Rattle.role_base.specs.Differing.{differs, differing}
 use Rattle.role_base.proofs.PartyLaws.{KeysFound, AnswersFound, LinkLaws, KeyLaws, StandingLaws}
@@ -24,7 +24,7 @@ use Rattle.bank_orders.proofs.OrdersApart.{command_apart}
 use Rattle.bank_keys.proofs.KeysApart.{ksm_apart, rtr_apart}
 use Rattle.bank_arrivals.proofs.ArrivalsApart.{rsi_apart, rsm_apart, esm_apart, dsm_apart}
 use Rattle.bank_role.proofs.Apart as bank
-use Rattle.centre_base.proofs.OrdersApart.{order_apart}
+use Rattle.role_base.proofs.CentresApart.{order_apart}
 use Rattle.distribution_role.proofs.AnswersApart as distribution
 use Rattle.translation_role.proofs.TranslatedApart as translation
 use Rattle.roles.specs.Rows.{row_by}

@@ -22,21 +22,23 @@ use Rattle.csm_grammar.specs.declared.message.Message.{Message}
 use Rattle.csm_grammar.specs.declared.message.Message.TheVariants as message
 use Rattle.csm_grammar.specs.declared.arrival.Arrival.{Arrival}
 use Rattle.csm_grammar.specs.Spelling.{Says}
-use Rattle.party_state.specs.declared.link.LinkRec.{LinkRec}
-use Rattle.party_state.specs.declared.key.KeyRec.{KeyRec}
-use Rattle.party_state.specs.declared.key.KeyStatus.TheVariants.{Ended, Live}
+use Rattle.party_tables.specs.declared.link.LinkRec.{LinkRec}
+use Rattle.party_tables.specs.declared.key.KeyRec.{KeyRec}
+use Rattle.party_tables.specs.declared.key.KeyStatus.TheVariants.{Ended, Live}
 use Rattle.party_state.specs.declared.edit.Edit.{Edit}
 use Rattle.party_state.specs.declared.edit.Edit.TheVariants.{PutKey, DropExchange, PutLink}
-use Rattle.party_state.specs.Keys.{link_key, same_name}
-use Rattle.party_state.specs.State.{Party, link_with, first_link, apply, apply_edit, exchange_with, is_ended}
+use Rattle.party_tables.specs.Keys.{link_key, same_name}
+use Rattle.party_tables.specs.Statuses.{is_ended}
+use Rattle.party_state.specs.State.{Party, link_with, first_link, apply, apply_edit, exchange_with}
 use Rattle.party_state.specs.Verdicts.{verdict_of, is_accept}
 use Rattle.role_base.specs.declared.exchanges.Sent.{Sent}
 use Rattle.bank_arrivals.specs.declared.error_message.Subject.{Subject}
 use Rattle.bank_arrivals.specs.declared.error_message.Subject.TheVariants.{SentKey, SentTwins, Translated}
 use Rattle.bank_arrivals.specs.declared.disconnection.Named.{Named}
-use Rattle.role_base.specs.Texts.{auth_text, is_plain}
+use Rattle.csm_grammar.specs.Arrivals.{authenticated}
+use Rattle.role_base.specs.Texts.{is_plain}
 use Rattle.role_base.specs.declared.exchanges.Twins.{Twins}
-use Rattle.party_state.specs.Names.{name_behind}
+use Rattle.party_tables.specs.Names.{name_behind}
 use Rattle.role_base.specs.Conditions.{is_two_keys}
 use Rattle.role_base.specs.Exchanges.{record_of, new_link, sent_to, twins_to, twins_value, ending_with, readied, dropped, ended}
 use Rattle.bank_arrivals.specs.SendingTwins.{twins_drawn}
@@ -52,26 +54,26 @@ use Rattle.world_laws.proofs.Counting.Quiet.{NoKsm, pairs_none, no_new, quiet_so
 use Rattle.world_laws.proofs.Sound.Exchanges.{SentAt, sent_at, new_peer, subject_sent, subject_link_at}
 use Rattle.world_laws.proofs.Sound.Commands.{sending_sound}
 use Rattle.world_laws.proofs.Sound.TwinKeys.{twins_sound}
-use Rattle.party_state.specs.declared.exchange.Exchange.{Exchange}
-use Rattle.party_state.specs.declared.exchange.Via.{Via}
-use Rattle.party_state.specs.declared.exchange.Kind.{Kind}
-use Rattle.party_state.specs.declared.exchange.Kind.TheVariants as kind
+use Rattle.party_tables.specs.declared.exchange.Exchange.{Exchange}
+use Rattle.party_tables.specs.declared.exchange.Via.{Via}
+use Rattle.party_tables.specs.declared.exchange.Kind.{Kind}
+use Rattle.party_tables.specs.declared.exchange.Kind.TheVariants as kind
 
-rsi_sound : (p : Party) (a : Arrival) (m : Rsi) (moment : ℕ) (o : Option LinkRec) → HasLinks p → first_link m.originator Sends p ≡ o → IsSound None p (auth_text a) (rsi_under p a m o moment)
-rsi_sound p a m moment None d h = refused_sound p (auth_text a) (verdict_of (rsi_tests p a m None))
+rsi_sound : (p : Party) (a : Arrival) (m : Rsi) (moment : ℕ) (o : Option LinkRec) → HasLinks p → first_link m.originator Sends p ≡ o → IsSound None p (authenticated a) (rsi_under p a m o moment)
+rsi_sound p a m moment None d h = refused_sound p (authenticated a) (verdict_of (rsi_tests p a m None))
 rsi_sound p a m moment (Some l) d h = by_service (is_two_keys m.service)
   where
     f : FirstAt p m.originator Sends l
     f = first_at p m.originator Sends l d h
 
-    by_service : (b : Bool) → IsSound None p (auth_text a) (rsi_row p a m l moment b)
-    by_service true = twins_sound p (auth_text a) (rsi_tests p a m (Some l)) m.originator l (twins_drawn p.generator moment) (record { at = f.at; ready = f.ready })
-    by_service false = sending_sound p (auth_text a) (rsi_tests p a m (Some l)) m.originator l (good_draw p.generator moment) (record { at = f.at; ready = f.ready })
+    by_service : (b : Bool) → IsSound None p (authenticated a) (rsi_row p a m l moment b)
+    by_service true = twins_sound p (authenticated a) (rsi_tests p a m (Some l)) m.originator l (twins_drawn p.generator moment) (record { at = f.at; ready = f.ready })
+    by_service false = sending_sound p (authenticated a) (rsi_tests p a m (Some l)) m.originator l (good_draw p.generator moment) (record { at = f.at; ready = f.ready })
 
 -- its answers
 
-rsm_sound : (p : Party) (a : Arrival) (m : Rsm) (o : Option Sent) → Waits p → sent_to p m.originator ≡ o → IsSound None p (auth_text a) (rsm_to p a m o)
-rsm_sound p a m None w h = refused_sound p (auth_text a) (verdict_of (rsm_front p m None))
+rsm_sound : (p : Party) (a : Arrival) (m : Rsm) (o : Option Sent) → Waits p → sent_to p m.originator ≡ o → IsSound None p (authenticated a) (rsm_to p a m o)
+rsm_sound p a m None w h = refused_sound p (authenticated a) (verdict_of (rsm_front p m None))
 rsm_sound p a m (Some s) w h = record {
   made = no_new None;
   free = no_free p;
@@ -96,16 +98,16 @@ rsm_sound p a m (Some s) w h = record {
         way_peer : (l : LinkRec) → new_link p m.originator s.way ≡ Some l → l.peer ≡ m.originator
         way_peer l e = new_peer p m.originator s.way l e
 
-answer_sound : (p : Party) (a : Arrival) (m : Rsm) (name : KeyName) (o : Option KeyRec) → IsSound None p (auth_text a) (answer_to p a m name o)
-answer_sound p a m name None = refused_sound p (auth_text a) (verdict_of (end_front p m name None))
-answer_sound p a m name (Some k) = quiet_sound p (auth_text a) (answer_to p a m name (Some k)) (tt, (tt, tt)) refl (λ k e class. absurd (cc))
+answer_sound : (p : Party) (a : Arrival) (m : Rsm) (name : KeyName) (o : Option KeyRec) → IsSound None p (authenticated a) (answer_to p a m name o)
+answer_sound p a m name None = refused_sound p (authenticated a) (verdict_of (end_front p m name None))
+answer_sound p a m name (Some k) = quiet_sound p (authenticated a) (answer_to p a m name (Some k)) (tt, (tt, tt)) refl (λ k e class. absurd (cc))
 
-rsm_row_sound : (p : Party) (a : Arrival) (m : Rsm) (o : Option KeyName) → Waits p → IsSound None p (auth_text a) (rsm_with p a m o)
+rsm_row_sound : (p : Party) (a : Arrival) (m : Rsm) (o : Option KeyName) → Waits p → IsSound None p (authenticated a) (rsm_with p a m o)
 rsm_row_sound p a m None n = by_twins (twins_to p m.originator)
   where
-    by_twins : (t : Option Twins) → IsSound None p (auth_text a) (rsm_by p a m t)
+    by_twins : (t : Option Twins) → IsSound None p (authenticated a) (rsm_by p a m t)
     by_twins None = rsm_sound p a m (sent_to p m.originator) n refl
-    by_twins (Some t) = quiet_sound p (auth_text a) (rsm_twins p a m t) (tt, (tt, (tt, tt))) refl (λ k e class. absurd (cc))
+    by_twins (Some t) = quiet_sound p (authenticated a) (rsm_twins p a m t) (tt, (tt, (tt, tt))) refl (λ k e class. absurd (cc))
 rsm_row_sound p a m (Some name) n = answer_sound p a m name (ending_with p m.originator)
 
 -- an error message
@@ -158,12 +160,12 @@ error_passes p a m (SentKey s) again w h =
 error_passes p a m (SentTwins t) again w h = raised_twice p m.originator (subject_link p m.originator (SentTwins t)) m.ctr (record t.first { status = Ended }) (record t.second { status = Ended }) (asked_again p m (twins_value t) again) (again_quiet p m (twins_value t) again) (λ l e. subject_link_at p m.originator (SentTwins t) l e)
 error_passes p a m (Translated value cta) again w h = raised_alone p m.originator (subject_link p m.originator (Translated value cta)) m.ctr (asked_again p m value again) (again_quiet p m value again) (λ l e. subject_link_at p m.originator (Translated value cta) l e)
 
-esm_sound : (p : Party) (a : Arrival) (m : Esm) (o : Option Subject) (again : Option Retry) → Waits p → subject_with p m.originator ≡ o → IsSound None p (auth_text a) (error_of p a m o again)
-esm_sound p a m None again w h = refused_sound p (auth_text a) (verdict_of (esm_front p m None))
-esm_sound p a m (Some s) again w h = passes_sound p (auth_text a) (error_row p a m s again) (error_passes p a m s again w h) refl (esm_no_ksm p s)
+esm_sound : (p : Party) (a : Arrival) (m : Esm) (o : Option Subject) (again : Option Retry) → Waits p → subject_with p m.originator ≡ o → IsSound None p (authenticated a) (error_of p a m o again)
+esm_sound p a m None again w h = refused_sound p (authenticated a) (verdict_of (esm_front p m None))
+esm_sound p a m (Some s) again w h = passes_sound p (authenticated a) (error_row p a m s again) (error_passes p a m s again w h) refl (esm_no_ksm p s)
 
-pub error_sound : (p : Party) (a : Arrival) (m : Esm) (b : Bool) (again : Option Retry) → Waits p → IsSound None p (auth_text a) (error_with p a m b again)
-error_sound p a m true again n = quiet_sound p (auth_text a) (plain_esm p a m) tt refl (λ k e. absurd (cc))
+pub error_sound : (p : Party) (a : Arrival) (m : Esm) (b : Bool) (again : Option Retry) → Waits p → IsSound None p (authenticated a) (error_with p a m b again)
+error_sound p a m true again n = quiet_sound p (authenticated a) (plain_esm p a m) tt refl (λ k e. absurd (cc))
 error_sound p a m false again n = esm_sound p a m (subject_with p m.originator) again n refl
 
 -- the end of a key
@@ -207,19 +209,19 @@ dsm_passes p a m n w = by_status (is_ended n.key.status)
     by_status true = (tt, tt)
     by_status false = by_exchange (exchange_with m.originator p) refl
 
-dsm_sound : (p : Party) (a : Arrival) (m : Dsm) (o : Option Named) → Waits p → IsSound None p (auth_text a) (dsm_on p a m o)
-dsm_sound p a m None w = refused_sound p (auth_text a) (verdict_of (dsm_front p m false))
-dsm_sound p a m (Some n) w = passes_sound p (auth_text a) (dsm_on p a m (Some n)) (dsm_passes p a m n w) refl (λ k e class. absurd (cc))
+dsm_sound : (p : Party) (a : Arrival) (m : Dsm) (o : Option Named) → Waits p → IsSound None p (authenticated a) (dsm_on p a m o)
+dsm_sound p a m None w = refused_sound p (authenticated a) (verdict_of (dsm_front p m false))
+dsm_sound p a m (Some n) w = passes_sound p (authenticated a) (dsm_on p a m (Some n)) (dsm_passes p a m n w) refl (λ k e class. absurd (cc))
 
 abbrev plain_sound : {p : Party} {text : List ℕ} {r : Row} → IsSound None p text r → SoundRow p text r
 plain_sound {p} {text} {r} g = record { new = None; sound = g }
 
-pub message_sound : (p : Party) (a : Arrival) (m : Message) (moment : ℕ) → HasLinks p → Waits p → Says (auth_text a) m → is_accept (message_row p a m moment).verdict ≡ true → SoundRow p (auth_text a) (message_row p a m moment)
+pub message_sound : (p : Party) (a : Arrival) (m : Message) (moment : ℕ) → HasLinks p → Waits p → Says (authenticated a) m → is_accept (message_row p a m moment).verdict ≡ true → SoundRow p (authenticated a) (message_row p a m moment)
 message_sound p a (message.Rsi m) moment d n said h = plain_sound (rsi_sound p a m moment (first_link m.originator Sends p) d refl)
-message_sound p a (message.Rfs m) moment d n said h = plain_sound (refused_sound p (auth_text a) _)
+message_sound p a (message.Rfs m) moment d n said h = plain_sound (refused_sound p (authenticated a) _)
 message_sound p a (message.Rtr m) moment d n said h = plain_sound (rtr_sound p a m m.kd h)
 message_sound p a (message.Ksm m) moment d n said h = key_row_sound p a m m.body (body_link p m.originator m.body) d said refl refl h
 message_sound p a (message.Rsm m) moment d n said h = plain_sound (rsm_row_sound p a m m.idd n)
-message_sound p a (message.Ers m) moment d n said h = plain_sound (refused_sound p (auth_text a) _)
+message_sound p a (message.Ers m) moment d n said h = plain_sound (refused_sound p (authenticated a) _)
 message_sound p a (message.Esm m) moment d n said h = plain_sound (error_sound p a m (is_plain a.parsed.shut) (retry_in p (subject_with p m.originator) m.ctr) n)
 message_sound p a (message.Dsm m) moment d n said h = plain_sound (dsm_sound p a m (named_by p m) n)

@@ -1,24 +1,24 @@
 -- What a bank's exchanges tell: no new key-encrypting key waits, and the links and records that are found stand.
 use Rattle.std.proofs.Common.{◌≡◌, ℕ, Option, Some, None, List, option_map, refl, sym, ap, subst, Bool, true, false, cond}
 use Rattle.x_base.specs.declared.key_name.KeyName.{KeyName}
-use Rattle.party_state.specs.declared.link.LinkKey.{LinkKey}
-use Rattle.party_state.specs.declared.link.LinkRec.{LinkRec}
-use Rattle.party_state.specs.declared.key.RecordKey.{RecordKey}
-use Rattle.party_state.specs.declared.key.KeyRec.{KeyRec}
-use Rattle.party_state.specs.declared.exchange.Via.{Via}
-use Rattle.party_state.specs.declared.exchange.Via.TheVariants as via
-use Rattle.party_state.specs.declared.exchange.Kind.{Kind}
-use Rattle.party_state.specs.declared.exchange.Kind.TheVariants as kind
-use Rattle.party_state.specs.declared.exchange.Exchange.{Exchange}
-use Rattle.party_state.specs.Keys.{link_key, record_key, same_record, sends}
+use Rattle.party_tables.specs.declared.link.LinkKey.{LinkKey}
+use Rattle.party_tables.specs.declared.link.LinkRec.{LinkRec}
+use Rattle.party_tables.specs.declared.key.RecordKey.{RecordKey}
+use Rattle.party_tables.specs.declared.key.KeyRec.{KeyRec}
+use Rattle.party_tables.specs.declared.exchange.Via.{Via}
+use Rattle.party_tables.specs.declared.exchange.Via.TheVariants as via
+use Rattle.party_tables.specs.declared.exchange.Kind.{Kind}
+use Rattle.party_tables.specs.declared.exchange.Kind.TheVariants as kind
+use Rattle.party_tables.specs.declared.exchange.Exchange.{Exchange}
+use Rattle.party_tables.specs.Keys.{link_key, record_key, same_record, sends}
 use Rattle.party_state.specs.State.{Party, centre_label, link_with, record_with, exchange_with}
-use Rattle.party_state.proofs.Keys.{test_records}
-use Rattle.party_state.proofs.Tables.{find_key}
+use Rattle.party_tables.proofs.Keys.{test_records}
+use Rattle.party_tables.proofs.Tables.{find_key}
 use Rattle.role_base.specs.declared.exchanges.Sent.{Sent}
 use Rattle.bank_arrivals.specs.declared.error_message.Subject.{Subject}
 use Rattle.bank_arrivals.specs.declared.error_message.Subject.TheVariants.{SentKey, SentTwins, Translated}
 use Rattle.role_base.specs.declared.exchanges.Twins.{Twins}
-use Rattle.party_state.specs.Names.{name_behind}
+use Rattle.party_tables.specs.Names.{name_behind}
 use Rattle.role_base.specs.Exchanges.{record_of, both_of, sent_by, sent_in, sent_to, ending_by, ending_in, ending_with, new_link, new_label, new_link_at}
 use Rattle.bank_arrivals.specs.Esm.{subject_by, subject_in, subject_with, way_link, subject_link, is_renewed}
 use Rattle.world_laws.proofs.Links.Found.{LinkAt, link_at}

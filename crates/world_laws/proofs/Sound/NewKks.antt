@@ -1,19 +1,19 @@
 -- A new key-encrypting key is sent: what the laws that need no honesty ask.
 use Rattle.std.proofs.Common.{arith, ◌≡◌, ◌≢◌, ℕ, ◌+◌, inl, inr, Bool, true, false, cond, Option, Some, None, List, [], ◌∷◌, ◌++◌, refl, sym, ◌∙◌, ap, subst, bytes_eq}
 use Rattle.x_base.specs.declared.party.Side.TheVariants.{Sends, Takes}
-use Rattle.party_state.specs.declared.link.LinkKey.{LinkKey}
-use Rattle.party_state.specs.declared.link.LinkRec.{LinkRec}
-use Rattle.party_state.specs.declared.key.KeyRec.{KeyRec}
-use Rattle.party_state.specs.declared.key.KeyStatus.TheVariants.{Pending}
-use Rattle.party_state.specs.declared.exchange.Exchange.{Exchange}
+use Rattle.party_tables.specs.declared.link.LinkKey.{LinkKey}
+use Rattle.party_tables.specs.declared.link.LinkRec.{LinkRec}
+use Rattle.party_tables.specs.declared.key.KeyRec.{KeyRec}
+use Rattle.party_tables.specs.declared.key.KeyStatus.TheVariants.{Pending}
+use Rattle.party_tables.specs.declared.exchange.Exchange.{Exchange}
 use Rattle.party_state.specs.declared.edit.Edit.TheVariants.{PutLink, PutKey, PutExchange, SetGen}
-use Rattle.party_state.specs.Tables.{find_row, put_row}
-use Rattle.party_state.specs.Keys.{same_link, link_key, exchange_key, sends}
+use Rattle.party_tables.specs.Tables.{find_row, put_row}
+use Rattle.party_tables.specs.Keys.{same_link, link_key, exchange_key, sends}
 use Rattle.party_state.specs.State.{Party, centre_label, link_with, exchange_with, apply_edit, apply}
 use Rattle.party_state.specs.Verdicts.{Held, is_accept}
 use Rattle.party_state.specs.Rows.{Row, Made}
-use Rattle.party_state.proofs.Keys.{test_idents, test_links}
-use Rattle.party_state.proofs.Tables.{find_put, find_put_same, absent_put, found_put}
+use Rattle.party_tables.proofs.Keys.{test_idents, test_links}
+use Rattle.party_tables.proofs.Tables.{find_put, find_put_same, absent_put, found_put}
 use Rattle.party_state.proofs.Verdicts.{held}
 use Rattle.role_base.specs.Sending.{next_name}
 use Rattle.world_laws.proofs.Links.Growth.{next_up}

@@ -1,13 +1,13 @@
 -- Two keys are sent under a link, at two counts.
 use Rattle.std.proofs.Common.{arith, ◌≡◌, ℕ, ◌+◌, Option, Some, None, List, ◌++◌, refl, ap, subst, inl}
-use Rattle.party_state.specs.declared.link.LinkKey.{LinkKey}
-use Rattle.party_state.specs.declared.link.LinkRec.{LinkRec}
-use Rattle.party_state.specs.Keys.{same_link, link_key, sends}
+use Rattle.party_tables.specs.declared.link.LinkKey.{LinkKey}
+use Rattle.party_tables.specs.declared.link.LinkRec.{LinkRec}
+use Rattle.party_tables.specs.Keys.{same_link, link_key, sends}
 use Rattle.party_state.specs.State.{Party, link_with}
 use Rattle.party_state.specs.Rows.{Use, OneKey}
 use Rattle.party_state.specs.Verdicts.{Test, verdict_of}
-use Rattle.party_state.proofs.Keys.{test_links}
-use Rattle.party_state.proofs.Tables.{find_put_same}
+use Rattle.party_tables.proofs.Keys.{test_links}
+use Rattle.party_tables.proofs.Tables.{find_put_same}
 use Rattle.bank_arrivals.specs.declared.draws.TwinsDrawn.{TwinsDrawn}
 use Rattle.bank_arrivals.specs.SendingTwins.{twins_tests, twins_sending_drawn}
 use Rattle.world_laws.proofs.Links.Growth.{next_up}

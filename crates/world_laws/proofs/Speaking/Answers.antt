@@ -6,7 +6,7 @@ use Rattle.bank_arrivals.specs.declared.draws.TwinsDrawn.{TwinsDrawn}
 use Rattle.bank_arrivals.specs.SendingTwins.{twins_drawn, twins_sending_drawn}
 use Rattle.bank_arrivals.specs.Rsm.{rsm_by}
 use Rattle.world_laws.proofs.Roles.Inputs.{IsInput}
-use Rattle.csm_grammar.proofs.Arrived.{arrival_says}
+use Rattle.csm_read.proofs.Arrived.{arrival_says}
 use Rattle.role_base.specs.Texts.{is_plain}
 use Rattle.csm_grammar.specs.declared.message.Message.TheVariants as message
 use Rattle.bank_keys.specs.Rtr.{brought, translated, rtr_with}
@@ -30,7 +30,7 @@ use Rattle.role_base.specs.Exchanges.{record_of, sent_to, ending_with}
 use Rattle.bank_arrivals.specs.Rsm.{rsm_to, answer_to, rsm_with}
 use Rattle.role_base.specs.Sending.{sending_drawn}
 use Rattle.bank_orders.specs.Start.{start_tests, start_under}
-use Rattle.role_base.specs.Texts.{auth_text}
+use Rattle.csm_grammar.specs.Arrivals.{authenticated}
 use Rattle.bank_arrivals.specs.declared.disconnection.Named.{Named}
 use Rattle.bank_arrivals.specs.declared.error_message.Subject.{Subject}
 use Rattle.role_base.specs.declared.exchanges.Sent.{Sent}
@@ -43,14 +43,14 @@ use Rattle.csm_grammar.specs.declared.message.Message.{Message}
 use Rattle.csm_grammar.specs.declared.message.Rsi.{Rsi}
 use Rattle.csm_grammar.specs.declared.message.Rsm.{Rsm}
 use Rattle.csm_grammar.specs.declared.message.Rtr.{Rtr}
-use Rattle.party_state.specs.Keys.{sends, takes}
+use Rattle.party_tables.specs.Keys.{sends, takes}
 use Rattle.party_state.specs.Rows.{Reply}
 use Rattle.party_state.specs.State.{Party, centre_label, link_with, exchange_with}
 use Rattle.party_state.specs.Verdicts.{Test}
-use Rattle.party_state.specs.declared.answer.Answer.{Answer}
-use Rattle.party_state.specs.declared.exchange.Exchange.{Exchange}
-use Rattle.party_state.specs.declared.key.KeyRec.{KeyRec}
-use Rattle.party_state.specs.declared.link.LinkRec.{LinkRec}
+use Rattle.party_tables.specs.declared.answer.Answer.{Answer}
+use Rattle.party_tables.specs.declared.exchange.Exchange.{Exchange}
+use Rattle.party_tables.specs.declared.key.KeyRec.{KeyRec}
+use Rattle.party_tables.specs.declared.link.LinkRec.{LinkRec}
 use Rattle.std.proofs.Common.{◌≡◌, ℕ, Bool, true, false, Option, Some, None, List, refl, sym, subst, max}
 use Rattle.world_laws.proofs.Links.Found.{HasLinks}
 use Rattle.x_base.specs.declared.key_name.KeyName.{KeyName}
@@ -71,7 +71,7 @@ use Rattle.bank_keys.specs.Ksm.{body_link}
 use Rattle.roles.specs.Rows.{row_by}
 use Rattle.bank_orders.specs.Orders.{command_row}
 use Rattle.bank_role.specs.Rows.{message_row}
-use Rattle.centre_base.specs.Orders.{centre_command}
+use Rattle.role_base.specs.Centres.{centre_command}
 use Rattle.distribution_role.specs.Rows.{distribution_message}
 use Rattle.translation_role.specs.Rows.{translation_message}
 use Rattle.world_laws.specs.Events.{IsCommand}
@@ -180,7 +180,7 @@ module _ (p : Party) (i : IsNamed p) where
   dsm_none a m None = refl
   dsm_none a m (Some n) = refl
 
-  bank_tells : (a : Arrival) (m : Message) (moment : ℕ) → HasLinks p → Says (auth_text a) m → TellsEsm (message_row p a m moment).answer
+  bank_tells : (a : Arrival) (m : Message) (moment : ℕ) → HasLinks p → Says (authenticated a) m → TellsEsm (message_row p a m moment).answer
   bank_tells a (message.Rsi m) moment d said = none_tells (message_row p a (message.Rsi m) moment).answer (rsi_none a m moment (first_link m.originator Sends p))
   bank_tells a (message.Rfs m) moment d said = tt
   bank_tells a (message.Rtr m) moment d said = none_tells (message_row p a (message.Rtr m) moment).answer (rtr_none a m m.kd)
@@ -219,7 +219,7 @@ module _ (p : Party) (i : IsNamed p) where
   distribution_tells a (message.Esm m) moment = tt
   distribution_tells a (message.Dsm m) moment = tt
 
-  translation_tells : (a : Arrival) (m : Message) → Says (auth_text a) m → TellsEsm (translation_message p a m).answer
+  translation_tells : (a : Arrival) (m : Message) → Says (authenticated a) m → TellsEsm (translation_message p a m).answer
   translation_tells a (message.Rsi m) said = tt
   translation_tells a (message.Rfs m) said = rfs_tells p i a m (link_with (takes m.originator centre_label) p) (link_with (sends m.ultimate centre_label) p) said refl
   translation_tells a (message.Rtr m) said = tt

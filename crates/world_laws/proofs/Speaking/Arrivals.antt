@@ -1,8 +1,8 @@
 -- What the rows of a bank's arrivals write and put is well formed.
 use Rattle.std.proofs.Common.{◌<◌, ltb-true, sym}
 use Rattle.std.specs.Prelude.{option_map}
-use Rattle.party_state.specs.Names.{name_behind}
-use Rattle.party_state.specs.Ranges.{IsNextCount}
+use Rattle.party_tables.specs.Names.{name_behind}
+use Rattle.party_tables.specs.Ranges.{IsNextCount}
 use Rattle.role_base.specs.declared.exchanges.Twins.{Twins}
 use Rattle.role_base.specs.Exchanges.{twins_to, ended}
 use Rattle.bank_keys.specs.Ksm.{body_twin, body_next, second_record, second_edits, body_second}
@@ -17,8 +17,8 @@ use Rattle.std.proofs.Common.{is_none}
 use Rattle.role_base.specs.Texts.{is_plain}
 use Rattle.csm_grammar.specs.declared.message.KsmBody.TheVariants as body
 use Rattle.csm_grammar.specs.declared.message.Message.TheVariants as message
-use Rattle.party_state.specs.declared.exchange.Kind.TheVariants as kind
-use Rattle.party_state.specs.declared.exchange.Via.TheVariants as via
+use Rattle.party_tables.specs.declared.exchange.Kind.TheVariants as kind
+use Rattle.party_tables.specs.declared.exchange.Via.TheVariants as via
 use Rattle.bank_keys.specs.Rtr.{centre_ksm, passed_record, brought_value, brought, translated, rtr_with}
 use Rattle.bank_arrivals.specs.declared.asking_again.Retry.{Retry}
 use Rattle.bank_arrivals.specs.AskingAgain.{retry_by, asked_again, again_reply, retry_in}
@@ -30,7 +30,7 @@ use Rattle.bank_arrivals.specs.Dsm.{paired, code_name, named_by, left_by, left_i
 use Rattle.bank_arrivals.specs.Esm.{subject_with, subject_link, raised}
 use Rattle.role_base.specs.Exchanges.{record_of, sent_to, ending_with, new_link, new_link_at, new_label, readied, dropped}
 use Rattle.bank_arrivals.specs.Rsm.{rsm_to, answer_to, rsm_with}
-use Rattle.role_base.specs.Texts.{auth_text}
+use Rattle.csm_grammar.specs.Arrivals.{authenticated}
 use Rattle.bank_arrivals.specs.declared.disconnection.Named.{Named}
 use Rattle.bank_arrivals.specs.declared.error_message.Subject.{Subject}
 use Rattle.bank_arrivals.specs.declared.error_message.Subject.TheVariants.{SentKey, SentTwins, Translated}
@@ -45,18 +45,19 @@ use Rattle.csm_grammar.specs.declared.message.Message.{Message}
 use Rattle.csm_grammar.specs.declared.message.NewKk.{NewKk}
 use Rattle.csm_grammar.specs.declared.message.Rsm.{Rsm}
 use Rattle.csm_grammar.specs.declared.message.Rtr.{Rtr}
-use Rattle.party_state.specs.Keys.{record_key, sends, takes, link_key, same_name}
-use Rattle.party_state.specs.State.{Party, centre_label, link_with, exchange_with, is_ended}
+use Rattle.party_tables.specs.Keys.{record_key, sends, takes, link_key, same_name}
+use Rattle.party_tables.specs.Statuses.{is_ended}
+use Rattle.party_state.specs.State.{Party, centre_label, link_with, exchange_with}
 use Rattle.party_state.specs.Verdicts.{is_accept}
 use Rattle.party_state.specs.declared.edit.Edit.{Edit}
 use Rattle.party_state.specs.declared.edit.Edit.TheVariants.{PutKey, DropExchange}
-use Rattle.party_state.specs.declared.exchange.Exchange.{Exchange}
-use Rattle.party_state.specs.declared.exchange.Kind.{Kind}
-use Rattle.party_state.specs.declared.exchange.Via.{Via}
-use Rattle.party_state.specs.declared.key.KeyRec.{KeyRec}
-use Rattle.party_state.specs.declared.key.KeyStatus.TheVariants.{Live, Ended}
-use Rattle.party_state.specs.declared.link.LinkKey.{LinkKey}
-use Rattle.party_state.specs.declared.link.LinkRec.{LinkRec}
+use Rattle.party_tables.specs.declared.exchange.Exchange.{Exchange}
+use Rattle.party_tables.specs.declared.exchange.Kind.{Kind}
+use Rattle.party_tables.specs.declared.exchange.Via.{Via}
+use Rattle.party_tables.specs.declared.key.KeyRec.{KeyRec}
+use Rattle.party_tables.specs.declared.key.KeyStatus.TheVariants.{Live, Ended}
+use Rattle.party_tables.specs.declared.link.LinkKey.{LinkKey}
+use Rattle.party_tables.specs.declared.link.LinkRec.{LinkRec}
 use Rattle.std.proofs.Common.{arith, ◌≡◌, ℕ, ◌+◌, Bool, true, false, cond, Option, Some, None, List, [], ◌∷◌, ◌++◌, refl, ap, subst}
 use Rattle.world_laws.proofs.Sound.Exchanges.{subject_sent}
 use Rattle.world_laws.proofs.Links.Found.{HasLinks, link_at}
@@ -89,24 +90,24 @@ module _ (p : Party) (i : IsNamed p) where
     passed_own : IsOwn (message.Ksm (centre_ksm p m))
     passed_own = centre_ksm_own p m i.own (rtr_org text m said) (rtr_ultimate text m said) (rtr_kdu text m said) (rtr_ctb text m said)
 
-  pub rtr_speaks : (a : Arrival) (m : Rtr) (kd : Option (ℕ × ℕ)) → m.kd ≡ kd → Says (auth_text a) (message.Rtr m) → Speaks (rtr_with p a m kd)
+  pub rtr_speaks : (a : Arrival) (m : Rtr) (kd : Option (ℕ × ℕ)) → m.kd ≡ kd → Says (authenticated a) (message.Rtr m) → Speaks (rtr_with p a m kd)
   rtr_speaks a m (Some k) e said = go (link_with (takes m.originator centre_label) p) refl
     where
       go : (o : Option LinkRec) → link_with (takes m.originator centre_label) p ≡ o → Speaks (brought p a m k o)
       go None f = record { names = tt; reply = tt }
-      go (Some l) f = record { names = (up_named p i l (k.1 + 1) (linked p i (takes m.originator centre_label) l f) (next_after k.1 (rtr_cta (auth_text a) m k e said)), (passed_named m (auth_text a) said (brought_value l k), (tt, (rtr_org (auth_text a) m said, tt)))); reply = passed_own m (auth_text a) said }
+      go (Some l) f = record { names = (up_named p i l (k.1 + 1) (linked p i (takes m.originator centre_label) l f) (next_after k.1 (rtr_cta (authenticated a) m k e said)), (passed_named m (authenticated a) said (brought_value l k), (tt, (rtr_org (authenticated a) m said, tt)))); reply = passed_own m (authenticated a) said }
   rtr_speaks a m None e said = go (waiting_with p m.originator)
     where
       go : (o : Option Waiting) → Speaks (translated p a m o)
       go None = record { names = tt; reply = tt }
-      go (Some t) = record { names = (passed_named m (auth_text a) said t.value, (tt, (tt, tt))); reply = passed_own m (auth_text a) said }
+      go (Some t) = record { names = (passed_named m (authenticated a) said t.value, (tt, (tt, tt))); reply = passed_own m (authenticated a) said }
 
-  pub key_speaks : (a : Arrival) (m : Ksm) (b : KsmBody) (o : Option LinkRec) → HasLinks p → m.body ≡ b → body_link p m.originator b ≡ o → Says (auth_text a) (message.Ksm m) → Speaks (key_row p a m b o)
+  pub key_speaks : (a : Arrival) (m : Ksm) (b : KsmBody) (o : Option LinkRec) → HasLinks p → m.body ≡ b → body_link p m.originator b ≡ o → Says (authenticated a) (message.Ksm m) → Speaks (key_row p a m b o)
   key_speaks a m b None d is found said = record { names = tt; reply = tt }
   key_speaks a m b (Some l) d is found said = record { names = (up_named p i l (body_next b) named next_named, taken_named (body_new b) refl); reply = response_own p m.originator i.own org }
     where
       count : IsCount (body_count b)
-      count = body_counts (auth_text a) m b is said
+      count = body_counts (authenticated a) m b is said
 
       -- the count behind those of the keys; of two the second is a count
       bounds : (c : KsmBody) → body_link p m.originator c ≡ Some l → IsCount (body_count c) → IsNextCount (body_next c) × ((kd : ℕ) → body_twin c ≡ Some kd → IsCount (body_count c + 1))
@@ -120,7 +121,7 @@ module _ (p : Party) (i : IsNamed p) where
       next_named = (bounds b found count).0
 
       org : IsIdent m.originator
-      org = ksm_org (auth_text a) m said
+      org = ksm_org (authenticated a) m said
 
       at : link_with (takes (body_name p m.originator b l).name.issuer (body_name p m.originator b l).name.label) p ≡ Some l
       at = name_link p m.originator b l d found
@@ -142,7 +143,7 @@ module _ (p : Party) (i : IsNamed p) where
 
       taken_named : (n : Option (List ℕ × NewKk)) → body_new b ≡ n → AllByRecursion NamesFine (taken_edits m.originator l (body_count b) n ++ PutKey (body_record p m b l) ∷ second_edits (body_second p m b l))
       taken_named None e = (put_named, second_named (body_twin b) refl)
-      taken_named (Some n) e = (record { peer = org; label = body_label (auth_text a) m b n is e said; next = record { low = omega arith; high = omega arith } }, (put_named, second_named (body_twin b) refl))
+      taken_named (Some n) e = (record { peer = org; label = body_label (authenticated a) m b n is e said; next = record { low = omega arith; high = omega arith } }, (put_named, second_named (body_twin b) refl))
 
   pub new_named : (peer : List ℕ) (way : Via) (l : LinkRec) → new_link p peer way ≡ Some l → LinkNamed l
   new_named peer way l h = by (new_label way) h
@@ -197,20 +198,20 @@ module _ (p : Party) (i : IsNamed p) where
   gone_named peer (Some l) k m value None n = (tt, (n, (tt, tt)))
   gone_named peer (Some l) k m value (Some r) n = (tt, (n, (tt, (tt, tt))))
 
-  pub error_speaks : (a : Arrival) (m : Esm) (o : Option Subject) (again : Option Retry) → (again ≡ None) ⊎ (retry_in p o m.ctr ≡ again) → subject_with p m.originator ≡ o → Says (auth_text a) (message.Esm m) → Speaks (error_of p a m o again)
+  pub error_speaks : (a : Arrival) (m : Esm) (o : Option Subject) (again : Option Retry) → (again ≡ None) ⊎ (retry_in p o m.ctr ≡ again) → subject_with p m.originator ≡ o → Says (authenticated a) (message.Esm m) → Speaks (error_of p a m o again)
   error_speaks a m None again asks e said = record { names = tt; reply = tt }
-  error_speaks a m (Some (Translated value cta)) None asks e said = record { names = raised_named (subject_link p m.originator (Translated value cta)) m.ctr (DropExchange m.originator ∷ []) (subject_named m.originator (Translated value cta)) (λ n j. esm_counts (auth_text a) m n j said) (tt, tt); reply = tt }
+  error_speaks a m (Some (Translated value cta)) None asks e said = record { names = raised_named (subject_link p m.originator (Translated value cta)) m.ctr (DropExchange m.originator ∷ []) (subject_named m.originator (Translated value cta)) (λ n j. esm_counts (authenticated a) m n j said) (tt, tt); reply = tt }
   error_speaks a m (Some (Translated value cta)) (Some t) asks e said = absurd (elim asks [ inl q ↦ cc | inr q ↦ cc ])
   error_speaks a m (Some (SentTwins t)) (Some r) asks e said = absurd (elim asks [ inl q ↦ cc | inr q ↦ cc ])
   error_speaks a m (Some (SentTwins t)) None asks e said =
       let is : TwinsIs p m.originator t = twins_is p m.originator t (subject_twins p m.originator t e) in
       record {
-        names = raised_named (subject_link p m.originator (SentTwins t)) m.ctr (PutKey (record t.first { status = Ended }) ∷ PutKey (record t.second { status = Ended }) ∷ DropExchange m.originator ∷ []) (subject_named m.originator (SentTwins t)) (λ n j. esm_counts (auth_text a) m n j said)
+        names = raised_named (subject_link p m.originator (SentTwins t)) m.ctr (PutKey (record t.first { status = Ended }) ∷ PutKey (record t.second { status = Ended }) ∷ DropExchange m.originator ∷ []) (subject_named m.originator (SentTwins t)) (λ n j. esm_counts (authenticated a) m n j said)
             (again_named p i t.first Ended (record_named p (record_key t.first) t.first i is.first), (again_named p i t.second Ended (record_named p (record_key t.second) t.second i is.second), (tt, tt)));
         reply = tt;
       }
   error_speaks a m (Some (SentKey s)) again asks e said = record {
-    names = raised_named (subject_link p m.originator (SentKey s)) m.ctr ((dropped (new_link p m.originator s.way) ++ PutKey (record s.key { status = Ended }) ∷ []) ++ DropExchange m.originator ∷ asked_again p m s.key.value again) (subject_named m.originator (SentKey s)) (λ n j. esm_counts (auth_text a) m n j said) (gone_named m.originator (new_link p m.originator s.way) (record s.key { status = Ended }) m s.key.value again (again_named p i s.key Ended (record_named p (record_key s.key) s.key i is.at)));
+    names = raised_named (subject_link p m.originator (SentKey s)) m.ctr ((dropped (new_link p m.originator s.way) ++ PutKey (record s.key { status = Ended }) ∷ []) ++ DropExchange m.originator ∷ asked_again p m s.key.value again) (subject_named m.originator (SentKey s)) (λ n j. esm_counts (authenticated a) m n j said) (gone_named m.originator (new_link p m.originator s.way) (record s.key { status = Ended }) m s.key.value again (again_named p i s.key Ended (record_named p (record_key s.key) s.key i is.at)));
     reply = reply_own again asks;
   }
     where
@@ -233,9 +234,9 @@ module _ (p : Party) (i : IsNamed p) where
       reply_own : (r : Option Retry) → (r ≡ None) ⊎ (retry_by p s.way m.ctr ≡ r) → OwnReply (again_reply p m s.key.value r)
       reply_own None h = tt
       reply_own (Some t) (inl h) = absurd (cc)
-      reply_own (Some t) (inr h) = (let q = parts s.way way_named m.ctr (λ n j. esm_counts (auth_text a) m n j said) t h in ers_own p m t i.own (esm_org (auth_text a) m said) q.0 q.1 (esm_reason (auth_text a) m said))
+      reply_own (Some t) (inr h) = (let q = parts s.way way_named m.ctr (λ n j. esm_counts (authenticated a) m n j said) t h in ers_own p m t i.own (esm_org (authenticated a) m said) q.0 q.1 (esm_reason (authenticated a) m said))
 
-  pub error_row_speaks : (a : Arrival) (m : Esm) (b : Bool) (again : Option Retry) → (again ≡ None) ⊎ (retry_in p (subject_with p m.originator) m.ctr ≡ again) → Says (auth_text a) (message.Esm m) → Speaks (error_with p a m b again)
+  pub error_row_speaks : (a : Arrival) (m : Esm) (b : Bool) (again : Option Retry) → (again ≡ None) ⊎ (retry_in p (subject_with p m.originator) m.ctr ≡ again) → Says (authenticated a) (message.Esm m) → Speaks (error_with p a m b again)
   error_row_speaks a m true again asks said = record { names = tt; reply = tt }
   error_row_speaks a m false again asks said = error_speaks a m (subject_with p m.originator) again asks refl said
 
@@ -286,7 +287,7 @@ module _ (p : Party) (i : IsNamed p) where
       by_status true = tt
       by_status false = by_exchange (exchange_with m.originator p)
 
-  pub message_speaks : (a : Arrival) (m : Message) (moment : ℕ) → HasLinks p → Says (auth_text a) m → is_accept (message_row p a m moment).verdict ≡ true → Speaks (message_row p a m moment)
+  pub message_speaks : (a : Arrival) (m : Message) (moment : ℕ) → HasLinks p → Says (authenticated a) m → is_accept (message_row p a m moment).verdict ≡ true → Speaks (message_row p a m moment)
   message_speaks a (message.Rsi m) moment d said h = rsi_speaks p i a m (first_link m.originator Sends p) moment d refl h
   message_speaks a (message.Rfs m) moment d said h = record { names = tt; reply = tt }
   message_speaks a (message.Rtr m) moment d said h = rtr_speaks a m m.kd refl said

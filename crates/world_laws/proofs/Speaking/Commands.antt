@@ -1,13 +1,13 @@
 -- What the rows of commands, and of a request for a key, write and put is well formed.
 use Rattle.std.proofs.Common.{Bool, true, false, ◌<◌, ◌≤◌, ltb-true}
-use Rattle.party_state.specs.Names.{name_behind}
+use Rattle.party_tables.specs.Names.{name_behind}
 use Rattle.role_base.specs.Exchanges.{ended}
 use Rattle.role_base.specs.Conditions.{is_two_keys}
 use Rattle.bank_arrivals.specs.declared.draws.TwinsDrawn.{TwinsDrawn}
 use Rattle.bank_arrivals.specs.SendingTwins.{twins_drawn, twins_tests, twins_sending_drawn}
 use Rattle.world_laws.proofs.Texts.OwnMessages.{twins_own}
 use Rattle.party_state.specs.Verdicts.{Held as TestsHold}
-use Rattle.party_state.specs.declared.exchange.Kind.TheVariants as kind
+use Rattle.party_tables.specs.declared.exchange.Kind.TheVariants as kind
 use Rattle.bank_orders.specs.Ask.{centre_front, ask_of}
 use Rattle.bank_orders.specs.Translate.{translate_tests, translate_drawn, translate_under}
 use Rattle.bank_orders.specs.declared.draws.KkDrawn.{KkDrawn}
@@ -21,17 +21,17 @@ use Rattle.bank_orders.specs.Start.{start_tests, start_under}
 use Rattle.csm_grammar.specs.declared.arrival.Arrival.{Arrival}
 use Rattle.csm_grammar.specs.declared.message.Rsi.{Rsi}
 use Rattle.party_state.proofs.Verdicts.{held, held_after}
-use Rattle.party_state.specs.Keys.{sends}
+use Rattle.party_tables.specs.Keys.{sends}
 use Rattle.party_state.specs.State.{Party, centre_label, link_with, exchange_with}
 use Rattle.party_state.specs.Verdicts.{Test, is_accept, all_refuse}
 use Rattle.party_state.specs.declared.edit.Edit.TheVariants.{DropExchange}
-use Rattle.party_state.specs.declared.exchange.Exchange.{Exchange}
-use Rattle.party_state.specs.declared.exchange.Kind.{Kind}
-use Rattle.party_state.specs.declared.key.KeyRec.{KeyRec}
-use Rattle.party_state.specs.declared.key.KeyStatus.{KeyStatus}
-use Rattle.party_state.specs.declared.key.KeyStatus.TheVariants.{Closing, Ended}
-use Rattle.party_state.specs.declared.link.LinkKey.{LinkKey}
-use Rattle.party_state.specs.declared.link.LinkRec.{LinkRec}
+use Rattle.party_tables.specs.declared.exchange.Exchange.{Exchange}
+use Rattle.party_tables.specs.declared.exchange.Kind.{Kind}
+use Rattle.party_tables.specs.declared.key.KeyRec.{KeyRec}
+use Rattle.party_tables.specs.declared.key.KeyStatus.{KeyStatus}
+use Rattle.party_tables.specs.declared.key.KeyStatus.TheVariants.{Closing, Ended}
+use Rattle.party_tables.specs.declared.link.LinkKey.{LinkKey}
+use Rattle.party_tables.specs.declared.link.LinkRec.{LinkRec}
 use Rattle.std.proofs.Common.{arith, ◌≡◌, ℕ, ◌+◌, Bool, true, Option, Some, None, List, [], ◌∷◌, ◌++◌, refl, ap, subst}
 use Rattle.world_laws.proofs.Links.Found.{HasLinks, SendingAt, link_at}
 use Rattle.x_base.specs.declared.key_name.KeyName.{KeyName}

@@ -28,15 +28,15 @@ use Rattle.csm_grammar.specs.declared.message.Rfs.{Rfs}
 use Rattle.csm_grammar.specs.declared.message.Rsi.{Rsi}
 use Rattle.csm_grammar.specs.declared.message.Rsm.{Rsm}
 use Rattle.csm_grammar.specs.declared.message.Rtr.{Rtr}
-use Rattle.party_state.specs.declared.answer.Answer.{Answer}
+use Rattle.party_tables.specs.declared.answer.Answer.{Answer}
 use Rattle.party_state.specs.declared.command.Command.{Command}
 use Rattle.party_state.specs.declared.command.Command.TheVariants as command
 use Rattle.party_state.specs.declared.command.Input.{Input}
 use Rattle.party_state.specs.declared.command.Input.TheVariants as input
-use Rattle.party_state.specs.declared.exchange.Exchange.{Exchange}
-use Rattle.party_state.specs.declared.key.KeyRec.{KeyRec}
-use Rattle.party_state.specs.declared.link.LinkRec.{LinkRec}
-use Rattle.party_state.specs.Keys.{sends, takes}
+use Rattle.party_tables.specs.declared.exchange.Exchange.{Exchange}
+use Rattle.party_tables.specs.declared.key.KeyRec.{KeyRec}
+use Rattle.party_tables.specs.declared.link.LinkRec.{LinkRec}
+use Rattle.party_tables.specs.Keys.{sends, takes}
 use Rattle.party_state.specs.Rows.{Row, Reply, Coded, Plain, Again, refused}
 use Rattle.party_state.specs.State.{Party, centre_label, link_with, exchange_with, answer_with, first_link}
 use Rattle.party_state.specs.Verdicts.{Test, verdict_of}
@@ -73,7 +73,7 @@ use Rattle.bank_keys.specs.Waiting.{waiting_with}
 use Rattle.roles.specs.Rows.{row_by}
 use Rattle.bank_orders.specs.Orders.{command_row}
 use Rattle.bank_role.specs.Rows.{message_row}
-use Rattle.centre_base.specs.Orders.{centre_command}
+use Rattle.role_base.specs.Centres.{centre_command}
 use Rattle.distribution_role.specs.Rows.{distribution_message}
 use Rattle.translation_role.specs.Rows.{translation_message}
 use Rattle.roles.specs.Rows.{row_at}

@@ -8,8 +8,8 @@ use Rattle.csm_grammar.specs.declared.message.NewKk.{NewKk}
 use Rattle.party_state.specs.Rows.{Row, Reply, Coded, Plain, Again}
 use Rattle.party_state.specs.State.{Party, centre_label, link_with}
 use Rattle.party_state.specs.Verdicts.{Test, verdict_of}
-use Rattle.party_state.specs.declared.link.LinkKey.{LinkKey}
-use Rattle.party_state.specs.declared.link.LinkRec.{LinkRec}
+use Rattle.party_tables.specs.declared.link.LinkKey.{LinkKey}
+use Rattle.party_tables.specs.declared.link.LinkRec.{LinkRec}
 use Rattle.std.proofs.Common.{arith, ◌≡◌, ℕ, ◌+◌, Bool, true, false, not, cond, Option, Some, None, List, [], ◌∷◌, ◌++◌, refl}
 use Rattle.world_laws.proofs.Texts.Own.{IsOwn}
 use Rattle.x_base.specs.declared.verdict.Verdict.{Verdict}
@@ -19,7 +19,7 @@ use Rattle.std.proofs.Common.{IfSome}
 use Rattle.std.proofs.lemmas.Bool.{leb-true}
 use Rattle.x_base.specs.Names.{IsLabel}
 use Rattle.x_base.specs.Count.{IsCount}
-use Rattle.party_state.specs.Ranges.{IsNextCount}
+use Rattle.party_tables.specs.Ranges.{IsNextCount}
 use Rattle.role_base.specs.Errors.{TellsCount}
 use Rattle.role_base.specs.Conditions.{has_count, count_tests}
 use Rattle.role_base.specs.Errors.{expected_count}

@@ -1,27 +1,29 @@
 -- What the names, labels and counts of a party's links and records are.
 use Rattle.std.proofs.Common.{ℕ, bytes_eq}
-use Rattle.party_state.specs.declared.exchange.Via.{Via}
-use Rattle.party_state.specs.declared.exchange.Via.TheVariants as via
-use Rattle.party_state.specs.declared.exchange.Kind.{Kind}
-use Rattle.party_state.specs.declared.exchange.Kind.TheVariants as kind
-use Rattle.party_state.specs.declared.exchange.Exchange.{Exchange}
-use Rattle.party_state.specs.Keys.{exchange_key}
+use Rattle.party_tables.specs.declared.exchange.Via.{Via}
+use Rattle.party_tables.specs.declared.exchange.Via.TheVariants as via
+use Rattle.party_tables.specs.declared.exchange.Kind.{Kind}
+use Rattle.party_tables.specs.declared.exchange.Kind.TheVariants as kind
+use Rattle.party_tables.specs.declared.exchange.Exchange.{Exchange}
+use Rattle.party_tables.specs.Keys.{exchange_key}
 use Rattle.party_state.specs.State.{exchange_with}
 use Rattle.std.proofs.Common.{◌≡◌, not, Some, List, [], ◌∷◌}
 use Rattle.std.specs.List.{All, AllByRecursion}
 use Rattle.std.proofs.lemmas.List.Elements.{All-nil, All-filter}
 use Rattle.x_base.specs.Names.{IsIdent, IsLabel}
 use Rattle.x_base.specs.KeyName.{IsKeyName}
-use Rattle.party_state.specs.declared.link.LinkKey.{LinkKey}
-use Rattle.party_state.specs.declared.link.LinkRec.{LinkRec}
-use Rattle.party_state.specs.declared.key.RecordKey.{RecordKey}
-use Rattle.party_state.specs.declared.key.KeyRec.{KeyRec}
+use Rattle.party_tables.specs.declared.link.LinkKey.{LinkKey}
+use Rattle.party_tables.specs.declared.link.LinkRec.{LinkRec}
+use Rattle.party_tables.specs.declared.key.RecordKey.{RecordKey}
+use Rattle.party_tables.specs.declared.key.KeyRec.{KeyRec}
 use Rattle.party_state.specs.declared.edit.Edit.{Edit}
 use Rattle.party_state.specs.declared.edit.Edit.TheVariants.{Begin, PutLink, DropLink, PutKey, DropEnded, PutExchange, DropExchange, PutAnswer, SetGen}
-use Rattle.party_state.specs.Keys.{same_link, same_record, link_key, record_key}
-use Rattle.party_state.specs.Ranges.{IsNextCount, IsParty}
-use Rattle.party_state.specs.State.{Party, link_with, record_with, is_ended, apply_edit, apply}
-use Rattle.party_state.proofs.Each.{find_all, all_put, all_drop}
+use Rattle.party_tables.specs.Keys.{same_link, same_record, link_key, record_key}
+use Rattle.party_tables.specs.Ranges.{IsNextCount}
+use Rattle.party_state.specs.Ranges.{IsParty}
+use Rattle.party_tables.specs.Statuses.{is_ended}
+use Rattle.party_state.specs.State.{Party, link_with, record_with, apply_edit, apply}
+use Rattle.party_tables.proofs.Each.{find_all, all_put, all_drop}
 
 pub record LinkNamed (l : LinkRec) : Type 0 where
   pub peer : IsIdent l.peer

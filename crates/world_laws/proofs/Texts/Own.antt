@@ -7,8 +7,8 @@ use Rattle.csm_grammar.specs.Classes.{allows}
 use Rattle.csm_grammar.specs.Values.{kind_of}
 use Rattle.csm_grammar.specs.Messages.{form_of, fields_of, shut_field}
 use Rattle.csm_grammar.specs.Spelling.{Says}
-use Rattle.csm_grammar.proofs.Lawful.{read_says, one_meaning}
-use Rattle.csm_grammar.proofs.Written.{written_read}
+use Rattle.csm_read.proofs.Lawful.{read_says, one_meaning}
+use Rattle.csm_read.proofs.Written.{written_read}
 use Rattle.csm_write.specs.declared.closing.Closing.TheVariants as closing
 use Rattle.csm_write.specs.Canon.{auth_of}
 use Rattle.csm_write.specs.Writable.{IsProperText, IsTypedField, AreTyped}

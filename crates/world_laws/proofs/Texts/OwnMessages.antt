@@ -30,8 +30,8 @@ use Rattle.x_base.specs.declared.verdict.Verdict.TheVariants as verdict
 use Rattle.csm_grammar.specs.Values.{AText, OfReason, kind_of, Denotes}
 use Rattle.csm_grammar.specs.Messages.{Valued, fields_of}
 use Rattle.csm_write.specs.Writable.{IsProperText, IsTypedField}
-use Rattle.party_state.specs.declared.link.LinkRec.{LinkRec}
-use Rattle.party_state.specs.declared.key.KeyRec.{KeyRec}
+use Rattle.party_tables.specs.declared.link.LinkRec.{LinkRec}
+use Rattle.party_tables.specs.declared.key.KeyRec.{KeyRec}
 use Rattle.party_state.specs.State.{Party}
 use Rattle.role_base.specs.Sending.{data_key_message}
 use Rattle.bank_orders.specs.Ending.{end_message}
