@@ -2,6 +2,5 @@ pub mod Cutting
 pub mod Judging
 pub mod Tabling
 pub mod Walking
-pub mod Drilling
 pub mod Sizes
 pub mod Fronts

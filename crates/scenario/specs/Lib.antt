@@ -6,4 +6,3 @@ pub mod Behind
 pub mod Reading
 pub mod Tables
 pub mod Laws
-pub mod Drill

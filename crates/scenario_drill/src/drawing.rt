@@ -1,6 +1,6 @@
 // The numbers that a drill draws.
 ghost use Rattle.std.specs.Prelude.{◌≡◌, ◌<◌, ◌/◌, ◌^◌};
-ghost use Rattle.scenario.specs.Drill.{advanced};
+ghost use Rattle.scenario_drill.specs.Drill.{advanced};
 
 /// The numbers behind a seed.
 #[derive(Drop)]

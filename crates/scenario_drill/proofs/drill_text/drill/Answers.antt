@@ -1,7 +1,7 @@
 use Rattle.std.proofs.Common.{◌++◌, ◌+◌, ap, subst, sym, ◌∙◌}
-use Rattle.scenario.specs.Drill.{set_up}
-use Rattle.scenario.proofs.Drilling.{IsDrilled, none_drilled, one_drilled}
-use Rattle.scenario.proofs.drill_text.drill.Goals as goal
+use Rattle.scenario_drill.specs.Drill.{set_up}
+use Rattle.scenario_drill.proofs.Drilling.{IsDrilled, none_drilled, one_drilled}
+use Rattle.scenario_drill.proofs.drill_text.drill.Goals as goal
 
 pub loop-number-init : goal.loop-number-init
 loop-number-init c =

@@ -1,5 +1,5 @@
 ghost use Rattle.std.specs.Prelude.{◌≡◌, ◌≤◌, IfOk};
-ghost use Rattle.scenario.specs.Drill.{drill_text};
+ghost use Rattle.scenario_drill.specs.Drill.{drill_text};
 
 use crate::drawing::Draws;
 use crate::writing::Script;

@@ -1,6 +1,6 @@
 // The words of the lines of a drill.
 ghost use Rattle.std.specs.Prelude.{◌≡◌, ◌++◌, [], OnOk};
-ghost use Rattle.scenario.specs.Drill.{key_digits, last, pair_digits, word};
+ghost use Rattle.scenario_drill.specs.Drill.{key_digits, last, pair_digits, word};
 ghost use Rattle.std.specs.Fmt.{decimal};
 
 use std::alloc::Global;

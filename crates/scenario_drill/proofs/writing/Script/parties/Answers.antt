@@ -1,6 +1,6 @@
-use Rattle.scenario.specs.Drill.{parties}
-use Rattle.scenario.proofs.Drilling.{five_more}
-use Rattle.scenario.proofs.writing.Script.parties.Goals as goal
+use Rattle.scenario_drill.specs.Drill.{parties}
+use Rattle.scenario_drill.proofs.Drilling.{five_more}
+use Rattle.scenario_drill.proofs.writing.Script.parties.Goals as goal
 
 pub returns : goal.returns
 unfolding parties

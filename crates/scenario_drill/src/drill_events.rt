@@ -1,6 +1,6 @@
 // The events of a drill.
 ghost use Rattle.std.specs.Prelude.{◌≡◌, ◌++◌, ◌<◌, ◌^◌, OnOk};
-ghost use Rattle.scenario.specs.Drill.{act, bank, end_of_key, event_with, for_two, purge, recent, start_kk, stop, through_centre};
+ghost use Rattle.scenario_drill.specs.Drill.{act, bank, end_of_key, event_with, for_two, purge, recent, start_kk, stop, through_centre};
 
 use crate::writing::Script;
 use x_base::NoMemory;

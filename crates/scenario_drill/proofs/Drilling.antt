@@ -1,6 +1,6 @@
 -- A drill up to an event.
 use Rattle.std.proofs.Common.{◌≡◌, ℕ, suc, ◌+◌, ◌*◌, ◌/◌, ◌^◌, List, [], ◌++◌, arith, refl, sym, ap, ◌∙◌, append-nil, append_assoc, add-one}
-use Rattle.scenario.specs.Drill.{advanced, draw, event, event_with, events, number_after, set_up}
+use Rattle.scenario_drill.specs.Drill.{advanced, draw, event, event_with, events, number_after, set_up}
 
 pub record IsDrilled (seed done : ℕ) (text : List ℕ) (number : ℕ) : Type 0 where
   pub text_is : text ≡ set_up seed ++ events seed done

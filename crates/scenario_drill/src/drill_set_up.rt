@@ -1,6 +1,6 @@
 // The parties and links of a drill.
 ghost use Rattle.std.specs.Prelude.{◌≡◌, ◌++◌, ◌≤◌, ◌<◌, ◌+◌, OnOk};
-ghost use Rattle.scenario.specs.Drill.{link, links_from_banks, links_of_banks, links_to_banks, parties, party, set_up};
+ghost use Rattle.scenario_drill.specs.Drill.{link, links_from_banks, links_of_banks, links_to_banks, parties, party, set_up};
 
 use crate::writing::Script;
 use x_base::{Count, NoMemory};
