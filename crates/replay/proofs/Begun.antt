@@ -1,5 +1,5 @@
 -- A disk on which a party begins, and to which its links are loaded.
-use Rattle.std.proofs.Common.{◌≡◌, ◌⊎◌, inl, inr, ⊎_elim, ℕ, ◌+◌, ◌-◌, ◌*◌, ◌<◌, ◌≤◌, Bool, true, false, List, [], ◌∷◌, ◌++◌, length, take, Some, is_some, Ok, Err, refl, sym, ◌∙◌, ap, subst, arith, length-append}
+use Rattle.std.proofs.Common.{◌≡◌, ◌⊎◌, inl, inr, ⊎_elim, ℕ, zero, suc, ◌+◌, ◌-◌, ◌*◌, ◌<◌, ◌≤◌, Bool, true, false, List, [], ◌∷◌, ◌++◌, length, take, Some, is_some, Ok, Err, refl, sym, ◌∙◌, ap, subst, arith, length-append}
 use Rattle.std.proofs.lemmas.List.{append-nil}
 use Rattle.x_base.specs.Edge.{Rose}
 use Rattle.x_base.specs.Names.{is_name, IsIdent}
@@ -10,37 +10,39 @@ use Rattle.x_disk.specs.Disk.{View, Tells, LeavesOnly, IsDurable, IsSound}
 use Rattle.x_disk.specs.declared.disk.DiskErr.{DiskErr}
 use Rattle.x_disk.specs.declared.disk.DiskErr.TheVariants as disk
 use Rattle.key_journal.specs.Causes.{cause_of}
+use Rattle.key_journal.specs.Layout.{first_start, second_start, area_size}
 use Rattle.key_journal.specs.Journal.{is_blank}
 use Rattle.key_journal.specs.Opening.{IsFree}
 use Rattle.key_journal.specs.States.{Failed as FailedDisk}
 use Rattle.key_journal.specs.declared.cause.Cause.{Cause}
 use Rattle.key_journal.specs.declared.cause.Cause.TheVariants as cause
 use Rattle.key_journal.specs.declared.cause.Unmade.{Unmade}
-use Rattle.party_state.specs.declared.link.LinkRec.{LinkRec}
+use Rattle.party_tables.specs.declared.link.LinkRec.{LinkRec}
 use Rattle.party_state.specs.declared.edit.Edit.{Edit}
 use Rattle.party_state.specs.declared.edit.Edit.TheVariants.{Begin, PutLink}
 use Rattle.party_state.specs.Limits.{IsWithinLimits, StaysWithinLimits}
+use Rattle.party_state.specs.Ranges.{HasNoBegin}
 use Rattle.party_state.specs.State.{Party, begun}
 use Rattle.change_code.specs.Code.{two, eight, short, pair_code, gen_code, role_code, edit_code, edits_code, code_of_change}
 use Rattle.key_store.specs.Store.{Stored, IsStore, IsOldOrNew, IsBlankOrFirst, room}
 use Rattle.key_store.specs.Creating.{IsNewStore}
 use Rattle.key_store.specs.Keeping.{IsKeeping}
 use Rattle.key_store.specs.declared.store.Kept.TheVariants as kept
-use Rattle.world_laws.specs.Nodes.{member_of}
+use Rattle.node_core.specs.Turns.{member_of, IsImageOf}
 use Rattle.replay.specs.Failing.{IsFailing}
-use Rattle.replay.specs.Starts.{with_loads}
-use Rattle.replay.specs.Stops.{ImageOf}
-use Rattle.replay.specs.SettingUp.{ReadsBlank, new_member, HasBegun, HasPlace, IsLoad, IsPartlyLoaded, IsBeginning, IsNotBlank, IsUnset, IsUnsetDisk, EndsBy}
+use Rattle.course.specs.Starts.{with_loads}
+use Rattle.replay.specs.SettingUp.{ReadsBlank, HasBegun, HasPlace, IsLoad, IsPartlyLoaded, IsBeginning, IsNotBlank, IsUnset, IsUnsetDisk, EndsBy}
+use Rattle.course.specs.Parties.{new_member}
 use Rattle.replay.specs.declared.failure.Failure.{Failure}
 use Rattle.replay.specs.declared.failure.Failure.TheVariants as failure
-use Rattle.replay.specs.declared.making.NewParty.{NewParty}
+use Rattle.course.specs.declared.declaring.NewParty.{NewParty}
 use Rattle.replay.specs.declared.making.SetUpEnd.{SetUpEnd}
 use Rattle.replay.specs.declared.making.SetUpEnd.TheVariants.{Failed}
-use Rattle.replay.proofs.Carrying.{image_of, is_fault}
-use Rattle.replay.proofs.Stopping.{told_now}
+use Rattle.replay.proofs.Carrying.{is_fault}
+use Rattle.replay.proofs.Images.{image_of, told_now}
 use Rattle.replay.proofs.Loads.{put_longer}
 
-rose_above : (a b : ℕ) → Rose a b → 0 < b
+pub rose_above : (a b : ℕ) → Rose a b → 0 < b
 rose_above a b (inl less) = omega (arith, less)
 rose_above a b (inr most) = omega (arith, most)
 
@@ -57,7 +59,7 @@ fault_end (cause.Damaged place) e by is = absurd by
 fault_end cause.Fault e by is = refl
 fault_end cause.NoMemory e by is = let k = sym by ∙ is in absurd (cc k)
 
-free_cause : (d : DiskErr) → IsFree (cause_of d)
+pub free_cause : (d : DiskErr) → IsFree (cause_of d)
 free_cause disk.Fault = tt
 free_cause disk.NoMemory = tt
 
@@ -97,7 +99,7 @@ first_short own r g ident =
     let b = ap length (append-nil (edit_code (Begin own r g))) in
     omega (arith, a, b, two_long 1, first_edit own r g, name_bytes own ident)
 
-first_room : (gate end n : ℕ) → gate ≡ 21 + n → end ≡ 8388616 → end - gate ≡ 8388595 - n
+first_room : (gate end n : ℕ) → gate ≡ first_start + (n + 5) → end ≡ second_start → end - gate ≡ area_size - (n + 5)
 first_room gate end n is last = omega (arith, is, last)
 
 module _ {D : Type 0} (told : D → View) (old after : D) (party : NewParty) (same : (told after).now ≡ (told old).now) where
@@ -167,11 +169,16 @@ module _ {D : Type 0} (told : D → View) (old after : D) (party : NewParty) (sa
 
 -- ---- a link is loaded
 
-load_room : (g e g' e' n : ℕ) → g' ≡ g + n + 5 → e' ≡ e → e' - g' ≡ e - g - (n + 5)
+load_room : (g e g' e' n : ℕ) → g' ≡ g + (n + 5) → e' ≡ e → e' - g' ≡ e - g - (n + 5)
 load_room g e g' e' n gate end = omega (arith, gate, end)
 
-room_above : (g e g' e' n : ℕ) → g' ≡ g + n + 5 → e' ≡ e → n ≤ 1203 → e - g ≤ e' - g' + 1208
+room_above : (g e g' e' n : ℕ) → g' ≡ g + (n + 5) → e' ≡ e → n ≤ 1203 → e - g ≤ e' - g' + 1208
 room_above g e g' e' n gate end few = omega (arith, gate, end, few)
+
+-- a load begins no party
+pub goes_on_load : (l : LinkRec) → HasNoBegin (PutLink l ∷ [])
+goes_on_load l zero d le = tt
+goes_on_load l (suc k) d le = absurd (omega (arith, le))
 
 module _ {D : Type 0} (told : D → View) (old : Stored D) (l : LinkRec) where
   -- the code of a change that is a load alone
@@ -185,17 +192,17 @@ module _ {D : Type 0} (told : D → View) (old : Stored D) (l : LinkRec) where
 
   pub loads_one : (s : Stored D) → length (code_of_change (PutLink l ∷ [])) ≤ 1203 → IsKeeping told old (PutLink l ∷ []) (kept.Done s) → IsLoad told old s l
   loads_one s few k =
-      let d = k.done s refl in
-      let left = load_room old.gate old.end s.gate s.end (length (code_of_change (PutLink l ∷ []))) d.1 d.2 in
-      let more = ap (λ (p : Party). length p.links) d.0 in
+      let d = k.1.place in
+      let left = load_room old.gate old.end s.gate s.end (length (code_of_change (PutLink l ∷ []))) d.0 d.1 in
+      let more = ap (λ (p : Party). length p.links) k.1.party in
       record {
-        member = λ i. record { party = d.0 i; room = left i };
-        tells = k.tells;
+        member = λ i. record { party = k.1.party i; room = left i };
+        tells = k.1.tells;
         links = omega (arith, more, put_longer l old.party.links);
-        room = room_above old.gate old.end s.gate s.end (length (code_of_change (PutLink l ∷ []))) d.1 d.2 few;
+        room = room_above old.gate old.end s.gate s.end (length (code_of_change (PutLink l ∷ []))) d.0 d.1 few;
       }
 
-  partly_on : (w : View) → IsSound w → LeavesOnly (told old.disk) w (IsOldOrNew old.party (room old) (PutLink l ∷ [])) → (image : List ℕ) → w.now ≡ Some image → (k : ℕ) × ImageOf (with_loads (member_of old) (take k (l ∷ []))) image
+  partly_on : (w : View) → IsSound w → LeavesOnly (told old.disk) w (IsOldOrNew old.party (room old) (PutLink l ∷ [])) → (image : List ℕ) → w.now ≡ Some image → (k : ℕ) × IsImageOf (with_loads (member_of old) (take k (l ∷ []))) image
   partly_on w sound run image now = ⊎_elim (λ before. (0, before)) (λ after. (1, after)) (among (told old.disk) w (IsOldOrNew old.party (room old) (PutLink l ∷ [])) sound run image now)
 
   pub lost_broken : (b : FailedDisk D) (k : D) (reason : Cause) (why : Failure) → k ≡ b.disk → reason ≡ cause_of b.cause → (why ≡ failure.Fault → reason ≡ cause.Fault) → (IsFree reason → IsFailing why) → IsSound (told b.disk) → IsKeeping told old (PutLink l ∷ []) (kept.Broken b)
@@ -203,9 +210,9 @@ module _ {D : Type 0} (told : D → View) (old : Stored D) (l : LinkRec) where
   lost_broken b k reason why one by fault failing sound keeping =
       subst (λ (j : D). IsPartlyLoaded (told old.disk) (told j) (member_of old) (l ∷ []) why) (sym one) (record {
         failing = λ tells. failing (subst IsFree (sym by) (free_cause b.cause));
-        tells = keeping.tells;
-        partly = λ tells. partly_on (told b.disk) sound (keeping.any_moment tells);
-        fault = λ is. rose_above (told old.disk).faults (told b.disk).faults ((keeping.cause b refl).fault (is_fault b.cause (sym by ∙ fault is)));
+        tells = keeping.1.tells;
+        partly = λ tells. partly_on (told b.disk) sound (keeping.1.any_moment tells);
+        fault = λ is. rose_above (told old.disk).faults (told b.disk).faults (keeping.1.cause.fault (is_fault b.cause (sym by ∙ fault is)));
       })
 
 -- nothing was loaded, and the disk is as it was

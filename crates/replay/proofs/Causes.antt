@@ -9,9 +9,9 @@ use Rattle.replay.specs.declared.failure.Ending.{Ending}
 use Rattle.replay.specs.declared.failure.Ending.TheVariants as ending
 use Rattle.replay.specs.declared.failure.Failure.{Failure}
 use Rattle.replay.specs.declared.failure.Failure.TheVariants as failure
-use Rattle.replay.specs.declared.tally.Tally.{Tally}
-use Rattle.replay.specs.declared.tally.PlayResult.{PlayResult}
-use Rattle.replay.specs.declared.tally.PlayResult.TheVariants as played
+use Rattle.course.specs.declared.tally.Tally.{Tally}
+use Rattle.replay.specs.declared.result.PlayResult.{PlayResult}
+use Rattle.replay.specs.declared.result.PlayResult.TheVariants as played
 use Rattle.replay.proofs.PuttingBack.{rose_on, rose_then}
 
 pub never_refused : (outcome : Result Tally Ending) (v : Verdict) → answer_of outcome ≡ played.Refused v → ⊥

@@ -3,18 +3,18 @@ use Rattle.std.proofs.Common.{◌≡◌, ◌⊎◌, inl, inr, ℕ, zero, suc, �
 use Rattle.std.specs.Prelude.{option_to_list}
 use Rattle.std.proofs.lemmas.List.{take_all, append-nil, length_push}
 use Rattle.x_disk.specs.Disk.{View}
-use Rattle.party_state.specs.declared.link.LinkRec.{LinkRec}
+use Rattle.party_tables.specs.declared.link.LinkRec.{LinkRec}
 use Rattle.key_store.specs.Store.{Stored, Stands, room}
 use Rattle.scenario.specs.declared.line.Line.{Line}
 use Rattle.scenario.specs.Behind.{EachBehind}
 use Rattle.scenario.specs.Rules.{may_follow}
-use Rattle.world_laws.specs.World.{Member}
-use Rattle.world_laws.specs.Nodes.{member_of}
-use Rattle.replay.specs.Starts.{load_at, loads_of, with_load, with_loads}
-use Rattle.replay.specs.Stops.{ImageOf}
-use Rattle.replay.specs.SettingUp.{new_member, full_member, least_room, HasBegun, CanLoad, IsLoadOrSame, IsLoadedTo, IsPartlyLoaded, IsSetUp, IsUnsetDisk}
+use Rattle.member.specs.Member.{Member}
+use Rattle.node_core.specs.Turns.{member_of, IsImageOf}
+use Rattle.course.specs.Starts.{load_at, loads_of, with_load, with_loads}
+use Rattle.course.specs.Parties.{new_member, full_member}
+use Rattle.replay.specs.SettingUp.{least_room, HasBegun, CanLoad, IsLoadOrSame, IsLoadedTo, IsPartlyLoaded, IsSetUp, IsUnsetDisk}
 use Rattle.replay.specs.declared.failure.Failure.{Failure}
-use Rattle.replay.specs.declared.making.NewParty.{NewParty}
+use Rattle.course.specs.declared.declaring.NewParty.{NewParty}
 use Rattle.replay.specs.declared.making.SetUpEnd.TheVariants.{Failed}
 use Rattle.replay.proofs.Loads.{loads_append, loads_more, first_loads, few_before, follows}
 
@@ -68,10 +68,10 @@ module _ {D : Type 0} (told : D → View) (old : Stored D) where
             ∙ (sym (loads_append (member_of old) (loads_of own (take i lines)) (option_to_list (load_at own x)))
             ∙ (ap (with_loads (member_of old)) (sym (loads_more own lines i x lt is)) ∙ ap (with_loads (member_of old)) (sym (first_loads own lines (i + 1)))))
 
-        reach : (image : List ℕ) (k : ℕ) → ImageOf (with_loads (member_of s) (take k (option_to_list (load_at own x)))) image
-            → (take k (option_to_list (load_at own x)) ≡ []) ⊎ (take k (option_to_list (load_at own x)) ≡ option_to_list (load_at own x)) → (n : ℕ) × ImageOf (with_loads (member_of old) (take n (loads_of own lines))) image
-        reach image k stands (inl none) = (length (loads_of own (take i lines)), subst (λ (m : Member). ImageOf m image) (ap (with_loads (member_of s)) none ∙ first) stands)
-        reach image k stands (inr all) = (length (loads_of own (take (i + 1) lines)), subst (λ (m : Member). ImageOf m image) (ap (with_loads (member_of s)) all ∙ next) stands)
+        reach : (image : List ℕ) (k : ℕ) → IsImageOf (with_loads (member_of s) (take k (option_to_list (load_at own x)))) image
+            → (take k (option_to_list (load_at own x)) ≡ []) ⊎ (take k (option_to_list (load_at own x)) ≡ option_to_list (load_at own x)) → (n : ℕ) × IsImageOf (with_loads (member_of old) (take n (loads_of own lines))) image
+        reach image k stands (inl none) = (length (loads_of own (take i lines)), subst (λ (m : Member). IsImageOf m image) (ap (with_loads (member_of s)) none ∙ first) stands)
+        reach image k stands (inr all) = (length (loads_of own (take (i + 1) lines)), subst (λ (m : Member). IsImageOf m image) (ap (with_loads (member_of s)) all ∙ next) stands)
 
   -- ---- the party is made
 
@@ -96,7 +96,7 @@ module _ {D : Type 0} (told : D → View) (old : Stored D) where
       fault = λ is. part.fault (cc is);
     }
       where
-        stands_in : (image : List ℕ) (ls : List LinkRec) → ImageOf (with_loads (member_of old) ls) image → Stands image (with_loads (new_member party) ls).party
+        stands_in : (image : List ℕ) (ls : List LinkRec) → IsImageOf (with_loads (member_of old) ls) image → Stands image (with_loads (new_member party) ls).party
         stands_in image ls stands =
-            let there = subst (λ (m : Member). ImageOf (with_loads m ls) image) begun_is.member stands in
+            let there = subst (λ (m : Member). IsImageOf (with_loads m ls) image) begun_is.member stands in
             record { bodies = there.bodies; holds = there.holds; fold = there.fold }

@@ -4,41 +4,42 @@ use Rattle.std.specs.Prelude.{IfOk}
 use Rattle.std.proofs.Math.Seq.{take-length}
 use Rattle.std.proofs.lemmas.List.{append-nil}
 use Rattle.std.proofs.lemmas.Slice.Eq.{bytes_eq-Decides}
-use Rattle.x_base.specs.Edge.{AppendsTo}
+use Rattle.x_base.specs.Edge.{AppendsTo, WrotePrefix}
 use Rattle.x_disk.specs.Disk.{View, IsDurable}
 use Rattle.x_disk.specs.Shelf.{IsAlike}
 use Rattle.key_store.specs.Store.{Stored}
 use Rattle.scenario.specs.declared.line.Line.{Line}
-use Rattle.world_laws.specs.World.{World, Member, member_at}
+use Rattle.member.specs.Member.{Member}
+use Rattle.world_laws.specs.World.{World, member_at}
 use Rattle.world_laws.specs.Steps.{step}
-use Rattle.world_laws.specs.Nodes.{member_of}
+use Rattle.node_core.specs.Turns.{member_of}
 use Rattle.replay.specs.Breaking.{AreOnShelf, IsBreak, IsBrokenIn, BreaksIn}
 use Rattle.replay.specs.Closing.{IsBack, AllBack}
-use Rattle.replay.specs.Course.{no_event, IsAt}
+use Rattle.course.specs.Course.{no_event}
+use Rattle.replay.specs.Course.{IsAt}
 use Rattle.replay.specs.Finishing.{IsUnshown, Finishes, BreaksPlay, end_of, answer_of}
 use Rattle.replay.specs.Lines.{Plays, ForgesIn}
-use Rattle.replay.specs.Playing.{AreDurable, IsTallied, Surroundings, around, IsPlayed, IsPlayedToForged, IsBrokenPlay, IsUnwritten, IsPlayOn}
+use Rattle.replay.specs.Playing.{AreDurable, Surroundings, around, IsPlayed, IsPlayedToForged, IsBrokenPlay, IsUnwritten, IsPlayOn}
+use Rattle.course.specs.Tallies.{IsTallied}
 use Rattle.replay.specs.Scene.{Shows}
 use Rattle.replay.specs.Seats.{members, with_held, IsIn, AreIn}
 use Rattle.replay.specs.Showing.{IsWriteEnd}
-use Rattle.replay.specs.Starts.{start_course, start_members, start_progress}
-use Rattle.replay.specs.Transcript.{show_lines}
-use Rattle.replay.specs.Writing.{WrotePrefix}
+use Rattle.course.specs.Starts.{start_course, start_members, start_progress}
+use Rattle.course.specs.Transcript.{show_lines}
 use Rattle.replay.specs.declared.failure.Ending.{Ending}
 use Rattle.replay.specs.declared.failure.Ending.TheVariants as ending
 use Rattle.replay.specs.declared.failure.Failure.{Failure}
 use Rattle.replay.specs.declared.failure.Failure.TheVariants as failure
-use Rattle.replay.specs.declared.progress.Progress.{Progress}
+use Rattle.course.specs.declared.progress.Progress.{Progress}
 use Rattle.replay.specs.declared.scene.Scene.{Scene}
 use Rattle.replay.specs.declared.seat.Seat.{Seat}
 use Rattle.replay.specs.declared.seat.Held.{Held}
 use Rattle.replay.specs.declared.seat.Held.TheVariants.{Open, Loose, Out}
-use Rattle.replay.specs.declared.tally.Tally.{Tally}
+use Rattle.course.specs.declared.tally.Tally.{Tally}
 use Rattle.replay.proofs.Breakage.{shown_stand}
-use Rattle.replay.proofs.Happened.{nothing_done}
+use Rattle.replay.proofs.Happened.{nothing_done, quiet_honest}
 use Rattle.replay.proofs.Leading.{appends_more}
 use Rattle.replay.proofs.Members.{cond_not}
-use Rattle.replay.proofs.Running.{quiet_honest}
 use Rattle.replay.proofs.Standing.{stand_on_shelf}
 
 -- ---- open disks, and what is left of them on the shelf
@@ -66,7 +67,7 @@ module _ {D : Type 0} (told : D → View) where
   durable_back old entry (s ∷ seats) back all = durable_more old entry s.own s.held (members seats) back.0 all.0 (durable_back old entry seats back.1 all.1)
 
   -- the start is shown by the parties that are set up
-  pub starts : (lines : List Line) (s : Scene D) (written : Option (List ℕ)) → AreIn told s.seats.items → members s.seats.items ≡ start_members lines → s.texts ≡ [] → s.facts ≡ []
+  pub starts : (lines : List Line) (s : Scene D) (written : Option (List ℕ)) → AreIn told s.parties → members s.parties ≡ start_members lines → s.texts ≡ [] → s.facts ≡ []
       → IsAt told written (start_course lines) s start_progress written
   starts lines s written seated members_are texts_are facts_are = record {
     shows = record { seated = seated; members_are = members_are; texts_are = texts_are; facts_are = facts_are };
@@ -91,7 +92,7 @@ shown_part None next final a text out part = (0, tt)
 shown_part (Some xs) next final a text out part = shown_some xs next final a text out part
 
 module _ {D : Type 0} (told : D → View) (low high : ℕ) (lines : List Line) (old new : Scene D) (p : Progress) (written next final : Option (List ℕ)) where
-  pub finishes : (q : Progress) (tally : Tally) → Plays told low high lines old new p q written next → IsTallied q (members new.seats.items) tally → AppendsTo next final (show_lines (members new.seats.items))
+  pub finishes : (q : Progress) (tally : Tally) → Plays told low high lines old new p q written next → IsTallied q (members new.parties) tally → AppendsTo next final (show_lines (members new.parties))
       → Finishes told low high lines old new p written final tally
   finishes q tally plays tallied shown = λ before after first last start c at.
       let one = plays before after first last start c at in
@@ -115,7 +116,7 @@ module _ {D : Type 0} (told : D → View) (low high : ℕ) (lines : List Line) (
   break_of (ending.Failed failure.NoMemory) is = tt
   break_of (ending.Failed (failure.Damaged place)) is = absurd is
 
-  pub breaks_behind : (entry : List ℕ → View) (q : Progress) (why : Ending) → Plays told low high lines old new p q written next → IsWriteEnd why → WrotePrefix next final (show_lines (members new.seats.items))
+  pub breaks_behind : (entry : List ℕ → View) (q : Progress) (why : Ending) → Plays told low high lines old new p q written next → IsWriteEnd why → WrotePrefix next final (show_lines (members new.parties))
       → BreaksPlay told entry low high lines old new p written final why
   breaks_behind entry q why plays end part = λ before after first last start c at.
       let one = plays before after first last start c at in
@@ -134,18 +135,15 @@ module _ {D : Type 0} (told : D → View) (low high : ℕ) (lines : List Line) (
 pub no_fault : (e : Ending) → IsWriteEnd e → e ≡ ending.Failed failure.Fault → ⊥
 no_fault e is same = subst IsWriteEnd same is
 
-pub no_forged : (e : Ending) (n : ℕ) → IsWriteEnd e → e ≡ ending.Forged n → ⊥
-no_forged e n is same = subst IsWriteEnd same is
-
 -- ---- all disks are back on the shelf
 
 module _ {D : Type 0} (told : D → View) (mid entry : List ℕ → View) (before low high after : ℕ) (first : before ≤ low) (last : high ≤ after) (lines : List Line) (old new : Scene D) (start written : Option (List ℕ))
-    (at : IsAt told start (start_course lines) old start_progress start) (back : AllBack told mid entry new.seats.items) where
+    (at : IsAt told start (start_course lines) old start_progress start) (back : AllBack told mid entry new.parties) where
   images : (w : World) → Shows told w new → AreOnShelf entry w.members
-  images w shows = stand_on_shelf told mid entry new.seats.items w.members back (shown_stand told mid w new shows)
+  images w shows = stand_on_shelf told mid entry new.parties w.members back (shown_stand told mid w new shows)
 
   durable : (w : World) → Shows told w new → AreDurable entry w.members
-  durable w shows = subst (AreDurable entry) shows.members_are (durable_back told mid entry new.seats.items back shows.seated)
+  durable w shows = subst (AreDurable entry) shows.members_are (durable_back told mid entry new.parties back shows.seated)
 
   abbrev s : Surroundings
   s = around lines entry before after start written
@@ -214,7 +212,7 @@ module _ {D : Type 0} (told : D → View) (mid entry : List ℕ → View) (befor
       event = i.broken.event;
       is = i.broken.is;
       honest = i.broken.honest;
-      images = stand_on_shelf told mid entry new.seats.items (step i.mid.now.number i.mid.world i.broken.event).members back i.broken.stands;
+      images = stand_on_shelf told mid entry new.parties (step i.mid.now.number i.mid.world i.broken.event).members back i.broken.stands;
       part = i.broken.part;
       part_is = i.broken.part_is;
       out = i.broken.out;
@@ -226,7 +224,7 @@ module _ {D : Type 0} (told : D → View) (mid entry : List ℕ → View) (befor
     split = sym (append-nil lines);
     course = u.course;
     leads = u.leads;
-    broken = record { images = stand_on_shelf told mid entry new.seats.items u.course.world.members back u.stands; shown = u.shown; out = u.out };
+    broken = record { images = stand_on_shelf told mid entry new.parties u.course.world.members back u.stands; shown = u.shown; out = u.out };
   }
 
   broken : (why : Ending) → BreaksPlay told mid low high lines old new start_progress start written why → IsBrokenPlay s

@@ -9,7 +9,7 @@ use Rattle.scenario.specs.declared.line.Line.{Line}
 use Rattle.scenario.specs.declared.line.Line.TheVariants as line
 use Rattle.scenario.specs.Behind.{EachBehind}
 use Rattle.scenario.specs.Rules.{declared, may_declare, may_follow}
-use Rattle.replay.specs.SettingUp.{party_in, parties_in}
+use Rattle.course.specs.Parties.{party_in, parties_in}
 
 -- a PARTY line alone declares one
 same_count : (l : Line) (xs : List (List ℕ × Role)) (ys : List (List ℕ)) → length xs ≡ length ys → length (cons_option (declared l) xs) ≡ length (cons_option (party_in l) ys)

@@ -1,22 +1,17 @@
 -- The parties of open disks, one after another: their lines and their records.
-use Rattle.std.proofs.Common.{◌≡◌, ◌⊎◌, inl, inr, ℕ, ◌+◌, ◌<◌, ◌≤◌, Bool, true, false, cond, List, [], ◌∷◌, ◌++◌, length, get_or, take, drop, Option, Some, None, slice_get, refl, sym, ◌∙◌, ap, subst, arith, append_assoc, length-append, take-append-drop}
-use Rattle.std.specs.Option.{option_map_or}
+use Rattle.std.proofs.Common.{◌≡◌, ℕ, ◌+◌, ◌<◌, ◌≤◌, List, [], ◌∷◌, ◌++◌, length, get_or, take, drop, Option, Some, None, refl, sym, ◌∙◌, ap, subst, arith, append_assoc, length-append, take-append-drop}
 use Rattle.std.proofs.Math.Seq.{take-append-add}
 use Rattle.std.proofs.lemmas.List.{append-nil, take_more, take-append-le}
-use Rattle.std.proofs.lemmas.List.Sums.{sum_by-append, sum_by_more}
-use Rattle.std.proofs.lemmas.Option.{slice_get_cases}
-use Rattle.x_base.specs.Edge.{AppendsTo}
-use Rattle.party_state.specs.declared.key.KeyRec.{KeyRec}
-use Rattle.party_state.specs.declared.key.KeyStatus.{KeyStatus}
+use Rattle.std.proofs.lemmas.List.Sums.{sum_by-append}
+use Rattle.x_base.specs.Edge.{AppendsTo, WrotePrefix}
+use Rattle.party_tables.specs.declared.key.KeyStatus.{KeyStatus}
 use Rattle.party_state.specs.State.{Party}
-use Rattle.party_state.specs.Show.{shown}
-use Rattle.world_laws.specs.World.{Member}
-use Rattle.world_laws.specs.Nodes.{member_of}
-use Rattle.replay.specs.Playing.{is_status, one_with, count_status, records_of}
-use Rattle.replay.specs.Seats.{with_held, members}
-use Rattle.replay.specs.Showing.{HoldsParty}
-use Rattle.replay.specs.Transcript.{show_lines}
-use Rattle.replay.specs.Writing.{WrotePrefix}
+use Rattle.party_show.specs.Show.{shown}
+use Rattle.member.specs.Member.{Member}
+use Rattle.node_core.specs.Turns.{member_of}
+use Rattle.course.specs.Tallies.{one_with, count_status, records_of}
+use Rattle.replay.specs.Seats.{with_held, members, HoldsParty}
+use Rattle.course.specs.Transcript.{show_lines}
 use Rattle.replay.specs.declared.seat.Seat.{Seat}
 use Rattle.replay.specs.declared.seat.Held.{Held}
 use Rattle.replay.specs.declared.seat.Held.TheVariants.{Open, Loose, Out}
@@ -115,25 +110,3 @@ module _ {D : Type 0} (seats : List (Seat D)) (place : ℕ) (s : Seat D) (p : Pa
       → count + here ≡ count_status status (records_of (members (take (place + 1) seats)))
   keys_counted status count here so_far is =
       ap (λ (n : ℕ). n + here) so_far ∙ (ap (λ (n : ℕ). count_status status (records_of (members (take place seats))) + n) is ∙ sym (keys_more status))
-
--- one record more
-pub records_more : (status : KeyStatus) (records : List KeyRec) (i one : ℕ) → i < length records → one ≡ option_map_or (one_with status) (slice_get records i) 0
-    → count_status status (take (i + 1) records) ≡ count_status status (take i records) + one
-records_more status records i one lt is = go (slice_get_cases records i).1
-  where
-    go : ((x : KeyRec) × (i < length records) × (slice_get records i ≡ Some x) × (get_or records i x ≡ x)) ⊎ ((length records ≤ i) × (slice_get records i ≡ None))
-        → count_status status (take (i + 1) records) ≡ count_status status (take i records) + one
-    go (inl w) =
-        let there : one ≡ one_with status w.0 = is ∙ ap (λ (o : Option KeyRec). option_map_or (one_with status) o 0) w.2 in
-        let more : count_status status (take (i + 1) records) ≡ count_status status (take i records) + one_with status (get_or records i w.0) = sum_by_more (one_with status) records i w.0 lt in
-        more ∙ ap (λ (n : ℕ). count_status status (take i records) + n) (ap (one_with status) w.3 ∙ sym there)
-    go (inr past) = absurd (omega (arith, lt, past.0))
-
--- none or one
-pub one_at_most : (status : KeyStatus) (o : Option KeyRec) → option_map_or (one_with status) o 0 ≤ 1
-one_at_most status None = omega arith
-one_at_most status (Some k) = go (is_status status k.status)
-  where
-    go : (b : Bool) → cond b 1 0 ≤ 1
-    go true = omega arith
-    go false = omega arith

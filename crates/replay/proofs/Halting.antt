@@ -11,9 +11,10 @@ use Rattle.scenario.specs.Rules.{may_follow}
 use Rattle.replay.specs.Breaking.{AreOnShelf}
 use Rattle.replay.specs.Closing.{AllBack, OtherDisksStay}
 use Rattle.replay.specs.Seats.{members, owners, NoneOf}
-use Rattle.replay.specs.Starts.{loads_of}
-use Rattle.replay.specs.SettingUp.{new_party, line_of_party, party_in, parties_in, new_member, AllTell, IsOrFails, IsUnsetNext, UnsetsNext, AreSetUp, IsSetUpEnd}
-use Rattle.replay.specs.declared.making.NewParty.{NewParty}
+use Rattle.course.specs.Starts.{loads_of}
+use Rattle.course.specs.Parties.{new_party, line_of_party, party_in, parties_in, new_member}
+use Rattle.replay.specs.SettingUp.{AllTell, IsOrFails, IsUnsetNext, UnsetsNext, AreSetUp, IsSetUpEnd}
+use Rattle.course.specs.declared.declaring.NewParty.{NewParty}
 use Rattle.replay.specs.declared.making.SetUpEnd.{SetUpEnd}
 use Rattle.replay.specs.declared.seat.Seat.{Seat}
 use Rattle.replay.proofs.Breakage.{stand_seats}

@@ -6,26 +6,25 @@ use Rattle.x_disk.specs.Disk.{View}
 use Rattle.party_state.specs.declared.command.Input.{Input}
 use Rattle.party_state.specs.declared.command.Input.TheVariants as input
 use Rattle.party_state.specs.State.{Party}
-use Rattle.world_laws.specs.World.{World, Member, Fact, member_at}
+use Rattle.member.specs.Member.{Member}
+use Rattle.world_laws.specs.World.{World, Fact, member_at}
 use Rattle.world_laws.specs.Events.{Action, Orders, Hears, Compacts, Completion, Whole}
 use Rattle.world_laws.specs.Steps.{step, step_at, world_after_action}
-use Rattle.world_laws.specs.Honest.{HonestAction}
-use Rattle.replay.specs.Stops.{KeepsChange, IsFixed}
-use Rattle.replay.specs.Scene.{Shows, IsStep, IsCutStep, world_after_told, completion_of}
+use Rattle.world_laws.specs.Honest.{HonestAction, HonestAt}
+use Rattle.course.specs.Stops.{KeepsChange, IsFixed}
+use Rattle.replay.specs.Scene.{Shows, IsStep, IsCutStep}
+use Rattle.course.specs.Outcomes.{world_after_told, completion_of, input_in, outcome_of, IsCompleted, IsOutcome}
 use Rattle.replay.specs.Seats.{NoneOf, IsPlace}
-use Rattle.replay.specs.Inputs.{input_of}
-use Rattle.replay.specs.Happenings.{Happening, At, IsNumbered}
-use Rattle.replay.specs.Outcomes.{input_in, outcome_of, IsCompleted, IsOutcome}
-use Rattle.replay.specs.Course.{Course, no_event, event_at, IsDoneBy, IsDone, IsForgedBy, IsForgedAt}
-use Rattle.replay.specs.Acting.{HonestInput, PlaysAt, ForgesAt, IsActed, Acts, Forges}
-use Rattle.replay.specs.declared.act.Act.TheVariants as act
-use Rattle.replay.specs.declared.act.Telling.{Telling}
-use Rattle.replay.specs.declared.act.Telling.TheVariants as telling
-use Rattle.replay.specs.declared.progress.Outcome.{Outcome}
-use Rattle.replay.specs.declared.progress.Outcome.TheVariants as outcome
-use Rattle.replay.specs.declared.progress.Progress.{Progress}
+use Rattle.course.specs.Happenings.{Happening, At, IsNumbered}
+use Rattle.course.specs.Course.{Course, no_event, event_at, IsDoneBy, IsDone, IsForgedBy, IsForgedAt}
+use Rattle.course.specs.Forging.{HonestInput}
+use Rattle.replay.specs.Acting.{PlaysAt, ForgesAt, IsActed, Acts, Forges}
+use Rattle.course.specs.declared.act.Act.TheVariants as act
+use Rattle.course.specs.declared.progress.Outcome.{Outcome}
+use Rattle.course.specs.declared.progress.Outcome.TheVariants as outcome
+use Rattle.course.specs.declared.progress.Progress.{Progress}
 use Rattle.replay.specs.declared.scene.Scene.{Scene}
-use Rattle.replay.specs.declared.stopped.Stop.{Stop}
+use Rattle.course.specs.declared.progress.Stop.{Stop}
 use Rattle.replay.proofs.Places.{none_found}
 
 pub rose_wider : (a b low high : ℕ) → a ≤ low → high ≤ b → Rose low high → Rose a b
@@ -44,7 +43,7 @@ fixed_wider keep stop a b low high next first last fixed = record {
 module _ {D : Type 0} (told : D → View) where
   -- a stopped event, where a stop waits
   pub plays_stopped : (low high : ℕ) (old new : Scene D) (place : ℕ) (i : Option Input) (number : ℕ) (now : Progress) (stop : Stop) (next : Bool) → now.stop ≡ Some stop
-      → ((w : World) (own : List ℕ) → IsPlace old.seats.items own place → Shows told w old → (x : Member) × (member_at own w.members ≡ Some x) × HonestInput w.facts x.party i)
+      → ((w : World) (own : List ℕ) → IsPlace old.parties own place → Shows told w old → (x : Member) × (member_at own w.members ≡ Some x) × HonestInput w.facts x.party i)
       → IsCutStep told old new place i now.moment stop low high next → PlaysAt told low high old new place i number now outcome.Stopped
   plays_stopped low high old new place i number now stop next waits honest cut = λ before after first last w n own is_place shows.
       let h = honest w own is_place shows in
@@ -63,7 +62,7 @@ module _ {D : Type 0} (told : D → View) where
 
   -- a whole one, where none does
   pub plays_whole : (low high : ℕ) (old new : Scene D) (place : ℕ) (i : Input) (number : ℕ) (now : Progress) (verdict : Verdict) (o : Outcome) → now.stop ≡ None → o ≡ outcome_of verdict
-      → ((w : World) (own : List ℕ) → IsPlace old.seats.items own place → Shows told w old → (x : Member) × (member_at own w.members ≡ Some x) × HonestInput w.facts x.party (Some i))
+      → ((w : World) (own : List ℕ) → IsPlace old.parties own place → Shows told w old → (x : Member) × (member_at own w.members ≡ Some x) × HonestInput w.facts x.party (Some i))
       → IsStep told old new place i now.moment verdict → PlaysAt told low high old new place (Some i) number now o
   plays_whole low high old new place i number now verdict o waits is honest step = λ before after first last w n own is_place shows.
       let h = honest w own is_place shows in
@@ -82,7 +81,7 @@ module _ {D : Type 0} (told : D → View) where
 
   -- bytes of which nothing is heard, where no stop waits
   pub plays_unheard : (low high : ℕ) (old : Scene D) (place number : ℕ) (now : Progress) → now.stop ≡ None
-      → ((w : World) (own : List ℕ) → IsPlace old.seats.items own place → Shows told w old → (x : Member) × (member_at own w.members ≡ Some x))
+      → ((w : World) (own : List ℕ) → IsPlace old.parties own place → Shows told w old → (x : Member) × (member_at own w.members ≡ Some x))
       → PlaysAt told low high old old place None number now (outcome.Refused number)
   plays_unheard low high old place number now waits there = λ before after first last w n own is_place shows.
       let h = there w own is_place shows in
@@ -118,9 +117,17 @@ nothing_done n w moment = go (member_at [] w.members)
     go None = refl
     go (Some x) = refl
 
+-- and is honest
+pub quiet_honest : (c : Course) → HonestAt c.world.facts (member_at [] c.world.members) (no_event c.now.moment).action
+quiet_honest c = go (member_at [] c.world.members)
+  where
+    go : (o : Option Member) → HonestAt c.world.facts o (no_event c.now.moment).action
+    go None = tt
+    go (Some x) = tt
+
 module _ {D : Type 0} (told : D → View) (low high : ℕ) (old new : Scene D) (now : Progress) (o : Outcome) where
   -- at the party of a place
-  acted_at : (party : List ℕ) (place number : ℕ) (action : Action) → IsNumbered action number → IsPlace old.seats.items party place → PlaysAt told low high old new place (input_in action) number now o
+  acted_at : (party : List ℕ) (place number : ℕ) (action : Action) → IsNumbered action number → IsPlace old.parties party place → PlaysAt told low high old new place (input_in action) number now o
       → (before after : ℕ) → before ≤ low → high ≤ after → (c : Course) → c.now ≡ now → Shows told c.world old → IsActed told before after c new (At party action) o
   acted_at party place number action numbered is_place plays before after first last c is shows =
       let p = plays before after first last c.world c.now.number party is_place shows in
@@ -144,13 +151,13 @@ module _ {D : Type 0} (told : D → View) (low high : ℕ) (old new : Scene D) (
         shows = subst (λ (w : World). Shows told w new) (sym world_is) p.shows;
       }
 
-  pub acts_told : (party : List ℕ) (place : ℕ) (t : Telling) → IsPlace old.seats.items party place → PlaysAt told low high old new place (Some (input_of t)) 0 now o → Acts told low high (act.Tell party t) old new now o
-  acts_told party place (telling.Ordered command) is_place plays = λ before after first last c h is shows means.
-      subst (λ (k : Happening). IsActed told before after c new k o) (sym means) (acted_at party place 0 (Orders command.now) tt is_place plays before after first last c is shows)
-  acts_told party place (telling.Arrived a) is_place plays = λ before after first last c h is shows means.
-      subst (λ (k : Happening). IsActed told before after c new k o) (sym means.1) (acted_at party place 0 (Hears means.0 (Some a.now)) tt is_place plays before after first last c is shows)
+  pub acts_told : (party : List ℕ) (place : ℕ) (t : Input) → IsPlace old.parties party place → PlaysAt told low high old new place (Some t) 0 now o → Acts told low high (act.Tell party t) old new now o
+  acts_told party place (input.Ordered command) is_place plays = λ before after first last c h is shows means.
+      subst (λ (k : Happening). IsActed told before after c new k o) (sym means) (acted_at party place 0 (Orders command) tt is_place plays before after first last c is shows)
+  acts_told party place (input.Arrived a) is_place plays = λ before after first last c h is shows means.
+      subst (λ (k : Happening). IsActed told before after c new k o) (sym means.1) (acted_at party place 0 (Hears means.0 (Some a)) tt is_place plays before after first last c is shows)
 
-  pub acts_unheard : (party : List ℕ) (place number : ℕ) → IsPlace old.seats.items party place → PlaysAt told low high old new place None number now o → Acts told low high (act.Refuse party number) old new now o
+  pub acts_unheard : (party : List ℕ) (place number : ℕ) → IsPlace old.parties party place → PlaysAt told low high old new place None number now o → Acts told low high (act.Refuse party number) old new now o
   acts_unheard party place number is_place plays = λ before after first last c h is shows means.
       subst (λ (k : Happening). IsActed told before after c new k o) (sym means.4) (acted_at party place number (Hears means.0 None) (means.1, means.2, means.3) is_place plays before after first last c is shows)
 
@@ -166,31 +173,31 @@ module _ {D : Type 0} (told : D → View) (low high : ℕ) (old : Scene D) (now 
   pub acts_nothing : Acts told low high act.Nothing old old now outcome.Nothing
   acts_nothing = λ before after first last c h is shows means. none_acted before after c h shows (subst (λ (k : Happening). IsDone before after c k (no_event c.now.moment) outcome.Nothing) (sym means) (refl, refl))
 
-  nobody_at : (party : List ℕ) (action : Action) → NoneOf old.seats.items party → (before after : ℕ) (c : Course) → Shows told c.world old → IsActed told before after c old (At party action) outcome.Nothing
+  nobody_at : (party : List ℕ) (action : Action) → NoneOf old.parties party → (before after : ℕ) (c : Course) → Shows told c.world old → IsActed told before after c old (At party action) outcome.Nothing
   nobody_at party action none before after c shows =
-      let absent : member_at party c.world.members ≡ None = ap (λ (ms : List Member). member_at party ms) (sym shows.members_are) ∙ none_found told party old.seats.items shows.seated none in
+      let absent : member_at party c.world.members ≡ None = ap (λ (ms : List Member). member_at party ms) (sym shows.members_are) ∙ none_found told party old.parties shows.seated none in
       none_acted before after c (At party action) shows (subst (λ (m : Option Member). IsDoneBy before after c party m action (no_event c.now.moment) outcome.Nothing) (sym absent) (refl, refl))
 
-  pub acts_nobody : (party : List ℕ) (t : Telling) → NoneOf old.seats.items party → Acts told low high (act.Tell party t) old old now outcome.Nothing
-  acts_nobody party (telling.Ordered command) none = λ before after first last c h is shows means.
-      subst (λ (k : Happening). IsActed told before after c old k outcome.Nothing) (sym means) (nobody_at party (Orders command.now) none before after c shows)
-  acts_nobody party (telling.Arrived a) none = λ before after first last c h is shows means.
-      subst (λ (k : Happening). IsActed told before after c old k outcome.Nothing) (sym means.1) (nobody_at party (Hears means.0 (Some a.now)) none before after c shows)
+  pub acts_nobody : (party : List ℕ) (t : Input) → NoneOf old.parties party → Acts told low high (act.Tell party t) old old now outcome.Nothing
+  acts_nobody party (input.Ordered command) none = λ before after first last c h is shows means.
+      subst (λ (k : Happening). IsActed told before after c old k outcome.Nothing) (sym means) (nobody_at party (Orders command) none before after c shows)
+  acts_nobody party (input.Arrived a) none = λ before after first last c h is shows means.
+      subst (λ (k : Happening). IsActed told before after c old k outcome.Nothing) (sym means.1) (nobody_at party (Hears means.0 (Some a)) none before after c shows)
 
-  pub acts_unheard_nobody : (party : List ℕ) (number : ℕ) → NoneOf old.seats.items party → Acts told low high (act.Refuse party number) old old now outcome.Nothing
+  pub acts_unheard_nobody : (party : List ℕ) (number : ℕ) → NoneOf old.parties party → Acts told low high (act.Refuse party number) old old now outcome.Nothing
   acts_unheard_nobody party number none = λ before after first last c h is shows means.
       subst (λ (k : Happening). IsActed told before after c old k outcome.Nothing) (sym means.4) (nobody_at party (Hears means.0 None) none before after c shows)
 
 -- what nobody made who holds the key
 module _ {D : Type 0} (told : D → View) (old : Scene D) where
-  forged_at : (party : List ℕ) (place : ℕ) (i : Input) (action : Action) → ((facts : List Fact) (p : Party) → HonestAction facts p action → HonestInput facts p (Some i)) → IsPlace old.seats.items party place → ForgesAt told old place i
+  forged_at : (party : List ℕ) (place : ℕ) (i : Input) (action : Action) → ((facts : List Fact) (p : Party) → HonestAction facts p action → HonestInput facts p (Some i)) → IsPlace old.parties party place → ForgesAt told old place i
       → (c : Course) → Shows told c.world old → IsForgedAt c (At party action)
   forged_at party place i action honest is_place forges c shows =
       let f = forges c.world party is_place shows in
       subst (λ (m : Option Member). IsForgedBy c m action) (sym f.1) (λ h. f.2 (honest c.world.facts f.0.party h))
 
-  pub forges_told : (party : List ℕ) (place : ℕ) (t : Telling) → IsPlace old.seats.items party place → ForgesAt told old place (input_of t) → Forges told (act.Tell party t) old
-  forges_told party place (telling.Ordered command) is_place forges = λ c h shows means.
-      subst (λ (k : Happening). IsForgedAt c k) (sym means) (forged_at party place (input.Ordered command.now) (Orders command.now) (λ facts p h. tt) is_place forges c shows)
-  forges_told party place (telling.Arrived a) is_place forges = λ c h shows means.
-      subst (λ (k : Happening). IsForgedAt c k) (sym means.1) (forged_at party place (input.Arrived a.now) (Hears means.0 (Some a.now)) (λ facts p h. h) is_place forges c shows)
+  pub forges_told : (party : List ℕ) (place : ℕ) (t : Input) → IsPlace old.parties party place → ForgesAt told old place t → Forges told (act.Tell party t) old
+  forges_told party place (input.Ordered command) is_place forges = λ c h shows means.
+      subst (λ (k : Happening). IsForgedAt c k) (sym means) (forged_at party place (input.Ordered command) (Orders command) (λ facts p h. tt) is_place forges c shows)
+  forges_told party place (input.Arrived a) is_place forges = λ c h shows means.
+      subst (λ (k : Happening). IsForgedAt c k) (sym means.1) (forged_at party place (input.Arrived a) (Hears means.0 (Some a)) (λ facts p h. h) is_place forges c shows)

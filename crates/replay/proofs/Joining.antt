@@ -1,34 +1,34 @@
 -- Parties take their seats one behind another, or a party isn't set up.
-use Rattle.std.proofs.Common.{◌≡◌, inl, inr, ℕ, zero, suc, ◌+◌, ◌<◌, true, false, List, [], ◌∷◌, ◌++◌, length, get_or, take, Option, Some, None, option_map, is_some, bytes_eq, refl, sym, ◌∙◌, ap, subst, arith}
+use Rattle.std.proofs.Common.{◌≡◌, inl, inr, ℕ, zero, suc, ◌+◌, ◌<◌, true, false, List, [], ◌∷◌, ◌++◌, length, get_or, take, IfSome, Option, Some, None, option_map, is_some, refl, sym, ◌∙◌, ap, subst, arith}
 use Rattle.std.specs.Prelude.{nat_lt, Contains, option_to_list}
 use Rattle.std.specs.List.{filter_map, list_all, list_any}
 use mathlib.Core.Logic.{◌≢◌}
 use Rattle.std.proofs.lemmas.Bool.{and_from, and_parts, or_parts, both_ways, not-true, eq-eqb}
 use Rattle.std.proofs.lemmas.List.{append-nil}
-use Rattle.indexmap.specs.IndexSet.{insert_key}
 use Rattle.x_base.specs.Ident.{expanded}
 use Rattle.x_disk.specs.Disk.{View, Tells}
 use Rattle.x_disk.specs.Shelf.{IsAlike, AllStay, SlotsStay}
-use Rattle.party_state.specs.declared.link.LinkRec.{LinkRec}
+use Rattle.party_tables.specs.declared.link.LinkRec.{LinkRec}
 use Rattle.key_store.specs.Store.{Stored}
 use Rattle.scenario.specs.declared.line.Line.{Line}
 use Rattle.scenario.specs.declared.line.Line.TheVariants as line
 use Rattle.scenario.specs.Behind.{EachBehind}
 use Rattle.scenario.specs.Rules.{declared, expansion, is_party, same_two, may_declare, may_follow}
-use Rattle.world_laws.specs.World.{Member, own_of}
-use Rattle.world_laws.specs.Nodes.{member_of}
+use Rattle.member.specs.Member.{Member}
+use Rattle.world_laws.specs.World.{own_of}
+use Rattle.node_core.specs.Turns.{member_of}
 use Rattle.replay.specs.Closing.{AllSlots, AreApart}
 use Rattle.replay.specs.Seats.{seat, members, with_held, owners, IsOf, AreIn, AreOpen, NoneOf}
-use Rattle.replay.specs.Starts.{loads_of, start_member, members_by}
-use Rattle.replay.specs.SettingUp.{new_party, line_of_party, own_of_new, party_in, parties_in, new_member, full_member, AllTell, ReadsBlank, AllReadBlank, IsSetUp, IsBeginning, IsUnset, IsOrFails, IsSeatedNext, SeatsNext, NamesNext, ShowMembers, AreSetUp}
-use Rattle.replay.specs.declared.making.NewParty.{NewParty}
+use Rattle.course.specs.Starts.{loads_of, start_member, members_by}
+use Rattle.course.specs.Parties.{new_party, line_of_party, own_of_new, party_in, parties_in, new_member, full_member}
+use Rattle.replay.specs.SettingUp.{AllTell, ReadsBlank, AllReadBlank, IsSetUp, IsBeginning, IsUnset, IsOrFails, IsSeatedNext, SeatsNext, ShowMembers, AreSetUp}
+use Rattle.course.specs.declared.declaring.NewParty.{NewParty}
 use Rattle.replay.specs.declared.making.SetUpEnd.{SetUpEnd}
 use Rattle.replay.specs.declared.making.SetUpEnd.TheVariants.{NotEmpty, Failed}
 use Rattle.replay.specs.declared.seat.Seat.{Seat}
 use Rattle.replay.specs.declared.seat.Held.{Held}
 use Rattle.replay.specs.declared.seat.Held.TheVariants.{Open, Loose, Out}
 use Rattle.replay.proofs.Loads.{own_stays, more_of, follows}
-use Rattle.replay.proofs.Members.{cond_not, same_not}
 use Rattle.replay.proofs.PuttingBack.{alike_on}
 
 -- ---- a disk on which no party is set up, by what a read of it gives
@@ -110,6 +110,14 @@ module _ {D : Type 0} where
   apart_at lines i l p seats rules lt is at same =
       let may : may_follow (take i lines) (line_of_party p) ≡ true = ap (may_follow (take i lines)) (sym (line_is l p at)) ∙ follows lines i l rules lt is in
       none_in seats p.own (subst (λ (os : List (List ℕ)). NoneIn os p.own) (sym same) (may_be_declared (take i lines) p.own may))
+
+  -- the identity of the party of a line, where it declares one
+  pub apart_next : (lines : List Line) (i : ℕ) (l : Line) (seats : List (Seat D)) → EachBehind may_follow lines → i < length lines → l ≡ get_or lines i l → owners seats ≡ parties_in (take i lines) → IfSome (new_party l) (λ (p : NewParty). NoneOf seats p.own)
+  apart_next lines i l seats rules lt is same = go (new_party l) refl
+    where
+      go : (o : Option NewParty) → new_party l ≡ o → IfSome o (λ (p : NewParty). NoneOf seats p.own)
+      go None none = tt
+      go (Some p) some = apart_at lines i l p seats rules lt is some same
 
   -- ---- one more seat
 
@@ -243,25 +251,3 @@ module _ {D : Type 0} (told : D → View) (lines : List Line) (start entry : Lis
   -- the others' disks stay
   pub strangers : (front : List Line) → AreSetUp told lines front start entry slot seats → (own : List ℕ) → (Contains (parties_in front) own → ⊥) → IsAlike (start own) (entry own)
   strangers front all own never = all.others own (none_of seats own (λ c. never (subst (λ (os : List (List ℕ)). Contains os own) all.owners_are c)))
-
--- ---- the identities of the seats
-
-module _ {D : Type 0} where
-  last_other : (was : List (Seat D)) (s : Seat D) (own : List ℕ) → NoneOf (was ++ s ∷ []) own → s.own ≢ own
-  last_other [] s own none = none.0
-  last_other (t ∷ was) s own none = last_other was s own none.1
-
-  -- the last identity is none of those before
-  last_apart : (was : List (Seat D)) (s : Seat D) → AreApart (was ++ s ∷ []) → list_any (bytes_eq s.own) (owners was) ≡ false
-  last_apart [] s apart = refl
-  last_apart (t ∷ was) s apart = rw (same_not s.own t.own (last_other was s t.own apart.0), last_apart was s apart.1) refl
-
-  pub names_on : (told : D → View) (lines : List Line) (p : Option NewParty) (old new : List ℕ → View) (slot : List ℕ → Type 0) (was seats : List (Seat D)) (names after : List (List ℕ))
-      → SeatsNext told lines p old new slot was seats → AreApart seats → names ≡ owners was → NamesNext p names after → after ≡ owners seats
-  names_on told lines None old new slot was seats names after next apart named same = same ∙ (named ∙ ap owners (sym next.0))
-  names_on told lines (Some p) old new slot was seats names after next apart named more =
-      let s : Seat D = seat p.own (Open next.node) in
-      let last = last_apart was s (subst AreApart next.behind apart) in
-      more ∙ (ap (λ (os : List (List ℕ)). insert_key bytes_eq os p.own) named
-      ∙ (cond_not (list_any (bytes_eq p.own) (owners was)) (owners was) (owners was ++ p.own ∷ []) last
-      ∙ (sym (owners_push was s) ∙ ap owners (sym next.behind))))

@@ -7,17 +7,20 @@ use Rattle.x_disk.specs.Disk.{View}
 use Rattle.scenario.specs.declared.line.Line.{Line}
 use Rattle.scenario.specs.declared.line.Line.TheVariants as line
 use Rattle.world_laws.specs.Steps.{step}
-use Rattle.replay.specs.Happenings.{Happening, Happens, IsNoEvent, IsFormed}
-use Rattle.replay.specs.Outcomes.{after_outcome, counted, IsWithin}
-use Rattle.replay.specs.Transcript.{outcome_line, text_line, written_between}
-use Rattle.replay.specs.Course.{Course, after_event, IsEvent, IsNext, Leads, IsAt}
-use Rattle.replay.specs.Acting.{Means, Acts, Forges}
-use Rattle.replay.specs.Lines.{IsQuietNext, PlaysEvent, PlaysLine, Plays, ForgesLine, ForgesIn}
-use Rattle.replay.specs.declared.act.Act.{Act}
-use Rattle.replay.specs.declared.progress.Counts.{Counts}
-use Rattle.replay.specs.declared.progress.Outcome.{Outcome}
-use Rattle.replay.specs.declared.progress.Outcome.TheVariants as outcome
-use Rattle.replay.specs.declared.progress.Progress.{Progress}
+use Rattle.course.specs.Happenings.{Happening, Happens, IsNoEvent, IsFormed}
+use Rattle.course.specs.Outcomes.{after_outcome, counted, IsWithin}
+use Rattle.course.specs.Transcript.{outcome_line, text_line, written_between}
+use Rattle.course.specs.Course.{Course, after_event, IsEvent, IsNext, Leads}
+use Rattle.replay.specs.Course.{IsAt}
+use Rattle.course.specs.Acts.{Means}
+use Rattle.replay.specs.Acting.{Acts}
+use Rattle.course.specs.Lines.{IsQuietNext}
+use Rattle.replay.specs.Lines.{PlaysEvent, PlaysLine, Plays, ForgesLine, ForgesIn}
+use Rattle.course.specs.declared.act.Act.{Act}
+use Rattle.course.specs.declared.progress.Counts.{Counts}
+use Rattle.course.specs.declared.progress.Outcome.{Outcome}
+use Rattle.course.specs.declared.progress.Outcome.TheVariants as outcome
+use Rattle.course.specs.declared.progress.Progress.{Progress}
 use Rattle.replay.specs.declared.scene.Scene.{Scene}
 
 -- what is written grows
@@ -53,28 +56,6 @@ text_within o true p n w =
 
 pub event_within : (o : Outcome) (wrote : Bool) (p q : Progress) → q ≡ after_outcome p o wrote → (n : ℕ) → IsWithin p n → IsWithin q (n + 1)
 event_within o wrote p q is n w = subst (λ (r : Progress). IsWithin r (n + 1)) (sym is) (text_within o wrote p n w)
-
-pub within_more : (p : Progress) (n m : ℕ) → n ≤ m → IsWithin p n → IsWithin p m
-within_more p n m le w = record { least = w.least; number = omega (arith, le, w.number); done = omega (arith, le, w.done); refused = omega (arith, le, w.refused); stopped = omega (arith, le, w.stopped); none = omega (arith, le, w.none); texts = omega (arith, le, w.texts) }
-
-pub quiet_within : (l : Line) (p q : Progress) → IsQuietNext l p q → (n : ℕ) → IsWithin p n → IsWithin q (n + 1)
-quiet_within l p q quiet n w = within_more q n (n + 1) (omega arith) (go l quiet)
-  where
-    with_ : (r : Progress) → q ≡ r → r.number ≡ p.number → r.counts ≡ p.counts → IsWithin q n
-    with_ r is number counts = subst (λ (x : Progress). IsWithin x n) (sym is) (record {
-      least = subst (λ (k : ℕ). 1 ≤ k) (sym number) w.least;
-      number = subst (λ (k : ℕ). k ≤ n + 1) (sym number) w.number;
-      done = subst (λ (k : Counts). k.done ≤ n) (sym counts) w.done;
-      refused = subst (λ (k : Counts). k.refused ≤ n) (sym counts) w.refused;
-      stopped = subst (λ (k : Counts). k.stopped ≤ n) (sym counts) w.stopped;
-      none = subst (λ (k : Counts). k.none ≤ n) (sym counts) w.none;
-      texts = subst (λ (k : Counts). k.texts ≤ n) (sym counts) w.texts;
-    })
-
-    go : (l : Line) → IsQuietNext l p q → IsWithin q n
-    go (line.Time moment) is = with_ _ is refl refl
-    go (line.Stop k choice) is = with_ _ is refl refl
-    go l is = with_ _ is refl refl
 
 module _ {D : Type 0} (told : D → View) (low high : ℕ) (old new : Scene D) (p q : Progress) (written next : Option (List ℕ)) where
   -- an event, with its lines
@@ -119,11 +100,6 @@ module _ {D : Type 0} (told : D → View) (low high : ℕ) (old new : Scene D) (
       let e = plays before after first last start c h.0 at h.3 in
       (after_event c e.0 e.1, next_event before after l c (after_event c e.0 e.1) (record { happening = h.0; happens = h.1; formed = h.2; event = e.0; outcome = e.1; done = e.2; leads = refl }), e.3)
 
-  pub forges_line : (l : Line) (a : Act) → ((texts : List (List ℕ)) → texts ≡ old.texts → (h : Happening) × Happens l texts h × IsFormed h × Means a h) → Forges told a old → ForgesLine told l old
-  forges_line l a happens forges = λ c shows.
-      let h = happens c.world.texts (sym shows.texts_are) in
-      record { happening = h.0; happens = h.1; formed = h.2; forged = forges c h.0 shows h.3 }
-
 -- what was read of the scene's texts holds of equal ones
 pub happens_in : (l : Line) (a : Act) (here : List (List ℕ)) → (h : Happening) × Happens l here h × IsFormed h × Means a h → (texts : List (List ℕ)) → texts ≡ here → (h : Happening) × Happens l texts h × IsFormed h × Means a h
 happens_in l a here h texts is = subst (λ (ts : List (List ℕ)). (h : Happening) × Happens l ts h × IsFormed h × Means a h) (sym is) h
@@ -139,9 +115,6 @@ leads_on before after [] l c mid e is next = (e, subst (λ (m : Course). IsNext 
 leads_on before after (k ∷ lines) l c mid e leads next = (leads.0, leads.1, leads_on before after lines l leads.0 mid e leads.2 next)
 
 module _ {D : Type 0} (told : D → View) where
-  pub plays_none : (low high : ℕ) (s : Scene D) (p : Progress) (written : Option (List ℕ)) → Plays told low high [] s s p p written written
-  plays_none low high s p written = λ before after first last start c at. (c, refl, at)
-
   pub plays_on : (low between high : ℕ) → low ≤ between → between ≤ high → (lines : List Line) (l : Line) (old mid new : Scene D) (p m q : Progress) (written halfway next : Option (List ℕ)) → Plays told low between lines old mid p m written halfway
       → PlaysLine told between high l mid new m q halfway next → Plays told low high (lines ++ l ∷ []) old new p q written next
   plays_on low between high le1 le2 lines l old mid new p m q written halfway next plays line = λ before after first last start c at.

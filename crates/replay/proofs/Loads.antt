@@ -8,16 +8,15 @@ use Rattle.std.proofs.lemmas.List.Elements.{filter_map-append}
 use Rattle.std.proofs.lemmas.List.Sums.{sum_by-cons}
 use Rattle.std.proofs.lemmas.Slice.Eq.{bytes_eq-Decides}
 use Rattle.x_mac.specs.declared.pair.Pair.{Pair}
-use Rattle.party_state.specs.declared.link.LinkRec.{LinkRec}
-use Rattle.party_state.specs.Keys.{same_link, link_key}
-use Rattle.party_state.specs.Tables.{put_row}
-use Rattle.party_state.specs.Ranges.{IsNextCount}
+use Rattle.party_tables.specs.declared.link.LinkRec.{LinkRec}
+use Rattle.party_tables.specs.Keys.{same_link, link_key}
+use Rattle.party_tables.specs.Tables.{put_row}
 use Rattle.scenario.specs.declared.line.Line.{Line}
 use Rattle.scenario.specs.declared.line.Line.TheVariants as line
 use Rattle.scenario.specs.Behind.{EachBehind}
 use Rattle.scenario.specs.Rules.{is_end, is_centre, is_declared, is_party_or_link, both_or_neither, ends, same_ends, loaded, odd_pair, same_two, may_load, may_follow}
-use Rattle.world_laws.specs.World.{Member}
-use Rattle.replay.specs.Starts.{load_at, loads_of, with_load, with_loads}
+use Rattle.member.specs.Member.{Member}
+use Rattle.course.specs.Starts.{load_at, loads_of, with_load, with_loads}
 use Rattle.replay.proofs.Members.{cond_yes, cond_not, same_yes}
 
 pub own_stays : (x : Member) (ls : List LinkRec) → (with_loads x ls).party.own ≡ x.party.own
@@ -96,12 +95,6 @@ is_end_of own origin recipient label pair (inr same) = or_right (bytes_eq origin
 load_ends : (own : List ℕ) (x : Line) (l : LinkRec) → load_at own x ≡ Some l → is_end own x ≡ true
 load_ends own (line.Link origin recipient label pair) l is = is_end_of own origin recipient label pair (loads_at own origin recipient label pair l is).at
 load_ends own x l is = absurd (cc is)
-
-pub next_of_load : (own : List ℕ) (x : Line) (l : LinkRec) → load_at own x ≡ Some l → IsNextCount l.next
-next_of_load own (line.Link origin recipient label pair) l is =
-    let one = (loads_at own origin recipient label pair l is).next in
-    record { low = omega (arith, one); high = omega (arith, one) }
-next_of_load own x l is = absurd (cc is)
 
 -- at most one for each line that has the party at one end
 pub few_loads : (own : List ℕ) (lines : List Line) → length (loads_of own lines) ≤ count_by (is_end own) lines

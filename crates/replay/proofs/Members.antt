@@ -3,10 +3,11 @@ use Rattle.std.proofs.Common.{◌≡◌, ℕ, Bool, true, false, cond, List, [],
 use mathlib.Core.Logic.{◌≢◌}
 use Rattle.std.proofs.lemmas.Slice.Eq.{bytes_eq-Decides}
 use Rattle.x_disk.specs.Disk.{View}
-use Rattle.party_state.specs.Tables.{put_row}
+use Rattle.party_tables.specs.Tables.{put_row}
 use Rattle.key_store.specs.Store.{Stored}
-use Rattle.world_laws.specs.World.{Member, own_of, member_at}
-use Rattle.world_laws.specs.Nodes.{member_of}
+use Rattle.member.specs.Member.{Member}
+use Rattle.world_laws.specs.World.{own_of, member_at}
+use Rattle.node_core.specs.Turns.{member_of}
 use Rattle.replay.specs.Seats.{seat, members, with_held, IsOf, IsIn, AreIn, AreOpen, NoneOf, owners}
 use Rattle.replay.specs.declared.seat.Seat.{Seat}
 use Rattle.replay.specs.declared.seat.Held.{Held}

@@ -8,7 +8,7 @@ use Rattle.std.proofs.lemmas.List.{get_or_at, take_all}
 use Rattle.x_disk.specs.Disk.{View}
 use Rattle.key_store.specs.Store.{Stored}
 use Rattle.world_laws.specs.World.{member_at}
-use Rattle.world_laws.specs.Nodes.{member_of}
+use Rattle.node_core.specs.Turns.{member_of}
 use Rattle.replay.specs.Seats.{seat, members, with_held, IsIn, AreIn, IsOpen, AreOpen, NoneOf, IsPlace, owners}
 use Rattle.replay.specs.declared.seat.Seat.{Seat}
 use Rattle.replay.specs.declared.seat.Held.{Held}

@@ -1,6 +1,6 @@
 -- The disks are put back, one after another.
 use Rattle.x_base.specs.Edge.{Rose}
-use Rattle.std.proofs.Common.{◌≡◌, inl, inr, ⊎_elim, ℕ, ◌≤◌, arith, List, [], ◌∷◌, ◌++◌, sym, ◌∙◌, ap, subst, append_assoc}
+use Rattle.std.proofs.Common.{◌≡◌, inl, inr, ⊎_elim, ℕ, ◌≤◌, arith, List, [], ◌∷◌, ◌++◌, length, refl, sym, ◌∙◌, ap, subst, append_assoc}
 use mathlib.Core.Logic.{◌≢◌}
 use Rattle.std.proofs.lemmas.List.{append-nil}
 use Rattle.x_disk.specs.Disk.{View}
@@ -84,6 +84,10 @@ module _ {D : Type 0} (told : D → View) where
         others = λ own none. alike_on (start own) (old own) (new own) (so_far.others own none.1) (others own (λ is_own. none.0 (sym is_own)));
         seen = λ faulty. ⊎_elim (λ one. rose_on before mid after first (seen one)) (λ more. rose_then before mid after last (so_far.seen more)) faulty;
       }
+
+  pub none_left : (left : List (Seat D)) → length left ≡ 0 → left ≡ []
+  none_left [] is = refl
+  none_left (s ∷ left) is = absurd (omega (arith, is))
 
   pub closed : (start entry : List ℕ → View) (before after : ℕ) (all left : List (Seat D)) → left ≡ [] → IsClosing told start entry before after all left
       → AllBack told start entry all × (OtherDisksStay start entry all × (AnyFaulty told all → Rose before after))

@@ -1,5 +1,5 @@
 -- What holds of an answer, or of what may be there, made weaker.
-use Rattle.std.proofs.Common.{◌≡◌, Result, Ok, Err, IfOk, IfErr, OnOk, OnErr, Option, Some, None, IfSome, subst}
+use Rattle.std.proofs.Common.{◌≡◌, Result, Ok, Err, IfOk, IfErr, OnOk, OnErr, Option, Some, None, IfSome, IfNone, subst}
 use Rattle.std.specs.Result.{IsErrAnd}
 
 pub if_ok : {T E : Type 0} (r : Result T E) (P Q : T → Type 0) → ((x : T) → P x → Q x) → IfOk r P → IfOk r Q
@@ -10,13 +10,13 @@ pub on_ok : {T E : Type 0} (r : Result T E) (P Q : Type 0) → (P → Q) → OnO
 on_ok (Ok x) P Q more is = more is
 on_ok (Err e) P Q more is = tt
 
-pub if_err : {T E : Type 0} (r : Result T E) (P Q : E → Type 0) → ((e : E) → P e → Q e) → IfErr r P → IfErr r Q
-if_err (Ok x) P Q more is = tt
-if_err (Err e) P Q more is = more e is
-
 pub if_some : {T : Type 0} (o : Option T) (P Q : T → Type 0) → ((x : T) → P x → Q x) → IfSome o P → IfSome o Q
 if_some (Some x) P Q more is = more x is
 if_some None P Q more is = tt
+
+pub if_none : {T : Type 0} (o : Option T) (P Q : Type 0) → (P → Q) → IfNone o P → IfNone o Q
+if_none (Some x) P Q more is = tt
+if_none None P Q more is = more is
 
 -- an answer has one error
 pub one_err : {T E : Type 0} (r : Result T E) (d e : E) → r ≡ Err d → r ≡ Err e → d ≡ e
@@ -29,3 +29,6 @@ on_err (Err e) P is = is
 -- what holds of the error of an answer
 pub of_err : {T E : Type 0} (r : Result T E) (P : E → Type 0) (e : E) → IsErrAnd r P → r ≡ Err e → P e
 of_err r P e of is = subst (λ (x : Result _ _). IsErrAnd x P) is of
+
+pub of_if_err : {T E : Type 0} (r : Result T E) (P : E → Type 0) (e : E) → IfErr r P → r ≡ Err e → P e
+of_if_err r P e of is = subst (λ (x : Result _ _). IfErr x P) is of

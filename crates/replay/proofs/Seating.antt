@@ -1,8 +1,8 @@
 -- Seats: taking out and putting in.
-use Rattle.std.proofs.Common.{◌≡◌, ◌⊎◌, inl, inr, ℕ, ◌+◌, ◌<◌, List, [], ◌∷◌, ◌++◌, length, get_or, set, take, drop, sym, ◌∙◌, ap, subst, arith, take-append-drop}
+use Rattle.std.proofs.Common.{◌≡◌, ◌⊎◌, inl, inr, ℕ, zero, suc, ◌+◌, ◌<◌, List, [], ◌∷◌, ◌++◌, length, get_or, set, take, drop, refl, sym, ◌∙◌, ap, subst, arith, take-append-drop}
 use Rattle.std.proofs.lemmas.List.{set_at, get_or_at, drop_more, length-take-le}
 use Rattle.key_store.specs.Store.{Stored}
-use Rattle.replay.specs.Seats.{seat, IsOpen, AreOpen, IsLifted, IsSetDown}
+use Rattle.replay.specs.Seats.{seat, Fills, IsOpen, AreOpen, IsLifted, owners}
 use Rattle.replay.specs.declared.seat.Seat.{Seat}
 use Rattle.replay.specs.declared.seat.Held.{Held}
 use Rattle.replay.specs.declared.seat.Held.TheVariants.{Open, Loose, Out}
@@ -37,8 +37,13 @@ module _ {D : Type 0} where
       size : length (take place seats) ≡ place
       size = length-take-le place seats (omega (arith, lt))
 
-  pub sets_down : (seats : List (Seat D)) (place : ℕ) (r : Seat D) (held : Held D) → r ≡ get_or seats place r → IsSetDown seats (set seats place (seat r.own held)) place held
-  sets_down seats place r held read = λ front s back is size.
-      let same : r ≡ s = read ∙ (ap (λ (l : List (Seat D)). get_or l place r) is ∙ get_or_at front s back r place size) in
+  pub owners_set : (seats : List (Seat D)) (place : ℕ) (r : Seat D) (held : Held D) → r ≡ get_or seats place r → owners (set seats place (seat r.own held)) ≡ owners seats
+  owners_set [] place r held read = refl
+  owners_set (s ∷ seats) zero r held read = ap (λ (x : Seat D). x.own ∷ owners seats) read
+  owners_set (s ∷ seats) (suc place) r held read = ap (λ (l : List (List ℕ)). s.own ∷ l) (owners_set seats place r held read)
+
+  pub fills : (seats : List (Seat D)) (place : ℕ) (r : Seat D) (held : Held D) → r ≡ get_or seats place r → Fills seats (set seats place (seat r.own held)) place held
+  fills seats place r held read = λ front own back is size.
+      let same : r ≡ seat own Out = read ∙ (ap (λ (l : List (Seat D)). get_or l place r) is ∙ get_or_at front (seat own Out) back r place size) in
       ap (λ (l : List (Seat D)). set l place (seat r.own held)) is
-      ∙ (set_at front s back (seat r.own held) place size ∙ ap (λ (x : Seat D). front ++ seat x.own held ∷ back) same)
+      ∙ (set_at front (seat own Out) back (seat r.own held) place size ∙ ap (λ (x : Seat D). front ++ seat x.own held ∷ back) same)

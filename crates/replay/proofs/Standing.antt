@@ -2,21 +2,22 @@
 use Rattle.std.proofs.Common.{◌≡◌, ℕ, Bool, true, false, List, [], ◌∷◌, Some, is_some, bytes_eq, refl, sym, ◌∙◌, ap, subst}
 use Rattle.std.proofs.lemmas.Slice.Eq.{bytes_eq-Decides}
 use Rattle.x_disk.specs.Disk.{View}
-use Rattle.world_laws.specs.World.{Member, own_of, member_at}
+use Rattle.member.specs.Member.{Member}
+use Rattle.world_laws.specs.World.{own_of, member_at}
 use Rattle.replay.specs.Breaking.{ReadsAs, AreOnShelf, StandsFor, StandForAll}
 use Rattle.replay.specs.Closing.{IsBack, AllBack}
-use Rattle.replay.specs.Stops.{ImageOf}
+use Rattle.node_core.specs.Turns.{IsImageOf}
 use Rattle.replay.specs.declared.seat.Seat.{Seat}
 use Rattle.replay.specs.declared.seat.Held.{Held}
 use Rattle.replay.specs.declared.seat.Held.TheVariants.{Open, Loose, Out}
-use Rattle.replay.proofs.Carrying.{image_of}
+use Rattle.replay.proofs.Images.{image_of}
 use Rattle.replay.proofs.Members.{cond_yes, cond_not}
 
 module _ {D : Type 0} (told : D → View) (old entry : List ℕ → View) where
   back_reads : (own : List ℕ) (h : Held D) (x : Member) → IsBack told old entry own h → StandsFor told old own h x → ReadsAs (entry own) x
   back_reads own (Open node) x back stands = record {
     tells = ap is_some back.0.now ∙ stands.0.tells;
-    stands = λ image now. subst (λ (m : Member). ImageOf m image) stands.1 (image_of (told node.disk) node.gate node.end node.party back.1 image (sym back.0.now ∙ now));
+    stands = λ image now. subst (λ (m : Member). IsImageOf m image) stands.1 (image_of (told node.disk) node.gate node.end node.party back.1 image (sym back.0.now ∙ now));
   }
   back_reads own (Loose disk) x back stands = record { tells = ap is_some back.now ∙ stands.1.tells; stands = λ image now. stands.1.stands image (sym back.now ∙ now) }
   back_reads own Out x back stands = record { tells = ap is_some back.now ∙ stands.1.tells; stands = λ image now. stands.1.stands image (sym back.now ∙ now) }

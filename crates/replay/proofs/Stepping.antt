@@ -1,105 +1,128 @@
--- A whole event in a network, by what the party says.
-use Rattle.std.proofs.Common.{arith, ◌≡◌, inl, inr, ◌<◌, ℕ, map, List, [], ◌∷◌, ◌++◌, Option, Some, bytes_eq, Result, Ok, Err, sym, ◌∙◌, ap, ap₂, subst}
+-- An event in a network, by what is planned: whole, or stopped.
+use Rattle.std.proofs.Common.{◌≡◌, ◌⊎◌, inl, inr, ◌<◌, ℕ, Bool, true, false, cond, map, List, [], ◌∷◌, ◌++◌, Option, Some, None, bytes_eq, refl, sym, ◌∙◌, ap, ap₂, subst}
 use Rattle.std.specs.Prelude.{option_to_list}
-use Rattle.x_base.specs.Edge.{Rose}
-use Rattle.x_base.specs.declared.key_name.FullName.{FullName}
-use Rattle.x_base.specs.declared.verdict.Verdict.TheVariants.{Accept}
-use mathlib.Core.Logic.{◌≢◌}
-use Rattle.x_disk.specs.Disk.{View}
-use Rattle.party_state.specs.State.{Party}
-use Rattle.party_state.specs.Tables.{put_row}
+use Rattle.std.proofs.lemmas.List.{append-nil}
+use Rattle.x_base.specs.declared.verdict.Verdict.{Verdict}
+use Rattle.x_disk.specs.Disk.{View, Tells}
+use Rattle.party_tables.specs.Tables.{put_row}
 use Rattle.party_state.specs.declared.command.Input.{Input}
-use Rattle.roles.specs.Deciding.{decision}
-use Rattle.node_core.specs.Turns.{FitsInto}
+use Rattle.key_store.specs.Store.{Stored}
 use Rattle.fact_book.specs.Facts.{NamedText}
-use Rattle.world_laws.specs.World.{World, Member, own_of, member_at}
-use Rattle.world_laws.specs.Events.{Whole}
-use Rattle.world_laws.specs.Steps.{world_after_input}
+use Rattle.member.specs.Member.{Member, Plan, plan_at, after}
+use Rattle.node_core.specs.Planned.{PlannedNode}
+use Rattle.node_core.specs.Turns.{member_of}
+use Rattle.world_laws.specs.World.{World, own_of, member_at}
+use Rattle.world_laws.specs.Events.{CutOld, CutNew}
 use Rattle.world_laws.specs.Honest.{named_text}
-use Rattle.world_laws.specs.Nodes.{member_of, IsAcceptedEvent, IsRefusedEvent, IsNoEvent}
-use Rattle.replay.specs.Saying.{said_verdict}
-use Rattle.replay.specs.Told.{IsShownBy}
+use Rattle.world_laws.specs.Noted.{noted}
+use Rattle.course.specs.Outcomes.{world_after_told, completion_of}
+use Rattle.member.specs.Acts.{taking}
+use Rattle.world_laws.specs.Nodes.{IsAfter, IsEventOf, input_event}
+use Rattle.course.specs.Stops.{KeepsChange, member_next}
+use Rattle.course.specs.declared.progress.Stop.{Stop}
 use Rattle.replay.specs.Closing.{AnyFaulty}
-use Rattle.replay.specs.Scene.{noted}
-use Rattle.replay.specs.Seats.{seat, members, IsOf, AreIn, AreOpen, NoneOf, IsPlace, IsToldAt, owners}
-use Rattle.replay.specs.declared.failure.Failure.{Failure}
-use Rattle.replay.specs.declared.failure.Failure.TheVariants as failure
+use Rattle.replay.specs.Events.{IsWhole, IsStoppedIn}
+use Rattle.replay.specs.Scene.{Shows, IsStep, IsCutStep}
+use Rattle.replay.specs.Seats.{seat, members, IsOf, AreIn, NoneOf, IsPlace, IsLifted}
+use Rattle.replay.specs.declared.scene.Scene.{Scene}
 use Rattle.replay.specs.declared.seat.Seat.{Seat}
 use Rattle.replay.specs.declared.seat.Held.TheVariants.{Open, Loose}
-use Rattle.replay.specs.declared.seated.Saying.{Saying}
-use Rattle.replay.proofs.Members.{found, put, stay_in, of_in, still_open, same_owners}
-use Rattle.replay.proofs.Worlds.{WholeIs, whole_is}
+use Rattle.replay.proofs.Members.{found, put, stay_in, of_in, put_stands}
 
-module _ {D : Type 0} (told : D → View) (old new : List (Seat D)) (place : ℕ) (i : Input) (moment : ℕ) (s : Saying) (t : IsToldAt told old new place i moment (Ok s)) (all : AreIn told old) where
-  split_in : AreIn told (t.front ++ seat t.own (Open t.node) ∷ t.back)
-  split_in = subst (AreIn told) t.before all
+-- the party that was taken out, in a network that its scene shows
+module _ {D : Type 0} (told : D → View) (old mid : List (Seat D)) (place : ℕ) (node : Stored D) (l : IsLifted old mid place node) (w : World) (all : AreIn told old) (members_are : members old ≡ w.members) (own : List ℕ) (is_place : IsPlace old own place) where
+  split_in : AreIn told (l.front ++ seat l.own (Open node) ∷ l.back)
+  split_in = subst (AreIn told) l.before all
 
-  was_of : IsOf told t.own t.node
-  was_of = of_in told t.own t.node t.back t.front split_in
+  pub was_of : IsOf told l.own node
+  was_of = of_in told l.own node l.back l.front split_in
 
-  is_of : IsOf told t.own t.tells.0
-  is_of = record { named = t.tells.2.telling.own ∙ was_of.named; tells = t.tells.2.tells ∙ was_of.tells }
+  here : NoneOf l.front own × (l.own ≡ own)
+  here = is_place l.front (seat l.own (Open node)) l.back l.before l.size
 
-  pub event_in : AreIn told new
-  event_in = subst (AreIn told) (sym t.tells.1) (stay_in told t.own t.node t.back t.tells.0 is_of t.front split_in)
+  none : NoneOf l.front l.own
+  none = subst (NoneOf l.front) (sym here.1) here.0
 
-  module _ (texts new_texts : List (List ℕ)) (facts new_facts : List NamedText) (put_texts : new_texts ≡ texts ++ option_to_list s.reply) (put_facts : new_facts ≡ facts ++ noted s.under s.reply)
-      (accepted : (p : Party) (left : ℕ) (i : Input) (moment : ℕ) → (decision p i moment).verdict ≡ Accept → FitsInto left (decision p i moment).change → IsAcceptedEvent p left i moment)
-      (refused : (p : Party) (left : ℕ) (i : Input) (moment : ℕ) → (decision p i moment).verdict ≢ Accept → IsRefusedEvent p left i moment)
-      (full : (p : Party) (left : ℕ) (i : Input) (moment : ℕ) → (decision p i moment).verdict ≡ Accept → (FitsInto left (decision p i moment).change → ⊥) → IsNoEvent p left i moment)
-      (w : World) (n : ℕ) (members_are : members old ≡ w.members) (texts_are : texts ≡ w.texts) (facts_are : facts ≡ map named_text w.facts) where
-    pub record EventIs (own : List ℕ) : Type 0 where
-      pub member : Member
-      pub at : member_at own w.members ≡ Some member
-      pub members_after : members new ≡ (world_after_input n w member i moment Whole).members
-      pub texts_after : new_texts ≡ (world_after_input n w member i moment Whole).texts
-      pub facts_after : new_facts ≡ map named_text (world_after_input n w member i moment Whole).facts
-      pub verdict_is : s.verdict ≡ said_verdict member (decision member.party i moment)
+  pub at : member_at own w.members ≡ Some (member_of node)
+  at = subst (λ (o : List ℕ). member_at o w.members ≡ Some (member_of node)) here.1
+      (ap (λ (ms : List Member). member_at l.own ms) (sym members_are ∙ ap members l.before) ∙ found told l.own node l.back l.front split_in none)
 
-    event_here : NoneOf t.front t.own → EventIs t.own
-    event_here none =
-        let x : Member = member_of t.node in
-        let p : Party = t.node.party in
-        let said = t.tells.2.telling in
-        let at : member_at t.own w.members ≡ Some (member_of t.node) = ap (λ (ms : List Member). member_at t.own ms) (sym members_are ∙ ap members t.before) ∙ found told t.own t.node t.back t.front split_in none in
-        let whole : WholeIs n w x t.own i moment was_of.named at (accepted p x.room i moment) (refused p x.room i moment) (full p x.room i moment) =
-        whole_is n w x t.own i moment was_of.named at (accepted p x.room i moment) (refused p x.room i moment) (full p x.room i moment) in
+  pub at_own : member_at node.party.own w.members ≡ Some (member_of node)
+  at_own = subst (λ (o : List ℕ). member_at o w.members ≡ Some (member_of node)) (sym (was_of.named ∙ here.1)) at
+
+  module _ (new : Stored D) (seats : List (Seat D)) (is : seats ≡ l.front ++ seat l.own (Open new) ∷ l.back) (own_stays : new.party.own ≡ node.party.own) (tells : Tells (told new.disk)) where
+    pub in_after : AreIn told seats
+    in_after = subst (AreIn told) (sym is) (stay_in told l.own node l.back new (record { named = own_stays ∙ was_of.named; tells = tells }) l.front split_in)
+
+    pub members_after : members seats ≡ put_row own_of bytes_eq (member_of new) w.members
+    members_after = ap members is ∙ (put told l.own node l.back new (own_stays ∙ was_of.named) l.front split_in none ∙ ap (λ (ms : List Member). put_row own_of bytes_eq (member_of new) ms) (sym (ap members l.before) ∙ members_are))
+
+-- a whole event
+module _ {D : Type 0} (told : D → View) (laws : (x : Member) (i : Input) (moment : ℕ) → IsEventOf x (taking (plan_at x i moment)) (input_event x i moment)) (old mid new : Scene D) (place : ℕ) (p : PlannedNode D) (l : IsLifted old.parties mid.parties place p.node)
+    (texts_stay : mid.texts ≡ old.texts) (facts_stay : mid.facts ≡ old.facts) (i : Input) (moment : ℕ) (verdict : Verdict) (planned : p.plan ≡ plan_at (member_of p.node) i moment) (whole : IsWhole told p mid new place verdict) where
+  pub whole_step : IsStep told old new place i moment verdict
+  whole_step = λ w n own is_place shows.
+      let x : Member = member_of p.node in
+      let plan : Plan = plan_at x i moment in
+      let of = was_of told old.parties mid.parties place p.node l w shows.seated shows.members_are own is_place in
+      let is = whole.fills l.front l.own l.back l.after l.size in
+      let tells : Tells (told whole.node.disk) = whole.tells ∙ of.tells in
+      let net = (laws x i moment).whole n w (at_own told old.parties mid.parties place p.node l w shows.seated shows.members_are own is_place) in (
+        x,
+        at told old.parties mid.parties place p.node l w shows.seated shows.members_are own is_place,
         record {
-          member = x;
-          at = at;
-          members_after =
-              ap members t.tells.1 ∙ (put told t.own t.node t.back t.tells.0 is_of.named t.front split_in none
-              ∙ (ap (λ (ms : List Member). put_row own_of bytes_eq (member_of t.tells.0) ms) (sym (ap members t.before) ∙ members_are)
-              ∙ (ap (λ (m : Member). put_row own_of bytes_eq m w.members) said.member ∙ whole.members_are)));
-          texts_after = put_texts ∙ (ap₂ (λ (l : List (List ℕ)) (o : Option (List ℕ)). l ++ option_to_list o) texts_are said.reply_is ∙ whole.texts_are);
-          facts_after = put_facts ∙ (ap₂ (λ (l k : List NamedText). l ++ k) facts_are (ap₂ (λ (u : Option FullName) (o : Option (List ℕ)). noted u o) said.under_is said.reply_is) ∙ whole.facts_are);
-          verdict_is = said.verdict_is;
-        }
+          seated = in_after told old.parties mid.parties place p.node l w shows.seated shows.members_are own is_place whole.node new.parties is whole.own tells;
+          members_are = members_after told old.parties mid.parties place p.node l w shows.seated shows.members_are own is_place whole.node new.parties is whole.own tells
+              ∙ (ap (λ (m : Member). put_row own_of bytes_eq m w.members) (whole.next ∙ ap (λ (q : Plan). after x q.edits) planned) ∙ sym net.members);
+          texts_are = whole.texts_are ∙ (ap₂ (λ (ts : List (List ℕ)) (q : Plan). ts ++ option_to_list q.reply) (texts_stay ∙ shows.texts_are) planned ∙ sym net.texts);
+          facts_are = whole.facts_are ∙ (ap₂ (λ (fs : List NamedText) (q : Plan). fs ++ noted q.under q.reply) (facts_stay ∙ shows.facts_are) planned ∙ sym net.facts_are);
+        },
+        whole.verdict_is ∙ ap (λ (q : Plan). q.verdict) planned,
+      )
 
-    pub event_at : (own : List ℕ) → IsPlace old own place → EventIs own
-    event_at own is_place =
-        let p = is_place t.front (seat t.own (Open t.node)) t.back t.before t.size in
-        subst EventIs p.1 (event_here (subst (NoneOf t.front) (sym p.1) p.0))
+-- a stopped one
+module _ {D : Type 0} (told : D → View) (old mid new : Scene D) (place : ℕ) (node : Stored D) (l : IsLifted old.parties mid.parties place node) (i : Option Input) (moment : ℕ) (stop : Stop) (before after : ℕ) (next : Bool)
+    (s : IsStoppedIn told mid.parties new.parties place node i moment stop before after next) (adds : List NamedText) (texts_stay : new.texts ≡ old.texts) (facts_grow : new.facts ≡ old.facts ++ cond next adds [])
+    (own_next : (member_next (member_of node) i moment).party.own ≡ node.party.own)
+    (cuts : KeepsChange (member_of node) i moment → (n : ℕ) (w : World) → member_at node.party.own w.members ≡ Some (member_of node) → IsAfter w (world_after_told n w (member_of node) i moment CutNew) (member_next (member_of node) i moment) None adds)
+    (stays : (n : ℕ) (w : World) → world_after_told n w (member_of node) i moment CutOld ≡ w) where
+  pub cut_step : IsCutStep told old new place i moment stop before after next
+  cut_step = λ w n own is_place shows.
+      let of = was_of told old.parties mid.parties place node l w shows.seated shows.members_are own is_place in
+      let stopped = s.stops of.tells in
+      let here = at told old.parties mid.parties place node l w shows.seated shows.members_are own is_place in
+      (member_of node, here, go w n own is_place shows stopped.tells stopped.fixed.kept stopped.cut, stopped.fixed)
+    where
+      go : (w : World) (n : ℕ) (own : List ℕ) (is_place : IsPlace old.parties own place) (shows : Shows told w old) → Tells (told s.opened.disk) → (next ≡ true → KeepsChange (member_of node) i moment)
+          → ((next ≡ false) × (member_of s.opened ≡ member_of node)) ⊎ ((next ≡ true) × (member_of s.opened ≡ member_next (member_of node) i moment)) → Shows told (world_after_told n w (member_of node) i moment (completion_of next)) new
+      go w n own is_place shows tells kept (inl one) =
+          let x : Member = member_of node in
+          let is = s.fills l.front l.own l.back l.after l.size in
+          let own_is : s.opened.party.own ≡ node.party.own = ap (λ (m : Member). m.party.own) one.1 in
+          let world_is : world_after_told n w x i moment (completion_of next) ≡ w = ap (λ (b : Bool). world_after_told n w x i moment (completion_of b)) one.0 ∙ stays n w in
+          record {
+            seated = in_after told old.parties mid.parties place node l w shows.seated shows.members_are own is_place s.opened new.parties is own_is tells;
+            members_are = members_after told old.parties mid.parties place node l w shows.seated shows.members_are own is_place s.opened new.parties is own_is tells
+                ∙ (ap (λ (m : Member). put_row own_of bytes_eq m w.members) one.1
+                ∙ (put_stands x node.party.own w.members refl (at_own told old.parties mid.parties place node l w shows.seated shows.members_are own is_place) ∙ ap (λ (v : World). v.members) (sym world_is)));
+            texts_are = texts_stay ∙ (shows.texts_are ∙ ap (λ (v : World). v.texts) (sym world_is));
+            facts_are = facts_grow ∙ (ap₂ (λ (fs : List NamedText) (b : Bool). fs ++ cond b adds []) shows.facts_are one.0 ∙ (append-nil (map named_text w.facts) ∙ ap (λ (v : World). map named_text v.facts) (sym world_is)));
+          }
+      go w n own is_place shows tells kept (inr two) =
+          let x : Member = member_of node in
+          let is = s.fills l.front l.own l.back l.after l.size in
+          let own_is : s.opened.party.own ≡ node.party.own = ap (λ (m : Member). m.party.own) two.1 ∙ own_next in
+          let net = cuts (kept two.0) n w (at_own told old.parties mid.parties place node l w shows.seated shows.members_are own is_place) in
+          let world_is : world_after_told n w x i moment (completion_of next) ≡ world_after_told n w x i moment CutNew = ap (λ (b : Bool). world_after_told n w x i moment (completion_of b)) two.0 in
+          record {
+            seated = in_after told old.parties mid.parties place node l w shows.seated shows.members_are own is_place s.opened new.parties is own_is tells;
+            members_are = members_after told old.parties mid.parties place node l w shows.seated shows.members_are own is_place s.opened new.parties is own_is tells
+                ∙ (ap (λ (m : Member). put_row own_of bytes_eq m w.members) two.1 ∙ (sym net.members ∙ ap (λ (v : World). v.members) (sym world_is)));
+            texts_are = texts_stay ∙ (shows.texts_are ∙ (sym (net.texts ∙ append-nil w.texts) ∙ ap (λ (v : World). v.texts) (sym world_is)));
+            facts_are = facts_grow ∙ (ap₂ (λ (fs : List NamedText) (b : Bool). fs ++ cond b adds []) shows.facts_are two.0 ∙ (sym net.facts_are ∙ ap (λ (v : World). map named_text v.facts) (sym world_is)));
+          }
 
-pub told_open : {D : Type 0} (told : D → View) (old new : List (Seat D)) (place : ℕ) (i : Input) (moment : ℕ) (s : Saying) → IsToldAt told old new place i moment (Ok s) → AreOpen old → AreOpen new
-told_open told old new place i moment s t all = subst AreOpen (sym t.tells.1) (still_open t.front t.own t.node t.tells.0 t.back (subst AreOpen t.before all))
-
-pub told_owners : {D : Type 0} (told : D → View) (old new : List (Seat D)) (place : ℕ) (i : Input) (moment : ℕ) (result : Result Saying Failure) → IsToldAt told old new place i moment result → owners new ≡ owners old
-told_owners told old new place i moment (Ok s) t = ap owners t.tells.1 ∙ (same_owners t.front t.own (Open t.tells.0) (Open t.node) t.back ∙ sym (ap owners t.before))
-told_owners told old new place i moment (Err why) t = ap owners t.tells.1 ∙ (same_owners t.front t.own (Loose t.tells.0) (Open t.node) t.back ∙ sym (ap owners t.before))
-
--- a disk that is loose and failed
-pub risen : (a b : ℕ) → Rose a b → 0 < b
-risen a b (inl less) = omega (arith, less)
-risen a b (inr most) = omega (arith, most)
-
+-- a loose disk that failed
 pub faulty_at : {D : Type 0} (told : D → View) (front : List (Seat D)) (own : List ℕ) (disk : D) (back : List (Seat D)) → 0 < (told disk).faults → AnyFaulty told (front ++ seat own (Loose disk) ∷ back)
 faulty_at told [] own disk back some = inl some
 faulty_at told (f ∷ front) own disk back some = inr (faulty_at told front own disk back some)
-
-pub told_faulty : {D : Type 0} (told : D → View) (old new : List (Seat D)) (place : ℕ) (i : Input) (moment : ℕ) (result : Result Saying Failure) → IsToldAt told old new place i moment result → result ≡ Err failure.Fault → AnyFaulty told new
-told_faulty told old new place i moment (Ok s) t is = absurd (cc is)
-told_faulty {D = D} told old new place i moment (Err why) t is =
-    let fault : why ≡ failure.Fault = cc is in
-    let rose : IsShownBy failure.Fault (told t.node.disk).faults (told t.tells.0).faults = subst (λ (w : Failure). IsShownBy w (told t.node.disk).faults (told t.tells.0).faults) fault t.tells.2.telling in
-    subst (AnyFaulty told) (sym t.tells.1) (faulty_at told t.front t.own t.tells.0 t.back (risen (told t.node.disk).faults (told t.tells.0).faults rose))

@@ -1,45 +1,45 @@
 -- An event that breaks off, or whose lines aren't all written, is one of the network.
 use Rattle.std.proofs.Common.{arith, ◌≡◌, inl, inr, ℕ, ◌+◌, List, [], ◌++◌, length, take, Option, Some, None, slice_get, refl, sym, ◌∙◌, ap, ap₂, subst}
 use Rattle.std.proofs.lemmas.List.{append-nil}
-use Rattle.x_base.specs.Edge.{AppendsTo}
+use Rattle.x_base.specs.Edge.{AppendsTo, WrotePrefix}
 use Rattle.x_disk.specs.Disk.{View}
 use Rattle.party_state.specs.declared.command.Input.{Input}
-use Rattle.world_laws.specs.World.{World, Member, member_at}
+use Rattle.member.specs.Member.{Member}
+use Rattle.world_laws.specs.World.{World, member_at}
 use Rattle.world_laws.specs.Events.{Action, Orders, Hears, Event}
 use Rattle.world_laws.specs.Honest.{HonestAt}
 use Rattle.world_laws.specs.Steps.{step, step_at}
-use Rattle.replay.specs.Acting.{HonestInput, Acts}
-use Rattle.replay.specs.Breaking.{StandForAll, IsEventOf, IsBreak, BreaksEvent}
+use Rattle.course.specs.Forging.{HonestInput}
+use Rattle.replay.specs.Acting.{Acts}
+use Rattle.replay.specs.Breaking.{StandForAll, IsBreak, BreaksEvent}
+use Rattle.course.specs.Parts.{IsEventOf}
 use Rattle.replay.specs.Breaks.{IsBrokenAct, BreaksOff, BreaksHonest, BreaksAct}
-use Rattle.replay.specs.Course.{Course, no_event, event_at, IsDoneBy, IsDone}
+use Rattle.course.specs.Course.{Course, no_event, event_at, IsDoneBy, IsDone}
 use Rattle.replay.specs.Failing.{IsFailing}
-use Rattle.replay.specs.Inputs.{input_of}
-use Rattle.replay.specs.Happenings.{Happening, Nothing, At, IsNumbered}
-use Rattle.replay.specs.Outcomes.{input_in}
-use Rattle.replay.specs.Scene.{Shows, world_after_told}
+use Rattle.course.specs.Happenings.{Happening, Nothing, At, IsNumbered}
+use Rattle.course.specs.Outcomes.{input_in, world_after_told}
+use Rattle.replay.specs.Scene.{Shows}
 use Rattle.replay.specs.Seats.{IsPlace}
-use Rattle.replay.specs.Transcript.{outcome_line, text_line, event_lines, written_between}
-use Rattle.replay.specs.Writing.{WrotePrefix}
-use Rattle.replay.specs.declared.act.Act.{Act}
-use Rattle.replay.specs.declared.act.Act.TheVariants as act
-use Rattle.replay.specs.declared.act.Telling.{Telling}
-use Rattle.replay.specs.declared.act.Telling.TheVariants as telling
+use Rattle.course.specs.Transcript.{outcome_line, text_line, event_lines, written_between}
+use Rattle.course.specs.declared.act.Act.{Act}
+use Rattle.course.specs.declared.act.Act.TheVariants as act
+use Rattle.party_state.specs.declared.command.Input.TheVariants as input
 use Rattle.replay.specs.declared.failure.Ending.{Ending}
 use Rattle.replay.specs.declared.failure.Ending.TheVariants as ending
 use Rattle.replay.specs.declared.failure.Failure.{Failure}
 use Rattle.replay.specs.declared.failure.Failure.TheVariants as failure
-use Rattle.replay.specs.declared.progress.Outcome.{Outcome}
-use Rattle.replay.specs.declared.progress.Progress.{Progress}
+use Rattle.course.specs.declared.progress.Outcome.{Outcome}
+use Rattle.course.specs.declared.progress.Progress.{Progress}
 use Rattle.replay.specs.declared.scene.Scene.{Scene}
+use Rattle.replay.specs.declared.seat.Seat.{Seat}
 use Rattle.replay.proofs.Breakage.{shown_stand}
-use Rattle.replay.proofs.Happened.{told_action, honest_action}
+use Rattle.replay.proofs.Happened.{nothing_done, told_action, honest_action, quiet_honest}
 use Rattle.replay.proofs.Leading.{appends_more}
-use Rattle.replay.proofs.Running.{quiet_honest}
 
 module _ {D : Type 0} (told : D → View) (entry : List ℕ → View) (old new : Scene D) where
   -- an honest event broke off
   pub breaks_honest : (place : ℕ) (i : Option Input) (moment : ℕ) (why : Failure)
-      → ((w : World) (own : List ℕ) → IsPlace old.seats.items own place → Shows told w old → (x : Member) × (member_at own w.members ≡ Some x) × HonestInput w.facts x.party i)
+      → ((w : World) (own : List ℕ) → IsPlace old.parties own place → Shows told w old → (x : Member) × (member_at own w.members ≡ Some x) × HonestInput w.facts x.party i)
       → BreaksOff told entry old new place i moment why → BreaksHonest told entry old new place i moment why
   breaks_honest place i moment why honest breaks = λ w n own is_place shows.
       let h = honest w own is_place shows in
@@ -49,8 +49,8 @@ module _ {D : Type 0} (told : D → View) (entry : List ℕ → View) (old new :
       (b.0, b.1, subst (λ (x : Member). HonestInput w.facts x.party i) same h.2)
 
   module _ (now : Progress) (why : Failure) where
-    broken_act : (party : List ℕ) (place number : ℕ) (action : Action) → IsNumbered action number → IsPlace old.seats.items party place → BreaksHonest told entry old new place (input_in action) now.moment why
-        → (c : Course) → c.now ≡ now → Shows told c.world old → IsFailing why × IsBrokenAct told entry c new.seats.items (At party action)
+    broken_act : (party : List ℕ) (place number : ℕ) (action : Action) → IsNumbered action number → IsPlace old.parties party place → BreaksHonest told entry old new place (input_in action) now.moment why
+        → (c : Course) → c.now ≡ now → Shows told c.world old → IsFailing why × IsBrokenAct told entry c new.parties (At party action)
     broken_act party place number action numbered is_place breaks c is shows =
         let b = breaks c.world c.now.number party is_place shows in
         let moment : now.moment ≡ c.now.moment = sym (ap (λ (q : Progress). q.moment) is) in
@@ -64,19 +64,31 @@ module _ {D : Type 0} (told : D → View) (entry : List ℕ → View) (old new :
             event = event;
             is = inr refl;
             honest = subst (λ (m : Option Member). HonestAt c.world.facts m action) (sym b.1.at) (honest_action c.world.facts b.1.member.party number action numbered b.2);
-            stands = subst (λ (u : World). StandForAll told entry new.seats.items u.members) (sym world_is) b.1.stands;
+            stands = subst (λ (u : World). StandForAll told entry new.parties u.members) (sym world_is) b.1.stands;
           },
         )
 
-    pub told_act : (party : List ℕ) (place : ℕ) (t : Telling) → IsPlace old.seats.items party place → BreaksHonest told entry old new place (Some (input_of t)) now.moment why → BreaksAct told entry (act.Tell party t) old new now why
-    told_act party place (telling.Ordered command) is_place breaks = λ c h is shows means.
-        subst (λ (k : Happening). IsFailing why × IsBrokenAct told entry c new.seats.items k) (sym means) (broken_act party place 0 (Orders command.now) tt is_place breaks c is shows)
-    told_act party place (telling.Arrived a) is_place breaks = λ c h is shows means.
-        subst (λ (k : Happening). IsFailing why × IsBrokenAct told entry c new.seats.items k) (sym means.1) (broken_act party place 0 (Hears means.0 (Some a.now)) tt is_place breaks c is shows)
+    pub told_act : (party : List ℕ) (place : ℕ) (t : Input) → IsPlace old.parties party place → BreaksHonest told entry old new place (Some t) now.moment why → BreaksAct told entry (act.Tell party t) old new now why
+    told_act party place (input.Ordered command) is_place breaks = λ c h is shows means.
+        subst (λ (k : Happening). IsFailing why × IsBrokenAct told entry c new.parties k) (sym means) (broken_act party place 0 (Orders command) tt is_place breaks c is shows)
+    told_act party place (input.Arrived a) is_place breaks = λ c h is shows means.
+        subst (λ (k : Happening). IsFailing why × IsBrokenAct told entry c new.parties k) (sym means.1) (broken_act party place 0 (Hears means.0 (Some a)) tt is_place breaks c is shows)
 
-    pub refused_act : (party : List ℕ) (place number : ℕ) → IsPlace old.seats.items party place → BreaksHonest told entry old new place None now.moment why → BreaksAct told entry (act.Refuse party number) old new now why
+    pub refused_act : (party : List ℕ) (place number : ℕ) → IsPlace old.parties party place → BreaksHonest told entry old new place None now.moment why → BreaksAct told entry (act.Refuse party number) old new now why
     refused_act party place number is_place breaks = λ c h is shows means.
-        subst (λ (k : Happening). IsFailing why × IsBrokenAct told entry c new.seats.items k) (sym means.4) (broken_act party place number (Hears means.0 None) (means.1, means.2, means.3) is_place breaks c is shows)
+        subst (λ (k : Happening). IsFailing why × IsBrokenAct told entry c new.parties k) (sym means.4) (broken_act party place number (Hears means.0 None) (means.1, means.2, means.3) is_place breaks c is shows)
+
+  -- no event has begun, for want of memory
+  pub unplanned : (a : Act) (now : Progress) → new.parties ≡ old.parties → BreaksAct told entry a old new now failure.NoMemory
+  unplanned a now same = λ c h is shows means. (
+    tt,
+    record {
+      event = no_event c.now.moment;
+      is = inl refl;
+      honest = quiet_honest c;
+      stands = subst (λ (w : World). StandForAll told entry new.parties w.members) (sym (nothing_done c.now.number c.world c.now.moment)) (subst (λ (seats : List (Seat D)). StandForAll told entry seats c.world.members) (sym same) (shown_stand told entry c.world old shows));
+    },
+  )
 
 break_of : (why : Failure) → IsFailing why → IsBreak (ending.Failed why)
 break_of failure.Fault fails = tt

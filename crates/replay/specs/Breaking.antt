@@ -1,34 +1,34 @@
 -- A play that ends early: for what the disks stand, and what was written (this project's profile).
-use Rattle.std.specs.Prelude.{◌≡◌, ◌⊎◌, ◌≤◌, ◌++◌, ℕ, List, [], ◌∷◌, take, Option, Some}
+use Rattle.std.specs.Prelude.{◌≡◌, ◌≤◌, ◌++◌, ℕ, List, [], ◌∷◌, Option, Some}
 use Rattle.x_base.specs.Edge.{AppendsTo}
 use Rattle.x_disk.specs.Disk.{View, Tells}
 use Rattle.scenario.specs.declared.line.Line.{Line}
-use Rattle.world_laws.specs.World.{Member, member_at}
+use Rattle.member.specs.Member.{Member}
+use Rattle.world_laws.specs.World.{member_at}
 use Rattle.world_laws.specs.Events.{Event}
 use Rattle.world_laws.specs.Steps.{step}
 use Rattle.world_laws.specs.Honest.{HonestAt}
-use Rattle.world_laws.specs.Nodes.{member_of}
-use Rattle.replay.specs.Acting.{Means}
-use Rattle.replay.specs.Course.{Course, IsDone, Leads, IsAt, no_event, event_at}
-use Rattle.replay.specs.Happenings.{Happening, Nothing, At, Happens, IsFormed, IsNoEvent}
-use Rattle.replay.specs.Stops.{ImageOf}
+use Rattle.node_core.specs.Turns.{member_of, IsImageOf}
+use Rattle.course.specs.Acts.{Means}
+use Rattle.course.specs.Course.{Course, Leads}
+use Rattle.replay.specs.Course.{IsAt}
+use Rattle.course.specs.Happenings.{Happening}
 use Rattle.replay.specs.Seats.{IsOf}
-use Rattle.replay.specs.Transcript.{event_lines}
-use Rattle.replay.specs.declared.act.Act.{Act}
+use Rattle.course.specs.declared.act.Act.{Act}
 use Rattle.replay.specs.declared.failure.Ending.{Ending}
-use Rattle.replay.specs.declared.failure.Ending.TheVariants as ending
-use Rattle.replay.specs.declared.failure.Failure.TheVariants as failure
-use Rattle.replay.specs.declared.progress.Outcome.{Outcome}
-use Rattle.replay.specs.declared.progress.Progress.{Progress}
+use Rattle.course.specs.declared.progress.Progress.{Progress}
 use Rattle.replay.specs.declared.scene.Scene.{Scene}
 use Rattle.replay.specs.declared.seat.Seat.{Seat}
 use Rattle.replay.specs.declared.seat.Held.{Held}
 use Rattle.replay.specs.declared.seat.Held.TheVariants.{Open, Loose, Out}
+use Rattle.course.specs.Parts.{IsEventOf, IsPartDone, IsPartOf, HappensOr}
+use Rattle.replay.specs.declared.failure.Ending.TheVariants as ending
+use Rattle.replay.specs.declared.failure.Failure.TheVariants as failure
 
 -- the disk tells its bytes, and what a read gives of it stands for the member
 pub record ReadsAs (v : View) (x : Member) : Type 0 where
   pub tells : Tells v
-  pub stands : (image : List ℕ) → v.now ≡ Some image → ImageOf x image
+  pub stands : (image : List ℕ) → v.now ≡ Some image → IsImageOf x image
 
 -- the disk under each member's identity stands for it, as a read of it gives
 abbrev pub AreOnShelf : (List ℕ → View) → List Member → Type 0
@@ -47,30 +47,13 @@ StandForAll told entry [] (x ∷ members) = ⊥
 StandForAll told entry (s ∷ seats) [] = ⊥
 StandForAll told entry (s ∷ seats) (x ∷ members) = StandsFor told entry s.own s.held x × StandForAll told entry seats members
 
--- the event that happens, whole or cut
-abbrev pub IsBegun : ℕ → Happening → Event → Type 0
-IsBegun moment Nothing e = ⊥
-IsBegun moment (At own action) e = e ≡ event_at own moment action e.completion
-
--- or none has begun
-abbrev pub IsEventOf : ℕ → Happening → Event → Type 0
-IsEventOf moment h e = (e ≡ no_event moment) ⊎ IsBegun moment h e
-
--- a beginning of the lines of an event that is done, which may be nothing
-abbrev pub IsPartDone : ℕ → ℕ → Course → Happening → Event → List ℕ → Type 0
-IsPartDone before after c h e part = (o : Outcome) × (n : ℕ) × IsDone before after c h e o × (part ≡ take n (event_lines c.now.number o c.world.texts (step c.now.number c.world e).texts))
-
--- or nothing, of an event that is done or not
-abbrev pub IsPartOf : ℕ → ℕ → Course → Happening → Event → List ℕ → Type 0
-IsPartOf before after c h e part = (part ≡ []) ⊎ IsPartDone before after c h e part
-
 -- an honest event was whole or cut, or none has begun; the disks stand for the network behind it, and a beginning of its
 -- lines is out. Where the sink failed, the event is done
 pub record IsBrokenAt {D : Type 0} (told : D → View) (entry : List ℕ → View) (before after : ℕ) (start : Option (List ℕ)) (c : Course) (h : Happening) (new : Scene D) (written : Option (List ℕ)) (why : Ending) : Type 0 where
   pub event : Event
   pub is : IsEventOf c.now.moment h event
   pub honest : HonestAt c.world.facts (member_at event.party c.world.members) event.action
-  pub stands : StandForAll told entry new.seats.items (step c.now.number c.world event).members
+  pub stands : StandForAll told entry new.parties (step c.now.number c.world event).members
   pub part : List ℕ
   pub part_is : IsPartOf before after c h event part
   pub done : why ≡ ending.Write → IsPartDone before after c h event part
@@ -88,10 +71,6 @@ IsBreak (ending.Failed (failure.Damaged place)) = ⊥
 abbrev pub BreaksEvent : {D : Type 0} → (D → View) → (List ℕ → View) → ℕ → ℕ → Act → Scene D → Scene D → Progress → Option (List ℕ) → Option (List ℕ) → Ending → Type 0
 BreaksEvent told entry low high a old new p written next why = (before after : ℕ) → before ≤ low → high ≤ after → (start : Option (List ℕ)) (c : Course) (h : Happening) → IsAt told start c old p written → Means a h
     → IsBreak why × IsBrokenAt told entry before after start c h new next why
-
--- what an event's line makes happen; of a line that is no event, nothing
-abbrev pub HappensOr : Line → List (List ℕ) → Happening → Type 0
-HappensOr l texts h = (IsNoEvent l × (h ≡ Nothing)) ⊎ (Happens l texts h × IsFormed h)
 
 -- the lines led up to one at which the play broke off
 pub record IsBrokenIn {D : Type 0} (told : D → View) (entry : List ℕ → View) (before after : ℕ) (start : Option (List ℕ)) (lines : List Line) (c : Course) (new : Scene D) (written : Option (List ℕ)) (why : Ending) : Type 0 where

@@ -2,15 +2,11 @@
 use Rattle.std.specs.Prelude.{◌≡◌, ◌⊎◌, ℕ, List, Some, is_some}
 use Rattle.x_disk.specs.Disk.{View, Tells}
 use Rattle.party_state.specs.State.{Party}
-use Rattle.party_state.specs.declared.command.Input.{Input}
-use Rattle.key_store.specs.Store.{Stored, Stands}
-use Rattle.world_laws.specs.World.{Member}
-use Rattle.world_laws.specs.Nodes.{IsCutInput, member_of}
-use Rattle.replay.specs.Stops.{ImageOf}
+use Rattle.key_store.specs.Store.{Stands}
+use Rattle.member.specs.Member.{Member}
+use Rattle.node_core.specs.Turns.{IsImageOf}
 use Rattle.replay.specs.declared.failure.Failure.{Failure}
 use Rattle.replay.specs.declared.failure.Failure.TheVariants as failure
-use Rattle.replay.specs.declared.told.Told.{Told}
-use Rattle.replay.specs.declared.told.Told.TheVariants.{Said, Failed}
 
 -- a disk, the shelf or memory failed; no image was found that stands for no party
 abbrev pub IsFailing : Failure → Type 0
@@ -21,17 +17,7 @@ IsFailing (failure.Damaged place) = ⊥
 -- the disk tells its bytes, and what a read gives of it stands for x; or, where a change is kept, for y
 pub record ReadsEither (v : View) (x y : Member) (keep : Type 0) : Type 0 where
   pub tells : Tells v
-  pub either : (image : List ℕ) → v.now ≡ Some image → ImageOf x image ⊎ (keep × ImageOf y image)
-
--- the disk tells its bytes, and what a read gives of it stands for the member after the event that is cut off
-pub record ReadsCut (v : View) (x : Member) (i : Input) (moment : ℕ) : Type 0 where
-  pub tells : Tells v
-  pub cut : (image : List ℕ) → v.now ≡ Some image → IsCutInput x i moment image
-
--- where a party's turn fails
-abbrev pub FailsTelling : {D : Type 0} → (D → View) → Stored D → Input → ℕ → Told D → Type 0
-FailsTelling told old i moment (Said node verdict reply under) = Unit {0}
-FailsTelling told old i moment (Failed disk why) = IsFailing why × (Tells (told old.disk) → ReadsCut (told disk) (member_of old) i moment)
+  pub either : (image : List ℕ) → v.now ≡ Some image → IsImageOf x image ⊎ (keep × IsImageOf y image)
 
 -- a disk on which the power-off failed, or the opening behind it: what a read gives is an image that could be left, and
 -- where each of those stands for a party, no other was found

@@ -2,25 +2,26 @@
 -- profile).
 use Rattle.std.specs.Prelude.{◌⊎◌, ◌≤◌, ◌++◌, ℕ, List, take, Option, Result, Ok, Err}
 use Rattle.x_base.specs.Edge.{AppendsTo}
-use Rattle.x_base.specs.declared.verdict.Verdict.TheVariants as verdict
 use Rattle.x_disk.specs.Disk.{View}
 use Rattle.scenario.specs.declared.line.Line.{Line}
 use Rattle.replay.specs.Breaking.{StandForAll, IsBreak, IsBrokenIn}
-use Rattle.replay.specs.Course.{Course, Leads, IsAt}
-use Rattle.replay.specs.Playing.{IsTallied}
+use Rattle.course.specs.Course.{Course, Leads}
+use Rattle.replay.specs.Course.{IsAt}
+use Rattle.course.specs.Tallies.{IsTallied}
 use Rattle.replay.specs.Scene.{Shows}
-use Rattle.replay.specs.Transcript.{show_lines}
+use Rattle.course.specs.Transcript.{show_lines}
 use Rattle.replay.specs.declared.failure.Ending.{Ending}
-use Rattle.replay.specs.declared.failure.Ending.TheVariants as ending
 use Rattle.replay.specs.declared.failure.Failure.{Failure}
-use Rattle.replay.specs.declared.failure.Failure.TheVariants as failure
 use Rattle.replay.specs.declared.making.SetUpEnd.{SetUpEnd}
 use Rattle.replay.specs.declared.making.SetUpEnd.TheVariants.{NotEmpty, Failed}
-use Rattle.replay.specs.declared.progress.Progress.{Progress}
+use Rattle.course.specs.declared.progress.Progress.{Progress}
 use Rattle.replay.specs.declared.scene.Scene.{Scene}
-use Rattle.replay.specs.declared.tally.Tally.{Tally}
-use Rattle.replay.specs.declared.tally.PlayResult.{PlayResult}
-use Rattle.replay.specs.declared.tally.PlayResult.TheVariants as played
+use Rattle.course.specs.declared.tally.Tally.{Tally}
+use Rattle.replay.specs.declared.result.PlayResult.{PlayResult}
+use Rattle.x_base.specs.declared.verdict.Verdict.TheVariants as verdict
+use Rattle.replay.specs.declared.failure.Ending.TheVariants as ending
+use Rattle.replay.specs.declared.failure.Failure.TheVariants as failure
+use Rattle.replay.specs.declared.result.PlayResult.TheVariants as played
 
 -- the lines led to a course that the new scene shows; its transcript was written with the show lines behind it
 pub record IsFinished {D : Type 0} (told : D → View) (before after : ℕ) (start : Option (List ℕ)) (lines : List Line) (c : Course) (new : Scene D) (written : Option (List ℕ)) (tally : Tally) : Type 0 where
@@ -34,7 +35,7 @@ pub record IsFinished {D : Type 0} (told : D → View) (before after : ℕ) (sta
 pub record IsUnshown {D : Type 0} (told : D → View) (entry : List ℕ → View) (before after : ℕ) (start : Option (List ℕ)) (lines : List Line) (c : Course) (new : Scene D) (written : Option (List ℕ)) : Type 0 where
   pub course : Course
   pub leads : Leads before after lines c course
-  pub stands : StandForAll told entry new.seats.items course.world.members
+  pub stands : StandForAll told entry new.parties course.world.members
   pub shown : ℕ
   pub out : AppendsTo start written (course.transcript ++ take shown (show_lines course.world.members))
 

@@ -2,11 +2,13 @@
 use Rattle.std.specs.Prelude.{◌≤◌, ℕ, List, Option}
 use Rattle.x_disk.specs.Disk.{View}
 use Rattle.scenario.specs.declared.line.Line.{Line}
-use Rattle.replay.specs.Breaking.{HappensOr, IsBreak, IsBrokenAt}
-use Rattle.replay.specs.Course.{Course, IsAt}
-use Rattle.replay.specs.Happenings.{Happening}
+use Rattle.course.specs.Parts.{HappensOr}
+use Rattle.replay.specs.Breaking.{IsBreak, IsBrokenAt}
+use Rattle.course.specs.Course.{Course}
+use Rattle.replay.specs.Course.{IsAt}
+use Rattle.course.specs.Happenings.{Happening}
 use Rattle.replay.specs.declared.failure.Ending.{Ending}
-use Rattle.replay.specs.declared.progress.Progress.{Progress}
+use Rattle.course.specs.declared.progress.Progress.{Progress}
 use Rattle.replay.specs.declared.scene.Scene.{Scene}
 
 -- a line broke off, from whichever course the old scene and sink show; `entry` is the shelf's afterwards

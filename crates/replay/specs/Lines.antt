@@ -1,23 +1,18 @@
 -- Lines are played over the open disks (this project's profile).
-use Rattle.std.specs.Prelude.{◌≡◌, ◌≤◌, ℕ, List, ◌++◌, ◌∷◌, Option, Some}
+use Rattle.std.specs.Prelude.{◌≤◌, ℕ, List, Option}
 use Rattle.x_disk.specs.Disk.{View}
 use Rattle.scenario.specs.declared.line.Line.{Line}
-use Rattle.scenario.specs.declared.line.Line.TheVariants as line
 use Rattle.world_laws.specs.Events.{Event}
-use Rattle.replay.specs.Acting.{Means}
-use Rattle.replay.specs.Course.{Course, IsDone, IsNext, Leads, IsForged, IsAt, after_event}
-use Rattle.replay.specs.Happenings.{Happening}
+use Rattle.course.specs.Acts.{Means}
+use Rattle.course.specs.Course.{Course, IsDone, IsNext, Leads, IsForged, after_event}
+use Rattle.replay.specs.Course.{IsAt}
+use Rattle.course.specs.Happenings.{Happening}
 use Rattle.replay.specs.Scene.{Shows}
-use Rattle.replay.specs.declared.act.Act.{Act}
-use Rattle.replay.specs.declared.progress.Outcome.{Outcome}
-use Rattle.replay.specs.declared.progress.Progress.{Progress}
+use Rattle.course.specs.declared.act.Act.{Act}
+use Rattle.course.specs.declared.progress.Outcome.{Outcome}
+use Rattle.course.specs.declared.progress.Progress.{Progress}
 use Rattle.replay.specs.declared.scene.Scene.{Scene}
-
--- a line that is no event changes the moment, the stop that waits, or nothing
-abbrev pub IsQuietNext : Line → Progress → Progress → Type 0
-IsQuietNext (line.Time moment) p q = q ≡ record p { moment = moment }
-IsQuietNext (line.Stop n choice) p q = q ≡ record p { stop = Some (record { n = n; choice = choice }) }
-IsQuietNext l p q = q ≡ p
+use Rattle.course.specs.Lines.{IsForgedIn}
 
 -- from every course that the old scene and sink show, what is to be done is an event to one that the new ones show; between
 -- counts of the shelf's faults that hold these two
@@ -38,16 +33,6 @@ Plays told low high lines old new p q written next = (before after : ℕ) → be
 -- in every course that the old scene shows, the line is forged
 abbrev pub ForgesLine : {D : Type 0} → (D → View) → Line → Scene D → Type 0
 ForgesLine told l old = (c : Course) → Shows told c.world old → IsForged l c
-
--- the lines up to one of them lead to a course that the new scene and sink show, in which that line is forged
-pub record IsForgedIn (before after : ℕ) (lines : List Line) (c e : Course) (number : ℕ) : Type 0 where
-  pub front : List Line
-  pub line : Line
-  pub back : List Line
-  pub split : lines ≡ front ++ line ∷ back
-  pub leads : Leads before after front c e
-  pub forged : IsForged line e
-  pub number_is : number ≡ e.now.number
 
 abbrev pub ForgesIn : {D : Type 0} → (D → View) → ℕ → ℕ → List Line → Scene D → Scene D → Progress → Option (List ℕ) → Option (List ℕ) → ℕ → Type 0
 ForgesIn told low high lines old new p written next number = (before after : ℕ) → before ≤ low → high ≤ after → (start : Option (List ℕ)) (c : Course) → IsAt told start c old p written

@@ -1,66 +1,32 @@
 -- What the playing of a scenario answers, and what it leaves (this project's profile).
-use Rattle.std.specs.Prelude.{◌≡◌, ◌⊎◌, ◌+◌, ◌++◌, ℕ, Bool, true, false, List, [], ◌∷◌, cond, take, Option, Some}
-use Rattle.std.specs.List.{sum_by}
+use Rattle.std.specs.Prelude.{◌≡◌, ◌⊎◌, ◌+◌, ◌++◌, ℕ, List, [], ◌∷◌, take, Option, Some}
 use Rattle.x_base.specs.Edge.{AppendsTo}
 use Rattle.x_disk.specs.Disk.{View, IsDurable}
-use Rattle.party_state.specs.declared.key.KeyRec.{KeyRec}
-use Rattle.party_state.specs.declared.key.KeyStatus.{KeyStatus}
-use Rattle.party_state.specs.declared.key.KeyStatus.TheVariants.{Pending, Live, Held, Closing, Ended}
 use Rattle.scenario.specs.declared.line.Line.{Line}
-use Rattle.world_laws.specs.World.{Member, member_at}
+use Rattle.member.specs.Member.{Member}
+use Rattle.world_laws.specs.World.{member_at}
 use Rattle.world_laws.specs.Events.{Event}
 use Rattle.world_laws.specs.Steps.{step}
 use Rattle.world_laws.specs.Honest.{HonestAt}
-use Rattle.replay.specs.Breaking.{AreOnShelf, IsEventOf, IsPartDone, IsPartOf, HappensOr}
-use Rattle.replay.specs.Course.{Course, Leads}
-use Rattle.replay.specs.Happenings.{Happening}
-use Rattle.replay.specs.Lines.{IsForgedIn}
-use Rattle.replay.specs.SettingUp.{parties_in, AllReadBlank, IsSetUpEnd}
-use Rattle.replay.specs.Starts.{start_course}
-use Rattle.replay.specs.Transcript.{show_lines}
+use Rattle.replay.specs.Breaking.{AreOnShelf}
+use Rattle.course.specs.Parts.{IsEventOf, IsPartDone, IsPartOf, HappensOr}
+use Rattle.course.specs.Course.{Course, Leads}
+use Rattle.course.specs.Happenings.{Happening}
+use Rattle.course.specs.Lines.{IsForgedIn}
+use Rattle.course.specs.Parties.{parties_in}
+use Rattle.replay.specs.SettingUp.{AllReadBlank, IsSetUpEnd}
+use Rattle.course.specs.Starts.{start_course}
+use Rattle.course.specs.Transcript.{show_lines}
 use Rattle.replay.specs.declared.failure.Failure.{Failure}
 use Rattle.replay.specs.declared.making.SetUpEnd.TheVariants.{NotEmpty, Failed}
-use Rattle.replay.specs.declared.progress.Progress.{Progress}
-use Rattle.replay.specs.declared.tally.Tally.{Tally}
-use Rattle.replay.specs.declared.tally.PlayResult.{PlayResult}
-use Rattle.replay.specs.declared.tally.PlayResult.TheVariants as played
+use Rattle.course.specs.declared.tally.Tally.{Tally}
+use Rattle.replay.specs.declared.result.PlayResult.{PlayResult}
+use Rattle.course.specs.Tallies.{IsTallied}
+use Rattle.replay.specs.declared.result.PlayResult.TheVariants as played
 
 -- a crash leaves of the disk under each member's identity what a read gives
 abbrev pub AreDurable : (List ℕ → View) → List Member → Type 0
 AreDurable entry members = (own : List ℕ) (x : Member) → member_at own members ≡ Some x → IsDurable (entry own)
-
--- the key records of all members
-abbrev pub records_of : List Member → List KeyRec
-records_of [] = []
-records_of (x ∷ members) = x.party.keys ++ records_of members
-
-abbrev pub is_status : KeyStatus → KeyStatus → Bool
-is_status Pending Pending = true
-is_status Live Live = true
-is_status Held Held = true
-is_status Closing Closing = true
-is_status Ended Ended = true
-is_status a b = false
-
-abbrev pub one_with : KeyStatus → KeyRec → ℕ
-one_with status k = cond (is_status status k.status) 1 0
-
--- how many of the records have this status
-abbrev pub count_status : KeyStatus → List KeyRec → ℕ
-count_status status records = sum_by (one_with status) records
-
--- the events so far, their outcomes and texts, and the key records of these members
-pub record IsTallied (now : Progress) (members : List Member) (t : Tally) : Type 0 where
-  pub events : now.number ≡ t.events + 1
-  pub done : t.done ≡ now.counts.done
-  pub refused : t.refused ≡ now.counts.refused
-  pub stopped : t.stopped ≡ now.counts.stopped
-  pub none : t.none ≡ now.counts.none
-  pub texts : t.texts ≡ now.counts.texts
-  pub live : t.live ≡ count_status Live (records_of members)
-  pub held : t.held ≡ count_status Held (records_of members)
-  pub closing : t.closing ≡ count_status Closing (records_of members)
-  pub ended : t.ended ≡ count_status Ended (records_of members)
 
 -- what a play leaves: the lines that were to be played; what the shelf tells of the disks afterwards; two counts that hold
 -- the shelf's faults before and afterwards; and what the sink told at first, and tells now

@@ -1,16 +1,10 @@
 -- Seats, in the order of their parties: what is held of each.
-use Rattle.std.specs.Prelude.{◌≡◌, ◌≢◌, ℕ, List, [], ◌∷◌, ◌++◌, length, Result, Ok, Err}
+use Rattle.std.specs.Prelude.{◌≡◌, ◌≢◌, ℕ, List, [], ◌∷◌, ◌++◌, length, get_or}
 use Rattle.x_disk.specs.Disk.{View, Tells}
-use Rattle.party_state.specs.declared.command.Input.{Input}
+use Rattle.party_state.specs.State.{Party}
 use Rattle.key_store.specs.Store.{Stored}
-use Rattle.roles.specs.Deciding.{decision}
-use Rattle.world_laws.specs.World.{Member}
-use Rattle.world_laws.specs.Nodes.{member_of}
-use Rattle.replay.specs.Failing.{FailsTelling}
-use Rattle.replay.specs.Told.{IsTold}
-use Rattle.replay.specs.declared.failure.Failure.{Failure}
-use Rattle.replay.specs.declared.told.Told.TheVariants.{Said, Failed}
-use Rattle.replay.specs.declared.seated.Saying.{Saying}
+use Rattle.member.specs.Member.{Member}
+use Rattle.node_core.specs.Turns.{member_of}
 use Rattle.replay.specs.declared.seat.Seat.{Seat}
 use Rattle.replay.specs.declared.seat.Held.{Held}
 use Rattle.replay.specs.declared.seat.Held.TheVariants.{Open, Loose, Out}
@@ -75,20 +69,28 @@ pub record IsLifted {D : Type 0} (old new : List (Seat D)) (place : ℕ) (node :
   pub after : new ≡ front ++ seat own Out ∷ back
   pub size : length front ≡ place
 
--- what is held is put into the seat at a place
-abbrev pub IsSetDown : {D : Type 0} → List (Seat D) → List (Seat D) → ℕ → Held D → Type 0
-IsSetDown {D = D} old new place held = (front : List (Seat D)) (s : Seat D) (back : List (Seat D)) → old ≡ front ++ s ∷ back → length front ≡ place → new ≡ front ++ seat s.own held ∷ back
-
--- the party at a place had a turn with an input
-abbrev pub TellsAt : {D : Type 0} → (D → View) → List (Seat D) → List ℕ → List (Seat D) → List (Seat D) → Stored D → Input → ℕ → Result Saying Failure → Type 0
-TellsAt {D = D} told front own back new node i moment (Ok s) = (after : Stored D) × (new ≡ front ++ seat own (Open after) ∷ back) × IsTold told node (decision node.party i moment) (Said after s.verdict s.reply s.under)
-TellsAt {D = D} told front own back new node i moment (Err why) = (disk : D) × (new ≡ front ++ seat own (Loose disk) ∷ back) × IsTold told node (decision node.party i moment) (Failed disk why) × FailsTelling told node i moment (Failed disk why)
-
-pub record IsToldAt {D : Type 0} (told : D → View) (old new : List (Seat D)) (place : ℕ) (i : Input) (moment : ℕ) (result : Result Saying Failure) : Type 0 where
+-- nothing is held in the seat at a place
+pub record IsEmptyAt {D : Type 0} (seats : List (Seat D)) (place : ℕ) : Type 0 where
   pub front : List (Seat D)
   pub own : List ℕ
   pub back : List (Seat D)
-  pub node : Stored D
-  pub before : old ≡ front ++ seat own (Open node) ∷ back
+  pub is : seats ≡ front ++ seat own Out ∷ back
   pub size : length front ≡ place
-  pub tells : TellsAt told front own back new node i moment result
+
+-- what is held is put into the empty seat at a place
+abbrev pub Fills : {D : Type 0} → List (Seat D) → List (Seat D) → ℕ → Held D → Type 0
+Fills {D = D} old new place held = (front : List (Seat D)) (own : List ℕ) (back : List (Seat D)) → old ≡ front ++ seat own Out ∷ back → length front ≡ place → new ≡ front ++ seat own held ∷ back
+
+-- the last seat is dropped
+abbrev pub DropsLast : {D : Type 0} → List (Seat D) → List (Seat D) → Type 0
+DropsLast {D = D} old new = (front : List (Seat D)) (s : Seat D) → old ≡ front ++ s ∷ [] → new ≡ front
+
+-- the disk is open, and this is its party
+abbrev pub HoldsParty : {D : Type 0} → Held D → Party → Type 0
+HoldsParty (Open node) p = p ≡ node.party
+HoldsParty (Loose disk) p = ⊥
+HoldsParty Out p = ⊥
+
+-- the party at a place
+abbrev pub HoldsAt : {D : Type 0} → List (Seat D) → ℕ → Party → Type 0
+HoldsAt {D = D} seats place p = (s : Seat D) × (s ≡ get_or seats place s) × HoldsParty s.held p

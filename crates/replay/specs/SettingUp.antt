@@ -1,60 +1,32 @@
 -- How the parties of a scenario are set up on their disks (this project's profile).
-use Rattle.std.specs.Prelude.{◌≡◌, ◌≢◌, ◌⊎◌, ◌+◌, ◌*◌, ◌<◌, ◌≤◌, ◌++◌, ℕ, true, false, length, take, List, [], ◌∷◌, Contains, bytes_eq, Option, Some, None, option_map, is_some}
-use Rattle.std.specs.List.{filter_map}
-use Rattle.indexmap.specs.IndexSet.{insert_key}
+use Rattle.std.specs.Prelude.{◌≡◌, ◌≢◌, ◌⊎◌, ◌+◌, ◌*◌, ◌<◌, ◌≤◌, ◌++◌, ℕ, true, false, length, take, List, [], ◌∷◌, Contains, Option, Some, None, is_some}
 use Rattle.x_disk.specs.Disk.{View, Tells}
 use Rattle.x_disk.specs.Shelf.{IsAlike, AllStay, OthersStay}
 use Rattle.key_journal.specs.Journal.{is_blank}
 use Rattle.key_journal.specs.declared.cause.Cause.{Cause}
-use Rattle.key_journal.specs.declared.cause.Cause.TheVariants as cause
 use Rattle.party_state.specs.Limits.{most_links}
-use Rattle.party_state.specs.declared.link.LinkRec.{LinkRec}
+use Rattle.party_tables.specs.declared.link.LinkRec.{LinkRec}
 use Rattle.change_code.specs.Code.{head_length, longest_edit}
 use Rattle.key_store.specs.Store.{Stored, Stands, room}
 use Rattle.scenario.specs.declared.line.Line.{Line}
-use Rattle.scenario.specs.declared.line.Line.TheVariants as line
-use Rattle.world_laws.specs.World.{Member}
-use Rattle.world_laws.specs.Nodes.{member_of}
+use Rattle.member.specs.Member.{Member}
+use Rattle.node_core.specs.Turns.{member_of, IsImageOf}
 use Rattle.replay.specs.Breaking.{AreOnShelf}
 use Rattle.replay.specs.Failing.{IsFailing}
 use Rattle.replay.specs.Closing.{AllSlots, AreApart, OtherDisksStay}
 use Rattle.replay.specs.Seats.{seat, members, owners, AreOpen, AreIn}
-use Rattle.replay.specs.Starts.{generator_of, first_member, with_load, with_loads, loads_of, members_by}
-use Rattle.replay.specs.Stops.{ImageOf}
+use Rattle.course.specs.Starts.{with_load, with_loads, loads_of, members_by}
 use Rattle.replay.specs.declared.failure.Failure.{Failure}
-use Rattle.replay.specs.declared.failure.Failure.TheVariants as failure
-use Rattle.replay.specs.declared.making.NewParty.{NewParty}
+use Rattle.course.specs.declared.declaring.NewParty.{NewParty}
 use Rattle.replay.specs.declared.making.SetUpEnd.{SetUpEnd}
 use Rattle.replay.specs.declared.making.SetUpEnd.TheVariants.{NotEmpty, Failed}
 use Rattle.replay.specs.declared.seat.Seat.{Seat}
 use Rattle.replay.specs.declared.seat.Held.TheVariants.{Open}
+use Rattle.course.specs.Parties.{line_of_party, parties_in, new_member, full_member}
+use Rattle.key_journal.specs.declared.cause.Cause.TheVariants as cause
+use Rattle.replay.specs.declared.failure.Failure.TheVariants as failure
 
 -- ---- the parties of a scenario, and their disks
-
--- the party of a PARTY line
-abbrev pub new_party : Line → Option NewParty
-new_party (line.Party name role pair v) = Some (record { own = name; role = role; generator = generator_of pair v })
-new_party l = None
-
--- the line that declares it
-abbrev pub line_of_party : NewParty → Line
-line_of_party p = line.Party p.own p.role p.generator.key p.generator.v
-
-abbrev pub own_of_new : NewParty → List ℕ
-own_of_new p = p.own
-
-abbrev pub party_in : Line → Option (List ℕ)
-party_in l = option_map own_of_new (new_party l)
-
-abbrev pub parties_in : List Line → List (List ℕ)
-parties_in lines = filter_map party_in lines
-
--- the party with no link, and with all that the lines load
-abbrev pub new_member : NewParty → Member
-new_member p = first_member p.own p.role p.generator
-
-abbrev pub full_member : List Line → NewParty → Member
-full_member lines p = with_loads (new_member p) (loads_of p.own lines)
 
 -- each party's disk tells its bytes
 abbrev pub AllTell : (List ℕ → View) → List (List ℕ) → Type 0
@@ -116,7 +88,7 @@ pub record IsLoadedTo {D : Type 0} (told : D → View) (old new : Stored D) (loa
 pub record IsPartlyLoaded (old new : View) (x : Member) (loads : List LinkRec) (why : Failure) : Type 0 where
   pub failing : Tells old → IsFailing why
   pub tells : is_some new.now ≡ is_some old.now
-  pub partly : Tells old → (image : List ℕ) → new.now ≡ Some image → (k : ℕ) × ImageOf (with_loads x (take k loads)) image
+  pub partly : Tells old → (image : List ℕ) → new.now ≡ Some image → (k : ℕ) × IsImageOf (with_loads x (take k loads)) image
   pub fault : why ≡ failure.Fault → 0 < new.faults
 
 -- the disk was blank, and the open one stands for this member
@@ -173,11 +145,6 @@ pub record IsSeatedNext {D : Type 0} (told : D → View) (lines : List Line) (p 
   pub made : IsSetUp told (old p.own) (full_member lines p) node
   pub placed : slot p.own
   pub others : OthersStay p.own old new
-
--- its identity stands behind those of the others
-abbrev pub NamesNext : Option NewParty → List (List ℕ) → List (List ℕ) → Type 0
-NamesNext None was names = names ≡ was
-NamesNext (Some p) was names = names ≡ insert_key bytes_eq was p.own
 
 -- where the line declares none, nothing changes
 abbrev pub SeatsNext : {D : Type 0} → (D → View) → List Line → Option NewParty → (List ℕ → View) → (List ℕ → View) → (List ℕ → Type 0) → List (Seat D) → List (Seat D) → Type 0

@@ -1,79 +1,85 @@
 // An event: it is tested, and carried out whole, or stopped where a stop waits.
-ghost use Rattle.std.specs.Prelude.{◌≡◌, ◌⊎◌, ◌<◌, ◌≤◌, ℕ, true, Some, None, length, IfOk, IfErr, OnOk, Err};
+ghost use Rattle.std.specs.Prelude.{◌≡◌, ◌⊎◌, ◌<◌, ◌++◌, ℕ, [], cond, length, Some, None, Err, IfOk, IfErr, Option};
 ghost use Rattle.x_base.specs.Edge.{Rose};
-ghost use Rattle.x_disk.specs.Shelf.{SlotsStay};
+ghost use Rattle.party_state.specs.declared.command.Input.{Input as TheInput};
+ghost use Rattle.key_store.specs.Store.{room};
+ghost use Rattle.member.specs.Member.{plan_at};
+ghost use Rattle.node_core.specs.Turns.{member_of};
+ghost use Rattle.world_laws.specs.Noted.{noted};
 ghost use Rattle.replay.specs.Acting.{PlaysAt, ForgesAt, Acts, Forges};
-ghost use Rattle.replay.specs.Breaks.{BreaksHonest, BreaksAct};
-ghost use Rattle.replay.specs.Closing.{AllSlots, AnyFaulty, OtherDisksStay};
-ghost use Rattle.replay.specs.Forging.{IsLedAt, IsJudgedAt};
-ghost use Rattle.replay.specs.Outcomes.{outcome_of};
-ghost use Rattle.replay.specs.Inputs.{input_of};
-ghost use Rattle.replay.specs.Seats.{AreOpen, IsPlace, owners};
+ghost use Rattle.replay.specs.Around.{Around, ShelfStays};
+ghost use Rattle.replay.specs.Breaks.{BreaksAct, BreaksHonest};
+ghost use Rattle.replay.specs.Closing.{AllSlots, AnyFaulty};
+ghost use Rattle.replay.specs.Events.{IsStopLeft, IsStoppedIn};
+ghost use Rattle.replay.specs.Seats.{AreOpen, IsEmptyAt, IsPlace, owners};
 
-use crate::act::{Act, Telling};
 use crate::failure::{Ending, Failure};
-use crate::forging::{is_honest_led, lead_at};
-use crate::placing::place_of;
-use crate::progress::{Outcome, Progress};
-use crate::scene::{Scene, tell_event};
-use crate::stop_event::{stop_event, stop_unheard};
-use indexmap::IndexSet;
-use party_state::Lead;
+use crate::restarting::reopen;
+use crate::scene::Scene;
+use crate::seat::Held;
+use crate::stopped::begin;
+use crate::whole::play_whole;
+use course::{Act, Outcome, Progress, Stop, is_honest, note_if, outcome_of};
+use node_core::Planned;
+use party_state::Input;
 use std::alloc::Global;
-use world_laws::{law_facts, law_inputs, law_runs};
-use x_base::{Ident, Verdict};
+use world_laws::law_inputs;
+use x_base::{Ident, NoMemory, Text};
 use x_disk::Shelf;
 
-fn outcome_of(verdict: Verdict) -> Outcome
-    ensures { result ≡ outcome_of verdict }
+/// A copy of what will be written, for an event that is stopped hands nothing out.
+fn copied(alloc: Global, reply: &Option<Text>) -> Result<Option<Text>, NoMemory>
+    ensures { IfOk result (λ copy. copy ≡ reply.now) }
 {
-    match verdict {
-        Verdict::Accept => Outcome::Done,
-        other => Outcome::Refused(other.number()),
+    match reply {
+        Some(text) => Ok(Some(text.copy(alloc)?)),
+        None => Ok(None),
     }
 }
 
-/// The party at a place has an honest input: whole, or stopped where a stop waits.
-fn play_honest<H: Shelf>(
+/// What is planned at the party whose seat is empty, and which had so much room, is stopped at a disk call. Where the
+/// party after it stands, its fact is noted.
+fn play_stopped<H: Shelf>(
     scene: &mut Scene<H::Disk>,
     place: usize,
     own: &Ident,
     shelf: &mut H,
     alloc: Global,
-    input: Telling<'_>,
-    lead: &Option<Lead>,
-    now: &Progress,
-) -> Result<Outcome, Failure>
-    requires within { place < length scene.old.seats.items }
-    requires placed { IsPlace scene.old.seats.items own.now place }
-    requires seated { AreOpen scene.old.seats.items }
-    requires slots { AllSlots (H.has_slot shelf.old) (owners scene.old.seats.items) }
-    requires led { IsLedAt scene.old.seats.items place (input_of input) lead.now }
-    requires judged { IsJudgedAt scene.old.seats.items place scene.old.facts (input_of input) true }
-    ensures played { IfOk result (λ outcome. PlaysAt H.Disk.told (H.faults shelf.old) (H.faults shelf.new) scene.old scene.new place (Some (input_of input.entry)) 0 now.now outcome) }
-    ensures broken { IfErr result (λ why. BreaksHonest H.Disk.told (H.entry shelf.new) scene.old scene.new place (Some (input_of input.entry)) now.now.moment why) }
-    ensures fault { result ≡ Err Failure.Fault → Rose (H.faults shelf.old) (H.faults shelf.new) ⊎ AnyFaulty H.Disk.told scene.new.seats.items }
-    ensures seated { OnOk result (AreOpen scene.new.seats.items) }
-    ensures owners { owners scene.new.seats.items ≡ owners scene.old.seats.items }
-    ensures others { OtherDisksStay (H.entry shelf.old) (H.entry shelf.new) scene.old.seats.items }
-    ensures slots { SlotsStay (H.has_slot shelf.old) (H.has_slot shelf.new) }
-    ensures later { H.faults shelf.old ≤ H.faults shelf.new }
+    planned: Planned<H::Disk>,
+    left: u64,
+    stop: Stop,
+) -> Result<bool, Failure>
+    requires empty { IsEmptyAt scene.old.parties place }
+    requires slot { H.has_slot shelf.old own.now }
+    requires left { left ≡ room planned.node }
+    ensures stopped { IfOk result (λ next. (i : TheInput) (moment : ℕ) → planned.plan ≡ plan_at (member_of planned.node) i moment
+        → IsStoppedIn H.Disk.told scene.old.parties scene.new.parties place planned.node (Some i) moment stop (H.faults shelf.old) (H.faults shelf.new) next) }
+    ensures noted { IfOk result (λ next. scene.new.facts ≡ scene.old.facts ++ cond next (noted planned.plan.under planned.plan.reply) []) }
+    ensures texts { scene.new.texts ≡ scene.old.texts }
+    ensures left { IfErr result (λ why. (i : TheInput) (moment : ℕ) → planned.plan ≡ plan_at (member_of planned.node) i moment
+        → IsStopLeft H.Disk.told (H.entry shelf.new own.now) scene.old.parties scene.new.parties place planned.node (Some i) moment why) }
+    ensures fault { result ≡ Err Failure.Fault → Rose (H.faults shelf.old) (H.faults shelf.new) ⊎ AnyFaulty H.Disk.told scene.new.parties }
+    ensures shelf { ShelfStays own.now (H.entry shelf.old) (H.entry shelf.new) (H.has_slot shelf.old) (H.has_slot shelf.new) (H.faults shelf.old) (H.faults shelf.new) }
 {
-    law_facts();
-    law_inputs();
-    law_runs();
-    match now.stop {
-        Some(stop) => {
-            stop_event(
-                scene, place, own, shelf, alloc, input, lead, now.moment, stop,
-            )?;
-            Ok(Outcome::Stopped)
-        }
-        None => {
-            let verdict = tell_event(scene, place, alloc, input, lead, now.moment)?;
-            Ok(outcome_of(verdict))
-        }
-    }
+    let answer = planned.plan();
+    let under = answer.under;
+    let Ok(reply) = copied(alloc, &answer.reply) else {
+        scene.parties.put_in(place, Held::Open(planned.cancel()));
+        return Err(Failure::NoMemory);
+    };
+    let begun = begin(planned, stop.n);
+    let next = reopen(
+        &mut scene.parties,
+        place,
+        own,
+        shelf,
+        alloc,
+        begun,
+        left,
+        stop,
+    )?;
+    note_if(&mut scene.facts, next, under, &reply)?;
+    Ok(next)
 }
 
 /// The party at a place has an input.
@@ -83,33 +89,43 @@ fn play_input<H: Shelf>(
     own: &Ident,
     shelf: &mut H,
     alloc: Global,
-    input: Telling<'_>,
+    input: &Input,
     now: &Progress,
 ) -> Result<Outcome, Ending>
-    requires within { place < length scene.old.seats.items }
-    requires placed { IsPlace scene.old.seats.items own.now place }
-    requires seated { AreOpen scene.old.seats.items }
-    requires slots { AllSlots (H.has_slot shelf.old) (owners scene.old.seats.items) }
-    ensures played { IfOk result (λ outcome. PlaysAt H.Disk.told (H.faults shelf.old) (H.faults shelf.new) scene.old scene.new place (Some (input_of input.entry)) 0 now.now outcome) }
-    ensures forged { (n : ℕ) → result ≡ Err (Ending.Forged n) → (n ≡ now.now.number) × (scene.new ≡ scene.old) × ForgesAt H.Disk.told scene.old place (input_of input.entry) }
-    ensures broken { (why : Failure) → result ≡ Err (Ending.Failed why) → BreaksHonest H.Disk.told (H.entry shelf.new) scene.old scene.new place (Some (input_of input.entry)) now.now.moment why }
+    requires within { place < length scene.old.parties }
+    requires placed { IsPlace scene.old.parties own.now place }
+    requires seated { AreOpen scene.old.parties }
+    requires slots { AllSlots (H.has_slot shelf.old) (owners scene.old.parties) }
+    ensures played { IfOk result (λ outcome. PlaysAt H.Disk.told (H.faults shelf.old) (H.faults shelf.new) scene.old scene.new place (Some input.now) 0 now.now outcome) }
+    ensures forged { (n : ℕ) → result ≡ Err (Ending.Forged n) → (n ≡ now.now.number) × (scene.new ≡ scene.old) × ForgesAt H.Disk.told scene.old place input.now }
+    ensures broken { (why : Failure) → result ≡ Err (Ending.Failed why) → BreaksAct H.Disk.told (H.entry shelf.new) (Act.Tell own.now input.now) scene.old scene.new now.now why }
     ensures write { result ≡ Err Ending.Write → ⊥ }
-    ensures fault { result ≡ Err (Ending.Failed Failure.Fault) → Rose (H.faults shelf.old) (H.faults shelf.new) ⊎ AnyFaulty H.Disk.told scene.new.seats.items }
-    ensures seated { OnOk result (AreOpen scene.new.seats.items) }
-    ensures owners { owners scene.new.seats.items ≡ owners scene.old.seats.items }
-    ensures others { OtherDisksStay (H.entry shelf.old) (H.entry shelf.new) scene.old.seats.items }
-    ensures slots { SlotsStay (H.has_slot shelf.old) (H.has_slot shelf.new) }
-    ensures later { H.faults shelf.old ≤ H.faults shelf.new }
+    ensures around { Around H.Disk.told scene.old.parties scene.new.parties (H.entry shelf.old) (H.entry shelf.new) (H.has_slot shelf.old) (H.has_slot shelf.new) (H.faults shelf.old) (H.faults shelf.new) result }
 {
-    law_facts();
-    law_runs();
-    let lead = lead_at(&scene.seats, place, input);
-    let honest = is_honest_led(&scene.facts, input, &lead);
-    if honest {
-        let outcome = play_honest(scene, place, own, shelf, alloc, input, &lead, now)?;
-        return Ok(outcome);
+    law_inputs();
+    let node = scene.parties.take_out(place);
+    let left = node.room();
+    let planned = match node.plan(alloc, input, now.moment) {
+        Ok(planned) => planned,
+        Err(node) => {
+            scene.parties.put_in(place, Held::Open(node));
+            return Err(Ending::Failed(Failure::NoMemory));
+        }
+    };
+    if !is_honest(&scene.facts, input, &planned.plan().lead) {
+        scene.parties.put_in(place, Held::Open(planned.cancel()));
+        return Err(Ending::Forged(now.number));
     }
-    Err(Ending::Forged(now.number))
+    match now.stop {
+        Some(stop) => {
+            play_stopped(scene, place, own, shelf, alloc, planned, left, stop)?;
+            Ok(Outcome::Stopped)
+        }
+        None => {
+            let verdict = play_whole(scene, place, planned)?;
+            Ok(outcome_of(verdict))
+        }
+    }
 }
 
 /// Bytes arrive at the party at a place of which nothing is heard.
@@ -121,116 +137,63 @@ fn play_unheard<H: Shelf>(
     alloc: Global,
     number: u32,
     now: &Progress,
-) -> Result<Outcome, Failure>
-    requires within { place < length scene.old.seats.items }
-    requires placed { IsPlace scene.old.seats.items own.now place }
-    requires seated { AreOpen scene.old.seats.items }
-    requires slots { AllSlots (H.has_slot shelf.old) (owners scene.old.seats.items) }
-    ensures played { IfOk result (λ outcome. PlaysAt H.Disk.told (H.faults shelf.old) (H.faults shelf.new) scene.old scene.new place None number now.now outcome) }
-    ensures broken { IfErr result (λ why. BreaksHonest H.Disk.told (H.entry shelf.new) scene.old scene.new place None now.now.moment why) }
-    ensures fault { result ≡ Err Failure.Fault → Rose (H.faults shelf.old) (H.faults shelf.new) ⊎ AnyFaulty H.Disk.told scene.new.seats.items }
-    ensures seated { OnOk result (AreOpen scene.new.seats.items) }
-    ensures owners { owners scene.new.seats.items ≡ owners scene.old.seats.items }
-    ensures others { OtherDisksStay (H.entry shelf.old) (H.entry shelf.new) scene.old.seats.items }
-    ensures slots { SlotsStay (H.has_slot shelf.old) (H.has_slot shelf.new) }
-    ensures later { H.faults shelf.old ≤ H.faults shelf.new }
-{
-    match now.stop {
-        Some(stop) => {
-            stop_unheard(scene, place, own, shelf, alloc, now.moment, stop)?;
-            Ok(Outcome::Stopped)
-        }
-        None => Ok(Outcome::Refused(number)),
-    }
-}
-
-/// A party has an input.
-fn play_told<H: Shelf>(
-    scene: &mut Scene<H::Disk>,
-    names: &IndexSet<Ident>,
-    party: &Ident,
-    shelf: &mut H,
-    alloc: Global,
-    input: Telling<'_>,
-    now: &Progress,
 ) -> Result<Outcome, Ending>
-    requires named { names.now.keys ≡ owners scene.old.seats.items }
-    requires seated { AreOpen scene.old.seats.items }
-    requires slots { AllSlots (H.has_slot shelf.old) (owners scene.old.seats.items) }
-    ensures acted { IfOk result (λ outcome. Acts H.Disk.told (H.faults shelf.old) (H.faults shelf.new) (Act.Tell party.now input.entry) scene.old scene.new now.now outcome) }
-    ensures forged { (n : ℕ) → result ≡ Err (Ending.Forged n) → (n ≡ now.now.number) × (scene.new ≡ scene.old) × Forges H.Disk.told (Act.Tell party.now input.entry) scene.old }
-    ensures broken { (why : Failure) → result ≡ Err (Ending.Failed why) → BreaksAct H.Disk.told (H.entry shelf.new) (Act.Tell party.now input.entry) scene.old scene.new now.now why }
-    ensures write { result ≡ Err Ending.Write → ⊥ }
-    ensures fault { result ≡ Err (Ending.Failed Failure.Fault) → Rose (H.faults shelf.old) (H.faults shelf.new) ⊎ AnyFaulty H.Disk.told scene.new.seats.items }
-    ensures seated { OnOk result (AreOpen scene.new.seats.items) }
-    ensures owners { owners scene.new.seats.items ≡ owners scene.old.seats.items }
-    ensures others { OtherDisksStay (H.entry shelf.old) (H.entry shelf.new) scene.old.seats.items }
-    ensures slots { SlotsStay (H.has_slot shelf.old) (H.has_slot shelf.new) }
-    ensures later { H.faults shelf.old ≤ H.faults shelf.new }
+    requires within { place < length scene.old.parties }
+    requires placed { IsPlace scene.old.parties own.now place }
+    requires seated { AreOpen scene.old.parties }
+    requires slots { AllSlots (H.has_slot shelf.old) (owners scene.old.parties) }
+    ensures played { IfOk result (λ outcome. PlaysAt H.Disk.told (H.faults shelf.old) (H.faults shelf.new) scene.old scene.new place None number now.now outcome) }
+    ensures broken { IfErr result (λ end. (why : Failure) × (end ≡ Ending.Failed why) × BreaksHonest H.Disk.told (H.entry shelf.new) scene.old scene.new place None now.now.moment why) }
+    ensures around { Around H.Disk.told scene.old.parties scene.new.parties (H.entry shelf.old) (H.entry shelf.new) (H.has_slot shelf.old) (H.has_slot shelf.new) (H.faults shelf.old) (H.faults shelf.new) result }
 {
-    let Some(place) = place_of(names, party) else {
-        return Ok(Outcome::Nothing);
+    let Some(stop) = now.stop else {
+        return Ok(Outcome::Refused(number));
     };
-    play_input(scene, place, party, shelf, alloc, input, now)
-}
-
-/// Bytes arrive at a party of which nothing is heard.
-fn play_refused<H: Shelf>(
-    scene: &mut Scene<H::Disk>,
-    names: &IndexSet<Ident>,
-    party: &Ident,
-    shelf: &mut H,
-    alloc: Global,
-    number: u32,
-    now: &Progress,
-) -> Result<Outcome, Failure>
-    requires named { names.now.keys ≡ owners scene.old.seats.items }
-    requires seated { AreOpen scene.old.seats.items }
-    requires slots { AllSlots (H.has_slot shelf.old) (owners scene.old.seats.items) }
-    ensures acted { IfOk result (λ outcome. Acts H.Disk.told (H.faults shelf.old) (H.faults shelf.new) (Act.Refuse party.now number) scene.old scene.new now.now outcome) }
-    ensures broken { IfErr result (λ why. BreaksAct H.Disk.told (H.entry shelf.new) (Act.Refuse party.now number) scene.old scene.new now.now why) }
-    ensures fault { result ≡ Err Failure.Fault → Rose (H.faults shelf.old) (H.faults shelf.new) ⊎ AnyFaulty H.Disk.told scene.new.seats.items }
-    ensures seated { OnOk result (AreOpen scene.new.seats.items) }
-    ensures owners { owners scene.new.seats.items ≡ owners scene.old.seats.items }
-    ensures others { OtherDisksStay (H.entry shelf.old) (H.entry shelf.new) scene.old.seats.items }
-    ensures slots { SlotsStay (H.has_slot shelf.old) (H.has_slot shelf.new) }
-    ensures later { H.faults shelf.old ≤ H.faults shelf.new }
-{
-    let Some(place) = place_of(names, party) else {
-        return Ok(Outcome::Nothing);
-    };
-    play_unheard(scene, place, party, shelf, alloc, number, now)
+    let node = scene.parties.take_out(place);
+    let left = node.room();
+    node.view();
+    reopen(
+        &mut scene.parties,
+        place,
+        own,
+        shelf,
+        alloc,
+        Ok(node.into_disk()),
+        left,
+        stop,
+    )?;
+    Ok(Outcome::Stopped)
 }
 
 /// An event.
 pub(crate) fn play_act<H: Shelf>(
     scene: &mut Scene<H::Disk>,
-    names: &IndexSet<Ident>,
     shelf: &mut H,
     alloc: Global,
-    act: &Act<'_>,
+    act: &Act,
     now: &Progress,
 ) -> Result<Outcome, Ending>
-    requires named { names.now.keys ≡ owners scene.old.seats.items }
-    requires seated { AreOpen scene.old.seats.items }
-    requires slots { AllSlots (H.has_slot shelf.old) (owners scene.old.seats.items) }
+    requires seated { AreOpen scene.old.parties }
+    requires slots { AllSlots (H.has_slot shelf.old) (owners scene.old.parties) }
     ensures acted { IfOk result (λ outcome. Acts H.Disk.told (H.faults shelf.old) (H.faults shelf.new) act.now scene.old scene.new now.now outcome) }
     ensures forged { (n : ℕ) → result ≡ Err (Ending.Forged n) → (n ≡ now.now.number) × (scene.new ≡ scene.old) × Forges H.Disk.told act.now scene.old }
     ensures broken { (why : Failure) → result ≡ Err (Ending.Failed why) → BreaksAct H.Disk.told (H.entry shelf.new) act.now scene.old scene.new now.now why }
     ensures write { result ≡ Err Ending.Write → ⊥ }
-    ensures fault { result ≡ Err (Ending.Failed Failure.Fault) → Rose (H.faults shelf.old) (H.faults shelf.new) ⊎ AnyFaulty H.Disk.told scene.new.seats.items }
-    ensures seated { OnOk result (AreOpen scene.new.seats.items) }
-    ensures owners { owners scene.new.seats.items ≡ owners scene.old.seats.items }
-    ensures others { OtherDisksStay (H.entry shelf.old) (H.entry shelf.new) scene.old.seats.items }
-    ensures slots { SlotsStay (H.has_slot shelf.old) (H.has_slot shelf.new) }
-    ensures later { H.faults shelf.old ≤ H.faults shelf.new }
+    ensures around { Around H.Disk.told scene.old.parties scene.new.parties (H.entry shelf.old) (H.entry shelf.new) (H.has_slot shelf.old) (H.has_slot shelf.new) (H.faults shelf.old) (H.faults shelf.new) result }
 {
     match act {
         Act::Nothing => Ok(Outcome::Nothing),
-        Act::Tell { party, input } => play_told(scene, names, party, shelf, alloc, *input, now),
+        Act::Tell { party, input } => {
+            let Some(place) = scene.parties.place_of(party) else {
+                return Ok(Outcome::Nothing);
+            };
+            play_input(scene, place, party, shelf, alloc, input, now)
+        }
         Act::Refuse { party, number } => {
-            let outcome = play_refused(scene, names, party, shelf, alloc, *number, now)?;
-            Ok(outcome)
+            let Some(place) = scene.parties.place_of(party) else {
+                return Ok(Outcome::Nothing);
+            };
+            play_unheard(scene, place, party, shelf, alloc, *number, now)
         }
     }
 }

@@ -4,7 +4,8 @@ ghost use Rattle.replay.specs.Finishing.{end_of, answer_of, set_up_answer};
 
 use crate::failure::{Ending, Failure};
 use crate::making::SetUpEnd;
-use crate::tally::{PlayResult, Tally};
+use crate::result::PlayResult;
+use course::Tally;
 use x_base::Verdict;
 
 /// How a play ended, where a disk may not have been put back: an end that came before stays.

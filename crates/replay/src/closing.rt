@@ -1,11 +1,13 @@
 // Every disk is put back.
 ghost use Rattle.std.specs.Prelude.{◌≡◌, ◌<◌, ◌≤◌, ℕ, Err};
 ghost use Rattle.x_base.specs.Edge.{Rose};
-ghost use Rattle.x_disk.specs.Shelf.{IsAlike, OthersStay, SlotsStay};
+ghost use Rattle.x_disk.specs.Shelf.{IsAlike};
+ghost use Rattle.replay.specs.Around.{IsPut};
 ghost use Rattle.replay.specs.Closing.{IsBack, AllBack, OtherDisksStay, AllSlots, AreApart, IsFaulty, AnyFaulty};
 ghost use Rattle.replay.specs.Seats.{owners};
 
 use crate::failure::Failure;
+use crate::open_parties::OpenParties;
 use crate::seat::{Held, Seat};
 use x_base::Ident;
 use x_disk::{DiskErr, Shelf};
@@ -15,11 +17,7 @@ pub(crate) fn put_disk<H: Shelf>(shelf: &mut H, own: &Ident, disk: H::Disk) -> R
     requires { H.has_slot shelf.old own.now }
     ensures back { IsAlike (H.Disk.told disk) (H.entry shelf.new own.now) }
     ensures seen { 0 < (H.Disk.told disk).faults → Rose (H.faults shelf.old) (H.faults shelf.new) }
-    ensures others { OthersStay own.now (H.entry shelf.old) (H.entry shelf.new) }
-    ensures slots { SlotsStay (H.has_slot shelf.old) (H.has_slot shelf.new) }
-    ensures fault { result ≡ Err Failure.Fault → Rose (H.faults shelf.old) (H.faults shelf.new) }
-    ensures undamaged { (place : ℕ) → result ≡ Err (Failure.Damaged place) → ⊥ }
-    ensures later { H.faults shelf.old ≤ H.faults shelf.new }
+    ensures put { IsPut own.now (H.entry shelf.old) (H.entry shelf.new) (H.has_slot shelf.old) (H.has_slot shelf.new) (H.faults shelf.old) (H.faults shelf.new) result }
 {
     match shelf.put_back(own, disk) {
         Ok(()) => Ok(()),
@@ -33,11 +31,7 @@ pub(crate) fn put_seat<H: Shelf>(shelf: &mut H, seat: Seat<H::Disk>) -> Result<(
     requires { H.has_slot shelf.old seat.own }
     ensures back { IsBack H.Disk.told (H.entry shelf.old) (H.entry shelf.new) seat.own seat.held }
     ensures seen { IsFaulty H.Disk.told seat.held → Rose (H.faults shelf.old) (H.faults shelf.new) }
-    ensures others { OthersStay seat.own (H.entry shelf.old) (H.entry shelf.new) }
-    ensures slots { SlotsStay (H.has_slot shelf.old) (H.has_slot shelf.new) }
-    ensures fault { result ≡ Err Failure.Fault → Rose (H.faults shelf.old) (H.faults shelf.new) }
-    ensures undamaged { (place : ℕ) → result ≡ Err (Failure.Damaged place) → ⊥ }
-    ensures later { H.faults shelf.old ≤ H.faults shelf.new }
+    ensures put { IsPut seat.own (H.entry shelf.old) (H.entry shelf.new) (H.has_slot shelf.old) (H.has_slot shelf.new) (H.faults shelf.old) (H.faults shelf.new) result }
 {
     let Seat { own, held } = seat;
     match held {
@@ -53,18 +47,18 @@ pub(crate) fn put_seat<H: Shelf>(shelf: &mut H, seat: Seat<H::Disk>) -> Result<(
 /// Puts back what is held of every party, whatever comes. The last error is told.
 pub(crate) fn put_back_all<H: Shelf>(
     shelf: &mut H,
-    seats: Vec<Seat<H::Disk>>,
+    parties: OpenParties<H::Disk>,
 ) -> Result<(), Failure>
-    requires slots { AllSlots (H.has_slot shelf.old) (owners seats.items) }
-    requires apart { AreApart seats.items }
-    ensures back { AllBack H.Disk.told (H.entry shelf.old) (H.entry shelf.new) seats.items }
-    ensures others { OtherDisksStay (H.entry shelf.old) (H.entry shelf.new) seats.items }
-    ensures seen { AnyFaulty H.Disk.told seats.items → Rose (H.faults shelf.old) (H.faults shelf.new) }
+    requires slots { AllSlots (H.has_slot shelf.old) (owners parties) }
+    requires apart { AreApart parties }
+    ensures back { AllBack H.Disk.told (H.entry shelf.old) (H.entry shelf.new) parties }
+    ensures others { OtherDisksStay (H.entry shelf.old) (H.entry shelf.new) parties }
+    ensures seen { AnyFaulty H.Disk.told parties → Rose (H.faults shelf.old) (H.faults shelf.new) }
     ensures fault { result ≡ Err Failure.Fault → Rose (H.faults shelf.old) (H.faults shelf.new) }
     ensures undamaged { (place : ℕ) → result ≡ Err (Failure.Damaged place) → ⊥ }
     ensures later { H.faults shelf.old ≤ H.faults shelf.new }
 {
-    let mut left = seats;
+    let mut left = parties.into_seats();
     let mut outcome = Ok(());
     'closing: while let Some(seat) = left.pop() {
         match put_seat(shelf, seat) {

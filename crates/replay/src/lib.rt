@@ -3,38 +3,26 @@
 //! `play` says for which network of parties the disks stand in the end, and what was written.
 #![tactic(auto)]
 
-mod act;
 mod acting;
 mod answering;
-mod arriving;
-mod carried;
 mod closing;
-mod course;
+mod event;
 mod failure;
-mod forging;
 mod keys;
-mod laws;
 mod lines;
 mod making;
-mod meaning;
-mod placing;
+mod open_parties;
 mod playing;
-mod progress;
-mod ranges;
+mod restarting;
+mod result;
 mod scene;
 mod seat;
-mod seated;
 mod setting_up;
 mod showing;
-mod stop_event;
 mod stopped;
-mod tally;
 mod tallying;
-mod told;
+mod whole;
 mod writing;
 
-pub use laws::{law_counted, law_ran, law_scenario_starts, law_starts};
 pub use playing::play;
-pub use progress::{Counts, Outcome, Progress};
-pub use stopped::Stop;
-pub use tally::{PlayResult, Tally};
+pub use result::PlayResult;

@@ -1,36 +1,27 @@
 // A party is made on its disk, with the links that a scenario loads at it.
 ghost use Rattle.std.specs.Prelude.{◌≡◌, ◌≤◌, ◌⊎◌, List, [], ◌∷◌, option_to_list, IfOk, IfErr};
 ghost use Rattle.key_journal.specs.Opening.{IsFree};
-ghost use Rattle.party_state.specs.Ranges.{IsNextCount};
+ghost use Rattle.party_tables.specs.Ranges.{IsNextCount};
 ghost use Rattle.key_store.specs.Store.{room};
 ghost use Rattle.scenario.specs.Behind.{EachBehind};
-ghost use Rattle.scenario.specs.Rules.{is_party_or_link, may_follow};
-ghost use Rattle.world_laws.specs.Nodes.{member_of};
-ghost use Rattle.replay.specs.Starts.{link_of, load_at, loads_of};
-ghost use Rattle.replay.specs.SettingUp.{new_party, new_member, full_member, least_room, HasPlace, CanLoad, HasBegun, IsLoad, IsLoadOrSame, IsLoadedTo, IsPartlyLoaded, IsSetUp, IsUnsetDisk, EndsBy};
+ghost use Rattle.scenario.specs.Rules.{may_follow};
+ghost use Rattle.node_core.specs.Turns.{member_of};
+ghost use Rattle.course.specs.Starts.{load_at, loads_of};
+ghost use Rattle.course.specs.Parties.{new_member, full_member};
+ghost use Rattle.replay.specs.SettingUp.{least_room, HasPlace, CanLoad, HasBegun, IsLoad, IsLoadOrSame, IsLoadedTo, IsPartlyLoaded, IsSetUp, IsUnsetDisk, EndsBy};
 
 use crate::failure::Failure;
 use crate::stopped::{Lost, failure_by, failure_of};
 use change_code::law_short_code;
+use course::{NewParty, is_head, load_at};
 use key_journal::{Cause, Unmade};
 use key_store::{Kept, Store};
 use node_core::Node;
 use party_state::{Change, Edit, LinkRec};
-use role_base::odd_pair;
 use scenario::Line;
 use std::alloc::Global;
-use x_base::{Ident, Label, Role, Side};
+use x_base::Ident;
 use x_disk::Disk;
-use x_gen::Gen;
-use x_mac::Pair;
-
-/// A party that a line declares.
-#[derive(Clone, Copy, Debug, PartialEq, Eq)]
-pub(crate) struct NewParty {
-    pub(crate) own: Ident,
-    pub(crate) role: Role,
-    pub(crate) generator: Gen,
-}
 
 /// Why a set-up ends early.
 #[derive(Clone, Copy, Debug, PartialEq, Eq)]
@@ -45,62 +36,6 @@ pub(crate) enum SetUpEnd {
 pub(crate) struct Unset<D: Disk> {
     pub(crate) disk: D,
     pub(crate) why: SetUpEnd,
-}
-
-/// The party that a line declares.
-pub(crate) fn new_party(line: &Line) -> Option<NewParty>
-    ensures { result ≡ new_party line.now }
-{
-    match line {
-        Line::Party {
-            name,
-            role,
-            pair,
-            v,
-        } => Some(NewParty {
-            own: *name,
-            role: *role,
-            generator: Gen { key: *pair, v: *v },
-        }),
-        _ => None,
-    }
-}
-
-/// A link with no count used.
-fn fresh_link(peer: &Ident, label: &Label, side: Side, pair: &Pair) -> LinkRec
-    ensures { result ≡ link_of peer.now label.now side pair.now }
-{
-    LinkRec {
-        peer: *peer,
-        label: *label,
-        side,
-        pair: odd_pair(*pair),
-        next: 1,
-        ready: true,
-    }
-}
-
-/// The link that a line loads at a party.
-fn load_at(own: &Ident, line: &Line) -> Option<LinkRec>
-    ensures { result ≡ load_at own.now line.now }
-{
-    match line {
-        Line::Link {
-            origin,
-            recipient,
-            label,
-            pair,
-        } => {
-            if *own == *origin {
-                return Some(fresh_link(recipient, label, Side::Sends, pair));
-            }
-            if *own == *recipient {
-                return Some(fresh_link(origin, label, Side::Takes, pair));
-            }
-            None
-        }
-        _ => None,
-    }
 }
 
 /// Why no party begins on a disk.
@@ -160,7 +95,7 @@ fn load_link<D: Disk>(store: Store<D>, alloc: Global, link: LinkRec) -> Result<S
         }
     }
     law_short_code(&change);
-    match store.keep_owned(alloc, change) {
+    match store.keep(alloc, change) {
         Kept::Done(store) => Ok(store),
         Kept::Full(_) => unreachable!(),
         Kept::NoMemory(store) => Err(Lost {
@@ -192,13 +127,6 @@ fn load_line<D: Disk>(
         Some(link) => load_link(store, alloc, link),
         None => Ok(store),
     }
-}
-
-/// Whether a line declares a party or loads a link. Behind one that doesn't, none does.
-fn is_head(line: &Line) -> bool
-    ensures { result ≡ is_party_or_link line.now }
-{
-    matches!(line, Line::Party { .. } | Line::Link { .. })
 }
 
 /// Loads the links that the lines load at a party, in their order.

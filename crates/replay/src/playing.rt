@@ -1,96 +1,86 @@
 // A scenario is played over the disks of its parties on a shelf, and its transcript is written to a sink.
-ghost use Rattle.std.specs.Prelude.{◌≡◌, ◌⊎◌, ◌≤◌, ℕ, List, length, Contains, Err, IfOk};
+ghost use Rattle.std.specs.Prelude.{◌≡◌, ◌≤◌, ℕ, List, length, Contains, Err, IfOk};
 ghost use Rattle.x_base.specs.Edge.{Rose};
 ghost use Rattle.x_base.specs.declared.verdict.Verdict.{Verdict as TheVerdict};
-ghost use Rattle.x_disk.specs.Shelf.{IsAlike, SlotsStay};
-ghost use Rattle.replay.specs.Closing.{AllSlots, AreApart, OtherDisksStay, AnyFaulty};
+ghost use Rattle.x_disk.specs.Shelf.{IsAlike};
+ghost use Rattle.replay.specs.Around.{Around, FaultsCounted, SinkStays};
+ghost use Rattle.replay.specs.Closing.{AllSlots, AreApart, OtherDisksStay};
 ghost use Rattle.replay.specs.Finishing.{Finishes, BreaksPlay};
 ghost use Rattle.replay.specs.Lines.{ForgesIn};
 ghost use Rattle.replay.specs.Playing.{around, IsPlay, IsPlayOn};
 ghost use Rattle.replay.specs.Seats.{AreIn, AreOpen, members, owners};
-ghost use Rattle.replay.specs.SettingUp.{AllTell, parties_in};
-ghost use Rattle.replay.specs.Starts.{start_members, start_progress};
+ghost use Rattle.replay.specs.SettingUp.{AllTell};
+ghost use Rattle.course.specs.Parties.{parties_in};
+ghost use Rattle.course.specs.Starts.{start_members, start_progress};
 
 use crate::answering::{answer_of, end_of, set_up_answer};
 use crate::closing::put_back_all;
-use crate::course::play_lines;
 use crate::failure::{Ending, Failure};
+use crate::lines::play_lines;
+use crate::open_parties::OpenParties;
+use crate::result::PlayResult;
 use crate::scene::Scene;
-use crate::seat::Seat;
 use crate::setting_up::set_up;
 use crate::showing::write_shows;
-use crate::tally::{PlayResult, Tally};
 use crate::tallying::tally_of;
+use course::Tally;
 use fact_book::{FactBook, Texts};
-use indexmap::IndexSet;
 use scenario::{Line, Scenario};
 use std::alloc::Global;
-use x_base::{Ident, Sink};
+use x_base::Sink;
 use x_disk::Shelf;
 
 /// Plays the lines over the open disks, and writes the show lines behind them.
 fn play_scene<K: Sink, H: Shelf>(
     scene: &mut Scene<H::Disk>,
-    names: &IndexSet<Ident>,
     sink: &mut K,
     shelf: &mut H,
     alloc: Global,
     lines: &[Line],
 ) -> Result<Tally, Ending>
     requires few { length lines.now ≤ 65536 }
-    requires parties { length scene.old.seats.items ≤ 64 }
-    requires named { names.now.keys ≡ owners scene.old.seats.items }
-    requires seated { AreOpen scene.old.seats.items }
-    requires slots { AllSlots (H.has_slot shelf.old) (owners scene.old.seats.items) }
+    requires count { length scene.old.parties ≤ 64 }
+    requires seated { AreOpen scene.old.parties }
+    requires slots { AllSlots (H.has_slot shelf.old) (owners scene.old.parties) }
     ensures finished { IfOk result (λ tally. Finishes H.Disk.told (H.faults shelf.old) (H.faults shelf.new) lines.now scene.old scene.new start_progress (K.written sink.old) (K.written sink.new) tally) }
     ensures forged { (n : ℕ) → result ≡ Err (Ending.Forged n) → ForgesIn H.Disk.told (H.faults shelf.old) (H.faults shelf.new) lines.now scene.old scene.new start_progress (K.written sink.old) (K.written sink.new) n }
     ensures broken { (why : Ending) → result ≡ Err why → ((n : ℕ) → why ≡ Ending.Forged n → ⊥) → BreaksPlay H.Disk.told (H.entry shelf.new) (H.faults shelf.old) (H.faults shelf.new) lines.now scene.old scene.new start_progress (K.written sink.old) (K.written sink.new) why }
-    ensures write { result ≡ Err Ending.Write → Rose (K.faults sink.old) (K.faults sink.new) }
-    ensures fault { result ≡ Err (Ending.Failed Failure.Fault) → Rose (H.faults shelf.old) (H.faults shelf.new) ⊎ AnyFaulty H.Disk.told scene.new.seats.items }
-    ensures owners { owners scene.new.seats.items ≡ owners scene.old.seats.items }
-    ensures slots { SlotsStay (H.has_slot shelf.old) (H.has_slot shelf.new) }
-    ensures others { OtherDisksStay (H.entry shelf.old) (H.entry shelf.new) scene.old.seats.items }
-    ensures later { H.faults shelf.old ≤ H.faults shelf.new }
-    ensures climbs { K.faults sink.old ≤ K.faults sink.new }
+    ensures around { Around H.Disk.told scene.old.parties scene.new.parties (H.entry shelf.old) (H.entry shelf.new) (H.has_slot shelf.old) (H.has_slot shelf.new) (H.faults shelf.old) (H.faults shelf.new) result }
+    ensures sink { SinkStays (K.faults sink.old) (K.faults sink.new) result }
 {
-    let now = play_lines(scene, names, sink, shelf, alloc, lines)?;
-    let tally = tally_of(&scene.seats, &now);
-    write_shows(sink, alloc, &scene.seats)?;
+    let now = play_lines(scene, sink, shelf, alloc, lines)?;
+    let tally = tally_of(&scene.parties, &now);
+    write_shows(sink, alloc, &scene.parties)?;
     Ok(tally)
 }
 
 /// The same over the disks of parties that are set up. They are put back, whatever comes.
-fn play_seats<K: Sink, H: Shelf>(
-    seats: Vec<Seat<H::Disk>>,
-    names: &IndexSet<Ident>,
+fn play_parties<K: Sink, H: Shelf>(
+    parties: OpenParties<H::Disk>,
     sink: &mut K,
     shelf: &mut H,
     alloc: Global,
     lines: &[Line],
 ) -> PlayResult
     requires few { length lines.now ≤ 65536 }
-    requires parties { length seats.items ≤ 64 }
-    requires named { names.now.keys ≡ owners seats.items }
-    requires seated { AreOpen seats.items }
-    requires apart { AreApart seats.items }
-    requires slots { AllSlots (H.has_slot shelf.old) (owners seats.items) }
-    ensures played { (before : ℕ) → before ≤ H.faults shelf.old → AreIn H.Disk.told seats.items → members seats.items ≡ start_members lines.now
+    requires count { length parties ≤ 64 }
+    requires seated { AreOpen parties }
+    requires apart { AreApart parties }
+    requires slots { AllSlots (H.has_slot shelf.old) (owners parties) }
+    ensures played { (before : ℕ) → before ≤ H.faults shelf.old → AreIn H.Disk.told parties → members parties ≡ start_members lines.now
         → IsPlayOn (around lines.now (H.entry shelf.new) before (H.faults shelf.new) (K.written sink.old) (K.written sink.new)) result }
     ensures refused { (v : TheVerdict) → result ≡ PlayResult.Refused v → ⊥ }
-    ensures write { result ≡ PlayResult.WriteFault → Rose (K.faults sink.old) (K.faults sink.new) }
-    ensures fault { result ≡ PlayResult.DiskFault → Rose (H.faults shelf.old) (H.faults shelf.new) }
-    ensures others { OtherDisksStay (H.entry shelf.old) (H.entry shelf.new) seats.items }
-    ensures later { H.faults shelf.old ≤ H.faults shelf.new }
-    ensures climbs { K.faults sink.old ≤ K.faults sink.new }
+    ensures faults { FaultsCounted (K.faults sink.old) (K.faults sink.new) (H.faults shelf.old) (H.faults shelf.new) result }
+    ensures others { OtherDisksStay (H.entry shelf.old) (H.entry shelf.new) parties }
 {
     let mut scene = Scene {
-        seats,
+        parties,
         texts: Texts::new(alloc),
         facts: FactBook::new(alloc),
     };
-    let outcome = play_scene(&mut scene, names, sink, shelf, alloc, lines);
-    let Scene { seats, .. } = scene;
-    let back = put_back_all(shelf, seats);
+    let outcome = play_scene(&mut scene, sink, shelf, alloc, lines);
+    let Scene { parties, .. } = scene;
+    let back = put_back_all(shelf, parties);
     answer_of(end_of(outcome, back))
 }
 
@@ -113,7 +103,7 @@ pub fn play<K: Sink, H: Shelf>(
     ensures climbs { K.faults sink.old ≤ K.faults sink.new }
 {
     match set_up(shelf, alloc, scenario) {
-        Ok((seats, names)) => play_seats(seats, &names, sink, shelf, alloc, scenario.lines()),
+        Ok(parties) => play_parties(parties, sink, shelf, alloc, scenario.lines()),
         Err(end) => set_up_answer(end),
     }
 }

@@ -1,21 +1,24 @@
 // The parties of a scenario are set up on the disks of a shelf, each in its seat.
-ghost use Rattle.std.specs.Prelude.{◌≡◌, ◌≤◌, ◌<◌, ◌⊎◌, ℕ, List, Contains, Err, IfOk, IfErr, OnOk};
+ghost use Rattle.std.specs.Prelude.{◌≡◌, ◌≤◌, ◌<◌, ◌⊎◌, ℕ, List, Contains, Err, IfOk, IfErr, IfSome, OnOk};
 ghost use Rattle.x_base.specs.Edge.{Rose};
 ghost use Rattle.x_disk.specs.Disk.{Tells};
-ghost use Rattle.x_disk.specs.Shelf.{IsAlike, OthersStay, SlotsStay};
+ghost use Rattle.x_disk.specs.Shelf.{IsAlike, SlotsStay};
 ghost use Rattle.scenario.specs.Behind.{EachBehind};
 ghost use Rattle.scenario.specs.Rules.{may_follow};
+ghost use Rattle.replay.specs.Around.{ShelfStays};
 ghost use Rattle.replay.specs.Closing.{AllBack, AllSlots, AreApart, OtherDisksStay};
-ghost use Rattle.replay.specs.Seats.{owners};
-ghost use Rattle.replay.specs.Starts.{loads_of};
-ghost use Rattle.replay.specs.SettingUp.{new_party, parties_in, new_member, full_member, AllTell, IsSetUp, IsUnset, IsOrFails, SeatsNext, UnsetsNext, AreSetUp, IsSetUpEnd, NamesNext};
+ghost use Rattle.replay.specs.Seats.{NoneOf, owners};
+ghost use Rattle.course.specs.Starts.{loads_of};
+ghost use Rattle.course.specs.Parties.{new_party, parties_in, new_member, full_member};
+ghost use Rattle.replay.specs.SettingUp.{AllTell, IsSetUp, IsUnset, IsOrFails, SeatsNext, UnsetsNext, AreSetUp, IsSetUpEnd};
 
 use crate::closing::{put_back_all, put_disk};
 use crate::failure::Failure;
-use crate::making::{NewParty, SetUpEnd, Unset, make, new_party};
-use crate::seat::{Held, Seat};
+use crate::making::{SetUpEnd, Unset, make};
+use crate::open_parties::OpenParties;
+use crate::seat::Held;
 use crate::stopped::failure_of;
-use indexmap::IndexSet;
+use course::{NewParty, new_party};
 use node_core::Node;
 use scenario::{Line, Scenario};
 use std::alloc::Global;
@@ -29,9 +32,7 @@ fn put_unset<H: Shelf>(shelf: &mut H, own: &Ident, unset: Unset<H::Disk>) -> Set
     ensures back { IsAlike (H.Disk.told unset.disk) (H.entry shelf.new own.now) }
     ensures end { IsOrFails unset.why result }
     ensures fault { result ≡ SetUpEnd.Failed Failure.Fault → Rose (H.faults shelf.old) (H.faults shelf.new) }
-    ensures others { OthersStay own.now (H.entry shelf.old) (H.entry shelf.new) }
-    ensures slots { SlotsStay (H.has_slot shelf.old) (H.has_slot shelf.new) }
-    ensures later { H.faults shelf.old ≤ H.faults shelf.new }
+    ensures shelf { ShelfStays own.now (H.entry shelf.old) (H.entry shelf.new) (H.has_slot shelf.old) (H.has_slot shelf.new) (H.faults shelf.old) (H.faults shelf.new) }
 {
     let Unset { disk, why } = unset;
     match put_disk(shelf, own, disk) {
@@ -52,9 +53,7 @@ fn make_at<H: Shelf>(
     ensures unset { IfErr result (λ why. Tells (H.entry shelf.old party.now.own) → IsUnset (H.entry shelf.old party.now.own) (H.entry shelf.new party.now.own) (new_member party.now) (loads_of party.now.own lines.now) why) }
     ensures fault { result ≡ Err (SetUpEnd.Failed Failure.Fault) → Rose (H.faults shelf.old) (H.faults shelf.new) }
     ensures slot { OnOk result (H.has_slot shelf.new party.now.own) }
-    ensures others { OthersStay party.now.own (H.entry shelf.old) (H.entry shelf.new) }
-    ensures slots { SlotsStay (H.has_slot shelf.old) (H.has_slot shelf.new) }
-    ensures later { H.faults shelf.old ≤ H.faults shelf.new }
+    ensures shelf { ShelfStays party.now.own (H.entry shelf.old) (H.entry shelf.new) (H.has_slot shelf.old) (H.has_slot shelf.new) (H.faults shelf.old) (H.faults shelf.new) }
 {
     let disk = match shelf.fetch(&party.own) {
         Ok(disk) => disk,
@@ -72,14 +71,13 @@ fn seat_next<H: Shelf>(
     alloc: Global,
     lines: &[Line],
     line: &Line,
-    seats: &mut Vec<Seat<H::Disk>>,
-    names: &mut IndexSet<Ident>,
+    parties: &mut OpenParties<H::Disk>,
 ) -> Result<(), SetUpEnd>
     requires rules { EachBehind may_follow lines.now }
-    ensures seated { OnOk result (SeatsNext H.Disk.told lines.now (new_party line.now) (H.entry shelf.old) (H.entry shelf.new) (H.has_slot shelf.new) seats.old.items seats.new.items) }
+    requires apart { IfSome (new_party line.now) (λ p. NoneOf parties.old p.own) }
+    ensures seated { OnOk result (SeatsNext H.Disk.told lines.now (new_party line.now) (H.entry shelf.old) (H.entry shelf.new) (H.has_slot shelf.new) parties.old parties.new) }
     ensures unset { IfErr result (λ why. UnsetsNext lines.now (new_party line.now) (H.entry shelf.old) (H.entry shelf.new) why) }
-    ensures named { OnOk result (NamesNext (new_party line.now) names.old.keys names.new.keys) }
-    ensures same { IfErr result (λ why. seats.new.items ≡ seats.old.items) }
+    ensures same { IfErr result (λ why. parties.new ≡ parties.old) }
     ensures fault { result ≡ Err (SetUpEnd.Failed Failure.Fault) → Rose (H.faults shelf.old) (H.faults shelf.new) }
     ensures slots { SlotsStay (H.has_slot shelf.old) (H.has_slot shelf.new) }
     ensures later { H.faults shelf.old ≤ H.faults shelf.new }
@@ -87,63 +85,59 @@ fn seat_next<H: Shelf>(
     let Some(party) = new_party(line) else {
         return Ok(());
     };
-    match seats.reserve(1) {
+    let place = parties.len();
+    match parties.add(party.own) {
         Ok(()) => {}
         Err(_) => return Err(SetUpEnd::Failed(Failure::NoMemory)),
     }
-    match names.insert(party.own) {
-        Ok(_) => {}
-        Err(_) => return Err(SetUpEnd::Failed(Failure::NoMemory)),
-    }
-    let node = make_at(shelf, alloc, lines, &party)?;
-    let seat = Seat {
-        own: party.own,
-        held: Held::Open(node),
-    };
-    match seats.push(seat) {
-        Ok(()) => Ok(()),
-        Err(_) => unreachable!(),
+    match make_at(shelf, alloc, lines, &party) {
+        Ok(node) => {
+            parties.put_in(place, Held::Open(node));
+            Ok(())
+        }
+        Err(why) => {
+            parties.drop_last();
+            Err(why)
+        }
     }
 }
 
 /// Puts the disks of the parties that are set up back. An error of that comes in place of the end.
-fn end_all<H: Shelf>(shelf: &mut H, seats: Vec<Seat<H::Disk>>, why: SetUpEnd) -> SetUpEnd
-    requires slots { AllSlots (H.has_slot shelf.old) (owners seats.items) }
-    requires apart { AreApart seats.items }
-    ensures back { AllBack H.Disk.told (H.entry shelf.old) (H.entry shelf.new) seats.items }
-    ensures others { OtherDisksStay (H.entry shelf.old) (H.entry shelf.new) seats.items }
+fn end_all<H: Shelf>(shelf: &mut H, parties: OpenParties<H::Disk>, why: SetUpEnd) -> SetUpEnd
+    requires slots { AllSlots (H.has_slot shelf.old) (owners parties) }
+    requires apart { AreApart parties }
+    ensures back { AllBack H.Disk.told (H.entry shelf.old) (H.entry shelf.new) parties }
+    ensures others { OtherDisksStay (H.entry shelf.old) (H.entry shelf.new) parties }
     ensures end { IsOrFails why result }
     ensures fault { result ≡ SetUpEnd.Failed Failure.Fault → (why ≡ SetUpEnd.Failed Failure.Fault) ⊎ Rose (H.faults shelf.old) (H.faults shelf.new) }
     ensures later { H.faults shelf.old ≤ H.faults shelf.new }
 {
-    match put_back_all(shelf, seats) {
+    match put_back_all(shelf, parties) {
         Ok(()) => why,
         Err(failure) => SetUpEnd::Failed(failure),
     }
 }
 
-/// Sets the parties of a scenario up on their disks, with the links that its lines load, and tells their identities in
-/// order. Where that fails, all disks are put back.
+/// Sets the parties of a scenario up on their disks, with the links that its lines load. Where that fails, all disks are
+/// put back.
 pub(crate) fn set_up<H: Shelf>(
     shelf: &mut H,
     alloc: Global,
     scenario: &Scenario,
-) -> Result<(Vec<Seat<H::Disk>>, IndexSet<Ident>), SetUpEnd>
-    ensures set_up { IfOk result (λ r. AreSetUp H.Disk.told scenario.now scenario.now (H.entry shelf.old) (H.entry shelf.new) (H.has_slot shelf.new) r.0.items) }
-    ensures named { IfOk result (λ r. r.1.keys ≡ owners r.0.items) }
+) -> Result<OpenParties<H::Disk>, SetUpEnd>
+    ensures set_up { IfOk result (λ parties. AreSetUp H.Disk.told scenario.now scenario.now (H.entry shelf.old) (H.entry shelf.new) (H.has_slot shelf.new) parties) }
     ensures ended { IfErr result (λ why. AllTell (H.entry shelf.old) (parties_in scenario.now) → IsSetUpEnd scenario.now (H.entry shelf.old) (H.entry shelf.new) why) }
     ensures others { (own : List ℕ) → (Contains (parties_in scenario.now) own → ⊥) → IsAlike (H.entry shelf.old own) (H.entry shelf.new own) }
     ensures fault { result ≡ Err (SetUpEnd.Failed Failure.Fault) → Rose (H.faults shelf.old) (H.faults shelf.new) }
     ensures later { H.faults shelf.old ≤ H.faults shelf.new }
 {
     let lines = scenario.lines();
-    let mut seats = Vec::new(alloc);
-    let mut names = IndexSet::new(alloc);
+    let mut parties = OpenParties::new(alloc);
     for line in lines {
-        match seat_next(shelf, alloc, lines, line, &mut seats, &mut names) {
+        match seat_next(shelf, alloc, lines, line, &mut parties) {
             Ok(()) => {}
-            Err(why) => return Err(end_all(shelf, seats, why)),
+            Err(why) => return Err(end_all(shelf, parties, why)),
         }
     }
-    Ok((seats, names))
+    Ok(parties)
 }

@@ -1,33 +1,22 @@
 // A stopped event over a party's disk: it is begun, the power goes, and the party is opened again.
-ghost use Rattle.std.specs.Prelude.{◌≡◌, ◌<◌, ◌≤◌, ℕ, Err, IfOk, IfErr, IfSome, OnErr, option_map};
+ghost use Rattle.std.specs.Prelude.{◌≡◌, ◌<◌, ◌≤◌, ℕ, true, Err, IfOk, IfErr, OnErr};
 ghost use Rattle.x_base.specs.Edge.{Rose};
 ghost use Rattle.x_disk.specs.Disk.{Tells};
-ghost use Rattle.x_disk.specs.Shelf.{IsAlike, OthersStay, SlotsStay};
+ghost use Rattle.x_disk.specs.Shelf.{IsAlike};
 ghost use Rattle.key_journal.specs.Opening.{IsFree};
-ghost use Rattle.roles.specs.Deciding.{decision};
-ghost use Rattle.world_laws.specs.Nodes.{member_of};
+ghost use Rattle.change_code.specs.Cost.{is_change};
+ghost use Rattle.member.specs.Member.{after};
+ghost use Rattle.node_core.specs.Turns.{member_of};
+ghost use Rattle.replay.specs.Around.{ShelfStays};
 ghost use Rattle.replay.specs.Failing.{IsFailing, IsLost, ReadsEither};
-ghost use Rattle.replay.specs.Forging.{IsLed};
-ghost use Rattle.replay.specs.Saying.{next_member};
-ghost use Rattle.replay.specs.Stops.{IsToKeep, KeepsChange, member_next, IsResting, IsRestarted};
-ghost use Rattle.replay.specs.Inputs.{input_of};
+ghost use Rattle.replay.specs.Stops.{IsResting, IsRestarted};
 
-use crate::act::Telling;
-use crate::carried::{Carried, carry, carry_fused};
 use crate::failure::Failure;
 use key_journal::{Cause, Unmade};
-use node_core::Node;
-use party_state::Lead;
+use node_core::{Node, Planned, Turn};
 use std::alloc::Global;
 use x_base::Ident;
 use x_disk::{Disk, DiskErr, Shelf};
-
-/// The call at which the next event is stopped, from 1, and the choice with which the power goes.
-#[derive(Clone, Copy, Debug, PartialEq, Eq)]
-pub struct Stop {
-    pub n: u64,
-    pub choice: u64,
-}
 
 /// A disk that is lost to a play, and why.
 #[derive(Drop)]
@@ -36,65 +25,55 @@ pub(crate) struct Lost<D: Disk> {
     pub(crate) why: Failure,
 }
 
-/// Carries an input out up to the `n`-th disk call.
-fn begin_input<D: Disk>(
-    node: Node<D>,
-    alloc: Global,
-    input: Telling<'_>,
-    lead: &Option<Lead>,
-    moment: u64,
-    n: u64,
-) -> Result<D, Lost<D>>
-    requires { IsLed node.party (input_of input) lead.now }
-    ensures rests { IfOk result (λ disk. IsResting (D.told node.disk) (D.told disk) (member_of node) (next_member (member_of node) (decision node.party (input_of input.entry) moment)) (IsToKeep (member_of node) (decision node.party (input_of input.entry) moment)) n) }
-    ensures failing { IfErr result (λ lost. IsFailing lost.why) }
-    ensures left { IfErr result (λ lost. Tells (D.told node.disk) → ReadsEither (D.told lost.disk) (member_of node) (next_member (member_of node) (decision node.party (input_of input.entry) moment)) (IsToKeep (member_of node) (decision node.party (input_of input.entry) moment))) }
-    ensures fault { IfErr result (λ lost. lost.why ≡ Failure.Fault → 0 < (D.told lost.disk).faults) }
+/// What is planned is carried out over a disk that fails at the `n`-th call.
+fn begin_fused<D: Disk>(planned: Planned<D>, n: u64) -> Result<D, Lost<D>>
+    requires { n ≤ 4 }
+    ensures rests { IfOk result (λ disk. IsResting (D.told planned.node.disk) (D.told disk) (member_of planned.node) (after (member_of planned.node) planned.plan.edits) (is_change planned.plan.edits ≡ true) n) }
+    ensures memory { IfErr result (λ lost. lost.why ≡ Failure.NoMemory) }
+    ensures left { IfErr result (λ lost. Tells (D.told planned.node.disk) → ReadsEither (D.told lost.disk) (member_of planned.node) (after (member_of planned.node) planned.plan.edits) (is_change planned.plan.edits ≡ true)) }
 {
-    if n <= 4 {
-        return match carry_fused(node, alloc, input, lead, moment, n.saturating_sub(1)) {
-            Carried::Whole(disk) => Ok(disk),
-            Carried::Cut(disk) => Ok(disk),
-            Carried::NoMemory(disk) => Err(Lost {
-                disk,
-                why: Failure::NoMemory,
-            }),
-        };
-    }
-    match carry(node, alloc, input, lead, moment) {
-        Carried::Whole(disk) => Ok(disk),
-        Carried::Cut(disk) => Err(Lost {
-            disk,
-            why: Failure::Fault,
-        }),
-        Carried::NoMemory(disk) => Err(Lost {
-            disk,
+    match planned.fuse(n.saturating_sub(1)).carry_out() {
+        Turn::Done { node, .. } => Ok(node.into_disk().into_inner()),
+        Turn::Broken(broken) => {
+            let Unmade { disk, cause } = broken.give_up();
+            match cause {
+                Cause::Fault => Ok(disk.into_inner()),
+                _ => Err(Lost {
+                    disk: disk.into_inner(),
+                    why: Failure::NoMemory,
+                }),
+            }
+        }
+        Turn::NoMemory(node) => Err(Lost {
+            disk: node.into_disk().into_inner(),
             why: Failure::NoMemory,
         }),
     }
 }
 
-/// The same of what a party is told; where nothing is heard, nothing is carried out.
-pub(crate) fn begin<D: Disk>(
-    node: Node<D>,
-    alloc: Global,
-    input: Option<Telling<'_>>,
-    lead: &Option<Lead>,
-    moment: u64,
-    n: u64,
-) -> Result<D, Lost<D>>
-    requires { IfSome input (λ i. IsLed node.party (input_of i) lead.now) }
-    ensures rests { IfOk result (λ disk. IsResting (D.told node.disk) (D.told disk) (member_of node) (member_next (member_of node) (option_map input_of input.entry) moment) (KeepsChange (member_of node) (option_map input_of input.entry) moment) n) }
+/// What is planned is carried out up to the `n`-th disk call.
+pub(crate) fn begin<D: Disk>(planned: Planned<D>, n: u64) -> Result<D, Lost<D>>
+    ensures rests { IfOk result (λ disk. IsResting (D.told planned.node.disk) (D.told disk) (member_of planned.node) (after (member_of planned.node) planned.plan.edits) (is_change planned.plan.edits ≡ true) n) }
     ensures failing { IfErr result (λ lost. IsFailing lost.why) }
-    ensures left { IfErr result (λ lost. Tells (D.told node.disk) → ReadsEither (D.told lost.disk) (member_of node) (member_next (member_of node) (option_map input_of input.entry) moment) (KeepsChange (member_of node) (option_map input_of input.entry) moment)) }
+    ensures left { IfErr result (λ lost. Tells (D.told planned.node.disk) → ReadsEither (D.told lost.disk) (member_of planned.node) (after (member_of planned.node) planned.plan.edits) (is_change planned.plan.edits ≡ true)) }
     ensures fault { IfErr result (λ lost. lost.why ≡ Failure.Fault → 0 < (D.told lost.disk).faults) }
 {
-    match input {
-        Some(input) => begin_input(node, alloc, input, lead, moment, n),
-        None => {
-            node.view();
-            Ok(node.into_disk())
+    if n <= 4 {
+        return begin_fused(planned, n);
+    }
+    match planned.carry_out() {
+        Turn::Done { node, .. } => Ok(node.into_disk()),
+        Turn::Broken(broken) => {
+            let Unmade { disk, cause } = broken.give_up();
+            Err(Lost {
+                disk,
+                why: failure_by(cause),
+            })
         }
+        Turn::NoMemory(node) => Err(Lost {
+            disk: node.into_disk(),
+            why: Failure::NoMemory,
+        }),
     }
 }
 
@@ -120,11 +99,9 @@ pub(crate) fn exchange<H: Shelf>(
     ensures alike { IfOk result (λ again. IsAlike (H.Disk.told disk) (H.Disk.told again)) }
     ensures stays { OnErr result (IsAlike (H.Disk.told disk) (H.entry shelf.new own.now)) }
     ensures failing { IfErr result IsFailing }
-    ensures others { OthersStay own.now (H.entry shelf.old) (H.entry shelf.new) }
+    ensures shelf { ShelfStays own.now (H.entry shelf.old) (H.entry shelf.new) (H.has_slot shelf.old) (H.has_slot shelf.new) (H.faults shelf.old) (H.faults shelf.new) }
     ensures seen { 0 < (H.Disk.told disk).faults → Rose (H.faults shelf.old) (H.faults shelf.new) }
     ensures fault { result ≡ Err Failure.Fault → Rose (H.faults shelf.old) (H.faults shelf.new) }
-    ensures slots { SlotsStay (H.has_slot shelf.old) (H.has_slot shelf.new) }
-    ensures later { H.faults shelf.old ≤ H.faults shelf.new }
 {
     match shelf.put_back(own, disk) {
         Ok(()) => {}

@@ -1,35 +1,224 @@
-use Rattle.std.proofs.Common.{◌≡◌, ◌∙◌, Some, refl, sym, subst}
+use Rattle.std.proofs.Common.{◌≡◌, inr, Ok, Err, Some, refl, sym, ◌∙◌, ap, subst}
 use Rattle.std.proofs.lemmas.Result.{err_from_is_err_and}
-use Rattle.replay.specs.Inputs.{input_of}
-use Rattle.replay.specs.Forging.{IsLedAt, IsJudgedAt}
-use Rattle.replay.specs.Breaks.{BreaksHonest}
+use Rattle.member.specs.Member.{Plan}
+use Rattle.node_core.specs.Turns.{member_of}
+use Rattle.roles.specs.Leads.{lead_in}
+use Rattle.course.specs.declared.act.Act.TheVariants as act
+use Rattle.course.specs.declared.progress.Outcome.TheVariants as outcome
+use Rattle.replay.specs.Breaks.{BreaksAct}
 use Rattle.replay.specs.declared.failure.Ending.TheVariants as ending
+use Rattle.replay.specs.declared.failure.Failure.TheVariants as failure
+use Rattle.replay.specs.declared.scene.Scene.{Scene}
+use Rattle.replay.specs.declared.seat.Held.TheVariants.{Open}
+use Rattle.replay.proofs.Eventing.{planned_of, lifted_of, input_whole, input_cut, input_breaks, left_so}
+use Rattle.replay.proofs.Happened.{plays_whole, plays_stopped}
+use Rattle.replay.proofs.Judging.{honest_there, forged_there}
+use Rattle.replay.proofs.Planning.{plan_lead}
 use Rattle.replay.proofs.Results.{one_err}
-use Rattle.replay.proofs.Judging.{judged_by, forged_there}
+use Rattle.replay.proofs.Surrounding.{around_place, shelf_same, refilled, filled_open, slot_at}
+use Rattle.replay.proofs.Unfinished.{breaks_honest, told_act, unplanned}
 use Rattle.replay.proofs.acting.play_input.Goals as goal
 
-pub play_honest-requires-clause-judged : goal.play_honest-requires-clause-judged
-play_honest-requires-clause-judged g c =
-    subst (λ b. IsJudgedAt c.args.scene.now.seats.items c.args.place c.args.scene.now.facts (input_of c.args.input) b) c.if-honest.true
-    (judged_by c.args.scene.now.seats.items c.args.place c.args.scene.now.facts (input_of c.args.input) c.lead_at-lead.result c.is_honest_led-honest.result
-    (subst (λ l. IsLedAt l c.args.place (input_of c.args.input) c.lead_at-lead.result) c.deref.ensures.value c.lead_at-lead.ensures) c.is_honest_led-honest.ensures)
+pub returns-in-Err-clause-broken : goal.returns-in-Err-clause-broken
+returns-in-Err-clause-broken g c = λ why is.
+    let told = g.H.Disk.Disk.told in
+    let entry = g.H.Shelf.entry c.args.shelf.now in
+    let old = c.args.scene.now in
+    let new : Scene _ = record { parties = c.put_in.new.self; texts = old.texts; facts = old.facts } in
+    let tell = act.Tell c.args.own.now c.args.input.now in
+    let same : failure.NoMemory ≡ why = cc is in
+    subst (λ f. BreaksAct told entry tell old new c.args.now.now f) same
+    (unplanned told entry old new tell c.args.now.now (refilled old.parties c.take_out-node.new.self c.put_in.new.self c.args.place c.take_out-node.result c.in-Err.node c.take_out-node.ensures c.in-Err.ensures.same c.put_in.ensures))
 
-pub play_honest-requires-clause-led : goal.play_honest-requires-clause-led
-play_honest-requires-clause-led g c = subst (λ l. IsLedAt l c.args.place (input_of c.args.input) c.lead_at-lead.result) c.deref.ensures.value c.lead_at-lead.ensures
+pub returns-then-not-is_honest-clause-forged : goal.returns-then-not-is_honest-clause-forged
+returns-then-not-is_honest-clause-forged g c = λ n is.
+    let told = g.H.Disk.Disk.told in
+    let old = c.args.scene.now in
+    let mid : Scene _ = record { parties = c.take_out-node.new.self; texts = old.texts; facts = old.facts } in
+    let input = c.args.input.now in
+    let moment = c.args.now.now.moment in
+    let p = c.in-Ok.planned in
+    let is_planned = c.in-Ok.ensures.planned in
+    let l = lifted_of p c.take_out-node.result input moment is_planned old.parties mid.parties c.args.place c.take_out-node.ensures in
+    let plan = planned_of p c.take_out-node.result input moment is_planned in
+    let lead = c.plan-2.result.now.lead in
+    let lead_is : lead ≡ lead_in p.node.party input = ap (λ a. a.lead) c.plan-2.ensures ∙ (ap (λ (q : Plan). q.lead) plan ∙ plan_lead (member_of p.node) input moment) in
+    let number : c.args.now.now.number ≡ n = cc is in
+    let same = refilled old.parties mid.parties c.put_in-then-not-is_honest.new.self c.args.place p.node c.cancel.result l c.cancel.ensures c.put_in-then-not-is_honest.ensures in (
+      sym number,
+      λ k. record { parties = same k; texts = old.texts; facts = old.facts },
+      forged_there told old mid c.args.place p.node l refl input lead lead_is c.is_honest.result c.is_honest.ensures.forged c.if-not-is_honest.true,
+    )
 
-pub returns-clause-forged : goal.returns-clause-forged
-returns-clause-forged g c = λ n is. (
-  sym (cc is),
-  refl,
-  forged_there g.H.Disk.Disk.told c.law_facts.ensures c.law_runs.ensures.test c.args.scene.now c.args.place (input_of c.args.input) c.requires.within c.requires.seated
-      (subst (λ b. IsJudgedAt c.args.scene.now.seats.items c.args.place c.args.scene.now.facts (input_of c.args.input) b) c.if-honest.false
-      (judged_by c.args.scene.now.seats.items c.args.place c.args.scene.now.facts (input_of c.args.input) c.lead_at-lead.result c.is_honest_led-honest.result
-      (subst (λ l. IsLedAt l c.args.place (input_of c.args.input) c.lead_at-lead.result) c.deref.ensures.value c.lead_at-lead.ensures) c.is_honest_led-honest.ensures)),
-)
+pub play_stopped-requires-clause-slot : goal.play_stopped-requires-clause-slot
+play_stopped-requires-clause-slot g c =
+    slot_at (g.H.Shelf.has_slot c.args.shelf.now) c.args.scene.now.parties c.args.place c.args.own.now c.take_out-node.new.self c.take_out-node.result c.requires.slots c.requires.placed c.take_out-node.ensures
 
-pub returns-in_err-outcome-clause-broken : goal.returns-in_err-outcome-clause-broken
-returns-in_err-outcome-clause-broken g c = λ why is.
-    let p = err_from_is_err_and c.from_residual.result c.from_residual.ensures.1 in
-    let both : ending.Failed c.in_err-outcome.field-0.0 ≡ ending.Failed why = sym p.2 ∙ one_err c.from_residual.result p.0 (ending.Failed why) p.1 is in
-    let same : c.in_err-outcome.field-0.0 ≡ why = cc both in
-    subst (λ f. BreaksHonest g.H.Disk.Disk.told (g.H.Shelf.entry c.play_honest.new.shelf) c.args.scene.now c.play_honest.new.scene c.args.place (Some (input_of c.args.input)) c.args.now.now.moment f) same c.in_err-outcome.ensures.broken
+pub returns-in_err-play_stopped-in-Some-clause-broken : goal.returns-in_err-play_stopped-in-Some-clause-broken
+returns-in_err-play_stopped-in-Some-clause-broken g c = λ why is.
+    let told = g.H.Disk.Disk.told in
+    let entry = g.H.Shelf.entry in
+    let old = c.args.scene.now in
+    let mid : Scene _ = record { parties = c.take_out-node.new.self; texts = old.texts; facts = old.facts } in
+    let input = c.args.input.now in
+    let moment = c.args.now.now.moment in
+    let p = c.in-Ok.planned in
+    let is_planned = c.in-Ok.ensures.planned in
+    let l = lifted_of p c.take_out-node.result input moment is_planned old.parties mid.parties c.args.place c.take_out-node.ensures in
+    let plan = planned_of p c.take_out-node.result input moment is_planned in
+    let lead = c.plan-2.result.now.lead in
+    let lead_is : lead ≡ lead_in p.node.party input = ap (λ a. a.lead) c.plan-2.ensures ∙ (ap (λ (q : Plan). q.lead) plan ∙ plan_lead (member_of p.node) input moment) in
+    let honest = honest_there told old mid c.args.place p.node l refl input lead lead_is c.is_honest.result c.is_honest.ensures.honest c.if-not-is_honest.false in
+    let new = c.play_stopped.new.scene in
+    let e = err_from_is_err_and c.from_residual.result c.from_residual.ensures.1 in
+    let failed = c.in_err-play_stopped-in-Some.field-0.0 in
+    let one : ending.Failed failed ≡ ending.Failed why = sym e.2 ∙ one_err c.from_residual.result e.0 (ending.Failed why) e.1 is in
+    let same : failed ≡ why = cc one in
+    subst (λ f. BreaksAct told (entry c.play_stopped.new.shelf) (act.Tell c.args.own.now input) old new c.args.now.now f) same
+    (told_act told (entry c.play_stopped.new.shelf) old new c.args.now.now failed c.args.own.now c.args.place input c.requires.placed
+    (breaks_honest told (entry c.play_stopped.new.shelf) old new c.args.place (Some input) moment failed honest
+    (input_breaks told c.law_inputs.ensures old mid new c.args.place p l refl refl input moment plan (entry c.play_stopped.new.shelf) c.args.own.now failed c.requires.placed (c.in_err-play_stopped-in-Some.ensures.left input moment plan))))
+
+pub returns-in_err-play_stopped-in-Some-clause-around : goal.returns-in_err-play_stopped-in-Some-clause-around
+returns-in_err-play_stopped-in-Some-clause-around g c =
+    let told = g.H.Disk.Disk.told in
+    let entry = g.H.Shelf.entry in
+    let slot = g.H.Shelf.has_slot in
+    let faults = g.H.Shelf.faults in
+    let old = c.args.scene.now in
+    let mid : Scene _ = record { parties = c.take_out-node.new.self; texts = old.texts; facts = old.facts } in
+    let input = c.args.input.now in
+    let moment = c.args.now.now.moment in
+    let p = c.in-Ok.planned in
+    let is_planned = c.in-Ok.ensures.planned in
+    let l = lifted_of p c.take_out-node.result input moment is_planned old.parties mid.parties c.args.place c.take_out-node.ensures in
+    let plan = planned_of p c.take_out-node.result input moment is_planned in
+    let e = err_from_is_err_and c.from_residual.result c.from_residual.ensures.1 in
+    let failed = c.in_err-play_stopped-in-Some.field-0.0 in
+    let left = c.in_err-play_stopped-in-Some.ensures.left input moment plan in
+    rw (e.1, e.2) (around_place old.parties mid.parties c.play_stopped.new.scene.parties c.args.place p.node l left.held left.fills told c.args.own.now c.requires.placed
+    (entry c.args.shelf.now) (entry c.play_stopped.new.shelf) (slot c.args.shelf.now) (slot c.play_stopped.new.shelf) (faults c.args.shelf.now) (faults c.play_stopped.new.shelf) (Err (ending.Failed failed)) c.play_stopped.ensures.shelf tt
+    (λ is. (let same : failed ≡ failure.Fault = cc is in c.in_err-play_stopped-in-Some.ensures.fault (ap Err same))))
+
+pub returns-in_err-verdict-in-None-clause-broken : goal.returns-in_err-verdict-in-None-clause-broken
+returns-in_err-verdict-in-None-clause-broken g c = λ why is.
+    let told = g.H.Disk.Disk.told in
+    let entry = g.H.Shelf.entry in
+    let old = c.args.scene.now in
+    let mid : Scene _ = record { parties = c.take_out-node.new.self; texts = old.texts; facts = old.facts } in
+    let input = c.args.input.now in
+    let moment = c.args.now.now.moment in
+    let p = c.in-Ok.planned in
+    let is_planned = c.in-Ok.ensures.planned in
+    let l = lifted_of p c.take_out-node.result input moment is_planned old.parties mid.parties c.args.place c.take_out-node.ensures in
+    let plan = planned_of p c.take_out-node.result input moment is_planned in
+    let lead = c.plan-2.result.now.lead in
+    let lead_is : lead ≡ lead_in p.node.party input = ap (λ a. a.lead) c.plan-2.ensures ∙ (ap (λ (q : Plan). q.lead) plan ∙ plan_lead (member_of p.node) input moment) in
+    let honest = honest_there told old mid c.args.place p.node l refl input lead lead_is c.is_honest.result c.is_honest.ensures.honest c.if-not-is_honest.false in
+    let new = c.play_whole.new.scene in
+    let shelved = entry c.args.shelf.now in
+    let e = err_from_is_err_and c.from_residual-in_err-verdict-in-None.result c.from_residual-in_err-verdict-in-None.ensures.1 in
+    let failed = c.in_err-verdict-in-None.field-0.0 in
+    let one : ending.Failed failed ≡ ending.Failed why = sym e.2 ∙ one_err c.from_residual-in_err-verdict-in-None.result e.0 (ending.Failed why) e.1 is in
+    let same : failed ≡ why = cc one in
+    let left = left_so told c.law_inputs.ensures old mid new c.args.place p l refl refl input moment plan (shelved c.args.own.now) failed c.in_err-verdict-in-None.ensures.left in
+    subst (λ f. BreaksAct told shelved (act.Tell c.args.own.now input) old new c.args.now.now f) same
+    (told_act told shelved old new c.args.now.now failed c.args.own.now c.args.place input c.requires.placed
+    (breaks_honest told shelved old new c.args.place (Some input) moment failed honest
+    (input_breaks told c.law_inputs.ensures old mid new c.args.place p l refl refl input moment plan shelved c.args.own.now failed c.requires.placed left)))
+
+pub returns-in_err-verdict-in-None-clause-around : goal.returns-in_err-verdict-in-None-clause-around
+returns-in_err-verdict-in-None-clause-around g c =
+    let told = g.H.Disk.Disk.told in
+    let entry = g.H.Shelf.entry in
+    let slot = g.H.Shelf.has_slot in
+    let faults = g.H.Shelf.faults in
+    let old = c.args.scene.now in
+    let mid : Scene _ = record { parties = c.take_out-node.new.self; texts = old.texts; facts = old.facts } in
+    let input = c.args.input.now in
+    let moment = c.args.now.now.moment in
+    let p = c.in-Ok.planned in
+    let is_planned = c.in-Ok.ensures.planned in
+    let l = lifted_of p c.take_out-node.result input moment is_planned old.parties mid.parties c.args.place c.take_out-node.ensures in
+    let e = err_from_is_err_and c.from_residual-in_err-verdict-in-None.result c.from_residual-in_err-verdict-in-None.ensures.1 in
+    let failed = c.in_err-verdict-in-None.field-0.0 in
+    let left = c.in_err-verdict-in-None.ensures.left in
+    rw (e.1, e.2) (around_place old.parties mid.parties c.play_whole.new.scene.parties c.args.place p.node l left.held left.fills told c.args.own.now c.requires.placed
+    (entry c.args.shelf.now) (entry c.args.shelf.now) (slot c.args.shelf.now) (slot c.args.shelf.now) (faults c.args.shelf.now) (faults c.args.shelf.now) (Err (ending.Failed failed)) (shelf_same c.args.own.now (entry c.args.shelf.now) (slot c.args.shelf.now) (faults c.args.shelf.now)) tt
+    (λ is. (let same : failed ≡ failure.Fault = cc is in inr (c.in_err-verdict-in-None.ensures.fault (ap Err same)))))
+
+pub returns-in_ok-play_stopped-in-Some-clause-played : goal.returns-in_ok-play_stopped-in-Some-clause-played
+returns-in_ok-play_stopped-in-Some-clause-played g c =
+    let told = g.H.Disk.Disk.told in
+    let faults = g.H.Shelf.faults in
+    let old = c.args.scene.now in
+    let mid : Scene _ = record { parties = c.take_out-node.new.self; texts = old.texts; facts = old.facts } in
+    let input = c.args.input.now in
+    let moment = c.args.now.now.moment in
+    let p = c.in-Ok.planned in
+    let is_planned = c.in-Ok.ensures.planned in
+    let l = lifted_of p c.take_out-node.result input moment is_planned old.parties mid.parties c.args.place c.take_out-node.ensures in
+    let plan = planned_of p c.take_out-node.result input moment is_planned in
+    let lead = c.plan-2.result.now.lead in
+    let lead_is : lead ≡ lead_in p.node.party input = ap (λ a. a.lead) c.plan-2.ensures ∙ (ap (λ (q : Plan). q.lead) plan ∙ plan_lead (member_of p.node) input moment) in
+    let honest = honest_there told old mid c.args.place p.node l refl input lead lead_is c.is_honest.result c.is_honest.ensures.honest c.if-not-is_honest.false in
+    let next = c.in_ok-play_stopped-in-Some.field-0 in
+    plays_stopped told (faults c.args.shelf.now) (faults c.play_stopped.new.shelf) old c.play_stopped.new.scene c.args.place (Some input) 0 c.args.now.now c.in-Some.stop next c.in-Some.is honest
+    (input_cut told c.law_inputs.ensures old mid c.play_stopped.new.scene c.args.place p l refl refl input moment plan c.in-Some.stop (faults c.args.shelf.now) (faults c.play_stopped.new.shelf) next
+    (c.in_ok-play_stopped-in-Some.ensures.stopped input moment plan) c.play_stopped.ensures.texts c.in_ok-play_stopped-in-Some.ensures.noted)
+
+pub returns-in_ok-play_stopped-in-Some-clause-around : goal.returns-in_ok-play_stopped-in-Some-clause-around
+returns-in_ok-play_stopped-in-Some-clause-around g c =
+    let told = g.H.Disk.Disk.told in
+    let entry = g.H.Shelf.entry in
+    let slot = g.H.Shelf.has_slot in
+    let faults = g.H.Shelf.faults in
+    let old = c.args.scene.now in
+    let mid : Scene _ = record { parties = c.take_out-node.new.self; texts = old.texts; facts = old.facts } in
+    let input = c.args.input.now in
+    let moment = c.args.now.now.moment in
+    let p = c.in-Ok.planned in
+    let is_planned = c.in-Ok.ensures.planned in
+    let l = lifted_of p c.take_out-node.result input moment is_planned old.parties mid.parties c.args.place c.take_out-node.ensures in
+    let plan = planned_of p c.take_out-node.result input moment is_planned in
+    let s = c.in_ok-play_stopped-in-Some.ensures.stopped input moment plan in
+    around_place old.parties mid.parties c.play_stopped.new.scene.parties c.args.place p.node l (Open s.opened) s.fills told c.args.own.now c.requires.placed
+    (entry c.args.shelf.now) (entry c.play_stopped.new.shelf) (slot c.args.shelf.now) (slot c.play_stopped.new.shelf) (faults c.args.shelf.now) (faults c.play_stopped.new.shelf) (Ok outcome.Stopped) c.play_stopped.ensures.shelf
+    (filled_open old.parties mid.parties c.play_stopped.new.scene.parties c.args.place p.node s.opened l s.fills c.requires.seated) (λ is. absurd (cc is))
+
+pub returns-in_ok-verdict-in-None-clause-played : goal.returns-in_ok-verdict-in-None-clause-played
+returns-in_ok-verdict-in-None-clause-played g c =
+    let told = g.H.Disk.Disk.told in
+    let faults = g.H.Shelf.faults in
+    let old = c.args.scene.now in
+    let mid : Scene _ = record { parties = c.take_out-node.new.self; texts = old.texts; facts = old.facts } in
+    let input = c.args.input.now in
+    let moment = c.args.now.now.moment in
+    let p = c.in-Ok.planned in
+    let is_planned = c.in-Ok.ensures.planned in
+    let l = lifted_of p c.take_out-node.result input moment is_planned old.parties mid.parties c.args.place c.take_out-node.ensures in
+    let plan = planned_of p c.take_out-node.result input moment is_planned in
+    let lead = c.plan-2.result.now.lead in
+    let lead_is : lead ≡ lead_in p.node.party input = ap (λ a. a.lead) c.plan-2.ensures ∙ (ap (λ (q : Plan). q.lead) plan ∙ plan_lead (member_of p.node) input moment) in
+    let honest = honest_there told old mid c.args.place p.node l refl input lead lead_is c.is_honest.result c.is_honest.ensures.honest c.if-not-is_honest.false in
+    let verdict = c.in_ok-verdict-in-None.verdict in
+    plays_whole told (faults c.args.shelf.now) (faults c.args.shelf.now) old c.play_whole.new.scene c.args.place input 0 c.args.now.now verdict c.outcome_of.result c.in-None.is c.outcome_of.ensures honest
+    (input_whole told c.law_inputs.ensures old mid c.play_whole.new.scene c.args.place p l refl refl input moment plan verdict c.in_ok-verdict-in-None.ensures.whole)
+
+pub returns-in_ok-verdict-in-None-clause-around : goal.returns-in_ok-verdict-in-None-clause-around
+returns-in_ok-verdict-in-None-clause-around g c =
+    let told = g.H.Disk.Disk.told in
+    let entry = g.H.Shelf.entry in
+    let slot = g.H.Shelf.has_slot in
+    let faults = g.H.Shelf.faults in
+    let old = c.args.scene.now in
+    let mid : Scene _ = record { parties = c.take_out-node.new.self; texts = old.texts; facts = old.facts } in
+    let input = c.args.input.now in
+    let moment = c.args.now.now.moment in
+    let p = c.in-Ok.planned in
+    let is_planned = c.in-Ok.ensures.planned in
+    let l = lifted_of p c.take_out-node.result input moment is_planned old.parties mid.parties c.args.place c.take_out-node.ensures in
+    let w = c.in_ok-verdict-in-None.ensures.whole in
+    around_place old.parties mid.parties c.play_whole.new.scene.parties c.args.place p.node l (Open w.node) w.fills told c.args.own.now c.requires.placed
+    (entry c.args.shelf.now) (entry c.args.shelf.now) (slot c.args.shelf.now) (slot c.args.shelf.now) (faults c.args.shelf.now) (faults c.args.shelf.now) (Ok c.outcome_of.result) (shelf_same c.args.own.now (entry c.args.shelf.now) (slot c.args.shelf.now) (faults c.args.shelf.now))
+    (filled_open old.parties mid.parties c.play_whole.new.scene.parties c.args.place p.node w.node l w.fills c.requires.seated) (λ is. absurd (cc is))

@@ -1,13 +1,14 @@
-use Rattle.std.proofs.Common.{arith, subst}
-use Rattle.replay.specs.Closing.{AllSlots}
+use Rattle.std.proofs.Common.{List, arith, sym, subst}
+use Rattle.replay.specs.Closing.{AllSlots, IsClosing}
 use Rattle.replay.specs.Seats.{owners}
-use Rattle.replay.proofs.PuttingBack.{closes, closes_on, slots_at, slots_front, rose_on, rose_then}
+use Rattle.replay.specs.declared.seat.Seat.{Seat}
+use Rattle.replay.proofs.PuttingBack.{none_left, closed, closes, closes_on, slots_at, slots_front, rose_on, rose_then}
 use Rattle.replay.proofs.closing.put_back_all.Goals as goal
 
 pub closing-init : goal.closing-init
 closing-init g c = record {
-  closing = closes g.H.Disk.Disk.told (g.H.Shelf.entry c.args.shelf.now) (g.H.Shelf.faults c.args.shelf.now) c.args.seats.items;
-  slots = c.requires.slots;
+  closing = subst (λ (l : List (Seat _)). IsClosing g.H.Disk.Disk.told (g.H.Shelf.entry c.args.shelf.now) (g.H.Shelf.entry c.args.shelf.now) (g.H.Shelf.faults c.args.shelf.now) (g.H.Shelf.faults c.args.shelf.now) c.args.parties l) (sym c.into_seats-left.ensures) (closes g.H.Disk.Disk.told (g.H.Shelf.entry c.args.shelf.now) (g.H.Shelf.faults c.args.shelf.now) c.args.parties);
+  slots = subst (λ (l : List (Seat _)). AllSlots (g.H.Shelf.has_slot c.args.shelf.now) (owners l)) (sym c.into_seats-left.ensures) c.requires.slots;
   fault = λ is. absurd (cc is);
   undamaged = λ place is. cc is;
   later = omega arith;
@@ -23,13 +24,13 @@ closing-preserved-in-Ok g c =
     let faults = g.H.Shelf.faults in
     record {
       closing = closes_on g.H.Disk.Disk.told (g.H.Shelf.entry c.args.shelf.now) (g.H.Shelf.entry c.closing.shelf) (g.H.Shelf.entry c.put_seat.new.shelf) (faults c.args.shelf.now) (faults c.closing.shelf) (faults c.put_seat.new.shelf)
-          c.args.seats.items c.closing.left.items c.pop.new.self.items c.in-Some.seat c.closing.invariant.later c.put_seat.ensures.later
-          c.requires.apart c.in-Some.ensures.items c.closing.invariant.closing c.put_seat.ensures.back c.put_seat.ensures.seen c.put_seat.ensures.others;
-      slots = slots_front g.H.Disk.Disk.told (g.H.Shelf.has_slot c.closing.shelf) (g.H.Shelf.has_slot c.put_seat.new.shelf) c.pop.new.self.items c.in-Some.seat c.put_seat.ensures.slots
+          c.args.parties c.closing.left.items c.pop.new.self.items c.in-Some.seat c.closing.invariant.later c.put_seat.ensures.put.stays.later
+          c.requires.apart c.in-Some.ensures.items c.closing.invariant.closing c.put_seat.ensures.back c.put_seat.ensures.seen c.put_seat.ensures.put.stays.others;
+      slots = slots_front g.H.Disk.Disk.told (g.H.Shelf.has_slot c.closing.shelf) (g.H.Shelf.has_slot c.put_seat.new.shelf) c.pop.new.self.items c.in-Some.seat c.put_seat.ensures.put.stays.slots
           (subst (λ l. AllSlots (g.H.Shelf.has_slot c.closing.shelf) (owners l)) c.in-Some.ensures.items c.closing.invariant.slots);
-      fault = λ is. rose_then (faults c.args.shelf.now) (faults c.closing.shelf) (faults c.put_seat.new.shelf) c.put_seat.ensures.later (c.closing.invariant.fault is);
+      fault = λ is. rose_then (faults c.args.shelf.now) (faults c.closing.shelf) (faults c.put_seat.new.shelf) c.put_seat.ensures.put.stays.later (c.closing.invariant.fault is);
       undamaged = c.closing.invariant.undamaged;
-      later = omega (arith, c.closing.invariant.later, c.put_seat.ensures.later);
+      later = omega (arith, c.closing.invariant.later, c.put_seat.ensures.put.stays.later);
     }
 
 pub closing-preserved : goal.closing-preserved
@@ -37,11 +38,16 @@ closing-preserved g c =
     let faults = g.H.Shelf.faults in
     record {
       closing = closes_on g.H.Disk.Disk.told (g.H.Shelf.entry c.args.shelf.now) (g.H.Shelf.entry c.closing.shelf) (g.H.Shelf.entry c.put_seat.new.shelf) (faults c.args.shelf.now) (faults c.closing.shelf) (faults c.put_seat.new.shelf)
-          c.args.seats.items c.closing.left.items c.pop.new.self.items c.in-Some.seat c.closing.invariant.later c.put_seat.ensures.later
-          c.requires.apart c.in-Some.ensures.items c.closing.invariant.closing c.put_seat.ensures.back c.put_seat.ensures.seen c.put_seat.ensures.others;
-      slots = slots_front g.H.Disk.Disk.told (g.H.Shelf.has_slot c.closing.shelf) (g.H.Shelf.has_slot c.put_seat.new.shelf) c.pop.new.self.items c.in-Some.seat c.put_seat.ensures.slots
+          c.args.parties c.closing.left.items c.pop.new.self.items c.in-Some.seat c.closing.invariant.later c.put_seat.ensures.put.stays.later
+          c.requires.apart c.in-Some.ensures.items c.closing.invariant.closing c.put_seat.ensures.back c.put_seat.ensures.seen c.put_seat.ensures.put.stays.others;
+      slots = slots_front g.H.Disk.Disk.told (g.H.Shelf.has_slot c.closing.shelf) (g.H.Shelf.has_slot c.put_seat.new.shelf) c.pop.new.self.items c.in-Some.seat c.put_seat.ensures.put.stays.slots
           (subst (λ l. AllSlots (g.H.Shelf.has_slot c.closing.shelf) (owners l)) c.in-Some.ensures.items c.closing.invariant.slots);
-      fault = λ is. rose_on (faults c.args.shelf.now) (faults c.closing.shelf) (faults c.put_seat.new.shelf) c.closing.invariant.later (c.in-Err.ensures.fault is);
-      undamaged = c.in-Err.ensures.undamaged;
-      later = omega (arith, c.closing.invariant.later, c.put_seat.ensures.later);
+      fault = λ is. rose_on (faults c.args.shelf.now) (faults c.closing.shelf) (faults c.put_seat.new.shelf) c.closing.invariant.later (c.in-Err.ensures.put.fault is);
+      undamaged = c.in-Err.ensures.put.undamaged;
+      later = omega (arith, c.closing.invariant.later, c.put_seat.ensures.put.stays.later);
     }
+
+pub returns-clause-seen : goal.returns-clause-seen
+returns-clause-seen g c =
+    let none = none_left g.H.Disk.Disk.told c.closing.left.items (omega (arith, c.in_default.ensures.cases.0, c.closing.left.ok)) in
+    (closed g.H.Disk.Disk.told (g.H.Shelf.entry c.args.shelf.now) (g.H.Shelf.entry c.closing.shelf) (g.H.Shelf.faults c.args.shelf.now) (g.H.Shelf.faults c.closing.shelf) c.args.parties c.closing.left.items none c.closing.invariant.closing).1.1

@@ -8,7 +8,7 @@ use Rattle.replay.proofs.closing.put_back_all.Given as goal
 
 abbrev pub invariant-closing : goal.invariant-closing
 invariant-closing g l = record {
-  closing : IsClosing g.H.Disk.Disk.told (g.H.Shelf.entry l.fn.shelf) (g.H.Shelf.entry l.shelf) (g.H.Shelf.faults l.fn.shelf) (g.H.Shelf.faults l.shelf) l.fn.seats.items l.left.items;
+  closing : IsClosing g.H.Disk.Disk.told (g.H.Shelf.entry l.fn.shelf) (g.H.Shelf.entry l.shelf) (g.H.Shelf.faults l.fn.shelf) (g.H.Shelf.faults l.shelf) l.fn.parties l.left.items;
   slots : AllSlots (g.H.Shelf.has_slot l.shelf) (owners l.left.items);
   fault : l.outcome ≡ Err failure.Fault → Rose (g.H.Shelf.faults l.fn.shelf) (g.H.Shelf.faults l.shelf);
   undamaged : (place : ℕ) → l.outcome ≡ Err (failure.Damaged place) → ⊥;

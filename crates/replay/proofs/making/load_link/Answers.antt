@@ -1,20 +1,20 @@
 use Rattle.std.proofs.Common.{◌++◌, ◌∷◌, [], List, ap, sym, ◌∙◌, subst, refl}
-use Rattle.party_state.specs.Limits.{StaysWithinLimits}
 use Rattle.party_state.specs.declared.edit.Edit.{Edit}
 use Rattle.party_state.specs.declared.edit.Edit.TheVariants.{PutLink}
+use Rattle.key_store.specs.Store.{GoOn}
 use Rattle.key_store.specs.Keeping.{IsKeeping}
 use Rattle.key_store.specs.declared.store.Kept.TheVariants as kept
-use Rattle.replay.proofs.Begun.{short_load, stays_within, loads_one, lost_broken, lost_memory}
+use Rattle.replay.proofs.Begun.{goes_on_load, short_load, stays_within, loads_one, lost_broken, lost_memory}
 use Rattle.replay.proofs.making.load_link.Goals as goal
 
 pub returns-in-Err-clause-lost : goal.returns-in-Err-clause-lost
 returns-in-Err-clause-lost g c =
     lost_memory g.D.Disk.told c.args.store c.view.ensures.stands (c.args.link ∷ []) c.args.store c.into_disk.result refl c.into_disk.ensures.disk
 
-pub keep_owned-requires-clause-within : goal.keep_owned-requires-clause-within
-keep_owned-requires-clause-within g c =
+pub keep-requires-clause-go_on : goal.keep-requires-clause-go_on
+keep-requires-clause-go_on g c =
     let is = c.in-Ok.ensures.appends ∙ ap (λ (es : List Edit). es ++ PutLink c.args.link ∷ []) c.new-change.ensures in
-    subst (λ (es : List Edit). StaysWithinLimits es c.args.store.party) (sym is) (stays_within g.D.Disk.told c.args.store c.args.link c.view.ensures.stands.within c.requires.place)
+    subst (λ (es : List Edit). GoOn es c.args.store.party) (sym is) (record { goes_on = goes_on_load c.args.link; within = stays_within g.D.Disk.told c.args.store c.args.link c.view.ensures.stands.within c.requires.place })
 
 pub returns-in-Done-clause-load : goal.returns-in-Done-clause-load
 returns-in-Done-clause-load g c =
@@ -26,7 +26,7 @@ returns-in-Done-clause-load g c =
 pub returns-in-NoMemory-clause-lost : goal.returns-in-NoMemory-clause-lost
 returns-in-NoMemory-clause-lost g c =
     let s = c.in-NoMemory.store in
-    lost_memory g.D.Disk.told c.args.store c.view.ensures.stands (c.args.link ∷ []) s c.into_disk-in-NoMemory.result (c.in-NoMemory.ensures.memory s refl) c.into_disk-in-NoMemory.ensures.disk
+    lost_memory g.D.Disk.told c.args.store c.view.ensures.stands (c.args.link ∷ []) s c.into_disk-in-NoMemory.result c.in-NoMemory.ensures c.into_disk-in-NoMemory.ensures.disk
 
 pub returns-in-Broken-clause-lost : goal.returns-in-Broken-clause-lost
 returns-in-Broken-clause-lost g c =

@@ -1,7 +1,7 @@
 use Rattle.std.proofs.lemmas.Result.{err_from_is_err_and}
 use Rattle.replay.proofs.Completed.{can_load, loaded_more, partly_more}
 use Rattle.std.proofs.Common.{◌∙◌, List, sym, subst}
-use Rattle.party_state.specs.declared.link.LinkRec.{LinkRec}
+use Rattle.party_tables.specs.declared.link.LinkRec.{LinkRec}
 use Rattle.replay.specs.SettingUp.{IsLoadedTo}
 use Rattle.replay.proofs.Loads.{all_loaded}
 use Rattle.replay.proofs.making.load_links.Goals as goal

@@ -1,5 +1,5 @@
 use Rattle.std.proofs.Common.{take}
-use Rattle.replay.specs.Starts.{loads_of}
+use Rattle.course.specs.Starts.{loads_of}
 use Rattle.replay.specs.SettingUp.{IsLoadedTo}
 use Rattle.replay.proofs.making.load_links.Given as goal
 

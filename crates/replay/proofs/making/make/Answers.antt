@@ -1,4 +1,4 @@
-use Rattle.replay.specs.Starts.{loads_of}
+use Rattle.course.specs.Starts.{loads_of}
 use Rattle.replay.proofs.Completed.{unset_part}
 use Rattle.replay.proofs.making.make.Goals as goal
 

@@ -1,12 +1,6 @@
-use Rattle.std.proofs.Common.{◌≡◌, ◌∙◌, List, Err, sym, ap, subst, arith, length}
-use Rattle.x_base.specs.Edge.{AppendsTo}
-use Rattle.replay.specs.Playing.{IsTallied}
-use Rattle.replay.specs.Seats.{members}
+use Rattle.std.proofs.Common.{◌≡◌, ◌∙◌, Err, sym, ap, subst, arith, length}
 use Rattle.replay.specs.Showing.{IsWriteEnd}
-use Rattle.replay.specs.Starts.{start_progress}
-use Rattle.replay.specs.Transcript.{show_lines}
-use Rattle.replay.specs.Writing.{WrotePrefix}
-use Rattle.replay.specs.declared.seat.Seat.{Seat}
+use Rattle.course.specs.Starts.{start_progress}
 use Rattle.replay.proofs.Concluding.{finishes, breaks_before, breaks_behind}
 use Rattle.replay.proofs.Owning.{count_owners}
 use Rattle.replay.proofs.Results.{of_err}
@@ -14,7 +8,7 @@ use Rattle.replay.proofs.playing.play_scene.Goals as goal
 
 pub tally_of-tally-requires-clause-few : goal.tally_of-tally-requires-clause-few
 tally_of-tally-requires-clause-few g c =
-    omega (arith, c.requires.parties, count_owners c.args.scene.now.seats.items, count_owners c.play_lines.new.scene.seats.items, ap length c.in_ok-now.ensures.owners, ap length c.deref.ensures.value)
+    omega (arith, c.requires.count, count_owners c.args.scene.now.parties, count_owners c.play_lines.new.scene.parties, ap length c.in_ok-now.ensures.around.owners_stay)
 
 pub returns-in_err-now-clause-broken : goal.returns-in_err-now-clause-broken
 returns-in_err-now-clause-broken g c = λ why is unforged.
@@ -36,7 +30,7 @@ returns-in_err-write_shows-clause-broken g c = λ why is unforged.
     let new = c.play_lines.new in
     let final = wrote c.write_shows.new.sink in
     let same : why ≡ c.in_err-write_shows.field-0.0 = of_err c.from_residual-in_err-write_shows.result _ why c.from_residual-in_err-write_shows.ensures.1 is in
-    let part = subst (λ (ss : List (Seat _)). WrotePrefix (wrote new.sink) final (show_lines (members ss))) c.deref-2.ensures.value c.in_err-write_shows.ensures.part in
+    let part = c.in_err-write_shows.ensures.part in
     breaks_behind told (faults c.args.shelf.now) (faults new.shelf) c.args.lines.now c.args.scene.now new.scene start_progress (wrote c.args.sink.now) (wrote new.sink) final (g.H.Shelf.entry new.shelf) c.in_ok-now.now why
     c.in_ok-now.ensures.played (subst IsWriteEnd (sym same) c.in_err-write_shows.ensures.ends) part
 
@@ -46,7 +40,7 @@ returns-clause-finished g c =
     let wrote = g.K.Sink.written in
     let new = c.play_lines.new in
     let final = wrote c.write_shows.new.sink in
-    let tallied = subst (λ (ss : List (Seat _)). IsTallied c.in_ok-now.now (members ss) c.tally_of-tally.result) c.deref.ensures.value c.tally_of-tally.ensures in
-    let shown = subst (λ (ss : List (Seat _)). AppendsTo (wrote new.sink) final (show_lines (members ss))) c.deref-2.ensures.value c.in_ok-write_shows.ensures.written in
+    let tallied = c.tally_of-tally.ensures in
+    let shown = c.in_ok-write_shows.ensures.written in
     finishes g.H.Disk.Disk.told (faults c.args.shelf.now) (faults new.shelf) c.args.lines.now c.args.scene.now new.scene start_progress (wrote c.args.sink.now) (wrote new.sink) final
     c.in_ok-now.now c.tally_of-tally.result c.in_ok-now.ensures.played tallied shown

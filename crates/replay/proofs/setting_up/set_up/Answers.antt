@@ -1,4 +1,4 @@
-use Rattle.std.proofs.Common.{rules, ◌≡◌, ◌∙◌, List, take, Err, ⊎_elim, refl, sym, ap, subst, arith}
+use Rattle.std.proofs.Common.{rules, ◌≡◌, ◌∙◌, List, take, Err, ⊎_elim, sym, ap, subst, arith}
 use Rattle.std.specs.Prelude.{Contains}
 use Rattle.std.proofs.lemmas.List.{take_all}
 use Rattle.scenario.specs.declared.line.Line.{Line}
@@ -6,30 +6,35 @@ use Rattle.scenario.specs.Behind.{EachBehind}
 use Rattle.scenario.specs.Rules.{may_follow}
 use Rattle.replay.specs.Closing.{AllBack, AllSlots, OtherDisksStay}
 use Rattle.replay.specs.Seats.{owners}
-use Rattle.replay.specs.SettingUp.{new_party, parties_in, AllTell, IsSetUpEnd}
+use Rattle.course.specs.Parties.{parties_in}
+use Rattle.replay.specs.SettingUp.{AllTell, IsSetUpEnd}
 use Rattle.replay.specs.declared.failure.Failure.TheVariants as failure
 use Rattle.replay.specs.declared.making.SetUpEnd.TheVariants.{Failed}
 use Rattle.replay.specs.declared.seat.Seat.{Seat}
 use Rattle.replay.proofs.Halting.{halts, halts_others}
-use Rattle.replay.proofs.Joining.{set_up_more, strangers, names_on}
+use Rattle.replay.proofs.Joining.{set_up_more, strangers, apart_next}
 use Rattle.replay.proofs.Owning.{slots_stay}
 use Rattle.replay.proofs.PuttingBack.{rose_on, rose_then}
 use Rattle.replay.proofs.setting_up.set_up.Goals as goal
 
 pub loop-line-init : goal.loop-line-init
 loop-line-init g c = record {
-  set_up = rw c.new-seats.ensures.items (search rules);
-  named = rw (c.new-seats.ensures.items, c.new-names.ensures.empty) refl;
+  set_up = rw c.new-parties.ensures (search rules);
   later = omega arith;
 }
 
 pub seat_next-requires : goal.seat_next-requires
-seat_next-requires g c = record { rules = subst (λ (ls : List Line). EachBehind may_follow ls) (sym c.lines-lines.ensures.lines) c.lines-lines.ensures.rules }
+seat_next-requires g c =
+    let rules = subst (λ (ls : List Line). EachBehind may_follow ls) (sym c.lines-lines.ensures.lines) c.lines-lines.ensures.rules in
+    record {
+      rules = rules;
+      apart = apart_next c.lines-lines.result.now c.loop-line.line-index c.line-item.result c.loop-line.parties rules c.loop-line-test.true c.line-item.is c.loop-line.invariant.set_up.owners_are;
+    }
 
 pub end_all-requires-clause-slots : goal.end_all-requires-clause-slots
 end_all-requires-clause-slots g c =
     subst (λ (l : List (Seat _)). AllSlots (g.H.Shelf.has_slot c.seat_next.new.shelf) (owners l)) (sym c.in-Err.ensures.same)
-    (slots_stay (g.H.Shelf.has_slot c.loop-line.shelf) (g.H.Shelf.has_slot c.seat_next.new.shelf) (owners c.loop-line.seats.items) c.in-Err.ensures.slots c.loop-line.invariant.set_up.slots)
+    (slots_stay (g.H.Shelf.has_slot c.loop-line.shelf) (g.H.Shelf.has_slot c.seat_next.new.shelf) (owners c.loop-line.parties) c.in-Err.ensures.slots c.loop-line.invariant.set_up.slots)
 
 pub loop-line-preserved : goal.loop-line-preserved
 loop-line-preserved g c =
@@ -38,12 +43,10 @@ loop-line-preserved g c =
     let slot = g.H.Shelf.has_slot in
     let lines = c.lines-lines.result.now in
     let rules = subst (λ (ls : List Line). EachBehind may_follow ls) (sym c.lines-lines.ensures.lines) c.lines-lines.ensures.rules in
-    let more = set_up_more told lines (entry c.args.shelf.now) (entry c.loop-line.shelf) (slot c.loop-line.shelf) c.loop-line.seats.items rules c.loop-line.line-index c.line-item.result c.loop-line-test.true c.line-item.is
-    c.loop-line.invariant.set_up (entry c.seat_next.new.shelf) (slot c.seat_next.new.shelf) c.in-Ok.ensures.slots c.seat_next.new.seats.items c.in-Ok.ensures.seated in
+    let more = set_up_more told lines (entry c.args.shelf.now) (entry c.loop-line.shelf) (slot c.loop-line.shelf) c.loop-line.parties rules c.loop-line.line-index c.line-item.result c.loop-line-test.true c.line-item.is
+    c.loop-line.invariant.set_up (entry c.seat_next.new.shelf) (slot c.seat_next.new.shelf) c.in-Ok.ensures.slots c.seat_next.new.parties c.in-Ok.ensures.seated in
     record {
       set_up = more;
-      named = names_on told lines (new_party c.line-item.result) (entry c.loop-line.shelf) (entry c.seat_next.new.shelf) (slot c.seat_next.new.shelf) c.loop-line.seats.items c.seat_next.new.seats.items c.loop-line.names.keys c.seat_next.new.names.keys
-          c.in-Ok.ensures.seated more.apart c.loop-line.invariant.named c.in-Ok.ensures.named;
       later = omega (arith, c.loop-line.invariant.later, c.in-Ok.ensures.later);
     }
 
@@ -58,7 +61,7 @@ returns-in-Err-clause-ended g c =
     let back = subst (λ (l : List (Seat _)). AllBack told (entry c.seat_next.new.shelf) (entry c.end_all.new.shelf) l) same c.end_all.ensures.back in
     let others = subst (λ (l : List (Seat _)). OtherDisksStay (entry c.seat_next.new.shelf) (entry c.end_all.new.shelf) l) same c.end_all.ensures.others in
     subst (λ (ls : List Line). AllTell (entry c.args.shelf.now) (parties_in ls) → IsSetUpEnd ls (entry c.args.shelf.now) (entry c.end_all.new.shelf) c.end_all.result) c.lines-lines.ensures.lines
-    (halts told lines (entry c.args.shelf.now) (entry c.loop-line.shelf) (slot c.loop-line.shelf) c.loop-line.seats.items rules c.loop-line.line-index c.line-item.result c.loop-line-test.true c.line-item.is
+    (halts told lines (entry c.args.shelf.now) (entry c.loop-line.shelf) (slot c.loop-line.shelf) c.loop-line.parties rules c.loop-line.line-index c.line-item.result c.loop-line-test.true c.line-item.is
     c.loop-line.invariant.set_up (entry c.seat_next.new.shelf) (entry c.end_all.new.shelf) c.in-Err.why c.end_all.result c.in-Err.ensures.unset back others c.end_all.ensures.end)
 
 pub returns-in-Err-clause-others : goal.returns-in-Err-clause-others
@@ -71,7 +74,7 @@ returns-in-Err-clause-others g c = λ own never.
     let same = c.in-Err.ensures.same in
     let back = subst (λ (l : List (Seat _)). AllBack told (entry c.seat_next.new.shelf) (entry c.end_all.new.shelf) l) same c.end_all.ensures.back in
     let others = subst (λ (l : List (Seat _)). OtherDisksStay (entry c.seat_next.new.shelf) (entry c.end_all.new.shelf) l) same c.end_all.ensures.others in
-    halts_others told lines (entry c.args.shelf.now) (entry c.loop-line.shelf) (slot c.loop-line.shelf) c.loop-line.seats.items rules c.loop-line.line-index c.line-item.result c.loop-line-test.true c.line-item.is
+    halts_others told lines (entry c.args.shelf.now) (entry c.loop-line.shelf) (slot c.loop-line.shelf) c.loop-line.parties rules c.loop-line.line-index c.line-item.result c.loop-line-test.true c.line-item.is
     c.loop-line.invariant.set_up (entry c.seat_next.new.shelf) (entry c.end_all.new.shelf) c.in-Err.why c.end_all.result c.in-Err.ensures.unset back others c.end_all.ensures.end
     own (λ k. never (subst (λ (ls : List Line). Contains (parties_in ls) own) c.lines-lines.ensures.lines k))
 
@@ -90,5 +93,5 @@ returns-clause-others g c = λ own never.
     let told = g.H.Disk.Disk.told in
     let lines = c.lines-lines.result.now in
     let all : take c.loop-line.line-index lines ≡ c.args.scenario.now = take_all c.loop-line.line-index lines c.loop-line-test.false ∙ c.lines-lines.ensures.lines in
-    strangers told lines (g.H.Shelf.entry c.args.shelf.now) (g.H.Shelf.entry c.loop-line.shelf) (g.H.Shelf.has_slot c.loop-line.shelf) c.loop-line.seats.items (take c.loop-line.line-index lines) c.loop-line.invariant.set_up own
+    strangers told lines (g.H.Shelf.entry c.args.shelf.now) (g.H.Shelf.entry c.loop-line.shelf) (g.H.Shelf.has_slot c.loop-line.shelf) c.loop-line.parties (take c.loop-line.line-index lines) c.loop-line.invariant.set_up own
     (λ k. never (subst (λ (ls : List Line). Contains (parties_in ls) own) all k))

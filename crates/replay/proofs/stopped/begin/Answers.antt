@@ -1,18 +1,22 @@
-use Rattle.std.proofs.Common.{Option, option_map, sym, ap, subst}
-use Rattle.party_state.specs.declared.command.Input.{Input}
-use Rattle.world_laws.specs.Nodes.{member_of}
-use Rattle.replay.specs.Inputs.{input_of}
-use Rattle.replay.specs.Stops.{IsResting, KeepsChange, member_next}
-use Rattle.replay.proofs.Carrying.{image_of}
-use Rattle.replay.proofs.Stopping.{rests_idle}
+use Rattle.std.proofs.Common.{arith, ◌≡◌, true, sym, subst}
+use Rattle.x_disk.specs.Disk.{Tells}
+use Rattle.change_code.specs.Cost.{is_change}
+use Rattle.member.specs.Member.{after}
+use Rattle.node_core.specs.Turns.{member_of}
+use Rattle.replay.specs.Failing.{ReadsEither}
+use Rattle.replay.specs.Stops.{IsResting}
+use Rattle.replay.proofs.Carrying.{done_rests, broken_reads}
 use Rattle.replay.proofs.stopped.begin.Goals as goal
 
-pub returns-in-None-clause-rests : goal.returns-in-None-clause-rests
-returns-in-None-clause-rests g c =
+pub returns-in-Done-clause-rests : goal.returns-in-Done-clause-rests
+returns-in-Done-clause-rests g c =
     let told = g.D.Disk.told in
-    let node = c.args.node in
-    let x = member_of node in
-    let store = c.view.ensures.stands in
-    subst (λ k. IsResting (told node.disk) (told k) x (member_next x (option_map input_of c.args.input) c.args.moment) (KeepsChange x (option_map input_of c.args.input) c.args.moment) c.args.n) (sym c.into_disk.ensures.disk)
-    (subst (λ (o : Option Input). IsResting (told node.disk) (told node.disk) x (member_next x o c.args.moment) (KeepsChange x o c.args.moment) c.args.n) (sym (ap (option_map input_of) c.in-None.is))
-    (rests_idle (told node.disk) x c.args.n store.durable (image_of (told node.disk) node.gate node.end node.party store)))
+    let p = c.args.planned in
+    subst (λ k. IsResting (told p.node.disk) (told k) (member_of p.node) (after (member_of p.node) p.plan.edits) (is_change p.plan.edits ≡ true) c.args.n) (sym c.into_disk.ensures.disk) (done_rests told p.node p.plan c.in-Done.node c.in-Done.verdict c.in-Done.reply c.in-Done.under c.in-Done.ensures.turn c.args.n (omega (arith, c.if-n-le4.false)))
+
+pub returns-in-Broken-clause-left : goal.returns-in-Broken-clause-left
+returns-in-Broken-clause-left g c =
+    let told = g.D.Disk.told in
+    let p = c.args.planned in
+    let b = c.in-Broken.broken in
+    subst (λ k. Tells (told p.node.disk) → ReadsEither (told k) (member_of p.node) (after (member_of p.node) p.plan.edits) (is_change p.plan.edits ≡ true)) (sym c.give_up-disk.ensures.disk) (broken_reads told p.node p.plan b (g.met.D.Disk.sound b.disk) c.in-Broken.ensures.turn)

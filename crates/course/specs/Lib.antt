@@ -1,0 +1,14 @@
+pub mod Happenings
+pub mod Acts
+pub mod Forging
+pub mod Meanings
+pub mod Stops
+pub mod Outcomes
+pub mod Transcript
+pub mod Course
+pub mod Ends
+pub mod Starts
+pub mod Parts
+pub mod Lines
+pub mod Tallies
+pub mod Parties

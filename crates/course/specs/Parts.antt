@@ -1,0 +1,34 @@
+-- An event that may not have ended: whole, cut or not begun, and the part of its lines that is written (this project's
+-- profile).
+use Rattle.std.specs.Prelude.{◌≡◌, ◌⊎◌, ℕ, List, [], take}
+use Rattle.scenario.specs.declared.line.Line.{Line}
+use Rattle.world_laws.specs.Events.{Event}
+use Rattle.world_laws.specs.Steps.{step}
+use Rattle.course.specs.Course.{Course, IsDone, no_event, event_at}
+use Rattle.course.specs.Happenings.{Happening, Nothing, At, Happens, IsFormed, IsNoEvent}
+use Rattle.course.specs.Transcript.{event_lines}
+use Rattle.course.specs.declared.progress.Outcome.{Outcome}
+
+-- the event that happens, whole or cut
+abbrev pub IsBegun : ℕ → Happening → Event → Type 0
+IsBegun moment Nothing e = ⊥
+IsBegun moment (At own action) e = e ≡ event_at own moment action e.completion
+
+-- or none has begun
+abbrev pub IsEventOf : ℕ → Happening → Event → Type 0
+IsEventOf moment h e = (e ≡ no_event moment) ⊎ IsBegun moment h e
+
+-- a beginning of the lines of an event that is done, which may be nothing
+abbrev pub IsPartDone : ℕ → ℕ → Course → Happening → Event → List ℕ → Type 0
+IsPartDone before after c h e part = (o : Outcome) × (n : ℕ) × IsDone before after c h e o × (part ≡ take n (event_lines c.now.number o c.world.texts (step c.now.number c.world e).texts))
+
+-- or nothing, of an event that is done or not
+abbrev pub IsPartOf : ℕ → ℕ → Course → Happening → Event → List ℕ → Type 0
+IsPartOf before after c h e part = (part ≡ []) ⊎ IsPartDone before after c h e part
+
+-- what an event's line makes happen; of a line that is no event, nothing
+abbrev pub HappensOr : Line → List (List ℕ) → Happening → Type 0
+HappensOr l texts h = (IsNoEvent l × (h ≡ Nothing)) ⊎ (Happens l texts h × IsFormed h)
+
+abbrev pub HasHappening : Line → List (List ℕ) → Type 0
+HasHappening l texts = (h : Happening) × HappensOr l texts h

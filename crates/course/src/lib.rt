@@ -1,0 +1,27 @@
+//! The course of a scenario: which lines stand for which events, which of them is forged, what becomes of each, and what is
+//! written of it. No party and no disk is held here.
+#![tactic(auto)]
+
+mod act;
+mod arriving;
+mod declaring;
+mod forging;
+mod keys;
+mod laws;
+mod meaning;
+mod noting;
+mod progress;
+mod ranges;
+mod tally;
+mod writing;
+
+pub use act::Act;
+pub use declaring::{NewParty, is_head, load_at, new_party};
+pub use forging::is_honest;
+pub use keys::count_in;
+pub use laws::{law_counted, law_ran, law_scenario_starts, law_starts};
+pub use meaning::act_at;
+pub use noting::{note, note_if, put_text};
+pub use progress::{Counts, Outcome, Progress, Stop, advance_quiet, outcome_of, start};
+pub use tally::Tally;
+pub use writing::compose_event;

@@ -1,0 +1,144 @@
+-- What an event leaves in the seat of its party.
+use Rattle.std.proofs.Common.{◌≡◌, ◌⊎◌, inl, inr, ℕ, ◌<◌, Bool, true, false, not, nat_eq, List, ◌++◌, Option, Some, None, Result, Ok, Err, IfOk, IfErr, sym, ◌∙◌, ap, subst}
+use Rattle.std.specs.Prelude.{option_to_list}
+use Rattle.x_base.specs.Edge.{Rose}
+use Rattle.x_base.specs.declared.verdict.Verdict.{Verdict}
+use Rattle.x_base.specs.declared.key_name.FullName.{FullName}
+use Rattle.x_disk.specs.Disk.{View, Tells, IsDurable, IsSound}
+use Rattle.x_disk.specs.Shelf.{IsAlike}
+use Rattle.key_journal.specs.States.{Failed}
+use Rattle.party_state.specs.declared.command.Input.{Input}
+use Rattle.key_store.specs.Store.{Stored, IsStore, room}
+use Rattle.change_code.specs.Cost.{is_change}
+use Rattle.member.specs.Member.{Plan, plan_at, after}
+use Rattle.member.specs.Acts.{taking}
+use Rattle.node_core.specs.Planned.{PlannedNode}
+use Rattle.node_core.specs.Turns.{IsTurn, member_of}
+use Rattle.node_core.specs.declared.node.Turn.TheVariants as turn
+use Rattle.world_laws.specs.Noted.{noted}
+use Rattle.course.specs.Stops.{KeepsChange, member_next}
+use Rattle.course.specs.declared.progress.Stop.{Stop}
+use Rattle.replay.specs.Events.{IsWhole, IsLeft, Begins, IsStoppedIn, IsStopLeft}
+use Rattle.replay.specs.Failing.{IsFailing, ReadsEither, IsLost}
+use Rattle.replay.specs.Seats.{seat, Fills}
+use Rattle.replay.specs.Stops.{IsResting, IsRestarted}
+use Rattle.replay.specs.declared.failure.Failure.{Failure}
+use Rattle.replay.specs.declared.failure.Failure.TheVariants as failure
+use Rattle.replay.specs.declared.scene.Scene.{Scene}
+use Rattle.replay.specs.declared.seat.Seat.{Seat}
+use Rattle.replay.specs.declared.seat.Held.TheVariants.{Open, Loose, Out}
+use Rattle.replay.specs.declared.stopped.Lost.{Lost}
+use Rattle.replay.proofs.Carrying.{done_or_not, broken_reads}
+use Rattle.replay.proofs.Images.{image_of}
+use Rattle.replay.proofs.Losing.{shelf_reads, lost_reads}
+use Rattle.replay.proofs.Planning.{takes_room}
+use Rattle.replay.proofs.Stopping.{rests_idle, stops}
+
+-- what is planned was carried out
+module _ {D : Type 0} (told : D → View) (p : PlannedNode D) (place : ℕ) where
+  module _ (node : Stored D) (verdict : Verdict) (reply : Option (List ℕ)) (under : Option FullName) (t : IsTurn told p.node (taking p.plan) (turn.Done node verdict reply under)) where
+    pub whole_by : (old new : Scene D) → Fills old.parties new.parties place (Open node) → new.facts ≡ old.facts ++ noted under reply → new.texts ≡ old.texts ++ option_to_list reply → IsWhole told p old new place verdict
+    whole_by old new fills facts_are texts_are = record {
+      node = node;
+      fills = fills;
+      next = t.answer.next;
+      own = t.answer.own;
+      tells = t.tells;
+      verdict_is = t.answer.verdict;
+      texts_are = texts_are ∙ ap (λ (r : Option (List ℕ)). old.texts ++ option_to_list r) t.answer.reply;
+      facts_are = facts_are ∙ (ap (λ (u : Option FullName). old.facts ++ noted u reply) t.answer.under ∙ ap (λ (r : Option (List ℕ)). old.facts ++ noted p.plan.under r) t.answer.reply);
+    }
+
+    pub left_done : (old new : List (Seat D)) → Fills old new place (Open node) → IsLeft told p old new place failure.NoMemory
+    left_done old new fills = record { held = Open node; fills = fills; fails = λ tells. (tt, (t.tells ∙ tells, done_or_not told p.node p.plan node verdict reply under t)) }
+
+  pub left_memory : (node : Stored D) → IsTurn told p.node (taking p.plan) (turn.NoMemory node) → (old new : List (Seat D)) → Fills old new place (Open node) → IsLeft told p old new place failure.NoMemory
+  left_memory node t old new fills = record { held = Open node; fills = fills; fails = λ tells. (tt, (t.tells ∙ tells, inl (ap member_of t.answer.0))) }
+
+  pub left_broken : (b : Failed D) (k : D) (why : Failure) → IsFailing why → IsSound (told b.disk) → IsTurn told p.node (taking p.plan) (turn.Broken b) → k ≡ b.disk → (old new : List (Seat D)) → Fills old new place (Loose k) → IsLeft told p old new place why
+  left_broken b k why failing sound t is old new fills = record {
+    held = Loose b.disk;
+    fills = subst (λ (j : D). Fills old new place (Loose j)) is fills;
+    fails = λ tells. (failing, broken_reads told p.node p.plan b sound t tells);
+  }
+
+-- the event was begun, and the power went
+module _ {D : Type 0} (told : D → View) (old new : List (Seat D)) (place : ℕ) (stop : Stop) (left : ℕ) (begun : Result D (Lost D)) (node : Stored D) (i : Option Input) (moment : ℕ) (b : Begins told node i moment stop.n left begun) where
+  module _ (k : D) (is : begun ≡ Ok k) where
+    rests : IsResting (told node.disk) (told k) (member_of node) (member_next (member_of node) i moment) (KeepsChange (member_of node) i moment) stop.n
+    rests = subst (λ (r : Result D (Lost D)). IfOk r (λ (d : D). IsResting (told node.disk) (told d) (member_of node) (member_next (member_of node) i moment) (KeepsChange (member_of node) i moment) stop.n)) is b.rests
+
+    pub reopened : (again : D) (opened : Stored D) (before after seen_room : ℕ) → Fills old new place (Open opened) → IsAlike (told k) (told again) → IsRestarted (told again) (told opened.disk) stop.choice opened.gate opened.end opened.party → (0 < (told k).faults → Rose before after) → seen_room ≡ room opened
+        → IsStoppedIn told old new place node i moment stop before after (not (nat_eq seen_room left))
+    reopened again opened before after seen_room fills alike restarted seen room_is = record {
+      opened = opened;
+      fills = fills;
+      stops = λ tells. stops told node opened (told k) (told again) (member_of node) (member_next (member_of node) i moment) (KeepsChange (member_of node) i moment) stop rests alike restarted before after seen
+          (takes_room (member_of node) i moment) (not (nat_eq seen_room left)) (λ j. not (nat_eq (room_is j) (b.left_is j))) tells;
+    }
+
+    pub left_out : (shelved : View) (why : Failure) → IsFailing why → IsSound (told k) → IsAlike (told k) shelved → new ≡ old → IsStopLeft told shelved old new place node i moment why
+    left_out shelved why failing sound alike same = record {
+      held = Out;
+      fills = λ front own back was size. same ∙ was;
+      fails = λ tells. (failing, shelf_reads (told node.disk) (told k) (member_of node) (member_next (member_of node) i moment) (KeepsChange (member_of node) i moment) stop.n rests shelved sound alike tells);
+    }
+
+    pub left_lost : (shelved : View) (again disk : D) (why : Failure) → Fills old new place (Loose disk) → IsAlike (told k) (told again) → IsLost (told again) (told disk) why → IsStopLeft told shelved old new place node i moment why
+    left_lost shelved again disk why fills alike lost = record {
+      held = Loose disk;
+      fills = fills;
+      fails = lost_reads (told node.disk) (told k) (member_of node) (member_next (member_of node) i moment) (KeepsChange (member_of node) i moment) stop.n rests (told again) (told disk) why alike lost;
+    }
+
+  pub left_begun : (lost : Lost D) → begun ≡ Err lost → (shelved : View) → Fills old new place (Loose lost.disk) → IsStopLeft told shelved old new place node i moment lost.why
+  left_begun lost is shelved fills = record {
+    held = Loose lost.disk;
+    fills = fills;
+    fails = λ tells. (
+      subst (λ (r : Result D (Lost D)). IfErr r (λ (u : Lost D). IsFailing u.why)) is b.failing,
+      subst (λ (r : Result D (Lost D)). IfErr r (λ (u : Lost D). Tells (told node.disk) → ReadsEither (told u.disk) (member_of node) (member_next (member_of node) i moment) (KeepsChange (member_of node) i moment))) is b.reads tells,
+    );
+  }
+
+-- the party took its seat again as it was
+pub left_same : {D : Type 0} (told : D → View) (shelved : View) (old new : List (Seat D)) (place : ℕ) (node again : Stored D) (i : Option Input) (moment : ℕ) → again ≡ node → Fills old new place (Open again) → IsStopLeft told shelved old new place node i moment failure.NoMemory
+left_same told shelved old new place node again i moment same fills = record {
+  held = Open again;
+  fills = fills;
+  fails = λ tells. (tt, (subst (λ (n : Stored _). Tells (told n.disk)) (sym same) tells, inl (ap member_of same)));
+}
+
+-- memory was wanted behind a stop
+pub left_stopped : {D : Type 0} (told : D → View) (shelved : View) (old new : List (Seat D)) (place : ℕ) (node : Stored D) (i : Option Input) (moment : ℕ) (stop : Stop) (before after : ℕ) (next : Bool) → IsStoppedIn told old new place node i moment stop before after next
+    → IsStopLeft told shelved old new place node i moment failure.NoMemory
+left_stopped told shelved old new place node i moment stop before after next s = record {
+  held = Open s.opened;
+  fills = s.fills;
+  fails = λ tells. (tt, ((s.stops tells).tells, go (s.stops tells).fixed.kept (s.stops tells).cut));
+}
+  where
+    go : (next ≡ true → KeepsChange (member_of node) i moment) → ((next ≡ false) × (member_of s.opened ≡ member_of node)) ⊎ ((next ≡ true) × (member_of s.opened ≡ member_next (member_of node) i moment))
+        → (member_of s.opened ≡ member_of node) ⊎ (KeepsChange (member_of node) i moment × (member_of s.opened ≡ member_next (member_of node) i moment))
+    go kept (inl one) = inl one.1
+    go kept (inr two) = inr (kept two.0, two.1)
+
+-- what is planned was begun
+module _ {D : Type 0} (told : D → View) (p : PlannedNode D) (i : Input) (moment n left : ℕ) (begun : Result D (Lost D)) (planned : p.plan ≡ plan_at (member_of p.node) i moment) where
+  pub begins_so : left ≡ room p.node → IfOk begun (λ disk. IsResting (told p.node.disk) (told disk) (member_of p.node) (after (member_of p.node) p.plan.edits) (is_change p.plan.edits ≡ true) n) → IfErr begun (λ lost. IsFailing lost.why)
+      → IfErr begun (λ lost. Tells (told p.node.disk) → ReadsEither (told lost.disk) (member_of p.node) (after (member_of p.node) p.plan.edits) (is_change p.plan.edits ≡ true)) → Begins told p.node (Some i) moment n left begun
+  begins_so left_is rests failing reads = record {
+    left_is = left_is;
+    rests = subst (λ (q : Plan). IfOk begun (λ disk. IsResting (told p.node.disk) (told disk) (member_of p.node) (after (member_of p.node) q.edits) (is_change q.edits ≡ true) n)) planned rests;
+    failing = failing;
+    reads = subst (λ (q : Plan). IfErr begun (λ lost. Tells (told p.node.disk) → ReadsEither (told lost.disk) (member_of p.node) (after (member_of p.node) q.edits) (is_change q.edits ≡ true))) planned reads;
+  }
+
+-- nothing is begun of an event of which nothing is heard
+pub begins_idle : {D : Type 0} (told : D → View) (node : Stored D) (k : D) (moment n left : ℕ) → left ≡ room node → k ≡ node.disk → IsDurable (told k) → IsStore (told node.disk) node.gate node.end node.party → Begins told node None moment n left (Ok k)
+begins_idle {D = D} told node k moment n left left_is is durable stands = record {
+  left_is = left_is;
+  rests = subst (λ (j : D). IsResting (told node.disk) (told j) (member_of node) (member_of node) ⊥ n) (sym is) (rests_idle (told node.disk) (member_of node) n (subst (λ (j : D). IsDurable (told j)) is durable) (image_of (told node.disk) node.gate node.end node.party stands));
+  failing = tt;
+  reads = tt;
+}

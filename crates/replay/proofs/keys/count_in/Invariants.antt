@@ -1,9 +1,0 @@
-use Rattle.std.proofs.Common.{◌≡◌, ◌≤◌, take}
-use Rattle.replay.specs.Playing.{count_status}
-use Rattle.replay.proofs.keys.count_in.Given as goal
-
-abbrev pub invariant-loop-i : goal.invariant-loop-i
-invariant-loop-i l = record {
-  counted : l.count ≡ count_status l.status (take l.i l.state.keys);
-  few : l.count ≤ l.i;
-}

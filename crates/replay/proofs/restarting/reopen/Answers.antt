@@ -1,0 +1,49 @@
+use Rattle.std.proofs.Common.{◌≡◌, inr, ◌<◌, IfErr, subst, refl}
+use Rattle.std.proofs.lemmas.Result.{err_from_is_err_and}
+use Rattle.replay.specs.declared.failure.Failure.TheVariants as failure
+use Rattle.replay.proofs.Leaving.{reopened, left_out, left_lost, left_begun}
+use Rattle.replay.proofs.Surrounding.{empty_within, filled_faulty}
+use Rattle.replay.proofs.restarting.reopen.Goals as goal
+
+pub put_in-requires : goal.put_in-requires
+put_in-requires g c = empty_within c.args.parties.now c.args.place c.requires.empty
+
+pub put_in-requires-in-Ok-restart : goal.put_in-requires-in-Ok-restart
+put_in-requires-in-Ok-restart g c = empty_within c.args.parties.now c.args.place c.requires.empty
+
+pub put_in-requires-in-Err-restart : goal.put_in-requires-in-Err-restart
+put_in-requires-in-Err-restart g c = empty_within c.args.parties.now c.args.place c.requires.empty
+
+pub returns-in-Ok-restart-clause-stopped : goal.returns-in-Ok-restart-clause-stopped
+returns-in-Ok-restart-clause-stopped g c = λ node i moment b.
+    let told = g.H.Disk.Disk.told in
+    reopened told c.args.parties.now c.put_in-in-Ok-restart.new.self c.args.place c.args.stop c.args.room c.args.begun node i moment b c.in-Ok.disk c.in-Ok.is c.in_ok-disk.disk c.in-Ok-restart.node (g.H.Shelf.faults c.args.shelf.now) (g.H.Shelf.faults c.exchange.new.shelf)
+    c.room.result c.put_in-in-Ok-restart.ensures c.in_ok-disk.ensures.alike c.in-Ok-restart.ensures.opened c.exchange.ensures.seen c.room.ensures
+
+pub returns-in-Err-clause-left : goal.returns-in-Err-clause-left
+returns-in-Err-clause-left g c = λ node i moment b.
+    left_begun g.H.Disk.Disk.told c.args.parties.now c.put_in.new.self c.args.place c.args.stop c.args.room c.args.begun node i moment b c.in-Err.field-0 c.in-Err.is (g.H.Shelf.entry c.args.shelf.now c.args.own.now) c.put_in.ensures
+
+pub returns-in-Err-restart-clause-left : goal.returns-in-Err-restart-clause-left
+returns-in-Err-restart-clause-left g c = λ node i moment b.
+    left_lost g.H.Disk.Disk.told c.args.parties.now c.put_in-in-Err-restart.new.self c.args.place c.args.stop c.args.room c.args.begun node i moment b c.in-Ok.disk c.in-Ok.is (g.H.Shelf.entry c.exchange.new.shelf c.args.own.now) c.in_ok-disk.disk c.in-Err-restart.field-0.disk c.in-Err-restart.field-0.why
+    c.put_in-in-Err-restart.ensures c.in_ok-disk.ensures.alike c.in-Err-restart.ensures.lost
+
+pub returns-in_err-disk-clause-left : goal.returns-in_err-disk-clause-left
+returns-in_err-disk-clause-left g c =
+    let told = g.H.Disk.Disk.told in
+    let p = err_from_is_err_and c.from_residual.result c.from_residual.ensures.1 in
+    rw (p.1, p.2) (λ node i moment b.
+    left_out told c.args.parties.now c.args.parties.now c.args.place c.args.stop c.args.room c.args.begun node i moment b c.in-Ok.disk c.in-Ok.is (g.H.Shelf.entry c.exchange.new.shelf c.args.own.now) c.in_err-disk.field-0.0
+    c.in_err-disk.ensures.failing (g.met.H.Disk.Disk.sound c.in-Ok.disk) c.in_err-disk.ensures.stays refl)
+
+pub returns-in-Err-clause-fault : goal.returns-in-Err-clause-fault
+returns-in-Err-clause-fault g c = λ is.
+    let same : c.in-Err.field-0.why ≡ failure.Fault = cc is in
+    inr (filled_faulty g.H.Disk.Disk.told c.args.parties.now c.put_in.new.self c.args.place c.in-Err.field-0.disk c.requires.empty c.put_in.ensures
+    (subst (λ r. IfErr r (λ lost. lost.why ≡ failure.Fault → 0 < (g.H.Disk.Disk.told lost.disk).faults)) c.in-Err.is c.requires.shown same))
+
+pub returns-in-Err-restart-clause-fault : goal.returns-in-Err-restart-clause-fault
+returns-in-Err-restart-clause-fault g c = λ is.
+    let same : c.in-Err-restart.field-0.why ≡ failure.Fault = cc is in
+    inr (filled_faulty g.H.Disk.Disk.told c.args.parties.now c.put_in-in-Err-restart.new.self c.args.place c.in-Err-restart.field-0.disk c.requires.empty c.put_in-in-Err-restart.ensures (c.in-Err-restart.ensures.fault same))
