@@ -1,65 +1,25 @@
--- A message is heard of bytes that were taken.
-use Rattle.std.proofs.Common.{◌≡◌, ◌≢◌, inl, inr, ℕ, ◌+◌, ◌≤◌, ◌<◌, List, [], length, take, Option, Some, None, Result, Ok, Err, IfOk, IfSome, sym, ap, ◌∙◌, subst, arith}
-use Rattle.std.proofs.lemmas.Bool.{cases_lt}
+-- What follows of a message that was heard, or of none.
+use Rattle.std.proofs.Common.{◌≡◌, inl, inr, ℕ, List, [], take, Option, Some, None, Result, Ok, Err, IfSome, sym, ap, ◌∙◌, subst}
 use Rattle.std.proofs.Math.Logic.{∥∥₁_prop}
 use Rattle.x_base.specs.Edge.{Rose}
 use Rattle.csm_grammar.specs.declared.arrival.Arrival.{Arrival}
 use Rattle.csm_grammar.specs.declared.parsed.Parsed.{Parsed}
 use Rattle.csm_grammar.specs.Reading.{IsArrival}
-use Rattle.csm_grammar.specs.declared.refusal.ReadRefusal.TheVariants as reason
 use Rattle.csm_feed.specs.declared.unheard.Unheard.{Unheard}
 use Rattle.csm_feed.specs.declared.unheard.Unheard.TheVariants as unheard
-use Rattle.csm_feed.specs.Heard.{leading, behind, Heard, readings}
+use Rattle.csm_feed.specs.Heard.{behind, Heard}
 use Rattle.csm_feed.specs.Laws.{OneHearing}
 use Rattle.x_disk.specs.Disk.{View}
 use Rattle.x_disk.specs.Shelf.{alike_refl}
 use Rattle.party_state.specs.declared.command.Input.TheVariants.{Arrived}
-use Rattle.x917.specs.declared.status.Refusal.{Refusal}
-use Rattle.x917.specs.declared.status.Status.{Status}
-use Rattle.x917.specs.declared.status.Status.TheVariants as status
-use Rattle.x917.specs.Transfer.{Took, IsAtEnd, IsQuiet, input_limit}
-use Rattle.x917.specs.Check.{taken, refusal_of}
+use Rattle.x_status.specs.declared.status.Refusal.{Refusal}
+use Rattle.x_status.specs.declared.status.Status.{Status}
+use Rattle.x_status.specs.declared.status.Status.TheVariants as status
+use Rattle.csm_check.specs.Transfer.{IsQuiet}
+use Rattle.csm_check.specs.Listening.{taken, refusal_of, IsHeard, IsUnheard}
 use Rattle.x917.specs.Ends.{IsOfParty, LeavesRest}
 use Rattle.x_party.specs.Dues.{IsDue}
-use Rattle.x917.specs.Dues.{Follows, IsHeard, FollowsBytes}
-use Rattle.x917.specs.Obeys.{IsUnheard}
-use Rattle.x917.proofs.Decisions.{text_taken, not_full, refused_possible}
-
--- ---- listening
-
-module _ (before after : Option (List ℕ)) (text bytes : List ℕ) (took : Took before after text) (bound : length text ≤ input_limit)
-    (end : length text < input_limit → IsAtEnd before after) (same : bytes ≡ text) (r : Result Arrival Unheard) (h : Heard bytes (readings r)) where
-  heard_short : (a : Arrival) → Heard text (Ok a.parsed) → length text < input_limit
-  heard_short a heard = elim (cases_lt (length text) input_limit) [
-    | inl lt ↦ lt
-    | inr ge ↦
-        let full : length text ≡ input_limit = omega (arith, bound, ge) in
-        absurd (not_full (leading text + a.parsed.len) (length text) _ heard.1 full)
-  ]
-
-  of_text : (q : Result Arrival Unheard) → r ≡ q → Heard text (readings q)
-  of_text q is = subst (λ (t : List ℕ). Heard t (readings q)) same (subst (λ (x : Result Arrival Unheard). Heard bytes (readings x)) is h)
-
-  heard_in : (o : Option (List ℕ)) (a : Arrival) → Took o after text → (length text < input_limit → IsAtEnd o after) → Heard text (Ok a.parsed) → a.text ≡ take a.parsed.len (behind text)
-      → IfSome o (λ all. IsHeard all a × (after ≡ Some []))
-  heard_in None a t e heard kept = tt
-  heard_in (Some all) a t e heard kept =
-      let is = text_taken all text after t bound e in (
-        record { heard = subst (λ (b : List ℕ). Heard b (Ok a.parsed)) is heard; text = kept ∙ ap (λ (b : List ℕ). take a.parsed.len (behind b)) is },
-        e (heard_short a heard),
-      )
-
-  pub heard_was : (a : Arrival) → IfOk r (λ a. a.text ≡ take a.parsed.len (behind bytes)) → r ≡ Ok a → IfSome before (λ all. IsHeard all a × (after ≡ Some []))
-  heard_was a kept is =
-      let k : a.text ≡ take a.parsed.len (behind bytes) = subst (λ (x : Result Arrival Unheard). IfOk x (λ a. a.text ≡ take a.parsed.len (behind bytes))) is kept in
-      heard_in before a took end (of_text (Ok a) is) (k ∙ ap (λ (b : List ℕ). take a.parsed.len (behind b)) same)
-
-  unheard_in : (o : Option (List ℕ)) (u : Unheard) → Took o after text → (length text < input_limit → IsAtEnd o after) → Heard text (Err u) → IfSome o (λ all. Heard (taken all) (Err u))
-  unheard_in None u t e heard = tt
-  unheard_in (Some all) u t e heard = subst (λ (b : List ℕ). Heard b (Err u)) (text_taken all text after t bound e) heard
-
-  pub unheard_was : (u : Unheard) (f : Refusal) → r ≡ Err u → f ≡ refusal_of u → u ≢ unheard.Text reason.NoMemory → IsUnheard before (status.Refused f)
-  unheard_was u f is k some = inr (u, ap status.Refused k, refused_possible u some, unheard_in before u took end (of_text (Err u) is))
+use Rattle.x917.specs.Dues.{Follows, FollowsBytes}
 
 -- a status that comes without a party comes of none
 none_told : (left : Option (List ℕ)) (s : Status) → IsUnheard left s → IsOfParty s → ⊥

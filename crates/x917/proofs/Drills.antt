@@ -6,23 +6,25 @@ use Rattle.x_disk.specs.History.{view_of}
 use Rattle.x_disk.specs.Shelf.{IsAlike}
 use Rattle.x_disk.specs.Slots.{fresh}
 use Rattle.scenario.specs.declared.line.Line.{Line}
-use Rattle.scenario.specs.Drill.{drill_text}
+use Rattle.scenario_drill.specs.Drill.{drill_text}
 use Rattle.scenario.specs.Reading.{IsScenario}
 use Rattle.world_laws.specs.World.{member_at}
 use Rattle.world_laws.specs.Events.{Event, IsAction}
 use Rattle.world_laws.specs.Honest.{HonestAt}
 use Rattle.world_laws.specs.Starts.{IsStart}
 use Rattle.world_laws.specs.Steps.{step}
-use Rattle.replay.specs.Course.{Course, Leads}
-use Rattle.replay.specs.Ends.{is_event}
-use Rattle.replay.specs.Playing.{Surroundings, around, IsNotEmpty, IsPlay, IsTallied}
-use Rattle.replay.specs.SettingUp.{AllTell, parties_in}
-use Rattle.replay.specs.Starts.{start_course, start_world}
-use Rattle.replay.specs.declared.tally.Tally.{Tally}
-use Rattle.replay.specs.declared.tally.PlayResult.{PlayResult}
-use Rattle.replay.specs.declared.tally.PlayResult.TheVariants as played
-use Rattle.x917.specs.declared.status.Status.{Status}
-use Rattle.x917.specs.declared.status.Status.TheVariants as status
+use Rattle.course.specs.Course.{Course, Leads}
+use Rattle.course.specs.Ends.{is_event}
+use Rattle.replay.specs.Playing.{Surroundings, around, IsNotEmpty, IsPlay}
+use Rattle.course.specs.Tallies.{IsTallied}
+use Rattle.replay.specs.SettingUp.{AllTell}
+use Rattle.course.specs.Parties.{parties_in}
+use Rattle.course.specs.Starts.{start_course, start_world}
+use Rattle.course.specs.declared.tally.Tally.{Tally}
+use Rattle.replay.specs.declared.result.PlayResult.{PlayResult}
+use Rattle.replay.specs.declared.result.PlayResult.TheVariants as played
+use Rattle.x_status.specs.declared.status.Status.{Status}
+use Rattle.x_status.specs.declared.status.Status.TheVariants as status
 use Rattle.x917.specs.Drilled.{EndsDrill, IsDrill, IsDrilled, IsDrilledUpTo, IsPlayedAlone}
 use Rattle.x917.specs.Headline.{IsLawful}
 use Rattle.x917.proofs.Headlines.{whole, up_to}

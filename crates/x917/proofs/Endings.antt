@@ -2,8 +2,7 @@
 use Rattle.std.proofs.Common.{◌≡◌, inl, inr, ℕ, ◌+◌, ◌≤◌, ◌++◌, List, length, take, Option, Some, None, ap, refl, ◌∙◌, arith, append_assoc, length-append}
 use Rattle.std.proofs.lemmas.List.{take-append-le}
 use Rattle.std.proofs.Math.Seq.{take-append-add}
-use Rattle.x_base.specs.Edge.{Rose, AppendsTo}
-use Rattle.x917.specs.Transfer.{WrotePrefix}
+use Rattle.x_base.specs.Edge.{Rose, AppendsTo, WrotePrefix}
 
 pub both_whole : (before mid after : Option (List ℕ)) (text ending : List ℕ) → AppendsTo before mid text → AppendsTo mid after ending → AppendsTo before after (text ++ ending)
 both_whole None mid after text ending first second = tt

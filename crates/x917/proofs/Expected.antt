@@ -8,18 +8,19 @@ use Rattle.x_disk.specs.Disk.{View, Tells}
 use Rattle.key_journal.specs.Journal.{is_blank}
 use Rattle.scenario.specs.declared.line.Line.{Line}
 use Rattle.scenario.specs.declared.line.Line.TheVariants as line
-use Rattle.scenario.specs.Drill.{drill_text}
+use Rattle.scenario_drill.specs.Drill.{drill_text}
 use Rattle.scenario.specs.Laws.{NeverBoth, OneFirstBad, OneScenario}
 use Rattle.replay.specs.Playing.{Surroundings, around, IsNotEmpty}
-use Rattle.replay.specs.SettingUp.{AllReadBlank, AllTell, ReadsBlank, parties_in, party_in}
-use Rattle.replay.specs.declared.tally.Tally.{Tally}
-use Rattle.x917.specs.declared.status.Refusal.TheVariants.{Decided}
-use Rattle.x917.specs.declared.status.Status.{Status}
-use Rattle.x917.specs.declared.status.Status.TheVariants as status
+use Rattle.replay.specs.SettingUp.{AllReadBlank, AllTell, ReadsBlank}
+use Rattle.course.specs.Parties.{parties_in, party_in}
+use Rattle.course.specs.declared.tally.Tally.{Tally}
+use Rattle.x_status.specs.declared.status.Refusal.TheVariants.{Decided}
+use Rattle.x_status.specs.declared.status.Status.{Status}
+use Rattle.x_status.specs.declared.status.Status.TheVariants as status
 use Rattle.x917.specs.Drilled.{IsDrill, IsDrilled}
 use Rattle.x917.specs.Headline.{DisksTell, IsReplay, IsUnread, Says}
 use Rattle.x917.specs.Playable.{AnyFilled, ExpectsDrill, ExpectsPlay, ExpectsReplay, IsForgedAlways, IsHonest}
-use Rattle.x917.specs.Transfer.{IsQuiet}
+use Rattle.csm_check.specs.Transfer.{IsQuiet}
 
 -- ---- a disk isn't blank and filled
 

@@ -6,11 +6,12 @@ use Rattle.x_party.specs.Outcomes.{LeavesShelf, IsNoFailure}
 use Rattle.x_party.specs.Dues.{GivesDue}
 use Rattle.x_party.specs.declared.outcome.Outcome.{Outcome}
 use Rattle.x_party.specs.declared.outcome.Outcome.TheVariants as outcome
-use Rattle.x917.specs.declared.status.Refusal.TheVariants.{Decided}
-use Rattle.x917.specs.declared.status.Status.{Status}
-use Rattle.x917.specs.declared.status.Status.TheVariants as status
-use Rattle.x917.specs.Transfer.{IsQuiet}
-use Rattle.x917.specs.Ends.{status_of_outcome, Puts, Ends, IsOfParty, IsSilent, LeavesRest}
+use Rattle.x_status.specs.declared.status.Refusal.TheVariants.{Decided}
+use Rattle.x_status.specs.declared.status.Status.{Status}
+use Rattle.x_status.specs.declared.status.Status.TheVariants as status
+use Rattle.csm_check.specs.Transfer.{IsQuiet}
+use Rattle.x_status.specs.Causes.{IsSilent}
+use Rattle.x917.specs.Ends.{status_of_outcome, Puts, Ends, IsOfParty, IsPartyCall, LeavesRest}
 use Rattle.x917.specs.Dues.{Follows}
 
 put_status : (reply : Option (List ℕ)) (ending : List ℕ) (answer s : Status) (before after : Option (List ℕ)) → Puts reply ending answer s before after → (s ≡ answer) ⊎ (s ≡ status.WriteFault)
@@ -19,8 +20,8 @@ put_status (Some text) ending answer s before after (inl puts) = inl puts.0
 put_status (Some text) ending answer s before after (inr puts) = inr puts.0
 
 pub ended : (o : Outcome) (ending : List ℕ) (s : Status) (before after : Option (List ℕ)) → Ends o ending s before after → (s ≡ status_of_outcome o) ⊎ (s ≡ status.WriteFault)
-ended (outcome.Done reply under) ending s before after ends = put_status reply ending status.Done s before after ends
-ended (outcome.Refused verdict reply under) ending s before after ends = put_status reply ending (status.Refused (Decided verdict)) s before after ends
+ended (outcome.Done reply) ending s before after ends = put_status reply ending status.Done s before after ends
+ended (outcome.Refused verdict reply) ending s before after ends = put_status reply ending (status.Refused (Decided verdict)) s before after ends
 ended (outcome.OtherParty asked found) ending s before after ends = inl ends.0
 ended (outcome.Damaged place) ending s before after ends = inl ends.0
 ended outcome.Fault ending s before after ends = inl ends.0
@@ -28,8 +29,8 @@ ended outcome.NoMemory ending s before after ends = inl ends.0
 
 -- a disk fault is the outcome's
 fault_of : (o : Outcome) → status.DiskFault ≡ status_of_outcome o → o ≡ outcome.Fault
-fault_of (outcome.Done reply under) is = absurd cc
-fault_of (outcome.Refused verdict reply under) is = absurd cc
+fault_of (outcome.Done reply) is = absurd cc
+fault_of (outcome.Refused verdict reply) is = absurd cc
 fault_of (outcome.OtherParty asked found) is = absurd cc
 fault_of (outcome.Damaged place) is = absurd cc
 fault_of outcome.Fault is = refl
@@ -37,7 +38,7 @@ fault_of outcome.NoMemory is = absurd cc
 
 module _ (o : Outcome) (ending : List ℕ) (s : Status) (before after : Option (List ℕ)) (put puts disk disks : ℕ)
     (ends : Ends o ending s before after) (put_cause : s ≡ status.WriteFault → Rose put puts) where
-  pub follows : (old : View) (due : List ℕ → Outcome → Type 0) → GivesDue old due o → (o ≡ outcome.Fault → Rose disk disks)
+  follows : (old : View) (due : List ℕ → Outcome → Type 0) → GivesDue old due o → (o ≡ outcome.Fault → Rose disk disks)
       → IsQuiet put puts → IsQuiet disk disks → Follows old due s
   follows old due given disk_cause put_quiet disk_quiet = λ image other now is. go image other (given image other now is) (ended o ending s before after ends) where
     go : (image : List ℕ) (other : Outcome) → (o ≡ other) ⊎ ((o ≡ outcome.Fault) ⊎ (o ≡ outcome.NoMemory)) → (s ≡ status_of_outcome o) ⊎ (s ≡ status.WriteFault)
@@ -53,7 +54,7 @@ module _ (o : Outcome) (ending : List ℕ) (s : Status) (before after : Option (
     go (inl same) = cause (fault_of o (sym is ∙ same))
     go (inr fault) = let no : status.DiskFault ≡ status.WriteFault = sym is ∙ fault in absurd cc
 
-  pub rest : (name : List ℕ) (is_back unwritten : Type 0) (old new : List ℕ → View) → LeavesShelf name o is_back old new disk disks
+  rest : (name : List ℕ) (is_back unwritten : Type 0) (old new : List ℕ → View) → LeavesShelf name o is_back old new disk disks
       → (IsOfParty s → IsNoFailure o) → (IsSilent s → unwritten) → LeavesRest name s is_back unwritten old new put puts disk disks
   rest name is_back unwritten old new shelf answered silent = record {
     back = λ of. shelf.back (answered of);
@@ -61,4 +62,11 @@ module _ (o : Outcome) (ending : List ℕ) (s : Status) (before after : Option (
     silent = silent;
     write_fault = put_cause;
     disk_fault = disk_fault shelf.fault;
+  }
+
+  pub called : (name : List ℕ) (is_back unwritten : Type 0) (old new : List ℕ → View) (due : List ℕ → Outcome → Type 0) → GivesDue (old name) due o → LeavesShelf name o is_back old new disk disks
+      → (IsOfParty s → IsNoFailure o) → (IsSilent s → unwritten) → IsPartyCall name s (Follows (old name) due s) is_back unwritten old new put puts disk disks
+  called name is_back unwritten old new due given shelf answered silent = record {
+    follows = follows (old name) due given shelf.fault;
+    rest = rest name is_back unwritten old new shelf answered silent;
   }

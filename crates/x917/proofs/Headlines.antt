@@ -9,16 +9,17 @@ use Rattle.world_laws.specs.Events.{Event, IsAction}
 use Rattle.world_laws.specs.Honest.{HonestAt}
 use Rattle.world_laws.specs.Starts.{IsStart}
 use Rattle.world_laws.specs.Steps.{step}
-use Rattle.replay.specs.Breaking.{AreOnShelf, HappensOr, IsEventOf}
-use Rattle.replay.specs.Course.{Course, Leads}
-use Rattle.replay.specs.Happenings.{Happening, Nothing, At}
+use Rattle.replay.specs.Breaking.{AreOnShelf}
+use Rattle.course.specs.Parts.{HappensOr, IsEventOf}
+use Rattle.course.specs.Course.{Course, Leads}
+use Rattle.course.specs.Happenings.{Happening, Nothing, At}
 use Rattle.replay.specs.Playing.{Surroundings, IsBroken, IsBrokenAhead, IsBrokenPlay, IsPlay, IsPlayed, IsPlayedToForged, IsUnwritten, WereBlank}
-use Rattle.replay.specs.Starts.{start_course, start_world}
-use Rattle.replay.specs.declared.tally.Tally.{Tally}
-use Rattle.replay.specs.declared.tally.PlayResult.{PlayResult}
-use Rattle.replay.specs.declared.tally.PlayResult.TheVariants as played
-use Rattle.x917.specs.declared.status.Refusal.TheVariants.{Decided}
-use Rattle.x917.specs.declared.status.Status.TheVariants as status
+use Rattle.course.specs.Starts.{start_course, start_world}
+use Rattle.course.specs.declared.tally.Tally.{Tally}
+use Rattle.replay.specs.declared.result.PlayResult.{PlayResult}
+use Rattle.replay.specs.declared.result.PlayResult.TheVariants as played
+use Rattle.x_status.specs.declared.status.Refusal.TheVariants.{Decided}
+use Rattle.x_status.specs.declared.status.Status.TheVariants as status
 use Rattle.x917.specs.Headline.{IsLawful, IsPlayedWhole, IsPlayedUpTo, IsPlayedInPart, IsPlayedUnwritten, IsPlayedEarly, DisksTell, Says, broken_world, status_of_play}
 
 -- what a line makes happen is an action of a network

@@ -7,9 +7,9 @@ use Rattle.world_laws.specs.Honest.{HonestAt, HonestRun}
 use Rattle.world_laws.specs.Laws.{Agreement, OneKeyPerCount, Once, EndedBoth}
 use Rattle.world_laws.specs.Starts.{IsBareStart, IsStart}
 use Rattle.world_laws.specs.Steps.{run, step, number_after}
-use Rattle.replay.specs.Course.{Course, Leads}
-use Rattle.replay.specs.Ends.{Ran}
-use Rattle.replay.specs.Starts.{start_course, start_world}
+use Rattle.course.specs.Course.{Course, Leads}
+use Rattle.course.specs.Ends.{Ran}
+use Rattle.course.specs.Starts.{start_course, start_world}
 use Rattle.x917.specs.Headline.{IsLawful}
 
 are_more : (events : List Event) (e : Event) → AreEvents events → IsAction e.action → AreEvents (events ++ e ∷ [])

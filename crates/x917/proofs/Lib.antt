@@ -1,5 +1,3 @@
-pub mod Transfers
-pub mod Decisions
 pub mod Endings
 pub mod Following
 pub mod Arriving

@@ -19,10 +19,9 @@ use Rattle.x_party.specs.declared.outcome.Outcome.{Outcome}
 use Rattle.x_party.specs.declared.outcome.Outcome.TheVariants as outcome
 use Rattle.world_laws.specs.Events.{Action, Orders, Hears, Compacts, IsAction, IsCommand}
 use Rattle.world_laws.specs.Calls.{IsCall, IsNamedCall, AnswersOther}
-use Rattle.x917.specs.declared.status.Status.{Status}
-use Rattle.x917.specs.Check.{taken}
+use Rattle.x_status.specs.declared.status.Status.{Status}
+use Rattle.csm_check.specs.Listening.{taken, IsHeard}
 use Rattle.x917.specs.Ends.{Ends}
-use Rattle.x917.specs.Dues.{IsHeard}
 use Rattle.x917.specs.Obeys.{Obeys, IsPartyTurn, IsTaken}
 use Rattle.x917.specs.Network.{IsNamedEvent, IsArrivalEvent, IsNetworkEvent}
 
@@ -45,8 +44,8 @@ ident_given (Some text) new h = name_given 4 text new h
 
 -- a party of another name writes nothing
 unwritten : (name own : List ℕ) (o : Outcome) (ending : List ℕ) (s : Status) (before after : Option (List ℕ)) → AnswersOther name own o → Ends o ending s before after → after ≡ before
-unwritten name own (outcome.Done reply under) ending s before after other ends = absurd other
-unwritten name own (outcome.Refused verdict reply under) ending s before after other ends = absurd other
+unwritten name own (outcome.Done reply) ending s before after other ends = absurd other
+unwritten name own (outcome.Refused verdict reply) ending s before after other ends = absurd other
 unwritten name own (outcome.OtherParty asked found) ending s before after other ends = ends.1
 unwritten name own (outcome.Damaged place) ending s before after other ends = absurd other
 unwritten name own outcome.Fault ending s before after other ends = ends.1

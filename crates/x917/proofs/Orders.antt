@@ -10,24 +10,28 @@ use Rattle.party_state.specs.declared.command.Command.TheVariants as command
 use Rattle.party_state.specs.declared.command.Input.{Input}
 use Rattle.party_state.specs.declared.command.Input.TheVariants.{Ordered}
 use Rattle.party_state.specs.State.{begun}
-use Rattle.key_store.specs.Store.{IsBlankOrFirst, StandsWith}
+use Rattle.key_store.specs.Store.{IsBlankOrFirst, IsOldOrNew, StandsWith}
 use Rattle.key_store.specs.Compacting.{IsOldOrWhole}
 use Rattle.roles.specs.Deciding.{decision}
-use Rattle.node_core.specs.Turns.{IsOldOrNext}
 use Rattle.x_party.specs.Images.{OrBefore}
 use Rattle.x_party.specs.Outcomes.{IsSafe, IsSafeCompaction, IsSafeWiping}
 use Rattle.x_party.specs.declared.outcome.Outcome.{Outcome}
 use Rattle.x_party.specs.declared.outcome.Outcome.TheVariants as outcome
-use Rattle.x917.specs.declared.status.Status.{Status}
-use Rattle.x917.specs.declared.status.Status.TheVariants as status
+use Rattle.x_status.specs.declared.status.Status.{Status}
+use Rattle.x_status.specs.declared.status.Status.TheVariants as status
 use Rattle.x917.specs.declared.party_command.PartyCommand.{PartyCommand}
-use Rattle.x917.specs.Transfer.{TookAtMost}
-use Rattle.x917.specs.Ends.{Ends, HasCause, HasFaults, LeavesRest, IsOfParty, status_of_outcome}
+use Rattle.csm_check.specs.Transfer.{Took, TookAtMost}
+use Rattle.x_status.specs.Causes.{HasCause, HasFaults}
+use Rattle.x917.specs.Ends.{Ends, LeavesRest, IsOfParty, status_of_outcome}
 use Rattle.x_party.specs.Dues.{IsDue}
 use Rattle.x917.specs.Dues.{Follows}
-use Rattle.x917.specs.Obeys.{Obeys, ObeysCommand, Expects, ExpectsCommand, OthersOf, LeavesOthers, IsPartyTurn, IsTaken, IsUnheard, command_of, party_of, is_reading}
-use Rattle.x917.proofs.Transfers.{took_none}
+use Rattle.csm_check.specs.Listening.{IsUnheard}
+use Rattle.x917.specs.Obeys.{Obeys, ObeysCommand, Expects, ExpectsCommand, OthersOf, LeavesOthers, IsPartyTurn, IsTaken, command_of, party_of, is_reading}
 use Rattle.x917.proofs.Following.{ended}
+
+took_none : (left : Option (List ℕ)) → Took left left []
+took_none None = tt
+took_none (Some all) = refl
 
 pub took_nothing : (limit : ℕ) (left : Option (List ℕ)) → TookAtMost limit left left
 took_nothing limit left = ([], omega arith, took_none left)
@@ -39,8 +43,8 @@ module _ (read reads put puts disk disks : ℕ) where
       → (s ≡ status.WriteFault → Rose put puts) → (s ≡ status.DiskFault → Rose disk disks) → HasCause s read reads put puts disk disks
   cause_ended o ending s before after ends put_cause disk_cause = go (ended o ending s before after ends) where
     each : (o : Outcome) → s ≡ status_of_outcome o → HasCause (status_of_outcome o) read reads put puts disk disks
-    each (outcome.Done reply under) is = tt
-    each (outcome.Refused verdict reply under) is = tt
+    each (outcome.Done reply) is = tt
+    each (outcome.Refused verdict reply) is = tt
     each (outcome.OtherParty asked found) is = tt
     each (outcome.Damaged place) is = tt
     each outcome.Fault is = disk_cause is
@@ -169,7 +173,7 @@ module _ (moment : ℕ) (left before : Option (List ℕ)) (e : List ℕ → View
 
   safe : (name : List ℕ) (v : View) (i : Input) → IsSound v → IsSafe name v v i moment
   safe name v i is = record {
-    party = λ image p left now stands. began v (OrBefore v (IsOldOrNext p left (decision p i moment))) is (λ c left. inr left);
+    party = λ image p left now stands. began v (OrBefore v (IsOldOrNew p left (decision p i moment).change)) is (λ c left. inr left);
     still = λ image p now stands none. untouched v is;
     nobody = λ image now none. untouched v is;
     tells = refl;

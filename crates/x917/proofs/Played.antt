@@ -6,15 +6,16 @@ use Rattle.x_disk.specs.Disk.{View}
 use Rattle.x_line.specs.declared.order.Order.{Order}
 use Rattle.x_line.specs.declared.order.Order.TheVariants as order
 use Rattle.replay.specs.Playing.{Surroundings, around}
-use Rattle.replay.specs.declared.tally.PlayResult.{PlayResult}
-use Rattle.replay.specs.declared.tally.PlayResult.TheVariants as played
-use Rattle.x917.specs.declared.status.Status.{Status}
-use Rattle.x917.specs.declared.status.Status.TheVariants as status
+use Rattle.replay.specs.declared.result.PlayResult.{PlayResult}
+use Rattle.replay.specs.declared.result.PlayResult.TheVariants as played
+use Rattle.csm_feed.specs.Heard.{input_limit}
+use Rattle.x_status.specs.declared.status.Status.{Status}
+use Rattle.x_status.specs.declared.status.Status.TheVariants as status
 use Rattle.x917.specs.Drilled.{IsDrill}
-use Rattle.x917.specs.Ends.{HasCause, IsSilent}
+use Rattle.x_status.specs.Causes.{HasCause, IsSilent}
 use Rattle.x917.specs.Headline.{IsReplay, IsUnread, Says, status_of_play}
 use Rattle.x917.specs.Obeys.{IsSilentOf, is_played, most_of}
-use Rattle.x917.specs.Transfer.{TookAtMost, input_limit}
+use Rattle.csm_check.specs.Transfer.{TookAtMost}
 
 -- ---- the status of what became of a scenario
 

@@ -4,10 +4,9 @@ use Rattle.std.proofs.lemmas.List.{append-nil}
 use Rattle.scenario.specs.declared.line.Line.{Line}
 use Rattle.scenario.specs.Laws.{BadInFront, FewBytes}
 use Rattle.scenario.specs.Reading.{IsFirstBad, IsScenario}
-use Rattle.x917.specs.declared.status.Status.TheVariants as status
-use Rattle.x917.specs.Headline.{IsUnread, ReadsScenario}
-use Rattle.x917.specs.Transfer.{Took, IsAtEnd, scenario_limit}
-use Rattle.x917.proofs.Transfers.{front_taken}
+use Rattle.x_status.specs.declared.status.Status.TheVariants as status
+use Rattle.x917.specs.Headline.{IsUnread, ReadsScenario, scenario_limit}
+use Rattle.csm_check.specs.Transfer.{IsAtEnd, IsFront, Took}
 
 -- a scenario has fewer bytes than are taken, so that the source was read to its end
 pub scenario_read : FewBytes → (before after : Option (List ℕ)) (text bytes : List ℕ) (lines : List Line) → Took before after text
@@ -22,13 +21,10 @@ scenario_read few (Some all) (Some rest) text bytes lines took end same is =
     let whole : all ≡ text = took ∙ ap (λ (r : List ℕ). text ++ r) none ∙ append-nil text in
     (e, subst (λ (t : List ℕ). IsScenario t lines) (sym whole) of_text)
 
-bad_taken : BadInFront → (before after : Option (List ℕ)) (text : List ℕ) (number : ℕ) → Took before after text → length text ≤ scenario_limit
-    → (length text < scenario_limit → IsAtEnd before after) → IsFirstBad text number → IfSome before (λ all. IsFirstBad all number)
-bad_taken front None after text number took bound end is = tt
-bad_taken front (Some all) after text number took bound end is =
-    front all number (subst (λ (t : List ℕ). IsFirstBad t number) (front_taken scenario_limit all text after took bound end) is)
+bad_taken : BadInFront → (before : Option (List ℕ)) (text : List ℕ) (number : ℕ) → IsFront scenario_limit before text → IsFirstBad text number → IfSome before (λ all. IsFirstBad all number)
+bad_taken in_front None text number front is = tt
+bad_taken in_front (Some all) text number front is = in_front all number (subst (λ (t : List ℕ). IsFirstBad t number) front is)
 
-pub bad_read : BadInFront → (before after : Option (List ℕ)) (text bytes : List ℕ) (number : ℕ) → Took before after text → length text ≤ scenario_limit
-    → (length text < scenario_limit → IsAtEnd before after) → bytes ≡ text → IsFirstBad bytes number → IsUnread before (status.BadScenario number)
-bad_read front before after text bytes number took bound end same is =
-    inr (number, refl, bad_taken front before after text number took bound end (subst (λ (t : List ℕ). IsFirstBad t number) same is))
+pub bad_read : BadInFront → (before : Option (List ℕ)) (text bytes : List ℕ) (number : ℕ) → IsFront scenario_limit before text → bytes ≡ text → IsFirstBad bytes number → IsUnread before (status.BadScenario number)
+bad_read in_front before text bytes number front same is =
+    inr (number, refl, bad_taken in_front before text number front (subst (λ (t : List ℕ). IsFirstBad t number) same is))

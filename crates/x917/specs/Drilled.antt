@@ -1,20 +1,20 @@
 -- What a drill says (this project's profile).
 use Rattle.std.specs.Prelude.{◌≡◌, ◌+◌, ◌++◌, ℕ, List, [], length, count_by, Option, Some, None, codes}
 use Rattle.std.specs.Fmt.{decimal}
-use Rattle.x_base.specs.Edge.{AppendsTo}
+use Rattle.x_base.specs.Edge.{AppendsTo, WrotePrefix}
 use Rattle.x_disk.specs.Disk.{View}
 use Rattle.scenario.specs.declared.line.Line.{Line}
-use Rattle.scenario.specs.Drill.{drill_text}
+use Rattle.scenario_drill.specs.Drill.{drill_text}
 use Rattle.scenario.specs.Reading.{IsFirstBad, IsScenario}
-use Rattle.replay.specs.Ends.{is_event}
-use Rattle.replay.specs.Playing.{around, IsPlay, IsTallied}
-use Rattle.replay.specs.declared.tally.Tally.{Tally}
-use Rattle.replay.specs.declared.tally.PlayResult.{PlayResult}
-use Rattle.replay.specs.declared.tally.PlayResult.TheVariants as played
-use Rattle.x917.specs.declared.status.Status.{Status}
-use Rattle.x917.specs.declared.status.Status.TheVariants as status
+use Rattle.course.specs.Ends.{is_event}
+use Rattle.replay.specs.Playing.{around, IsPlay}
+use Rattle.course.specs.Tallies.{IsTallied}
+use Rattle.course.specs.declared.tally.Tally.{Tally}
+use Rattle.replay.specs.declared.result.PlayResult.{PlayResult}
+use Rattle.replay.specs.declared.result.PlayResult.TheVariants as played
+use Rattle.x_status.specs.declared.status.Status.{Status}
+use Rattle.x_status.specs.declared.status.Status.TheVariants as status
 use Rattle.x917.specs.Headline.{IsPlayedWhole, IsPlayedUpTo}
-use Rattle.x917.specs.Transfer.{WrotePrefix}
 
 -- the ten lines of a summary, each a word and a number
 

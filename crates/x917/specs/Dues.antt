@@ -1,25 +1,20 @@
 -- The status that is due of a call over a party, by the image of the party's disk (this project's profile).
-use Rattle.std.specs.Prelude.{◌≡◌, ◌⊎◌, ℕ, List, Ok, Err, Some, take}
+use Rattle.std.specs.Prelude.{◌≡◌, ◌⊎◌, ℕ, List, Err, Some}
 use Rattle.csm_grammar.specs.declared.arrival.Arrival.{Arrival}
 use Rattle.csm_feed.specs.declared.unheard.Unheard.{Unheard}
-use Rattle.csm_feed.specs.Heard.{behind, Heard}
+use Rattle.csm_feed.specs.Heard.{Heard}
 use Rattle.x_disk.specs.Disk.{View}
 use Rattle.party_state.specs.declared.command.Input.TheVariants.{Arrived}
 use Rattle.x_party.specs.Dues.{IsDue}
 use Rattle.x_party.specs.declared.outcome.Outcome.{Outcome}
-use Rattle.x917.specs.declared.status.Status.{Status}
-use Rattle.x917.specs.declared.status.Status.TheVariants as status
-use Rattle.x917.specs.Check.{taken, refusal_of}
+use Rattle.x_status.specs.declared.status.Status.{Status}
+use Rattle.x_status.specs.declared.status.Status.TheVariants as status
+use Rattle.csm_check.specs.Listening.{IsHeard, refusal_of, taken}
 use Rattle.x917.specs.Ends.{status_of_outcome}
 
 -- the status is that of the outcome that is due by the image, or no memory was left
 abbrev pub Follows : View → (List ℕ → Outcome → Type 0) → Status → Type 0
 Follows old due s = (image : List ℕ) (o : Outcome) → old.now ≡ Some image → due image o → (s ≡ status_of_outcome o) ⊎ (s ≡ status.NoMemory)
-
--- a message that arrives: it is heard of the bytes that are taken, and is kept as it was received
-pub record IsHeard (all : List ℕ) (arrival : Arrival) : Type 0 where
-  pub heard : Heard (taken all) (Ok arrival.parsed)
-  pub text : arrival.text ≡ take arrival.parsed.len (behind (taken all))
 
 -- where bytes arrive at the party of this name: the refusal to hear them, or what is due of the message
 pub record FollowsBytes (all name : List ℕ) (old : View) (moment : ℕ) (s : Status) : Type 0 where

@@ -1,19 +1,20 @@
 -- How a call over a party ends (this project's profile).
 use Rattle.std.specs.Prelude.{◌≡◌, ◌⊎◌, ◌++◌, ℕ, List, Option, Some, None}
-use Rattle.x_base.specs.Edge.{Rose, AppendsTo}
+use Rattle.x_base.specs.Edge.{Rose, AppendsTo, WrotePrefix}
 use Rattle.x_disk.specs.Disk.{View}
 use Rattle.x_disk.specs.Shelf.{OthersStay}
 use Rattle.x_party.specs.declared.outcome.Outcome.{Outcome}
 use Rattle.x_party.specs.declared.outcome.Outcome.TheVariants as outcome
-use Rattle.x917.specs.declared.status.Refusal.TheVariants.{Decided, OtherParty}
-use Rattle.x917.specs.declared.status.Status.{Status}
-use Rattle.x917.specs.declared.status.Status.TheVariants as status
-use Rattle.x917.specs.Transfer.{WrotePrefix}
+use Rattle.x_status.specs.declared.status.Refusal.TheVariants.{Decided, OtherParty}
+use Rattle.x_status.specs.declared.status.Status.{Status}
+use Rattle.x_status.specs.declared.status.Status.TheVariants as status
+use Rattle.csm_check.specs.Transfer.{IsQuiet}
+use Rattle.x_status.specs.Causes.{IsSilent}
 
 -- the status of an outcome
 abbrev pub status_of_outcome : Outcome → Status
-status_of_outcome (outcome.Done reply under) = status.Done
-status_of_outcome (outcome.Refused verdict reply under) = status.Refused (Decided verdict)
+status_of_outcome (outcome.Done reply) = status.Done
+status_of_outcome (outcome.Refused verdict reply) = status.Refused (Decided verdict)
 status_of_outcome (outcome.OtherParty asked found) = status.Refused (OtherParty asked found)
 status_of_outcome (outcome.Damaged place) = status.Damaged place
 status_of_outcome outcome.Fault = status.DiskFault
@@ -27,19 +28,12 @@ Puts (Some text) ending answer s before after = ((s ≡ answer) × AppendsTo bef
 
 -- a call with this outcome ends so
 abbrev pub Ends : Outcome → List ℕ → Status → Option (List ℕ) → Option (List ℕ) → Type 0
-Ends (outcome.Done reply under) ending s before after = Puts reply ending status.Done s before after
-Ends (outcome.Refused verdict reply under) ending s before after = Puts reply ending (status.Refused (Decided verdict)) s before after
+Ends (outcome.Done reply) ending s before after = Puts reply ending status.Done s before after
+Ends (outcome.Refused verdict reply) ending s before after = Puts reply ending (status.Refused (Decided verdict)) s before after
 Ends (outcome.OtherParty asked found) ending s before after = (s ≡ status.Refused (OtherParty asked found)) × (after ≡ before)
 Ends (outcome.Damaged place) ending s before after = (s ≡ status.Damaged place) × (after ≡ before)
 Ends outcome.Fault ending s before after = (s ≡ status.DiskFault) × (after ≡ before)
 Ends outcome.NoMemory ending s before after = (s ≡ status.NoMemory) × (after ≡ before)
-
--- with these statuses nothing is written
-abbrev pub IsSilent : Status → Type 0
-IsSilent status.Done = ⊥
-IsSilent (status.Refused refusal) = ⊥
-IsSilent status.WriteFault = ⊥
-IsSilent s = Unit {0}
 
 -- the statuses that come of a party which answered; `WriteFault` comes behind its answer
 abbrev pub IsOfParty : Status → Type 0
@@ -49,13 +43,6 @@ IsOfParty (status.Refused (OtherParty asked found)) = Unit {0}
 IsOfParty (status.Damaged place) = Unit {0}
 IsOfParty status.WriteFault = Unit {0}
 IsOfParty s = ⊥
-
--- a fault comes only where a count of faults rose. The counts are those of the source, the sink and the shelf, before and
--- after
-pub record HasFaults (s : Status) (read reads put puts disk disks : ℕ) : Type 0 where
-  pub read_fault : s ≡ status.ReadFault → Rose read reads
-  pub write_fault : s ≡ status.WriteFault → Rose put puts
-  pub disk_fault : s ≡ status.DiskFault → Rose disk disks
 
 -- what a call over one party leaves, and why it failed: where the party answered its disk is back on the shelf, the disks of
 -- the other parties stay, with a silent status nothing is written, and a fault comes only where a count of faults rose. The
@@ -67,11 +54,8 @@ pub record LeavesRest (party : List ℕ) (s : Status) (is_back unwritten : Type 
   pub write_fault : s ≡ status.WriteFault → Rose put puts
   pub disk_fault : s ≡ status.DiskFault → Rose disk disks
 
--- a fault has its cause: over every source, sink and shelf a count of faults rose. The counts are those of the source, the
--- sink and the shelf, before and after
-abbrev pub HasCause : Status → ℕ → ℕ → ℕ → ℕ → ℕ → ℕ → Type 0
-HasCause status.ReadFault read reads put puts disk disks = Rose read reads
-HasCause status.WriteFault read reads put puts disk disks = Rose put puts
-HasCause status.DiskFault read reads put puts disk disks = Rose disk disks
-HasCause (status.Usage kind) read reads put puts disk disks = ⊥
-HasCause s read reads put puts disk disks = Unit {0}
+-- a call over one party: the status that is due of it where no count of faults rises, and what it leaves. The counts are those
+-- of the sink and the shelf, before and after
+pub record IsPartyCall (party : List ℕ) (s : Status) (is_due is_back unwritten : Type 0) (old new : List ℕ → View) (put puts disk disks : ℕ) : Type 0 where
+  pub follows : IsQuiet put puts → IsQuiet disk disks → is_due
+  pub rest : LeavesRest party s is_back unwritten old new put puts disk disks

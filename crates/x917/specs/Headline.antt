@@ -14,17 +14,18 @@ use Rattle.world_laws.specs.Honest.{HonestRun}
 use Rattle.world_laws.specs.Laws.{Agreement, OneKeyPerCount, Once, EndedBoth}
 use Rattle.world_laws.specs.Starts.{IsStart}
 use Rattle.replay.specs.Breaking.{AreOnShelf}
-use Rattle.replay.specs.Course.{Course, Leads}
-use Rattle.replay.specs.Lines.{IsForgedIn}
+use Rattle.course.specs.Course.{Course, Leads}
+use Rattle.course.specs.Lines.{IsForgedIn}
 use Rattle.replay.specs.Playing.{Surroundings, around, AreDurable, IsBrokenAhead, IsBrokenPlay, IsBrokenSetUp, IsDoneAhead, IsNotEmpty, WereBlank}
-use Rattle.replay.specs.SettingUp.{AllTell, parties_in}
-use Rattle.replay.specs.Starts.{start_course, start_world}
-use Rattle.replay.specs.Transcript.{show_lines}
-use Rattle.replay.specs.declared.tally.PlayResult.{PlayResult}
-use Rattle.replay.specs.declared.tally.PlayResult.TheVariants as played
-use Rattle.x917.specs.declared.status.Refusal.TheVariants.{Decided}
-use Rattle.x917.specs.declared.status.Status.{Status}
-use Rattle.x917.specs.declared.status.Status.TheVariants as status
+use Rattle.replay.specs.SettingUp.{AllTell}
+use Rattle.course.specs.Parties.{parties_in}
+use Rattle.course.specs.Starts.{start_course, start_world}
+use Rattle.course.specs.Transcript.{show_lines}
+use Rattle.replay.specs.declared.result.PlayResult.{PlayResult}
+use Rattle.replay.specs.declared.result.PlayResult.TheVariants as played
+use Rattle.x_status.specs.declared.status.Refusal.TheVariants.{Decided}
+use Rattle.x_status.specs.declared.status.Status.{Status}
+use Rattle.x_status.specs.declared.status.Status.TheVariants as status
 
 -- ---- the networks of a scenario
 
@@ -136,6 +137,10 @@ status_of_play (played.Damaged place) = status.Damaged place
 status_of_play played.NoMemory = status.NoMemory
 
 -- ---- the scenario that is read
+
+-- how many bytes of a scenario are taken at most: one more than it may have
+abbrev pub scenario_limit : ℕ
+scenario_limit = 16777217
 
 -- the source was read to its end, and its bytes are a scenario with these lines
 abbrev pub ReadsScenario : Option (List ℕ) → Option (List ℕ) → List Line → Type 0

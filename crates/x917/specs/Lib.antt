@@ -1,6 +1,3 @@
-pub mod Transfer
-pub mod Lines
-pub mod Check
 pub mod Ends
 pub mod Dues
 pub mod Headline

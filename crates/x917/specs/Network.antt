@@ -11,10 +11,10 @@ use Rattle.x_line.specs.declared.order.Order.TheVariants as order
 use Rattle.world_laws.specs.Events.{Action, Orders, Hears, Compacts, IsAction}
 use Rattle.world_laws.specs.Calls.{IsCall, IsNamedCall}
 use Rattle.x917.specs.declared.party_command.PartyCommand.{PartyCommand}
-use Rattle.x917.specs.declared.status.Status.{Status}
-use Rattle.x917.specs.Check.{taken}
+use Rattle.x_status.specs.declared.status.Status.{Status}
+use Rattle.csm_check.specs.Listening.{IsUnheard, taken}
 use Rattle.x917.specs.Ends.{Ends}
-use Rattle.x917.specs.Obeys.{command_of, IsUnheard}
+use Rattle.x917.specs.Obeys.{command_of}
 
 -- the call is this action of a network, at the party that stands under the name, and it ends with that outcome's status and
 -- reply: whole, where the party answered, and otherwise cut off

@@ -12,7 +12,7 @@ use Rattle.x_line.specs.Line.{is_line}
 use Rattle.x_line.specs.Usage.{usage_of}
 use Rattle.csm_grammar.specs.declared.arrival.Arrival.{Arrival}
 use Rattle.csm_feed.specs.declared.unheard.Unheard.{Unheard}
-use Rattle.csm_feed.specs.Heard.{Heard}
+use Rattle.csm_feed.specs.Heard.{Heard, input_limit}
 use Rattle.party_state.specs.declared.command.Command.TheVariants as command
 use Rattle.party_state.specs.declared.command.Input.{Input}
 use Rattle.party_state.specs.declared.command.Input.TheVariants.{Ordered, Arrived}
@@ -23,13 +23,15 @@ use Rattle.x_party.specs.Outcomes.{CreatesParty, ShowsParty, CompactsParty, Wipe
 use Rattle.x_party.specs.Dues.{IsDue, IsDueCompaction, IsDueCreation, IsDueShow, IsDueWiping}
 use Rattle.x_party.specs.declared.outcome.Outcome.{Outcome}
 use Rattle.x917.specs.declared.party_command.PartyCommand.{PartyCommand}
-use Rattle.x917.specs.declared.status.Status.{Status}
-use Rattle.x917.specs.declared.status.Status.TheVariants as status
-use Rattle.x917.specs.Check.{IsChecked, IsExact, IsPossible, taken, refusal_of}
-use Rattle.x917.specs.Ends.{Ends, IsOfParty, IsSilent}
-use Rattle.x917.specs.Dues.{Follows, IsHeard, FollowsBytes}
+use Rattle.x_status.specs.declared.status.Status.{Status}
+use Rattle.x_status.specs.declared.status.Status.TheVariants as status
+use Rattle.x_status.specs.Causes.{IsSilent}
+use Rattle.csm_check.specs.Listening.{IsHeard, IsUnheard, taken}
+use Rattle.csm_check.specs.Check.{IsChecked, IsExact}
+use Rattle.x917.specs.Ends.{Ends, IsOfParty}
+use Rattle.x917.specs.Dues.{Follows, FollowsBytes}
+use Rattle.x917.specs.Headline.{scenario_limit}
 use Rattle.x917.specs.Playable.{ExpectsReplay, ExpectsDrill}
-use Rattle.x917.specs.Transfer.{input_limit, scenario_limit}
 
 -- the command that an order gives to a party
 abbrev pub command_of : Order → Option PartyCommand
@@ -80,11 +82,6 @@ pub record IsWiping (old new : View) (s : Status) (before after : Option (List �
   pub wiped : WipesParty old new outcome
   pub safe : IsSafeWiping old new
   pub ends : Ends outcome [] s before after
-
--- no message arrived: the source failed, or no memory was left, or the bytes are refused
-abbrev pub IsUnheard : Option (List ℕ) → Status → Type 0
-IsUnheard left s = ((s ≡ status.ReadFault) ⊎ (s ≡ status.NoMemory))
-    ⊎ ((u : Unheard) × (s ≡ status.Refused (refusal_of u)) × IsPossible (refusal_of u) × IfSome left (λ all. Heard (taken all) (Err u)))
 
 -- bytes arrived: no message was heard, and nothing was changed or written; or the party had its turn with it
 abbrev pub IsTaken : List ℕ → ℕ → Option (List ℕ) → Option (List ℕ) → View → View → Status → Option (List ℕ) → Option (List ℕ) → Type 0

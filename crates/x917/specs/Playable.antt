@@ -4,16 +4,17 @@ use Rattle.x_base.specs.declared.verdict.Verdict.TheVariants.{NotEmpty}
 use Rattle.x_disk.specs.Disk.{View}
 use Rattle.key_journal.specs.Journal.{is_blank}
 use Rattle.scenario.specs.declared.line.Line.{Line}
-use Rattle.scenario.specs.Drill.{drill_text}
+use Rattle.scenario_drill.specs.Drill.{drill_text}
 use Rattle.scenario.specs.Reading.{IsFirstBad, IsScenario}
-use Rattle.replay.specs.Course.{Course, Leads}
-use Rattle.replay.specs.Lines.{IsForgedIn}
-use Rattle.replay.specs.SettingUp.{AllReadBlank, AllTell, parties_in}
-use Rattle.replay.specs.Starts.{start_course}
-use Rattle.x917.specs.declared.status.Refusal.TheVariants.{Decided}
-use Rattle.x917.specs.declared.status.Status.{Status}
-use Rattle.x917.specs.declared.status.Status.TheVariants as status
-use Rattle.x917.specs.Transfer.{IsQuiet}
+use Rattle.course.specs.Course.{Course, Leads}
+use Rattle.course.specs.Lines.{IsForgedIn}
+use Rattle.replay.specs.SettingUp.{AllReadBlank, AllTell}
+use Rattle.course.specs.Parties.{parties_in}
+use Rattle.course.specs.Starts.{start_course}
+use Rattle.x_status.specs.declared.status.Refusal.TheVariants.{Decided}
+use Rattle.x_status.specs.declared.status.Status.{Status}
+use Rattle.x_status.specs.declared.status.Status.TheVariants as status
+use Rattle.csm_check.specs.Transfer.{IsQuiet}
 
 -- the status is this one, or no memory was left
 abbrev pub IsOrNoMemory : Status → Status → Type 0

@@ -6,11 +6,11 @@ ghost use Rattle.world_laws.specs.Events.{Event, IsAction};
 ghost use Rattle.world_laws.specs.Honest.{HonestAt};
 ghost use Rattle.world_laws.specs.Starts.{IsStart};
 ghost use Rattle.world_laws.specs.Steps.{step};
-ghost use Rattle.replay.specs.Course.{Course, Leads};
-ghost use Rattle.replay.specs.Starts.{start_course, start_world};
+ghost use Rattle.course.specs.Course.{Course, Leads};
+ghost use Rattle.course.specs.Starts.{start_course, start_world};
 ghost use Rattle.x917.specs.Headline.{IsLawful};
 
-use replay::law_ran;
+use course::law_ran;
 use world_laws::{law_agreement, law_counts, law_ended, law_once, law_runs, law_start};
 
 /// The network to which lines lead from a start is the end of an honest run, and the laws hold of it; and so it is behind one

@@ -1,23 +1,22 @@
 // A drill is played over disks of its own.
 ghost use Rattle.std.specs.Prelude.{◌≡◌, ◌≤◌, ◌++◌, None, IfOk, IfErr, OnOk};
 ghost use Rattle.x_base.specs.Edge.{Rose};
-ghost use Rattle.scenario.specs.Drill.{drill_text};
+ghost use Rattle.scenario_drill.specs.Drill.{drill_text};
 ghost use Rattle.scenario.specs.Reading.{IsScenario};
 ghost use Rattle.x917.specs.Drilled.{EndsDrill, IsDrill, IsDrilled, IsPlayedAlone, summary_line, summary_of};
-ghost use Rattle.x917.specs.Ends.{IsSilent};
 ghost use Rattle.x917.specs.Playable.{ExpectsDrill};
-ghost use Rattle.x917.specs.Transfer.{IsQuiet};
+ghost use Rattle.csm_check.specs.Transfer.{GivesOutput, IsQuiet};
+ghost use Rattle.x_status.specs.Causes.{IsSilent};
 
 use crate::courses::law_courses;
-use crate::status::Status;
-use crate::transfer::put_all;
-use replay::{PlayResult, Tally, law_counted, law_scenario_starts, play};
-use scenario::{
-    Scenario, ScenarioFault, drill, law_never_both, law_one_first_bad, law_one_scenario,
-};
+use course::{Tally, law_counted, law_scenario_starts};
+use replay::{PlayResult, play};
+use scenario::{Scenario, ScenarioFault, law_never_both, law_one_first_bad, law_one_scenario};
+use scenario_drill::drill;
 use std::alloc::Global;
-use x_base::{NoMemory, Sink, SinkFault, Text};
+use x_base::{NoMemory, Sink, SinkFault, Text, put_all};
 use x_disk::{MemoryShelf, Shelf};
+use x_status::Status;
 
 /// A sink that keeps nothing.
 #[derive(Drop)]
@@ -109,8 +108,7 @@ pub fn drill_all<K: Sink>(alloc: Global, seed: u64, events: u32, sink: &mut K) -
     requires high { events ≤ 10000 }
     ensures drills { IsDrill ⟦<MemoryShelf as Shelf>⟧.entry seed events result (K.written sink.old) (K.written sink.new) }
     ensures expects { IsQuiet (K.faults sink.old) (K.faults sink.new) → ExpectsDrill seed events result }
-    ensures write_fault { result ≡ Status.WriteFault → Rose (K.faults sink.old) (K.faults sink.new) }
-    ensures silent { IsSilent result → sink.new ≡ sink.old }
+    ensures output { GivesOutput result (IsSilent result) (sink.new ≡ sink.old) (K.faults sink.old) (K.faults sink.new) }
 {
     law_never_both();
     law_one_first_bad();

@@ -1,14 +1,14 @@
 // A call over a party ends: the reply is written, and the status follows.
 ghost use Rattle.std.specs.Prelude.{◌≡◌, ◌≤◌, ◌⊎◌, ◌++◌, OnOk, OnErr};
-ghost use Rattle.x_base.specs.Edge.{Rose, AppendsTo};
-ghost use Rattle.x917.specs.Transfer.{WrotePrefix};
+ghost use Rattle.x_base.specs.Edge.{Rose, AppendsTo, WrotePrefix};
+ghost use Rattle.csm_check.specs.Transfer.{GivesOutput};
 ghost use Rattle.x_party.specs.Outcomes.{IsNoFailure};
-ghost use Rattle.x917.specs.Ends.{Ends, Puts, IsSilent, IsOfParty};
+ghost use Rattle.x_status.specs.Causes.{IsSilent};
+ghost use Rattle.x917.specs.Ends.{Ends, Puts, IsOfParty};
 
-use crate::status::{Refusal, Status};
-use crate::transfer::put_all;
-use x_base::{Sink, SinkFault, Text};
+use x_base::{Sink, SinkFault, Text, put_all};
 use x_party::Outcome;
+use x_status::{Refusal, Status};
 
 /// Puts the text and then its ending, without memory.
 #[tactic(auto, using(crate::proofs::Endings::both_whole, crate::proofs::Endings::first_part, crate::proofs::Endings::second_part, crate::proofs::Endings::rose_later))]
@@ -39,12 +39,11 @@ fn put_text<K: Sink>(sink: &mut K, text: Option<Text>, ending: &[u8], answer: St
 pub fn finish<K: Sink>(sink: &mut K, outcome: Outcome, ending: &[u8]) -> Status
     ensures ends { Ends outcome ending.now result (K.written sink.old) (K.written sink.new) }
     ensures answered { IsOfParty result → IsNoFailure outcome }
-    ensures write_fault { result ≡ Status.WriteFault → Rose (K.faults sink.old) (K.faults sink.new) }
-    ensures silent { IsSilent result → sink.new ≡ sink.old }
+    ensures output { GivesOutput result (IsSilent result) (sink.new ≡ sink.old) (K.faults sink.old) (K.faults sink.new) }
 {
     match outcome {
-        Outcome::Done { reply, .. } => put_text(sink, reply, ending, Status::Done),
-        Outcome::Refused { verdict, reply, .. } => {
+        Outcome::Done { reply } => put_text(sink, reply, ending, Status::Done),
+        Outcome::Refused { verdict, reply } => {
             let answer = Status::Refused(Refusal::Decided(verdict));
             put_text(sink, reply, ending, answer)
         }

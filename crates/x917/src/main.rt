@@ -1,22 +1,17 @@
 //! The command `x917`: key management by the messages of ANSI X9.17 (ISO 8732).
 #![tactic(auto)]
 
-mod check;
 mod courses;
 mod drilling;
 mod finish;
-mod judgement;
 mod party;
 mod party_command;
 mod replaying;
-mod status;
 mod take;
 #[cfg(test)]
 mod tests;
 mod top;
-mod transfer;
 
-use status::{Status, exit_code, status_line};
 use std::alloc::AllocGlobal;
 use std::fs::OpenOptions;
 use std::io::Write;
@@ -27,6 +22,7 @@ use std::{env, io};
 use x_base::{NoMemory, StdSink, StdSource, Words};
 use x_disk::FolderShelf;
 use x_line::UsageKind;
+use x_status::{Status, exit_code, status_line};
 
 /// The highest of the numbers 0, 1 and 2 of standard input, output and error.
 const LAST_STANDARD: i32 = 2;

@@ -2,18 +2,17 @@
 ghost use Rattle.std.specs.Prelude.{◌≡◌};
 ghost use Rattle.party_state.specs.State.{begun};
 ghost use Rattle.x_party.specs.Dues.{IsDue, IsDueCompaction, IsDueCreation, IsDueShow, IsDueWiping};
-ghost use Rattle.x917.specs.Transfer.{IsQuiet};
-ghost use Rattle.x917.specs.Ends.{LeavesRest};
+ghost use Rattle.x917.specs.Ends.{IsPartyCall};
 ghost use Rattle.x917.specs.Dues.{Follows};
 ghost use Rattle.x917.specs.Obeys.{IsCompacting, IsCreation, IsListing, IsPartyTurn, IsWiping};
 
 use crate::finish::finish;
-use crate::status::Status;
 use party_state::Input;
 use std::alloc::Global;
 use x_base::{Ident, Role, Sink};
 use x_disk::Shelf;
 use x_gen::Gen;
+use x_status::Status;
 
 /// Creates a party. Nothing is written.
 pub fn create<K: Sink, H: Shelf>(
@@ -25,8 +24,7 @@ pub fn create<K: Sink, H: Shelf>(
     generator: Gen,
 ) -> Status
     ensures created { IsCreation (begun party role generator) (H.entry shelf.old party) (H.entry shelf.new party) result (K.written sink.old) (K.written sink.new) }
-    ensures follows { IsQuiet (K.faults sink.old) (K.faults sink.new) → IsQuiet (H.faults shelf.old) (H.faults shelf.new) → Follows (H.entry shelf.old party) IsDueCreation result }
-    ensures rest { LeavesRest party result (H.is_back shelf.new party) (sink.new ≡ sink.old) (H.entry shelf.old) (H.entry shelf.new) (K.faults sink.old) (K.faults sink.new) (H.faults shelf.old) (H.faults shelf.new) }
+    ensures call { IsPartyCall party result (Follows (H.entry shelf.old party) IsDueCreation result) (H.is_back shelf.new party) (sink.new ≡ sink.old) (H.entry shelf.old) (H.entry shelf.new) (K.faults sink.old) (K.faults sink.new) (H.faults shelf.old) (H.faults shelf.new) }
 {
     let outcome = x_party::create(alloc, shelf, party, role, generator);
     finish(sink, outcome, b"")
@@ -35,8 +33,7 @@ pub fn create<K: Sink, H: Shelf>(
 /// Shows a party.
 pub fn list<K: Sink, H: Shelf>(alloc: Global, sink: &mut K, shelf: &mut H, party: &Ident) -> Status
     ensures listed { IsListing (H.entry shelf.old party.now) (H.entry shelf.new party.now) result (K.written sink.old) (K.written sink.new) }
-    ensures follows { IsQuiet (K.faults sink.old) (K.faults sink.new) → IsQuiet (H.faults shelf.old) (H.faults shelf.new) → Follows (H.entry shelf.old party.now) IsDueShow result }
-    ensures rest { LeavesRest party.now result (H.is_back shelf.new party.now) (sink.new ≡ sink.old) (H.entry shelf.old) (H.entry shelf.new) (K.faults sink.old) (K.faults sink.new) (H.faults shelf.old) (H.faults shelf.new) }
+    ensures call { IsPartyCall party.now result (Follows (H.entry shelf.old party.now) IsDueShow result) (H.is_back shelf.new party.now) (sink.new ≡ sink.old) (H.entry shelf.old) (H.entry shelf.new) (K.faults sink.old) (K.faults sink.new) (H.faults shelf.old) (H.faults shelf.new) }
 {
     let outcome = x_party::show(alloc, shelf, party);
     finish(sink, outcome, b"")
@@ -50,8 +47,7 @@ pub fn compact<K: Sink, H: Shelf>(
     party: &Ident,
 ) -> Status
     ensures compacted { IsCompacting (H.entry shelf.old party.now) (H.entry shelf.new party.now) result (K.written sink.old) (K.written sink.new) }
-    ensures follows { IsQuiet (K.faults sink.old) (K.faults sink.new) → IsQuiet (H.faults shelf.old) (H.faults shelf.new) → Follows (H.entry shelf.old party.now) IsDueCompaction result }
-    ensures rest { LeavesRest party.now result (H.is_back shelf.new party.now) (sink.new ≡ sink.old) (H.entry shelf.old) (H.entry shelf.new) (K.faults sink.old) (K.faults sink.new) (H.faults shelf.old) (H.faults shelf.new) }
+    ensures call { IsPartyCall party.now result (Follows (H.entry shelf.old party.now) IsDueCompaction result) (H.is_back shelf.new party.now) (sink.new ≡ sink.old) (H.entry shelf.old) (H.entry shelf.new) (K.faults sink.old) (K.faults sink.new) (H.faults shelf.old) (H.faults shelf.new) }
 {
     let outcome = x_party::compact(alloc, shelf, party);
     finish(sink, outcome, b"")
@@ -60,8 +56,7 @@ pub fn compact<K: Sink, H: Shelf>(
 /// Wipes what doesn't count of a party's file. Nothing is written.
 pub fn wipe<K: Sink, H: Shelf>(alloc: Global, sink: &mut K, shelf: &mut H, party: &Ident) -> Status
     ensures wiped { IsWiping (H.entry shelf.old party.now) (H.entry shelf.new party.now) result (K.written sink.old) (K.written sink.new) }
-    ensures follows { IsQuiet (K.faults sink.old) (K.faults sink.new) → IsQuiet (H.faults shelf.old) (H.faults shelf.new) → Follows (H.entry shelf.old party.now) IsDueWiping result }
-    ensures rest { LeavesRest party.now result (H.is_back shelf.new party.now) (sink.new ≡ sink.old) (H.entry shelf.old) (H.entry shelf.new) (K.faults sink.old) (K.faults sink.new) (H.faults shelf.old) (H.faults shelf.new) }
+    ensures call { IsPartyCall party.now result (Follows (H.entry shelf.old party.now) IsDueWiping result) (H.is_back shelf.new party.now) (sink.new ≡ sink.old) (H.entry shelf.old) (H.entry shelf.new) (K.faults sink.old) (K.faults sink.new) (H.faults shelf.old) (H.faults shelf.new) }
 {
     let outcome = x_party::wipe(alloc, shelf, party);
     finish(sink, outcome, b"")
@@ -73,12 +68,11 @@ pub fn turn<K: Sink, H: Shelf>(
     sink: &mut K,
     shelf: &mut H,
     party: &Ident,
-    input: Input,
+    input: &Input,
     moment: u64,
 ) -> Status
-    ensures turned { IsPartyTurn party.now input moment (H.entry shelf.old party.now) (H.entry shelf.new party.now) result (K.written sink.old) (K.written sink.new) }
-    ensures follows { IsQuiet (K.faults sink.old) (K.faults sink.new) → IsQuiet (H.faults shelf.old) (H.faults shelf.new) → Follows (H.entry shelf.old party.now) (IsDue party.now input moment) result }
-    ensures rest { LeavesRest party.now result (H.is_back shelf.new party.now) (sink.new ≡ sink.old) (H.entry shelf.old) (H.entry shelf.new) (K.faults sink.old) (K.faults sink.new) (H.faults shelf.old) (H.faults shelf.new) }
+    ensures turned { IsPartyTurn party.now input.now moment (H.entry shelf.old party.now) (H.entry shelf.new party.now) result (K.written sink.old) (K.written sink.new) }
+    ensures call { IsPartyCall party.now result (Follows (H.entry shelf.old party.now) (IsDue party.now input.now moment) result) (H.is_back shelf.new party.now) (sink.new ≡ sink.old) (H.entry shelf.old) (H.entry shelf.new) (K.faults sink.old) (K.faults sink.new) (H.faults shelf.old) (H.faults shelf.new) }
 {
     let outcome = x_party::turn(alloc, shelf, party, input, moment);
     finish(sink, outcome, b"\n")

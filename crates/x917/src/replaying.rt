@@ -2,15 +2,15 @@
 ghost use Rattle.std.specs.Prelude.{◌≡◌, IfOk, IfErr, IfSome};
 ghost use Rattle.x_base.specs.Edge.{Rose};
 ghost use Rattle.x_line.specs.declared.order.Order.TheVariants.{Replay};
-ghost use Rattle.x917.specs.Transfer.{TookAtMost, IsQuiet, scenario_limit};
-ghost use Rattle.x917.specs.Headline.{IsReplay, IsUnread, ReadsScenario, status_of_play};
+ghost use Rattle.csm_check.specs.Transfer.{GivesOutput, IsQuiet, TakesInput, TookAtMost};
+ghost use Rattle.x917.specs.Headline.{IsReplay, IsUnread, ReadsScenario, scenario_limit, status_of_play};
 ghost use Rattle.x917.specs.Playable.{ExpectsReplay};
 ghost use Rattle.x917.specs.Obeys.{IsSilentOf};
 
 use crate::courses::law_courses;
-use crate::status::{Refusal, Status};
-use crate::transfer::{GatherError, gather};
-use replay::{PlayResult, law_scenario_starts, play};
+use course::law_scenario_starts;
+use csm_check::{GatherError, gather};
+use replay::{PlayResult, play};
 use scenario::{
     Scenario, ScenarioFault, law_bad_in_front, law_few_bytes, law_never_both, law_one_first_bad,
     law_one_scenario,
@@ -18,6 +18,7 @@ use scenario::{
 use std::alloc::Global;
 use x_base::{Sink, Source};
 use x_disk::Shelf;
+use x_status::{Refusal, Status};
 
 /// How many bytes of a scenario are taken at most: one more than it may have.
 const SCENARIO_LIMIT: usize = 16_777_217;
@@ -68,11 +69,9 @@ pub fn replay_all<S: Source, K: Sink, H: Shelf>(
     ensures replays { IsReplay result (S.left source.old) (S.left source.new) (K.written sink.old) (K.written sink.new) (H.entry shelf.old) (H.entry shelf.new) (H.faults shelf.old) (H.faults shelf.new) }
     ensures expects { IsQuiet (S.faults source.old) (S.faults source.new) → IsQuiet (K.faults sink.old) (K.faults sink.new) → IsQuiet (H.faults shelf.old) (H.faults shelf.new)
         → IfSome (S.left source.old) (λ all. ExpectsReplay all (H.entry shelf.old) result) }
-    ensures read_fault { result ≡ Status.ReadFault → Rose (S.faults source.old) (S.faults source.new) }
-    ensures write_fault { result ≡ Status.WriteFault → Rose (K.faults sink.old) (K.faults sink.new) }
+    ensures input { TakesInput scenario_limit result (S.left source.old) (S.left source.new) (S.faults source.old) (S.faults source.new) }
+    ensures output { GivesOutput result (IsSilentOf Replay result) (sink.new ≡ sink.old) (K.faults sink.old) (K.faults sink.new) }
     ensures disk_fault { result ≡ Status.DiskFault → Rose (H.faults shelf.old) (H.faults shelf.new) }
-    ensures silent { IsSilentOf Replay result → sink.new ≡ sink.old }
-    ensures most { TookAtMost scenario_limit (S.left source.old) (S.left source.new) }
 {
     law_courses();
     law_never_both();

@@ -1,6 +1,5 @@
 // What the program writes and answers.
 use crate::moment_of;
-use crate::status::{Status, exit_code, status_line};
 use crate::top::run;
 use std::alloc::{AllocError, Global};
 use std::io;
@@ -17,6 +16,7 @@ mod texts;
 mod words;
 
 use texts::{PLAIN, RSI};
+use x_status::{Status, exit_code, status_line};
 
 /// Inputs, and what is written.
 const WRITTEN: [(&str, &str); 11] = [

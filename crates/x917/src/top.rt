@@ -3,20 +3,20 @@ ghost use Rattle.std.specs.Prelude.{◌≡◌, ◌≤◌, ℕ, false};
 ghost use Rattle.x_line.specs.Orders.{IsOrder};
 ghost use Rattle.x_line.specs.declared.order.Order.{Order};
 ghost use Rattle.x_line.specs.declared.order.Order.TheVariants.{Replay, Drill};
-ghost use Rattle.x917.specs.Transfer.{TookAtMost, IsQuiet, input_limit};
-ghost use Rattle.x917.specs.Ends.{HasCause, HasFaults, IsSilent};
+ghost use Rattle.csm_feed.specs.Heard.{input_limit};
+ghost use Rattle.csm_check.specs.Transfer.{TookAtMost, IsQuiet};
+ghost use Rattle.x_status.specs.Causes.{HasCause, HasFaults, IsSilent};
 ghost use Rattle.x917.specs.Headline.{IsReplay};
 ghost use Rattle.x917.specs.Drilled.{IsDrill};
 ghost use Rattle.x917.specs.Obeys.{Obeys, Expects, LeavesOthers, JudgesWords, IsSilentOf, is_played, most_of};
 ghost use Rattle.x917.specs.Network.{IsNetworkEvent};
 
-use crate::check::check;
 use crate::drilling::drill_all;
 use crate::party::{compact, create, list, turn, wipe};
 use crate::party_command::command_of;
 use crate::replaying::replay_all;
-use crate::status::Status;
 use crate::take::take;
+use csm_check::check;
 use party_state::Input;
 use std::alloc::Global;
 use world_laws::law_calls;
@@ -24,6 +24,7 @@ use x_base::{Sink, Source, Words};
 use x_disk::{MemoryShelf, Shelf};
 use x_gen::Gen;
 use x_line::{LineFault, Order, law_few_events, law_one_order, read_order};
+use x_status::Status;
 
 /// Does what an order says that is for a party, or for a message alone.
 fn obey<S: Source, K: Sink, H: Shelf>(
@@ -58,7 +59,7 @@ fn obey<S: Source, K: Sink, H: Shelf>(
         _ => match command_of(order) {
             Some(given) => {
                 let input = Input::Ordered(given.command);
-                turn(alloc, sink, shelf, &given.party, input, moment)
+                turn(alloc, sink, shelf, &given.party, &input, moment)
             }
             None => unreachable!(),
         },

@@ -10,8 +10,6 @@ mod need;
 mod opt;
 mod order;
 mod order_kind;
-#[cfg(test)]
-mod tests;
 mod usage;
 mod values;
 

@@ -3,11 +3,11 @@ use super::parties::{call, holds, is_answer, standing};
 use super::texts::{
     DISK_FAULT, DSM, ESM, EXCHANGED, KSM, PLAIN, READ_FAULT, RSI, RSM, SCENARIO, START, WRITE_FAULT,
 };
-use crate::status::{Status, exit_code};
 use std::alloc::Global;
 use std::test::Fail;
 use x_base::{Ident, NoMemory};
 use x_disk::{Disk, DiskErr, FusedShelf, MemoryShelf, Shelf};
+use x_status::{Status, exit_code};
 
 /// Replies without their line feed.
 const KSM_UNENDED: &str =

@@ -1,11 +1,11 @@
 // Parties on a shelf in memory.
 use super::texts::{DSM, ENDED, ESM, KSM, PLAIN_ESM, RSM, START};
 use super::{Answer, called_over};
-use crate::status::{Refusal, Status, exit_code};
 use std::alloc::{AllocError, Global};
 use std::test::Fail;
 use x_base::{Ident, NoMemory, Text, Words};
 use x_disk::{Disk, DiskErr, MemoryShelf, Shelf};
+use x_status::{Refusal, Status, exit_code};
 
 /// A command line, the input, what is written, and the line that tells the status.
 pub(crate) type Step = (&'static str, &'static str, &'static str, &'static str);

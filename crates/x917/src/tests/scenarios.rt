@@ -1,11 +1,11 @@
 // Scenarios and drills.
 use super::parties::{Step, call, is_answer, wrong_step};
 use super::texts::{EXCHANGED, SCENARIO};
-use crate::status::{Status, exit_code};
 use std::alloc::Global;
 use std::test::Fail;
 use x_base::NoMemory;
 use x_disk::MemoryShelf;
+use x_status::{Status, exit_code};
 
 /// Two banks exchange a key; their disks are as the scenario left them, so that it can't be played again.
 const PLAYED: [Step; 5] = [

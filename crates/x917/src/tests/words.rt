@@ -1,10 +1,10 @@
 // Command lines, over a shelf on which no party stands.
 use super::parties::{call, is_answer};
-use crate::status::exit_code;
 use std::alloc::Global;
 use std::test::Fail;
 use x_base::NoMemory;
 use x_disk::MemoryShelf;
+use x_status::exit_code;
 
 /// Words that are no command line.
 const NO_LINE: [&str; 16] = [

@@ -10,8 +10,7 @@ returns-in-Err g c =
     record {
       drills = drills;
       expects = λ quiet. expects_drill c.law_never_both.ensures c.law_one_first_bad.ensures c.law_one_scenario.ensures _ c.args.seed c.args.events _ _ c.in-Err.status drills write;
-      write_fault = λ is. absurd (write is);
-      silent = λ silent. refl;
+      output = record { silent = λ silent. refl; fault = λ is. absurd (write is) };
     }
 
 pub returns-in-Ok-put_all-clause-expects : goal.returns-in-Ok-put_all-clause-expects

@@ -1,18 +1,11 @@
 use Rattle.std.proofs.Common.{◌≡◌, []}
 use Rattle.x_party.specs.Dues.{IsDueCompaction}
-use Rattle.x917.proofs.Following.{follows, rest}
+use Rattle.x917.proofs.Following.{called}
 use Rattle.x917.proofs.party.compact.Goals as goal
 
-pub returns-clause-follows : goal.returns-clause-follows
-returns-clause-follows g c = λ put_quiet disk_quiet.
-    follows c.compact-outcome.result [] c.finish.result (g.K.Sink.written c.args.sink.now) (g.K.Sink.written c.finish.new.sink)
+pub returns-clause-call : goal.returns-clause-call
+returns-clause-call g c =
+    called c.compact-outcome.result [] c.finish.result (g.K.Sink.written c.args.sink.now) (g.K.Sink.written c.finish.new.sink)
     (g.K.Sink.faults c.args.sink.now) (g.K.Sink.faults c.finish.new.sink) (g.H.Shelf.faults c.args.shelf.now) (g.H.Shelf.faults c.compact-outcome.new.shelf)
-    c.finish.ensures.ends c.finish.ensures.write_fault (g.H.Shelf.entry c.args.shelf.now c.args.party.now) IsDueCompaction
-    c.compact-outcome.ensures.due c.compact-outcome.ensures.shelf.fault put_quiet disk_quiet
-
-pub returns-clause-rest : goal.returns-clause-rest
-returns-clause-rest g c =
-    rest c.compact-outcome.result [] c.finish.result (g.K.Sink.written c.args.sink.now) (g.K.Sink.written c.finish.new.sink)
-    (g.K.Sink.faults c.args.sink.now) (g.K.Sink.faults c.finish.new.sink) (g.H.Shelf.faults c.args.shelf.now) (g.H.Shelf.faults c.compact-outcome.new.shelf)
-    c.finish.ensures.ends c.finish.ensures.write_fault c.args.party.now (g.H.Shelf.is_back c.compact-outcome.new.shelf c.args.party.now) (c.finish.new.sink ≡ c.args.sink.now)
-    (g.H.Shelf.entry c.args.shelf.now) (g.H.Shelf.entry c.compact-outcome.new.shelf) c.compact-outcome.ensures.shelf c.finish.ensures.answered c.finish.ensures.silent
+    c.finish.ensures.ends c.finish.ensures.output.fault c.args.party.now (g.H.Shelf.is_back c.compact-outcome.new.shelf c.args.party.now) (c.finish.new.sink ≡ c.args.sink.now)
+    (g.H.Shelf.entry c.args.shelf.now) (g.H.Shelf.entry c.compact-outcome.new.shelf) IsDueCompaction c.compact-outcome.ensures.due c.compact-outcome.ensures.shelf c.finish.ensures.answered c.finish.ensures.output.silent

@@ -1,8 +1,8 @@
 use Rattle.std.proofs.Common.{◌≡◌, ◌∙◌, inl, inr, refl, sym, subst}
 use Rattle.x_disk.specs.Shelf.{alike_refl}
 use Rattle.replay.specs.Playing.{around}
-use Rattle.x917.specs.declared.status.Status.{Status}
-use Rattle.x917.specs.declared.status.Status.TheVariants as status
+use Rattle.x_status.specs.declared.status.Status.{Status}
+use Rattle.x_status.specs.declared.status.Status.TheVariants as status
 use Rattle.x917.specs.Headline.{IsReplay, Says}
 use Rattle.x917.specs.Obeys.{IsSilentOf}
 use Rattle.x_line.specs.declared.order.Order.TheVariants as order
@@ -25,11 +25,9 @@ returns-in-Err g c =
       expects = λ read_quiet put_quiet disk_quiet.
           expects_replay c.law_never_both.ensures c.law_one_first_bad.ensures c.law_one_scenario.ensures c.in-Err.status left rest written written entry entry faults faults replays
           (λ is. read_quiet (c.in-Err.ensures.read_fault is)) (unread_write left c.in-Err.status unread) (unread_disk left c.in-Err.status unread) disk_quiet;
-      read_fault = c.in-Err.ensures.read_fault;
-      write_fault = λ is. absurd (unread_write left c.in-Err.status unread is);
+      input = record { most = c.take_scenario.ensures.most; fault = c.in-Err.ensures.read_fault };
+      output = record { silent = λ silent. refl; fault = λ is. absurd (unread_write left c.in-Err.status unread is) };
       disk_fault = λ is. absurd (unread_disk left c.in-Err.status unread is);
-      silent = λ silent. refl;
-      most = c.take_scenario.ensures.most;
     }
 
 pub returns : goal.returns
@@ -64,9 +62,10 @@ returns g c =
       expects = λ read_quiet put_quiet disk_quiet.
           expects_replay c.law_never_both.ensures c.law_one_first_bad.ensures c.law_one_scenario.ensures s left rest before after old new fault faults replays
           read_never (λ e. put_quiet (write e)) (λ e. disk_quiet (disk e)) disk_quiet;
-      read_fault = λ e. absurd (read_never e);
-      write_fault = write;
+      input = record { most = c.take_scenario.ensures.most; fault = λ e. absurd (read_never e) };
+      output = record {
+        silent = λ silent. (let refused = refused_of c.play.result (subst (λ (x : Status). IsSilentOf order.Replay x) is silent) in p.nothing refused.0 refused.1);
+        fault = write;
+      };
       disk_fault = disk;
-      silent = λ silent. (let refused = refused_of c.play.result (subst (λ (x : Status). IsSilentOf order.Replay x) is silent) in p.nothing refused.0 refused.1);
-      most = c.take_scenario.ensures.most;
     }

@@ -7,5 +7,5 @@ returns-in-Ok-read-clause-read g c =
 
 pub returns-in-Err-BadLine-clause-unread : goal.returns-in-Err-BadLine-clause-unread
 returns-in-Err-BadLine-clause-unread g c =
-    bad_read c.law_bad_in_front.ensures _ _ c.in-Ok.input c.bytes.result.now c.in-Err-BadLine.number c.in-Ok.ensures.took c.in-Ok.ensures.bound c.in-Ok.ensures.end c.bytes.ensures
+    bad_read c.law_bad_in_front.ensures _ c.in-Ok.input c.bytes.result.now c.in-Err-BadLine.number c.in-Ok.ensures.front c.bytes.ensures
     (rw c.in-Err-BadLine.field-0-is at c.in-Err-BadLine.ensures)

@@ -3,7 +3,7 @@ use Rattle.x_disk.specs.Shelf.{alike_refl}
 use Rattle.x_line.specs.declared.order.Order.{Order}
 use Rattle.x_line.specs.declared.order.Order.TheVariants as order
 use Rattle.x917.specs.Obeys.{Obeys, Expects, LeavesOthers, IsSilentOf, most_of}
-use Rattle.x917.specs.Transfer.{TookAtMost}
+use Rattle.csm_check.specs.Transfer.{TookAtMost}
 use Rattle.x917.proofs.Orders.{took_nothing}
 use Rattle.x917.proofs.Played.{cause_played, cause_drilled, not_played, limit_of_others, silent_of}
 use Rattle.x917.proofs.top.carry_out.Goals as goal
@@ -25,9 +25,9 @@ returns-in-Replay g c =
       others = subst (λ (o : Order). LeavesOthers o s (g.H.Shelf.is_back c.replay_all.new.shelf) (c.replay_all.new.source ≡ c.args.source.now) old new) (sym is)
           (record { back = λ of. tt; others = λ playing. absurd (cc playing); unread = λ reading. absurd (cc reading) });
       cause = cause_played (g.S.Source.faults c.args.source.now) (g.S.Source.faults c.replay_all.new.source) (g.K.Sink.faults c.args.sink.now) (g.K.Sink.faults c.replay_all.new.sink)
-          (g.H.Shelf.faults c.args.shelf.now) (g.H.Shelf.faults c.replay_all.new.shelf) s left rest before after old new r.replays r.read_fault r.write_fault r.disk_fault;
-      silent = λ silent. r.silent (subst (λ (o : Order). IsSilentOf o s) is silent);
-      most = subst (λ (o : Order). TookAtMost (most_of o) left rest) (sym is) r.most;
+          (g.H.Shelf.faults c.args.shelf.now) (g.H.Shelf.faults c.replay_all.new.shelf) s left rest before after old new r.replays r.input.fault r.output.fault r.disk_fault;
+      silent = λ silent. r.output.silent (subst (λ (o : Order). IsSilentOf o s) is silent);
+      most = subst (λ (o : Order). TookAtMost (most_of o) left rest) (sym is) r.input.most;
       replays = λ same. r.replays;
       drills = λ seed events same. (let no : order.Replay ≡ order.Drill seed events = sym is ∙ same in absurd cc);
     }
@@ -48,8 +48,8 @@ returns-in-Drill g c =
       expects = λ read_quiet put_quiet disk_quiet. subst (λ (o : Order). Expects o c.args.moment left entry s) (sym is) (r.expects put_quiet);
       others = subst (λ (o : Order). LeavesOthers o s (g.H.Shelf.is_back c.args.shelf.now) (c.args.source.now ≡ c.args.source.now) entry entry) (sym is)
           (record { back = λ of. tt; others = λ playing name. alike_refl (entry name); unread = λ reading. refl });
-      cause = cause_drilled reads reads (g.K.Sink.faults c.args.sink.now) (g.K.Sink.faults c.drill_all.new.sink) disks disks _ c.in-Drill.seed c.in-Drill.events s before after r.drills r.write_fault;
-      silent = λ silent. r.silent (subst (λ (o : Order). IsSilentOf o s) is silent);
+      cause = cause_drilled reads reads (g.K.Sink.faults c.args.sink.now) (g.K.Sink.faults c.drill_all.new.sink) disks disks _ c.in-Drill.seed c.in-Drill.events s before after r.drills r.output.fault;
+      silent = λ silent. r.output.silent (subst (λ (o : Order). IsSilentOf o s) is silent);
       most = subst (λ (o : Order). TookAtMost (most_of o) left left) (sym is) (took_nothing 0 left);
       replays = λ same. (let no : order.Drill c.in-Drill.seed c.in-Drill.events ≡ order.Replay = sym is ∙ same in absurd cc);
       drills = λ seed events same.

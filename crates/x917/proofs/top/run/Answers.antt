@@ -1,12 +1,12 @@
 use Rattle.std.proofs.Common.{◌≡◌, inl, inr, refl, sym, subst}
 use Rattle.x_disk.specs.Shelf.{alike_refl}
-use Rattle.x917.specs.declared.status.Status.TheVariants as status
+use Rattle.x_status.specs.declared.status.Status.TheVariants as status
 use Rattle.x_line.specs.declared.order.Order.{Order}
 use Rattle.x_line.specs.declared.order.Order.TheVariants as order
 use Rattle.x_line.specs.Line.{rows_of_line}
 use Rattle.x_line.specs.Orders.{IsOrder}
 use Rattle.x917.specs.Obeys.{Obeys, Expects, LeavesOthers, IsSilentOf, most_of}
-use Rattle.x917.specs.Transfer.{TookAtMost}
+use Rattle.csm_check.specs.Transfer.{TookAtMost}
 use Rattle.x917.proofs.Orders.{idle, leaves_all, faults_of, took_nothing}
 use Rattle.x917.proofs.NetworkEvents.{network_event}
 use Rattle.x917.proofs.top.run.Goals as goal

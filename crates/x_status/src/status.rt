@@ -1,6 +1,6 @@
 // How a run ended, and how that is told.
 ghost use Rattle.std.specs.Prelude.{◌≡◌, IfOk, string_bytes};
-ghost use Rattle.x917.specs.Lines.{read_number, refusal_text, line_of, exit_code_of};
+ghost use Rattle.x_status.specs.Lines.{refusal_text, line_of, exit_code_of};
 
 use csm_grammar::ReadRefusal;
 use std::alloc::{AllocError, Global};
@@ -42,32 +42,13 @@ pub enum Status {
     NoMemory,
 }
 
-/// The number of a refusal to read.
-fn read_number(refusal: &ReadRefusal) -> u32
-    ensures { result ≡ read_number refusal.now }
-{
-    match refusal {
-        ReadRefusal::NotCsm(_) => 5,
-        ReadRefusal::TooLong(_) => 6,
-        ReadRefusal::Unended(_) => 7,
-        ReadRefusal::BadTag(_) => 8,
-        ReadRefusal::UnknownTag(_) => 9,
-        ReadRefusal::Repeated(_, _) => 10,
-        ReadRefusal::Missing(_, _) => 11,
-        ReadRefusal::Unwanted(_, _) => 12,
-        ReadRefusal::BadContents(_, _) => 13,
-        ReadRefusal::Unsupported(_, _) => 14,
-        ReadRefusal::NoMemory => 0,
-    }
-}
-
 /// The number of a refusal, and its place or the expected count, where it has one.
 fn refusal_text(alloc: Global, refusal: &Refusal) -> Result<String, AllocError>
     ensures { IfOk result (λ s. string_bytes s ≡ refusal_text refusal.now) }
 {
     match refusal {
         Refusal::Text(refusal) => {
-            let number = read_number(refusal);
+            let number = refusal.number();
             let place = refusal.place();
             format!(in alloc; "{number} at {place}")
         }

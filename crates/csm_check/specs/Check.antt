@@ -1,27 +1,21 @@
 -- What `check` decides of an input, and what it writes: this project's profile.
 use Rattle.std.specs.Prelude.{◌≡◌, ◌++◌, ◌∷◌, ◌==◌, ℕ, Bool, true, List, [], take, Result, Ok, Err, Option, Some, IfSome, ◌⊎◌, if◌then◌else◌}
-use Rattle.x_base.specs.Edge.{AppendsTo}
+use Rattle.x_base.specs.Edge.{AppendsTo, WrotePrefix}
 use Rattle.x_base.specs.declared.verdict.Verdict.TheVariants.{BadEdc}
 use Rattle.x_mac.specs.Code.{edc_of}
 use Rattle.csm_grammar.specs.declared.parsed.Parsed.{Parsed}
 use Rattle.csm_grammar.specs.declared.parsed.Shut.{Shut}
 use Rattle.csm_grammar.specs.declared.parsed.Shut.TheVariants as shuts
-use Rattle.csm_grammar.specs.declared.refusal.ReadRefusal.TheVariants.{NoMemory}
 use Rattle.csm_feed.specs.declared.unheard.Unheard.{Unheard}
-use Rattle.csm_feed.specs.declared.unheard.Unheard.TheVariants as unheard
 use Rattle.csm_feed.specs.Heard.{behind, Heard}
 use Rattle.csm_write.specs.declared.closing.Closing.{Closing}
 use Rattle.csm_write.specs.declared.closing.Closing.TheVariants as closings
 use Rattle.csm_write.specs.Canon.{canon}
-use Rattle.x917.specs.declared.status.Refusal.{Refusal}
-use Rattle.x917.specs.declared.status.Refusal.TheVariants.{Text, Trailing, Decided, OtherParty}
-use Rattle.x917.specs.declared.status.Status.{Status}
-use Rattle.x917.specs.declared.status.Status.TheVariants as status
-use Rattle.x917.specs.Transfer.{WrotePrefix, input_limit}
-
--- the bytes of an input that are taken
-abbrev pub taken : List ℕ → List ℕ
-taken input = take input_limit input
+use Rattle.x_status.specs.declared.status.Refusal.{Refusal}
+use Rattle.x_status.specs.declared.status.Refusal.TheVariants.{Decided}
+use Rattle.x_status.specs.declared.status.Status.{Status}
+use Rattle.x_status.specs.declared.status.Status.TheVariants as status
+use Rattle.csm_check.specs.Listening.{taken, refusal_of, IsPossible}
 
 -- the authenticated text of the message in the bytes, as it was received
 abbrev pub auth_text : List ℕ → Parsed → List ℕ
@@ -37,11 +31,6 @@ is_right auth (shuts.Mac code) = true
 abbrev pub judged : Bool → Parsed → Result Parsed Refusal
 judged right parsed = if right then Ok parsed else Err (Decided BadEdc)
 
--- where no message is heard, that is the refusal
-abbrev pub refusal_of : Unheard → Refusal
-refusal_of (unheard.Text refusal) = Text refusal
-refusal_of (unheard.Trailing place) = Trailing place
-
 -- what is decided of what was heard of the bytes
 abbrev pub decided_of : List ℕ → Result Parsed Unheard → Result Parsed Refusal
 decided_of bytes (Ok parsed) = judged (is_right (auth_text bytes parsed) parsed.shut) parsed
@@ -52,14 +41,6 @@ pub record IsDecision (input : List ℕ) (decided : Result Parsed Refusal) : Typ
   pub arrival : Result Parsed Unheard
   pub heard : Heard (taken input) arrival
   pub follows : decided ≡ decided_of (taken input) arrival
-
--- the refusals that can come, whatever the input
-abbrev pub IsPossible : Refusal → Type 0
-IsPossible (Text NoMemory) = ⊥
-IsPossible (Text refusal) = Unit {0}
-IsPossible (Trailing place) = Unit {0}
-IsPossible (Decided verdict) = verdict ≡ BadEdc
-IsPossible (OtherParty asked found) = ⊥
 
 -- the status of what was decided
 abbrev pub status_of : Result Parsed Refusal → Status

@@ -1,10 +1,10 @@
-// Moving bytes from a source, and to a sink.
-ghost use Rattle.std.specs.Prelude.{◌≡◌, ◌≤◌, ◌<◌, length, IfOk, OnOk, OnErr};
-ghost use Rattle.x_base.specs.Edge.{Rose, AppendsTo};
-ghost use Rattle.x917.specs.Transfer.{Took, TookAtMost, IsAtEnd, WrotePrefix};
+// Moving bytes from a source.
+ghost use Rattle.std.specs.Prelude.{◌≡◌, ◌≤◌, ◌<◌, length, IfOk};
+ghost use Rattle.x_base.specs.Edge.{Rose};
+ghost use Rattle.csm_check.specs.Transfer.{IsAtEnd, IsFront, Took, TookAtMost};
 
 use std::alloc::Global;
-use x_base::{Sink, SinkFault, Source, Text};
+use x_base::{Source, Text};
 
 /// Why no text was taken.
 #[derive(Clone, Copy, Debug, PartialEq, Eq)]
@@ -18,6 +18,7 @@ pub enum GatherError {
 pub fn gather<S: Source>(alloc: Global, source: &mut S, limit: usize) -> Result<Text, GatherError>
     ensures bound { IfOk result (λ text. length text ≤ limit) }
     ensures took { IfOk result (λ text. Took (S.left source.old) (S.left source.new) text) }
+    ensures front { IfOk result (λ text. IsFront limit (S.left source.old) text) }
     ensures end { IfOk result (λ text. length text < limit → IsAtEnd (S.left source.old) (S.left source.new)) }
     ensures fault { result ≡ Err GatherError.Fault → Rose (S.faults source.old) (S.faults source.new) }
     ensures most { TookAtMost limit (S.left source.old) (S.left source.new) }
@@ -37,19 +38,4 @@ pub fn gather<S: Source>(alloc: Global, source: &mut S, limit: usize) -> Result<
         };
     }
     Ok(text)
-}
-
-/// Puts the whole text.
-pub fn put_all<K: Sink>(sink: &mut K, text: &[u8]) -> Result<(), SinkFault>
-    ensures whole { OnOk result (AppendsTo (K.written sink.old) (K.written sink.new) text.now) }
-    ensures part { OnErr result (WrotePrefix (K.written sink.old) (K.written sink.new) text.now) }
-    ensures fault { OnErr result (Rose (K.faults sink.old) (K.faults sink.new)) }
-    ensures later { K.faults sink.old ≤ K.faults sink.new }
-{
-    let mut at = 0;
-    while at < text.len() {
-        let n = sink.put(&text[at..])?;
-        at += n;
-    }
-    Ok(())
 }

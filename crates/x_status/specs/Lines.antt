@@ -3,28 +3,13 @@ use Rattle.std.specs.Prelude.{◌++◌, ℕ, List, [], codes}
 use Rattle.std.specs.Fmt.{decimal}
 use Rattle.x_base.specs.Verdict.{number_of}
 use Rattle.x_base.specs.declared.verdict.Verdict.TheVariants.{CountLow}
-use Rattle.csm_grammar.specs.declared.refusal.ReadRefusal.{ReadRefusal}
-use Rattle.csm_grammar.specs.declared.refusal.ReadRefusal.TheVariants.{NotCsm, TooLong, Unended, BadTag, UnknownTag, Repeated, Missing, Unwanted, BadContents, Unsupported, NoMemory}
-use Rattle.csm_grammar.specs.Places.{place_of}
+use Rattle.csm_grammar.specs.declared.refusal.ReadRefusal.TheVariants.{NoMemory}
+use Rattle.csm_grammar.specs.Places.{read_number, place_of}
 use Rattle.x_line.specs.Usage as usage
-use Rattle.x917.specs.declared.status.Refusal.{Refusal}
-use Rattle.x917.specs.declared.status.Refusal.TheVariants.{Text, Trailing, Decided, OtherParty}
-use Rattle.x917.specs.declared.status.Status.{Status}
-use Rattle.x917.specs.declared.status.Status.TheVariants as status
-
--- the number of a refusal to read; want of memory has none
-abbrev pub read_number : ReadRefusal → ℕ
-read_number (NotCsm place) = 5
-read_number (TooLong place) = 6
-read_number (Unended place) = 7
-read_number (BadTag place) = 8
-read_number (UnknownTag place) = 9
-read_number (Repeated tag place) = 10
-read_number (Missing tag place) = 11
-read_number (Unwanted tag place) = 12
-read_number (BadContents tag place) = 13
-read_number (Unsupported tag place) = 14
-read_number NoMemory = 0
+use Rattle.x_status.specs.declared.status.Refusal.{Refusal}
+use Rattle.x_status.specs.declared.status.Refusal.TheVariants.{Text, Trailing, Decided, OtherParty}
+use Rattle.x_status.specs.declared.status.Status.{Status}
+use Rattle.x_status.specs.declared.status.Status.TheVariants as status
 
 -- the number, and the place or the expected count where there is one
 abbrev pub refusal_text : Refusal → List ℕ
