@@ -9,8 +9,6 @@ mod round_keys;
 mod rows_c;
 mod rows_d;
 mod schedule;
-#[cfg(test)]
-mod tests;
 mod wiring;
 
 pub use block::Block;

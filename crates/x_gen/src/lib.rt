@@ -4,8 +4,6 @@
 mod generator;
 mod laws;
 mod parity;
-#[cfg(test)]
-mod tests;
 
 pub use generator::{Gen, WeakDraws};
 pub use laws::{law_draws_odd, law_odd_stays};

@@ -3,8 +3,6 @@
 
 mod pair;
 mod running;
-#[cfg(test)]
-mod tests;
 
 pub use pair::{Pair, PairSchedule, ded, ede};
 pub use running::{Running, code, edc, mac};

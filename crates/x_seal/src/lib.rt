@@ -3,8 +3,6 @@
 
 mod offsetting;
 mod sealing;
-#[cfg(test)]
-mod tests;
 
 pub use offsetting::{notarize, offset, spread};
 pub use sealing::{

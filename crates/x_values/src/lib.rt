@@ -8,6 +8,3 @@ mod numbers;
 pub use keys::{key, pair};
 pub use names::{ident, key_name, label};
 pub use numbers::{number, plain_number, plain_number_within};
-
-#[cfg(test)]
-mod tests;

@@ -1,0 +1,142 @@
+// Command lines that give an order.
+use crate::words::words_of;
+use case_table::Table;
+use std::alloc::Global;
+use x_base::{Ident, KeyName, Label, NoMemory, Role, Side, Text};
+use x_line::{LineFault, Order, read_order};
+use x_mac::Pair;
+
+/// Command lines, their words parted by blanks, and the orders that they give.
+fn rows() -> Option<[(&'static str, Order); 16]> {
+    let party = Ident::read(b"BANKA").ok()?;
+    let peer = Ident::read(b"CKDX").ok()?;
+    let ultimate = Ident::read(b"BANKB").ok()?;
+    let label = Label::read(b"C").ok()?;
+    let new = Label::read(b"K2").ok()?;
+    let name = KeyName::read(b"CKDX.BANKA.C.7").ok()?;
+    let left = 0x0123456789ABCDEF;
+    let right = 0xFEDCBA9876543210;
+    let key = Pair { left, right };
+    Some([
+        ("-- check", Order::Check),
+        ("--party BANKA take", Order::Take { party }),
+        ("show --party=BANKA", Order::Show { party }),
+        ("wipe --party BANKA", Order::Wipe { party }),
+        (
+            "drop --peer CKDX --party BANKA",
+            Order::Drop { party, peer },
+        ),
+        (
+            "start --label C --party BANKA --peer CKDX",
+            Order::Start {
+                party,
+                peer,
+                label: Some(label),
+            },
+        ),
+        (
+            "ask --party BANKA --peer CKDX",
+            Order::Ask {
+                party,
+                peer,
+                ultimate: None,
+            },
+        ),
+        (
+            "ask --ultimate BANKB --party BANKA --peer CKDX",
+            Order::Ask {
+                party,
+                peer,
+                ultimate: Some(ultimate),
+            },
+        ),
+        (
+            "translate --party BANKA --peer CKDX --ultimate BANKB",
+            Order::Translate {
+                party,
+                peer,
+                ultimate,
+            },
+        ),
+        (
+            "startkk --party BANKA --peer CKDX --new K2",
+            Order::StartKk {
+                party,
+                peer,
+                new,
+                label: None,
+                single: false,
+            },
+        ),
+        (
+            "startkk --single --new K2 --label C --peer CKDX --party BANKA",
+            Order::StartKk {
+                party,
+                peer,
+                new,
+                label: Some(label),
+                single: true,
+            },
+        ),
+        (
+            "init --party BANKA --role translation --genkey 0123456789abcdefFEDCBA9876543210 --genseed 00000000000000fF",
+            Order::Init {
+                party,
+                role: Role::Translation,
+                key,
+                v: 255,
+            },
+        ),
+        (
+            "load --party BANKA --peer CKDX --label C --side out --key FEDCBA9876543210",
+            Order::Load {
+                party,
+                peer,
+                label,
+                side: Side::Sends,
+                pair: Pair { left: right, right },
+            },
+        ),
+        (
+            "end --party BANKA --peer CKDX --name CKDX.BANKA.C.007",
+            Order::End { party, peer, name },
+        ),
+        ("replay", Order::Replay),
+        (
+            "drill --events 10000 --seed 18446744073709551615",
+            Order::Drill {
+                seed: 18446744073709551615,
+                events: 10_000,
+            },
+        ),
+    ])
+}
+
+/// The order that the words of a line give, or what is wrong with them, in words.
+fn given(alloc: Global, line: &str, wanted: &Order) -> Result<String, NoMemory> {
+    let words = words_of(alloc, line)?;
+    match read_order(alloc, &words) {
+        Ok(order) if order == *wanted => order_text(alloc, wanted),
+        Ok(order) => Ok(format!(in alloc; "another, {order:?}")?),
+        Err(LineFault::Usage(kind)) => Ok(format!(in alloc; "{kind:?}")?),
+        Err(LineFault::NoMemory) => Err(NoMemory),
+    }
+}
+
+fn order_text(alloc: Global, order: &Order) -> Result<String, NoMemory> {
+    Ok(format!(in alloc; "{order:?}")?)
+}
+
+/// What is told of the orders that lines give.
+pub(crate) fn orders(alloc: Global) -> Result<Text, NoMemory> {
+    let mut table = Table::new(alloc, "orders of command lines");
+    let Some(rows) = rows() else {
+        return table.told();
+    };
+    for (line, wanted) in rows {
+        let given = given(alloc, line, &wanted)?;
+        let wanted = order_text(alloc, &wanted)?;
+        table.text_row(line, given.as_str(), wanted.as_str())?;
+    }
+    table.told()
+}

@@ -1,0 +1,71 @@
+// Words that stand for numbers, names and keys.
+use case_table::{Call, Table};
+use std::alloc::Global;
+use x_base::{NoMemory, Text};
+use x_values::{ident, key, key_name, label, number, pair, plain_number, plain_number_within};
+
+/// A word, and what it stands for as a number, as one without a leading zero, and as such a one from
+/// 1 to 10,000.
+const NUMBERS: [(&[u8], Option<u64>, Option<u64>, Option<u64>); 9] = [
+    (b"0", Some(0), Some(0), None),
+    (b"7", Some(7), Some(7), Some(7)),
+    (b"10000", Some(10_000), Some(10_000), Some(10_000)),
+    (b"10001", Some(10_001), Some(10_001), None),
+    (b"00000000000000000007", Some(7), None, None),
+    (b"000000000000000000007", None, None, None),
+    (
+        b"18446744073709551615",
+        Some(u64::MAX),
+        Some(u64::MAX),
+        None,
+    ),
+    (b"18446744073709551616", None, None, None),
+    (b"+7", None, None, None),
+];
+
+/// What is told of numbers.
+pub(crate) fn numbers(alloc: Global) -> Result<Text, NoMemory> {
+    let mut table = Table::new(alloc, "numbers");
+    for (word, any, plain, within) in NUMBERS {
+        table.row(&[
+            Call::option("number", number(word), any),
+            Call::option("plain_number", plain_number(word), plain),
+            Call::option(
+                "plain_number_within",
+                plain_number_within(1, 10_000, word),
+                within,
+            ),
+        ])?;
+    }
+    table.told()
+}
+
+/// What is told of keys and names.
+pub(crate) fn keys_and_names(alloc: Global) -> Result<Text, NoMemory> {
+    let mut table = Table::new(alloc, "keys and names");
+    let pair = pair(b"0123456789ABCDEFFEDCBA9876543210");
+    let name = key_name(b"CKDX.BANKA.C.007");
+    table.row(&[Call::option("key", key(b"0123456789abCDEF"), Some(0x0123456789ABCDEF))])?;
+    table.row(&[
+        Call::option(
+            "the left half of pair",
+            pair.map(|pair| pair.left),
+            Some(0x0123456789ABCDEF),
+        ),
+        Call::option(
+            "the right half of pair",
+            pair.map(|pair| pair.right),
+            Some(0xFEDCBA9876543210),
+        ),
+    ])?;
+    table.row(&[Call::answer("ident of BANKA", ident(b"BANKA").is_some(), true)])?;
+    table.row(&[Call::answer("ident of C", ident(b"C").is_some(), false)])?;
+    table.row(&[Call::answer("label of C", label(b"C").is_some(), true)])?;
+    table.row(&[Call::answer("label of k", label(b"k").is_some(), false)])?;
+    table.row(&[Call::option(
+        "the count of key_name",
+        name.map(|name| name.count.value()),
+        Some(7),
+    )])?;
+    table.told()
+}
