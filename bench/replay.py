@@ -1,12 +1,12 @@
 #!/usr/bin/env python3
-"""Times the playing of scenarios: over disks in memory by the built program replay_cases, and over files by x917, in
+"""Times the playing of scenarios: over disks in memory by the built program cases, and over files by x917, in
 folders in memory and on a disk.
 
 In memory a scenario is played 1 and 6 times by one process; what is told is a fifth of the difference of the least of five
 runs (or of ROUNDS, where the environment has it) in processor time; and the same of reading it alone. The scenarios are
 played in turns, so that other work on the machine counts little, and alike for each. Over files it is the least of three
 runs by the clock. Each time all events have to be done.
-replay.py [REPLAY_CASES [X917]]; the folder on a disk is one of TMPDIR's."""
+replay.py [CASES [X917]]; the folder on a disk is one of TMPDIR's."""
 import os
 import subprocess
 import sys
@@ -14,7 +14,7 @@ import tempfile
 import time
 
 HERE = os.path.dirname(os.path.dirname(os.path.realpath(__file__)))
-CASES = os.path.realpath(sys.argv[1]) if len(sys.argv) > 1 else f"{HERE}/crates/replay_cases/out/replay_cases"
+CASES = os.path.realpath(sys.argv[1]) if len(sys.argv) > 1 else f"{HERE}/crates/cases/out/cases"
 X917 = os.path.realpath(sys.argv[2]) if len(sys.argv) > 2 else f"{HERE}/crates/x917/out/x917"
 TIMES = 5
 ROUNDS = int(os.environ.get("ROUNDS", "5"))

@@ -1,5 +1,5 @@
 #!/usr/bin/env python3
-"""Times the reading of scenarios, and the making of drills, by the built program scenario_cases.
+"""Times the reading of scenarios, and the making of drills, by the built program cases.
 
 The program reads each scenario 1 and 31 times; what is told is the difference of the least of five runs in processor
 time, so that other work on the machine counts little. scenario.py [PROGRAM]"""
@@ -9,7 +9,7 @@ import sys
 import tempfile
 
 HERE = os.path.dirname(os.path.dirname(os.path.realpath(__file__)))
-PROGRAM = sys.argv[1] if len(sys.argv) > 1 else f"{HERE}/crates/scenario_cases/out/scenario_cases"
+PROGRAM = sys.argv[1] if len(sys.argv) > 1 else f"{HERE}/crates/cases/out/cases"
 
 
 def least(orders):
@@ -28,14 +28,14 @@ def least(orders):
 
 
 def timed(name, text):
-    order = b"scenario %d\n" % len(text) + text
+    order = b"read %d\n" % len(text) + text
     took = (least(order * 31) - least(order)) / 30
     lines = text.count(b"\n")
     print(f"{name:32} {lines:6} lines: {took * 1e3:7.3f} ms, {lines / took / 1e6:.2f} million lines a second")
 
 
 def drill(events):
-    return subprocess.run([PROGRAM], input=b"drill 7 %d\n" % events, stdout=subprocess.PIPE, check=True).stdout
+    return subprocess.run([PROGRAM], input=b"text 7 %d\n" % events, stdout=subprocess.PIPE, check=True).stdout
 
 
 def repeated(line, lines):
@@ -49,5 +49,5 @@ for events in 1000, 10000:
 for lines in 6553, 65536:
     timed("START BANKA BANKB", repeated(b"START BANKA BANKB", lines))
     timed("END with a key name", repeated(b"END BANKA BANKB BANKA.BANKA.K1.1", lines))
-took = (least(b"drill 7 10000\n" * 31) - least(b"drill 7 10000\n")) / 30
+took = (least(b"text 7 10000\n" * 31) - least(b"text 7 10000\n")) / 30
 print(f"the text of a drill of 10000 events: {took * 1e3:.3f} ms")
