@@ -3,7 +3,7 @@ ghost use Rattle.party_tables.specs.Ranges.{IsNextCount};
 ghost use Rattle.role_base.specs.Storable.{IsStorable};
 
 use crate::{decide, lead};
-use csm_grammar::Arrival;
+use csm_read::read_arrival;
 use party_show::show_text;
 use party_state::{
     Command, Decision, Edit, Edits, Input, LinkRec, Role, Side, State, apply, first_state,

@@ -3,7 +3,7 @@
 ghost use Rattle.role_base.specs.Storable.{IsStorable};
 
 use crate::{decide, lead};
-use csm_grammar::Arrival;
+use csm_read::read_arrival;
 use party_show::show_text;
 use party_state::{Command, Decision, Edits, Input, Role, Side, State, apply, first_state};
 use std::alloc::Global;

@@ -3,7 +3,7 @@ use super::centres::{ASKS, ESM, FIRST_RTR, HOLDS, LATE_ESM, LATE_KSM, RFS, RSI, 
 use super::leads::{VALUE, is_closed_under};
 use super::{Act, Place, Step, placed, played};
 use crate::lead;
-use csm_grammar::Arrival;
+use csm_read::read_arrival;
 use party_state::{Input, Lead};
 use std::alloc::Global;
 use x_base::{FullName, Ident, KeyName};

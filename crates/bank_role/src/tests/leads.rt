@@ -1,7 +1,7 @@
 // The key under which the code of an arrival is tested, and the key under which a text is closed.
 use super::{Act, KSM, RSM, Step, input_of, played, sender, taker};
 use crate::{decide, lead};
-use csm_grammar::Arrival;
+use csm_read::read_arrival;
 use party_state::{Input, Lead, Role, State};
 use std::alloc::Global;
 use x_base::{FullName, Ident, KeyName, Verdict};

@@ -3,7 +3,7 @@ use super::leads::first_key;
 use super::limits::{filled, with_ended};
 use super::{Act, Side, Step, bank, played, sender, taker, wrong_at};
 use crate::lead;
-use csm_grammar::Arrival;
+use csm_read::read_arrival;
 use party_state::{Input, Lead, State};
 use std::alloc::Global;
 

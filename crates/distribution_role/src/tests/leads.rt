@@ -2,7 +2,7 @@
 // closed.
 use super::{ASKED_TWICE, Act, ERS, RSI, input_of, played};
 use crate::{decide, lead};
-use csm_grammar::Arrival;
+use csm_read::read_arrival;
 use party_state::{Input, Lead, State};
 use std::alloc::Global;
 use x_base::{FullName, Ident, KeyName};

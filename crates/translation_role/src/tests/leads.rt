@@ -2,7 +2,7 @@
 use super::counts::counting;
 use super::{RFS, RTR, writes};
 use crate::{decide, lead};
-use csm_grammar::Arrival;
+use csm_read::read_arrival;
 use party_state::{Input, Lead};
 use x_base::{FullName, Ident, KeyName};
 
