@@ -240,7 +240,7 @@ fn first_count() -> Count
 }
 
 /// The link of the new key-encrypting key that comes, whose first count is used. The key is opened
-/// here, once.
+/// here once, for the tests and the edits.
 pub(crate) fn body_taken(message: &Ksm, link: &LinkRec) -> Option<LinkRec>
     ensures taken { result ≡ body_taken message.now.originator link.now message.now.body }
     ensures range { IsCount (body_count message.now.body) }
