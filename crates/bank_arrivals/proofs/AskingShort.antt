@@ -29,7 +29,7 @@ pub record IsHeard (m : Esm) : Type 0 where
   pub originator : IsIdent m.originator
   pub reason : length m.erf ≤ 16
 
-last_part : (xs ys : List Valued) → AllByRecursion IsFieldOfKind (xs ++ ys) → AllByRecursion IsFieldOfKind ys
+pub last_part : (xs ys : List Valued) → AllByRecursion IsFieldOfKind (xs ++ ys) → AllByRecursion IsFieldOfKind ys
 last_part [] ys h = h
 last_part (x ∷ xs) ys h = last_part xs ys h.1
 

@@ -95,7 +95,7 @@ rsm_begins p a m = named_begins p a m m.idd
 
 -- an error message: a centre is asked again only where no exchange with it stands
 
-retry_in_free : (p : Party) (s : Option Subject) (ctr : Option ℕ) → IfSome (retry_in p s ctr) (IsFree p)
+pub retry_in_free : (p : Party) (s : Option Subject) (ctr : Option ℕ) → IfSome (retry_in p s ctr) (IsFree p)
 retry_in_free p None ctr = tt
 retry_in_free p (Some (SentKey s)) ctr = retry_free p s.way ctr
 retry_in_free p (Some (SentTwins t)) ctr = tt

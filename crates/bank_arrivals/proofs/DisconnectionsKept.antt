@@ -29,7 +29,7 @@ use Rattle.role_base.proofs.Kept.{row_kept, made_kept}
 use Rattle.role_base.proofs.PartyLaws.{KeysFound}
 
 -- the record of the key that ends stands
-named_stands : KeysFound → (p : Party) (m : Dsm) (n : Named) → named_by p m ≡ Some n → KeyStands p n.key
+pub named_stands : KeysFound → (p : Party) (m : Dsm) (n : Named) → named_by p m ≡ Some n → KeyStands p n.key
 named_stands keys p m n h = go (record_of p m.originator m.idd) refl (record_of p m.originator (code_name m.idd m.ida)) h
   where
     go : (o : Option KeyRec) → record_of p m.originator m.idd ≡ o → (b : Option KeyRec) → paired o b ≡ Some n → KeyStands p n.key

@@ -1,5 +1,5 @@
 -- The change of an error message can be kept.
-use Rattle.std.proofs.Common.{◌≡◌, ℕ, ◌+◌, ◌≤◌, max, Bool, true, false, cond, Option, Some, None, Result, IfOk, IfSome, List, [], ◌∷◌, ◌++◌, length, option_map, refl, arith, lit≤}
+use Rattle.std.proofs.Common.{◌≡◌, ℕ, ◌≤◌, Bool, true, false, cond, Option, Some, None, Result, IfOk, IfSome, List, [], ◌∷◌, ◌++◌, length, option_map, refl, arith, lit≤}
 use Rattle.std.specs.List.{list_any}
 use Rattle.x_base.specs.Count.{IsCount}
 use Rattle.x_base.specs.declared.text.NoMemory.{NoMemory}
@@ -19,7 +19,7 @@ use Rattle.party_tables.specs.declared.exchange.Exchange.{Exchange}
 use Rattle.party_state.specs.declared.edit.Edit.{Edit}
 use Rattle.party_state.specs.declared.edit.Edit.TheVariants.{PutKey, DropExchange}
 use Rattle.party_tables.specs.Keys.{record_key, sends}
-use Rattle.party_tables.specs.Ranges.{IsNextCount, IsVia, IsKind, longest_text}
+use Rattle.party_tables.specs.Ranges.{IsVia, IsKind, longest_text}
 use Rattle.party_state.specs.Ranges.{IsParty}
 use Rattle.party_state.specs.State.{Party, centre_label, link_with, exchange_with}
 use Rattle.csm_write.specs.Shortness.{CanonShort}
@@ -42,15 +42,16 @@ use Rattle.role_base.proofs.Found.{found_stands, key_stands}
 use Rattle.role_base.proofs.Keeping.{link_room, key_room, key_room_behind}
 use Rattle.bank_arrivals.proofs.TwinsStanding.{TwinsStand}
 use Rattle.role_base.proofs.Kept.{row_kept, made_kept}
+use Rattle.role_base.proofs.Counted.{greater_next}
 use Rattle.role_base.proofs.PartyLaws.{LinksFound, KeysFound, LinksInRange, ExchangesInRange}
 
 -- the record of a key that an error message speaks of stands, and its way is in its range
-abbrev SubjectStands : Party → Subject → Type 0
+abbrev pub SubjectStands : Party → Subject → Type 0
 SubjectStands p (SentKey s) = KeyStands p s.key × IsVia s.way
 SubjectStands p (SentTwins t) = TwinsStand p t
 SubjectStands p (Translated value cta) = Unit {0}
 
-subject_stands : KeysFound → ExchangesInRange → (p : Party) (peer : List ℕ) (s : Subject) → IsParty p → subject_with p peer ≡ Some s → SubjectStands p s
+pub subject_stands : KeysFound → ExchangesInRange → (p : Party) (peer : List ℕ) (s : Subject) → IsParty p → subject_with p peer ≡ Some s → SubjectStands p s
 subject_stands keys in_range p peer s w h = by_exchange (exchange_with peer p) refl h
   where
     by_record : (name : KeyName) (way : Via) (o : Option KeyRec) → IsVia way → record_of p peer name ≡ o → option_map SentKey (option_map (λ (k : KeyRec). let t : Sent = record { key = k; way = way } in t) o) ≡ Some s → SubjectStands p s
@@ -88,7 +89,7 @@ looked_up links in_range p k w = go (link_with k p) refl
     go (Some l) h = found_stands links in_range p k l w h
 
 -- the link whose count the message names stands
-counted_stands : LinksFound → LinksInRange → (p : Party) (peer : List ℕ) (s : Subject) → IsParty p → IfSome (subject_link p peer s) (LinkStands p)
+pub counted_stands : LinksFound → LinksInRange → (p : Party) (peer : List ℕ) (s : Subject) → IsParty p → IfSome (subject_link p peer s) (LinkStands p)
 counted_stands links in_range p peer (Translated value cta) w = looked_up links in_range p (sends peer centre_label) w
 counted_stands links in_range p peer (SentTwins t) w = looked_up links in_range p (sends peer t.first.name.label) w
 counted_stands links in_range p peer (SentKey s) w = by_way s.way
@@ -102,16 +103,6 @@ counted_stands links in_range p peer (SentKey s) w = by_way s.way
     by_way (via.Distribution centre cta) = tt
     by_way (via.Translation centre) = tt
 
--- the greater of a next count and a count is a next count
-greater_next : (n ctr : ℕ) → IsNextCount n → IsCount ctr → IsNextCount (max n ctr)
-greater_next n ctr i c = record { low = above n ctr i.low; high = below n ctr 99999999999999 i.high c.high }
-  where
-    above : (n ctr : ℕ) → 1 ≤ n → 1 ≤ max n ctr
-    above n ctr a = omega arith
-
-    below : (n ctr most : ℕ) → n ≤ most + 1 → ctr ≤ most → max n ctr ≤ most + 1
-    below n ctr most a b = omega arith
-
 raised_few : (p : Party) (l : Option LinkRec) (c : Option ℕ) (rest : List Edit) → IfSome l (LinkStands p) → IfSome c IsCount → AreKeepable p rest → list_any puts_link rest ≡ false → length rest ≤ 8 → AreFew p (raised l c ++ rest)
 raised_few p None c rest st i t n few = record { keepable = t; few = omega arith }
 raised_few p (Some l) None rest st i t n few = record { keepable = t; few = omega arith }
@@ -121,10 +112,10 @@ raised_few p (Some l) (Some c) rest st i t n few = record {
 }
 
 -- where a centre is asked again, its text is short
-abbrev IsShort : Party → Esm → ℕ → Option Retry → Type 0
-IsShort p m value again = IfSome again (λ t. length (text_of (ers_reply p m value t)) ≤ longest_text)
+abbrev pub IsAskedShort : Party → Esm → ℕ → Option Retry → Type 0
+IsAskedShort p m value again = IfSome again (λ t. length (text_of (ers_reply p m value t)) ≤ longest_text)
 
-asked_short : CanonShort → (p : Party) (m : Esm) (value : ℕ) (again : Option Retry) → IsParty p → IsHeard m → IfSome again IsRetry → IsShort p m value again
+pub asked_short : CanonShort → (p : Party) (m : Esm) (value : ℕ) (again : Option Retry) → IsParty p → IsHeard m → IfSome again IsRetry → IsAskedShort p m value again
 asked_short short p m value None w i r = tt
 asked_short short p m value (Some t) w i r = ers_short short p m value t w.own i r
 
@@ -139,7 +130,7 @@ about_kept links keys links_in_range in_range short p a m (Some s) w g i h = kep
     raised_with : (x : Subject) (rest : List Edit) → AreKeepable p rest → list_any puts_link rest ≡ false → length rest ≤ 8 → AreFew p (raised (subject_link p m.originator x) m.ctr ++ rest)
     raised_with x rest t n few = raised_few p (subject_link p m.originator x) m.ctr rest (counted_stands links links_in_range p m.originator x w) i t n few
 
-    by_link : (x : Sent) (l : Option LinkRec) (t : Option Retry) → can_put_key p (record_key x.key) ≡ true → IsShort p m x.key.value t → AreFew p (raised (subject_link p m.originator (SentKey x)) m.ctr ++ ((dropped l ++ PutKey (record x.key { status = Ended }) ∷ []) ++ DropExchange m.originator ∷ asked_again p m x.key.value t))
+    by_link : (x : Sent) (l : Option LinkRec) (t : Option Retry) → can_put_key p (record_key x.key) ≡ true → IsAskedShort p m x.key.value t → AreFew p (raised (subject_link p m.originator (SentKey x)) m.ctr ++ ((dropped l ++ PutKey (record x.key { status = Ended }) ∷ []) ++ DropExchange m.originator ∷ asked_again p m x.key.value t))
     by_link x None None room c = raised_with (SentKey x) _ (record { each = (room, (tt, tt)); order = refl }) refl (lit≤ tt)
     by_link x None (Some t) room c = raised_with (SentKey x) _ (record { each = (room, (tt, (record { kind = tt; text = c }, tt))); order = refl }) refl (lit≤ tt)
     by_link x (Some l) None room c = raised_with (SentKey x) _ (record { each = (tt, (room, (tt, tt))); order = refl }) refl (lit≤ tt)

@@ -19,3 +19,4 @@ pub mod Leaving
 pub mod Ordered
 pub mod Beginning
 pub mod SendsTwins
+pub mod ArrivalsRanged

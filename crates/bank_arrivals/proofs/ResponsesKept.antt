@@ -11,7 +11,7 @@ use Rattle.party_tables.specs.declared.exchange.Via.{Via}
 use Rattle.party_tables.specs.declared.exchange.Kind.{Kind}
 use Rattle.party_tables.specs.declared.exchange.Kind.TheVariants as kind
 use Rattle.party_tables.specs.declared.exchange.Exchange.{Exchange}
-use Rattle.party_tables.specs.Keys.{record_key, sends}
+use Rattle.party_tables.specs.Keys.{record_key}
 use Rattle.party_state.specs.Ranges.{IsParty}
 use Rattle.party_state.specs.State.{Party, exchange_with}
 use Rattle.role_base.specs.declared.exchanges.Sent.{Sent}
@@ -19,24 +19,16 @@ use Rattle.role_base.specs.declared.exchanges.Twins.{Twins}
 use Rattle.role_base.specs.Deciding.{change_of, decision_of, Decides}
 use Rattle.role_base.specs.Storable.{IsStorable, can_put_key}
 use Rattle.role_base.specs.Standing.{LinkStands, KeyStands}
-use Rattle.role_base.specs.Exchanges.{record_of, sent_by, sent_in, sent_to, twins_to, ending_by, ending_in, ending_with, new_label, new_link_at, new_link}
+use Rattle.role_base.specs.Exchanges.{record_of, sent_by, sent_in, sent_to, twins_to, ending_by, ending_in, ending_with, new_link}
 use Rattle.bank_arrivals.specs.Rsm.{rsm, rsm_with, rsm_to, rsm_twins, rsm_by, answer_to}
-use Rattle.role_base.proofs.Found.{found_stands, key_stands}
+use Rattle.role_base.proofs.Found.{new_link_stands, key_stands}
 use Rattle.role_base.proofs.Kept.{row_kept, made_kept}
 use Rattle.role_base.proofs.Keeping.{link_room, key_room, key_room_behind}
 use Rattle.bank_arrivals.proofs.TwinsStanding.{TwinsStand, twins_stand}
 use Rattle.role_base.proofs.PartyLaws.{LinksFound, KeysFound, LinksInRange}
 
--- the link that was found stands
-new_link_stands : LinksFound → LinksInRange → (p : Party) (peer : List ℕ) (way : Via) (l : LinkRec) → IsParty p → new_link p peer way ≡ Some l → LinkStands p l
-new_link_stands links in_range p peer way l w h = by_label (new_label way) h
-  where
-    by_label : (o : Option (List ℕ)) → new_link_at p peer o ≡ Some l → LinkStands p l
-    by_label None h = absurd (cc)
-    by_label (Some label) h = found_stands links in_range p (sends peer label) l w h
-
 -- the record of a key that was sent stands
-sent_stands : KeysFound → (p : Party) (peer : List ℕ) (s : Sent) → sent_to p peer ≡ Some s → KeyStands p s.key
+pub sent_stands : KeysFound → (p : Party) (peer : List ℕ) (s : Sent) → sent_to p peer ≡ Some s → KeyStands p s.key
 sent_stands keys p peer s h = by_exchange (exchange_with peer p) h
   where
     by_record : (name : KeyName) (way : Via) (o : Option KeyRec) → record_of p peer name ≡ o → option_map (λ (k : KeyRec). let t : Sent = record { key = k; way = way } in t) o ≡ Some s → KeyStands p s.key
@@ -74,7 +66,7 @@ rsm_by_kept links keys in_range p a m (Some t) w h =
     let st : TwinsStand p t = twins_stand keys p m.originator t h in
     row_kept p (rsm_twins p a m t) (λ _. record { each = (key_room p t.first st.first, (key_room_behind _ p t.second st.second, (tt, tt))); order = refl }) (omega arith)
 
-ending_stands : KeysFound → (p : Party) (peer : List ℕ) (k : KeyRec) → ending_with p peer ≡ Some k → KeyStands p k
+pub ending_stands : KeysFound → (p : Party) (peer : List ℕ) (k : KeyRec) → ending_with p peer ≡ Some k → KeyStands p k
 ending_stands keys p peer k h = by_exchange (exchange_with peer p) h
   where
     by_kind : (x : Kind) → ending_by p peer x ≡ Some k → KeyStands p k

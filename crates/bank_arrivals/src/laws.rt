@@ -11,7 +11,7 @@ ghost use Rattle.csm_grammar.specs.declared.message.Dsm.{Dsm as TheDsm};
 ghost use Rattle.party_state.specs.State.{Party, apply};
 ghost use Rattle.role_base.specs.Texts.{is_plain};
 ghost use Rattle.role_base.specs.Errors.{is_early};
-ghost use Rattle.role_base.specs.Differing.{AreApart};
+ghost use Rattle.role_base.specs.Apart.{AreApart};
 ghost use Rattle.bank_arrivals.specs.Rsi.{rsi};
 ghost use Rattle.bank_arrivals.specs.Rsm.{rsm, rsm_lead};
 ghost use Rattle.bank_arrivals.specs.Esm.{error, esm_lead};
@@ -21,12 +21,12 @@ ghost use Rattle.bank_arrivals.specs.Heard.{HeardResponse, HeardResponseToTwo, H
 use csm_grammar::law_arrived;
 use party_state::{law_accept, law_drop, law_found, law_put, law_same};
 
-/// No edit of these rows changes whether a later one makes a difference.
+/// The edits of each of these rows are apart.
 pub fn law_apart()
-    ensures rsi { (p : Party) (a : TheArrival) (m : TheRsi) (moment : ℕ) → AreApart p (rsi p a m moment).edits }
-    ensures rsm { (p : Party) (a : TheArrival) (m : TheRsm) → AreApart p (rsm p a m).edits }
-    ensures esm { (p : Party) (a : TheArrival) (m : TheEsm) → AreApart p (error p a m).edits }
-    ensures dsm { (p : Party) (a : TheArrival) (m : TheDsm) → AreApart p (dsm p a m).edits }
+    ensures rsi { (p : Party) (a : TheArrival) (m : TheRsi) (moment : ℕ) → AreApart (rsi p a m moment).edits }
+    ensures rsm { (p : Party) (a : TheArrival) (m : TheRsm) → AreApart (rsm p a m).edits }
+    ensures esm { (p : Party) (a : TheArrival) (m : TheEsm) → AreApart (error p a m).edits }
+    ensures dsm { (p : Party) (a : TheArrival) (m : TheDsm) → AreApart (dsm p a m).edits }
 {
     law_same();
     law_found();

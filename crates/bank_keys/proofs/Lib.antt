@@ -15,3 +15,4 @@ pub mod Refused
 pub mod Ordered
 pub mod BothTaken
 pub mod Beginning
+pub mod KeysRanged

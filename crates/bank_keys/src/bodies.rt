@@ -2,7 +2,7 @@
 ghost use Rattle.std.specs.Prelude.{◌≡◌, ◌+◌, cond, nat_lt, IfSome, Some, None};
 ghost use Rattle.x_base.specs.Count.{IsCount, count_limit};
 ghost use Rattle.role_base.specs.Standing.{LinkStands};
-ghost use Rattle.bank_keys.specs.Ksm.{link_in_use, IsCounted, body_link, body_count, body_next, body_counts, body_name, opened_kk, body_new, body_value, body_code, body_record, body_second, body_taken, link_tests};
+ghost use Rattle.bank_keys.specs.Ksm.{link_in_use, IsCounted, body_link, body_count, body_next, body_counts, body_name, opened_kk, body_new, body_code, body_record, body_second, body_taken, link_tests};
 
 use csm_grammar::{Ksm, KsmBody, NewKk};
 use party_state::{KeyRec, KeyStatus, LinkRec, State};
@@ -12,7 +12,7 @@ use role_base::{
 };
 use x_base::{Count, FullName, Ident, KeyName, LIMIT, Label, Side, Verdict};
 use x_mac::Pair;
-use x_seal::{unseal, unwrap, unwrap_pair};
+use x_seal::{unwrap, unwrap_pair};
 
 /// The link in use for a key without a centre: the one with that label, which isn't a centre's, or
 /// the first.
@@ -129,7 +129,7 @@ pub(crate) fn body_name(
 
 /// The new key-encrypting key that comes under a pair at a count, with odd parity. A single one is
 /// both halves.
-fn opened_kk(pair: Pair, count: Count, new: NewKk) -> Pair
+pub(crate) fn opened_kk(pair: Pair, count: Count, new: NewKk) -> Pair
     ensures { result ≡ opened_kk pair count new }
 {
     match new {
@@ -154,63 +154,8 @@ fn body_new(body: &KsmBody) -> Option<(Label, NewKk)>
     }
 }
 
-/// The key of 64 bits that comes from an originator to a receiver under a pair: under the new
-/// key-encrypting key, where there is one, at its first count. Of two keys it is the first.
-pub(crate) fn body_value(pair: Pair, originator: &Ident, receiver: &Ident, body: &KsmBody) -> u64
-    ensures { result ≡ body_value pair originator.now receiver.now body.now }
-{
-    match body {
-        KsmBody::Direct {
-            new: None,
-            kd,
-            ctp,
-            ..
-        } => unwrap(pair, *ctp, *kd),
-        KsmBody::Direct {
-            new: Some((_, new)),
-            kd,
-            ctp,
-            ..
-        } => unwrap(opened_kk(pair, *ctp, *new), first_count(), *kd),
-        KsmBody::Centre { kdu, ctb, .. } => unseal(pair, originator, receiver, *ctb, *kdu),
-        KsmBody::Twin { first, ctp, .. } => unwrap(pair, *ctp, *first),
-    }
-}
-
-/// The key of 64 bits under which the message and its answers are closed: the one that comes, or the
-/// exclusive-or of two.
-pub(crate) fn body_code(pair: Pair, originator: &Ident, receiver: &Ident, body: &KsmBody) -> u64
-    requires { IsCounted body.now }
-    ensures { result ≡ body_code pair originator.now receiver.now body.now }
-{
-    let first = body_value(pair, originator, receiver, body);
-    match body {
-        KsmBody::Direct { .. } | KsmBody::Centre { .. } => first,
-        KsmBody::Twin { second, ctp, .. } => first ^ unwrap(pair, count_behind(*ctp), *second),
-    }
-}
-
-/// The record of the key that is held, of two keys the first. `code` is the key under which the
-/// message is closed.
-pub(crate) fn body_record(state: &State, message: &Ksm, link: &LinkRec, code: u64) -> KeyRec
-    requires { code ≡ body_code link.now.pair message.now.originator state.now.own message.now.body }
-    ensures { result ≡ body_record state.now message.now message.now.body link.now }
-{
-    let value = match &message.body {
-        KsmBody::Direct { .. } | KsmBody::Centre { .. } => code,
-        KsmBody::Twin { first, ctp, .. } => unwrap(link.pair, *ctp, *first),
-    };
-    let under = body_name(state, &message.originator, &message.body, link);
-    KeyRec {
-        peer: message.originator,
-        name: under.name,
-        value,
-        status: KeyStatus::Held,
-    }
-}
-
 /// The record of the second of two keys.
-pub(crate) fn body_second(state: &State, message: &Ksm, link: &LinkRec) -> Option<KeyRec>
+fn body_second(state: &State, message: &Ksm, link: &LinkRec) -> Option<KeyRec>
     requires { IsCounted message.now.body }
     ensures { result ≡ body_second state.now message.now message.now.body link.now }
 {
@@ -230,7 +175,7 @@ pub(crate) fn body_second(state: &State, message: &Ksm, link: &LinkRec) -> Optio
 
 /// The first count of a key-encrypting key.
 #[tactic(auto, using(crate::proofs::NewKeys::first_counts))]
-fn first_count() -> Count
+pub(crate) fn first_count() -> Count
     ensures { result ≡ 1 }
 {
     match Count::of(1) {
@@ -239,14 +184,27 @@ fn first_count() -> Count
     }
 }
 
-/// The link of the new key-encrypting key that comes, whose first count is used. The key is opened
-/// here once, for the tests and the edits.
-pub(crate) fn body_taken(message: &Ksm, link: &LinkRec) -> Option<LinkRec>
-    ensures taken { result ≡ body_taken message.now.originator link.now message.now.body }
+/// What a key service message brings: the link of a new key-encrypting key, whose first count is
+/// used, the key that is held, of two keys the first, and the second.
+#[derive(Drop)]
+pub(crate) struct Keys {
+    pub taken: Option<LinkRec>,
+    pub first: KeyRec,
+    pub second: Option<KeyRec>,
+}
+
+/// What comes under a link. `code` is the key under which the message is closed. A new
+/// key-encrypting key is opened here once, for the tests and the edits.
+pub(crate) fn keys_of(state: &State, message: &Ksm, link: &LinkRec, code: u64) -> Keys
+    requires counted { IsCounted message.now.body }
+    requires code { code ≡ body_code link.now.pair message.now.originator state.now.own message.now.body }
+    ensures taken { result.taken ≡ body_taken message.now.originator link.now message.now.body }
+    ensures first { result.first ≡ body_record state.now message.now message.now.body link.now }
+    ensures second { result.second ≡ body_second state.now message.now message.now.body link.now }
     ensures range { IsCount (body_count message.now.body) }
 {
     let count = body_count(&message.body);
-    match body_new(&message.body) {
+    let taken = match body_new(&message.body) {
         Some((label, new)) => Some(LinkRec {
             peer: message.originator,
             label,
@@ -256,6 +214,22 @@ pub(crate) fn body_taken(message: &Ksm, link: &LinkRec) -> Option<LinkRec>
             ready: true,
         }),
         None => None,
+    };
+    let value = match &message.body {
+        KsmBody::Direct { .. } | KsmBody::Centre { .. } => code,
+        KsmBody::Twin { first, .. } => unwrap(link.pair, count, *first),
+    };
+    let first = KeyRec {
+        peer: message.originator,
+        name: body_name(state, &message.originator, &message.body, link).name,
+        value,
+        status: KeyStatus::Held,
+    };
+    let second = body_second(state, message, link);
+    Keys {
+        taken,
+        first,
+        second,
     }
 }
 

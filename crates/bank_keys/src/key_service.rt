@@ -7,20 +7,22 @@ ghost use Rattle.party_tables.specs.Keys.{record_key};
 ghost use Rattle.party_state.specs.Verdicts.{verdict_of};
 ghost use Rattle.role_base.specs.Conditions.{count_tests};
 ghost use Rattle.role_base.specs.Deciding.{Decides};
-ghost use Rattle.bank_keys.specs.Ksm.{response, body_count, body_next, second_edits, have_room, body_front, link_edits, link_tests, key_arrives, key_lead};
+ghost use Rattle.bank_keys.specs.Ksm.{body_count, body_next, second_edits, have_room, body_front, link_edits, link_tests, key_arrives, key_lead};
 
 use crate::bodies::{
-    body_code, body_count, body_counts, body_link, body_name, body_next, body_record, body_second,
-    body_taken, link_tests,
+    Keys, body_count, body_counts, body_link, body_name, body_next, first_count, keys_of,
+    link_tests, opened_kk,
 };
-use csm_grammar::{Arrival, Ksm, Message, Rsm};
+use csm_grammar::{Arrival, Ksm, KsmBody, Message, Rsm};
 use party_state::{Decision, Edit, KeyRec, Lead, LinkRec, RecordKey, State, law_accept};
 use role_base::{
-    Written, accept, body_issuer, count_tests, early_refusal, error_answer, has_key_room,
-    has_room_for_two, is_accept, is_for, lead_under, list_of, no_extras, passes, verdict_after,
+    Written, accept, body_issuer, count_behind, count_tests, early_refusal, error_answer,
+    has_key_room, has_room_for_two, is_accept, is_for, lead_under, list_of, no_extras,
+    verdict_after,
 };
 use std::alloc::Global;
-use x_base::{Ident, NoMemory, Verdict};
+use x_base::{NoMemory, Verdict};
+use x_seal::{unseal, unwrap};
 
 /// The tests before the code's.
 fn body_front(state: &State, message: &Ksm, found: &Option<LinkRec>) -> [(bool, Verdict); 3]
@@ -58,50 +60,17 @@ fn key_of(key: &KeyRec) -> RecordKey
     }
 }
 
-/// The verdict under a link, where the code is tested, and it is known which new link is taken and
-/// whether the keys have room.
-fn body_verdict(
-    state: &State,
-    message: &Ksm,
-    link: &LinkRec,
-    taken: &Option<LinkRec>,
-    verified: bool,
-    room: bool,
-) -> Verdict
-    ensures { result ≡ verdict_of (body_front state.now message.now message.now.body (Some link.now)
-        ++ (verified, BadMac) ∷ (count_tests link.now (body_count message.now.body) ++ (link_tests state.now taken.now ++ (room, KeysFull) ∷ []))) }
-{
-    let front = body_front(state, message, &Some(*link));
-    let code = (verified, Verdict::BadMac);
-    let [low, spent] = count_tests(link, body_count(&message.body));
-    let room = (room, Verdict::KeysFull);
-    match taken {
-        None => verdict_after(&front, &[code, low, spent, room]),
-        Some(taken) => {
-            let [free, other, links] = link_tests(state, taken);
-            verdict_after(&front, &[code, low, spent, free, other, links, room])
-        }
-    }
-}
-
 /// The keys are held, and a new key-encrypting key is taken.
-fn held(
-    alloc: Global,
-    message: &Ksm,
-    link: &LinkRec,
-    taken: Option<LinkRec>,
-    first: KeyRec,
-    second: Option<KeyRec>,
-) -> Result<Vec<Edit>, NoMemory>
+fn held(alloc: Global, message: &Ksm, link: &LinkRec, keys: Keys) -> Result<Vec<Edit>, NoMemory>
     ensures { IfOk result (λ edits. edits.items ≡
-        PutLink (record link.now { next = body_next message.now.body }) ∷ (link_edits taken ++ PutKey first ∷ second_edits second)) }
+        PutLink (record link.now { next = body_next message.now.body }) ∷ (link_edits keys.taken ++ PutKey keys.first ∷ second_edits keys.second)) }
 {
     let used = Edit::PutLink(LinkRec {
         next: body_next(&message.body),
         ..*link
     });
-    let first = Edit::PutKey(first);
-    match (taken, second) {
+    let first = Edit::PutKey(keys.first);
+    match (keys.taken, keys.second) {
         (None, None) => list_of(alloc, [used, first]),
         (None, Some(second)) => list_of(alloc, [used, first, Edit::PutKey(second)]),
         (Some(taken), None) => list_of(alloc, [used, Edit::PutLink(taken), first]),
@@ -110,17 +79,6 @@ fn held(
             [used, Edit::PutLink(taken), first, Edit::PutKey(second)],
         ),
     }
-}
-
-fn response(state: &State, originator: Ident) -> Message
-    ensures { result ≡ response state.now originator }
-{
-    Message::Rsm(Rsm {
-        receiver: originator,
-        originator: state.own(),
-        idd: None,
-        extras: no_extras(),
-    })
 }
 
 /// Decides of a key service message, with the key under which its code is tested.
@@ -140,23 +98,36 @@ pub fn ksm(
     // Tells what an accepted verdict says of the tests.
     law_accept();
     let found = body_link(state, &message.originator, &message.body);
+    let front = body_front(state, message, &found);
     let Some(link) = &found else {
-        return Ok(early_refusal(&body_front(state, message, &found)));
+        return Ok(early_refusal(&front));
     };
     let Some(lead) = lead else {
-        return Ok(early_refusal(&body_front(state, message, &found)));
+        return Ok(early_refusal(&front));
     };
-    let taken = body_taken(message, link);
-    let first = body_record(state, message, link, lead.value);
-    let second = body_second(state, message, link);
-    let room = have_room(state, &first, &second);
-    let verdict = body_verdict(state, message, link, &taken, lead.verified, room);
+    let keys = keys_of(state, message, link, lead.value);
+    let code = (lead.verified, Verdict::BadMac);
+    let [low, spent] = count_tests(link, body_count(&message.body));
+    let room = have_room(state, &keys.first, &keys.second);
+    let room = (room, Verdict::KeysFull);
+    let verdict = match &keys.taken {
+        None => verdict_after(&front, &[code, low, spent, room]),
+        Some(taken) => {
+            let [free, other, links] = link_tests(state, taken);
+            verdict_after(&front, &[code, low, spent, free, other, links, room])
+        }
+    };
     if !is_accept(&verdict) {
         let counts = body_counts(&message.body);
         return error_answer(alloc, state, message.originator, counts, verdict, lead);
     }
-    let edits = held(alloc, message, link, taken, first, second)?;
-    let reply = response(state, message.originator);
+    let edits = held(alloc, message, link, keys)?;
+    let reply = Message::Rsm(Rsm {
+        receiver: message.originator,
+        originator: state.own(),
+        idd: None,
+        extras: no_extras(),
+    });
     let written = Written::coded(alloc, &reply, lead.under, lead.value)?;
     accept(alloc, state, edits, Some(written))
 }
@@ -167,14 +138,38 @@ pub fn ksm(
 pub fn ksm_lead(state: &State, arrival: &Arrival, message: &Ksm) -> Option<Lead>
     ensures { result ≡ key_lead state.now arrival.now message.now }
 {
-    let found = body_link(state, &message.originator, &message.body);
-    let front = body_front(state, message, &found);
-    let link = found?;
-    if !passes(&front) {
+    let (originator, body) = (&message.originator, &message.body);
+    let link = body_link(state, originator, body)?;
+    let issuer = body_issuer(originator, body);
+    if !is_for(state, &message.receiver, originator) || !state.knows(&issuer) {
         return None;
     }
-    let under = body_name(state, &message.originator, &message.body, &link);
-    let own = state.own();
-    let value = body_code(link.pair, &message.originator, &own, &message.body);
+    let under = body_name(state, originator, body, &link);
+    let value = match body {
+        KsmBody::Direct {
+            new: None,
+            kd,
+            ctp,
+            ..
+        } => unwrap(link.pair, *ctp, *kd),
+        KsmBody::Direct {
+            new: Some((_, new)),
+            kd,
+            ctp,
+            ..
+        } => unwrap(opened_kk(link.pair, *ctp, *new), first_count(), *kd),
+        KsmBody::Centre { kdu, ctb, .. } => {
+            unseal(link.pair, originator, &state.own(), *ctb, *kdu)
+        }
+        KsmBody::Twin {
+            first,
+            second,
+            ctp,
+            ..
+        } => {
+            let second = unwrap(link.pair, count_behind(*ctp), *second);
+            unwrap(link.pair, *ctp, *first) ^ second
+        }
+    };
     Some(lead_under(arrival, under, value))
 }

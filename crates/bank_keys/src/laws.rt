@@ -16,7 +16,7 @@ ghost use Rattle.party_tables.specs.Tables.{Distinct};
 ghost use Rattle.party_state.specs.Verdicts.{is_accept};
 ghost use Rattle.role_base.specs.Texts.{is_plain};
 ghost use Rattle.role_base.specs.Beginning.{AllBeginFree};
-ghost use Rattle.role_base.specs.Differing.{AreApart};
+ghost use Rattle.role_base.specs.Apart.{AreApart};
 ghost use Rattle.role_base.specs.Deciding.{decision_of};
 ghost use Rattle.role_base.specs.Errors.{is_early};
 ghost use Rattle.role_base.specs.Order.{InOrder};
@@ -30,11 +30,11 @@ ghost use Rattle.bank_keys.specs.Passing.{PassesKeys};
 use csm_grammar::law_arrived;
 use party_state::{law_accept, law_counts, law_found, law_put, law_same};
 
-/// No edit of an accepted key service message, at a party that has each link once, changes whether a
-/// later one makes a difference, and none of a centre's answer does.
+/// The edits of an accepted key service message, at a party that has each link once, are apart, and
+/// so are those of an accepted answer of a centre.
 pub fn law_apart()
-    ensures ksm { (p : Party) (a : TheArrival) (m : TheKsm) → Distinct link_key same_link p.links → is_accept (key_arrives p a m).verdict ≡ true → AreApart p (key_arrives p a m).edits }
-    ensures rtr { (p : Party) (a : TheArrival) (m : TheRtr) → AreApart p (rtr p a m).edits }
+    ensures ksm { (p : Party) (a : TheArrival) (m : TheKsm) → Distinct link_key same_link p.links → is_accept (key_arrives p a m).verdict ≡ true → AreApart (key_arrives p a m).edits }
+    ensures rtr { (p : Party) (a : TheArrival) (m : TheRtr) → is_accept (rtr p a m).verdict ≡ true → AreApart (rtr p a m).edits }
 {
     law_accept();
     law_same();

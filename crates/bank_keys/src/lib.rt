@@ -8,6 +8,7 @@ mod from_translation;
 mod key_service;
 mod laws;
 mod passing;
+mod ranged;
 mod responses;
 mod waits;
 
@@ -16,5 +17,6 @@ pub use laws::{
     law_apart, law_begins, law_both_taken, law_lead, law_order, law_passing, law_refused,
     law_taken, law_taking,
 };
+pub use ranged::law_ranged;
 pub use responses::{rtr, rtr_lead};
 pub use waits::Waiting;

@@ -9,3 +9,4 @@ mod StartsKk
 mod Asks
 mod Ends
 mod GivesUp
+pub mod OrdersRanged

@@ -13,7 +13,7 @@ ghost use Rattle.party_state.specs.Ranges.{IsParty};
 ghost use Rattle.party_state.specs.State.{Party, apply, exchange_with, knows};
 ghost use Rattle.party_state.specs.Verdicts.{is_accept};
 ghost use Rattle.role_base.specs.Beginning.{AllBeginFree};
-ghost use Rattle.role_base.specs.Differing.{AreApart};
+ghost use Rattle.role_base.specs.Apart.{AreApart};
 ghost use Rattle.role_base.specs.Loading.{CanLoad, Loads};
 ghost use Rattle.role_base.specs.Order.{InOrder};
 ghost use Rattle.role_base.specs.Sending.{sending_tests};
@@ -35,9 +35,9 @@ use role_base::{law_loads, law_sends};
 use x_gen::law_draws_odd;
 use x_seal::law_unwraps;
 
-/// No edit of an accepted command's row changes whether a later one makes a difference.
+/// The edits of an accepted command's row are apart.
 pub fn law_apart()
-    ensures { (p : Party) (c : TheCommand) (moment : ℕ) → is_accept (command_row p c moment).verdict ≡ true → AreApart p (command_row p c moment).edits }
+    ensures { (p : Party) (c : TheCommand) (moment : ℕ) → is_accept (command_row p c moment).verdict ≡ true → AreApart (command_row p c moment).edits }
 {
     law_accept();
     law_same();

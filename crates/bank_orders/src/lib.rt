@@ -7,6 +7,7 @@ mod draws;
 mod ending;
 mod giving_up;
 mod laws;
+mod ranged;
 mod resend;
 mod start;
 mod start_kk;
@@ -17,3 +18,4 @@ pub use laws::{
     law_apart, law_asks, law_asks_centre, law_begins, law_ends, law_gives_up, law_loads_at_bank,
     law_order, law_purges, law_sends_to_translate, law_starts, law_starts_kk, law_writes_again,
 };
+pub use ranged::law_ranged;

@@ -1,3 +1,4 @@
 pub mod Apart
 pub mod Leads
 pub mod Taking
+pub mod Ranged

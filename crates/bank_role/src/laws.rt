@@ -1,16 +1,18 @@
 // What is known of every party, by calls that do nothing.
-ghost use Rattle.std.specs.Prelude.{◌≡◌, ◌↔◌, ◌⊎◌, ℕ, true, false, None};
+ghost use Rattle.std.specs.Prelude.{◌≡◌, ◌↔◌, ◌⊎◌, ℕ, true, None};
 ghost use Rattle.csm_grammar.specs.declared.arrival.Arrival.{Arrival as TheArrival};
 ghost use Rattle.party_state.specs.declared.command.Input.TheVariants.{Arrived};
-ghost use Rattle.party_state.specs.declared.edit.Edit.{Edit as TheEdit};
 ghost use Rattle.party_state.specs.declared.command.Input.{Input as TheInput};
 ghost use Rattle.party_tables.specs.Keys.{link_key, same_link};
 ghost use Rattle.party_tables.specs.Tables.{Distinct};
-ghost use Rattle.party_state.specs.State.{Party, apply_edit, apply};
+ghost use Rattle.party_state.specs.State.{Party};
 ghost use Rattle.party_state.specs.Verdicts.{is_accept};
+ghost use Rattle.party_state.specs.Ranges.{IsParty};
+ghost use Rattle.role_base.specs.Ranged.{IsInput, IsRanged};
 ghost use Rattle.role_base.specs.Texts.{is_plain};
 ghost use Rattle.role_base.specs.Errors.{is_early};
-ghost use Rattle.role_base.specs.Differing.{differs, always_differs, differing};
+ghost use Rattle.role_base.specs.Beginning.{AllBeginFree};
+ghost use Rattle.role_base.specs.Apart.{AreApart};
 ghost use Rattle.bank_keys.specs.Taking.{TakesKeys};
 ghost use Rattle.bank_keys.specs.Passing.{PassesKeys};
 ghost use Rattle.bank_role.specs.Rows.{row_of};
@@ -27,20 +29,28 @@ pub fn law_lead()
     bank_keys::law_lead();
 }
 
-/// An edit that makes no difference changes nothing. One that changes nothing makes no difference,
-/// but for an exchange that is put and a party that begins, which always do. Where the
-/// edits of an accepted row that make none are left out, the others give the same party, if it has
-/// each link once.
-pub fn law_differing()
-    ensures unchanged { (p : Party) (e : TheEdit) → differs p e ≡ false → apply_edit e p ≡ p }
-    ensures needed { (p : Party) (e : TheEdit) → always_differs e ≡ false → apply_edit e p ≡ p → differs p e ≡ false }
-    ensures left_out { (p : Party) (i : TheInput) (moment : ℕ) → Distinct link_key same_link p.links → is_accept (row_of p i moment).verdict ≡ true →
-        apply (differing p (row_of p i moment).edits) p ≡ apply (row_of p i moment).edits p }
+/// The edits of an accepted row, at a party that has each link once, are apart. An exchange is begun
+/// only with a peer with whom none stands.
+pub fn law_apart()
+    ensures apart { (p : Party) (i : TheInput) (moment : ℕ) → Distinct link_key same_link p.links → is_accept (row_of p i moment).verdict ≡ true → AreApart (row_of p i moment).edits }
+    ensures begins { (p : Party) (i : TheInput) (moment : ℕ) → is_accept (row_of p i moment).verdict ≡ true → AllBeginFree p (row_of p i moment).edits }
 {
-    role_base::law_differing();
     bank_orders::law_apart();
     bank_arrivals::law_apart();
     bank_keys::law_apart();
+    bank_orders::law_begins();
+    bank_arrivals::law_begins();
+    bank_keys::law_begins();
+}
+
+/// What a bank changes can be kept, each part of it in its range, and what it writes has at most 1,024
+/// bytes, where the parts of its state and of a command are in their ranges.
+pub fn law_ranged()
+    ensures { (p : Party) (i : TheInput) (moment : ℕ) → IsParty p → IsInput i → IsRanged p (decided p i moment) }
+{
+    bank_orders::law_ranged();
+    bank_arrivals::law_ranged();
+    bank_keys::law_ranged();
 }
 
 /// A key that a key service message brings, from a partner or a centre, alone, with a new

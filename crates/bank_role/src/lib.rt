@@ -6,8 +6,5 @@ mod laws;
 mod leading;
 
 pub use deciding::decide;
-pub use laws::{law_differing, law_lead, law_passing, law_taking};
+pub use laws::{law_apart, law_lead, law_passing, law_ranged, law_taking};
 pub use leading::lead;
-
-#[cfg(test)]
-mod tests;

@@ -41,7 +41,7 @@ answering_kept held p r u ts a b x y (Some d) f n s t = row_kept p (answering p 
         let k : IsNextCount (a.next + 1) × IsNextCount (b.next + 1) = n (held (ts ++ (true, WeakDraws) ∷ []) f e) in
         record { each = (tt, ((k.0, room a x s), ((k.1, room b y t), (tt, tt)))); order = rw s refl }
 
-larger : (n m : ℕ) → IsCount n → IsCount m → IsCount (max n m)
+pub larger : (n m : ℕ) → IsCount n → IsCount m → IsCount (max n m)
 larger n m c d = let low = c.low in let high = c.high in let most = d.high in record { low = omega (arith, low); high = omega (arith, high, most) }
 
 pub rsi_kept : HeldIfAccepted → (p : Party) (a : Arrival) (m : Rsi) (u : List ℕ) (l b : LinkRec) (o : Option (ℕ × Gen)) (made : Result Decision NoMemory) → LinkStands p l → LinkStands p b → IfOk made (λ d. d ≡ decision_of p (rsi_between p a m u (Some l) (Some b) o)) → Decides p (rsi_between p a m u (Some l) (Some b) o) made

@@ -7,3 +7,4 @@ pub mod Giving
 pub mod Raised
 pub mod Refusals
 pub mod Ordered
+pub mod AnswersRanged

@@ -5,7 +5,8 @@ ghost use Rattle.party_state.specs.declared.command.Input.{Input as TheInput};
 ghost use Rattle.party_state.specs.State.{Party};
 ghost use Rattle.party_state.specs.Verdicts.{is_accept};
 ghost use Rattle.role_base.specs.Texts.{is_plain};
-ghost use Rattle.role_base.specs.Differing.{AreApart};
+ghost use Rattle.role_base.specs.Beginning.{AllBeginFree};
+ghost use Rattle.role_base.specs.Apart.{AreApart};
 ghost use Rattle.role_base.specs.Errors.{is_early};
 ghost use Rattle.distribution_role.specs.Rows.{distribution_message, distribution_lead, distribution_row};
 ghost use Rattle.distribution_role.specs.Serving.{AnswersRequests, AnswersAgain};
@@ -16,10 +17,11 @@ use party_state::{law_accept, law_found, law_put, law_same};
 use x_gen::law_draws_odd;
 use x_seal::{law_unseals, law_unwraps};
 
-/// No edit of an accepted row changes whether a later one makes a difference: the two links that an
-/// answer puts are not one link.
+/// The edits of an accepted row are apart: the two links that an answer puts are not one link. No row
+/// begins an exchange.
 pub fn law_apart()
-    ensures { (p : Party) (i : TheInput) (moment : ℕ) → is_accept (distribution_row p i moment).verdict ≡ true → AreApart p (distribution_row p i moment).edits }
+    ensures apart { (p : Party) (i : TheInput) (moment : ℕ) → is_accept (distribution_row p i moment).verdict ≡ true → AreApart (distribution_row p i moment).edits }
+    ensures begins { (p : Party) (i : TheInput) (moment : ℕ) → AllBeginFree p (distribution_row p i moment).edits }
 {
     law_accept();
     law_same();

@@ -7,6 +7,7 @@ mod answering;
 mod deciding;
 mod laws;
 mod leads;
+mod ranged;
 mod recovery;
 mod requests;
 mod served;
@@ -15,7 +16,5 @@ pub use answering::Links;
 pub use deciding::decide;
 pub use laws::{law_answers, law_apart, law_gives, law_lead};
 pub use leads::lead;
+pub use ranged::law_ranged;
 pub use served::{law_order, law_serves};
-
-#[cfg(test)]
-mod tests;

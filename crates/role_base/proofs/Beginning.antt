@@ -1,8 +1,8 @@
 -- An exchange is begun only with a peer with whom none stands.
 use Rattle.std.proofs.Common.{◌≡◌, ℕ, Bool, true, false, cond, Option, Some, None, List, [], ◌∷◌, ◌++◌, bytes_eq, refl, sym, ap, subst, ◌∙◌}
-use Rattle.std.specs.Prelude.{is_none}
+use Rattle.std.specs.Prelude.{is_none, is_some}
 use Rattle.std.specs.List.{find}
-use Rattle.std.proofs.lemmas.Bool.{and_parts}
+use Rattle.std.proofs.lemmas.Bool.{and_parts, false_from_ne_true}
 use Rattle.std.proofs.lemmas.Slice.Eq.{bytes_eq-Decides}
 use Rattle.x_base.specs.declared.party.Side.{Side}
 use Rattle.x_gen.specs.declared.generator.Gen.{Gen}
@@ -35,6 +35,14 @@ none_stands (Some x) h = absurd (cc)
 
 pub free_with : (p : Party) (peer other : List ℕ) → other ≡ peer → is_none (exchange_with peer p) ≡ true → exchange_with other p ≡ None
 free_with p peer other e h = subst (λ (x : List ℕ). exchange_with x p ≡ None) (sym e) (none_stands (exchange_with peer p) h)
+
+there_not_none : {A : Type 0} (o : Option A) → is_some o ≡ true → o ≡ None → ⊥
+there_not_none None s n = cc
+there_not_none (Some x) s n = cc
+
+-- a peer with whom none stands isn't one with whom one stands
+pub peers_apart : (p : Party) (peer other : List ℕ) → is_some (exchange_with peer p) ≡ true → is_none (exchange_with other p) ≡ true → bytes_eq other peer ≡ false
+peers_apart p peer other there free = false_from_ne_true (bytes_eq other peer) (λ e. (let same : peer ≡ other = sym ((bytes_eq-Decides other peer).0 e) in there_not_none (exchange_with peer p) there (free_with p other peer same free)))
 
 pub begin_append : (p : Party) (es fs : List Edit) → AllBeginFree p es → AllBeginFree p fs → AllBeginFree p (es ++ fs)
 begin_append p [] fs a b = b

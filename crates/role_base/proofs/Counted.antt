@@ -1,5 +1,5 @@
 -- The expected count that a refusal names is a count.
-use Rattle.std.proofs.Common.{arith, ◌≡◌, ℕ, ◌+◌, ◌≤◌, nat_le, Bool, true, false, cond, not, ◌||◌, List, [], ◌∷◌, refl}
+use Rattle.std.proofs.Common.{arith, ◌≡◌, ℕ, ◌+◌, ◌≤◌, max, nat_le, Bool, true, false, cond, not, ◌||◌, List, [], ◌∷◌, refl}
 use Rattle.std.proofs.lemmas.Bool.{leb-true}
 use Rattle.std.specs.List.{AllByRecursion}
 use Rattle.x_base.specs.Count.{IsCount}
@@ -36,3 +36,13 @@ left_is_count l i h = record { low = i.low; high = leb-true l.next 9999999999999
 -- behind a count the next one can stand
 pub next_on : (n m : ℕ) → IsCount n → m ≡ n + 1 → IsNextCount m
 next_on n m c e = let low = c.low in let high = c.high in record { low = omega (arith, low, e); high = omega (arith, high, e) }
+
+-- the greater of a next count and a count is a next count
+pub greater_next : (n ctr : ℕ) → IsNextCount n → IsCount ctr → IsNextCount (max n ctr)
+greater_next n ctr i c = record { low = above n ctr i.low; high = below n ctr 99999999999999 i.high c.high }
+  where
+    above : (n ctr : ℕ) → 1 ≤ n → 1 ≤ max n ctr
+    above n ctr a = omega arith
+
+    below : (n ctr most : ℕ) → n ≤ most + 1 → ctr ≤ most → max n ctr ≤ most + 1
+    below n ctr most a b = omega arith

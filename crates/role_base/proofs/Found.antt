@@ -6,10 +6,12 @@ use Rattle.party_tables.specs.declared.link.LinkKey.{LinkKey}
 use Rattle.party_tables.specs.declared.link.LinkRec.{LinkRec}
 use Rattle.party_tables.specs.declared.key.RecordKey.{RecordKey}
 use Rattle.party_tables.specs.declared.key.KeyRec.{KeyRec}
-use Rattle.party_tables.specs.Keys.{link_key, record_key}
+use Rattle.party_tables.specs.declared.exchange.Via.{Via}
+use Rattle.party_tables.specs.Keys.{sends, link_key, record_key}
 use Rattle.party_tables.specs.Ranges.{IsLink}
 use Rattle.party_state.specs.Ranges.{IsParty}
 use Rattle.party_state.specs.State.{Party, link_with, first_link, record_with}
+use Rattle.role_base.specs.Exchanges.{new_label, new_link_at, new_link}
 use Rattle.role_base.specs.Standing.{LinkStands, KeyStands}
 use Rattle.role_base.proofs.PartyLaws.{LinksFound, KeysFound, FirstLinksFound, LinksInRange}
 
@@ -27,3 +29,11 @@ found_stands found in_range p k l w f = link_stands found p k (Some l) f (in_ran
 
 pub key_stands : KeysFound → (p : Party) (k : RecordKey) (r : KeyRec) → record_with k p ≡ Some r → KeyStands p r
 key_stands found p k r h = let e : k ≡ record_key r = found k r p h in rw e at h
+
+-- the link of a new key-encrypting key stands, where it is found
+pub new_link_stands : LinksFound → LinksInRange → (p : Party) (peer : List ℕ) (way : Via) (l : LinkRec) → IsParty p → new_link p peer way ≡ Some l → LinkStands p l
+new_link_stands links in_range p peer way l w h = by_label (new_label way) h
+  where
+    by_label : (o : Option (List ℕ)) → new_link_at p peer o ≡ Some l → LinkStands p l
+    by_label None h = absurd (cc)
+    by_label (Some label) h = found_stands links in_range p (sends peer label) l w h

@@ -10,6 +10,8 @@ pub mod Decided
 pub mod Spent
 pub mod Unchanged
 pub mod LeftOut
+pub mod Settling
+pub mod Ranged
 pub mod SendingApart
 pub mod TwinKeys
 pub mod Rooms

@@ -1,6 +1,5 @@
--- Two keys that were sent at once: what the exchange tells of their records; and no edit of the one changes whether an edit
--- of the other makes a difference.
-use Rattle.std.proofs.Common.{arith, ◌≡◌, ◌≢◌, ◌+◌, ℕ, false, not, Option, Some, None, List, refl, sym, ◌∙◌, ap, subst}
+-- Two keys that were sent at once: what the exchange tells of their records, whose keys differ.
+use Rattle.std.proofs.Common.{arith, ◌≡◌, ◌≢◌, ◌+◌, ℕ, false, Option, Some, None, List, refl, sym, ◌∙◌, ap, subst}
 use Rattle.std.proofs.lemmas.Bool.{false_from_ne_true}
 use Rattle.x_base.specs.declared.key_name.KeyName.{KeyName}
 use Rattle.party_tables.specs.declared.exchange.Exchange.{Exchange}
@@ -14,7 +13,6 @@ use Rattle.party_tables.specs.Names.{name_behind}
 use Rattle.party_state.specs.State.{Party, record_with, exchange_with, apply_edit}
 use Rattle.role_base.specs.declared.exchanges.Twins.{Twins}
 use Rattle.role_base.specs.Exchanges.{record_of, both_of, twins_by, twins_in, twins_to}
-use Rattle.role_base.specs.Differing.{has_record, differs}
 use Rattle.role_base.proofs.PartyLaws.{KeysFound, KeyLaws, KeysInRange, key_put_same}
 use Rattle.party_tables.specs.Ranges.{IsRecord}
 use Rattle.party_state.specs.Ranges.{IsParty}
@@ -67,16 +65,14 @@ none_behind found in_range p peer name o w last n = n ∙ sym (go (record_of p p
 pub behind_other : (j k : RecordKey) → k.name ≡ name_behind j.name → k ≢ j
 behind_other j k e i = let count : k.name.count ≡ j.name.count + 1 = ap (λ (n : KeyName). n.count) e in let same : k.name.count ≡ j.name.count = ap (λ (z : RecordKey). z.name.count) i in omega (arith, count, same)
 
--- a record is put beside another
-pub key_beside : KeyLaws → (p : Party) (x m : KeyRec) → record_key m ≢ record_key x → differs (apply_edit (PutKey x) p) (PutKey m) ≡ differs p (PutKey m)
-key_beside keys p x m ne =
-    let other : same_record (record_key m) (record_key x) ≡ false = false_from_ne_true (same_record (record_key m) (record_key x)) (λ e. ne ((keys.same (record_key m) (record_key x)).0 e)) in
-    ap (λ (o : Option KeyRec). not (has_record o m)) (keys.put (record_key m) x p ∙ rw other refl)
+-- a record isn't another
+pub other_record : KeyLaws → (j k : RecordKey) → k ≢ j → same_record k j ≡ false
+other_record keys j k ne = false_from_ne_true (same_record k j) (λ e. ne ((keys.same k j).0 e))
 
 -- a record that was put stands, also where another is put behind it
 pub key_put_then : KeyLaws → (p : Party) (j k : KeyRec) → record_key k ≢ record_key j → record_with (record_key j) (apply_edit (PutKey k) (apply_edit (PutKey j) p)) ≡ Some j
 key_put_then keys p j k ne =
-    let other : same_record (record_key j) (record_key k) ≡ false = false_from_ne_true (same_record (record_key j) (record_key k)) (λ e. ne (sym ((keys.same (record_key j) (record_key k)).0 e))) in
+    let other : same_record (record_key j) (record_key k) ≡ false = other_record keys (record_key k) (record_key j) (λ e. ne (sym e)) in
     keys.put (record_key j) k (apply_edit (PutKey j) p) ∙ (rw other refl ∙ key_put_same keys j p)
 
 -- the records of a name, and of the one behind it

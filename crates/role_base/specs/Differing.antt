@@ -1,6 +1,6 @@
 -- The edits that make a difference to a party.
-use Rattle.std.specs.Prelude.{◌≡◌, ◌==◌, Bool, true, false, not, ◌&&◌, is_some, Option, Some, None, List, [], ◌∷◌, filter}
-use Rattle.std.specs.List.{list_any, AllByRecursion}
+use Rattle.std.specs.Prelude.{◌==◌, Bool, true, false, not, ◌&&◌, is_some, Option, Some, None, List, filter}
+use Rattle.std.specs.List.{list_any}
 use Rattle.party_tables.specs.declared.link.LinkRec.{LinkRec}
 use Rattle.party_tables.specs.declared.key.KeyRec.{KeyRec}
 use Rattle.party_tables.specs.declared.key.KeyStatus.{KeyStatus}
@@ -10,7 +10,7 @@ use Rattle.party_state.specs.declared.edit.Edit.{Edit}
 use Rattle.party_state.specs.declared.edit.Edit.TheVariants.{Begin, PutLink, DropLink, PutKey, DropEnded, PutExchange, DropExchange, PutAnswer, SetGen}
 use Rattle.party_tables.specs.Keys.{link_key, record_key, answer_key}
 use Rattle.party_tables.specs.Statuses.{is_ended}
-use Rattle.party_state.specs.State.{Party, apply_edit, same_pair, link_with, record_with, exchange_with, answer_with}
+use Rattle.party_state.specs.State.{Party, same_pair, link_with, record_with, exchange_with, answer_with}
 
 abbrev pub same_bool : Bool → Bool → Bool
 same_bool true b = b
@@ -66,12 +66,3 @@ always_differs _ = false
 -- the edits that make a difference
 unfoldable pub differing : Party → List Edit → List Edit
 differing p es = filter (differs p) es
-
--- each edit makes a difference to the one party exactly where it does to the other
-abbrev pub DiffersAlike : Party → Party → List Edit → Type 0
-DiffersAlike p q es = AllByRecursion (λ (e : Edit). differs p e ≡ differs q e) es
-
--- no edit changes whether a later one makes a difference
-abbrev pub AreApart : Party → List Edit → Type 0
-AreApart p [] = Unit {0}
-AreApart p (e ∷ es) = DiffersAlike (apply_edit e p) p es × AreApart (apply_edit e p) es

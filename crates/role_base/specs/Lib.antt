@@ -3,11 +3,13 @@ pub mod Conditions
 pub mod Exchanges
 pub mod Sending
 pub mod Differing
+pub mod Apart
 pub mod Failing
 pub mod Standing
 pub mod Replies
 pub mod Leads
 pub mod Deciding
+pub mod Ranged
 pub mod Errors
 pub mod Storable
 pub mod Load

@@ -12,8 +12,9 @@ ghost use Rattle.party_state.specs.declared.edit.Edit.TheVariants.{PutExchange};
 ghost use Rattle.party_tables.specs.declared.exchange.Exchange.{Exchange as TheExchange};
 ghost use Rattle.party_state.specs.State.{Party, apply_edit, apply};
 ghost use Rattle.party_state.specs.Verdicts.{Test};
-ghost use Rattle.role_base.specs.Beginning.{BeginsFree};
-ghost use Rattle.role_base.specs.Differing.{differs, always_differs, differing, AreApart};
+ghost use Rattle.role_base.specs.Beginning.{BeginsFree, AllBeginFree};
+ghost use Rattle.role_base.specs.Differing.{differs, always_differs, differing};
+ghost use Rattle.role_base.specs.Apart.{AreApart, AreDone, NoneDone};
 ghost use Rattle.role_base.specs.Load.{load, load_tests};
 ghost use Rattle.role_base.specs.Loading.{CanLoad, Loads};
 ghost use Rattle.role_base.specs.Order.{InOrder};
@@ -25,14 +26,14 @@ use x_gen::law_draws_odd;
 use x_seal::law_unwraps;
 
 /// An edit that makes no difference changes nothing. One that changes nothing makes no difference,
-/// but for an exchange that is put and a party that begins, which always do. Where no edit of a list
-/// changes whether a later one makes a difference, those that make none can be left out. An exchange
-/// that is put where none stands with its peer does change something.
+/// but for an exchange that is put and a party that begins, which always do. Of edits that are apart
+/// those that make none can be left out. An exchange that is put where none stands with its peer does
+/// change something.
 pub fn law_differing()
     ensures unchanged { (p : Party) (e : TheEdit) → differs p e ≡ false → apply_edit e p ≡ p }
     ensures needed { (p : Party) (e : TheEdit) → always_differs e ≡ false → apply_edit e p ≡ p → differs p e ≡ false }
     ensures begun { (p : Party) (e : TheExchange) → BeginsFree p (PutExchange e) → apply_edit (PutExchange e) p ≡ p → ⊥ }
-    ensures left_out { (p : Party) (es : List TheEdit) → AreApart p es → apply (differing p es) p ≡ apply es p }
+    ensures left_out { (p : Party) (es : List TheEdit) → AreApart es → apply (differing p es) p ≡ apply es p }
 {
     law_same();
     law_found();
@@ -40,6 +41,17 @@ pub fn law_differing()
     law_drop();
     law_stands();
     law_counts();
+}
+
+/// Of edits that are apart those that make a difference to one party are done, all of them, at each
+/// party behind them, so that they change nothing there. Where an exchange is put only with a peer
+/// with whom none stands, and no party begins, none of them is done at the party before.
+pub fn law_settling()
+    ensures done { (p q : Party) (es : List TheEdit) → AreApart es → AreDone (apply (differing p es) q) (differing p es) }
+    ensures undone { (p : Party) (es : List TheEdit) → AllBeginFree p es → NoneDone p (differing p es) }
+    ensures together { (p : Party) (es : List TheEdit) → AreDone p es → apply es p ≡ p }
+{
+    law_differing();
 }
 
 /// A key-encrypting key is loaded exactly where it can be; its tests are made in the order; and what

@@ -10,6 +10,7 @@ mod differing;
 mod edits;
 mod errors;
 mod exchanges;
+mod inputs;
 mod laws;
 mod leads;
 mod links;
@@ -32,11 +33,12 @@ pub use errors::{Counts, error_answer};
 pub use exchanges::{
     Sent, Twins, ending_with, is_waiting, new_link, record_behind, record_of, sent_by, twins_by,
 };
-pub use laws::{law_differing, law_loads, law_sends};
+pub use inputs::law_input;
+pub use laws::{law_differing, law_loads, law_sends, law_settling};
 pub use leads::{key_lead, lead_under};
 pub use links::{first_link, link_behind, link_with};
 pub use loading::{load, odd_pair};
 pub use names::{centre_label, direct_name, no_extras};
 pub use sending::{next_name, pending, send, used};
-pub use texts::{Written, is_right, is_verified};
+pub use texts::{Written, is_right};
 pub use verdicts::{is_accept, passes, verdict_after, verdict_of};

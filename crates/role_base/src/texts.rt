@@ -3,13 +3,13 @@ ghost use Rattle.std.specs.Prelude.{◌≡◌, ◌≤◌, length, IfOk};
 ghost use Rattle.csm_write.specs.Shortness.{free_length};
 ghost use Rattle.party_state.specs.Rows.Reply.{Coded, Plain, Again};
 ghost use Rattle.party_tables.specs.Ranges.{longest_text};
-ghost use Rattle.role_base.specs.Texts.{is_verified, is_right};
+ghost use Rattle.role_base.specs.Texts.{is_right};
 
 use csm_grammar::{Arrival, Message, Shut};
 use csm_write::{Closing, law_canon_short, write};
 use std::alloc::Global;
 use x_base::{FullName, NoMemory, Text};
-use x_mac::{edc, mac};
+use x_mac::edc;
 
 /// A text that a row writes, and the name of the key under which its code was made.
 #[derive(Drop)]
@@ -60,17 +60,6 @@ impl Written {
     {
         let text = text.copy(alloc)?;
         Ok(Written { text, under: None })
-    }
-}
-
-/// Whether the arrival's authentication code is made under this key of 64 bits.
-#[tactic(auto, unfolding(crate::specs::Texts::is_verified))]
-pub fn is_verified(arrival: &Arrival, key: u64) -> bool
-    ensures { result ≡ is_verified arrival.now key }
-{
-    match arrival.parsed.shut {
-        Shut::Mac(code) => mac(key, arrival.auth()) == code,
-        Shut::Edc(_) => false,
     }
 }
 

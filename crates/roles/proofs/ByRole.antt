@@ -1,22 +1,26 @@
 -- What is known of the rows of each role is known of every party's.
-use Rattle.std.proofs.Common.{◌≡◌, ◌↔◌, ◌⊎◌, ℕ, true, Option, None, List}
+use Rattle.std.proofs.Common.{◌≡◌, ◌↔◌, ◌⊎◌, ℕ, true, Option, None}
 use Rattle.x_base.specs.declared.party.Role.{Role}
 use Rattle.x_base.specs.declared.party.Role.TheVariants.{Bank, Distribution, Translation}
 use Rattle.csm_grammar.specs.declared.arrival.Arrival.{Arrival}
 use Rattle.party_state.specs.declared.command.Input.{Input}
 use Rattle.party_state.specs.declared.command.Input.TheVariants as input
 use Rattle.party_state.specs.declared.decision.Lead.{Lead}
-use Rattle.party_state.specs.declared.edit.Edit.{Edit}
 use Rattle.party_tables.specs.Keys.{link_key, same_link}
 use Rattle.party_tables.specs.Tables.{Distinct}
-use Rattle.party_state.specs.State.{Party, apply}
+use Rattle.party_state.specs.State.{Party}
 use Rattle.party_state.specs.Verdicts.{is_accept}
 use Rattle.party_state.specs.Rows.{Row}
+use Rattle.party_state.specs.Ranges.{IsParty}
+use Rattle.role_base.specs.Deciding.{decision_of}
+use Rattle.role_base.specs.Ranged.{IsInput, IsRanged}
 use Rattle.role_base.specs.Texts.{is_plain}
 use Rattle.role_base.specs.Errors.{is_early}
-use Rattle.role_base.specs.Differing.{differing, AreApart}
+use Rattle.role_base.specs.Beginning.{AllBeginFree}
+use Rattle.role_base.specs.Apart.{AreApart}
 use Rattle.bank_role.specs.Rows.{row_of}
 use Rattle.bank_role.specs.Leads.{lead_of}
+use Rattle.bank_role.specs.Deciding.{decided}
 use Rattle.distribution_role.specs.Rows.{distribution_row, distribution_lead}
 use Rattle.translation_role.specs.Rows.{translation_row, translation_lead}
 use Rattle.roles.specs.Rows.{row_by, row_at}
@@ -39,17 +43,40 @@ led bank distribution translation p a moment = go p.role
     go Distribution = distribution p a moment
     go Translation = translation p a
 
--- edits that make no difference can be left out
-abbrev LeavesOut : Party → List Edit → Type 0
-LeavesOut p es = apply (differing p es) p ≡ apply es p
+-- the edits of accepted rows are apart, and begin an exchange only with a peer with whom none stands
+pub record RowsApart : Type 0 where
+  pub bank : (p : Party) (i : Input) (moment : ℕ) → Distinct link_key same_link p.links → is_accept (row_of p i moment).verdict ≡ true → AreApart (row_of p i moment).edits
+  pub distribution : (p : Party) (i : Input) (moment : ℕ) → is_accept (distribution_row p i moment).verdict ≡ true → AreApart (distribution_row p i moment).edits
+  pub translation : (p : Party) (i : Input) → AreApart (translation_row p i).edits
 
-pub left_out : ((p : Party) (i : Input) (moment : ℕ) → Distinct link_key same_link p.links → is_accept (row_of p i moment).verdict ≡ true → LeavesOut p (row_of p i moment).edits)
-    → ((p : Party) (i : Input) (moment : ℕ) → is_accept (distribution_row p i moment).verdict ≡ true → AreApart p (distribution_row p i moment).edits)
-    → ((p : Party) (i : Input) → AreApart p (translation_row p i).edits) → ((p : Party) (es : List Edit) → AreApart p es → LeavesOut p es)
-    → (p : Party) (i : Input) (moment : ℕ) → Distinct link_key same_link p.links → is_accept (row_at p i moment).verdict ≡ true → LeavesOut p (row_at p i moment).edits
-left_out bank distribution translation apart p i moment once accepted = go p.role accepted
+pub record RowsBegin : Type 0 where
+  pub bank : (p : Party) (i : Input) (moment : ℕ) → is_accept (row_of p i moment).verdict ≡ true → AllBeginFree p (row_of p i moment).edits
+  pub distribution : (p : Party) (i : Input) (moment : ℕ) → AllBeginFree p (distribution_row p i moment).edits
+  pub translation : (p : Party) (i : Input) → AllBeginFree p (translation_row p i).edits
+
+pub row_apart : RowsApart → (p : Party) (i : Input) (moment : ℕ) → Distinct link_key same_link p.links → is_accept (row_at p i moment).verdict ≡ true → AreApart (row_at p i moment).edits
+row_apart rows p i moment once accepted = go p.role accepted
   where
-    go : (r : Role) → is_accept (row_by r p i moment).verdict ≡ true → LeavesOut p (row_by r p i moment).edits
-    go Bank e = bank p i moment once e
-    go Distribution e = apart p (distribution_row p i moment).edits (distribution p i moment e)
-    go Translation e = apart p (translation_row p i).edits (translation p i)
+    go : (r : Role) → is_accept (row_by r p i moment).verdict ≡ true → AreApart (row_by r p i moment).edits
+    go Bank e = rows.bank p i moment once e
+    go Distribution e = rows.distribution p i moment e
+    go Translation e = rows.translation p i
+
+pub row_begins : RowsBegin → (p : Party) (i : Input) (moment : ℕ) → is_accept (row_at p i moment).verdict ≡ true → AllBeginFree p (row_at p i moment).edits
+row_begins rows p i moment accepted = go p.role accepted
+  where
+    go : (r : Role) → is_accept (row_by r p i moment).verdict ≡ true → AllBeginFree p (row_by r p i moment).edits
+    go Bank e = rows.bank p i moment e
+    go Distribution e = rows.distribution p i moment
+    go Translation e = rows.translation p i
+
+-- a decision is in range
+pub ranged : ((p : Party) (i : Input) (moment : ℕ) → IsParty p → IsInput i → IsRanged p (decided p i moment)) → ((p : Party) (i : Input) (moment : ℕ) → IsParty p → IsInput i → IsRanged p (decision_of p (distribution_row p i moment)))
+    → ((p : Party) (i : Input) → IsParty p → IsInput i → IsRanged p (decision_of p (translation_row p i))) → (p : Party) (i : Input) (moment : ℕ) → IsParty p → IsInput i → IsRanged p (decision p i moment)
+unfolding decision
+ranged bank distribution translation p i moment w k = go p.role
+  where
+    go : (r : Role) → IsRanged p (decision_of p (row_by r p i moment))
+    go Bank = bank p i moment w k
+    go Distribution = distribution p i moment w k
+    go Translation = translation p i w k

@@ -1,3 +1,4 @@
 pub mod ByRole
+pub mod Settling
 pub mod Taking
 pub mod ByClass

@@ -16,6 +16,7 @@ use Rattle.party_state.specs.Verdicts.{Test, Held}
 use Rattle.party_state.specs.Rows.{Row}
 use Rattle.role_base.specs.Conditions.{is_for, other_class, body_issuer}
 use Rattle.role_base.specs.Deciding.{decision_of, Decides}
+use Rattle.role_base.specs.Ranged.{IsRanged}
 use Rattle.role_base.proofs.PartyLaws.{HeldAtAccept}
 use Rattle.bank_keys.specs.Taking.{Brings, CanTake, TakesKeys}
 use Rattle.bank_keys.specs.Passing.{Responds, CanPassOn, PassesKeys}
@@ -66,9 +67,9 @@ passes held bank p i moment = λ a m brought. by_role a m brought p.role refl
 -- what is known of every decision is known of one that is made
 
 pub decided_by : ((p : Party) (i : Input) (moment : ℕ) → TakesAsBank p i (decision p i moment)) → ((p : Party) (i : Input) (moment : ℕ) → PassesAsBank p i (decision p i moment))
-    → (p : Party) (i : Input) (moment : ℕ) (role : Role) (made : Result Decision NoMemory) → p.role ≡ role → Decides p (row_by role p i moment) made → IfOk made (IsDecided p i moment)
+    → (p : Party) (i : Input) (moment : ℕ) → IsRanged p (decision p i moment) → (role : Role) (made : Result Decision NoMemory) → p.role ≡ role → Decides p (row_by role p i moment) made → IfOk made (IsDecided p i moment)
 unfolding decision
-decided_by takes passes p i moment role (Ok d) r e =
+decided_by takes passes p i moment ranged role (Ok d) r e =
     let is : d ≡ decision_of p (row_at p i moment) = e.is ∙ ap (λ (x : Role). decision_of p (row_by x p i moment)) (sym r) in
-    record { is = is; kept = e.kept; complete = rw is (takes p i moment); passed_on = rw is (passes p i moment) }
-decided_by takes passes p i moment role (Err f) r e = tt
+    record { is = is; kept = e.kept; short = rw is ranged.short; complete = rw is (takes p i moment); passed_on = rw is (passes p i moment) }
+decided_by takes passes p i moment ranged role (Err f) r e = tt

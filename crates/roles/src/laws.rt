@@ -1,5 +1,5 @@
 // What is known of every party, by calls that do nothing.
-ghost use Rattle.std.specs.Prelude.{◌≡◌, ◌↔◌, ◌⊎◌, ℕ, true, false, None};
+ghost use Rattle.std.specs.Prelude.{◌≡◌, ◌↔◌, ◌⊎◌, ℕ, true, false, [], None};
 ghost use Rattle.x_base.specs.declared.verdict.Verdict.TheVariants.{Accept};
 ghost use Rattle.csm_grammar.specs.declared.arrival.Arrival.{Arrival as TheArrival};
 ghost use Rattle.party_state.specs.declared.command.Input.{Input as TheInput};
@@ -9,9 +9,12 @@ ghost use Rattle.party_tables.specs.Keys.{link_key, same_link};
 ghost use Rattle.party_tables.specs.Tables.{Distinct};
 ghost use Rattle.party_state.specs.State.{Party, apply_edit, apply};
 ghost use Rattle.party_state.specs.Verdicts.{is_accept};
+ghost use Rattle.party_state.specs.Ranges.{IsParty};
+ghost use Rattle.role_base.specs.Ranged.{IsInput, IsRanged};
 ghost use Rattle.role_base.specs.Texts.{is_plain};
 ghost use Rattle.role_base.specs.Errors.{is_early};
 ghost use Rattle.role_base.specs.Differing.{differs, always_differs, differing};
+ghost use Rattle.role_base.specs.Apart.{AreDone, NoneDone};
 ghost use Rattle.roles.specs.Rows.{row_at};
 ghost use Rattle.roles.specs.Leads.{lead_at};
 ghost use Rattle.roles.specs.Deciding.{decision};
@@ -42,9 +45,36 @@ pub fn law_differing()
         apply (differing p (row_at p i moment).edits) p ≡ apply (row_at p i moment).edits p }
 {
     role_base::law_differing();
-    bank_role::law_differing();
+    bank_role::law_apart();
     distribution_role::law_apart();
     translation_role::law_apart();
+}
+
+/// Of the change of each decision, at a party that has each link once, no edit is done at the party,
+/// and all are done at each party behind the change: so a change that isn't empty changes the party,
+/// and a change that is made twice leaves what it leaves when it is made once.
+pub fn law_settling()
+    ensures undone { (p : Party) (i : TheInput) (moment : ℕ) → NoneDone p (decision p i moment).change }
+    ensures done { (p q : Party) (i : TheInput) (moment : ℕ) → Distinct link_key same_link p.links → AreDone (apply (decision p i moment).change q) (decision p i moment).change }
+    ensures changes { (p : Party) (i : TheInput) (moment : ℕ) → Distinct link_key same_link p.links → apply (decision p i moment).change p ≡ p → (decision p i moment).change ≡ [] }
+    ensures twice { (p q : Party) (i : TheInput) (moment : ℕ) → Distinct link_key same_link p.links →
+        apply (decision p i moment).change (apply (decision p i moment).change q) ≡ apply (decision p i moment).change q }
+{
+    role_base::law_settling();
+    bank_role::law_apart();
+    distribution_role::law_apart();
+    translation_role::law_apart();
+}
+
+/// What a decision changes can be kept, each part of it in its range, so that it has a code, and what
+/// it writes has at most 1,024 bytes, where the parts of the party and of a command are in their
+/// ranges.
+pub fn law_ranged()
+    ensures { (p : Party) (i : TheInput) (moment : ℕ) → IsParty p → IsInput i → IsRanged p (decision p i moment) }
+{
+    bank_role::law_ranged();
+    distribution_role::law_ranged();
+    translation_role::law_ranged();
 }
 
 /// A key that a key service message brings, from a partner or a centre, alone or with a new

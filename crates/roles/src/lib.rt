@@ -6,5 +6,7 @@ mod laws;
 mod leads;
 
 pub use deciding::decide;
-pub use laws::{law_differing, law_lead, law_passing, law_serves, law_taking};
+pub use laws::{
+    law_differing, law_lead, law_passing, law_ranged, law_serves, law_settling, law_taking,
+};
 pub use leads::lead;

@@ -5,3 +5,4 @@ pub mod Early
 pub mod Serving
 pub mod Refusals
 pub mod Ordered
+pub mod TranslatedRanged

@@ -4,7 +4,8 @@ ghost use Rattle.csm_grammar.specs.declared.arrival.Arrival.{Arrival as TheArriv
 ghost use Rattle.party_state.specs.declared.command.Input.{Input as TheInput};
 ghost use Rattle.party_state.specs.State.{Party};
 ghost use Rattle.role_base.specs.Texts.{is_plain};
-ghost use Rattle.role_base.specs.Differing.{AreApart};
+ghost use Rattle.role_base.specs.Beginning.{AllBeginFree};
+ghost use Rattle.role_base.specs.Apart.{AreApart};
 ghost use Rattle.role_base.specs.Errors.{is_early};
 ghost use Rattle.translation_role.specs.Rows.{translation_message, translation_lead, translation_row};
 ghost use Rattle.translation_role.specs.Serving.{TranslatesExactly, ReturnsKeys, AnswersLow, AnswersSpent, AnswersNoOther};
@@ -13,10 +14,11 @@ use csm_grammar::law_arrived;
 use party_state::{law_accept, law_found, law_put, law_same};
 use x_seal::{law_keys_below, law_unseals};
 
-/// No edit of a row changes whether a later one makes a difference: the two links that a translation
-/// puts have different sides.
+/// The edits of a row are apart: the two links that a translation puts have different sides. No row
+/// begins an exchange.
 pub fn law_apart()
-    ensures { (p : Party) (i : TheInput) → AreApart p (translation_row p i).edits }
+    ensures apart { (p : Party) (i : TheInput) → AreApart (translation_row p i).edits }
+    ensures begins { (p : Party) (i : TheInput) → AllBeginFree p (translation_row p i).edits }
 {
     law_same();
     law_found();

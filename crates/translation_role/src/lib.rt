@@ -5,13 +5,12 @@
 mod deciding;
 mod laws;
 mod leads;
+mod ranged;
 mod served;
 mod service;
 
 pub use deciding::decide;
 pub use laws::{law_apart, law_lead, law_refused_counts, law_translates};
 pub use leads::lead;
+pub use ranged::law_ranged;
 pub use served::{law_order, law_serves};
-
-#[cfg(test)]
-mod tests;

@@ -1,11 +1,11 @@
--- A key name is read where its parts between periods are those of a name.
-use Rattle.std.proofs.Common.{◌≡◌, ℕ, Bool, true, false, List, [], ◌∷◌, Option, Some, None, Result, Ok, Err, refl, sym}
-use Rattle.std.specs.Prelude.{◌↔◌, nat_lt}
+-- A count is read where its digits spell one, and a key name where its parts between periods are those of a name.
+use Rattle.std.proofs.Common.{◌≡◌, ℕ, Bool, true, false, List, [], ◌∷◌, Option, Some, None, Result, Ok, Err, refl, sym, ap, OkIff}
+use Rattle.std.specs.Prelude.{◌↔◌, nat_lt, if◌then◌else◌}
 use Rattle.std.specs.Bool.{Decides}
 use Rattle.std.specs.Result.{result_ok}
 use Rattle.std.specs.List.{list_all, join_with_byte}
 use Rattle.std.specs.Char.{digit_value}
-use Rattle.std.specs.Str.Parse.{AllDigits}
+use Rattle.std.specs.Str.Parse.{AllDigits, digits_value}
 use Rattle.std.proofs.lemmas.Bool.{both_ways, and_parts, and_from, eqb-false, ne_eqb, not-true, not_from_false, ltb-true, lt-ltb, leb-true, le-leb}
 use Rattle.std.proofs.lemmas.List.Splits.{join_with_byte-slice_split}
 use Rattle.x_base.specs.Names.{is_name}
@@ -15,6 +15,7 @@ use Rattle.x_base.specs.declared.key_name.KeyName.{KeyName}
 use Rattle.x_base.specs.declared.key_name.NameFault.{NameFault}
 use Rattle.x_base.specs.declared.key_name.NameFault.TheVariants.{BadIdent, BadLabel, BadCount}
 use Rattle.csm_grammar.specs.Values.{is_count, name_of, name_of_parts}
+use Rattle.x_values.specs.Words.{count_of}
 
 digits_tell : (c : List ℕ) → Decides (list_all (λ b. nat_lt (digit_value b) 10) c) (AllDigits 10 c)
 digits_tell [] = (λ h. tt, λ h. refl)
@@ -29,6 +30,15 @@ count_tells c =
           record { filled = leb-true _ _ l.0; short = leb-true _ _ l.1; digits = d.0 m.0; value = eqb-false _ _ (not-true _ m.1) }),
       λ h. and_from _ _ (and_from _ _ (le-leb _ _ h.filled) (le-leb _ _ h.short)) (and_from _ _ (d.1 h.digits) (not_from_false _ (ne_eqb _ _ h.value))),
     )
+
+pub count_read : {E : Type 0} (c : List ℕ) (r : Result ℕ E) → OkIff r (SpellsCount c) (digits_value 10 c) → result_ok r ≡ count_of c
+count_read {E} c r read = go (is_count c) refl r read
+  where
+    go : (b : Bool) → is_count c ≡ b → (r : Result ℕ E) → OkIff r (SpellsCount c) (digits_value 10 c) → result_ok r ≡ (if b then Some (digits_value 10 c) else None)
+    go true is (Ok n) read = ap Some read.1
+    go false is (Ok n) read = absurd (both_ways (is_count c) is ((count_tells c).1 read.0))
+    go true is (Err e) read = absurd (read ((count_tells c).0 is))
+    go false is (Err e) read = refl
 
 -- what the parts between periods are: a name, or at fault
 abbrev Judged : List ℕ → List (List ℕ) → Option KeyName → Type 0

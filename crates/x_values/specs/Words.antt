@@ -19,6 +19,10 @@ ident_of word = if is_name 4 16 word then Some word else None
 abbrev pub label_of : List ℕ → Option (List ℕ)
 label_of word = if is_name 1 16 word then Some word else None
 
+-- a count, as it is spelled in a message: 1 to 14 digits, with leading zeros too
+abbrev pub count_of : List ℕ → Option ℕ
+count_of digits = if message.is_count digits then Some (digits_value 10 digits) else None
+
 -- the name of a key, as it is spelled in a message
 abbrev pub key_name_of : List ℕ → Option KeyName
 key_name_of word = message.name_of word

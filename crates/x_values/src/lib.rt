@@ -6,5 +6,5 @@ mod names;
 mod numbers;
 
 pub use keys::{key, pair};
-pub use names::{ident, key_name, label};
+pub use names::{count, ident, key_name, label};
 pub use numbers::{number, plain_number, plain_number_within};

@@ -1,7 +1,7 @@
 ghost use Rattle.std.specs.Prelude.{◌≡◌};
-ghost use Rattle.x_values.specs.Words.{ident_of, key_name_of, label_of};
+ghost use Rattle.x_values.specs.Words.{count_of, ident_of, key_name_of, label_of};
 
-use x_base::{Ident, KeyName, Label};
+use x_base::{Count, Ident, KeyName, Label};
 
 /// An identity.
 pub fn ident(word: &[u8]) -> Option<Ident>
@@ -15,6 +15,14 @@ pub fn label(word: &[u8]) -> Option<Label>
     ensures { result ≡ label_of word.now }
 {
     Label::read(word).ok()
+}
+
+/// A count of 1 to 14 decimal digits, with leading zeros too.
+#[tactic(auto, using(crate::proofs::Naming::count_read))]
+pub fn count(word: &[u8]) -> Option<Count>
+    ensures { result ≡ count_of word.now }
+{
+    Count::read(word).ok()
 }
 
 /// The name of a key.

@@ -1,4 +1,4 @@
-use Rattle.role_base.proofs.CentresApart.{order_apart}
+use Rattle.role_base.proofs.CentresApart.{order_apart, order_begins}
 use Rattle.role_base.proofs.CentreRefusals.{commands_exactly, other_commands}
 use Rattle.role_base.proofs.centre_laws.law_commands.Goals as goal
 
@@ -10,3 +10,6 @@ returns-clause-others c = other_commands
 
 pub returns-clause-apart : goal.returns-clause-apart
 returns-clause-apart c = order_apart
+
+pub returns-clause-begins : goal.returns-clause-begins
+returns-clause-begins c = order_begins
