@@ -19,6 +19,7 @@ use Rattle.party_state.specs.State.{Party, begun, apply, apply_edit}
 use Rattle.party_tables.proofs.Tables.{IsTest}
 use Rattle.party_tables.proofs.Keys.{test_idents, test_links, test_records, test_answers}
 use Rattle.party_state.proofs.Editing.{apply_append}
+use Rattle.change_code.specs.declared.format.Format.{Format}
 use Rattle.change_code.specs.Code.{IsCode, most_edits}
 use Rattle.change_code.specs.Whole.{row_edits, whole_edits, whole_of}
 
@@ -36,7 +37,7 @@ none_of {R} key same k (r ∷ front) x rest absent = go (same k (key r)) absent 
     go false h ih = ih h
 
 -- a row whose key the rows before don't have is put behind them
-put_behind : {R K : Type 0} (key : R → K) (same : K → K → Bool) → IsTest same → (front : List R) (x : R) (rest : List R) → Distinct key same (front ++ x ∷ rest) → put_row key same x front ≡ front ++ x ∷ []
+pub put_behind : {R K : Type 0} (key : R → K) (same : K → K → Bool) → IsTest same → (front : List R) (x : R) (rest : List R) → Distinct key same (front ++ x ∷ rest) → put_row key same x front ≡ front ++ x ∷ []
 put_behind key same law [] x rest d = refl
 put_behind {R} {K} key same law (r ∷ front) x rest d = go (same (key x) (key r)) refl (put_behind key same law front x rest d.1)
   where
@@ -167,5 +168,5 @@ module _ (p : Party) where
       (All-map InRange (λ x. PutAnswer x) p.answers is.answers))))
 
 -- and it is a code where it has few enough edits
-pub whole_is_code : (p : Party) (edits : ℕ) → IsParty p → edits ≡ length (whole_edits p) → (edits ≤ most_edits) → IsCode (whole_of p) (whole_edits p)
-whole_is_code p edits is count few = record { few = subst (λ (n : ℕ). n ≤ most_edits) count few; in_range = whole_in_range p is; is = refl }
+pub whole_is_code : (format : Format) (p : Party) (edits : ℕ) → IsParty p → edits ≡ length (whole_edits p) → (edits ≤ most_edits) → IsCode format (whole_of format p) (whole_edits p)
+whole_is_code format p edits is count few = record { few = subst (λ (n : ℕ). n ≤ most_edits) count few; in_range = whole_in_range p is; is = refl }

@@ -1,16 +1,18 @@
 -- Lists of edits, and changes.
-use Rattle.std.proofs.Common.{◌≡◌, ℕ, zero, suc, ◌+◌, ◌<◌, ◌^◌, nat_eq, true, false, List, [], ◌∷◌, ◌++◌, length, take, Some, Err, refl, sym, ap, ◌∙◌, subst, arith, append_assoc, append-nil, add-one, length-append}
+use Rattle.std.proofs.Common.{◌≡◌, ℕ, zero, suc, ◌+◌, ◌<◌, ◌≤◌, ◌^◌, nat_eq, true, false, List, [], ◌∷◌, ◌++◌, length, take, Some, Err, refl, sym, ap, ◌∙◌, subst, arith, append_assoc, append-nil, add-one, length-append}
 use Rattle.std.specs.List.{slice_get}
 use Rattle.std.proofs.lemmas.List.Concat.{flat_map-append}
 use Rattle.std.proofs.lemmas.List.Elements.{All-push, All-head, All-tail}
 use Rattle.party_state.specs.declared.edit.Edit.{Edit}
 use Rattle.party_state.specs.Ranges.{InRange, AreInRange, IsFitting, AreFitting}
-use Rattle.change_code.specs.Code.{two, edit_code, edits_code, IsCodeIn, IsCode}
-use Rattle.change_code.specs.Reading.{Lacks, StartsWith, IsDecoded, edit_form, edits_form}
+use Rattle.change_code.specs.declared.format.Format.{Format}
+use Rattle.change_code.specs.Code.{two, edit_code, edits_code, change_text, number_of, closing, code_of_change, most_edits, IsCode}
+use Rattle.change_code.specs.Reading.{Lacks, StartsWith, IsDecoded, IsAllRead, edit_form, edits_form, change_form}
 use Rattle.change_code.specs.declared.fault.CodeFault.{CodeFault}
 use Rattle.change_code.specs.declared.fault.CodeFault.TheVariants.{Bad, NoMemory}
 use Rattle.change_code.proofs.Numbers.{two_apart, two_long}
 use Rattle.change_code.proofs.EditForms.{edit_apart}
+use Rattle.change_code.proofs.Closings.{number_apart}
 
 pub fits_at : (edits : List Edit) (i : ℕ) (edit : Edit) → AreFitting edits → slice_get edits i ≡ Some edit → IsFitting edit
 fits_at [] i edit all is = absurd (cc is)
@@ -70,18 +72,26 @@ begins_edit i old rest more done edit before begins = record {
   is = before.is ∙ (ap (λ (l : List ℕ). edits_code done ++ l) begins.is ∙ (sym (append_assoc (edits_code done) (edit_code edit) more) ∙ ap (λ (l : List ℕ). l ++ more) (sym (pushed done edit))));
 }
 
-two_changes : (format : ℕ) (bytes : List ℕ) (first second : List Edit) → IsCodeIn format bytes first → IsCodeIn format bytes second → first ≡ second
-two_changes format bytes first second one other =
-    let tails : two (length first) ++ edits_code first ≡ two (length second) ++ edits_code second = cc (sym one.is ∙ other.is) in
-    let counts = two_apart (length first) (length second) (edits_code first) (edits_code second) (omega (arith, one.few)) (omega (arith, other.few)) tails in
-    let ends : edits_code first ++ [] ≡ edits_code second ++ [] = append-nil (edits_code first) ∙ (counts.1 ∙ sym (append-nil (edits_code second))) in
-    (same_edits first second [] [] one.in_range other.in_range counts.0 ends).0
+-- texts of changes with anything behind them
+two_texts : (first second : List Edit) (r s : List ℕ) → length first ≤ most_edits → length second ≤ most_edits → AreInRange first → AreInRange second
+    → change_text first ++ r ≡ change_text second ++ s → first ≡ second
+two_texts first second r s few few' all all' is =
+    let texts : two (length first) ++ (edits_code first ++ r) ≡ two (length second) ++ (edits_code second ++ s)
+    = sym (append_assoc (two (length first)) (edits_code first) r) ∙ (is ∙ append_assoc (two (length second)) (edits_code second) s) in
+    let counts = two_apart (length first) (length second) (edits_code first ++ r) (edits_code second ++ s) (omega (arith, few)) (omega (arith, few')) texts in
+    (same_edits first second r s all all' counts.0 counts.1).0
 
-pub one_change : (bytes : List ℕ) (first second : List Edit) → IsCode bytes first → IsCode bytes second → first ≡ second
-one_change bytes first second one other = two_changes 1 bytes first second one other
+pub one_change : (f g : Format) (bytes : List ℕ) (first second : List Edit) → IsCode f bytes first → IsCode g bytes second → (f ≡ g) × (first ≡ second)
+one_change f g bytes first second one other =
+    let codes : code_of_change f first ≡ code_of_change g second = sym one.is ∙ other.is in
+    let numbers : number_of f ≡ number_of g = cc codes in
+    let texts : change_text first ++ closing f (number_of f ∷ change_text first) ≡ change_text second ++ closing g (number_of g ∷ change_text second) = cc codes in (
+      number_apart f g numbers,
+      two_texts first second (closing f (number_of f ∷ change_text first)) (closing g (number_of g ∷ change_text second)) one.few other.few one.in_range other.in_range texts,
+    )
 
-pub one_code : (first second : List ℕ) (edits : List Edit) → IsCode first edits → IsCode second edits → first ≡ second
-one_code first second edits one other = one.is ∙ sym other.is
+pub one_code : (format : Format) (first second : List ℕ) (edits : List Edit) → IsCode format first edits → IsCode format second edits → first ≡ second
+one_code format first second edits one other = one.is ∙ sym other.is
 
 pub refused_edit : (fault : CodeFault) (n i : ℕ) (old rest more after : List ℕ) (done : List Edit) → i < n → StartsWith (edits_form i) old rest done → IsDecoded edit_form rest more (Err fault)
     → IsDecoded (edits_form n) old after (Err fault)
@@ -89,27 +99,23 @@ refused_edit Bad n i old rest more after done few begins lacks = lacks_edit n i 
 refused_edit NoMemory n i old rest more after done few begins lacks = tt
 
 abbrev pub IsNone : List ℕ → Type 0
-IsNone bytes = (format : ℕ) (edits : List Edit) → IsCodeIn format (format ∷ bytes) edits → ⊥
-
-behind : (format : ℕ) (bytes : List ℕ) (edits : List Edit) → IsCodeIn format (format ∷ bytes) edits → bytes ≡ two (length edits) ++ edits_code edits
-behind format bytes edits code = cc code.is
+IsNone bytes = (edits : List Edit) → change_form.Fits edits → bytes ≡ change_text edits → ⊥
 
 pub none_short : (bytes : List ℕ) → length bytes < 2 → IsNone bytes
-none_short bytes few format edits code =
-    omega (arith, few, ap length (behind format bytes edits code), length-append (two (length edits)) (edits_code edits), two_long (length edits))
+none_short bytes few edits fits is = omega (arith, few, ap length is, length-append (two (length edits)) (edits_code edits), two_long (length edits))
 
-same_count : (bytes rest : List ℕ) (n format : ℕ) (edits : List Edit) → n < 2 ^ 16 → bytes ≡ two n ++ rest → IsCodeIn format (format ∷ bytes) edits → (n ≡ length edits) × (rest ≡ edits_code edits)
-same_count bytes rest n format edits small is code = two_apart n (length edits) rest (edits_code edits) small (omega (arith, code.few)) (sym is ∙ behind format bytes edits code)
+same_count : (bytes rest : List ℕ) (n : ℕ) (edits : List Edit) → n < 2 ^ 16 → bytes ≡ two n ++ rest → length edits ≤ most_edits → bytes ≡ change_text edits → (n ≡ length edits) × (rest ≡ edits_code edits)
+same_count bytes rest n edits small is few text = two_apart n (length edits) rest (edits_code edits) small (omega (arith, few)) (sym is ∙ text)
 
-pub none_lacking : (fault : CodeFault) (bytes rest more : List ℕ) (n : ℕ) → n < 2 ^ 16 → bytes ≡ two n ++ rest → IsDecoded (edits_form n) rest more (Err fault) → fault ≡ Bad → IsNone bytes
-none_lacking NoMemory bytes rest more n small is lacks bad format edits code = cc bad
-none_lacking Bad bytes rest more n small is lacks bad format edits code =
-    let same = same_count bytes rest n format edits small is code in
-    lacks.none edits [] (sym same.0, code.in_range) (same.1 ∙ sym (append-nil (edits_code edits)))
+pub none_lacking : (fault : CodeFault) (bytes rest more : List ℕ) (n : ℕ) → n < 2 ^ 16 → bytes ≡ two n ++ rest → IsDecoded (edits_form n) rest more (Err fault) → IsAllRead change_form bytes (Err fault)
+none_lacking NoMemory bytes rest more n small is lacks = tt
+none_lacking Bad bytes rest more n small is lacks = λ edits fits text.
+    let same = same_count bytes rest n edits small is fits.0 text in
+    lacks.none edits [] (sym same.0, fits.1) (same.1 ∙ sym (append-nil (edits_code edits)))
 
 pub none_longer : (bytes rest more : List ℕ) (n : ℕ) (done : List Edit) → n < 2 ^ 16 → bytes ≡ two n ++ rest → StartsWith (edits_form n) rest more done → nat_eq (length more) 0 ≡ false → IsNone bytes
-none_longer bytes rest more n done small is begins some format edits code =
-    let same = same_count bytes rest n format edits small is code in
-    let both = same_edits done edits more [] begins.fits.1 code.in_range (begins.fits.0 ∙ same.0) (sym begins.is ∙ (same.1 ∙ sym (append-nil (edits_code edits)))) in
+none_longer bytes rest more n done small is begins some edits fits text =
+    let same = same_count bytes rest n edits small is fits.0 text in
+    let both = same_edits done edits more [] begins.fits.1 fits.1 (begins.fits.0 ∙ same.0) (sym begins.is ∙ (same.1 ∙ sym (append-nil (edits_code edits)))) in
     let never : true ≡ false = subst (λ (k : ℕ). nat_eq k 0 ≡ false) (ap length both.1) some in
     cc never

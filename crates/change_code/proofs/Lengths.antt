@@ -23,8 +23,10 @@ use Rattle.party_state.specs.declared.edit.Edit.{Edit}
 use Rattle.party_state.specs.declared.edit.Edit.TheVariants.{Begin, PutLink, DropLink, PutKey, DropEnded, PutExchange, DropExchange, PutAnswer, SetGen}
 use Rattle.party_tables.specs.Ranges.{IsLink, IsRecord, IsVia, IsKind, IsExchange, IsCentreAnswer, longest_text}
 use Rattle.party_state.specs.Ranges.{InRange, AreInRange}
-use Rattle.change_code.specs.Code.{two, eight, short, name_code, pair_code, role_code, side_code, status_code, flag_code, link_code, key_code, via_code, kind_code, exchange_code, answer_code, edit_code, edits_code, code_of_change, head_length, longest_edit}
+use Rattle.change_code.specs.declared.format.Format.{Format}
+use Rattle.change_code.specs.Code.{two, eight, short, name_code, pair_code, role_code, side_code, status_code, flag_code, link_code, key_code, via_code, kind_code, exchange_code, answer_code, edit_code, edits_code, change_text, number_of, closing, code_of_change, head_length, end_length, longest_edit}
 use Rattle.change_code.proofs.Numbers.{two_long, eight_long}
+use Rattle.change_code.proofs.Closings.{closing_long}
 
 -- so many bytes at most
 record Within (n : ℕ) (bytes : List ℕ) : Type 0 where
@@ -120,5 +122,10 @@ edits_short (e ∷ es) h = grown (length es) _ (join longest_edit (longest_edit 
     grown : (n : ℕ) (bytes : List ℕ) → Within (longest_edit + longest_edit * n) bytes → Within (longest_edit * suc n) bytes
     grown n bytes h = record { most = omega (arith, h.most) }
 
-pub short_code : (es : List Edit) → AreInRange es → length (code_of_change es) ≤ head_length + longest_edit * length es
-short_code es h = let all = (tagged (2 + longest_edit * length es) 1 _ (join 2 (longest_edit * length es) _ _ (two_bytes (length es)) (edits_short es h))).most in omega (arith, all)
+pub short_code : (format : Format) (es : List Edit) → AreInRange es → length (code_of_change format es) ≤ head_length + longest_edit * length es + end_length format
+short_code format es h =
+    let text = number_of format ∷ change_text es in
+    let all = (tagged (2 + longest_edit * length es) (number_of format) _ (join 2 (longest_edit * length es) _ _ (two_bytes (length es)) (edits_short es h))).most in
+    let both = length-append text (closing format text) in
+    let last = closing_long format text in
+    omega (arith, all, both, last)

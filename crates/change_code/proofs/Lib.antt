@@ -1,9 +1,10 @@
-mod Joining
-mod Numbers
+pub mod Joining
+pub mod Numbers
+mod Closings
 mod Lengths
-mod Names
+pub mod Names
 mod Tags
-mod RowForms
+pub mod RowForms
 mod ExchangeForms
 mod EditForms
 pub mod Changes

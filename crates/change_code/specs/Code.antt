@@ -1,12 +1,13 @@
 -- The code of a change (this project's profile). Numbers are most significant byte first.
 use Rattle.std.specs.Prelude.{◌≡◌, ◌≤◌, ℕ, Bool, true, false, Option, Some, None, List, [], ◌∷◌, ◌++◌, length}
-use Rattle.std.specs.Int.{w16, w64, to_be_bytes}
+use Rattle.std.specs.Int.{w16, w32, w64, to_be_bytes}
 use Rattle.std.specs.List.{flat_map}
 use Rattle.x_base.specs.declared.key_name.KeyName.{KeyName}
 use Rattle.x_base.specs.declared.party.Role.{Role}
 use Rattle.x_base.specs.declared.party.Role.TheVariants as role
 use Rattle.x_base.specs.declared.party.Side.{Side}
 use Rattle.x_base.specs.declared.party.Side.TheVariants.{Sends, Takes}
+use Rattle.x_mac.specs.Code.{edc_of}
 use Rattle.x_mac.specs.declared.pair.Pair.{Pair}
 use Rattle.x_gen.specs.declared.generator.Gen.{Gen}
 use Rattle.party_tables.specs.declared.link.LinkRec.{LinkRec}
@@ -22,11 +23,16 @@ use Rattle.party_tables.specs.declared.answer.Answer.{Answer}
 use Rattle.party_state.specs.declared.edit.Edit.{Edit}
 use Rattle.party_state.specs.declared.edit.Edit.TheVariants.{Begin, PutLink, DropLink, PutKey, DropEnded, PutExchange, DropExchange, PutAnswer, SetGen}
 use Rattle.party_state.specs.Ranges.{AreInRange}
+use Rattle.change_code.specs.declared.format.Format.{Format}
+use Rattle.change_code.specs.declared.format.Format.TheVariants.{One, Two}
 
 -- pieces
 
 unfoldable pub two : ℕ → List ℕ
 two n = to_be_bytes w16 n
+
+unfoldable pub four : ℕ → List ℕ
+four n = to_be_bytes w32 n
 
 unfoldable pub eight : ℕ → List ℕ
 eight n = to_be_bytes w64 n
@@ -119,35 +125,49 @@ edits_code edits = flat_map edit_code edits
 abbrev pub most_edits : ℕ
 most_edits = 65535
 
--- how many bytes stand in front of the edits, and how many an edit has at most
-abbrev pub head_length : ℕ
-head_length = 3
-
+-- how many bytes an edit has at most
 abbrev pub longest_edit : ℕ
 longest_edit = 1200
 
--- the number of the format that is written
-abbrev pub format : ℕ
-format = 1
+-- the number of edits, and the edits
+abbrev pub change_text : List Edit → List ℕ
+change_text edits = two (length edits) ++ edits_code edits
 
--- a change in the format of this number: the number, the number of edits, and the edits
-abbrev pub code_in : ℕ → List Edit → List ℕ
-code_in number edits = number ∷ (two (length edits) ++ edits_code edits)
+-- the byte with which a code in a format begins
+abbrev pub number_of : Format → ℕ
+number_of One = 1
+number_of Two = 2
 
--- the same in the format that is written
-abbrev pub code_of_change : List Edit → List ℕ
-code_of_change edits = code_in format edits
+-- what stands behind a text in a format: nothing, or its error detection code
+abbrev pub closing : Format → List ℕ → List ℕ
+closing One text = []
+closing Two text = four (edc_of text)
 
--- the bytes are the code in the format of this number of this change, in which each part is in its range
-pub record IsCodeIn (number : ℕ) (bytes : List ℕ) (edits : List Edit) : Type 0 where
+-- a text, and what stands behind it
+abbrev pub closed : Format → List ℕ → List ℕ
+closed format text = text ++ closing format text
+
+-- a change in a format
+abbrev pub code_of_change : Format → List Edit → List ℕ
+code_of_change format edits = closed format (number_of format ∷ change_text edits)
+
+-- how many bytes stand in front of the edits, and how many behind them
+abbrev pub head_length : ℕ
+head_length = 3
+
+abbrev pub end_length : Format → ℕ
+end_length One = 0
+end_length Two = 4
+
+abbrev pub longest_end : ℕ
+longest_end = 4
+
+-- the bytes are the code in this format of this change, in which each part is in its range
+pub record IsCode (format : Format) (bytes : List ℕ) (edits : List Edit) : Type 0 where
   pub few : length edits ≤ most_edits
   pub in_range : AreInRange edits
-  pub is : bytes ≡ code_in number edits
+  pub is : bytes ≡ code_of_change format edits
 
--- the same in the format that is written
-abbrev pub IsCode : List ℕ → List Edit → Type 0
-IsCode bytes edits = IsCodeIn format bytes edits
-
--- the bytes are the code of no change
+-- the bytes are the code of no change, in either format
 abbrev pub IsNoCode : List ℕ → Type 0
-IsNoCode bytes = (edits : List Edit) → IsCode bytes edits → ⊥
+IsNoCode bytes = (format : Format) (edits : List Edit) → IsCode format bytes edits → ⊥

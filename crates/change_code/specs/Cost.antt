@@ -3,6 +3,8 @@ use Rattle.std.specs.Prelude.{ℕ, ◌+◌, ◌-◌, nat_le, Bool, true, false, 
 use Rattle.key_journal.specs.Layout.{area_size, largest_body}
 use Rattle.party_state.specs.declared.edit.Edit.{Edit}
 use Rattle.party_state.specs.State.{Party}
+use Rattle.change_code.specs.declared.format.Format.{Format}
+use Rattle.change_code.specs.declared.space.Space.{Space}
 use Rattle.change_code.specs.Code.{most_edits, code_of_change}
 use Rattle.change_code.specs.Whole.{whole_edits, whole_of}
 
@@ -13,23 +15,27 @@ is_change (e ∷ es) = true
 
 -- how many bytes of an area a change takes: its gate, the length of its code in four bytes, and the code; none where
 -- nothing changes
-abbrev pub cost : List Edit → ℕ
-cost [] = 0
-cost (e ∷ es) = length (code_of_change (e ∷ es)) + 5
+abbrev pub cost : Format → List Edit → ℕ
+cost format [] = 0
+cost format (e ∷ es) = length (code_of_change format (e ∷ es)) + 5
 
--- a change fits into so much room where a gate is left behind it; none always does
-abbrev pub fits : ℕ → List Edit → Bool
-fits room [] = true
-fits room (e ∷ es) = nat_le (cost (e ∷ es) + 1) room
+-- a change fits into a space where a gate is left behind it; none always does
+abbrev pub fits : Space → List Edit → Bool
+fits space [] = true
+fits space (e ∷ es) = nat_le (cost space.format (e ∷ es) + 1) space.room
 
--- the room that a change leaves
-abbrev pub room_after : ℕ → List Edit → ℕ
-room_after room es = room - cost es
+-- the space that a change leaves
+abbrev pub space_after : Space → List Edit → Space
+space_after space es = record { format = space.format; room = space.room - cost space.format es }
+
+-- the space of an area in which nothing is kept yet
+abbrev pub whole_area : Format → Space
+whole_area format = record { format = format; room = area_size }
 
 -- the whole party can be kept as one change
-abbrev pub can_compact : Party → Bool
-can_compact p = nat_le (length (whole_edits p)) most_edits && nat_le (length (whole_of p)) largest_body
+abbrev pub can_compact : Format → Party → Bool
+can_compact format p = nat_le (length (whole_edits p)) most_edits && nat_le (length (whole_of format p)) largest_body
 
--- the room of an area in which it is kept so
-abbrev pub room_of_whole : Party → ℕ
-room_of_whole p = room_after area_size (whole_edits p)
+-- the space of an area in which it is kept so
+abbrev pub space_of_whole : Format → Party → Space
+space_of_whole format p = space_after (whole_area format) (whole_edits p)

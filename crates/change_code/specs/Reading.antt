@@ -21,7 +21,7 @@ use Rattle.party_tables.specs.Ranges.{IsWord, IsPair, IsNextCount, IsLink, IsRec
 use Rattle.party_state.specs.Ranges.{IsGen, InRange, AreInRange}
 use Rattle.change_code.specs.declared.fault.CodeFault.{CodeFault}
 use Rattle.change_code.specs.declared.fault.CodeFault.TheVariants.{Bad, NoMemory}
-use Rattle.change_code.specs.Code.{eight, short, long, name_code, pair_code, gen_code, role_code, side_code, status_code, flag_code, maybe_code, link_code, key_code, via_code, kind_code, exchange_code, answer_code, edit_code, edits_code}
+use Rattle.change_code.specs.Code.{eight, short, long, name_code, pair_code, gen_code, role_code, side_code, status_code, flag_code, maybe_code, link_code, key_code, via_code, kind_code, exchange_code, answer_code, edit_code, edits_code, change_text, most_edits}
 
 -- how a kind of value is coded, and its range
 pub record Form (T : Type 0) : Type 1 where
@@ -136,3 +136,13 @@ edit_form = record { code = edit_code; Fits = InRange }
 -- so many edits
 abbrev pub edits_form : ℕ → Form (List Edit)
 edits_form n = record { code = edits_code; Fits = λ edits. (length edits ≡ n) × AreInRange edits }
+
+-- a change, which all bytes are
+abbrev pub change_form : Form (List Edit)
+change_form = record { code = change_text; Fits = λ edits. (length edits ≤ most_edits) × AreInRange edits }
+
+-- the bytes are the code of this value in range, and nothing stands behind it; or there is none
+abbrev pub IsAllRead : {T : Type 0} → Form T → List ℕ → Result T CodeFault → Type 0
+IsAllRead form bytes (Ok x) = form.Fits x × (bytes ≡ form.code x)
+IsAllRead {T} form bytes (Err Bad) = (x : T) → form.Fits x → bytes ≡ form.code x → ⊥
+IsAllRead form bytes (Err NoMemory) = Unit {0}

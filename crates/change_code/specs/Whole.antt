@@ -4,6 +4,7 @@ use Rattle.key_journal.specs.Layout.{largest_body}
 use Rattle.party_state.specs.State.{Party}
 use Rattle.party_state.specs.declared.edit.Edit.{Edit}
 use Rattle.party_state.specs.declared.edit.Edit.TheVariants.{Begin, PutLink, PutKey, PutExchange, PutAnswer}
+use Rattle.change_code.specs.declared.format.Format.{Format}
 use Rattle.change_code.specs.Code.{most_edits, code_of_change}
 
 -- the puts of a party's rows: its links, keys, exchanges and answers, each in the order of its list
@@ -15,9 +16,9 @@ abbrev pub whole_edits : Party → List Edit
 whole_edits p = Begin p.own p.role p.generator ∷ row_edits p
 
 -- the code of that change
-abbrev pub whole_of : Party → List ℕ
-whole_of p = code_of_change (whole_edits p)
+abbrev pub whole_of : Format → Party → List ℕ
+whole_of format p = code_of_change format (whole_edits p)
 
 -- the change has too many edits, or its code too many bytes
-abbrev pub IsTooLarge : Party → Type 0
-IsTooLarge p = (most_edits < length (whole_edits p)) ⊎ (largest_body < length (whole_of p))
+abbrev pub IsTooLarge : Format → Party → Type 0
+IsTooLarge format p = (most_edits < length (whole_edits p)) ⊎ (largest_body < length (whole_of format p))

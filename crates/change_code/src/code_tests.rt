@@ -7,6 +7,7 @@ ghost use Rattle.party_state.specs.Ranges.{IsFitting};
 use crate::decoding::decode;
 use crate::encoding::encode_behind;
 use crate::fault::CodeFault;
+use crate::format::Format;
 use crate::laws::law_decode_undoes;
 use party_state::{
     Answer, Change, Edit, Exchange, KeyRec, KeyStatus, Kind, LinkRec, Role, Side, Via, name_behind,
@@ -22,18 +23,24 @@ const PAIR: Pair = Pair {
     right: 0xFEDCBA9876543213,
 };
 
-// Whether the code of this edit alone is these bytes, which are read back as one edit.
-fn is_coded(alloc: Global, edit: Edit, bytes: &[u8]) -> Result<bool, CodeFault>
+// Whether the code of this edit alone in this format is these bytes, which are read back as one edit in this format.
+fn is_coded(alloc: Global, format: Format, edit: Edit, bytes: &[u8]) -> Result<bool, CodeFault>
     requires { IsFitting edit }
 {
     let mut change = Change::new(alloc);
     change.push(edit)?;
-    let code = encode_behind(alloc, &[], &change)?;
-    let back = law_decode_undoes(alloc, &change)?;
-    Ok(code.bytes() == bytes && decode(alloc, bytes)?.len() == 1 && back.len() == 1)
+    let code = encode_behind(alloc, &[], format, &change)?;
+    let back = law_decode_undoes(alloc, format, &change)?;
+    let read = decode(alloc, bytes)?;
+    Ok(
+        code.bytes() == bytes
+            && read.format == format
+            && read.change.len() == 1
+            && back.change.len() == 1,
+    )
 }
 
-// The codes of the edits of `edit_of`.
+// The codes in format 1 of the edits of `edit_of`.
 const EDITS: [&[u8]; 8] = [
     b"\x01\0\x01\x01\x05BANKB\x02\x01\x23\x45\x67\x89\xAB\xCD\xEC\xFE\xDC\xBA\x98\x76\x54\x32\x13\0\0\0\0\0\0\0\x01",
     b"\x01\0\x01\x02\x05BANKB\x03K-2\x02\x01\x23\x45\x67\x89\xAB\xCD\xEC\xFE\xDC\xBA\x98\x76\x54\x32\x13\0\0\x5A\xF3\x10\x7A\x40\0\x01",
@@ -43,6 +50,16 @@ const EDITS: [&[u8]; 8] = [
     b"\x01\0\x01\x07\x05BANKB",
     b"\x01\0\x01\x08\x05BANKB\x05BANKA\0\0\0\0\0\0\0\x07\0\0\0\0\0\0\0\x06",
     b"\x01\0\x01\x09\x11\x22\x33\x44\x55\x66\x77\x88",
+];
+
+// The codes in format 2 of some edits of `edit_of`, each with its row.
+const CLOSED_EDITS: [(usize, &[u8]); 3] = [
+    (
+        0,
+        b"\x02\0\x01\x01\x05BANKB\x02\x01\x23\x45\x67\x89\xAB\xCD\xEC\xFE\xDC\xBA\x98\x76\x54\x32\x13\0\0\0\0\0\0\0\x01\xF4\xC3\x66\x19",
+    ),
+    (4, b"\x02\0\x01\x05\xBF\x48\xBD\xBE"),
+    (8, b"\x02\0\x01\x09\0\0\0\0\0\0\0\x01\xA4\x2F\x53\xC2"),
 ];
 
 fn edit_of(row: usize, peer: Ident, label: Label, name: KeyName) -> Edit
@@ -81,7 +98,8 @@ fn edit_of(row: usize, peer: Ident, label: Label, name: KeyName) -> Edit
             cta: name.count,
             value: 6,
         }),
-        _ => Edit::SetGen(0x1122334455667788),
+        7 => Edit::SetGen(0x1122334455667788),
+        _ => Edit::SetGen(1),
     }
 }
 
@@ -93,15 +111,21 @@ fn each_edit_has_its_code(rt: HostRuntime) -> Result<(), Fail> {
     let mut wrong = None;
     for (row, code) in EDITS.iter().enumerate() {
         let edit = edit_of(row, peer, label, name);
-        if wrong.is_none() && !is_coded(rt.alloc(), edit, *code)? {
+        if wrong.is_none() && !is_coded(rt.alloc(), Format::One, edit, *code)? {
             wrong = Some(row);
+        }
+    }
+    for (row, code) in CLOSED_EDITS.iter() {
+        let edit = edit_of(*row, peer, label, name);
+        if wrong.is_none() && !is_coded(rt.alloc(), Format::Two, edit, *code)? {
+            wrong = Some(*row);
         }
     }
     assert_eq!(rt; wrong, None);
     Ok(())
 }
 
-// The codes of exchanges of BANK with the kinds of `kind_of` and the text CS.
+// The codes in format 1 of exchanges of BANK with the kinds of `kind_of` and the text CS.
 const EXCHANGES: [&[u8]; 8] = [
     b"\x01\0\x01\x06\x04BANK\x01\x04ORIG\0\x02CS",
     b"\x01\0\x01\x06\x04BANK\x02\x04ORIG\0\0\0\0\0\0\0\x05\0\0\0\0\0\0\0\x09\0\x02CS",
@@ -167,7 +191,7 @@ fn each_exchange_has_its_code(rt: HostRuntime) -> Result<(), Fail> {
     let mut wrong = None;
     for (row, code) in EXCHANGES.iter().enumerate() {
         let edit = exchange_of(rt.alloc(), row, peer, name)?;
-        if wrong.is_none() && !is_coded(rt.alloc(), edit, *code)? {
+        if wrong.is_none() && !is_coded(rt.alloc(), Format::One, edit, *code)? {
             wrong = Some(row);
         }
     }
@@ -175,7 +199,7 @@ fn each_exchange_has_its_code(rt: HostRuntime) -> Result<(), Fail> {
     Ok(())
 }
 
-const NO_CODES: [&[u8]; 13] = [
+const NO_CODES: [&[u8]; 20] = [
     b"",
     b"\x01\0",
     b"\x02\0\x01\x05",
@@ -188,6 +212,15 @@ const NO_CODES: [&[u8]; 13] = [
     b"\x01\0\x01\x07\x01b",
     b"\x01\0\x01\x07\x02B",
     b"\x01\0\x01\x09\0\0\0\0\0\0\0",
+    // In format 2: without its code; with one bit of it or of the edits turned; with the number of the other format, or of none;
+    // with a byte left over in front of the code, or behind it.
+    b"\x02\0\x01\x07\x05BANKB",
+    b"\x02\0\x01\x05\xBF\x48\xBD\xBF",
+    b"\x02\0\x01\x04\xBF\x48\xBD\xBE",
+    b"\x01\0\x01\x05\xBF\x48\xBD\xBE",
+    b"\x03\0\x01\x05\xBF\x48\xBD\xBE",
+    b"\x02\0\x01\x05\0\xBF\x48\xBD\xBE",
+    b"\x02\0\x01\x05\xBF\x48\xBD\xBE\0",
     // Two keys, of which the first has the last count.
     b"\x01\0\x01\x06\x04BANK\x05\x04INST\x04ORIG\x01K\0\0\x5A\xF3\x10\x7A\x3F\xFF\0\x02CS",
 ];

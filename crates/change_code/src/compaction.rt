@@ -5,10 +5,11 @@ ghost use Rattle.change_code.specs.Code.{edits_code, IsCode};
 ghost use Rattle.change_code.specs.Whole.{row_edits, whole_edits, whole_of, IsTooLarge};
 
 use crate::encoding::{
-    FORMAT, MOST_EDITS, put_answer_edit, put_begin, put_exchange_edit, put_head, put_key_edit,
+    MOST_EDITS, put_answer_edit, put_begin, put_closing, put_exchange_edit, put_head, put_key_edit,
     put_link_edit,
 };
 use crate::fault::WholeFault;
+use crate::format::Format;
 use crate::room::room_behind_whole;
 use key_journal::LARGEST_BODY;
 use party_state::State;
@@ -82,32 +83,44 @@ fn edit_count(state: &State) -> u128
         + state.answer_count() as u128
 }
 
-fn whole_code(alloc: Global, front: &[u8], state: &State, edits: u16) -> Result<Text, NoMemory>
+fn whole_code(
+    alloc: Global,
+    front: &[u8],
+    format: Format,
+    state: &State,
+    edits: u16,
+) -> Result<Text, NoMemory>
     requires { edits ≡ length (whole_edits state.now) }
-    ensures { IfOk result (λ text. text ≡ front.now ++ whole_of state.now) }
+    ensures { IfOk result (λ text. text ≡ front.now ++ whole_of format state.now) }
 {
     let mut out = Text::with_capacity(alloc, room_behind_whole(front.len(), state))?;
     out.push(front)?;
-    put_head(&mut out, FORMAT, edits)?;
+    put_head(&mut out, format, edits)?;
     put_begin(&mut out, &state.own(), state.role(), state.generator())?;
     put_rows(&mut out, state)?;
+    put_closing(&mut out, front.len(), format)?;
     Ok(out)
 }
 
-/// Bytes, and behind them the body of a compaction: the code of the one change that makes the party from nothing. Comes
-/// with `TooLarge` exactly where that change has more than 65,535 edits or its code more than 4,194,304 bytes.
-pub fn whole_behind(alloc: Global, front: &[u8], state: &State) -> Result<Text, WholeFault>
-    ensures whole { IfOk result (λ text. text ≡ front.now ++ whole_of state.now) }
-    ensures code { OnOk result (IsCode (whole_of state.now) (whole_edits state.now)) }
-    ensures fits { OnOk result (IsTooLarge state.now → ⊥) }
-    ensures too_large { IfErr result (λ fault. fault ≡ WholeFault.TooLarge → IsTooLarge state.now) }
+/// Bytes, and behind them the body of a compaction in a format: the code of the one change that makes the party from nothing.
+/// Comes with `TooLarge` exactly where that change has more than 65,535 edits or its code more than 4,194,304 bytes.
+pub fn whole_behind(
+    alloc: Global,
+    front: &[u8],
+    format: Format,
+    state: &State,
+) -> Result<Text, WholeFault>
+    ensures whole { IfOk result (λ text. text ≡ front.now ++ whole_of format state.now) }
+    ensures code { OnOk result (IsCode format (whole_of format state.now) (whole_edits state.now)) }
+    ensures fits { OnOk result (IsTooLarge format state.now → ⊥) }
+    ensures too_large { IfErr result (λ fault. fault ≡ WholeFault.TooLarge → IsTooLarge format state.now) }
 {
     state.law_party();
     let edits = edit_count(state);
     if edits > MOST_EDITS as u128 {
         return Err(WholeFault::TooLarge);
     }
-    let text = whole_code(alloc, front, state, edits as u16)?;
+    let text = whole_code(alloc, front, format, state, edits as u16)?;
     if text.bytes().len() - front.len() > LARGEST_BODY as usize {
         return Err(WholeFault::TooLarge);
     }

@@ -1,14 +1,14 @@
-// The code of an edit, put together before it goes into a text.
+// The code of an edit or of another row, put together before it goes into a text.
 ghost use Rattle.std.specs.Prelude.{◌≡◌, ◌≤◌, ◌+◌, ◌++◌, [], length};
 
 use std::marker::Model;
 
-/// How many bytes a row holds: those of the longest edit without the text of an exchange, and more.
+/// How many bytes it holds: those of the longest edit without the text of an exchange, and more.
 const ROOM: usize = 128;
 
 /// Up to 128 bytes.
 #[derive(Drop)]
-pub(crate) struct EditCode {
+pub struct EditCode {
     bytes: [u8; ROOM],
     len: usize,
 }
@@ -25,7 +25,7 @@ impl Model for EditCode {
 
 impl EditCode {
     /// No bytes.
-    pub(crate) fn new() -> EditCode
+    pub fn new() -> EditCode
         ensures { result ≡ [] }
     {
         EditCode {
@@ -35,7 +35,7 @@ impl EditCode {
     }
 
     /// Appends the bytes.
-    pub(crate) fn put(&mut self, bytes: &[u8])
+    pub fn put(&mut self, bytes: &[u8])
         requires { length self.old + length bytes.now ≤ 128 }
         ensures { self.new ≡ self.old ++ bytes.now }
     {
@@ -45,7 +45,7 @@ impl EditCode {
     }
 
     /// The bytes.
-    pub(crate) fn bytes(&self) -> &[u8]
+    pub fn bytes(&self) -> &[u8]
         ensures { result.now ≡ self.now }
     {
         &self.bytes[..self.len]

@@ -1,11 +1,12 @@
 // Writing the code of a change.
-ghost use Rattle.std.specs.Prelude.{◌≡◌, ◌≤◌, ◌<◌, ◌+◌, ◌++◌, ◌∷◌, length, OnOk, IfOk};
+ghost use Rattle.std.specs.Prelude.{◌≡◌, ◌≤◌, ◌<◌, ◌+◌, ◌++◌, ◌∷◌, length, drop, OnOk, IfOk};
 ghost use Rattle.party_tables.specs.Ranges.{longest_text};
 ghost use Rattle.party_state.specs.Ranges.{IsFitting, AreFitting};
 ghost use Rattle.party_state.specs.declared.edit.Edit.TheVariants.{Begin, DropExchange, DropLink, PutAnswer, PutExchange, PutKey, PutLink, SetGen};
-ghost use Rattle.change_code.specs.Code.{IsCode, two, via_code, kind_code, edit_code, edits_code, code_of_change, most_edits};
+ghost use Rattle.change_code.specs.Code.{IsCode, two, via_code, kind_code, edit_code, edits_code, number_of, closing, code_of_change, most_edits};
 
 use crate::edit_code::EditCode;
+use crate::format::Format;
 use crate::room::room_behind;
 use crate::writing::{
     put_flag, put_generator, put_half_word, put_ident, put_label, put_maybe, put_name, put_pair,
@@ -15,6 +16,7 @@ use party_state::{Answer, Change, Edit, Exchange, KeyRec, Kind, LinkRec, Via};
 use std::alloc::Global;
 use x_base::{Ident, Label, NoMemory, Role, Side, Text};
 use x_gen::Gen;
+use x_mac::edc;
 
 fn put_via(out: &mut EditCode, via: &Via)
     requires room { length out.old + 36 ≤ 128 }
@@ -197,9 +199,6 @@ fn put_edit(out: &mut Text, edit: &Edit) -> Result<(), NoMemory>
     }
 }
 
-/// The format in which changes are written.
-pub(crate) const FORMAT: u8 = 1;
-
 /// The most edits of a change that has a code.
 pub const MOST_EDITS: u16 = 65_535;
 
@@ -217,27 +216,48 @@ fn put_edits(out: &mut Text, change: &Change) -> Result<(), NoMemory>
 }
 
 /// The number of a format, and how many edits come.
-pub(crate) fn put_head(out: &mut Text, number: u8, edits: u16) -> Result<(), NoMemory>
-    ensures { OnOk result (out.new ≡ out.old ++ number ∷ two edits) }
+pub(crate) fn put_head(out: &mut Text, format: Format, edits: u16) -> Result<(), NoMemory>
+    ensures { OnOk result (out.new ≡ out.old ++ number_of format ∷ two edits) }
 {
     let mut code = EditCode::new();
-    code.put(&[number]);
+    code.put(&[format.number()]);
     put_half_word(&mut code, edits);
     out.push(code.bytes())
 }
 
-/// Bytes, and behind them the code of a change of at most 65,535 edits, in which each `next` is from 1 to 10^14, each text
-/// has at most 1,024 bytes, and the count of a `PairSent` is below `LIMIT`.
-pub fn encode_behind(alloc: Global, front: &[u8], change: &Change) -> Result<Text, NoMemory>
+/// Closes the text that stands behind so many bytes.
+#[tactic(auto, unfolding(crate::specs::Code::four))]
+pub(crate) fn put_closing(out: &mut Text, front: usize, format: Format) -> Result<(), NoMemory>
+    requires { front ≤ length out.old }
+    ensures { OnOk result (out.new ≡ out.old ++ closing format (drop front out.old)) }
+{
+    match format {
+        Format::One => Ok(()),
+        Format::Two => {
+            let code = edc(&out.bytes()[front..]);
+            out.push(&code.to_be_bytes())
+        }
+    }
+}
+
+/// Bytes, and behind them the code in a format of a change of at most 65,535 edits, in which each `next` is from 1 to 10^14,
+/// each text has at most 1,024 bytes, and the count of a `PairSent` is below `LIMIT`.
+pub fn encode_behind(
+    alloc: Global,
+    front: &[u8],
+    format: Format,
+    change: &Change,
+) -> Result<Text, NoMemory>
     requires few { length change.now ≤ most_edits }
     requires fitting { AreFitting change.now }
-    ensures code { IfOk result (λ text. text ≡ front.now ++ code_of_change change.now) }
-    ensures is_code { IsCode (code_of_change change.now) change.now }
+    ensures code { IfOk result (λ text. text ≡ front.now ++ code_of_change format change.now) }
+    ensures is_code { IsCode format (code_of_change format change.now) change.now }
 {
     change.law_in_range();
     let mut out = Text::with_capacity(alloc, room_behind(front.len(), change))?;
     out.push(front)?;
-    put_head(&mut out, FORMAT, change.len() as u16)?;
+    put_head(&mut out, format, change.len() as u16)?;
     put_edits(&mut out, change)?;
+    put_closing(&mut out, front.len(), format)?;
     Ok(out)
 }

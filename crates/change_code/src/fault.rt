@@ -5,7 +5,7 @@ use x_base::NoMemory;
 /// Why bytes weren't decoded.
 #[derive(Clone, Copy, Debug, PartialEq, Eq, Error)]
 pub enum CodeFault {
-    /// The bytes are the code of no change.
+    /// The bytes are a code in neither format.
     #[error("no code")]
     Bad,
     /// No memory was left.

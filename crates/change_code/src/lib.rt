@@ -10,19 +10,26 @@ mod edits;
 mod encoding;
 mod exchanges;
 mod fault;
+mod format;
 mod framed;
 mod laws;
 mod pieces;
 mod reader;
 mod room;
 mod rows;
+mod space;
 mod writing;
 
 pub use compaction::whole_behind;
-pub use decoding::decode;
+pub use decoding::{Coded, decode};
+pub use edit_code::EditCode;
 pub use encoding::{MOST_EDITS, encode_behind};
 pub use fault::{CodeFault, WholeFault};
-pub use framed::{Framed, frame_text};
+pub use format::Format;
+pub use framed::Framed;
 pub use laws::{
     law_can_compact, law_decode_undoes, law_one_change, law_one_code, law_short_code, law_whole,
 };
+pub use reader::Reader;
+pub use space::Space;
+pub use writing::{put_half_word, put_ident, put_name, put_side, put_word};

@@ -1,6 +1,6 @@
 // Reading identities, labels, numbers and the kinds of a value.
 ghost use Rattle.std.specs.Prelude.{◌≡◌, ◌<◌, ◌^◌, length, MatchOption, ◌++◌};
-ghost use Rattle.change_code.specs.Code.{two, eight};
+ghost use Rattle.change_code.specs.Code.{two, four, eight};
 ghost use Rattle.change_code.specs.Reading.{IsPieceRead, ident_form, label_form, word_form, count_form, next_form, name_form, pair_form, gen_form, role_form, side_form, status_form, flag_form, maybe_form};
 
 use crate::reader::Reader;
@@ -16,6 +16,13 @@ fn word_of(bytes: &[u8; 8]) -> u64
     u64::from_be_bytes(*bytes)
 }
 
+/// The number of four bytes.
+pub(crate) fn code_of(bytes: &[u8; 4]) -> u32
+    ensures { four result ≡ bytes.now }
+{
+    u32::from_be_bytes(*bytes)
+}
+
 /// The number of two bytes.
 fn half_word_of(bytes: &[u8; 2]) -> u16
     ensures { two result ≡ bytes.now }
@@ -24,7 +31,8 @@ fn half_word_of(bytes: &[u8; 2]) -> u16
 }
 
 impl<'a> Reader<'a> {
-    pub(crate) fn ident(&mut self) -> Option<Ident>
+    /// An identity behind its length.
+    pub fn ident(&mut self) -> Option<Ident>
         ensures { IsPieceRead ident_form self.old self.new result }
     {
         Ident::read(self.short()?).ok()
@@ -46,7 +54,7 @@ impl<'a> Reader<'a> {
     }
 
     /// A number of two bytes.
-    pub(crate) fn half_word(&mut self) -> Option<u16>
+    pub fn half_word(&mut self) -> Option<u16>
         ensures { MatchOption result (length self.old < 2) (λ n. self.old ≡ two n ++ self.new) }
     {
         let (bytes, rest) = self.rest.split_first_chunk::<2>()?;
@@ -54,7 +62,8 @@ impl<'a> Reader<'a> {
         Some(half_word_of(bytes))
     }
 
-    pub(crate) fn count(&mut self) -> Option<Count>
+    /// A count of eight bytes.
+    pub fn count(&mut self) -> Option<Count>
         ensures { IsPieceRead count_form self.old self.new result }
     {
         Count::of(self.word()?)
@@ -83,7 +92,8 @@ impl<'a> Reader<'a> {
         }
     }
 
-    pub(crate) fn side(&mut self) -> Option<Side>
+    /// A side in one byte.
+    pub fn side(&mut self) -> Option<Side>
         ensures { IsPieceRead side_form self.old self.new result }
     {
         match self.byte()? {
@@ -127,7 +137,8 @@ impl<'a> Reader<'a> {
         }
     }
 
-    pub(crate) fn key_name(&mut self) -> Option<KeyName>
+    /// A key name: issuer, originator, label and count.
+    pub fn key_name(&mut self) -> Option<KeyName>
         ensures { IsPieceRead name_form self.old self.new result }
     {
         let issuer = self.ident()?;

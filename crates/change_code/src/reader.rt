@@ -7,7 +7,7 @@ use std::marker::Model;
 
 /// The bytes that weren't read yet.
 #[derive(Drop)]
-pub(crate) struct Reader<'a> {
+pub struct Reader<'a> {
     pub(crate) rest: &'a [u8],
 }
 
@@ -20,27 +20,29 @@ impl<'a> Model for Reader<'a> {
 }
 
 impl<'a> Reader<'a> {
-    pub(crate) fn new(bytes: &'a [u8]) -> Reader<'a>
+    /// Before the first of these bytes.
+    pub fn new(bytes: &'a [u8]) -> Reader<'a>
         ensures { result ≡ bytes.entry.now }
     {
         Reader { rest: bytes }
     }
 
     /// How many bytes are left.
-    pub(crate) fn len(&self) -> usize
+    pub fn len(&self) -> usize
         ensures { result ≡ length self.now }
     {
         self.rest.len()
     }
 
-    pub(crate) fn is_empty(&self) -> bool
+    /// Whether none is left.
+    pub fn is_empty(&self) -> bool
         ensures { result ≡ nat_eq (length self.now) 0 }
     {
         self.rest.is_empty()
     }
 
     /// The next byte.
-    pub(crate) fn byte(&mut self) -> Option<u8>
+    pub fn byte(&mut self) -> Option<u8>
         ensures { MatchOption result (length self.old ≡ 0) (λ b. self.old ≡ b ∷ self.new) }
     {
         let (first, rest) = self.rest.split_first()?;

@@ -1,8 +1,8 @@
 // How much room a code wants.
 use party_state::{Change, Edit, LONGEST_TEXT, State};
 
-/// What stands in front of the edits, and one byte behind them.
-const HEAD_AND_END: usize = 4;
+/// What stands in front of the edits, their error detection code, and one byte behind it.
+const HEAD_AND_END: usize = 8;
 
 /// As many bytes as the code of a key that is put has at most, or a few more.
 const ROOM_OF_KEY: usize = 90;

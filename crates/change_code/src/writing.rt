@@ -10,7 +10,7 @@ use x_mac::Pair;
 
 /// A number of eight bytes.
 #[tactic(auto, unfolding(crate::specs::Code::eight))]
-pub(crate) fn put_word(out: &mut EditCode, n: u64)
+pub fn put_word(out: &mut EditCode, n: u64)
     requires room { length out.old + 8 ≤ 128 }
     ensures code { out.new ≡ out.old ++ eight n }
     ensures most { length out.new ≤ length out.old + 8 }
@@ -20,7 +20,7 @@ pub(crate) fn put_word(out: &mut EditCode, n: u64)
 
 /// A number of two bytes.
 #[tactic(auto, unfolding(crate::specs::Code::two))]
-pub(crate) fn put_half_word(out: &mut EditCode, n: u16)
+pub fn put_half_word(out: &mut EditCode, n: u16)
     requires room { length out.old + 2 ≤ 128 }
     ensures code { out.new ≡ out.old ++ two n }
     ensures most { length out.new ≤ length out.old + 2 }
@@ -39,7 +39,8 @@ fn put_short(out: &mut EditCode, name: &[u8])
     out.put(name);
 }
 
-pub(crate) fn put_ident(out: &mut EditCode, ident: &Ident)
+/// An identity behind its length.
+pub fn put_ident(out: &mut EditCode, ident: &Ident)
     requires room { length out.old + 17 ≤ 128 }
     ensures code { out.new ≡ out.old ++ short ident.now }
     ensures most { length out.new ≤ length out.old + 17 }
@@ -55,7 +56,8 @@ pub(crate) fn put_label(out: &mut EditCode, label: &Label)
     put_short(out, label.bytes());
 }
 
-pub(crate) fn put_name(out: &mut EditCode, name: &KeyName)
+/// A key name: issuer, originator, label and count.
+pub fn put_name(out: &mut EditCode, name: &KeyName)
     requires room { length out.old + 59 ≤ 128 }
     ensures code { out.new ≡ out.old ++ name_code name.now }
     ensures most { length out.new ≤ length out.old + 59 }
@@ -96,7 +98,8 @@ pub(crate) fn put_role(out: &mut EditCode, role: Role)
     }
 }
 
-pub(crate) fn put_side(out: &mut EditCode, side: Side)
+/// A side in one byte.
+pub fn put_side(out: &mut EditCode, side: Side)
     requires room { length out.old + 1 ≤ 128 }
     ensures code { out.new ≡ out.old ++ side_code side }
     ensures most { length out.new ≤ length out.old + 1 }

@@ -8,6 +8,3 @@ mod texts;
 
 pub use book::FactBook;
 pub use texts::Texts;
-
-#[cfg(test)]
-mod tests;

@@ -14,8 +14,6 @@ mod opened;
 mod put;
 mod reader;
 mod ready;
-#[cfg(test)]
-mod tests;
 mod wipe;
 
 pub use blank::{Blank, prepare};

@@ -9,7 +9,7 @@ use Rattle.party_state.specs.declared.edit.Edit.{Edit}
 use Rattle.change_code.specs.Code.{code_of_change}
 use Rattle.change_code.specs.Cost.{cost}
 use Rattle.change_code.specs.Framed.{IsFramed}
-use Rattle.key_store.specs.Store.{Stored, GoOn, IsStore}
+use Rattle.key_store.specs.Store.{Stored, GoOn, IsStore, space}
 use Rattle.key_store.specs.Keeping.{IsKept}
 use Rattle.key_store.proofs.Keeping.{Changes, cost_is, at_rest, old_is_either, after_stage, after_commit, stable_staged, stable_commit, now_new, kept, few_calls, never_done, still_told, one_left, frame_long, never_err, faults_later}
 
@@ -20,16 +20,17 @@ plus_none gate n none = omega (arith, none)
 four_pass : (calls : ℕ) → (calls ≤ 3 → ⊥) → 4 ≤ calls
 four_pass calls few = omega (arith, few)
 
-module _ {D : Type 0} (told : D → View) (old : Stored D) (edits : List Edit) (sound : IsSound (told old.disk)) (store : IsStore (told old.disk) old.gate old.end old.party) where
+module _ {D : Type 0} (told : D → View) (old : Stored D) (edits : List Edit) (sound : IsSound (told old.disk)) (store : IsStore (told old.disk) old.gate old.end old.format old.party) where
   -- nothing changes
   pub kept_none : edits ≡ [] → IsKept told old edits (Ok old)
   kept_none none = record {
     party = sym (ap (λ (es : List Edit). apply es old.party) none);
-    place = (plus_none old.gate (cost edits) (ap cost none), refl);
+    place = (plus_none old.gate (cost old.format edits) (ap (cost old.format) none), refl);
+    format = refl;
     stands = store;
     unchanged = λ is. refl;
-    any_moment = λ tells. old_is_either (told old.disk) (told old.disk) old.party (old.end - old.gate) edits (at_rest (told old.disk) old.gate old.end old.party sound store tells);
-    early = λ calls is few tells. at_rest (told old.disk) old.gate old.end old.party sound store tells;
+    any_moment = λ tells. old_is_either (told old.disk) (told old.disk) old.party (space old) edits (at_rest (told old.disk) old.gate old.end old.format old.party sound store tells);
+    early = λ calls is few tells. at_rest (told old.disk) old.gate old.end old.format old.party sound store tells;
     cause = tt;
     faults = le_refl _;
     tells = refl;
@@ -39,14 +40,14 @@ module _ {D : Type 0} (told : D → View) (old : Stored D) (edits : List Edit) (
     covered = tt;
   }
 
-  module _ (go_on : GoOn edits old.party) (text : List ℕ) (framed : IsFramed edits text) where
+  module _ (go_on : GoOn edits old.party) (text : List ℕ) (framed : IsFramed old.format edits text) where
     abbrev site : Site D
     site = record { disk = old.disk; gate = old.gate; end = old.end }
 
-    size : length text ≡ cost edits
-    size = ap length framed.is ∙ (frame_long (code_of_change edits) ∙ sym (cost_is edits framed.some))
+    size : length text ≡ cost old.format edits
+    size = ap length framed.is ∙ (frame_long (code_of_change old.format edits) ∙ sym (cost_is old.format edits framed.some))
 
-    change : Changes old.party edits
+    change : Changes old.format old.party edits
     change = record { some = framed.some; code = framed.code; body = framed.body; go_on = go_on }
 
     -- the frame wasn't written
@@ -56,15 +57,16 @@ module _ {D : Type 0} (told : D → View) (old : Stored D) (edits : List Edit) (
         record {
           party = tt;
           place = tt;
+          format = tt;
           stands = tt;
           unchanged = λ none. absurd (framed.some none);
-          any_moment = λ tells. old_is_either (told old.disk) (told b.disk) old.party (old.end - old.gate) edits (after_stage (told old.disk) (told b.disk) old.gate old.end old.party store staging.any_moment tells);
-          early = λ calls is few tells. after_stage (told old.disk) (told b.disk) old.gate old.end old.party store staging.any_moment tells;
+          any_moment = λ tells. old_is_either (told old.disk) (told b.disk) old.party (space old) edits (after_stage (told old.disk) (told b.disk) old.gate old.end old.format old.party store staging.any_moment tells);
+          early = λ calls is few tells. after_stage (told old.disk) (told b.disk) old.gate old.end old.format old.party store staging.any_moment tells;
           cause = staging.cause;
           faults = staging.faults;
           tells = staging.tells;
           calls = tt;
-          stable = stable_staged (told old.disk) (told b.disk) old.gate old.end old.party store staging.stable;
+          stable = stable_staged (told old.disk) (told b.disk) old.gate old.end old.format old.party store staging.stable;
           pending = λ three fault none image now. absurd (still_told (told old.disk).passes (told b.disk).passes three staging.left none);
           covered = λ end n calls covers le small. staging.covered end n (suc (suc calls)) covers (omega (arith, size, le)) (omega (arith, size, small));
         }
@@ -77,17 +79,18 @@ module _ {D : Type 0} (told : D → View) (old : Stored D) (edits : List Edit) (
           record {
             party = tt;
             place = tt;
+            format = tt;
             stands = tt;
             unchanged = λ none. absurd (framed.some none);
-            any_moment = λ tells. after_commit (told old.disk) (told s.disk) old.gate old.end old.party store staging.any_moment (told b.disk) edits change text framed.is staging.staged commit.any_moment tells;
+            any_moment = λ tells. after_commit (told old.disk) (told s.disk) old.gate old.end old.format old.party store staging.any_moment (told b.disk) edits change text framed.is staging.staged commit.any_moment tells;
             early = λ calls is few tells. absurd (never_err (staging.blows (few_calls (told old.disk).passes calls is few)));
             cause = faults_later (told old.disk) (told s.disk) (told b.disk) b.cause staging.faults commit.cause;
             faults = omega (arith, staging.faults, commit.faults);
             tells = commit.tells ∙ staging.tells;
             calls = tt;
-            stable = stable_commit (told old.disk) (told s.disk) (told b.disk) old.gate old.end old.party edits store change text framed.is staging.staged staging.tells staging.durable commit.stable;
+            stable = stable_commit (told old.disk) (told s.disk) (told b.disk) old.gate old.end old.format old.party edits store change text framed.is staging.staged staging.tells staging.durable commit.stable;
             pending = λ three fault none image now.
-                now_new (told old.disk) (told s.disk) (told b.disk) old.gate old.end old.party edits store change text framed.is staging.staged staging.tells commit.tells
+                now_new (told old.disk) (told s.disk) (told b.disk) old.gate old.end old.format old.party edits store change text framed.is staging.staged staging.tells commit.tells
                 (λ bodies body has. commit.pending bodies body has (one_left (told old.disk).passes (told s.disk).passes three staging.passes) fault none) image now;
             covered = λ end n calls covers le small.
                 commit.covered end (n - length text) calls (staging.covered_then end n (suc (suc calls)) covers (omega (arith, size, le)) (omega (arith, size, small)))
@@ -96,11 +99,11 @@ module _ {D : Type 0} (told : D → View) (old : Stored D) (edits : List Edit) (
 
       module _ (r : Site D) (commit : IsCommit told s (Ok r)) where
         abbrev new : Stored D
-        new = record { disk = r.disk; gate = r.gate; end = r.end; party = apply edits old.party }
+        new = record { disk = r.disk; gate = r.gate; end = r.end; format = old.format; party = apply edits old.party }
 
-        pub new_stands : IsStore (told r.disk) r.gate r.end (apply edits old.party)
+        pub new_stands : IsStore (told r.disk) r.gate r.end old.format (apply edits old.party)
         new_stands =
-            kept (told old.disk) (told s.disk) (told r.disk) old.gate old.end old.party edits store change text framed.is staging.staged staging.tells r.gate r.end commit.tells commit.committed commit.durable commit.room
+            kept (told old.disk) (told s.disk) (told r.disk) old.gate old.end old.format old.party edits store change text framed.is staging.staged staging.tells r.gate r.end commit.tells commit.committed commit.durable commit.room
 
         -- it is kept
         pub committed : IsKept told old edits (Ok new)
@@ -109,9 +112,10 @@ module _ {D : Type 0} (told : D → View) (old : Stored D) (edits : List Edit) (
             record {
               party = refl;
               place = (omega (arith, size, commit.place.0, staging.place.1), commit.place.1 ∙ staging.place.2);
+              format = refl;
               stands = new_stands;
               unchanged = λ none. absurd (framed.some none);
-              any_moment = λ tells. after_commit (told old.disk) (told s.disk) old.gate old.end old.party store staging.any_moment (told r.disk) edits change text framed.is staging.staged commit.any_moment tells;
+              any_moment = λ tells. after_commit (told old.disk) (told s.disk) old.gate old.end old.format old.party store staging.any_moment (told r.disk) edits change text framed.is staging.staged commit.any_moment tells;
               early = λ calls is few tells. absurd (never_err (staging.blows (few_calls (told old.disk).passes calls is few)));
               cause = tt;
               faults = omega (arith, staging.faults, commit.faults);

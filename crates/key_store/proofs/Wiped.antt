@@ -4,7 +4,7 @@ use Rattle.x_disk.specs.Disk.{View, Tells, LeavesOnly}
 use Rattle.x_disk.proofs.Runs.{weaker}
 use Rattle.key_journal.specs.States.{Site, Failed, room_of}
 use Rattle.key_journal.specs.Wiping.{KeepsCounting, LeavesCounting, IsWipe}
-use Rattle.key_store.specs.Store.{Stored, StandsWith, IsStore, room}
+use Rattle.key_store.specs.Store.{Stored, StandsWith, IsStore, space}
 use Rattle.key_store.specs.Wiping.{IsStoreWipe}
 
 told_now : (now : Option (List ℕ)) → is_some now ≡ true → (image : List ℕ) × (now ≡ Some image)
@@ -16,19 +16,19 @@ told_before (Some b) new c tells is = (b, refl)
 told_before None None c tells is = absurd cc
 told_before None (Some d) c tells is = absurd cc
 
-module _ {D : Type 0} (told : D → View) (old : Stored D) (store : IsStore (told old.disk) old.gate old.end old.party) where
-  kept_moment : (new : View) → LeavesCounting (told old.disk) new → Tells (told old.disk) → LeavesOnly (told old.disk) new (λ c. StandsWith c old.party (room old))
+module _ {D : Type 0} (told : D → View) (old : Stored D) (store : IsStore (told old.disk) old.gate old.end old.format old.party) where
+  kept_moment : (new : View) → LeavesCounting (told old.disk) new → Tells (told old.disk) → LeavesOnly (told old.disk) new (λ c. StandsWith c old.party (space old))
   kept_moment new leaves tells =
       let now = told_now (told old.disk).now tells in
       let s = store.stands now.0 now.1 in
       let end : old.end ≡ old.gate + room_of s.bodies = store.room s.bodies (record { image = now.0; now = now.1; holds = s.holds }) in
-      weaker (told old.disk) new (KeepsCounting now.0 s.bodies) (λ c. StandsWith c old.party (room old)) (leaves now.0 s.bodies now.1 s.holds)
+      weaker (told old.disk) new (KeepsCounting now.0 s.bodies) (λ c. StandsWith c old.party (space old)) (leaves now.0 s.bodies now.1 s.holds)
       (λ c keeps. record { bodies = s.bodies; holds = keeps.holds; fold = s.fold; left = omega (arith, end) })
 
   abbrev site : Site D
   site = record { disk = old.disk; gate = old.gate; end = old.end }
 
-  pub wiped_store : (new : Site D) → IsWipe told site (Ok new) → IsStore (told new.disk) new.gate new.end old.party
+  pub wiped_store : (new : Site D) → IsWipe told site (Ok new) → IsStore (told new.disk) new.gate new.end old.format old.party
   wiped_store new done = record {
     durable = done.durable;
     stands = λ c now.
@@ -43,10 +43,11 @@ module _ {D : Type 0} (told : D → View) (old : Stored D) (store : IsStore (tol
     room = done.room;
   }
 
-  pub wiped_over : (new : Site D) → IsWipe told site (Ok new) → IsStoreWipe told old (Ok (record { disk = new.disk; gate = new.gate; end = new.end; party = old.party }))
+  pub wiped_over : (new : Site D) → IsWipe told site (Ok new) → IsStoreWipe told old (Ok (record { disk = new.disk; gate = new.gate; end = new.end; format = old.format; party = old.party }))
   wiped_over new done = record {
     party = refl;
     place = done.place;
+    format = refl;
     stands = wiped_store new done;
     wiped = done.wiped;
     any_moment = kept_moment (told new.disk) done.any_moment;
@@ -59,6 +60,7 @@ module _ {D : Type 0} (told : D → View) (old : Stored D) (store : IsStore (tol
   wipe_failed b done = record {
     party = tt;
     place = tt;
+    format = tt;
     stands = tt;
     wiped = tt;
     any_moment = kept_moment (told b.disk) done.any_moment;

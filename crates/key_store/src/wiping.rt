@@ -6,14 +6,22 @@ use key_journal::Broken;
 use x_disk::Disk;
 
 impl<D: Disk> Store<D> {
-    /// Overwrites with zeros each byte of the file that doesn't count. The party stays with its room, whatever a crash
+    /// Overwrites with zeros each byte of the file that doesn't count. The party stays with its space, whatever a crash
     /// leaves. Takes no memory itself.
     pub fn wipe(self) -> Result<Store<D>, Broken<D>>
         ensures { IsStoreWipe D.told self result }
     {
-        let Store { ready, state } = self;
+        let Store {
+            ready,
+            format,
+            state,
+        } = self;
         match ready.wipe() {
-            Ok(ready) => Ok(Store { ready, state }),
+            Ok(ready) => Ok(Store {
+                ready,
+                format,
+                state,
+            }),
             Err(broken) => Err(broken),
         }
     }

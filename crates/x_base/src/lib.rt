@@ -26,6 +26,3 @@ pub use source::{MemorySource, Source, SourceFault, StdSource};
 pub use text::{NoMemory, Text};
 pub use verdict::Verdict;
 pub use words::Words;
-
-#[cfg(test)]
-mod tests;
