@@ -47,6 +47,8 @@ pub record IsFetched {D : Type 0} (told : D → View) (name : List ℕ) (old new
   pub fresh : IfOk result (λ disk. (told disk).faults ≡ 0)
   pub slot : OnOk result (new.has_slot name)
   pub slots : SlotsStay old.has_slot new.has_slot
+  -- a disk that was put back before stays so
+  pub backs : SlotsStay old.is_back new.is_back
   pub others : OnOk result (OthersStay name old.entry new.entry)
   pub err : OnErr result (AllStay old.entry new.entry)
   pub later : old.faults ≤ new.faults
@@ -61,6 +63,8 @@ pub record IsPutBack (put : View) (name : List ℕ) (old new : ShelfView) (resul
   pub no_memory : IsErrOf result NoMemory → (old.has_slot name → ⊥) → IsAlike (old.entry name) (new.entry name)
   pub kept : old.has_slot name → IsAlike put (new.entry name)
   pub slots : SlotsStay old.has_slot new.has_slot
+  -- a disk that was put back before stays so
+  pub backs : SlotsStay old.is_back new.is_back
   pub others : OthersStay name old.entry new.entry
   pub later : old.faults ≤ new.faults
   pub seen : 0 < put.faults → Rose old.faults new.faults

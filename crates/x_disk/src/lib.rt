@@ -3,8 +3,6 @@
 
 mod disk;
 mod disk_record;
-#[cfg(test)]
-mod failing_files;
 mod files;
 mod folder_shelf;
 mod fused;
@@ -14,8 +12,6 @@ mod locking_files;
 mod memory_shelf;
 mod shelf;
 mod slot;
-#[cfg(test)]
-mod tests;
 mod torn;
 
 pub use disk::{Disk, DiskErr};
