@@ -4,7 +4,10 @@ use Rattle.party_state.specs.declared.command.Input.{Input}
 use Rattle.party_state.specs.declared.decision.Decision.{Decision}
 use Rattle.party_state.specs.declared.decision.Lead.{Lead}
 use Rattle.party_state.specs.declared.edit.Edit.{Edit}
+use Rattle.change_code.specs.declared.format.Format.{Format}
+use Rattle.change_code.specs.declared.space.Space.{Space}
 use Rattle.change_code.specs.Cost.{fits}
+use Rattle.change_code.specs.Framed.{FramedEdits, space_for}
 use Rattle.role_base.specs.Storable.{IsStorable}
 use Rattle.roles.specs.Deciding.{IsDecided}
 use Rattle.roles.specs.Leads.{lead_in}
@@ -21,17 +24,22 @@ chosen : (b : Bool) (first second : Plan) → b ≡ true → cond b first second
 chosen true first second is = refl
 chosen false first second is = absurd (cc is)
 
-module _ (x : Member) (i : Input) (moment : ℕ) (l : Option Lead) (lead_is : l ≡ lead_in x.party i) (d : Decision) (decided : IsDecided x.party i moment d) where
-  at : plan_of x.room l d ≡ plan_at x i moment
-  at = ap (λ m. plan_of x.room m d) lead_is ∙ ap (λ e. plan_of x.room (lead_in x.party i) e) decided.is
+space_with : (f : Format) (s : Space) → f ≡ s.format → (let t : Space = record { format = f; room = s.room } in t) ≡ s
+space_with f s format = subst (λ (g : Format). (let t : Space = record { format = g; room = s.room } in t) ≡ s) (sym format) refl
 
-  pub fitting_plan : (edits : List Edit) → edits ≡ d.change → fits x.room edits ≡ true
-      → IsPlan x i moment (record { lead = l; edits = edits; verdict = d.verdict; reply = d.reply; under = d.under })
-  fitting_plan edits is fit =
-      let fits_there : fits x.room d.change ≡ true = ap (λ es. fits x.room es) (sym is) ∙ fit in
+module _ (x : Member) (i : Input) (moment : ℕ) (l : Option Lead) (lead_is : l ≡ lead_in x.party i) (d : Decision) (decided : IsDecided x.party i moment d) where
+  at : plan_of x.space l d ≡ plan_at x i moment
+  at = ap (λ m. plan_of x.space m d) lead_is ∙ ap (λ e. plan_of x.space (lead_in x.party i) e) decided.is
+
+  pub fitting_plan : (framed : FramedEdits) → framed.format ≡ x.space.format → framed.edits ≡ d.change → fits (space_for framed x.space.room) framed.edits ≡ true
+      → IsPlan x i moment (record { plan = record { lead = l; edits = framed.edits; verdict = d.verdict; reply = d.reply; under = d.under }; format = framed.format })
+  fitting_plan framed format is fit =
+      let fit_here : fits x.space framed.edits ≡ true = ap (λ (s : Space). fits s framed.edits) (sym (space_with framed.format x.space format)) ∙ fit in
+      let fit_there : fits x.space d.change ≡ true = ap (λ (es : List Edit). fits x.space es) (sym is) ∙ fit_here in
       record {
         is = ap (λ (es : List Edit). record { lead = l; edits = es; verdict = d.verdict; reply = d.reply; under = d.under }) is
-            ∙ (sym (chosen (fits x.room d.change) (as_decided l d) (as_full l) fits_there) ∙ at);
+            ∙ (sym (chosen (fits x.space d.change) (as_decided l d) (as_full l) fit_there) ∙ at);
+        format = format;
         kept = subst (λ (es : List Edit). IsStorable x.party es) (sym is) decided.kept;
-        fits = fit;
+        fits = fit_here;
       }

@@ -1,4 +1,4 @@
--- A party with the room that is left for it, and what it will do with an input (this project's profile).
+-- A party with the space that is left for it, and what it will do with an input (this project's profile).
 use Rattle.std.specs.Prelude.{ℕ, cond, Option, None, List, []}
 use Rattle.x_base.specs.declared.key_name.FullName.{FullName}
 use Rattle.x_base.specs.declared.verdict.Verdict.{Verdict}
@@ -8,14 +8,15 @@ use Rattle.party_state.specs.declared.decision.Decision.{Decision}
 use Rattle.party_state.specs.declared.decision.Lead.{Lead}
 use Rattle.party_state.specs.declared.edit.Edit.{Edit}
 use Rattle.party_state.specs.State.{Party, apply}
-use Rattle.change_code.specs.Cost.{fits, room_after}
+use Rattle.change_code.specs.Cost.{fits, space_after}
+use Rattle.change_code.specs.declared.space.Space.{Space}
 use Rattle.roles.specs.Deciding.{decision}
 use Rattle.roles.specs.Leads.{lead_in}
 
--- a party, and the room that is left on its disk
+-- a party, and the room that is left on its disk, with the format of what is kept there
 pub record Member : Type 0 where
   pub party : Party
-  pub room : ℕ
+  pub space : Space
 
 -- what a member will do with an input: the key under which the input's code is tested, the edits that are kept, and what
 -- is answered, with the key under which the reply's code is made
@@ -34,13 +35,13 @@ as_decided l d = record { lead = l; edits = d.change; verdict = d.verdict; reply
 abbrev pub as_full : Option Lead → Plan
 as_full l = record { lead = l; edits = []; verdict = JournalFull; reply = None; under = None }
 
-abbrev pub plan_of : ℕ → Option Lead → Decision → Plan
-plan_of room l d = cond (fits room d.change) (as_decided l d) (as_full l)
+abbrev pub plan_of : Space → Option Lead → Decision → Plan
+plan_of space l d = cond (fits space d.change) (as_decided l d) (as_full l)
 
 -- what a member will do with an input at a moment
 abbrev pub plan_at : Member → Input → ℕ → Plan
-plan_at x i moment = plan_of x.room (lead_in x.party i) (decision x.party i moment)
+plan_at x i moment = plan_of x.space (lead_in x.party i) (decision x.party i moment)
 
 -- the member after edits that are kept
 abbrev pub after : Member → List Edit → Member
-after x es = record { party = apply es x.party; room = room_after x.room es }
+after x es = record { party = apply es x.party; space = space_after x.space es }

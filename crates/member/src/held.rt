@@ -4,16 +4,17 @@ ghost use Rattle.std.specs.Prelude.{◌≡◌};
 use crate::answer::Answer;
 use crate::holder::Holder;
 use crate::plan::Plan;
+use change_code::Space;
 use party_state::{Input, Prepared, State};
 use std::alloc::Global;
 use std::convert::Infallible;
 use std::marker::Model;
 
-/// A party and the room that is left for it, on no disk.
+/// A party and the space that is left for it, on no disk.
 #[derive(Drop)]
 pub struct Held {
     state: State,
-    room: u64,
+    space: Space,
 }
 
 impl Model for Held {
@@ -21,36 +22,36 @@ impl Model for Held {
 
     ghost Value = { Member };
 
-    ghost view = { λ h. record { party = h.state; room = h.room } };
+    ghost view = { λ h. record { party = h.state; space = h.space } };
 }
 
 /// A member in memory and what it will do, with all memory taken.
 #[derive(Drop)]
 pub struct PlannedHeld {
     prepared: Prepared,
-    room: u64,
-    left: u64,
+    space: Space,
+    left: Space,
     answer: Answer,
 }
 
 impl Model for PlannedHeld {
     ghost use Rattle.std.specs.Prelude.{◌≡◌};
-    ghost use Rattle.change_code.specs.Cost.{room_after};
+    ghost use Rattle.change_code.specs.Cost.{space_after};
     ghost use Rattle.member.specs.Answers.{PlannedMember, plan_with};
 
     ghost Value = { PlannedMember };
 
-    ghost view = { λ p. record { member = record { party = p.prepared.party; room = p.room }; plan = plan_with p.answer p.prepared.edits } };
+    ghost view = { λ p. record { member = record { party = p.prepared.party; space = p.space }; plan = plan_with p.answer p.prepared.edits } };
 
-    ghost invariant = { λ p. p.left ≡ room_after p.room p.prepared.edits };
+    ghost invariant = { λ p. p.left ≡ space_after p.space p.prepared.edits };
 }
 
 impl Held {
-    /// A party with so much room.
-    pub fn of(state: State, room: u64) -> Held
-        ensures { result ≡ record { party = state; room = room } }
+    /// A party with this space.
+    pub fn of(state: State, space: Space) -> Held
+        ensures { result ≡ record { party = state; space = space } }
     {
-        Held { state, room }
+        Held { state, space }
     }
 }
 
@@ -67,26 +68,26 @@ impl Holder for Held {
         &self.state
     }
 
-    fn room(&self) -> u64 {
-        self.room
+    fn space(&self) -> Space {
+        self.space
     }
 
     fn plan(self, alloc: Global, input: &Input, moment: u64) -> Result<PlannedHeld, Held> {
-        let Held { state, room } = self;
-        let Ok(plan) = Plan::of(alloc, &state, room, input, moment) else {
-            return Err(Held { state, room });
+        let Held { state, space } = self;
+        let Ok(plan) = Plan::of(alloc, &state, space, input, moment) else {
+            return Err(Held { state, space });
         };
         let (answer, framed) = plan.into_parts();
-        let left = framed.room_after(room);
+        let left = framed.space_after(space.room);
         let (change, _) = framed.into_parts();
         match state.prepare(change) {
             Ok(prepared) => Ok(PlannedHeld {
                 prepared,
-                room,
+                space,
                 left,
                 answer,
             }),
-            Err(state) => Err(Held { state, room }),
+            Err(state) => Err(Held { state, space }),
         }
     }
 
@@ -97,7 +98,7 @@ impl Holder for Held {
     fn cancel(planned: PlannedHeld) -> Held {
         Held {
             state: planned.prepared.cancel(),
-            room: planned.room,
+            space: planned.space,
         }
     }
 
@@ -109,6 +110,6 @@ impl Holder for Held {
             ..
         } = planned;
         let state = prepared.finish();
-        Ok((Held { state, room: left }, answer))
+        Ok((Held { state, space: left }, answer))
     }
 }

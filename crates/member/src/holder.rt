@@ -4,10 +4,11 @@ ghost use Rattle.member.specs.Member.{Member, plan_at, after};
 ghost use Rattle.member.specs.Answers.{PlannedMember, answer_of};
 
 use crate::answer::Answer;
+use change_code::Space;
 use party_state::{Input, State};
 use std::alloc::Global;
 
-/// A party with the room that is left for it, in memory or on disks. What it will do is planned with all memory taken, and
+/// A party with the space that is left for it, in memory or on disks. What it will do is planned with all memory taken, and
 /// then carried out or cancelled.
 pub trait Holder: Drop {
     /// The same with what it will do.
@@ -26,11 +27,11 @@ pub trait Holder: Drop {
     fn view(&self) -> &State
         ensures { result.now ≡ (member self.now).party };
 
-    /// The room that is left.
-    fn room(&self) -> u64
-        ensures { result ≡ (member self.now).room };
+    /// The room that is left, and the format of what is kept in it.
+    fn space(&self) -> Space
+        ensures { result ≡ (member self.now).space };
 
-    /// What the party will do with an input at a moment, by its role and the room that is left. Takes all memory that it
+    /// What the party will do with an input at a moment, by its role and the space that is left. Takes all memory that it
     /// wants; where there is none, the same holder comes back.
     fn plan(self, alloc: Global, input: &Input, moment: u64) -> Result<Self::Planned, Self>
         ensures planned { IfOk result (λ p. planned_member p ≡ record { member = member self; plan = plan_at (member self) input.now moment }) }

@@ -1,4 +1,4 @@
-//! A party with the room that is left for it, and what it will do with an input.
+//! A party with the space that is left for it, and what it will do with an input.
 #![tactic(auto)]
 
 mod answer;

@@ -3,7 +3,7 @@ ghost use Rattle.std.specs.Prelude.{◌≡◌, IfOk};
 ghost use Rattle.member.specs.Answers.{IsPlan, plan_with};
 
 use crate::answer::Answer;
-use change_code::{Framed, law_short_code};
+use change_code::{Framed, Space, law_short_code};
 use party_state::{Change, Decision, Input, Lead, State};
 use std::alloc::Global;
 use std::marker::Model;
@@ -17,25 +17,24 @@ pub struct Plan {
 }
 
 impl Model for Plan {
-    ghost use Rattle.member.specs.Member.{Plan as ThePlan};
-    ghost use Rattle.member.specs.Answers.{plan_with};
+    ghost use Rattle.member.specs.Answers.{FramedPlan, plan_with};
 
-    ghost Value = { ThePlan };
+    ghost Value = { FramedPlan };
 
-    ghost view = { λ p. plan_with p.answer p.framed };
+    ghost view = { λ p. record { plan = plan_with p.answer p.framed.edits; format = p.framed.format } };
 }
 
 impl Plan {
-    /// What a member of this state and this room will do with an input at a moment. Its code is tested once, it decides once,
+    /// What a member of this state and this space will do with an input at a moment. Its code is tested once, it decides once,
     /// and the frame of what changes is made. The only error is want of memory.
     pub fn of(
         alloc: Global,
         state: &State,
-        room: u64,
+        space: Space,
         input: &Input,
         moment: u64,
     ) -> Result<Plan, NoMemory>
-        ensures { IfOk result (IsPlan (record { party = state.now; room = room }) input.now moment) }
+        ensures { IfOk result (IsPlan (record { party = state.now; space = space }) input.now moment) }
     {
         let lead = roles::lead(state, input);
         let Decision {
@@ -45,9 +44,9 @@ impl Plan {
             verdict,
         } = roles::decide(alloc, state, input, &lead, moment)?;
         let change = change.into_change().unwrap_or(Change::new(alloc));
-        law_short_code(&change);
-        let framed = Framed::of(alloc, change)?;
-        if framed.fits(room) {
+        law_short_code(space.format, &change);
+        let framed = Framed::of(alloc, space.format, change)?;
+        if framed.fits(space.room) {
             return Ok(Plan {
                 answer: Answer {
                     lead,
@@ -65,13 +64,13 @@ impl Plan {
                 reply: None,
                 under: None,
             },
-            framed: Framed::none(alloc),
+            framed: Framed::none(alloc, space.format),
         })
     }
 
     /// What is answered, and the edits.
     pub fn into_parts(self) -> (Answer, Framed)
-        ensures { self ≡ plan_with result.0 result.1 }
+        ensures { self ≡ record { plan = plan_with result.0 result.1.edits; format = result.1.format } }
     {
         (self.answer, self.framed)
     }

@@ -4,6 +4,7 @@ ghost use Rattle.node_core.specs.Turns.{member_of};
 
 use crate::node::Node;
 use crate::planned::Planned;
+use change_code::Space;
 use key_journal::Broken;
 use member::{Answer, Holder};
 use party_state::{Input, State};
@@ -23,8 +24,8 @@ impl<D: Disk> Holder for Node<D> {
         self.store.view()
     }
 
-    fn room(&self) -> u64 {
-        self.store.room()
+    fn space(&self) -> Space {
+        self.store.space()
     }
 
     fn plan(self, alloc: Global, input: &Input, moment: u64) -> Result<Planned<D>, Node<D>> {

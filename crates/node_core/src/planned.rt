@@ -34,7 +34,7 @@ impl<D: Disk> Model for Planned<D> {
 
     ghost view = { λ p. record { node = p.changing.store; plan = plan_with p.answer p.changing.edits } };
 
-    ghost invariant = { λ p. IsStore (D.told p.changing.store.disk) p.changing.store.gate p.changing.store.end p.changing.store.party × HasNoBegin p.changing.edits };
+    ghost invariant = { λ p. IsStore (D.told p.changing.store.disk) p.changing.store.gate p.changing.store.end p.changing.store.format p.changing.store.party × HasNoBegin p.changing.edits };
 }
 
 impl<D: Disk> Node<D> {
@@ -43,9 +43,9 @@ impl<D: Disk> Node<D> {
     pub fn plan(self, alloc: Global, input: &Input, moment: u64) -> Result<Planned<D>, Node<D>>
         ensures planned { IfOk result (λ p. p ≡ record { node = self; plan = plan_at (member_of self) input.now moment }) }
         ensures same { IfErr result (λ node. node ≡ self) }
-        ensures stands { IfErr result (λ node. IsStore (D.told node.disk) node.gate node.end node.party) }
+        ensures stands { IfErr result (λ node. IsStore (D.told node.disk) node.gate node.end node.format node.party) }
     {
-        let Ok(plan) = Plan::of(alloc, self.store.view(), self.store.room(), input, moment) else {
+        let Ok(plan) = Plan::of(alloc, self.store.view(), self.store.space(), input, moment) else {
             return Err(self);
         };
         let (answer, framed) = plan.into_parts();
@@ -67,7 +67,7 @@ impl<D: Disk> Planned<D> {
     /// The text of the frame in which the edits will be kept; none where there are none. What follows its first four
     /// bytes is the code of the change.
     pub fn frame(&self) -> Option<&Text>
-        ensures { AreFramed self.now.plan.edits (option_map (λ text. text.now) result) }
+        ensures { AreFramed self.now.node.format self.now.plan.edits (option_map (λ text. text.now) result) }
     {
         self.changing.frame()
     }
@@ -86,7 +86,8 @@ impl<D: Disk> Planned<D> {
         ensures fused { IsFusedView calls (D.told self.node.disk) (fused_view D.told result.node.disk) }
         ensures party { result.node.party ≡ self.node.party }
         ensures place { (result.node.gate ≡ self.node.gate) × (result.node.end ≡ self.node.end) }
-        ensures stands { IsStore (fused_view D.told result.node.disk) result.node.gate result.node.end result.node.party }
+        ensures format { result.node.format ≡ self.node.format }
+        ensures stands { IsStore (fused_view D.told result.node.disk) result.node.gate result.node.end result.node.format result.node.party }
         ensures plan { result.plan ≡ self.plan }
     {
         Planned {

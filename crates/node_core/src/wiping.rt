@@ -7,7 +7,7 @@ use x_base::Verdict;
 use x_disk::Disk;
 
 impl<D: Disk> Node<D> {
-    /// Overwrites with zeros each byte of the file that doesn't count. The party stays with its room, whatever a crash
+    /// Overwrites with zeros each byte of the file that doesn't count. The party stays with its space, whatever a crash
     /// leaves.
     pub fn wipe(self) -> Turn<D>
         ensures { IsTurn D.told self wiping result }

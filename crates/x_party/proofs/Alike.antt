@@ -1,11 +1,14 @@
 -- One disk tells what another does, step after step.
-use Rattle.std.proofs.Common.{◌≡◌, ℕ, ◌-◌, List, refl, sym, ◌∙◌, subst, arith}
+use Rattle.std.proofs.Common.{◌≡◌, ℕ, ◌+◌, ◌-◌, List, refl, sym, ◌∙◌, subst, arith}
 use Rattle.x_disk.specs.Disk.{View, LeavesOnly, LeavesNoMore, IsSound, IsUntouched}
 use Rattle.x_disk.specs.Shelf.{IsAlike, OthersStay}
 use Rattle.x_disk.proofs.Runs.{began, joined, weaker, begins_alike, ends_alike}
 use Rattle.party_state.specs.State.{Party}
-use Rattle.key_store.specs.Store.{Stored, IsStore}
-use Rattle.x_party.specs.Images.{ReadsAs, StandsFor}
+use Rattle.key_journal.specs.States.{room_of}
+use Rattle.change_code.specs.declared.format.Format.{Format}
+use Rattle.change_code.specs.declared.space.Space.{Space}
+use Rattle.key_store.specs.Store.{Stored, IsStore, space, space_between}
+use Rattle.x_party.specs.Images.{StandsFor}
 
 pub alike_trans : (u v w : View) → IsAlike u v → IsAlike v w → IsAlike u w
 alike_trans u v w first second = record {
@@ -43,31 +46,35 @@ untouched_on old v w new first second back = record {
       (ends_alike v w new old.may_leave (weaker v w v.may_leave old.may_leave second.any_moment first.images) back);
 }
 
-pub reads_alike : (v w : View) (party : Party) (room : ℕ) → ReadsAs v party room → w.now ≡ v.now → ReadsAs w party room
-reads_alike v w party room reads same = record {
-  stands = λ image now. reads.stands image (sym same ∙ now);
-  left = λ bodies has. reads.left bodies (record { image = has.image; now = sym same ∙ has.now; holds = has.holds });
-}
-
-pub stands_alike : (v w : View) (party : Party) (room : ℕ) → StandsFor v party room → IsAlike v w → StandsFor w party room
-stands_alike v w party room stands alike = record {
+pub stands_alike : (v w : View) (party : Party) (left : Space) → StandsFor v party left → IsAlike v w → StandsFor w party left
+stands_alike v w party left stands alike = record {
   durable = record {
-    only = λ b c now left. stands.durable.only b c (sym alike.now ∙ now) (alike.images c left);
+    only = λ b c now stays. stands.durable.only b c (sym alike.now ∙ now) (alike.images c stays);
     stable = alike.stable ∙ (stands.durable.stable ∙ sym alike.now);
   };
-  reads = reads_alike v w party room stands.reads alike.now;
+  reads = λ image now. stands.reads image (sym alike.now ∙ now);
 }
 
-pub store_stands : (v : View) (gate end : ℕ) (party : Party) → IsStore v gate end party → StandsFor v party (end - gate)
-store_stands v gate end party store = record {
+left_over : (end gate room : ℕ) → end ≡ gate + room → room ≡ end - gate
+left_over end gate room is = omega (arith, is)
+
+pub store_stands : (v : View) (gate end : ℕ) (f : Format) (party : Party) → IsStore v gate end f party → StandsFor v party (space_between gate end f)
+store_stands v gate end f party store = record {
   durable = store.durable;
-  reads = record { stands = store.stands; left = λ bodies has. omega (arith, store.room bodies has) };
+  reads = λ image now.
+      let s = store.stands image now in
+      record {
+        bodies = s.bodies;
+        holds = s.holds;
+        fold = s.fold;
+        left = left_over end gate (room_of s.bodies) (store.room s.bodies (record { image = image; now = now; holds = s.holds }));
+      };
 }
 
--- a store that stayed: no call was made over its disk, and it stands for the same party with the same room
+-- a store that stayed: no call was made over its disk, and it stands for the same party with the same space
 module _ {D : Type 0} (told : D → View) (old new : Stored D) (is : new ≡ old) where
   pub same_disk : IsSound (told old.disk) → IsUntouched (told old.disk) (told new.disk)
   same_disk sound = subst (λ (s : Stored D). IsUntouched (told old.disk) (told s.disk)) (sym is) (untouched_self (told old.disk) sound)
 
-  pub old_stands : IsStore (told new.disk) new.gate new.end new.party → StandsFor (told new.disk) old.party (old.end - old.gate)
-  old_stands store = subst (λ (s : Stored D). StandsFor (told new.disk) s.party (s.end - s.gate)) is (store_stands (told new.disk) new.gate new.end new.party store)
+  pub old_stands : IsStore (told new.disk) new.gate new.end new.format new.party → StandsFor (told new.disk) old.party (space old)
+  old_stands store = subst (λ (s : Stored D). StandsFor (told new.disk) s.party (space s)) is (store_stands (told new.disk) new.gate new.end new.format new.party store)

@@ -1,16 +1,19 @@
 -- Some outcome is due of a call over an image of bytes.
-use Rattle.std.proofs.Common.{◌≡◌, ◌≢◌, inl, inr, ℕ, Bool, true, false, List, Some, None, refl}
+use Rattle.std.proofs.Common.{◌≡◌, ◌≢◌, inl, inr, ℕ, Bool, true, false, List, Option, Some, None, refl}
 use Rattle.x_base.specs.declared.verdict.Verdict.TheVariants.{Accept, JournalFull, NotEmpty, Blank}
 use Rattle.key_journal.specs.Journal.{is_blank}
 use Rattle.key_journal.specs.Opening.{AreBytes}
 use Rattle.party_state.specs.declared.command.Input.{Input}
 use Rattle.party_state.specs.State.{Party}
 use Rattle.party_show.specs.Show.{shown}
-use Rattle.change_code.specs.Whole.{IsTooLarge}
-use Rattle.key_store.specs.Store.{Stands, IsNothing}
+use Rattle.key_journal.specs.States.{room_of}
+use Rattle.change_code.specs.declared.format.Format.{Format}
+use Rattle.change_code.specs.declared.space.Space.{Space}
+use Rattle.change_code.specs.Cost.{fits}
+use Rattle.key_store.specs.Store.{Stands, StandsWith, IsNothing}
 use Rattle.roles.specs.Deciding.{decision}
-use Rattle.x_party.specs.Images.{FitsImage}
-use Rattle.x_party.specs.Dues.{IsDue, IsDueCompaction, IsDueCreation, IsDueShow, IsDueWiping}
+use Rattle.x_party.specs.Outcomes.{IsTooLargeIn}
+use Rattle.x_party.specs.Dues.{IsDue, IsDueRewriting, IsDueCreation, IsDueShow, IsDueWiping}
 use Rattle.x_party.specs.declared.outcome.Outcome.{Outcome}
 use Rattle.x_party.specs.declared.outcome.Outcome.TheVariants as outcome
 
@@ -35,15 +38,19 @@ module _ (one_of : (image : List ℕ) → AreBytes image → IsNothing image →
     no_party : (party : Party) → Stands image party → ⊥
     no_party party stood =
         let d = decision party i moment in
+        let space : Space = record { format = stood.format; room = room_of stood.stands.bodies } in
+        let with : StandsWith image party space = record { bodies = stood.stands.bodies; holds = stood.stands.holds; fold = stood.stands.fold; left = refl } in
         let other : (party.own ≢ name) → ⊥ = λ differs. never (outcome.OtherParty name party.own)
         (record { party = party; stood = stood; called = refl; own = refl; differs = differs }) in
         other (λ own.
         let refuses : (d.verdict ≢ Accept) → ⊥ = λ refused. never (outcome.Refused d.verdict d.reply)
-        (inl (record { party = party; stood = stood; own = own; cause = inl (record { refuses = refused; verdict = refl; reply = refl }) })) in
+        (inl (record { party = party; space = space; stood = with; own = own; cause = inl (record { refuses = refused; verdict = refl; reply = refl }) })) in
         refuses (λ accepted.
-        let full : (FitsImage image d.change → ⊥) → ⊥ = λ full. never (outcome.Refused JournalFull None)
-        (inl (record { party = party; stood = stood; own = own; cause = inr (record { accepts = accepted; full = full; verdict = refl; reply = refl }) })) in
-        full (λ fits. never (outcome.Done d.reply) (record { party = party; stood = stood; own = own; accepted = accepted; fits = fits; written = refl }))))
+        let full : fits space d.change ≡ false → ⊥ = λ full. never (outcome.Refused JournalFull None)
+        (inl (record { party = party; space = space; stood = with; own = own; cause = inr (record { accepts = accepted; full = full; verdict = refl; reply = refl }) })) in
+        let accepts : fits space d.change ≡ true → ⊥ = λ fit. never (outcome.Done d.reply)
+        (record { party = party; space = space; stood = with; own = own; accepted = accepted; fits = fit; written = refl }) in
+        full (is_false (fits space d.change) accepts)))
 
   pub show_due : (image : List ℕ) → AreBytes image → ((o : Outcome) → IsDueShow image o → ⊥) → ⊥
   show_due image bytes never = one_of image bytes (record {
@@ -52,17 +59,17 @@ module _ (one_of : (image : List ℕ) → AreBytes image → IsNothing image →
     undamaged = λ place first. never (outcome.Damaged place) first;
   })
 
-  pub compaction_due : (image : List ℕ) → AreBytes image → ((o : Outcome) → IsDueCompaction image o → ⊥) → ⊥
-  compaction_due image bytes never = one_of image bytes (record {
+  pub rewriting_due : (format : Format → Option Format) (image : List ℕ) → AreBytes image → ((o : Outcome) → IsDueRewriting format image o → ⊥) → ⊥
+  rewriting_due format image bytes never = one_of image bytes (record {
     not_blank = is_false (is_blank image) (λ blank. never (outcome.Refused Blank None) (inr (record { blank = blank; said = refl; written = refl })));
     no_party = no_party;
     undamaged = λ place first. never (outcome.Damaged place) first;
   }) where
     no_party : (party : Party) → Stands image party → ⊥
     no_party party stood =
-        let fits : IsTooLarge party → ⊥ = λ large. never (outcome.Refused JournalFull None)
-        (inl (record { party = party; stood = stood; too_large = large; said = refl; nothing = refl })) in
-        never (outcome.Done None) (record { party = party; stood = stood; fits = fits; nothing = refl })
+        let small : IsTooLargeIn (format stood.format) party → ⊥ = λ large. never (outcome.Refused JournalFull None)
+        (inl (record { party = party; own = stood.format; stood = stood.stands; too_large = large; said = refl; nothing = refl })) in
+        never (outcome.Done None) (record { party = party; own = stood.format; stood = stood.stands; fits = small; nothing = refl })
 
   pub wiping_due : (image : List ℕ) → AreBytes image → ((o : Outcome) → IsDueWiping image o → ⊥) → ⊥
   wiping_due image bytes never = one_of image bytes (record {

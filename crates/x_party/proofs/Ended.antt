@@ -13,8 +13,10 @@ use Rattle.party_state.specs.declared.decision.Decision.{Decision}
 use Rattle.party_state.specs.declared.decision.Lead.{Lead}
 use Rattle.party_state.specs.State.{Party}
 use Rattle.party_state.specs.Verdicts.{is_accept}
-use Rattle.change_code.specs.Cost.{fits, room_after}
-use Rattle.key_store.specs.Store.{Stored, StandsWith, IsStore, IsOldOrNew}
+use Rattle.change_code.specs.declared.format.Format.{Format}
+use Rattle.change_code.specs.declared.space.Space.{Space}
+use Rattle.change_code.specs.Cost.{fits, space_after}
+use Rattle.key_store.specs.Store.{Stored, StandsWith, IsStore, IsOldOrNew, space, space_between}
 use Rattle.member.specs.Member.{Member, Plan, after, as_decided, as_full, plan_of}
 use Rattle.member.specs.Acts.{Keeps, taking}
 use Rattle.node_core.specs.Turns.{member_of, IsOldOrNext, IsWorkDone, IsWorkCut, IsTurn, turn_disk}
@@ -23,7 +25,6 @@ use Rattle.node_core.specs.declared.node.Turn.TheVariants as turn
 use Rattle.x_party.specs.Images.{StandsFor}
 use Rattle.x_party.specs.Outcomes.{IsToKeep}
 use Rattle.x_party.specs.Steps.{outcome_of, outcome_with, outcome_of_turn}
-use Rattle.x_party.specs.declared.outcome.Outcome.{Outcome}
 use Rattle.x_party.specs.declared.outcome.Outcome.TheVariants as outcome
 use Rattle.x_party.proofs.Acts.{Acts, HasActed}
 use Rattle.x_party.proofs.Alike.{store_stands, same_disk, old_stands}
@@ -33,23 +34,23 @@ accepting Accept is = refl
 accepting v is = absurd (cc is)
 
 -- each member of what is left stands on the disk
-pub member_stands : (v : View) (gate end : ℕ) (p : Party) (x : Member) → IsStore v gate end p → (let here : Member = record { party = p; room = end - gate } in here) ≡ x → StandsFor v x.party x.room
-member_stands v gate end p x store is = subst (λ (m : Member). StandsFor v m.party m.room) is (store_stands v gate end p store)
+pub member_stands : (v : View) (gate end : ℕ) (f : Format) (p : Party) (x : Member) → IsStore v gate end f p → (let here : Member = record { party = p; space = space_between gate end f } in here) ≡ x → StandsFor v x.party x.space
+member_stands v gate end f p x store is = subst (λ (m : Member). StandsFor v m.party m.space) is (store_stands v gate end f p store)
 
 none_left : (n : ℕ) → n - 0 ≡ n
 none_left n = omega arith
 
 -- where nothing is kept, the member is as it was
-pub same_left : (p : Party) (room : ℕ) (c : List ℕ) → StandsWith c p (room_after room []) → StandsWith c p room
-same_left p room c stands = subst (λ (n : ℕ). StandsWith c p n) (none_left room) stands
+pub same_left : (p : Party) (f : Format) (room : ℕ) (c : List ℕ) → (let space : Space = record { format = f; room = room } in StandsWith c p (space_after space [])) → StandsWith c p (record { format = f; room = room })
+same_left p f room c stands = subst (λ (n : ℕ). StandsWith c p (record { format = f; room = n })) (none_left room) stands
 
 module _ {D : Type 0} (told : D → View) (name : List ℕ) (old : Stored D) (d : Decision) (l : Option Lead) (own : old.party.own ≡ name) (sound : IsSound (told old.disk))
     (refusal : is_accept d.verdict ≡ false → d.change ≡ []) where
-  abbrev left : ℕ
-  left = old.end - old.gate
+  abbrev left : Space
+  left = space old
 
   abbrev ToKeep : Type 0
-  ToKeep = IsToKeep name old.party d (fits left d.change ≡ true)
+  ToKeep = IsToKeep name old.party d left
 
   accepts_edits : d.change ≢ [] → d.verdict ≡ Accept
   accepts_edits some = go (is_accept d.verdict) refl where
@@ -73,7 +74,7 @@ module _ {D : Type 0} (told : D → View) (name : List ℕ) (old : Stored D) (d 
 
   module _ (fit : fits left d.change ≡ true) where
     to_keep : d.change ≢ [] → ToKeep
-    to_keep some = record { own = own; accepts = accepts_edits some; changes = some; enough = fit }
+    to_keep some = record { own = own; accepts = accepts_edits some; changes = some; fits = fit }
 
     done_still : (es : List Edit) → d.change ≡ es → (new : Stored D) → IsWorkDone told (Keeps es) old new → (ToKeep → ⊥) → IsUntouched (told old.disk) (told new.disk)
     done_still [] is new work none = same_disk told old new work sound
@@ -102,7 +103,7 @@ module _ {D : Type 0} (told : D → View) (name : List ℕ) (old : Stored D) (d 
             accepts = accepting d.verdict is;
             fits = fit;
             reply = turned.answer.reply;
-            stands = member_stands (told new.disk) new.gate new.end new.party (after (member_of old) d.change) turned.stands turned.answer.next;
+            stands = member_stands (told new.disk) new.gate new.end new.format new.party (after (member_of old) d.change) turned.stands turned.answer.next;
             unchanged = λ none. same_disk told old new (same none) sound;
           },
         )
@@ -136,7 +137,7 @@ module _ {D : Type 0} (told : D → View) (name : List ℕ) (old : Stored D) (d 
         subst (λ (v : Verdict). Acts name (told old.disk) (told new.disk) left old.party d (outcome_with v reply)) (sym turned.answer.verdict) (
           own,
           record {
-            cause = inr (record { accepts = accepts_edits some_change; full = too_long; verdict = refl; reply = turned.answer.reply });
+            cause = inr (record { accepts = accepts_edits some_change; full = full; verdict = refl; reply = turned.answer.reply });
             stands = old_stands told old new turned.answer.work turned.stands;
             untouched = same_disk told old new turned.answer.work sound;
           },
@@ -147,7 +148,7 @@ module _ {D : Type 0} (told : D → View) (name : List ℕ) (old : Stored D) (d 
     run_full : (t : Turn D) → IsTurn told old (taking (as_full l)) t → Tells (told old.disk) → LeavesOnly (told old.disk) (told (turn_disk t)) (IsOldOrNew old.party left d.change)
     run_full t turned tells =
         weaker (told old.disk) (told (turn_disk t)) (IsOldOrNext (member_of old) (after (member_of old) [])) (IsOldOrNew old.party left d.change) (turned.any_moment tells)
-        (λ c either. elim either [ inl stays ↦ inl stays | inr same ↦ inl (same_left old.party left c same) ])
+        (λ c either. elim either [ inl stays ↦ inl stays | inr same ↦ inl (same_left old.party old.format (old.end - old.gate) c same) ])
 
   -- ---- either
 
@@ -157,7 +158,7 @@ module _ {D : Type 0} (told : D → View) (name : List ℕ) (old : Stored D) (d 
   at_full : fits left d.change ≡ false → plan_of left l d ≡ as_full l
   at_full full = ap (λ (b : Bool). cond b (as_decided l d) (as_full l)) full
 
-  has_acted : (t : Turn D) → IsTurn told old (taking (plan_of left l d)) t → HasActed name (told old.disk) (told (turn_disk t)) left old.party d (outcome_of_turn t)
+  pub has_acted : (t : Turn D) → IsTurn told old (taking (plan_of left l d)) t → HasActed name (told old.disk) (told (turn_disk t)) left old.party d (outcome_of_turn t)
   has_acted t turned = go (fits left d.change) refl where
     go : (b : Bool) → fits left d.change ≡ b → HasActed name (told old.disk) (told (turn_disk t)) left old.party d (outcome_of_turn t)
     go true fit =
@@ -178,9 +179,3 @@ module _ {D : Type 0} (told : D → View) (name : List ℕ) (old : Stored D) (d 
           tells = turned.tells;
           faults = turned.faults;
         }
-
-  pub acted_by : (t : Turn D) (o : Outcome) (disk : D) → IsTurn told old (taking (plan_of left l d)) t → disk ≡ turn_disk t → o ≡ outcome_of_turn t
-      → HasActed name (told old.disk) (told disk) left old.party d o
-  acted_by t o disk turned disk_is is =
-      subst (λ (x : D). HasActed name (told old.disk) (told x) left old.party d o) (sym disk_is)
-      (subst (λ (x : Outcome). HasActed name (told old.disk) (told (turn_disk t)) left old.party d x) (sym is) (has_acted t turned))

@@ -6,18 +6,19 @@ use Rattle.x_disk.specs.Disk.{View}
 use Rattle.key_journal.specs.Journal.{is_blank}
 use Rattle.party_state.specs.declared.command.Input.{Input}
 use Rattle.party_state.specs.declared.decision.Decision.{Decision}
-use Rattle.party_state.specs.declared.edit.Edit.{Edit}
 use Rattle.party_state.specs.State.{Party}
 use Rattle.party_show.specs.Show.{shown}
-use Rattle.change_code.specs.Whole.{IsTooLarge}
-use Rattle.key_store.specs.Store.{Stands, IsFirstDamage}
-use Rattle.roles.specs.Deciding.{decision}
+use Rattle.change_code.specs.declared.format.Format.{Format}
+use Rattle.change_code.specs.declared.space.Space.{Space}
 use Rattle.change_code.specs.Cost.{fits}
-use Rattle.x_party.specs.Images.{ReadsAs, OfOwnParty, FitsImage}
-use Rattle.x_party.specs.Outcomes.{IsAsDecided, IsTooLong, IsRefused, IsNobody, CreatesParty, ShowsParty, CompactsParty, WipesParty, TakesTurn}
-use Rattle.x_party.specs.Dues.{Accepts, Refuses, FindsOther, FindsNobody, FitsOneFrame, PassesOneFrame, IsDue, IsDueCreation, IsDueShow, IsDueCompaction, IsDueWiping, GivesDue}
+use Rattle.key_store.specs.Store.{Stands, StandsAs, StandsWith, IsFirstDamage}
+use Rattle.roles.specs.Deciding.{decision}
+use Rattle.x_party.specs.Images.{OfOwnParty}
+use Rattle.x_party.specs.Outcomes.{IsAsDecided, IsTooLong, IsTooLargeIn, IsRefused, IsNobody, CreatesParty, ShowsParty, RewritesParty, WipesParty, TakesTurn}
+use Rattle.x_party.specs.Dues.{Accepts, Refuses, FindsOther, FindsNobody, FitsOneFrame, PassesOneFrame, IsDue, IsDueCreation, IsDueShow, IsDueRewriting, IsDueWiping, GivesDue}
 use Rattle.x_party.specs.declared.outcome.Outcome.{Outcome}
 use Rattle.x_party.specs.declared.outcome.Outcome.TheVariants as outcome
+use Rattle.x_party.proofs.Spaces.{as_format, in_format, so}
 
 -- the outcome is due, or a fault or want of memory came in its place
 abbrev DueOr : Outcome → Type 0 → Type 0
@@ -54,80 +55,68 @@ nobody_due : (old new : View) (image : List ℕ) (verdict : Verdict) (reply : Op
 nobody_due old new image verdict reply now none = record { blank = none.blank image now; said = none.verdict; written = none.reply }
 
 due_shown : (old new : View) (o : Outcome) → ShowsParty old new o → (image : List ℕ) → old.now ≡ Some image → DueOr o (IsDueShow image o)
-due_shown old new (outcome.Done reply) is image now = inl (is.party, is.reads.stands image now, is.holds.text)
+due_shown old new (outcome.Done reply) is image now = inl (is.party, so image is.party is.space (is.reads image now), is.holds.text)
 due_shown old new (outcome.Refused verdict reply) is image now = inl (nobody_due old new image verdict reply now is)
 due_shown old new (outcome.OtherParty asked found) is image now = absurd is
 due_shown old new (outcome.Damaged place) is image now = inl (is.first image now)
 due_shown old new outcome.Fault is image now = inr (inl refl)
 due_shown old new outcome.NoMemory is image now = inr (inr refl)
 
-due_compacted : (old new : View) (o : Outcome) → CompactsParty old new o → (image : List ℕ) → old.now ≡ Some image → DueOr o (IsDueCompaction image o)
-due_compacted old new (outcome.Done reply) k image now =
-    inl (record { party = k.party; stood = k.reads.stands image now; fits = k.holds.fits; nothing = k.holds.nothing })
-due_compacted old new (outcome.Refused verdict reply) (inl k) image now = inl (inl (record {
+due_rewritten : (format : Format → Option Format) (old new : View) (o : Outcome) → RewritesParty format old new o → (image : List ℕ) → old.now ≡ Some image → DueOr o (IsDueRewriting format image o)
+due_rewritten format old new (outcome.Done reply) k image now = inl (record {
   party = k.party;
-  stood = k.reads.stands image now;
+  own = k.space.format;
+  stood = as_format image k.party k.space (k.reads image now);
+  fits = k.holds.fits;
+  nothing = k.holds.nothing;
+})
+due_rewritten format old new (outcome.Refused verdict reply) (inl k) image now = inl (inl (record {
+  party = k.party;
+  own = k.space.format;
+  stood = as_format image k.party k.space (k.reads image now);
   too_large = k.holds.too_large;
   said = k.holds.verdict;
   nothing = k.holds.nothing;
 }))
-due_compacted old new (outcome.Refused verdict reply) (inr none) image now = inl (inr (nobody_due old new image verdict reply now none))
-due_compacted old new (outcome.OtherParty asked found) is image now = absurd is
-due_compacted old new (outcome.Damaged place) is image now = inl (is.first image now)
-due_compacted old new outcome.Fault is image now = inr (inl refl)
-due_compacted old new outcome.NoMemory is image now = inr (inr refl)
+due_rewritten format old new (outcome.Refused verdict reply) (inr none) image now = inl (inr (nobody_due old new image verdict reply now none))
+due_rewritten format old new (outcome.OtherParty asked found) is image now = absurd is
+due_rewritten format old new (outcome.Damaged place) is image now = inl (is.first image now)
+due_rewritten format old new outcome.Fault is image now = inr (inl refl)
+due_rewritten format old new outcome.NoMemory is image now = inr (inr refl)
 
 due_wiped : (old new : View) (o : Outcome) → WipesParty old new o → (image : List ℕ) → old.now ≡ Some image → DueOr o (IsDueWiping image o)
-due_wiped old new (outcome.Done reply) k image now = inl (record { party = k.party; stood = k.reads.stands image now; nothing = k.holds.nothing })
+due_wiped old new (outcome.Done reply) k image now = inl (record { party = k.party; stood = so image k.party k.space (k.reads image now); nothing = k.holds.nothing })
 due_wiped old new (outcome.Refused verdict reply) is image now = inl (nobody_due old new image verdict reply now is)
 due_wiped old new (outcome.OtherParty asked found) is image now = absurd is
 due_wiped old new (outcome.Damaged place) is image now = inl (is.first image now)
 due_wiped old new outcome.Fault is image now = inr (inl refl)
 due_wiped old new outcome.NoMemory is image now = inr (inr refl)
 
--- the room that is left is that of the image
-module _ (old : View) (image : List ℕ) (party : Party) (room : ℕ) (reads : ReadsAs old party room) (now : old.now ≡ Some image) (change : List Edit) where
-  fits_image : fits room change ≡ true → FitsImage image change
-  fits_image fit = λ bodies holds. subst (λ (n : ℕ). fits n change ≡ true) (sym (reads.left bodies (record { image = image; now = now; holds = holds }))) fit
-
-  fits_room : FitsImage image change → fits room change ≡ true
-  fits_room fit =
-      let s = reads.stands image now in
-      subst (λ (n : ℕ). fits n change ≡ true) (reads.left s.bodies (record { image = image; now = now; holds = s.holds })) (fit s.bodies s.holds)
-
 -- why a decision is answered by a refusal
-abbrev Cause : Decision → Type 0 → Verdict → Option (List ℕ) → Type 0
-Cause d has_room verdict reply = IsAsDecided d verdict reply ⊎ IsTooLong d has_room verdict reply
+abbrev Cause : Decision → Space → Verdict → Option (List ℕ) → Type 0
+Cause d space verdict reply = IsAsDecided d verdict reply ⊎ IsTooLong d space verdict reply
 
 module _ (name : List ℕ) (old new : View) (i : Input) (moment : ℕ) (image : List ℕ) (now : old.now ≡ Some image) where
   refused_due : (verdict : Verdict) (reply : Option (List ℕ))
-      → OfOwnParty name old (λ party room. IsRefused old new (decision party i moment) party room verdict reply) ⊎ IsNobody old new verdict reply
+      → OfOwnParty name old (λ party space. IsRefused old new (decision party i moment) party space verdict reply) ⊎ IsNobody old new verdict reply
       → Refuses name image i moment verdict reply ⊎ FindsNobody image verdict reply
   refused_due verdict reply (inr none) = inr (nobody_due old new image verdict reply now none)
-  refused_due verdict reply (inl k) = inl (record { party = k.party; stood = k.reads.stands image now; own = k.own; cause = go k.holds.cause }) where
-    go : Cause (decision k.party i moment) (fits k.room (decision k.party i moment).change ≡ true) verdict reply
-        → Cause (decision k.party i moment) (FitsImage image (decision k.party i moment).change) verdict reply
-    go (inl decided) = inl decided
-    go (inr f) = inr (record {
-      accepts = f.accepts;
-      full = λ fit. f.full (fits_room old image k.party k.room k.reads now (decision k.party i moment).change fit);
-      verdict = f.verdict;
-      reply = f.reply;
-    })
+  refused_due verdict reply (inl k) = inl (record { party = k.party; space = k.space; stood = k.reads image now; own = k.own; cause = k.holds.cause })
 
   due_turned : (o : Outcome) → TakesTurn name old new i moment o → DueOr o (IsDue name i moment image o)
   due_turned (outcome.Done reply) k = inl (record {
     party = k.party;
-    stood = k.reads.stands image now;
+    space = k.space;
+    stood = k.reads image now;
     own = k.own;
     accepted = k.holds.accepts;
-    fits = fits_image old image k.party k.room k.reads now (decision k.party i moment).change k.holds.fits;
+    fits = k.holds.fits;
     written = k.holds.reply;
   })
   due_turned (outcome.Refused verdict reply) is = inl (refused_due verdict reply is)
   due_turned (outcome.OtherParty asked found) k = inl (record {
     party = k.party;
-    stood = k.reads.stands image now;
+    stood = so image k.party k.space (k.reads image now);
     called = k.holds.called;
     own = k.holds.stood;
     differs = λ same. k.holds.differs (k.holds.stood ∙ same);
@@ -159,16 +148,16 @@ one_creation image outcome.NoMemory b a c = absurd a
 pub created_due : (old new : View) (p : Party) (o : Outcome) → CreatesParty old new p o → GivesDue old IsDueCreation o
 created_due old new p o is = gives old o IsDueCreation (due_created old new p o is) one_creation
 
-refused_or : {A : Type 0} (d : Decision) (has_room : Type 0) (v : Verdict) (r : Option (List ℕ)) → d.verdict ≡ Accept → has_room → Cause d has_room v r → A
-refused_or d has_room v r accepted fit (inl k) = absurd (k.refuses accepted)
-refused_or d has_room v r accepted fit (inr k) = absurd (k.full fit)
+refused_or : {A : Type 0} (d : Decision) (space : Space) (v : Verdict) (r : Option (List ℕ)) → d.verdict ≡ Accept → fits space d.change ≡ true → Cause d space v r → A
+refused_or d space v r accepted fit (inl k) = absurd (k.refuses accepted)
+refused_or d space v r accepted fit (inr k) = let no : true ≡ false = sym fit ∙ k.full in absurd cc
 
-same_refusal : (d : Decision) (has_room : Type 0) (v w : Verdict) (r t : Option (List ℕ)) → Cause d has_room v r → Cause d has_room w t
+same_refusal : (d : Decision) (space : Space) (v w : Verdict) (r t : Option (List ℕ)) → Cause d space v r → Cause d space w t
     → outcome.Refused v r ≡ outcome.Refused w t
-same_refusal d has_room v w r t (inl a) (inl b) = refused_same v w r t (a.verdict ∙ sym b.verdict) (a.reply ∙ sym b.reply)
-same_refusal d has_room v w r t (inl a) (inr b) = absurd (a.refuses b.accepts)
-same_refusal d has_room v w r t (inr a) (inl b) = absurd (b.refuses a.accepts)
-same_refusal d has_room v w r t (inr a) (inr b) = refused_same v w r t (a.verdict ∙ sym b.verdict) (a.reply ∙ sym b.reply)
+same_refusal d space v w r t (inl a) (inl b) = refused_same v w r t (a.verdict ∙ sym b.verdict) (a.reply ∙ sym b.reply)
+same_refusal d space v w r t (inl a) (inr b) = absurd (a.refuses b.accepts)
+same_refusal d space v w r t (inr a) (inl b) = absurd (b.refuses a.accepts)
+same_refusal d space v w r t (inr a) (inr b) = refused_same v w r t (a.verdict ∙ sym b.verdict) (a.reply ∙ sym b.reply)
 
 module _ (one_party : (image : List ℕ) (first second : Party) → Stands image first → Stands image second → first ≡ second)
     (not_blank : (image : List ℕ) (party : Party) → Stands image party → is_blank image ≡ false)
@@ -209,50 +198,55 @@ module _ (one_party : (image : List ℕ) (first second : Party) → Stands image
   pub shown_due : (old new : View) (o : Outcome) → ShowsParty old new o → GivesDue old IsDueShow o
   shown_due old new o is = gives old o IsDueShow (due_shown old new o is) one_show
 
-  -- ---- a compaction
+  -- ---- a writing of the whole party
 
-  fits_or : {A : Type 0} (image : List ℕ) (r t : Option (List ℕ)) (w : Verdict) → FitsOneFrame image r
-      → PassesOneFrame image w t ⊎ FindsNobody image w t → A
-  fits_or image r t w a (inl b) = absurd (a.fits (subst IsTooLarge (one_party image b.party a.party b.stood a.stood) b.too_large))
-  fits_or image r t w a (inr b) = stands_or_not image a.party w t a.stood b
+  module _ (one_format : (image : List ℕ) (first second : Format) (party other : Party) → StandsAs image first party → StandsAs image second other → first ≡ second)
+      (format : Format → Option Format) where
+    fits_or : {A : Type 0} (image : List ℕ) (r t : Option (List ℕ)) (w : Verdict) → FitsOneFrame format image r
+        → PassesOneFrame format image w t ⊎ FindsNobody image w t → A
+    fits_or image r t w a (inl b) =
+        let same = one_party image b.party a.party (in_format image b.party b.own b.stood) (in_format image a.party a.own a.stood) in
+        let large = subst (IsTooLargeIn (format b.own)) same b.too_large in
+        absurd (a.fits (subst (λ (f : Format). IsTooLargeIn (format f) a.party) (one_format image b.own a.own b.party a.party b.stood a.stood) large))
+    fits_or image r t w a (inr b) = stands_or_not image a.party w t (in_format image a.party a.own a.stood) b
 
-  undamaged_or : {A : Type 0} (image : List ℕ) (place : ℕ) (w : Verdict) (t : Option (List ℕ)) → IsFirstDamage image place
-      → PassesOneFrame image w t ⊎ FindsNobody image w t → A
-  undamaged_or image place w t a (inl b) = absurd (undamaged image b.party place b.stood a)
-  undamaged_or image place w t a (inr b) = blank_or image b.blank a.not_blank
+    undamaged_or : {A : Type 0} (image : List ℕ) (place : ℕ) (w : Verdict) (t : Option (List ℕ)) → IsFirstDamage image place
+        → PassesOneFrame format image w t ⊎ FindsNobody image w t → A
+    undamaged_or image place w t a (inl b) = absurd (undamaged image b.party place (in_format image b.party b.own b.stood) a)
+    undamaged_or image place w t a (inr b) = blank_or image b.blank a.not_blank
 
-  same_full : (image : List ℕ) (v w : Verdict) (r t : Option (List ℕ)) → PassesOneFrame image v r ⊎ FindsNobody image v r
-      → PassesOneFrame image w t ⊎ FindsNobody image w t → outcome.Refused v r ≡ outcome.Refused w t
-  same_full image v w r t (inl a) (inl b) = refused_same v w r t (a.said ∙ sym b.said) (a.nothing ∙ sym b.nothing)
-  same_full image v w r t (inl a) (inr b) = stands_or_not image a.party w t a.stood b
-  same_full image v w r t (inr a) (inl b) = stands_or_not image b.party v r b.stood a
-  same_full image v w r t (inr a) (inr b) = both_nobody image v w r t a b
+    same_full : (image : List ℕ) (v w : Verdict) (r t : Option (List ℕ)) → PassesOneFrame format image v r ⊎ FindsNobody image v r
+        → PassesOneFrame format image w t ⊎ FindsNobody image w t → outcome.Refused v r ≡ outcome.Refused w t
+    same_full image v w r t (inl a) (inl b) = refused_same v w r t (a.said ∙ sym b.said) (a.nothing ∙ sym b.nothing)
+    same_full image v w r t (inl a) (inr b) = stands_or_not image a.party w t (in_format image a.party a.own a.stood) b
+    same_full image v w r t (inr a) (inl b) = stands_or_not image b.party v r (in_format image b.party b.own b.stood) a
+    same_full image v w r t (inr a) (inr b) = both_nobody image v w r t a b
 
-  one_compaction : (image : List ℕ) (a b : Outcome) → IsDueCompaction image a → IsDueCompaction image b → a ≡ b
-  one_compaction image (outcome.Done r) (outcome.Done t) a b = done_same r t (a.nothing ∙ sym b.nothing)
-  one_compaction image (outcome.Done r) (outcome.Refused w t) a b = fits_or image r t w a b
-  one_compaction image (outcome.Done r) (outcome.OtherParty asked found) a b = absurd b
-  one_compaction image (outcome.Done r) (outcome.Damaged place) a b = absurd (undamaged image a.party place a.stood b)
-  one_compaction image (outcome.Done r) outcome.Fault a b = absurd b
-  one_compaction image (outcome.Done r) outcome.NoMemory a b = absurd b
-  one_compaction image (outcome.Refused v r) (outcome.Done t) a b = fits_or image t r v b a
-  one_compaction image (outcome.Refused v r) (outcome.Refused w t) a b = same_full image v w r t a b
-  one_compaction image (outcome.Refused v r) (outcome.OtherParty asked found) a b = absurd b
-  one_compaction image (outcome.Refused v r) (outcome.Damaged place) a b = undamaged_or image place v r b a
-  one_compaction image (outcome.Refused v r) outcome.Fault a b = absurd b
-  one_compaction image (outcome.Refused v r) outcome.NoMemory a b = absurd b
-  one_compaction image (outcome.OtherParty asked found) b a c = absurd a
-  one_compaction image (outcome.Damaged place) (outcome.Done t) a b = absurd (undamaged image b.party place b.stood a)
-  one_compaction image (outcome.Damaged place) (outcome.Refused w t) a b = undamaged_or image place w t a b
-  one_compaction image (outcome.Damaged place) (outcome.OtherParty asked found) a b = absurd b
-  one_compaction image (outcome.Damaged place) (outcome.Damaged other) a b = ap outcome.Damaged (one_damage image place other a b)
-  one_compaction image (outcome.Damaged place) outcome.Fault a b = absurd b
-  one_compaction image (outcome.Damaged place) outcome.NoMemory a b = absurd b
-  one_compaction image outcome.Fault b a c = absurd a
-  one_compaction image outcome.NoMemory b a c = absurd a
+    one_rewriting : (image : List ℕ) (a b : Outcome) → IsDueRewriting format image a → IsDueRewriting format image b → a ≡ b
+    one_rewriting image (outcome.Done r) (outcome.Done t) a b = done_same r t (a.nothing ∙ sym b.nothing)
+    one_rewriting image (outcome.Done r) (outcome.Refused w t) a b = fits_or image r t w a b
+    one_rewriting image (outcome.Done r) (outcome.OtherParty asked found) a b = absurd b
+    one_rewriting image (outcome.Done r) (outcome.Damaged place) a b = absurd (undamaged image a.party place (in_format image a.party a.own a.stood) b)
+    one_rewriting image (outcome.Done r) outcome.Fault a b = absurd b
+    one_rewriting image (outcome.Done r) outcome.NoMemory a b = absurd b
+    one_rewriting image (outcome.Refused v r) (outcome.Done t) a b = fits_or image t r v b a
+    one_rewriting image (outcome.Refused v r) (outcome.Refused w t) a b = same_full image v w r t a b
+    one_rewriting image (outcome.Refused v r) (outcome.OtherParty asked found) a b = absurd b
+    one_rewriting image (outcome.Refused v r) (outcome.Damaged place) a b = undamaged_or image place v r b a
+    one_rewriting image (outcome.Refused v r) outcome.Fault a b = absurd b
+    one_rewriting image (outcome.Refused v r) outcome.NoMemory a b = absurd b
+    one_rewriting image (outcome.OtherParty asked found) b a c = absurd a
+    one_rewriting image (outcome.Damaged place) (outcome.Done t) a b = absurd (undamaged image b.party place (in_format image b.party b.own b.stood) a)
+    one_rewriting image (outcome.Damaged place) (outcome.Refused w t) a b = undamaged_or image place w t a b
+    one_rewriting image (outcome.Damaged place) (outcome.OtherParty asked found) a b = absurd b
+    one_rewriting image (outcome.Damaged place) (outcome.Damaged other) a b = ap outcome.Damaged (one_damage image place other a b)
+    one_rewriting image (outcome.Damaged place) outcome.Fault a b = absurd b
+    one_rewriting image (outcome.Damaged place) outcome.NoMemory a b = absurd b
+    one_rewriting image outcome.Fault b a c = absurd a
+    one_rewriting image outcome.NoMemory b a c = absurd a
 
-  pub compacted_due : (old new : View) (o : Outcome) → CompactsParty old new o → GivesDue old IsDueCompaction o
-  compacted_due old new o is = gives old o IsDueCompaction (due_compacted old new o is) one_compaction
+    pub rewritten_due : (old new : View) (o : Outcome) → RewritesParty format old new o → GivesDue old (IsDueRewriting format) o
+    rewritten_due old new o is = gives old o (IsDueRewriting format) (due_rewritten format old new o is) one_rewriting
 
   -- ---- a wiping
 
@@ -284,33 +278,35 @@ module _ (one_party : (image : List ℕ) (first second : Party) → Stands image
 
   -- ---- a turn
 
-  module _ (name : List ℕ) (i : Input) (moment : ℕ) where
+  module _ (one_space : (image : List ℕ) (first second : Party) (s t : Space) → StandsWith image first s → StandsWith image second t → (first ≡ second) × (s ≡ t))
+      (name : List ℕ) (i : Input) (moment : ℕ) where
     accepts_or : {A : Type 0} (image : List ℕ) (r t : Option (List ℕ)) (w : Verdict) → Accepts name image i moment r
         → Refuses name image i moment w t ⊎ FindsNobody image w t → A
     accepts_or image r t w a (inl b) =
-        let same : a.party ≡ b.party = one_party image a.party b.party a.stood b.stood in
-        refused_or (decision b.party i moment) (FitsImage image (decision b.party i moment).change) w t
-        (subst (λ (p : Party). (decision p i moment).verdict ≡ Accept) same a.accepted)
-        (subst (λ (p : Party). FitsImage image (decision p i moment).change) same a.fits) b.cause
-    accepts_or image r t w a (inr b) = stands_or_not image a.party w t a.stood b
+        let same = one_space image a.party b.party a.space b.space a.stood b.stood in
+        let fit = subst (λ (s : Space). fits s (decision a.party i moment).change ≡ true) same.1 a.fits in
+        refused_or (decision b.party i moment) b.space w t (subst (λ (p : Party). (decision p i moment).verdict ≡ Accept) same.0 a.accepted)
+        (subst (λ (p : Party). fits b.space (decision p i moment).change ≡ true) same.0 fit) b.cause
+    accepts_or image r t w a (inr b) = stands_or_not image a.party w t (so image a.party a.space a.stood) b
 
     both_accept : (image : List ℕ) (r t : Option (List ℕ)) → Accepts name image i moment r → Accepts name image i moment t → outcome.Done r ≡ outcome.Done t
     both_accept image r t a b =
-        let same = one_party image a.party b.party a.stood b.stood in
-        done_same r t (a.written ∙ (ap (λ (p : Party). (decision p i moment).reply) same ∙ sym b.written))
+        let same = one_space image a.party b.party a.space b.space a.stood b.stood in
+        done_same r t (a.written ∙ (ap (λ (p : Party). (decision p i moment).reply) same.0 ∙ sym b.written))
 
     damaged_or : {A : Type 0} (image : List ℕ) (place : ℕ) (w : Verdict) (t : Option (List ℕ)) → IsFirstDamage image place
         → Refuses name image i moment w t ⊎ FindsNobody image w t → A
-    damaged_or image place w t a (inl b) = absurd (undamaged image b.party place b.stood a)
+    damaged_or image place w t a (inl b) = absurd (undamaged image b.party place (so image b.party b.space b.stood) a)
     damaged_or image place w t a (inr b) = blank_or image b.blank a.not_blank
 
     both_refuse : (image : List ℕ) (v w : Verdict) (r t : Option (List ℕ)) → Refuses name image i moment v r ⊎ FindsNobody image v r
         → Refuses name image i moment w t ⊎ FindsNobody image w t → outcome.Refused v r ≡ outcome.Refused w t
     both_refuse image v w r t (inl a) (inl b) =
-        same_refusal (decision a.party i moment) (FitsImage image (decision a.party i moment).change) v w r t a.cause
-        (subst (λ (p : Party). Cause (decision p i moment) (FitsImage image (decision p i moment).change) w t) (one_party image b.party a.party b.stood a.stood) b.cause)
-    both_refuse image v w r t (inl a) (inr b) = stands_or_not image a.party w t a.stood b
-    both_refuse image v w r t (inr a) (inl b) = stands_or_not image b.party v r b.stood a
+        let same = one_space image b.party a.party b.space a.space b.stood a.stood in
+        same_refusal (decision a.party i moment) a.space v w r t a.cause
+        (subst (λ (s : Space). Cause (decision a.party i moment) s w t) same.1 (subst (λ (p : Party). Cause (decision p i moment) b.space w t) same.0 b.cause))
+    both_refuse image v w r t (inl a) (inr b) = stands_or_not image a.party w t (so image a.party a.space a.stood) b
+    both_refuse image v w r t (inr a) (inl b) = stands_or_not image b.party v r (so image b.party b.space b.stood) a
     both_refuse image v w r t (inr a) (inr b) = both_nobody image v w r t a b
 
     -- the party of the name, and another
@@ -319,7 +315,7 @@ module _ (one_party : (image : List ℕ) (first second : Party) → Stands image
 
     refuses_or : {A : Type 0} (image asked found : List ℕ) (v : Verdict) (r : Option (List ℕ)) → Refuses name image i moment v r ⊎ FindsNobody image v r
         → FindsOther name image asked found → A
-    refuses_or image asked found v r (inl a) b = own_or image asked found a.party a.stood a.own b
+    refuses_or image asked found v r (inl a) b = own_or image asked found a.party (so image a.party a.space a.stood) a.own b
     refuses_or image asked found v r (inr a) b = stands_or_not image b.party v r b.stood a
 
     both_other : (image asked found called other : List ℕ) → FindsOther name image asked found → FindsOther name image called other → outcome.OtherParty asked found ≡ outcome.OtherParty called other
@@ -331,8 +327,8 @@ module _ (one_party : (image : List ℕ) (first second : Party) → Stands image
     one_turn : (image : List ℕ) (a b : Outcome) → IsDue name i moment image a → IsDue name i moment image b → a ≡ b
     one_turn image (outcome.Done r) (outcome.Done t) a b = both_accept image r t a b
     one_turn image (outcome.Done r) (outcome.Refused w t) a b = accepts_or image r t w a b
-    one_turn image (outcome.Done r) (outcome.OtherParty asked found) a b = own_or image asked found a.party a.stood a.own b
-    one_turn image (outcome.Done r) (outcome.Damaged place) a b = absurd (undamaged image a.party place a.stood b)
+    one_turn image (outcome.Done r) (outcome.OtherParty asked found) a b = own_or image asked found a.party (so image a.party a.space a.stood) a.own b
+    one_turn image (outcome.Done r) (outcome.Damaged place) a b = absurd (undamaged image a.party place (so image a.party a.space a.stood) b)
     one_turn image (outcome.Done r) outcome.Fault a b = absurd b
     one_turn image (outcome.Done r) outcome.NoMemory a b = absurd b
     one_turn image (outcome.Refused v r) (outcome.Done t) a b = accepts_or image t r v b a
@@ -341,13 +337,13 @@ module _ (one_party : (image : List ℕ) (first second : Party) → Stands image
     one_turn image (outcome.Refused v r) (outcome.Damaged place) a b = damaged_or image place v r b a
     one_turn image (outcome.Refused v r) outcome.Fault a b = absurd b
     one_turn image (outcome.Refused v r) outcome.NoMemory a b = absurd b
-    one_turn image (outcome.OtherParty asked found) (outcome.Done t) a b = own_or image asked found b.party b.stood b.own a
+    one_turn image (outcome.OtherParty asked found) (outcome.Done t) a b = own_or image asked found b.party (so image b.party b.space b.stood) b.own a
     one_turn image (outcome.OtherParty asked found) (outcome.Refused w t) a b = refuses_or image asked found w t b a
     one_turn image (outcome.OtherParty asked found) (outcome.OtherParty called other) a b = both_other image asked found called other a b
     one_turn image (outcome.OtherParty asked found) (outcome.Damaged place) a b = absurd (undamaged image a.party place a.stood b)
     one_turn image (outcome.OtherParty asked found) outcome.Fault a b = absurd b
     one_turn image (outcome.OtherParty asked found) outcome.NoMemory a b = absurd b
-    one_turn image (outcome.Damaged place) (outcome.Done t) a b = absurd (undamaged image b.party place b.stood a)
+    one_turn image (outcome.Damaged place) (outcome.Done t) a b = absurd (undamaged image b.party place (so image b.party b.space b.stood) a)
     one_turn image (outcome.Damaged place) (outcome.Refused w t) a b = damaged_or image place w t a b
     one_turn image (outcome.Damaged place) (outcome.OtherParty asked found) a b = absurd (undamaged image b.party place b.stood a)
     one_turn image (outcome.Damaged place) (outcome.Damaged other) a b = ap outcome.Damaged (one_damage image place other a b)
@@ -356,5 +352,5 @@ module _ (one_party : (image : List ℕ) (first second : Party) → Stands image
     one_turn image outcome.Fault b a c = absurd a
     one_turn image outcome.NoMemory b a c = absurd a
 
-  pub turned_due : (name : List ℕ) (old new : View) (i : Input) (moment : ℕ) (o : Outcome) → TakesTurn name old new i moment o → GivesDue old (IsDue name i moment) o
-  turned_due name old new i moment o is = gives old o (IsDue name i moment) (λ image now. due_turned name old new i moment image now o is) (one_turn name i moment)
+    pub turned_due : (old new : View) (o : Outcome) → TakesTurn name old new i moment o → GivesDue old (IsDue name i moment) o
+    turned_due old new o is = gives old o (IsDue name i moment) (λ image now. due_turned name old new i moment image now o is) one_turn

@@ -1,12 +1,13 @@
 mod Acted
 mod Alike
 mod AlwaysDue
-mod Compacted
 mod Created
 mod Ended
 mod Following
 mod Opened
 mod Others
+mod Rewritten
 mod Shown
+mod Spaces
 mod Wiped
 mod Acts

@@ -1,5 +1,5 @@
 -- A party's file is wiped, and its disk is put back.
-use Rattle.std.proofs.Common.{◌≡◌, inl, inr, ℕ, ◌-◌, refl, sym, ◌∙◌, subst}
+use Rattle.std.proofs.Common.{◌≡◌, inl, inr, ℕ, List, refl, sym, ◌∙◌, subst}
 use Rattle.x_base.specs.declared.verdict.Verdict.{Verdict}
 use Rattle.x_disk.specs.Disk.{View}
 use Rattle.x_disk.proofs.Runs.{weaker}
@@ -9,13 +9,15 @@ use Rattle.x_disk.specs.declared.disk.DiskErr.TheVariants as error
 use Rattle.key_journal.specs.Causes.{cause_of}
 use Rattle.key_journal.specs.Wiping.{Wipes}
 use Rattle.party_state.specs.State.{Party}
-use Rattle.key_store.specs.Store.{Stored, StandsWith}
+use Rattle.change_code.specs.declared.format.Format.{Format}
+use Rattle.change_code.specs.declared.space.Space.{Space}
+use Rattle.key_store.specs.Store.{Stored, StandsWith, space, space_between}
 use Rattle.member.specs.Acts.{wiping}
 use Rattle.node_core.specs.Turns.{member_of, IsOldOrNext, IsTurn, turn_disk}
 use Rattle.node_core.specs.declared.node.Turn.{Turn}
 use Rattle.node_core.specs.declared.node.Turn.TheVariants as turn
 use Rattle.x_party.specs.Outcomes.{WipesParty, IsSafeWiping}
-use Rattle.x_party.specs.Steps.{IsOpened, IsNotOpened, IsClosed, outcome_of, outcome_with, outcome_of_turn}
+use Rattle.x_party.specs.Steps.{IsOpened, IsNotOpened, IsOutcome, outcome_of, outcome_with, outcome_of_turn}
 use Rattle.x_party.specs.declared.outcome.Outcome.{Outcome}
 use Rattle.x_party.specs.declared.outcome.Outcome.TheVariants as outcome
 use Rattle.x_party.proofs.Acted.{reads, safe_call}
@@ -26,32 +28,29 @@ use Rattle.x_party.proofs.Ended.{member_stands}
 -- ---- an open party
 
 module _ {D : Type 0} (told : D → View) (old : Stored D) where
-  wipes : (t : Turn D) → IsTurn told old wiping t → WipesFile (told old.disk) (told (turn_disk t)) (old.end - old.gate) old.party (outcome_of_turn t)
+  wipes : (t : Turn D) → IsTurn told old wiping t → WipesFile (told old.disk) (told (turn_disk t)) (space old) old.party (outcome_of_turn t)
   wipes (turn.Done new verdict reply under) is =
-      subst (λ (v : Verdict). WipesFile (told old.disk) (told new.disk) (old.end - old.gate) old.party (outcome_with v reply)) (sym is.answer.verdict) (record {
+      subst (λ (v : Verdict). WipesFile (told old.disk) (told new.disk) (space old) old.party (outcome_with v reply)) (sym is.answer.verdict) (record {
         nothing = is.answer.reply;
-        stands = member_stands (told new.disk) new.gate new.end new.party (member_of old) is.stands is.answer.next;
+        stands = member_stands (told new.disk) new.gate new.end new.format new.party (member_of old) is.stands is.answer.next;
         wiped = is.answer.work;
       })
   wipes (turn.NoMemory new) is = tt
   wipes (turn.Broken b) is = go b.cause refl where
-    go : (e : DiskErr) → b.cause ≡ e → WipesFile (told old.disk) (told b.disk) (old.end - old.gate) old.party (outcome_of (cause_of b.cause))
-    go error.Fault same = subst (λ (e : DiskErr). WipesFile (told old.disk) (told b.disk) (old.end - old.gate) old.party (outcome_of (cause_of e))) (sym same) (is.answer.cause.fault same)
-    go error.NoMemory same = subst (λ (e : DiskErr). WipesFile (told old.disk) (told b.disk) (old.end - old.gate) old.party (outcome_of (cause_of e))) (sym same) tt
+    go : (e : DiskErr) → b.cause ≡ e → WipesFile (told old.disk) (told b.disk) (space old) old.party (outcome_of (cause_of b.cause))
+    go error.Fault same = subst (λ (e : DiskErr). WipesFile (told old.disk) (told b.disk) (space old) old.party (outcome_of (cause_of e))) (sym same) (is.answer.cause.fault same)
+    go error.NoMemory same = subst (λ (e : DiskErr). WipesFile (told old.disk) (told b.disk) (space old) old.party (outcome_of (cause_of e))) (sym same) tt
 
-  pub wiped_by : (t : Turn D) (o : Outcome) (disk : D) → IsTurn told old wiping t → disk ≡ turn_disk t → o ≡ outcome_of_turn t
-      → HasWiped (told old.disk) (told disk) (old.end - old.gate) old.party o
-  wiped_by t o disk done disk_is is =
-      subst (λ (x : D). HasWiped (told old.disk) (told x) (old.end - old.gate) old.party o) (sym disk_is)
-      (subst (λ (x : Outcome). HasWiped (told old.disk) (told (turn_disk t)) (old.end - old.gate) old.party x) (sym is) (record {
-        acts = wipes t done;
-        any_moment = λ tells.
-            weaker (told old.disk) (told (turn_disk t)) (IsOldOrNext (member_of old) (member_of old)) (λ c. StandsWith c old.party (old.end - old.gate)) (done.any_moment tells)
-            (λ c either. elim either [ inl stays ↦ stays | inr stays ↦ stays ]);
-        still = λ none. absurd (none tt);
-        tells = done.tells;
-        faults = done.faults;
-      }))
+  pub has_wiped : (t : Turn D) → IsTurn told old wiping t → HasWiped (told old.disk) (told (turn_disk t)) (space old) old.party (outcome_of_turn t)
+  has_wiped t done = record {
+    acts = wipes t done;
+    any_moment = λ tells.
+        weaker (told old.disk) (told (turn_disk t)) (IsOldOrNext (member_of old) (member_of old)) (λ c. StandsWith c old.party (space old)) (done.any_moment tells)
+        (λ c either. elim either [ inl stays ↦ stays | inr stays ↦ stays ]);
+    still = λ none. absurd (none tt);
+    tells = done.tells;
+    faults = done.faults;
+  }
 
 -- ---- a party on the shelf
 
@@ -69,15 +68,15 @@ wipes_between old v w new first last wiped = λ image bodies now holds.
     let done = wiped image bodies (first ∙ now) holds in
     (done.0, last ∙ done.1, done.2)
 
-module _ (old v w new : View) (gate end : ℕ) (p : Party) (opened : IsOpened old v gate end p) (back : IsAlike w new) where
-  wiped_of : (o : Outcome) → WipesFile v w (end - gate) p o → WipesParty old new o
+module _ (old v w new : View) (gate end : ℕ) (f : Format) (p : Party) (opened : IsOpened old v gate end f p) (back : IsAlike w new) where
+  wiped_of : (o : Outcome) → WipesFile v w (space_between gate end f) p o → WipesParty old new o
   wiped_of (outcome.Done reply) acts = record {
     party = p;
-    room = end - gate;
-    reads = reads old v gate end p opened;
+    space = space_between gate end f;
+    reads = reads old v gate end f p opened;
     holds = record {
       nothing = acts.nothing;
-      stands = stands_alike w new p (end - gate) acts.stands back;
+      stands = stands_alike w new p (space_between gate end f) acts.stands back;
       wiped = wipes_between old v w new opened.untouched.now back.now acts.wiped;
     };
   }
@@ -87,11 +86,12 @@ module _ (old v w new : View) (gate end : ℕ) (p : Party) (opened : IsOpened ol
   wiped_of outcome.Fault acts = tt
   wiped_of outcome.NoMemory acts = tt
 
-  pub wiped_on : (o result : Outcome) (before later : ℕ) → HasWiped v w (end - gate) p o → IsClosed o before later result → WipesParty old new result
+  pub wiped_on : (o result : Outcome) (before later : ℕ) → HasWiped v w (space_between gate end f) p o → IsOutcome o before later result → WipesParty old new result
   wiped_on o result before later acted (inl is) = subst (WipesParty old new) (sym is) (wiped_of o acted.acts)
   wiped_on o result before later acted (inr (inl fault)) = subst (WipesParty old new) (sym fault.0) tt
   wiped_on o result before later acted (inr (inr is)) = subst (WipesParty old new) (sym is) tt
 
-  pub safe_wiping : (o : Outcome) → HasWiped v w (end - gate) p o → IsSafeWiping old new
-  safe_wiping o acted = safe_call old v gate end p opened w new back (WipesFile v w (end - gate) p o) (Unit {0})
-      (λ other left c. StandsWith c other left) (λ image other. Unit {0}) acted (λ image now none. tt)
+  pub safe_wiping : ((image : List ℕ) (first second : Party) (s t : Space) → StandsWith image first s → StandsWith image second t → (first ≡ second) × (s ≡ t))
+      → (o : Outcome) → HasWiped v w (space_between gate end f) p o → IsSafeWiping old new
+  safe_wiping one_space o acted = safe_call old v gate end f p opened one_space w new back (WipesFile v w (space_between gate end f) p o)
+      (λ other space c. StandsWith c other space) (λ other space. Unit {0}) acted

@@ -7,30 +7,34 @@ use Rattle.key_journal.specs.Journal.{is_blank}
 use Rattle.party_state.specs.declared.command.Input.{Input}
 use Rattle.party_state.specs.State.{Party}
 use Rattle.party_show.specs.Show.{shown}
-use Rattle.change_code.specs.Whole.{IsTooLarge}
-use Rattle.key_store.specs.Store.{Stands, IsFirstDamage}
+use Rattle.change_code.specs.Cost.{fits}
+use Rattle.change_code.specs.declared.format.Format.{Format}
+use Rattle.change_code.specs.declared.space.Space.{Space}
+use Rattle.key_store.specs.Store.{Stands, StandsAs, StandsWith, IsFirstDamage}
+use Rattle.member.specs.Acts.{compacted_in, migrated_in}
 use Rattle.roles.specs.Deciding.{decision}
-use Rattle.x_party.specs.Images.{FitsImage}
-use Rattle.x_party.specs.Outcomes.{IsAsDecided, IsTooLong}
+use Rattle.x_party.specs.Outcomes.{IsAsDecided, IsTooLong, IsTooLargeIn}
 use Rattle.x_party.specs.declared.outcome.Outcome.{Outcome}
 use Rattle.x_party.specs.declared.outcome.Outcome.TheVariants as outcome
 
 -- the party of the name, for which the image stands, accepts, and its change fits
 pub record Accepts (name image : List ℕ) (i : Input) (moment : ℕ) (reply : Option (List ℕ)) : Type 0 where
   pub party : Party
-  pub stood : Stands image party
+  pub space : Space
+  pub stood : StandsWith image party space
   pub own : party.own ≡ name
   pub accepted : (decision party i moment).verdict ≡ Accept
-  pub fits : FitsImage image (decision party i moment).change
+  pub fits : fits space (decision party i moment).change ≡ true
   pub written : reply ≡ (decision party i moment).reply
 
 -- it refuses, or its change doesn't fit
 pub record Refuses (name image : List ℕ) (i : Input) (moment : ℕ) (verdict : Verdict) (reply : Option (List ℕ)) : Type 0 where
   pub party : Party
-  pub stood : Stands image party
+  pub space : Space
+  pub stood : StandsWith image party space
   pub own : party.own ≡ name
   pub cause : IsAsDecided (decision party i moment) verdict reply
-      ⊎ IsTooLong (decision party i moment) (FitsImage image (decision party i moment).change) verdict reply
+      ⊎ IsTooLong (decision party i moment) space verdict reply
 
 -- the image stands for a party of another identity than the name
 pub record FindsOther (name image asked found : List ℕ) : Type 0 where
@@ -70,29 +74,38 @@ IsDueShow image (outcome.Damaged place) = IsFirstDamage image place
 IsDueShow image outcome.Fault = ⊥
 IsDueShow image outcome.NoMemory = ⊥
 
--- the party for which the image stands fits into one frame
-pub record FitsOneFrame (image : List ℕ) (reply : Option (List ℕ)) : Type 0 where
+-- the party for which the image stands isn't too large where it is to be written whole, in the format that its own calls for
+pub record FitsOneFrame (format : Format → Option Format) (image : List ℕ) (reply : Option (List ℕ)) : Type 0 where
   pub party : Party
-  pub stood : Stands image party
-  pub fits : IsTooLarge party → ⊥
+  pub own : Format
+  pub stood : StandsAs image own party
+  pub fits : IsTooLargeIn (format own) party → ⊥
   pub nothing : reply ≡ None
 
--- it is too large for one
-pub record PassesOneFrame (image : List ℕ) (verdict : Verdict) (reply : Option (List ℕ)) : Type 0 where
+-- it is too large
+pub record PassesOneFrame (format : Format → Option Format) (image : List ℕ) (verdict : Verdict) (reply : Option (List ℕ)) : Type 0 where
   pub party : Party
-  pub stood : Stands image party
-  pub too_large : IsTooLarge party
+  pub own : Format
+  pub stood : StandsAs image own party
+  pub too_large : IsTooLargeIn (format own) party
   pub said : verdict ≡ JournalFull
   pub nothing : reply ≡ None
 
--- where a party is compacted
+-- where a party is written whole
+abbrev pub IsDueRewriting : (Format → Option Format) → List ℕ → Outcome → Type 0
+IsDueRewriting format image (outcome.Done reply) = FitsOneFrame format image reply
+IsDueRewriting format image (outcome.Refused verdict reply) = PassesOneFrame format image verdict reply ⊎ FindsNobody image verdict reply
+IsDueRewriting format image (outcome.OtherParty asked found) = ⊥
+IsDueRewriting format image (outcome.Damaged place) = IsFirstDamage image place
+IsDueRewriting format image outcome.Fault = ⊥
+IsDueRewriting format image outcome.NoMemory = ⊥
+
+-- where it is compacted, and where it is migrated
 abbrev pub IsDueCompaction : List ℕ → Outcome → Type 0
-IsDueCompaction image (outcome.Done reply) = FitsOneFrame image reply
-IsDueCompaction image (outcome.Refused verdict reply) = PassesOneFrame image verdict reply ⊎ FindsNobody image verdict reply
-IsDueCompaction image (outcome.OtherParty asked found) = ⊥
-IsDueCompaction image (outcome.Damaged place) = IsFirstDamage image place
-IsDueCompaction image outcome.Fault = ⊥
-IsDueCompaction image outcome.NoMemory = ⊥
+IsDueCompaction = IsDueRewriting compacted_in
+
+abbrev pub IsDueMigration : List ℕ → Outcome → Type 0
+IsDueMigration = IsDueRewriting migrated_in
 
 -- the image stands for a party
 pub record FindsParty (image : List ℕ) (reply : Option (List ℕ)) : Type 0 where

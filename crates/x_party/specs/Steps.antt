@@ -1,9 +1,10 @@
 -- The steps of a call: the disk is fetched and opened, the party acts, and the disk is put back (this project's profile).
-use Rattle.std.specs.Prelude.{◌≡◌, ◌⊎◌, ℕ, ◌≤◌, cond, List, Option, Some, None}
+use Rattle.std.specs.Prelude.{◌≡◌, ◌⊎◌, ℕ, ◌<◌, ◌≤◌, cond, List, Option, Some, None}
 use Rattle.x_base.specs.Edge.{Rose}
 use Rattle.x_base.specs.declared.verdict.Verdict.{Verdict}
 use Rattle.x_base.specs.declared.verdict.Verdict.TheVariants.{NotEmpty, Blank}
 use Rattle.x_disk.specs.Disk.{View, Tells, LeavesOnly, IsUntouched}
+use Rattle.x_disk.specs.Shelf.{ShelfView, IsAlike, OthersStay}
 use Rattle.key_journal.specs.Causes.{cause_of}
 use Rattle.key_journal.specs.declared.cause.Cause.{Cause}
 use Rattle.key_journal.specs.declared.cause.Cause.TheVariants as cause
@@ -11,11 +12,12 @@ use Rattle.party_state.specs.State.{Party}
 use Rattle.party_show.specs.Show.{shown}
 use Rattle.party_state.specs.Verdicts.{is_accept}
 use Rattle.key_journal.specs.States.{WritesOnlyToBlank}
-use Rattle.key_store.specs.Store.{Stands, IsStore, IsBlankOrFirst}
+use Rattle.change_code.specs.declared.format.Format.{Format}
+use Rattle.key_store.specs.Store.{IsStore, IsBlankOrFirst}
 use Rattle.node_core.specs.declared.node.Turn.{Turn}
 use Rattle.node_core.specs.declared.node.Turn.TheVariants as turn
 use Rattle.x_party.specs.Images.{StillTells}
-use Rattle.x_party.specs.Outcomes.{IsNobody, IsDamaged, IsCreated, IsNotEmpty}
+use Rattle.x_party.specs.Outcomes.{IsNoFailure, IsNobody, IsDamaged, IsCreated, IsNotEmpty}
 use Rattle.x_party.specs.declared.outcome.Outcome.{Outcome}
 use Rattle.x_party.specs.declared.outcome.Outcome.TheVariants as outcome
 
@@ -36,11 +38,10 @@ HasNoParty old new (outcome.Damaged place) = IsDamaged old new place
 HasNoParty old new outcome.Fault = Unit {0}
 HasNoParty old new outcome.NoMemory = Unit {0}
 
--- from the disk on the shelf to the open one: it stands for this party, for which the image stood
-pub record IsOpened (old now : View) (gate end : ℕ) (party : Party) : Type 0 where
-  pub store : IsStore now gate end party
+-- from the disk on the shelf to the open one, which stands for this party
+pub record IsOpened (old now : View) (gate end : ℕ) (format : Format) (party : Party) : Type 0 where
+  pub store : IsStore now gate end format party
   pub untouched : IsUntouched old now
-  pub exact : (image : List ℕ) (other : Party) → old.now ≡ Some image → Stands image other → party ≡ other
 
 -- no party is opened, and the disk is back on the shelf
 pub record IsNotOpened (old new : View) (o : Outcome) : Type 0 where
@@ -58,8 +59,17 @@ outcome_of_turn (turn.Broken b) = outcome_of (cause_of b.cause)
 outcome_of_turn (turn.NoMemory node) = outcome.NoMemory
 
 -- the outcome, or an error of the put back in its place
-abbrev pub IsClosed : Outcome → ℕ → ℕ → Outcome → Type 0
-IsClosed o before after result = (result ≡ o) ⊎ (((result ≡ outcome.Fault) × Rose before after) ⊎ (result ≡ outcome.NoMemory))
+abbrev pub IsOutcome : Outcome → ℕ → ℕ → Outcome → Type 0
+IsOutcome o before after result = (result ≡ o) ⊎ (((result ≡ outcome.Fault) × Rose before after) ⊎ (result ≡ outcome.NoMemory))
+
+-- the disk that tells this is put back under the name, with an outcome
+pub record IsClosed (put : View) (name : List ℕ) (old new : ShelfView) (o result : Outcome) : Type 0 where
+  pub disk : IsAlike put (new.entry name)
+  pub outcome : IsOutcome o old.faults new.faults result
+  pub back : IsNoFailure result → new.is_back name
+  pub others : OthersStay name old.entry new.entry
+  pub later : old.faults ≤ new.faults
+  pub seen : 0 < put.faults → Rose old.faults new.faults
 
 -- what creating a party did
 abbrev pub MakesParty : View → View → Party → Outcome → Type 0

@@ -1,14 +1,14 @@
 // The disk is put back.
-ghost use Rattle.std.specs.Prelude.{◌≡◌, ◌<◌, ◌≤◌};
-ghost use Rattle.x_base.specs.Edge.{Rose};
-ghost use Rattle.x_disk.specs.Shelf.{IsAlike, OthersStay};
-ghost use Rattle.x_party.specs.Outcomes.{IsNoFailure};
-ghost use Rattle.x_party.specs.Steps.{IsClosed, outcome_of};
+ghost use Rattle.std.specs.Prelude.{◌≡◌};
+ghost use Rattle.x_disk.specs.Shelf.{shelf_view};
+ghost use Rattle.node_core.specs.Turns.{turn_disk};
+ghost use Rattle.x_party.specs.Steps.{IsClosed, outcome_of, outcome_of_turn};
 
 use crate::outcome::Outcome;
-use key_journal::Cause;
+use key_journal::{Cause, Unmade};
+use node_core::Turn;
 use x_base::{Ident, Verdict};
-use x_disk::{DiskErr, Shelf};
+use x_disk::Shelf;
 
 /// The outcome where a disk isn't opened, or no party is created on it.
 pub(crate) fn outcome_of(cause: Cause) -> Outcome
@@ -24,23 +24,37 @@ pub(crate) fn outcome_of(cause: Cause) -> Outcome
 }
 
 /// Puts the disk back. An error of that comes in place of the outcome.
-pub(crate) fn close<H: Shelf>(
+pub(crate) fn put_back<H: Shelf>(
     shelf: &mut H,
     name: &Ident,
     disk: H::Disk,
     outcome: Outcome,
 ) -> Outcome
     requires slot { H.has_slot shelf.old name.now }
-    ensures disk { IsAlike (H.Disk.told disk) (H.entry shelf.new name.now) }
-    ensures outcome { IsClosed outcome (H.faults shelf.old) (H.faults shelf.new) result }
-    ensures back { IsNoFailure result → H.is_back shelf.new name.now }
-    ensures others { OthersStay name.now (H.entry shelf.old) (H.entry shelf.new) }
-    ensures later { H.faults shelf.old ≤ H.faults shelf.new }
-    ensures seen { 0 < (H.Disk.told disk).faults → Rose (H.faults shelf.old) (H.faults shelf.new) }
+    ensures { IsClosed (H.Disk.told disk) name.now (shelf_view H.entry H.has_slot H.is_back H.faults shelf.old) (shelf_view H.entry H.has_slot H.is_back H.faults shelf.new) outcome result }
 {
     match shelf.put_back(name, disk) {
         Ok(()) => outcome,
-        Err(DiskErr::Fault) => Outcome::Fault,
-        Err(DiskErr::NoMemory) => Outcome::NoMemory,
+        Err(error) => Outcome::from(error),
+    }
+}
+
+/// Puts back the disk of a node, with the outcome of what became of it.
+pub(crate) fn close<H: Shelf>(shelf: &mut H, name: &Ident, turn: Turn<H::Disk>) -> Outcome
+    requires slot { H.has_slot shelf.old name.now }
+    ensures { IsClosed (H.Disk.told (turn_disk turn)) name.now (shelf_view H.entry H.has_slot H.is_back H.faults shelf.old) (shelf_view H.entry H.has_slot H.is_back H.faults shelf.new) (outcome_of_turn turn) result }
+{
+    match turn {
+        Turn::Done {
+            node,
+            verdict,
+            reply,
+            ..
+        } => put_back(shelf, name, node.into_disk(), Outcome::with(verdict, reply)),
+        Turn::Broken(broken) => {
+            let Unmade { disk, cause } = broken.give_up();
+            put_back(shelf, name, disk, outcome_of(cause))
+        }
+        Turn::NoMemory(node) => put_back(shelf, name, node.into_disk(), Outcome::NoMemory),
     }
 }

@@ -8,8 +8,7 @@ ghost use Rattle.x_party.specs.Outcomes.{CreatesParty, LeavesShelf};
 ghost use Rattle.x_party.specs.Dues.{IsDueCreation, GivesDue};
 ghost use Rattle.x_party.specs.Steps.{HasCreated};
 
-use crate::closing::{close, outcome_of};
-use crate::opening::fetch;
+use crate::closing::{outcome_of, put_back};
 use crate::outcome::Outcome;
 use key_store::Store;
 use std::alloc::Global;
@@ -47,10 +46,10 @@ pub fn create<H: Shelf>(
     ensures tells { StillTells (H.entry shelf.old own) (H.entry shelf.new own) }
     ensures shelf { LeavesShelf own result (H.is_back shelf.new own) (H.entry shelf.old) (H.entry shelf.new) (H.faults shelf.old) (H.faults shelf.new) }
 {
-    let disk = match fetch(shelf, &own) {
+    let disk = match shelf.fetch(&own) {
         Ok(disk) => disk,
-        Err(outcome) => return outcome,
+        Err(error) => return Outcome::from(error),
     };
     let (disk, outcome) = create_on(alloc, disk, own, role, generator);
-    close(shelf, &own, disk, outcome)
+    put_back(shelf, &own, disk, outcome)
 }

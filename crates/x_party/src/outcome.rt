@@ -3,6 +3,7 @@ ghost use Rattle.std.specs.Prelude.{◌≡◌};
 ghost use Rattle.x_party.specs.Steps.{outcome_with};
 
 use x_base::{Ident, Text, Verdict};
+use x_disk::DiskErr;
 
 /// What became of what was asked of a party.
 #[derive(Drop)]
@@ -26,6 +27,21 @@ pub enum Outcome {
     Fault,
     /// No memory was left.
     NoMemory,
+}
+
+impl From<DiskErr> for Outcome {
+    ghost use Rattle.std.specs.Prelude.{◌≡◌};
+    ghost use Rattle.key_journal.specs.Causes.{cause_of};
+    ghost use Rattle.x_party.specs.Steps.{outcome_of};
+
+    ghost from_gives = { λ error outcome. outcome ≡ outcome_of (cause_of error) };
+
+    fn from(error: DiskErr) -> Self {
+        match error {
+            DiskErr::Fault => Outcome::Fault,
+            DiskErr::NoMemory => Outcome::NoMemory,
+        }
+    }
 }
 
 impl Outcome {

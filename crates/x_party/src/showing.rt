@@ -4,7 +4,7 @@ ghost use Rattle.x_party.specs.Outcomes.{ShowsParty, LeavesShelf};
 ghost use Rattle.x_party.specs.Dues.{IsDueShow, GivesDue};
 ghost use Rattle.x_party.specs.Steps.{IsText};
 
-use crate::closing::close;
+use crate::closing::put_back;
 use crate::opening::open;
 use crate::outcome::Outcome;
 use key_store::law_one_finding;
@@ -36,5 +36,5 @@ pub fn show<H: Shelf>(alloc: Global, shelf: &mut H, name: &Ident) -> Outcome
         Err(outcome) => return outcome,
     };
     let outcome = text_of(alloc, node.view());
-    close(shelf, name, node.into_disk(), outcome)
+    put_back(shelf, name, node.into_disk(), outcome)
 }

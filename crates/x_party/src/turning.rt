@@ -2,8 +2,8 @@
 ghost use Rattle.x_party.specs.Outcomes.{TakesTurn, IsSafe, LeavesShelf};
 ghost use Rattle.x_party.specs.Dues.{IsDue, GivesDue};
 
-use crate::closing::close;
-use crate::ending::ended;
+use crate::closing::{close, put_back};
+use crate::laws::law_one_space;
 use crate::opening::open;
 use crate::outcome::Outcome;
 use key_store::law_one_finding;
@@ -29,6 +29,7 @@ pub fn turn<H: Shelf>(
     ensures shelf { LeavesShelf name.now result (H.is_back shelf.new name.now) (H.entry shelf.old) (H.entry shelf.new) (H.faults shelf.old) (H.faults shelf.new) }
 {
     law_one_finding();
+    law_one_space();
     law_refusal();
     let node = match open(alloc, shelf, name) {
         Ok(node) => node,
@@ -36,13 +37,15 @@ pub fn turn<H: Shelf>(
     };
     let own = node.view().own();
     if own != *name {
-        return close(
+        return put_back(
             shelf,
             name,
             node.into_disk(),
             Outcome::OtherParty(*name, own),
         );
     }
-    let (disk, outcome) = ended(node.turn(alloc, input, moment));
-    close(shelf, name, disk, outcome)
+    match node.plan(alloc, input, moment) {
+        Ok(planned) => close(shelf, name, planned.carry_out()),
+        Err(node) => put_back(shelf, name, node.into_disk(), Outcome::NoMemory),
+    }
 }

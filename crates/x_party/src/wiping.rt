@@ -3,7 +3,7 @@ ghost use Rattle.x_party.specs.Outcomes.{WipesParty, IsSafeWiping, LeavesShelf};
 ghost use Rattle.x_party.specs.Dues.{IsDueWiping, GivesDue};
 
 use crate::closing::close;
-use crate::ending::ended;
+use crate::laws::law_one_space;
 use crate::opening::open;
 use crate::outcome::Outcome;
 use key_store::law_one_finding;
@@ -20,11 +20,9 @@ pub fn wipe<H: Shelf>(alloc: Global, shelf: &mut H, name: &Ident) -> Outcome
     ensures shelf { LeavesShelf name.now result (H.is_back shelf.new name.now) (H.entry shelf.old) (H.entry shelf.new) (H.faults shelf.old) (H.faults shelf.new) }
 {
     law_one_finding();
+    law_one_space();
     match open(alloc, shelf, name) {
-        Ok(node) => {
-            let (disk, outcome) = ended(node.wipe());
-            close(shelf, name, disk, outcome)
-        }
+        Ok(node) => close(shelf, name, node.wipe()),
         Err(outcome) => outcome,
     }
 }

@@ -1,8 +1,11 @@
-use Rattle.std.proofs.Common.{sym, ◌∙◌, ap}
+use Rattle.std.proofs.Common.{sym, ◌∙◌, ap, subst}
 use Rattle.roles.specs.Deciding.{decision}
 use Rattle.roles.specs.Leads.{lead_in}
+use Rattle.member.specs.Acts.{taking}
+use Rattle.node_core.specs.Turns.{IsTurn, turn_disk}
+use Rattle.x_party.specs.Steps.{outcome_of_turn}
 use Rattle.x_party.proofs.Acted.{turned_on, safe_on, not_turned}
-use Rattle.x_party.proofs.Ended.{acted_by}
+use Rattle.x_party.proofs.Ended.{has_acted}
 use Rattle.x_party.proofs.Following.{turned_due}
 use Rattle.x_party.proofs.Others.{same_name, other_name, other_by}
 use Rattle.x_party.proofs.turning.turn.Goals as goal
@@ -11,8 +14,8 @@ pub returns-in-Err-clause-due : goal.returns-in-Err-clause-due
 returns-in-Err-clause-due g c =
     let law = c.law_one_finding.ensures in
     let entry = g.H.Shelf.entry in
-    turned_due law.party law.not_blank law.undamaged law.one_damage c.args.name.now (entry c.args.shelf.now c.args.name.now) (entry c.open.new.shelf c.args.name.now)
-    c.args.input.now c.args.moment c.in-Err.outcome
+    turned_due law.party law.not_blank law.undamaged law.one_damage c.law_one_space.ensures c.args.name.now c.args.input.now c.args.moment
+    (entry c.args.shelf.now c.args.name.now) (entry c.open.new.shelf c.args.name.now) c.in-Err.outcome
     (not_turned c.args.name.now (entry c.args.shelf.now c.args.name.now) (entry c.open.new.shelf c.args.name.now) c.args.input.now c.args.moment c.in-Err.outcome c.in-Err.ensures.failed)
 
 pub returns-then-ne-clause-turned : goal.returns-then-ne-clause-turned
@@ -25,50 +28,51 @@ returns-then-ne-clause-turned g c =
     let is = c.own-own.ensures.own ∙ ap (λ p. p.own) c.view.ensures.party in
     let acted = other_by told c.args.name.now own node (decision node.party c.args.input.now c.args.moment) c.into_disk.result
     (g.met.H.Disk.Disk.sound node.disk) c.in-Ok.ensures.node.store is (other_name own c.args.name.now c.ne.result c.ne.ensures c.if-ne.true) c.into_disk.ensures.disk in
-    turned_on (entry c.args.shelf.now c.args.name.now) (told node.disk) node.gate node.end node.party c.in-Ok.ensures.node
-    c.args.name.now (told c.into_disk.result) (entry c.close.new.shelf c.args.name.now) c.args.input.now c.args.moment c.close.ensures.disk _ c.close.result
-    (faults c.open.new.shelf) (faults c.close.new.shelf) acted c.close.ensures.outcome
+    turned_on (entry c.args.shelf.now c.args.name.now) (told node.disk) node.gate node.end node.format node.party c.in-Ok.ensures.node
+    c.args.name.now (told c.into_disk.result) (entry c.put_back.new.shelf c.args.name.now) c.args.input.now c.args.moment c.put_back.ensures.disk _ c.put_back.result
+    (faults c.open.new.shelf) (faults c.put_back.new.shelf) acted c.put_back.ensures.outcome
 
 pub returns-then-ne-clause-due : goal.returns-then-ne-clause-due
 returns-then-ne-clause-due g c =
     let law = c.law_one_finding.ensures in
     let entry = g.H.Shelf.entry in
-    turned_due law.party law.not_blank law.undamaged law.one_damage c.args.name.now (entry c.args.shelf.now c.args.name.now) (entry c.close.new.shelf c.args.name.now)
-    c.args.input.now c.args.moment c.close.result (returns-then-ne-clause-turned g c)
+    turned_due law.party law.not_blank law.undamaged law.one_damage c.law_one_space.ensures c.args.name.now c.args.input.now c.args.moment
+    (entry c.args.shelf.now c.args.name.now) (entry c.put_back.new.shelf c.args.name.now) c.put_back.result (returns-then-ne-clause-turned g c)
 
-pub returns-clause-turned : goal.returns-clause-turned
-returns-clause-turned g c =
+pub returns-in-Ok-plan-clause-turned : goal.returns-in-Ok-plan-clause-turned
+returns-in-Ok-plan-clause-turned g c =
     let told = g.H.Disk.Disk.told in
     let entry = g.H.Shelf.entry in
     let faults = g.H.Shelf.faults in
     let node = c.in-Ok.node in
     let own = c.own-own.result in
     let is = c.own-own.ensures.own ∙ ap (λ p. p.own) c.view.ensures.party in
-    let acted = acted_by told c.args.name.now node (decision node.party c.args.input.now c.args.moment) (lead_in node.party c.args.input.now)
+    let acted = has_acted told c.args.name.now node (decision node.party c.args.input.now c.args.moment) (lead_in node.party c.args.input.now)
     (sym is ∙ same_name own c.args.name.now c.ne.result c.ne.ensures c.if-ne.false) (g.met.H.Disk.Disk.sound node.disk)
-    (c.law_refusal.ensures node.party c.args.input.now c.args.moment)
-    c.turn.result c.ended-disk.result.1 c.ended-disk.result.0 c.turn.ensures c.ended-disk.ensures.disk c.ended-disk.ensures.outcome in
-    turned_on (entry c.args.shelf.now c.args.name.now) (told node.disk) node.gate node.end node.party c.in-Ok.ensures.node
-    c.args.name.now (told c.ended-disk.result.0) (entry c.close-2.new.shelf c.args.name.now) c.args.input.now c.args.moment c.close-2.ensures.disk c.ended-disk.result.1 c.close-2.result
-    (faults c.open.new.shelf) (faults c.close-2.new.shelf) acted c.close-2.ensures.outcome
+    (c.law_refusal.ensures node.party c.args.input.now c.args.moment) c.carry_out.result
+    (subst (λ p. IsTurn told p.node (taking p.plan) c.carry_out.result) c.in-Ok-plan.ensures.planned c.carry_out.ensures.turn) in
+    turned_on (entry c.args.shelf.now c.args.name.now) (told node.disk) node.gate node.end node.format node.party c.in-Ok.ensures.node
+    c.args.name.now (told (turn_disk c.carry_out.result)) (entry c.close.new.shelf c.args.name.now) c.args.input.now c.args.moment c.close.ensures.disk
+    (outcome_of_turn c.carry_out.result) c.close.result (faults c.open.new.shelf) (faults c.close.new.shelf) acted c.close.ensures.outcome
 
-pub returns-clause-safe : goal.returns-clause-safe
-returns-clause-safe g c =
+pub returns-in-Ok-plan-clause-safe : goal.returns-in-Ok-plan-clause-safe
+returns-in-Ok-plan-clause-safe g c =
     let told = g.H.Disk.Disk.told in
     let entry = g.H.Shelf.entry in
     let node = c.in-Ok.node in
     let own = c.own-own.result in
     let is = c.own-own.ensures.own ∙ ap (λ p. p.own) c.view.ensures.party in
-    let acted = acted_by told c.args.name.now node (decision node.party c.args.input.now c.args.moment) (lead_in node.party c.args.input.now)
+    let acted = has_acted told c.args.name.now node (decision node.party c.args.input.now c.args.moment) (lead_in node.party c.args.input.now)
     (sym is ∙ same_name own c.args.name.now c.ne.result c.ne.ensures c.if-ne.false) (g.met.H.Disk.Disk.sound node.disk)
-    (c.law_refusal.ensures node.party c.args.input.now c.args.moment)
-    c.turn.result c.ended-disk.result.1 c.ended-disk.result.0 c.turn.ensures c.ended-disk.ensures.disk c.ended-disk.ensures.outcome in
-    safe_on (entry c.args.shelf.now c.args.name.now) (told node.disk) node.gate node.end node.party c.in-Ok.ensures.node
-    c.args.name.now (told c.ended-disk.result.0) (entry c.close-2.new.shelf c.args.name.now) c.args.input.now c.args.moment c.close-2.ensures.disk c.ended-disk.result.1 acted
+    (c.law_refusal.ensures node.party c.args.input.now c.args.moment) c.carry_out.result
+    (subst (λ p. IsTurn told p.node (taking p.plan) c.carry_out.result) c.in-Ok-plan.ensures.planned c.carry_out.ensures.turn) in
+    safe_on (entry c.args.shelf.now c.args.name.now) (told node.disk) node.gate node.end node.format node.party c.in-Ok.ensures.node
+    c.args.name.now (told (turn_disk c.carry_out.result)) (entry c.close.new.shelf c.args.name.now) c.args.input.now c.args.moment c.close.ensures.disk
+    c.law_one_space.ensures (outcome_of_turn c.carry_out.result) acted
 
-pub returns-clause-due : goal.returns-clause-due
-returns-clause-due g c =
+pub returns-in-Ok-plan-clause-due : goal.returns-in-Ok-plan-clause-due
+returns-in-Ok-plan-clause-due g c =
     let law = c.law_one_finding.ensures in
     let entry = g.H.Shelf.entry in
-    turned_due law.party law.not_blank law.undamaged law.one_damage c.args.name.now (entry c.args.shelf.now c.args.name.now) (entry c.close-2.new.shelf c.args.name.now)
-    c.args.input.now c.args.moment c.close-2.result (returns-clause-turned g c)
+    turned_due law.party law.not_blank law.undamaged law.one_damage c.law_one_space.ensures c.args.name.now c.args.input.now c.args.moment
+    (entry c.args.shelf.now c.args.name.now) (entry c.close.new.shelf c.args.name.now) c.close.result (returns-in-Ok-plan-clause-turned g c)

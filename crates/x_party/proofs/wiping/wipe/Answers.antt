@@ -1,4 +1,6 @@
-use Rattle.x_party.proofs.Wiped.{wiped_by, wiped_on, safe_wiping, not_wiped}
+use Rattle.node_core.specs.Turns.{turn_disk}
+use Rattle.x_party.specs.Steps.{outcome_of_turn}
+use Rattle.x_party.proofs.Wiped.{has_wiped, wiped_on, safe_wiping, not_wiped}
 use Rattle.x_party.proofs.Following.{wiped_due}
 use Rattle.x_party.proofs.wiping.wipe.Goals as goal
 
@@ -8,21 +10,18 @@ returns-in-Ok-clause-wiped g c =
     let entry = g.H.Shelf.entry in
     let faults = g.H.Shelf.faults in
     let node = c.in-Ok.node in
-    let acted = wiped_by told node
-    c.wipe.result c.ended-disk.result.1 c.ended-disk.result.0 c.wipe.ensures c.ended-disk.ensures.disk c.ended-disk.ensures.outcome in
-    wiped_on (entry c.args.shelf.now c.args.name.now) (told node.disk) (told c.ended-disk.result.0) (entry c.close.new.shelf c.args.name.now)
-    node.gate node.end node.party c.in-Ok.ensures.node c.close.ensures.disk c.ended-disk.result.1 c.close.result
-    (faults c.open.new.shelf) (faults c.close.new.shelf) acted c.close.ensures.outcome
+    wiped_on (entry c.args.shelf.now c.args.name.now) (told node.disk) (told (turn_disk c.wipe.result)) (entry c.close.new.shelf c.args.name.now)
+    node.gate node.end node.format node.party c.in-Ok.ensures.node c.close.ensures.disk (outcome_of_turn c.wipe.result) c.close.result
+    (faults c.open.new.shelf) (faults c.close.new.shelf) (has_wiped told node c.wipe.result c.wipe.ensures) c.close.ensures.outcome
 
 pub returns-in-Ok-clause-safe : goal.returns-in-Ok-clause-safe
 returns-in-Ok-clause-safe g c =
     let told = g.H.Disk.Disk.told in
     let entry = g.H.Shelf.entry in
     let node = c.in-Ok.node in
-    let acted = wiped_by told node
-    c.wipe.result c.ended-disk.result.1 c.ended-disk.result.0 c.wipe.ensures c.ended-disk.ensures.disk c.ended-disk.ensures.outcome in
-    safe_wiping (entry c.args.shelf.now c.args.name.now) (told node.disk) (told c.ended-disk.result.0) (entry c.close.new.shelf c.args.name.now)
-    node.gate node.end node.party c.in-Ok.ensures.node c.close.ensures.disk c.ended-disk.result.1 acted
+    safe_wiping (entry c.args.shelf.now c.args.name.now) (told node.disk) (told (turn_disk c.wipe.result)) (entry c.close.new.shelf c.args.name.now)
+    node.gate node.end node.format node.party c.in-Ok.ensures.node c.close.ensures.disk c.law_one_space.ensures (outcome_of_turn c.wipe.result)
+    (has_wiped told node c.wipe.result c.wipe.ensures)
 
 pub returns-in-Ok-clause-due : goal.returns-in-Ok-clause-due
 returns-in-Ok-clause-due g c =
