@@ -1,0 +1,6 @@
+mod Leading
+mod Frames
+mod Loaded
+mod Carried
+mod Begun
+mod Findings

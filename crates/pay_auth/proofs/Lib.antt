@@ -1,0 +1,14 @@
+mod Stopping
+mod Literals
+mod Running
+mod Named
+mod Hexed
+mod Sizing
+mod Coded
+mod LineEnds
+mod Anew
+mod Once
+mod Fields
+mod Wholly
+mod Openings
+mod Turned

@@ -1,0 +1,12 @@
+pub mod Refusals
+pub mod Texts
+pub mod Scanning
+pub mod Entries
+pub mod Bodies
+pub mod Forms
+pub mod EntryLaws
+pub mod Ledgers
+pub mod Decisions
+pub mod Opening
+pub mod Turns
+pub mod Runs

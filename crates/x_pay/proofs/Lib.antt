@@ -1,0 +1,7 @@
+mod Alike
+mod Parties
+mod Books
+mod Acted
+mod Around
+mod Single
+mod Following

@@ -1,0 +1,4 @@
+pub mod Outcomes
+pub mod Payments
+pub mod Dues
+pub mod Steps

@@ -1,0 +1,123 @@
+-- The steps of a call: both disks are fetched, party and ledger are opened, the ledger acts, and both disks are put back (this
+-- project's profile).
+use Rattle.std.specs.Prelude.{◌≡◌, ◌≢◌, ◌⊎◌, ℕ, ◌≤◌, ◌<◌, true, List, Some, Result, Ok, IfOk, IfErr, OnOk, OnErr}
+use Rattle.x_base.specs.Edge.{Rose}
+use Rattle.x_disk.specs.Disk.{View, IsUntouched}
+use Rattle.x_disk.specs.Shelf.{ShelfView, IsAlike}
+use Rattle.x_disk.specs.declared.disk.DiskErr.{DiskErr}
+use Rattle.x_disk.specs.declared.disk.DiskErr.TheVariants as disk
+use Rattle.key_journal.specs.declared.cause.Cause.{Cause}
+use Rattle.key_journal.specs.declared.cause.Cause.TheVariants as cause
+use Rattle.party_state.specs.State.{Party}
+use Rattle.key_store.specs.Store.{Stored, Stands, IsStore, IsFirstDamage}
+use Rattle.disk_pair.specs.declared.disks.Disks.{Disks}
+use Rattle.disk_pair.specs.Pairs.{ThirdsStay}
+use Rattle.pay_auth.specs.declared.turn.PayTurn.{PayTurn}
+use Rattle.pay_auth.specs.declared.turn.PayTurn.TheVariants as turn
+use Rattle.pay_auth.specs.Ledgers.{LedgerView}
+use Rattle.pay_auth.specs.Opening.{IsLedgerOpened}
+use Rattle.key_journal.specs.Causes.{cause_of}
+use Rattle.key_journal.specs.Journal.{is_blank}
+use Rattle.x_pay.specs.Outcomes.{Payment, MakesPayment, IsSafePayment, IsNoFailure}
+use Rattle.x_pay.specs.declared.outcome.PayOutcome.{PayOutcome}
+use Rattle.x_pay.specs.declared.outcome.PayOutcome.TheVariants as outcome
+
+-- the outcome where a disk isn't opened
+abbrev pub outcome_of : Cause → PayOutcome
+outcome_of cause.Blank = outcome.Blank
+outcome_of cause.NotEmpty = outcome.Damaged 0
+outcome_of (cause.Damaged place) = outcome.Damaged place
+outcome_of cause.Fault = outcome.Fault
+outcome_of cause.NoMemory = outcome.NoMemory
+
+-- what is left of a turn: the ledger's disk, and the outcome
+abbrev pub turn_disk : {D : Type 0} → PayTurn D → D
+turn_disk (turn.Done ledger out) = ledger.disk
+turn_disk (turn.Refused ledger why) = ledger.disk
+turn_disk (turn.Broken b) = b.disk
+turn_disk (turn.NoMemory ledger) = ledger.disk
+
+abbrev pub outcome_of_turn : {D : Type 0} → PayTurn D → PayOutcome
+outcome_of_turn (turn.Done ledger out) = outcome.Done out
+outcome_of_turn (turn.Refused ledger why) = outcome.Refused why
+outcome_of_turn (turn.Broken b) = outcome_of (cause_of b.cause)
+outcome_of_turn (turn.NoMemory ledger) = outcome.NoMemory
+
+-- what a payment did to the two disks
+pub record HasActed {D : Type 0} (w : Payment) (name : List ℕ) (told : D → View) (old new : Disks D) (o : PayOutcome) : Type 0 where
+  pub makes : MakesPayment w name (told old.first) (told old.second) (told new.second) o
+  pub safe : IsSafePayment w name (told old.first) (told new.first) (told old.second) (told new.second)
+  pub first_faults : (told old.first).faults ≤ (told new.first).faults
+  pub second_faults : (told old.second).faults ≤ (told new.second).faults
+  pub fault : o ≡ outcome.Fault → Rose (told old.first).faults (told new.first).faults ⊎ Rose (told old.second).faults (told new.second).faults
+
+-- the outcome, or an error of the put back in its place
+abbrev pub IsClosed : PayOutcome → ℕ → ℕ → PayOutcome → Type 0
+IsClosed o before after result = (result ≡ o) ⊎ (((result ≡ outcome.Fault) × Rose before after) ⊎ (result ≡ outcome.NoMemory))
+
+-- a failure of the shelf as an outcome
+abbrev pub failure_of : DiskErr → PayOutcome
+failure_of disk.Fault = outcome.Fault
+failure_of disk.NoMemory = outcome.NoMemory
+
+-- both disks are fetched, or all stays
+pub record AreOut {D : Type 0} (told : D → View) (name other : List ℕ) (old new : ShelfView) (result : Result (Disks D) PayOutcome) : Type 0 where
+  pub first : IfOk result (λ d. IsAlike (old.entry name) (told d.first))
+  pub second : IfOk result (λ d. IsAlike (old.entry other) (told d.second))
+  pub first_fresh : IfOk result (λ d. (told d.first).faults ≡ 0)
+  pub second_fresh : IfOk result (λ d. (told d.second).faults ≡ 0)
+  pub first_slot : OnOk result (new.has_slot name)
+  pub second_slot : OnOk result (new.has_slot other)
+  pub thirds : ThirdsStay name other old.entry new.entry
+  pub first_stays : OnErr result (IsAlike (old.entry name) (new.entry name))
+  pub second_stays : OnErr result (IsAlike (old.entry other) (new.entry other))
+  pub later : old.faults ≤ new.faults
+  pub failed : IfErr result (λ o. (o ≡ outcome.NoMemory) ⊎ ((o ≡ outcome.Fault) × Rose old.faults new.faults))
+
+-- both disks are put back
+pub record AreBack {D : Type 0} (told : D → View) (name other : List ℕ) (put : Disks D) (o : PayOutcome) (old new : ShelfView) (result : PayOutcome) : Type 0 where
+  pub first : IsAlike (told put.first) (new.entry name)
+  pub second : IsAlike (told put.second) (new.entry other)
+  pub back : IsNoFailure result → new.is_back name × new.is_back other
+  pub thirds : ThirdsStay name other old.entry new.entry
+  pub later : old.faults ≤ new.faults
+  pub first_seen : 0 < (told put.first).faults → Rose old.faults new.faults
+  pub second_seen : 0 < (told put.second).faults → Rose old.faults new.faults
+  pub closed : IsClosed o old.faults new.faults result
+
+-- the party of the name is opened
+pub record IsPartyOpened {D : Type 0} (told : D → View) (name : List ℕ) (old : D) (node : Stored D) : Type 0 where
+  pub store : IsStore (told node.disk) node.gate node.end node.format node.party
+  pub untouched : IsUntouched (told old) (told node.disk)
+  -- an image that stands is opened as its party
+  pub exact : (image : List ℕ) (p : Party) → (told old).now ≡ Some image → Stands image p → node.party ≡ p
+  pub own : node.party.own ≡ name
+  pub faults : (told old).faults ≤ (told node.disk).faults
+
+-- the disk's image stands for a party of another identity
+pub record FindsOther (name : List ℕ) (old : View) (asked found : List ℕ) : Type 0 where
+  pub p : Party
+  pub reads : (image : List ℕ) → old.now ≡ Some image → Stands image p
+  pub called : asked ≡ name
+  pub own : found ≡ p.own
+  pub differs : found ≢ name
+
+-- why it isn't
+abbrev pub WhyNoParty : List ℕ → View → View → PayOutcome → Type 0
+WhyNoParty name old new (outcome.Done text) = ⊥
+WhyNoParty name old new (outcome.Refused why) = ⊥
+WhyNoParty name old new (outcome.OtherParty asked found) = FindsOther name old asked found
+WhyNoParty name old new outcome.Blank = (image : List ℕ) → old.now ≡ Some image → is_blank image ≡ true
+WhyNoParty name old new (outcome.Damaged place) = (image : List ℕ) → old.now ≡ Some image → IsFirstDamage image place
+WhyNoParty name old new outcome.Fault = Rose old.faults new.faults
+WhyNoParty name old new outcome.NoMemory = Unit {0}
+
+pub record IsNoParty {D : Type 0} (told : D → View) (name : List ℕ) (old new : D) (o : PayOutcome) : Type 0 where
+  pub why : WhyNoParty name (told old) (told new) o
+  pub untouched : IsUntouched (told old) (told new)
+  pub faults : (told old).faults ≤ (told new).faults
+
+-- the party of the name and its ledger are opened
+pub record AreOpened {D : Type 0} (told : D → View) (name : List ℕ) (old : Disks D) (node : Stored D) (book : LedgerView D) : Type 0 where
+  pub party : IsPartyOpened told name old.first node
+  pub ledger : IsLedgerOpened told old.second (Ok book)

@@ -1,0 +1,37 @@
+// A payment is taken in.
+ghost use Rattle.std.specs.Prelude.{◌≢◌};
+ghost use Rattle.x_pay.specs.Outcomes.{MakesPayment, IsSafePayment, LeavesShelf};
+ghost use Rattle.x_pay.specs.Dues.{GivesDue};
+ghost use Rattle.x_pay.specs.Payments.{accepting};
+
+use crate::acting::accept_over;
+use crate::closing::{close, fetch};
+use crate::laws::law_one_due;
+use crate::outcome::PayOutcome;
+use std::alloc::Global;
+use x_base::Ident;
+use x_disk::Shelf;
+
+/// Takes the payment in that the bytes spell, with the ledger of that name, which differs from the party's. The party's disk
+/// stays as it is; both disks are put back, whatever comes.
+pub fn accept<H: Shelf>(
+    alloc: Global,
+    shelf: &mut H,
+    party: &Ident,
+    ledger: &Ident,
+    bytes: &[u8],
+) -> PayOutcome
+    requires { party.now ≢ ledger.now }
+    ensures paid { MakesPayment (accepting bytes.now) party.now (H.entry shelf.old party.now) (H.entry shelf.old ledger.now) (H.entry shelf.new ledger.now) result }
+    ensures safe { IsSafePayment (accepting bytes.now) party.now (H.entry shelf.old party.now) (H.entry shelf.new party.now) (H.entry shelf.old ledger.now) (H.entry shelf.new ledger.now) }
+    ensures due { GivesDue (accepting bytes.now) party.now (H.entry shelf.old party.now) (H.entry shelf.old ledger.now) result }
+    ensures shelf { LeavesShelf party.now ledger.now result (H.is_back shelf.new party.now) (H.is_back shelf.new ledger.now) (H.entry shelf.old) (H.entry shelf.new) (H.faults shelf.old) (H.faults shelf.new) }
+{
+    law_one_due();
+    let disks = match fetch(shelf, party, ledger) {
+        Ok(disks) => disks,
+        Err(outcome) => return outcome,
+    };
+    let (disks, outcome) = accept_over(alloc, disks, party, bytes);
+    close(shelf, party, ledger, disks, outcome)
+}
