@@ -10,9 +10,11 @@ use Rattle.scenario.specs.declared.line.Line.{Line}
 use Rattle.scenario.specs.declared.line.Line.TheVariants as line
 use Rattle.member.specs.Member.{Member}
 use Rattle.world_laws.specs.World.{World, member_at}
-use Rattle.change_code.specs.Cost.{fits, is_change, can_compact, room_of_whole}
-use Rattle.world_laws.specs.Events.{Action, Orders, Hears, Compacts, Completion, Whole, CutOld, CutNew, Event}
-use Rattle.world_laws.specs.Steps.{received_text, texts_of, member_after, world_after_row, world_with_answer, world_with_text, world_by_row, world_with_room, world_after_compaction, world_after_action, step_at, step}
+use Rattle.change_code.specs.Cost.{fits, is_change, can_compact, space_of_whole}
+use Rattle.change_code.specs.declared.format.Format.{Format}
+use Rattle.member.specs.Acts.{compacted_in, migrated_in}
+use Rattle.world_laws.specs.Events.{Action, Orders, Hears, Compacts, Migrates, Completion, Whole, CutOld, CutNew, Event}
+use Rattle.world_laws.specs.Steps.{received_text, texts_of, member_after, world_after_row, world_with_answer, world_with_text, world_by_row, world_with_space, world_rewritten, world_after_action, step_at, step}
 use Rattle.course.specs.Transcript.{written_between}
 use Rattle.course.specs.Outcomes.{counted, with_text}
 use Rattle.course.specs.Course.{Course, IsEvent, IsNext, Leads}
@@ -51,24 +53,26 @@ row_grown : (n : ℕ) (w : World) (x : Member) (text : List ℕ) (r : Row) (comp
 row_grown n w x text r Whole =
     let kept : World = world_with_text (world_after_row n w x.party.own text r (member_after x r)) r.reply in
     let answered : World = world_with_text (world_with_answer w x.party.own r) r.answer in
-    let fit : Bool = fits x.room (differing x.party r.edits) in
+    let fit : Bool = fits x.space (differing x.party r.edits) in
     either_grown w (cond fit kept w) answered (is_accept r.verdict) (either_grown w kept w fit (written w.texts r.reply) (unwritten w.texts)) (written w.texts r.answer)
 row_grown n w x text r CutOld = unwritten w.texts
 row_grown n w x text r CutNew =
     let kept : World = world_after_row n w x.party.own text r (member_after x r) in
-    let fit : Bool = is_accept r.verdict && (is_change (differing x.party r.edits) && fits x.room (differing x.party r.edits)) in
+    let fit : Bool = is_accept r.verdict && (is_change (differing x.party r.edits) && fits x.space (differing x.party r.edits)) in
     either_grown w kept w fit (unwritten w.texts) (unwritten w.texts)
 
-compaction_grown : (w : World) (x : Member) (completion : Completion) → Grown w.texts (world_after_compaction w x completion).texts
-compaction_grown w x CutOld = unwritten w.texts
-compaction_grown w x Whole = either_grown w (world_with_room w x (room_of_whole x.party)) w (can_compact x.party) (unwritten w.texts) (unwritten w.texts)
-compaction_grown w x CutNew = either_grown w (world_with_room w x (room_of_whole x.party)) w (can_compact x.party) (unwritten w.texts) (unwritten w.texts)
+rewriting_grown : (o : Option Format) (w : World) (x : Member) (completion : Completion) → Grown w.texts (world_rewritten o w x completion).texts
+rewriting_grown None w x completion = unwritten w.texts
+rewriting_grown (Some f) w x CutOld = unwritten w.texts
+rewriting_grown (Some f) w x Whole = either_grown w (world_with_space w x (space_of_whole f x.party)) w (can_compact f x.party) (unwritten w.texts) (unwritten w.texts)
+rewriting_grown (Some f) w x CutNew = either_grown w (world_with_space w x (space_of_whole f x.party)) w (can_compact f x.party) (unwritten w.texts) (unwritten w.texts)
 
 action_grown : (n : ℕ) (w : World) (x : Member) (moment : ℕ) (completion : Completion) (action : Action) → Grown w.texts (world_after_action n w x moment completion action).texts
 action_grown n w x moment completion (Orders c) = row_grown n w x (received_text (input.Ordered c)) (row_at x.party (input.Ordered c) moment) completion
 action_grown n w x moment completion (Hears bytes (Some a)) = row_grown n w x (received_text (input.Arrived a)) (row_at x.party (input.Arrived a) moment) completion
 action_grown n w x moment completion (Hears bytes None) = unwritten w.texts
-action_grown n w x moment completion Compacts = compaction_grown w x completion
+action_grown n w x moment completion Compacts = rewriting_grown (compacted_in x.space.format) w x completion
+action_grown n w x moment completion Migrates = rewriting_grown (migrated_in x.space.format) w x completion
 
 step_grown : (n : ℕ) (w : World) (e : Event) → Grown w.texts (step n w e).texts
 step_grown n w e = go (member_at e.party w.members)

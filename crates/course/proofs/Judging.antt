@@ -7,6 +7,8 @@ use Rattle.party_state.specs.State.{Party}
 use Rattle.csm_grammar.specs.Arrivals.{authenticated}
 use Rattle.roles.specs.Leads.{lead_in}
 use Rattle.fact_book.specs.Facts.{NamedText}
+use Rattle.change_code.specs.Cost.{whole_area}
+use Rattle.change_code.specs.declared.format.Format.TheVariants.{Two}
 use Rattle.member.specs.Member.{Member}
 use Rattle.world_laws.specs.World.{Fact}
 use Rattle.world_laws.specs.Events.{Action, Hears}
@@ -17,10 +19,10 @@ module _ (test : (facts : List Fact) (o : Option Member) (d : Action) → (is_ho
   pub honest_by : (i : Input) (lead : Option Lead) → lead ≡ lead_in p i → is_honest_input facts i lead ≡ true → HonestInput known p (Some i)
   honest_by (input.Ordered command) lead lead_is is = tt
   honest_by (input.Arrived a) lead lead_is is =
-      (test known (Some (record { party = p; room = 0 })) (Hears [] (Some a))).0 (sym (ap₂ (λ (fs : List NamedText) (l : Option Lead). is_honest_lead fs (authenticated a) l) facts_are lead_is) ∙ is)
+      (test known (Some (record { party = p; space = whole_area Two })) (Hears [] (Some a))).0 (sym (ap₂ (λ (fs : List NamedText) (l : Option Lead). is_honest_lead fs (authenticated a) l) facts_are lead_is) ∙ is)
 
   pub forged_by : (i : Input) (lead : Option Lead) → lead ≡ lead_in p i → is_honest_input facts i lead ≡ false → HonestInput known p (Some i) → ⊥
   forged_by (input.Ordered command) lead lead_is is honest = let lie : true ≡ false = is in cc lie
   forged_by (input.Arrived a) lead lead_is is honest =
-      let lie : true ≡ false = sym ((test known (Some (record { party = p; room = 0 })) (Hears [] (Some a))).1 honest) ∙ (sym (ap₂ (λ (fs : List NamedText) (l : Option Lead). is_honest_lead fs (authenticated a) l) facts_are lead_is) ∙ is) in
+      let lie : true ≡ false = sym ((test known (Some (record { party = p; space = whole_area Two })) (Hears [] (Some a))).1 honest) ∙ (sym (ap₂ (λ (fs : List NamedText) (l : Option Lead). is_honest_lead fs (authenticated a) l) facts_are lead_is) ∙ is) in
       cc lie

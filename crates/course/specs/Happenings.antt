@@ -7,7 +7,7 @@ use Rattle.csm_feed.specs.Heard.{Heard, input_limit}
 use Rattle.csm_feed.specs.Numbers.{unheard_number}
 use Rattle.scenario.specs.declared.line.Line.{Line}
 use Rattle.world_laws.specs.Hearing.{IsHeard}
-use Rattle.world_laws.specs.Events.{Action, Orders, Hears, Compacts, IsAction}
+use Rattle.world_laws.specs.Events.{Action, Orders, Hears, Compacts, Migrates, IsAction}
 use Rattle.csm_grammar.specs.declared.message.Message.TheVariants as message
 use Rattle.party_state.specs.declared.command.Command.TheVariants as command
 use Rattle.scenario.specs.declared.line.Line.TheVariants as line
@@ -87,3 +87,4 @@ IsNumbered (Orders c) number = Unit {0}
 IsNumbered (Hears bytes (Some a)) number = Unit {0}
 IsNumbered (Hears bytes None) number = (u : Unheard) × Heard bytes (Err u) × (number ≡ unheard_number u)
 IsNumbered Compacts number = ⊥
+IsNumbered Migrates number = ⊥

@@ -7,8 +7,10 @@ pub mod Outcomes
 pub mod Transcript
 pub mod Course
 pub mod Ends
+pub mod Lawful
 pub mod Starts
 pub mod Parts
 pub mod Lines
 pub mod Tallies
 pub mod Parties
+pub mod Summary

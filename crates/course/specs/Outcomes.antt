@@ -2,7 +2,7 @@
 use Rattle.std.specs.Prelude.{ℕ, Bool, cond, Option, Some, None, ◌≡◌, true, false, ◌+◌, ◌≤◌}
 use Rattle.party_state.specs.declared.command.Input.{Input}
 use Rattle.world_laws.specs.World.{World}
-use Rattle.world_laws.specs.Events.{Completion, CutOld, CutNew, Action, Orders, Hears, Compacts, Whole}
+use Rattle.world_laws.specs.Events.{Completion, CutOld, CutNew, Action, Orders, Hears, Compacts, Migrates, Whole}
 use Rattle.world_laws.specs.Steps.{world_after_input}
 use Rattle.x_base.specs.Verdict.{number_of}
 use Rattle.x_base.specs.declared.verdict.Verdict.{Verdict}
@@ -31,6 +31,7 @@ input_in (Orders c) = Some (input.Ordered c)
 input_in (Hears bytes (Some a)) = Some (input.Arrived a)
 input_in (Hears bytes None) = None
 input_in Compacts = None
+input_in Migrates = None
 
 abbrev pub outcome_of : Verdict → Outcome
 outcome_of v = cond (is_accept v) outcome.Done (outcome.Refused (number_of v))

@@ -12,8 +12,8 @@ use Rattle.party_tables.specs.declared.link.LinkRec.{LinkRec}
 use Rattle.party_state.specs.declared.edit.Edit.TheVariants.{Begin, PutLink}
 use Rattle.party_tables.specs.Ranges.{IsPair, IsWord}
 use Rattle.party_state.specs.State.{begun}
-use Rattle.key_journal.specs.Layout.{area_size}
-use Rattle.change_code.specs.Cost.{room_after}
+use Rattle.change_code.specs.Cost.{whole_area, space_after}
+use Rattle.change_code.specs.declared.format.Format.TheVariants.{Two}
 use Rattle.role_base.specs.Load.{odd_pair}
 use Rattle.scenario.specs.declared.line.Line.{Line}
 use Rattle.member.specs.Member.{Member, after}
@@ -36,9 +36,9 @@ load_at own l = None
 abbrev pub loads_of : List ℕ → List Line → List LinkRec
 loads_of own lines = filter_map (load_at own) lines
 
--- a party that begins has the room of an area but for what its beginning costs
+-- a party begins in format 2, and has the room of an area but for what its beginning costs
 abbrev pub first_member : List ℕ → Role → Gen → Member
-first_member own role generator = record { party = begun own role generator; room = room_after area_size (Begin own role generator ∷ []) }
+first_member own role generator = record { party = begun own role generator; space = space_after (whole_area Two) (Begin own role generator ∷ []) }
 
 -- the member behind a load, which is a frame of its own
 abbrev pub with_load : Member → LinkRec → Member

@@ -117,19 +117,6 @@ fn text_back(texts: &Texts, j: u32) -> Option<&[u8]>
     }
 }
 
-/// What is to be done at a line that gives this command.
-#[tactic(auto, using(crate::proofs::Meant::meant_order))]
-fn ordered(line: &Line, party: Ident, command: Command) -> Act
-    requires order { order_in line.now ≡ Some (party, command) }
-    requires formed { IsCommand command }
-    ensures { (texts : List (List ℕ)) → IsMeant line.now texts result }
-{
-    Act::Tell {
-        party,
-        input: Input::Ordered(command),
-    }
-}
-
 /// Whether bytes may arrive at a line.
 fn is_arrival(line: &Line) -> bool
     ensures value { result ≡ is_arrival line.now }
@@ -181,7 +168,10 @@ pub fn act_at(alloc: Global, line: &Line, texts: &Texts) -> Result<Option<Act>, 
 {
     law_hearing();
     if let Some((party, command)) = order_of(line) {
-        return Ok(Some(ordered(line, party, command)));
+        return Ok(Some(Act::Tell {
+            party,
+            input: Input::Ordered(command),
+        }));
     }
     if !is_arrival(line) {
         return Ok(None);

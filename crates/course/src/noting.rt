@@ -14,31 +14,26 @@ fn authenticated(text: &Text) -> &[u8]
     front
 }
 
-/// Adds the fact of a text, where its code was made under a key.
+/// Puts a text that was written behind the others, and the fact of its code beside them, where it was made under a key.
 pub fn note(
     facts: &mut FactBook,
+    texts: &mut Texts,
     under: Option<FullName>,
     reply: &Option<Text>,
 ) -> Result<(), NoMemory>
-    ensures { OnOk result (facts.new ≡ facts.old ++ noted under reply.now) }
+    ensures facts { OnOk result (facts.new ≡ facts.old ++ noted under reply.now) }
+    ensures texts { OnOk result (texts.new ≡ texts.old ++ option_to_list reply.now) }
 {
-    match (under, reply) {
-        (Some(under), Some(text)) => facts.add(under, authenticated(text)),
-        _ => Ok(()),
+    let Some(text) = reply else {
+        return Ok(());
+    };
+    if let Some(under) = under {
+        facts.add(under, authenticated(text))?;
     }
+    texts.push(text.bytes())
 }
 
-/// Puts a text behind the others.
-pub fn put_text(texts: &mut Texts, reply: &Option<Text>) -> Result<(), NoMemory>
-    ensures { OnOk result (texts.new ≡ texts.old ++ option_to_list reply.now) }
-{
-    match reply {
-        Some(text) => texts.push(text.bytes()),
-        None => Ok(()),
-    }
-}
-
-/// Adds the fact where the party after the event stands.
+/// Adds the fact of a text that isn't written, where the party after its event stands.
 pub fn note_if(
     facts: &mut FactBook,
     next: bool,
@@ -47,8 +42,8 @@ pub fn note_if(
 ) -> Result<(), NoMemory>
     ensures { OnOk result (facts.new ≡ facts.old ++ cond next (noted under reply.now) []) }
 {
-    if next {
-        return note(facts, under, reply);
+    match (next, under, reply) {
+        (true, Some(under), Some(text)) => facts.add(under, authenticated(text)),
+        _ => Ok(()),
     }
-    Ok(())
 }

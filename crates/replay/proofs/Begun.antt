@@ -1,11 +1,8 @@
 -- A disk on which a party begins, and to which its links are loaded.
-use Rattle.std.proofs.Common.{◌≡◌, ◌⊎◌, inl, inr, ⊎_elim, ℕ, zero, suc, ◌+◌, ◌-◌, ◌*◌, ◌<◌, ◌≤◌, Bool, true, false, List, [], ◌∷◌, ◌++◌, length, take, Some, is_some, Ok, Err, refl, sym, ◌∙◌, ap, subst, arith, length-append}
-use Rattle.std.proofs.lemmas.List.{append-nil}
+use Rattle.std.proofs.Common.{◌≡◌, ◌⊎◌, inl, inr, ⊎_elim, ℕ, zero, suc, ◌+◌, ◌-◌, ◌<◌, ◌≤◌, Bool, true, false, List, [], ◌∷◌, length, take, Some, is_some, Ok, Err, refl, sym, ◌∙◌, ap, subst, arith}
+use Rattle.std.proofs.lemmas.Bool.{le-leb}
 use Rattle.x_base.specs.Edge.{Rose}
-use Rattle.x_base.specs.Names.{is_name, IsIdent}
-use Rattle.x_base.specs.declared.party.Role.{Role}
-use Rattle.x_base.specs.declared.party.Role.TheVariants as role
-use Rattle.x_gen.specs.declared.generator.Gen.{Gen}
+use Rattle.x_base.specs.Names.{IsIdent}
 use Rattle.x_disk.specs.Disk.{View, Tells, LeavesOnly, IsDurable, IsSound}
 use Rattle.x_disk.specs.declared.disk.DiskErr.{DiskErr}
 use Rattle.x_disk.specs.declared.disk.DiskErr.TheVariants as disk
@@ -18,20 +15,20 @@ use Rattle.key_journal.specs.declared.cause.Cause.{Cause}
 use Rattle.key_journal.specs.declared.cause.Cause.TheVariants as cause
 use Rattle.key_journal.specs.declared.cause.Unmade.{Unmade}
 use Rattle.party_tables.specs.declared.link.LinkRec.{LinkRec}
-use Rattle.party_state.specs.declared.edit.Edit.{Edit}
 use Rattle.party_state.specs.declared.edit.Edit.TheVariants.{Begin, PutLink}
 use Rattle.party_state.specs.Limits.{IsWithinLimits, StaysWithinLimits}
 use Rattle.party_state.specs.Ranges.{HasNoBegin}
 use Rattle.party_state.specs.State.{Party, begun}
-use Rattle.change_code.specs.Code.{two, eight, short, pair_code, gen_code, role_code, edit_code, edits_code, code_of_change}
-use Rattle.key_store.specs.Store.{Stored, IsStore, IsOldOrNew, IsBlankOrFirst, room}
+use Rattle.change_code.specs.Cost.{cost, fits}
+use Rattle.change_code.specs.declared.format.Format.TheVariants.{Two}
+use Rattle.key_store.specs.Store.{Stored, IsStore, IsOldOrNew, IsBlankOrFirst, space}
 use Rattle.key_store.specs.Creating.{IsNewStore}
 use Rattle.key_store.specs.Keeping.{IsKeeping}
 use Rattle.key_store.specs.declared.store.Kept.TheVariants as kept
 use Rattle.node_core.specs.Turns.{member_of, IsImageOf}
 use Rattle.replay.specs.Failing.{IsFailing}
 use Rattle.course.specs.Starts.{with_loads}
-use Rattle.replay.specs.SettingUp.{ReadsBlank, HasBegun, HasPlace, IsLoad, IsPartlyLoaded, IsBeginning, IsNotBlank, IsUnset, IsUnsetDisk, EndsBy}
+use Rattle.replay.specs.SettingUp.{ReadsBlank, longest_load, HasBegun, HasPlace, IsLoad, IsPartlyLoaded, IsBeginning, IsNotBlank, IsUnset, IsUnsetDisk, EndsBy}
 use Rattle.course.specs.Parties.{new_member}
 use Rattle.replay.specs.declared.failure.Failure.{Failure}
 use Rattle.replay.specs.declared.failure.Failure.TheVariants as failure
@@ -40,6 +37,7 @@ use Rattle.replay.specs.declared.making.SetUpEnd.{SetUpEnd}
 use Rattle.replay.specs.declared.making.SetUpEnd.TheVariants.{Failed}
 use Rattle.replay.proofs.Carrying.{is_fault}
 use Rattle.replay.proofs.Images.{image_of, told_now}
+use Rattle.replay.proofs.Lengths.{first_few, longest_is}
 use Rattle.replay.proofs.Loads.{put_longer}
 
 pub rose_above : (a b : ℕ) → Rose a b → 0 < b
@@ -65,54 +63,20 @@ free_cause disk.NoMemory = tt
 
 -- ---- a party begins
 
-two_long : (n : ℕ) → length (two n) ≡ 2
-unfolding two
-two_long n = refl
-
-eight_long : (n : ℕ) → length (eight n) ≡ 8
-unfolding eight
-eight_long n = refl
-
-role_long : (r : Role) → length (role_code r) ≡ 1
-role_long role.Bank = refl
-role_long role.Distribution = refl
-role_long role.Translation = refl
-
-name_bytes : (bytes : List ℕ) → is_name 4 16 bytes ≡ true → length bytes ≤ 16
-name_bytes bytes h = grind arith
-
-gen_long : (g : Gen) → length (gen_code g) ≡ 24
-gen_long g =
-    let a = length-append (pair_code g.key) (eight g.v) in
-    let b = length-append (eight g.key.left) (eight g.key.right) in
-    omega (arith, a, b, eight_long g.key.left, eight_long g.key.right, eight_long g.v)
-
-first_edit : (own : List ℕ) (r : Role) (g : Gen) → length (edit_code (Begin own r g)) ≡ length own + 27
-first_edit own r g =
-    let a = length-append (short own) (role_code r ++ gen_code g) in
-    let b = length-append (role_code r) (gen_code g) in
-    omega (arith, a, b, role_long r, gen_long g)
-
-first_short : (own : List ℕ) (r : Role) (g : Gen) → IsIdent own → length (code_of_change (Begin own r g ∷ [])) ≤ 46
-first_short own r g ident =
-    let a = length-append (two 1) (edits_code (Begin own r g ∷ [])) in
-    let b = ap length (append-nil (edit_code (Begin own r g))) in
-    omega (arith, a, b, two_long 1, first_edit own r g, name_bytes own ident)
-
-first_room : (gate end n : ℕ) → gate ≡ first_start + (n + 5) → end ≡ second_start → end - gate ≡ area_size - (n + 5)
+first_room : (gate end n : ℕ) → gate ≡ first_start + n → end ≡ second_start → end - gate ≡ area_size - n
 first_room gate end n is last = omega (arith, is, last)
 
 module _ {D : Type 0} (told : D → View) (old after : D) (party : NewParty) (same : (told after).now ≡ (told old).now) where
   pub begins : (s : Stored D) → IsIdent party.own → IsNewStore told party.own party.role party.generator after (Ok s) → HasBegun told (told old) party s
   begins s ident new =
       let begin = Begin party.own party.role party.generator ∷ [] in
-      let size = first_short party.own party.role party.generator ident in
-      let left = first_room s.gate s.end (length (code_of_change begin)) new.place.0 new.place.1 in
+      let few = first_few party.own party.role party.generator ident in
+      let left = first_room s.gate s.end (cost Two begin) new.place.0 new.place.1 in
       record {
         blank = λ image now. new.blank image (same ∙ now);
         tells = new.tells ∙ ap is_some same;
-        member = λ i. record { party = new.party i; room = left i };
-        room = omega (arith, size, left);
+        member = λ i. record { party = new.party i; space = record { format = new.format i; room = left i } };
+        room = omega (arith, few, left, longest_is);
       }
 
   module _ (loads : List LinkRec) (u : Unmade D) (new : IsNewStore told party.own party.role party.generator after (Err u)) (durable : IsDurable (told after)) (sound : IsSound (told u.disk)) where
@@ -169,11 +133,11 @@ module _ {D : Type 0} (told : D → View) (old after : D) (party : NewParty) (sa
 
 -- ---- a link is loaded
 
-load_room : (g e g' e' n : ℕ) → g' ≡ g + (n + 5) → e' ≡ e → e' - g' ≡ e - g - (n + 5)
+load_room : (g e g' e' n : ℕ) → g' ≡ g + n → e' ≡ e → e' - g' ≡ e - g - n
 load_room g e g' e' n gate end = omega (arith, gate, end)
 
-room_above : (g e g' e' n : ℕ) → g' ≡ g + (n + 5) → e' ≡ e → n ≤ 1203 → e - g ≤ e' - g' + 1208
-room_above g e g' e' n gate end few = omega (arith, gate, end, few)
+room_above : (g e g' e' n most : ℕ) → g' ≡ g + n → e' ≡ e → n ≤ most → e - g ≤ e' - g' + most
+room_above g e g' e' n most gate end few = omega (arith, gate, end, few)
 
 -- a load begins no party
 pub goes_on_load : (l : LinkRec) → HasNoBegin (PutLink l ∷ [])
@@ -181,29 +145,26 @@ goes_on_load l zero d le = tt
 goes_on_load l (suc k) d le = absurd (omega (arith, le))
 
 module _ {D : Type 0} (told : D → View) (old : Stored D) (l : LinkRec) where
-  -- the code of a change that is a load alone
-  pub short_load : (change : List Edit) → change ≡ PutLink l ∷ [] → length (code_of_change change) ≤ 3 + 1200 * length change → length (code_of_change (PutLink l ∷ [])) ≤ 1203
-  short_load change is law =
-      let short = subst (λ (es : List Edit). length (code_of_change es) ≤ 3 + 1200 * length es) is law in
-      omega (arith, short)
+  pub load_fits : HasPlace old → cost old.format (PutLink l ∷ []) ≤ longest_load → fits (space old) (PutLink l ∷ []) ≡ true
+  load_fits place few = le-leb _ _ (omega (arith, place.room, few))
 
   pub stays_within : IsWithinLimits old.party → HasPlace old → StaysWithinLimits (PutLink l ∷ []) old.party
   stays_within within place = (record { links = omega (arith, put_longer l old.party.links, place.few); keys = within.keys }, tt)
 
-  pub loads_one : (s : Stored D) → length (code_of_change (PutLink l ∷ [])) ≤ 1203 → IsKeeping told old (PutLink l ∷ []) (kept.Done s) → IsLoad told old s l
+  pub loads_one : (s : Stored D) → cost old.format (PutLink l ∷ []) ≤ longest_load → IsKeeping told old (PutLink l ∷ []) (kept.Done s) → IsLoad told old s l
   loads_one s few k =
       let d = k.1.place in
-      let left = load_room old.gate old.end s.gate s.end (length (code_of_change (PutLink l ∷ []))) d.0 d.1 in
+      let left = load_room old.gate old.end s.gate s.end (cost old.format (PutLink l ∷ [])) d.0 d.1 in
       let more = ap (λ (p : Party). length p.links) k.1.party in
       record {
-        member = λ i. record { party = k.1.party i; room = left i };
+        member = λ i. record { party = k.1.party i; space = record { format = k.1.format i; room = left i } };
         tells = k.1.tells;
         links = omega (arith, more, put_longer l old.party.links);
-        room = room_above old.gate old.end s.gate s.end (length (code_of_change (PutLink l ∷ []))) d.0 d.1 few;
+        room = room_above old.gate old.end s.gate s.end (cost old.format (PutLink l ∷ [])) longest_load d.0 d.1 few;
       }
 
-  partly_on : (w : View) → IsSound w → LeavesOnly (told old.disk) w (IsOldOrNew old.party (room old) (PutLink l ∷ [])) → (image : List ℕ) → w.now ≡ Some image → (k : ℕ) × IsImageOf (with_loads (member_of old) (take k (l ∷ []))) image
-  partly_on w sound run image now = ⊎_elim (λ before. (0, before)) (λ after. (1, after)) (among (told old.disk) w (IsOldOrNew old.party (room old) (PutLink l ∷ [])) sound run image now)
+  partly_on : (w : View) → IsSound w → LeavesOnly (told old.disk) w (IsOldOrNew old.party (space old) (PutLink l ∷ [])) → (image : List ℕ) → w.now ≡ Some image → (k : ℕ) × IsImageOf (with_loads (member_of old) (take k (l ∷ []))) image
+  partly_on w sound run image now = ⊎_elim (λ before. (0, before)) (λ after. (1, after)) (among (told old.disk) w (IsOldOrNew old.party (space old) (PutLink l ∷ [])) sound run image now)
 
   pub lost_broken : (b : FailedDisk D) (k : D) (reason : Cause) (why : Failure) → k ≡ b.disk → reason ≡ cause_of b.cause → (why ≡ failure.Fault → reason ≡ cause.Fault) → (IsFree reason → IsFailing why) → IsSound (told b.disk) → IsKeeping told old (PutLink l ∷ []) (kept.Broken b)
       → IsPartlyLoaded (told old.disk) (told k) (member_of old) (l ∷ []) why
@@ -216,12 +177,12 @@ module _ {D : Type 0} (told : D → View) (old : Stored D) (l : LinkRec) where
       })
 
 -- nothing was loaded, and the disk is as it was
-module _ {D : Type 0} (told : D → View) (old : Stored D) (store : IsStore (told old.disk) old.gate old.end old.party) where
+module _ {D : Type 0} (told : D → View) (old : Stored D) (store : IsStore (told old.disk) old.gate old.end old.format old.party) where
   pub lost_memory : (loads : List LinkRec) (s : Stored D) (k : D) → s ≡ old → k ≡ s.disk → IsPartlyLoaded (told old.disk) (told k) (member_of old) loads failure.NoMemory
   lost_memory loads s k same one =
       subst (λ (j : D). IsPartlyLoaded (told old.disk) (told j) (member_of old) loads failure.NoMemory) (sym (one ∙ ap (λ (t : Stored D). t.disk) same)) (record {
         failing = λ tells. tt;
         tells = refl;
-        partly = λ tells image now. (0, image_of (told old.disk) old.gate old.end old.party store image now);
+        partly = λ tells image now. (0, image_of (told old.disk) old.gate old.end old.format old.party store image now);
         fault = λ is. absurd (cc is);
       })

@@ -5,13 +5,12 @@ use Rattle.x_base.specs.Edge.{AppendsTo}
 use Rattle.x_disk.specs.Disk.{View}
 use Rattle.scenario.specs.declared.line.Line.{Line}
 use Rattle.world_laws.specs.World.{World}
-use Rattle.replay.specs.Breaking.{StandForAll, IsBreak, IsBrokenAt, BreaksEvent, BreaksIn}
-use Rattle.course.specs.Parts.{HasHappening}
+use Rattle.replay.specs.Breaking.{StandForAll, IsBreak, IsBrokenAt, BreaksIn}
+use Rattle.course.specs.Parts.{HasHappening, HappensOr}
 use Rattle.replay.specs.Closing.{OtherDisksStay}
 use Rattle.course.specs.Course.{Course, no_event}
 use Rattle.replay.specs.Course.{IsAt}
 use Rattle.course.specs.Happenings.{Happening}
-use Rattle.replay.specs.LineBreaks.{BreaksLine}
 use Rattle.replay.specs.Lines.{Plays}
 use Rattle.course.specs.Meanings.{IsMeant}
 use Rattle.replay.specs.Seats.{owners}
@@ -25,6 +24,12 @@ use Rattle.replay.proofs.Breakage.{shown_stand}
 use Rattle.replay.proofs.Happened.{nothing_done, quiet_honest}
 use Rattle.replay.proofs.Owning.{none_alike}
 use Rattle.replay.proofs.PuttingBack.{alike_on}
+use Rattle.replay.proofs.Unfinished.{BreaksEvent}
+
+-- a line broke off, from whichever course the old scene and sink show; `entry` is the shelf's afterwards
+abbrev pub BreaksLine : {D : Type 0} → (D → View) → (List ℕ → View) → ℕ → ℕ → Line → Scene D → Scene D → Progress → Option (List ℕ) → Option (List ℕ) → Ending → Type 0
+BreaksLine told entry low high l old new p written next why = (before after : ℕ) → before ≤ low → high ≤ after → (start : Option (List ℕ)) (c : Course) → IsAt told start c old p written
+    → IsBreak why × ((h : Happening) × HappensOr l c.world.texts h × IsBrokenAt told entry before after start c h new next why)
 
 module _ {D : Type 0} (told : D → View) (entry : List ℕ → View) (low high : ℕ) where
   -- no event has begun
@@ -46,8 +51,8 @@ module _ {D : Type 0} (told : D → View) (entry : List ℕ → View) (low high 
       (is, (h.0, h.1, none_begun before after start c h.0 s p written why other at))
 
   -- an event broke off
-  pub breaks_act_line : (l : Line) (a : Act) (old new : Scene D) (p : Progress) (written next : Option (List ℕ)) (why : Ending) → IsMeant l old.texts a → BreaksEvent told entry low high a old new p written next why → BreaksLine told entry low high l old new p written next why
-  breaks_act_line l a old new p written next why meant breaks = λ before after first last start c at.
+  pub breaks_event : (l : Line) (a : Act) (old new : Scene D) (p : Progress) (written next : Option (List ℕ)) (why : Ending) → IsMeant l old.texts a → BreaksEvent told entry low high a old new p written next why → BreaksLine told entry low high l old new p written next why
+  breaks_event l a old new p written next why meant breaks = λ before after first last start c at.
       let h : IsMeant l c.world.texts a = subst (λ (texts : List (List ℕ)). IsMeant l texts a) at.shows.texts_are meant in
       let b = breaks before after first last start c h.0 at h.3 in
       (b.0, (h.0, inr (h.1, h.2), b.1))

@@ -19,7 +19,6 @@ use Rattle.key_store.specs.Store.{Stored}
 use Rattle.member.specs.Member.{Member, Plan, after}
 use Rattle.member.specs.Acts.{Keeps, taking}
 use Rattle.node_core.specs.Turns.{IsImageOf, IsOldOrNext, IsTurn, IsWorkDone, IsWorkCut, IsCutChange, member_of}
-use Rattle.node_core.specs.declared.node.Turn.{Turn}
 use Rattle.node_core.specs.declared.node.Turn.TheVariants as turn
 use Rattle.replay.specs.Failing.{ReadsEither}
 use Rattle.replay.specs.Stops.{IsResting}
@@ -51,7 +50,7 @@ few_calls told (e ∷ es) old new calls work passes few change = let enough : 4 
 module _ {D : Type 0} (told : D → View) (old : Stored D) (p : Plan) where
   module _ (node : Stored D) (verdict : Verdict) (reply : Option (List ℕ)) (under : Option FullName) (t : IsTurn told old (taking p) (turn.Done node verdict reply under)) where
     stands_next : (image : List ℕ) → (told node.disk).now ≡ Some image → IsImageOf (after (member_of old) p.edits) image
-    stands_next image now = subst (λ (m : Member). IsImageOf m image) t.answer.next (image_of (told node.disk) node.gate node.end node.party t.stands image now)
+    stands_next image now = subst (λ (m : Member). IsImageOf m image) t.answer.next (image_of (told node.disk) node.gate node.end node.format node.party t.stands image now)
 
     pub done_rests : (n : ℕ) → 5 ≤ n → IsResting (told old.disk) (told node.disk) (member_of old) (after (member_of old) p.edits) (is_change p.edits ≡ true) n
     done_rests n many = rests_whole (told old.disk) (told node.disk) (member_of old) (after (member_of old) p.edits) (is_change p.edits ≡ true) n t.tells many t.stands.durable stands_next
@@ -131,7 +130,7 @@ module _ {D : Type 0} (told : D → View) (old : Stored D) (f : Stored (WithFuse
       → IsResting (told old.disk) (told node.disk.disk) x y keep n
   fused_done node verdict reply under t =
       rests_none (told old.disk) (told node.disk.disk) x y keep n (t.tells ∙ sym (ap is_some alike.now)) (record { only = t.stands.durable.only; stable = t.stands.durable.stable })
-      (λ image now. subst (λ (m : Member). IsImageOf m image) member_is (image_of (fused_told node.disk) node.gate node.end node.party t.stands image now)) none
+      (λ image now. subst (λ (m : Member). IsImageOf m image) member_is (image_of (fused_told node.disk) node.gate node.end node.format node.party t.stands image now)) none
     where
       none : keep → ⊥
       none change = few_calls fused_told q.edits f node calls t.answer.work passes few (keep_for change)

@@ -131,10 +131,6 @@ module _ {D : Type 0} (told : D → View) (low high : ℕ) (lines : List Line) (
         }),
       )
 
--- no fault of a disk, and no forged event, comes of a writing
-pub no_fault : (e : Ending) → IsWriteEnd e → e ≡ ending.Failed failure.Fault → ⊥
-no_fault e is same = subst IsWriteEnd same is
-
 -- ---- all disks are back on the shelf
 
 module _ {D : Type 0} (told : D → View) (mid entry : List ℕ → View) (before low high after : ℕ) (first : before ≤ low) (last : high ≤ after) (lines : List Line) (old new : Scene D) (start written : Option (List ℕ))

@@ -8,7 +8,7 @@ use Rattle.party_state.specs.declared.command.Input.TheVariants as input
 use Rattle.party_state.specs.State.{Party}
 use Rattle.member.specs.Member.{Member}
 use Rattle.world_laws.specs.World.{World, Fact, member_at}
-use Rattle.world_laws.specs.Events.{Action, Orders, Hears, Compacts, Completion, Whole}
+use Rattle.world_laws.specs.Events.{Action, Orders, Hears, Compacts, Migrates, Completion, Whole}
 use Rattle.world_laws.specs.Steps.{step, step_at, world_after_action}
 use Rattle.world_laws.specs.Honest.{HonestAction, HonestAt}
 use Rattle.course.specs.Stops.{KeepsChange, IsFixed}
@@ -102,12 +102,14 @@ told_action n w x moment number completion (Orders c) numbered = refl
 told_action n w x moment number completion (Hears bytes (Some a)) numbered = refl
 told_action n w x moment number completion (Hears bytes None) numbered = refl
 told_action n w x moment number completion Compacts numbered = absurd numbered
+told_action n w x moment number completion Migrates numbered = absurd numbered
 
 pub honest_action : (facts : List Fact) (p : Party) (number : ℕ) (action : Action) → IsNumbered action number → HonestInput facts p (input_in action) → HonestAction facts p action
 honest_action facts p number (Orders c) numbered honest = tt
 honest_action facts p number (Hears bytes (Some a)) numbered honest = honest
 honest_action facts p number (Hears bytes None) numbered honest = tt
 honest_action facts p number Compacts numbered honest = absurd numbered
+honest_action facts p number Migrates numbered honest = absurd numbered
 
 -- an event that changes nothing
 pub nothing_done : (n : ℕ) (w : World) (moment : ℕ) → step n w (no_event moment) ≡ w

@@ -3,7 +3,8 @@ use Rattle.std.proofs.Common.{◌≡◌, ℕ, ◌+◌, ◌-◌, true, List, Opti
 use Rattle.x_disk.specs.Disk.{View, LeavesOnly, IsSound}
 use Rattle.key_journal.specs.States.{room_of}
 use Rattle.party_state.specs.State.{Party}
-use Rattle.key_store.specs.Store.{StandsWith, IsStore}
+use Rattle.change_code.specs.declared.format.Format.{Format}
+use Rattle.key_store.specs.Store.{StandsWith, IsStore, space_between}
 
 pub told_now : (now : Option (List ℕ)) → is_some now ≡ true → (image : List ℕ) × (now ≡ Some image)
 told_now (Some image) is = (image, refl)
@@ -13,8 +14,8 @@ left_over : (gate end room : ℕ) → end ≡ gate + room → room ≡ end - gat
 left_over gate end room is = omega (arith, is)
 
 -- what a read gives of a store
-pub image_of : (v : View) (gate end : ℕ) (party : Party) → IsStore v gate end party → (image : List ℕ) → v.now ≡ Some image → StandsWith image party (end - gate)
-image_of v gate end party store image now =
+pub image_of : (v : View) (gate end : ℕ) (format : Format) (party : Party) → IsStore v gate end format party → (image : List ℕ) → v.now ≡ Some image → StandsWith image party (space_between gate end format)
+image_of v gate end format party store image now =
     let s = store.stands image now in
     record { bodies = s.bodies; holds = s.holds; fold = s.fold; left = left_over gate end (room_of s.bodies) (store.room s.bodies (record { image = image; now = now; holds = s.holds })) }
 

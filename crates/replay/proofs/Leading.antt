@@ -7,20 +7,22 @@ use Rattle.x_disk.specs.Disk.{View}
 use Rattle.scenario.specs.declared.line.Line.{Line}
 use Rattle.scenario.specs.declared.line.Line.TheVariants as line
 use Rattle.world_laws.specs.Steps.{step}
-use Rattle.course.specs.Happenings.{Happening, Happens, IsNoEvent, IsFormed}
+use Rattle.course.specs.Happenings.{IsNoEvent}
 use Rattle.course.specs.Outcomes.{after_outcome, counted, IsWithin}
 use Rattle.course.specs.Transcript.{outcome_line, text_line, written_between}
-use Rattle.course.specs.Course.{Course, after_event, IsEvent, IsNext, Leads}
+use Rattle.course.specs.Course.{Course, after_event, IsEvent, IsForged, IsNext, Leads}
 use Rattle.replay.specs.Course.{IsAt}
-use Rattle.course.specs.Acts.{Means}
-use Rattle.replay.specs.Acting.{Acts}
+use Rattle.course.specs.Meanings.{IsMeant}
+use Rattle.replay.specs.Acting.{Acts, Forges}
+use Rattle.replay.specs.Scene.{Shows}
 use Rattle.course.specs.Lines.{IsQuietNext}
-use Rattle.replay.specs.Lines.{PlaysEvent, PlaysLine, Plays, ForgesLine, ForgesIn}
+use Rattle.replay.specs.Lines.{Plays, ForgesIn}
 use Rattle.course.specs.declared.act.Act.{Act}
 use Rattle.course.specs.declared.progress.Counts.{Counts}
 use Rattle.course.specs.declared.progress.Outcome.{Outcome}
 use Rattle.course.specs.declared.progress.Outcome.TheVariants as outcome
 use Rattle.course.specs.declared.progress.Progress.{Progress}
+use Rattle.course.specs.declared.progress.Stop.{Stop}
 use Rattle.replay.specs.declared.scene.Scene.{Scene}
 
 -- what is written grows
@@ -57,26 +59,6 @@ text_within o true p n w =
 pub event_within : (o : Outcome) (wrote : Bool) (p q : Progress) → q ≡ after_outcome p o wrote → (n : ℕ) → IsWithin p n → IsWithin q (n + 1)
 event_within o wrote p q is n w = subst (λ (r : Progress). IsWithin r (n + 1)) (sym is) (text_within o wrote p n w)
 
-module _ {D : Type 0} (told : D → View) (low high : ℕ) (old new : Scene D) (p q : Progress) (written next : Option (List ℕ)) where
-  -- an event, with its lines
-  pub plays_event : (a : Act) (o : Outcome) (k : ℕ) (text : Option (List ℕ)) → Acts told low high a old new p o → k ≡ length old.texts → text ≡ slice_get new.texts k → q ≡ after_outcome p o (is_some text)
-      → AppendsTo written next (outcome_line p.number o ++ text_line (k + 1) text) → PlaysEvent told low high a old new p q written next
-  plays_event a o k text acts k_is text_is q_is out = λ before after first last start c h at means.
-      let m = acts before after first last c h at.now_is at.shows means in
-      let count : k ≡ length c.world.texts = k_is ∙ ap length at.shows.texts_are in
-      let wrote : text ≡ written_between c.world.texts (step c.now.number c.world m.event).texts = text_is ∙ ap₂ (λ (l : List (List ℕ)) (n : ℕ). slice_get l n) m.shows.texts_are count in
-      let lines : outcome_line p.number o ++ text_line (k + 1) text ≡ outcome_line c.now.number o ++ text_line (length c.world.texts + 1) (written_between c.world.texts (step c.now.number c.world m.event).texts) =
-      ap₂ (λ (l r : List ℕ). l ++ r) (ap (λ (x : Progress). outcome_line x.number o) (sym at.now_is)) (ap₂ (λ (n : ℕ) (t : Option (List ℕ)). text_line (n + 1) t) count wrote) in (
-        m.event,
-        o,
-        m.done,
-        record {
-          shows = m.shows;
-          now_is = ap₂ (λ (x : Progress) (t : Option (List ℕ)). after_outcome x o (is_some t)) at.now_is (sym wrote) ∙ sym q_is;
-          out = appends_more start written next c.transcript _ at.out (subst (AppendsTo written next) lines out);
-        },
-      )
-
 -- a line that is an event
 next_event : (before after : ℕ) (l : Line) (c e : Course) → IsEvent before after l c e → IsNext before after l c e
 next_event before after (line.Party name role pair v) c e is = absurd is.happens
@@ -92,17 +74,53 @@ quiet_next before after (line.Time moment) none c p q is quiet = λ i. record c 
 quiet_next before after (line.Stop n choice) none c p q is quiet = λ i. record c { now = (quiet ∙ ap (λ (x : Progress). record x { stop = Some (record { n = n; choice = choice }) }) (sym is)) i }
 quiet_next before after l none c p q is quiet = absurd none
 
-module _ {D : Type 0} (told : D → View) (low high : ℕ) (old new : Scene D) (p q : Progress) (written next : Option (List ℕ)) where
-  pub plays_act_line : (l : Line) (a : Act) → ((texts : List (List ℕ)) → texts ≡ old.texts → (h : Happening) × Happens l texts h × IsFormed h × Means a h) → PlaysEvent told low high a old new p q written next
-      → PlaysLine told low high l old new p q written next
-  plays_act_line l a happens plays = λ before after first last start c at.
-      let h = happens c.world.texts (sym at.shows.texts_are) in
-      let e = plays before after first last start c h.0 at h.3 in
-      (after_event c e.0 e.1, next_event before after l c (after_event c e.0 e.1) (record { happening = h.0; happens = h.1; formed = h.2; event = e.0; outcome = e.1; done = e.2; leads = refl }), e.3)
+-- a line that is no event counts nothing
+still_within : (p : Progress) (moment : ℕ) (stop : Option Stop) (n : ℕ) → IsWithin p n → IsWithin (record p { moment = moment; stop = stop }) (n + 1)
+still_within p moment stop n w = record { least = w.least; number = omega (arith, w.number); done = omega (arith, w.done); refused = omega (arith, w.refused); stopped = omega (arith, w.stopped); none = omega (arith, w.none); texts = omega (arith, w.texts) }
 
--- what was read of the scene's texts holds of equal ones
-pub happens_in : (l : Line) (a : Act) (here : List (List ℕ)) → (h : Happening) × Happens l here h × IsFormed h × Means a h → (texts : List (List ℕ)) → texts ≡ here → (h : Happening) × Happens l texts h × IsFormed h × Means a h
-happens_in l a here h texts is = subst (λ (ts : List (List ℕ)). (h : Happening) × Happens l ts h × IsFormed h × Means a h) (sym is) h
+pub quiet_within : (l : Line) → IsNoEvent l → (p q : Progress) → IsQuietNext l p q → (n : ℕ) → IsWithin p n → IsWithin q (n + 1)
+quiet_within (line.Party name role pair v) none p q quiet n w = subst (λ (r : Progress). IsWithin r (n + 1)) (sym quiet) (still_within p p.moment p.stop n w)
+quiet_within (line.Link origin recipient label pair) none p q quiet n w = subst (λ (r : Progress). IsWithin r (n + 1)) (sym quiet) (still_within p p.moment p.stop n w)
+quiet_within (line.Time moment) none p q quiet n w = subst (λ (r : Progress). IsWithin r (n + 1)) (sym quiet) (still_within p moment p.stop n w)
+quiet_within (line.Stop k choice) none p q quiet n w = subst (λ (r : Progress). IsWithin r (n + 1)) (sym quiet) (still_within p p.moment (Some (record { n = k; choice = choice })) n w)
+quiet_within l none p q quiet n w = absurd none
+
+-- from every course that the old scene and sink show, the line leads to one that the new ones show; between counts of the
+-- shelf's faults that hold these two
+abbrev pub PlaysLine : {D : Type 0} → (D → View) → ℕ → ℕ → Line → Scene D → Scene D → Progress → Progress → Option (List ℕ) → Option (List ℕ) → Type 0
+PlaysLine told low high l old new p q written next = (before after : ℕ) → before ≤ low → high ≤ after → (start : Option (List ℕ)) (c : Course) → IsAt told start c old p written
+    → (e : Course) × IsNext before after l c e × IsAt told start e new q next
+
+-- in every course that the old scene shows, the line is forged
+abbrev pub ForgesLine : {D : Type 0} → (D → View) → Line → Scene D → Type 0
+ForgesLine told l old = (c : Course) → Shows told c.world old → IsForged l c
+
+module _ {D : Type 0} (told : D → View) (low high : ℕ) (old new : Scene D) (p q : Progress) (written next : Option (List ℕ)) where
+  -- an event, with its lines
+  pub plays_event : (l : Line) (a : Act) (o : Outcome) (k : ℕ) (text : Option (List ℕ)) → IsMeant l old.texts a → Acts told low high a old new p o → k ≡ length old.texts → text ≡ slice_get new.texts k → q ≡ after_outcome p o (is_some text)
+      → AppendsTo written next (outcome_line p.number o ++ text_line (k + 1) text) → PlaysLine told low high l old new p q written next
+  plays_event l a o k text meant acts k_is text_is q_is out = λ before after first last start c at.
+      let h : IsMeant l c.world.texts a = subst (λ (texts : List (List ℕ)). IsMeant l texts a) at.shows.texts_are meant in
+      let m = acts before after first last c h.0 at.now_is at.shows h.3 in
+      let count : k ≡ length c.world.texts = k_is ∙ ap length at.shows.texts_are in
+      let wrote : text ≡ written_between c.world.texts (step c.now.number c.world m.event).texts = text_is ∙ ap₂ (λ (l : List (List ℕ)) (n : ℕ). slice_get l n) m.shows.texts_are count in
+      let lines : outcome_line p.number o ++ text_line (k + 1) text ≡ outcome_line c.now.number o ++ text_line (length c.world.texts + 1) (written_between c.world.texts (step c.now.number c.world m.event).texts) =
+      ap₂ (λ (l r : List ℕ). l ++ r) (ap (λ (x : Progress). outcome_line x.number o) (sym at.now_is)) (ap₂ (λ (n : ℕ) (t : Option (List ℕ)). text_line (n + 1) t) count wrote) in (
+        after_event c m.event o,
+        next_event before after l c (after_event c m.event o) (record { happening = h.0; happens = h.1; formed = h.2; event = m.event; outcome = o; done = m.done; leads = refl }),
+        record {
+          shows = m.shows;
+          now_is = ap₂ (λ (x : Progress) (t : Option (List ℕ)). after_outcome x o (is_some t)) at.now_is (sym wrote) ∙ sym q_is;
+          out = appends_more start written next c.transcript _ at.out (subst (AppendsTo written next) lines out);
+        },
+      )
+
+module _ {D : Type 0} (told : D → View) (old : Scene D) where
+  -- an event that is forged
+  pub forges_event : (l : Line) (a : Act) → IsMeant l old.texts a → Forges told a old → ForgesLine told l old
+  forges_event l a meant forges = λ c shows.
+      let h : IsMeant l c.world.texts a = subst (λ (texts : List (List ℕ)). IsMeant l texts a) shows.texts_are meant in
+      record { happening = h.0; happens = h.1; formed = h.2; forged = forges c h.0 shows h.3 }
 
 module _ {D : Type 0} (told : D → View) (low high : ℕ) (s : Scene D) (p q : Progress) (written : Option (List ℕ)) where
   pub plays_quiet : (l : Line) → IsNoEvent l → IsQuietNext l p q → PlaysLine told low high l s s p q written written

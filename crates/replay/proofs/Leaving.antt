@@ -8,7 +8,7 @@ use Rattle.x_disk.specs.Disk.{View, Tells, IsDurable, IsSound}
 use Rattle.x_disk.specs.Shelf.{IsAlike}
 use Rattle.key_journal.specs.States.{Failed}
 use Rattle.party_state.specs.declared.command.Input.{Input}
-use Rattle.key_store.specs.Store.{Stored, IsStore, room}
+use Rattle.key_store.specs.Store.{Stored, IsStore, space}
 use Rattle.change_code.specs.Cost.{is_change}
 use Rattle.member.specs.Member.{Plan, plan_at, after}
 use Rattle.member.specs.Acts.{taking}
@@ -20,7 +20,7 @@ use Rattle.course.specs.Stops.{KeepsChange, member_next}
 use Rattle.course.specs.declared.progress.Stop.{Stop}
 use Rattle.replay.specs.Events.{IsWhole, IsLeft, Begins, IsStoppedIn, IsStopLeft}
 use Rattle.replay.specs.Failing.{IsFailing, ReadsEither, IsLost}
-use Rattle.replay.specs.Seats.{seat, Fills}
+use Rattle.replay.specs.Seats.{Fills}
 use Rattle.replay.specs.Stops.{IsResting, IsRestarted}
 use Rattle.replay.specs.declared.failure.Failure.{Failure}
 use Rattle.replay.specs.declared.failure.Failure.TheVariants as failure
@@ -68,7 +68,7 @@ module _ {D : Type 0} (told : D → View) (old new : List (Seat D)) (place : ℕ
     rests : IsResting (told node.disk) (told k) (member_of node) (member_next (member_of node) i moment) (KeepsChange (member_of node) i moment) stop.n
     rests = subst (λ (r : Result D (Lost D)). IfOk r (λ (d : D). IsResting (told node.disk) (told d) (member_of node) (member_next (member_of node) i moment) (KeepsChange (member_of node) i moment) stop.n)) is b.rests
 
-    pub reopened : (again : D) (opened : Stored D) (before after seen_room : ℕ) → Fills old new place (Open opened) → IsAlike (told k) (told again) → IsRestarted (told again) (told opened.disk) stop.choice opened.gate opened.end opened.party → (0 < (told k).faults → Rose before after) → seen_room ≡ room opened
+    pub reopened : (again : D) (opened : Stored D) (before after seen_room : ℕ) → Fills old new place (Open opened) → IsAlike (told k) (told again) → IsRestarted (told again) (told opened.disk) stop.choice opened.gate opened.end opened.format opened.party → (0 < (told k).faults → Rose before after) → seen_room ≡ (space opened).room
         → IsStoppedIn told old new place node i moment stop before after (not (nat_eq seen_room left))
     reopened again opened before after seen_room fills alike restarted seen room_is = record {
       opened = opened;
@@ -125,7 +125,7 @@ left_stopped told shelved old new place node i moment stop before after next s =
 
 -- what is planned was begun
 module _ {D : Type 0} (told : D → View) (p : PlannedNode D) (i : Input) (moment n left : ℕ) (begun : Result D (Lost D)) (planned : p.plan ≡ plan_at (member_of p.node) i moment) where
-  pub begins_so : left ≡ room p.node → IfOk begun (λ disk. IsResting (told p.node.disk) (told disk) (member_of p.node) (after (member_of p.node) p.plan.edits) (is_change p.plan.edits ≡ true) n) → IfErr begun (λ lost. IsFailing lost.why)
+  pub begins_so : left ≡ (space p.node).room → IfOk begun (λ disk. IsResting (told p.node.disk) (told disk) (member_of p.node) (after (member_of p.node) p.plan.edits) (is_change p.plan.edits ≡ true) n) → IfErr begun (λ lost. IsFailing lost.why)
       → IfErr begun (λ lost. Tells (told p.node.disk) → ReadsEither (told lost.disk) (member_of p.node) (after (member_of p.node) p.plan.edits) (is_change p.plan.edits ≡ true)) → Begins told p.node (Some i) moment n left begun
   begins_so left_is rests failing reads = record {
     left_is = left_is;
@@ -135,10 +135,10 @@ module _ {D : Type 0} (told : D → View) (p : PlannedNode D) (i : Input) (momen
   }
 
 -- nothing is begun of an event of which nothing is heard
-pub begins_idle : {D : Type 0} (told : D → View) (node : Stored D) (k : D) (moment n left : ℕ) → left ≡ room node → k ≡ node.disk → IsDurable (told k) → IsStore (told node.disk) node.gate node.end node.party → Begins told node None moment n left (Ok k)
+pub begins_idle : {D : Type 0} (told : D → View) (node : Stored D) (k : D) (moment n left : ℕ) → left ≡ (space node).room → k ≡ node.disk → IsDurable (told k) → IsStore (told node.disk) node.gate node.end node.format node.party → Begins told node None moment n left (Ok k)
 begins_idle {D = D} told node k moment n left left_is is durable stands = record {
   left_is = left_is;
-  rests = subst (λ (j : D). IsResting (told node.disk) (told j) (member_of node) (member_of node) ⊥ n) (sym is) (rests_idle (told node.disk) (member_of node) n (subst (λ (j : D). IsDurable (told j)) is durable) (image_of (told node.disk) node.gate node.end node.party stands));
+  rests = subst (λ (j : D). IsResting (told node.disk) (told j) (member_of node) (member_of node) ⊥ n) (sym is) (rests_idle (told node.disk) (member_of node) n (subst (λ (j : D). IsDurable (told j)) is durable) (image_of (told node.disk) node.gate node.end node.format node.party stands));
   failing = tt;
   reads = tt;
 }

@@ -18,6 +18,7 @@ mod Reading
 mod Breakage
 mod Unfinished
 mod Loads
+mod Lengths
 mod Begun
 mod Completed
 mod Joining

@@ -66,9 +66,6 @@ first_loads own lines i =
 
 -- ---- how many there are
 
-turned : (a b : List ℕ) → bytes_eq a b ≡ true → bytes_eq b a ≡ true
-turned a b is = same_yes b a (sym ((bytes_eq-Decides a b).0 is))
-
 record LoadsAt (own origin recipient : List ℕ) (l : LinkRec) : Type 0 where
   at : (own ≡ origin) ⊎ (own ≡ recipient)
   next : l.next ≡ 1

@@ -37,8 +37,8 @@ lost_open told v mid u why failing sound crash tells loaded = record {
 -- an event was begun on the disk v1, which then lay on the shelf
 module _ (v v1 : View) (x y : Member) (keep : Type 0) (n : ℕ) (rest : IsResting v v1 x y keep n) where
   either_stands : (image : List ℕ) → IsImageOf x image ⊎ (keep × IsImageOf y image) → (party : Party) × Stands image party
-  either_stands image (inl one) = (x.party, record { bodies = one.bodies; holds = one.holds; fold = one.fold })
-  either_stands image (inr next) = (y.party, record { bodies = next.1.bodies; holds = next.1.holds; fold = next.1.fold })
+  either_stands image (inl one) = (x.party, record { format = x.space.format; stands = record { bodies = one.bodies; holds = one.holds; fold = one.fold } })
+  either_stands image (inr next) = (y.party, record { format = y.space.format; stands = record { bodies = next.1.bodies; holds = next.1.holds; fold = next.1.fold } })
 
   pub shelf_reads : (w : View) → IsSound v1 → IsAlike v1 w → Tells v → ReadsEither w x y keep
   shelf_reads w sound alike tells = record {

@@ -7,30 +7,31 @@ use Rattle.party_state.specs.declared.decision.Lead.{Lead}
 use Rattle.party_state.specs.declared.edit.Edit.{Edit}
 use Rattle.change_code.specs.Code.{code_of_change}
 use Rattle.change_code.specs.Cost.{fits, is_change}
+use Rattle.change_code.specs.declared.space.Space.{Space}
 use Rattle.member.specs.Member.{Member, Plan, as_decided, as_full, plan_of, plan_at, after}
 use Rattle.roles.specs.Deciding.{decision}
 use Rattle.roles.specs.Leads.{lead_in}
 use Rattle.course.specs.Stops.{KeepsChange, member_next}
 
-plan_by : (room : ℕ) (l : Option Lead) (d : Decision) (P : Plan → Type 0) → (fits room d.change ≡ true → P (as_decided l d)) → P (as_full l) → P (plan_of room l d)
-plan_by room l d P decided full = go (fits room d.change) refl
+plan_by : (space : Space) (l : Option Lead) (d : Decision) (P : Plan → Type 0) → (fits space d.change ≡ true → P (as_decided l d)) → P (as_full l) → P (plan_of space l d)
+plan_by space l d P decided full = go (fits space d.change) refl
   where
-    go : (b : Bool) → fits room d.change ≡ b → P (cond b (as_decided l d) (as_full l))
+    go : (b : Bool) → fits space d.change ≡ b → P (cond b (as_decided l d) (as_full l))
     go true is = decided is
     go false is = full
 
-pub plan_fits : (x : Member) (i : Input) (moment : ℕ) → fits x.room (plan_at x i moment).edits ≡ true
-plan_fits x i moment = plan_by x.room (lead_in x.party i) (decision x.party i moment) (λ (p : Plan). fits x.room p.edits ≡ true) (λ is. is) refl
+pub plan_fits : (x : Member) (i : Input) (moment : ℕ) → fits x.space (plan_at x i moment).edits ≡ true
+plan_fits x i moment = plan_by x.space (lead_in x.party i) (decision x.party i moment) (λ (p : Plan). fits x.space p.edits ≡ true) (λ is. is) refl
 
 pub plan_lead : (x : Member) (i : Input) (moment : ℕ) → (plan_at x i moment).lead ≡ lead_in x.party i
-plan_lead x i moment = plan_by x.room (lead_in x.party i) (decision x.party i moment) (λ (p : Plan). p.lead ≡ lead_in x.party i) (λ is. refl) refl
+plan_lead x i moment = plan_by x.space (lead_in x.party i) (decision x.party i moment) (λ (p : Plan). p.lead ≡ lead_in x.party i) (λ is. refl) refl
 
 -- where nothing changes, the member stays
 less_nothing : (room : ℕ) → room - 0 ≡ room
 less_nothing room = omega arith
 
 pub same_none : (x : Member) (es : List Edit) → (is_change es ≡ true → ⊥) → after x es ≡ x
-same_none x [] none = λ i. record { party = x.party; room = less_nothing x.room i }
+same_none x [] none = λ i. record { party = x.party; space = record { format = x.space.format; room = less_nothing x.space.room i } }
 same_none x (e ∷ es) none = absurd (none refl)
 
 pub changes_or_not : (es : List Edit) (P : Type 0) → (is_change es ≡ true → P) → ((is_change es ≡ true → ⊥) → P) → P
@@ -38,13 +39,14 @@ changes_or_not [] P some none = none (λ is. (let lie : false ≡ true = is in c
 changes_or_not (e ∷ es) P some none = some refl
 
 -- a change that is kept takes room
-less_room : (x : Member) (es : List Edit) → is_change es ≡ true → fits x.room es ≡ true → (after x es).room ≢ x.room
+less_room : (x : Member) (es : List Edit) → is_change es ≡ true → fits x.space es ≡ true → (after x es).space.room ≢ x.space.room
 less_room x [] change fit = λ same. absurd (cc change)
 less_room x (e ∷ es) change fit = λ same.
-    let wide : length (code_of_change (e ∷ es)) + 5 + 1 ≤ x.room = leb-true (length (code_of_change (e ∷ es)) + 5 + 1) x.room fit in
-    let left : x.room - (length (code_of_change (e ∷ es)) + 5) ≡ x.room = same in
+    let taken : ℕ = length (code_of_change x.space.format (e ∷ es)) + 5 in
+    let wide : taken + 1 ≤ x.space.room = leb-true (taken + 1) x.space.room fit in
+    let left : x.space.room - taken ≡ x.space.room = same in
     omega (arith, wide, left)
 
-pub takes_room : (x : Member) (i : Option Input) (moment : ℕ) → KeepsChange x i moment → (member_next x i moment).room ≢ x.room
+pub takes_room : (x : Member) (i : Option Input) (moment : ℕ) → KeepsChange x i moment → (member_next x i moment).space.room ≢ x.space.room
 takes_room x None moment keep = absurd keep
 takes_room x (Some i) moment keep = less_room x (plan_at x i moment).edits keep (plan_fits x i moment)

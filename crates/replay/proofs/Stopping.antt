@@ -6,7 +6,8 @@ use Rattle.x_base.specs.Edge.{Rose}
 use Rattle.x_disk.specs.Disk.{View, Tells, LeavesOnly, LeavesNoMore, IsDurable, IsSound}
 use Rattle.x_disk.specs.Shelf.{IsAlike}
 use Rattle.party_state.specs.State.{Party}
-use Rattle.key_store.specs.Store.{Stored, Stands, IsStore, room}
+use Rattle.change_code.specs.declared.format.Format.{Format}
+use Rattle.key_store.specs.Store.{Stored, Stands, StandsAs, IsStore, space}
 use Rattle.member.specs.Member.{Member}
 use Rattle.node_core.specs.Turns.{IsImageOf, IsOldOrNext, member_of}
 use Rattle.course.specs.declared.progress.Stop.{Stop}
@@ -77,15 +78,16 @@ module _ (v w : View) (x y : Member) (keep : Type 0) (n : ℕ) (tells : is_some 
       go (inr none) image is = inl (subst (λ (m : Member). IsImageOf m image) (same none) is)
 
 -- the power went, and the party is opened
-pub restarts : (v1 v2 w : View) (choice gate end : ℕ) (party : Party) → IsSound v2 → LeavesNoMore v1 v2 → (choice ≡ 0 → v2.now ≡ v1.stable) → (choice ≡ 1 → v2.now ≡ v1.now) → is_some v2.now ≡ is_some v1.now
-    → w.now ≡ v2.now → IsStore w gate end party
-    → ((image : List ℕ) (other : Party) → v2.now ≡ Some image → Stands image other → party ≡ other) → IsRestarted v1 w choice gate end party
-restarts v1 v2 w choice gate end party sound crash stable now tells same store exact = record {
+pub restarts : (v1 v2 w : View) (choice gate end : ℕ) (format : Format) (party : Party) → IsSound v2 → LeavesNoMore v1 v2 → (choice ≡ 0 → v2.now ≡ v1.stable) → (choice ≡ 1 → v2.now ≡ v1.now) → is_some v2.now ≡ is_some v1.now
+    → w.now ≡ v2.now → IsStore w gate end format party
+    → ((image : List ℕ) (another : Party) → v2.now ≡ Some image → Stands image another → party ≡ another) → ((image : List ℕ) (other : Format) (another : Party) → v2.now ≡ Some image → StandsAs image other another → format ≡ other)
+    → IsRestarted v1 w choice gate end format party
+restarts v1 v2 w choice gate end format party sound crash stable now tells same store exact in_format = record {
   store = store;
   among = λ image is. crash image (sound.now_among image (sym same ∙ is));
   stable = λ zero_choice. same ∙ stable zero_choice;
   now = λ one_choice. same ∙ now one_choice;
-  exact = λ image other is stands. exact image other (sym same ∙ is) stands;
+  exact = λ image other another is stands. (in_format image other another (sym same ∙ is) stands, exact image another (sym same ∙ is) (record { format = other; stands = stands }));
   tells = ap is_some same ∙ tells;
 }
 
@@ -105,22 +107,25 @@ none_left (suc n) some = absurd (some (omega arith))
 
 -- the disk v2 is the one that lay on the shelf between
 module _ {D : Type 0} (told : D → View) (old new : Stored D) (v1 v2 : View) (x y : Member) (keep : Type 0) (stop : Stop) (rest : IsResting (told old.disk) v1 x y keep stop.n)
-    (alike : IsAlike v1 v2) (again : IsRestarted v2 (told new.disk) stop.choice new.gate new.end new.party) (before after : ℕ) (seen : 0 < v1.faults → Rose before after)
-    (less : keep → y.room ≢ x.room) (next : Bool) (found : next ≡ not (nat_eq (room new) x.room)) (told_old : Tells (told old.disk)) where
+    (alike : IsAlike v1 v2) (again : IsRestarted v2 (told new.disk) stop.choice new.gate new.end new.format new.party) (before after : ℕ) (seen : 0 < v1.faults → Rose before after)
+    (less : keep → y.space.room ≢ x.space.room) (next : Bool) (found : next ≡ not (nat_eq (space new).room x.space.room)) (told_old : Tells (told old.disk)) where
   member_is : (m : Member) (image : List ℕ) → (told new.disk).now ≡ Some image → IsImageOf m image → member_of new ≡ m
-  member_is m image now stands = λ i. record { party = again.exact image m.party now (record { bodies = stands.bodies; holds = stands.holds; fold = stands.fold }) i; room = same_room i }
+  member_is m image now stands = λ i. record { party = one.1 i; space = record { format = one.0 i; room = same_room i } }
     where
+      one : (new.format ≡ m.space.format) × (new.party ≡ m.party)
+      one = again.exact image m.space.format m.party now (record { bodies = stands.bodies; holds = stands.holds; fold = stands.fold })
+
       left : (gate end r s : ℕ) → end ≡ gate + r → r ≡ s → end - gate ≡ s
       left gate end r s is same = omega (arith, is, same)
 
-      same_room : new.end - new.gate ≡ m.room
-      same_room = left new.gate new.end (room_of stands.bodies) m.room (again.store.room stands.bodies (record { image = image; now = now; holds = stands.holds })) stands.left
+      same_room : new.end - new.gate ≡ m.space.room
+      same_room = left new.gate new.end (room_of stands.bodies) m.space.room (again.store.room stands.bodies (record { image = image; now = now; holds = stands.holds })) stands.left
 
   is_old : member_of new ≡ x → next ≡ false
-  is_old same = found ∙ same_rooms (room new) x.room (ap (λ (m : Member). m.room) same)
+  is_old same = found ∙ same_rooms (space new).room x.space.room (ap (λ (m : Member). m.space.room) same)
 
   is_next : keep → member_of new ≡ y → next ≡ true
-  is_next kept same = found ∙ other_rooms (room new) x.room (λ is. less kept (sym (ap (λ (m : Member). m.room) same) ∙ is))
+  is_next kept same = found ∙ other_rooms (space new).room x.space.room (λ is. less kept (sym (ap (λ (m : Member). m.space.room) same) ∙ is))
 
   tells_new : Tells (told new.disk)
   tells_new = again.tells ∙ (ap is_some alike.now ∙ (rest.tells ∙ told_old))

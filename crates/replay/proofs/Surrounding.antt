@@ -46,6 +46,28 @@ module _ {D : Type 0} where
     fault = λ is. (let same : e ≡ ending.Failed failure.Fault = cc is in around.fault (ap Err same));
   }
 
+  -- a call that went on answers another value
+  pub around_ok : {T : Type 0} {U : Type 0} (told : D → View) (a b : List (Seat D)) (old new : List ℕ → View) (had has : List ℕ → Type 0) (low high : ℕ) (x : T) (y : U) → Around told a b old new had has low high (Ok x) → Around told a b old new had has low high (Ok y)
+  around_ok told a b old new had has low high x y around = record {
+    owners_stay = around.owners_stay;
+    others = around.others;
+    slots = around.slots;
+    later = around.later;
+    opened = around.opened;
+    fault = λ is. absurd (cc is);
+  }
+
+  -- or ended late, but not by a fault
+  pub around_late : {T : Type 0} {U : Type 0} (told : D → View) (a b : List (Seat D)) (old new : List ℕ → View) (had has : List ℕ → Type 0) (low high : ℕ) (x : T) (e : Ending) → (e ≡ ending.Failed failure.Fault → ⊥) → Around told a b old new had has low high (Ok x) → Around {T = U} told a b old new had has low high (Err e)
+  around_late told a b old new had has low high x e other around = record {
+    owners_stay = around.owners_stay;
+    others = around.others;
+    slots = around.slots;
+    later = around.later;
+    opened = tt;
+    fault = λ is. (let same : e ≡ ending.Failed failure.Fault = cc is in absurd (other same));
+  }
+
   module _ (old mid new : List (Seat D)) (place : ℕ) (node : Stored D) (l : IsLifted old mid place node) (held : Held D) (fills : Fills mid new place held) where
     is : new ≡ l.front ++ seat l.own held ∷ l.back
     is = fills l.front l.own l.back l.after l.size

@@ -1,5 +1,5 @@
 -- An event that breaks off, or whose lines aren't all written, is one of the network.
-use Rattle.std.proofs.Common.{arith, ◌≡◌, inl, inr, ℕ, ◌+◌, List, [], ◌++◌, length, take, Option, Some, None, slice_get, refl, sym, ◌∙◌, ap, ap₂, subst}
+use Rattle.std.proofs.Common.{arith, ◌≡◌, ◌≤◌, inl, inr, ℕ, ◌+◌, List, [], ◌++◌, length, take, Option, Some, None, slice_get, refl, sym, ◌∙◌, ap, ap₂, subst}
 use Rattle.std.proofs.lemmas.List.{append-nil}
 use Rattle.x_base.specs.Edge.{AppendsTo, WrotePrefix}
 use Rattle.x_disk.specs.Disk.{View}
@@ -11,8 +11,10 @@ use Rattle.world_laws.specs.Honest.{HonestAt}
 use Rattle.world_laws.specs.Steps.{step, step_at}
 use Rattle.course.specs.Forging.{HonestInput}
 use Rattle.replay.specs.Acting.{Acts}
-use Rattle.replay.specs.Breaking.{StandForAll, IsBreak, BreaksEvent}
+use Rattle.replay.specs.Breaking.{StandForAll, IsBreak, IsBrokenAt}
 use Rattle.course.specs.Parts.{IsEventOf}
+use Rattle.course.specs.Acts.{Means}
+use Rattle.replay.specs.Course.{IsAt}
 use Rattle.replay.specs.Breaks.{IsBrokenAct, BreaksOff, BreaksHonest, BreaksAct}
 use Rattle.course.specs.Course.{Course, no_event, event_at, IsDoneBy, IsDone}
 use Rattle.replay.specs.Failing.{IsFailing}
@@ -131,6 +133,11 @@ part_by (Some xs) next text wrote = record { part = take wrote.0 text; count = w
 pub wrote_none : (written : Option (List ℕ)) (text : List ℕ) → WrotePrefix written written text
 wrote_none None text = tt
 wrote_none (Some xs) text = (0, omega arith, ap Some (sym (append-nil xs)))
+
+-- an event broke off, from whichever course the old scene and sink show; `entry` is the shelf's afterwards
+abbrev pub BreaksEvent : {D : Type 0} → (D → View) → (List ℕ → View) → ℕ → ℕ → Act → Scene D → Scene D → Progress → Option (List ℕ) → Option (List ℕ) → Ending → Type 0
+BreaksEvent told entry low high a old new p written next why = (before after : ℕ) → before ≤ low → high ≤ after → (start : Option (List ℕ)) (c : Course) (h : Happening) → IsAt told start c old p written → Means a h
+    → IsBreak why × IsBrokenAt told entry before after start c h new next why
 
 module _ {D : Type 0} (told : D → View) (entry : List ℕ → View) (low high : ℕ) (old new : Scene D) (p : Progress) (written next : Option (List ℕ)) where
   -- an event broke off, and nothing of its lines was written

@@ -9,12 +9,10 @@ use Rattle.world_laws.specs.Events.{Event}
 use Rattle.world_laws.specs.Steps.{step}
 use Rattle.world_laws.specs.Honest.{HonestAt}
 use Rattle.node_core.specs.Turns.{member_of, IsImageOf}
-use Rattle.course.specs.Acts.{Means}
 use Rattle.course.specs.Course.{Course, Leads}
 use Rattle.replay.specs.Course.{IsAt}
 use Rattle.course.specs.Happenings.{Happening}
 use Rattle.replay.specs.Seats.{IsOf}
-use Rattle.course.specs.declared.act.Act.{Act}
 use Rattle.replay.specs.declared.failure.Ending.{Ending}
 use Rattle.course.specs.declared.progress.Progress.{Progress}
 use Rattle.replay.specs.declared.scene.Scene.{Scene}
@@ -66,11 +64,6 @@ IsBreak ending.Write = Unit {0}
 IsBreak (ending.Failed failure.Fault) = Unit {0}
 IsBreak (ending.Failed failure.NoMemory) = Unit {0}
 IsBreak (ending.Failed (failure.Damaged place)) = ⊥
-
--- an event broke off, from whichever course the old scene and sink show; `entry` is the shelf's afterwards
-abbrev pub BreaksEvent : {D : Type 0} → (D → View) → (List ℕ → View) → ℕ → ℕ → Act → Scene D → Scene D → Progress → Option (List ℕ) → Option (List ℕ) → Ending → Type 0
-BreaksEvent told entry low high a old new p written next why = (before after : ℕ) → before ≤ low → high ≤ after → (start : Option (List ℕ)) (c : Course) (h : Happening) → IsAt told start c old p written → Means a h
-    → IsBreak why × IsBrokenAt told entry before after start c h new next why
 
 -- the lines led up to one at which the play broke off
 pub record IsBrokenIn {D : Type 0} (told : D → View) (entry : List ℕ → View) (before after : ℕ) (start : Option (List ℕ)) (lines : List Line) (c : Course) (new : Scene D) (written : Option (List ℕ)) (why : Ending) : Type 0 where

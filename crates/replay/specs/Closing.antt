@@ -16,7 +16,7 @@ AllSlots slot (own ∷ owners) = slot own × AllSlots slot owners
 
 -- what is held of a party is back on the shelf, and stands for it; where nothing is held, its disk there stays
 abbrev pub IsBack : {D : Type 0} → (D → View) → (List ℕ → View) → (List ℕ → View) → List ℕ → Held D → Type 0
-IsBack told old entry own (Open node) = IsAlike (told node.disk) (entry own) × IsStore (told node.disk) node.gate node.end node.party
+IsBack told old entry own (Open node) = IsAlike (told node.disk) (entry own) × IsStore (told node.disk) node.gate node.end node.format node.party
 IsBack told old entry own (Loose disk) = IsAlike (told disk) (entry own)
 IsBack told old entry own Out = IsAlike (old own) (entry own)
 

@@ -4,7 +4,7 @@ use Rattle.x_base.specs.declared.verdict.Verdict.{Verdict}
 use Rattle.x_disk.specs.Disk.{View, Tells}
 use Rattle.party_state.specs.declared.command.Input.{Input}
 use Rattle.change_code.specs.Cost.{is_change}
-use Rattle.key_store.specs.Store.{Stored, room}
+use Rattle.key_store.specs.Store.{Stored, space}
 use Rattle.member.specs.Member.{Member, after}
 use Rattle.node_core.specs.Planned.{PlannedNode}
 use Rattle.node_core.specs.Turns.{member_of}
@@ -58,7 +58,7 @@ pub record IsLeft {D : Type 0} (told : D → View) (p : PlannedNode D) (old new 
 
 -- on the disk that is begun an event of this member was carried out up to a call, or it failed
 pub record Begins {D : Type 0} (told : D → View) (node : Stored D) (i : Option Input) (moment n left : ℕ) (begun : Result D (Lost D)) : Type 0 where
-  pub left_is : left ≡ room node
+  pub left_is : left ≡ (space node).room
   pub rests : IfOk begun (λ disk. IsResting (told node.disk) (told disk) (member_of node) (member_next (member_of node) i moment) (KeepsChange (member_of node) i moment) n)
   pub failing : IfErr begun (λ lost. IsFailing lost.why)
   pub reads : IfErr begun (λ lost. Tells (told node.disk) → ReadsEither (told lost.disk) (member_of node) (member_next (member_of node) i moment) (KeepsChange (member_of node) i moment))

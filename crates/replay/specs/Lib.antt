@@ -10,7 +10,6 @@ pub mod Breaks
 pub mod Closing
 pub mod Failing
 pub mod Finishing
-pub mod LineBreaks
 pub mod Seats
 pub mod Showing
 pub mod Around

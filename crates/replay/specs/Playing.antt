@@ -1,5 +1,5 @@
 -- What the playing of a scenario answers, and what it leaves (this project's profile).
-use Rattle.std.specs.Prelude.{◌≡◌, ◌⊎◌, ◌+◌, ◌++◌, ℕ, List, [], ◌∷◌, take, Option, Some}
+use Rattle.std.specs.Prelude.{◌≡◌, ◌⊎◌, ◌++◌, ℕ, List, [], ◌∷◌, take, Option, Some}
 use Rattle.x_base.specs.Edge.{AppendsTo}
 use Rattle.x_disk.specs.Disk.{View, IsDurable}
 use Rattle.scenario.specs.declared.line.Line.{Line}

@@ -1,13 +1,16 @@
 -- How the parties of a scenario are set up on their disks (this project's profile).
-use Rattle.std.specs.Prelude.{◌≡◌, ◌≢◌, ◌⊎◌, ◌+◌, ◌*◌, ◌<◌, ◌≤◌, ◌++◌, ℕ, true, false, length, take, List, [], ◌∷◌, Contains, Option, Some, None, is_some}
+use Rattle.std.specs.Prelude.{◌≡◌, ◌≢◌, ◌⊎◌, ◌+◌, ◌*◌, ◌<◌, ◌≤◌, ◌++◌, ℕ, true, false, length, take, List, [], ◌∷◌, Contains, Option, Some, None, is_some, codes}
 use Rattle.x_disk.specs.Disk.{View, Tells}
 use Rattle.x_disk.specs.Shelf.{IsAlike, AllStay, OthersStay}
 use Rattle.key_journal.specs.Journal.{is_blank}
 use Rattle.key_journal.specs.declared.cause.Cause.{Cause}
 use Rattle.party_state.specs.Limits.{most_links}
+use Rattle.x_base.specs.declared.party.Side.TheVariants.{Takes}
 use Rattle.party_tables.specs.declared.link.LinkRec.{LinkRec}
-use Rattle.change_code.specs.Code.{head_length, longest_edit}
-use Rattle.key_store.specs.Store.{Stored, Stands, room}
+use Rattle.party_state.specs.declared.edit.Edit.TheVariants.{PutLink}
+use Rattle.change_code.specs.Cost.{cost}
+use Rattle.change_code.specs.declared.format.Format.TheVariants.{Two}
+use Rattle.key_store.specs.Store.{Stored, StandsAs, space}
 use Rattle.scenario.specs.declared.line.Line.{Line}
 use Rattle.member.specs.Member.{Member}
 use Rattle.node_core.specs.Turns.{member_of, IsImageOf}
@@ -42,9 +45,13 @@ AllReadBlank entry (own ∷ owners) = ReadsBlank (entry own) × AllReadBlank ent
 
 -- ---- one party is set up on a disk
 
--- how many bytes a load takes of the room at most, with its frame
-abbrev pub longest_load : ℕ
-longest_load = head_length + longest_edit + 5
+-- a load whose code is as long as any: identities and labels have at most 16 bytes
+abbrev pub longest_link : LinkRec
+longest_link = record { peer = codes "AAAAAAAAAAAAAAAA"; label = codes "AAAAAAAAAAAAAAAA"; side = Takes; pair = record { left = 0; right = 0 }; next = 1; ready = true }
+
+-- what a load costs at most
+unfoldable pub longest_load : ℕ
+longest_load = cost Two (PutLink longest_link ∷ [])
 
 -- the room of a party that has begun, at least: one byte more than all its loads take
 abbrev pub least_room : ℕ
@@ -55,12 +62,12 @@ pub record HasBegun {D : Type 0} (told : D → View) (old : View) (party : NewPa
   pub blank : ReadsBlank old
   pub tells : is_some (told s.disk).now ≡ is_some old.now
   pub member : member_of s ≡ new_member party
-  pub room : least_room ≤ room s
+  pub room : least_room ≤ (space s).room
 
 -- one more link has its place, in the party and on its disk
 pub record HasPlace {D : Type 0} (s : Stored D) : Type 0 where
   pub few : length s.party.links < most_links
-  pub room : longest_load < room s
+  pub room : longest_load < (space s).room
 
 abbrev pub CanLoad : {D : Type 0} → Stored D → Option LinkRec → Type 0
 CanLoad s None = Unit {0}
@@ -71,7 +78,7 @@ pub record IsLoad {D : Type 0} (told : D → View) (old new : Stored D) (l : Lin
   pub member : member_of new ≡ with_load (member_of old) l
   pub tells : is_some (told new.disk).now ≡ is_some (told old.disk).now
   pub links : length new.party.links ≤ length old.party.links + 1
-  pub room : room old ≤ room new + longest_load
+  pub room : (space old).room ≤ (space new).room + longest_load
 
 abbrev pub IsLoadOrSame : {D : Type 0} → (D → View) → Stored D → Stored D → Option LinkRec → Type 0
 IsLoadOrSame told old new None = new ≡ old
@@ -82,7 +89,7 @@ pub record IsLoadedTo {D : Type 0} (told : D → View) (old new : Stored D) (loa
   pub member : member_of new ≡ with_loads (member_of old) loads
   pub tells : is_some (told new.disk).now ≡ is_some (told old.disk).now
   pub links : length new.party.links ≤ length loads
-  pub room : room old ≤ room new + longest_load * length loads
+  pub room : (space old).room ≤ (space new).room + longest_load * length loads
 
 -- a failure left the disk of this member with none or some of the loads, in order
 pub record IsPartlyLoaded (old new : View) (x : Member) (loads : List LinkRec) (why : Failure) : Type 0 where
@@ -98,10 +105,10 @@ pub record IsSetUp {D : Type 0} (told : D → View) (old : View) (x : Member) (n
   pub member : Tells old → member_of node ≡ x
 
 -- what a read gives of the disk of the party at hand: what it gave before; or, where that was blank, a blank image, or
--- one that stands for the party with none or some of its loads, in order
+-- one that stands in format 2 for the party with none or some of its loads, in order
 abbrev pub IsBeginning : View → Member → List LinkRec → List ℕ → Type 0
 IsBeginning old x loads image = (old.now ≡ Some image)
-    ⊎ (ReadsBlank old × ((is_blank image ≡ true) ⊎ ((k : ℕ) × Stands image (with_loads x (take k loads)).party)))
+    ⊎ (ReadsBlank old × ((is_blank image ≡ true) ⊎ ((k : ℕ) × StandsAs image Two (with_loads x (take k loads)).party)))
 
 -- the disk isn't blank, and a read of it gives what it gave before
 pub record IsNotBlank (old new : View) : Type 0 where

@@ -3,7 +3,8 @@
 use Rattle.std.specs.Prelude.{◌≡◌, ◌⊎◌, ◌≤◌, ℕ, Bool, true, false, List, Some, is_some}
 use Rattle.x_disk.specs.Disk.{View, Tells}
 use Rattle.party_state.specs.State.{Party}
-use Rattle.key_store.specs.Store.{Stored, Stands, IsStore}
+use Rattle.change_code.specs.declared.format.Format.{Format}
+use Rattle.key_store.specs.Store.{Stored, StandsAs, IsStore}
 use Rattle.member.specs.Member.{Member}
 use Rattle.node_core.specs.Turns.{IsImageOf, member_of}
 use Rattle.course.specs.Stops.{IsFixed}
@@ -18,13 +19,13 @@ pub record IsResting (v w : View) (x y : Member) (keep : Type 0) (n : ℕ) : Typ
   pub whole : Tells v → keep → 5 ≤ n → (image : List ℕ) → w.may_leave image → IsImageOf y image
   pub tells : is_some w.now ≡ is_some v.now
 
--- from a disk to the party that is opened once the power went
-pub record IsRestarted (v w : View) (choice gate end : ℕ) (party : Party) : Type 0 where
-  pub store : IsStore w gate end party
+-- from a disk to the party that is opened once the power went, in the format in which it stands
+pub record IsRestarted (v w : View) (choice gate end : ℕ) (format : Format) (party : Party) : Type 0 where
+  pub store : IsStore w gate end format party
   pub among : (image : List ℕ) → w.now ≡ Some image → v.may_leave image
   pub stable : choice ≡ 0 → w.now ≡ v.stable
   pub now : choice ≡ 1 → w.now ≡ v.now
-  pub exact : (image : List ℕ) (other : Party) → w.now ≡ Some image → Stands image other → party ≡ other
+  pub exact : (image : List ℕ) (other : Format) (another : Party) → w.now ≡ Some image → StandsAs image other another → (format ≡ other) × (party ≡ another)
   pub tells : is_some w.now ≡ is_some v.now
 
 -- the party that is opened is x or y, and which it is, is said

@@ -2,7 +2,7 @@
 ghost use Rattle.std.specs.Prelude.{◌≡◌, ◌⊎◌, ◌<◌, ◌++◌, ℕ, [], cond, length, Some, None, Err, IfOk, IfErr, Option};
 ghost use Rattle.x_base.specs.Edge.{Rose};
 ghost use Rattle.party_state.specs.declared.command.Input.{Input as TheInput};
-ghost use Rattle.key_store.specs.Store.{room};
+ghost use Rattle.key_store.specs.Store.{space};
 ghost use Rattle.member.specs.Member.{plan_at};
 ghost use Rattle.node_core.specs.Turns.{member_of};
 ghost use Rattle.world_laws.specs.Noted.{noted};
@@ -51,7 +51,7 @@ fn play_stopped<H: Shelf>(
 ) -> Result<bool, Failure>
     requires empty { IsEmptyAt scene.old.parties place }
     requires slot { H.has_slot shelf.old own.now }
-    requires left { left ≡ room planned.node }
+    requires left { left ≡ (space planned.node).room }
     ensures stopped { IfOk result (λ next. (i : TheInput) (moment : ℕ) → planned.plan ≡ plan_at (member_of planned.node) i moment
         → IsStoppedIn H.Disk.told scene.old.parties scene.new.parties place planned.node (Some i) moment stop (H.faults shelf.old) (H.faults shelf.new) next) }
     ensures noted { IfOk result (λ next. scene.new.facts ≡ scene.old.facts ++ cond next (noted planned.plan.under planned.plan.reply) []) }
@@ -104,7 +104,7 @@ fn play_input<H: Shelf>(
 {
     law_inputs();
     let node = scene.parties.take_out(place);
-    let left = node.room();
+    let left = node.space().room;
     let planned = match node.plan(alloc, input, now.moment) {
         Ok(planned) => planned,
         Err(node) => {
@@ -150,7 +150,7 @@ fn play_unheard<H: Shelf>(
         return Ok(Outcome::Refused(number));
     };
     let node = scene.parties.take_out(place);
-    let left = node.room();
+    let left = node.space().room;
     node.view();
     reopen(
         &mut scene.parties,

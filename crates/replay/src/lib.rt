@@ -6,7 +6,6 @@
 mod acting;
 mod answering;
 mod closing;
-mod event;
 mod failure;
 mod keys;
 mod lines;

@@ -2,7 +2,7 @@
 ghost use Rattle.std.specs.Prelude.{◌≡◌, ◌≤◌, ◌⊎◌, List, [], ◌∷◌, option_to_list, IfOk, IfErr};
 ghost use Rattle.key_journal.specs.Opening.{IsFree};
 ghost use Rattle.party_tables.specs.Ranges.{IsNextCount};
-ghost use Rattle.key_store.specs.Store.{room};
+ghost use Rattle.key_store.specs.Store.{space};
 ghost use Rattle.scenario.specs.Behind.{EachBehind};
 ghost use Rattle.scenario.specs.Rules.{may_follow};
 ghost use Rattle.node_core.specs.Turns.{member_of};
@@ -84,6 +84,8 @@ fn load_link<D: Disk>(store: Store<D>, alloc: Global, link: LinkRec) -> Result<S
     ensures lost { IfErr result (λ lost. IsPartlyLoaded (D.told store.disk) (D.told lost.disk) (member_of store) (link ∷ []) lost.why) }
 {
     store.view();
+    link.peer.bytes();
+    link.label.bytes();
     let mut change = Change::new(alloc);
     match change.push(Edit::PutLink(link)) {
         Ok(()) => {}
@@ -94,7 +96,7 @@ fn load_link<D: Disk>(store: Store<D>, alloc: Global, link: LinkRec) -> Result<S
             });
         }
     }
-    law_short_code(&change);
+    law_short_code(store.format(), &change);
     match store.keep(alloc, change) {
         Kept::Done(store) => Ok(store),
         Kept::Full(_) => unreachable!(),
@@ -138,7 +140,7 @@ fn load_links<D: Disk>(
 ) -> Result<Store<D>, Lost<D>>
     requires rules { EachBehind may_follow lines.now }
     requires none { store.party.links ≡ [] }
-    requires room { least_room ≤ room store }
+    requires room { least_room ≤ (space store).room }
     ensures loaded { IfOk result (λ s. IsLoadedTo D.told store s (loads_of own.now lines.now)) }
     ensures lost { IfErr result (λ lost. IsPartlyLoaded (D.told store.disk) (D.told lost.disk) (member_of store) (loads_of own.now lines.now) lost.why) }
 {

@@ -49,7 +49,7 @@ pub(crate) fn reopen<H: Shelf>(
     let disk = exchange(shelf, own, disk)?;
     match restart(disk, alloc, stop.choice) {
         Ok(node) => {
-            let is_next = node.room() != room;
+            let is_next = node.space().room != room;
             parties.put_in(place, Held::Open(node));
             Ok(is_next)
         }

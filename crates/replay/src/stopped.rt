@@ -128,7 +128,7 @@ pub(crate) fn failure_by(cause: Cause) -> Failure
 
 /// Powers the disk off with a choice, and opens its party.
 pub(crate) fn restart<D: Disk>(disk: D, alloc: Global, choice: u64) -> Result<Node<D>, Lost<D>>
-    ensures opened { IfOk result (λ node. IsRestarted (D.told disk) (D.told node.disk) choice node.gate node.end node.party) }
+    ensures opened { IfOk result (λ node. IsRestarted (D.told disk) (D.told node.disk) choice node.gate node.end node.format node.party) }
     ensures lost { IfErr result (λ lost. IsLost (D.told disk) (D.told lost.disk) lost.why) }
     ensures fault { IfErr result (λ lost. lost.why ≡ Failure.Fault → 0 < (D.told lost.disk).faults) }
 {

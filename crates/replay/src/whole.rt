@@ -8,7 +8,7 @@ use crate::failure::Failure;
 use crate::scene::Scene;
 use crate::seat::Held;
 use crate::stopped::failure_by;
-use course::{note, put_text};
+use course::note;
 use key_journal::Unmade;
 use node_core::{Planned, Turn};
 use x_base::Verdict;
@@ -34,8 +34,7 @@ pub(crate) fn play_whole<D: Disk>(
             under,
         } => {
             scene.parties.put_in(place, Held::Open(node));
-            note(&mut scene.facts, under, &reply)?;
-            put_text(&mut scene.texts, &reply)?;
+            note(&mut scene.facts, &mut scene.texts, under, &reply)?;
             Ok(verdict)
         }
         Turn::Broken(broken) => {

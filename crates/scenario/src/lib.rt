@@ -20,4 +20,5 @@ pub use laws::{
 };
 pub use line::Line;
 pub use reading::read;
+pub use row::first_row;
 pub use scenario_lines::Scenario;

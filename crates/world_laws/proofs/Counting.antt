@@ -2,6 +2,6 @@
 pub mod Sound
 pub mod Quiet
 pub mod Counts
-pub mod Rooms
+pub mod Spaces
 pub mod Roles
 pub mod Runs

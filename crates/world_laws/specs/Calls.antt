@@ -3,6 +3,7 @@
 use Rattle.std.specs.Prelude.{◌≡◌, ◌≢◌, ℕ, Some, List, ◌++◌, Option, option_to_list}
 use Rattle.x_disk.specs.Disk.{View, LeavesOnly, IsUntouched}
 use Rattle.party_state.specs.State.{Party}
+use Rattle.change_code.specs.declared.space.Space.{Space}
 use Rattle.key_store.specs.Store.{Stands, StandsWith}
 use Rattle.x_party.specs.Images.{StandsFor, OrBefore}
 use Rattle.x_party.specs.declared.outcome.Outcome.{Outcome}
@@ -46,10 +47,10 @@ pub record IsCallEvent (x : Member) (e : Completion → Event) (old new : View) 
   pub whole : AnswersWhole x (e Whole) new o
   pub cut : LeavesOnly old new (OrBefore old (IsCutCall x e))
 
--- the call is this action at the party that stands on the disk, with the room that is left there
+-- the call is this action at the party that stands on the disk, with its format and the room that is left there
 abbrev pub IsCall : View → View → Action → ℕ → Outcome → Type 0
-IsCall old new action moment o = (image : List ℕ) (party : Party) (room : ℕ) → old.now ≡ Some image → StandsWith image party room
-    → IsCallEvent (record { party = party; room = room }) (event_at (record { party = party; room = room }) moment action) old new o
+IsCall old new action moment o = (image : List ℕ) (party : Party) (space : Space) → old.now ≡ Some image → StandsWith image party space
+    → IsCallEvent (record { party = party; space = space }) (event_at (record { party = party; space = space }) moment action) old new o
 
 -- it answers that another party stands on the disk, or it failed
 abbrev pub AnswersOther : List ℕ → List ℕ → Outcome → Type 0
@@ -62,8 +63,8 @@ AnswersOther name own outcome.NoMemory = Unit {0}
 
 -- a call of the party of this name
 pub record IsNamedCall (name : List ℕ) (old new : View) (action : Action) (moment : ℕ) (o : Outcome) : Type 0 where
-  -- where that party stands on the disk, the call is this action at it, with the room that is left there
-  pub own : (image : List ℕ) (party : Party) (room : ℕ) → old.now ≡ Some image → StandsWith image party room → party.own ≡ name
-      → IsCallEvent (record { party = party; room = room }) (event_at (record { party = party; room = room }) moment action) old new o
+  -- where that party stands on the disk, the call is this action at it, with its format and the room that is left there
+  pub own : (image : List ℕ) (party : Party) (space : Space) → old.now ≡ Some image → StandsWith image party space → party.own ≡ name
+      → IsCallEvent (record { party = party; space = space }) (event_at (record { party = party; space = space }) moment action) old new o
   -- where another does, it is no event: nothing is written to the disk, and the party answers nothing
   pub other : (image : List ℕ) (party : Party) → old.now ≡ Some image → Stands image party → party.own ≢ name → IsUntouched old new × AnswersOther name party.own o

@@ -7,11 +7,13 @@ use Rattle.party_state.specs.declared.command.Command.{Command}
 use Rattle.party_state.specs.declared.command.Command.TheVariants as command
 use Rattle.world_laws.specs.Hearing.{IsHeard}
 
--- an operator's command; bytes that arrive, with what is heard of them; or a compaction of the disk
+-- an operator's command; bytes that arrive, with what is heard of them; a compaction of the disk; or its migration to
+-- format 2
 pub data Action : Type 0 where
   Orders : Command → Action
   Hears : List ℕ → Option Arrival → Action
   Compacts : Action
+  Migrates : Action
 
 -- done as a whole; or cut off by a crash, after which the old state stands, or the new one
 pub data Completion : Type 0 where
@@ -40,8 +42,9 @@ abbrev pub IsAction : Action → Type 0
 IsAction (Orders c) = IsCommand c
 IsAction (Hears bytes heard) = IsHeard bytes heard
 IsAction Compacts = Unit {0}
+IsAction Migrates = Unit {0}
 
--- commands, arriving bytes, compactions and crashes, in any order
+-- commands, arriving bytes, compactions, migrations and crashes, in any order
 abbrev pub AreEvents : List Event → Type 0
 AreEvents [] = Unit {0}
 AreEvents (e ∷ es) = IsAction e.action × AreEvents es

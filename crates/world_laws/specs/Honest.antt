@@ -10,7 +10,7 @@ use Rattle.fact_book.specs.Facts.{NamedText, has_named, same_full_name}
 use Rattle.member.specs.Member.{Member}
 use Rattle.world_laws.specs.World.{Fact, World, member_at}
 use Rattle.roles.specs.Leads.{lead_at}
-use Rattle.world_laws.specs.Events.{Action, Orders, Hears, Compacts, Event}
+use Rattle.world_laws.specs.Events.{Action, Orders, Hears, Compacts, Migrates, Event}
 use Rattle.world_laws.specs.Steps.{step}
 
 -- a fact of this name and this authenticated text stands
@@ -29,6 +29,7 @@ HonestAction facts p (Orders c) = Unit {0}
 HonestAction facts p (Hears bytes (Some a)) = HonestArrival facts p a
 HonestAction facts p (Hears bytes None) = Unit {0}
 HonestAction facts p Compacts = Unit {0}
+HonestAction facts p Migrates = Unit {0}
 
 abbrev pub HonestAt : List Fact → Option Member → Action → Type 0
 HonestAt facts None action = Unit {0}
@@ -67,6 +68,7 @@ is_honest_action facts p (Orders c) = true
 is_honest_action facts p (Hears bytes (Some a)) = is_honest_lead (map named_text facts) (authenticated a) (lead_at p a)
 is_honest_action facts p (Hears bytes None) = true
 is_honest_action facts p Compacts = true
+is_honest_action facts p Migrates = true
 
 abbrev pub is_honest : List Fact → Option Member → Action → Bool
 is_honest facts None action = true

@@ -26,7 +26,7 @@ pub record IsAfter (w later : World) (y : Member) (reply : Option (List ℕ)) (f
 -- where this is done, a member is another afterwards
 abbrev pub changes : Work → Bool
 changes (Keeps es) = is_change es
-changes WritesWhole = true
+changes (WritesWhole f) = true
 changes ClearsRest = false
 
 -- what a member does is this event, in each network: whole, the member is the one after it, and the reply is written, with
@@ -46,7 +46,7 @@ IsTurnEvent old event (Done node verdict reply under) = (n : ℕ) (w : World) �
 IsTurnEvent old event (Broken b) = Unit {0}
 IsTurnEvent old event (NoMemory node) = node ≡ old
 
--- the image stands for the member after the event that is cut off, with its room
+-- the image stands for the member after the event that is cut off, with its space
 pub record IsCutEvent (x : Member) (event : ℕ → World → Completion → World) (image : List ℕ) : Type 0 where
   pub completion : Completion
   pub cut : IsCutOff completion

@@ -66,7 +66,7 @@ abbrev pub PairsApart : List Member → Type 0
 PairsApart ms = (p q : List ℕ) (x y : Member) (j k : LinkKey) (l m : LinkRec) → member_at p ms ≡ Some x → member_at q ms ≡ Some y → link_with j x.party ≡ Some l → link_with k y.party ≡ Some m
     → j.side ≡ Sends → k.side ≡ Sends → l.pair ≡ m.pair → (p ≡ q) × (j ≡ k)
 
--- parties whose identities don't expand alike, with loaded key-encrypting keys alone, each at both its ends
+-- parties in either format, whose identities don't expand alike, with loaded key-encrypting keys alone, each at both its ends
 pub record IsStart (w : World) : Type 0 where
   pub members : Distinct own_of bytes_eq w.members
   pub apart : AllPairs (λ x y. expands_alike x.party.own y.party.own ≡ false) w.members

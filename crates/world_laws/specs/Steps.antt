@@ -9,11 +9,14 @@ use Rattle.party_state.specs.Rows.{Row, Reply, Coded, Plain, Again, Use, Made, A
 use Rattle.csm_grammar.specs.Arrivals.{authenticated}
 use Rattle.role_base.specs.Texts.{text_of}
 use Rattle.role_base.specs.Differing.{differing}
-use Rattle.change_code.specs.Cost.{fits, is_change, can_compact, room_of_whole}
+use Rattle.change_code.specs.Cost.{fits, is_change, can_compact, space_of_whole}
+use Rattle.change_code.specs.declared.format.Format.{Format}
+use Rattle.change_code.specs.declared.space.Space.{Space}
 use Rattle.member.specs.Member.{Member, after}
+use Rattle.member.specs.Acts.{compacted_in, migrated_in}
 use Rattle.world_laws.specs.World.{Fact, Kk, Birth, KkUse, Acceptance, World, own_of, member_at}
 use Rattle.roles.specs.Rows.{row_at}
-use Rattle.world_laws.specs.Events.{Action, Orders, Hears, Compacts, Completion, Whole, CutOld, CutNew, Event}
+use Rattle.world_laws.specs.Events.{Action, Orders, Hears, Compacts, Migrates, Completion, Whole, CutOld, CutNew, Event}
 
 -- the authenticated text of an input
 abbrev pub received_text : Input → List ℕ
@@ -83,18 +86,29 @@ world_with_text w reply = record w { texts = w.texts ++ texts_of reply }
 -- nothing. Cut with the new state, which only a change that fits can leave: the row, and no text
 abbrev pub world_by_row : ℕ → World → Member → List ℕ → Row → Completion → World
 world_by_row n w x text r Whole = cond (is_accept r.verdict)
-    (cond (fits x.room (differing x.party r.edits)) (world_with_text (world_after_row n w x.party.own text r (member_after x r)) r.reply) w)
+    (cond (fits x.space (differing x.party r.edits)) (world_with_text (world_after_row n w x.party.own text r (member_after x r)) r.reply) w)
     (world_with_text (world_with_answer w x.party.own r) r.answer)
 world_by_row n w x text r CutOld = w
-world_by_row n w x text r CutNew = cond (is_accept r.verdict && (is_change (differing x.party r.edits) && fits x.room (differing x.party r.edits)))
+world_by_row n w x text r CutNew = cond (is_accept r.verdict && (is_change (differing x.party r.edits) && fits x.space (differing x.party r.edits)))
     (world_after_row n w x.party.own text r (member_after x r)) w
 
-abbrev pub world_with_room : World → Member → ℕ → World
-world_with_room w x room = record w { members = put_row own_of bytes_eq (record { party = x.party; room = room }) w.members }
+abbrev pub world_with_space : World → Member → Space → World
+world_with_space w x space = record w { members = put_row own_of bytes_eq (record { party = x.party; space = space }) w.members }
 
+-- the party is written whole in this format, where it isn't too large for it, and is alone in its area then; where there is no
+-- format in which it is to be written, nothing changes. Cut, that or nothing
+abbrev pub world_rewritten : Option Format → World → Member → Completion → World
+world_rewritten None w x completion = w
+world_rewritten (Some f) w x CutOld = w
+world_rewritten (Some f) w x completion = cond (can_compact f x.party) (world_with_space w x (space_of_whole f x.party)) w
+
+-- a compaction keeps the format
 abbrev pub world_after_compaction : World → Member → Completion → World
-world_after_compaction w x CutOld = w
-world_after_compaction w x completion = cond (can_compact x.party) (world_with_room w x (room_of_whole x.party)) w
+world_after_compaction w x completion = world_rewritten (compacted_in x.space.format) w x completion
+
+-- a migration turns format 1 into format 2; in format 2 nothing changes
+abbrev pub world_after_migration : World → Member → Completion → World
+world_after_migration w x completion = world_rewritten (migrated_in x.space.format) w x completion
 
 abbrev pub world_after_input : ℕ → World → Member → Input → ℕ → Completion → World
 world_after_input n w x i moment completion = world_by_row n w x (received_text i) (row_at x.party i moment) completion
@@ -105,6 +119,7 @@ world_after_action n w x moment completion (Orders c) = world_after_input n w x 
 world_after_action n w x moment completion (Hears bytes (Some a)) = world_after_input n w x (input.Arrived a) moment completion
 world_after_action n w x moment completion (Hears bytes None) = w
 world_after_action n w x moment completion Compacts = world_after_compaction w x completion
+world_after_action n w x moment completion Migrates = world_after_migration w x completion
 
 abbrev pub step_at : ℕ → World → Event → Option Member → World
 step_at n w e None = w

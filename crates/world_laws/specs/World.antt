@@ -4,6 +4,7 @@ use Rattle.x_base.specs.declared.key_name.FullName.{FullName}
 use Rattle.party_state.specs.State.{Party}
 use Rattle.party_state.specs.Rows.{Sealed, Class}
 use Rattle.party_tables.specs.Tables.{find_row}
+use Rattle.change_code.specs.declared.space.Space.{Space}
 use Rattle.member.specs.Member.{Member}
 
 -- a fact: this party made the code of this authenticated text, under the key of this name
@@ -57,8 +58,8 @@ own_of m = m.party.own
 abbrev pub member_at : List ℕ → List Member → Option Member
 member_at p ms = find_row own_of bytes_eq p ms
 
--- the network has a member of this name, and this holds of its party and its room
-pub record HasMember (w : World) (own : List ℕ) (P : Party → ℕ → Type 0) : Type 0 where
+-- the network has a member of this name, and this holds of its party and its space
+pub record HasMember (w : World) (own : List ℕ) (P : Party → Space → Type 0) : Type 0 where
   pub member : Member
   pub at : member_at own w.members ≡ Some member
-  pub holds : P member.party member.room
+  pub holds : P member.party member.space

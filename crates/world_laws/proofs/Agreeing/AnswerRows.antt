@@ -76,6 +76,7 @@ use Rattle.world_laws.proofs.Agreeing.Facts.{at_peer, Carries, carries_one}
 use Rattle.world_laws.proofs.Agreeing.Known.{IsUsed, Issued, Known}
 use Rattle.world_laws.proofs.Agreeing.Facts.{RtrFact, RtrForm, RtrApart, WaitsAt, kdu_value}
 use Rattle.world_laws.proofs.Agreeing.Lists.{facts_after}
+use Rattle.change_code.specs.declared.space.Space.{Space}
 
 abbrev passed_exchange : Party → Rtr → ℕ → Via → Exchange
 passed_exchange p m value way = record { peer = m.ultimate; kind = kind.KeySent (centre_name p m) way; text = text_of (passed_reply p m value) }
@@ -83,22 +84,22 @@ passed_exchange p m value way = record { peer = m.ultimate; kind = kind.KeySent 
 abbrev pub HonestAs : List Fact → Arrival → Option Lead → Type 0
 HonestAs fs a o = (l : Lead) → o ≡ Some l → l.verified ≡ true → HasFact fs l.under (authenticated a)
 
-module _ (v : Lists) (p : List ℕ) (x : Member) (room : ℕ) (at : member_at p v.members ≡ Some x) (i : Agreed v) where
+module _ (v : Lists) (p : List ℕ) (x : Member) (space : Space) (at : member_at p v.members ≡ Some x) (i : Agreed v) where
   sent : AllSent x.party
   sent = i.sent p x at
 
   -- the key goes on
   passed_agreeing : (o : Option LinkKey) (text : List ℕ) (r : Row) (m : Rtr) (value : ℕ) (way : Via) (u : FullName) → new_label way ≡ None → PartyGrows o x.party (apply r.edits x.party) → Backed v.members x.party (apply r.edits x.party) → (apply r.edits x.party).keys ≡ put_row record_key same_record (passed_record x.party m value) x.party.keys → (apply r.edits x.party).exchanges ≡ put_row exchange_key bytes_eq (passed_exchange x.party m value way) (drop_row exchange_key bytes_eq m.originator x.party.exchanges)
-      → r.reply ≡ Some (Coded (message.Ksm (centre_ksm x.party m)) (record { name = centre_name x.party m; recipient = m.ultimate }) value) → r.accepts ≡ None → m.receiver ≡ x.party.own → m.originator ≢ x.party.own → Says text (message.Rtr m) → (f : HasFact v.facts u text) → (IsUsed x.party m f.fact.under m.kd → ⊥) → IsUsed (apply r.edits x.party) m f.fact.under m.kd → ((b : RtrFact v.members f.fact m) → value ≡ kdu_value b.link m) → Agreeing v x room text r
+      → r.reply ≡ Some (Coded (message.Ksm (centre_ksm x.party m)) (record { name = centre_name x.party m; recipient = m.ultimate }) value) → r.accepts ≡ None → m.receiver ≡ x.party.own → m.originator ≢ x.party.own → Says text (message.Rtr m) → (f : HasFact v.facts u text) → (IsUsed x.party m f.fact.under m.kd → ⊥) → IsUsed (apply r.edits x.party) m f.fact.under m.kd → ((b : RtrFact v.members f.fact m) → value ≡ kdu_value b.link m) → Agreeing v x space text r
   passed_agreeing o text r m value way u way_new grown back keys_is ex_is reply_is accepts_is mine_is other said f unused used value_is = record {
     back = back;
     news = news_both x.party (apply r.edits x.party) m.originator (passed_exchange x.party m value way) ex_is (way_new);
     keys = one (passed_record x.party m value) keys_is (record { put = came refl other not_before; live = λ no own. absurd no; known = mine (sym own_on) past; gone = λ n j held. absurd (not_there n j) });
     exchanges = sent_both x.party (apply r.edits x.party) m.originator (passed_exchange x.party m value way) (passed_record x.party m value) own_on ex_is keys_is (inr refl) (λ name q. (let n : centre_name x.party m ≡ name = some_is (centre_name x.party m) name q in (sym n, ap (λ (z : KeyName). z.originator) (sym n), refl, refl))) refl sent;
     waits = waits_both x.party (apply r.edits x.party) m.originator (passed_exchange x.party m value way) ex_is refl;
-    replies = subst (RepliesOk (lists_after v x room text r) x.party.own) (sym reply_is) the_fact;
+    replies = subst (RepliesOk (lists_after v x space text r) x.party.own) (sym reply_is) the_fact;
     new = subst (FreshReply v.facts x.party) (sym reply_is) (refl, inr (other, not_before));
-    accepts = subst (AcceptsOk (lists_after v x room text r) x.party.own text) (sym accepts_is) tt;
+    accepts = subst (AcceptsOk (lists_after v x space text r) x.party.own text) (sym accepts_is) tt;
   }
     where
       own_on : (apply r.edits x.party).own ≡ x.party.own
@@ -108,7 +109,7 @@ module _ (v : Lists) (p : List ℕ) (x : Member) (room : ℕ) (at : member_at p 
       said_f = subst (λ (z : List ℕ). Says z (message.Rtr m)) (sym f.text_is) said
 
       b : RtrFact v.members f.fact m
-      b = fact_says v p x room at i u text f (message.Rtr m) said
+      b = fact_says v p x space at i u text f (message.Rtr m) said
 
       not_before : Issued v.facts x.party (record_key (passed_record x.party m value)) → ⊥
       not_before j = go (pairs_or_same RtrApart v.facts j.fact f.fact i.apart j.stands f.stands)
@@ -138,17 +139,17 @@ module _ (v : Lists) (p : List ℕ) (x : Member) (room : ℕ) (at : member_at p 
       alone : (u : FullName) (val : ℕ) → Carries b.link.pair x.party.own m.ultimate (centre_ksm x.party m).body (record { name = centre_name x.party m; recipient = m.ultimate }) u val → (u ≡ record { name = centre_name x.party m; recipient = m.ultimate }) × (val ≡ unseal_of b.link.pair x.party.own m.ultimate m.ctb m.kdu)
       alone u val c = carries_one b.link.pair x.party.own m.ultimate (centre_ksm x.party m).body (record { name = centre_name x.party m; recipient = m.ultimate }) u val refl c
 
-      the_fact : KsmFact (lists_after v x room text r) (record { under = record { name = centre_name x.party m; recipient = m.ultimate }; text = auth_of (message.Ksm (centre_ksm x.party m)); maker = x.party.own }) (centre_ksm x.party m)
+      the_fact : KsmFact (lists_after v x space text r) (record { under = record { name = centre_name x.party m; recipient = m.ultimate }; text = auth_of (message.Ksm (centre_ksm x.party m)); maker = x.party.own }) (centre_ksm x.party m)
       the_fact = record {
         label = centre_label;
         under = refl;
         issuer = b.party;
-        at_issuer = there v p x room at i o r m.originator b.party grown other b.at;
+        at_issuer = there v p x space at i o r m.originator b.party grown other b.at;
         link = b.link;
         found = b.found;
         ready = b.ready;
-        party = after x room r;
-        at = after_is v p x room at i o r grown;
+        party = after x space r;
+        at = after_is v p x space at i o r grown;
         past = λ u val c. subst (λ (z : FullName). Mine (facts_after v.facts x r.reply) (apply r.edits x.party) (at_peer z)) (sym (alone u val c).0) past;
         value = λ u val c n g. (let j : record_with (record_key (passed_record x.party m value)) (apply r.edits x.party) ≡ Some n = subst (λ (z : FullName). record_with (at_peer z) (apply r.edits x.party) ≡ Some n) (alone u val c).0 g in let q : passed_record x.party m value ≡ n = put_same x.party (apply r.edits x.party) (record_key (passed_record x.party m value)) (passed_record x.party m value) n keys_is refl j in
             ap (λ (z : KeyRec). z.value) (sym q) ∙ (value_is b ∙ (ap (λ (o : List ℕ). unseal_of b.link.pair o m.ultimate m.ctb m.kdu) mine_is ∙ sym (alone u val c).1)));
@@ -163,8 +164,8 @@ module _ (v : Lists) (p : List ℕ) (x : Member) (room : ℕ) (at : member_at p 
       }
 
   -- with the key
-  brought_agreeing : (o : Option LinkKey) (a : Arrival) (m : Rtr) (k : ℕ × ℕ) (found : Option LinkRec) → Says (authenticated a) (message.Rtr m) → m.kd ≡ Some k → link_with (takes m.originator centre_label) x.party ≡ found → HonestAs v.facts a (brought_lead x.party a m k found) → is_accept (brought x.party a m k found).verdict ≡ true → IsSound o x.party (authenticated a) (brought x.party a m k found) → Agreeing v x room (authenticated a) (brought x.party a m k found)
-  brought_agreeing o a m k None said kd_is e honest h sound = refused_agreeing v p x room at i (authenticated a) (verdict_of (brought_front x.party m None))
+  brought_agreeing : (o : Option LinkKey) (a : Arrival) (m : Rtr) (k : ℕ × ℕ) (found : Option LinkRec) → Says (authenticated a) (message.Rtr m) → m.kd ≡ Some k → link_with (takes m.originator centre_label) x.party ≡ found → HonestAs v.facts a (brought_lead x.party a m k found) → is_accept (brought x.party a m k found).verdict ≡ true → IsSound o x.party (authenticated a) (brought x.party a m k found) → Agreeing v x space (authenticated a) (brought x.party a m k found)
+  brought_agreeing o a m k None said kd_is e honest h sound = refused_agreeing v p x space at i (authenticated a) (verdict_of (brought_front x.party m None))
   brought_agreeing o a m k (Some l) said kd_is e honest h sound = passed_agreeing o (authenticated a) (brought x.party a m k (Some l)) m (brought_value l k) (via.Distribution m.originator k.1) (brought_under x.party m k.1) refl (change_grows o (brought x.party a m k (Some l)).edits x.party sound.edits) (backed v.members x.party (brought x.party a m k (Some l)).edits (inr (inr (l, at_key, refl, refl)), (tt, (tt, (tt, tt))))) refl refl refl refl mine_is.0 mine_is.1 said fact (λ u. unused (subst (IsUsed x.party m fact.fact.under) kd_is u)) (subst (IsUsed (apply (brought x.party a m k (Some l)).edits x.party) m fact.fact.under) (sym kd_is) (up, at_up, omega arith)) value_is
     where
       up : LinkRec
@@ -201,13 +202,13 @@ module _ (v : Lists) (p : List ℕ) (x : Member) (room : ℕ) (at : member_at p 
       value_is b =
           let form : RtrForm v.members b.party.party fact.fact.under m (kdu_value b.link m) (Some k) = subst (RtrForm v.members b.party.party fact.fact.under m (kdu_value b.link m)) kd_is b.form in
           let ends : HasOtherEnd v.members m.receiver (takes m.originator centre_label) form.0 = i.ends m.originator b.party m.receiver centre_label form.0 b.at form.1 form.2 in
-          let y_is : ends.member ≡ x = here v p x room at i m.receiver ends.member mine_is.0 ends.at in
+          let y_is : ends.member ≡ x = here v p x space at i m.receiver ends.member mine_is.0 ends.at in
           let link : ends.link ≡ l = one_found ends.link l (subst (λ (z : Member). link_with (takes m.originator centre_label) z.party ≡ Some ends.link) y_is ends.found) e in
           ap (λ (q : Pair). unwrap_of q k.1 k.0) (ap (λ (y : LinkRec). y.pair) (sym link) ∙ ends.pair) ∙ form.3
 
   -- without it
-  translated_agreeing : (o : Option LinkKey) (a : Arrival) (m : Rtr) (found : Option Waiting) → Says (authenticated a) (message.Rtr m) → m.kd ≡ None → waiting_with x.party m.originator ≡ found → HonestAs v.facts a (translated_lead x.party a m found) → is_accept (translated x.party a m found).verdict ≡ true → IsSound o x.party (authenticated a) (translated x.party a m found) → Agreeing v x room (authenticated a) (translated x.party a m found)
-  translated_agreeing o a m None said kd_is e honest h sound = refused_agreeing v p x room at i (authenticated a) (verdict_of (translated_front x.party m None))
+  translated_agreeing : (o : Option LinkKey) (a : Arrival) (m : Rtr) (found : Option Waiting) → Says (authenticated a) (message.Rtr m) → m.kd ≡ None → waiting_with x.party m.originator ≡ found → HonestAs v.facts a (translated_lead x.party a m found) → is_accept (translated x.party a m found).verdict ≡ true → IsSound o x.party (authenticated a) (translated x.party a m found) → Agreeing v x space (authenticated a) (translated x.party a m found)
+  translated_agreeing o a m None said kd_is e honest h sound = refused_agreeing v p x space at i (authenticated a) (verdict_of (translated_front x.party m None))
   translated_agreeing o a m (Some n) said kd_is e honest h sound = passed_agreeing o (authenticated a) (translated x.party a m (Some n)) m n.value (via.Translation m.originator) (translated_under x.party m n) refl (change_grows o (translated x.party a m (Some n)).edits x.party sound.edits) (backed v.members x.party (translated x.party a m (Some n)).edits (tt, (tt, (tt, tt)))) refl refl refl refl mine_is.0 mine_is.1 said fact (λ u. unused (subst (IsUsed x.party m fact.fact.under) kd_is u)) (subst (IsUsed (apply (translated x.party a m (Some n)).edits x.party) m fact.fact.under) (sym kd_is) used) value_is
     where
       t : TestsHold (translated_tests x.party a m n)
@@ -226,7 +227,7 @@ module _ (v : Lists) (p : List ℕ) (x : Member) (room : ℕ) (at : member_at p 
       count = ap (λ (z : FullName). z.name.count) (sym fact.under_is)
 
       b : RtrFact v.members fact.fact m
-      b = fact_says v p x room at i (translated_under x.party m n) (authenticated a) fact (message.Rtr m) said
+      b = fact_says v p x space at i (translated_under x.party m n) (authenticated a) fact (message.Rtr m) said
 
       waits_of : (b : RtrFact v.members fact.fact m) → WaitsAt v.members m.receiver m.originator fact.fact.under.name.count (kdu_value b.link m)
       waits_of b = subst (RtrForm v.members b.party.party fact.fact.under m (kdu_value b.link m)) kd_is b.form
@@ -234,7 +235,7 @@ module _ (v : Lists) (p : List ℕ) (x : Member) (room : ℕ) (at : member_at p 
       value_is : (b : RtrFact v.members fact.fact m) → n.value ≡ kdu_value b.link m
       value_is b =
           let w = waits_of b in
-          let y_is : w.party ≡ x = here v p x room at i m.receiver w.party mine_is.0 w.at in
+          let y_is : w.party ≡ x = here v p x space at i m.receiver w.party mine_is.0 w.at in
           w.value_is n (subst (λ (z : Member). waiting_with z.party m.originator ≡ Some n) (sym y_is) e) count
 
       unused : IsUsed x.party m fact.fact.under None → ⊥
@@ -243,7 +244,7 @@ module _ (v : Lists) (p : List ℕ) (x : Member) (room : ℕ) (at : member_at p 
       used : IsUsed (apply (translated x.party a m (Some n)).edits x.party) m fact.fact.under None
       used =
           let w = waits_of b in
-          let y_is : w.party ≡ x = here v p x room at i m.receiver w.party mine_is.0 w.at in
+          let y_is : w.party ≡ x = here v p x space at i m.receiver w.party mine_is.0 w.at in
           let found : link_with (sends m.originator centre_label) x.party ≡ Some w.link = subst (λ (z : Member). link_with (sends m.originator centre_label) z.party ≡ Some w.link) y_is w.found in
           (w.link, found, w.ready, w.below, λ q j. absurd (none q j))
         where
@@ -256,6 +257,6 @@ module _ (v : Lists) (p : List ℕ) (x : Member) (room : ℕ) (at : member_at p 
                 | inr d ↦ (ex_drop x.party.exchanges m.originator m.originator g d.0).1 refl
               ]
 
-  pub rtr_agreeing : (o : Option LinkKey) (a : Arrival) (m : Rtr) (kd : Option (ℕ × ℕ)) → m.kd ≡ kd → Says (authenticated a) (message.Rtr m) → HonestAs v.facts a (rtr_lead_with x.party a m kd) → is_accept (rtr_with x.party a m kd).verdict ≡ true → IsSound o x.party (authenticated a) (rtr_with x.party a m kd) → Agreeing v x room (authenticated a) (rtr_with x.party a m kd)
+  pub rtr_agreeing : (o : Option LinkKey) (a : Arrival) (m : Rtr) (kd : Option (ℕ × ℕ)) → m.kd ≡ kd → Says (authenticated a) (message.Rtr m) → HonestAs v.facts a (rtr_lead_with x.party a m kd) → is_accept (rtr_with x.party a m kd).verdict ≡ true → IsSound o x.party (authenticated a) (rtr_with x.party a m kd) → Agreeing v x space (authenticated a) (rtr_with x.party a m kd)
   rtr_agreeing o a m (Some k) e said honest h sound = brought_agreeing o a m k (link_with (takes m.originator centre_label) x.party) said e refl honest h sound
   rtr_agreeing o a m None e said honest h sound = translated_agreeing o a m (waiting_with x.party m.originator) said e refl honest h sound

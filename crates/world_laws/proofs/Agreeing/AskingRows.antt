@@ -43,16 +43,17 @@ use Rattle.bank_keys.specs.declared.waits.Waiting.{Waiting}
 use Rattle.bank_keys.specs.Waiting.{waiting_by, waiting_in}
 use Rattle.bank_orders.specs.Ask.{centre_front, centre_request, ask_centre, ask_of}
 use Rattle.bank_orders.specs.Translate.{translate_tests, translate_reply, translate_drawn, translate_under}
+use Rattle.change_code.specs.declared.space.Space.{Space}
 
 abbrev translate_exchange : Party → List ℕ → List ℕ → LinkRec → ℕ → Exchange
 translate_exchange p centre u l key = record { peer = centre; kind = kind.Translating u key l.next; text = text_of (translate_reply p centre u l key) }
 
-module _ (v : Lists) (p : List ℕ) (x : Member) (room : ℕ) (at : member_at p v.members ≡ Some x) (i : Agreed v) where
+module _ (v : Lists) (p : List ℕ) (x : Member) (space : Space) (at : member_at p v.members ≡ Some x) (i : Agreed v) where
   sent : AllSent x.party
   sent = i.sent p x at
 
-  pub ask_agreeing : (text : List ℕ) (peer : List ℕ) (o : Option (List ℕ)) → Agreeing v x room text (ask_of x.party peer o)
-  ask_agreeing text peer None = still_agreeing v p x room at i text (ask_peer x.party peer) refl tt tt tt
+  pub ask_agreeing : (text : List ℕ) (peer : List ℕ) (o : Option (List ℕ)) → Agreeing v x space text (ask_of x.party peer o)
+  ask_agreeing text peer None = still_agreeing v p x space at i text (ask_peer x.party peer) refl tt tt tt
   ask_agreeing text peer (Some u) = record {
     back = backed v.members x.party (ask_centre x.party peer u).edits (tt, tt);
     news = news_put x.party (apply (ask_centre x.party peer u).edits x.party) (record { peer = peer; kind = kind.Asked u; text = text_of (Plain (centre_request x.party peer u)) }) refl refl;
@@ -64,8 +65,8 @@ module _ (v : Lists) (p : List ℕ) (x : Member) (room : ℕ) (at : member_at p 
     accepts = tt;
   }
 
-  pub translate_agreeing : (o : Option LinkKey) (text : List ℕ) (centre u : List ℕ) (l : LinkRec) (moment : ℕ) (drawn : Option (ℕ × Gen)) → good_draw x.party.generator moment ≡ drawn → link_with (sends centre centre_label) x.party ≡ Some l → IsSound o x.party text (translate_drawn x.party centre u l drawn) → Agreeing v x room text (translate_drawn x.party centre u l drawn)
-  translate_agreeing o text centre u l moment None drew e sound = refused_agreeing v p x room at i text (verdict_of (centre_front x.party centre u ++ translate_tests x.party l None))
+  pub translate_agreeing : (o : Option LinkKey) (text : List ℕ) (centre u : List ℕ) (l : LinkRec) (moment : ℕ) (drawn : Option (ℕ × Gen)) → good_draw x.party.generator moment ≡ drawn → link_with (sends centre centre_label) x.party ≡ Some l → IsSound o x.party text (translate_drawn x.party centre u l drawn) → Agreeing v x space text (translate_drawn x.party centre u l drawn)
+  translate_agreeing o text centre u l moment None drew e sound = refused_agreeing v p x space at i text (verdict_of (centre_front x.party centre u ++ translate_tests x.party l None))
   translate_agreeing o text centre u l moment (Some d) drew e sound = record {
     back = backed v.members x.party (translate_drawn x.party centre u l (Some d)).edits (tt, (inr (inr (l, at_key, refl, refl)), (tt, tt)));
     news = news_put x.party (apply (translate_drawn x.party centre u l (Some d)).edits x.party) (translate_exchange x.party centre u l d.0) refl refl;
@@ -78,8 +79,8 @@ module _ (v : Lists) (p : List ℕ) (x : Member) (room : ℕ) (at : member_at p 
     replies = record {
       value = d.0;
       waits = record {
-        party = after x room (translate_drawn x.party centre u l (Some d));
-        at = after_is v p x room at i o (translate_drawn x.party centre u l (Some d)) grown;
+        party = after x space (translate_drawn x.party centre u l (Some d));
+        at = after_is v p x space at i o (translate_drawn x.party centre u l (Some d)) grown;
         link = record l { next = l.next + 1 };
         found = put_at (sends centre centre_label) (record l { next = l.next + 1 }) x.party.links la.key;
         ready = i.centres p x centre l at e;
@@ -107,6 +108,6 @@ module _ (v : Lists) (p : List ℕ) (x : Member) (room : ℕ) (at : member_at p 
       with_value : (n : Waiting) → Some (record { ultimate = u; value = d.0; cta = l.next }) ≡ Some n → n.value ≡ d.0
       with_value n h = sym (ap (λ (z : Waiting). z.value) (some_is (record { ultimate = u; value = d.0; cta = l.next }) n h))
 
-  pub translate_row_agreeing : (o : Option LinkKey) (text : List ℕ) (centre u : List ℕ) (found : Option LinkRec) (moment : ℕ) → link_with (sends centre centre_label) x.party ≡ found → IsSound o x.party text (translate_under x.party centre u found moment) → Agreeing v x room text (translate_under x.party centre u found moment)
-  translate_row_agreeing o text centre u None moment e sound = refused_agreeing v p x room at i text (verdict_of (centre_front x.party centre u ++ (false, UnknownKk) ∷ []))
+  pub translate_row_agreeing : (o : Option LinkKey) (text : List ℕ) (centre u : List ℕ) (found : Option LinkRec) (moment : ℕ) → link_with (sends centre centre_label) x.party ≡ found → IsSound o x.party text (translate_under x.party centre u found moment) → Agreeing v x space text (translate_under x.party centre u found moment)
+  translate_row_agreeing o text centre u None moment e sound = refused_agreeing v p x space at i text (verdict_of (centre_front x.party centre u ++ (false, UnknownKk) ∷ []))
   translate_row_agreeing o text centre u (Some l) moment e sound = translate_agreeing o text centre u l moment (good_draw x.party.generator moment) refl e sound

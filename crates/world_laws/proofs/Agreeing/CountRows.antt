@@ -93,6 +93,7 @@ use Rattle.world_laws.proofs.Agreeing.AnswerRows.{HonestAs}
 use Rattle.world_laws.proofs.Agreeing.MeetingCounts.{side_of, PutsSends, CountsMove, change_takes, sending_counts}
 use Rattle.world_laws.proofs.Agreeing.TakenCounts.{taken_counts, rtr_brought_counts, rfs_counts}
 use Rattle.world_laws.proofs.Agreeing.CountCentres.{distribution_counts, centre_counts}
+use Rattle.change_code.specs.declared.space.Space.{Space}
 
 joined : (es fs : List Edit) → AllByRecursion PutsSends es → AllByRecursion PutsSends fs → AllByRecursion PutsSends (es ++ fs)
 joined [] fs a b = b
@@ -289,13 +290,13 @@ module _ (ms : List Member) (p : Party) (links : HasLinks p) where
       by_status true = tt
       by_status false = by_exchange (exchange_with m.originator p)
 
-module _ (v : Lists) (p : List ℕ) (x : Member) (room : ℕ) (at : member_at p v.members ≡ Some x) (i : Agreed v) (links : HasLinks x.party) where
+module _ (v : Lists) (p : List ℕ) (x : Member) (space : Space) (at : member_at p v.members ≡ Some x) (i : Agreed v) (links : HasLinks x.party) where
   key_counts : (a : Arrival) (m : Ksm) (b : KsmBody) (o : Option LinkRec) → Says (authenticated a) (message.Ksm m) → m.body ≡ b → body_link x.party m.originator b ≡ o → HonestAs v.facts a (key_lead_with x.party a m b o) → is_accept (key_row x.party a m b o).verdict ≡ true → CountsMove v.members x.party (key_row x.party a m b o)
   key_counts a m b None said is found honest h = sending_counts v.members x.party (key_row x.party a m b None) tt refl
-  key_counts a m b (Some l) said is found honest h = taken_counts v p x room at i links a m b l said is found honest h
+  key_counts a m b (Some l) said is found honest h = taken_counts v p x space at i links a m b l said is found honest h
 
   rtr_counts : (a : Arrival) (m : Rtr) (kd : Option (ℕ × ℕ)) → m.kd ≡ kd → Says (authenticated a) (message.Rtr m) → HonestAs v.facts a (rtr_lead_with x.party a m kd) → is_accept (rtr_with x.party a m kd).verdict ≡ true → CountsMove v.members x.party (rtr_with x.party a m kd)
-  rtr_counts a m (Some k) is said honest h = rtr_brought_counts v p x room at i a m k (link_with (takes m.originator centre_label) x.party) said is refl honest h
+  rtr_counts a m (Some k) is said honest h = rtr_brought_counts v p x space at i a m k (link_with (takes m.originator centre_label) x.party) said is refl honest h
   rtr_counts a m None is said honest h = translated_counts v.members x.party links a m (waiting_with x.party m.originator)
 
   message_counts : (a : Arrival) (m : Message) (moment : ℕ) → Says (authenticated a) m → HonestAs v.facts a (message_lead x.party a m) → is_accept (message_row x.party a m moment).verdict ≡ true → CountsMove v.members x.party (message_row x.party a m moment)
@@ -309,7 +310,7 @@ module _ (v : Lists) (p : List ℕ) (x : Member) (room : ℕ) (at : member_at p 
   message_counts a (message.Dsm m) moment said honest h = dsm_counts v.members x.party links a m (named_by x.party m)
 
   translation_counts : (a : Arrival) (m : Message) → Says (authenticated a) m → HonestAs v.facts a (translation_lead x.party a m) → is_accept (translation_message x.party a m).verdict ≡ true → CountsMove v.members x.party (translation_message x.party a m)
-  translation_counts a (message.Rfs m) said honest h = rfs_counts v p x room at i a m (link_with (takes m.originator centre_label) x.party) (link_with (sends m.ultimate centre_label) x.party) said refl refl honest h
+  translation_counts a (message.Rfs m) said honest h = rfs_counts v p x space at i a m (link_with (takes m.originator centre_label) x.party) (link_with (sends m.ultimate centre_label) x.party) said refl refl honest h
   translation_counts a (message.Rsi m) said honest h = sending_counts v.members x.party (translation_message x.party a (message.Rsi m)) tt refl
   translation_counts a (message.Rtr m) said honest h = sending_counts v.members x.party (translation_message x.party a (message.Rtr m)) tt refl
   translation_counts a (message.Ksm m) said honest h = sending_counts v.members x.party (translation_message x.party a (message.Ksm m)) tt refl

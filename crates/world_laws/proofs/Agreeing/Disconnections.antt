@@ -67,6 +67,7 @@ use Rattle.world_laws.proofs.Links.Waiting.{Waits}
 use Rattle.world_laws.proofs.Sound.Arrivals.{dsm_passes}
 use Rattle.world_laws.proofs.Agreeing.Known.{one_key}
 use Rattle.world_laws.proofs.Agreeing.Waiting.{SentOk}
+use Rattle.change_code.specs.declared.space.Space.{Space}
 
 -- the key that ends stands
 named_at : (q : Party) (m : Dsm) (n : Named) → named_by q m ≡ Some n → record_of q m.originator m.idd ≡ Some n.key
@@ -261,12 +262,12 @@ left_so s peer k es sent at_k peer_is (with_front j o q) = subst (λ (z : List E
   unnamed = λ p x n h m is. absurd ((ex_drop s.exchanges peer p x h).1 is);
 })
 
-module _ (v : Lists) (p : List ℕ) (x : Member) (room : ℕ) (at : member_at p v.members ≡ Some x) (i : Agreed v) (w : Waits x.party) where
+module _ (v : Lists) (p : List ℕ) (x : Member) (space : Space) (at : member_at p v.members ≡ Some x) (i : Agreed v) (w : Waits x.party) where
   sent : AllSent x.party
   sent = i.sent p x at
 
-  pub dsm_agreeing : (o : Option LinkKey) (a : Arrival) (m : Dsm) (found : Option Named) → named_by x.party m ≡ found → IsSound o x.party (authenticated a) (dsm_on x.party a m found) → Agreeing v x room (authenticated a) (dsm_on x.party a m found)
-  dsm_agreeing o a m None e sound = refused_agreeing v p x room at i (authenticated a) (verdict_of (dsm_front x.party m false))
+  pub dsm_agreeing : (o : Option LinkKey) (a : Arrival) (m : Dsm) (found : Option Named) → named_by x.party m ≡ found → IsSound o x.party (authenticated a) (dsm_on x.party a m found) → Agreeing v x space (authenticated a) (dsm_on x.party a m found)
+  dsm_agreeing o a m None e sound = refused_agreeing v p x space at i (authenticated a) (verdict_of (dsm_front x.party m false))
   dsm_agreeing o a m (Some n) e sound = record {
     back = passes_backed v.members x.party (disconnected x.party m.originator n.key) (dsm_passes x.party a m n w);
     news = news_from x.party (apply (disconnected x.party m.originator n.key) x.party) (λ q g new j s. left.stood q g j);
@@ -275,7 +276,7 @@ module _ (v : Lists) (p : List ℕ) (x : Member) (room : ℕ) (at : member_at p 
     waits = moved;
     replies = new;
     new = tt;
-    accepts = record { ksm = λ class. absurd (cc); answer = λ class. absurd (cc); dsm = λ class u among. subst (DsmOk (lists_after v x room (authenticated a) (dsm_on x.party a m (Some n))) x.party.own) (of_one (full_name x.party.own n.key) u among) ended_key };
+    accepts = record { ksm = λ class. absurd (cc); answer = λ class. absurd (cc); dsm = λ class u among. subst (DsmOk (lists_after v x space (authenticated a) (dsm_on x.party a m (Some n))) x.party.own) (of_one (full_name x.party.own n.key) u among) ended_key };
   }
     where
       is : (record_with (record_key n.key) x.party ≡ Some n.key) × (n.key.peer ≡ m.originator) × (m.idd ≡ n.key.name)
@@ -293,19 +294,19 @@ module _ (v : Lists) (p : List ℕ) (x : Member) (room : ℕ) (at : member_at p 
       known_s : Known v x.party (record_key n.key)
       known_s = i.known p x at (record_key n.key) n.key is.0
 
-      known_k : Known (lists_after v x room (authenticated a) (dsm_on x.party a m (Some n))) (apply (disconnected x.party m.originator n.key) x.party) (record_key n.key)
-      known_k = known_later v p x room at i o (authenticated a) (dsm_on x.party a m (Some n)) (record_key n.key) grown moved known_s
+      known_k : Known (lists_after v x space (authenticated a) (dsm_on x.party a m (Some n))) (apply (disconnected x.party m.originator n.key) x.party) (record_key n.key)
+      known_k = known_later v p x space at i o (authenticated a) (dsm_on x.party a m (Some n)) (record_key n.key) grown moved known_s
 
       new : HasAccepted (acceptances_after v.acceptances x (authenticated a) (dsm_on x.party a m (Some n))) OfDsm x.party.own (full_name x.party.own n.key)
       new = record { acceptance = record { party = x.party.own; text = authenticated a; class = OfDsm; names = full_name x.party.own n.key ∷ [] }; stands = Contains-push v.acceptances _; class_is = refl; party_is = refl; among = first_in (full_name x.party.own n.key) [] }
 
-      fine : KeyFine v (lists_after v x room (authenticated a) (dsm_on x.party a m (Some n))) x.party (apply (disconnected x.party m.originator n.key) x.party) (with_status n.key Ended)
-      fine = status_fine v p x room at i o (authenticated a) (dsm_on x.party a m (Some n)) n.key Ended grown moved is.0 (λ g. refl) (λ no own. absurd no) (λ held. inr (inl new))
+      fine : KeyFine v (lists_after v x space (authenticated a) (dsm_on x.party a m (Some n))) x.party (apply (disconnected x.party m.originator n.key) x.party) (with_status n.key Ended)
+      fine = status_fine v p x space at i o (authenticated a) (dsm_on x.party a m (Some n)) n.key Ended grown moved is.0 (λ g. refl) (λ no own. absurd no) (λ held. inr (inl new))
 
-      other_fine : (j : KeyRec) → OtherTwin x.party m.originator n.key j → KeyFine v (lists_after v x room (authenticated a) (dsm_on x.party a m (Some n))) x.party (apply (disconnected x.party m.originator n.key) x.party) (with_status j Ended)
-      other_fine j t = status_fine v p x room at i o (authenticated a) (dsm_on x.party a m (Some n)) j Ended grown moved t.found (λ g. refl) (λ no own. absurd no) (λ held. absurd (pending_not_held j.status t.pending held))
+      other_fine : (j : KeyRec) → OtherTwin x.party m.originator n.key j → KeyFine v (lists_after v x space (authenticated a) (dsm_on x.party a m (Some n))) x.party (apply (disconnected x.party m.originator n.key) x.party) (with_status j Ended)
+      other_fine j t = status_fine v p x space at i o (authenticated a) (dsm_on x.party a m (Some n)) j Ended grown moved t.found (λ g. refl) (λ no own. absurd no) (λ held. absurd (pending_not_held j.status t.pending held))
 
-      keys_move : LeftKeys x.party (apply (disconnected x.party m.originator n.key) x.party) m.originator n.key → KeysMove v (lists_after v x room (authenticated a) (dsm_on x.party a m (Some n))) x.party (apply (disconnected x.party m.originator n.key) x.party)
+      keys_move : LeftKeys x.party (apply (disconnected x.party m.originator n.key) x.party) m.originator n.key → KeysMove v (lists_after v x space (authenticated a) (dsm_on x.party a m (Some n))) x.party (apply (disconnected x.party m.originator n.key) x.party)
       keys_move (one_left ks) = one (with_status n.key Ended) ks fine
       keys_move (behind_left j t none ks) = two (with_status n.key Ended) (with_status j Ended) t.other ks fine (other_fine j t)
       keys_move (front_left j t none ks) = two (with_status j Ended) (with_status n.key Ended) (λ e. t.other (sym e)) ks (other_fine j t) fine
@@ -315,11 +316,11 @@ module _ (v : Lists) (p : List ℕ) (x : Member) (room : ℕ) (at : member_at p 
       unput q g name r j s (the_other z none e) = absurd (none q g j z)
       unput q g name r j s (old_one ne f) = f
 
-      after_here : member_at x.party.own (members_after v.members x room (dsm_on x.party a m (Some n))) ≡ Some (after x room (dsm_on x.party a m (Some n)))
-      after_here = after_is v p x room at i o (dsm_on x.party a m (Some n)) grown
+      after_here : member_at x.party.own (members_after v.members x space (dsm_on x.party a m (Some n))) ≡ Some (after x space (dsm_on x.party a m (Some n)))
+      after_here = after_is v p x space at i o (dsm_on x.party a m (Some n)) grown
 
-      ended : IsEndedAt (members_after v.members x room (dsm_on x.party a m (Some n))) x.party.own (full_name x.party.own n.key)
-      ended y z r f g full_r = go (found_left x.party (apply (disconnected x.party m.originator n.key) x.party) m.originator n.key left.keys z r (subst (λ (q : Member). record_with z q.party ≡ Some r) (sym (one_found (after x room (dsm_on x.party a m (Some n))) y after_here f)) g))
+      ended : IsEndedAt (members_after v.members x space (dsm_on x.party a m (Some n))) x.party.own (full_name x.party.own n.key)
+      ended y z r f g full_r = go (found_left x.party (apply (disconnected x.party m.originator n.key) x.party) m.originator n.key left.keys z r (subst (λ (q : Member). record_with z q.party ≡ Some r) (sym (one_found (after x space (dsm_on x.party a m (Some n))) y after_here f)) g))
         where
           go : FoundLeft x.party (apply (disconnected x.party m.originator n.key) x.party) m.originator n.key z r → r.status ≡ Ended
           go (the_key k e) = e
@@ -329,5 +330,5 @@ module _ (v : Lists) (p : List ℕ) (x : Member) (room : ℕ) (at : member_at p 
               let kr : Known v x.party (record_key r) = subst (Known v x.party) key (i.known p x at z r old) in
               absurd (ne (key ∙ one_key v x.party (record_key r) (record_key n.key) kr known_s full_r))
 
-      ended_key : DsmOk (lists_after v x room (authenticated a) (dsm_on x.party a m (Some n))) x.party.own (full_name x.party.own n.key)
-      ended_key = record { ended = ended; key = record_key n.key; full_is = refl; known = λ y f. subst (λ (z : Member). Known (lists_after v x room (authenticated a) (dsm_on x.party a m (Some n))) z.party (record_key n.key)) (one_found (after x room (dsm_on x.party a m (Some n))) y after_here f) known_k }
+      ended_key : DsmOk (lists_after v x space (authenticated a) (dsm_on x.party a m (Some n))) x.party.own (full_name x.party.own n.key)
+      ended_key = record { ended = ended; key = record_key n.key; full_is = refl; known = λ y f. subst (λ (z : Member). Known (lists_after v x space (authenticated a) (dsm_on x.party a m (Some n))) z.party (record_key n.key)) (one_found (after x space (dsm_on x.party a m (Some n))) y after_here f) known_k }

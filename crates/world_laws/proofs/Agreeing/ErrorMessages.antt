@@ -53,6 +53,7 @@ use Rattle.bank_arrivals.specs.Esm.{error_row, error_of, error_with}
 use Rattle.world_laws.proofs.Links.Waiting.{Waits}
 use Rattle.world_laws.proofs.Sound.Arrivals.{error_passes}
 use Rattle.world_laws.proofs.Sound.Exchanges.{subject_sent}
+use Rattle.change_code.specs.declared.space.Space.{Space}
 
 -- what raising the count and giving up leave, with an exchange that may come
 
@@ -104,7 +105,7 @@ twice_parts s peer None ctr j k = (refl, refl)
 twice_parts s peer (Some l) None j k = (refl, refl)
 twice_parts s peer (Some l) (Some n) j k = (refl, refl)
 
-module _ (v : Lists) (p : List ℕ) (x : Member) (room : ℕ) (at : member_at p v.members ≡ Some x) (i : Agreed v) (w : Waits x.party) where
+module _ (v : Lists) (p : List ℕ) (x : Member) (space : Space) (at : member_at p v.members ≡ Some x) (i : Agreed v) (w : Waits x.party) where
   sent : AllSent x.party
   sent = i.sent p x at
 
@@ -116,8 +117,8 @@ module _ (v : Lists) (p : List ℕ) (x : Member) (room : ℕ) (at : member_at p 
   again_new m value None = tt
   again_new m value (Some r) = tt
 
-  error_agreeing : (o : Option LinkKey) (a : Arrival) (m : Esm) (found : Option Subject) (again_is : Option Retry) → AsksFor found again_is → subject_with x.party m.originator ≡ found → IsSound o x.party (authenticated a) (error_of x.party a m found again_is) → Agreeing v x room (authenticated a) (error_of x.party a m found again_is)
-  error_agreeing o a m None again_is fits e sound = refused_agreeing v p x room at i (authenticated a) (verdict_of (esm_front x.party m None))
+  error_agreeing : (o : Option LinkKey) (a : Arrival) (m : Esm) (found : Option Subject) (again_is : Option Retry) → AsksFor found again_is → subject_with x.party m.originator ≡ found → IsSound o x.party (authenticated a) (error_of x.party a m found again_is) → Agreeing v x space (authenticated a) (error_of x.party a m found again_is)
+  error_agreeing o a m None again_is fits e sound = refused_agreeing v p x space at i (authenticated a) (verdict_of (esm_front x.party m None))
   error_agreeing o a m (Some (Translated value cta)) (Some r) fits e sound = absurd (cc)
   error_agreeing o a m (Some (Translated value cta)) None fits e sound =
       let parts = alone_parts x.party m.originator (subject_link x.party m.originator (Translated value cta)) m.ctr in
@@ -138,7 +139,7 @@ module _ (v : Lists) (p : List ℕ) (x : Member) (room : ℕ) (at : member_at p 
       let grown : PartyGrows o x.party (apply (error_row x.party a m (SentTwins t) None).edits x.party) = change_grows o (error_row x.party a m (SentTwins t) None).edits x.party sound.edits in
       let is : TwinsIs x.party m.originator t = twins_is x.party m.originator t (subject_twins x.party m.originator t e) in
       let moved : WaitsMove x.party (apply (error_row x.party a m (SentTwins t) None).edits x.party) = waits_drop x.party (apply (error_row x.party a m (SentTwins t) None).edits x.party) m.originator parts.1 in
-      let fine = twins_ended v p x room at i o (authenticated a) (error_row x.party a m (SentTwins t) None) m.originator t grown moved is in
+      let fine = twins_ended v p x space at i o (authenticated a) (error_row x.party a m (SentTwins t) None) m.originator t grown moved is in
       record {
         back = passes_backed v.members x.party (error_row x.party a m (SentTwins t) None).edits (error_passes x.party a m (SentTwins t) None w e);
         news = news_drop x.party (apply (error_row x.party a m (SentTwins t) None).edits x.party) m.originator parts.1;
@@ -147,7 +148,7 @@ module _ (v : Lists) (p : List ℕ) (x : Member) (room : ℕ) (at : member_at p 
         waits = moved;
         replies = tt;
         new = tt;
-        accepts = plain (lists_after v x room (authenticated a) (error_row x.party a m (SentTwins t) None)) x.party.own (authenticated a) OfEsm (full_name x.party.own t.first ∷ full_name x.party.own t.second ∷ []) (λ g. cc) (λ g. cc) (λ g. cc);
+        accepts = plain (lists_after v x space (authenticated a) (error_row x.party a m (SentTwins t) None)) x.party.own (authenticated a) OfEsm (full_name x.party.own t.first ∷ full_name x.party.own t.second ∷ []) (λ g. cc) (λ g. cc) (λ g. cc);
       }
   error_agreeing o a m (Some (SentKey y)) again_is fits e sound = go parts.1
     where
@@ -163,19 +164,19 @@ module _ (v : Lists) (p : List ℕ) (x : Member) (room : ℕ) (at : member_at p 
       back : Backed v.members x.party (apply (error_row x.party a m (SentKey y) again_is).edits x.party)
       back = passes_backed v.members x.party (error_row x.party a m (SentKey y) again_is).edits (error_passes x.party a m (SentKey y) again_is w e)
 
-      accepts : AcceptsOk (lists_after v x room (authenticated a) (error_row x.party a m (SentKey y) again_is)) x.party.own (authenticated a) (Some (record { class = OfEsm; names = full_name x.party.own y.key ∷ [] }))
-      accepts = plain (lists_after v x room (authenticated a) (error_row x.party a m (SentKey y) again_is)) x.party.own (authenticated a) OfEsm (full_name x.party.own y.key ∷ []) (λ g. cc) (λ g. cc) (λ g. cc)
+      accepts : AcceptsOk (lists_after v x space (authenticated a) (error_row x.party a m (SentKey y) again_is)) x.party.own (authenticated a) (Some (record { class = OfEsm; names = full_name x.party.own y.key ∷ [] }))
+      accepts = plain (lists_after v x space (authenticated a) (error_row x.party a m (SentKey y) again_is)) x.party.own (authenticated a) OfEsm (full_name x.party.own y.key ∷ []) (λ g. cc) (λ g. cc) (λ g. cc)
 
-      go : GivenUp x.party (apply (error_row x.party a m (SentKey y) again_is).edits x.party) m y.key.value → Agreeing v x room (authenticated a) (error_row x.party a m (SentKey y) again_is)
+      go : GivenUp x.party (apply (error_row x.party a m (SentKey y) again_is).edits x.party) m y.key.value → Agreeing v x space (authenticated a) (error_row x.party a m (SentKey y) again_is)
       go (quietly ex) =
           let moved : WaitsMove x.party (apply (error_row x.party a m (SentKey y) again_is).edits x.party) = waits_drop x.party (apply (error_row x.party a m (SentKey y) again_is).edits x.party) m.originator ex in
           record {
             back = back;
             news = news_drop x.party (apply (error_row x.party a m (SentKey y) again_is).edits x.party) m.originator ex;
-            keys = one (with_status y.key Ended) parts.0 (ended_fine v p x room at i o (authenticated a) (error_row x.party a m (SentKey y) again_is) m.originator y grown moved is);
+            keys = one (with_status y.key Ended) parts.0 (ended_fine v p x space at i o (authenticated a) (error_row x.party a m (SentKey y) again_is) m.originator y grown moved is);
             exchanges = sent_drop x.party (apply (error_row x.party a m (SentKey y) again_is).edits x.party) m.originator (with_status y.key Ended) grown.own ex parts.0 is.peer_is sent;
             waits = moved;
-            replies = again_ok a m y.key.value (lists_after v x room (authenticated a) (error_row x.party a m (SentKey y) again_is)) again_is;
+            replies = again_ok a m y.key.value (lists_after v x space (authenticated a) (error_row x.party a m (SentKey y) again_is)) again_is;
             new = again_new m y.key.value again_is;
             accepts = accepts;
           }
@@ -185,15 +186,15 @@ module _ (v : Lists) (p : List ℕ) (x : Member) (room : ℕ) (at : member_at p 
           record {
             back = back;
             news = news_both x.party (apply (error_row x.party a m (SentKey y) again_is).edits x.party) m.originator n ex refl;
-            keys = one (with_status y.key Ended) parts.0 (ended_fine v p x room at i o (authenticated a) (error_row x.party a m (SentKey y) again_is) m.originator y grown moved is);
+            keys = one (with_status y.key Ended) parts.0 (ended_fine v p x space at i o (authenticated a) (error_row x.party a m (SentKey y) again_is) m.originator y grown moved is);
             exchanges = sent_both x.party (apply (error_row x.party a m (SentKey y) again_is).edits x.party) m.originator n (with_status y.key Ended) grown.own ex parts.0 (inl is.peer_is) (λ name q. absurd (cc)) refl sent;
             waits = moved;
-            replies = again_ok a m y.key.value (lists_after v x room (authenticated a) (error_row x.party a m (SentKey y) again_is)) again_is;
+            replies = again_ok a m y.key.value (lists_after v x space (authenticated a) (error_row x.party a m (SentKey y) again_is)) again_is;
             new = again_new m y.key.value again_is;
             accepts = accepts;
           }
 
   -- one that is closed by an error detection code changes nothing
-  pub error_row_agreeing : (o : Option LinkKey) (a : Arrival) (m : Esm) (b : Bool) (again_is : Option Retry) → AsksFor (subject_with x.party m.originator) again_is → IsSound o x.party (authenticated a) (error_with x.party a m b again_is) → Agreeing v x room (authenticated a) (error_with x.party a m b again_is)
-  error_row_agreeing o a m true again_is fits sound = still_agreeing v p x room at i (authenticated a) (plain_esm x.party a m) refl tt tt tt
+  pub error_row_agreeing : (o : Option LinkKey) (a : Arrival) (m : Esm) (b : Bool) (again_is : Option Retry) → AsksFor (subject_with x.party m.originator) again_is → IsSound o x.party (authenticated a) (error_with x.party a m b again_is) → Agreeing v x space (authenticated a) (error_with x.party a m b again_is)
+  error_row_agreeing o a m true again_is fits sound = still_agreeing v p x space at i (authenticated a) (plain_esm x.party a m) refl tt tt tt
   error_row_agreeing o a m false again_is fits sound = error_agreeing o a m (subject_with x.party m.originator) again_is fits refl sound

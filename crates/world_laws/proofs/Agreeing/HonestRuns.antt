@@ -41,10 +41,12 @@ use Rattle.world_laws.proofs.Agreeing.CountRows.{row_counts}
 use Rattle.world_laws.specs.Facts.{IsMadeBySender}
 use Rattle.std.proofs.Common.{suc}
 use Rattle.world_laws.specs.World.{World}
-use Rattle.change_code.specs.Cost.{fits, is_change, can_compact, room_of_whole}
+use Rattle.change_code.specs.Cost.{fits, is_change, can_compact, space_of_whole}
+use Rattle.change_code.specs.declared.format.Format.{Format}
+use Rattle.member.specs.Acts.{compacted_in, migrated_in}
 use Rattle.roles.specs.Rows.{row_at}
-use Rattle.world_laws.specs.Events.{Action, Orders, Hears, Compacts, Completion, Whole, CutOld, CutNew, Event, IsAction, AreEvents}
-use Rattle.world_laws.specs.Steps.{received_text, member_after, world_after_row, world_with_answer, world_with_text, world_by_row, world_with_room, world_after_compaction, world_after_action, step_at, step, run}
+use Rattle.world_laws.specs.Events.{Action, Orders, Hears, Compacts, Migrates, Completion, Whole, CutOld, CutNew, Event, IsAction, AreEvents}
+use Rattle.world_laws.specs.Steps.{received_text, member_after, world_after_row, world_with_answer, world_with_text, world_by_row, world_with_space, world_rewritten, world_after_action, step_at, step, run}
 use Rattle.world_laws.specs.Honest.{HonestAction, HonestAt, HonestRun}
 use Rattle.world_laws.specs.Starts.{Each, IsStart}
 use Rattle.world_laws.specs.Laws.{IsLive, HoldsKey, Agreement, EndedBoth}
@@ -66,6 +68,7 @@ use Rattle.world_laws.proofs.Agreeing.Steps.{still_agreeing}
 use Rattle.world_laws.proofs.Agreeing.Matched.{Matched, matched}
 use Rattle.world_laws.proofs.Speaking.Wellformed.{Speaks, TellsEsm}
 use Rattle.world_laws.proofs.Agreeing.Roles.{row_agrees, row_speaks, row_tells}
+use Rattle.change_code.specs.declared.space.Space.{Space}
 
 -- what each moment of an honest run keeps
 pub record AgreedAt (w : World) : Type 0 where
@@ -107,23 +110,23 @@ own_text own (Some (Coded m under value)) e by = (e, by)
 own_text own (Some (Plain m)) e by = tt
 own_text own (Some (Again text)) e by = tt
 
--- with another room and the answer to a refused text, all goes on
-room_agreed : (w : World) (p : List ℕ) (x : Member) (room : ℕ) (r : Row) → member_at p w.members ≡ Some x → TellsEsm r.answer → SentBy x.party.own r.answer → Agreed (lists_of w) → Agreed (record { members = put_row own_of bytes_eq (record { party = x.party; room = room }) w.members; facts = facts_after w.facts x r.answer; acceptances = w.acceptances })
-room_agreed w p x room r found tells by i =
+-- with another space and the answer to a refused text, all goes on
+space_agreed : (w : World) (p : List ℕ) (x : Member) (space : Space) (r : Row) → member_at p w.members ≡ Some x → TellsEsm r.answer → SentBy x.party.own r.answer → Agreed (lists_of w) → Agreed (record { members = put_row own_of bytes_eq (record { party = x.party; space = space }) w.members; facts = facts_after w.facts x r.answer; acceptances = w.acceptances })
+space_agreed w p x space r found tells by i =
     let v : Lists = lists_of w in
-    let row : Agreeing (lists_of w) x room [] (answer_row r) = still_agreeing (lists_of w) p x room found i [] (answer_row r) refl (answer_replies (lists_after (lists_of w) x room [] (answer_row r)) x.party.own r.answer tells) (answer_new w.facts x.party r.answer tells) tt in
-    let k : Agreed (lists_after (lists_of w) x room [] (answer_row r)) = kept_agreed None (lists_of w) p x room [] (answer_row r) found (quiet_row x.party [] r) (answer_own x.party.own r.answer tells by) row i in
-    subst (λ (accs : List Acceptance). Agreed (record { members = put_row own_of bytes_eq (record { party = x.party; room = room }) w.members; facts = facts_after w.facts x r.answer; acceptances = accs })) (append-nil w.acceptances) k
+    let row : Agreeing (lists_of w) x space [] (answer_row r) = still_agreeing (lists_of w) p x space found i [] (answer_row r) refl (answer_replies (lists_after (lists_of w) x space [] (answer_row r)) x.party.own r.answer tells) (answer_new w.facts x.party r.answer tells) tt in
+    let k : Agreed (lists_after (lists_of w) x space [] (answer_row r)) = kept_agreed None (lists_of w) p x space [] (answer_row r) found (quiet_row x.party [] r) (answer_own x.party.own r.answer tells by) row i in
+    subst (λ (accs : List Acceptance). Agreed (record { members = put_row own_of bytes_eq (record { party = x.party; space = space }) w.members; facts = facts_after w.facts x r.answer; acceptances = accs })) (append-nil w.acceptances) k
 
 answer_agreed : (w : World) (p : List ℕ) (x : Member) (r : Row) → member_at p w.members ≡ Some x → TellsEsm r.answer → SentBy x.party.own r.answer → Agreed (lists_of w) → Agreed (record { members = w.members; facts = facts_after w.facts x r.answer; acceptances = w.acceptances })
 answer_agreed w p x r found tells by i =
     let own : p ≡ x.party.own = find_key own_of bytes_eq test_idents p x w.members found in
     let stands : put_row own_of bytes_eq x w.members ≡ w.members = put_stands own_of bytes_eq x w.members (subst (λ (q : List ℕ). member_at q w.members ≡ Some x) own found) in
-    subst (λ (ms : List Member). Agreed (record { members = ms; facts = facts_after w.facts x r.answer; acceptances = w.acceptances })) stands (room_agreed w p x x.room r found tells by i)
+    subst (λ (ms : List Member). Agreed (record { members = ms; facts = facts_after w.facts x r.answer; acceptances = w.acceptances })) stands (space_agreed w p x x.space r found tells by i)
 
 -- the member after a row is the one that its edits that differ make
-moved_is : (x : Member) (r : Row) → apply (differing x.party r.edits) x.party ≡ apply r.edits x.party → after x (member_after x r).room r ≡ member_after x r
-moved_is x r e j = record { party = (sym e) j; room = (member_after x r).room }
+moved_is : (x : Member) (r : Row) → apply (differing x.party r.edits) x.party ≡ apply r.edits x.party → after x (member_after x r).space r ≡ member_after x r
+moved_is x r e j = record { party = (sym e) j; space = (member_after x r).space }
 
 module _ (n : ℕ) (w : World) (p : List ℕ) (x : Member) (moment : ℕ) (j : Input) (e : IsInput j) (honest : HonestInput w.facts x.party j) (found : member_at p w.members ≡ Some x) (c : CountedAt n w) (i : AgreedAt w) where
   abbrev row : Row
@@ -136,27 +139,27 @@ module _ (n : ℕ) (w : World) (p : List ℕ) (x : Member) (moment : ℕ) (j : I
   tells = row_tells x.party named j moment e (c.links p x found)
 
   counts : is_accept (row_at x.party j moment).verdict ≡ true → CountsMove w.members x.party (row_at x.party j moment)
-  counts h = row_counts (lists_of w) p x x.room found i.agreed (c.links p x found) j moment e honest h
+  counts h = row_counts (lists_of w) p x x.space found i.agreed (c.links p x found) j moment e honest h
 
   kept_at : is_accept (row_at x.party j moment).verdict ≡ true → AgreedAt (world_after_row n w x.party.own (received_text j) (row_at x.party j moment) (member_after x (row_at x.party j moment)))
   kept_at h =
       let g : SoundRow x.party (received_text j) (row_at x.party j moment) = row_is_sound x.party j moment e (c.links p x found) (c.waits p x found) h in
       let s : Speaks (row_at x.party j moment) = row_speaks x.party named j moment e (c.links p x found) h in
       let left : apply (differing x.party (row_at x.party j moment).edits) x.party ≡ apply (row_at x.party j moment).edits x.party = row_left_out x.party j moment (c.links p x found) h in
-      let y : after x (member_after x (row_at x.party j moment)).room (row_at x.party j moment) ≡ member_after x (row_at x.party j moment) = moved_is x (row_at x.party j moment) left in
-      let a : Agreeing (lists_of w) x (member_after x (row_at x.party j moment)).room (received_text j) (row_at x.party j moment) = row_agrees n w p x (member_after x (row_at x.party j moment)).room found c i.agreed g.new j moment e honest h g.sound in
-      let k : Agreed (lists_after (lists_of w) x (member_after x (row_at x.party j moment)).room (received_text j) (row_at x.party j moment)) = kept_agreed g.new (lists_of w) p x (member_after x (row_at x.party j moment)).room (received_text j) (row_at x.party j moment) found g.sound (own_text x.party.own (row_at x.party j moment).reply s.reply (row_self x.party j moment).reply) a i.agreed in
+      let y : after x (member_after x (row_at x.party j moment)).space (row_at x.party j moment) ≡ member_after x (row_at x.party j moment) = moved_is x (row_at x.party j moment) left in
+      let a : Agreeing (lists_of w) x (member_after x (row_at x.party j moment)).space (received_text j) (row_at x.party j moment) = row_agrees n w p x (member_after x (row_at x.party j moment)).space found c i.agreed g.new j moment e honest h g.sound in
+      let k : Agreed (lists_after (lists_of w) x (member_after x (row_at x.party j moment)).space (received_text j) (row_at x.party j moment)) = kept_agreed g.new (lists_of w) p x (member_after x (row_at x.party j moment)).space (received_text j) (row_at x.party j moment) found g.sound (own_text x.party.own (row_at x.party j moment).reply s.reply (row_self x.party j moment).reply) a i.agreed in
       let grown : PartyGrows g.new x.party (apply (row_at x.party j moment).edits x.party) = change_grows g.new (row_at x.party j moment).edits x.party g.sound.edits in
       let own : (member_after x (row_at x.party j moment)).party.own ≡ x.party.own = ap (λ (q : Party). q.own) left ∙ grown.own in
       record {
         agreed = subst (λ (m : Member). Agreed (record { members = put_row own_of bytes_eq m w.members; facts = facts_after w.facts x (row_at x.party j moment).reply; acceptances = acceptances_after w.acceptances x (received_text j) (row_at x.party j moment) })) y k;
         named = each_on w.members p x (member_after x (row_at x.party j moment)) found own (λ m. IsNamed m.party) i.named (λ q. subst IsNamed (sym left) (change_named (row_at x.party j moment).edits x.party s.names q));
         stand = each_on w.members p x (member_after x (row_at x.party j moment)) found own (λ m. AllNewStand m.party) i.stand
-            (λ q. subst AllNewStand (sym left) (row_stand (lists_of w) (lists_after (lists_of w) x (member_after x (row_at x.party j moment)).room (received_text j) (row_at x.party j moment)) x.party (row_at x.party j moment).edits (row_news x.party j moment) a.keys (i.agreed.sent p x found) q));
+            (λ q. subst AllNewStand (sym left) (row_stand (lists_of w) (lists_after (lists_of w) x (member_after x (row_at x.party j moment)).space (received_text j) (row_at x.party j moment)) x.party (row_at x.party j moment).edits (row_news x.party j moment) a.keys (i.agreed.sent p x found) q));
         twins = each_on w.members p x (member_after x (row_at x.party j moment)) found own (λ m. AllTwinsStand m.party) i.twins
-            (λ q. subst AllTwinsStand (sym left) (row_twins (lists_of w) (lists_after (lists_of w) x (member_after x (row_at x.party j moment)).room (received_text j) (row_at x.party j moment)) x.party (row_at x.party j moment).edits (row_news x.party j moment) a.keys (i.agreed.sent p x found) q));
-        met = subst (λ (m : Member). AllMet (put_row own_of bytes_eq m w.members)) y (met_on g.new (lists_of w) p x (member_after x (row_at x.party j moment)).room (received_text j) (row_at x.party j moment) found g.sound (own_text x.party.own (row_at x.party j moment).reply s.reply (row_self x.party j moment).reply) a i.agreed (counts h) i.met i.begun);
-        begun = subst (λ (m : Member). AllBegun (put_row own_of bytes_eq m w.members)) y (begun_on g.new (lists_of w) p x (member_after x (row_at x.party j moment)).room (received_text j) (row_at x.party j moment) found g.sound (own_text x.party.own (row_at x.party j moment).reply s.reply (row_self x.party j moment).reply) a i.agreed (counts h) i.met i.begun);
+            (λ q. subst AllTwinsStand (sym left) (row_twins (lists_of w) (lists_after (lists_of w) x (member_after x (row_at x.party j moment)).space (received_text j) (row_at x.party j moment)) x.party (row_at x.party j moment).edits (row_news x.party j moment) a.keys (i.agreed.sent p x found) q));
+        met = subst (λ (m : Member). AllMet (put_row own_of bytes_eq m w.members)) y (met_on g.new (lists_of w) p x (member_after x (row_at x.party j moment)).space (received_text j) (row_at x.party j moment) found g.sound (own_text x.party.own (row_at x.party j moment).reply s.reply (row_self x.party j moment).reply) a i.agreed (counts h) i.met i.begun);
+        begun = subst (λ (m : Member). AllBegun (put_row own_of bytes_eq m w.members)) y (begun_on g.new (lists_of w) p x (member_after x (row_at x.party j moment)).space (received_text j) (row_at x.party j moment) found g.sound (own_text x.party.own (row_at x.party j moment).reply s.reply (row_self x.party j moment).reply) a i.agreed (counts h) i.met i.begun);
       }
 
   answered_at : AgreedAt (world_with_text (world_with_answer w x.party.own (row_at x.party j moment)) (row_at x.party j moment).answer)
@@ -166,54 +169,56 @@ module _ (n : ℕ) (w : World) (p : List ℕ) (x : Member) (moment : ℕ) (j : I
   told_at v a o = record { agreed = a.agreed; named = a.named; stand = a.stand; twins = a.twins; met = a.met; begun = a.begun }
 
   pub turned_agreed : (how : Completion) → AgreedAt (world_by_row n w x (received_text j) (row_at x.party j moment) how)
-  turned_agreed Whole = go (is_accept (row_at x.party j moment).verdict) refl (fits x.room (differing x.party (row_at x.party j moment).edits))
+  turned_agreed Whole = go (is_accept (row_at x.party j moment).verdict) refl (fits x.space (differing x.party (row_at x.party j moment).edits))
     where
       go : (b : Bool) → is_accept (row_at x.party j moment).verdict ≡ b → (d : Bool) → AgreedAt (cond b (cond d (world_with_text (world_after_row n w x.party.own (received_text j) (row_at x.party j moment) (member_after x (row_at x.party j moment))) (row_at x.party j moment).reply) w) (world_with_text (world_with_answer w x.party.own (row_at x.party j moment)) (row_at x.party j moment).answer))
       go true h true = told_at _ (kept_at h) (row_at x.party j moment).reply
       go true h false = i
       go false h d = answered_at
   turned_agreed CutOld = i
-  turned_agreed CutNew = go (is_accept (row_at x.party j moment).verdict) refl (is_change (differing x.party (row_at x.party j moment).edits) && fits x.room (differing x.party (row_at x.party j moment).edits))
+  turned_agreed CutNew = go (is_accept (row_at x.party j moment).verdict) refl (is_change (differing x.party (row_at x.party j moment).edits) && fits x.space (differing x.party (row_at x.party j moment).edits))
     where
       go : (b : Bool) → is_accept (row_at x.party j moment).verdict ≡ b → (d : Bool) → AgreedAt (cond (b && d) (world_after_row n w x.party.own (received_text j) (row_at x.party j moment) (member_after x (row_at x.party j moment))) w)
       go true h true = kept_at h
       go true h false = i
       go false h d = i
 
--- a compaction
-room_at : (w : World) (p : List ℕ) (x : Member) (room : ℕ) → member_at p w.members ≡ Some x → AgreedAt w → AgreedAt (world_with_room w x room)
-room_at w p x room found i = record {
-  agreed = subst (λ (fs : List Fact). Agreed (record { members = put_row own_of bytes_eq (record { party = x.party; room = room }) w.members; facts = fs; acceptances = w.acceptances })) (append-nil w.facts) (room_agreed w p x room (refused verdict.WrongClass) found tt tt i.agreed);
-  named = each_on w.members p x (record { party = x.party; room = room }) found refl (λ m. IsNamed m.party) i.named (λ q. q);
-  stand = each_on w.members p x (record { party = x.party; room = room }) found refl (λ m. AllNewStand m.party) i.stand (λ q. q);
-  twins = each_on w.members p x (record { party = x.party; room = room }) found refl (λ m. AllTwinsStand m.party) i.twins (λ q. q);
-  met = met_on None (lists_of w) p x room [] (answer_row (refused verdict.WrongClass)) found (quiet_row x.party [] (refused verdict.WrongClass)) tt row i.agreed counts i.met i.begun;
-  begun = begun_on None (lists_of w) p x room [] (answer_row (refused verdict.WrongClass)) found (quiet_row x.party [] (refused verdict.WrongClass)) tt row i.agreed counts i.met i.begun;
+-- a compaction, or a migration
+space_at : (w : World) (p : List ℕ) (x : Member) (space : Space) → member_at p w.members ≡ Some x → AgreedAt w → AgreedAt (world_with_space w x space)
+space_at w p x space found i = record {
+  agreed = subst (λ (fs : List Fact). Agreed (record { members = put_row own_of bytes_eq (record { party = x.party; space = space }) w.members; facts = fs; acceptances = w.acceptances })) (append-nil w.facts) (space_agreed w p x space (refused verdict.WrongClass) found tt tt i.agreed);
+  named = each_on w.members p x (record { party = x.party; space = space }) found refl (λ m. IsNamed m.party) i.named (λ q. q);
+  stand = each_on w.members p x (record { party = x.party; space = space }) found refl (λ m. AllNewStand m.party) i.stand (λ q. q);
+  twins = each_on w.members p x (record { party = x.party; space = space }) found refl (λ m. AllTwinsStand m.party) i.twins (λ q. q);
+  met = met_on None (lists_of w) p x space [] (answer_row (refused verdict.WrongClass)) found (quiet_row x.party [] (refused verdict.WrongClass)) tt row i.agreed counts i.met i.begun;
+  begun = begun_on None (lists_of w) p x space [] (answer_row (refused verdict.WrongClass)) found (quiet_row x.party [] (refused verdict.WrongClass)) tt row i.agreed counts i.met i.begun;
 }
   where
-    row : Agreeing (lists_of w) x room [] (answer_row (refused verdict.WrongClass))
-    row = still_agreeing (lists_of w) p x room found i.agreed [] (answer_row (refused verdict.WrongClass)) refl tt tt tt
+    row : Agreeing (lists_of w) x space [] (answer_row (refused verdict.WrongClass))
+    row = still_agreeing (lists_of w) p x space found i.agreed [] (answer_row (refused verdict.WrongClass)) refl tt tt tt
 
     counts : CountsMove w.members x.party (answer_row (refused verdict.WrongClass))
     counts = sending_counts w.members x.party (answer_row (refused verdict.WrongClass)) tt refl
 
-compacted_agreed : (w : World) (p : List ℕ) (x : Member) (how : Completion) → member_at p w.members ≡ Some x → AgreedAt w → AgreedAt (world_after_compaction w x how)
-compacted_agreed w p x how found i = by how
+whole_agreed : (w : World) (p : List ℕ) (x : Member) (f : Format) → member_at p w.members ≡ Some x → AgreedAt w → AgreedAt (cond (can_compact f x.party) (world_with_space w x (space_of_whole f x.party)) w)
+whole_agreed w p x f found i = go (can_compact f x.party)
   where
-    go : (b : Bool) → AgreedAt (cond b (world_with_room w x (room_of_whole x.party)) w)
-    go true = room_at w p x (room_of_whole x.party) found i
+    go : (b : Bool) → AgreedAt (cond b (world_with_space w x (space_of_whole f x.party)) w)
+    go true = space_at w p x (space_of_whole f x.party) found i
     go false = i
 
-    by : (how : Completion) → AgreedAt (world_after_compaction w x how)
-    by Whole = go (can_compact x.party)
-    by CutOld = i
-    by CutNew = go (can_compact x.party)
+rewritten_agreed : (o : Option Format) (w : World) (p : List ℕ) (x : Member) (how : Completion) → member_at p w.members ≡ Some x → AgreedAt w → AgreedAt (world_rewritten o w x how)
+rewritten_agreed None w p x how found i = i
+rewritten_agreed (Some f) w p x Whole found i = whole_agreed w p x f found i
+rewritten_agreed (Some f) w p x CutOld found i = i
+rewritten_agreed (Some f) w p x CutNew found i = whole_agreed w p x f found i
 
 done_agreed : (n : ℕ) (w : World) (p : List ℕ) (x : Member) (moment : ℕ) (how : Completion) (d : Action) → IsAction d → HonestAction w.facts x.party d → member_at p w.members ≡ Some x → CountedAt n w → AgreedAt w → AgreedAt (world_after_action n w x moment how d)
 done_agreed n w p x moment how (Orders k) e honest found c i = turned_agreed n w p x moment (input.Ordered k) e honest found c i how
 done_agreed n w p x moment how (Hears bytes (Some a)) e honest found c i = turned_agreed n w p x moment (input.Arrived a) tt honest found c i how
 done_agreed n w p x moment how (Hears bytes None) e honest found c i = i
-done_agreed n w p x moment how Compacts e honest found c i = compacted_agreed w p x how found i
+done_agreed n w p x moment how Compacts e honest found c i = rewritten_agreed (compacted_in x.space.format) w p x how found i
+done_agreed n w p x moment how Migrates e honest found c i = rewritten_agreed (migrated_in x.space.format) w p x how found i
 
 step_agreed : (n : ℕ) (w : World) (e : Event) → IsAction e.action → HonestAt w.facts (member_at e.party w.members) e.action → CountedAt n w → AgreedAt w → AgreedAt (step n w e)
 step_agreed n w e d honest c i = go (member_at e.party w.members) refl honest

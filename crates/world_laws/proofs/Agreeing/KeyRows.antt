@@ -66,6 +66,7 @@ use Rattle.world_laws.proofs.Agreeing.Exchanges.{put_other_two}
 use Rattle.world_laws.proofs.Agreeing.Known.{fact_more}
 use Rattle.world_laws.proofs.Links.Found.{in_use_at, link_at}
 use Rattle.world_laws.proofs.Agreeing.Backs.{AllUnreadied}
+use Rattle.change_code.specs.declared.space.Space.{Space}
 
 taken_unreadied : (s : Party) (originator : List ℕ) (l : LinkRec) (count up : ℕ) (n : Option (List ℕ × NewKk)) (k : KeyRec) (o : Option KeyRec) → link_with (link_key l) s ≡ Some l → AllUnreadied s (taking_edits originator l count up n k o)
 taken_unreadied s originator l count up None k None at = (inr (inr (l, at, refl, refl)), (tt, tt))
@@ -98,7 +99,7 @@ name_to s originator (body.Direct idk2 new kd ctp) l = refl
 name_to s originator (body.Centre centre kdu ctb) l = refl
 name_to s originator (body.Twin idk2 first second ctp) l = refl
 
-module _ (v : Lists) (p : List ℕ) (x : Member) (room : ℕ) (at : member_at p v.members ≡ Some x) (i : Agreed v) (links : HasLinks x.party) where
+module _ (v : Lists) (p : List ℕ) (x : Member) (space : Space) (at : member_at p v.members ≡ Some x) (i : Agreed v) (links : HasLinks x.party) where
   sent : AllSent x.party
   sent = i.sent p x at
 
@@ -203,10 +204,10 @@ module _ (v : Lists) (p : List ℕ) (x : Member) (room : ℕ) (at : member_at p 
         let key : record_key (second_record x.party m b l kd) ≡ record { peer = u.name.originator; name = u.name } = (let n = ap (λ (z : FullName). z.name) (sym e) in let g = sym org ∙ ap (λ (z : FullName). z.name.originator) (sym e) in λ j. record { peer = g j; name = n j }) in
         (second_record x.party m b l kd, subst (λ (q : RecordKey). record_with q (apply (body_edits x.party m b l) x.party) ≡ Some (second_record x.party m b l kd)) key (second_now kd k), tt, sym i)
 
-    holds : TakenKsm (lists_after v x room (authenticated a) (key_row x.party a m b (Some l))) (record { party = x.party.own; text = authenticated a; class = OfKsm; names = key_names (body_name x.party m.originator b l) (body_twin b) })
+    holds : TakenKsm (lists_after v x space (authenticated a) (key_row x.party a m b (Some l))) (record { party = x.party.own; text = authenticated a; class = OfKsm; names = key_names (body_name x.party m.originator b l) (body_twin b) })
     holds = record {
-      party = after x room (key_row x.party a m b (Some l));
-      at = after_is v p x room at i o (key_row x.party a m b (Some l)) grown;
+      party = after x space (key_row x.party a m b (Some l));
+      at = after_is v p x space at i o (key_row x.party a m b (Some l)) grown;
       ksm = m;
       said = said;
       under = body_name x.party m.originator b l;
@@ -221,7 +222,7 @@ module _ (v : Lists) (p : List ℕ) (x : Member) (room : ℕ) (at : member_at p 
       keeps = λ u value c. inl (keeps u value (subst (λ (z : KsmBody). Carries l.pair m.originator x.party.own z (body_name x.party m.originator b l) u value) is c));
     }
 
-    fine_of : (k : KeyRec) (u : FullName) → u ≡ to_own (record_key k) x.party.own → k.name.originator ≢ x.party.own → k.peer ≡ k.name.originator → k.status ≡ Held → Contains (key_names (body_name x.party m.originator b l) (body_twin b)) u → KeyFine v (lists_after v x room (authenticated a) (key_row x.party a m b (Some l))) x.party (apply (body_edits x.party m b l) x.party) k
+    fine_of : (k : KeyRec) (u : FullName) → u ≡ to_own (record_key k) x.party.own → k.name.originator ≢ x.party.own → k.peer ≡ k.name.originator → k.status ≡ Held → Contains (key_names (body_name x.party m.originator b l) (body_twin b)) u → KeyFine v (lists_after v x space (authenticated a) (key_row x.party a m b (Some l))) x.party (apply (body_edits x.party m b l) x.party) k
     fine_of k u name other peer status among = record {
       put = taken other (λ e. not_before u among (subst (λ (z : FullName). HasAccepted v.acceptances OfKsm x.party.own z) (sym name) e));
       live = λ no own. absurd (other own);
@@ -229,11 +230,11 @@ module _ (v : Lists) (p : List ℕ) (x : Member) (room : ℕ) (at : member_at p 
       gone = λ g j held. inl (subst IsHeld (sym status) tt);
     }
 
-    keys_move : (o : Option ℕ) → body_twin b ≡ o → KeysMove v (lists_after v x room (authenticated a) (key_row x.party a m b (Some l))) x.party (apply (body_edits x.party m b l) x.party)
+    keys_move : (o : Option ℕ) → body_twin b ≡ o → KeysMove v (lists_after v x space (authenticated a) (key_row x.party a m b (Some l))) x.party (apply (body_edits x.party m b l) x.party)
     keys_move None e = one (body_record x.party m b l) (keys_one e) (fine_of (body_record x.party m b l) (body_name x.party m.originator b l) first_name other_name (sym org) refl in_first)
     keys_move (Some kd) e = two (body_record x.party m b l) (second_record x.party m b l kd) (differ kd) (keys_two kd e) (fine_of (body_record x.party m b l) (body_name x.party m.originator b l) first_name other_name (sym org) refl in_first) (fine_of (second_record x.party m b l kd) (full_behind (body_name x.party m.originator b l)) (second_name kd) other_name (sym org) refl (in_second kd e))
 
-    pub taken_agreeing : Agreeing v x room (authenticated a) (key_row x.party a m b (Some l))
+    pub taken_agreeing : Agreeing v x space (authenticated a) (key_row x.party a m b (Some l))
     taken_agreeing = record {
       back = backed v.members x.party (body_edits x.party m b l) (taken_unreadied x.party m.originator l (body_count b) (body_next b) (body_new b) (body_record x.party m b l) (body_second x.party m b l) (key_at_key x.party a m b l links is found h));
       news = news_stay x.party (apply (body_edits x.party m b l) x.party) parts.1;

@@ -14,6 +14,7 @@ use Rattle.party_state.specs.State.{Party, centre_label, link_with, apply}
 use Rattle.party_state.specs.Rows.{Row, Reply}
 use Rattle.bank_keys.specs.declared.waits.Waiting.{Waiting}
 use Rattle.bank_keys.specs.Waiting.{waiting_with}
+use Rattle.change_code.specs.declared.space.Space.{Space}
 use Rattle.member.specs.Member.{Member}
 use Rattle.world_laws.specs.World.{Fact, Acceptance, World, own_of}
 use Rattle.world_laws.specs.Steps.{facts_of, acceptances_of}
@@ -37,11 +38,11 @@ abbrev pub lists_of : World → Lists
 lists_of w = record { members = w.members; facts = w.facts; acceptances = w.acceptances }
 
 -- the member after a row, and the lists after it
-abbrev pub after : Member → ℕ → Row → Member
-after x room r = record { party = apply r.edits x.party; room = room }
+abbrev pub after : Member → Space → Row → Member
+after x space r = record { party = apply r.edits x.party; space = space }
 
-abbrev pub members_after : List Member → Member → ℕ → Row → List Member
-members_after ms x room r = put_row own_of bytes_eq (after x room r) ms
+abbrev pub members_after : List Member → Member → Space → Row → List Member
+members_after ms x space r = put_row own_of bytes_eq (after x space r) ms
 
 abbrev pub facts_after : List Fact → Member → Option Reply → List Fact
 facts_after fs x reply = fs ++ facts_of x.party.own reply
@@ -49,8 +50,8 @@ facts_after fs x reply = fs ++ facts_of x.party.own reply
 abbrev pub acceptances_after : List Acceptance → Member → List ℕ → Row → List Acceptance
 acceptances_after accs x text r = accs ++ acceptances_of x.party.own text r.accepts
 
-abbrev pub lists_after : Lists → Member → ℕ → List ℕ → Row → Lists
-lists_after v x room text r = record { members = members_after v.members x room r; facts = facts_after v.facts x r.reply; acceptances = acceptances_after v.acceptances x text r }
+abbrev pub lists_after : Lists → Member → Space → List ℕ → Row → Lists
+lists_after v x space text r = record { members = members_after v.members x space r; facts = facts_after v.facts x r.reply; acceptances = acceptances_after v.acceptances x text r }
 
 abbrev pub to_peer : RecordKey → FullName
 to_peer k = record { name = k.name; recipient = k.peer }

@@ -22,6 +22,7 @@ use Rattle.world_laws.proofs.Agreeing.Lists.{Lists, after, members_after}
 use Rattle.world_laws.proofs.Agreeing.Agreed.{Agreed}
 use Rattle.world_laws.proofs.Agreeing.Moves.{OwnText, Agreeing}
 use Rattle.world_laws.proofs.Agreeing.Members.{forward}
+use Rattle.change_code.specs.declared.space.Space.{Space}
 
 -- the sending end is ready, and its next count is no lower
 pub record IsReached (ms : List Member) (peer : List ℕ) (k : LinkKey) (n : ℕ) : Type 0 where
@@ -100,19 +101,19 @@ change_takes (e ∷ es) s peer label m t h = edit_takes e s peer label m t.0 (ch
 pub sending_counts : (ms : List Member) (s : Party) (r : Row) → AllByRecursion PutsSends r.edits → r.makes ≡ None → CountsMove ms s r
 sending_counts ms s r t none = record { takes_on = λ peer label m h. inl (m, change_takes r.edits s peer label m t h, refl); begun = λ mk e m h. absurd (cc) }
 
-module _ (o : Option LinkKey) (v : Lists) (p : List ℕ) (x : Member) (room : ℕ) (text : List ℕ) (r : Row) (found : member_at p v.members ≡ Some x) (sound : IsSound o x.party text r) (own_reply : OwnText x.party.own r.reply) (row : Agreeing v x room text r) (i : Agreed v) (move : CountsMove v.members x.party r) (met : AllMet v.members) (began : AllBegun v.members) where
+module _ (o : Option LinkKey) (v : Lists) (p : List ℕ) (x : Member) (space : Space) (text : List ℕ) (r : Row) (found : member_at p v.members ≡ Some x) (sound : IsSound o x.party text r) (own_reply : OwnText x.party.own r.reply) (row : Agreeing v x space text r) (i : Agreed v) (move : CountsMove v.members x.party r) (met : AllMet v.members) (began : AllBegun v.members) where
   grown : PartyGrows o x.party (apply r.edits x.party)
   grown = change_grows o r.edits x.party sound.edits
 
   at_own : (q : List ℕ) → q ≡ x.party.own → member_at q v.members ≡ Some x
-  at_own q e = subst (λ (a : List ℕ). member_at a v.members ≡ Some x) (own_is v.members p x (after x room r) found grown.own ∙ sym e) found
+  at_own q e = subst (λ (a : List ℕ). member_at a v.members ≡ Some x) (own_is v.members p x (after x space r) found grown.own ∙ sym e) found
 
-  back : (q : List ℕ) (y : Member) → member_at q (members_after v.members x room r) ≡ Some y → ((q ≡ x.party.own) × (y ≡ after x room r)) ⊎ (member_at q v.members ≡ Some y)
-  back = member_back v.members p x (after x room r) found grown.own
+  back : (q : List ℕ) (y : Member) → member_at q (members_after v.members x space r) ≡ Some y → ((q ≡ x.party.own) × (y ≡ after x space r)) ⊎ (member_at q v.members ≡ Some y)
+  back = member_back v.members p x (after x space r) found grown.own
 
-  reached_on : (peer : List ℕ) (k : LinkKey) (n : ℕ) → IsReached v.members peer k n → IsReached (members_after v.members x room r) peer k n
+  reached_on : (peer : List ℕ) (k : LinkKey) (n : ℕ) → IsReached v.members peer k n → IsReached (members_after v.members x space r) peer k n
   reached_on peer k n e =
-      let f = forward o v p x room text r found sound own_reply row i peer e.member e.at in
+      let f = forward o v p x space text r found sound own_reply row i peer e.member e.at in
       let l = f.2.goes.ready k e.link e.found e.ready in
       record { member = f.0; at = f.1; link = l.0; found = l.1; ready = l.2.ready e.ready; next = omega (arith, e.next, l.2.next) }
 
@@ -123,16 +124,16 @@ module _ (o : Option LinkKey) (v : Lists) (p : List ℕ) (x : Member) (room : �
     | inr n ↦ move.begun (record { recipient = peer; label = label }) (sound.made (sends peer label) n refl) l h
   ]
 
-  settled : (peer q label : List ℕ) (n : ℕ) → n ≤ 2 → IsUnready v.members peer (sends q label) → IsMet (members_after v.members x room r) peer (sends q label) n
-  settled peer q label n low unready = by_member (member_at peer (members_after v.members x room r)) refl
+  settled : (peer q label : List ℕ) (n : ℕ) → n ≤ 2 → IsUnready v.members peer (sends q label) → IsMet (members_after v.members x space r) peer (sends q label) n
+  settled peer q label n low unready = by_member (member_at peer (members_after v.members x space r)) refl
     where
-      past : (y : Member) (l : LinkRec) → member_at peer (members_after v.members x room r) ≡ Some y → link_with (sends q label) y.party ≡ Some l → l.ready ≡ true → 2 ≤ l.next
+      past : (y : Member) (l : LinkRec) → member_at peer (members_after v.members x space r) ≡ Some y → link_with (sends q label) y.party ≡ Some l → l.ready ≡ true → 2 ≤ l.next
       past y l at h ready = elim (back peer y at) [
         | inl t ↦ own_past q label l (λ j f. unready x j (at_own peer t.0) f) (subst (λ (z : Member). link_with (sends q label) z.party ≡ Some l) t.1 h)
         | inr t ↦ absurd (let no : l.ready ≡ false = unready y l t h in cc)
       ]
 
-      by_ready : (y : Member) (l : LinkRec) (b : Bool) → member_at peer (members_after v.members x room r) ≡ Some y → link_with (sends q label) y.party ≡ Some l → l.ready ≡ b → IsMet (members_after v.members x room r) peer (sends q label) n
+      by_ready : (y : Member) (l : LinkRec) (b : Bool) → member_at peer (members_after v.members x space r) ≡ Some y → link_with (sends q label) y.party ≡ Some l → l.ready ≡ b → IsMet (members_after v.members x space r) peer (sends q label) n
       by_ready y l true at h e = inl (record { member = y; at = at; link = l; found = h; ready = e; next = (let two : 2 ≤ l.next = past y l at h e in omega (arith, low, two)) })
       by_ready y l false at h e = inr (
         low,
@@ -141,7 +142,7 @@ module _ (o : Option LinkKey) (v : Lists) (p : List ℕ) (x : Member) (room : �
             ap (λ (u : LinkRec). u.ready) is ∙ e),
       )
 
-      by_link : (y : Member) (f : Option LinkRec) → member_at peer (members_after v.members x room r) ≡ Some y → link_with (sends q label) y.party ≡ f → IsMet (members_after v.members x room r) peer (sends q label) n
+      by_link : (y : Member) (f : Option LinkRec) → member_at peer (members_after v.members x space r) ≡ Some y → link_with (sends q label) y.party ≡ f → IsMet (members_after v.members x space r) peer (sends q label) n
       by_link y None at h = inr (
         low,
         λ z j at_z f. absurd (let same : z ≡ y = one_found z y at_z at in
@@ -149,27 +150,27 @@ module _ (o : Option LinkKey) (v : Lists) (p : List ℕ) (x : Member) (room : �
       )
       by_link y (Some l) at h = by_ready y l l.ready at h refl
 
-      by_member : (f : Option Member) → member_at peer (members_after v.members x room r) ≡ f → IsMet (members_after v.members x room r) peer (sends q label) n
+      by_member : (f : Option Member) → member_at peer (members_after v.members x space r) ≡ f → IsMet (members_after v.members x space r) peer (sends q label) n
       by_member None at = inr (low, λ z j at_z f. absurd (cc))
       by_member (Some y) at = by_link y (link_with (sends q label) y.party) at refl
 
-  still_met : (peer q label : List ℕ) (n : ℕ) → IsMet v.members peer (sends q label) n → IsMet (members_after v.members x room r) peer (sends q label) n
+  still_met : (peer q label : List ℕ) (n : ℕ) → IsMet v.members peer (sends q label) n → IsMet (members_after v.members x space r) peer (sends q label) n
   still_met peer q label n (inl e) = inl (reached_on peer (sends q label) n e)
   still_met peer q label n (inr e) = settled peer q label n e.0 e.1
 
-  pub met_on : AllMet (members_after v.members x room r)
+  pub met_on : AllMet (members_after v.members x space r)
   met_on q y peer label m at h = elim (back q y at) [
     | inl t ↦ own_met t.0 (subst (λ (z : Member). link_with (takes peer label) z.party ≡ Some m) t.1 h)
     | inr t ↦ still_met peer q label m.next (met q y peer label m t h)
   ]
     where
-      own_met : q ≡ x.party.own → link_with (takes peer label) (apply r.edits x.party) ≡ Some m → IsMet (members_after v.members x room r) peer (sends q label) m.next
+      own_met : q ≡ x.party.own → link_with (takes peer label) (apply r.edits x.party) ≡ Some m → IsMet (members_after v.members x space r) peer (sends q label) m.next
       own_met is j = still_met peer q label m.next (elim (move.takes_on peer label m j) [
         | inl b ↦ subst (λ (n : ℕ). IsMet v.members peer (sends q label) n) (sym b.2) (met q x peer label b.0 (at_own q is) b.1)
         | inr b ↦ subst (λ (z : List ℕ). IsMet v.members peer (sends z label) m.next) (sym is) b
       ])
 
-  pub begun_on : AllBegun (members_after v.members x room r)
+  pub begun_on : AllBegun (members_after v.members x space r)
   begun_on q y peer label l at h unready = elim (back q y at) [
     | inl t ↦ own_begun (subst (λ (z : Member). link_with (sends peer label) z.party ≡ Some l) t.1 h)
     | inr t ↦ began q y peer label l t h unready

@@ -18,6 +18,7 @@ use Rattle.world_laws.proofs.Agreeing.KeyRecords.{KeysMove}
 use Rattle.world_laws.proofs.Agreeing.Waiting.{AllSent, NewSent, NewsMove}
 use Rattle.world_laws.proofs.Agreeing.Known.{Issued}
 use Rattle.world_laws.proofs.Agreeing.Facts.{MessageOk, AcceptedOk}
+use Rattle.change_code.specs.declared.space.Space.{Space}
 
 abbrev pub RepliesOk : Lists → List ℕ → Option Reply → Type 0
 RepliesOk w own None = Unit {0}
@@ -50,15 +51,15 @@ abbrev pub Backed : List Member → Party → Party → Type 0
 Backed ms s t = (peer label : List ℕ) (m : LinkRec) → link_with (sends peer label) t ≡ Some m → m.ready ≡ true
     → ((l : LinkRec) × (link_with (sends peer label) s ≡ Some l) × (l.ready ≡ true) × (m.pair ≡ l.pair)) ⊎ HasOtherEnd ms peer (takes s.own label) m
 
-pub record Agreeing (v : Lists) (x : Member) (room : ℕ) (text : List ℕ) (r : Row) : Type 0 where
+pub record Agreeing (v : Lists) (x : Member) (space : Space) (text : List ℕ) (r : Row) : Type 0 where
   pub back : Backed v.members x.party (apply r.edits x.party)
   pub news : NewsMove x.party (apply r.edits x.party)
-  pub keys : KeysMove v (lists_after v x room text r) x.party (apply r.edits x.party)
+  pub keys : KeysMove v (lists_after v x space text r) x.party (apply r.edits x.party)
   pub exchanges : AllSent (apply r.edits x.party)
   pub waits : WaitsMove x.party (apply r.edits x.party)
-  pub replies : RepliesOk (lists_after v x room text r) x.party.own r.reply
+  pub replies : RepliesOk (lists_after v x space text r) x.party.own r.reply
   pub new : FreshReply v.facts x.party r.reply
-  pub accepts : AcceptsOk (lists_after v x room text r) x.party.own text r.accepts
+  pub accepts : AcceptsOk (lists_after v x space text r) x.party.own text r.accepts
 
 -- a text that a row writes under a key says its message, and nothing else
 abbrev pub OwnReply : Option Reply → Type 0

@@ -21,14 +21,15 @@ use Rattle.world_laws.proofs.Speaking.Wellformed.{Speaks, TellsEsm}
 use Rattle.world_laws.proofs.Speaking.Centres.{role_speaks}
 use Rattle.world_laws.proofs.Agreeing.Rows.{HonestFor, role_agrees}
 use Rattle.world_laws.proofs.Speaking.Answers.{role_tells}
+use Rattle.change_code.specs.declared.space.Space.{Space}
 
-module _ (n : ℕ) (w : World) (p : List ℕ) (x : Member) (room : ℕ) (at : member_at p w.members ≡ Some x) (c : CountedAt n w) (i : Agreed (lists_of w)) where
-  honest_for : (j : Input) → HonestInput w.facts x.party j → HonestFor n w p x room at c i x.party.role j
+module _ (n : ℕ) (w : World) (p : List ℕ) (x : Member) (space : Space) (at : member_at p w.members ≡ Some x) (c : CountedAt n w) (i : Agreed (lists_of w)) where
+  honest_for : (j : Input) → HonestInput w.facts x.party j → HonestFor n w p x space at c i x.party.role j
   honest_for (input.Ordered k) h = tt
   honest_for (input.Arrived a) h = h
 
-  pub row_agrees : (o : Option LinkKey) (j : Input) (moment : ℕ) → IsInput j → HonestInput w.facts x.party j → is_accept (row_at x.party j moment).verdict ≡ true → IsSound o x.party (received_text j) (row_at x.party j moment) → Agreeing (lists_of w) x room (received_text j) (row_at x.party j moment)
-  row_agrees o j moment e honest h sound = role_agrees n w p x room at c i o x.party.role j moment e (honest_for j honest) h sound
+  pub row_agrees : (o : Option LinkKey) (j : Input) (moment : ℕ) → IsInput j → HonestInput w.facts x.party j → is_accept (row_at x.party j moment).verdict ≡ true → IsSound o x.party (received_text j) (row_at x.party j moment) → Agreeing (lists_of w) x space (received_text j) (row_at x.party j moment)
+  row_agrees o j moment e honest h sound = role_agrees n w p x space at c i o x.party.role j moment e (honest_for j honest) h sound
 
 module _ (p : Party) (i : IsNamed p) where
   pub row_speaks : (j : Input) (moment : ℕ) → IsInput j → HasLinks p → is_accept (row_at p j moment).verdict ≡ true → Speaks (row_at p j moment)

@@ -61,6 +61,7 @@ use Rattle.bank_orders.specs.declared.draws.KkDrawn.{KkDrawn}
 use Rattle.bank_orders.specs.Draws.{key_drawn, right_drawn, left_drawn, kk_drawn}
 use Rattle.bank_orders.specs.StartKk.{sealed_kk, kk_tests, kk_reply, kk_edits, fresh_link, kk_sending}
 use Rattle.world_laws.proofs.Sound.NewKks.{kk_up, kk_fresh, kk_at, kk_at_key}
+use Rattle.change_code.specs.declared.space.Space.{Space}
 
 abbrev pub sent_record : Party → LinkRec → ℕ → KeyRec
 sent_record p l key = record { peer = l.peer; name = next_name p l; value = key; status = Pending }
@@ -131,7 +132,7 @@ kk_draw_sound g moment single d h = go single (good_draw g moment) refl h
         record { left = subst (λ (z : Pair). IsDrawn z.left) (sym s.0) a; right = subst (λ (z : Pair). IsDrawn z.right) (sym s.0) a; key = s.1; halves = λ f. subst (λ (z : Pair). z.left ≡ z.right) (sym s.0) refl }
     go false (Some left) i e = right_in left (good_draw left.1 moment) (is_drawn g moment left i) refl e
 
-module _ (v : Lists) (p : List ℕ) (x : Member) (room : ℕ) (at : member_at p v.members ≡ Some x) (i : Agreed v) where
+module _ (v : Lists) (p : List ℕ) (x : Member) (space : Space) (at : member_at p v.members ≡ Some x) (i : Agreed v) where
   -- the name that goes next is no one's yet
   pub next_absent : (l : LinkRec) (key : ℕ) → link_with (sends l.peer l.label) x.party ≡ Some l → (u : KeyRec) → record_with (record_key (sent_record x.party l key)) x.party ≡ Some u → ⊥
   next_absent l key at_l u j = known_not (i.known p x at (record_key (sent_record x.party l key)) u j)
@@ -144,8 +145,8 @@ module _ (v : Lists) (p : List ℕ) (x : Member) (room : ℕ) (at : member_at p 
       known_not (mine o m) = mine_not m
       known_not (theirs o f a) = o refl
 
-  pub sending_agreeing : (text : List ℕ) (front : List Test) (peer : List ℕ) (l : LinkRec) (moment : ℕ) (drawn : Option (ℕ × Gen)) → good_draw x.party.generator moment ≡ drawn → SendingAt x.party peer l → IsSound None x.party text (sending_drawn x.party front l drawn) → Agreeing v x room text (sending_drawn x.party front l drawn)
-  sending_agreeing text front peer l moment None drew s sound = refused_agreeing v p x room at i text (verdict_of (front ++ sending_tests x.party l None))
+  pub sending_agreeing : (text : List ℕ) (front : List Test) (peer : List ℕ) (l : LinkRec) (moment : ℕ) (drawn : Option (ℕ × Gen)) → good_draw x.party.generator moment ≡ drawn → SendingAt x.party peer l → IsSound None x.party text (sending_drawn x.party front l drawn) → Agreeing v x space text (sending_drawn x.party front l drawn)
+  sending_agreeing text front peer l moment None drew s sound = refused_agreeing v p x space at i text (verdict_of (front ++ sending_tests x.party l None))
   sending_agreeing text front peer l moment (Some d) drew s sound = record {
     back = backed v.members x.party (sending_drawn x.party front l (Some d)).edits (tt, (inr (inr (l, at_key, refl, refl)), (tt, (tt, tt))));
     news = news_put x.party (apply (sending_drawn x.party front l (Some d)).edits x.party) (sent_exchange x.party l d.0) refl refl;
@@ -178,17 +179,17 @@ module _ (v : Lists) (p : List ℕ) (x : Member) (room : ℕ) (at : member_at p 
       alone : (u : FullName) (value : ℕ) → Carries l.pair x.party.own l.peer (sent_ksm x.party l d.0).body (record { name = next_name x.party l; recipient = l.peer }) u value → (u ≡ record { name = next_name x.party l; recipient = l.peer }) × (value ≡ unwrap_of l.pair l.next (wrap_of l.pair l.next d.0))
       alone u value c = carries_one l.pair x.party.own l.peer (sent_ksm x.party l d.0).body (record { name = next_name x.party l; recipient = l.peer }) u value refl c
 
-      the_fact : KsmFact (lists_after v x room text (sending_drawn x.party front l (Some d))) (record { under = record { name = next_name x.party l; recipient = l.peer }; text = auth_of (message.Ksm (sent_ksm x.party l d.0)); maker = x.party.own }) (sent_ksm x.party l d.0)
+      the_fact : KsmFact (lists_after v x space text (sending_drawn x.party front l (Some d))) (record { under = record { name = next_name x.party l; recipient = l.peer }; text = auth_of (message.Ksm (sent_ksm x.party l d.0)); maker = x.party.own }) (sent_ksm x.party l d.0)
       the_fact = record {
         label = l.label;
         under = refl;
-        issuer = after x room (sending_drawn x.party front l (Some d));
-        at_issuer = after_is v p x room at i None (sending_drawn x.party front l (Some d)) grown;
+        issuer = after x space (sending_drawn x.party front l (Some d));
+        at_issuer = after_is v p x space at i None (sending_drawn x.party front l (Some d)) grown;
         link = up;
         found = at_up;
         ready = s.ready;
-        party = after x room (sending_drawn x.party front l (Some d));
-        at = after_is v p x room at i None (sending_drawn x.party front l (Some d)) grown;
+        party = after x space (sending_drawn x.party front l (Some d));
+        at = after_is v p x space at i None (sending_drawn x.party front l (Some d)) grown;
         past = λ u value c. subst (λ (z : FullName). Mine (facts_after v.facts x (sending_drawn x.party front l (Some d)).reply) (apply (sending_drawn x.party front l (Some d)).edits x.party) (at_peer z)) (sym (alone u value c).0) (counted refl up at_up s.ready (omega arith));
         value = λ u value c n g. (let f : record_with (record_key (sent_record x.party l d.0)) (apply (sending_drawn x.party front l (Some d)).edits x.party) ≡ Some n = subst (λ (z : FullName). record_with (at_peer z) (apply (sending_drawn x.party front l (Some d)).edits x.party) ≡ Some n) (alone u value c).0 g in let k : sent_record x.party l d.0 ≡ n = one_found (sent_record x.party l d.0) n (find_put_same record_key same_record test_records (sent_record x.party l d.0) x.party.keys) f in ap (λ (z : KeyRec). z.value) (sym k) ∙ (sym (unwraps l.pair l.next d.0 (drawn_below x.party.generator moment d drew)) ∙ sym (alone u value c).1));
         twins = λ e j is. absurd (let same : sent_exchange x.party l d.0 ≡ e = one_found (sent_exchange x.party l d.0) e (find_put_same exchange_key bytes_eq test_idents (sent_exchange x.party l d.0) x.party.exchanges) j in let g : None ≡ Some (name_behind (next_name x.party l)) = ap (λ (z : Exchange). second_name_by z.kind) same ∙ ap second_name_by is in cc);
@@ -196,8 +197,8 @@ module _ (v : Lists) (p : List ℕ) (x : Member) (room : ℕ) (at : member_at p 
       }
 
   -- with a new key-encrypting key
-  pub kk_agreeing : (text : List ℕ) (peer new : List ℕ) (single : Bool) (l : LinkRec) (drawn : Option KkDrawn) → ((d : KkDrawn) → drawn ≡ Some d → KkSound single d) → SendingAt x.party peer l → is_accept (kk_sending x.party (start_tests x.party peer (Some l)) l new single drawn).verdict ≡ true → (o : Option LinkKey) → IsSound o x.party text (kk_sending x.party (start_tests x.party peer (Some l)) l new single drawn) → Agreeing v x room text (kk_sending x.party (start_tests x.party peer (Some l)) l new single drawn)
-  kk_agreeing text peer new single l None made s h o sound = refused_agreeing v p x room at i text (verdict_of (start_tests x.party peer (Some l) ++ kk_tests x.party l new None))
+  pub kk_agreeing : (text : List ℕ) (peer new : List ℕ) (single : Bool) (l : LinkRec) (drawn : Option KkDrawn) → ((d : KkDrawn) → drawn ≡ Some d → KkSound single d) → SendingAt x.party peer l → is_accept (kk_sending x.party (start_tests x.party peer (Some l)) l new single drawn).verdict ≡ true → (o : Option LinkKey) → IsSound o x.party text (kk_sending x.party (start_tests x.party peer (Some l)) l new single drawn) → Agreeing v x space text (kk_sending x.party (start_tests x.party peer (Some l)) l new single drawn)
+  kk_agreeing text peer new single l None made s h o sound = refused_agreeing v p x space at i text (verdict_of (start_tests x.party peer (Some l) ++ kk_tests x.party l new None))
   kk_agreeing text peer new single l (Some d) made s h o sound = record {
     back = backed v.members x.party (kk_edits x.party l new single d) (tt, (inr (inr (l, kk_at_key x.party text peer new single l d s h, refl, refl)), (inr (inl refl), (tt, (tt, tt)))));
     news = λ q e name new' j nm w. elim (ex_put x.party.exchanges (kk_exchange x.party l new single d) q e j) [
@@ -242,17 +243,17 @@ module _ (v : Lists) (p : List ℕ) (x : Member) (room : ℕ) (at : member_at p 
       alone : (u : FullName) (value : ℕ) → Carries l.pair x.party.own l.peer (kk_ksm x.party l new single d).body (record { name = next_name x.party l; recipient = l.peer }) u value → (u ≡ record { name = next_name x.party l; recipient = l.peer }) × (value ≡ unwrap_of (opened_kk l.pair l.next (sealed_kk l.pair l.next single d.pair)) 1 (wrap_of d.pair 1 d.key))
       alone u value c = carries_one l.pair x.party.own l.peer (kk_ksm x.party l new single d).body (record { name = next_name x.party l; recipient = l.peer }) u value refl c
 
-      the_fact : KsmFact (lists_after v x room text (kk_sending x.party (start_tests x.party peer (Some l)) l new single (Some d))) (record { under = record { name = next_name x.party l; recipient = l.peer }; text = auth_of (message.Ksm (kk_ksm x.party l new single d)); maker = x.party.own }) (kk_ksm x.party l new single d)
+      the_fact : KsmFact (lists_after v x space text (kk_sending x.party (start_tests x.party peer (Some l)) l new single (Some d))) (record { under = record { name = next_name x.party l; recipient = l.peer }; text = auth_of (message.Ksm (kk_ksm x.party l new single d)); maker = x.party.own }) (kk_ksm x.party l new single d)
       the_fact = record {
         label = l.label;
         under = refl;
-        issuer = after x room (kk_sending x.party (start_tests x.party peer (Some l)) l new single (Some d));
-        at_issuer = after_is v p x room at i o (kk_sending x.party (start_tests x.party peer (Some l)) l new single (Some d)) grown;
+        issuer = after x space (kk_sending x.party (start_tests x.party peer (Some l)) l new single (Some d));
+        at_issuer = after_is v p x space at i o (kk_sending x.party (start_tests x.party peer (Some l)) l new single (Some d)) grown;
         link = up;
         found = at_up;
         ready = s.ready;
-        party = after x room (kk_sending x.party (start_tests x.party peer (Some l)) l new single (Some d));
-        at = after_is v p x room at i o (kk_sending x.party (start_tests x.party peer (Some l)) l new single (Some d)) grown;
+        party = after x space (kk_sending x.party (start_tests x.party peer (Some l)) l new single (Some d));
+        at = after_is v p x space at i o (kk_sending x.party (start_tests x.party peer (Some l)) l new single (Some d)) grown;
         past = λ u value c. subst (λ (z : FullName). Mine (facts_after v.facts x (kk_sending x.party (start_tests x.party peer (Some l)) l new single (Some d)).reply) (apply (kk_edits x.party l new single d) x.party) (at_peer z)) (sym (alone u value c).0) (counted refl up at_up s.ready (omega arith));
         value = λ u value c m g. (let f : record_with (record_key (sent_record x.party l d.key)) (apply (kk_edits x.party l new single d) x.party) ≡ Some m = subst (λ (z : FullName). record_with (at_peer z) (apply (kk_edits x.party l new single d) x.party) ≡ Some m) (alone u value c).0 g in let k : sent_record x.party l d.key ≡ m = one_found (sent_record x.party l d.key) m (find_put_same record_key same_record test_records (sent_record x.party l d.key) x.party.keys) f in ap (λ (z : KeyRec). z.value) (sym k) ∙ (key_is ∙ sym (alone u value c).1));
         twins = λ e j is. absurd (let same : kk_exchange x.party l new single d ≡ e = one_found (kk_exchange x.party l new single d) e (find_put_same exchange_key bytes_eq test_idents (kk_exchange x.party l new single d) x.party.exchanges) j in let g : None ≡ Some (name_behind (next_name x.party l)) = ap (λ (z : Exchange). second_name_by z.kind) same ∙ ap second_name_by is in cc);

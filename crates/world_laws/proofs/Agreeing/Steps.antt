@@ -46,6 +46,7 @@ use Rattle.world_laws.proofs.Agreeing.Facts.{MessageOk, FactOk, AcceptedOk}
 use Rattle.role_base.specs.declared.exchanges.Twins.{Twins}
 use Rattle.world_laws.proofs.Agreeing.Exchanges.{SentIs, sent_own, TwinsIs, twins_own}
 use Rattle.world_laws.proofs.Agreeing.Agreed.{Agreed}
+use Rattle.change_code.specs.declared.space.Space.{Space}
 
 -- a text for this party comes from another
 pub other_of : (s : Party) (receiver originator : List ℕ) → is_for s receiver originator ≡ true → (receiver ≡ s.own) × (originator ≢ s.own)
@@ -84,7 +85,7 @@ some_is a b h = cc
 abbrev pub with_status : KeyRec → KeyStatus → KeyRec
 with_status k status = record { peer = k.peer; name = k.name; value = k.value; status = status }
 
-module _ (v : Lists) (p : List ℕ) (x : Member) (room : ℕ) (at : member_at p v.members ≡ Some x) (i : Agreed v) where
+module _ (v : Lists) (p : List ℕ) (x : Member) (space : Space) (at : member_at p v.members ≡ Some x) (i : Agreed v) where
   at_p : p ≡ x.party.own
   at_p = find_key own_of bytes_eq test_idents p x v.members at
 
@@ -99,20 +100,20 @@ module _ (v : Lists) (p : List ℕ) (x : Member) (room : ℕ) (at : member_at p 
   own_at = subst (λ (q : List ℕ). member_at q v.members ≡ Some x) at_p at
 
   -- another party stays
-  pub there : (o : Option LinkKey) (r : Row) (q : List ℕ) (y : Member) → PartyGrows o x.party (apply r.edits x.party) → q ≢ x.party.own → member_at q v.members ≡ Some y → member_at q (members_after v.members x room r) ≡ Some y
-  there o r q y g ne h = find_put_other own_of bytes_eq test_idents q (after x room r) v.members (false_from_ne_true (bytes_eq q (after x room r).party.own) (λ e. ne ((test_idents.decides q (after x room r).party.own).0 e ∙ g.own))) ∙ h
+  pub there : (o : Option LinkKey) (r : Row) (q : List ℕ) (y : Member) → PartyGrows o x.party (apply r.edits x.party) → q ≢ x.party.own → member_at q v.members ≡ Some y → member_at q (members_after v.members x space r) ≡ Some y
+  there o r q y g ne h = find_put_other own_of bytes_eq test_idents q (after x space r) v.members (false_from_ne_true (bytes_eq q (after x space r).party.own) (λ e. ne ((test_idents.decides q (after x space r).party.own).0 e ∙ g.own))) ∙ h
 
-  pub after_is : (o : Option LinkKey) (r : Row) → PartyGrows o x.party (apply r.edits x.party) → member_at x.party.own (members_after v.members x room r) ≡ Some (after x room r)
-  after_is o r g = after_at v.members p x (after x room r) at g.own
+  pub after_is : (o : Option LinkKey) (r : Row) → PartyGrows o x.party (apply r.edits x.party) → member_at x.party.own (members_after v.members x space r) ≡ Some (after x space r)
+  after_is o r g = after_at v.members p x (after x space r) at g.own
 
-  pub known_later : (o : Option LinkKey) (text : List ℕ) (r : Row) (k : RecordKey) → PartyGrows o x.party (apply r.edits x.party) → WaitsMove x.party (apply r.edits x.party) → Known v x.party k → Known (lists_after v x room text r) (apply r.edits x.party) k
-  known_later o text r k g w h = known_on v (facts_of x.party.own r.reply) (acceptances_of x.party.own text r.accepts) (members_after v.members x room r) x.party (apply r.edits x.party) k (goes_of o x.party (apply r.edits x.party) g) w h
+  pub known_later : (o : Option LinkKey) (text : List ℕ) (r : Row) (k : RecordKey) → PartyGrows o x.party (apply r.edits x.party) → WaitsMove x.party (apply r.edits x.party) → Known v x.party k → Known (lists_after v x space text r) (apply r.edits x.party) k
+  known_later o text r k g w h = known_on v (facts_of x.party.own r.reply) (acceptances_of x.party.own text r.accepts) (members_after v.members x space r) x.party (apply r.edits x.party) k (goes_of o x.party (apply r.edits x.party) g) w h
 
   pub class_later : (text : List ℕ) (r : Row) (class : Class) (q : List ℕ) (u : FullName) → HasAccepted v.acceptances class q u → HasAccepted (acceptances_after v.acceptances x text r) class q u
   class_later text r class q u h = class_more v.acceptances (acceptances_of x.party.own text r.accepts) class q u h
 
   -- the record of a key goes on with another status
-  pub status_fine : (o : Option LinkKey) (text : List ℕ) (r : Row) (k : KeyRec) (st : KeyStatus) → PartyGrows o x.party (apply r.edits x.party) → WaitsMove x.party (apply r.edits x.party) → record_with (record_key k) x.party ≡ Some k → (k.status ≡ Ended → st ≡ Ended) → (Counts st → k.name.originator ≡ x.party.own → HasAccepted (acceptances_after v.acceptances x text r) OfKsm k.peer (to_peer (record_key k))) → (IsHeld k.status → IsHeld st ⊎ Gone (acceptances_after v.acceptances x text r) x.party.own (full_name x.party.own k)) → KeyFine v (lists_after v x room text r) x.party (apply r.edits x.party) (with_status k st)
+  pub status_fine : (o : Option LinkKey) (text : List ℕ) (r : Row) (k : KeyRec) (st : KeyStatus) → PartyGrows o x.party (apply r.edits x.party) → WaitsMove x.party (apply r.edits x.party) → record_with (record_key k) x.party ≡ Some k → (k.status ≡ Ended → st ≡ Ended) → (Counts st → k.name.originator ≡ x.party.own → HasAccepted (acceptances_after v.acceptances x text r) OfKsm k.peer (to_peer (record_key k))) → (IsHeld k.status → IsHeld st ⊎ Gone (acceptances_after v.acceptances x text r) x.party.own (full_name x.party.own k)) → KeyFine v (lists_after v x space text r) x.party (apply r.edits x.party) (with_status k st)
   status_fine o text r k st g w at_k ended live gone = record {
     put = changed k at_k refl ended;
     live = live;
@@ -121,15 +122,15 @@ module _ (v : Lists) (p : List ℕ) (x : Member) (room : ℕ) (at : member_at p 
   }
 
   -- the record of an exchange that is given up
-  pub ended_fine : (o : Option LinkKey) (text : List ℕ) (r : Row) (peer : List ℕ) (y : Sent) → PartyGrows o x.party (apply r.edits x.party) → WaitsMove x.party (apply r.edits x.party) → SentIs x.party peer y → KeyFine v (lists_after v x room text r) x.party (apply r.edits x.party) (with_status y.key Ended)
+  pub ended_fine : (o : Option LinkKey) (text : List ℕ) (r : Row) (peer : List ℕ) (y : Sent) → PartyGrows o x.party (apply r.edits x.party) → WaitsMove x.party (apply r.edits x.party) → SentIs x.party peer y → KeyFine v (lists_after v x space text r) x.party (apply r.edits x.party) (with_status y.key Ended)
   ended_fine o text r peer y g w h = status_fine o text r y.key Ended g w h.at (λ e. refl) (λ no own. absurd no) (λ held. absurd (pending_not_held y.key.status (sent_own x.party peer y (i.sent p x at) h).1 held))
 
   -- nothing changes, and nothing of which agreement speaks is told
-  pub still_agreeing : (text : List ℕ) (r : Row) → r.edits ≡ [] → RepliesOk (lists_after v x room text r) x.party.own r.reply → FreshReply v.facts x.party r.reply → AcceptsOk (lists_after v x room text r) x.party.own text r.accepts → Agreeing v x room text r
+  pub still_agreeing : (text : List ℕ) (r : Row) → r.edits ≡ [] → RepliesOk (lists_after v x space text r) x.party.own r.reply → FreshReply v.facts x.party r.reply → AcceptsOk (lists_after v x space text r) x.party.own text r.accepts → Agreeing v x space text r
   still_agreeing text r e a b c = record {
     back = λ peer label m h is. inl (m, subst (λ (es : List Edit). link_with (sends peer label) (apply es x.party) ≡ Some m) e h, is, refl);
     news = subst (λ (es : List Edit). NewsMove x.party (apply es x.party)) (sym e) (news_stay x.party x.party refl);
-    keys = subst (λ (es : List Edit). KeysMove v (lists_after v x room text r) x.party (apply es x.party)) (sym e) (unmoved refl);
+    keys = subst (λ (es : List Edit). KeysMove v (lists_after v x space text r) x.party (apply es x.party)) (sym e) (unmoved refl);
     exchanges = subst (λ (es : List Edit). AllSent (apply es x.party)) (sym e) (i.sent p x at);
     waits = subst (λ (es : List Edit). WaitsMove x.party (apply es x.party)) (sym e) (waits_stay x.party x.party refl);
     replies = a;
@@ -138,11 +139,11 @@ module _ (v : Lists) (p : List ℕ) (x : Member) (room : ℕ) (at : member_at p 
   }
 
   -- a row that is refused does nothing
-  pub refused_agreeing : (text : List ℕ) (verdict : Verdict) → Agreeing v x room text (refused verdict)
+  pub refused_agreeing : (text : List ℕ) (verdict : Verdict) → Agreeing v x space text (refused verdict)
   refused_agreeing text verdict = still_agreeing text (refused verdict) refl tt tt tt
 
   -- the records of two keys that are given up
-  pub twins_ended : (o : Option LinkKey) (text : List ℕ) (r : Row) (peer : List ℕ) (y : Twins) → PartyGrows o x.party (apply r.edits x.party) → WaitsMove x.party (apply r.edits x.party) → TwinsIs x.party peer y → KeyFine v (lists_after v x room text r) x.party (apply r.edits x.party) (with_status y.first Ended) × KeyFine v (lists_after v x room text r) x.party (apply r.edits x.party) (with_status y.second Ended)
+  pub twins_ended : (o : Option LinkKey) (text : List ℕ) (r : Row) (peer : List ℕ) (y : Twins) → PartyGrows o x.party (apply r.edits x.party) → WaitsMove x.party (apply r.edits x.party) → TwinsIs x.party peer y → KeyFine v (lists_after v x space text r) x.party (apply r.edits x.party) (with_status y.first Ended) × KeyFine v (lists_after v x space text r) x.party (apply r.edits x.party) (with_status y.second Ended)
   twins_ended o text r peer y g w h =
       let own = twins_own x.party peer y (i.sent p x at) h in (
         status_fine o text r y.first Ended g w h.first (λ e. refl) (λ no own. absurd no) (λ held. absurd (pending_not_held y.first.status own.1 held)),

@@ -45,6 +45,7 @@ use Rattle.world_laws.proofs.Agreeing.Agreed.{Agreed}
 use Rattle.world_laws.proofs.Agreeing.AnswerRows.{HonestAs}
 use Rattle.world_laws.proofs.Agreeing.Steps.{other_of, fact_says, here}
 use Rattle.world_laws.proofs.Agreeing.MeetingCounts.{IsReached, IsUnready, IsMet, CountsMove, put_cases, sending_counts}
+use Rattle.change_code.specs.declared.space.Space.{Space}
 
 -- a link after keys were taken
 taken_cases : (s : Party) (originator : List ℕ) (l : LinkRec) (count up : ℕ) (n : Option (List ℕ × NewKk)) (r : KeyRec) (o : Option KeyRec) (k : LinkKey) (z : LinkRec) → link_with k (apply (taking_edits originator l count up n r o) s) ≡ Some z
@@ -75,7 +76,7 @@ taken_cases s originator l count up n r o k z h = by_new n (links_of n o h)
       ]
     ]
 
-module _ (v : Lists) (p : List ℕ) (x : Member) (room : ℕ) (at : member_at p v.members ≡ Some x) (i : Agreed v) where
+module _ (v : Lists) (p : List ℕ) (x : Member) (space : Space) (at : member_at p v.members ≡ Some x) (i : Agreed v) where
   -- the sending end of the link of this key here is past the count
   abbrev ReachedBy : LinkKey → ℕ → Type 0
   ReachedBy k n = IsReached v.members k.peer (sends x.party.own k.label) n
@@ -97,7 +98,7 @@ module _ (v : Lists) (p : List ℕ) (x : Member) (room : ℕ) (at : member_at p 
     fact = honest (lead_under a (body_name x.party m.originator b l) (body_code l.pair m.originator x.party.own b)) (rw front refl) t.1.1.1.0
 
     f : KsmFact v fact.fact m
-    f = fact_says v p x room at i (body_name x.party m.originator b l) (authenticated a) fact (message.Ksm m) said
+    f = fact_says v p x space at i (body_name x.party m.originator b l) (authenticated a) fact (message.Ksm m) said
 
     name : body_name x.party m.originator b l ≡ to_peer (ksm_key m f.label)
     name = sym fact.under_is ∙ f.under
@@ -167,7 +168,7 @@ module _ (v : Lists) (p : List ℕ) (x : Member) (room : ℕ) (at : member_at p 
         go false r = r
         go true r =
             let ends : HasOtherEnd v.members x.party.own (takes m.originator kk.0) j = i.ends m.originator y x.party.own kk.0 j at_y g r in
-            let same : ends.member ≡ x = here v p x room at i x.party.own ends.member refl ends.at in
+            let same : ends.member ≡ x = here v p x space at i x.party.own ends.member refl ends.at in
             let stands : link_with (takes m.originator kk.0) x.party ≡ Some ends.link = subst (λ (z : Member). link_with (takes m.originator kk.0) z.party ≡ Some ends.link) same ends.found in
             let none : link_with (takes m.originator kk.0) x.party ≡ None = key_absent x.party a m b l links is found h kk e in
             absurd (cc)
@@ -203,7 +204,7 @@ module _ (v : Lists) (p : List ℕ) (x : Member) (room : ℕ) (at : member_at p 
       fact = honest (lead_under a (brought_under x.party m k.1) (brought_value l k)) (rw front refl) t.1.1.1.1.1.0
 
       f : RtrFact v.members fact.fact m
-      f = fact_says v p x room at i (brought_under x.party m k.1) (authenticated a) fact (message.Rtr m) said
+      f = fact_says v p x space at i (brought_under x.party m k.1) (authenticated a) fact (message.Rtr m) said
 
       form : RtrForm v.members f.party.party fact.fact.under m (kdu_value f.link m) (Some k)
       form = subst (RtrForm v.members f.party.party fact.fact.under m (kdu_value f.link m)) kd_is f.form
@@ -245,7 +246,7 @@ module _ (v : Lists) (p : List ℕ) (x : Member) (room : ℕ) (at : member_at p 
       fact = honest (lead_under a (rfs_under x.party m) (rfs_value m l)) (rw front refl) t.1.1.1.1.0
 
       f : RfsFact v.members fact.fact m
-      f = fact_says v p x room at i (rfs_under x.party m) (authenticated a) fact (message.Rfs m) said
+      f = fact_says v p x space at i (rfs_under x.party m) (authenticated a) fact (message.Rfs m) said
 
       reached : ReachedBy (takes m.originator centre_label) (m.cta + 1)
       reached = record { member = f.waits.party; at = f.waits.at; link = f.waits.link; found = subst (λ (q : List ℕ). link_with (sends q centre_label) f.waits.party.party ≡ Some f.waits.link) mine_is.0 f.waits.found; ready = f.waits.ready; next = (let low = f.waits.below in omega (arith, low)) }

@@ -46,6 +46,7 @@ use Rattle.world_laws.proofs.Agreeing.Backs.{backed}
 use Rattle.world_laws.proofs.Agreeing.Moves.{Agreeing}
 use Rattle.world_laws.proofs.Agreeing.Agreed.{Agreed}
 use Rattle.world_laws.proofs.Agreeing.Steps.{some_is, after_is, refused_agreeing}
+use Rattle.change_code.specs.declared.space.Space.{Space}
 
 abbrev pub twins_exchange : Party → LinkRec → TwinsDrawn → Exchange
 twins_exchange p l d = record { peer = l.peer; kind = kind.PairSent (next_name p l); text = text_of (twins_reply p l d) }
@@ -77,7 +78,7 @@ twins_below g moment d h = by_first (good_draw g moment) refl h
     by_first None e h = absurd (cc)
     by_first (Some a) e h = by_second a e (good_draw a.1 moment) refl h
 
-module _ (v : Lists) (p : List ℕ) (x : Member) (room : ℕ) (at : member_at p v.members ≡ Some x) (i : Agreed v) where
+module _ (v : Lists) (p : List ℕ) (x : Member) (space : Space) (at : member_at p v.members ≡ Some x) (i : Agreed v) where
   -- a name from the next count on is no one's yet
   later_absent : (l : LinkRec) (k : RecordKey) → link_with (sends l.peer l.label) x.party ≡ Some l → k.peer ≡ l.peer → k.name.label ≡ l.label → k.name.issuer ≡ x.party.own → k.name.originator ≡ x.party.own → (u : KeyRec) → record_with k x.party ≡ Some u → k.name.count < l.next
   later_absent l k at_l peer label issuer originator u j = known_low (i.known p x at k u j)
@@ -93,8 +94,8 @@ module _ (v : Lists) (p : List ℕ) (x : Member) (room : ℕ) (at : member_at p 
       known_low (mine o m) = mine_low m
       known_low (theirs o f a) = absurd (o originator)
 
-  pub twins_agreeing : (text : List ℕ) (front : List Test) (peer : List ℕ) (l : LinkRec) (drawn : Option TwinsDrawn) → ((d : TwinsDrawn) → drawn ≡ Some d → TwinsBelow d) → SendingAt x.party peer l → IsSound None x.party text (twins_sending_drawn x.party front l drawn) → Agreeing v x room text (twins_sending_drawn x.party front l drawn)
-  twins_agreeing text front peer l None low s sound = refused_agreeing v p x room at i text (verdict_of (front ++ twins_tests x.party l None))
+  pub twins_agreeing : (text : List ℕ) (front : List Test) (peer : List ℕ) (l : LinkRec) (drawn : Option TwinsDrawn) → ((d : TwinsDrawn) → drawn ≡ Some d → TwinsBelow d) → SendingAt x.party peer l → IsSound None x.party text (twins_sending_drawn x.party front l drawn) → Agreeing v x space text (twins_sending_drawn x.party front l drawn)
+  twins_agreeing text front peer l None low s sound = refused_agreeing v p x space at i text (verdict_of (front ++ twins_tests x.party l None))
   twins_agreeing text front peer l (Some d) low s sound = record {
     back = backed v.members x.party (twins_sending_drawn x.party front l (Some d)).edits (tt, (inr (inr (l, at_key, refl, refl)), (tt, (tt, (tt, tt)))));
     news = λ q e name new j nm w. elim (ex_put x.party.exchanges (twins_exchange x.party l d) q e j) [
@@ -169,17 +170,17 @@ module _ (v : Lists) (p : List ℕ) (x : Member) (room : ℕ) (at : member_at p 
           let kd_is : wrap_of l.pair (l.next + 1) d.second ≡ kd = some_is (wrap_of l.pair (l.next + 1) d.second) kd k in
           ap (λ (z : KeyRec). z.value) (one_found r (second_pending x.party l d) f second_now) ∙ (sym (unwraps l.pair (l.next + 1) d.second below.second) ∙ (ap (λ (n : ℕ). unwrap_of l.pair (l.next + 1) n) kd_is ∙ sym w))
 
-      the_fact : KsmFact (lists_after v x room text (twins_sending_drawn x.party front l (Some d))) (record { under = record { name = next_name x.party l; recipient = l.peer }; text = auth_of (message.Ksm (twins_ksm x.party l d)); maker = x.party.own }) (twins_ksm x.party l d)
+      the_fact : KsmFact (lists_after v x space text (twins_sending_drawn x.party front l (Some d))) (record { under = record { name = next_name x.party l; recipient = l.peer }; text = auth_of (message.Ksm (twins_ksm x.party l d)); maker = x.party.own }) (twins_ksm x.party l d)
       the_fact = record {
         label = l.label;
         under = refl;
-        issuer = after x room (twins_sending_drawn x.party front l (Some d));
-        at_issuer = after_is v p x room at i None (twins_sending_drawn x.party front l (Some d)) grown;
+        issuer = after x space (twins_sending_drawn x.party front l (Some d));
+        at_issuer = after_is v p x space at i None (twins_sending_drawn x.party front l (Some d)) grown;
         link = up;
         found = at_up;
         ready = s.ready;
-        party = after x room (twins_sending_drawn x.party front l (Some d));
-        at = after_is v p x room at i None (twins_sending_drawn x.party front l (Some d)) grown;
+        party = after x space (twins_sending_drawn x.party front l (Some d));
+        at = after_is v p x space at i None (twins_sending_drawn x.party front l (Some d)) grown;
         past = past;
         value = values;
         waits = λ e new j nm w. absurd (let same : twins_exchange x.party l d ≡ e = one_found (twins_exchange x.party l d) e (find_put_same exchange_key bytes_eq test_idents (twins_exchange x.party l d) x.party.exchanges) j in let g : None ≡ Some new = ap (λ (z : Exchange). new_of z.kind) same ∙ w in cc);

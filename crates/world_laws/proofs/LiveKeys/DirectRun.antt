@@ -18,6 +18,7 @@ use Rattle.member.specs.Member.{Member}
 use Rattle.world_laws.specs.World.{World}
 use Rattle.roles.specs.Rows.{row_at}
 use Rattle.change_code.specs.Cost.{cost}
+use Rattle.change_code.specs.declared.format.Format.TheVariants.{Two}
 use Rattle.world_laws.specs.Events.{Event, Orders, Hears, Whole}
 use Rattle.world_laws.specs.Steps.{step, run}
 use Rattle.world_laws.specs.Honest.{HonestArrival, HonestRun}
@@ -25,7 +26,7 @@ use Rattle.world_laws.specs.Reached.{HasLiveKey, LiveRun}
 use Rattle.world_laws.proofs.Texts.Own.{IsOwn}
 use Rattle.world_laws.proofs.Texts.OwnMessages.{data_key_own, response_own}
 use Rattle.world_laws.proofs.LiveKeys.Drawing.{key, generator, moment, draws_key}
-use Rattle.world_laws.proofs.LiveKeys.Parties.{banka, bankb, first_pair, member_with}
+use Rattle.world_laws.proofs.LiveKeys.Parties.{space, banka, bankb, first_pair, member_with}
 use Rattle.world_laws.proofs.LiveKeys.TwoBanks.{label, out, first, second, two_banks, two_banks_start}
 use Rattle.world_laws.proofs.LiveKeys.Written.{arrival, heard, auth_is, verified_as}
 use Rattle.world_laws.proofs.LiveKeys.Stepping.{room_left, next_member, next_world, row_step, honest_on, run_on, fact_at}
@@ -87,13 +88,13 @@ answered = rw (verified_as answer_message taken_value answer_own key (sym value_
 -- rooms
 
 abbrev sent_length : ℕ
-sent_length = cost (differing first start_row.edits)
+sent_length = cost Two (differing first start_row.edits)
 
 abbrev taken_length : ℕ
-taken_length = cost (differing second take_row.edits)
+taken_length = cost Two (differing second take_row.edits)
 
 abbrev live_length : ℕ
-live_length = cost (differing first_sent live_row.edits)
+live_length = cost Two (differing first_sent live_row.edits)
 
 abbrev room : ℕ
 room = sent_length + taken_length + live_length + 20
@@ -133,7 +134,7 @@ second_step : step 2 world_sent takes_it ≡ world_taken
 second_step = row_step 2 world_sent (member_with room second) (input.Arrived key_arrives) 0 take_row tt (refl, tt) refl taken (omega arith)
 
 third_step : step 3 world_taken hears_answer ≡ world_live
-third_step = row_step 3 world_taken sent_member (input.Arrived answer_arrives) 0 live_row tt (refl, tt) refl answered (room_left (differing first start_row.edits) room (live_length + 1) (omega arith))
+third_step = row_step 3 world_taken sent_member (input.Arrived answer_arrives) 0 live_row tt (refl, tt) refl answered (room_left (differing first start_row.edits) (space room) (live_length + 1) (omega arith))
 
 -- each code that agrees was made
 

@@ -22,6 +22,7 @@ use Rattle.member.specs.Member.{Member}
 use Rattle.world_laws.specs.World.{World}
 use Rattle.roles.specs.Rows.{row_at}
 use Rattle.change_code.specs.Cost.{cost}
+use Rattle.change_code.specs.declared.format.Format.TheVariants.{Two}
 use Rattle.world_laws.specs.Events.{Event, Orders, Hears, Whole}
 use Rattle.world_laws.specs.Steps.{step, run}
 use Rattle.world_laws.specs.Honest.{HonestArrival, HonestRun}
@@ -29,7 +30,7 @@ use Rattle.world_laws.specs.Reached.{HasLiveKey, IsIssuedBy, EndsWithLive, LiveR
 use Rattle.world_laws.proofs.Texts.Own.{IsOwn}
 use Rattle.world_laws.proofs.LiveKeys.Drawing.{key, generator, moment, draws_key}
 use Rattle.world_laws.proofs.LiveKeys.Networks.{beginning}
-use Rattle.world_laws.proofs.LiveKeys.Parties.{banka, bankb, centre, first_pair, second_pair}
+use Rattle.world_laws.proofs.LiveKeys.Parties.{space, banka, bankb, centre, first_pair, second_pair}
 use Rattle.bank_orders.specs.Ask.{centre_request}
 use Rattle.bank_keys.specs.Rtr.{centre_ksm, centre_name}
 use Rattle.distribution_role.specs.Answering.{rtr_of, answering}
@@ -86,9 +87,6 @@ rtr = rtr_of middle banka bankb with_a with_b key
 
 rtr_is_own : IsOwn (message.Rtr rtr)
 rtr_is_own = rtr_own middle banka bankb with_a with_b key refl refl refl (record { low = omega arith; high = omega arith }) (record { low = omega arith; high = omega arith })
-
-abbrev middle_answered : Party
-middle_answered = apply centre_row.edits middle
 
 -- the first bank passes the key on
 
@@ -156,19 +154,19 @@ live = rw (verified_as last_message taken_value last_own brought (sym taken_is))
 -- rooms
 
 abbrev length1 : ℕ
-length1 = cost (differing first ask_row.edits)
+length1 = cost Two (differing first ask_row.edits)
 
 abbrev length2 : ℕ
-length2 = cost (differing middle centre_row.edits)
+length2 = cost Two (differing middle centre_row.edits)
 
 abbrev length3 : ℕ
-length3 = cost (differing first_asked pass_row.edits)
+length3 = cost Two (differing first_asked pass_row.edits)
 
 abbrev length4 : ℕ
-length4 = cost (differing second take_row.edits)
+length4 = cost Two (differing second take_row.edits)
 
 abbrev length5 : ℕ
-length5 = cost (differing first_passed live_row.edits)
+length5 = cost Two (differing first_passed live_row.edits)
 
 abbrev room : ℕ
 room = length1 + length2 + length3 + length4 + length5 + 40
@@ -226,14 +224,14 @@ step2 : step 2 world1 event2 ≡ world2
 step2 = row_step 2 world1 (member_c room) (input.Arrived ask_arrives) moment centre_row tt (refl, (refl, tt)) answered served (omega arith)
 
 step3 : step 3 world2 event3 ≡ world3
-step3 = row_step 3 world2 asked_member (input.Arrived rtr_arrives) 0 pass_row tt (refl, tt) refl passed (room_left (differing first ask_row.edits) room (length3 + 1) (omega arith))
+step3 = row_step 3 world2 asked_member (input.Arrived rtr_arrives) 0 pass_row tt (refl, tt) refl passed (room_left (differing first ask_row.edits) (space room) (length3 + 1) (omega arith))
 
 step4 : step 4 world3 event4 ≡ world4
 step4 = row_step 4 world3 (member_b room) (input.Arrived ksm_arrives) 0 take_row tt (refl, tt) refl taken (omega arith)
 
 step5 : step 5 world4 event5 ≡ world5
 step5 = row_step 5 world4 passed_member (input.Arrived last_arrives) 0 live_row tt (refl, tt) refl live
-    (room_left (differing first_asked pass_row.edits) asked_member.room (length5 + 1) (room_left (differing first ask_row.edits) room (length3 + (length5 + 1)) (omega arith)))
+    (room_left (differing first_asked pass_row.edits) asked_member.space (length5 + 1) (room_left (differing first ask_row.edits) (space room) (length3 + (length5 + 1)) (omega arith)))
 
 -- each code that agrees was made
 

@@ -19,6 +19,7 @@ use Rattle.member.specs.Member.{Member}
 use Rattle.world_laws.specs.World.{World}
 use Rattle.roles.specs.Rows.{row_at}
 use Rattle.change_code.specs.Cost.{cost}
+use Rattle.change_code.specs.declared.format.Format.TheVariants.{Two}
 use Rattle.world_laws.specs.Events.{Event, Orders, Hears, Whole}
 use Rattle.world_laws.specs.Steps.{step, run}
 use Rattle.world_laws.specs.Honest.{HonestArrival, HonestRun}
@@ -26,7 +27,7 @@ use Rattle.world_laws.specs.Reached.{HonestRunTo, LeavesSecond}
 use Rattle.world_laws.proofs.Texts.Own.{IsOwn}
 use Rattle.world_laws.proofs.Texts.OwnMessages.{end_own}
 use Rattle.world_laws.proofs.LiveKeys.Drawing.{key, moment}
-use Rattle.world_laws.proofs.LiveKeys.Parties.{banka, bankb, member_with}
+use Rattle.world_laws.proofs.LiveKeys.Parties.{space, banka, bankb, member_with}
 use Rattle.world_laws.proofs.LiveKeys.TwoBanks.{label, first, second, two_banks, two_banks_start}
 use Rattle.world_laws.proofs.LiveKeys.Written.{arrival, heard, auth_is, verified_as, request_heard}
 use Rattle.world_laws.proofs.LiveKeys.Stepping.{room_left, next_member, next_world, row_step, honest_on, run_on, fact_at}
@@ -67,16 +68,16 @@ left : is_accept left_row.verdict ≡ true
 left = rw (verified_as dsm_message value1 dsm_own key (sym value1_is)) refl
 
 abbrev length1 : ℕ
-length1 = cost (differing first send_row.edits)
+length1 = cost Two (differing first send_row.edits)
 
 abbrev length2 : ℕ
-length2 = cost (differing second take_row.edits)
+length2 = cost Two (differing second take_row.edits)
 
 abbrev length3 : ℕ
-length3 = cost (differing second_taken end_row.edits)
+length3 = cost Two (differing second_taken end_row.edits)
 
 abbrev length4 : ℕ
-length4 = cost (differing first_sent left_row.edits)
+length4 = cost Two (differing first_sent left_row.edits)
 
 abbrev room : ℕ
 room = length1 + length2 + length3 + length4 + 30
@@ -121,10 +122,10 @@ step2 : step 2 world1 event2 ≡ world2
 step2 = row_step 2 world1 (member_with room second) (input.Arrived key_arrives) 0 take_row tt (refl, tt) refl taken (omega arith)
 
 step3 : step 3 world2 event3 ≡ world3
-step3 = row_step 3 world2 taken_member (input.Ordered end_command) 0 end_row tt (refl, tt) refl refl (room_left (differing second take_row.edits) room (length3 + 1) (omega arith))
+step3 = row_step 3 world2 taken_member (input.Ordered end_command) 0 end_row tt (refl, tt) refl refl (room_left (differing second take_row.edits) (space room) (length3 + 1) (omega arith))
 
 step4 : step 4 world3 event4 ≡ world4
-step4 = row_step 4 world3 sent_member (input.Arrived dsm_arrives) 0 left_row tt (refl, tt) refl left (room_left (differing first send_row.edits) room (length4 + 1) (omega arith))
+step4 = row_step 4 world3 sent_member (input.Arrived dsm_arrives) 0 left_row tt (refl, tt) refl left (room_left (differing first send_row.edits) (space room) (length4 + 1) (omega arith))
 
 honest2 : HonestArrival world1.facts second key_arrives
 honest2 = fact_at world1.facts second key_arrives _ taken_code _ banka refl (0, omega arith, refl) (auth_is key_message code key_own)

@@ -6,12 +6,13 @@ use Rattle.role_base.specs.Differing.{differing}
 use Rattle.member.specs.Member.{Member}
 use Rattle.world_laws.specs.World.{World}
 use Rattle.change_code.specs.Cost.{cost}
+use Rattle.change_code.specs.declared.format.Format.TheVariants.{Two}
 use Rattle.world_laws.specs.Events.{Event, Orders, Hears, Whole}
 use Rattle.world_laws.specs.Steps.{step, run}
 use Rattle.world_laws.specs.Honest.{HonestArrival, HonestRun}
 use Rattle.world_laws.specs.Reached.{HasLiveKey, IsUnderNewKk, EndsWithLive, LiveRunOf}
 use Rattle.world_laws.proofs.LiveKeys.Drawing.{key, moment}
-use Rattle.world_laws.proofs.LiveKeys.Parties.{banka, bankb, member_with}
+use Rattle.world_laws.proofs.LiveKeys.Parties.{space, banka, bankb, member_with}
 use Rattle.world_laws.proofs.LiveKeys.TwoBanks.{first, second, two_banks, two_banks_start}
 use Rattle.world_laws.proofs.LiveKeys.Written.{heard, auth_is}
 use Rattle.world_laws.proofs.LiveKeys.Stepping.{room_left, next_member, next_world, row_step, honest_on, run_on, fact_at}
@@ -20,22 +21,22 @@ use Rattle.world_laws.proofs.LiveKeys.NewKkTexts.{new_label, kk_row, kk_command,
 -- rooms
 
 abbrev length1 : ℕ
-length1 = cost (differing first kk_row.edits)
+length1 = cost Two (differing first kk_row.edits)
 
 abbrev length2 : ℕ
-length2 = cost (differing second take_row.edits)
+length2 = cost Two (differing second take_row.edits)
 
 abbrev length3 : ℕ
-length3 = cost (differing first_sent ready_row.edits)
+length3 = cost Two (differing first_sent ready_row.edits)
 
 abbrev length4 : ℕ
-length4 = cost (differing first_ready start_row.edits)
+length4 = cost Two (differing first_ready start_row.edits)
 
 abbrev length5 : ℕ
-length5 = cost (differing second_taken held_row.edits)
+length5 = cost Two (differing second_taken held_row.edits)
 
 abbrev length6 : ℕ
-length6 = cost (differing first_again live_row.edits)
+length6 = cost Two (differing first_again live_row.edits)
 
 abbrev room : ℕ
 room = length1 + length2 + length3 + length4 + length5 + length6 + 40
@@ -105,20 +106,20 @@ step2 : step 2 world1 event2 ≡ world2
 step2 = row_step 2 world1 (member_with room second) (input.Arrived kk_arrives) 0 take_row tt (refl, tt) refl taken (omega arith)
 
 step3 : step 3 world2 event3 ≡ world3
-step3 = row_step 3 world2 sent_member (input.Arrived answer_arrives) 0 ready_row tt (refl, (refl, tt)) refl answered (room_left (differing first kk_row.edits) room (length3 + 1) (omega arith))
+step3 = row_step 3 world2 sent_member (input.Arrived answer_arrives) 0 ready_row tt (refl, (refl, tt)) refl answered (room_left (differing first kk_row.edits) (space room) (length3 + 1) (omega arith))
 
 step4 : step 4 world3 event4 ≡ world4
 step4 = row_step 4 world3 ready_member (input.Ordered start_command) moment start_row tt (refl, (refl, tt)) started refl
-    (room_left (differing first_sent ready_row.edits) sent_member.room (length4 + 1) (room_left (differing first kk_row.edits) room (length3 + (length4 + 1)) (omega arith)))
+    (room_left (differing first_sent ready_row.edits) sent_member.space (length4 + 1) (room_left (differing first kk_row.edits) (space room) (length3 + (length4 + 1)) (omega arith)))
 
 step5 : step 5 world4 event5 ≡ world5
-step5 = row_step 5 world4 taken_member (input.Arrived key_arrives) 0 held_row tt (refl, (refl, tt)) refl held (room_left (differing second take_row.edits) room (length5 + 1) (omega arith))
+step5 = row_step 5 world4 taken_member (input.Arrived key_arrives) 0 held_row tt (refl, (refl, tt)) refl held (room_left (differing second take_row.edits) (space room) (length5 + 1) (omega arith))
 
 step6 : step 6 world5 event6 ≡ world6
 step6 = row_step 6 world5 again_member (input.Arrived last_arrives) 0 live_row tt (refl, (refl, tt)) refl live
-    (room_left (differing first_ready start_row.edits) ready_member.room (length6 + 1)
-    (room_left (differing first_sent ready_row.edits) sent_member.room (length4 + (length6 + 1))
-    (room_left (differing first kk_row.edits) room (length3 + (length4 + (length6 + 1))) (omega arith))))
+    (room_left (differing first_ready start_row.edits) ready_member.space (length6 + 1)
+    (room_left (differing first_sent ready_row.edits) sent_member.space (length4 + (length6 + 1))
+    (room_left (differing first kk_row.edits) (space room) (length3 + (length4 + (length6 + 1))) (omega arith))))
 
 -- each code that agrees was made
 

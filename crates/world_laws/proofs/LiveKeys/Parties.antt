@@ -12,6 +12,8 @@ use Rattle.party_tables.specs.Tables.{Distinct}
 use Rattle.party_tables.specs.Keys.{same_link, link_key, sends, takes}
 use Rattle.party_tables.specs.Ranges.{IsPair}
 use Rattle.party_state.specs.State.{Party, expands_alike}
+use Rattle.change_code.specs.declared.format.Format.TheVariants.{Two}
+use Rattle.change_code.specs.declared.space.Space.{Space}
 use Rattle.member.specs.Member.{Member}
 use Rattle.world_laws.specs.Starts.{HasOtherEnd}
 use Rattle.world_laws.proofs.LiveKeys.Drawing.{generator, seed_below}
@@ -38,8 +40,12 @@ loaded peer label side pair = record { peer = peer; label = label; side = side; 
 abbrev pub party_with : Role → List ℕ → List LinkRec → Party
 party_with role own links = record { own = own; role = role; generator = generator; links = links; keys = []; exchanges = []; answers = [] }
 
+-- so much room, in format 2
+abbrev pub space : ℕ → Space
+space room = record { format = Two; room = room }
+
 abbrev pub member_with : ℕ → Party → Member
-member_with room p = record { party = p; room = room }
+member_with room p = record { party = p; space = space room }
 
 pub first_pair_fits : IsPair first_pair
 first_pair_fits = record { left = omega arith; right = omega arith }

@@ -16,7 +16,8 @@ use Rattle.member.specs.Member.{Member}
 use Rattle.world_laws.specs.World.{World, Fact, member_at}
 use Rattle.roles.specs.Rows.{row_at}
 use Rattle.roles.specs.Leads.{lead_at}
-use Rattle.change_code.specs.Cost.{cost, fits, room_after}
+use Rattle.change_code.specs.Cost.{cost, fits, space_after}
+use Rattle.change_code.specs.declared.space.Space.{Space}
 use Rattle.world_laws.specs.Events.{Event, Whole}
 use Rattle.world_laws.specs.Steps.{received_text, member_after, world_after_row, world_with_answer, world_with_text, world_by_row, world_after_input, step, run}
 use Rattle.world_laws.specs.Honest.{HonestAt, HonestArrival, HonestRun}
@@ -24,41 +25,41 @@ use Rattle.world_laws.proofs.Roles.Inputs.{IsInput}
 use Rattle.world_laws.proofs.Counting.Roles.{row_left_out}
 use Rattle.world_laws.proofs.Links.Found.{HasLinks}
 
-pub fits_large : (es : List Edit) (room : ℕ) → cost es + 1 ≤ room → fits room es ≡ true
-fits_large [] room h = refl
-fits_large (e ∷ es) room h = le-leb _ _ h
+pub fits_large : (es : List Edit) (s : Space) → cost s.format es + 1 ≤ s.room → fits s es ≡ true
+fits_large [] s h = refl
+fits_large (e ∷ es) s h = le-leb _ _ h
 
-pub room_left : (es : List Edit) (room more : ℕ) → cost es + more ≤ room → more ≤ room_after room es
-room_left [] room more h = omega (arith, h)
-room_left (e ∷ es) room more h = omega (arith, h)
+pub room_left : (es : List Edit) (s : Space) (more : ℕ) → cost s.format es + more ≤ s.room → more ≤ (space_after s es).room
+room_left [] s more h = omega (arith, h)
+room_left (e ∷ es) s more h = omega (arith, h)
 
-by_tests : (n : ℕ) (w : World) (x : Member) (text : List ℕ) (r : Row) → is_accept r.verdict ≡ true → fits x.room (differing x.party r.edits) ≡ true → world_by_row n w x text r Whole ≡ world_with_text (world_after_row n w x.party.own text r (member_after x r)) r.reply
-by_tests n w x text r h f = go (is_accept r.verdict) h (fits x.room (differing x.party r.edits)) f
+by_tests : (n : ℕ) (w : World) (x : Member) (text : List ℕ) (r : Row) → is_accept r.verdict ≡ true → fits x.space (differing x.party r.edits) ≡ true → world_by_row n w x text r Whole ≡ world_with_text (world_after_row n w x.party.own text r (member_after x r)) r.reply
+by_tests n w x text r h f = go (is_accept r.verdict) h (fits x.space (differing x.party r.edits)) f
   where
     go : (b : Bool) → b ≡ true → (c : Bool) → c ≡ true → cond b (cond c (world_with_text (world_after_row n w x.party.own text r (member_after x r)) r.reply) w) (world_with_text (world_with_answer w x.party.own r) r.answer) ≡ world_with_text (world_after_row n w x.party.own text r (member_after x r)) r.reply
     go b e c k = rw (e, k) refl
 
 -- the member afterwards has the party that the row's edits make
-pub accepted_step : (n : ℕ) (w : World) (x : Member) (i : Input) (moment : ℕ) (r : Row) (p : Party) → row_at x.party i moment ≡ r → is_accept r.verdict ≡ true → fits x.room (differing x.party r.edits) ≡ true
+pub accepted_step : (n : ℕ) (w : World) (x : Member) (i : Input) (moment : ℕ) (r : Row) (p : Party) → row_at x.party i moment ≡ r → is_accept r.verdict ≡ true → fits x.space (differing x.party r.edits) ≡ true
     → apply (differing x.party r.edits) x.party ≡ p
-    → world_after_input n w x i moment Whole ≡ world_with_text (world_after_row n w x.party.own (received_text i) r (record { party = p; room = room_after x.room (differing x.party r.edits) })) r.reply
+    → world_after_input n w x i moment Whole ≡ world_with_text (world_after_row n w x.party.own (received_text i) r (record { party = p; space = space_after x.space (differing x.party r.edits) })) r.reply
 accepted_step n w x i moment r p row h f is =
     ap (λ (z : Row). world_by_row n w x (received_text i) z Whole) row
     ∙ (by_tests n w x (received_text i) r h f
-    ∙ ap (λ (q : Party). world_with_text (world_after_row n w x.party.own (received_text i) r (record { party = q; room = room_after x.room (differing x.party r.edits) })) r.reply) is)
+    ∙ ap (λ (q : Party). world_with_text (world_after_row n w x.party.own (received_text i) r (record { party = q; space = space_after x.space (differing x.party r.edits) })) r.reply) is)
 
 -- the member and the network after an accepted row, by all of its edits
 abbrev pub next_member : Member → Row → Member
-next_member x r = record { party = apply r.edits x.party; room = room_after x.room (differing x.party r.edits) }
+next_member x r = record { party = apply r.edits x.party; space = space_after x.space (differing x.party r.edits) }
 
 abbrev pub next_world : ℕ → World → Member → Input → Row → World
 next_world n w x i r = world_with_text (world_after_row n w x.party.own (received_text i) r (next_member x r)) r.reply
 
 pub row_step : (n : ℕ) (w : World) (x : Member) (i : Input) (moment : ℕ) (r : Row) → IsInput i → HasLinks x.party → row_at x.party i moment ≡ r → is_accept r.verdict ≡ true
-    → cost (differing x.party r.edits) + 1 ≤ x.room → world_after_input n w x i moment Whole ≡ next_world n w x i r
+    → cost x.space.format (differing x.party r.edits) + 1 ≤ x.space.room → world_after_input n w x i moment Whole ≡ next_world n w x i r
 row_step n w x i moment r input links row h room =
     let there : is_accept (row_at x.party i moment).verdict ≡ true = ap (λ (z : Row). is_accept z.verdict) row ∙ h in
-    accepted_step n w x i moment r (apply r.edits x.party) row h (fits_large (differing x.party r.edits) x.room room)
+    accepted_step n w x i moment r (apply r.edits x.party) row h (fits_large (differing x.party r.edits) x.space room)
     (ap (λ (z : Row). apply (differing x.party z.edits) x.party) (sym row) ∙ (row_left_out x.party i moment links there ∙ ap (λ (z : Row). apply z.edits x.party) row))
 
 -- a run goes on by an honest event

@@ -27,6 +27,7 @@ use Rattle.member.specs.Member.{Member}
 use Rattle.world_laws.specs.World.{World}
 use Rattle.roles.specs.Rows.{row_at}
 use Rattle.change_code.specs.Cost.{cost}
+use Rattle.change_code.specs.declared.format.Format.TheVariants.{Two}
 use Rattle.world_laws.specs.Events.{Event, Hears, Whole}
 use Rattle.world_laws.specs.Steps.{step, run}
 use Rattle.world_laws.specs.Honest.{HonestArrival, HonestRun}
@@ -34,7 +35,7 @@ use Rattle.world_laws.specs.Reached.{HasLiveKey, IsFirstOfTwo, EndsWithLive, Liv
 use Rattle.world_laws.proofs.Texts.Own.{IsOwn}
 use Rattle.world_laws.proofs.Texts.OwnMessages.{twins_own, response_own}
 use Rattle.world_laws.proofs.LiveKeys.Drawing.{key, generator, moment, draws_key}
-use Rattle.world_laws.proofs.LiveKeys.Parties.{banka, bankb, first_pair, member_with}
+use Rattle.world_laws.proofs.LiveKeys.Parties.{space, banka, bankb, first_pair, member_with}
 use Rattle.world_laws.proofs.LiveKeys.TwoBanks.{label, out, first, second, two_banks, two_banks_start}
 use Rattle.world_laws.proofs.LiveKeys.Written.{arrival, heard, auth_is, verified_as, IsRequest, request, request_heard, request_right}
 use Rattle.world_laws.proofs.LiveKeys.Stepping.{room_left, next_member, next_world, row_step, honest_on, run_on, fact_at}
@@ -137,13 +138,13 @@ answered = rw (verified_as answer_message taken_code answer_own code (sym code_i
 -- rooms
 
 abbrev pub length1 : ℕ
-length1 = cost (differing first send_row.edits)
+length1 = cost Two (differing first send_row.edits)
 
 abbrev pub length2 : ℕ
-length2 = cost (differing second take_row.edits)
+length2 = cost Two (differing second take_row.edits)
 
 abbrev pub length3 : ℕ
-length3 = cost (differing first_sent live_row.edits)
+length3 = cost Two (differing first_sent live_row.edits)
 
 abbrev pub room : ℕ
 room = length1 + length2 + length3 + 20
@@ -183,7 +184,7 @@ step2 : step 2 world1 event2 ≡ world2
 step2 = row_step 2 world1 (member_with room second) (input.Arrived key_arrives) 0 take_row tt (refl, tt) refl taken (omega arith)
 
 step3 : step 3 world2 event3 ≡ world3
-step3 = row_step 3 world2 sent_member (input.Arrived answer_arrives) 0 live_row tt (refl, tt) refl answered (room_left (differing first send_row.edits) room (length3 + 1) (omega arith))
+step3 = row_step 3 world2 sent_member (input.Arrived answer_arrives) 0 live_row tt (refl, tt) refl answered (room_left (differing first send_row.edits) (space room) (length3 + 1) (omega arith))
 
 -- each code that agrees was made
 

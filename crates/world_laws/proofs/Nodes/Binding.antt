@@ -1,5 +1,5 @@
 -- What a member plans for an input is the event of that input at it.
-use Rattle.std.proofs.Common.{arith, ◌≡◌, ℕ, ◌-◌, Bool, true, false, cond, ◌&&◌, Option, Some, None, List, [], ◌++◌, map, option_map, refl, sym, ◌∙◌, ap, bytes_eq}
+use Rattle.std.proofs.Common.{arith, ◌≡◌, ℕ, Bool, true, false, cond, ◌&&◌, Option, Some, None, List, [], ◌++◌, map, option_map, refl, sym, ◌∙◌, ap, bytes_eq}
 use Rattle.std.proofs.lemmas.List.{append-nil}
 use Rattle.party_state.specs.declared.edit.Edit.{Edit}
 use Rattle.party_state.specs.declared.command.Input.{Input}
@@ -12,7 +12,7 @@ use Rattle.party_state.specs.Rows.{Row}
 use Rattle.role_base.specs.Texts.{text_of}
 use Rattle.role_base.specs.Differing.{differing}
 use Rattle.role_base.specs.Deciding.{name_of}
-use Rattle.change_code.specs.Cost.{fits, is_change}
+use Rattle.change_code.specs.Cost.{fits, is_change, space_after}
 use Rattle.roles.specs.Deciding.{decision}
 use Rattle.roles.specs.Leads.{lead_in}
 use Rattle.roles.specs.Rows.{row_at}
@@ -30,7 +30,7 @@ use Rattle.world_laws.proofs.Nodes.Noting.{texts_same, facts_noted}
 
 -- a member stays where no edits are kept
 pub same_member : (x : Member) → after x [] ≡ x
-same_member x = let room : x.room - 0 ≡ x.room = omega arith in λ i. record { party = x.party; room = room i }
+same_member x = let room : (space_after x.space []).room ≡ x.space.room = omega arith in λ i. record { party = x.party; space = record { format = x.space.format; room = room i } }
 
 -- nothing happens
 pub nothing_after : (x : Member) (w : World) → member_at x.party.own w.members ≡ Some x → IsAfter w w (after x []) None []
@@ -54,7 +54,7 @@ module _ (x : Member) (text : List ℕ) (r : Row) (l : Option Lead) where
   }
 
   abbrev pub planned : Bool → Plan
-  planned b = plan_of x.room l (decided b)
+  planned b = plan_of x.space l (decided b)
 
   abbrev pub IsPlanned : World → World → Plan → Option (List ℕ) → Type 0
   IsPlanned w later plan reply = IsAfter w later (after x plan.edits) reply (noted plan.under plan.reply)
@@ -84,17 +84,17 @@ module _ (x : Member) (text : List ℕ) (r : Row) (l : Option Lead) where
   }
 
   whole : (b : Bool) (n : ℕ) (w : World) → member_at x.party.own w.members ≡ Some x
-      → IsPlanned w (cond b (cond (fits x.room edits) (world_with_text (accepted n w) r.reply) w) (world_with_text (world_with_answer w x.party.own r) r.answer)) (planned b) (planned b).reply
+      → IsPlanned w (cond b (cond (fits x.space edits) (world_with_text (accepted n w) r.reply) w) (world_with_text (world_with_answer w x.party.own r) r.answer)) (planned b) (planned b).reply
   whole false n w at = answer_after w at
-  whole true n w at = go (fits x.room edits)
+  whole true n w at = go (fits x.space edits)
     where
       go : (c : Bool) → IsPlanned w (cond c (world_with_text (accepted n w) r.reply) w) (cond c (as_decided l (decided true)) (as_full l)) (cond c (as_decided l (decided true)) (as_full l)).reply
       go true = row_after n w
       go false = nothing_after x w at
 
-  new : (b : Bool) (n : ℕ) (w : World) → is_change (planned b).edits ≡ true → IsPlanned w (cond (b && (is_change edits && fits x.room edits)) (accepted n w) w) (planned b) None
+  new : (b : Bool) (n : ℕ) (w : World) → is_change (planned b).edits ≡ true → IsPlanned w (cond (b && (is_change edits && fits x.space edits)) (accepted n w) w) (planned b) None
   new false n w some = absurd (cc some)
-  new true n w some = go (fits x.room edits) some
+  new true n w some = go (fits x.space edits) some
     where
       by_change : (d : Bool) → d ≡ true → IsPlanned w (cond (d && true) (accepted n w) w) (as_decided l (decided true)) None
       by_change true is = row_cut n w
@@ -105,9 +105,9 @@ module _ (x : Member) (text : List ℕ) (r : Row) (l : Option Lead) where
       go true is = by_change (is_change edits) is
       go false is = absurd (cc is)
 
-  none : (b : Bool) (n : ℕ) (w : World) → is_change (planned b).edits ≡ false → cond (b && (is_change edits && fits x.room edits)) (accepted n w) w ≡ w
+  none : (b : Bool) (n : ℕ) (w : World) → is_change (planned b).edits ≡ false → cond (b && (is_change edits && fits x.space edits)) (accepted n w) w ≡ w
   none false n w is = refl
-  none true n w is = go (fits x.room edits) is
+  none true n w is = go (fits x.space edits) is
     where
       by_change : (d c : Bool) → d ≡ false → cond (d && c) (accepted n w) w ≡ w
       by_change true c still = absurd (cc still)
@@ -123,7 +123,7 @@ module _ (x : Member) (text : List ℕ) (r : Row) (l : Option Lead) where
 
   own_after : (apply edits x.party).own ≡ x.party.own → (b : Bool) → (apply (planned b).edits x.party).own ≡ x.party.own
   own_after stays false = refl
-  own_after stays true = go (fits x.room edits)
+  own_after stays true = go (fits x.space edits)
     where
       go : (c : Bool) → (apply (cond c (as_decided l (decided true)) (as_full l)).edits x.party).own ≡ x.party.own
       go true = stays

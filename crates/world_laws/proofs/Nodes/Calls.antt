@@ -1,11 +1,12 @@
 -- A call over a party on a shelf is an event at its member.
-use Rattle.std.proofs.Common.{arith, ◌≡◌, ◌≢◌, ◌⊎◌, inl, inr, ℕ, ◌<◌, Bool, true, false, cond, ◌&&◌, Option, Some, List, [], ◌++◌, refl, sym, ◌∙◌, ap, subst}
+use Rattle.std.proofs.Common.{arith, ◌≡◌, ◌≢◌, ◌⊎◌, inl, inr, ℕ, ◌<◌, Bool, true, false, cond, ◌&&◌, Option, Some, None, List, [], ◌++◌, refl, sym, ◌∙◌, ap, subst}
 use Rattle.std.specs.Prelude.{nat_le, option_to_list}
 use Rattle.std.proofs.lemmas.Bool.{le-leb, leb-true, false_from_ne_true}
 use Rattle.x_base.specs.declared.verdict.Verdict.{Verdict}
 use Rattle.x_base.specs.declared.verdict.Verdict.TheVariants.{Accept, JournalFull}
 use Rattle.x_disk.specs.Disk.{View, LeavesOnly}
 use Rattle.key_journal.specs.Journal.{is_blank}
+use Rattle.key_journal.specs.States.{room_of}
 use Rattle.party_state.specs.declared.command.Command.{Command}
 use Rattle.party_state.specs.declared.command.Input.{Input}
 use Rattle.party_state.specs.declared.command.Input.TheVariants.{Ordered, Arrived}
@@ -13,28 +14,29 @@ use Rattle.party_state.specs.State.{Party}
 use Rattle.party_state.specs.Verdicts.{is_accept}
 use Rattle.csm_grammar.specs.declared.arrival.Arrival.{Arrival}
 use Rattle.role_base.specs.Differing.{differing}
-use Rattle.change_code.specs.Cost.{fits, can_compact, room_of_whole}
+use Rattle.change_code.specs.Cost.{fits, can_compact}
+use Rattle.change_code.specs.declared.format.Format.{Format}
+use Rattle.change_code.specs.declared.space.Space.{Space}
 use Rattle.change_code.specs.Whole.{IsTooLarge}
 use Rattle.key_store.specs.Store.{Stands, StandsWith, IsFirstDamage, IsOldOrNew}
-use Rattle.key_store.specs.Compacting.{IsOldOrWhole}
 use Rattle.roles.specs.Deciding.{decision}
 use Rattle.roles.specs.Leads.{lead_in}
 use Rattle.roles.specs.Rows.{row_at}
 use Rattle.member.specs.Member.{Member, Plan, plan_at, as_decided, as_full, after}
-use Rattle.member.specs.Acts.{Act, Keeps, WritesWhole, verdict_alone, taking, compacting, member_after}
+use Rattle.member.specs.Acts.{Act, Keeps, WritesWhole, verdict_alone, taking, rewriting, compacted_in, migrated_in, member_after}
 use Rattle.node_core.specs.Turns.{IsOldOrNext}
 use Rattle.x_party.specs.Images.{StandsFor, OfParty, OfOwnParty, OrBefore}
-use Rattle.x_party.specs.Outcomes.{IsAccepted, IsRefused, IsOther, IsNobody, IsCompacted, IsNotCompacted, IsSafe, IsSafeCompaction, TakesTurn, CompactsParty}
+use Rattle.x_party.specs.Outcomes.{IsAccepted, IsRefused, IsOther, IsNobody, IsTooLargeIn, FitsIn, space_in, IsRewritten, IsNotRewritten, IsOldOrRewritten, RewritesParty, CompactsParty, MigratesParty, IsSafe, IsSafeRewriting, IsSafeCompaction, IsSafeMigration, TakesTurn}
 use Rattle.x_party.specs.declared.outcome.Outcome.{Outcome}
 use Rattle.x_party.specs.declared.outcome.Outcome.TheVariants as outcome
 use Rattle.world_laws.specs.World.{World, HasMember, member_at}
-use Rattle.world_laws.specs.Events.{Action, Orders, Hears, Compacts, Completion, Whole}
-use Rattle.world_laws.specs.Steps.{world_after_action, world_after_compaction, world_after_input, step, step_at}
+use Rattle.world_laws.specs.Events.{Action, Orders, Hears, Compacts, Migrates, Completion, Whole}
+use Rattle.world_laws.specs.Steps.{world_after_action, world_rewritten, world_after_input, step, step_at}
 use Rattle.world_laws.specs.Nodes.{IsEventOf, input_event}
 use Rattle.world_laws.specs.Calls.{event_at, IsWholeCall, IsCutCall, AnswersWhole, AnswersOther, IsCall, IsNamedCall}
 use Rattle.world_laws.proofs.Lists.Members.{after_at}
 use Rattle.world_laws.proofs.Nodes.Binding.{input_is, same_member}
-use Rattle.world_laws.proofs.Nodes.Compactions.{compaction_is}
+use Rattle.world_laws.proofs.Nodes.Compactions.{rewriting_is}
 use Rattle.world_laws.proofs.Nodes.Turning.{cut_is}
 
 -- a crash leaves images of which more holds
@@ -52,8 +54,15 @@ or_before : (old : View) (P Q : List ℕ → Type 0) → ((c : List ℕ) → P c
 or_before old P Q more c (inl here) = inl (more c here)
 or_before old P Q more c (inr was) = inr was
 
-stands_so : (image : List ℕ) (p : Party) (left : ℕ) → StandsWith image p left → Stands image p
-stands_so image p left stood = record { bodies = stood.bodies; holds = stood.holds; fold = stood.fold }
+stands_so : (image : List ℕ) (p : Party) (left : Space) → StandsWith image p left → Stands image p
+stands_so image p left stood = record { format = left.format; stands = record { bodies = stood.bodies; holds = stood.holds; fold = stood.fold } }
+
+-- the space with which it stands
+abbrev space_of : (image : List ℕ) (p : Party) → Stands image p → Space
+space_of image p stood = record { format = stood.format; room = room_of stood.stands.bodies }
+
+stands_with : (image : List ℕ) (p : Party) (stood : Stands image p) → StandsWith image p (space_of image p stood)
+stands_with image p stood = record { bodies = stood.stands.bodies; holds = stood.stands.holds; fold = stood.stands.fold; left = refl }
 
 -- ---- what a member does by an action, as a call
 
@@ -62,12 +71,12 @@ module _ (x : Member) (act : Act) (moment : ℕ) (action : Action) (event : ℕ 
   in_network : (c : Completion) (P : World → Type 0) (n : ℕ) (w : World) → member_at x.party.own w.members ≡ Some x → P (event n w c) → P (step n w (event_at x moment action c))
   in_network c P n w at p = subst (λ (o : Option Member). P (step_at n w (event_at x moment action c) o)) (sym at) (subst P (sym (gives n w c)) p)
 
-  whole_call : (y : Member) (reply : Option (List ℕ)) (new : View) → member_after x act.work ≡ y → act.reply ≡ reply → StandsFor new y.party y.room → IsWholeCall x (event_at x moment action Whole) new reply
+  whole_call : (y : Member) (reply : Option (List ℕ)) (new : View) → member_after x act.work ≡ y → act.reply ≡ reply → StandsFor new y.party y.space → IsWholeCall x (event_at x moment action Whole) new reply
   whole_call y reply new next out stood = record {
     stands = λ n w at. in_network Whole (λ v. HasMember v x.party.own (StandsFor new)) n w at (record {
       member = member_after x act.work;
       at = ap (λ (ms : List Member). member_at x.party.own ms) (is.whole n w at).members ∙ after_at w.members x.party.own x (member_after x act.work) at is.own;
-      holds = subst (λ (z : Member). StandsFor new z.party z.room) (sym next) stood;
+      holds = subst (λ (z : Member). StandsFor new z.party z.space) (sym next) stood;
     });
     texts = λ n w at. in_network Whole (λ v. v.texts ≡ w.texts ++ option_to_list reply) n w at
         ((is.whole n w at).texts ∙ ap (λ (o : Option (List ℕ)). w.texts ++ option_to_list o) out);
@@ -94,15 +103,15 @@ refuses_nothing : (p : Party) (i : Input) (moment : ℕ) → (decision p i momen
 unfolding decision
 refuses_nothing p i moment refuses = ap (λ (b : Bool). cond b (differing p (row_at p i moment).edits) []) (not_accept (row_at p i moment).verdict refuses)
 
--- a turn of a party with so much room
-module _ (p : Party) (left : ℕ) (i : Input) (moment : ℕ) (action : Action) (gives : Gives action i) (old new : View) where
+-- a turn of a party with its space
+module _ (p : Party) (left : Space) (i : Input) (moment : ℕ) (action : Action) (gives : Gives action i) (old new : View) where
   abbrev here : Member
-  here = record { party = p; room = left }
+  here = record { party = p; space = left }
 
   abbrev act : Act
   act = taking (plan_at here i moment)
 
-  is_whole : (y : Member) (reply : Option (List ℕ)) → member_after here act.work ≡ y → act.reply ≡ reply → StandsFor new y.party y.room → IsWholeCall here (event_at here moment action Whole) new reply
+  is_whole : (y : Member) (reply : Option (List ℕ)) → member_after here act.work ≡ y → act.reply ≡ reply → StandsFor new y.party y.space → IsWholeCall here (event_at here moment action Whole) new reply
   is_whole y reply = whole_call here act moment action (input_event here i moment) (input_is here i moment) (λ n w c. gives n w here moment c) y reply new
 
   plan_fits : fits left (decision p i moment).change ≡ true → plan_at here i moment ≡ as_decided (lead_in p i) (decision p i moment)
@@ -122,7 +131,7 @@ module _ (p : Party) (left : ℕ) (i : Input) (moment : ℕ) (action : Action) (
         let plan = plan_fits (ap (λ es. fits left es) none) in
         is_whole here reply (ap (λ (plan : Plan). after here plan.edits) plan ∙ (ap (λ es. after here es) none ∙ same_member here)) (ap (λ (plan : Plan). plan.reply) plan ∙ sym refusal.reply) r.stands
     | inr full ↦
-        let plan = plan_full (false_from_ne_true _ full.full) in
+        let plan = plan_full full.full in
         is_whole here reply (ap (λ (plan : Plan). after here plan.edits) plan ∙ same_member here) (ap (λ (plan : Plan). plan.reply) plan ∙ sym full.reply) r.stands
   ]
 
@@ -139,11 +148,9 @@ module _ (p : Party) (left : ℕ) (i : Input) (moment : ℕ) (action : Action) (
       by_test true enough = leaves_more old new (OrBefore old (IsOldOrNew p left (decision p i moment).change)) (OrBefore old (IsCutCall here (event_at here moment action)))
           (or_before old (IsOldOrNew p left (decision p i moment).change) (IsCutCall here (event_at here moment action)) (cut_turn enough)) (safe.party image p left now stood)
       by_test false full = leaves_more old new old.may_leave (OrBefore old (IsCutCall here (event_at here moment action))) (λ c was. inr was)
-          (safe.still image p now (stands_so image p left stood)
-          (λ keeps. (let enough : fits left (decision p i moment).change ≡ true = subst (λ (room : ℕ). fits room (decision p i moment).change ≡ true) stood.left (keeps.enough stood.bodies stood.holds) in
-          let lie : false ≡ true = sym full ∙ enough in cc lie))).any_moment
+          (safe.still image p left now stood (λ keeps. (let lie : false ≡ true = sym full ∙ keeps.fits in cc lie))).any_moment
 
--- ---- a compaction
+-- ---- a compaction, or a migration
 
 both : (a b : Bool) → a ≡ true → b ≡ true → (a && b) ≡ true
 both true true is1 is2 = refl
@@ -162,83 +169,115 @@ not_more a b few = le-leb a b (omega (arith, few))
 more : (a b : ℕ) → b < a → nat_le a b ≡ false
 more a b many = false_from_ne_true _ (λ is. omega (arith, many, leb-true a b is))
 
-small : (p : Party) → (IsTooLarge p → ⊥) → can_compact p ≡ true
-small p fits = both _ _ (not_more _ _ (λ many. fits (inl many))) (not_more _ _ (λ long. fits (inr long)))
+small : (f : Format) (p : Party) → (IsTooLarge f p → ⊥) → can_compact f p ≡ true
+small f p fits = both _ _ (not_more _ _ (λ many. fits (inl many))) (not_more _ _ (λ long. fits (inr long)))
 
-large : (p : Party) → IsTooLarge p → can_compact p ≡ false
-large p (inl many) = neither _ _ (inl (more _ _ many))
-large p (inr long) = neither _ _ (inr (more _ _ long))
+large : (f : Format) (p : Party) → IsTooLarge f p → can_compact f p ≡ false
+large f p (inl many) = neither _ _ (inl (more _ _ many))
+large f p (inr long) = neither _ _ (inr (more _ _ long))
 
-module _ (p : Party) (left : ℕ) (moment : ℕ) (old new : View) where
+-- a party that is to be written whole in this format, if in any
+module _ (o : Option Format) (p : Party) (left : Space) where
   abbrev it : Member
-  it = record { party = p; room = left }
+  it = record { party = p; space = left }
 
   abbrev whole_of_it : Member
-  whole_of_it = record { party = p; room = room_of_whole p }
+  whole_of_it = record { party = p; space = space_in o p left }
 
-  is_compacted : (y : Member) (reply : Option (List ℕ)) → member_after it (compacting p).work ≡ y → (compacting p).reply ≡ reply → StandsFor new y.party y.room → IsWholeCall it (event_at it moment Compacts Whole) new reply
-  is_compacted y reply = whole_call it (compacting p) moment Compacts (λ n w c. world_after_compaction w it c) (compaction_is it) (λ n w c. refl) y reply new
+  abbrev IsAnswered : Member → Type 0
+  IsAnswered y = (member_after it (rewriting o p).work ≡ y) × ((rewriting o p).reply ≡ None)
 
-  acts_whole : can_compact p ≡ true → compacting p ≡ verdict_alone WritesWhole Accept
-  acts_whole is = ap (λ (b : Bool). cond b (verdict_alone WritesWhole Accept) (verdict_alone (Keeps []) JournalFull)) is
+acts_whole : (o : Option Format) (p : Party) (left : Space) → (IsTooLargeIn o p → ⊥) → IsAnswered o p left (whole_of_it o p left)
+acts_whole None p left fits = (same_member (it None p left), refl)
+acts_whole (Some f) p left fits = by_test (can_compact f p) (small f p fits)
+  where
+    by_test : (b : Bool) → b ≡ true → (member_after (it (Some f) p left) (cond b (verdict_alone (WritesWhole f) Accept) (verdict_alone (Keeps []) JournalFull)).work ≡ whole_of_it (Some f) p left)
+        × ((cond b (verdict_alone (WritesWhole f) Accept) (verdict_alone (Keeps []) JournalFull)).reply ≡ None)
+    by_test true is = (refl, refl)
+    by_test false is = absurd (cc is)
 
-  acts_not : can_compact p ≡ false → compacting p ≡ verdict_alone (Keeps []) JournalFull
-  acts_not is = ap (λ (b : Bool). cond b (verdict_alone WritesWhole Accept) (verdict_alone (Keeps []) JournalFull)) is
+acts_not : (o : Option Format) (p : Party) (left : Space) → IsTooLargeIn o p → IsAnswered o p left (it o p left)
+acts_not None p left large_one = absurd large_one
+acts_not (Some f) p left large_one = by_test (can_compact f p) (large f p large_one)
+  where
+    by_test : (b : Bool) → b ≡ false → (member_after (it (Some f) p left) (cond b (verdict_alone (WritesWhole f) Accept) (verdict_alone (Keeps []) JournalFull)).work ≡ it (Some f) p left)
+        × ((cond b (verdict_alone (WritesWhole f) Accept) (verdict_alone (Keeps []) JournalFull)).reply ≡ None)
+    by_test true is = absurd (cc is)
+    by_test false is = (same_member (it (Some f) p left), refl)
 
-  compacted_call : (reply : Option (List ℕ)) → IsCompacted new p reply → IsWholeCall it (event_at it moment Compacts Whole) new reply
-  compacted_call reply a =
-      let acts = acts_whole (small p a.fits) in
-      is_compacted whole_of_it reply (ap (λ (z : Act). member_after it z.work) acts) (ap (λ (z : Act). z.reply) acts ∙ sym a.nothing) a.stands
+-- it isn't too large, or isn't written
+small_or_not : (o : Option Format) (p : Party) → (IsTooLargeIn o p → ⊥) ⊎ (FitsIn o p → ⊥)
+small_or_not None p = inl (λ none. none)
+small_or_not (Some f) p = by_test (can_compact f p) refl
+  where
+    by_test : (b : Bool) → can_compact f p ≡ b → (IsTooLarge f p → ⊥) ⊎ ((IsTooLarge f p → ⊥) → ⊥)
+    by_test true is = inl (λ long. (let lie : false ≡ true = sym (large f p long) ∙ is in cc lie))
+    by_test false is = inr (λ fits. (let lie : true ≡ false = sym (small f p fits) ∙ is in cc lie))
 
-  uncompacted_call : (said : Verdict) (reply : Option (List ℕ)) → IsNotCompacted old new p left said reply → IsWholeCall it (event_at it moment Compacts Whole) new reply
-  uncompacted_call said reply r =
-      let acts = acts_not (large p r.too_large) in
-      is_compacted it reply (ap (λ (z : Act). member_after it z.work) acts ∙ same_member it) (ap (λ (z : Act). z.reply) acts ∙ sym r.nothing) r.stands
+-- the action writes a party whole in the format that its own calls for
+abbrev Rewrites : Action → (Format → Option Format) → Type 0
+Rewrites action format = (n : ℕ) (w : World) (x : Member) (moment : ℕ) (c : Completion) → world_after_action n w x moment c action ≡ world_rewritten (format x.space.format) w x c
 
-  cut_compacting : can_compact p ≡ true → (image : List ℕ) → IsOldOrWhole p left image → IsCutCall it (event_at it moment Compacts) image
-  cut_compacting is image leaves =
-      cut_call it (compacting p) moment Compacts (λ n w c. world_after_compaction w it c) (compaction_is it) (λ n w c. refl) image
-      (subst (λ (z : Act). IsOldOrNext it (member_after it z.work) image) (sym (acts_whole is)) leaves)
+module _ (format : Format → Option Format) (action : Action) (gives : Rewrites action format) (p : Party) (left : Space) (moment : ℕ) (old new : View) where
+  abbrev o : Option Format
+  o = format left.format
 
-  pub compaction_cut_call : (image : List ℕ) → old.now ≡ Some image → StandsWith image p left → IsSafeCompaction old new → LeavesOnly old new (OrBefore old (IsCutCall it (event_at it moment Compacts)))
-  compaction_cut_call image now stood safe = by_test (can_compact p) refl
-    where
-      by_test : (b : Bool) → can_compact p ≡ b → LeavesOnly old new (OrBefore old (IsCutCall it (event_at it moment Compacts)))
-      by_test true is = leaves_more old new (OrBefore old (IsOldOrWhole p left)) (OrBefore old (IsCutCall it (event_at it moment Compacts)))
-          (or_before old (IsOldOrWhole p left) (IsCutCall it (event_at it moment Compacts)) (cut_compacting is)) (safe.party image p left now stood)
-      by_test false is = leaves_more old new old.may_leave (OrBefore old (IsCutCall it (event_at it moment Compacts))) (λ c was. inr was)
-          (safe.still image p now (stands_so image p left stood) (λ fits. (let lie : true ≡ false = sym (small p fits) ∙ is in cc lie))).any_moment
+  abbrev x : Member
+  x = record { party = p; space = left }
 
--- an image stands for one party, isn't blank then and has no damage
-module _ (one_party : (image : List ℕ) (first second : Party) → Stands image first → Stands image second → first ≡ second)
+  is_rewritten : (y : Member) (reply : Option (List ℕ)) → member_after x (rewriting o p).work ≡ y → (rewriting o p).reply ≡ reply → StandsFor new y.party y.space → IsWholeCall x (event_at x moment action Whole) new reply
+  is_rewritten y reply = whole_call x (rewriting o p) moment action (λ n w c. world_rewritten o w x c) (rewriting_is o x) (λ n w c. gives n w x moment c) y reply new
+
+  rewritten_call : (reply : Option (List ℕ)) → IsRewritten old new o p left reply → IsWholeCall x (event_at x moment action Whole) new reply
+  rewritten_call reply a = let acts = acts_whole o p left a.fits in is_rewritten (whole_of_it o p left) reply acts.0 (acts.1 ∙ sym a.nothing) a.stands
+
+  unwritten_call : (said : Verdict) (reply : Option (List ℕ)) → IsNotRewritten old new o p left said reply → IsWholeCall x (event_at x moment action Whole) new reply
+  unwritten_call said reply r = let acts = acts_not o p left r.too_large in is_rewritten x reply acts.0 (acts.1 ∙ sym r.nothing) r.stands
+
+  cut_rewriting : (IsTooLargeIn o p → ⊥) → (image : List ℕ) → IsOldOrRewritten o p left image → IsCutCall x (event_at x moment action) image
+  cut_rewriting fits image leaves =
+      cut_call x (rewriting o p) moment action (λ n w c. world_rewritten o w x c) (rewriting_is o x) (λ n w c. gives n w x moment c) image
+      (subst (λ (y : Member). IsOldOrNext x y image) (sym (acts_whole o p left fits).0) leaves)
+
+  rewriting_cut : (image : List ℕ) → old.now ≡ Some image → StandsWith image p left → IsSafeRewriting format old new → LeavesOnly old new (OrBefore old (IsCutCall x (event_at x moment action)))
+  rewriting_cut image now stood safe = elim (small_or_not o p) [
+    | inl fits ↦
+        leaves_more old new (OrBefore old (IsOldOrRewritten o p left)) (OrBefore old (IsCutCall x (event_at x moment action)))
+        (or_before old (IsOldOrRewritten o p left) (IsCutCall x (event_at x moment action)) (cut_rewriting fits)) (safe.party image p left now stood)
+    | inr unfit ↦
+        leaves_more old new old.may_leave (OrBefore old (IsCutCall x (event_at x moment action))) (λ c was. inr was)
+        (safe.still image p left now stood unfit).any_moment
+  ]
+
+-- an image stands for one party, with one space; it isn't blank then and has no damage
+module _ (one_space : (image : List ℕ) (first second : Party) (s t : Space) → StandsWith image first s → StandsWith image second t → (first ≡ second) × (s ≡ t))
     (not_blank : (image : List ℕ) (party : Party) → Stands image party → is_blank image ≡ false)
     (undamaged : (image : List ℕ) (party : Party) (place : ℕ) → Stands image party → IsFirstDamage image place → ⊥) where
-  -- what is told of the party that was opened is told of the one that stands, with its room
-  of_party : (old : View) (P : Party → ℕ → Type 0) (image : List ℕ) (p : Party) (left : ℕ) → old.now ≡ Some image → StandsWith image p left → OfParty old P → P p left
+  -- what is told of the party that was opened is told of the one that stands, with its space
+  of_party : (old : View) (P : Party → Space → Type 0) (image : List ℕ) (p : Party) (left : Space) → old.now ≡ Some image → StandsWith image p left → OfParty old P → P p left
   of_party old P image p left now stood is =
-      let party : is.party ≡ p = one_party image is.party p (is.reads.stands image now) (stands_so image p left stood) in
-      let room : is.room ≡ left = sym (is.reads.left stood.bodies (record { image = image; now = now; holds = stood.holds })) ∙ stood.left in
-      subst (λ (r : ℕ). P p r) room (subst (λ (q : Party). P q is.room) party is.holds)
+      let one = one_space image is.party p is.space left (is.reads image now) stood in
+      subst (λ (s : Space). P p s) one.1 (subst (λ (q : Party). P q is.space) one.0 is.holds)
 
-  of_own : (name : List ℕ) (old : View) (P : Party → ℕ → Type 0) → OfOwnParty name old P → OfParty old P
-  of_own name old P is = record { party = is.party; room = is.room; reads = is.reads; holds = is.holds }
+  of_own : (name : List ℕ) (old : View) (P : Party → Space → Type 0) → OfOwnParty name old P → OfParty old P
+  of_own name old P is = record { party = is.party; space = is.space; reads = is.reads; holds = is.holds }
 
-  somebody : {A : Type 0} (old new : View) (image : List ℕ) (p : Party) (left : ℕ) (said : Verdict) (reply : Option (List ℕ)) → old.now ≡ Some image → StandsWith image p left → IsNobody old new said reply → A
+  somebody : {A : Type 0} (old new : View) (image : List ℕ) (p : Party) (left : Space) (said : Verdict) (reply : Option (List ℕ)) → old.now ≡ Some image → StandsWith image p left → IsNobody old new said reply → A
   somebody old new image p left said reply now stood none =
       let blank : is_blank image ≡ true = none.blank image now in
       let not : is_blank image ≡ false = not_blank image p (stands_so image p left stood) in
       absurd cc
 
   -- the party of the name has the turn
-  own_call : (name : List ℕ) (old new : View) (i : Input) (moment : ℕ) (action : Action) (image : List ℕ) (p : Party) (left : ℕ) → Gives action i → old.now ≡ Some image → StandsWith image p left
-      → p.own ≡ name → (o : Outcome) → TakesTurn name old new i moment o → AnswersWhole (record { party = p; room = left }) (event_at (record { party = p; room = left }) moment action Whole) new o
+  own_call : (name : List ℕ) (old new : View) (i : Input) (moment : ℕ) (action : Action) (image : List ℕ) (p : Party) (left : Space) → Gives action i → old.now ≡ Some image → StandsWith image p left
+      → p.own ≡ name → (o : Outcome) → TakesTurn name old new i moment o → AnswersWhole (record { party = p; space = left }) (event_at (record { party = p; space = left }) moment action Whole) new o
   own_call name old new i moment action image p left gives now stood own (outcome.Done reply) is =
-      accepted_call p left i moment action gives old new reply (of_party old (λ q room. IsAccepted old new (decision q i moment) q room reply) image p left now stood (of_own name old _ is))
+      accepted_call p left i moment action gives old new reply (of_party old (λ q space. IsAccepted old new (decision q i moment) q space reply) image p left now stood (of_own name old _ is))
   own_call name old new i moment action image p left gives now stood own (outcome.Refused said reply) (inl is) =
-      refused_call p left i moment action gives old new said reply (of_party old (λ q room. IsRefused old new (decision q i moment) q room said reply) image p left now stood (of_own name old _ is))
+      refused_call p left i moment action gives old new said reply (of_party old (λ q space. IsRefused old new (decision q i moment) q space said reply) image p left now stood (of_own name old _ is))
   own_call name old new i moment action image p left gives now stood own (outcome.Refused said reply) (inr none) = somebody old new image p left said reply now stood none
   own_call name old new i moment action image p left gives now stood own (outcome.OtherParty asked found) is =
-      let other = of_party old (λ q room. IsOther old new name q room asked found) image p left now stood is in
+      let other = of_party old (λ q space. IsOther old new name q space asked found) image p left now stood is in
       absurd (other.differs (other.stood ∙ own))
   own_call name old new i moment action image p left gives now stood own (outcome.Damaged place) is =
       absurd (undamaged image p place (stands_so image p left stood) (is.first image now))
@@ -249,15 +288,15 @@ module _ (one_party : (image : List ℕ) (first second : Party) → Stands image
   other_call : (name : List ℕ) (old new : View) (i : Input) (moment : ℕ) (image : List ℕ) (p : Party) → old.now ≡ Some image → Stands image p → p.own ≢ name
       → (o : Outcome) → TakesTurn name old new i moment o → AnswersOther name p.own o
   other_call name old new i moment image p now stood differs (outcome.Done reply) is =
-      absurd (differs (subst (λ (q : Party). q.own ≡ name) (one_party image is.party p (is.reads.stands image now) stood) is.own))
+      absurd (differs (subst (λ (q : Party). q.own ≡ name) (one_space image is.party p is.space (space_of image p stood) (is.reads image now) (stands_with image p stood)).0 is.own))
   other_call name old new i moment image p now stood differs (outcome.Refused said reply) (inl is) =
-      absurd (differs (subst (λ (q : Party). q.own ≡ name) (one_party image is.party p (is.reads.stands image now) stood) is.own))
+      absurd (differs (subst (λ (q : Party). q.own ≡ name) (one_space image is.party p is.space (space_of image p stood) (is.reads image now) (stands_with image p stood)).0 is.own))
   other_call name old new i moment image p now stood differs (outcome.Refused said reply) (inr none) =
       let blank : is_blank image ≡ true = none.blank image now in
       let not : is_blank image ≡ false = not_blank image p stood in
       absurd cc
   other_call name old new i moment image p now stood differs (outcome.OtherParty asked found) is =
-      (is.holds.called, is.holds.stood ∙ ap (λ (q : Party). q.own) (one_party image is.party p (is.reads.stands image now) stood))
+      (is.holds.called, is.holds.stood ∙ ap (λ (q : Party). q.own) (one_space image is.party p is.space (space_of image p stood) (is.reads image now) (stands_with image p stood)).0)
   other_call name old new i moment image p now stood differs (outcome.Damaged place) is = absurd (undamaged image p place stood (is.first image now))
   other_call name old new i moment image p now stood differs outcome.Fault is = tt
   other_call name old new i moment image p now stood differs outcome.NoMemory is = tt
@@ -269,7 +308,7 @@ module _ (one_party : (image : List ℕ) (first second : Party) → Stands image
       whole = own_call name old new i moment action image p left gives now stood own o turned;
       cut = turn_cut p left i moment action gives old new name image now stood safe;
     };
-    other = λ image p now stood differs. (safe.still image p now stood (λ keeps. differs keeps.own), other_call name old new i moment image p now stood differs o turned);
+    other = λ image p now stood differs. (safe.still image p (space_of image p stood) now (stands_with image p stood) (λ keeps. differs keeps.own), other_call name old new i moment image p now stood differs o turned);
   }
 
   pub command_is_call : (name : List ℕ) (old new : View) (c : Command) (moment : ℕ) (o : Outcome) → TakesTurn name old new (Ordered c) moment o → IsSafe name old new (Ordered c) moment
@@ -280,16 +319,22 @@ module _ (one_party : (image : List ℕ) (first second : Party) → Stands image
       → IsNamedCall name old new (Hears bytes (Some a)) moment o
   arrival_is_call name old new bytes a moment o = turn_is_call name old new (Arrived a) moment (Hears bytes (Some a)) o (λ n w x moment c. refl)
 
-  pub compaction_is_call : (old new : View) (moment : ℕ) (o : Outcome) → CompactsParty old new o → IsSafeCompaction old new → IsCall old new Compacts moment o
-  compaction_is_call old new moment o compacted safe image p left now stood = record { whole = by_outcome o compacted; cut = compaction_cut_call p left moment old new image now stood safe }
+  rewriting_is_call : (format : Format → Option Format) (action : Action) → Rewrites action format → (old new : View) (moment : ℕ) (o : Outcome) → RewritesParty format old new o → IsSafeRewriting format old new → IsCall old new action moment o
+  rewriting_is_call format action gives old new moment o rewritten safe image p left now stood = record { whole = by_outcome o rewritten; cut = rewriting_cut format action gives p left moment old new image now stood safe }
     where
-      by_outcome : (o : Outcome) → CompactsParty old new o → AnswersWhole (record { party = p; room = left }) (event_at (record { party = p; room = left }) moment Compacts Whole) new o
+      by_outcome : (o : Outcome) → RewritesParty format old new o → AnswersWhole (record { party = p; space = left }) (event_at (record { party = p; space = left }) moment action Whole) new o
       by_outcome (outcome.Done reply) is =
-          compacted_call p left moment old new reply (of_party old (λ q room. IsCompacted new q reply) image p left now stood is)
+          rewritten_call format action gives p left moment old new reply (of_party old (λ q space. IsRewritten old new (format space.format) q space reply) image p left now stood is)
       by_outcome (outcome.Refused said reply) (inl is) =
-          uncompacted_call p left moment old new said reply (of_party old (λ q room. IsNotCompacted old new q room said reply) image p left now stood is)
+          unwritten_call format action gives p left moment old new said reply (of_party old (λ q space. IsNotRewritten old new (format space.format) q space said reply) image p left now stood is)
       by_outcome (outcome.Refused said reply) (inr none) = somebody old new image p left said reply now stood none
       by_outcome (outcome.OtherParty asked found) is = absurd is
       by_outcome (outcome.Damaged place) is = absurd (undamaged image p place (stands_so image p left stood) (is.first image now))
       by_outcome outcome.Fault is = tt
       by_outcome outcome.NoMemory is = tt
+
+  pub compaction_is_call : (old new : View) (moment : ℕ) (o : Outcome) → CompactsParty old new o → IsSafeCompaction old new → IsCall old new Compacts moment o
+  compaction_is_call = rewriting_is_call compacted_in Compacts (λ n w x moment c. refl)
+
+  pub migration_is_call : (old new : View) (moment : ℕ) (o : Outcome) → MigratesParty old new o → IsSafeMigration old new → IsCall old new Migrates moment o
+  migration_is_call = rewriting_is_call migrated_in Migrates (λ n w x moment c. refl)

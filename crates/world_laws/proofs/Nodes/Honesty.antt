@@ -10,7 +10,7 @@ use Rattle.csm_grammar.specs.Arrivals.{authenticated}
 use Rattle.member.specs.Member.{Member}
 use Rattle.world_laws.specs.World.{World, Fact, member_at}
 use Rattle.roles.specs.Leads.{lead_at}
-use Rattle.world_laws.specs.Events.{Action, Orders, Hears, Compacts, Event}
+use Rattle.world_laws.specs.Events.{Action, Orders, Hears, Compacts, Migrates, Event}
 use Rattle.world_laws.specs.Steps.{step}
 use Rattle.fact_book.specs.Facts.{has_named, same_full_name}
 use Rattle.world_laws.specs.Honest.{HasFact, is_fact, named_text, has_fact, HonestAction, HonestAt, HonestRun, IsForged, is_honest_lead, is_honest_action, is_honest}
@@ -73,6 +73,7 @@ deed_decides facts p (Orders c) = (λ h. tt, λ h. refl)
 deed_decides facts p (Hears bytes (Some a)) = lead_decides facts (authenticated a) (lead_at p a)
 deed_decides facts p (Hears bytes None) = (λ h. tt, λ h. refl)
 deed_decides facts p Compacts = (λ h. tt, λ h. refl)
+deed_decides facts p Migrates = (λ h. tt, λ h. refl)
 
 pub honest_decides : (facts : List Fact) (o : Option Member) (d : Action) → Decides (is_honest facts o d) (HonestAt facts o d)
 honest_decides facts None d = (λ h. tt, λ h. refl)

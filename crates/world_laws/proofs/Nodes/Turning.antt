@@ -29,7 +29,7 @@ turn_is told old act event (turn.NoMemory node) e is = is.answer.0
 same_work : (x : Member) (work : Work) → changes work ≡ false → member_after x work ≡ x
 same_work x (Keeps []) is = same_member x
 same_work x (Keeps (e ∷ es)) is = absurd (cc is)
-same_work x WritesWhole is = absurd (cc is)
+same_work x (WritesWhole f) is = absurd (cc is)
 same_work x ClearsRest is = refl
 
 module _ (x : Member) (act : Act) (event : ℕ → World → Completion → World) (image : List ℕ) (e : IsEventOf x act event) where

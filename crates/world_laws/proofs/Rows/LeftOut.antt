@@ -69,7 +69,7 @@ no_change : (p : Party) (e : Edit) → differs p e ≡ false → apply_edit e p 
 no_change = unchanged links_known.found keys_found answers_found standing
 
 bank_rows : bank.RowsApart
-bank_rows = record { command = command_apart held links_known keys_known; rsi = rsi_apart keys_known; rtr = rtr_apart; ksm = ksm_apart held links_known keys_known; rsm = rsm_apart keys_known; esm = esm_apart links_known keys_known; dsm = dsm_apart keys_known }
+bank_rows = record { command = command_apart held links_known keys_known; rsi = rsi_apart keys_known; rtr = rtr_apart held; ksm = ksm_apart held links_known keys_known; rsm = rsm_apart keys_known; esm = esm_apart links_known keys_known; dsm = dsm_apart keys_known }
 
 pub left_out_by : (r : Role) (p : Party) (i : Input) (moment : ℕ) → HasLinks p → is_accept (row_by r p i moment).verdict ≡ true → LeftOut p (row_by r p i moment)
 left_out_by Bank p i moment links h = left_out no_change p (row_by Bank p i moment).edits (bank.row_apart bank_rows p i moment links h)

@@ -19,7 +19,7 @@ use Rattle.bank_arrivals.specs.declared.error_message.Subject.{Subject}
 use Rattle.bank_arrivals.specs.declared.error_message.Subject.TheVariants.{SentKey, SentTwins, Translated}
 use Rattle.role_base.specs.declared.exchanges.Twins.{Twins}
 use Rattle.party_tables.specs.Names.{name_behind}
-use Rattle.role_base.specs.Exchanges.{record_of, both_of, sent_by, sent_in, sent_to, ending_by, ending_in, ending_with, new_link, new_label, new_link_at}
+use Rattle.role_base.specs.Exchanges.{record_of, both_of, sent_by, sent_in, sent_to, new_link, new_label, new_link_at}
 use Rattle.bank_arrivals.specs.Esm.{subject_by, subject_in, subject_with, way_link, subject_link, is_renewed}
 use Rattle.world_laws.proofs.Links.Found.{LinkAt, link_at}
 
@@ -60,28 +60,6 @@ sent_at p peer s h = by_exchange (exchange_with peer p) refl h
     by_kind e at (kind.PairSent name) k h = absurd (cc)
 
     by_exchange : (o : Option Exchange) → exchange_with peer p ≡ o → sent_in p peer o ≡ Some s → SentAt p peer s
-    by_exchange None at h = absurd (cc)
-    by_exchange (Some e) at h = by_kind e at e.kind refl h
-
--- the exchange with the peer waits for the answer to the end of this key
-pub record EndingAt (p : Party) (peer : List ℕ) (k : KeyRec) : Type 0 where
-  pub exchange : Exchange
-  pub at : exchange_with peer p ≡ Some exchange
-  pub name : KeyName
-  pub kind_is : exchange.kind ≡ kind.Ending name
-  pub key : RecordAt p peer name k
-
-pub ending_at : (p : Party) (peer : List ℕ) (r : KeyRec) → ending_with p peer ≡ Some r → EndingAt p peer r
-ending_at p peer r h = by_exchange (exchange_with peer p) refl h
-  where
-    by_kind : (e : Exchange) → exchange_with peer p ≡ Some e → (k : Kind) → e.kind ≡ k → ending_by p peer k ≡ Some r → EndingAt p peer r
-    by_kind e at (kind.KeySent name way) k h = absurd (cc)
-    by_kind e at (kind.Asked ultimate) k h = absurd (cc)
-    by_kind e at (kind.Translating ultimate value cta) k h = absurd (cc)
-    by_kind e at (kind.Ending name) k h = record { exchange = e; at = at; name = name; kind_is = k; key = record_at p peer name r h }
-    by_kind e at (kind.PairSent name) k h = absurd (cc)
-
-    by_exchange : (o : Option Exchange) → exchange_with peer p ≡ o → ending_in p peer o ≡ Some r → EndingAt p peer r
     by_exchange None at h = absurd (cc)
     by_exchange (Some e) at h = by_kind e at e.kind refl h
 

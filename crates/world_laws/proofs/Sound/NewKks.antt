@@ -33,9 +33,6 @@ use Rattle.world_laws.proofs.Counting.Quiet.{refused_sound, pairs_two}
 pub fresh_waits : (s : Party) (m : LinkRec) (x : Exchange) → m.peer ≡ x.peer → m.side ≡ Sends → m.ready ≡ false → new_of x.kind ≡ Some m.label → Waits s → (k : KeyRec) → Waits (apply (PutLink m ∷ PutKey k ∷ PutExchange x ∷ []) s)
 fresh_waits s m x peer_is side unready label_is w k peer e h = go (bytes_eq peer x.peer) refl (sym (find_put exchange_key bytes_eq test_idents peer x s.exchanges) ∙ h)
   where
-    abbrevless : Party
-    abbrevless = s
-
     at_put : (label : List ℕ) (n : LinkRec) → link_with (sends peer label) (apply (PutLink m ∷ PutKey k ∷ PutExchange x ∷ []) s) ≡ Some n → (b : Bool) → same_link (sends peer label) (link_key m) ≡ b → cond b (Some m) (link_with (sends peer label) s) ≡ Some n
     at_put label n g b i = rw (← i) (sym (find_put link_key same_link test_links (sends peer label) m s.links) ∙ g)
 

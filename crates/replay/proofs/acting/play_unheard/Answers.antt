@@ -1,5 +1,6 @@
 use Rattle.std.proofs.Common.{◌≡◌, Ok, Err, None, ap, refl}
 use Rattle.std.proofs.lemmas.Result.{err_from_is_err_and}
+use Rattle.change_code.specs.declared.space.Space.{Space}
 use Rattle.replay.specs.declared.failure.Ending.TheVariants as ending
 use Rattle.replay.specs.declared.failure.Failure.TheVariants as failure
 use Rattle.course.specs.declared.progress.Outcome.TheVariants as outcome
@@ -32,7 +33,7 @@ returns-in_err-reopen-clause-broken g c =
     let new : Scene _ = record { parties = c.reopen.new.parties; texts = old.texts; facts = old.facts } in
     let node = c.take_out-node.result in
     let moment = c.args.now.now.moment in
-    let begun = begins_idle told node c.into_disk.result moment c.in-Some.stop.n c.room-left.result c.room-left.ensures c.into_disk.ensures.disk c.into_disk.ensures.durable c.view.ensures.stands in
+    let begun = begins_idle told node c.into_disk.result moment c.in-Some.stop.n c.space-left.result.room (ap (λ (s : Space). s.room) c.space-left.ensures) c.into_disk.ensures.disk c.into_disk.ensures.durable c.view.ensures.stands in
     let p = err_from_is_err_and c.from_residual.result c.from_residual.ensures.1 in
     let failed = c.in_err-reopen.field-0.0 in
     rw (p.1, p.2) (
@@ -51,7 +52,7 @@ returns-in_err-reopen-clause-around g c =
     let faults = g.H.Shelf.faults in
     let node = c.take_out-node.result in
     let moment = c.args.now.now.moment in
-    let begun = begins_idle told node c.into_disk.result moment c.in-Some.stop.n c.room-left.result c.room-left.ensures c.into_disk.ensures.disk c.into_disk.ensures.durable c.view.ensures.stands in
+    let begun = begins_idle told node c.into_disk.result moment c.in-Some.stop.n c.space-left.result.room (ap (λ (s : Space). s.room) c.space-left.ensures) c.into_disk.ensures.disk c.into_disk.ensures.durable c.view.ensures.stands in
     let p = err_from_is_err_and c.from_residual.result c.from_residual.ensures.1 in
     let left = c.in_err-reopen.ensures.left node None moment begun in
     rw (p.1, p.2) (around_place c.args.scene.now.parties c.take_out-node.new.self c.reopen.new.parties c.args.place node c.take_out-node.ensures left.held left.fills told c.args.own.now c.requires.placed
@@ -67,7 +68,7 @@ returns-clause-played g c =
     let new : Scene _ = record { parties = c.reopen.new.parties; texts = old.texts; facts = old.facts } in
     let node = c.take_out-node.result in
     let moment = c.args.now.now.moment in
-    let begun = begins_idle told node c.into_disk.result moment c.in-Some.stop.n c.room-left.result c.room-left.ensures c.into_disk.ensures.disk c.into_disk.ensures.durable c.view.ensures.stands in
+    let begun = begins_idle told node c.into_disk.result moment c.in-Some.stop.n c.space-left.result.room (ap (λ (s : Space). s.room) c.space-left.ensures) c.into_disk.ensures.disk c.into_disk.ensures.durable c.view.ensures.stands in
     plays_stopped told (faults c.args.shelf.now) (faults c.reopen.new.shelf) old new c.args.place None c.args.number c.args.now.now c.in-Some.stop c.in_ok-reopen.field-0 c.in-Some.is
     (λ w own is_place shows. (let m = member_there told old c.args.place c.requires.within c.requires.seated w own is_place shows in (m.0, m.1, tt)))
     (unheard_cut told old mid new c.args.place node c.take_out-node.ensures refl refl moment c.in-Some.stop (faults c.args.shelf.now) (faults c.reopen.new.shelf) c.in_ok-reopen.field-0 (c.in_ok-reopen.ensures.stopped node None moment begun))
@@ -80,7 +81,7 @@ returns-clause-around g c =
     let faults = g.H.Shelf.faults in
     let node = c.take_out-node.result in
     let moment = c.args.now.now.moment in
-    let begun = begins_idle told node c.into_disk.result moment c.in-Some.stop.n c.room-left.result c.room-left.ensures c.into_disk.ensures.disk c.into_disk.ensures.durable c.view.ensures.stands in
+    let begun = begins_idle told node c.into_disk.result moment c.in-Some.stop.n c.space-left.result.room (ap (λ (s : Space). s.room) c.space-left.ensures) c.into_disk.ensures.disk c.into_disk.ensures.durable c.view.ensures.stands in
     let s = c.in_ok-reopen.ensures.stopped node None moment begun in
     around_place c.args.scene.now.parties c.take_out-node.new.self c.reopen.new.parties c.args.place node c.take_out-node.ensures (Open s.opened) s.fills told c.args.own.now c.requires.placed
     (entry c.args.shelf.now) (entry c.reopen.new.shelf) (slot c.args.shelf.now) (slot c.reopen.new.shelf) (faults c.args.shelf.now) (faults c.reopen.new.shelf) (Ok outcome.Stopped) c.reopen.ensures.shelf

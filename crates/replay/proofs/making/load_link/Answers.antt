@@ -1,10 +1,12 @@
-use Rattle.std.proofs.Common.{◌++◌, ◌∷◌, [], List, ap, sym, ◌∙◌, subst, refl}
+use Rattle.std.proofs.Common.{◌≡◌, true, false, ◌++◌, ◌∷◌, [], List, ap, sym, ◌∙◌, subst, refl}
 use Rattle.party_state.specs.declared.edit.Edit.{Edit}
 use Rattle.party_state.specs.declared.edit.Edit.TheVariants.{PutLink}
-use Rattle.key_store.specs.Store.{GoOn}
+use Rattle.change_code.specs.Cost.{fits}
+use Rattle.key_store.specs.Store.{GoOn, space}
 use Rattle.key_store.specs.Keeping.{IsKeeping}
 use Rattle.key_store.specs.declared.store.Kept.TheVariants as kept
-use Rattle.replay.proofs.Begun.{goes_on_load, short_load, stays_within, loads_one, lost_broken, lost_memory}
+use Rattle.replay.proofs.Begun.{goes_on_load, load_fits, stays_within, loads_one, lost_broken, lost_memory}
+use Rattle.replay.proofs.Lengths.{load_few}
 use Rattle.replay.proofs.making.load_link.Goals as goal
 
 pub returns-in-Err-clause-lost : goal.returns-in-Err-clause-lost
@@ -16,11 +18,18 @@ keep-requires-clause-go_on g c =
     let is = c.in-Ok.ensures.appends ∙ ap (λ (es : List Edit). es ++ PutLink c.args.link ∷ []) c.new-change.ensures in
     subst (λ (es : List Edit). GoOn es c.args.store.party) (sym is) (record { goes_on = goes_on_load c.args.link; within = stays_within g.D.Disk.told c.args.store c.args.link c.view.ensures.stands.within c.requires.place })
 
+pub unreachable-requires : goal.unreachable-requires
+unreachable-requires g c =
+    let is = c.in-Ok.ensures.appends ∙ ap (λ (es : List Edit). es ++ PutLink c.args.link ∷ []) c.new-change.ensures in
+    let fit = load_fits g.D.Disk.told c.args.store c.args.link c.requires.place (load_few c.args.store.format c.args.link c.bytes.ensures.ident c.bytes-2.ensures.label) in
+    let full = subst (λ (es : List Edit). fits (space c.args.store) es ≡ false) is c.in-Full.ensures.1 in
+    let lie : true ≡ false = sym fit ∙ full in cc lie
+
 pub returns-in-Done-clause-load : goal.returns-in-Done-clause-load
 returns-in-Done-clause-load g c =
     let told = g.D.Disk.told in
     let is = c.in-Ok.ensures.appends ∙ ap (λ (es : List Edit). es ++ PutLink c.args.link ∷ []) c.new-change.ensures in
-    loads_one told c.args.store c.args.link c.in-Done.store (short_load told c.args.store c.args.link c.push.new.self is c.law_short_code.ensures)
+    loads_one told c.args.store c.args.link c.in-Done.store (load_few c.args.store.format c.args.link c.bytes.ensures.ident c.bytes-2.ensures.label)
     (subst (λ (es : List Edit). IsKeeping told c.args.store es (kept.Done c.in-Done.store)) is c.in-Done.ensures)
 
 pub returns-in-NoMemory-clause-lost : goal.returns-in-NoMemory-clause-lost

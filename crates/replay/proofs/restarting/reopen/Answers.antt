@@ -1,4 +1,5 @@
-use Rattle.std.proofs.Common.{◌≡◌, inr, ◌<◌, IfErr, subst, refl}
+use Rattle.std.proofs.Common.{◌≡◌, inr, ◌<◌, IfErr, ap, subst, refl}
+use Rattle.change_code.specs.declared.space.Space.{Space}
 use Rattle.std.proofs.lemmas.Result.{err_from_is_err_and}
 use Rattle.replay.specs.declared.failure.Failure.TheVariants as failure
 use Rattle.replay.proofs.Leaving.{reopened, left_out, left_lost, left_begun}
@@ -18,7 +19,7 @@ pub returns-in-Ok-restart-clause-stopped : goal.returns-in-Ok-restart-clause-sto
 returns-in-Ok-restart-clause-stopped g c = λ node i moment b.
     let told = g.H.Disk.Disk.told in
     reopened told c.args.parties.now c.put_in-in-Ok-restart.new.self c.args.place c.args.stop c.args.room c.args.begun node i moment b c.in-Ok.disk c.in-Ok.is c.in_ok-disk.disk c.in-Ok-restart.node (g.H.Shelf.faults c.args.shelf.now) (g.H.Shelf.faults c.exchange.new.shelf)
-    c.room.result c.put_in-in-Ok-restart.ensures c.in_ok-disk.ensures.alike c.in-Ok-restart.ensures.opened c.exchange.ensures.seen c.room.ensures
+    c.space.result.room c.put_in-in-Ok-restart.ensures c.in_ok-disk.ensures.alike c.in-Ok-restart.ensures.opened c.exchange.ensures.seen (ap (λ (s : Space). s.room) c.space.ensures)
 
 pub returns-in-Err-clause-left : goal.returns-in-Err-clause-left
 returns-in-Err-clause-left g c = λ node i moment b.

@@ -12,7 +12,7 @@ returns-in-Done-clause-rests g c =
     let told = g.D.Disk.told in
     let p = c.args.planned in
     let f = c.fuse.result in
-    let same : member_of f.node ≡ member_of p.node = λ i. record { party = c.fuse.ensures.party i; room = ap₂ (λ (e s : ℕ). e - s) c.fuse.ensures.place.1 c.fuse.ensures.place.0 i } in
+    let same : member_of f.node ≡ member_of p.node = λ i. record { party = c.fuse.ensures.party i; space = record { format = c.fuse.ensures.format i; room = ap₂ (λ (e s : ℕ). e - s) c.fuse.ensures.place.1 c.fuse.ensures.place.0 i } } in
     let count : c.saturating_sub.result ≡ c.args.n - 1 = omega (arith, c.saturating_sub.ensures) in
     subst (λ k. IsResting (told p.node.disk) (told k) (member_of p.node) (after (member_of p.node) p.plan.edits) (is_change p.plan.edits ≡ true) c.args.n) (sym (c.into_inner.ensures ∙ ap (λ k. k.disk) c.into_disk.ensures.disk))
     (fused_done told p.node f.node p.plan f.plan c.saturating_sub.result c.args.n c.fuse.ensures.plan same count c.requires c.fuse.ensures.fused c.in-Done.node c.in-Done.verdict c.in-Done.reply c.in-Done.under c.in-Done.ensures.turn)
@@ -22,7 +22,7 @@ returns-in-Fault-clause-rests g c =
     let told = g.D.Disk.told in
     let p = c.args.planned in
     let f = c.fuse.result in
-    let same : member_of f.node ≡ member_of p.node = λ i. record { party = c.fuse.ensures.party i; room = ap₂ (λ (e s : ℕ). e - s) c.fuse.ensures.place.1 c.fuse.ensures.place.0 i } in
+    let same : member_of f.node ≡ member_of p.node = λ i. record { party = c.fuse.ensures.party i; space = record { format = c.fuse.ensures.format i; room = ap₂ (λ (e s : ℕ). e - s) c.fuse.ensures.place.1 c.fuse.ensures.place.0 i } } in
     let count : c.saturating_sub.result ≡ c.args.n - 1 = omega (arith, c.saturating_sub.ensures) in
     let b = c.in-Broken.broken in
     let fault : b.cause ≡ disk.Fault = is_fault b.cause (sym c.give_up-disk.ensures.cause ∙ c.in-Fault.is) in

@@ -6,9 +6,9 @@ pub returns-in-Ok-open_from-clause-opened : goal.returns-in-Ok-open_from-clause-
 returns-in-Ok-open_from-clause-opened g c =
     let told = g.D.Disk.told in
     let node = c.in-Ok-open_from.node in
-    restarts (told c.args.disk) (told c.power_off.new.self) (told node.disk) c.args.choice node.gate node.end node.party (g.met.D.Disk.sound c.power_off.new.self)
+    restarts (told c.args.disk) (told c.power_off.new.self) (told node.disk) c.args.choice node.gate node.end node.format node.party (g.met.D.Disk.sound c.power_off.new.self)
     c.in-Ok.ensures.crash c.in-Ok.ensures.stable c.in-Ok.ensures.now c.in-Ok.ensures.tells
-    c.in-Ok-open_from.ensures.now c.in-Ok-open_from.ensures.stands c.in-Ok-open_from.ensures.exact
+    c.in-Ok-open_from.ensures.now c.in-Ok-open_from.ensures.stands c.in-Ok-open_from.ensures.exact c.in-Ok-open_from.ensures.format
 
 pub returns-in-Err-clause-lost : goal.returns-in-Err-clause-lost
 returns-in-Err-clause-lost g c =

@@ -15,19 +15,14 @@ pub returns-in-NoMemory-clause-left : goal.returns-in-NoMemory-clause-left
 returns-in-NoMemory-clause-left g c =
     left_memory g.D.Disk.told c.args.planned c.args.place c.in-NoMemory.node c.in-NoMemory.ensures.turn c.args.scene.now.parties c.put_in-in-NoMemory.new.self c.put_in-in-NoMemory.ensures
 
-pub returns-in_ok-put_text-in-Done-clause-whole : goal.returns-in_ok-put_text-in-Done-clause-whole
-returns-in_ok-put_text-in-Done-clause-whole g c =
-    whole_by g.D.Disk.told c.args.planned c.args.place c.in-Done.node c.in-Done.verdict c.in-Done.reply c.in-Done.under c.in-Done.ensures.turn c.args.scene.now (record { parties = c.put_in.new.self; texts = c.put_text.new.texts; facts = c.note.new.facts })
-    c.put_in.ensures c.in_ok-note-in-Done.ensures c.in_ok-put_text-in-Done.ensures
+pub returns-in_ok-note-in-Done-clause-whole : goal.returns-in_ok-note-in-Done-clause-whole
+returns-in_ok-note-in-Done-clause-whole g c =
+    whole_by g.D.Disk.told c.args.planned c.args.place c.in-Done.node c.in-Done.verdict c.in-Done.reply c.in-Done.under c.in-Done.ensures.turn c.args.scene.now (record { parties = c.put_in.new.self; texts = c.note.new.texts; facts = c.note.new.facts })
+    c.put_in.ensures c.in_ok-note-in-Done.ensures.facts c.in_ok-note-in-Done.ensures.texts
 
 pub returns-in_err-note-in-Done-clause-left : goal.returns-in_err-note-in-Done-clause-left
 returns-in_err-note-in-Done-clause-left g c =
     let p = err_from_is_err_and c.from_residual.result c.from_residual.ensures.1 in
-    rw (p.1, p.2) (left_done g.D.Disk.told c.args.planned c.args.place c.in-Done.node c.in-Done.verdict c.in-Done.reply c.in-Done.under c.in-Done.ensures.turn c.args.scene.now.parties c.put_in.new.self c.put_in.ensures)
-
-pub returns-in_err-put_text-in-Done-clause-left : goal.returns-in_err-put_text-in-Done-clause-left
-returns-in_err-put_text-in-Done-clause-left g c =
-    let p = err_from_is_err_and c.from_residual-in_err-put_text-in-Done.result c.from_residual-in_err-put_text-in-Done.ensures.1 in
     rw (p.1, p.2) (left_done g.D.Disk.told c.args.planned c.args.place c.in-Done.node c.in-Done.verdict c.in-Done.reply c.in-Done.under c.in-Done.ensures.turn c.args.scene.now.parties c.put_in.new.self c.put_in.ensures)
 
 pub returns-in-Broken-clause-left : goal.returns-in-Broken-clause-left

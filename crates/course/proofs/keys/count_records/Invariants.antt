@@ -1,6 +1,6 @@
 use Rattle.std.proofs.Common.{◌≡◌, ◌≤◌, take}
 use Rattle.course.specs.Tallies.{count_status}
-use Rattle.course.proofs.keys.count_in.Given as goal
+use Rattle.course.proofs.keys.count_records.Given as goal
 
 abbrev pub invariant-loop-i : goal.invariant-loop-i
 invariant-loop-i l = record {
