@@ -1,0 +1,77 @@
+// Lines, and a change of one.
+use std::alloc::Global;
+use x_base::{NoMemory, Text};
+
+/// A change of a line of a transcript.
+#[derive(Clone, Copy, PartialEq, Eq)]
+pub(crate) enum Change {
+    /// Its first byte is another one.
+    Changed,
+    /// It is left out.
+    Without,
+    /// It stands twice.
+    Twice,
+}
+
+/// The first line of bytes without its line feed, and what stands behind it.
+pub(crate) fn first_line(bytes: &[u8]) -> (&[u8], &[u8]) {
+    match bytes.iter().position(|byte| *byte == b'\n') {
+        Some(at) => {
+            let (line, rest) = bytes.split_at(at.min(bytes.len()));
+            let (_, behind) = rest.split_at(rest.len().min(1));
+            (line, behind)
+        }
+        None => bytes.split_at(bytes.len()),
+    }
+}
+
+fn push_line(text: &mut Text, line: &[u8]) -> Result<(), NoMemory> {
+    text.push(line)?;
+    text.push(b"\n")
+}
+
+/// A line with this change.
+fn push_changed(text: &mut Text, line: &[u8], change: Change) -> Result<(), NoMemory> {
+    match change {
+        Change::Changed => {
+            let (_, rest) = line.split_at(line.len().min(1));
+            text.push(b"#")?;
+            push_line(text, rest)
+        }
+        Change::Without => Ok(()),
+        Change::Twice => {
+            push_line(text, line)?;
+            push_line(text, line)
+        }
+    }
+}
+
+/// An input with a change of the line of this number, from 1, behind its line `AUDIT`.
+pub(crate) fn with_line(
+    alloc: Global,
+    input: &[u8],
+    change: Change,
+    number: usize,
+) -> Result<Text, NoMemory> {
+    let mut text = Text::new(alloc);
+    let mut rest = input;
+    let mut is_behind = false;
+    let mut count: usize = 0;
+    for _ in 0..input.len() {
+        if rest.is_empty() {
+            break;
+        }
+        let (line, behind) = first_line(rest);
+        if is_behind {
+            count = count.saturating_add(1);
+        }
+        if is_behind && count == number {
+            push_changed(&mut text, line, change)?;
+        } else {
+            push_line(&mut text, line)?;
+        }
+        is_behind = is_behind || line.starts_with(b"AUDIT ".as_slice());
+        rest = behind;
+    }
+    Ok(text)
+}

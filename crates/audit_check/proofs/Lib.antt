@@ -1,0 +1,14 @@
+mod Results
+mod Planning
+mod Unique
+mod Answering
+mod Running
+mod Seats
+mod Happened
+mod Carrying
+mod Leading
+mod Comparing
+mod Reading
+mod Closing
+mod SettingUp
+mod Concluding

@@ -1,0 +1,18 @@
+-- What holds of an answer, or of what may be there, made weaker.
+use Rattle.std.proofs.Common.{◌≡◌, Result, Ok, Err, IfOk, Option, Some, None, IfSome, IfNone}
+
+pub if_ok : {T E : Type 0} (r : Result T E) (P Q : T → Type 0) → ((x : T) → P x → Q x) → IfOk r P → IfOk r Q
+if_ok (Ok x) P Q more is = more x is
+if_ok (Err e) P Q more is = tt
+
+pub if_some : {T : Type 0} (o : Option T) (P Q : T → Type 0) → ((x : T) → P x → Q x) → IfSome o P → IfSome o Q
+if_some (Some x) P Q more is = more x is
+if_some None P Q more is = tt
+
+pub if_none : {T : Type 0} (o : Option T) (P Q : Type 0) → (P → Q) → IfNone o P → IfNone o Q
+if_none (Some x) P Q more is = tt
+if_none None P Q more is = more is
+
+-- an answer has one error
+pub one_err : {T E : Type 0} (r : Result T E) (d e : E) → r ≡ Err d → r ≡ Err e → d ≡ e
+one_err r d e first second = cc

@@ -1,0 +1,10 @@
+pub mod Faults
+pub mod Audits
+pub mod Answers
+pub mod Laws
+pub mod Parts
+pub mod Inputs
+pub mod Compared
+pub mod States
+pub mod Events
+pub mod Ends

@@ -1,0 +1,23 @@
+// What holds of each audit, told by calls that do nothing.
+ghost use Rattle.audit_check.specs.Laws.{OneAnswer, RunsLawful};
+
+use course::law_lawful;
+use csm_feed::law_one_hearing;
+use world_laws::law_hearing;
+
+/// One answer at most may come, but for want of memory.
+#[tactic(auto, using(crate::proofs::Answering::one_answer))]
+pub fn law_one_answer()
+    ensures { OneAnswer }
+{
+    law_hearing();
+    law_one_hearing();
+}
+
+/// Each run of a scenario is lawful.
+#[tactic(auto, using(crate::proofs::Running::runs_lawful))]
+pub fn law_runs_lawful()
+    ensures { RunsLawful }
+{
+    law_lawful();
+}

@@ -1,0 +1,80 @@
+// Parties that are held in memory, by their identities and in the order in which they came.
+ghost use Rattle.std.specs.Prelude.{◌≡◌, ◌<◌, ◌++◌, [], ◌∷◌, List, length, None, IfNone, IfSome, OnOk, bytes_eq, position, slice_get};
+ghost use Rattle.member.specs.Member.{Member};
+ghost use Rattle.world_laws.specs.World.{member_at};
+ghost use Rattle.audit_check.specs.States.{Adds, AreSeated, IsPlaced, IsSeated};
+
+use indexmap::IndexSet;
+use member::{Held, Holder};
+use party_state::State;
+use std::alloc::Global;
+use x_base::{Ident, NoMemory};
+
+/// Parties, each in its seat. A seat is empty only while its party has an event.
+#[derive(Drop)]
+pub(crate) struct Parties {
+    pub(crate) names: IndexSet<Ident>,
+    pub(crate) seats: Vec<Option<Held>>,
+}
+
+/// The place of an identity among others.
+fn index_of(names: &IndexSet<Ident>, own: &Ident) -> Option<usize>
+    ensures some { IfSome result (λ place. position (bytes_eq own.now) names.now.keys ≡ Some place) }
+    ensures none { IfNone result (position (bytes_eq own.now) names.now.keys ≡ None) }
+{
+    names.get_index_of(own)
+}
+
+impl Parties {
+    pub(crate) fn new(alloc: Global) -> Parties
+        ensures { IsSeated result [] }
+    {
+        Parties {
+            names: IndexSet::new(alloc),
+            seats: Vec::new(alloc),
+        }
+    }
+
+    /// One more party behind the others.
+    pub(crate) fn add(&mut self, held: Held) -> Result<(), NoMemory>
+        ensures { OnOk result (Adds self.old self.new held) }
+    {
+        let own = held.view().own();
+        match self.names.insert(own) {
+            Ok(_) => {}
+            Err(_) => return Err(NoMemory),
+        }
+        match self.seats.push(Some(held)) {
+            Ok(()) => Ok(()),
+            Err(_) => Err(NoMemory),
+        }
+    }
+
+    pub(crate) fn len(&self) -> usize
+        ensures { (members : List Member) → IsSeated self.now members → result ≡ length members }
+    {
+        self.seats.len()
+    }
+
+    /// The place of a party.
+    pub(crate) fn place_of(&self, own: &Ident) -> Option<usize>
+        requires { AreSeated self.now }
+        ensures within { IfSome result (λ place. place < length self.now.seats.items) }
+        ensures placed { IfSome result (λ place. (members : List Member) → IsSeated self.now members → IsPlaced own.now members place) }
+        ensures none { IfNone result ((members : List Member) → IsSeated self.now members → member_at own.now members ≡ None) }
+    {
+        index_of(&self.names, own)
+    }
+
+    /// The state of the party at a place.
+    pub(crate) fn view_at(&self, place: usize) -> &State
+        requires seated { AreSeated self.now }
+        requires within { place < length self.now.seats.items }
+        ensures { (members : List Member) → IsSeated self.now members → (x : Member) × (slice_get members place ≡ Some x) × (result.now ≡ x.party) }
+    {
+        match &self.seats[place] {
+            Some(held) => held.view(),
+            None => unreachable!(),
+        }
+    }
+}

@@ -1,0 +1,16 @@
+// What an audit answers.
+use crate::fault::AuditFault;
+use course::Tally;
+
+/// The numbers of a scenario that was audited: those of a play.
+pub use course::Tally as AuditTally;
+
+/// The answer to an audit.
+#[derive(Clone, Copy, Debug, PartialEq, Eq)]
+pub enum AuditResult {
+    /// The scenario has an honest run with these outcomes and this transcript.
+    Yes(Tally),
+    /// What is wrong first.
+    No(AuditFault),
+    NoMemory,
+}
