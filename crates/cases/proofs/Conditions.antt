@@ -7,7 +7,10 @@ use Rattle.party_state.specs.Limits.{IsWithinLimits, StaysWithinLimits}
 use Rattle.party_state.specs.Ranges.{IsFitting, AreFitting, IsNoBegin, HasNoBegin}
 use Rattle.party_state.specs.declared.edit.Edit.{Edit}
 use Rattle.party_state.specs.declared.edit.Edit.TheVariants.{SetGen}
-use Rattle.change_code.specs.Code.{two, eight, edit_code, edits_code, code_of_change}
+use Rattle.x_mac.specs.Code.{edc_of}
+use Rattle.change_code.specs.declared.format.Format.{Format}
+use Rattle.change_code.specs.declared.format.Format.TheVariants.{One, Two}
+use Rattle.change_code.specs.Code.{two, four, eight, edit_code, edits_code, change_text, number_of, code_of_change}
 use Rattle.key_store.specs.Store.{GoOn}
 use Rattle.cases.specs.Seeds.{IsSeed, AreSeeds}
 
@@ -19,9 +22,6 @@ seeds_go_on edits are = All-weaker IsSeed IsNoBegin (λ edit is. subst IsNoBegin
 
 still_within : (v : ℕ) (party : Party) → IsWithinLimits party → IsWithinLimits (apply_edit (SetGen v) party)
 still_within v party within = record { links = within.links; keys = within.keys }
-
-pub seed_within : (v : ℕ) (party : Party) → IsWithinLimits party → StaysWithinLimits (SetGen v ∷ []) party
-seed_within v party within = (still_within v party within, tt)
 
 all_within : (edits : List Edit) (party : Party) → All IsSeed edits → IsWithinLimits party → StaysWithinLimits edits party
 all_within [] party all within = tt
@@ -39,6 +39,10 @@ two_long : (n : ℕ) → length (two n) ≡ 2
 unfolding two
 two_long n = refl
 
+four_long : (n : ℕ) → length (four n) ≡ 4
+unfolding four
+four_long n = refl
+
 eight_long : (n : ℕ) → length (eight n) ≡ 8
 unfolding eight
 eight_long n = refl
@@ -55,10 +59,18 @@ seeds_long (edit ∷ edits) all =
     let both = length-append (edit_code edit) (edits_code edits) in
     omega (arith, one, more, both)
 
-pub seeds_short : (edits : List Edit) → AreSeeds edits → length (code_of_change edits) ≤ 4194304
-seeds_short edits are =
+text_short : (edits : List Edit) → AreSeeds edits → length (change_text edits) ≤ 589817
+text_short edits are =
     let head = length-append (two (length edits)) (edits_code edits) in
     let number = two_long (length edits) in
     let rest = seeds_long edits are.all in
     let few = are.few in
     omega (arith, head, number, rest, few)
+
+pub seeds_short : (f : Format) (edits : List Edit) → AreSeeds edits → length (code_of_change f edits) ≤ 4194304
+seeds_short One edits are =
+    let code = length-append (number_of One ∷ change_text edits) [] in
+    omega (arith, code, text_short edits are)
+seeds_short Two edits are =
+    let code = length-append (number_of Two ∷ change_text edits) (four (edc_of (number_of Two ∷ change_text edits))) in
+    omega (arith, code, text_short edits are, four_long (edc_of (number_of Two ∷ change_text edits)))

@@ -64,8 +64,9 @@ fn copied(alloc: Global, change: &Change) -> Result<Change, Cause>
 fn fits(alloc: Global, store: &Store<TornDisk>, change: &Change) -> Result<bool, Cause>
     requires { AreSeeds change.now }
 {
-    let framed = Framed::of(alloc, copied(alloc, change)?).map_err(|_| Cause::NoMemory)?;
-    Ok(framed.fits(store.room()))
+    let change = copied(alloc, change)?;
+    let framed = Framed::of(alloc, store.format(), change).map_err(|_| Cause::NoMemory)?;
+    Ok(framed.fits(store.space().room))
 }
 
 /// The store afterwards, and whether it was done.
@@ -111,7 +112,7 @@ fn fill(
         store = next;
         tell(lines, Line::Change { number, fits, kept })?;
     }
-    tell(lines, Line::Room(store.room()))?;
+    tell(lines, Line::Room(store.space().room))?;
     Ok(store)
 }
 
@@ -123,7 +124,7 @@ fn filled(alloc: Global, change: &Change) -> Result<(Vec<Line>, u64), Cause>
     let store = fill(alloc, begun(alloc)?, change, &mut lines)?;
     let (store, done) = ended(store.compact(alloc))?;
     tell(&mut lines, Line::Compaction { done })?;
-    tell(&mut lines, Line::Room(store.room()))?;
+    tell(&mut lines, Line::Room(store.space().room))?;
     let store = fill(alloc, store, change, &mut lines)?;
     Ok((lines, store.into_disk().length()?))
 }

@@ -6,8 +6,6 @@ mod hearing;
 mod laws;
 mod next;
 mod separators;
-#[cfg(test)]
-mod tests;
 mod unheard;
 
 pub use feed::{Feed, HELD};

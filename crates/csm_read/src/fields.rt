@@ -177,16 +177,6 @@ impl<'a> Fields<'a> {
         }
     }
 
-    /// The first form that is left and lacks no tag.
-    pub fn whole_form(&self) -> Option<Form>
-        ensures { result ≡ find (λ f. has_form self.now.left.bits f && is_none (absent_by self.now.slots f)) forms }
-    {
-        FormSet::FORMS
-            .iter()
-            .copied()
-            .find(|form| self.is_whole(self.left, *form))
-    }
-
     /// The tag that is missing at the end: the first absent one of the first form that is left, or
     /// else that of its code.
     pub fn missing_at_end(&self) -> Tag

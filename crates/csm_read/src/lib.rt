@@ -6,8 +6,6 @@ mod fields;
 mod laws;
 mod numbers;
 mod reading;
-#[cfg(test)]
-mod tests;
 mod units;
 
 pub use arriving::read_arrival;

@@ -92,7 +92,7 @@ high_digits (suc k) n =
     let l : digit_value (slice_index upper_digits (b % 16)) < 16 = omega (arith, low, ls) in
     and_from _ _ (lt-ltb _ 16 h) (and_from _ _ (lt-ltb _ 16 l) (high_digits k n))
 
-high_length : (k n : ℕ) → length (encode_upper (bytes_high_first k n)) ≡ 2 * k
+pub high_length : (k n : ℕ) → length (encode_upper (bytes_high_first k n)) ≡ 2 * k
 unfolding encode_with
 high_length zero n = refl
 high_length (suc k) n = let e = high_length k n in omega (arith, e)
@@ -107,7 +107,7 @@ be_four a b c d = omega arith
 key_value : (n : ℕ) → n < 2 ^ 64 → digits_value 16 (key_digits n) ≡ n
 key_value n h = high_value 8 n 0 ∙ sym (be_eight _ _ _ _ _ _ _ _) ∙ from_be_bytes-to_be_bytes_8 n h
 
-code_value : (n : ℕ) → n < 2 ^ 32 → digits_value 16 (code_digits n) ≡ n
+pub code_value : (n : ℕ) → n < 2 ^ 32 → digits_value 16 (code_digits n) ≡ n
 code_value n h = high_value 4 n 0 ∙ sym (be_four _ _ _ _) ∙ from_be_bytes-to_be_bytes_4 n h
 
 key_hex : (n : ℕ) → is_hex 16 (key_digits n) ≡ true

@@ -22,7 +22,7 @@ pub fn key_digits(key: u64) -> [u8; 16]
     digits
 }
 
-/// The 8 digits of a code.
+/// The 8 upper-case digits of a code.
 pub fn code_digits(code: u32) -> [u8; 8]
     ensures { result ≡ code_digits code }
 {

@@ -8,12 +8,11 @@ mod field_text;
 mod laws;
 mod optional;
 mod shortness;
-#[cfg(test)]
-mod tests;
 mod writer;
 mod writing;
 
 pub use closing::Closing;
+pub use digits::code_digits;
 pub use laws::{law_auth_says, law_canon_reads_back, law_canon_rewrites};
 pub use shortness::law_canon_short;
 pub use writing::write;

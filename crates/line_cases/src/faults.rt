@@ -6,7 +6,7 @@ use x_base::{NoMemory, Text};
 use x_line::{LineFault, Opt, UsageKind, read_order};
 
 /// Command lines, their words parted by blanks, and what is wrong with them.
-const FAULTS: [(&str, UsageKind); 18] = [
+const FAULTS: [(&str, UsageKind); 22] = [
     ("check extra", UsageKind::Line),
     ("check --party", UsageKind::Line),
     ("check --par BANKA", UsageKind::Line),
@@ -32,6 +32,16 @@ const FAULTS: [(&str, UsageKind); 18] = [
         "take --single --events 1 --party x",
         UsageKind::Unwanted(Opt::Events),
     ),
+    ("audit --party BANKA", UsageKind::Unwanted(Opt::Party)),
+    (
+        "accept --single --amount 1 --ledger LEDA",
+        UsageKind::Unwanted(Opt::Amount),
+    ),
+    ("migrate --ledger LEDA", UsageKind::Unwanted(Opt::Ledger)),
+    (
+        "pay --party BANKA --peer BANKB --name x --amount x",
+        UsageKind::Missing(Opt::Ledger),
+    ),
     (
         "init --role x --genkey x --genseed x",
         UsageKind::Missing(Opt::Party),
@@ -43,7 +53,7 @@ const FAULTS: [(&str, UsageKind); 18] = [
 ];
 
 /// Command lines each of which has one bad value or more, and the option of the first one.
-const BAD_VALUES: [(&str, Opt); 17] = [
+const BAD_VALUES: [(&str, Opt); 22] = [
     ("show --party=", Opt::Party),
     ("take --party BANKa", Opt::Party),
     (
@@ -83,6 +93,17 @@ const BAD_VALUES: [(&str, Opt); 17] = [
     (
         "end --party BANKA --peer BANKB --name BANKA.BANKA.K1.0",
         Opt::Name,
+    ),
+    ("migrate --party banka", Opt::Party),
+    ("accept --party BANKA --ledger BANKA", Opt::Ledger),
+    ("accept --party BANKA --ledger led", Opt::Ledger),
+    (
+        "pay --party BANKA --peer BANKB --name BANKA.BANKA.K1.1 --ledger BANKA --amount 0",
+        Opt::Ledger,
+    ),
+    (
+        "pay --party BANKA --peer BANKB --name BANKA.BANKA.K1.1 --ledger LEDA --amount 100000000000000",
+        Opt::Amount,
     ),
     (
         "drill --seed 18446744073709551616 --events 10001",

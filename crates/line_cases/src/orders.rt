@@ -2,12 +2,14 @@
 use crate::words::words_of;
 use case_table::Table;
 use std::alloc::Global;
-use x_base::{Ident, KeyName, Label, NoMemory, Role, Side, Text};
+use x_base::{Count, Ident, KeyName, Label, NoMemory, Role, Side, Text};
 use x_line::{LineFault, Order, read_order};
 use x_mac::Pair;
 
-/// Command lines, their words parted by blanks, and the orders that they give.
-fn rows() -> Option<[(&'static str, Order); 16]> {
+/// A command line, its words parted by blanks, and the order that it gives.
+type Row = (&'static str, Order);
+
+fn rows() -> Option<[Row; 16]> {
     let party = Ident::read(b"BANKA").ok()?;
     let peer = Ident::read(b"CKDX").ok()?;
     let ultimate = Ident::read(b"BANKB").ok()?;
@@ -112,6 +114,33 @@ fn rows() -> Option<[(&'static str, Order); 16]> {
     ])
 }
 
+/// The same of ledgers, of a migration and of an audit.
+fn later_rows() -> Option<[Row; 4]> {
+    let party = Ident::read(b"BANKA").ok()?;
+    let peer = Ident::read(b"CKDX").ok()?;
+    let name = KeyName::read(b"CKDX.BANKA.C.7").ok()?;
+    let ledger = Ident::read(b"LEDA").ok()?;
+    let amount = Count::of(2500)?;
+    Some([
+        ("migrate --party BANKA", Order::Migrate { party }),
+        (
+            "pay --amount 00000000002500 --ledger LEDA --party BANKA --peer CKDX --name CKDX.BANKA.C.7",
+            Order::Pay {
+                party,
+                peer,
+                name,
+                ledger,
+                amount,
+            },
+        ),
+        (
+            "accept --ledger=LEDA --party=BANKA",
+            Order::Accept { party, ledger },
+        ),
+        ("audit", Order::Audit),
+    ])
+}
+
 /// The order that the words of a line give, or what is wrong with them, in words.
 fn given(alloc: Global, line: &str, wanted: &Order) -> Result<String, NoMemory> {
     let words = words_of(alloc, line)?;
@@ -127,16 +156,22 @@ fn order_text(alloc: Global, order: &Order) -> Result<String, NoMemory> {
     Ok(format!(in alloc; "{order:?}")?)
 }
 
+fn add_rows(alloc: Global, table: &mut Table, rows: &[Row]) -> Result<(), NoMemory> {
+    for (line, wanted) in rows {
+        let given = given(alloc, line, wanted)?;
+        let wanted = order_text(alloc, wanted)?;
+        table.text_row(line, given.as_str(), wanted.as_str())?;
+    }
+    Ok(())
+}
+
 /// What is told of the orders that lines give.
 pub(crate) fn orders(alloc: Global) -> Result<Text, NoMemory> {
     let mut table = Table::new(alloc, "orders of command lines");
-    let Some(rows) = rows() else {
+    let (Some(rows), Some(later)) = (rows(), later_rows()) else {
         return table.told();
     };
-    for (line, wanted) in rows {
-        let given = given(alloc, line, &wanted)?;
-        let wanted = order_text(alloc, &wanted)?;
-        table.text_row(line, given.as_str(), wanted.as_str())?;
-    }
+    add_rows(alloc, &mut table, &rows)?;
+    add_rows(alloc, &mut table, &later)?;
     table.told()
 }

@@ -2,7 +2,9 @@
 use case_table::{Call, Table};
 use std::alloc::Global;
 use x_base::{NoMemory, Text};
-use x_values::{ident, key, key_name, label, number, pair, plain_number, plain_number_within};
+use x_values::{
+    count, ident, key, key_name, label, number, pair, plain_number, plain_number_within,
+};
 
 /// A word, and what it stands for as a number, as one without a leading zero, and as such a one from
 /// 1 to 10,000.
@@ -62,6 +64,12 @@ pub(crate) fn keys_and_names(alloc: Global) -> Result<Text, NoMemory> {
     table.row(&[Call::answer("ident of C", ident(b"C").is_some(), false)])?;
     table.row(&[Call::answer("label of C", label(b"C").is_some(), true)])?;
     table.row(&[Call::answer("label of k", label(b"k").is_some(), false)])?;
+    table.row(&[Call::option(
+        "count of 00000000002500",
+        count(b"00000000002500").map(|count| count.value()),
+        Some(2500),
+    )])?;
+    table.row(&[Call::answer("count of 0", count(b"0").is_some(), false)])?;
     table.row(&[Call::option(
         "the count of key_name",
         name.map(|name| name.count.value()),

@@ -8,7 +8,7 @@ ghost use Rattle.csm_read.specs.Building.{AreSound, IsCodeIn, Ends};
 ghost use Rattle.csm_read.specs.Denoting.{value_at};
 
 use crate::fields::Fields;
-use csm_grammar::{Parsed, ReadRefusal, Shut, Tag};
+use csm_grammar::{FormSet, Parsed, ReadRefusal, Shut, Tag};
 use std::alloc::Global;
 
 impl Fields<'_> {
@@ -41,7 +41,11 @@ impl Fields<'_> {
         if !self.is_closed() {
             return Err(ReadRefusal::Missing(self.missing_tag(), place as u64));
         }
-        let form = self.whole_form().unwrap();
+        let form = FormSet::FORMS
+            .iter()
+            .copied()
+            .find(|form| self.is_whole(self.left, *form))
+            .unwrap();
         match self.message(alloc, form) {
             Ok(message) => Ok(Parsed {
                 message,
