@@ -10,42 +10,23 @@ use Rattle.csm_feed.specs.declared.unheard.Unheard.TheVariants as unheard
 use Rattle.csm_feed.specs.Heard.{behind, Heard}
 use Rattle.csm_feed.specs.Laws.{OneHearing}
 use Rattle.x_disk.specs.Disk.{View}
-use Rattle.x_disk.specs.Shelf.{alike_refl}
 use Rattle.party_state.specs.declared.command.Input.TheVariants.{Arrived}
-use Rattle.x_status.specs.declared.status.Refusal.{Refusal}
 use Rattle.x_status.specs.declared.status.Status.{Status}
 use Rattle.x_status.specs.declared.status.Status.TheVariants as status
 use Rattle.csm_check.specs.Transfer.{IsQuiet}
 use Rattle.csm_check.specs.Listening.{taken, refusal_of, IsHeard, IsUnheard}
-use Rattle.x917.specs.Ends.{IsOfParty, LeavesRest}
+use Rattle.x917.specs.Ends.{IsOfParty}
 use Rattle.x_party.specs.Dues.{IsDue}
 use Rattle.x917.specs.Dues.{Follows, FollowsBytes}
 
 -- a status that comes without a party comes of none
-none_told : (left : Option (List ℕ)) (s : Status) → IsUnheard left s → IsOfParty s → ⊥
+pub none_told : (left : Option (List ℕ)) (s : Status) → IsUnheard left s → IsOfParty s → ⊥
 none_told left s (inl (inl fault)) of = subst IsOfParty fault of
 none_told left s (inl (inr memory)) of = subst IsOfParty memory of
 none_told left s (inr (u, is, possible, heard)) of = go u (subst IsOfParty is of) where
   go : (u : Unheard) → IsOfParty (status.Refused (refusal_of u)) → ⊥
   go (unheard.Text refusal) of = of
   go (unheard.Trailing place) of = of
-
-unheard_other : (s t : Status) (left : Option (List ℕ)) → IsUnheard left s → s ≡ t → (t ≡ status.ReadFault → ⊥) → (t ≡ status.NoMemory → ⊥)
-    → ((f : Refusal) → t ≡ status.Refused f → ⊥) → ⊥
-unheard_other s t left (inl (inl fault)) is no_read no_memory no_refusal = no_read (sym is ∙ fault)
-unheard_other s t left (inl (inr memory)) is no_read no_memory no_refusal = no_memory (sym is ∙ memory)
-unheard_other s t left (inr (u, same, possible, heard)) is no_read no_memory no_refusal = no_refusal (refusal_of u) (sym is ∙ same)
-
--- nothing was done
-pub unheard_rest : (left : Option (List ℕ)) (s : Status) → IsUnheard left s → (name : List ℕ) (is_back unwritten : Type 0) (old : List ℕ → View) (put disk : ℕ) → unwritten
-    → LeavesRest name s is_back unwritten old old put put disk disk
-unheard_rest left s is name is_back unwritten old put disk same = record {
-  back = λ of. absurd (none_told left s is of);
-  others = λ other apart. alike_refl (old other);
-  silent = λ silent. same;
-  write_fault = λ fault. absurd (unheard_other s status.WriteFault left is fault (λ e. cc e) (λ e. cc e) (λ f e. cc e));
-  disk_fault = λ fault. absurd (unheard_other s status.DiskFault left is fault (λ e. cc e) (λ e. cc e) (λ f e. cc e));
-}
 
 -- ---- what follows of it
 

@@ -26,7 +26,7 @@ use Rattle.replay.specs.declared.result.PlayResult.TheVariants as played
 use Rattle.x_status.specs.declared.status.Status.{Status}
 use Rattle.x_status.specs.declared.status.Status.TheVariants as status
 use Rattle.x917.specs.Drilled.{EndsDrill, IsDrill, IsDrilled, IsDrilledUpTo, IsPlayedAlone}
-use Rattle.x917.specs.Headline.{IsLawful}
+use Rattle.course.specs.Lawful.{IsLawful}
 use Rattle.x917.proofs.Headlines.{whole, up_to}
 
 all_tell : (entry : List ℕ → View) (owners : List (List ℕ)) → ((name : List ℕ) → (entry name).now ≡ Some []) → AllTell entry owners

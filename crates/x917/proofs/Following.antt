@@ -2,7 +2,6 @@
 use Rattle.std.proofs.Common.{◌≡◌, ◌⊎◌, inl, inr, ℕ, List, Option, Some, None, refl, sym, ap, ◌∙◌}
 use Rattle.x_base.specs.Edge.{Rose}
 use Rattle.x_disk.specs.Disk.{View}
-use Rattle.x_party.specs.Outcomes.{LeavesShelf, IsNoFailure}
 use Rattle.x_party.specs.Dues.{GivesDue}
 use Rattle.x_party.specs.declared.outcome.Outcome.{Outcome}
 use Rattle.x_party.specs.declared.outcome.Outcome.TheVariants as outcome
@@ -10,8 +9,7 @@ use Rattle.x_status.specs.declared.status.Refusal.TheVariants.{Decided}
 use Rattle.x_status.specs.declared.status.Status.{Status}
 use Rattle.x_status.specs.declared.status.Status.TheVariants as status
 use Rattle.csm_check.specs.Transfer.{IsQuiet}
-use Rattle.x_status.specs.Causes.{IsSilent}
-use Rattle.x917.specs.Ends.{status_of_outcome, Puts, Ends, IsOfParty, IsPartyCall, LeavesRest}
+use Rattle.x917.specs.Ends.{status_of_outcome, Puts, Ends}
 use Rattle.x917.specs.Dues.{Follows}
 
 put_status : (reply : Option (List ℕ)) (ending : List ℕ) (answer s : Status) (before after : Option (List ℕ)) → Puts reply ending answer s before after → (s ≡ answer) ⊎ (s ≡ status.WriteFault)
@@ -38,7 +36,7 @@ fault_of outcome.NoMemory is = absurd cc
 
 module _ (o : Outcome) (ending : List ℕ) (s : Status) (before after : Option (List ℕ)) (put puts disk disks : ℕ)
     (ends : Ends o ending s before after) (put_cause : s ≡ status.WriteFault → Rose put puts) where
-  follows : (old : View) (due : List ℕ → Outcome → Type 0) → GivesDue old due o → (o ≡ outcome.Fault → Rose disk disks)
+  pub follows : (old : View) (due : List ℕ → Outcome → Type 0) → GivesDue old due o → (o ≡ outcome.Fault → Rose disk disks)
       → IsQuiet put puts → IsQuiet disk disks → Follows old due s
   follows old due given disk_cause put_quiet disk_quiet = λ image other now is. go image other (given image other now is) (ended o ending s before after ends) where
     go : (image : List ℕ) (other : Outcome) → (o ≡ other) ⊎ ((o ≡ outcome.Fault) ⊎ (o ≡ outcome.NoMemory)) → (s ≡ status_of_outcome o) ⊎ (s ≡ status.WriteFault)
@@ -48,25 +46,8 @@ module _ (o : Outcome) (ending : List ℕ) (s : Status) (before after : Option (
     go image other (inr (inl fault)) (inl same) = absurd (disk_quiet (disk_cause fault))
     go image other (inr (inr memory)) (inl same) = inr (same ∙ ap status_of_outcome memory)
 
-  disk_fault : (o ≡ outcome.Fault → Rose disk disks) → s ≡ status.DiskFault → Rose disk disks
+  pub disk_fault : (o ≡ outcome.Fault → Rose disk disks) → s ≡ status.DiskFault → Rose disk disks
   disk_fault cause is = go (ended o ending s before after ends) where
     go : (s ≡ status_of_outcome o) ⊎ (s ≡ status.WriteFault) → Rose disk disks
     go (inl same) = cause (fault_of o (sym is ∙ same))
     go (inr fault) = let no : status.DiskFault ≡ status.WriteFault = sym is ∙ fault in absurd cc
-
-  rest : (name : List ℕ) (is_back unwritten : Type 0) (old new : List ℕ → View) → LeavesShelf name o is_back old new disk disks
-      → (IsOfParty s → IsNoFailure o) → (IsSilent s → unwritten) → LeavesRest name s is_back unwritten old new put puts disk disks
-  rest name is_back unwritten old new shelf answered silent = record {
-    back = λ of. shelf.back (answered of);
-    others = shelf.others;
-    silent = silent;
-    write_fault = put_cause;
-    disk_fault = disk_fault shelf.fault;
-  }
-
-  pub called : (name : List ℕ) (is_back unwritten : Type 0) (old new : List ℕ → View) (due : List ℕ → Outcome → Type 0) → GivesDue (old name) due o → LeavesShelf name o is_back old new disk disks
-      → (IsOfParty s → IsNoFailure o) → (IsSilent s → unwritten) → IsPartyCall name s (Follows (old name) due s) is_back unwritten old new put puts disk disks
-  called name is_back unwritten old new due given shelf answered silent = record {
-    follows = follows (old name) due given shelf.fault;
-    rest = rest name is_back unwritten old new shelf answered silent;
-  }

@@ -20,7 +20,8 @@ use Rattle.replay.specs.declared.result.PlayResult.{PlayResult}
 use Rattle.replay.specs.declared.result.PlayResult.TheVariants as played
 use Rattle.x_status.specs.declared.status.Refusal.TheVariants.{Decided}
 use Rattle.x_status.specs.declared.status.Status.TheVariants as status
-use Rattle.x917.specs.Headline.{IsLawful, IsPlayedWhole, IsPlayedUpTo, IsPlayedInPart, IsPlayedUnwritten, IsPlayedEarly, DisksTell, Says, broken_world, status_of_play}
+use Rattle.course.specs.Lawful.{IsLawful}
+use Rattle.x917.specs.Headline.{IsPlayedWhole, IsPlayedUpTo, IsPlayedInPart, IsPlayedUnwritten, IsPlayedEarly, DisksTell, Says, broken_world, status_of_play}
 
 -- what a line makes happen is an action of a network
 action_of : (l : Line) (texts : List (List ℕ)) (moment : ℕ) (h : Happening) (e : Event) → HappensOr l texts h → IsEventOf moment h e → IsAction e.action

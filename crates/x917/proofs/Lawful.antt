@@ -4,37 +4,19 @@ use Rattle.scenario.specs.declared.line.Line.{Line}
 use Rattle.world_laws.specs.World.{World, member_at}
 use Rattle.world_laws.specs.Events.{Event, AreEvents, IsAction}
 use Rattle.world_laws.specs.Honest.{HonestAt, HonestRun}
-use Rattle.world_laws.specs.Laws.{Agreement, OneKeyPerCount, Once, EndedBoth}
-use Rattle.world_laws.specs.Starts.{IsBareStart, IsStart}
+use Rattle.world_laws.specs.Starts.{IsStart}
 use Rattle.world_laws.specs.Steps.{run, step, number_after}
 use Rattle.course.specs.Course.{Course, Leads}
 use Rattle.course.specs.Ends.{Ran}
+use Rattle.course.specs.Lawful.{IsLawful}
 use Rattle.course.specs.Starts.{start_course, start_world}
-use Rattle.x917.specs.Headline.{IsLawful}
 
 are_more : (events : List Event) (e : Event) → AreEvents events → IsAction e.action → AreEvents (events ++ e ∷ [])
 are_more [] e are is = (is, tt)
 are_more (x ∷ events) e are is = (are.0, are_more events e are.1 is)
 
-module _ (bare : (start : World) → IsStart start → IsBareStart start)
-    (counts : (start : World) (events : List Event) → IsBareStart start → AreEvents events → OneKeyPerCount (run 1 start events))
-    (once : (start : World) (events : List Event) → IsBareStart start → AreEvents events → Once (run 1 start events))
-    (agreement : (start : World) (events : List Event) → IsStart start → AreEvents events → HonestRun 1 start events → Agreement (run 1 start events))
-    (ended : (start : World) (events : List Event) → IsStart start → AreEvents events → HonestRun 1 start events → EndedBoth (run 1 start events))
+module _ (lawful : (start w : World) (events : List Event) → IsStart start → AreEvents events → w ≡ run 1 start events → HonestRun 1 start events → IsLawful start w)
     (runs : (before after : ℕ) (lines : List Line) (c e : Course) → Leads before after lines c e → Ran c e) where
-  lawful : (start w : World) (events : List Event) → IsStart start → AreEvents events → w ≡ run 1 start events → HonestRun 1 start events → IsLawful start w
-  lawful start w events begins are is honest = record {
-    begins = begins;
-    events = events;
-    are = are;
-    ran = is;
-    honest = honest;
-    agreement = subst Agreement (sym is) (agreement start events begins are honest);
-    counts = subst OneKeyPerCount (sym is) (counts start events (bare start begins) are);
-    once = subst Once (sym is) (once start events (bare start begins) are);
-    ended = subst EndedBoth (sym is) (ended start events begins are honest);
-  }
-
   pub reached : (lines front : List Line) (before after : ℕ) (c : Course) → IsStart (start_world lines) → Leads before after front (start_course lines) c → IsLawful (start_world lines) c.world
   reached lines front before after c begins leads =
       let r = runs before after front (start_course lines) c leads in

@@ -1,6 +1,8 @@
 pub mod Endings
 pub mod Following
 pub mod Arriving
+pub mod Audits
+pub mod Paying
 pub mod Orders
 pub mod NetworkEvents
 pub mod Lawful

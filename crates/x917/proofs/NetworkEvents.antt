@@ -6,6 +6,7 @@ use Rattle.x_base.specs.Names.{IsIdent, IsLabel, is_name}
 use Rattle.csm_grammar.specs.declared.arrival.Arrival.{Arrival}
 use Rattle.x_disk.specs.Disk.{View}
 use Rattle.x_values.specs.Words.{ident_of, label_of}
+use Rattle.member.specs.Acts.{compacted_in, migrated_in}
 use Rattle.x_line.specs.declared.opt.Opt.TheVariants as opt
 use Rattle.x_line.specs.declared.order.Order.{Order}
 use Rattle.x_line.specs.declared.order.Order.TheVariants as order
@@ -14,10 +15,10 @@ use Rattle.x_line.specs.Orders.{HasValues}
 use Rattle.party_state.specs.declared.command.Command.{Command}
 use Rattle.party_state.specs.declared.command.Command.TheVariants as command
 use Rattle.party_state.specs.declared.command.Input.TheVariants.{Ordered, Arrived}
-use Rattle.x_party.specs.Outcomes.{TakesTurn, IsSafe, CompactsParty, IsSafeCompaction}
+use Rattle.x_party.specs.Outcomes.{TakesTurn, IsSafe, RewritesParty, IsSafeRewriting}
 use Rattle.x_party.specs.declared.outcome.Outcome.{Outcome}
 use Rattle.x_party.specs.declared.outcome.Outcome.TheVariants as outcome
-use Rattle.world_laws.specs.Events.{Action, Orders, Hears, Compacts, IsAction, IsCommand}
+use Rattle.world_laws.specs.Events.{Action, Orders, Hears, Compacts, Migrates, IsAction, IsCommand}
 use Rattle.world_laws.specs.Calls.{IsCall, IsNamedCall, AnswersOther}
 use Rattle.x_status.specs.declared.status.Status.{Status}
 use Rattle.csm_check.specs.Listening.{taken, IsHeard}
@@ -58,8 +59,10 @@ module _ {S : Type 0} (entry : S → List ℕ → View)
     → IsNamedCall name (entry old name) (entry new name) (Orders c) moment o)
     (arrivals : (old new : S) (name bytes : List ℕ) (a : Arrival) (moment : ℕ) (o : Outcome) → TakesTurn name (entry old name) (entry new name) (Arrived a) moment o → IsSafe name (entry old name) (entry new name) (Arrived a) moment
     → IsNamedCall name (entry old name) (entry new name) (Hears bytes (Some a)) moment o)
-    (compactions : (old new : S) (name : List ℕ) (moment : ℕ) (o : Outcome) → CompactsParty (entry old name) (entry new name) o → IsSafeCompaction (entry old name) (entry new name)
+    (compactions : (old new : S) (name : List ℕ) (moment : ℕ) (o : Outcome) → RewritesParty compacted_in (entry old name) (entry new name) o → IsSafeRewriting compacted_in (entry old name) (entry new name)
     → IsCall (entry old name) (entry new name) Compacts moment o)
+    (migrations : (old new : S) (name : List ℕ) (moment : ℕ) (o : Outcome) → RewritesParty migrated_in (entry old name) (entry new name) o → IsSafeRewriting migrated_in (entry old name) (entry new name)
+    → IsCall (entry old name) (entry new name) Migrates moment o)
     (moment : ℕ) (s : Status) (left rest before after : Option (List ℕ)) (old new : S) where
   named_event : (action : Action) (name : List ℕ) (o : Outcome) → IsAction action → IsNamedCall name (entry old name) (entry new name) action moment o → Ends o (10 ∷ []) s before after
       → IsNamedEvent name action moment (10 ∷ []) (entry old name) (entry new name) s before after
@@ -92,11 +95,20 @@ module _ {S : Type 0} (entry : S → List ℕ → View)
   network_event rows (order.Show party) values obeys = tt
   network_event rows (order.Wipe party) values obeys = tt
   network_event rows order.Replay values obeys = tt
+  network_event rows order.Audit values obeys = tt
   network_event rows (order.Drill seed events) values obeys = tt
+  network_event rows (order.Pay party peer name ledger amount) values obeys = tt
+  network_event rows (order.Accept party ledger) values obeys = tt
   network_event rows (order.Compact party) values obeys = record {
     is_action = tt;
     outcome = obeys.outcome;
-    event = compactions old new party moment obeys.outcome obeys.compacted obeys.safe;
+    event = compactions old new party moment obeys.outcome obeys.rewritten obeys.safe;
+    ends = obeys.ends;
+  }
+  network_event rows (order.Migrate party) values obeys = record {
+    is_action = tt;
+    outcome = obeys.outcome;
+    event = migrations old new party moment obeys.outcome obeys.rewritten obeys.safe;
     ends = obeys.ends;
   }
   network_event rows (order.Take party) values obeys = arrival_event party obeys

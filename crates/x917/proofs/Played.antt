@@ -1,5 +1,5 @@
 -- The playing of a scenario, among the other orders.
-use Rattle.std.proofs.Common.{◌≡◌, inl, inr, ℕ, false, List, Option, refl, sym, ◌∙◌, subst}
+use Rattle.std.proofs.Common.{◌≡◌, inl, inr, ℕ, List, Option, refl, sym, ◌∙◌, subst}
 use Rattle.x_base.specs.Edge.{Rose}
 use Rattle.x_base.specs.declared.verdict.Verdict.{Verdict}
 use Rattle.x_disk.specs.Disk.{View}
@@ -8,14 +8,12 @@ use Rattle.x_line.specs.declared.order.Order.TheVariants as order
 use Rattle.replay.specs.Playing.{Surroundings, around}
 use Rattle.replay.specs.declared.result.PlayResult.{PlayResult}
 use Rattle.replay.specs.declared.result.PlayResult.TheVariants as played
-use Rattle.csm_feed.specs.Heard.{input_limit}
 use Rattle.x_status.specs.declared.status.Status.{Status}
 use Rattle.x_status.specs.declared.status.Status.TheVariants as status
 use Rattle.x917.specs.Drilled.{IsDrill}
 use Rattle.x_status.specs.Causes.{HasCause, IsSilent}
 use Rattle.x917.specs.Headline.{IsReplay, IsUnread, Says, status_of_play}
-use Rattle.x917.specs.Obeys.{IsSilentOf, is_played, most_of}
-use Rattle.csm_check.specs.Transfer.{TookAtMost}
+use Rattle.x917.specs.Obeys.{IsSilentOf}
 
 -- ---- the status of what became of a scenario
 
@@ -108,17 +106,6 @@ module _ (read reads put puts disk disks : ℕ) where
 
 -- ---- among the orders
 
-pub not_played : (o : Order) → (o ≡ order.Replay → ⊥) → ((seed events : ℕ) → o ≡ order.Drill seed events → ⊥) → is_played o ≡ false
-not_played order.Replay replay drill = absurd (replay refl)
-not_played (order.Drill seed events) replay drill = absurd (drill seed events refl)
-not_played o replay drill = refl
-
-pub limit_of_others : (o : Order) (left rest : Option (List ℕ)) → is_played o ≡ false → TookAtMost input_limit left rest → TookAtMost (most_of o) left rest
-limit_of_others order.Replay left rest unplayed took = absurd (cc unplayed)
-limit_of_others (order.Drill seed events) left rest unplayed took = absurd (cc unplayed)
-limit_of_others o left rest unplayed took = took
-
-pub silent_of : (o : Order) (s : Status) → is_played o ≡ false → IsSilentOf o s → IsSilent s
-silent_of order.Replay s unplayed silent = absurd (cc unplayed)
-silent_of (order.Drill seed events) s unplayed silent = silent
-silent_of o s unplayed silent = silent
+pub silent_of : (o : Order) (s : Status) → (o ≡ order.Replay → ⊥) → IsSilentOf o s → IsSilent s
+silent_of order.Replay s replay silent = absurd (replay refl)
+silent_of o s replay silent = silent

@@ -1,6 +1,5 @@
 -- What a drill says (this project's profile).
-use Rattle.std.specs.Prelude.{◌≡◌, ◌+◌, ◌++◌, ℕ, List, [], length, count_by, Option, Some, None, codes}
-use Rattle.std.specs.Fmt.{decimal}
+use Rattle.std.specs.Prelude.{◌≡◌, ◌+◌, ℕ, List, [], length, count_by, Option, Some, None}
 use Rattle.x_base.specs.Edge.{AppendsTo, WrotePrefix}
 use Rattle.x_disk.specs.Disk.{View}
 use Rattle.scenario.specs.declared.line.Line.{Line}
@@ -8,6 +7,7 @@ use Rattle.scenario_drill.specs.Drill.{drill_text}
 use Rattle.scenario.specs.Reading.{IsFirstBad, IsScenario}
 use Rattle.course.specs.Ends.{is_event}
 use Rattle.replay.specs.Playing.{around, IsPlay}
+use Rattle.course.specs.Summary.{summary_of}
 use Rattle.course.specs.Tallies.{IsTallied}
 use Rattle.course.specs.declared.tally.Tally.{Tally}
 use Rattle.replay.specs.declared.result.PlayResult.{PlayResult}
@@ -15,23 +15,6 @@ use Rattle.replay.specs.declared.result.PlayResult.TheVariants as played
 use Rattle.x_status.specs.declared.status.Status.{Status}
 use Rattle.x_status.specs.declared.status.Status.TheVariants as status
 use Rattle.x917.specs.Headline.{IsPlayedWhole, IsPlayedUpTo}
-
--- the ten lines of a summary, each a word and a number
-
-abbrev pub summary_line : List ℕ → ℕ → List ℕ
-summary_line word number = word ++ (codes " " ++ (decimal number ++ codes "\n"))
-
-abbrev pub summary_of : Tally → List ℕ
-summary_of t = summary_line (codes "EVENTS") t.events
-    ++ summary_line (codes "DONE") t.done
-    ++ summary_line (codes "REFUSED") t.refused
-    ++ summary_line (codes "STOPPED") t.stopped
-    ++ summary_line (codes "NONE") t.none
-    ++ summary_line (codes "TEXTS") t.texts
-    ++ summary_line (codes "LIVE") t.live
-    ++ summary_line (codes "HELD") t.held
-    ++ summary_line (codes "CLOSING") t.closing
-    ++ summary_line (codes "ENDED") t.ended
 
 -- a scenario was played over a shelf of its own, on which each disk was empty and none failed; its transcript was written
 -- nowhere

@@ -1,15 +1,11 @@
 -- How a call over a party ends (this project's profile).
 use Rattle.std.specs.Prelude.{◌≡◌, ◌⊎◌, ◌++◌, ℕ, List, Option, Some, None}
-use Rattle.x_base.specs.Edge.{Rose, AppendsTo, WrotePrefix}
-use Rattle.x_disk.specs.Disk.{View}
-use Rattle.x_disk.specs.Shelf.{OthersStay}
+use Rattle.x_base.specs.Edge.{AppendsTo, WrotePrefix}
 use Rattle.x_party.specs.declared.outcome.Outcome.{Outcome}
 use Rattle.x_party.specs.declared.outcome.Outcome.TheVariants as outcome
-use Rattle.x_status.specs.declared.status.Refusal.TheVariants.{Decided, OtherParty}
+use Rattle.x_status.specs.declared.status.Refusal.TheVariants.{Decided, OtherParty, Pay}
 use Rattle.x_status.specs.declared.status.Status.{Status}
 use Rattle.x_status.specs.declared.status.Status.TheVariants as status
-use Rattle.csm_check.specs.Transfer.{IsQuiet}
-use Rattle.x_status.specs.Causes.{IsSilent}
 
 -- the status of an outcome
 abbrev pub status_of_outcome : Outcome → Status
@@ -40,22 +36,7 @@ abbrev pub IsOfParty : Status → Type 0
 IsOfParty status.Done = Unit {0}
 IsOfParty (status.Refused (Decided verdict)) = Unit {0}
 IsOfParty (status.Refused (OtherParty asked found)) = Unit {0}
+IsOfParty (status.Refused (Pay cause)) = Unit {0}
 IsOfParty (status.Damaged place) = Unit {0}
 IsOfParty status.WriteFault = Unit {0}
 IsOfParty s = ⊥
-
--- what a call over one party leaves, and why it failed: where the party answered its disk is back on the shelf, the disks of
--- the other parties stay, with a silent status nothing is written, and a fault comes only where a count of faults rose. The
--- counts are those of the sink and the shelf, before and after
-pub record LeavesRest (party : List ℕ) (s : Status) (is_back unwritten : Type 0) (old new : List ℕ → View) (put puts disk disks : ℕ) : Type 0 where
-  pub back : IsOfParty s → is_back
-  pub others : OthersStay party old new
-  pub silent : IsSilent s → unwritten
-  pub write_fault : s ≡ status.WriteFault → Rose put puts
-  pub disk_fault : s ≡ status.DiskFault → Rose disk disks
-
--- a call over one party: the status that is due of it where no count of faults rises, and what it leaves. The counts are those
--- of the sink and the shelf, before and after
-pub record IsPartyCall (party : List ℕ) (s : Status) (is_due is_back unwritten : Type 0) (old new : List ℕ → View) (put puts disk disks : ℕ) : Type 0 where
-  pub follows : IsQuiet put puts → IsQuiet disk disks → is_due
-  pub rest : LeavesRest party s is_back unwritten old new put puts disk disks

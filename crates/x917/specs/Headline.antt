@@ -8,13 +8,10 @@ use Rattle.x_disk.specs.Shelf.{IsAlike, AllStay}
 use Rattle.scenario.specs.declared.line.Line.{Line}
 use Rattle.scenario.specs.Reading.{IsFirstBad, IsScenario}
 use Rattle.world_laws.specs.World.{World}
-use Rattle.world_laws.specs.Events.{Event, AreEvents}
-use Rattle.world_laws.specs.Steps.{run, step}
-use Rattle.world_laws.specs.Honest.{HonestRun}
-use Rattle.world_laws.specs.Laws.{Agreement, OneKeyPerCount, Once, EndedBoth}
-use Rattle.world_laws.specs.Starts.{IsStart}
+use Rattle.world_laws.specs.Steps.{step}
 use Rattle.replay.specs.Breaking.{AreOnShelf}
 use Rattle.course.specs.Course.{Course, Leads}
+use Rattle.course.specs.Lawful.{IsLawful}
 use Rattle.course.specs.Lines.{IsForgedIn}
 use Rattle.replay.specs.Playing.{Surroundings, around, AreDurable, IsBrokenAhead, IsBrokenPlay, IsBrokenSetUp, IsDoneAhead, IsNotEmpty, WereBlank}
 use Rattle.replay.specs.SettingUp.{AllTell}
@@ -27,29 +24,7 @@ use Rattle.x_status.specs.declared.status.Refusal.TheVariants.{Decided}
 use Rattle.x_status.specs.declared.status.Status.{Status}
 use Rattle.x_status.specs.declared.status.Status.TheVariants as status
 
--- ---- the networks of a scenario
-
--- a network to which events led from a start, and what holds of it
-pub record IsLawful (start w : World) : Type 0 where
-  -- at the start the identities of the parties don't expand alike, each key-encrypting key stands at both its ends, no two
-  -- have the same pair, no count of one was used, and nothing has happened
-  pub begins : IsStart start
-  -- the network is the end of the run of these events: commands, arriving bytes and crashes. The event of each line, and that
-  -- it is honest, is in `Leads`; these have the same end
-  pub events : List Event
-  pub are : AreEvents events
-  pub ran : w ≡ run 1 start events
-  -- the run is honest: at each arrival whose code agrees, that code was made before, by a holder of its key
-  pub honest : HonestRun 1 start events
-  -- a key that its originator counts as live is held by its partner with the same value, name and counter, unless the partner
-  -- accepted its end
-  pub agreement : Agreement w
-  -- no count offsets two different keys under one key-encrypting key
-  pub counts : OneKeyPerCount w
-  -- each key service message takes effect at most once
-  pub once : Once w
-  -- where the answer to the end of a key was accepted, the partner's record of that key is ended or absent
-  pub ended : EndedBoth w
+-- ---- the playing of a scenario
 
 -- the scenario was played to its end
 pub record IsPlayedWhole (old : List ℕ → View) (g : Surroundings) : Type 0 where

@@ -3,5 +3,7 @@ pub mod Dues
 pub mod Headline
 pub mod Drilled
 pub mod Playable
+pub mod Audited
+pub mod Paid
 pub mod Obeys
 pub mod Network

@@ -8,7 +8,7 @@ use Rattle.key_store.specs.Store.{Stands}
 use Rattle.x_party.specs.declared.outcome.Outcome.{Outcome}
 use Rattle.x_line.specs.declared.order.Order.{Order}
 use Rattle.x_line.specs.declared.order.Order.TheVariants as order
-use Rattle.world_laws.specs.Events.{Action, Orders, Hears, Compacts, IsAction}
+use Rattle.world_laws.specs.Events.{Action, Orders, Hears, Compacts, Migrates, IsAction}
 use Rattle.world_laws.specs.Calls.{IsCall, IsNamedCall}
 use Rattle.x917.specs.declared.party_command.PartyCommand.{PartyCommand}
 use Rattle.x_status.specs.declared.status.Status.{Status}
@@ -42,8 +42,8 @@ abbrev pub IsCommandEvent : Option PartyCommand → ℕ → (List ℕ → View) 
 IsCommandEvent (Some t) moment old new s before after = IsNamedEvent t.party (Orders t.command) moment (10 ∷ []) (old t.party) (new t.party) s before after
 IsCommandEvent None moment old new s before after = Unit {0}
 
--- what an order is in a network: parties begin, and links are loaded, before its events; showing, wiping and checking are none; a
--- scenario is a network of its own, of which Headline speaks
+-- what an order is in a network: parties begin, and links are loaded, before its events; showing, wiping, checking,
+-- auditing and payments, which change no party, are none; a scenario is a network of its own, of which Headline speaks
 abbrev pub IsNetworkEvent : Order → ℕ → Status → Option (List ℕ) → Option (List ℕ) → Option (List ℕ) → (List ℕ → View) → (List ℕ → View) → Type 0
 IsNetworkEvent order.Check moment s left before after old new = Unit {0}
 IsNetworkEvent (order.Init party role key v) moment s left before after old new = Unit {0}
@@ -51,7 +51,11 @@ IsNetworkEvent (order.Load party peer label side pair) moment s left before afte
 IsNetworkEvent (order.Show party) moment s left before after old new = Unit {0}
 IsNetworkEvent (order.Wipe party) moment s left before after old new = Unit {0}
 IsNetworkEvent order.Replay moment s left before after old new = Unit {0}
+IsNetworkEvent order.Audit moment s left before after old new = Unit {0}
 IsNetworkEvent (order.Drill seed events) moment s left before after old new = Unit {0}
+IsNetworkEvent (order.Pay party peer name ledger amount) moment s left before after old new = Unit {0}
+IsNetworkEvent (order.Accept party ledger) moment s left before after old new = Unit {0}
 IsNetworkEvent (order.Compact party) moment s left before after old new = IsEvent Compacts moment [] (old party) (new party) s before after
+IsNetworkEvent (order.Migrate party) moment s left before after old new = IsEvent Migrates moment [] (old party) (new party) s before after
 IsNetworkEvent (order.Take party) moment s left before after old new = IsArrivalEvent party moment left (old party) (new party) s before after
 IsNetworkEvent o moment s left before after old new = IsCommandEvent (command_of o) moment old new s before after

@@ -1,6 +1,7 @@
 -- What an order does (this project's profile). `left` and `rest` are what the source has before and after, `before` and
 -- `after` what the sink has, `old` and `new` what the shelf tells of the disks.
-use Rattle.std.specs.Prelude.{◌≡◌, ◌⊎◌, ℕ, Bool, true, false, List, [], ◌∷◌, Err, Option, Some, None, IfSome, option_map}
+use Rattle.std.specs.Prelude.{◌≡◌, ◌≢◌, ◌≤◌, ◌⊎◌, ℕ, Bool, true, false, List, [], ◌∷◌, Option, Some, None, IfSome, option_map}
+use Rattle.x_base.specs.Edge.{Rose}
 use Rattle.x_disk.specs.Disk.{View, Tells, LeavesOnly, IsUntouched}
 use Rattle.x_disk.specs.Shelf.{IsAlike, OthersStay, AllStay}
 use Rattle.key_journal.specs.States.{WritesOnlyToBlank}
@@ -11,26 +12,31 @@ use Rattle.x_line.specs.declared.usage.UsageKind.TheVariants.{Line}
 use Rattle.x_line.specs.Line.{is_line}
 use Rattle.x_line.specs.Usage.{usage_of}
 use Rattle.csm_grammar.specs.declared.arrival.Arrival.{Arrival}
-use Rattle.csm_feed.specs.declared.unheard.Unheard.{Unheard}
-use Rattle.csm_feed.specs.Heard.{Heard, input_limit}
+use Rattle.csm_feed.specs.Heard.{input_limit}
 use Rattle.party_state.specs.declared.command.Command.TheVariants as command
 use Rattle.party_state.specs.declared.command.Input.{Input}
 use Rattle.party_state.specs.declared.command.Input.TheVariants.{Ordered, Arrived}
 use Rattle.party_state.specs.State.{Party, begun}
+use Rattle.change_code.specs.declared.format.Format.{Format}
 use Rattle.key_store.specs.Store.{IsBlankOrFirst}
+use Rattle.member.specs.Acts.{compacted_in, migrated_in}
 use Rattle.x_party.specs.Images.{StillTells, OrBefore}
-use Rattle.x_party.specs.Outcomes.{CreatesParty, ShowsParty, CompactsParty, WipesParty, TakesTurn, IsSafe, IsSafeCompaction, IsSafeWiping}
-use Rattle.x_party.specs.Dues.{IsDue, IsDueCompaction, IsDueCreation, IsDueShow, IsDueWiping}
+use Rattle.x_party.specs.Outcomes.{CreatesParty, ShowsParty, RewritesParty, WipesParty, TakesTurn, IsSafe, IsSafeRewriting, IsSafeWiping}
+use Rattle.x_party.specs.Dues.{IsDue, IsDueCompaction, IsDueCreation, IsDueMigration, IsDueShow, IsDueWiping}
 use Rattle.x_party.specs.declared.outcome.Outcome.{Outcome}
+use Rattle.disk_pair.specs.Pairs.{ThirdsStay}
+use Rattle.x_pay.specs.Payments.{accepting, paying}
 use Rattle.x917.specs.declared.party_command.PartyCommand.{PartyCommand}
 use Rattle.x_status.specs.declared.status.Status.{Status}
 use Rattle.x_status.specs.declared.status.Status.TheVariants as status
 use Rattle.x_status.specs.Causes.{IsSilent}
-use Rattle.csm_check.specs.Listening.{IsHeard, IsUnheard, taken}
+use Rattle.csm_check.specs.Listening.{IsHeard, IsUnheard}
 use Rattle.csm_check.specs.Check.{IsChecked, IsExact}
 use Rattle.x917.specs.Ends.{Ends, IsOfParty}
+use Rattle.x917.specs.Audited.{ExpectsAudit, audit_limit, audit_taken}
 use Rattle.x917.specs.Dues.{Follows, FollowsBytes}
 use Rattle.x917.specs.Headline.{scenario_limit}
+use Rattle.x917.specs.Paid.{FollowsPayment, IsAccepted, IsPayment, payment_limit, payment_taken}
 use Rattle.x917.specs.Playable.{ExpectsReplay, ExpectsDrill}
 
 -- the command that an order gives to a party
@@ -69,11 +75,11 @@ pub record IsListing (old new : View) (s : Status) (before after : Option (List 
   pub untouched : IsUntouched old new
   pub ends : Ends outcome [] s before after
 
--- a party was compacted, and nothing was written
-pub record IsCompacting (old new : View) (s : Status) (before after : Option (List ℕ)) : Type 0 where
+-- a party was written whole on its disk, in the format that its own calls for, and nothing was written out
+pub record IsRewriting (format : Format → Option Format) (old new : View) (s : Status) (before after : Option (List ℕ)) : Type 0 where
   pub outcome : Outcome
-  pub compacted : CompactsParty old new outcome
-  pub safe : IsSafeCompaction old new
+  pub rewritten : RewritesParty format old new outcome
+  pub safe : IsSafeRewriting format old new
   pub ends : Ends outcome [] s before after
 
 -- what doesn't count of a party's file was wiped, and nothing was written
@@ -92,16 +98,21 @@ abbrev pub ObeysCommand : Option PartyCommand → ℕ → (List ℕ → View) �
 ObeysCommand (Some t) moment old new s before after = IsPartyTurn t.party (Ordered t.command) moment (old t.party) (new t.party) s before after
 ObeysCommand None moment old new s before after = ⊥
 
--- what each order does at a party, or with a message; what the playing of a scenario says stands in Headline
+-- what each order does at a party, or with a message or a payment; what the playing of a scenario says stands in Headline, and what its
+-- audit says in Audited
 abbrev pub Obeys : Order → ℕ → Status → Option (List ℕ) → Option (List ℕ) → Option (List ℕ) → Option (List ℕ) → (List ℕ → View) → (List ℕ → View) → Type 0
 Obeys order.Check moment s left rest before after old new = IsChecked s left rest before after
 Obeys (order.Init party role key v) moment s left rest before after old new =
     IsCreation (begun party role (record { key = key; v = v })) (old party) (new party) s before after
 Obeys (order.Show party) moment s left rest before after old new = IsListing (old party) (new party) s before after
-Obeys (order.Compact party) moment s left rest before after old new = IsCompacting (old party) (new party) s before after
+Obeys (order.Compact party) moment s left rest before after old new = IsRewriting compacted_in (old party) (new party) s before after
+Obeys (order.Migrate party) moment s left rest before after old new = IsRewriting migrated_in (old party) (new party) s before after
 Obeys (order.Wipe party) moment s left rest before after old new = IsWiping (old party) (new party) s before after
 Obeys order.Replay moment s left rest before after old new = Unit {0}
+Obeys order.Audit moment s left rest before after old new = Unit {0}
 Obeys (order.Drill seed events) moment s left rest before after old new = Unit {0}
+Obeys (order.Pay party peer name ledger amount) moment s left rest before after old new = IsPayment (paying peer name amount) party ledger old new s before after
+Obeys (order.Accept party ledger) moment s left rest before after old new = IsAccepted party ledger left rest old new s before after
 Obeys (order.Take party) moment s left rest before after old new = IsTaken party moment left rest (old party) (new party) s before after
 Obeys o moment s left rest before after old new = ObeysCommand (command_of o) moment old new s before after
 
@@ -115,9 +126,13 @@ Expects order.Check moment left old s = IsExact left s
 Expects (order.Init party role key v) moment left old s = Follows (old party) IsDueCreation s
 Expects (order.Show party) moment left old s = Follows (old party) IsDueShow s
 Expects (order.Compact party) moment left old s = Follows (old party) IsDueCompaction s
+Expects (order.Migrate party) moment left old s = Follows (old party) IsDueMigration s
 Expects (order.Wipe party) moment left old s = Follows (old party) IsDueWiping s
 Expects order.Replay moment left old s = IfSome left (λ all. ExpectsReplay all old s)
+Expects order.Audit moment left old s = IfSome left (λ all. ExpectsAudit (audit_taken all) s)
 Expects (order.Drill seed events) moment left old s = ExpectsDrill seed events s
+Expects (order.Pay party peer name ledger amount) moment left old s = FollowsPayment (paying peer name amount) party (old party) (old ledger) s
+Expects (order.Accept party ledger) moment left old s = IfSome left (λ all. FollowsPayment (accepting (payment_taken all)) party (old party) (old ledger) s)
 Expects (order.Take party) moment left old s = IfSome left (λ all. FollowsBytes all party (old party) moment s)
 Expects o moment left old s = ExpectsCommand (command_of o) moment old s
 
@@ -127,20 +142,34 @@ party_of order.Check = None
 party_of (order.Init party role key v) = Some party
 party_of (order.Show party) = Some party
 party_of (order.Compact party) = Some party
+party_of (order.Migrate party) = Some party
 party_of (order.Wipe party) = Some party
 party_of (order.Take party) = Some party
+party_of (order.Pay party peer name ledger amount) = Some party
+party_of (order.Accept party ledger) = Some party
 party_of o = option_map (λ (t : PartyCommand). t.party) (command_of o)
 
--- the disks of the other parties stay
-abbrev pub OthersOf : Option (List ℕ) → (List ℕ → View) → (List ℕ → View) → Type 0
-OthersOf None old new = AllStay old new
-OthersOf (Some party) old new = OthersStay party old new
+-- the ledger of an order
+abbrev pub ledger_of : Order → Option (List ℕ)
+ledger_of (order.Pay party peer name ledger amount) = Some ledger
+ledger_of (order.Accept party ledger) = Some ledger
+ledger_of o = None
 
--- the orders that play a scenario
-abbrev pub is_played : Order → Bool
-is_played order.Replay = true
-is_played (order.Drill seed events) = true
-is_played o = false
+-- the disks under other names than these stay
+abbrev pub OthersOf : Option (List ℕ) → Option (List ℕ) → (List ℕ → View) → (List ℕ → View) → Type 0
+OthersOf None ledger old new = AllStay old new
+OthersOf (Some party) None old new = OthersStay party old new
+OthersOf (Some party) (Some ledger) old new = ThirdsStay party ledger old new
+
+-- the orders that begin, show or look after the file of a party, or pay out of it
+abbrev pub is_tended : Order → Bool
+is_tended (order.Init party role key v) = true
+is_tended (order.Show party) = true
+is_tended (order.Compact party) = true
+is_tended (order.Migrate party) = true
+is_tended (order.Wipe party) = true
+is_tended (order.Pay party peer name ledger amount) = true
+is_tended o = false
 
 -- the order that sets up parties of its own on the shelf
 abbrev pub is_replay : Order → Bool
@@ -151,13 +180,17 @@ is_replay o = false
 abbrev pub is_reading : Order → Bool
 is_reading order.Check = true
 is_reading order.Replay = true
+is_reading order.Audit = true
 is_reading (order.Take party) = true
+is_reading (order.Accept party ledger) = true
 is_reading o = false
 
 -- how many bytes of the source an order takes at most
 abbrev pub most_of : Order → ℕ
 most_of order.Replay = scenario_limit
+most_of order.Audit = audit_limit
 most_of (order.Drill seed events) = 0
+most_of (order.Accept party ledger) = payment_limit
 most_of o = input_limit
 
 -- with these statuses an order writes nothing. The playing of a scenario may break off behind its first lines
@@ -168,11 +201,12 @@ IsSilentOf order.Replay (status.Refused refusal) = Unit {0}
 IsSilentOf order.Replay s = ⊥
 IsSilentOf o s = IsSilent s
 
--- what an order leaves: where the party answered, its disk is back on the shelf; the disks of the other parties stay, and the
+-- what an order leaves: where the party answered, its disk is back on the shelf, and its ledger's; the other disks stay, and the
 -- source where it isn't read. Which disks the playing of a scenario leaves is said in Headline
 pub record LeavesOthers (o : Order) (s : Status) (is_back : List ℕ → Type 0) (stays : Type 0) (old new : List ℕ → View) : Type 0 where
   pub back : IsOfParty s → IfSome (party_of o) is_back
-  pub others : is_replay o ≡ false → OthersOf (party_of o) old new
+  pub ledger_back : IsOfParty s → IfSome (ledger_of o) is_back
+  pub others : is_replay o ≡ false → OthersOf (party_of o) (ledger_of o) old new
   pub unread : is_reading o ≡ false → stays
 
 -- the words are judged first: the status says what is wrong with them, or no memory was left, and then nothing is touched
@@ -181,3 +215,21 @@ pub record JudgesWords (words : List (List ℕ)) (s : Status) (stays : Type 0) :
   pub wrong : (kind : UsageKind) → usage_of words ≡ Some kind → (s ≡ status.Usage kind) ⊎ (s ≡ status.NoMemory)
   pub line : s ≡ status.Usage Line → is_line words ≡ false
   pub untouched : (kind : UsageKind) → usage_of words ≡ Some kind → stays
+
+-- what holds of the values of an order that words stand for: a drill has 1 to 10,000 events, and a ledger another name than the
+-- party
+abbrev pub IsWithin : Order → Type 0
+IsWithin (order.Drill seed events) = (1 ≤ events) × (events ≤ 10000)
+IsWithin (order.Pay party peer name ledger amount) = party ≢ ledger
+IsWithin (order.Accept party ledger) = party ≢ ledger
+IsWithin o = Unit {0}
+
+-- what a payment leaves, and why it failed: where the party answered both disks are back on the shelf, the others stay, with a
+-- silent status nothing is written, and a fault comes only where a count of faults rose. The counts are those of the sink and the
+-- shelf, before and after
+pub record LeavesRest (party ledger : List ℕ) (s : Status) (is_back : List ℕ → Type 0) (unwritten : Type 0) (old new : List ℕ → View) (put puts disk disks : ℕ) : Type 0 where
+  pub back : IsOfParty s → is_back party × is_back ledger
+  pub thirds : ThirdsStay party ledger old new
+  pub silent : IsSilent s → unwritten
+  pub write_fault : s ≡ status.WriteFault → Rose put puts
+  pub disk_fault : s ≡ status.DiskFault → Rose disk disks

@@ -7,11 +7,11 @@ ghost use Rattle.world_laws.specs.Honest.{HonestAt};
 ghost use Rattle.world_laws.specs.Starts.{IsStart};
 ghost use Rattle.world_laws.specs.Steps.{step};
 ghost use Rattle.course.specs.Course.{Course, Leads};
+ghost use Rattle.course.specs.Lawful.{IsLawful};
 ghost use Rattle.course.specs.Starts.{start_course, start_world};
-ghost use Rattle.x917.specs.Headline.{IsLawful};
 
-use course::law_ran;
-use world_laws::{law_agreement, law_counts, law_ended, law_once, law_runs, law_start};
+use course::{law_lawful, law_ran};
+use world_laws::law_runs;
 
 /// The network to which lines lead from a start is the end of an honest run, and the laws hold of it; and so it is behind one
 /// honest event more.
@@ -21,10 +21,6 @@ pub fn law_courses()
         → IsAction e.action → HonestAt c.world.facts (member_at e.party c.world.members) e.action → IsLawful (start_world lines) (step c.now.number c.world e) }
 {
     law_ran();
-    law_start();
-    law_counts();
-    law_once();
-    law_agreement();
-    law_ended();
+    law_lawful();
     law_runs();
 }

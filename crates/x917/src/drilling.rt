@@ -1,20 +1,19 @@
 // A drill is played over disks of its own.
-ghost use Rattle.std.specs.Prelude.{◌≡◌, ◌≤◌, ◌++◌, None, IfOk, IfErr, OnOk};
-ghost use Rattle.x_base.specs.Edge.{Rose};
+ghost use Rattle.std.specs.Prelude.{◌≡◌, ◌≤◌, None, IfOk, IfErr};
 ghost use Rattle.scenario_drill.specs.Drill.{drill_text};
 ghost use Rattle.scenario.specs.Reading.{IsScenario};
-ghost use Rattle.x917.specs.Drilled.{EndsDrill, IsDrill, IsDrilled, IsPlayedAlone, summary_line, summary_of};
+ghost use Rattle.x917.specs.Drilled.{EndsDrill, IsDrill, IsDrilled, IsPlayedAlone};
 ghost use Rattle.x917.specs.Playable.{ExpectsDrill};
 ghost use Rattle.csm_check.specs.Transfer.{GivesOutput, IsQuiet};
 ghost use Rattle.x_status.specs.Causes.{IsSilent};
 
 use crate::courses::law_courses;
-use course::{Tally, law_counted, law_scenario_starts};
+use course::{Tally, law_counted, law_scenario_starts, summary};
 use replay::{PlayResult, play};
 use scenario::{Scenario, ScenarioFault, law_never_both, law_one_first_bad, law_one_scenario};
 use scenario_drill::drill;
 use std::alloc::Global;
-use x_base::{NoMemory, Sink, SinkFault, Text, put_all};
+use x_base::{Sink, SinkFault, put_all};
 use x_disk::{MemoryShelf, Shelf};
 use x_status::Status;
 
@@ -74,32 +73,6 @@ fn play_drill(alloc: Global, seed: u64, events: u32) -> Result<Tally, Status>
         PlayResult::NoMemory => Err(Status::NoMemory),
         _ => unreachable!(),
     }
-}
-
-/// Appends a line of a word and a number.
-fn put_line(alloc: Global, text: &mut Text, word: &str, number: u32) -> Result<(), NoMemory>
-    ensures { OnOk result (text.new ≡ text.old ++ summary_line word.now number) }
-{
-    let line = format!(in alloc; "{word} {number}\n")?;
-    text.push(line.as_bytes())
-}
-
-/// The ten lines of a tally.
-fn summary(alloc: Global, tally: &Tally) -> Result<Text, NoMemory>
-    ensures { IfOk result (λ text. text ≡ summary_of tally.now) }
-{
-    let mut text = Text::new(alloc);
-    put_line(alloc, &mut text, "EVENTS", tally.events)?;
-    put_line(alloc, &mut text, "DONE", tally.done)?;
-    put_line(alloc, &mut text, "REFUSED", tally.refused)?;
-    put_line(alloc, &mut text, "STOPPED", tally.stopped)?;
-    put_line(alloc, &mut text, "NONE", tally.none)?;
-    put_line(alloc, &mut text, "TEXTS", tally.texts)?;
-    put_line(alloc, &mut text, "LIVE", tally.live)?;
-    put_line(alloc, &mut text, "HELD", tally.held)?;
-    put_line(alloc, &mut text, "CLOSING", tally.closing)?;
-    put_line(alloc, &mut text, "ENDED", tally.ended)?;
-    Ok(text)
 }
 
 /// Plays the drill that is made of a seed, over disks of its own, and writes its summary.

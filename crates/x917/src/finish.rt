@@ -1,13 +1,16 @@
-// A call over a party ends: the reply is written, and the status follows.
-ghost use Rattle.std.specs.Prelude.{◌≡◌, ◌≤◌, ◌⊎◌, ◌++◌, OnOk, OnErr};
+// A call over a party, or a payment, ends: the text is written, and the status follows.
+ghost use Rattle.std.specs.Prelude.{◌≡◌, ◌⊎◌, ◌++◌, OnOk, OnErr};
 ghost use Rattle.x_base.specs.Edge.{Rose, AppendsTo, WrotePrefix};
 ghost use Rattle.csm_check.specs.Transfer.{GivesOutput};
 ghost use Rattle.x_party.specs.Outcomes.{IsNoFailure};
 ghost use Rattle.x_status.specs.Causes.{IsSilent};
+ghost use Rattle.x_pay.specs.Outcomes.{IsNoFailure as IsNoPayFailure};
 ghost use Rattle.x917.specs.Ends.{Ends, Puts, IsOfParty};
+ghost use Rattle.x917.specs.Paid.{EndsPayment};
 
-use x_base::{Sink, SinkFault, Text, put_all};
+use x_base::{Sink, SinkFault, Text, Verdict, put_all};
 use x_party::Outcome;
+use x_pay::PayOutcome;
 use x_status::{Refusal, Status};
 
 /// Puts the text and then its ending, without memory.
@@ -51,5 +54,22 @@ pub fn finish<K: Sink>(sink: &mut K, outcome: Outcome, ending: &[u8]) -> Status
         Outcome::Damaged(place) => Status::Damaged(place),
         Outcome::Fault => Status::DiskFault,
         Outcome::NoMemory => Status::NoMemory,
+    }
+}
+
+/// Writes the text of a payment that is done and a line feed, without memory.
+pub fn finish_payment<K: Sink>(sink: &mut K, outcome: PayOutcome) -> Status
+    ensures ends { EndsPayment outcome result (K.written sink.old) (K.written sink.new) }
+    ensures answered { IsOfParty result → IsNoPayFailure outcome }
+    ensures output { GivesOutput result (IsSilent result) (sink.new ≡ sink.old) (K.faults sink.old) (K.faults sink.new) }
+{
+    match outcome {
+        PayOutcome::Done { text } => put_text(sink, Some(text), b"\n", Status::Done),
+        PayOutcome::Refused(cause) => Status::Refused(Refusal::Pay(cause)),
+        PayOutcome::OtherParty(asked, found) => Status::Refused(Refusal::OtherParty(asked, found)),
+        PayOutcome::Blank => Status::Refused(Refusal::Decided(Verdict::Blank)),
+        PayOutcome::Damaged(place) => Status::Damaged(place),
+        PayOutcome::Fault => Status::DiskFault,
+        PayOutcome::NoMemory => Status::NoMemory,
     }
 }

@@ -1,13 +1,13 @@
 //! The command `x917`: key management by the messages of ANSI X9.17 (ISO 8732).
 #![tactic(auto)]
 
+mod auditing;
 mod courses;
 mod drilling;
 mod finish;
-mod party;
 mod party_command;
+mod payments;
 mod replaying;
-mod take;
 #[cfg(test)]
 mod tests;
 mod top;

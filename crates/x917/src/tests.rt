@@ -8,9 +8,11 @@ use std::time::{Clock, Duration};
 use x_base::{MemorySink, MemorySource, NoMemory, Text, Words};
 use x_disk::{MemoryShelf, Shelf};
 
+mod audits;
 mod faults;
 mod new_keys;
 mod parties;
+mod payments;
 mod scenarios;
 mod texts;
 mod words;

@@ -1,68 +1,69 @@
 // The top call.
-ghost use Rattle.std.specs.Prelude.{◌≡◌, ◌≤◌, ℕ, false};
+ghost use Rattle.std.specs.Prelude.{◌≡◌, ℕ, List, Option, true};
 ghost use Rattle.x_line.specs.Orders.{IsOrder};
 ghost use Rattle.x_line.specs.declared.order.Order.{Order};
-ghost use Rattle.x_line.specs.declared.order.Order.TheVariants.{Replay, Drill};
-ghost use Rattle.csm_feed.specs.Heard.{input_limit};
+ghost use Rattle.x_line.specs.declared.order.Order.TheVariants.{Audit, Replay, Drill};
 ghost use Rattle.csm_check.specs.Transfer.{TookAtMost, IsQuiet};
 ghost use Rattle.x_status.specs.Causes.{HasCause, HasFaults, IsSilent};
+ghost use Rattle.x917.specs.Audited.{IsAudit};
 ghost use Rattle.x917.specs.Headline.{IsReplay};
 ghost use Rattle.x917.specs.Drilled.{IsDrill};
-ghost use Rattle.x917.specs.Obeys.{Obeys, Expects, LeavesOthers, JudgesWords, IsSilentOf, is_played, most_of};
+ghost use Rattle.x917.specs.Obeys.{Obeys, Expects, IsWithin, LeavesOthers, JudgesWords, IsSilentOf, is_tended, most_of};
 ghost use Rattle.x917.specs.Network.{IsNetworkEvent};
 
+use crate::auditing::audit_all;
 use crate::drilling::drill_all;
-use crate::party::{compact, create, list, turn, wipe};
+use crate::finish::{finish, finish_payment};
 use crate::party_command::command_of;
+use crate::payments::accept;
 use crate::replaying::replay_all;
-use crate::take::take;
-use csm_check::check;
+use csm_check::{check, listen};
+use csm_feed::law_one_hearing;
 use party_state::Input;
 use std::alloc::Global;
 use world_laws::law_calls;
 use x_base::{Sink, Source, Words};
 use x_disk::{MemoryShelf, Shelf};
 use x_gen::Gen;
-use x_line::{LineFault, Order, law_few_events, law_one_order, read_order};
+use x_line::{LineFault, Order, law_few_events, law_ledger_apart, law_one_order, read_order};
 use x_status::Status;
 
-/// Does what an order says that is for a party, or for a message alone.
-fn obey<S: Source, K: Sink, H: Shelf>(
-    alloc: Global,
-    order: Order,
-    moment: u64,
-    source: &mut S,
-    sink: &mut K,
-    shelf: &mut H,
-) -> Status
-    requires { is_played order ≡ false }
-    ensures obeys { Obeys order moment result (S.left source.old) (S.left source.new) (K.written sink.old) (K.written sink.new) (H.entry shelf.old) (H.entry shelf.new) }
-    ensures expects { IsQuiet (S.faults source.old) (S.faults source.new) → IsQuiet (K.faults sink.old) (K.faults sink.new) → IsQuiet (H.faults shelf.old) (H.faults shelf.new)
-        → Expects order moment (S.left source.old) (H.entry shelf.old) result }
-    ensures others { LeavesOthers order result (H.is_back shelf.new) (source.new ≡ source.old) (H.entry shelf.old) (H.entry shelf.new) }
-    ensures cause { HasCause result (S.faults source.old) (S.faults source.new) (K.faults sink.old) (K.faults sink.new) (H.faults shelf.old) (H.faults shelf.new) }
+/// Begins, shows or looks after the file of a party, or pays out of it, as an order says.
+fn tend<K: Sink, H: Shelf>(alloc: Global, order: &Order, sink: &mut K, shelf: &mut H) -> Status
+    requires tended { is_tended order.now ≡ true }
+    requires within { IsWithin order.now }
+    ensures obeys { (moment : ℕ) (left : Option (List ℕ)) → Obeys order.now moment result left left (K.written sink.old) (K.written sink.new) (H.entry shelf.old) (H.entry shelf.new) }
+    ensures expects { (moment : ℕ) (left : Option (List ℕ)) → IsQuiet (K.faults sink.old) (K.faults sink.new) → IsQuiet (H.faults shelf.old) (H.faults shelf.new)
+        → Expects order.now moment left (H.entry shelf.old) result }
+    ensures others { LeavesOthers order.now result (H.is_back shelf.new) (Unit {0}) (H.entry shelf.old) (H.entry shelf.new) }
+    ensures cause { (read reads : ℕ) → HasCause result read reads (K.faults sink.old) (K.faults sink.new) (H.faults shelf.old) (H.faults shelf.new) }
     ensures silent { IsSilent result → sink.new ≡ sink.old }
-    ensures most { TookAtMost input_limit (S.left source.old) (S.left source.new) }
 {
-    match order {
-        Order::Check => check(alloc, source, sink),
+    match *order {
         Order::Init {
             party,
             role,
             key,
             v,
-        } => create(alloc, sink, shelf, party, role, Gen { key, v }),
-        Order::Show { party } => list(alloc, sink, shelf, &party),
-        Order::Compact { party } => compact(alloc, sink, shelf, &party),
-        Order::Wipe { party } => wipe(alloc, sink, shelf, &party),
-        Order::Take { party } => take(alloc, source, sink, shelf, &party, moment),
-        _ => match command_of(order) {
-            Some(given) => {
-                let input = Input::Ordered(given.command);
-                turn(alloc, sink, shelf, &given.party, &input, moment)
-            }
-            None => unreachable!(),
-        },
+        } => {
+            let outcome = x_party::create(alloc, shelf, party, role, Gen { key, v });
+            finish(sink, outcome, b"")
+        }
+        Order::Show { party } => finish(sink, x_party::show(alloc, shelf, &party), b""),
+        Order::Compact { party } => finish(sink, x_party::compact(alloc, shelf, &party), b""),
+        Order::Migrate { party } => finish(sink, x_party::migrate(alloc, shelf, &party), b""),
+        Order::Wipe { party } => finish(sink, x_party::wipe(alloc, shelf, &party), b""),
+        Order::Pay {
+            party,
+            peer,
+            name,
+            ledger,
+            amount,
+        } => {
+            let outcome = x_pay::pay(alloc, shelf, &party, &peer, &name, &ledger, amount);
+            finish_payment(sink, outcome)
+        }
+        _ => unreachable!(),
     }
 }
 
@@ -75,7 +76,7 @@ fn carry_out<S: Source, K: Sink, H: Shelf>(
     sink: &mut K,
     shelf: &mut H,
 ) -> Status
-    requires { (seed events : ℕ) → order ≡ Drill seed events → (1 ≤ events) × (events ≤ 10000) }
+    requires { IsWithin order }
     ensures obeys { Obeys order moment result (S.left source.old) (S.left source.new) (K.written sink.old) (K.written sink.new) (H.entry shelf.old) (H.entry shelf.new) }
     ensures expects { IsQuiet (S.faults source.old) (S.faults source.new) → IsQuiet (K.faults sink.old) (K.faults sink.new) → IsQuiet (H.faults shelf.old) (H.faults shelf.new)
         → Expects order moment (S.left source.old) (H.entry shelf.old) result }
@@ -86,15 +87,35 @@ fn carry_out<S: Source, K: Sink, H: Shelf>(
     ensures replays { order ≡ Replay → IsReplay result (S.left source.old) (S.left source.new) (K.written sink.old) (K.written sink.new) (H.entry shelf.old) (H.entry shelf.new) (H.faults shelf.old) (H.faults shelf.new) }
     ensures drills { (seed events : ℕ) → order ≡ Drill seed events
         → IsDrill ⟦<MemoryShelf as Shelf>⟧.entry seed events result (K.written sink.old) (K.written sink.new) × (source.new ≡ source.old) × (shelf.new ≡ shelf.old) }
+    ensures audits { order ≡ Audit → IsAudit result (S.left source.old) (S.left source.new) (K.written sink.old) (K.written sink.new) × (shelf.new ≡ shelf.old) }
 {
+    law_one_hearing();
     match order {
+        Order::Check => check(alloc, source, sink),
         Order::Replay => replay_all(alloc, source, sink, shelf),
+        Order::Audit => audit_all(alloc, source, sink),
         Order::Drill { seed, events } => drill_all(alloc, seed, events, sink),
-        _ => obey(alloc, order, moment, source, sink, shelf),
+        Order::Take { party } => match listen(alloc, source) {
+            Ok(arrival) => {
+                let input = Input::Arrived(arrival);
+                let outcome = x_party::turn(alloc, shelf, &party, &input, moment);
+                finish(sink, outcome, b"\n")
+            }
+            Err(status) => status,
+        },
+        Order::Accept { party, ledger } => accept(alloc, source, sink, shelf, &party, &ledger),
+        _ => match command_of(order) {
+            Some(given) => {
+                let input = Input::Ordered(given.command);
+                let outcome = x_party::turn(alloc, shelf, &given.party, &input, moment);
+                finish(sink, outcome, b"\n")
+            }
+            None => tend(alloc, &order, sink, shelf),
+        },
     }
 }
 
-/// Runs the command that the words name, at a moment: `check` over the source and the sink, `replay` over the disks of the
+/// Runs the command that the words name, at a moment: `check` and `audit` over the source and the sink, `replay` over the disks of the
 /// scenario's parties, `drill` over disks of its own, and the others over a party's disk on the shelf. A party's fetched disk
 /// is put back before anything is written.
 pub fn run<S: Source, K: Sink, H: Shelf>(
@@ -115,10 +136,12 @@ pub fn run<S: Source, K: Sink, H: Shelf>(
         → Expects order moment (S.left source.old) (H.entry shelf.old) result }
 
     // A call that opened the party of its name is an event of a network at that one party, whole or cut off. Where another
-    // party lies under that name, a command or a message changes nothing, and a compaction is the event at that party.
+    // party lies under that name, a command or a message changes nothing, and a compaction or a migration is the event at that
+    // party.
     ensures network { (order : Order) → IsOrder words.now order → IsNetworkEvent order moment result (S.left source.old) (K.written sink.old) (K.written sink.new) (H.entry shelf.old) (H.entry shelf.new) }
 
-    // Where the party answered, its disk is back on the shelf; the other disks stay, and a source that isn't read.
+    // Where the party answered, its disk is back on the shelf, and that of its ledger; the other disks stay, and a source that
+    // isn't read.
     ensures others { (order : Order) → IsOrder words.now order → LeavesOthers order result (H.is_back shelf.new) (source.new ≡ source.old) (H.entry shelf.old) (H.entry shelf.new) }
 
     // A scenario is played as its lines say, and what it ends with is true of the network that they describe.
@@ -129,16 +152,22 @@ pub fn run<S: Source, K: Sink, H: Shelf>(
     ensures drills { (seed events : ℕ) → IsOrder words.now (Drill seed events)
         → IsDrill ⟦<MemoryShelf as Shelf>⟧.entry seed events result (K.written sink.old) (K.written sink.new) × (source.new ≡ source.old) × (shelf.new ≡ shelf.old) }
 
+    // An auditor's input is a scenario, an outcome of each of its stopped events, and a transcript. It is done exactly where
+    // the run of that scenario with these outcomes exists, is honest and has that transcript; then the laws hold of its end,
+    // and the summary is written. Otherwise the first thing that is wrong is told. The shelf stays as it is.
+    ensures audits { IsOrder words.now Audit → IsAudit result (S.left source.old) (S.left source.new) (K.written sink.old) (K.written sink.new) × (shelf.new ≡ shelf.old) }
+
     // A fault comes only where a count of faults rose, over every source, sink and shelf.
     ensures faults { HasFaults result (S.faults source.old) (S.faults source.new) (K.faults sink.old) (K.faults sink.new) (H.faults shelf.old) (H.faults shelf.new) }
 
-    // Of a scenario at most 16,777,217 bytes are taken, from the front, and otherwise at most 2,049; with a silent status
-    // nothing is written.
+    // `check` and `take` take at most 2,049 bytes, `accept` 257, `replay` 16,777,217 and `audit` 67,108,865, from the front;
+    // with a silent status nothing is written.
     ensures silent { (order : Order) → IsOrder words.now order → IsSilentOf order result → sink.new ≡ sink.old }
     ensures most { (order : Order) → IsOrder words.now order → TookAtMost (most_of order) (S.left source.old) (S.left source.new) }
 {
     law_one_order();
     law_few_events();
+    law_ledger_apart();
     law_calls::<H>();
     match read_order(alloc, words) {
         Ok(order) => carry_out(alloc, order, moment, source, sink, shelf),

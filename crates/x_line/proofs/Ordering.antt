@@ -8,13 +8,13 @@ use Rattle.x_line.specs.declared.opt.Opt.{Opt}
 use Rattle.x_line.specs.declared.opt.Opt.TheVariants as opt
 use Rattle.x_line.specs.declared.order.Order.{Order}
 use Rattle.x_line.specs.declared.order.Order.TheVariants as order
-use Rattle.x_line.specs.LineValues.{named_kind, given, is_given}
+use Rattle.x_line.specs.LineValues.{named_kind, given, is_given, ledger_of}
 use Rattle.x_line.specs.Laws.{HasOrder, OneOrder}
 use Rattle.x_line.specs.Line.{is_line, rows_of_line}
 use Rattle.x_line.specs.Orders.{HasValues, IsOrder, Says, is_whole, kind_of}
 use Rattle.x_line.specs.Usage.{bad_of, first_fault, missing_of, options_fault, rows_fault, unwanted_of}
 use Rattle.x_line.specs.Values.{events_of, one_or_two_of, role_of, side_of}
-use Rattle.x_values.specs.Words.{ident_of, key_name_of, key_of, label_of, number_of, pair_of}
+use Rattle.x_values.specs.Words.{count_of, ident_of, key_name_of, key_of, label_of, number_of, pair_of}
 use Rattle.x_line.proofs.Checking.{whole}
 
 -- ---- one order at most
@@ -33,6 +33,7 @@ for_peer rows f = with (given ident_of opt.Party rows) (λ p. with (given ident_
 abbrev made : OrderKind → List Row → Option Order
 made kinds.Check rows = Some order.Check
 made kinds.Replay rows = Some order.Replay
+made kinds.Audit rows = Some order.Audit
 made kinds.Init rows = with (given ident_of opt.Party rows) (λ p. with (given role_of opt.Role rows) (λ r.
     with (given pair_of opt.Genkey rows) (λ k. with (given key_of opt.Genseed rows) (λ v. Some (order.Init p r k v)))))
 made kinds.Load rows = for_peer rows (λ p q. with (given label_of opt.Label rows) (λ l.
@@ -46,15 +47,20 @@ made kinds.Take rows = for_party rows order.Take
 made kinds.Purge rows = for_party rows order.Purge
 made kinds.Show rows = for_party rows order.Show
 made kinds.Compact rows = for_party rows order.Compact
+made kinds.Migrate rows = for_party rows order.Migrate
 made kinds.Wipe rows = for_party rows order.Wipe
 made kinds.Resend rows = for_peer rows (λ p q. Some (order.Resend p q))
 made kinds.Drop rows = for_peer rows (λ p q. Some (order.Drop p q))
 made kinds.End rows = for_peer rows (λ p q. with (given key_name_of opt.Name rows) (λ n. Some (order.End p q n)))
+made kinds.Pay rows = for_peer rows (λ p q. with (given key_name_of opt.Name rows) (λ n.
+    with (ledger_of rows) (λ l. with (given count_of opt.Amount rows) (λ a. Some (order.Pay p q n l a)))))
+made kinds.Accept rows = with (given ident_of opt.Party rows) (λ p. with (ledger_of rows) (λ l. Some (order.Accept p l)))
 made kinds.Drill rows = with (given number_of opt.Seed rows) (λ s. with (given events_of opt.Events rows) (λ e. Some (order.Drill s e)))
 
 made_is : (rows : List Row) (o : Order) → HasValues rows o → made (kind_of o) rows ≡ Some o
 made_is rows order.Check h = refl
 made_is rows order.Replay h = refl
+made_is rows order.Audit h = refl
 made_is rows (order.Init p r k v) h = rw (h.0, h.1, h.2, h.3) refl
 made_is rows (order.Load p q l s k) h = rw (h.0, h.1, h.2, h.3, h.4) refl
 made_is rows (order.Start p q l) h = rw (h.0, h.1, h.2) refl
@@ -65,10 +71,13 @@ made_is rows (order.Take p) h = rw h refl
 made_is rows (order.Purge p) h = rw h refl
 made_is rows (order.Show p) h = rw h refl
 made_is rows (order.Compact p) h = rw h refl
+made_is rows (order.Migrate p) h = rw h refl
 made_is rows (order.Wipe p) h = rw h refl
 made_is rows (order.Resend p q) h = rw (h.0, h.1) refl
 made_is rows (order.Drop p q) h = rw (h.0, h.1) refl
 made_is rows (order.End p q n) h = rw (h.0, h.1, h.2) refl
+made_is rows (order.Pay p q n l a) h = rw (h.3, h.0, h.1, h.2, h.4) refl
+made_is rows (order.Accept p l) h = rw (h.1, h.0) refl
 made_is rows (order.Drill s e) h = rw (h.0, h.1) refl
 
 same : (rows : List Row) (a b : Order) → Says rows a → Says rows b → a ≡ b
@@ -98,6 +107,7 @@ Made c rows = (o : Order) × (kind_of o ≡ c) × HasValues rows o
 has_made : (c : OrderKind) (rows : List Row) → is_whole c rows ≡ true → Made c rows
 has_made kinds.Check rows h = (order.Check, refl, tt)
 has_made kinds.Replay rows h = (order.Replay, refl, tt)
+has_made kinds.Audit rows h = (order.Audit, refl, tt)
 has_made kinds.Init rows h =
     let p = first (given ident_of opt.Party rows) _ h in
     let r = first (given role_of opt.Role rows) _ p.more in
@@ -133,6 +143,7 @@ has_made kinds.Take rows h = let p = first (given ident_of opt.Party rows) _ h i
 has_made kinds.Purge rows h = let p = first (given ident_of opt.Party rows) _ h in (order.Purge p.value, refl, p.is)
 has_made kinds.Show rows h = let p = first (given ident_of opt.Party rows) _ h in (order.Show p.value, refl, p.is)
 has_made kinds.Compact rows h = let p = first (given ident_of opt.Party rows) _ h in (order.Compact p.value, refl, p.is)
+has_made kinds.Migrate rows h = let p = first (given ident_of opt.Party rows) _ h in (order.Migrate p.value, refl, p.is)
 has_made kinds.Wipe rows h = let p = first (given ident_of opt.Party rows) _ h in (order.Wipe p.value, refl, p.is)
 has_made kinds.Resend rows h =
     let p = first (given ident_of opt.Party rows) _ h in
@@ -147,6 +158,17 @@ has_made kinds.End rows h =
     let q = first (given ident_of opt.Peer rows) _ p.more in
     let n = first (given key_name_of opt.Name rows) _ q.more in
     (order.End p.value q.value n.value, refl, (p.is, q.is, n.is))
+has_made kinds.Pay rows h =
+    let p = first (given ident_of opt.Party rows) _ h in
+    let q = first (given ident_of opt.Peer rows) _ p.more in
+    let n = first (given key_name_of opt.Name rows) _ q.more in
+    let l = first (ledger_of rows) _ n.more in
+    let a = first (given count_of opt.Amount rows) _ l.more in
+    (order.Pay p.value q.value n.value l.value a.value, refl, (p.is, q.is, n.is, l.is, a.is))
+has_made kinds.Accept rows h =
+    let p = first (given ident_of opt.Party rows) _ h in
+    let l = first (ledger_of rows) _ p.more in
+    (order.Accept p.value l.value, refl, (p.is, l.is))
 has_made kinds.Drill rows h =
     let s = first (given number_of opt.Seed rows) _ h in
     let e = first (given events_of opt.Events rows) _ s.more in

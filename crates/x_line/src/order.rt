@@ -9,7 +9,7 @@ use crate::line_order::order_of;
 use crate::order_kind::OrderKind;
 use crate::usage::{LineFault, UsageKind, bad_value, missing, unwanted};
 use std::alloc::Global;
-use x_base::{Ident, KeyName, Label, Role, Side, Words};
+use x_base::{Count, Ident, KeyName, Label, Role, Side, Words};
 use x_mac::Pair;
 
 /// What the program is to do. Keys are as they were written, without a change of parity.
@@ -19,6 +19,8 @@ pub enum Order {
     Check,
     /// Play a scenario.
     Replay,
+    /// Compare a transcript with the scenario whose transcript it is said to be.
+    Audit,
     /// Set up a party, with its generator's pair of keys and seed V.
     Init {
         party: Ident,
@@ -76,6 +78,10 @@ pub enum Order {
     Compact {
         party: Ident,
     },
+    /// Write the party's state anew in one frame of the newer format of the file.
+    Migrate {
+        party: Ident,
+    },
     /// Overwrite what doesn't count of the party's file with zeros.
     Wipe {
         party: Ident,
@@ -95,6 +101,19 @@ pub enum Order {
         party: Ident,
         peer: Ident,
         name: KeyName,
+    },
+    /// Pay an amount to a peer, under a data key.
+    Pay {
+        party: Ident,
+        peer: Ident,
+        name: KeyName,
+        ledger: Ident,
+        amount: Count,
+    },
+    /// Accept a payment.
+    Accept {
+        party: Ident,
+        ledger: Ident,
     },
     /// Play a scenario that is made of a seed.
     Drill {

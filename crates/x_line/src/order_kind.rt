@@ -6,6 +6,7 @@ ghost use Rattle.x_line.specs.OrderKinds.{name_of_kind, named};
 pub(crate) enum OrderKind {
     Check,
     Replay,
+    Audit,
     Init,
     Load,
     Start,
@@ -16,16 +17,20 @@ pub(crate) enum OrderKind {
     Purge,
     Show,
     Compact,
+    Migrate,
     Wipe,
     Resend,
     Drop,
     End,
+    Pay,
+    Accept,
     Drill,
 }
 
-const ORDER_KINDS: [OrderKind; 17] = [
+const ORDER_KINDS: [OrderKind; 21] = [
     OrderKind::Check,
     OrderKind::Replay,
+    OrderKind::Audit,
     OrderKind::Init,
     OrderKind::Load,
     OrderKind::Start,
@@ -36,10 +41,13 @@ const ORDER_KINDS: [OrderKind; 17] = [
     OrderKind::Purge,
     OrderKind::Show,
     OrderKind::Compact,
+    OrderKind::Migrate,
     OrderKind::Wipe,
     OrderKind::Resend,
     OrderKind::Drop,
     OrderKind::End,
+    OrderKind::Pay,
+    OrderKind::Accept,
     OrderKind::Drill,
 ];
 
@@ -50,6 +58,7 @@ impl OrderKind {
         match self {
             OrderKind::Check => "check",
             OrderKind::Replay => "replay",
+            OrderKind::Audit => "audit",
             OrderKind::Init => "init",
             OrderKind::Load => "load",
             OrderKind::Start => "start",
@@ -60,10 +69,13 @@ impl OrderKind {
             OrderKind::Purge => "purge",
             OrderKind::Show => "show",
             OrderKind::Compact => "compact",
+            OrderKind::Migrate => "migrate",
             OrderKind::Wipe => "wipe",
             OrderKind::Resend => "resend",
             OrderKind::Drop => "drop",
             OrderKind::End => "end",
+            OrderKind::Pay => "pay",
+            OrderKind::Accept => "accept",
             OrderKind::Drill => "drill",
         }
     }

@@ -1,8 +1,8 @@
 // The values that the command line alone has.
 ghost use Rattle.std.specs.Prelude.{◌≡◌};
-ghost use Rattle.x_line.specs.Values.{events_of, one_or_two_of, role_of, side_of};
+ghost use Rattle.x_line.specs.Values.{events_of, one_or_two_of, other_than, role_of, side_of};
 
-use x_base::{Role, Side};
+use x_base::{Ident, Role, Side};
 use x_mac::Pair;
 use x_values::{key, pair, plain_number_within};
 
@@ -39,6 +39,17 @@ pub(crate) fn one_or_two(digits: &[u8]) -> Option<Pair>
             right: key,
         }),
         None => pair(digits),
+    }
+}
+
+/// A name other than this one, if one is given.
+pub(crate) fn other_than(taken: Option<Ident>, name: Ident) -> Option<Ident>
+    ensures { result ≡ other_than taken name }
+{
+    if taken == Some(name) {
+        None
+    } else {
+        Some(name)
     }
 }
 

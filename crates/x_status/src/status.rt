@@ -1,8 +1,10 @@
 // How a run ended, and how that is told.
 ghost use Rattle.std.specs.Prelude.{◌≡◌, IfOk, string_bytes};
-ghost use Rattle.x_status.specs.Lines.{refusal_text, line_of, exit_code_of};
+ghost use Rattle.x_status.specs.Lines.{pay_text, refusal_text, line_of, exit_code_of};
 
+use audit_check::AuditFault;
 use csm_grammar::ReadRefusal;
+use pay_auth::PayRefusal;
 use std::alloc::{AllocError, Global};
 use x_base::{Ident, NoMemory, Text, Verdict};
 use x_line::UsageKind;
@@ -18,6 +20,10 @@ pub enum Refusal {
     Decided(Verdict),
     /// The command is for a party of the first identity, and on its disk stands one of the second.
     OtherParty(Ident, Ident),
+    /// A transcript isn't that of its scenario. Never with `Forged`, which is a status of its own.
+    Audit(AuditFault),
+    /// A payment isn't made, or isn't accepted.
+    Pay(PayRefusal),
 }
 
 /// How a run ended.
@@ -42,6 +48,18 @@ pub enum Status {
     NoMemory,
 }
 
+/// The number of a refusal of a payment, and its place or the expected number, where it has one.
+fn pay_text(alloc: Global, refusal: &PayRefusal) -> Result<String, AllocError>
+    ensures { IfOk result (λ s. string_bytes s ≡ pay_text refusal.now) }
+{
+    let number = refusal.number();
+    match refusal {
+        PayRefusal::BadPay(place) => format!(in alloc; "{number} at {place}"),
+        PayRefusal::PayLow(expected) => format!(in alloc; "{number} expected {expected}"),
+        _ => format!(in alloc; "{number}"),
+    }
+}
+
 /// The number of a refusal, and its place or the expected count, where it has one.
 fn refusal_text(alloc: Global, refusal: &Refusal) -> Result<String, AllocError>
     ensures { IfOk result (λ s. string_bytes s ≡ refusal_text refusal.now) }
@@ -61,14 +79,22 @@ fn refusal_text(alloc: Global, refusal: &Refusal) -> Result<String, AllocError>
             format!(in alloc; "{number}")
         }
         Refusal::OtherParty(_, _) => format!(in alloc; "42"),
+        Refusal::Audit(fault) => {
+            let number = fault.number();
+            let place = fault.place();
+            format!(in alloc; "{number} at {place}")
+        }
+        Refusal::Pay(refusal) => pay_text(alloc, refusal),
     }
 }
 
 fn refusal_line(alloc: Global, refusal: &Refusal) -> Result<String, AllocError>
     ensures { IfOk result (λ s. string_bytes s ≡ line_of (Status.Refused refusal.now)) }
 {
-    if let Refusal::Text(ReadRefusal::NoMemory) = refusal {
-        return format!(in alloc; "x917: no memory\n");
+    match refusal {
+        Refusal::Text(ReadRefusal::NoMemory) => return format!(in alloc; "x917: no memory\n"),
+        Refusal::Audit(AuditFault::Forged(event)) => return forged_line(alloc, *event),
+        _ => {}
     }
     let text = refusal_text(alloc, refusal)?;
     format!(in alloc; "x917: refused {text}\n")
@@ -126,6 +152,7 @@ pub fn exit_code(status: &Status) -> u8
     match status {
         Status::Done => 0,
         Status::Refused(Refusal::Text(ReadRefusal::NoMemory)) => 9,
+        Status::Refused(Refusal::Audit(AuditFault::Forged(_))) => 8,
         Status::Refused(_) => 1,
         Status::Usage(_) => 2,
         Status::ReadFault => 3,

@@ -51,7 +51,7 @@ struct Case {
 }
 
 /// From the party's beginning to a key that is sent.
-const SENDING: [Case; 7] = [
+const SENDING: [Case; 8] = [
     Case {
         party: "BANKA",
         pieces: 0,
@@ -120,6 +120,16 @@ const SENDING: [Case; 7] = [
         output: "",
         before: SENT,
         after: SENT,
+        again: ("", ""),
+    },
+    Case {
+        party: "BANKO",
+        pieces: 3,
+        line: "migrate --party BANKO",
+        input: "",
+        output: "",
+        before: "PARTY BANKO BANK\nLINK BANKB K1 OUT 1 READY\n",
+        after: "PARTY BANKO BANK\nLINK BANKB K1 OUT 1 READY\n",
         again: ("", ""),
     },
 ];
@@ -197,6 +207,7 @@ fn shows(
 ) -> Result<bool, NoMemory> {
     let line = match party {
         "BANKA" => "show --party BANKA",
+        "BANKO" => "show --party BANKO",
         _ => "show --party BANKB",
     };
     let told = if text.is_empty() {

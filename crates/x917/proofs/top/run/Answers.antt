@@ -4,10 +4,10 @@ use Rattle.x_status.specs.declared.status.Status.TheVariants as status
 use Rattle.x_line.specs.declared.order.Order.{Order}
 use Rattle.x_line.specs.declared.order.Order.TheVariants as order
 use Rattle.x_line.specs.Line.{rows_of_line}
-use Rattle.x_line.specs.Orders.{IsOrder}
 use Rattle.x917.specs.Obeys.{Obeys, Expects, LeavesOthers, IsSilentOf, most_of}
 use Rattle.csm_check.specs.Transfer.{TookAtMost}
-use Rattle.x917.proofs.Orders.{idle, leaves_all, faults_of, took_nothing}
+use Rattle.x917.proofs.Audits.{without_memory}
+use Rattle.x917.proofs.Orders.{idle, leaves_all, faults_of, took_nothing, within_of}
 use Rattle.x917.proofs.NetworkEvents.{network_event}
 use Rattle.x917.proofs.top.run.Goals as goal
 
@@ -48,7 +48,7 @@ returns-in-Ok-clause-network g c = λ o is.
     let old = g.H.Shelf.entry c.args.shelf.now in
     let new = g.H.Shelf.entry c.carry_out.new.shelf in
     let same = c.law_one_order.ensures c.args.words.now c.in-Ok.order o c.in-Ok.ensures.order is in
-    network_event g.H.Shelf.entry laws.commands laws.arrivals laws.compactions c.args.moment c.carry_out.result left rest before after c.args.shelf.now c.carry_out.new.shelf (rows_of_line c.args.words.now) o is.1.1
+    network_event g.H.Shelf.entry laws.commands laws.arrivals laws.compactions laws.migrations c.args.moment c.carry_out.result left rest before after c.args.shelf.now c.carry_out.new.shelf (rows_of_line c.args.words.now) o is.1.1
     (subst (λ (x : Order). Obeys x c.args.moment c.carry_out.result left rest before after old new) same c.carry_out.ensures.obeys)
 
 pub returns-in-Err-NoMemory-clause-network : goal.returns-in-Err-NoMemory-clause-network
@@ -57,12 +57,12 @@ returns-in-Err-NoMemory-clause-network g c = λ o is.
     let entry = g.H.Shelf.entry c.args.shelf.now in
     let left = g.S.Source.left c.args.source.now in
     let written = g.K.Sink.written c.args.sink.now in
-    network_event g.H.Shelf.entry laws.commands laws.arrivals laws.compactions c.args.moment status.NoMemory left left written written c.args.shelf.now c.args.shelf.now (rows_of_line c.args.words.now) o is.1.1
+    network_event g.H.Shelf.entry laws.commands laws.arrivals laws.compactions laws.migrations c.args.moment status.NoMemory left left written written c.args.shelf.now c.args.shelf.now (rows_of_line c.args.words.now) o is.1.1
     (idle c.args.moment left written entry (λ name. g.met.H.Shelf.sound c.args.shelf.now name) o)
 
 pub carry_out-requires : goal.carry_out-requires
-carry_out-requires g c = λ seed events same.
-    c.law_few_events.ensures c.args.words.now seed events (subst (λ (o : Order). IsOrder c.args.words.now o) same c.in-Ok.ensures.order)
+carry_out-requires g c =
+    within_of c.law_few_events.ensures c.law_ledger_apart.ensures.pays c.law_ledger_apart.ensures.accepts c.args.words.now c.in-Ok.order c.in-Ok.ensures.order
 
 pub returns-in-Ok-clause-silent : goal.returns-in-Ok-clause-silent
 returns-in-Ok-clause-silent g c = λ o is silent.
@@ -79,6 +79,12 @@ returns-in-Ok-clause-replays g c = λ is. c.carry_out.ensures.replays (c.law_one
 pub returns-in-Ok-clause-drills : goal.returns-in-Ok-clause-drills
 returns-in-Ok-clause-drills g c = λ seed events is.
     c.carry_out.ensures.drills seed events (c.law_one_order.ensures c.args.words.now c.in-Ok.order (order.Drill seed events) c.in-Ok.ensures.order is)
+
+pub returns-in-Ok-clause-audits : goal.returns-in-Ok-clause-audits
+returns-in-Ok-clause-audits g c = λ is. c.carry_out.ensures.audits (c.law_one_order.ensures c.args.words.now c.in-Ok.order order.Audit c.in-Ok.ensures.order is)
+
+pub returns-in-Err-NoMemory-clause-audits : goal.returns-in-Err-NoMemory-clause-audits
+returns-in-Err-NoMemory-clause-audits g c = λ is. ((without_memory (g.S.Source.left c.args.source.now), refl), refl)
 
 pub returns-in-Err-Usage-clause-most : goal.returns-in-Err-Usage-clause-most
 returns-in-Err-Usage-clause-most g c = λ o is. took_nothing (most_of o) (g.S.Source.left c.args.source.now)
