@@ -6,6 +6,7 @@ mod Keeping
 mod Carrying
 mod Making
 mod Wholes
+mod TakenOver
 mod Frames
 mod NeverRefused
 mod Nothing

@@ -19,6 +19,7 @@ use Rattle.change_code.specs.Whole.{row_edits, whole_edits, whole_of, IsTooLarge
 use Rattle.key_store.specs.Store.{Stored, Fold, StandsWith, IsStore, space, space_between}
 use Rattle.change_code.specs.Cost.{space_of_whole}
 use Rattle.key_store.specs.Compacting.{IsOldOrWhole, IsWhole}
+use Rattle.key_store.specs.Replacing.{IsOldOrOther}
 use Rattle.key_store.specs.Keeping.{Makes}
 use Rattle.key_store.proofs.Keeping.{here, frame_long, at_rest, never_err, done_same, broken_same}
 use Rattle.key_store.proofs.Making.{made}
@@ -31,7 +32,7 @@ pub record IsAnew (format : Format) (party : Party) : Type 0 where
   pub within : StaysWithinLimits (row_edits party) (begun party.own party.role party.generator)
   pub goes_on : HasNoBegin (row_edits party)
 
-whole_fold : (format : Format) (party : Party) → IsAnew format party → Fold format (whole_of format party ∷ []) party
+pub whole_fold : (format : Format) (party : Party) → IsAnew format party → Fold format (whole_of format party ∷ []) party
 whole_fold format party is = (
   party,
   record { own = party.own; role = party.role; generator = party.generator; edits = row_edits party; code = is.code; go_on = record { goes_on = is.goes_on; within = is.within }; after = sym is.anew },
@@ -41,22 +42,24 @@ whole_fold format party is = (
 one_frame : (body : List ℕ) → length (frames (body ∷ [])) ≡ length body + 5
 one_frame body = omega (arith, length-append (four_bytes (length body)) (body ++ []), length-append body [])
 
-whole_room : (format : Format) (party : Party) → room_of (whole_of format party ∷ []) ≡ (space_of_whole format party).room
+pub whole_room : (format : Format) (party : Party) → room_of (whole_of format party ∷ []) ≡ (space_of_whole format party).room
 whole_room format party = ap (λ (n : ℕ). area_size - n) (one_frame (whole_of format party))
 
-module _ (v0 : View) (gate end : ℕ) (old format : Format) (party : Party) (store : IsStore v0 gate end old party) (is : IsAnew format party) where
-  one_of : (bodies : List (List ℕ)) (c : List ℕ) → Fold old bodies party → room_of bodies ≡ end - gate → journal.IsOldOrAlone bodies (whole_of format party) c → IsOldOrWhole party (space_between gate end old) format c
-  one_of bodies c fold left (inl holds) = inl (record { bodies = bodies; holds = holds; fold = fold; left = left })
-  one_of bodies c fold left (inr holds) = inr (record { bodies = whole_of format party ∷ []; holds = holds; fold = whole_fold format party is; left = whole_room format party })
+-- the body of a frame that is written alone into the other area stands for this party
+module _ (v0 : View) (gate end : ℕ) (old format : Format) (party other : Party) (store : IsStore v0 gate end old party) where
+  one_of : (bodies : List (List ℕ)) (c : List ℕ) → Fold format (whole_of format other ∷ []) other → Fold old bodies party → room_of bodies ≡ end - gate → journal.IsOldOrAlone bodies (whole_of format other) c
+      → IsOldOrOther party (space_between gate end old) format other c
+  one_of bodies c alone fold left (inl holds) = inl (record { bodies = bodies; holds = holds; fold = fold; left = left })
+  one_of bodies c alone fold left (inr holds) = inr (record { bodies = whole_of format other ∷ []; holds = holds; fold = alone; left = whole_room format other })
 
   -- a crash at any moment
-  pub switched_any : (v1 : View) (frame : List ℕ) → frame ≡ frame_of (whole_of format party)
+  pub switched_any : IsBody (whole_of format other) → Fold format (whole_of format other ∷ []) other → (v1 : View) (frame : List ℕ) → frame ≡ frame_of (whole_of format other)
       → ((bodies : List (List ℕ)) (body : List ℕ) → HasBodies v0 bodies → IsBody body → frame ≡ frame_of body → LeavesOnly v0 v1 (journal.IsOldOrAlone bodies body))
-      → Tells v0 → LeavesOnly v0 v1 (IsOldOrWhole party (space_between gate end old) format)
-  switched_any v1 frame is_frame switch tells =
+      → Tells v0 → LeavesOnly v0 v1 (IsOldOrOther party (space_between gate end old) format other)
+  switched_any body alone v1 frame is_frame switch tells =
       let h = here v0 gate end old party store tells in
-      weaker v0 v1 (journal.IsOldOrAlone h.bodies (whole_of format party)) (IsOldOrWhole party (space_between gate end old) format) (switch h.bodies (whole_of format party) h.has is.body is_frame)
-      (λ c either. one_of h.bodies c h.fold h.left either)
+      weaker v0 v1 (journal.IsOldOrAlone h.bodies (whole_of format other)) (IsOldOrOther party (space_between gate end old) format other) (switch h.bodies (whole_of format other) h.has body is_frame)
+      (λ c either. one_of h.bodies c alone h.fold h.left either)
 
   -- where it failed, the image at the last sync
   pub switched_stable : (v1 : View) → ((bodies : List (List ℕ)) → HasBodies v0 bodies → (image : List ℕ) → v1.stable ≡ Some image → Holds image bodies)
@@ -65,13 +68,17 @@ module _ (v0 : View) (gate end : ℕ) (old format : Format) (party : Party) (sto
       let h = here v0 gate end old party store tells in
       record { bodies = h.bodies; holds = holds h.bodies h.has image stable; fold = h.fold; left = h.left }
 
-  -- what is left where it is done
-  pub switched_space : (start after last : ℕ) (frame : List ℕ) → frame ≡ frame_of (whole_of format party) → after ≡ start + length frame → last ≡ start + area_size → space_between after last format ≡ space_of_whole format party
-  switched_space start after last frame is_frame at_gate at_end =
-      let size : length frame ≡ length (whole_of format party) + 5 = ap length is_frame ∙ frame_long (whole_of format party) in
-      let left : last - after ≡ (space_of_whole format party).room = omega (arith, size, at_gate, at_end) in
-      let with_room : ℕ → Space = λ n. record { format = format; room = n } in
-      ap with_room left
+-- the space that is left behind one frame
+pub alone_space : (format : Format) (party : Party) (start after last : ℕ) (frame : List ℕ) → frame ≡ frame_of (whole_of format party) → after ≡ start + length frame → last ≡ start + area_size → space_between after last format ≡ space_of_whole format party
+alone_space format party start after last frame is_frame at_gate at_end =
+    let size : length frame ≡ length (whole_of format party) + 5 = ap length is_frame ∙ frame_long (whole_of format party) in
+    let left : last - after ≡ (space_of_whole format party).room = omega (arith, size, at_gate, at_end) in
+    let with_room : ℕ → Space = λ n. record { format = format; room = n } in
+    ap with_room left
+
+-- five calls pass, or more
+pub five_pass : (calls : ℕ) → (calls < 5 → ⊥) → 5 ≤ calls
+five_pass calls few = omega (arith, few)
 
 full_same : {D : Type 0} (a b : Stored D) → kept.Full a ≡ kept.Full b → b ≡ a
 full_same a b is = cc is
@@ -80,10 +87,6 @@ memory_same : {D : Type 0} (a b : Stored D) → kept.NoMemory a ≡ kept.NoMemor
 memory_same a b is = cc is
 
 -- what became of it, by the answer of the switch
--- five calls pass, or more
-five_pass : (calls : ℕ) → (calls < 5 → ⊥) → 5 ≤ calls
-five_pass calls few = omega (arith, few)
-
 module _ {D : Type 0} (told : D → View) (format : Format) (old : Stored D) (sound : IsSound (told old.disk)) (store : IsStore (told old.disk) old.gate old.end old.format old.party) where
   at_rest_either : Tells (told old.disk) → LeavesOnly (told old.disk) (told old.disk) (IsOldOrWhole old.party (space old) format)
   at_rest_either tells =
@@ -134,13 +137,13 @@ module _ {D : Type 0} (told : D → View) (format : Format) (old : Stored D) (so
     switched_over s switch =
         let new : Stored D = record { disk = s.disk; gate = s.gate; end = s.end; format = format; party = old.party } in
         record {
-          done = λ t is. subst (λ (x : Stored D). (x.party ≡ old.party) × (space x ≡ space_of_whole format old.party)) (done_same new t is) (refl, switched_space (told old.disk) old.gate old.end old.format format old.party store is_new (other_start old.end) s.gate s.end frame is_frame switch.place.0 switch.place.1);
+          done = λ t is. subst (λ (x : Stored D). (x.party ≡ old.party) × (space x ≡ space_of_whole format old.party)) (done_same new t is) (refl, alone_space format old.party (other_start old.end) s.gate s.end frame is_frame switch.place.0 switch.place.1);
           stands = λ t is. subst (λ (x : Stored D). IsStore (told x.disk) x.gate x.end x.format x.party) (done_same new t is) (new_store s switch);
           fits = λ t is large. small large;
           full = λ t is. absurd (cc is);
           memory = λ t is. absurd (cc is);
           tried = λ b is. absurd (cc is);
-          any_moment = switched_any (told old.disk) old.gate old.end old.format format old.party store is_new (told s.disk) frame is_frame switch.any_moment;
+          any_moment = switched_any (told old.disk) old.gate old.end old.format format old.party old.party store is_new.body (whole_fold format old.party is_new) (told s.disk) frame is_frame switch.any_moment;
           cause = λ b is. absurd (cc is);
           faults = switch.faults;
           tells = switch.tells;
@@ -159,7 +162,7 @@ module _ {D : Type 0} (told : D → View) (format : Format) (old : Stored D) (so
       full = λ s is. absurd (cc is);
       memory = λ s is. absurd (cc is);
       tried = λ d is large. small large;
-      any_moment = switched_any (told old.disk) old.gate old.end old.format format old.party store is_new (told b.disk) frame is_frame switch.any_moment;
+      any_moment = switched_any (told old.disk) old.gate old.end old.format format old.party old.party store is_new.body (whole_fold format old.party is_new) (told b.disk) frame is_frame switch.any_moment;
       cause = λ d is. subst (λ (x : Failed D). FaultsRose (told old.disk) (told x.disk) x.cause) (broken_same b d is) switch.cause;
       faults = switch.faults;
       tells = switch.tells;
@@ -170,5 +173,5 @@ module _ {D : Type 0} (told : D → View) (format : Format) (old : Stored D) (so
       calls = λ s is. absurd (cc is);
       stable = λ d is tells image stable.
           let same : b ≡ d = broken_same b d is in
-          switched_stable (told old.disk) old.gate old.end old.format format old.party store is_new (told b.disk) switch.stable tells image (ap (λ (x : Failed D). (told x.disk).stable) same ∙ stable);
+          switched_stable (told old.disk) old.gate old.end old.format format old.party old.party store (told b.disk) switch.stable tells image (ap (λ (x : Failed D). (told x.disk).stable) same ∙ stable);
     }

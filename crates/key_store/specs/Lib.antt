@@ -6,4 +6,5 @@ pub mod Loaded
 pub mod Loading
 pub mod Store
 pub mod Compacting
+pub mod Replacing
 pub mod Wiping

@@ -15,7 +15,7 @@ use x_base::Text;
 use x_disk::Disk;
 
 /// The text of the frame of the whole party.
-fn whole_frame(alloc: Global, format: Format, state: &State) -> Result<Text, WholeFault>
+pub(crate) fn whole_frame(alloc: Global, format: Format, state: &State) -> Result<Text, WholeFault>
     ensures text { IfOk result (λ t. t ≡ frame_of (whole_of format state.now)) }
     ensures frame { IfOk result IsFrame }
     ensures code { OnOk result (IsCode format (whole_of format state.now) (whole_edits state.now)) }

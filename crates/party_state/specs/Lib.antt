@@ -6,3 +6,4 @@ pub mod Formed
 pub mod Verdicts
 pub mod Limits
 pub mod Rows
+pub mod Same

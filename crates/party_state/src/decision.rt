@@ -3,6 +3,7 @@ ghost use Rattle.std.specs.Prelude.{◌≡◌, ◌≢◌, [], option_map, IfNone
 use crate::edit::Change;
 use std::marker::Model;
 use x_base::{FullName, Text, Verdict};
+use x_mac::Pair;
 
 /// The edits of a decision, in order; none where nothing changes.
 #[derive(Drop)]
@@ -71,9 +72,12 @@ pub struct Decision {
 }
 
 /// The key under which the code of an arrival is tested, and whether it is the one carried.
+///
+/// `opened` is the new key-encrypting key that the arrival brings, decrypted; none where it brings none.
 #[derive(Clone, Copy, Debug, PartialEq, Eq)]
 pub struct Lead {
     pub under: FullName,
     pub value: u64,
     pub verified: bool,
+    pub opened: Option<Pair>,
 }

@@ -74,6 +74,17 @@ impl Edit {
     }
 }
 
+/// Equal edits in memory of their own.
+pub(crate) fn copy_edits(alloc: Global, edits: &[Edit]) -> Result<Change, NoMemory>
+    ensures { IfOk result (λ copy. copy ≡ edits.now) }
+{
+    let mut copy = Change::new(alloc);
+    for edit in edits {
+        copy.push(edit.copy(alloc)?)?;
+    }
+    Ok(copy)
+}
+
 /// A list of edits, in order.
 #[derive(Drop)]
 pub struct Change {
@@ -163,11 +174,7 @@ impl Change {
     pub fn copy(&self, alloc: Global) -> Result<Change, NoMemory>
         ensures { IfOk result (λ copy. copy ≡ self.now) }
     {
-        let mut copy = Change::new(alloc);
-        for edit in &self.edits {
-            copy.push(edit.copy(alloc)?)?;
-        }
-        Ok(copy)
+        copy_edits(alloc, self.edits.as_slice())
     }
 
     /// Every part of every edit is in its range. It does nothing.

@@ -12,6 +12,7 @@ mod parts;
 mod prepared;
 mod ranges;
 mod rooms;
+mod same;
 mod state;
 mod table_laws;
 

@@ -3,9 +3,9 @@ ghost use Rattle.party_state.specs.Ranges.{AreFitting, HasNoBegin};
 ghost use Rattle.party_state.specs.Rooms.{HasSpaceFor};
 ghost use Rattle.party_state.specs.State.{apply as after};
 
-use crate::edit::{Change, Edit};
+use crate::edit::{Change, Edit, copy_edits};
 use crate::parts::Parts;
-use crate::state::State;
+use crate::state::{State, boxed};
 use std::alloc::Global;
 use std::marker::Model;
 use x_base::NoMemory;
@@ -69,6 +69,18 @@ impl Prepared {
         let Prepared { mut parts, edits } = self;
         do_edits(&mut parts, edits);
         State { parts }
+    }
+
+    /// The party after the edits, in memory of its own; what is prepared stays as it is.
+    pub fn next(&self, alloc: Global) -> Result<State, NoMemory>
+        ensures { IfOk result (λ s. s ≡ after self.now.edits self.now.party) }
+    {
+        let change = copy_edits(alloc, self.edits.as_slice())?;
+        let copy = boxed(alloc, self.parts.copy(alloc)?)?;
+        match copy.prepare(change) {
+            Ok(prepared) => Ok(prepared.finish()),
+            Err(_) => Err(NoMemory),
+        }
     }
 
     /// The party as it was.

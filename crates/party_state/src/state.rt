@@ -25,7 +25,7 @@ impl Model for State {
 }
 
 /// The state of these parts.
-fn boxed(alloc: Global, parts: Parts) -> Result<State, NoMemory>
+pub(crate) fn boxed(alloc: Global, parts: Parts) -> Result<State, NoMemory>
     ensures { IfOk result (λ s. s ≡ parts.0) }
 {
     match Box::new(alloc, parts) {
@@ -62,7 +62,7 @@ impl State {
 
 impl State {
     /// The same state in memory of its own.
-    pub(crate) fn copy(&self, alloc: Global) -> Result<State, NoMemory>
+    pub fn copy(&self, alloc: Global) -> Result<State, NoMemory>
         ensures { IfOk result (λ copy. copy ≡ self.now) }
     {
         boxed(alloc, self.parts.copy(alloc)?)

@@ -5,3 +5,4 @@ pub mod Distinct
 pub mod Each
 pub mod Lengths
 pub mod Keys
+mod Alike

@@ -4,3 +4,4 @@ pub mod Statuses
 pub mod Keys
 pub mod Names
 pub mod Ranges
+pub mod Same

@@ -9,6 +9,7 @@ mod limits;
 mod link;
 mod names;
 mod ranges;
+mod same;
 mod table;
 
 pub use answer::{Answer, AnswerKey};
@@ -18,4 +19,5 @@ pub use limits::{LARGEST_NEXT, LONGEST_TEXT};
 pub use link::{LinkKey, LinkRec};
 pub use names::name_behind;
 pub use ranges::{law_answer, law_exchange, law_ident, law_label, law_link, law_pair, law_record};
+pub use same::Same;
 pub use table::{Row, Table};
