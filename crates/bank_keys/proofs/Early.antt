@@ -29,7 +29,7 @@ use Rattle.role_base.proofs.Early.{early_refusal, led}
 use Rattle.role_base.proofs.Unled.{none_exactly}
 use Rattle.bank_keys.specs.declared.waits.Waiting.{Waiting}
 use Rattle.bank_keys.specs.Waiting.{waiting_with, is_asked_in}
-use Rattle.bank_keys.specs.Ksm.{body_link, body_count, body_name, body_new, body_code, body_front, body_rest, key_row, key_arrives, key_lead_with, key_lead}
+use Rattle.bank_keys.specs.Ksm.{body_link, body_count, body_new, body_code, body_front, body_rest, key_row, key_arrives, key_found, key_lead_with, key_lead}
 use Rattle.bank_keys.specs.Rtr.{rtr_front, rtr_rest, brought_front, brought_value, brought, brought_under, brought_lead, translated_front, translated, translated_under, translated_lead, rtr_with, rtr, rtr_lead_with, rtr_lead}
 use Rattle.bank_keys.proofs.NewKeys.{has_room, behind_late}
 
@@ -37,7 +37,7 @@ key_led : (p : Party) (a : Arrival) (m : Ksm) (b : KsmBody) (o : Option LinkRec)
 key_led p a m b None = early_refusal ((is_for p m.receiver m.originator, NotForMe) ∷ (knows (body_issuer m.originator b) p, UnknownPeer) ∷ []) UnknownKk refl refl
 key_led p a m b (Some l) =
     let value : ℕ = body_code l.pair m.originator p.own b in
-    led (body_front p m b (Some l)) ((is_verified a value, BadMac) ∷ body_rest p m b l) (lead_under a (body_name p m.originator b l) value) refl (behind_late p m.originator l (body_count b) (body_new b) (is_verified a value) (has_room p m b l))
+    led (body_front p m b (Some l)) ((is_verified a value, BadMac) ∷ body_rest p m b l) (key_found p a m b l) refl (behind_late p m.originator l (body_count b) (body_new b) (is_verified a value) (has_room p m b l))
 
 brought_led : (p : Party) (a : Arrival) (m : Rtr) (k : ℕ × ℕ) (o : Option LinkRec) → is_none (brought_lead p a m k o) ≡ is_early (brought p a m k o).verdict
 brought_led p a m k None = early_refusal (rtr_front p m (is_asked_in (exchange_with m.originator p) m.ultimate)) UnknownKk refl refl

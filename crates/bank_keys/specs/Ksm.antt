@@ -103,6 +103,10 @@ body_new (body.Direct idk2 new kd ctp) = new
 body_new (body.Centre centre kdu ctb) = None
 body_new (body.Twin idk2 first second ctp) = None
 
+-- the new key-encrypting key, opened
+abbrev pub body_opened : Pair → KsmBody → Option Pair
+body_opened pair b = option_map (λ n. opened_kk pair (body_count b) n.1) (body_new b)
+
 -- the key that a text brings from an originator to a receiver, under the pair of the link in use; of two the first
 abbrev pub body_value : Pair → List ℕ → List ℕ → KsmBody → ℕ
 body_value pair originator receiver (body.Direct idk2 None kd ctp) = unwrap_of pair ctp kd
@@ -209,11 +213,14 @@ key_row p a m b (Some l) = record {
 abbrev pub key_arrives : Party → Arrival → Ksm → Row
 key_arrives p a m = key_row p a m m.body (body_link p m.originator m.body)
 
--- the key under which its code is tested
+-- the key under which its code is tested, with the new key-encrypting key
+
+abbrev pub key_found : Party → Arrival → Ksm → KsmBody → LinkRec → Lead
+key_found p a m b l = record (lead_under a (body_name p m.originator b l) (body_code l.pair m.originator p.own b)) { opened = body_opened l.pair b }
 
 abbrev pub key_lead_with : Party → Arrival → Ksm → KsmBody → Option LinkRec → Option Lead
 key_lead_with p a m b None = None
-key_lead_with p a m b (Some l) = cond (passes (body_front p m b (Some l))) (Some (lead_under a (body_name p m.originator b l) (body_code l.pair m.originator p.own b))) None
+key_lead_with p a m b (Some l) = cond (passes (body_front p m b (Some l))) (Some (key_found p a m b l)) None
 
 abbrev pub key_lead : Party → Arrival → Ksm → Option Lead
 key_lead p a m = key_lead_with p a m m.body (body_link p m.originator m.body)

@@ -2,10 +2,10 @@
 ghost use Rattle.std.specs.Prelude.{◌≡◌, ◌+◌, cond, nat_lt, IfSome, Some, None};
 ghost use Rattle.x_base.specs.Count.{IsCount, count_limit};
 ghost use Rattle.role_base.specs.Standing.{LinkStands};
-ghost use Rattle.bank_keys.specs.Ksm.{link_in_use, IsCounted, body_link, body_count, body_next, body_counts, body_name, opened_kk, body_new, body_code, body_record, body_second, body_taken, link_tests};
+ghost use Rattle.bank_keys.specs.Ksm.{link_in_use, IsCounted, body_link, body_count, body_next, body_counts, body_name, opened_kk, body_new, body_opened, body_code, body_record, body_second, body_taken, link_tests};
 
 use csm_grammar::{Ksm, KsmBody, NewKk};
-use party_state::{KeyRec, KeyStatus, LinkRec, State};
+use party_state::{KeyRec, KeyStatus, Lead, LinkRec, State};
 use role_base::{
     Counts, centre_label, count_behind, direct_name, first_link, has_link_room, is_of_centre,
     link_with, odd_pair,
@@ -129,7 +129,7 @@ pub(crate) fn body_name(
 
 /// The new key-encrypting key that comes under a pair at a count, with odd parity. A single one is
 /// both halves.
-pub(crate) fn opened_kk(pair: Pair, count: Count, new: NewKk) -> Pair
+fn opened_kk(pair: Pair, count: Count, new: NewKk) -> Pair
     ensures { result ≡ opened_kk pair count new }
 {
     match new {
@@ -152,6 +152,14 @@ fn body_new(body: &KsmBody) -> Option<(Label, NewKk)>
         KsmBody::Direct { new, .. } => *new,
         KsmBody::Centre { .. } | KsmBody::Twin { .. } => None,
     }
+}
+
+/// The new key-encrypting key, opened under the pair of the link in use.
+pub(crate) fn body_opened(pair: Pair, body: &KsmBody) -> Option<Pair>
+    ensures { result ≡ body_opened pair body.now }
+{
+    let (_, new) = body_new(body)?;
+    Some(opened_kk(pair, body_count(body), new))
 }
 
 /// The record of the second of two keys.
@@ -193,30 +201,31 @@ pub(crate) struct Keys {
     pub second: Option<KeyRec>,
 }
 
-/// What comes under a link. `code` is the key under which the message is closed. A new
-/// key-encrypting key is opened here once, for the tests and the edits.
-pub(crate) fn keys_of(state: &State, message: &Ksm, link: &LinkRec, code: u64) -> Keys
+/// What comes under a link. The key under which the message is closed, and a new key-encrypting key,
+/// were opened for the lead.
+pub(crate) fn keys_of(state: &State, message: &Ksm, link: &LinkRec, lead: &Lead) -> Keys
     requires counted { IsCounted message.now.body }
-    requires code { code ≡ body_code link.now.pair message.now.originator state.now.own message.now.body }
+    requires code { lead.now.value ≡ body_code link.now.pair message.now.originator state.now.own message.now.body }
+    requires opened { lead.now.opened ≡ body_opened link.now.pair message.now.body }
     ensures taken { result.taken ≡ body_taken message.now.originator link.now message.now.body }
     ensures first { result.first ≡ body_record state.now message.now message.now.body link.now }
     ensures second { result.second ≡ body_second state.now message.now message.now.body link.now }
     ensures range { IsCount (body_count message.now.body) }
 {
     let count = body_count(&message.body);
-    let taken = match body_new(&message.body) {
-        Some((label, new)) => Some(LinkRec {
+    let taken = match (body_new(&message.body), lead.opened) {
+        (Some((label, _)), Some(pair)) => Some(LinkRec {
             peer: message.originator,
             label,
             side: Side::Takes,
-            pair: opened_kk(link.pair, count, new),
+            pair,
             next: 2,
             ready: true,
         }),
-        None => None,
+        _ => None,
     };
     let value = match &message.body {
-        KsmBody::Direct { .. } | KsmBody::Centre { .. } => code,
+        KsmBody::Direct { .. } | KsmBody::Centre { .. } => lead.value,
         KsmBody::Twin { first, .. } => unwrap(link.pair, count, *first),
     };
     let first = KeyRec {

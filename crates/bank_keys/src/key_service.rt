@@ -10,15 +10,14 @@ ghost use Rattle.role_base.specs.Deciding.{Decides};
 ghost use Rattle.bank_keys.specs.Ksm.{body_count, body_next, second_edits, have_room, body_front, link_edits, link_tests, key_arrives, key_lead};
 
 use crate::bodies::{
-    Keys, body_count, body_counts, body_link, body_name, body_next, first_count, keys_of,
-    link_tests, opened_kk,
+    Keys, body_count, body_counts, body_link, body_name, body_next, body_opened, first_count,
+    keys_of, link_tests,
 };
 use csm_grammar::{Arrival, Ksm, KsmBody, Message, Rsm};
 use party_state::{Decision, Edit, KeyRec, Lead, LinkRec, RecordKey, State, law_accept};
 use role_base::{
     Written, accept, body_issuer, count_behind, count_tests, early_refusal, error_answer,
-    has_key_room, has_room_for_two, is_accept, is_for, lead_under, list_of, no_extras,
-    verdict_after,
+    has_key_room, has_room_for_two, is_accept, is_for, lead_under, list_of, no_extras, verdict_of,
 };
 use std::alloc::Global;
 use x_base::{NoMemory, Verdict};
@@ -98,23 +97,20 @@ pub fn ksm(
     // Tells what an accepted verdict says of the tests.
     law_accept();
     let found = body_link(state, &message.originator, &message.body);
-    let front = body_front(state, message, &found);
-    let Some(link) = &found else {
-        return Ok(early_refusal(&front));
+    // Where there is a lead, the tests before the code's hold.
+    let (Some(link), Some(lead)) = (&found, lead) else {
+        return Ok(early_refusal(&body_front(state, message, &found)));
     };
-    let Some(lead) = lead else {
-        return Ok(early_refusal(&front));
-    };
-    let keys = keys_of(state, message, link, lead.value);
+    let keys = keys_of(state, message, link, lead);
     let code = (lead.verified, Verdict::BadMac);
     let [low, spent] = count_tests(link, body_count(&message.body));
     let room = have_room(state, &keys.first, &keys.second);
     let room = (room, Verdict::KeysFull);
     let verdict = match &keys.taken {
-        None => verdict_after(&front, &[code, low, spent, room]),
+        None => verdict_of(&[code, low, spent, room]),
         Some(taken) => {
             let [free, other, links] = link_tests(state, taken);
-            verdict_after(&front, &[code, low, spent, free, other, links, room])
+            verdict_of(&[code, low, spent, free, other, links, room])
         }
     };
     if !is_accept(&verdict) {
@@ -133,7 +129,7 @@ pub fn ksm(
 }
 
 /// The key under which the code of a key service message is tested: the one that it brings, or the
-/// exclusive-or of two, under the name of the first. There is none where the message is refused
+/// exclusive-or of two, under the name of the first; with a new key-encrypting key, opened. There is none where the message is refused
 /// before its code is looked at.
 pub fn ksm_lead(state: &State, arrival: &Arrival, message: &Ksm) -> Option<Lead>
     ensures { result ≡ key_lead state.now arrival.now message.now }
@@ -145,19 +141,12 @@ pub fn ksm_lead(state: &State, arrival: &Arrival, message: &Ksm) -> Option<Lead>
         return None;
     }
     let under = body_name(state, originator, body, &link);
+    let opened = body_opened(link.pair, body);
     let value = match body {
-        KsmBody::Direct {
-            new: None,
-            kd,
-            ctp,
-            ..
-        } => unwrap(link.pair, *ctp, *kd),
-        KsmBody::Direct {
-            new: Some((_, new)),
-            kd,
-            ctp,
-            ..
-        } => unwrap(opened_kk(link.pair, *ctp, *new), first_count(), *kd),
+        KsmBody::Direct { kd, ctp, .. } => match opened {
+            None => unwrap(link.pair, *ctp, *kd),
+            Some(pair) => unwrap(pair, first_count(), *kd),
+        },
         KsmBody::Centre { kdu, ctb, .. } => {
             unseal(link.pair, originator, &state.own(), *ctb, *kdu)
         }
@@ -171,5 +160,8 @@ pub fn ksm_lead(state: &State, arrival: &Arrival, message: &Ksm) -> Option<Lead>
             unwrap(link.pair, *ctp, *first) ^ second
         }
     };
-    Some(lead_under(arrival, under, value))
+    Some(Lead {
+        opened,
+        ..lead_under(arrival, under, value)
+    })
 }

@@ -218,3 +218,19 @@ gap_here b place n u h =
 
 pub unit_end : (b : List ℕ) (place n : ℕ) → IsUnit (drop place (take 1024 b)) n → place + n ≤ length (take 1024 b)
 unit_end b place n u = let inside = u.within in omega (arith, inside, length-drop place (take 1024 b))
+
+-- where bytes are refused, a message that stands in front was left for want of memory
+pub refused_only : (b : List ℕ) (o : Result Parsed ReadRefusal) (r : ReadRefusal) → IsAnswer b o → o ≡ Err r → (p : Parsed) → IsRead b p → r ≡ refusal.NoMemory
+refused_only b o r h e p i = go (only_clause b o h p i)
+  where
+    go : (o ≡ Ok p) ⊎ (o ≡ Err refusal.NoMemory) → r ≡ refusal.NoMemory
+    go (inl f) = absurd (cc)
+    go (inr f) = cc
+
+-- where a message is read, the bytes have no fault
+pub read_faultless : (b : List ℕ) (o : Result Parsed ReadRefusal) (p : Parsed) → IsAnswer b o → o ≡ Ok p → (r : ReadRefusal) → IsFault b r → ⊥
+read_faultless b o p h e r f = go (faults_clause b o h r f)
+  where
+    go : (o ≡ Err r) ⊎ (o ≡ Err refusal.NoMemory) → ⊥
+    go (inl g) = cc
+    go (inr g) = cc

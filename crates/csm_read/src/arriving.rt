@@ -5,7 +5,7 @@ ghost use Rattle.csm_grammar.specs.declared.refusal.ReadRefusal.{ReadRefusal};
 ghost use Rattle.csm_grammar.specs.Reading.{IsRead};
 ghost use Rattle.csm_read.specs.Faults.{IsFault};
 
-use crate::reading::read;
+use crate::reading::answer;
 use csm_grammar::{Arrival, ReadRefusal};
 use std::alloc::Global;
 use x_base::Text;
@@ -17,7 +17,7 @@ pub fn read_arrival(alloc: Global, bytes: &[u8]) -> Result<Arrival, ReadRefusal>
     ensures faulted { (r : ReadRefusal) → result ≡ Err r → IsFault bytes.now r ⊎ (r ≡ ReadRefusal.NoMemory) }
     ensures faults { (r : ReadRefusal) → IsFault bytes.now r → (result ≡ Err r) ⊎ (result ≡ Err ReadRefusal.NoMemory) }
 {
-    let parsed = match read(alloc, bytes) {
+    let parsed = match answer(alloc, bytes) {
         Ok(parsed) => parsed,
         Err(refusal) => return Err(refusal),
     };

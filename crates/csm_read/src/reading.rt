@@ -70,7 +70,8 @@ fn endless(len: usize) -> ReadRefusal
     }
 }
 
-fn answer(alloc: Global, bytes: &[u8]) -> Result<Parsed, ReadRefusal>
+/// The message that begins at byte 0, or its first fault.
+pub(crate) fn answer(alloc: Global, bytes: &[u8]) -> Result<Parsed, ReadRefusal>
     ensures { IsAnswer bytes.now result }
 {
     if let Some(fault) = front_fault(bytes) {

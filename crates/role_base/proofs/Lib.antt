@@ -29,3 +29,4 @@ pub mod Tested
 pub mod CentresApart
 pub mod CentreRefusals
 pub mod CentresEarly
+mod Redone

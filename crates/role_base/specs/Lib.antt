@@ -19,3 +19,4 @@ pub mod Order
 pub mod Beginning
 pub mod Centres
 pub mod Serving
+pub mod Redoing

@@ -44,9 +44,9 @@ is_edc_of auth (shut.Edc digits) = edc_of auth == digits
 unfoldable pub is_verified : Arrival → ℕ → Bool
 is_verified a value = is_mac_of value (authenticated a) a.parsed.shut
 
--- a key, and whether the arrival's code is made under it
+-- a key, and whether the arrival's code is made under it; no key-encrypting key comes
 abbrev pub lead_under : Arrival → FullName → ℕ → Lead
-lead_under a under value = record { under = under; value = value; verified = is_verified a value }
+lead_under a under value = record { under = under; value = value; verified = is_verified a value; opened = None }
 
 -- its error detection code is right
 unfoldable pub is_right : Arrival → Bool

@@ -8,7 +8,8 @@ use party_state::{KeyRec, Lead, State};
 use x_base::FullName;
 use x_mac::mac;
 
-/// This key, with its full name, and whether the arrival's code is made under it.
+/// This key, with its full name, and whether the arrival's code is made under it; no key-encrypting
+/// key beside it.
 #[tactic(auto, unfolding(crate::specs::Texts::is_verified))]
 pub fn lead_under(arrival: &Arrival, under: FullName, value: u64) -> Lead
     ensures { result ≡ lead_under arrival.now under value }
@@ -21,6 +22,7 @@ pub fn lead_under(arrival: &Arrival, under: FullName, value: u64) -> Lead
         under,
         value,
         verified,
+        opened: None,
     }
 }
 

@@ -1,5 +1,5 @@
 -- A message that brings a key is accepted at a bank alone, exactly where its key can be taken, or can go on.
-use Rattle.std.proofs.Common.{◌≡◌, ◌↔◌, ℕ, false, List, [], ◌∷◌, Result, Ok, Err, IfOk, refl, sym, ap, ◌∙◌}
+use Rattle.std.proofs.Common.{◌≡◌, ◌↔◌, ℕ, false, List, [], ◌∷◌, Result, Ok, Err, IfOk, refl, sym, ap, subst, ◌∙◌}
 use Rattle.std.proofs.lemmas.Bool.{both_ways}
 use Rattle.x_base.specs.declared.party.Role.{Role}
 use Rattle.x_base.specs.declared.party.Role.TheVariants.{Bank, Distribution, Translation}
@@ -10,6 +10,7 @@ use Rattle.csm_grammar.specs.declared.message.Ksm.{Ksm}
 use Rattle.csm_grammar.specs.declared.message.Rtr.{Rtr}
 use Rattle.csm_grammar.specs.declared.arrival.Arrival.{Arrival}
 use Rattle.party_state.specs.declared.command.Input.{Input}
+use Rattle.party_state.specs.declared.command.Input.TheVariants as input
 use Rattle.party_state.specs.declared.decision.Decision.{Decision}
 use Rattle.party_state.specs.State.{Party, knows}
 use Rattle.party_state.specs.Verdicts.{Test, Held}
@@ -21,6 +22,7 @@ use Rattle.role_base.proofs.PartyLaws.{HeldAtAccept}
 use Rattle.bank_keys.specs.Taking.{Brings, CanTake, TakesKeys}
 use Rattle.bank_keys.specs.Passing.{Responds, CanPassOn, PassesKeys}
 use Rattle.bank_role.specs.Deciding.{decided}
+use Rattle.bank_role.specs.Rows.{message_row}
 use Rattle.distribution_role.specs.Rows.{distribution_message, distribution_row}
 use Rattle.translation_role.specs.Rows.{translation_message, translation_row}
 use Rattle.roles.specs.Rows.{row_by, row_at}
@@ -64,6 +66,10 @@ passes held bank p i moment = λ a m brought. by_role a m brought p.role refl
         ap (λ (x : Input). translation_row p x) brought.arrived ∙ ap (λ (n : Message). translation_message p a n) brought.message in
         (λ h. absurd (not_served held p m.receiver m.originator m.originator (translation_row p i) row h), λ t. absurd (cc (e, t.0)))
 
+-- the row of a message at a bank
+pub bank_row : (p : Party) (i : Input) (moment : ℕ) (a : Arrival) (m : Message) → i ≡ input.Arrived a → a.parsed.message ≡ m → row_by Bank p i moment ≡ message_row p a m moment
+bank_row p i moment a m arrived is = ap (λ (x : Input). row_by Bank p x moment) arrived ∙ ap (λ (n : Message). message_row p a n moment) is
+
 -- what is known of every decision is known of one that is made
 
 pub decided_by : ((p : Party) (i : Input) (moment : ℕ) → TakesAsBank p i (decision p i moment)) → ((p : Party) (i : Input) (moment : ℕ) → PassesAsBank p i (decision p i moment))
@@ -73,3 +79,8 @@ decided_by takes passes p i moment ranged role (Ok d) r e =
     let is : d ≡ decision_of p (row_at p i moment) = e.is ∙ ap (λ (x : Role). decision_of p (row_by x p i moment)) (sym r) in
     record { is = is; kept = e.kept; short = rw is ranged.short; complete = rw is (takes p i moment); passed_on = rw is (passes p i moment) }
 decided_by takes passes p i moment ranged role (Err f) r e = tt
+
+-- the same at a bank, by the row of the input
+pub decided_at_bank : ((p : Party) (i : Input) (moment : ℕ) → TakesAsBank p i (decision p i moment)) → ((p : Party) (i : Input) (moment : ℕ) → PassesAsBank p i (decision p i moment))
+    → (p : Party) (i : Input) (moment : ℕ) → IsRanged p (decision p i moment) → (made : Result Decision NoMemory) (r : Row) → p.role ≡ Bank → row_by Bank p i moment ≡ r → Decides p r made → IfOk made (IsDecided p i moment)
+decided_at_bank takes passes p i moment ranged made r role row e = decided_by takes passes p i moment ranged Bank made role (subst (λ (x : Row). Decides p x made) (sym row) e)
