@@ -15,14 +15,14 @@ use Rattle.scenario.proofs.Sizes.{feed, rows_by, total_is}
 
 -- where this line stood among others, behind the same lines, one stands that is at least as long; and the same one, unless it
 -- was the last
-record Grows (rows before : List Row) (here : Row) (after : List Row) : Type 0 where
+pub record Grows (rows before : List Row) (here : Row) (after : List Row) : Type 0 where
   pub now : Row
   pub more : List Row
   pub whole : rows ≡ before ++ now ∷ more
   pub size : size_of here ≤ size_of now
   pub same : (after ≡ []) ⊎ (now ≡ here)
 
-abbrev GrowsTo : List Row → List Row → Type 0
+abbrev pub GrowsTo : List Row → List Row → Type 0
 GrowsTo rows larger = (before : List Row) (here : Row) (after : List Row) → rows ≡ before ++ here ∷ after → Grows larger before here after
 
 no_place : (before : List Row) (here : Row) (after : List Row) → [] ≡ before ++ here ∷ after → ⊥
@@ -91,7 +91,7 @@ step : (ended : Bool) (byte : ℕ) (front rest : List ℕ) → GrowsTo (rows_of 
 step true byte front rest grows = fed (rows_of front) (rows_of (front ++ rest)) grows
 step false byte front rest grows = put byte (rows_of front) (rows_of (front ++ rest)) grows
 
-grown : (front rest : List ℕ) → GrowsTo (rows_of front) (rows_of (front ++ rest))
+pub grown : (front rest : List ℕ) → GrowsTo (rows_of front) (rows_of (front ++ rest))
 grown [] rest before here after e = absurd (no_place before here after e)
 grown (byte ∷ front) rest before here after e = step (byte == 10) byte front rest (grown front rest) before here after e
 

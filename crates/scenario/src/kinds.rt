@@ -210,8 +210,8 @@ fn stop(words: &[u8]) -> Option<Line>
     })
 }
 
-/// The bytes that hexadecimal digits write.
-fn decoded(alloc: Global, digits: &[u8]) -> Result<Option<Text>, NoMemory>
+/// The bytes that 2 to 2,080 hexadecimal digits of either case write, and `None` exactly where the word is no such digits.
+pub fn decoded(alloc: Global, digits: &[u8]) -> Result<Option<Text>, NoMemory>
     ensures { IfOk result (λ bytes. bytes ≡ bytes_of digits.now) }
 {
     if digits.is_empty() || MOST_DIGITS < digits.len() {

@@ -14,6 +14,7 @@ mod tables;
 mod words;
 
 pub use fault::ScenarioFault;
+pub use kinds::decoded;
 pub use laws::{
     law_bad_in_front, law_few_bytes, law_has_reading, law_never_both, law_one_first_bad,
     law_one_scenario,
@@ -22,3 +23,4 @@ pub use line::Line;
 pub use reading::read;
 pub use row::first_row;
 pub use scenario_lines::Scenario;
+pub use words::{first_word, one};

@@ -1,0 +1,5 @@
+mod Short
+mod Walking
+mod Judged
+mod Back
+mod Front
