@@ -5,6 +5,8 @@ mod drawing;
 mod drill_events;
 mod drill_set_up;
 mod drill_text;
+mod laws;
 mod writing;
 
 pub use drill_text::drill;
+pub use laws::law_drills_read;
