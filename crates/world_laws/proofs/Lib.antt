@@ -8,4 +8,7 @@ pub mod Rows
 pub mod Agreeing
 pub mod Speaking
 pub mod Nodes
+pub mod Shown
+pub mod Ended
+pub mod Deeds
 pub mod LiveKeys

@@ -14,3 +14,4 @@ pub mod TranslationStart
 pub mod TranslationRun
 pub mod TwinRun
 pub mod EndRun
+pub mod ClosingRun

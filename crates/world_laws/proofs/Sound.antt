@@ -7,3 +7,4 @@ pub mod TwinKeys
 pub mod Commands
 pub mod Arrivals
 pub mod Centres
+pub mod TakesRows

@@ -8,6 +8,9 @@ pub mod Starts
 pub mod Laws
 pub mod Carried
 pub mod Facts
+pub mod Shown
+pub mod Answered
 pub mod Nodes
 pub mod Calls
 pub mod Reached
+pub mod Sessions

@@ -1,20 +1,21 @@
 -- A run in which a key becomes live (this project's profile).
 use Rattle.std.specs.Prelude.{◌≡◌, ℕ, List, [], ◌∷◌, Some, Contains}
+use Rattle.x_base.specs.declared.key_name.FullName.{FullName}
 use Rattle.x_base.specs.declared.party.Role.{Role}
 use Rattle.x_base.specs.declared.key_name.KeyName.{KeyName}
 use Rattle.party_tables.specs.declared.key.RecordKey.{RecordKey}
 use Rattle.party_tables.specs.declared.key.KeyRec.{KeyRec}
 use Rattle.party_tables.specs.declared.key.KeyStatus.TheVariants.{Live, Ended}
 use Rattle.party_tables.specs.Names.{name_behind}
-use Rattle.party_state.specs.Rows.{OfKsm}
+use Rattle.party_state.specs.Rows.{OfKsm, OfAnswer, OfDsm}
 use Rattle.party_state.specs.State.{record_with}
 use Rattle.member.specs.Member.{Member}
-use Rattle.world_laws.specs.World.{Birth, Acceptance, World, member_at}
-use Rattle.world_laws.specs.Events.{Event, AreEvents}
-use Rattle.world_laws.specs.Steps.{run}
-use Rattle.world_laws.specs.Honest.{HonestRun}
+use Rattle.world_laws.specs.World.{Fact, Birth, Acceptance, World, member_at}
+use Rattle.world_laws.specs.Events.{Event, CutNew, AreEvents}
+use Rattle.world_laws.specs.Steps.{step, run}
+use Rattle.world_laws.specs.Honest.{HonestRun, IsForged}
 use Rattle.world_laws.specs.Starts.{IsStart}
-use Rattle.world_laws.specs.Laws.{HoldsKey}
+use Rattle.world_laws.specs.Laws.{IsLive, HoldsKey, HasAccepted}
 
 -- a key is live at its originator, and its partner holds it
 pub record HasLiveKey (w : World) : Type 0 where
@@ -102,3 +103,64 @@ pub record LeavesSecond (w : World) : Type 0 where
   pub second_found : record_with (record { peer = peer; name = name_behind name }) member.party ≡ Some second
   pub second_ended : second.status ≡ Ended
   pub held : HoldsKey w.members peer (record { peer = member.party.own; name = name_behind name }) second.value
+
+-- the first event of the run was cut off with the new state: a code was made at it, and nothing was written; its key becomes live
+pub record LivesAfterCut (start : World) (events : List Event) : Type 0 where
+  pub first : Event
+  pub rest : List Event
+  pub events_are : events ≡ first ∷ rest
+  pub cut : first.completion ≡ CutNew
+  pub fact : Fact
+  pub made : Contains (step 1 start first).facts fact
+  pub unwritten : (step 1 start first).texts ≡ []
+  pub live : HasLiveKey (run 1 start events)
+
+pub record RunAfterCut : Type 0 where
+  pub start : World
+  pub events : List Event
+  pub is_start : IsStart start
+  pub are_events : AreEvents events
+  pub honest : HonestRun 1 start events
+  pub lives : LivesAfterCut start events
+
+-- a key counts as live at its originator, and its partner accepted its end: the partner's record of it is ended
+pub record PartnerEnded (w : World) : Type 0 where
+  pub member : Member
+  pub at : member_at member.party.own w.members ≡ Some member
+  pub key : RecordKey
+  pub mine : key.name.originator ≡ member.party.own
+  pub entry : KeyRec
+  pub found : record_with key member.party ≡ Some entry
+  pub counts : IsLive entry.status
+  pub accepted : HasAccepted w.acceptances OfDsm key.peer (record { name = key.name; recipient = key.peer })
+  pub partner : Member
+  pub partner_at : member_at key.peer w.members ≡ Some partner
+  pub other : KeyRec
+  pub other_found : record_with (record { peer = member.party.own; name = key.name }) partner.party ≡ Some other
+  pub ended : other.status ≡ Ended
+
+-- the answer to the end of a key was accepted, and the key is ended at both ends
+pub record EndsAnswered (w : World) : Type 0 where
+  pub member : Member
+  pub at : member_at member.party.own w.members ≡ Some member
+  pub key : RecordKey
+  pub under : FullName
+  pub under_is : under ≡ record { name = key.name; recipient = key.peer }
+  pub answered : HasAccepted w.acceptances OfAnswer member.party.own under
+  pub entry : KeyRec
+  pub found : record_with key member.party ≡ Some entry
+  pub ended : entry.status ≡ Ended
+  pub partner : Member
+  pub partner_at : member_at key.peer w.members ≡ Some partner
+  pub other : KeyRec
+  pub other_found : record_with (record { peer = member.party.own; name = key.name }) partner.party ≡ Some other
+  pub other_ended : other.status ≡ Ended
+
+-- a run from a start with a forged event
+pub record ForgedRun : Type 0 where
+  pub start : World
+  pub events : List Event
+  pub is_start : IsStart start
+  pub are_events : AreEvents events
+  pub number : ℕ
+  pub forged : IsForged 1 start events number

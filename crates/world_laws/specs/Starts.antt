@@ -28,14 +28,17 @@ pub record HasNoHistory (w : World) : Type 0 where
   pub uses : w.uses ≡ []
   pub acceptances : w.acceptances ≡ []
 
--- what the laws that hold of every run need of a start: no party has two links of one key, no exchange stands, and
--- nothing was made, used or accepted
-pub record IsBareStart (w : World) : Type 0 where
+-- what the law on key service messages needs of a start: no party has two links of one key, and nothing was accepted
+pub record HasAcceptedNothing (w : World) : Type 0 where
   pub links : Each (λ x. Distinct link_key same_link x.party.links) w.members
+  pub acceptances : w.acceptances ≡ []
+
+-- what the law on counts needs of a start: beside that no exchange stands, and nothing was made or used
+pub record IsBareStart (w : World) : Type 0 where
+  pub accepted : HasAcceptedNothing w
   pub exchanges : Each (λ x. x.party.exchanges ≡ []) w.members
   pub births : w.births ≡ []
   pub uses : w.uses ≡ []
-  pub acceptances : w.acceptances ≡ []
 
 -- a link with this key and the same pair stands at the peer
 pub record HasOtherEnd (ms : List Member) (peer : List ℕ) (k : LinkKey) (l : LinkRec) : Type 0 where

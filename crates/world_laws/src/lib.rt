@@ -10,6 +10,7 @@ mod laws;
 mod moments;
 mod reached;
 mod runs;
+mod sessions;
 mod turns;
 
 pub use calls::law_calls;
@@ -18,8 +19,9 @@ pub use fact_book::FactBook;
 pub use facts::law_facts;
 pub use hearing::law_hearing;
 pub use inputs::law_inputs;
-pub use laws::{law_agreement, law_counts, law_ended, law_once, law_start};
+pub use laws::{law_accepted, law_agreement, law_counts, law_ended, law_once, law_start, law_used};
 pub use moments::law_moments;
 pub use reached::law_reached;
 pub use runs::law_runs;
+pub use sessions::law_session;
 pub use turns::law_turns;

@@ -51,9 +51,8 @@ use Rattle.std.proofs.lemmas.List.Elements.{Contains-push}
 use Rattle.party_state.specs.Verdicts.{passes}
 use Rattle.csm_grammar.specs.declared.arrival.Arrival.{Arrival}
 use Rattle.csm_grammar.specs.Arrivals.{authenticated}
-use Rattle.role_base.specs.Texts.{lead_under}
 use Rattle.world_laws.proofs.Agreeing.AnswerRows.{HonestAs}
-use Rattle.bank_keys.specs.Ksm.{link_in_use, body_link, body_twin, body_next, body_name, body_front, body_record, second_record, second_value, body_second, body_code, body_tests, body_edits, taken_link, key_names, key_row, key_lead_with}
+use Rattle.bank_keys.specs.Ksm.{link_in_use, body_link, body_twin, body_next, body_name, body_front, body_record, second_record, second_value, body_second, body_tests, body_edits, taken_link, key_names, key_row, key_found, key_lead_with}
 use Rattle.world_laws.proofs.Sound.Keys.{taking_edits, with_second, key_held, key_at_key, key_up, taken_new, taken_keys}
 use Rattle.world_laws.proofs.Agreeing.Facts.{Carries, as_first, as_second, carries_among, head_names, Keeps, TakenKsm}
 use Rattle.party_tables.specs.declared.key.KeyStatus.TheVariants.{Held}
@@ -136,7 +135,7 @@ module _ (v : Lists) (p : List ℕ) (x : Member) (space : Space) (at : member_at
     front = rw (t.0, t.1.0) refl
 
     fact : HasFact v.facts (body_name x.party m.originator b l) (authenticated a)
-    fact = honest (lead_under a (body_name x.party m.originator b l) (body_code l.pair m.originator x.party.own b)) (rw front refl) t.1.1.1.0
+    fact = honest (key_found x.party a m b l) (rw front refl) t.1.1.1.0
 
     grown : PartyGrows o x.party (apply (body_edits x.party m b l) x.party)
     grown = change_grows o (body_edits x.party m b l) x.party sound.edits

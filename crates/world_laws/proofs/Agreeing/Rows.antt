@@ -34,7 +34,9 @@ use Rattle.party_tables.specs.declared.link.LinkKey.{LinkKey}
 use Rattle.party_tables.specs.declared.link.LinkRec.{LinkRec}
 use Rattle.std.proofs.Common.{◌≡◌, ℕ, Bool, true, false, Option, Some, None, List, [], refl}
 use Rattle.std.proofs.lemmas.List.Elements.{All-contains}
-use Rattle.world_laws.proofs.Counting.Counts.{CountedAt, AcceptedBelow, ksm_apart}
+use Rattle.world_laws.proofs.Links.Taking.{grown_takes}
+use Rattle.world_laws.proofs.Counting.Accepting.{AcceptedBelow, ksm_apart}
+use Rattle.world_laws.proofs.Counting.Counts.{CountedAt}
 use Rattle.world_laws.proofs.Counting.Sound.{IsSound}
 use Rattle.world_laws.proofs.Links.Found.{HasLinks, SendingAt}
 use Rattle.world_laws.proofs.Links.Waiting.{Waits}
@@ -66,7 +68,9 @@ use Rattle.world_laws.specs.Events.{IsCommand}
 use Rattle.world_laws.proofs.Links.Found.{first_at, FirstAt, sending_at}
 use Rattle.x_gen.specs.Gen.{good_draw}
 use Rattle.world_laws.specs.Steps.{received_text}
-use Rattle.world_laws.proofs.Counting.Counts.{CountedAt, AcceptedBelow, ksm_apart}
+use Rattle.world_laws.proofs.Links.Taking.{grown_takes}
+use Rattle.world_laws.proofs.Counting.Accepting.{AcceptedBelow, ksm_apart}
+use Rattle.world_laws.proofs.Counting.Counts.{CountedAt}
 use Rattle.world_laws.proofs.Counting.Sound.{IsSound, Moves, moves}
 use Rattle.world_laws.proofs.Links.Waiting.{Waits}
 use Rattle.roles.specs.Leads.{lead_by}
@@ -150,7 +154,7 @@ module _ (n : ℕ) (w : World) (p : List ℕ) (x : Member) (space : Space) (at :
       moved = moves o x.party (apply (body_edits x.party m b l) x.party) (authenticated a) (key_row x.party a m b (Some l)) refl sound
 
       not_before : (u : FullName) → Contains (key_names (body_name x.party m.originator b l) (body_twin b)) u → HasAccepted w.acceptances OfKsm x.party.own u → ⊥
-      not_before u in_row g = (ksm_apart o n w p x (record { party = apply (body_edits x.party m b l) x.party; space = space }) (authenticated a) (key_row x.party a m b (Some l)) at moved c.links g.acceptance (record { class = OfKsm; names = key_names (body_name x.party m.originator b l) (body_twin b) })
+      not_before u in_row g = (ksm_apart w.members p x (record { party = apply (body_edits x.party m b l) x.party; space = space }) (authenticated a) at (grown_takes o x.party (apply (body_edits x.party m b l) x.party) moved.grown) c.links g.acceptance (record { class = OfKsm; names = key_names (body_name x.party m.originator b l) (body_twin b) })
           (All-contains (AcceptedBelow w.members) w.acceptances g.acceptance c.accepted g.stands) moved.accepts g.class_is refl g.party_is).0 u g.among in_row
 
   pub message_agrees : (o : Option LinkKey) (a : Arrival) (m : Message) (moment : ℕ) → Says (authenticated a) m → HonestAs w.facts a (message_lead x.party a m) → is_accept (message_row x.party a m moment).verdict ≡ true → IsSound o x.party (authenticated a) (message_row x.party a m moment) → Agreeing (lists_of w) x space (authenticated a) (message_row x.party a m moment)

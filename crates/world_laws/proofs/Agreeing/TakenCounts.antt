@@ -1,6 +1,6 @@
 -- The rows that raise the count that a link expects: what comes is honest, so the sending end is past that count.
 use Rattle.party_tables.specs.Names.{full_behind}
-use Rattle.bank_keys.specs.Ksm.{body_twin, body_next, body_value, second_value, body_code, count_behind, body_second}
+use Rattle.bank_keys.specs.Ksm.{body_twin, body_next, body_value, second_value, count_behind, body_second}
 use Rattle.world_laws.proofs.Sound.Keys.{taking_edits}
 use Rattle.world_laws.proofs.Agreeing.Facts.{at_peer, as_first, as_second}
 use Rattle.std.proofs.Common.{arith, ◌≡◌, ◌≢◌, ◌⊎◌, inl, inr, ℕ, ◌+◌, Bool, true, false, Option, Some, None, List, refl, sym, ◌∙◌, ap, subst, bytes_eq}
@@ -29,7 +29,7 @@ use Rattle.party_state.proofs.Verdicts.{held}
 use Rattle.role_base.specs.Conditions.{body_issuer}
 use Rattle.csm_grammar.specs.Arrivals.{authenticated}
 use Rattle.role_base.specs.Texts.{lead_under}
-use Rattle.bank_keys.specs.Ksm.{body_link, body_count, body_name, body_new, body_value, body_front, body_tests, body_record, taken_link, key_row, key_lead_with}
+use Rattle.bank_keys.specs.Ksm.{body_link, body_count, body_name, body_new, body_value, body_front, body_tests, body_record, taken_link, key_row, key_found, key_lead_with}
 use Rattle.bank_keys.specs.Rtr.{brought_front, brought_value, brought_tests, brought, brought_under, brought_lead}
 use Rattle.translation_role.specs.Service.{rfs_front, rfs_value, rfs_under, rfs_tests, rfs_between, rfs_lead_between}
 use Rattle.member.specs.Member.{Member}
@@ -95,7 +95,7 @@ module _ (v : Lists) (p : List ℕ) (x : Member) (space : Space) (at : member_at
     front = rw (t.0, t.1.0) refl
 
     fact : HasFact v.facts (body_name x.party m.originator b l) (authenticated a)
-    fact = honest (lead_under a (body_name x.party m.originator b l) (body_code l.pair m.originator x.party.own b)) (rw front refl) t.1.1.1.0
+    fact = honest (key_found x.party a m b l) (rw front refl) t.1.1.1.0
 
     f : KsmFact v fact.fact m
     f = fact_says v p x space at i (body_name x.party m.originator b l) (authenticated a) fact (message.Ksm m) said

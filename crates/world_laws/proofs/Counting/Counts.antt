@@ -1,53 +1,32 @@
 -- No count offsets two keys under one key-encrypting key, and each key service message takes effect at most
 -- once: what each moment of each run keeps, and the row that stands.
-use Rattle.std.proofs.Common.{Contains}
-use Rattle.std.proofs.Common.{arith, ◌≡◌, ◌≢◌, ℕ, suc, ◌≤◌, ◌<◌, ◌⊎◌, inl, inr, Option, Some, None, List, ◌++◌, map, refl, sym, ◌∙◌, ap, subst, AllPairs, All, get_or, append-nil}
-use Rattle.std.proofs.lemmas.List.Elements.{All-append, All-weaker, All-from_recursion, All-push, All-map, recursion_from_All}
-use Rattle.std.proofs.lemmas.List.Quantifiers.{all_pairs_push}
-use Rattle.csm_grammar.specs.declared.message.Ksm.{Ksm}
+use Rattle.std.proofs.Common.{arith, ◌≡◌, ℕ, suc, ◌<◌, ◌⊎◌, inl, inr, Option, Some, List, ◌++◌, map, refl, sym, ◌∙◌, ap, subst, AllPairs, All}
+use Rattle.std.proofs.lemmas.List.Elements.{All-append, All-weaker, All-from_recursion, All-map, recursion_from_All}
 use Rattle.csm_grammar.specs.declared.message.Message.TheVariants as message
-use Rattle.csm_grammar.specs.Spelling.{Says}
-use Rattle.csm_read.proofs.Lawful.{one_meaning}
-use Rattle.x_base.specs.declared.key_name.FullName.{FullName}
 use Rattle.party_tables.specs.declared.link.LinkKey.{LinkKey}
 use Rattle.party_tables.specs.declared.link.LinkRec.{LinkRec}
-use Rattle.party_tables.specs.Keys.{sends, takes}
+use Rattle.party_tables.specs.Keys.{sends}
 use Rattle.party_state.specs.State.{link_with}
-use Rattle.party_state.specs.Rows.{Row, Use, Accepted, OfKsm}
+use Rattle.party_state.specs.Rows.{Row, Use}
 use Rattle.party_tables.proofs.Tables.{one_found}
 use Rattle.member.specs.Member.{Member}
 use Rattle.world_laws.specs.World.{World, Kk, Birth, KkUse, Acceptance, member_at}
-use Rattle.world_laws.specs.Steps.{last_birth, births_of, current_kk, kk_use, acceptances_of, world_after_row}
+use Rattle.world_laws.specs.Steps.{last_birth, births_of, current_kk, kk_use, world_after_row}
 use Rattle.world_laws.specs.Starts.{Each}
-use Rattle.bank_keys.specs.Ksm.{body_twin, count_behind, key_names}
 use Rattle.world_laws.specs.Laws.{SameCount, AcceptedApart}
 use Rattle.world_laws.proofs.Lists.Pairs.{AllPairs-append, AllPairs-map}
 use Rattle.world_laws.proofs.Lists.Births.{last_below, born_now, born_cases, births_on}
-use Rattle.world_laws.proofs.Lists.Members.{own_is, after_at, member_cases, member_back, each_on}
-use Rattle.world_laws.proofs.Links.Growth.{LinkGrows}
+use Rattle.world_laws.proofs.Lists.Members.{own_is, after_at, member_back, each_on}
 use Rattle.world_laws.proofs.Links.Found.{HasLinks}
 use Rattle.world_laws.proofs.Links.Waiting.{Waits}
-use Rattle.world_laws.proofs.Links.Taken.{ksm_link, ksm_count, ksm_name, ksm_names, ksm_next, count_less, among_tells, name_count, name_link, ksm_link_grows, ksm_name_stays}
-use Rattle.world_laws.proofs.Counting.Sound.{UseFine, KsmFine, AcceptsFine, Moves}
+use Rattle.world_laws.proofs.Links.Taking.{grown_takes}
+use Rattle.world_laws.proofs.Counting.Sound.{UseFine, Moves}
+use Rattle.world_laws.proofs.Counting.Accepting.{AcceptedBelow, kept_accepted, kept_once}
 
 -- a use's count is below the next of its link, as long as that stands
 pub record UseBelow (n : ℕ) (bs : List Birth) (ms : List Member) (u : KkUse) : Type 0 where
   pub born : u.kk.birth < n
   pub below : (x : Member) (l : LinkRec) → member_at u.kk.originator ms ≡ Some x → u.kk ≡ current_kk bs u.kk.originator u.kk.recipient u.kk.label → link_with (sends u.kk.recipient u.kk.label) x.party ≡ Some l → u.count < l.next
-
--- an accepted key service message's count is below what its link expects
-pub record KsmBelow (ms : List Member) (a : Acceptance) : Type 0 where
-  pub member : Member
-  pub at : member_at a.party ms ≡ Some member
-  pub ksm : Ksm
-  pub said : Says a.text (message.Ksm ksm)
-  pub link : LinkRec
-  pub found : ksm_link member.party ksm ≡ Some link
-  pub names : a.names ≡ ksm_names member.party ksm link
-  pub below : ksm_next ksm ≤ link.next
-
-abbrev pub AcceptedBelow : List Member → Acceptance → Type 0
-AcceptedBelow ms a = a.class ≡ OfKsm → KsmBelow ms a
 
 abbrev pub UsesApart : List KkUse → Type 0
 UsesApart us = AllPairs (λ a b. ¬ (SameCount a b)) us
@@ -76,9 +55,6 @@ module _ (o : Option LinkKey) (n : ℕ) (w : World) (p : List ℕ) (x y : Member
 
   at_after : member_at x.party.own (world_after_row n w x.party.own text r y).members ≡ Some y
   at_after = after_at w.members p x y found m.grown.own
-
-  cases : (q : List ℕ) (z : Member) → member_at q w.members ≡ Some z → ((q ≡ x.party.own) × (z ≡ x) × (member_at q (world_after_row n w x.party.own text r y).members ≡ Some y)) ⊎ (member_at q (world_after_row n w x.party.own text r y).members ≡ Some z)
-  cases = member_cases w.members p x y found m.grown.own
 
   back : (q : List ℕ) (z : Member) → member_at q (world_after_row n w x.party.own text r y).members ≡ Some z → ((q ≡ x.party.own) × (z ≡ y)) ⊎ (member_at q w.members ≡ Some z)
   back = member_back w.members p x y found m.grown.own
@@ -150,87 +126,6 @@ module _ (o : Option LinkKey) (n : ℕ) (w : World) (p : List ℕ) (x y : Member
       (AllPairs-map NotSame f r.uses (λ a b d l k h. m.apart a b d l k (ap (λ (z : Kk). z.recipient) h.0, ap (λ (z : Kk). z.label) h.0, h.1)))
       (All-weaker (UseBelow n w.births w.members) (λ u. All (NotSame u) (map f r.uses)) (λ u ub. All-map (NotSame u) f r.uses (All-weaker IsNew (λ v. NotSame u (f v)) (λ v vf. use_apart u v ub vf) r.uses fine)) w.uses i.below)
 
-  -- an acceptance from before, and the row's
-
-  ksm_on : (a : Acceptance) → AcceptedBelow w.members a → AcceptedBelow (world_after_row n w x.party.own text r y).members a
-  ksm_on a f is =
-      let b : KsmBelow w.members a = f is in
-      elim (cases a.party b.member b.at) [
-        | inl t ↦ (let i : ksm_link x.party b.ksm ≡ Some b.link = subst (λ (v : Member). ksm_link v.party b.ksm ≡ Some b.link) t.1 b.found in
-            let u : a.names ≡ ksm_names x.party b.ksm b.link = subst (λ (v : Member). a.names ≡ ksm_names v.party b.ksm b.link) t.1 b.names in
-            let g = ksm_link_grows o x.party y.party b.ksm.originator b.ksm.body b.link m.grown i in
-            record { member = y; at = t.2; ksm = b.ksm; said = b.said; link = g.0; found = g.1; names = u ∙ ap (λ (z : FullName). key_names z (body_twin b.ksm.body)) (ksm_name_stays x.party y.party b.ksm.originator b.ksm.body b.link g.0 m.grown.own g.2); below = omega (arith, b.below, g.2.next) })
-        | inr t ↦ record { member = b.member; at = t; ksm = b.ksm; said = b.said; link = b.link; found = b.found; names = b.names; below = b.below }
-      ]
-
-  -- a message that was accepted has another name and another text than the one that is
-  pub ksm_apart : Each (λ v. HasLinks v.party) w.members → (a : Acceptance) (k : Accepted) → AcceptedBelow w.members a → AcceptsFine x.party y.party text (Some k) → AcceptedApart a (record { party = x.party.own; text = text; class = k.class; names = k.names })
-  ksm_apart links a k below fine ca ck same_party = (by_name, by_text)
-    where
-      b : KsmBelow w.members a
-      b = below ca
-
-      f : KsmFine x.party y.party text k
-      f = fine ck
-
-      same : b.member ≡ x
-      same = one_found b.member x b.at (subst (λ (q : List ℕ). member_at q w.members ≡ Some x) (at_own ∙ sym same_party) found)
-
-      found_b : ksm_link x.party b.ksm ≡ Some b.link
-      found_b = subst (λ (v : Member). ksm_link v.party b.ksm ≡ Some b.link) same b.found
-
-      names_b : a.names ≡ ksm_names x.party b.ksm b.link
-      names_b = subst (λ (v : Member). a.names ≡ ksm_names v.party b.ksm b.link) same b.names
-
-      by_name : (u : FullName) → Contains a.names u → Contains k.names u → ⊥
-      by_name u in_a in_k =
-          let i = among_tells (ksm_name x.party b.ksm b.link) u (body_twin b.ksm.body) (subst (λ (z : List FullName). Contains z u) names_b in_a) in
-          let j = among_tells (ksm_name x.party f.ksm f.link) u (body_twin f.ksm.body) (subst (λ (z : List FullName). Contains z u) f.names in_k) in
-          let issuer : (ksm_name x.party b.ksm b.link).name.issuer ≡ (ksm_name x.party f.ksm f.link).name.issuer = sym i.0 ∙ j.0 in
-          let label : (ksm_name x.party b.ksm b.link).name.label ≡ (ksm_name x.party f.ksm f.link).name.label = sym i.1 ∙ j.1 in
-          let count_b : (ksm_name x.party b.ksm b.link).name.count ≡ ksm_count b.ksm = name_count x.party b.ksm.originator b.ksm.body b.link in
-          let count_f : (ksm_name x.party f.ksm f.link).name.count ≡ ksm_count f.ksm = name_count x.party f.ksm.originator f.ksm.body f.link in
-          let next_b : count_behind (ksm_name x.party b.ksm b.link).name.count (body_twin b.ksm.body) ≡ ksm_next b.ksm = ap (λ (c : ℕ). count_behind c (body_twin b.ksm.body)) count_b in
-          let at_b = name_link x.party b.ksm.originator b.ksm.body b.link (links p x found) found_b in
-          let at_f : link_with (takes (ksm_name x.party f.ksm f.link).name.issuer (ksm_name x.party f.ksm f.link).name.label) x.party ≡ Some f.link = name_link x.party f.ksm.originator f.ksm.body f.link (links p x found) f.before in
-          let key : takes (ksm_name x.party b.ksm b.link).name.issuer (ksm_name x.party b.ksm b.link).name.label ≡ takes (ksm_name x.party f.ksm f.link).name.issuer (ksm_name x.party f.ksm f.link).name.label = (λ h. takes (issuer h) (label h)) in
-          let at_c : link_with (takes (ksm_name x.party f.ksm f.link).name.issuer (ksm_name x.party f.ksm f.link).name.label) x.party ≡ Some b.link = subst (λ (z : LinkKey). link_with z x.party ≡ Some b.link) key at_b in
-          let next : b.link.next ≡ f.link.next = ap (λ (z : LinkRec). z.next) (one_found b.link f.link at_c at_f) in
-          omega (arith, b.below, f.low, next, next_b, count_f, i.3, j.2)
-
-      by_text : a.text ≢ text
-      by_text e =
-          let said_b : Says text (message.Ksm b.ksm) = subst (λ (z : List ℕ). Says z (message.Ksm b.ksm)) e b.said in
-          let one : message.Ksm b.ksm ≡ message.Ksm f.ksm = one_meaning text (message.Ksm b.ksm) (message.Ksm f.ksm) said_b f.said in
-          let is : b.ksm ≡ f.ksm = cc in
-          let at_c : ksm_link x.party f.ksm ≡ Some b.link = subst (λ (z : Ksm). ksm_link x.party z ≡ Some b.link) is found_b in
-          let next : b.link.next ≡ f.link.next = ap (λ (z : LinkRec). z.next) (one_found b.link f.link at_c f.before) in
-          let count : ksm_count b.ksm ≡ ksm_count f.ksm = ap ksm_count is in
-          let less : ksm_count b.ksm < ksm_next b.ksm = count_less (ksm_count b.ksm) (body_twin b.ksm.body) in
-          omega (arith, b.below, f.low, next, count, less)
-
-  new_accepted : (k : Accepted) → AcceptsFine x.party y.party text (Some k) → AcceptedBelow (world_after_row n w x.party.own text r y).members (record { party = x.party.own; text = text; class = k.class; names = k.names })
-  new_accepted k fine ck =
-      let f : KsmFine x.party y.party text k = fine ck in
-      let g = ksm_link_grows o x.party y.party f.ksm.originator f.ksm.body f.link m.grown f.before in
-      let same : g.0 ≡ f.later = one_found g.0 f.later g.1 f.after in
-      let u : ksm_name x.party f.ksm f.link ≡ ksm_name y.party f.ksm f.later = ksm_name_stays x.party y.party f.ksm.originator f.ksm.body f.link f.later m.grown.own (subst (LinkGrows f.link) same g.2) in
-      record { member = y; at = at_after; ksm = f.ksm; said = f.said; link = f.later; found = f.after; names = f.names ∙ ap (λ (z : FullName). key_names z (body_twin f.ksm.body)) u; below = f.past }
-
-  kept_accepted : (o : Option Accepted) → AcceptsFine x.party y.party text o → All (AcceptedBelow w.members) w.acceptances → All (AcceptedBelow (world_after_row n w x.party.own text r y).members) (w.acceptances ++ acceptances_of x.party.own text o)
-  kept_accepted o f a = go o f
-    where
-      old : All (AcceptedBelow (world_after_row n w x.party.own text r y).members) w.acceptances
-      old = All-weaker (AcceptedBelow w.members) (AcceptedBelow (world_after_row n w x.party.own text r y).members) ksm_on w.acceptances a
-
-      go : (o : Option Accepted) → AcceptsFine x.party y.party text o → All (AcceptedBelow (world_after_row n w x.party.own text r y).members) (w.acceptances ++ acceptances_of x.party.own text o)
-      go None f = rw append-nil old
-      go (Some k) f = All-push (AcceptedBelow (world_after_row n w x.party.own text r y).members) w.acceptances (record { party = x.party.own; text = text; class = k.class; names = k.names }) old (new_accepted k f)
-
-  kept_once : Each (λ v. HasLinks v.party) w.members → (o : Option Accepted) → AcceptsFine x.party y.party text o → All (AcceptedBelow w.members) w.acceptances → AllPairs AcceptedApart w.acceptances → AllPairs AcceptedApart (w.acceptances ++ acceptances_of x.party.own text o)
-  kept_once links None f a once = rw append-nil once
-  kept_once links (Some k) f a once = all_pairs_push AcceptedApart w.acceptances (record { party = x.party.own; text = text; class = k.class; names = k.names }) once (λ i d l. ksm_apart links (get_or w.acceptances i d) k (a i d l) f)
-
   pub kept_counted : CountedAt n w → CountedAt (suc n) (world_after_row n w x.party.own text r y)
   kept_counted i = record {
     positive = omega arith;
@@ -239,6 +134,6 @@ module _ (o : Option LinkKey) (n : ℕ) (w : World) (p : List ℕ) (x y : Member
     births = births_on n x.party.own w.births r.makes i.births;
     below = kept_below i;
     apart = kept_apart i;
-    accepted = kept_accepted r.accepts m.accepts i.accepted;
-    once = kept_once i.links r.accepts m.accepts i.accepted i.once;
+    accepted = kept_accepted w.members p x y text found (grown_takes o x.party y.party m.grown) w.acceptances r.accepts m.accepts i.accepted;
+    once = kept_once w.members p x y text found (grown_takes o x.party y.party m.grown) w.acceptances i.links r.accepts m.accepts i.accepted i.once;
   }

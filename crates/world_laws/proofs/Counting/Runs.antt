@@ -19,9 +19,10 @@ use Rattle.world_laws.proofs.Roles.Inputs.{IsInput}
 use Rattle.world_laws.specs.Events.{Action, Orders, Hears, Compacts, Migrates, Completion, Whole, CutOld, CutNew, Event, IsAction, AreEvents}
 use Rattle.world_laws.specs.Steps.{received_text, member_after, world_after_row, world_with_answer, world_with_text, world_by_row, world_with_space, world_rewritten, world_after_input, world_after_action, step_at, step, run}
 use Rattle.world_laws.specs.Starts.{IsBareStart, IsStart}
-use Rattle.world_laws.specs.Laws.{OneKeyPerCount, Once}
+use Rattle.world_laws.specs.Laws.{OneKeyPerCount}
 use Rattle.world_laws.proofs.Counting.Sound.{SomeMoves}
-use Rattle.world_laws.proofs.Counting.Counts.{UseBelow, AcceptedBelow, CountedAt, kept_counted}
+use Rattle.world_laws.proofs.Counting.Accepting.{AcceptedBelow}
+use Rattle.world_laws.proofs.Counting.Counts.{UseBelow, CountedAt, kept_counted}
 use Rattle.world_laws.proofs.Counting.Spaces.{space_counted}
 use Rattle.world_laws.proofs.Counting.Roles.{row_moves}
 
@@ -95,20 +96,17 @@ run_counted (e ∷ es) n w d i = run_counted es (suc n) (step n w e) d.1 (step_c
 pub bare_counted : (w : World) → IsBareStart w → CountedAt 1 w
 bare_counted w s = record {
   positive = omega arith;
-  links = s.links;
+  links = s.accepted.links;
   waits = λ p x h peer e found. (let none = subst (λ (es : List Exchange). find_row exchange_key bytes_eq peer es ≡ Some e) (s.exchanges p x h) found in absurd (cc));
   births = All-same (λ (b : Birth). b.event < 1) w.births [] s.births (All-nil (λ (b : Birth). b.event < 1));
   below = All-same (UseBelow 1 w.births w.members) w.uses [] s.uses (All-nil (UseBelow 1 w.births w.members));
   apart = rw s.uses (λ i j d l m. absurd (omega arith));
-  accepted = All-same (AcceptedBelow w.members) w.acceptances [] s.acceptances (All-nil (AcceptedBelow w.members));
-  once = rw s.acceptances (λ i j d l m. absurd (omega arith));
+  accepted = All-same (AcceptedBelow w.members) w.acceptances [] s.accepted.acceptances (All-nil (AcceptedBelow w.members));
+  once = rw s.accepted.acceptances (λ i j d l m. absurd (omega arith));
 }
 
 pub start_bare : (w : World) → IsStart w → IsBareStart w
-start_bare w s = record { links = λ p x h. (s.parties p x h).links_once; exchanges = λ p x h. (s.only_links p x h).exchanges; births = s.no_history.births; uses = s.no_history.uses; acceptances = s.no_history.acceptances }
+start_bare w s = record { accepted = record { links = λ p x h. (s.parties p x h).links_once; acceptances = s.no_history.acceptances }; exchanges = λ p x h. (s.only_links p x h).exchanges; births = s.no_history.births; uses = s.no_history.uses }
 
 pub one_key_per_count : (start : World) (events : List Event) → IsBareStart start → AreEvents events → OneKeyPerCount (run 1 start events)
 one_key_per_count start events s e = (run_counted events 1 start e (bare_counted start s)).counted.apart
-
-pub once : (start : World) (events : List Event) → IsBareStart start → AreEvents events → Once (run 1 start events)
-once start events s e = (run_counted events 1 start e (bare_counted start s)).counted.once

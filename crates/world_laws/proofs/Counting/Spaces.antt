@@ -1,16 +1,17 @@
 -- A compaction and a migration change no party.
-use Rattle.std.proofs.Common.{◌≡◌, ℕ, Some, List, inl, inr, refl, sym, ◌∙◌, subst}
+use Rattle.std.proofs.Common.{◌≡◌, ℕ, Some, List, [], inl, inr, refl, sym, ◌∙◌, subst}
 use Rattle.std.proofs.lemmas.List.Elements.{All-weaker}
 use Rattle.party_tables.specs.Keys.{sends}
 use Rattle.party_state.specs.State.{link_with}
 use Rattle.member.specs.Member.{Member}
-use Rattle.world_laws.specs.World.{World, KkUse, Acceptance, member_at}
+use Rattle.world_laws.specs.World.{World, KkUse, member_at}
 use Rattle.world_laws.specs.Steps.{world_with_space}
-use Rattle.world_laws.proofs.Lists.Members.{own_is, member_cases, member_back, each_on}
+use Rattle.world_laws.proofs.Lists.Members.{own_is, member_back, each_on}
 use Rattle.world_laws.proofs.Links.Found.{HasLinks}
 use Rattle.world_laws.proofs.Links.Waiting.{Waits}
-use Rattle.world_laws.proofs.Links.Taken.{ksm_link, ksm_names}
-use Rattle.world_laws.proofs.Counting.Counts.{UseBelow, KsmBelow, AcceptedBelow, CountedAt}
+use Rattle.world_laws.proofs.Links.Taking.{takes_stay}
+use Rattle.world_laws.proofs.Counting.Accepting.{AcceptedBelow, ksm_on}
+use Rattle.world_laws.proofs.Counting.Counts.{UseBelow, CountedAt}
 use Rattle.change_code.specs.declared.space.Space.{Space}
 
 module _ (n : ℕ) (w : World) (p : List ℕ) (x : Member) (space : Space) (found : member_at p w.members ≡ Some x) where
@@ -24,14 +25,6 @@ module _ (n : ℕ) (w : World) (p : List ℕ) (x : Member) (space : Space) (foun
     ];
   }
 
-  ksm_same : (a : Acceptance) → AcceptedBelow w.members a → AcceptedBelow (world_with_space w x space).members a
-  ksm_same a f is =
-      let b : KsmBelow w.members a = f is in
-      elim (member_cases w.members p x (record { party = x.party; space = space }) found refl a.party b.member b.at) [
-        | inl t ↦ record { member = record { party = x.party; space = space }; at = t.2; ksm = b.ksm; said = b.said; link = b.link; found = subst (λ (v : Member). ksm_link v.party b.ksm ≡ Some b.link) t.1 b.found; names = subst (λ (v : Member). a.names ≡ ksm_names v.party b.ksm b.link) t.1 b.names; below = b.below }
-        | inr t ↦ record { member = b.member; at = t; ksm = b.ksm; said = b.said; link = b.link; found = b.found; names = b.names; below = b.below }
-      ]
-
   pub space_counted : CountedAt n w → CountedAt n (world_with_space w x space)
   space_counted i = record {
     positive = i.positive;
@@ -40,6 +33,6 @@ module _ (n : ℕ) (w : World) (p : List ℕ) (x : Member) (space : Space) (foun
     births = i.births;
     below = All-weaker (UseBelow n w.births w.members) (UseBelow n w.births (world_with_space w x space).members) use_same w.uses i.below;
     apart = i.apart;
-    accepted = All-weaker (AcceptedBelow w.members) (AcceptedBelow (world_with_space w x space).members) ksm_same w.acceptances i.accepted;
+    accepted = All-weaker (AcceptedBelow w.members) (AcceptedBelow (world_with_space w x space).members) (ksm_on w.members p x (record { party = x.party; space = space }) [] found (takes_stay x.party x.party refl refl)) w.acceptances i.accepted;
     once = i.once;
   }

@@ -1,5 +1,5 @@
 -- The links that are found by search are those of their keys, and go on.
-use Rattle.std.proofs.Common.{◌≡◌, ℕ, Bool, true, false, cond, not, ◌&&◌, Option, Some, None, List, refl, sym, ◌∙◌, ap, subst, bytes_eq, inl, inr}
+use Rattle.std.proofs.Common.{◌≡◌, ℕ, Bool, true, false, cond, not, ◌&&◌, Option, Some, None, List, refl, sym, ◌∙◌, ap, subst, bytes_eq}
 use Rattle.std.proofs.lemmas.Bool.{and_parts}
 use Rattle.x_base.specs.declared.party.Side.{Side}
 use Rattle.x_base.specs.declared.party.Side.TheVariants.{Sends, Takes}
@@ -13,7 +13,8 @@ use Rattle.party_tables.proofs.Tables.{find_key}
 use Rattle.party_tables.proofs.Distinct.{first_found, first_passes}
 use Rattle.bank_orders.specs.Start.{if_ready, sending_link}
 use Rattle.bank_keys.specs.Ksm.{link_in_use}
-use Rattle.world_laws.proofs.Links.Growth.{LinkGrows, PartyGrows}
+use Rattle.world_laws.proofs.Links.Growth.{LinkGrows}
+use Rattle.world_laws.proofs.Links.Taking.{TakesGrow}
 
 abbrev pub HasLinks : Party → Type 0
 HasLinks p = Distinct link_key same_link p.links
@@ -65,13 +66,13 @@ in_use_at p originator (Some label) l d h = go (bytes_eq label centre_label) h
         let is : takes originator label ≡ takes originator l.label = (λ i. takes originator ((sym (ap (λ (k : LinkKey). k.label) at.key)) i)) in
         subst (λ (k : LinkKey). LinkAt p k l) is at
 
-pub in_use_grows : (o : Option LinkKey) (s t : Party) (originator : List ℕ) (idk2 : Option (List ℕ)) (l : LinkRec) → PartyGrows o s t → link_in_use s originator idk2 ≡ Some l → (m : LinkRec) × (link_in_use t originator idk2 ≡ Some m) × LinkGrows l m
-in_use_grows o s t originator None l g h = g.first originator l h
-in_use_grows o s t originator (Some label) l g h = go (bytes_eq label centre_label) h
+pub in_use_grows : (s t : Party) (originator : List ℕ) (idk2 : Option (List ℕ)) (l : LinkRec) → TakesGrow s t → link_in_use s originator idk2 ≡ Some l → (m : LinkRec) × (link_in_use t originator idk2 ≡ Some m) × LinkGrows l m
+in_use_grows s t originator None l g h = g.first originator l h
+in_use_grows s t originator (Some label) l g h = go (bytes_eq label centre_label) h
   where
     go : (b : Bool) → cond b None (link_with (takes originator label) s) ≡ Some l → (m : LinkRec) × (cond b None (link_with (takes originator label) t) ≡ Some m) × LinkGrows l m
     go true h = absurd (cc)
-    go false h = elim (g.link (takes originator label) l h) [ inl x ↦ x | inr x ↦ (let e = x.0 in absurd (cc)) ]
+    go false h = g.link (takes originator label) l refl h
 
 -- the link to send under, which is ready
 pub record SendingAt (p : Party) (peer : List ℕ) (l : LinkRec) : Type 0 where

@@ -12,7 +12,8 @@ use Rattle.party_tables.specs.declared.link.LinkKey.{LinkKey}
 use Rattle.party_tables.specs.declared.link.LinkRec.{LinkRec}
 use Rattle.party_tables.specs.Keys.{takes}
 use Rattle.party_state.specs.State.{Party, centre_label, link_with}
-use Rattle.world_laws.proofs.Links.Growth.{LinkGrows, PartyGrows}
+use Rattle.world_laws.proofs.Links.Growth.{LinkGrows}
+use Rattle.world_laws.proofs.Links.Taking.{TakesGrow}
 use Rattle.world_laws.proofs.Links.Found.{HasLinks, LinkAt, in_use_at, in_use_grows}
 
 abbrev pub ksm_link : Party → Ksm → Option LinkRec
@@ -82,13 +83,13 @@ name_link p originator (body.Twin idk2 first second ctp) l d h =
 
 -- as the party goes on, the link does, and the name stays
 
-pub ksm_link_grows : (o : Option LinkKey) (s t : Party) (originator : List ℕ) (b : KsmBody) (l : LinkRec) → PartyGrows o s t → body_link s originator b ≡ Some l → (m : LinkRec) × (body_link t originator b ≡ Some m) × LinkGrows l m
-ksm_link_grows o s t originator (body.Direct idk2 new kd ctp) l g h = in_use_grows o s t originator idk2 l g h
-ksm_link_grows o s t originator (body.Centre centre kdu ctb) l g h = elim (g.link (takes centre centre_label) l h) [ inl x ↦ x | inr x ↦ (let e = x.0 in absurd (cc)) ]
-ksm_link_grows o s t originator (body.Twin idk2 first second ctp) l g h = go (nat_lt ctp 99999999999999) h
+pub ksm_link_grows : (s t : Party) (originator : List ℕ) (b : KsmBody) (l : LinkRec) → TakesGrow s t → body_link s originator b ≡ Some l → (m : LinkRec) × (body_link t originator b ≡ Some m) × LinkGrows l m
+ksm_link_grows s t originator (body.Direct idk2 new kd ctp) l g h = in_use_grows s t originator idk2 l g h
+ksm_link_grows s t originator (body.Centre centre kdu ctb) l g h = g.link (takes centre centre_label) l refl h
+ksm_link_grows s t originator (body.Twin idk2 first second ctp) l g h = go (nat_lt ctp 99999999999999) h
   where
     go : (b : Bool) → cond b (link_in_use s originator idk2) None ≡ Some l → (m : LinkRec) × (cond b (link_in_use t originator idk2) None ≡ Some m) × LinkGrows l m
-    go true h = in_use_grows o s t originator idk2 l g h
+    go true h = in_use_grows s t originator idk2 l g h
     go false h = absurd (cc)
 
 pub ksm_name_stays : (s t : Party) (originator : List ℕ) (b : KsmBody) (l m : LinkRec) → t.own ≡ s.own → LinkGrows l m → body_name s originator b l ≡ body_name t originator b m

@@ -33,56 +33,56 @@ use Rattle.world_laws.proofs.LiveKeys.Stepping.{room_left, next_member, next_wor
 
 -- the first bank sends the key
 
-abbrev start_row : Row
+abbrev pub start_row : Row
 start_row = sending_drawn first (start_tests first bankb (Some out)) out (Some (key, generator))
 
-started : row_at first (input.Ordered (command.Start bankb None)) moment ≡ start_row
+pub started : row_at first (input.Ordered (command.Start bankb None)) moment ≡ start_row
 started = ap (sending_drawn first (start_tests first bankb (Some out)) out) draws_key
 
-abbrev key_message : Message
+abbrev pub key_message : Message
 key_message = data_key_message first out key
 
-key_own : IsOwn key_message
+pub key_own : IsOwn key_message
 key_own = data_key_own first out key refl (record { peer = refl; label = refl; next = record { low = omega arith; high = omega arith } }) (record { low = omega arith; high = omega arith })
 
-abbrev first_sent : Party
+abbrev pub first_sent : Party
 first_sent = apply start_row.edits first
 
 -- the second takes it
 
-abbrev key_arrives : Arrival
+abbrev pub key_arrives : Arrival
 key_arrives = arrival key_message key key_own
 
-abbrev taken_value : ℕ
+abbrev pub taken_value : ℕ
 taken_value = unwrap_of first_pair 1 (wrap_of first_pair 1 key)
 
-value_is : taken_value ≡ key
+pub value_is : taken_value ≡ key
 value_is = unwraps first_pair 1 key (omega arith)
 
-abbrev take_row : Row
+abbrev pub take_row : Row
 take_row = row_at second (input.Arrived key_arrives) 0
 
-taken : is_accept take_row.verdict ≡ true
+pub taken : is_accept take_row.verdict ≡ true
 taken = rw (verified_as key_message key key_own taken_value value_is) refl
 
-abbrev second_taken : Party
+abbrev pub second_taken : Party
 second_taken = apply take_row.edits second
 
-abbrev answer_message : Message
+abbrev pub answer_message : Message
 answer_message = response second banka
 
-answer_own : IsOwn answer_message
+pub answer_own : IsOwn answer_message
 answer_own = response_own second banka refl refl
 
 -- and the first hears its answer
 
-abbrev answer_arrives : Arrival
+abbrev pub answer_arrives : Arrival
 answer_arrives = arrival answer_message taken_value answer_own
 
-abbrev live_row : Row
+abbrev pub live_row : Row
 live_row = row_at first_sent (input.Arrived answer_arrives) 0
 
-answered : is_accept live_row.verdict ≡ true
+pub answered : is_accept live_row.verdict ≡ true
 answered = rw (verified_as answer_message taken_value answer_own key (sym value_is)) refl
 
 -- rooms

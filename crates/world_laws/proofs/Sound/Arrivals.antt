@@ -59,7 +59,7 @@ use Rattle.party_tables.specs.declared.exchange.Via.{Via}
 use Rattle.party_tables.specs.declared.exchange.Kind.{Kind}
 use Rattle.party_tables.specs.declared.exchange.Kind.TheVariants as kind
 
-rsi_sound : (p : Party) (a : Arrival) (m : Rsi) (moment : ℕ) (o : Option LinkRec) → HasLinks p → first_link m.originator Sends p ≡ o → IsSound None p (authenticated a) (rsi_under p a m o moment)
+pub rsi_sound : (p : Party) (a : Arrival) (m : Rsi) (moment : ℕ) (o : Option LinkRec) → HasLinks p → first_link m.originator Sends p ≡ o → IsSound None p (authenticated a) (rsi_under p a m o moment)
 rsi_sound p a m moment None d h = refused_sound p (authenticated a) (verdict_of (rsi_tests p a m None))
 rsi_sound p a m moment (Some l) d h = by_service (is_two_keys m.service)
   where
@@ -98,7 +98,7 @@ rsm_sound p a m (Some s) w h = record {
         way_peer : (l : LinkRec) → new_link p m.originator s.way ≡ Some l → l.peer ≡ m.originator
         way_peer l e = new_peer p m.originator s.way l e
 
-answer_sound : (p : Party) (a : Arrival) (m : Rsm) (name : KeyName) (o : Option KeyRec) → IsSound None p (authenticated a) (answer_to p a m name o)
+pub answer_sound : (p : Party) (a : Arrival) (m : Rsm) (name : KeyName) (o : Option KeyRec) → IsSound None p (authenticated a) (answer_to p a m name o)
 answer_sound p a m name None = refused_sound p (authenticated a) (verdict_of (end_front p m name None))
 answer_sound p a m name (Some k) = quiet_sound p (authenticated a) (answer_to p a m name (Some k)) (tt, (tt, tt)) refl (λ k e class. absurd (cc))
 
@@ -143,7 +143,7 @@ raised_twice p peer None ctr j k more q f = ((tt, (tt, (tt, all_fine more _ q)))
 raised_twice p peer (Some l) None j k more q f = ((tt, (tt, (tt, all_fine more _ q))), (tt, (tt, (tt, all_calm more _ q))))
 raised_twice p peer (Some l) (Some n) j k more q f = ((inl (l, f l refl, next_up l (max l.next n) (omega arith)), (tt, (tt, (tt, all_fine more _ q)))), ((l, f l refl, refl), (tt, (tt, (tt, all_calm more _ q)))))
 
-esm_no_ksm : (p : Party) (s : Subject) → NoKsm (subject_accepted p s)
+pub esm_no_ksm : (p : Party) (s : Subject) → NoKsm (subject_accepted p s)
 esm_no_ksm p (SentKey s) a e class = absurd (cc)
 esm_no_ksm p (SentTwins t) a e class = absurd (cc)
 esm_no_ksm p (Translated value cta) a e class = absurd (cc)

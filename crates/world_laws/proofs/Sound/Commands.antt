@@ -61,19 +61,19 @@ sending_sound p text front peer l (Some drawn) s =
       accepts = tt;
     }
 
-start_sound : (p : Party) (text : List ℕ) (peer : List ℕ) (o : Option LinkRec) (moment : ℕ) → ((l : LinkRec) → o ≡ Some l → SendingAt p peer l) → IsSound None p text (start_under p peer o moment)
+pub start_sound : (p : Party) (text : List ℕ) (peer : List ℕ) (o : Option LinkRec) (moment : ℕ) → ((l : LinkRec) → o ≡ Some l → SendingAt p peer l) → IsSound None p text (start_under p peer o moment)
 start_sound p text peer None moment f = refused_sound p text (verdict_of (start_tests p peer None))
 start_sound p text peer (Some l) moment f = sending_sound p text (start_tests p peer (Some l)) peer l (good_draw p.generator moment) (f l refl)
 
-resend_sound : (p : Party) (text : List ℕ) (o : Option Exchange) → IsSound None p text (resend_of o)
+pub resend_sound : (p : Party) (text : List ℕ) (o : Option Exchange) → IsSound None p text (resend_of o)
 resend_sound p text None = quiet_sound p text (resend_of None) tt refl (λ a e. absurd (cc))
 resend_sound p text (Some x) = quiet_sound p text (resend_of (Some x)) tt refl (λ a e. absurd (cc))
 
-end_sound : (p : Party) (text : List ℕ) (peer : List ℕ) (o : Option KeyRec) → IsSound None p text (end_record p peer o)
+pub end_sound : (p : Party) (text : List ℕ) (peer : List ℕ) (o : Option KeyRec) → IsSound None p text (end_record p peer o)
 end_sound p text peer None = quiet_sound p text (end_record p peer None) tt refl (λ a e. absurd (cc))
 end_sound p text peer (Some k) = quiet_sound p text (end_record p peer (Some k)) (tt, (refl, tt)) refl (λ a e. absurd (cc))
 
-purge_sound : (p : Party) (text : List ℕ) → IsSound None p text purge
+pub purge_sound : (p : Party) (text : List ℕ) → IsSound None p text purge
 purge_sound p text = quiet_sound p text purge (tt, tt) refl (λ a e. absurd (cc))
 
 -- a link that may go, and a record and an exchange with it
@@ -104,11 +104,11 @@ given_up_passes p peer (Some e) at w = by_kind e.kind refl
 abbrev plain_sound : {p : Party} {text : List ℕ} {r : Row} → IsSound None p text r → SoundRow p text r
 plain_sound {p} {text} {r} g = record { new = None; sound = g }
 
-ask_of_sound : (p : Party) (text : List ℕ) (peer : List ℕ) (o : Option (List ℕ)) → IsSound None p text (ask_of p peer o)
+pub ask_of_sound : (p : Party) (text : List ℕ) (peer : List ℕ) (o : Option (List ℕ)) → IsSound None p text (ask_of p peer o)
 ask_of_sound p text peer None = quiet_sound p text (ask_peer p peer) tt refl (λ a e. absurd (cc))
 ask_of_sound p text peer (Some u) = quiet_sound p text (ask_centre p peer u) (refl, tt) refl (λ a e. absurd (cc))
 
-translate_sound : (p : Party) (text : List ℕ) (centre u : List ℕ) (o : Option LinkRec) (moment : ℕ) → link_with (sends centre centre_label) p ≡ o → IsSound None p text (translate_under p centre u o moment)
+pub translate_sound : (p : Party) (text : List ℕ) (centre u : List ℕ) (o : Option LinkRec) (moment : ℕ) → link_with (sends centre centre_label) p ≡ o → IsSound None p text (translate_under p centre u o moment)
 translate_sound p text centre u None moment e = refused_sound p text _
 translate_sound p text centre u (Some l) moment e = by_draw (good_draw p.generator moment)
   where

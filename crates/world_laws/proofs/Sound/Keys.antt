@@ -30,6 +30,7 @@ use Rattle.party_tables.proofs.Tables.{one_found, find_put_same, absent_put, fou
 use Rattle.party_state.proofs.Verdicts.{held}
 use Rattle.csm_grammar.specs.Arrivals.{authenticated}
 use Rattle.world_laws.proofs.Links.Growth.{LinkGrows, PartyGrows, AllFine, next_up, change_grows}
+use Rattle.world_laws.proofs.Links.Taking.{grown_takes}
 use Rattle.world_laws.proofs.Links.Found.{HasLinks, LinkAt}
 use Rattle.world_laws.proofs.Links.Taken.{ksm_count, ksm_next, count_less}
 use Rattle.world_laws.proofs.Links.Waiting.{Waits, change_waits}
@@ -142,7 +143,7 @@ module _ (p : Party) (a : Arrival) (m : Ksm) (b : KsmBody) (l : LinkRec) (d : Ha
 
   module _ (said : Says (authenticated a) (message.Ksm m)) where
     goes_on : (k : LinkRec) × (body_link (apply (body_edits p m b l) p) m.originator b ≡ Some k) × LinkGrows l k
-    goes_on = ksm_link_grows (new_key m.originator (body_new b)) p (apply (body_edits p m b l) p) m.originator b l grown found
+    goes_on = ksm_link_grows p (apply (body_edits p m b l) p) m.originator b l (grown_takes (new_key m.originator (body_new b)) p (apply (body_edits p m b l) p) grown) found
 
     next_is : body_next b ≡ goes_on.0.next
     next_is =

@@ -25,7 +25,7 @@ pub record IsOwn (m : Message) : Type 0 where
   pub allowed : allows (form_of m) (shut_field (shut.Mac 0)).tag ≡ true
   pub free : free_length m ≤ 64
 
-own_meaning : (m : Message) → IsOwn m → OwnMeaning m
+pub own_meaning : (m : Message) → IsOwn m → OwnMeaning m
 own_meaning m o =
     let t : AreTyped m (closing.Mac 0) = record { fields = o.fields; closing = tt } in
     auth_says (reads_back written_read) read_says one_meaning m (closing.Mac 0) t (record { texts = o.texts; allowed = o.allowed; short = canon_short m (closing.Mac 0) t o.free })

@@ -1,4 +1,4 @@
-use Rattle.world_laws.proofs.Counting.Runs.{once}
+use Rattle.world_laws.proofs.Counting.Taken.{once}
 use Rattle.world_laws.proofs.laws.law_once.Goals as goal
 
 pub returns : goal.returns

@@ -4,6 +4,7 @@ use Rattle.world_laws.proofs.LiveKeys.DirectRun.{live_run}
 use Rattle.world_laws.proofs.LiveKeys.NewKkRun.{new_kk_run}
 use Rattle.world_laws.proofs.LiveKeys.DistributionRun.{distribution_run}
 use Rattle.world_laws.proofs.LiveKeys.TranslationRun.{translation_run}
+use Rattle.world_laws.proofs.LiveKeys.ClosingRun.{cut_run, closing_run, closed_run, forged_run}
 use Rattle.world_laws.proofs.reached.law_reached.Goals as goal
 
 pub returns-clause-direct : goal.returns-clause-direct
@@ -23,3 +24,15 @@ returns-clause-two_at_once c = twin_run
 
 pub returns-clause-left : goal.returns-clause-left
 returns-clause-left c = end_run
+
+pub returns-clause-cut : goal.returns-clause-cut
+returns-clause-cut c = cut_run
+
+pub returns-clause-partner_ended : goal.returns-clause-partner_ended
+returns-clause-partner_ended c = closing_run
+
+pub returns-clause-answered : goal.returns-clause-answered
+returns-clause-answered c = closed_run
+
+pub returns-clause-forged : goal.returns-clause-forged
+returns-clause-forged c = forged_run

@@ -1,0 +1,5 @@
+-- Sessions of calls over the disks of a network.
+pub mod Others
+pub mod Reaching
+pub mod Calling
+pub mod Ending

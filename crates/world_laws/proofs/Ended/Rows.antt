@@ -1,0 +1,323 @@
+-- The class of what each row accepts.
+use Rattle.std.proofs.Common.{◌≡◌, ℕ, Bool, true, false, cond, Option, Some, None, List, [], ◌∷◌, ◌++◌, refl, sym, ap, bytes_eq}
+use Rattle.x_base.specs.declared.key_name.KeyName.{KeyName}
+use Rattle.x_base.specs.declared.key_name.FullName.{FullName}
+use Rattle.x_base.specs.declared.party.Role.{Role}
+use Rattle.x_base.specs.declared.party.Role.TheVariants.{Bank, Distribution, Translation}
+use Rattle.x_base.specs.declared.party.Side.TheVariants.{Sends}
+use Rattle.x_base.specs.declared.verdict.Verdict.TheVariants.{BadMac, NoExchange, WrongClass, NotForMe}
+use Rattle.x_gen.specs.declared.generator.Gen.{Gen}
+use Rattle.x_gen.specs.Gen.{good_draw}
+use Rattle.csm_grammar.specs.declared.arrival.Arrival.{Arrival}
+use Rattle.csm_grammar.specs.declared.message.Rsi.{Rsi}
+use Rattle.csm_grammar.specs.declared.message.Rtr.{Rtr}
+use Rattle.csm_grammar.specs.declared.message.Ksm.{Ksm}
+use Rattle.csm_grammar.specs.declared.message.KsmBody.{KsmBody}
+use Rattle.csm_grammar.specs.declared.message.Rfs.{Rfs}
+use Rattle.csm_grammar.specs.declared.message.Rsm.{Rsm}
+use Rattle.csm_grammar.specs.declared.message.Ers.{Ers}
+use Rattle.csm_grammar.specs.declared.message.Esm.{Esm}
+use Rattle.csm_grammar.specs.declared.message.Dsm.{Dsm}
+use Rattle.csm_grammar.specs.declared.message.Message.{Message}
+use Rattle.csm_grammar.specs.declared.message.Message.TheVariants as message
+use Rattle.csm_grammar.specs.Arrivals.{authenticated}
+use Rattle.party_tables.specs.declared.answer.Answer.{Answer}
+use Rattle.party_tables.specs.declared.exchange.Exchange.{Exchange}
+use Rattle.party_tables.specs.declared.exchange.Kind.{Kind}
+use Rattle.party_tables.specs.declared.exchange.Kind.TheVariants as kind
+use Rattle.party_tables.specs.declared.key.KeyRec.{KeyRec}
+use Rattle.party_tables.specs.declared.link.LinkRec.{LinkRec}
+use Rattle.party_tables.specs.Keys.{sends, takes}
+use Rattle.party_tables.specs.Names.{full_name}
+use Rattle.party_tables.proofs.Keys.{test_names}
+use Rattle.party_state.specs.declared.command.Command.{Command}
+use Rattle.party_state.specs.declared.command.Command.TheVariants as command
+use Rattle.party_state.specs.declared.command.Input.{Input}
+use Rattle.party_state.specs.declared.command.Input.TheVariants as input
+use Rattle.party_state.specs.Rows.{Accepted, OfAnswer, refused}
+use Rattle.party_state.specs.State.{Party, centre_label, link_with, first_link, exchange_with, answer_with}
+use Rattle.party_state.specs.Verdicts.{Test, Held, is_accept}
+use Rattle.party_state.proofs.Verdicts.{held, blocked}
+use Rattle.role_base.specs.declared.exchanges.Sent.{Sent}
+use Rattle.role_base.specs.declared.exchanges.Twins.{Twins}
+use Rattle.role_base.specs.Centres.{centre_command}
+use Rattle.role_base.specs.Load.{load}
+use Rattle.role_base.specs.Conditions.{is_for, is_two_keys}
+use Rattle.role_base.specs.Exchanges.{record_of, ending_by, ending_in, ending_with, sent_to, twins_to}
+use Rattle.role_base.specs.Texts.{is_plain, is_verified}
+use Rattle.bank_orders.specs.Start.{sending_link, start_tests, start_under}
+use Rattle.role_base.specs.Sending.{sending_drawn}
+use Rattle.bank_orders.specs.declared.draws.KkDrawn.{KkDrawn}
+use Rattle.bank_orders.specs.Draws.{kk_drawn}
+use Rattle.bank_orders.specs.StartKk.{kk_sending, start_kk_under}
+use Rattle.bank_orders.specs.Ask.{ask_of}
+use Rattle.bank_orders.specs.Translate.{translate_drawn, translate_under}
+use Rattle.bank_orders.specs.Resend.{resend_of}
+use Rattle.bank_orders.specs.Ending.{end_record}
+use Rattle.bank_orders.specs.Orders.{command_row}
+use Rattle.bank_keys.specs.Ksm.{body_link, key_row}
+use Rattle.bank_keys.specs.declared.waits.Waiting.{Waiting}
+use Rattle.bank_keys.specs.Waiting.{waiting_with}
+use Rattle.bank_keys.specs.Rtr.{brought, translated, rtr_with}
+use Rattle.bank_arrivals.specs.declared.asking_again.Retry.{Retry}
+use Rattle.bank_arrivals.specs.declared.disconnection.Named.{Named}
+use Rattle.bank_arrivals.specs.declared.draws.TwinsDrawn.{TwinsDrawn}
+use Rattle.bank_arrivals.specs.declared.error_message.Subject.{Subject}
+use Rattle.bank_arrivals.specs.declared.error_message.Subject.TheVariants.{SentKey, SentTwins, Translated}
+use Rattle.bank_arrivals.specs.AskingAgain.{retry_in}
+use Rattle.bank_arrivals.specs.SendingTwins.{twins_drawn, twins_sending_drawn}
+use Rattle.bank_arrivals.specs.Rsi.{rsi_tests, rsi_row, rsi_under}
+use Rattle.bank_arrivals.specs.Rsm.{end_front, rsm_to, rsm_by, answer_to, rsm_with}
+use Rattle.bank_arrivals.specs.Esm.{subject_with, error_of, error_with}
+use Rattle.bank_arrivals.specs.Dsm.{named_by, dsm_on}
+use Rattle.bank_role.specs.Rows.{message_row}
+use Rattle.distribution_role.specs.Answering.{answering}
+use Rattle.distribution_role.specs.Requests.{rsi_tests as centre_tests, rsi_between, rsi_for}
+use Rattle.distribution_role.specs.Recovery.{ers_tests, at_least, ers_between}
+use Rattle.distribution_role.specs.Rows.{distribution_message}
+use Rattle.translation_role.specs.Service.{rfs_between}
+use Rattle.translation_role.specs.Rows.{translation_message}
+use Rattle.roles.specs.Rows.{row_by, row_at}
+use Rattle.world_laws.specs.World.{Acceptance}
+use Rattle.world_laws.specs.Steps.{acceptances_of, received_text}
+use Rattle.world_laws.specs.Answered.{is_end_answer, answers_in, answer_of, message_answers}
+use Rattle.world_laws.proofs.Sound.Exchanges.{record_at}
+
+-- what a row accepts is no answer to the end of a key
+abbrev pub NoAnswer : Option Accepted → Type 0
+NoAnswer None = Unit {0}
+NoAnswer (Some a) = is_end_answer a.class ≡ false
+
+pub no_answers : (own text : List ℕ) (o : Option Accepted) → NoAnswer o → answers_in (acceptances_of own text o) ≡ []
+no_answers own text None n = refl
+no_answers own text (Some a) n = rw n refl
+
+-- commands
+
+sending_none : (p : Party) (o : Option LinkRec) (peer : List ℕ) (moment : ℕ) → NoAnswer (start_under p peer o moment).accepts
+sending_none p None peer moment = tt
+sending_none p (Some l) peer moment = by_draw (good_draw p.generator moment)
+  where
+    by_draw : (d : Option (ℕ × Gen)) → NoAnswer (sending_drawn p (start_tests p peer (Some l)) l d).accepts
+    by_draw None = tt
+    by_draw (Some d) = tt
+
+kk_none : (p : Party) (o : Option LinkRec) (peer new : List ℕ) (single : Bool) (moment : ℕ) → NoAnswer (start_kk_under p peer new single o moment).accepts
+kk_none p None peer new single moment = tt
+kk_none p (Some l) peer new single moment = by_draw (kk_drawn p.generator moment single)
+  where
+    by_draw : (d : Option KkDrawn) → NoAnswer (kk_sending p (start_tests p peer (Some l)) l new single d).accepts
+    by_draw None = tt
+    by_draw (Some d) = tt
+
+translate_none : (p : Party) (centre u : List ℕ) (o : Option LinkRec) (moment : ℕ) → NoAnswer (translate_under p centre u o moment).accepts
+translate_none p centre u None moment = tt
+translate_none p centre u (Some l) moment = by_draw (good_draw p.generator moment)
+  where
+    by_draw : (d : Option (ℕ × Gen)) → NoAnswer (translate_drawn p centre u l d).accepts
+    by_draw None = tt
+    by_draw (Some d) = tt
+
+ask_none : (p : Party) (peer : List ℕ) (o : Option (List ℕ)) → NoAnswer (ask_of p peer o).accepts
+ask_none p peer None = tt
+ask_none p peer (Some u) = tt
+
+resend_none : (o : Option Exchange) → NoAnswer (resend_of o).accepts
+resend_none None = tt
+resend_none (Some e) = tt
+
+end_none : (p : Party) (peer : List ℕ) (o : Option KeyRec) → NoAnswer (end_record p peer o).accepts
+end_none p peer None = tt
+end_none p peer (Some k) = tt
+
+command_none : (p : Party) (c : Command) (moment : ℕ) → NoAnswer (command_row p c moment).accepts
+command_none p (command.Load peer label side pair) moment = tt
+command_none p (command.Start peer label) moment = sending_none p (sending_link p peer label) peer moment
+command_none p (command.StartKk peer label new single) moment = kk_none p (sending_link p peer label) peer new single moment
+command_none p (command.Ask peer ultimate) moment = ask_none p peer ultimate
+command_none p (command.Translate centre ultimate) moment = translate_none p centre ultimate (link_with (sends centre centre_label) p) moment
+command_none p (command.Resend peer) moment = resend_none (exchange_with peer p)
+command_none p (command.End peer name) moment = end_none p peer (record_of p peer name)
+command_none p (command.Drop peer) moment = tt
+command_none p command.Purge moment = tt
+
+-- messages at a bank
+
+request_none : (p : Party) (a : Arrival) (m : Rsi) (moment : ℕ) (o : Option LinkRec) → NoAnswer (rsi_under p a m o moment).accepts
+request_none p a m moment None = tt
+request_none p a m moment (Some l) = by_service (is_two_keys m.service)
+  where
+    by_twins : (d : Option TwinsDrawn) → NoAnswer (twins_sending_drawn p (rsi_tests p a m (Some l)) l d).accepts
+    by_twins None = tt
+    by_twins (Some d) = tt
+
+    by_draw : (d : Option (ℕ × Gen)) → NoAnswer (sending_drawn p (rsi_tests p a m (Some l)) l d).accepts
+    by_draw None = tt
+    by_draw (Some d) = tt
+
+    by_service : (b : Bool) → NoAnswer (rsi_row p a m l moment b).accepts
+    by_service true = by_twins (twins_drawn p.generator moment)
+    by_service false = by_draw (good_draw p.generator moment)
+
+rtr_none : (p : Party) (a : Arrival) (m : Rtr) (o : Option (ℕ × ℕ)) → NoAnswer (rtr_with p a m o).accepts
+rtr_none p a m (Some k) = by_link (link_with (takes m.originator centre_label) p)
+  where
+    by_link : (o : Option LinkRec) → NoAnswer (brought p a m k o).accepts
+    by_link None = tt
+    by_link (Some l) = tt
+rtr_none p a m None = by_waiting (waiting_with p m.originator)
+  where
+    by_waiting : (o : Option Waiting) → NoAnswer (translated p a m o).accepts
+    by_waiting None = tt
+    by_waiting (Some t) = tt
+
+key_none : (p : Party) (a : Arrival) (m : Ksm) (b : KsmBody) (o : Option LinkRec) → NoAnswer (key_row p a m b o).accepts
+key_none p a m b None = tt
+key_none p a m b (Some l) = refl
+
+plain_none : (p : Party) (a : Arrival) (m : Rsm) → NoAnswer (rsm_with p a m None).accepts
+plain_none p a m = by_twins (twins_to p m.originator)
+  where
+    by_sent : (o : Option Sent) → NoAnswer (rsm_to p a m o).accepts
+    by_sent None = tt
+    by_sent (Some s) = refl
+
+    by_twins : (o : Option Twins) → NoAnswer (rsm_by p a m o).accepts
+    by_twins None = by_sent (sent_to p m.originator)
+    by_twins (Some t) = refl
+
+esm_none : (p : Party) (a : Arrival) (m : Esm) (b : Bool) (again : Option Retry) → NoAnswer (error_with p a m b again).accepts
+esm_none p a m true again = tt
+esm_none p a m false again = by_subject (subject_with p m.originator)
+  where
+    by_subject : (o : Option Subject) → NoAnswer (error_of p a m o again).accepts
+    by_subject None = tt
+    by_subject (Some (SentKey s)) = refl
+    by_subject (Some (SentTwins t)) = refl
+    by_subject (Some (Translated value cta)) = tt
+
+dsm_none : (p : Party) (a : Arrival) (m : Dsm) (o : Option Named) → NoAnswer (dsm_on p a m o).accepts
+dsm_none p a m None = tt
+dsm_none p a m (Some n) = refl
+
+-- the answer to the end of a key
+
+ending_record : (p : Party) (peer : List ℕ) (k : KeyRec) → ending_with p peer ≡ Some k → k.peer ≡ peer
+ending_record p peer k h = by_exchange (exchange_with peer p) h
+  where
+    by_kind : (d : Kind) → ending_by p peer d ≡ Some k → k.peer ≡ peer
+    by_kind (kind.Ending name) h = (record_at p peer name k h).peer_is
+    by_kind (kind.Asked ultimate) h = absurd (cc)
+    by_kind (kind.Translating ultimate value cta) h = absurd (cc)
+    by_kind (kind.KeySent name way) h = absurd (cc)
+    by_kind (kind.PairSent name) h = absurd (cc)
+
+    by_exchange : (o : Option Exchange) → ending_in p peer o ≡ Some k → k.peer ≡ peer
+    by_exchange None h = absurd (cc)
+    by_exchange (Some e) h = by_kind e.kind h
+
+answer_added : (p : Party) (a : Arrival) (m : Rsm) (name : KeyName) (o : Option KeyRec) → ending_with p m.originator ≡ o → is_accept (answer_to p a m name o).verdict ≡ true
+    → answers_in (acceptances_of p.own (authenticated a) (answer_to p a m name o).accepts) ≡ answer_of p a m.originator (Some name)
+answer_added p a m name None e h = absurd (blocked ((is_for p m.receiver m.originator, NotForMe) ∷ []) NoExchange refl refl h)
+answer_added p a m name (Some k) e h =
+    let t : Held (end_front p m name (Some k) ++ (is_verified a k.value, BadMac) ∷ []) = held (end_front p m name (Some k) ++ (is_verified a k.value, BadMac) ∷ []) refl h in
+    let is : name ≡ k.name = (test_names.decides name k.name).0 t.1.0 in
+    let peer : k.peer ≡ m.originator = ending_record p m.originator k e in
+    let under : full_name p.own k ≡ record { name = name; recipient = cond (bytes_eq name.originator p.own) m.originator p.own } = (λ i. record { name = (sym is) i; recipient = cond (bytes_eq ((sym is) i).originator p.own) (peer i) p.own }) in
+    ap (λ (u : FullName). let r : List Acceptance = record { party = p.own; text = authenticated a; class = OfAnswer; names = u ∷ [] } ∷ [] in r) under
+
+bank_answers : (p : Party) (a : Arrival) (m : Message) (moment : ℕ) → is_accept (message_row p a m moment).verdict ≡ true → answers_in (acceptances_of p.own (authenticated a) (message_row p a m moment).accepts) ≡ message_answers p a m
+bank_answers p a (message.Rsi m) moment h = no_answers p.own (authenticated a) _ (request_none p a m moment (first_link m.originator Sends p))
+bank_answers p a (message.Rfs m) moment h = refl
+bank_answers p a (message.Rtr m) moment h = no_answers p.own (authenticated a) _ (rtr_none p a m m.kd)
+bank_answers p a (message.Ksm m) moment h = no_answers p.own (authenticated a) _ (key_none p a m m.body (body_link p m.originator m.body))
+bank_answers p a (message.Rsm m) moment h = by_name m.idd h
+  where
+    by_name : (o : Option KeyName) → is_accept (rsm_with p a m o).verdict ≡ true → answers_in (acceptances_of p.own (authenticated a) (rsm_with p a m o).accepts) ≡ answer_of p a m.originator o
+    by_name None h = no_answers p.own (authenticated a) _ (plain_none p a m)
+    by_name (Some name) h = answer_added p a m name (ending_with p m.originator) refl h
+bank_answers p a (message.Ers m) moment h = refl
+bank_answers p a (message.Esm m) moment h = no_answers p.own (authenticated a) _ (esm_none p a m (is_plain a.parsed.shut) (retry_in p (subject_with p m.originator) m.ctr))
+bank_answers p a (message.Dsm m) moment h = no_answers p.own (authenticated a) _ (dsm_none p a m (named_by p m))
+
+-- at the centres
+
+answering_none : (p : Party) (requester u : List ℕ) (tests : List Test) (l b : LinkRec) (d : Option (ℕ × Gen)) → NoAnswer (answering p requester u tests l b d).accepts
+answering_none p requester u tests l b None = tt
+answering_none p requester u tests l b (Some d) = tt
+
+centre_request_none : (p : Party) (a : Arrival) (m : Rsi) (o : Option (List ℕ)) (moment : ℕ) → NoAnswer (rsi_for p a m o moment).accepts
+centre_request_none p a m None moment = tt
+centre_request_none p a m (Some u) moment = by_links (link_with (sends m.originator centre_label) p) (link_with (sends u centre_label) p) (good_draw p.generator moment)
+  where
+    by_links : (fa fb : Option LinkRec) (d : Option (ℕ × Gen)) → NoAnswer (rsi_between p a m u fa fb d).accepts
+    by_links None fb d = tt
+    by_links (Some l) None d = tt
+    by_links (Some l) (Some b) d = answering_none p m.originator u (centre_tests p a m u l b) l b d
+
+ers_none : (p : Party) (a : Arrival) (m : Ers) (o : Option Answer) (fa fb : Option LinkRec) (d : Option (ℕ × Gen)) → NoAnswer (ers_between p a m o fa fb d).accepts
+ers_none p a m None fa fb d = tt
+ers_none p a m (Some t) None fb d = tt
+ers_none p a m (Some t) (Some l) None d = tt
+ers_none p a m (Some t) (Some l) (Some b) d = answering_none p m.originator m.ultimate (ers_tests p a m t l b) l (at_least b m.ctr) d
+
+rfs_none : (p : Party) (a : Arrival) (m : Rfs) (fa fb : Option LinkRec) → NoAnswer (rfs_between p a m fa fb).accepts
+rfs_none p a m None fb = tt
+rfs_none p a m (Some l) None = tt
+rfs_none p a m (Some l) (Some b) = tt
+
+-- a class that a centre doesn't serve is never accepted
+unserved_never : {A : Type 0} (b : Bool) → is_accept (cond b WrongClass NotForMe) ≡ true → A
+unserved_never true h = absurd (cc)
+unserved_never false h = absurd (cc)
+
+distribution_answers : (p : Party) (a : Arrival) (m : Message) (moment : ℕ) → is_accept (distribution_message p a m moment).verdict ≡ true → answers_in (acceptances_of p.own (authenticated a) (distribution_message p a m moment).accepts) ≡ message_answers p a m
+distribution_answers p a (message.Rsi m) moment h = no_answers p.own (authenticated a) _ (centre_request_none p a m m.ultimate moment)
+distribution_answers p a (message.Rfs m) moment h = refl
+distribution_answers p a (message.Rtr m) moment h = refl
+distribution_answers p a (message.Ksm m) moment h = refl
+distribution_answers p a (message.Rsm m) moment h = unserved_never (is_for p m.receiver m.originator) h
+distribution_answers p a (message.Ers m) moment h = no_answers p.own (authenticated a) _ (ers_none p a m (answer_with (record { requester = m.originator; ultimate = m.ultimate }) p) (link_with (sends m.originator centre_label) p) (link_with (sends m.ultimate centre_label) p) (good_draw p.generator moment))
+distribution_answers p a (message.Esm m) moment h = refl
+distribution_answers p a (message.Dsm m) moment h = refl
+
+translation_answers : (p : Party) (a : Arrival) (m : Message) → is_accept (translation_message p a m).verdict ≡ true → answers_in (acceptances_of p.own (authenticated a) (translation_message p a m).accepts) ≡ message_answers p a m
+translation_answers p a (message.Rsi m) h = refl
+translation_answers p a (message.Rfs m) h = no_answers p.own (authenticated a) _ (rfs_none p a m (link_with (takes m.originator centre_label) p) (link_with (sends m.ultimate centre_label) p))
+translation_answers p a (message.Rtr m) h = refl
+translation_answers p a (message.Ksm m) h = refl
+translation_answers p a (message.Rsm m) h = unserved_never (is_for p m.receiver m.originator) h
+translation_answers p a (message.Ers m) h = refl
+translation_answers p a (message.Esm m) h = refl
+translation_answers p a (message.Dsm m) h = refl
+
+centre_none : (p : Party) (c : Command) → NoAnswer (centre_command p c).accepts
+centre_none p (command.Load peer label side pair) = go (bytes_eq label centre_label)
+  where
+    go : (b : Bool) → NoAnswer (cond b (load p peer label side pair) (refused WrongClass)).accepts
+    go true = tt
+    go false = tt
+centre_none p (command.Start peer label) = tt
+centre_none p (command.StartKk peer label new single) = tt
+centre_none p (command.Ask peer ultimate) = tt
+centre_none p (command.Translate centre ultimate) = tt
+centre_none p (command.Resend peer) = tt
+centre_none p (command.End peer name) = tt
+centre_none p (command.Drop peer) = tt
+centre_none p command.Purge = tt
+
+-- what an input shows of that
+abbrev pub input_answers : Party → Input → List Acceptance
+input_answers p (input.Ordered c) = []
+input_answers p (input.Arrived a) = message_answers p a a.parsed.message
+
+role_answers : (r : Role) (p : Party) (i : Input) (moment : ℕ) → is_accept (row_by r p i moment).verdict ≡ true → answers_in (acceptances_of p.own (received_text i) (row_by r p i moment).accepts) ≡ input_answers p i
+role_answers Bank p (input.Ordered c) moment h = no_answers p.own [] _ (command_none p c moment)
+role_answers Bank p (input.Arrived a) moment h = bank_answers p a a.parsed.message moment h
+role_answers Distribution p (input.Ordered c) moment h = no_answers p.own [] _ (centre_none p c)
+role_answers Distribution p (input.Arrived a) moment h = distribution_answers p a a.parsed.message moment h
+role_answers Translation p (input.Ordered c) moment h = no_answers p.own [] _ (centre_none p c)
+role_answers Translation p (input.Arrived a) moment h = translation_answers p a a.parsed.message h
+
+pub row_answers : (p : Party) (i : Input) (moment : ℕ) → is_accept (row_at p i moment).verdict ≡ true → answers_in (acceptances_of p.own (received_text i) (row_at p i moment).accepts) ≡ input_answers p i
+row_answers p i moment h = role_answers p.role p i moment h
