@@ -1,17 +1,14 @@
 -- The fields of a payment, one behind the other.
-use Rattle.std.proofs.Common.{◌≡◌, ℕ, ◌<◌, ◌^◌, List, [], ◌∷◌, ◌++◌, Option, Some, None, refl, sym, ap, ◌∙◌, arith, codes, lit≤, append_assoc}
+use Rattle.std.proofs.Common.{◌≡◌, ℕ, List, [], ◌∷◌, ◌++◌, Option, Some, None, refl, sym, ap, ◌∙◌, arith, codes, lit≤, append_assoc}
 use Rattle.std.specs.Fmt.{decimal}
 use Rattle.x_base.specs.declared.key_name.KeyName.{KeyName}
 use Rattle.x_base.specs.Count.{IsCount}
 use Rattle.x_base.specs.KeyName.{IsKeyName, written}
 use Rattle.x_base.specs.Names.{IsIdent, IsLabel}
-use Rattle.csm_write.specs.Canon.{code_digits}
 use Rattle.change_code.specs.Reading.{Form, StartsWith}
 use Rattle.change_code.proofs.Joining.{Apart, both, apart_both, begins_both}
-use Rattle.pay_auth.specs.declared.pay.Pay.{Pay}
 use Rattle.pay_auth.specs.declared.scanner.Run.TheVariants as run
-use Rattle.pay_auth.specs.Texts.{auth_text, IsPay}
-use Rattle.pay_auth.specs.Scanning.{IsEnd, Stops, IsScanned, literal_form, run_form, ident_form, label_form, count_form, code_form, ident_field, count_field, name_form, pay_form, mac_form}
+use Rattle.pay_auth.specs.Scanning.{IsEnd, IsScanned, literal_form, run_form, ident_form, label_form, count_form, code_form, ident_field, count_field, name_form, pay_form, mac_form}
 use Rattle.pay_auth.proofs.Stopping.{Recode, apart_by, stops_by, starts_by, stops_second, literal_apart}
 use Rattle.pay_auth.proofs.Running.{run_apart}
 use Rattle.pay_auth.proofs.Named.{ident_recode, label_recode, count_recode}

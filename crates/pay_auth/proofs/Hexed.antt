@@ -1,5 +1,5 @@
 -- Codes as runs of eight upper-case digits.
-use Rattle.std.proofs.Common.{◌≡◌, ℕ, zero, suc, ◌+◌, ◌*◌, ◌/◌, ◌%◌, ◌-◌, ◌<◌, ◌≤◌, ◌^◌, nat_le, nat_lt, ◌&&◌, Bool, true, false, if◌then◌else◌, List, [], ◌∷◌, ◌++◌, length, Option, Some, None, Result, Ok, Err, refl, sym, ap, ◌∙◌, subst, arith, inl, inr, get_or}
+use Rattle.std.proofs.Common.{◌≡◌, ℕ, zero, suc, ◌+◌, ◌*◌, ◌/◌, ◌%◌, ◌-◌, ◌<◌, ◌≤◌, ◌^◌, nat_le, nat_lt, ◌&&◌, Bool, true, false, if◌then◌else◌, List, [], ◌∷◌, ◌++◌, length, Some, Ok, Err, refl, sym, ap, ◌∙◌, arith, inl, inr, get_or}
 use Rattle.std.specs.Prelude.{◌==◌, ◌||◌, not, slice_index}
 use Rattle.std.specs.Int.{w32, from_be_bytes, to_be_bytes}
 use Rattle.std.specs.Str.Parse.{digits_value}
@@ -14,7 +14,7 @@ use Rattle.csm_write.specs.Canon.{code_digits}
 use Rattle.csm_write.proofs.Hexadecimal.{code_value, high_length}
 use Rattle.change_code.specs.Reading.{StartsWith}
 use Rattle.pay_auth.specs.declared.scanner.Run.TheVariants as run
-use Rattle.pay_auth.specs.Scanning.{is_of, allows, most, AreAllowed, IsRun, run_form, code_form}
+use Rattle.pay_auth.specs.Scanning.{is_of, allows, AreAllowed, IsRun, run_form, code_form}
 use Rattle.pay_auth.proofs.Stopping.{Recode}
 
 -- the value of an upper-case digit

@@ -1,8 +1,8 @@
 -- A literal is read byte by byte.
-use Rattle.std.proofs.Common.{◌≡◌, ℕ, zero, suc, ◌+◌, ◌<◌, List, [], ◌∷◌, ◌++◌, length, take, drop, Some, refl, sym, ap, ◌∙◌, append_assoc, append-nil, add-one, arith, get_or}
+use Rattle.std.proofs.Common.{◌≡◌, ℕ, zero, suc, ◌+◌, ◌<◌, List, [], ◌∷◌, ◌++◌, length, take, Some, refl, sym, ap, ◌∙◌, append_assoc, add-one, arith, get_or}
 use Rattle.std.specs.Prelude.{slice_get}
 use Rattle.std.proofs.lemmas.List.{append_cancel_left, take_all}
-use Rattle.change_code.specs.Reading.{Lacks, StartsWith}
+use Rattle.change_code.specs.Reading.{StartsWith}
 use Rattle.pay_auth.specs.Scanning.{Stops, literal_form}
 
 -- the byte at a place, and what is behind it

@@ -1,5 +1,5 @@
 -- Identities, labels and counts as runs.
-use Rattle.std.proofs.Common.{◌≡◌, ℕ, zero, suc, ◌+◌, ◌<◌, ◌≤◌, ◌^◌, nat_lt, nat_le, ◌&&◌, Bool, true, false, List, [], ◌∷◌, ◌++◌, length, Option, Some, None, Result, Ok, Err, IsOk, IfOk, ◌↔◌, refl, sym, ap, ◌∙◌, subst, arith, rules, lit<, get_or}
+use Rattle.std.proofs.Common.{◌≡◌, ℕ, zero, suc, ◌+◌, ◌<◌, ◌≤◌, ◌^◌, nat_lt, nat_le, ◌&&◌, true, List, [], ◌∷◌, ◌++◌, length, Result, Ok, Err, IsOk, IfOk, ◌↔◌, refl, sym, ap, ◌∙◌, subst, arith, rules, lit<, get_or}
 use Rattle.std.specs.Fmt.{decimal}
 use Rattle.std.specs.Char.{is_ascii_digit}
 use Rattle.std.specs.List.{list_all}
@@ -14,7 +14,7 @@ use Rattle.x_base.specs.Names.{is_name_byte, IsIdent, IsLabel}
 use Rattle.change_code.specs.Reading.{Form, StartsWith}
 use Rattle.pay_auth.specs.declared.scanner.Run.{Run}
 use Rattle.pay_auth.specs.declared.scanner.Run.TheVariants as run
-use Rattle.pay_auth.specs.Scanning.{least, most, is_of, allows, AreAllowed, IsRun, IsScanned, run_form, ident_form, label_form, count_form}
+use Rattle.pay_auth.specs.Scanning.{most, is_of, allows, AreAllowed, IsRun, IsScanned, run_form, ident_form, label_form, count_form}
 use Rattle.pay_auth.proofs.Stopping.{Recode}
 
 -- a run ends within its most bytes

@@ -1,10 +1,9 @@
 -- Over every list of calls no number is paid out or taken in twice.
 use Rattle.std.proofs.Common.{◌≡◌, inl, inr, ℕ, ◌+◌, ◌<◌, ◌≤◌, nat_le, if◌then◌else◌, Bool, true, false, Option, Some, None, List, [], ◌∷◌, ◌++◌, refl, sym, ap, ◌∙◌, subst, arith}
-use Rattle.std.proofs.lemmas.Bool.Decides.{nat_tests}
 use Rattle.std.specs.Prelude.{◌==◌, ◌||◌, not, is_none, bytes_eq}
 use Rattle.x_base.specs.Count.{count_limit}
 use Rattle.x_base.specs.declared.key_name.KeyName.{KeyName}
-use Rattle.x_base.specs.declared.party.Side.TheVariants.{Sends, Takes}
+use Rattle.x_base.specs.declared.party.Side.TheVariants.{Takes}
 use Rattle.party_state.specs.State.{Party}
 use Rattle.pay_auth.specs.declared.pay.Pay.{Pay}
 use Rattle.pay_auth.specs.declared.entry.Entry.{Entry}

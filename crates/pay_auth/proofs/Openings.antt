@@ -1,5 +1,5 @@
 -- A ledger is opened, or created where the image is blank.
-use Rattle.std.proofs.Common.{◌≡◌, ◌⊎◌, inl, inr, ℕ, ◌≤◌, Bool, true, false, List, [], Some, is_some, Result, Ok, Err, IfErr, refl, sym, ◌∙◌, ap, subst, arith}
+use Rattle.std.proofs.Common.{◌≡◌, ◌⊎◌, inl, inr, ℕ, ◌≤◌, Bool, true, false, List, [], Some, is_some, Result, Ok, Err, refl, sym, ◌∙◌, ap, subst, arith}
 use Rattle.x_base.specs.Edge.{Rose}
 use Rattle.x_disk.specs.Disk.{View, Tells, LeavesOnly, IsUntouched}
 use Rattle.x_disk.proofs.Runs.{joined, weaker}
@@ -8,12 +8,12 @@ use Rattle.key_journal.specs.Opening.{IsFree}
 use Rattle.key_journal.specs.declared.cause.Cause.{Cause}
 use Rattle.key_journal.specs.declared.cause.Cause.TheVariants as cause
 use Rattle.key_journal.specs.declared.cause.Unmade.{Unmade}
-use Rattle.journal_state.specs.States.{StandsFor, IsBlankOrFor}
+use Rattle.journal_state.specs.States.{IsBlankOrFor}
 use Rattle.journal_state.specs.Loading.{IsRefusal, IsLoaded}
 use Rattle.journal_state.specs.Making.{IsMade}
 use Rattle.pay_auth.specs.declared.entry.Entry.{Entry}
 use Rattle.pay_auth.specs.Bodies.{PutsBody}
-use Rattle.pay_auth.specs.Ledgers.{HasEntries, ReadsEntries, LedgerView}
+use Rattle.pay_auth.specs.Ledgers.{HasEntries, LedgerView}
 use Rattle.pay_auth.specs.Opening.{IsLedgerRefusal, IsLedgerOpened}
 
 differ : (b : Bool) → b ≡ true → b ≡ false → ⊥

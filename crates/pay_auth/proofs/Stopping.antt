@@ -1,9 +1,9 @@
 -- Forms one after the other, and where bytes stop.
 use Rattle.std.proofs.Common.{◌≡◌, ◌⊎◌, inl, inr, ℕ, List, [], ◌∷◌, ◌++◌, refl, sym, ap, ◌∙◌, subst, append_assoc}
 use Rattle.std.proofs.lemmas.List.{append_cancel_left}
-use Rattle.change_code.specs.Reading.{Form, Lacks, StartsWith}
+use Rattle.change_code.specs.Reading.{Form, StartsWith}
 use Rattle.change_code.proofs.Joining.{Apart, both, lacks_first, lacks_second}
-use Rattle.pay_auth.specs.Scanning.{Extends, Stops, literal_form}
+use Rattle.pay_auth.specs.Scanning.{Stops, literal_form}
 
 -- of two ways to part a list, one cuts no later
 pub split : (xs r u v : List ℕ) → xs ++ r ≡ u ++ v → ((m : List ℕ) × (u ≡ xs ++ m) × (r ≡ m ++ v)) ⊎ ((m : List ℕ) × (xs ≡ u ++ m) × (v ≡ m ++ r))

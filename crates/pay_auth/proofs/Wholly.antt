@@ -1,10 +1,10 @@
 -- Payments that are all of the bytes.
-use Rattle.std.proofs.Common.{◌≡◌, ℕ, zero, suc, ◌+◌, ◌-◌, ◌<◌, ◌≤◌, ◌^◌, List, [], ◌∷◌, ◌++◌, length, take, drop, refl, sym, ap, ◌∙◌, subst, arith, append_assoc, append-nil, length-append, lit<}
+use Rattle.std.proofs.Common.{◌≡◌, ℕ, zero, suc, ◌+◌, ◌-◌, ◌<◌, ◌≤◌, List, [], ◌∷◌, ◌++◌, length, take, refl, sym, ap, ◌∙◌, subst, arith, append_assoc, append-nil, length-append, lit<}
 use Rattle.change_code.specs.Reading.{Form, StartsWith}
 use Rattle.change_code.proofs.Joining.{Apart, both, apart_both, begins_both}
 use Rattle.pay_auth.specs.declared.pay.Pay.{Pay}
-use Rattle.pay_auth.specs.Texts.{auth_text, pay_text, IsPay, SpellsPay, BeginsPay, IsNoPay}
-use Rattle.pay_auth.specs.Scanning.{Extends, Stops, StopsPay, IsWholePay, pay_form, mac_form}
+use Rattle.pay_auth.specs.Texts.{auth_text, SpellsPay, BeginsPay, IsNoPay}
+use Rattle.pay_auth.specs.Scanning.{Stops, StopsPay, IsWholePay, pay_form, mac_form}
 use Rattle.pay_auth.proofs.Stopping.{stops_first, stops_second}
 use Rattle.pay_auth.proofs.Fields.{pay_apart, mac_apart}
 

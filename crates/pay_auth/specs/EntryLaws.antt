@@ -1,19 +1,18 @@
 -- A body has one list of entries (this project's profile).
-use Rattle.std.proofs.Common.{◌≡◌, ℕ, zero, suc, ◌+◌, ◌<◌, ◌≤◌, ◌^◌, nat_eq, true, false, List, [], ◌∷◌, ◌++◌, length, take, Option, Some, None, refl, sym, ap, ◌∙◌, subst, arith, append_assoc, append-nil, length-append}
+use Rattle.std.proofs.Common.{◌≡◌, ℕ, zero, suc, ◌+◌, ◌<◌, List, [], ◌∷◌, ◌++◌, length, take, Some, refl, sym, ap, ◌∙◌, arith, append_assoc, append-nil}
 use Rattle.std.specs.List.{All}
 use Rattle.std.specs.Prelude.{slice_get}
-use Rattle.std.proofs.lemmas.List.Concat.{flat_map-append}
-use Rattle.std.proofs.lemmas.List.Elements.{All-push, All-head, All-tail}
-use Rattle.change_code.specs.Code.{two, name_code}
-use Rattle.change_code.specs.Reading.{Form, Lacks, StartsWith, IsPieceRead, ident_form, name_form, side_form, count_form}
+use Rattle.std.proofs.lemmas.List.Elements.{All-head, All-tail}
+use Rattle.change_code.specs.Code.{two}
+use Rattle.change_code.specs.Reading.{ident_form, name_form, side_form, count_form}
 use Rattle.change_code.proofs.Joining.{Apart, Shape, both, apart_both, apart_as}
-use Rattle.change_code.proofs.Numbers.{two_apart, two_long, count_apart}
+use Rattle.change_code.proofs.Numbers.{two_apart, count_apart}
 use Rattle.change_code.proofs.Names.{ident_apart, name_apart}
 use Rattle.change_code.proofs.RowForms.{side_apart}
 use Rattle.pay_auth.specs.declared.entry.Entry.{Entry}
 use Rattle.pay_auth.specs.Entries.{IsEntry, put_entries}
-use Rattle.pay_auth.specs.Bodies.{entry_code, entries_code, body_of, IsLedgerBody, PutsBody}
-use Rattle.pay_auth.specs.Forms.{entry_form, entries_form}
+use Rattle.pay_auth.specs.Bodies.{entry_code, entries_code, IsLedgerBody, PutsBody}
+use Rattle.pay_auth.specs.Forms.{entry_form}
 
 pub entry_shape : Shape entry_form (both ident_form (both name_form (both side_form count_form)))
 unfolding both

@@ -1,5 +1,5 @@
 -- What a ledger's image stands for: the fold of the puts of its bodies, from no entries (this project's profile).
-use Rattle.std.specs.Prelude.{◌≡◌, ◌⊎◌, ℕ, true, List, [], ◌∷◌}
+use Rattle.std.specs.Prelude.{◌≡◌, ◌⊎◌, ℕ, true, List, []}
 use Rattle.key_journal.specs.Journal.{is_blank}
 use Rattle.journal_state.specs.States as journal
 use Rattle.journal_state.specs.States.{Stood}

@@ -1,5 +1,5 @@
 -- How a ledger is opened (this project's profile).
-use Rattle.std.specs.Prelude.{◌≡◌, ◌⊎◌, ℕ, ◌≤◌, true, false, List, [], Some, is_some, Result, IfOk, IfErr}
+use Rattle.std.specs.Prelude.{◌≡◌, ◌⊎◌, ℕ, ◌≤◌, false, List, [], Some, is_some, Result, IfOk, IfErr}
 use Rattle.x_base.specs.Edge.{Rose}
 use Rattle.x_disk.specs.Disk.{View, Tells, LeavesOnly, IsUntouched}
 use Rattle.key_journal.specs.Journal.{is_blank}

@@ -1,7 +1,7 @@
 -- The ledger of an opened party acts.
-use Rattle.std.proofs.Common.{◌≡◌, ◌⊎◌, inl, inr, ℕ, ◌≤◌, true, false, List, [], Some, is_some, Result, Ok, Err, refl, sym, ◌∙◌, ap, subst, arith}
+use Rattle.std.proofs.Common.{◌≡◌, inl, inr, ℕ, ◌≤◌, false, List, [], is_some, Result, Ok, Err, refl, sym, ◌∙◌, subst, arith}
 use Rattle.x_base.specs.Edge.{Rose}
-use Rattle.x_disk.specs.Disk.{View, IsSound, Tells, LeavesOnly, IsUntouched}
+use Rattle.x_disk.specs.Disk.{View, IsSound, Tells, LeavesOnly}
 use Rattle.x_disk.specs.declared.disk.DiskErr.{DiskErr}
 use Rattle.x_disk.specs.declared.disk.DiskErr.TheVariants as disk
 use Rattle.x_disk.proofs.Runs.{began, joined, weaker}
@@ -9,7 +9,7 @@ use Rattle.key_journal.specs.Journal.{is_blank}
 use Rattle.key_journal.specs.States.{Failed}
 use Rattle.key_journal.specs.Causes.{cause_of}
 use Rattle.party_state.specs.State.{Party}
-use Rattle.key_store.specs.Store.{Stored, Stands}
+use Rattle.key_store.specs.Store.{Stored}
 use Rattle.journal_state.specs.States.{IsOldOrNext}
 use Rattle.journal_state.specs.Results.{kept_disk}
 use Rattle.journal_state.specs.Keeping.{IsReplaced}
@@ -19,9 +19,9 @@ use Rattle.pay_auth.specs.declared.turn.PayTurn.{PayTurn}
 use Rattle.pay_auth.specs.declared.turn.PayTurn.TheVariants as turn
 use Rattle.pay_auth.specs.Entries.{put_entry}
 use Rattle.pay_auth.specs.Bodies.{PutsBody}
-use Rattle.pay_auth.specs.Ledgers.{HasEntries, ReadsEntries, LedgerView}
+use Rattle.pay_auth.specs.Ledgers.{HasEntries, LedgerView}
 use Rattle.pay_auth.specs.Turns.{IsPayTurn}
-use Rattle.x_pay.specs.Outcomes.{Payment, nothing, MakesPayment, IsSafePayment, MayLeave, Before, Old, New}
+use Rattle.x_pay.specs.Outcomes.{Payment, nothing, MakesPayment, MayLeave, Before, Old, New}
 use Rattle.x_pay.specs.Steps.{AreOpened, HasActed, turn_disk, outcome_of, outcome_of_turn}
 use Rattle.x_pay.specs.declared.outcome.PayOutcome.{PayOutcome}
 use Rattle.x_pay.specs.declared.outcome.PayOutcome.TheVariants as outcome

@@ -1,5 +1,5 @@
 -- One disk tells what another does, step after step.
-use Rattle.std.proofs.Common.{◌≡◌, ℕ, List, refl, ◌∙◌}
+use Rattle.std.proofs.Common.{ℕ, List, refl, ◌∙◌}
 use Rattle.x_disk.specs.Disk.{View, LeavesOnly, IsSound, IsUntouched}
 use Rattle.x_disk.specs.Shelf.{IsAlike}
 use Rattle.x_disk.proofs.Runs.{began, weaker, begins_alike, ends_alike}

@@ -1,18 +1,17 @@
 -- Both disks are fetched, something is done, and both are put back.
-use Rattle.std.proofs.Common.{◌≡◌, ◌⊎◌, inl, inr, ℕ, ◌≤◌, ◌<◌, List, Some, is_some, Result, Ok, Err, refl, sym, ◌∙◌, ap, subst, arith}
+use Rattle.std.proofs.Common.{◌≡◌, ◌⊎◌, inl, inr, ℕ, ◌≤◌, ◌<◌, List, is_some, Ok, Err, sym, ◌∙◌, ap, subst, arith}
 use Rattle.x_base.specs.Edge.{Rose}
-use Rattle.x_disk.specs.Disk.{View, IsSound, Tells, LeavesOnly, IsUntouched, IsDurable}
+use Rattle.x_disk.specs.Disk.{View, IsSound, IsUntouched}
 use Rattle.x_disk.specs.Shelf.{ShelfView, IsAlike}
-use Rattle.x_disk.proofs.Runs.{began, weaker, ends_alike}
+use Rattle.x_disk.proofs.Runs.{weaker}
 use Rattle.party_state.specs.State.{Party}
 use Rattle.disk_pair.specs.declared.disks.Disks.{Disks}
-use Rattle.disk_pair.specs.Pairs.{ThirdsStay}
 use Rattle.pay_auth.specs.declared.entry.Entry.{Entry}
 use Rattle.x_pay.specs.Outcomes.{Payment, IsOwnParty, KeepsEntries, MakesPayment, IsSafePayment, MayLeave, Before, Old, New, IsNoFailure, LeavesShelf}
 use Rattle.x_pay.specs.Steps.{HasActed, AreOut, AreBack, IsClosed}
 use Rattle.x_pay.specs.declared.outcome.PayOutcome.{PayOutcome}
 use Rattle.x_pay.specs.declared.outcome.PayOutcome.TheVariants as outcome
-use Rattle.x_pay.proofs.Alike.{thirds_on, untouched_self, untouched_alike, leaves_around, untouched_around}
+use Rattle.x_pay.proofs.Alike.{thirds_on, untouched_alike, leaves_around, untouched_around}
 
 rose_some : (before after : ℕ) → before ≡ 0 → Rose before after → 0 < after
 rose_some before after none (inl less) = omega (arith, none, less)

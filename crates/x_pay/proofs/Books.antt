@@ -1,5 +1,5 @@
 -- A ledger is opened beside its party: what a crash leaves of it meanwhile, and what is told where none is opened.
-use Rattle.std.proofs.Common.{◌≡◌, ◌⊎◌, inl, inr, ℕ, ◌≤◌, Bool, true, false, List, [], Option, Some, None, is_some, Ok, Err, refl, sym, ◌∙◌, ap, subst, arith}
+use Rattle.std.proofs.Common.{◌≡◌, ◌⊎◌, inl, inr, ℕ, Bool, true, false, List, [], Option, Some, None, is_some, Err, refl, sym, ◌∙◌, ap, subst, arith}
 use Rattle.x_base.specs.Edge.{Rose}
 use Rattle.x_disk.specs.Disk.{View, IsSound, Tells, LeavesOnly, IsUntouched}
 use Rattle.x_disk.proofs.Runs.{began, weaker}
@@ -8,14 +8,14 @@ use Rattle.key_journal.specs.declared.cause.Cause.{Cause}
 use Rattle.key_journal.specs.declared.cause.Cause.TheVariants as cause
 use Rattle.key_journal.specs.declared.cause.Unmade.{Unmade}
 use Rattle.party_state.specs.State.{Party}
-use Rattle.key_store.specs.Store.{Stored, Stands}
+use Rattle.key_store.specs.Store.{Stored}
 use Rattle.journal_state.specs.States.{IsBlankOrFor}
 use Rattle.disk_pair.specs.declared.disks.Disks.{Disks}
 use Rattle.pay_auth.specs.declared.entry.Entry.{Entry}
 use Rattle.pay_auth.specs.Bodies.{PutsBody}
 use Rattle.pay_auth.specs.Ledgers.{HasEntries, ReadsEntries, IsLedgerDamage}
 use Rattle.pay_auth.specs.Opening.{IsLedgerRefusal, IsLedgerOpened}
-use Rattle.x_pay.specs.Outcomes.{Payment, nothing, IsOwnParty, MakesPayment, IsSafePayment, MayLeave, Before, Old}
+use Rattle.x_pay.specs.Outcomes.{Payment, nothing, IsOwnParty, MakesPayment, MayLeave, Before, Old}
 use Rattle.x_pay.specs.Steps.{IsPartyOpened, IsNoParty, WhyNoParty, HasActed, outcome_of}
 use Rattle.x_pay.specs.declared.outcome.PayOutcome.{PayOutcome}
 use Rattle.x_pay.specs.declared.outcome.PayOutcome.TheVariants as outcome

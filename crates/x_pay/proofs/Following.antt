@@ -1,5 +1,5 @@
 -- The outcome of a call is the one that is due.
-use Rattle.std.proofs.Common.{◌≡◌, ◌⊎◌, inl, inr, List, ℕ, Some, refl, sym, ◌∙◌}
+use Rattle.std.proofs.Common.{◌≡◌, inl, inr, List, ℕ, refl}
 use Rattle.x_disk.specs.Disk.{View}
 use Rattle.x_pay.specs.Outcomes.{Payment, MakesPayment}
 use Rattle.x_pay.specs.Dues.{IsDuePayment, GivesDue}

@@ -4,4 +4,5 @@ mod Books
 mod Acted
 mod Around
 mod Single
+mod Calling
 mod Following

@@ -9,7 +9,6 @@ use Rattle.key_journal.specs.declared.cause.Unmade.{Unmade}
 use Rattle.key_store.specs.Store.{Stored, IsRefusal}
 use Rattle.key_store.specs.Loaded.{IsLoaded}
 use Rattle.x_pay.specs.Steps.{IsPartyOpened, IsNoParty, WhyNoParty, outcome_of}
-use Rattle.x_pay.specs.declared.outcome.PayOutcome.{PayOutcome}
 use Rattle.x_pay.specs.declared.outcome.PayOutcome.TheVariants as outcome
 
 -- what a comparison says

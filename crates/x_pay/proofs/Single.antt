@@ -1,5 +1,5 @@
 -- By two images one outcome is due.
-use Rattle.std.proofs.Common.{◌≡◌, ◌≢◌, ◌⊎◌, inl, inr, ℕ, ◌≤◌, ◌<◌, nat_lt, Bool, true, false, List, [], length, Option, Some, None, refl, sym, ◌∙◌, ap, subst, arith}
+use Rattle.std.proofs.Common.{◌≡◌, ◌⊎◌, inl, inr, ℕ, nat_lt, Bool, true, false, List, Option, Some, None, refl, sym, ◌∙◌, ap, subst, arith}
 use Rattle.key_journal.specs.Journal.{is_blank}
 use Rattle.party_state.specs.State.{Party}
 use Rattle.key_store.specs.Store.{Stands, IsFirstDamage}
@@ -8,11 +8,11 @@ use Rattle.pay_auth.specs.declared.entry.Entry.{Entry}
 use Rattle.pay_auth.specs.declared.pay.Pay.{Pay}
 use Rattle.pay_auth.specs.declared.refusal.PayRefusal.{PayRefusal}
 use Rattle.pay_auth.specs.declared.refusal.PayRefusal.TheVariants.{BadPay}
-use Rattle.pay_auth.specs.Decisions.{PaysOut, TakesIn, RefusesIn, RefusesOut, in_refusal, receipt}
+use Rattle.pay_auth.specs.Decisions.{TakesIn, RefusesIn, in_refusal, receipt}
 use Rattle.pay_auth.specs.Ledgers.{HasEntries, ReadsEntries, IsLedgerDamage}
 use Rattle.pay_auth.specs.Texts.{SpellsPay, IsNoPay, without_line_end}
 use Rattle.x_pay.specs.Outcomes.{Payment}
-use Rattle.x_pay.specs.Dues.{FindsParty, FindsBoth, IsDuePaid, IsDueRefused, IsDueOther, IsDueDamaged, IsDuePayment}
+use Rattle.x_pay.specs.Dues.{FindsBoth, IsDueOther, IsDueDamaged, IsDuePayment}
 use Rattle.x_pay.specs.Payments.{paying, accepting}
 use Rattle.x_pay.specs.declared.outcome.PayOutcome.{PayOutcome}
 use Rattle.x_pay.specs.declared.outcome.PayOutcome.TheVariants as outcome
@@ -71,6 +71,13 @@ module _ (one_pay : (bytes : List ℕ) (p q : Pay) (mac other : ℕ) → SpellsP
 differ : (b : Bool) → b ≡ true → b ≡ false → ⊥
 differ b set clear = let both : true ≡ false = sym set ∙ clear in cc both
 
+module _ (one_list : (book : List ℕ) (es fs : List Entry) → HasEntries book es → HasEntries book fs → es ≡ fs) (list_full : (book : List ℕ) (es : List Entry) → HasEntries book es → is_blank book ≡ false) where
+  pub reads_one : (book : List ℕ) (es fs : List Entry) → ReadsEntries book es → ReadsEntries book fs → es ≡ fs
+  reads_one book es fs (inl a) (inl b) = a.1 ∙ sym b.1
+  reads_one book es fs (inl a) (inr b) = absurd (differ (is_blank book) a.0 (list_full book fs b))
+  reads_one book es fs (inr a) (inl b) = absurd (differ (is_blank book) b.0 (list_full book es a))
+  reads_one book es fs (inr a) (inr b) = one_list book es fs a b
+
 module _ (one_party : (image : List ℕ) (p q : Party) → Stands image p → Stands image q → p ≡ q)
     (party_full : (image : List ℕ) (p : Party) → Stands image p → is_blank image ≡ false)
     (party_sound : (image : List ℕ) (p : Party) (place : ℕ) → Stands image p → IsFirstDamage image place → ⊥)
@@ -79,12 +86,6 @@ module _ (one_party : (image : List ℕ) (p q : Party) → Stands image p → St
     (list_full : (book : List ℕ) (es : List Entry) → HasEntries book es → is_blank book ≡ false)
     (list_sound : (book : List ℕ) (es : List Entry) (place : ℕ) → HasEntries book es → IsLedgerDamage book place → ⊥)
     (list_damage : (book : List ℕ) (a b : ℕ) → IsLedgerDamage book a → IsLedgerDamage book b → a ≡ b) where
-  reads_one : (book : List ℕ) (es fs : List Entry) → ReadsEntries book es → ReadsEntries book fs → es ≡ fs
-  reads_one book es fs (inl a) (inl b) = a.1 ∙ sym b.1
-  reads_one book es fs (inl a) (inr b) = absurd (differ (is_blank book) a.0 (list_full book fs b))
-  reads_one book es fs (inr a) (inl b) = absurd (differ (is_blank book) b.0 (list_full book es a))
-  reads_one book es fs (inr a) (inr b) = one_list book es fs a b
-
   reads_sound : (book : List ℕ) (es : List Entry) (place : ℕ) → ReadsEntries book es → IsLedgerDamage book place → ⊥
   reads_sound book es place (inl a) damage = differ (is_blank book) a.0 damage.not_blank
   reads_sound book es place (inr a) damage = list_sound book es place a damage
@@ -104,12 +105,12 @@ module _ (one_party : (image : List ℕ) (p q : Party) → Stands image p → St
 
       passes_here : (q : Party) (fs : List Entry) (e : Entry) (text : List ℕ) → FindsBoth name image book q fs → w.Passes q fs e text → w.Passes p es e text
       passes_here q fs e text other passes =
-          subst (λ (l : List Entry). w.Passes p l e text) (reads_one book fs es other.reads found.reads)
+          subst (λ (l : List Entry). w.Passes p l e text) (reads_one one_list list_full book fs es other.reads found.reads)
           (subst (λ (r : Party). w.Passes r fs e text) (one_party image q p other.party.stands found.party.stands) passes)
 
       refuses_here : (q : Party) (fs : List Entry) (cause : PayRefusal) → FindsBoth name image book q fs → w.Refuses q fs cause → w.Refuses p es cause
       refuses_here q fs cause other refuses =
-          subst (λ (l : List Entry). w.Refuses p l cause) (reads_one book fs es other.reads found.reads)
+          subst (λ (l : List Entry). w.Refuses p l cause) (reads_one one_list list_full book fs es other.reads found.reads)
           (subst (λ (r : Party). w.Refuses r fs cause) (one_party image q p other.party.stands found.party.stands) refuses)
 
     other_blank : (asked own : List ℕ) → IsDueOther name image asked own → is_blank image ≡ true → ⊥

@@ -1,4 +1,5 @@
 pub mod Outcomes
 pub mod Payments
 pub mod Dues
+pub mod Calls
 pub mod Steps

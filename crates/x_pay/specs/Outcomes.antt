@@ -1,6 +1,6 @@
 -- What became of a payment of a party on a shelf (this project's profile). `party_disk` and `ledger_disk` are what the shelf tells
 -- of the two disks before the call, and `ledger_after` what it tells of the ledger's afterwards.
-use Rattle.std.specs.Prelude.{◌≡◌, ◌≢◌, ◌⊎◌, ℕ, ◌≤◌, true, false, List, [], Some, is_some}
+use Rattle.std.specs.Prelude.{◌≡◌, ◌≢◌, ◌⊎◌, ℕ, ◌≤◌, true, List, Some, is_some}
 use Rattle.x_base.specs.Edge.{Rose}
 use Rattle.x_disk.specs.Disk.{View, Tells, LeavesOnly, IsDurable, IsUntouched}
 use Rattle.key_journal.specs.Journal.{is_blank}

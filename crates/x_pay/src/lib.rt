@@ -11,6 +11,6 @@ mod outcome;
 mod paying;
 
 pub use accepting::accept;
-pub use laws::law_one_due;
+pub use laws::{law_ledger_calls, law_one_due};
 pub use outcome::PayOutcome;
 pub use paying::pay;

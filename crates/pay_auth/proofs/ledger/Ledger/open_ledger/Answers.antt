@@ -1,4 +1,3 @@
-use Rattle.std.proofs.Common.{◌∙◌, ap}
 use Rattle.pay_auth.proofs.Openings.{opened, unopened, created}
 use Rattle.pay_auth.proofs.ledger.Ledger.open_ledger.Goals as goal
 
