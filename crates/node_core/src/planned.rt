@@ -1,6 +1,8 @@
 // A node that will do something with an input: all memory is taken, and no disk call is made yet.
 ghost use Rattle.std.specs.Prelude.{◌≡◌, option_map, IfOk, IfErr};
 ghost use Rattle.x_disk.specs.Fuse.{IsFusedView, fused_view};
+ghost use Rattle.party_state.specs.Limits.{IsWithinLimits};
+ghost use Rattle.party_state.specs.State.{apply};
 ghost use Rattle.change_code.specs.Framed.{AreFramed};
 ghost use Rattle.key_store.specs.Store.{IsStore};
 ghost use Rattle.member.specs.Acts.{taking};
@@ -11,10 +13,10 @@ ghost use Rattle.node_core.specs.Turns.{IsTurn, WantsNone, member_of};
 use crate::node::{Node, Turn};
 use key_store::Changing;
 use member::{Answer, Plan};
-use party_state::Input;
+use party_state::{Input, State};
 use std::alloc::Global;
 use std::marker::Model;
-use x_base::Text;
+use x_base::{NoMemory, Text};
 use x_disk::{Disk, Fused};
 
 /// A node and what it will do with an input, with all memory taken. Nothing of it is on the disk yet.
@@ -70,6 +72,16 @@ impl<D: Disk> Planned<D> {
         ensures { AreFramed self.now.node.format self.now.plan.edits (option_map (λ text. text.now) result) }
     {
         self.changing.frame()
+    }
+
+    /// The party after the edits, which keeps its identity, in memory of its own. Makes no disk call.
+    #[tactic(auto, using(crate::proofs::Turning::own_after))]
+    pub fn next(&self, alloc: Global) -> Result<State, NoMemory>
+        ensures party { IfOk result (λ s. s ≡ apply self.now.plan.edits self.now.node.party) }
+        ensures own { IfOk result (λ s. s.own ≡ self.now.node.party.own) }
+        ensures within { IfOk result IsWithinLimits }
+    {
+        self.changing.next(alloc)
     }
 
     /// The node as it was. Makes no disk call.

@@ -1,0 +1,7 @@
+mod Moments
+mod Copies
+mod Opened
+mod Created
+mod Turned
+mod Recovery
+mod Compared

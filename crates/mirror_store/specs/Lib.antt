@@ -1,0 +1,10 @@
+pub mod Pairs
+pub mod Answers
+pub mod Opening
+pub mod Seeing
+pub mod Beside
+pub mod Creating
+pub mod Framing
+pub mod Turns
+pub mod Recovering
+pub mod Comparing

@@ -1,0 +1,35 @@
+-- Two images of one party, and what they stand for (this project's profile).
+use Rattle.std.specs.Prelude.{◌≡◌, ◌⊎◌, ℕ, true, List}
+use Rattle.x_disk.specs.Disk.{View}
+use Rattle.key_journal.specs.Journal.{is_blank}
+use Rattle.party_state.specs.State.{Party}
+use Rattle.key_store.specs.Store.{Stored, Stands, IsStore}
+
+-- both images stand for the party
+pub record PairStands (first second : List ℕ) (party : Party) : Type 0 where
+  pub first_is : Stands first party
+  pub second_is : Stands second party
+
+-- the image is blank, or stands for a party of the same identity
+abbrev pub IsBlankOrLike : Party → List ℕ → Type 0
+IsBlankOrLike party image = (is_blank image ≡ true) ⊎ ((other : Party) × Stands image other × (other.own ≡ party.own))
+
+-- the two images from which the party is opened: the first stands for it, and the second is blank or stands for a party of the
+-- same identity; or the first is blank, and the second stands for it
+abbrev pub Recovers : List ℕ → List ℕ → Party → Type 0
+Recovers first second party = (Stands first party × IsBlankOrLike party second) ⊎ ((is_blank first ≡ true) × Stands second party)
+
+-- one image is blank as another was, or stands for the party for which that stood
+abbrev pub IsAsBefore : List ℕ → List ℕ → Type 0
+IsAsBefore before image = ((is_blank before ≡ true) × (is_blank image ≡ true)) ⊎ ((party : Party) × Stands before party × Stands image party)
+
+-- the stores of a party that keeps two disks
+pub record Twin (D : Type 0) : Type 0 where
+  pub first : Stored D
+  pub second : Stored D
+
+-- every Mirror: each image of either disk that a crash may leave now stands for the one party
+pub record IsTwin {D : Type 0} (told : D → View) (m : Twin D) : Type 0 where
+  pub first_stands : IsStore (told m.first.disk) m.first.gate m.first.end m.first.format m.first.party
+  pub second_stands : IsStore (told m.second.disk) m.second.gate m.second.end m.second.format m.second.party
+  pub same : m.second.party ≡ m.first.party

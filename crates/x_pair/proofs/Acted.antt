@@ -1,0 +1,198 @@
+-- A party that is opened of two disks acts.
+use Rattle.std.proofs.Common.{◌≡◌, ◌≢◌, ◌⊎◌, inl, inr, ℕ, ◌-◌, ◌≤◌, List, [], ◌∷◌, Some, Ok, refl, sym, ◌∙◌, ap, subst, arith}
+use Rattle.x_base.specs.Edge.{Rose}
+use Rattle.x_disk.specs.Disk.{View}
+use Rattle.x_disk.proofs.Runs.{joined, weaker}
+use Rattle.key_journal.specs.declared.cause.Cause.TheVariants as cause
+use Rattle.party_state.specs.declared.command.Input.{Input}
+use Rattle.party_state.specs.declared.edit.Edit.{Edit}
+use Rattle.party_state.specs.State.{Party, apply}
+use Rattle.party_show.specs.Show.{shown}
+use Rattle.change_code.specs.declared.space.Space.{Space}
+use Rattle.change_code.specs.Cost.{space_after}
+use Rattle.change_code.specs.declared.format.Format.TheVariants.{Two}
+use Rattle.key_store.specs.Store.{Stands, StandsWith, space}
+use Rattle.key_store.specs.Replacing.{IsOldOrOther}
+use Rattle.member.specs.Member.{Member, Plan, after}
+use Rattle.node_core.specs.Turns.{member_of, IsOldOrNext}
+use Rattle.disk_pair.specs.declared.disks.Disks.{Disks}
+use Rattle.mirror_store.specs.Pairs.{PairStands, Recovers, Twin}
+use Rattle.mirror_store.specs.Answers.{twin_disks, turn_disks}
+use Rattle.mirror_store.specs.Opening.{IsPairOpened}
+use Rattle.mirror_store.specs.Turns.{HasFailed, IsKeptTwice, IsPairTurn, pair_plan_at}
+use Rattle.mirror_store.specs.declared.pair.PairCause.{PairCause}
+use Rattle.mirror_store.specs.declared.pair.PairCause.TheVariants.{First, Second, OtherParty, TooLarge}
+use Rattle.mirror_store.specs.declared.mirror.PairTurn.{PairTurn}
+use Rattle.mirror_store.specs.declared.mirror.PairTurn.TheVariants as turn
+use Rattle.x_party.specs.declared.outcome.Outcome.{Outcome}
+use Rattle.x_party.specs.declared.outcome.Outcome.TheVariants as outcome
+use Rattle.x_pair.specs.Outcomes.{Work, MakesOf, MayLeave, Opened, After, showing, turning}
+use Rattle.x_pair.specs.Steps.{HasActed, outcome_of_pair, outcome_of_turn}
+use Rattle.x_pair.proofs.Alike.{tells_by}
+use Rattle.x_pair.proofs.Opened.{both_stand, in_place, opening_leaves, rested}
+
+-- a party of another name isn't asked
+pub other : {D : Type 0} (told : D → View) (old : Disks D) (name : List ℕ) (i : Input) (moment : ℕ) (m : Twin D) → IsPairOpened told old (Ok m) → (new : Disks D) → new ≡ twin_disks m
+    → (own : List ℕ) → own ≡ m.first.party.own → own ≢ name → HasActed (turning name i moment) told old new (outcome.OtherParty name own)
+other told old name i moment m opened new is own own_is differs =
+    rested told old (turning name i moment) m opened new is (outcome.OtherParty name own)
+    (λ a b recovers at stand. inl (record {
+      member = member_of m.first;
+      next = member_of m.first;
+      recovers = recovers;
+      space = at;
+      says = record { called = refl; own = own_is; differs = differs; same = refl };
+      stand = stand;
+    })) (λ bad. cc bad)
+
+-- the party is shown, or no memory is left for that
+pub displayed : {D : Type 0} (told : D → View) (old : Disks D) (m : Twin D) → IsPairOpened told old (Ok m) → (new : Disks D) → new ≡ twin_disks m → (text : List ℕ) → text ≡ shown m.first.party
+    → HasActed showing told old new (outcome.Done (Some text))
+displayed told old m opened new is text text_is =
+    rested told old showing m opened new is (outcome.Done (Some text))
+    (λ a b recovers at stand. record {
+      member = member_of m.first;
+      next = member_of m.first;
+      recovers = recovers;
+      space = at;
+      says = (ap (λ (t : List ℕ). Some t) text_is, refl);
+      stand = stand;
+    }) (λ bad. cc bad)
+
+pub not_displayed : {D : Type 0} (told : D → View) (old : Disks D) (w : Work) (m : Twin D) → IsPairOpened told old (Ok m) → (new : Disks D) → new ≡ twin_disks m → HasActed w told old new outcome.NoMemory
+not_displayed told old w m opened new is = rested told old w m opened new is outcome.NoMemory (λ a b recovers at stand. tt) (λ bad. cc bad)
+
+-- of a failure nothing is said
+failed_makes : {D : Type 0} (told : D → View) (old new : Disks D) (reason : PairCause) → HasFailed told old new reason → (w : Work) (i j : List ℕ) (a b : View) → MakesOf w i j a b (outcome_of_pair reason)
+failed_makes told old new (First cause.Blank) failed w i j a b = absurd failed
+failed_makes told old new (First cause.NotEmpty) failed w i j a b = absurd failed
+failed_makes told old new (First (cause.Damaged place)) failed w i j a b = absurd failed
+failed_makes told old new (First cause.Fault) failed w i j a b = tt
+failed_makes told old new (First cause.NoMemory) failed w i j a b = tt
+failed_makes told old new (Second cause.Blank) failed w i j a b = absurd failed
+failed_makes told old new (Second cause.NotEmpty) failed w i j a b = absurd failed
+failed_makes told old new (Second (cause.Damaged place)) failed w i j a b = absurd failed
+failed_makes told old new (Second cause.Fault) failed w i j a b = tt
+failed_makes told old new (Second cause.NoMemory) failed w i j a b = tt
+failed_makes told old new (OtherParty one other) failed w i j a b = absurd failed
+failed_makes told old new TooLarge failed w i j a b = absurd failed
+
+failed_rose : {D : Type 0} (told : D → View) (old new : Disks D) (reason : PairCause) → HasFailed told old new reason → outcome_of_pair reason ≡ outcome.Fault
+    → Rose (told old.first).faults (told new.first).faults ⊎ Rose (told old.second).faults (told new.second).faults
+failed_rose told old new (First cause.Blank) failed is = absurd failed
+failed_rose told old new (First cause.NotEmpty) failed is = absurd failed
+failed_rose told old new (First (cause.Damaged place)) failed is = absurd failed
+failed_rose told old new (First cause.Fault) failed is = inl failed
+failed_rose told old new (First cause.NoMemory) failed is = absurd (cc is)
+failed_rose told old new (Second cause.Blank) failed is = absurd failed
+failed_rose told old new (Second cause.NotEmpty) failed is = absurd failed
+failed_rose told old new (Second (cause.Damaged place)) failed is = absurd failed
+failed_rose told old new (Second cause.Fault) failed is = inr failed
+failed_rose told old new (Second cause.NoMemory) failed is = absurd (cc is)
+failed_rose told old new (OtherParty one other) failed is = absurd failed
+failed_rose told old new TooLarge failed is = absurd failed
+
+rose_later : (a b c : ℕ) → a ≤ b → Rose b c → Rose a c
+rose_later a b c le (inl less) = inl (omega (arith, le, less))
+rose_later a b c le (inr most) = inr most
+
+-- the member after edits that are kept, where there are any
+room_kept : (room : ℕ) → room - 0 ≡ room
+room_kept room = omega arith
+
+stays : (x : Member) → x ≡ after x []
+stays x = ap (λ (room : ℕ). record { party = x.party; space = record { format = x.space.format; room = room } }) (sym (room_kept x.space.room))
+
+kept_next : {D : Type 0} (edits : List Edit) (old new : Twin D) → IsKeptTwice edits old new → member_of new.first ≡ after (member_of old.first) edits
+kept_next {D = D} [] old new kept = ap (λ (n : Twin D). member_of n.first) kept ∙ stays (member_of old.first)
+kept_next (e ∷ es) old new kept = kept.0
+
+image_stands : (image : List ℕ) (party : Party) (left : Space) → StandsWith image party left → Stands image party
+image_stands image party left is = record { format = left.format; stands = record { bodies = is.bodies; holds = is.holds; fold = is.fold } }
+
+module _ {D : Type 0} (told : D → View) (old : Disks D) (name : List ℕ) (i : Input) (moment : ℕ)
+    (one_party : (a b : List ℕ) (p q : Party) → Recovers a b p → Recovers a b q → p ≡ q)
+    (m : Twin D) (opened : IsPairOpened told old (Ok m)) (own : m.first.party.own ≡ name) where
+  abbrev w : Work
+  w = turning name i moment
+
+  abbrev x : Member
+  x = member_of m.first
+
+  abbrev plan : Plan
+  plan = pair_plan_at x i moment
+
+  -- what a crash in a turn leaves of the first disk, and of the second
+  first_left : (party : Party) (was : List ℕ) (before : List ℕ → Type 0) → m.first.party ≡ party → (c : List ℕ) → IsOldOrNext x (after x plan.edits) c → MayLeave w party was before c
+  first_left party was before is c (inl stood) = Opened (subst (Stands c) is (image_stands c m.first.party (space m.first) stood))
+  first_left party was before is c (inr stood) =
+      subst (λ (p : Party). MayLeave w p was before c) is
+      (After (apply plan.edits m.first.party) (record { space = space m.first; is = refl }) (image_stands c (apply plan.edits m.first.party) (space_after (space m.first) plan.edits) stood))
+
+  second_left : (party : Party) (was : List ℕ) (before : List ℕ → Type 0) → m.first.party ≡ party → (c : List ℕ) → IsOldOrOther m.first.party (space m.second) Two (apply plan.edits m.first.party) c → MayLeave w party was before c
+  second_left party was before is c (inl stood) = Opened (subst (Stands c) is (image_stands c m.first.party (space m.second) stood))
+  second_left party was before is c (inr stood) =
+      subst (λ (p : Party). MayLeave w p was before c) is
+      (After (apply plan.edits m.first.party) (record { space = space m.first; is = refl }) (image_stands c (apply plan.edits m.first.party) _ stood))
+
+  makes_turn : (t : PairTurn D) → IsPairTurn told m plan t → (a b : List ℕ) → Recovers a b m.first.party → (PairStands a b m.first.party → StandsWith a m.first.party x.space) → MakesOf w a b (told (turn_disks t).first) (told (turn_disks t).second) (outcome_of_turn t)
+  makes_turn (turn.Done new reply under) is a b recovers at = record {
+    member = x;
+    next = member_of new.first;
+    recovers = recovers;
+    space = at;
+    says = record { own = own; accepted = is.answer.accepted; written = is.answer.reply; next = kept_next plan.edits m new is.answer.kept };
+    stand = both_stand told new is.stand;
+  }
+  makes_turn (turn.Refused new said reply under) is a b recovers at = inl (record {
+    member = x;
+    next = member_of new.first;
+    recovers = recovers;
+    space = at;
+    says = record { own = own; refused = is.answer.refused; said = is.answer.verdict; written = is.answer.reply; same = ap (λ (n : Twin D). member_of n.first) is.answer.same };
+    stand = both_stand told new is.stand;
+  })
+  makes_turn (turn.Broken u) is a b recovers at = failed_makes told (twin_disks m) u.disks u.cause is.answer.failed w a b (told u.disks.first) (told u.disks.second)
+  makes_turn (turn.NoMemory new) is a b recovers at = tt
+
+  rose_turn : (t : PairTurn D) → IsPairTurn told m plan t → outcome_of_turn t ≡ outcome.Fault
+      → Rose (told m.first.disk).faults (told (turn_disks t).first).faults ⊎ Rose (told m.second.disk).faults (told (turn_disks t).second).faults
+  rose_turn (turn.Done new reply under) is fault = absurd (cc fault)
+  rose_turn (turn.Refused new said reply under) is fault = absurd (cc fault)
+  rose_turn (turn.Broken u) is fault = failed_rose told (twin_disks m) u.disks u.cause is.answer.failed fault
+  rose_turn (turn.NoMemory new) is fault = absurd (cc fault)
+
+  turned_of : (t : PairTurn D) → IsPairTurn told m plan t → HasActed w told old (turn_disks t) (outcome_of_turn t)
+  turned_of t is = record {
+    makes = λ a b read. makes_turn t is a b (opened.exact a b read) (in_place told old m opened a b read);
+    safe = record {
+      on_first = λ a b party read recovers.
+          joined (told old.first) (told m.first.disk) (told (turn_disks t).first) (MayLeave w party a (told old.first).may_leave)
+          (opening_leaves w (told old.first) (told m.first.disk) a party (opened.first_moments a b party read recovers))
+          (weaker (told m.first.disk) (told (turn_disks t).first) (IsOldOrNext x (after x plan.edits)) (MayLeave w party a (told old.first).may_leave)
+          (is.first_moments (opened.keeps.first_tells ∙ tells_by (told old.first).now a read.first))
+          (first_left party a (told old.first).may_leave (one_party a b m.first.party party (opened.exact a b read) recovers)));
+      on_second = λ a b party read recovers.
+          joined (told old.second) (told m.second.disk) (told (turn_disks t).second) (MayLeave w party b (told old.second).may_leave)
+          (opening_leaves w (told old.second) (told m.second.disk) b party (opened.second_moments a b party read recovers))
+          (weaker (told m.second.disk) (told (turn_disks t).second) (IsOldOrOther m.first.party (space m.second) Two (apply plan.edits m.first.party)) (MayLeave w party b (told old.second).may_leave)
+          (is.second_moments (opened.keeps.second_tells ∙ tells_by (told old.second).now b read.second))
+          (second_left party b (told old.second).may_leave (one_party a b m.first.party party (opened.exact a b read) recovers)));
+      first_tells = is.keeps.first_tells ∙ opened.keeps.first_tells;
+      second_tells = is.keeps.second_tells ∙ opened.keeps.second_tells;
+    };
+    faults = record {
+      first_later = omega (arith, opened.keeps.first_faults, is.keeps.first_faults);
+      second_later = omega (arith, opened.keeps.second_faults, is.keeps.second_faults);
+      fault = λ fault. elim (rose_turn t is fault) [
+        | inl rose ↦ inl (rose_later (told old.first).faults (told m.first.disk).faults (told (turn_disks t).first).faults opened.keeps.first_faults rose)
+        | inr rose ↦ inr (rose_later (told old.second).faults (told m.second.disk).faults (told (turn_disks t).second).faults opened.keeps.second_faults rose)
+      ];
+    };
+  }
+
+  -- what is handed on of a turn
+  pub turned : (t : PairTurn D) → IsPairTurn told m plan t → (ended : Disks D × Outcome) → ended.0 ≡ turn_disks t → ended.1 ≡ outcome_of_turn t → HasActed w told old ended.0 ended.1
+  turned t is ended disks_is outcome_is =
+      subst (λ (o : Outcome). HasActed w told old ended.0 o) (sym outcome_is)
+      (subst (λ (d : Disks D). HasActed w told old d (outcome_of_turn t)) (sym disks_is) (turned_of t is))

@@ -1,0 +1,233 @@
+-- Both disks are fetched, something is done, and both are put back.
+use Rattle.std.proofs.Common.{◌≡◌, ◌⊎◌, inl, inr, ℕ, ◌≤◌, ◌<◌, List, is_some, Ok, Err, sym, ◌∙◌, ap, subst, arith}
+use Rattle.x_base.specs.Edge.{Rose}
+use Rattle.x_disk.specs.Disk.{View, IsSound, IsUntouched}
+use Rattle.x_disk.specs.Shelf.{ShelfView, IsAlike}
+use Rattle.x_disk.proofs.Runs.{weaker}
+use Rattle.party_state.specs.State.{Party}
+use Rattle.key_store.specs.Store.{IsBlankOrFirst}
+use Rattle.disk_pair.specs.declared.disks.Disks.{Disks}
+use Rattle.mirror_store.specs.Opening.{AreRead}
+use Rattle.x_party.specs.Images.{OrBefore}
+use Rattle.x_party.specs.Outcomes.{IsNoFailure}
+use Rattle.x_party.specs.declared.outcome.Outcome.{Outcome}
+use Rattle.x_party.specs.declared.outcome.Outcome.TheVariants as outcome
+use Rattle.x_pair.specs.Outcomes.{Work, OfOpened, MakesOf, MakesPair, IsSafePair, MayLeave, Opened, After, AsItWas, Before, LeavesPair}
+use Rattle.x_pair.specs.Creations.{CreatesPair, IsSafeCreation, IsDueOrFailed, Keeps, StandsWhereDone}
+use Rattle.x_pair.specs.Steps.{HasActed, HasCreated, HasFaults, AreOut, AreBack, IsClosed}
+use Rattle.x_pair.proofs.Alike.{durable_alike, stands_alike, thirds_on, untouched_alike, leaves_around, untouched_around}
+
+rose_some : (before after : ℕ) → before ≡ 0 → Rose before after → 0 < after
+rose_some before after none (inl less) = omega (arith, none, less)
+rose_some before after none (inr most) = omega (arith, none, most)
+
+rose_from : (first mid last : ℕ) → first ≤ mid → Rose mid last → Rose first last
+rose_from first mid last le (inl less) = inl (omega (arith, le, less))
+rose_from first mid last le (inr most) = inr most
+
+-- a failure tells nothing
+abbrev IsFailure : Outcome → Type 0 → Type 0
+IsFailure o rose = (o ≡ outcome.NoMemory) ⊎ ((o ≡ outcome.Fault) × rose)
+
+failed_makes : (w : Work) (i j : List ℕ) (a b : View) (o : Outcome) (rose : Type 0) → IsFailure o rose → MakesOf w i j a b o
+failed_makes w i j a b o rose (inl is) = subst (MakesOf w i j a b) (sym is) tt
+failed_makes w i j a b o rose (inr is) = subst (MakesOf w i j a b) (sym is.0) tt
+
+failed_due : (i j : List ℕ) (o : Outcome) (rose : Type 0) → IsFailure o rose → IsDueOrFailed i j o
+failed_due i j o rose (inl is) = subst (IsDueOrFailed i j) (sym is) tt
+failed_due i j o rose (inr is) = subst (IsDueOrFailed i j) (sym is.0) tt
+
+failed_stands : (o : Outcome) (rose : Type 0) (a b : View) (party : Party) → IsFailure o rose → StandsWhereDone o a b party
+failed_stands o rose a b party (inl is) = subst (λ (x : Outcome). StandsWhereDone x a b party) (sym is) tt
+failed_stands o rose a b party (inr is) = subst (λ (x : Outcome). StandsWhereDone x a b party) (sym is.0) tt
+
+failed_back : (o : Outcome) (back rose : Type 0) → IsFailure o rose → IsNoFailure o → back
+failed_back o back rose (inl is) answered = absurd (subst IsNoFailure is answered)
+failed_back o back rose (inr is) answered = absurd (subst IsNoFailure is.0 answered)
+
+failed_rose : (o : Outcome) (rose : Type 0) → IsFailure o rose → o ≡ outcome.Fault → rose
+failed_rose o rose (inl is) fault = let both : outcome.NoMemory ≡ outcome.Fault = sym is ∙ fault in absurd (cc both)
+failed_rose o rose (inr is) fault = is.1
+
+-- neither disk was fetched
+module _ {D : Type 0} (told : D → View) (name other : List ℕ) (old new : ShelfView) (o : Outcome) (out : AreOut told name other old new (Err o))
+    (first : IsSound (old.entry name)) (second : IsSound (old.entry other)) where
+  pub unfetched_makes : (w : Work) → MakesPair w (old.entry name) (old.entry other) (new.entry name) (new.entry other) o
+  unfetched_makes w = λ i j read. failed_makes w i j (new.entry name) (new.entry other) o (Rose old.faults new.faults) out.failed
+
+  first_still : IsUntouched (old.entry name) (new.entry name)
+  first_still = untouched_alike (old.entry name) (new.entry name) first out.first_stays
+
+  second_still : IsUntouched (old.entry other) (new.entry other)
+  second_still = untouched_alike (old.entry other) (new.entry other) second out.second_stays
+
+  pub unfetched_safe : (w : Work) → IsSafePair w (old.entry name) (old.entry other) (new.entry name) (new.entry other)
+  unfetched_safe w = record {
+    on_first = λ i j party read recovers. weaker (old.entry name) (new.entry name) (old.entry name).may_leave (MayLeave w party i (old.entry name).may_leave) first_still.any_moment (λ c left. Before left);
+    on_second = λ i j party read recovers. weaker (old.entry other) (new.entry other) (old.entry other).may_leave (MayLeave w party j (old.entry other).may_leave) second_still.any_moment (λ c left. Before left);
+    first_tells = ap is_some out.first_stays.now;
+    second_tells = ap is_some out.second_stays.now;
+  }
+
+  pub unfetched_creates : (party : Party) → CreatesPair party (old.entry name) (old.entry other) (new.entry name) (new.entry other) o
+  unfetched_creates party = record {
+    is_due = λ i j read. failed_due i j o (Rose old.faults new.faults) out.failed;
+    stand = failed_stands o (Rose old.faults new.faults) (new.entry name) (new.entry other) party out.failed;
+  }
+
+  pub unfetched_creation : (party : Party) → IsSafeCreation party (old.entry name) (old.entry other) (new.entry name) (new.entry other)
+  unfetched_creation party = record {
+    first_stays = λ i j read filled. first_still;
+    second_stays = λ i j read filled. second_still;
+    on_first = λ tells. weaker (old.entry name) (new.entry name) (old.entry name).may_leave (OrBefore (old.entry name) (IsBlankOrFirst party)) first_still.any_moment (λ c left. inr left);
+    on_second = λ tells. weaker (old.entry other) (new.entry other) (old.entry other).may_leave (OrBefore (old.entry other) (IsBlankOrFirst party)) second_still.any_moment (λ c left. inr left);
+    first_tells = ap is_some out.first_stays.now;
+    second_tells = ap is_some out.second_stays.now;
+  }
+
+  pub unfetched_shelf : LeavesPair name other o (new.is_back name) (new.is_back other) old.entry new.entry old.faults new.faults
+  unfetched_shelf = record {
+    back = failed_back o (new.is_back name × new.is_back other) (Rose old.faults new.faults) out.failed;
+    thirds = out.thirds;
+    fault = failed_rose o (Rose old.faults new.faults) out.failed;
+    later = out.later;
+  }
+
+-- what was done between them, of the disks that were fetched and put back
+module _ (first second out_first out_second mid_first mid_second new_first new_second : View)
+    (first_out : IsAlike first out_first) (second_out : IsAlike second out_second) (first_back : IsAlike mid_first new_first) (second_back : IsAlike mid_second new_second) where
+  read_out : (i j : List ℕ) → AreRead first second i j → AreRead out_first out_second i j
+  read_out i j read = record { first = first_out.now ∙ read.first; second = second_out.now ∙ read.second }
+
+  module _ (w : Work) where
+    opened_alike : (i j : List ℕ) (o : Outcome) → OfOpened w i j mid_first mid_second o → OfOpened w i j new_first new_second o
+    opened_alike i j o is = record {
+      member = is.member;
+      next = is.next;
+      recovers = is.recovers;
+      space = is.space;
+      says = is.says;
+      stand = record {
+        on_first = stands_alike mid_first new_first is.next.party is.next.space is.stand.on_first first_back;
+        durable = durable_alike mid_second new_second is.stand.durable second_back;
+        on_second = λ image now. is.stand.on_second image (sym second_back.now ∙ now);
+      };
+    }
+
+    makes_alike : (i j : List ℕ) (o : Outcome) → MakesOf w i j mid_first mid_second o → MakesOf w i j new_first new_second o
+    makes_alike i j (outcome.Done reply) is = opened_alike i j (outcome.Done reply) is
+    makes_alike i j (outcome.Refused verdict reply) (inl is) = inl (opened_alike i j (outcome.Refused verdict reply) is)
+    makes_alike i j (outcome.Refused verdict reply) (inr is) = inr is
+    makes_alike i j (outcome.OtherParty a b) (inl is) = inl (opened_alike i j (outcome.OtherParty a b) is)
+    makes_alike i j (outcome.OtherParty a b) (inr is) = inr is
+    makes_alike i j (outcome.Damaged place) is = is
+    makes_alike i j outcome.Fault is = tt
+    makes_alike i j outcome.NoMemory is = tt
+
+    closed_makes : (o result : Outcome) (before after : ℕ) → IsClosed o before after result → MakesPair w out_first out_second mid_first mid_second o → MakesPair w first second new_first new_second result
+    closed_makes o result before after (inl is) makes = λ i j read. subst (MakesOf w i j new_first new_second) (sym is) (makes_alike i j o (makes i j (read_out i j read)))
+    closed_makes o result before after (inr (inl is)) makes = λ i j read. subst (MakesOf w i j new_first new_second) (sym is.0) tt
+    closed_makes o result before after (inr (inr is)) makes = λ i j read. subst (MakesOf w i j new_first new_second) (sym is) tt
+
+    leaves_first : (party : Party) (was c : List ℕ) → MayLeave w party was out_first.may_leave c → MayLeave w party was first.may_leave c
+    leaves_first party was c (Opened stands) = Opened stands
+    leaves_first party was c (After next may stands) = After next may stands
+    leaves_first party was c (AsItWas is) = AsItWas is
+    leaves_first party was c (Before left) = Before (first_out.images c left)
+
+    leaves_second : (party : Party) (was c : List ℕ) → MayLeave w party was out_second.may_leave c → MayLeave w party was second.may_leave c
+    leaves_second party was c (Opened stands) = Opened stands
+    leaves_second party was c (After next may stands) = After next may stands
+    leaves_second party was c (AsItWas is) = AsItWas is
+    leaves_second party was c (Before left) = Before (second_out.images c left)
+
+    safe_around : IsSafePair w out_first out_second mid_first mid_second → IsSafePair w first second new_first new_second
+    safe_around safe = record {
+      on_first = λ i j party read recovers.
+          weaker first new_first (MayLeave w party i out_first.may_leave) (MayLeave w party i first.may_leave)
+          (leaves_around first out_first mid_first new_first first_out first_back (MayLeave w party i out_first.may_leave) (safe.on_first i j party (read_out i j read) recovers)) (leaves_first party i);
+      on_second = λ i j party read recovers.
+          weaker second new_second (MayLeave w party j out_second.may_leave) (MayLeave w party j second.may_leave)
+          (leaves_around second out_second mid_second new_second second_out second_back (MayLeave w party j out_second.may_leave) (safe.on_second i j party (read_out i j read) recovers)) (leaves_second party j);
+      first_tells = ap is_some first_back.now ∙ (safe.first_tells ∙ ap is_some first_out.now);
+      second_tells = ap is_some second_back.now ∙ (safe.second_tells ∙ ap is_some second_out.now);
+    }
+
+  module _ (party : Party) where
+    keeps_alike : (v w : View) → IsAlike v w → Keeps v party → Keeps w party
+    keeps_alike v w alike keeps = record { durable = durable_alike v w keeps.durable alike; stands = λ image now. keeps.stands image (sym alike.now ∙ now) }
+
+    stands_back : (o : Outcome) → StandsWhereDone o mid_first mid_second party → StandsWhereDone o new_first new_second party
+    stands_back (outcome.Done reply) is = (keeps_alike mid_first new_first first_back is.0, keeps_alike mid_second new_second second_back is.1)
+    stands_back (outcome.Refused verdict reply) is = tt
+    stands_back (outcome.OtherParty a b) is = tt
+    stands_back (outcome.Damaged place) is = tt
+    stands_back outcome.Fault is = tt
+    stands_back outcome.NoMemory is = tt
+
+    closed_creates : (o result : Outcome) (before after : ℕ) → IsClosed o before after result → CreatesPair party out_first out_second mid_first mid_second o → CreatesPair party first second new_first new_second result
+    closed_creates o result before after (inl is) makes = subst (λ (x : Outcome). CreatesPair party first second new_first new_second x) (sym is) (record {
+      is_due = λ i j read. makes.is_due i j (read_out i j read);
+      stand = stands_back o makes.stand;
+    })
+    closed_creates o result before after (inr (inl is)) makes = subst (λ (x : Outcome). CreatesPair party first second new_first new_second x) (sym is.0) (record { is_due = λ i j read. tt; stand = tt })
+    closed_creates o result before after (inr (inr is)) makes = subst (λ (x : Outcome). CreatesPair party first second new_first new_second x) (sym is) (record { is_due = λ i j read. tt; stand = tt })
+
+    before_first : (c : List ℕ) → OrBefore out_first (IsBlankOrFirst party) c → OrBefore first (IsBlankOrFirst party) c
+    before_first c (inl is) = inl is
+    before_first c (inr left) = inr (first_out.images c left)
+
+    before_second : (c : List ℕ) → OrBefore out_second (IsBlankOrFirst party) c → OrBefore second (IsBlankOrFirst party) c
+    before_second c (inl is) = inl is
+    before_second c (inr left) = inr (second_out.images c left)
+
+    creation_around : IsSafeCreation party out_first out_second mid_first mid_second → IsSafeCreation party first second new_first new_second
+    creation_around safe = record {
+      first_stays = λ i j read filled. untouched_around first out_first mid_first new_first first_out first_back (safe.first_stays i j (read_out i j read) filled);
+      second_stays = λ i j read filled. untouched_around second out_second mid_second new_second second_out second_back (safe.second_stays i j (read_out i j read) filled);
+      on_first = λ tells. weaker first new_first (OrBefore out_first (IsBlankOrFirst party)) (OrBefore first (IsBlankOrFirst party))
+          (leaves_around first out_first mid_first new_first first_out first_back (OrBefore out_first (IsBlankOrFirst party)) (safe.on_first (ap is_some first_out.now ∙ tells))) before_first;
+      on_second = λ tells. weaker second new_second (OrBefore out_second (IsBlankOrFirst party)) (OrBefore second (IsBlankOrFirst party))
+          (leaves_around second out_second mid_second new_second second_out second_back (OrBefore out_second (IsBlankOrFirst party)) (safe.on_second (ap is_some second_out.now ∙ tells))) before_second;
+      first_tells = ap is_some first_back.now ∙ (safe.first_tells ∙ ap is_some first_out.now);
+      second_tells = ap is_some second_back.now ∙ (safe.second_tells ∙ ap is_some second_out.now);
+    }
+
+-- the whole call
+module _ {D : Type 0} (told : D → View) (name other : List ℕ) (old mid new : ShelfView) (taken put : Disks D) (o result : Outcome)
+    (out : AreOut told name other old mid (Ok taken)) (back : AreBack told name other put o mid new result) where
+  pub all_makes : (w : Work) → HasActed w told taken put o → MakesPair w (old.entry name) (old.entry other) (new.entry name) (new.entry other) result
+  all_makes w did = closed_makes (old.entry name) (old.entry other) (told taken.first) (told taken.second) (told put.first) (told put.second) (new.entry name) (new.entry other)
+      out.first out.second back.first back.second w o result mid.faults new.faults back.closed did.makes
+
+  pub all_safe : (w : Work) → HasActed w told taken put o → IsSafePair w (old.entry name) (old.entry other) (new.entry name) (new.entry other)
+  all_safe w did = safe_around (old.entry name) (old.entry other) (told taken.first) (told taken.second) (told put.first) (told put.second) (new.entry name) (new.entry other)
+      out.first out.second back.first back.second w did.safe
+
+  pub all_creates : (party : Party) → HasCreated party told taken put o → CreatesPair party (old.entry name) (old.entry other) (new.entry name) (new.entry other) result
+  all_creates party did = closed_creates (old.entry name) (old.entry other) (told taken.first) (told taken.second) (told put.first) (told put.second) (new.entry name) (new.entry other)
+      out.first out.second back.first back.second party o result mid.faults new.faults back.closed did.makes
+
+  pub all_creation : (party : Party) → HasCreated party told taken put o → IsSafeCreation party (old.entry name) (old.entry other) (new.entry name) (new.entry other)
+  all_creation party did = creation_around (old.entry name) (old.entry other) (told taken.first) (told taken.second) (told put.first) (told put.second) (new.entry name) (new.entry other)
+      out.first out.second back.first back.second party did.safe
+
+  module _ (faults : HasFaults told taken put o) where
+    shown : o ≡ outcome.Fault → Rose mid.faults new.faults
+    shown is = elim (faults.fault is) [
+      | inl rose ↦ back.first_seen (rose_some (told taken.first).faults (told put.first).faults out.first_fresh rose)
+      | inr rose ↦ back.second_seen (rose_some (told taken.second).faults (told put.second).faults out.second_fresh rose)
+    ]
+
+    fault_closed : IsClosed o mid.faults new.faults result → result ≡ outcome.Fault → Rose mid.faults new.faults
+    fault_closed (inl is) fault = shown (sym is ∙ fault)
+    fault_closed (inr (inl is)) fault = is.1
+    fault_closed (inr (inr is)) fault = let both : outcome.NoMemory ≡ outcome.Fault = sym is ∙ fault in absurd (cc both)
+
+    pub all_shelf : LeavesPair name other result (new.is_back name) (new.is_back other) old.entry new.entry old.faults new.faults
+    all_shelf = record {
+      back = back.back;
+      thirds = thirds_on name other old.entry mid.entry new.entry out.thirds back.thirds;
+      fault = λ is. rose_from old.faults mid.faults new.faults out.later (fault_closed back.closed is);
+      later = omega (arith, out.later, back.later);
+    }

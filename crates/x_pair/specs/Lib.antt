@@ -1,0 +1,6 @@
+pub mod Outcomes
+pub mod Dues
+pub mod Creations
+pub mod Comparisons
+pub mod Looking
+pub mod Steps

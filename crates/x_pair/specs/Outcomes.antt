@@ -1,0 +1,144 @@
+-- What becomes of a party on a shelf that is kept on two disks (this project's profile). `first` and `second` are what the
+-- shelf tells of the two disks before, `first_after` and `second_after` what it tells afterwards.
+use Rattle.std.specs.Prelude.{◌≡◌, ◌≢◌, ◌⊎◌, ◌≤◌, ℕ, true, List, Option, Some, None}
+use Rattle.x_base.specs.Edge.{Rose}
+use Rattle.x_base.specs.declared.verdict.Verdict.{Verdict}
+use Rattle.x_base.specs.declared.verdict.Verdict.TheVariants.{Accept, JournalFull, Blank}
+use Rattle.x_disk.specs.Disk.{View, IsDurable, LeavesOnly}
+use Rattle.key_journal.specs.Journal.{is_blank}
+use Rattle.party_state.specs.declared.command.Input.{Input}
+use Rattle.party_state.specs.State.{Party, apply}
+use Rattle.party_show.specs.Show.{shown}
+use Rattle.change_code.specs.declared.space.Space.{Space}
+use Rattle.key_store.specs.Store.{Stands, StandsWith, IsFirstDamage}
+use Rattle.member.specs.Member.{Member, after}
+use Rattle.disk_pair.specs.Pairs.{ThirdsStay}
+use Rattle.mirror_store.specs.Pairs.{PairStands, Recovers, IsAsBefore}
+use Rattle.mirror_store.specs.Opening.{AreRead, AreOthers, IsSound, IsTooLargeToWrite}
+use Rattle.mirror_store.specs.Turns.{pair_plan_at}
+use Rattle.x_party.specs.Images.{StandsFor, StillTells}
+use Rattle.x_party.specs.Outcomes.{IsNoFailure}
+use Rattle.x_party.specs.declared.outcome.Outcome.{Outcome}
+use Rattle.x_party.specs.declared.outcome.Outcome.TheVariants as outcome
+
+-- each image of either disk that a crash may leave stands for the party of this member; the first has its space left
+pub record BothStand (first second : View) (x : Member) : Type 0 where
+  pub on_first : StandsFor first x.party x.space
+  pub durable : IsDurable second
+  pub on_second : (image : List ℕ) → second.now ≡ Some image → Stands image x.party
+
+-- what a call does with the party that is opened of two disks: what is said of a member with an outcome, and the member
+-- afterwards; and the parties that a crash may leave beside the one that is opened
+pub record Work : Type 1 where
+  pub Says : Member → Outcome → Member → Type 0
+  pub May : Party → Party → Type 0
+
+-- the party of the name accepts; its edits are kept, and this is answered
+pub record Accepts (name : List ℕ) (i : Input) (moment : ℕ) (x : Member) (reply : Option (List ℕ)) (y : Member) : Type 0 where
+  pub own : x.party.own ≡ name
+  pub accepted : (pair_plan_at x i moment).verdict ≡ Accept
+  pub written : reply ≡ (pair_plan_at x i moment).reply
+  pub next : y ≡ after x (pair_plan_at x i moment).edits
+
+-- it refuses, or what it decides doesn't fit on a disk; it stays
+pub record Refuses (name : List ℕ) (i : Input) (moment : ℕ) (x : Member) (verdict : Verdict) (reply : Option (List ℕ)) (y : Member) : Type 0 where
+  pub own : x.party.own ≡ name
+  pub refused : verdict ≢ Accept
+  pub said : verdict ≡ (pair_plan_at x i moment).verdict
+  pub written : reply ≡ (pair_plan_at x i moment).reply
+  pub same : y ≡ x
+
+-- the party isn't that of the name, and isn't asked; it stays
+pub record IsOther (name : List ℕ) (x : Member) (asked found : List ℕ) (y : Member) : Type 0 where
+  pub called : asked ≡ name
+  pub own : found ≡ x.party.own
+  pub differs : found ≢ name
+  pub same : y ≡ x
+
+abbrev pub SaysTurn : List ℕ → Input → ℕ → Member → Outcome → Member → Type 0
+SaysTurn name i moment x (outcome.Done reply) y = Accepts name i moment x reply y
+SaysTurn name i moment x (outcome.Refused verdict reply) y = Refuses name i moment x verdict reply y
+SaysTurn name i moment x (outcome.OtherParty asked found) y = IsOther name x asked found y
+SaysTurn name i moment x o y = ⊥
+
+-- the party after what it plans, with some space
+pub record IsAfter (i : Input) (moment : ℕ) (party next : Party) : Type 0 where
+  pub space : Space
+  pub is : next ≡ apply (pair_plan_at (record { party = party; space = space }) i moment).edits party
+
+-- the turn of the party of this name with an input at a moment
+abbrev pub turning : List ℕ → Input → ℕ → Work
+turning name i moment = record { Says = λ x o y. SaysTurn name i moment x o y; May = λ party next. IsAfter i moment party next }
+
+abbrev pub SaysShow : Member → Outcome → Member → Type 0
+SaysShow x (outcome.Done reply) y = (reply ≡ Some (shown x.party)) × (y ≡ x)
+SaysShow x o y = ⊥
+
+-- a party is shown
+abbrev pub showing : Work
+showing = record { Says = λ x o y. SaysShow x o y; May = λ party next. ⊥ }
+
+-- a party is opened of two images, and this is said of it, with the space that its first disk has then; the disks stand for it
+-- afterwards
+pub record OfOpened (w : Work) (i j : List ℕ) (first_after second_after : View) (o : Outcome) : Type 0 where
+  pub member : Member
+  pub next : Member
+  pub recovers : Recovers i j member.party
+  -- where both images stand for it, that is the space of the first
+  pub space : PairStands i j member.party → StandsWith i member.party member.space
+  pub says : w.Says member o next
+  pub stand : BothStand first_after second_after next
+
+-- no party stands on either disk
+pub record IsNobody (i j : List ℕ) (verdict : Verdict) (reply : Option (List ℕ)) : Type 0 where
+  pub first_blank : is_blank i ≡ true
+  pub second_blank : is_blank j ≡ true
+  pub said : verdict ≡ Blank
+  pub written : reply ≡ None
+
+-- the party isn't on both, and is too large for the one frame that would be written
+pub record IsTooLargePair (i j : List ℕ) (verdict : Verdict) (reply : Option (List ℕ)) : Type 0 where
+  pub too_large : IsTooLargeToWrite i j
+  pub said : verdict ≡ JournalFull
+  pub written : reply ≡ None
+
+-- the first image is damaged, or else the second
+abbrev pub IsDamagedPair : List ℕ → List ℕ → ℕ → Type 0
+IsDamagedPair i j place = IsFirstDamage i place ⊎ (IsSound i × IsFirstDamage j place)
+
+-- what becomes of two images of disks that tell them
+abbrev pub MakesOf : Work → List ℕ → List ℕ → View → View → Outcome → Type 0
+MakesOf w i j first_after second_after (outcome.Done reply) = OfOpened w i j first_after second_after (outcome.Done reply)
+MakesOf w i j first_after second_after (outcome.Refused verdict reply) =
+    OfOpened w i j first_after second_after (outcome.Refused verdict reply) ⊎ (IsNobody i j verdict reply ⊎ IsTooLargePair i j verdict reply)
+MakesOf w i j first_after second_after (outcome.OtherParty one other) = OfOpened w i j first_after second_after (outcome.OtherParty one other) ⊎ AreOthers i j one other
+MakesOf w i j first_after second_after (outcome.Damaged place) = IsDamagedPair i j place
+MakesOf w i j first_after second_after outcome.Fault = Unit {0}
+MakesOf w i j first_after second_after outcome.NoMemory = Unit {0}
+
+abbrev pub MakesPair : Work → View → View → View → View → Outcome → Type 0
+MakesPair w first second first_after second_after o = (i j : List ℕ) → AreRead first second i j → MakesOf w i j first_after second_after o
+
+-- an image that a crash may leave: it stands for the party that is opened or for one after it, is blank as it was, stands for the
+-- party for which it stood, or could be left before
+pub data MayLeave (w : Work) (party : Party) (was : List ℕ) (before : List ℕ → Type 0) (image : List ℕ) : Type 0 where
+  Opened : Stands image party → MayLeave w party was before image
+  After : (next : Party) → w.May party next → Stands image next → MayLeave w party was before image
+  AsItWas : IsAsBefore was image → MayLeave w party was before image
+  Before : before image → MayLeave w party was before image
+
+-- what holds of every outcome
+pub record IsSafePair (w : Work) (first second first_after second_after : View) : Type 0 where
+  -- what a crash at any moment leaves of two disks of which a party is opened
+  pub on_first : (i j : List ℕ) (party : Party) → AreRead first second i j → Recovers i j party → LeavesOnly first first_after (MayLeave w party i first.may_leave)
+  pub on_second : (i j : List ℕ) (party : Party) → AreRead first second i j → Recovers i j party → LeavesOnly second second_after (MayLeave w party j second.may_leave)
+  pub first_tells : StillTells first first_after
+  pub second_tells : StillTells second second_after
+
+-- what is left of the shelf: both disks are back where the call didn't fail, the others stay, and a fault comes only where the
+-- shelf's count of faults rose
+pub record LeavesPair (name mirror : List ℕ) (o : Outcome) (first_back second_back : Type 0) (old new : List ℕ → View) (before after : ℕ) : Type 0 where
+  pub back : IsNoFailure o → first_back × second_back
+  pub thirds : ThirdsStay name mirror old new
+  pub fault : o ≡ outcome.Fault → Rose before after
+  pub later : before ≤ after
