@@ -5,7 +5,7 @@ use Rattle.key_journal.specs.Layout.{area_size}
 use Rattle.x_disk.specs.Disk.{View, IsDurable}
 use Rattle.key_journal.specs.Journal.{Holds, Begins, is_blank, has_magic, start}
 use Rattle.key_journal.specs.Opening.{found_at}
-use Rattle.key_journal.specs.States.{HasRoom}
+use Rattle.key_journal.specs.States.{HasRoom, Site}
 use Rattle.key_journal.specs.declared.cause.Cause.{Cause}
 use Rattle.key_journal.specs.declared.cause.Cause.TheVariants as cause
 
@@ -43,6 +43,10 @@ pub record Stood (D S : Type 0) : Type 0 where
   pub gate : ℕ
   pub end : ℕ
   pub state : S
+
+-- a journal at rest, with the state for which it stands
+abbrev pub stood : {D S : Type 0} → Site D → S → Stood D S
+stood ready state = record { disk = ready.disk; gate = ready.gate; end = ready.end; state = state }
 
 -- each image that a crash may leave now stands for the state
 pub record IsStanding {S : Type 0} (step : List ℕ → S → S → Type 0) (first : S) (v : View) (gate end : ℕ) (state : S) : Type 0 where

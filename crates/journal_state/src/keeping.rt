@@ -1,10 +1,11 @@
 // A body more, or the state as one body.
 ghost use Rattle.std.specs.Prelude.{◌+◌, ◌≤◌, length};
 ghost use Rattle.journal_state.specs.Keeping.{IsFrameOf, IsKept, IsReplaced};
+ghost use Rattle.journal_state.specs.States.{IsStanding, stood};
 
 use crate::judge::Judge;
 use crate::standing::Standing;
-use key_journal::Broken;
+use key_journal::{Broken, Ready};
 use x_disk::Disk;
 
 impl<D: Disk, J: Judge> Standing<D, J> {
@@ -14,7 +15,18 @@ impl<D: Disk, J: Judge> Standing<D, J> {
         requires frame { IsFrameOf J.step frame.now self.state next }
         ensures { IsKept J.step J.start D.told self (length frame.now) next result }
     {
-        match self.ready.stage(frame) {
+        Standing::keep_behind(self.ready, frame, next)
+    }
+
+    /// The same of a journal and its state that were taken apart: the state before isn't needed any more, so that the next one
+    /// may be made of it in place.
+    pub fn keep_behind(ready: Ready<D>, frame: &[u8], next: J) -> Result<Standing<D, J>, Broken<D>>
+        requires fits { ready.gate + 1 + length frame.now ≤ ready.end }
+        requires frame { (old : J) × IsStanding J.step J.start (D.told ready.disk) ready.gate ready.end old × IsFrameOf J.step frame.now old next }
+        ensures { (old : J) → IsStanding J.step J.start (D.told ready.disk) ready.gate ready.end old → IsFrameOf J.step frame.now old next
+            → IsKept J.step J.start D.told (stood ready old) (length frame.now) next result }
+    {
+        match ready.stage(frame) {
             Err(broken) => Err(broken),
             Ok(staged) => match staged.commit() {
                 Err(broken) => Err(broken),

@@ -1,7 +1,7 @@
 // A journal at rest, and the state for which it stands.
 ghost use Rattle.std.specs.Prelude.{◌≡◌, ◌↔◌, ◌+◌, ◌≤◌, IsTrue};
 ghost use Rattle.x_disk.specs.Disk.{IsDurable};
-ghost use Rattle.journal_state.specs.States.{IsStanding};
+ghost use Rattle.journal_state.specs.States.{IsStanding, stood};
 
 use crate::judge::Judge;
 use key_journal::Ready;
@@ -40,6 +40,22 @@ impl<D: Disk, J: Judge> Standing<D, J> {
         ensures durable { IsDurable (D.told result) }
     {
         self.ready.into_disk()
+    }
+
+    /// The journal and the state, taken apart.
+    pub fn into_parts(self) -> (Ready<D>, J)
+        ensures parts { stood result.0 result.1 ≡ self }
+        ensures stands { IsStanding J.step J.start (D.told result.0.disk) result.0.gate result.0.end result.1 }
+    {
+        (self.ready, self.state)
+    }
+
+    /// The two put together again.
+    pub fn of_parts(ready: Ready<D>, state: J) -> Standing<D, J>
+        requires { IsStanding J.step J.start (D.told ready.disk) ready.gate ready.end state }
+        ensures { result ≡ stood ready state }
+    {
+        Standing { ready, state }
     }
 
     /// Whether a frame whose text has this length fits below the area's end.

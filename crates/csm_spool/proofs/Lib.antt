@@ -1,0 +1,12 @@
+mod Steps
+mod Images
+mod Carried
+mod Runs
+mod Whole
+mod Telling
+mod LastPlans
+mod Entries
+mod Numbers
+mod Begun
+mod Codes
+mod Settled

@@ -1,0 +1,127 @@
+-- The rest of a batch, from a party that is behind the plans that stand.
+use Rattle.std.proofs.Common.{◌≡◌, inl, inr, ℕ, ◌≤◌, List, length, refl, sym, ap, subst, ◌∙◌, arith}
+use Rattle.x_base.specs.Edge.{Rose}
+use Rattle.x_disk.specs.Disk.{View, Tells}
+use Rattle.x_disk.specs.declared.disk.DiskErr.{DiskErr}
+use Rattle.key_journal.specs.States.{Failed, FaultsRose}
+use Rattle.key_store.specs.Store.{Stored, IsStore}
+use Rattle.member.specs.Member.{Member}
+use Rattle.node_core.specs.Turns.{member_of, IsImageOf}
+use Rattle.csm_batch.specs.declared.entry.Entry.{Entry}
+use Rattle.spool_store.specs.declared.entry_plan.EntryPlan.{EntryPlan}
+use Rattle.csm_spool.specs.declared.outcome.Driven.TheVariants as drive
+use Rattle.spool_store.specs.Contents.{Progress, HoldsPlans, with_plan}
+use Rattle.csm_spool.specs.Courses.{Course}
+use Rattle.csm_spool.specs.InStep.{InStep}
+use Rattle.spool_store.specs.Committing.{HoldsEither}
+use Rattle.csm_spool.specs.Drives.{KeepsBoth, IsRun}
+use Rattle.spool_store.specs.Spools.{Spooled, IsSpool}
+use Rattle.csm_spool.specs.Stepping.{IsNext, IsOn, IsNodeCut, IsSpoolCut}
+use Rattle.csm_spool.proofs.Steps.{course_on, commit, carried, at_rest}
+use Rattle.csm_spool.proofs.Images.{party_images, spool_images}
+
+pub rose_later : (a b c : ℕ) → a ≤ b → Rose b c → Rose a c
+rose_later a b c le (inl less) = inl (omega (arith, le, less))
+rose_later a b c le (inr most) = inr most
+
+pub keeps_on : (p s p1 s1 p2 s2 : View) → KeepsBoth p s p1 s1 → KeepsBoth p1 s1 p2 s2 → KeepsBoth p s p2 s2
+keeps_on p s p1 s1 p2 s2 a b = record {
+  party_faults = omega (arith, a.party_faults, b.party_faults);
+  spool_faults = omega (arith, a.spool_faults, b.spool_faults);
+  party_tells = b.party_tells ∙ a.party_tells;
+  spool_tells = b.spool_tells ∙ a.spool_tells;
+}
+
+pub cause_on : (v0 v1 v2 : View) (cause : DiskErr) → v0.faults ≤ v1.faults → FaultsRose v1 v2 cause → FaultsRose v0 v2 cause
+cause_on v0 v1 v2 cause le rose = record { later = omega (arith, le, rose.later); fault = λ is. rose_later v0.faults v1.faults v2.faults le (rose.fault is) }
+
+module _ {D E : Type 0} (told : D → View) (told_spool : E → View) (first : Stored D) (old : Spooled E) where
+  -- some entries are done
+  pub record IsRunning (node : Stored D) (spool : Spooled E) : Type 0 where
+    pub text : spool.progress.text ≡ old.progress.text
+    pub entries : spool.progress.entries ≡ old.progress.entries
+    pub course : (x : Member) → Course x old.progress.entries old.progress.plans (member_of first) → Course x old.progress.entries spool.progress.plans (member_of node)
+    pub keeps : KeepsBoth (told first.disk) (told_spool old.disk) (told node.disk) (told_spool spool.disk)
+
+  pub begun : IsRunning first old
+  begun = record { text = refl; entries = refl; course = λ x c. c; keeps = record { party_faults = omega arith; spool_faults = omega arith; party_tells = refl; spool_tells = refl } }
+
+  module _ (node : Stored D) (spool : Spooled E) (run : IsRunning node spool) where
+    -- the progress, of the batch as it was
+    abbrev now : Progress
+    now = record { text = old.progress.text; entries = old.progress.entries; plans = spool.progress.plans }
+
+    now_is : spool.progress ≡ now
+    now_is =
+        ap (λ (t : List ℕ). let p : Progress = record { text = t; entries = spool.progress.entries; plans = spool.progress.plans } in p) run.text
+        ∙ ap (λ (es : List Entry). let p : Progress = record { text = old.progress.text; entries = es; plans = spool.progress.plans } in p) run.entries
+
+    next_now : (here there : Member) (plan : EntryPlan) → IsNext spool.progress here plan there → IsNext now here plan there
+    next_now here there plan next = subst (λ (p : Progress). IsNext p here plan there) now_is next
+
+    pub on : (after : Stored D) (new : Spooled E) → IsOn node spool after new → KeepsBoth (told node.disk) (told_spool spool.disk) (told after.disk) (told_spool new.disk) → IsRunning after new
+    on after new h keeps = record {
+      text = ap (λ (p : Progress). p.text) h.goes ∙ run.text;
+      entries = ap (λ (p : Progress). p.entries) h.goes ∙ run.entries;
+      course = λ x c.
+          let n = next_now (member_of node) (member_of after) h.plan h.next in
+          subst (λ (ps : List EntryPlan). Course x old.progress.entries ps (member_of after)) (sym (ap (λ (p : Progress). p.plans) h.goes))
+          (course_on x old.progress.entries spool.progress.plans (member_of node) (member_of after) n.entry h.plan (run.course x c) n.at n.leads);
+      keeps = keeps_on (told first.disk) (told_spool old.disk) (told node.disk) (told_spool spool.disk) (told after.disk) (told_spool new.disk) run.keeps keeps;
+    }
+
+    -- the party and the spool at rest
+    resting : (after : Stored D) (new : Spooled E) → member_of after ≡ member_of node → new.progress ≡ spool.progress → IsStore (told after.disk) after.gate after.end after.format after.party → IsSpool (told_spool new.disk) new.gate new.end new.progress
+        → Tells (told after.disk) → Tells (told_spool new.disk) → (x : Member) → Course x old.progress.entries old.progress.plans (member_of first) → (i j : List ℕ) → (told after.disk).may_leave i → (told_spool new.disk).may_leave j → InStep i j old.progress.text x old.progress.entries
+    resting after new same still store kept party_tells spool_tells x c i j at_party at_spool =
+        at_rest i j x (member_of node) now (run.course x c)
+        (subst (λ (m : Member). IsImageOf m i) same (party_images told after store party_tells i at_party))
+        (subst (HoldsPlans j) (still ∙ now_is) (spool_images (told_spool new.disk) new.gate new.end new.progress kept spool_tells j at_spool))
+
+    pub ends : IsStore (told node.disk) node.gate node.end node.format node.party → IsSpool (told_spool spool.disk) spool.gate spool.end spool.progress → length spool.progress.entries ≤ length spool.progress.plans
+        → IsRun told told_spool first old (drive.Done node spool)
+    ends store kept over = record {
+      answer = record { text = run.text; entries = run.entries; plans = omega (arith, kept.progress.few, over) };
+      ends = λ x c. run.course x c;
+      in_step = λ x c party_tells spool_tells. resting node spool refl refl store kept (run.keeps.party_tells ∙ party_tells) (run.keeps.spool_tells ∙ spool_tells) x c;
+      keeps = run.keeps;
+    }
+
+    pub halted : (after : Stored D) (new : Spooled E) → after ≡ node → new ≡ spool → IsStore (told after.disk) after.gate after.end after.format after.party → IsSpool (told_spool new.disk) new.gate new.end new.progress
+        → KeepsBoth (told node.disk) (told_spool spool.disk) (told after.disk) (told_spool new.disk) → IsRun told told_spool first old (drive.NoMemory after new)
+    halted after new same still store kept keeps =
+        let all = keeps_on (told first.disk) (told_spool old.disk) (told node.disk) (told_spool spool.disk) (told after.disk) (told_spool new.disk) run.keeps keeps in
+        record {
+          answer = tt;
+          ends = λ x c. tt;
+          in_step = λ x c party_tells spool_tells. resting after new (ap member_of same) (ap (λ (s : Spooled E). s.progress) still) store kept (all.party_tells ∙ party_tells) (all.spool_tells ∙ spool_tells) x c;
+          keeps = all;
+        }
+
+    pub node_broken : (broken : Failed D) (new : Spooled E) → IsNodeCut told node spool broken new → IsSpool (told_spool new.disk) new.gate new.end new.progress
+        → KeepsBoth (told node.disk) (told_spool spool.disk) (told broken.disk) (told_spool new.disk) → IsRun told told_spool first old (drive.NodeBroken broken new)
+    node_broken broken new h kept keeps =
+        let all = keeps_on (told first.disk) (told_spool old.disk) (told node.disk) (told_spool spool.disk) (told broken.disk) (told_spool new.disk) run.keeps keeps in
+        record {
+          answer = cause_on (told first.disk) (told node.disk) (told broken.disk) broken.cause run.keeps.party_faults h.cause;
+          ends = λ x c. tt;
+          in_step = λ x c party_tells spool_tells i j at_party at_spool.
+              carried i j x (member_of node) h.there now h.plan (run.course x c) (next_now (member_of node) h.there h.plan h.next)
+              (h.leaves (run.keeps.party_tells ∙ party_tells) i at_party)
+              (subst (HoldsPlans j) (h.goes ∙ ap (λ (p : Progress). with_plan p h.plan) now_is) (spool_images (told_spool new.disk) new.gate new.end new.progress kept (all.spool_tells ∙ spool_tells) j at_spool));
+          keeps = all;
+        }
+
+    pub spool_broken : (after : Stored D) (broken : Failed E) → IsSpoolCut told_spool node spool after broken → IsStore (told after.disk) after.gate after.end after.format after.party
+        → KeepsBoth (told node.disk) (told_spool spool.disk) (told after.disk) (told_spool broken.disk) → IsRun told told_spool first old (drive.SpoolBroken after broken)
+    spool_broken after broken h store keeps =
+        let all = keeps_on (told first.disk) (told_spool old.disk) (told node.disk) (told_spool spool.disk) (told after.disk) (told_spool broken.disk) run.keeps keeps in
+        record {
+          answer = cause_on (told_spool old.disk) (told_spool spool.disk) (told_spool broken.disk) broken.cause run.keeps.spool_faults h.cause;
+          ends = λ x c. tt;
+          in_step = λ x c party_tells spool_tells i j at_party at_spool.
+              commit i j x (member_of node) h.there now h.plan (run.course x c) (next_now (member_of node) h.there h.plan h.next)
+              (subst (λ (n : Stored D). IsImageOf (member_of n) i) h.same (party_images told after store (all.party_tells ∙ party_tells) i at_party))
+              (subst (λ (p : Progress). HoldsEither p h.plan j) now_is (h.leaves (run.keeps.spool_tells ∙ spool_tells) j at_spool));
+          keeps = all;
+        }

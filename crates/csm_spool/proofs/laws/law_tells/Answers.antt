@@ -1,0 +1,5 @@
+use Rattle.csm_spool.proofs.Telling.{tells}
+use Rattle.csm_spool.proofs.laws.law_tells.Goals as goal
+
+pub returns : goal.returns
+returns c = tells c.law_settling.ensures.undone c.law_settling.ensures.done c.law_ranged.ensures c.law_one_change.ensures

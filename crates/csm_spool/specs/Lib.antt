@@ -1,0 +1,9 @@
+pub mod Planning
+pub mod Courses
+pub mod InStep
+pub mod Beginning
+pub mod Drives
+pub mod Foreseeing
+pub mod Stepping
+pub mod Catching
+pub mod Laws

@@ -1,0 +1,8 @@
+mod Bytes
+mod Keeping
+mod Begun
+mod Going
+mod Changes
+mod Lines
+mod Entries
+mod First

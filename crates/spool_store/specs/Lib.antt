@@ -1,0 +1,6 @@
+pub mod Plans
+pub mod Contents
+pub mod ContentLaws
+pub mod Spools
+pub mod Beginning
+pub mod Committing

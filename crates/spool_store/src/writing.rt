@@ -1,0 +1,47 @@
+// The bytes of a plan are written.
+ghost use Rattle.std.specs.Prelude.{◌≡◌, ◌≤◌, ◌<◌, ◌^◌, ◌∷◌, ◌↔◌, length, IfOk, IsTrue};
+ghost use Rattle.key_journal.specs.Journal.{frame_of};
+ghost use Rattle.spool_store.specs.Plans.{IsEntryPlan, longest_plan, plan_body};
+
+use crate::entry_plan::EntryPlan;
+use crate::parsing::{LONGEST_PLAN, PLAN};
+use key_journal::close_frame;
+use std::alloc::Global;
+use x_base::{NoMemory, Text};
+
+/// Whether a plan has 3,000 bytes at most.
+#[tactic(auto, using(crate::proofs::Bytes::plan_long))]
+pub fn is_short(plan: &EntryPlan) -> bool
+    ensures { IsTrue result ↔ (length (plan_body plan.now) ≤ longest_plan) }
+{
+    plan.reply
+        .bytes()
+        .len()
+        .saturating_add(plan.change.bytes().len())
+        <= LONGEST_PLAN - 5
+}
+
+/// Four bytes for a length, and the bytes of a plan.
+fn plan_behind(alloc: Global, plan: &EntryPlan) -> Result<Text, NoMemory>
+    requires { length plan.now.reply < 2 ^ 16 }
+    ensures { IfOk result (λ text. text ≡ 0 ∷ 0 ∷ 0 ∷ 0 ∷ plan_body plan.now) }
+{
+    let reply = plan.reply.bytes();
+    let mut text = Text::with_capacity(alloc, LONGEST_PLAN + 5)?;
+    text.push(&[0, 0, 0, 0, PLAN])?;
+    text.push(&plan.number.to_be_bytes())?;
+    text.push(&(reply.len() as u16).to_be_bytes())?;
+    text.push(reply)?;
+    text.push(plan.change.bytes())?;
+    Ok(text)
+}
+
+/// The frame of a plan.
+pub(crate) fn plan_frame(alloc: Global, plan: &EntryPlan) -> Result<Text, NoMemory>
+    requires { IsEntryPlan plan.now }
+    ensures { IfOk result (λ frame. frame ≡ frame_of (plan_body plan.now)) }
+{
+    let mut text = plan_behind(alloc, plan)?;
+    close_frame(&mut text)?;
+    Ok(text)
+}
