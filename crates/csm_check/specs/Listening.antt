@@ -7,7 +7,7 @@ use Rattle.csm_feed.specs.declared.unheard.Unheard.{Unheard}
 use Rattle.csm_feed.specs.declared.unheard.Unheard.TheVariants as unheard
 use Rattle.csm_feed.specs.Heard.{behind, Heard, input_limit}
 use Rattle.x_status.specs.declared.status.Refusal.{Refusal}
-use Rattle.x_status.specs.declared.status.Refusal.TheVariants.{Text, Trailing, Decided, OtherParty, Audit, Pay}
+use Rattle.x_status.specs.declared.status.Refusal.TheVariants.{Text, Trailing, Decided}
 use Rattle.x_status.specs.declared.status.Status.{Status}
 use Rattle.x_status.specs.declared.status.Status.TheVariants as status
 
@@ -31,9 +31,7 @@ IsPossible (Text NoMemory) = ⊥
 IsPossible (Text refusal) = Unit {0}
 IsPossible (Trailing place) = Unit {0}
 IsPossible (Decided verdict) = verdict ≡ BadEdc
-IsPossible (OtherParty asked found) = ⊥
-IsPossible (Audit fault) = ⊥
-IsPossible (Pay refusal) = ⊥
+IsPossible refusal = ⊥
 
 -- no message arrived: the source failed, or no memory was left, or the bytes are refused
 abbrev pub IsUnheard : Option (List ℕ) → Status → Type 0

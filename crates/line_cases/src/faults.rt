@@ -6,7 +6,7 @@ use x_base::{NoMemory, Text};
 use x_line::{LineFault, Opt, UsageKind, read_order};
 
 /// Command lines, their words parted by blanks, and what is wrong with them.
-const FAULTS: [(&str, UsageKind); 22] = [
+const FAULTS: [(&str, UsageKind); 25] = [
     ("check extra", UsageKind::Line),
     ("check --party", UsageKind::Line),
     ("check --par BANKA", UsageKind::Line),
@@ -38,6 +38,12 @@ const FAULTS: [(&str, UsageKind); 22] = [
         UsageKind::Unwanted(Opt::Amount),
     ),
     ("migrate --ledger LEDA", UsageKind::Unwanted(Opt::Ledger)),
+    ("compact --mirror MIRA", UsageKind::Unwanted(Opt::Mirror)),
+    (
+        "pay --ledger LEDA --mirror MIRA",
+        UsageKind::Unwanted(Opt::Mirror),
+    ),
+    ("compare --party x", UsageKind::Missing(Opt::Mirror)),
     (
         "pay --party BANKA --peer BANKB --name x --amount x",
         UsageKind::Missing(Opt::Ledger),
@@ -53,7 +59,7 @@ const FAULTS: [(&str, UsageKind); 22] = [
 ];
 
 /// Command lines each of which has one bad value or more, and the option of the first one.
-const BAD_VALUES: [(&str, Opt); 22] = [
+const BAD_VALUES: [(&str, Opt); 25] = [
     ("show --party=", Opt::Party),
     ("take --party BANKa", Opt::Party),
     (
@@ -95,6 +101,9 @@ const BAD_VALUES: [(&str, Opt); 22] = [
         Opt::Name,
     ),
     ("migrate --party banka", Opt::Party),
+    ("show --party BANKA --mirror BANKA", Opt::Mirror),
+    ("purge --party BANKA --mirror m", Opt::Mirror),
+    ("compare --party BANKA --mirror BANKA", Opt::Mirror),
     ("accept --party BANKA --ledger BANKA", Opt::Ledger),
     ("accept --party BANKA --ledger led", Opt::Ledger),
     (

@@ -3,7 +3,7 @@ use crate::words::words_of;
 use case_table::Table;
 use std::alloc::Global;
 use x_base::{Count, Ident, KeyName, Label, NoMemory, Role, Side, Text};
-use x_line::{LineFault, Order, read_order};
+use x_line::{Given, LineFault, Order, read_order};
 use x_mac::Pair;
 
 /// A command line, its words parted by blanks, and the order that it gives.
@@ -141,26 +141,75 @@ fn later_rows() -> Option<[Row; 4]> {
     ])
 }
 
-/// The order that the words of a line give, or what is wrong with them, in words.
-fn given(alloc: Global, line: &str, wanted: &Order) -> Result<String, NoMemory> {
+/// Command lines of a party that is kept on two disks, and what they give.
+fn mirrored_rows() -> Option<[(&'static str, Given); 3]> {
+    let party = Ident::read(b"BANKA").ok()?;
+    let peer = Ident::read(b"CKDX").ok()?;
+    let mirror = Ident::read(b"MIRA").ok()?;
+    Some([
+        (
+            "take --mirror MIRA --party BANKA",
+            Given {
+                order: Order::Take { party },
+                mirror: Some(mirror),
+            },
+        ),
+        (
+            "drop --party BANKA --peer CKDX --mirror=MIRA",
+            Given {
+                order: Order::Drop { party, peer },
+                mirror: Some(mirror),
+            },
+        ),
+        (
+            "compare --party BANKA --mirror MIRA",
+            Given {
+                order: Order::Compare { party, mirror },
+                mirror: None,
+            },
+        ),
+    ])
+}
+
+/// What the words of a line give, or what is wrong with them, in words.
+fn given(alloc: Global, line: &str, wanted: &Given) -> Result<String, NoMemory> {
     let words = words_of(alloc, line)?;
     match read_order(alloc, &words) {
-        Ok(order) if order == *wanted => order_text(alloc, wanted),
-        Ok(order) => Ok(format!(in alloc; "another, {order:?}")?),
+        Ok(given) if given == *wanted => text_of(alloc, wanted),
+        Ok(given) => Ok(format!(in alloc; "another, {given:?}")?),
         Err(LineFault::Usage(kind)) => Ok(format!(in alloc; "{kind:?}")?),
         Err(LineFault::NoMemory) => Err(NoMemory),
     }
 }
 
-fn order_text(alloc: Global, order: &Order) -> Result<String, NoMemory> {
-    Ok(format!(in alloc; "{order:?}")?)
+fn text_of(alloc: Global, given: &Given) -> Result<String, NoMemory> {
+    Ok(format!(in alloc; "{given:?}")?)
+}
+
+fn add_row(alloc: Global, table: &mut Table, line: &str, wanted: &Given) -> Result<(), NoMemory> {
+    let given = given(alloc, line, wanted)?;
+    let wanted = text_of(alloc, wanted)?;
+    table.text_row(line, given.as_str(), wanted.as_str())
 }
 
 fn add_rows(alloc: Global, table: &mut Table, rows: &[Row]) -> Result<(), NoMemory> {
+    for (line, order) in rows {
+        let wanted = Given {
+            order: *order,
+            mirror: None,
+        };
+        add_row(alloc, table, line, &wanted)?;
+    }
+    Ok(())
+}
+
+fn add_mirrored(
+    alloc: Global,
+    table: &mut Table,
+    rows: &[(&'static str, Given)],
+) -> Result<(), NoMemory> {
     for (line, wanted) in rows {
-        let given = given(alloc, line, wanted)?;
-        let wanted = order_text(alloc, wanted)?;
-        table.text_row(line, given.as_str(), wanted.as_str())?;
+        add_row(alloc, table, line, wanted)?;
     }
     Ok(())
 }
@@ -168,10 +217,11 @@ fn add_rows(alloc: Global, table: &mut Table, rows: &[Row]) -> Result<(), NoMemo
 /// What is told of the orders that lines give.
 pub(crate) fn orders(alloc: Global) -> Result<Text, NoMemory> {
     let mut table = Table::new(alloc, "orders of command lines");
-    let (Some(rows), Some(later)) = (rows(), later_rows()) else {
+    let (Some(rows), Some(later), Some(mirrored)) = (rows(), later_rows(), mirrored_rows()) else {
         return table.told();
     };
     add_rows(alloc, &mut table, &rows)?;
     add_rows(alloc, &mut table, &later)?;
+    add_mirrored(alloc, &mut table, &mirrored)?;
     table.told()
 }

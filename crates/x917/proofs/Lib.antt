@@ -11,3 +11,5 @@ pub mod ScenarioBytes
 pub mod Expected
 pub mod Played
 pub mod Drills
+pub mod Mirrors
+pub mod Likening

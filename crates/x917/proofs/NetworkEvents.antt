@@ -94,6 +94,7 @@ module _ {S : Type 0} (entry : S → List ℕ → View)
   network_event rows (order.Load party peer label side pair) values obeys = tt
   network_event rows (order.Show party) values obeys = tt
   network_event rows (order.Wipe party) values obeys = tt
+  network_event rows (order.Compare party mirror) values obeys = tt
   network_event rows order.Replay values obeys = tt
   network_event rows order.Audit values obeys = tt
   network_event rows (order.Drill seed events) values obeys = tt

@@ -6,9 +6,10 @@ use Rattle.x_disk.specs.Shelf.{OthersStay, alike_refl}
 use Rattle.x_disk.proofs.Runs.{began}
 use Rattle.x_line.specs.declared.order.Order.{Order}
 use Rattle.x_line.specs.declared.order.Order.TheVariants as order
-use Rattle.x_line.specs.Laws.{AcceptsApart, FewEvents, PaysApart}
+use Rattle.x_line.specs.Laws.{AcceptsApart, ComparesApart, FewEvents, PaysApart}
 use Rattle.x_line.specs.Orders.{IsOrder}
 use Rattle.x_pay.specs.Payments.{paying}
+use Rattle.x_pair.specs.declared.likeness.Compared.TheVariants as compared
 use Rattle.party_state.specs.declared.command.Command.TheVariants as command
 use Rattle.party_state.specs.declared.command.Input.{Input}
 use Rattle.party_state.specs.declared.command.Input.TheVariants.{Ordered}
@@ -45,7 +46,7 @@ took_nothing limit left = ([], omega arith, took_none left)
 -- ---- the cause of a fault, by how a call ended
 
 module _ (read reads put puts disk disks : ℕ) where
-  cause_ended : (o : Outcome) (ending : List ℕ) (s : Status) (before after : Option (List ℕ)) → Ends o ending s before after
+  pub cause_ended : (o : Outcome) (ending : List ℕ) (s : Status) (before after : Option (List ℕ)) → Ends o ending s before after
       → (s ≡ status.WriteFault → Rose put puts) → (s ≡ status.DiskFault → Rose disk disks) → HasCause s read reads put puts disk disks
   cause_ended o ending s before after ends put_cause disk_cause = go (ended o ending s before after ends) where
     each : (o : Outcome) → s ≡ status_of_outcome o → HasCause (status_of_outcome o) read reads put puts disk disks
@@ -132,6 +133,7 @@ module _ (t : PartyCommand) (moment : ℕ) (s : Status) (left rest before after 
   obeys_command (order.Pay party peer name ledger amount) is turned = absurd cc
   obeys_command (order.Accept party ledger) is turned = absurd cc
   obeys_command (order.Wipe party) is turned = absurd cc
+  obeys_command (order.Compare party mirror) is turned = absurd cc
   obeys_command (order.Drill seed events) is turned = tt
 
   expects_some : (x : Option PartyCommand) → x ≡ Some t → Follows (old t.party) (IsDue t.party (Ordered t.command) moment) s → ExpectsCommand x moment old s
@@ -158,6 +160,7 @@ module _ (t : PartyCommand) (moment : ℕ) (s : Status) (left rest before after 
   expects_command (order.Pay party peer name ledger amount) is follows = absurd cc
   expects_command (order.Accept party ledger) is follows = absurd cc
   expects_command (order.Wipe party) is follows = absurd cc
+  expects_command (order.Compare party mirror) is follows = absurd cc
   expects_command (order.Drill seed events) is follows = absurd cc
 
   party_given : (x : Option PartyCommand) → x ≡ Some t → option_map (λ (t : PartyCommand). t.party) x ≡ Some t.party
@@ -167,6 +170,7 @@ module _ (t : PartyCommand) (moment : ℕ) (s : Status) (left rest before after 
   pub no_ledger : (o : Order) → command_of o ≡ Some t → ledger_of o ≡ None
   no_ledger (order.Pay party peer name ledger amount) is = absurd cc
   no_ledger (order.Accept party ledger) is = absurd cc
+  no_ledger (order.Compare party mirror) is = absurd cc
   no_ledger o is = refl
 
   pub is_party : (o : Order) → command_of o ≡ Some t → party_of o ≡ Some t.party
@@ -190,6 +194,7 @@ module _ (t : PartyCommand) (moment : ℕ) (s : Status) (left rest before after 
   is_party (order.Pay party peer name ledger amount) is = absurd cc
   is_party (order.Accept party ledger) is = absurd cc
   is_party (order.Wipe party) is = absurd cc
+  is_party (order.Compare party mirror) is = absurd cc
   is_party (order.Drill seed events) is = party_given (command_of (order.Drill seed events)) is
 
 -- ---- the other orders of a party
@@ -208,6 +213,7 @@ tended_of (order.Migrate party) check replay audit drill take accept none = refl
 tended_of (order.Accept party ledger) check replay audit drill take accept none = absurd (accept party ledger refl)
 tended_of (order.Pay party peer name ledger amount) check replay audit drill take accept none = refl
 tended_of (order.Wipe party) check replay audit drill take accept none = refl
+tended_of (order.Compare party mirror) check replay audit drill take accept none = refl
 tended_of (order.Load party peer label side pair) check replay audit drill take accept none = absurd (cc none)
 tended_of (order.Start party peer label) check replay audit drill take accept none = absurd (cc none)
 tended_of (order.StartKk party peer new label single) check replay audit drill take accept none = absurd (cc none)
@@ -220,11 +226,12 @@ tended_of (order.Purge party) check replay audit drill take accept none = absurd
 
 -- ---- the values of an order
 
-pub within_of : FewEvents → PaysApart → AcceptsApart → (words : List (List ℕ)) (o : Order) → IsOrder words o → IsWithin o
-within_of few pays accepts words (order.Drill seed events) is = few words seed events is
-within_of few pays accepts words (order.Pay party peer name ledger amount) is = pays words party peer name ledger amount is
-within_of few pays accepts words (order.Accept party ledger) is = accepts words party ledger is
-within_of few pays accepts words o is = tt
+pub within_of : FewEvents → PaysApart → AcceptsApart → ComparesApart → (words : List (List ℕ)) (o : Order) → IsOrder words o → IsWithin o
+within_of few pays accepts compares words (order.Drill seed events) is = few words seed events is
+within_of few pays accepts compares words (order.Pay party peer name ledger amount) is = pays words party peer name ledger amount is
+within_of few pays accepts compares words (order.Accept party ledger) is = accepts words party ledger is
+within_of few pays accepts compares words (order.Compare party mirror) is = compares words party mirror is
+within_of few pays accepts compares words o is = tt
 
 -- ---- where nothing was touched
 
@@ -304,4 +311,5 @@ module _ (moment : ℕ) (left before : Option (List ℕ)) (e : List ℕ → View
   idle (order.Compact party) = record { outcome = outcome.NoMemory; rewritten = tt; safe = still_rewriting compacted_in (e party) (sound party); ends = (refl, refl) }
   idle (order.Migrate party) = record { outcome = outcome.NoMemory; rewritten = tt; safe = still_rewriting migrated_in (e party) (sound party); ends = (refl, refl) }
   idle (order.Wipe party) = record { outcome = outcome.NoMemory; wiped = tt; safe = still_wiping (e party) (sound party); ends = (refl, refl) }
+  idle (order.Compare party mirror) = record { outcome = compared.NoMemory; tells = tt; first_stays = untouched (e party) (sound party); second_stays = untouched (e mirror) (sound mirror); ends = (refl, refl) }
   idle (order.Drill seed events) = tt

@@ -5,5 +5,7 @@ pub mod Drilled
 pub mod Playable
 pub mod Audited
 pub mod Paid
+pub mod Compared
 pub mod Obeys
 pub mod Network
+pub mod Mirrored

@@ -38,6 +38,7 @@ use Rattle.x917.specs.Dues.{Follows, FollowsBytes}
 use Rattle.x917.specs.Headline.{scenario_limit}
 use Rattle.x917.specs.Paid.{FollowsPayment, IsAccepted, IsPayment, payment_limit, payment_taken}
 use Rattle.x917.specs.Playable.{ExpectsReplay, ExpectsDrill}
+use Rattle.x917.specs.Compared.{FollowsComparison, IsComparing}
 
 -- the command that an order gives to a party
 abbrev pub command_of : Order → Option PartyCommand
@@ -108,6 +109,7 @@ Obeys (order.Show party) moment s left rest before after old new = IsListing (ol
 Obeys (order.Compact party) moment s left rest before after old new = IsRewriting compacted_in (old party) (new party) s before after
 Obeys (order.Migrate party) moment s left rest before after old new = IsRewriting migrated_in (old party) (new party) s before after
 Obeys (order.Wipe party) moment s left rest before after old new = IsWiping (old party) (new party) s before after
+Obeys (order.Compare party mirror) moment s left rest before after old new = IsComparing party mirror old new s before after
 Obeys order.Replay moment s left rest before after old new = Unit {0}
 Obeys order.Audit moment s left rest before after old new = Unit {0}
 Obeys (order.Drill seed events) moment s left rest before after old new = Unit {0}
@@ -128,6 +130,7 @@ Expects (order.Show party) moment left old s = Follows (old party) IsDueShow s
 Expects (order.Compact party) moment left old s = Follows (old party) IsDueCompaction s
 Expects (order.Migrate party) moment left old s = Follows (old party) IsDueMigration s
 Expects (order.Wipe party) moment left old s = Follows (old party) IsDueWiping s
+Expects (order.Compare party mirror) moment left old s = FollowsComparison (old party) (old mirror) s
 Expects order.Replay moment left old s = IfSome left (λ all. ExpectsReplay all old s)
 Expects order.Audit moment left old s = IfSome left (λ all. ExpectsAudit (audit_taken all) s)
 Expects (order.Drill seed events) moment left old s = ExpectsDrill seed events s
@@ -144,15 +147,17 @@ party_of (order.Show party) = Some party
 party_of (order.Compact party) = Some party
 party_of (order.Migrate party) = Some party
 party_of (order.Wipe party) = Some party
+party_of (order.Compare party mirror) = Some party
 party_of (order.Take party) = Some party
 party_of (order.Pay party peer name ledger amount) = Some party
 party_of (order.Accept party ledger) = Some party
 party_of o = option_map (λ (t : PartyCommand). t.party) (command_of o)
 
--- the ledger of an order
+-- the other disk of an order: a ledger, or the second disk of a party
 abbrev pub ledger_of : Order → Option (List ℕ)
 ledger_of (order.Pay party peer name ledger amount) = Some ledger
 ledger_of (order.Accept party ledger) = Some ledger
+ledger_of (order.Compare party mirror) = Some mirror
 ledger_of o = None
 
 -- the disks under other names than these stay
@@ -161,13 +166,14 @@ OthersOf None ledger old new = AllStay old new
 OthersOf (Some party) None old new = OthersStay party old new
 OthersOf (Some party) (Some ledger) old new = ThirdsStay party ledger old new
 
--- the orders that begin, show or look after the file of a party, or pay out of it
+-- the orders that begin, show, compare or look after the file of a party, or pay out of it
 abbrev pub is_tended : Order → Bool
 is_tended (order.Init party role key v) = true
 is_tended (order.Show party) = true
 is_tended (order.Compact party) = true
 is_tended (order.Migrate party) = true
 is_tended (order.Wipe party) = true
+is_tended (order.Compare party mirror) = true
 is_tended (order.Pay party peer name ledger amount) = true
 is_tended o = false
 
@@ -216,12 +222,13 @@ pub record JudgesWords (words : List (List ℕ)) (s : Status) (stays : Type 0) :
   pub line : s ≡ status.Usage Line → is_line words ≡ false
   pub untouched : (kind : UsageKind) → usage_of words ≡ Some kind → stays
 
--- what holds of the values of an order that words stand for: a drill has 1 to 10,000 events, and a ledger another name than the
--- party
+-- what holds of the values of an order that words stand for: a drill has 1 to 10,000 events, and a ledger or a second disk
+-- another name than the party
 abbrev pub IsWithin : Order → Type 0
 IsWithin (order.Drill seed events) = (1 ≤ events) × (events ≤ 10000)
 IsWithin (order.Pay party peer name ledger amount) = party ≢ ledger
 IsWithin (order.Accept party ledger) = party ≢ ledger
+IsWithin (order.Compare party mirror) = party ≢ mirror
 IsWithin o = Unit {0}
 
 -- what a payment leaves, and why it failed: where the party answered both disks are back on the shelf, the others stay, with a

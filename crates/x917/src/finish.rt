@@ -25,7 +25,7 @@ fn put_both<K: Sink>(sink: &mut K, text: &[u8], ending: &[u8]) -> Result<(), Sin
 }
 
 /// Puts a text, where there is one; the status is the answer where that doesn't fail.
-fn put_text<K: Sink>(sink: &mut K, text: Option<Text>, ending: &[u8], answer: Status) -> Status
+pub fn put_text<K: Sink>(sink: &mut K, text: Option<Text>, ending: &[u8], answer: Status) -> Status
     ensures puts { Puts text ending.now answer result (K.written sink.old) (K.written sink.new) }
     ensures fault { (result ≡ answer) ⊎ Rose (K.faults sink.old) (K.faults sink.new) }
 {

@@ -2,9 +2,11 @@
 #![tactic(auto)]
 
 mod auditing;
+mod comparing;
 mod courses;
 mod drilling;
 mod finish;
+mod mirrored;
 mod party_command;
 mod payments;
 mod replaying;

@@ -1,6 +1,6 @@
 // The top call.
 ghost use Rattle.std.specs.Prelude.{◌≡◌, ℕ, List, Option, true};
-ghost use Rattle.x_line.specs.Orders.{IsOrder};
+ghost use Rattle.x_line.specs.Orders.{IsGiven, IsMirrored, IsOrder};
 ghost use Rattle.x_line.specs.declared.order.Order.{Order};
 ghost use Rattle.x_line.specs.declared.order.Order.TheVariants.{Audit, Replay, Drill};
 ghost use Rattle.csm_check.specs.Transfer.{TookAtMost, IsQuiet};
@@ -9,11 +9,14 @@ ghost use Rattle.x917.specs.Audited.{IsAudit};
 ghost use Rattle.x917.specs.Headline.{IsReplay};
 ghost use Rattle.x917.specs.Drilled.{IsDrill};
 ghost use Rattle.x917.specs.Obeys.{Obeys, Expects, IsWithin, LeavesOthers, JudgesWords, IsSilentOf, is_tended, most_of};
+ghost use Rattle.x917.specs.Mirrored.{LeavesMirrored, ObeysMirrored};
 ghost use Rattle.x917.specs.Network.{IsNetworkEvent};
 
 use crate::auditing::audit_all;
+use crate::comparing::compare;
 use crate::drilling::drill_all;
 use crate::finish::{finish, finish_payment};
+use crate::mirrored::carry_out_mirrored;
 use crate::party_command::command_of;
 use crate::payments::accept;
 use crate::replaying::replay_all;
@@ -25,10 +28,12 @@ use world_laws::law_calls;
 use x_base::{Sink, Source, Words};
 use x_disk::{MemoryShelf, Shelf};
 use x_gen::Gen;
-use x_line::{LineFault, Order, law_few_events, law_ledger_apart, law_one_order, read_order};
+use x_line::{
+    LineFault, Order, law_few_events, law_ledger_apart, law_mirror_apart, law_one_order, read_order,
+};
 use x_status::Status;
 
-/// Begins, shows or looks after the file of a party, or pays out of it, as an order says.
+/// Begins, shows, compares or looks after the file of a party, or pays out of it, as an order says.
 fn tend<K: Sink, H: Shelf>(alloc: Global, order: &Order, sink: &mut K, shelf: &mut H) -> Status
     requires tended { is_tended order.now ≡ true }
     requires within { IsWithin order.now }
@@ -53,6 +58,7 @@ fn tend<K: Sink, H: Shelf>(alloc: Global, order: &Order, sink: &mut K, shelf: &m
         Order::Compact { party } => finish(sink, x_party::compact(alloc, shelf, &party), b""),
         Order::Migrate { party } => finish(sink, x_party::migrate(alloc, shelf, &party), b""),
         Order::Wipe { party } => finish(sink, x_party::wipe(alloc, shelf, &party), b""),
+        Order::Compare { party, mirror } => compare(alloc, sink, shelf, &party, &mirror),
         Order::Pay {
             party,
             peer,
@@ -144,6 +150,11 @@ pub fn run<S: Source, K: Sink, H: Shelf>(
     // isn't read.
     ensures others { (order : Order) → IsOrder words.now order → LeavesOthers order result (H.is_back shelf.new) (source.new ≡ source.old) (H.entry shelf.old) (H.entry shelf.new) }
 
+    // Where they name a second disk of the party, the order is done over both: the party is created on both, and otherwise opened
+    // of both, which repairs the one that lacks it. Where the party answered both are back on the shelf.
+    ensures mirrored { (order : Order) (mirror : List ℕ) → IsMirrored words.now order mirror → ObeysMirrored order mirror moment result (S.left source.old) (S.left source.new) (K.written sink.old) (K.written sink.new) (H.entry shelf.old) (H.entry shelf.new) }
+    ensures mirrors { (order : Order) (mirror : List ℕ) → IsMirrored words.now order mirror → LeavesMirrored order mirror result (H.is_back shelf.new) (source.new ≡ source.old) (H.entry shelf.old) (H.entry shelf.new) }
+
     // A scenario is played as its lines say, and what it ends with is true of the network that they describe.
     ensures replays { IsOrder words.now Replay → IsReplay result (S.left source.old) (S.left source.new) (K.written sink.old) (K.written sink.new) (H.entry shelf.old) (H.entry shelf.new) (H.faults shelf.old) (H.faults shelf.new) }
 
@@ -162,15 +173,21 @@ pub fn run<S: Source, K: Sink, H: Shelf>(
 
     // `check` and `take` take at most 2,049 bytes, `accept` 257, `replay` 16,777,217 and `audit` 67,108,865, from the front;
     // with a silent status nothing is written.
-    ensures silent { (order : Order) → IsOrder words.now order → IsSilentOf order result → sink.new ≡ sink.old }
-    ensures most { (order : Order) → IsOrder words.now order → TookAtMost (most_of order) (S.left source.old) (S.left source.new) }
+    ensures silent { (order : Order) (mirror : Option (List ℕ)) → IsGiven words.now order mirror → IsSilentOf order result → sink.new ≡ sink.old }
+    ensures most { (order : Order) (mirror : Option (List ℕ)) → IsGiven words.now order mirror → TookAtMost (most_of order) (S.left source.old) (S.left source.new) }
 {
     law_one_order();
     law_few_events();
     law_ledger_apart();
+    law_mirror_apart();
     law_calls::<H>();
     match read_order(alloc, words) {
-        Ok(order) => carry_out(alloc, order, moment, source, sink, shelf),
+        Ok(given) => match given.mirror {
+            None => carry_out(alloc, given.order, moment, source, sink, shelf),
+            Some(mirror) => {
+                carry_out_mirrored(alloc, given.order, &mirror, moment, source, sink, shelf)
+            }
+        },
         Err(LineFault::Usage(kind)) => Status::Usage(kind),
         Err(LineFault::NoMemory) => Status::NoMemory,
     }

@@ -4,3 +4,4 @@ pub mod Limiting
 pub mod Ordering
 pub mod Parsing
 pub mod Taking
+pub mod Mirrored

@@ -1,4 +1,4 @@
--- The number of a drill's events lies within its limits, and a ledger isn't the party's.
+-- The number of a drill's events lies within its limits, and neither a ledger nor a second disk has the party's name.
 use Rattle.std.proofs.Common.{◌≡◌, ◌≢◌, ◌∙◌, ◌≤◌, ◌&&◌, ℕ, Bool, true, false, List, Option, Some, None, refl, sym, subst, true≢false}
 use Rattle.std.specs.Prelude.{nat_le, if◌then◌else◌, option_and_then}
 use Rattle.std.proofs.lemmas.Bool.{leb-true}
@@ -6,7 +6,7 @@ use Rattle.std.proofs.lemmas.Slice.Eq.{bytes_eq-Decides}
 use Rattle.std.specs.Str.{bytes_eq}
 use Rattle.clap.specs.Words.{first_of}
 use Rattle.x_line.specs.declared.opt.Opt.TheVariants as opt
-use Rattle.x_line.specs.Laws.{AcceptsApart, FewEvents, PaysApart}
+use Rattle.x_line.specs.Laws.{AcceptsApart, ComparesApart, FewEvents, PaysApart}
 use Rattle.x_line.specs.Line.{rows_of_line}
 use Rattle.x_line.specs.LineValues.{given}
 use Rattle.x_line.specs.Options.{name_of}
@@ -40,7 +40,7 @@ other_is party name ledger is same = go (bytes_eq party name) refl is
     go true e is = absurd cc
     go false e is = let other : name ≡ ledger = cc in true≢false (sym ((bytes_eq-Decides party name).1 (same ∙ sym other)) ∙ e)
 
-apart : (party ledger : List ℕ) (p l : Option (List ℕ)) → p ≡ Some party → option_and_then (other_than p) l ≡ Some ledger → party ≢ ledger
+pub apart : (party ledger : List ℕ) (p l : Option (List ℕ)) → p ≡ Some party → option_and_then (other_than p) l ≡ Some ledger → party ≢ ledger
 apart party ledger p None given is = absurd cc
 apart party ledger p (Some name) given is = other_is party name ledger (subst (λ (x : Option (List ℕ)). other_than x name ≡ Some ledger) given is)
 
@@ -51,3 +51,7 @@ pays_apart words party peer name ledger amount is =
 pub accepts_apart : AcceptsApart
 accepts_apart words party ledger is =
     apart party ledger (given ident_of opt.Party (rows_of_line words)) (given ident_of opt.Ledger (rows_of_line words)) is.1.1.0 is.1.1.1
+
+pub compares_apart : ComparesApart
+compares_apart words party mirror is =
+    apart party mirror (given ident_of opt.Party (rows_of_line words)) (given ident_of opt.Mirror (rows_of_line words)) is.1.1.0 is.1.1.1

@@ -8,10 +8,10 @@ use Rattle.x_line.specs.declared.opt.Opt.{Opt}
 use Rattle.x_line.specs.declared.opt.Opt.TheVariants as opt
 use Rattle.x_line.specs.declared.order.Order.{Order}
 use Rattle.x_line.specs.declared.order.Order.TheVariants as order
-use Rattle.x_line.specs.LineValues.{named_kind, given, is_given, ledger_of}
+use Rattle.x_line.specs.LineValues.{named_kind, given, is_given, other_of}
 use Rattle.x_line.specs.Laws.{HasOrder, OneOrder}
 use Rattle.x_line.specs.Line.{is_line, rows_of_line}
-use Rattle.x_line.specs.Orders.{HasValues, IsOrder, Says, is_whole, kind_of}
+use Rattle.x_line.specs.Orders.{HasValues, IsGiven, Says, is_whole, kind_of, mirror_of}
 use Rattle.x_line.specs.Usage.{bad_of, first_fault, missing_of, options_fault, rows_fault, unwanted_of}
 use Rattle.x_line.specs.Values.{events_of, one_or_two_of, role_of, side_of}
 use Rattle.x_values.specs.Words.{count_of, ident_of, key_name_of, key_of, label_of, number_of, pair_of}
@@ -49,12 +49,13 @@ made kinds.Show rows = for_party rows order.Show
 made kinds.Compact rows = for_party rows order.Compact
 made kinds.Migrate rows = for_party rows order.Migrate
 made kinds.Wipe rows = for_party rows order.Wipe
+made kinds.Compare rows = with (given ident_of opt.Party rows) (λ p. with (other_of opt.Mirror rows) (λ m. Some (order.Compare p m)))
 made kinds.Resend rows = for_peer rows (λ p q. Some (order.Resend p q))
 made kinds.Drop rows = for_peer rows (λ p q. Some (order.Drop p q))
 made kinds.End rows = for_peer rows (λ p q. with (given key_name_of opt.Name rows) (λ n. Some (order.End p q n)))
 made kinds.Pay rows = for_peer rows (λ p q. with (given key_name_of opt.Name rows) (λ n.
-    with (ledger_of rows) (λ l. with (given count_of opt.Amount rows) (λ a. Some (order.Pay p q n l a)))))
-made kinds.Accept rows = with (given ident_of opt.Party rows) (λ p. with (ledger_of rows) (λ l. Some (order.Accept p l)))
+    with (other_of opt.Ledger rows) (λ l. with (given count_of opt.Amount rows) (λ a. Some (order.Pay p q n l a)))))
+made kinds.Accept rows = with (given ident_of opt.Party rows) (λ p. with (other_of opt.Ledger rows) (λ l. Some (order.Accept p l)))
 made kinds.Drill rows = with (given number_of opt.Seed rows) (λ s. with (given events_of opt.Events rows) (λ e. Some (order.Drill s e)))
 
 made_is : (rows : List Row) (o : Order) → HasValues rows o → made (kind_of o) rows ≡ Some o
@@ -73,6 +74,7 @@ made_is rows (order.Show p) h = rw h refl
 made_is rows (order.Compact p) h = rw h refl
 made_is rows (order.Migrate p) h = rw h refl
 made_is rows (order.Wipe p) h = rw h refl
+made_is rows (order.Compare p m) h = rw (h.1, h.0) refl
 made_is rows (order.Resend p q) h = rw (h.0, h.1) refl
 made_is rows (order.Drop p q) h = rw (h.0, h.1) refl
 made_is rows (order.End p q n) h = rw (h.0, h.1, h.2) refl
@@ -87,7 +89,9 @@ same rows a b h k =
     cc
 
 pub one_order : OneOrder
-one_order words a b h k = same (rows_of_line words) a b h.1 k.1
+one_order words a b m n h k =
+    let one = same (rows_of_line words) a b h.1 k.1 in
+    (one, sym h.2 ∙ (ap (λ (o : Order). mirror_of (kind_of o) (rows_of_line words)) one ∙ k.2))
 
 -- ---- and one at least
 
@@ -145,6 +149,10 @@ has_made kinds.Show rows h = let p = first (given ident_of opt.Party rows) _ h i
 has_made kinds.Compact rows h = let p = first (given ident_of opt.Party rows) _ h in (order.Compact p.value, refl, p.is)
 has_made kinds.Migrate rows h = let p = first (given ident_of opt.Party rows) _ h in (order.Migrate p.value, refl, p.is)
 has_made kinds.Wipe rows h = let p = first (given ident_of opt.Party rows) _ h in (order.Wipe p.value, refl, p.is)
+has_made kinds.Compare rows h =
+    let p = first (given ident_of opt.Party rows) _ h in
+    let m = first (other_of opt.Mirror rows) _ p.more in
+    (order.Compare p.value m.value, refl, (p.is, m.is))
 has_made kinds.Resend rows h =
     let p = first (given ident_of opt.Party rows) _ h in
     let q = first (given ident_of opt.Peer rows) _ p.more in
@@ -162,12 +170,12 @@ has_made kinds.Pay rows h =
     let p = first (given ident_of opt.Party rows) _ h in
     let q = first (given ident_of opt.Peer rows) _ p.more in
     let n = first (given key_name_of opt.Name rows) _ q.more in
-    let l = first (ledger_of rows) _ n.more in
+    let l = first (other_of opt.Ledger rows) _ n.more in
     let a = first (given count_of opt.Amount rows) _ l.more in
     (order.Pay p.value q.value n.value l.value a.value, refl, (p.is, q.is, n.is, l.is, a.is))
 has_made kinds.Accept rows h =
     let p = first (given ident_of opt.Party rows) _ h in
-    let l = first (ledger_of rows) _ p.more in
+    let l = first (other_of opt.Ledger rows) _ p.more in
     (order.Accept p.value l.value, refl, (p.is, l.is))
 has_made kinds.Drill rows h =
     let s = first (given number_of opt.Seed rows) _ h in
@@ -194,6 +202,6 @@ said rows h = go (named_kind rows) refl
 pub has_order : HasOrder
 has_order words h = go (is_line words) refl
   where
-    go : (b : Bool) → is_line words ≡ b → (o : Order) × IsOrder words o
+    go : (b : Bool) → is_line words ≡ b → (o : Order) × (mirror : Option (List ℕ)) × IsGiven words o mirror
     go false e = let bad = rw e at h in absurd cc
-    go true e = let s = said (rows_of_line words) (rw e at h) in (s.0, (h, s.1))
+    go true e = let s = said (rows_of_line words) (rw e at h) in (s.0, mirror_of (kind_of s.0) (rows_of_line words), (h, s.1, refl))

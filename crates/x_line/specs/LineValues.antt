@@ -32,9 +32,9 @@ is_given o rows = is_some (first_of (name_of o) rows)
 abbrev pub given : {A : Type 0} → (Text → Option A) → Opt → List Row → Option A
 given reading o rows = option_and_then reading (first_of (name_of o) rows)
 
--- the name under which the ledger lies, which isn't that of the party
-abbrev pub ledger_of : List Row → Option (List ℕ)
-ledger_of rows = option_and_then (other_than (given ident_of opt.Party rows)) (given ident_of opt.Ledger rows)
+-- the identity that the option gives, which isn't that of the party
+abbrev pub other_of : Opt → List Row → Option (List ℕ)
+other_of o rows = option_and_then (other_than (given ident_of opt.Party rows)) (given ident_of o rows)
 
 -- the value of the option stands for something; a flag has none
 abbrev pub is_valid : Opt → List Row → Bool
@@ -51,6 +51,7 @@ is_valid opt.Ultimate rows = is_some (given ident_of opt.Ultimate rows)
 is_valid opt.Name rows = is_some (given key_name_of opt.Name rows)
 is_valid opt.Seed rows = is_some (given number_of opt.Seed rows)
 is_valid opt.Events rows = is_some (given events_of opt.Events rows)
-is_valid opt.Ledger rows = is_some (ledger_of rows)
+is_valid opt.Mirror rows = is_some (other_of opt.Mirror rows)
+is_valid opt.Ledger rows = is_some (other_of opt.Ledger rows)
 is_valid opt.Amount rows = is_some (given count_of opt.Amount rows)
 is_valid opt.Single rows = true

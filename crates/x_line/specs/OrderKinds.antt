@@ -7,8 +7,8 @@ use Rattle.x_line.specs.declared.order_kind.OrderKind.TheVariants as kinds
 abbrev pub order_kinds : List OrderKind
 order_kinds = kinds.Check ∷ kinds.Replay ∷ kinds.Audit ∷ kinds.Init ∷ kinds.Load ∷ kinds.Start
     ∷ kinds.StartKk ∷ kinds.Ask ∷ kinds.Translate ∷ kinds.Take ∷ kinds.Purge
-    ∷ kinds.Show ∷ kinds.Compact ∷ kinds.Migrate ∷ kinds.Wipe ∷ kinds.Resend ∷ kinds.Drop
-    ∷ kinds.End ∷ kinds.Pay ∷ kinds.Accept ∷ kinds.Drill ∷ []
+    ∷ kinds.Show ∷ kinds.Compact ∷ kinds.Migrate ∷ kinds.Wipe ∷ kinds.Compare ∷ kinds.Resend
+    ∷ kinds.Drop ∷ kinds.End ∷ kinds.Pay ∷ kinds.Accept ∷ kinds.Drill ∷ []
 
 abbrev pub name_of_kind : OrderKind → List ℕ
 name_of_kind kinds.Check = codes "check"
@@ -26,6 +26,7 @@ name_of_kind kinds.Show = codes "show"
 name_of_kind kinds.Compact = codes "compact"
 name_of_kind kinds.Migrate = codes "migrate"
 name_of_kind kinds.Wipe = codes "wipe"
+name_of_kind kinds.Compare = codes "compare"
 name_of_kind kinds.Resend = codes "resend"
 name_of_kind kinds.Drop = codes "drop"
 name_of_kind kinds.End = codes "end"

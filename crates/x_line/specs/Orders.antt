@@ -1,5 +1,5 @@
 -- The order that a command line stands for: this project's profile.
-use Rattle.std.specs.Prelude.{◌≡◌, ◌||◌, not, Bool, true, List, Option, Some, None}
+use Rattle.std.specs.Prelude.{◌≡◌, ◌≢◌, ◌||◌, ℕ, not, Bool, true, List, Option, Some, None}
 use Rattle.std.specs.List.{list_all}
 use Rattle.clap.specs.Words.{Row, Text}
 use Rattle.x_line.specs.declared.order_kind.OrderKind.{OrderKind}
@@ -9,7 +9,7 @@ use Rattle.x_line.specs.declared.order.Order.{Order}
 use Rattle.x_line.specs.declared.order.Order.TheVariants as order
 use Rattle.x_line.specs.declared.usage.LineFault.{LineFault}
 use Rattle.x_line.specs.declared.usage.LineFault.TheVariants as fault
-use Rattle.x_line.specs.LineValues.{named_kind, given, is_given, is_valid, ledger_of}
+use Rattle.x_line.specs.LineValues.{named_kind, given, is_given, is_valid, other_of}
 use Rattle.x_line.specs.Line.{rows_of_line}
 use Rattle.x_line.specs.Needs.{is_required, need_of}
 use Rattle.x_line.specs.Options.{options}
@@ -34,6 +34,7 @@ kind_of (order.Show party) = kinds.Show
 kind_of (order.Compact party) = kinds.Compact
 kind_of (order.Migrate party) = kinds.Migrate
 kind_of (order.Wipe party) = kinds.Wipe
+kind_of (order.Compare party mirror) = kinds.Compare
 kind_of (order.Resend party peer) = kinds.Resend
 kind_of (order.Drop party peer) = kinds.Drop
 kind_of (order.End party peer name) = kinds.End
@@ -71,6 +72,8 @@ HasValues rows (order.Show party) = given ident_of opt.Party rows ≡ Some party
 HasValues rows (order.Compact party) = given ident_of opt.Party rows ≡ Some party
 HasValues rows (order.Migrate party) = given ident_of opt.Party rows ≡ Some party
 HasValues rows (order.Wipe party) = given ident_of opt.Party rows ≡ Some party
+HasValues rows (order.Compare party mirror) =
+    (given ident_of opt.Party rows ≡ Some party) × (other_of opt.Mirror rows ≡ Some mirror)
 HasValues rows (order.Resend party peer) =
     (given ident_of opt.Party rows ≡ Some party) × (given ident_of opt.Peer rows ≡ Some peer)
 HasValues rows (order.Drop party peer) =
@@ -79,9 +82,9 @@ HasValues rows (order.End party peer name) = (given ident_of opt.Party rows ≡ 
     × (given ident_of opt.Peer rows ≡ Some peer) × (given key_name_of opt.Name rows ≡ Some name)
 HasValues rows (order.Pay party peer name ledger amount) = (given ident_of opt.Party rows ≡ Some party)
     × (given ident_of opt.Peer rows ≡ Some peer) × (given key_name_of opt.Name rows ≡ Some name)
-    × (ledger_of rows ≡ Some ledger) × (given count_of opt.Amount rows ≡ Some amount)
+    × (other_of opt.Ledger rows ≡ Some ledger) × (given count_of opt.Amount rows ≡ Some amount)
 HasValues rows (order.Accept party ledger) =
-    (given ident_of opt.Party rows ≡ Some party) × (ledger_of rows ≡ Some ledger)
+    (given ident_of opt.Party rows ≡ Some party) × (other_of opt.Ledger rows ≡ Some ledger)
 HasValues rows (order.Drill seed events) =
     (given number_of opt.Seed rows ≡ Some seed) × (given events_of opt.Events rows ≡ Some events)
 
@@ -89,9 +92,39 @@ HasValues rows (order.Drill seed events) =
 abbrev pub Says : List Row → Order → Type 0
 Says rows o = (named_kind rows ≡ Some (kind_of o)) × HasValues rows o
 
--- the words stand for the order: nothing is wrong with them, and it says what they give
+-- the second disk of the order's party, which the line may give; two disks that are compared are named by the order itself
+abbrev pub mirror_of : OrderKind → List Row → Option (List ℕ)
+mirror_of kinds.Compare rows = None
+mirror_of k rows = other_of opt.Mirror rows
+
+-- the words stand for the order, of a party with this second disk or with none: nothing is wrong with them, and it says what
+-- they give
+abbrev pub IsGiven : List Text → Order → Option (List ℕ) → Type 0
+IsGiven words o mirror = (usage_of words ≡ None) × Says (rows_of_line words) o × (mirror_of (kind_of o) (rows_of_line words) ≡ mirror)
+
+-- of a party with one disk
 abbrev pub IsOrder : List Text → Order → Type 0
-IsOrder words o = (usage_of words ≡ None) × Says (rows_of_line words) o
+IsOrder words o = IsGiven words o None
+
+-- of a party with two, the second of this name
+abbrev pub IsMirrored : List Text → Order → List ℕ → Type 0
+IsMirrored words o mirror = IsGiven words o (Some mirror)
+
+-- an order that acts on two disks of a party, the second of this name, which isn't the party's
+abbrev pub IsOfTwo : Order → List ℕ → Type 0
+IsOfTwo (order.Init party role key v) mirror = party ≢ mirror
+IsOfTwo (order.Load party peer label side pair) mirror = party ≢ mirror
+IsOfTwo (order.Start party peer label) mirror = party ≢ mirror
+IsOfTwo (order.StartKk party peer new label single) mirror = party ≢ mirror
+IsOfTwo (order.Ask party peer ultimate) mirror = party ≢ mirror
+IsOfTwo (order.Translate party peer ultimate) mirror = party ≢ mirror
+IsOfTwo (order.Take party) mirror = party ≢ mirror
+IsOfTwo (order.Purge party) mirror = party ≢ mirror
+IsOfTwo (order.Show party) mirror = party ≢ mirror
+IsOfTwo (order.Resend party peer) mirror = party ≢ mirror
+IsOfTwo (order.Drop party peer) mirror = party ≢ mirror
+IsOfTwo (order.End party peer name) mirror = party ≢ mirror
+IsOfTwo o mirror = ⊥
 
 -- the fault is what is wrong with the words; want of memory may be answered to any
 abbrev pub IsFault : List Text → LineFault → Type 0

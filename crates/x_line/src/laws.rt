@@ -1,5 +1,5 @@
 // What is promised of every command line, whatever reads it.
-ghost use Rattle.x_line.specs.Laws.{AcceptsApart, FewEvents, HasOrder, OneOrder, PaysApart};
+ghost use Rattle.x_line.specs.Laws.{AcceptsApart, ComparesApart, FewEvents, HasOrder, MirrorsApart, OneOrder, PaysApart};
 
 /// Words in which nothing is wrong stand for an order.
 #[tactic(auto, using(crate::proofs::Ordering::has_order))]
@@ -7,7 +7,7 @@ pub fn law_has_order()
     ensures { HasOrder }
 {}
 
-/// Words stand for one order at most.
+/// Words stand for one order at most, of a party with one disk or with two.
 #[tactic(auto, using(crate::proofs::Ordering::one_order))]
 pub fn law_one_order()
     ensures { OneOrder }
@@ -22,4 +22,10 @@ pub fn law_few_events()
 pub fn law_ledger_apart()
     ensures pays { PaysApart }
     ensures accepts { AcceptsApart }
+{}
+
+/// A second disk is named with the orders alone that act on two, and under another name than the party.
+pub fn law_mirror_apart()
+    ensures mirrors { MirrorsApart }
+    ensures compares { ComparesApart }
 {}

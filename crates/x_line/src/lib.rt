@@ -13,7 +13,7 @@ mod order_kind;
 mod usage;
 mod values;
 
-pub use laws::{law_few_events, law_has_order, law_ledger_apart, law_one_order};
+pub use laws::{law_few_events, law_has_order, law_ledger_apart, law_mirror_apart, law_one_order};
 pub use opt::Opt;
-pub use order::{Order, read_order};
+pub use order::{Given, Order, read_order};
 pub use usage::{LineFault, UsageKind};

@@ -1,10 +1,12 @@
 // The order that a line gives where the values of its options stand for something.
-ghost use Rattle.x_line.specs.Orders.{IsMade};
+ghost use Rattle.std.specs.Prelude.{◌≡◌};
+ghost use Rattle.x_line.specs.Orders.{IsMade, mirror_of};
 
 use crate::line::Line;
 use crate::opt::Opt;
 use crate::order::Order;
 use crate::order_kind::OrderKind;
+use x_base::Ident;
 
 fn init(line: &Line<'_>) -> Option<Order>
     ensures { IsMade OrderKind.Init line.now result }
@@ -88,7 +90,7 @@ fn pay(line: &Line<'_>) -> Option<Order>
         party: line.ident(Opt::Party)?,
         peer: line.ident(Opt::Peer)?,
         name: line.name()?,
-        ledger: line.ledger()?,
+        ledger: line.other(Opt::Ledger)?,
         amount: line.amount()?,
     })
 }
@@ -98,7 +100,16 @@ fn accept(line: &Line<'_>) -> Option<Order>
 {
     Some(Order::Accept {
         party: line.ident(Opt::Party)?,
-        ledger: line.ledger()?,
+        ledger: line.other(Opt::Ledger)?,
+    })
+}
+
+fn compare(line: &Line<'_>) -> Option<Order>
+    ensures { IsMade OrderKind.Compare line.now result }
+{
+    Some(Order::Compare {
+        party: line.ident(Opt::Party)?,
+        mirror: line.other(Opt::Mirror)?,
     })
 }
 
@@ -133,6 +144,7 @@ pub(crate) fn order_of(kind: OrderKind, line: &Line<'_>) -> Option<Order>
         OrderKind::Compact => Some(Order::Compact { party: party? }),
         OrderKind::Migrate => Some(Order::Migrate { party: party? }),
         OrderKind::Wipe => Some(Order::Wipe { party: party? }),
+        OrderKind::Compare => compare(line),
         OrderKind::Resend => Some(Order::Resend {
             party: party?,
             peer: peer?,
@@ -145,5 +157,15 @@ pub(crate) fn order_of(kind: OrderKind, line: &Line<'_>) -> Option<Order>
         OrderKind::Pay => pay(line),
         OrderKind::Accept => accept(line),
         OrderKind::Drill => drill(line),
+    }
+}
+
+/// The identity under which the party's second disk lies, where a line of this kind gives one beside its order.
+pub(crate) fn mirror_of(kind: OrderKind, line: &Line<'_>) -> Option<Ident>
+    ensures { result ≡ mirror_of kind line.now }
+{
+    match kind {
+        OrderKind::Compare => None,
+        _ => line.other(Opt::Mirror),
     }
 }

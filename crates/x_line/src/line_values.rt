@@ -1,6 +1,6 @@
 // What the options of a command line stand for.
 ghost use Rattle.std.specs.Prelude.{◌≡◌};
-ghost use Rattle.x_line.specs.LineValues.{named_kind, given, is_valid, ledger_of};
+ghost use Rattle.x_line.specs.LineValues.{named_kind, given, is_valid, other_of};
 ghost use Rattle.x_line.specs.Values.{events_of, one_or_two_of, role_of, side_of};
 ghost use Rattle.x_values.specs.Words.{count_of, ident_of, key_name_of, key_of, label_of, number_of, pair_of};
 
@@ -82,11 +82,11 @@ impl Line<'_> {
         values::events(self.text(Opt::Events)?.as_bytes())
     }
 
-    /// The name of a ledger, which isn't the party's.
-    pub(crate) fn ledger(&self) -> Option<Ident>
-        ensures { result ≡ ledger_of self.now }
+    /// An identity that isn't the party's.
+    pub(crate) fn other(&self, opt: Opt) -> Option<Ident>
+        ensures { result ≡ other_of opt self.now }
     {
-        values::other_than(self.ident(Opt::Party), self.ident(Opt::Ledger)?)
+        values::other_than(self.ident(Opt::Party), self.ident(opt)?)
     }
 
     pub(crate) fn amount(&self) -> Option<Count>
@@ -110,7 +110,7 @@ impl Line<'_> {
             Opt::Name => self.name().is_some(),
             Opt::Seed => self.seed().is_some(),
             Opt::Events => self.events().is_some(),
-            Opt::Ledger => self.ledger().is_some(),
+            Opt::Mirror | Opt::Ledger => self.other(opt).is_some(),
             Opt::Amount => self.amount().is_some(),
             Opt::Single => true,
         }

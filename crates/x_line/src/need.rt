@@ -45,6 +45,22 @@ impl OrderKind {
                 Need::Required,
             (OrderKind::Accept, Opt::Party | Opt::Ledger) => Need::Required,
             (OrderKind::Drill, Opt::Seed | Opt::Events) => Need::Required,
+            (OrderKind::Compare, Opt::Party | Opt::Mirror) => Need::Required,
+            (
+                OrderKind::Init
+                | OrderKind::Load
+                | OrderKind::Start
+                | OrderKind::StartKk
+                | OrderKind::Ask
+                | OrderKind::Translate
+                | OrderKind::Take
+                | OrderKind::Resend
+                | OrderKind::End
+                | OrderKind::Drop
+                | OrderKind::Purge
+                | OrderKind::Show,
+                Opt::Mirror,
+            ) => Need::Optional,
             _ => Need::Refused,
         }
     }

@@ -30,6 +30,8 @@ pub enum Opt {
     Seed,
     /// The number of events of a drill, 1 to 10,000.
     Events,
+    /// The identity under which a party's second disk lies; it isn't the party's.
+    Mirror,
     /// The identity under which a ledger of payments lies; it isn't the party's.
     Ledger,
     /// The amount of a payment, a count: 1 to 14 decimal digits.
@@ -39,7 +41,7 @@ pub enum Opt {
 }
 
 /// The options in the order in which the first at fault is sought.
-pub(crate) const OPTIONS: [Opt; 16] = [
+pub(crate) const OPTIONS: [Opt; 17] = [
     Opt::Party,
     Opt::Role,
     Opt::Genkey,
@@ -53,6 +55,7 @@ pub(crate) const OPTIONS: [Opt; 16] = [
     Opt::Name,
     Opt::Seed,
     Opt::Events,
+    Opt::Mirror,
     Opt::Ledger,
     Opt::Amount,
     Opt::Single,
@@ -77,6 +80,7 @@ impl Opt {
             Opt::Name => "name",
             Opt::Seed => "seed",
             Opt::Events => "events",
+            Opt::Mirror => "mirror",
             Opt::Ledger => "ledger",
             Opt::Amount => "amount",
             Opt::Single => "single",

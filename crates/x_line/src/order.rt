@@ -1,11 +1,11 @@
 ghost use Rattle.std.specs.Prelude.{◌≡◌, Err, true, false, IfOk, IfErr};
 ghost use Rattle.x_line.specs.LineValues.{named_kind};
 ghost use Rattle.x_line.specs.Line.{is_line};
-ghost use Rattle.x_line.specs.Orders.{IsFault, IsOrder, Says, is_whole};
+ghost use Rattle.x_line.specs.Orders.{IsFault, IsGiven, Says, is_whole, kind_of, mirror_of};
 ghost use Rattle.x_line.specs.Usage.{rows_fault};
 
 use crate::line::{Line, Unread};
-use crate::line_order::order_of;
+use crate::line_order::{mirror_of, order_of};
 use crate::order_kind::OrderKind;
 use crate::usage::{LineFault, UsageKind, bad_value, missing, unwanted};
 use std::alloc::Global;
@@ -86,6 +86,11 @@ pub enum Order {
     Wipe {
         party: Ident,
     },
+    /// Tell whether the two disks of a party stand for the same, or which is ahead.
+    Compare {
+        party: Ident,
+        mirror: Ident,
+    },
     /// Write the last message to a peer again.
     Resend {
         party: Ident,
@@ -122,6 +127,14 @@ pub enum Order {
     },
 }
 
+/// What a command line gives.
+#[derive(Clone, Copy, Debug, PartialEq, Eq)]
+pub struct Given {
+    pub order: Order,
+    /// The identity under which the second disk of the order's party lies, where it is kept on two. It isn't the party's.
+    pub mirror: Option<Ident>,
+}
+
 /// The kind of order of the line, where nothing is wrong with its options.
 #[tactic(auto, using(crate::proofs::Checking::whole))]
 fn checked(line: &Line<'_>) -> Result<OrderKind, UsageKind>
@@ -146,22 +159,26 @@ fn checked(line: &Line<'_>) -> Result<OrderKind, UsageKind>
 }
 
 /// The order that the line gives.
-fn said(line: &Line<'_>) -> Result<Order, UsageKind>
-    ensures says { IfOk result (λ o. Says line.now o) }
+fn said(line: &Line<'_>) -> Result<Given, UsageKind>
+    ensures says { IfOk result (λ g. Says line.now g.order) }
+    ensures mirror { IfOk result (λ g. mirror_of (kind_of g.order) line.now ≡ g.mirror) }
     ensures none { IfOk result (λ _. rows_fault line.now ≡ None) }
     ensures fault { IfErr result (λ kind. rows_fault line.now ≡ Some kind) }
 {
     let kind = checked(line)?;
     match order_of(kind, line) {
-        Some(order) => Ok(order),
+        Some(order) => Ok(Given {
+            order,
+            mirror: mirror_of(kind, line),
+        }),
         None => unreachable!(),
     }
 }
 
 /// Reads the words of a command line, which are those behind the program's name.
 #[tactic(auto, using(crate::proofs::Checking::not_line))]
-pub fn read_order(alloc: Global, words: &Words) -> Result<Order, LineFault>
-    ensures order { IfOk result (λ order. IsOrder words.now order) }
+pub fn read_order(alloc: Global, words: &Words) -> Result<Given, LineFault>
+    ensures order { IfOk result (λ g. IsGiven words.now g.order g.mirror) }
     ensures fault { IfErr result (λ fault. IsFault words.now fault) }
     ensures line { result ≡ Err (LineFault.Usage UsageKind.Line) → is_line words.now ≡ false }
 {
@@ -171,7 +188,7 @@ pub fn read_order(alloc: Global, words: &Words) -> Result<Order, LineFault>
         Err(Unread::NoMemory) => return Err(LineFault::NoMemory),
     };
     match said(&line) {
-        Ok(order) => Ok(order),
+        Ok(given) => Ok(given),
         Err(kind) => Err(LineFault::Usage(kind)),
     }
 }

@@ -19,6 +19,7 @@ pub(crate) enum OrderKind {
     Compact,
     Migrate,
     Wipe,
+    Compare,
     Resend,
     Drop,
     End,
@@ -27,7 +28,7 @@ pub(crate) enum OrderKind {
     Drill,
 }
 
-const ORDER_KINDS: [OrderKind; 21] = [
+const ORDER_KINDS: [OrderKind; 22] = [
     OrderKind::Check,
     OrderKind::Replay,
     OrderKind::Audit,
@@ -43,6 +44,7 @@ const ORDER_KINDS: [OrderKind; 21] = [
     OrderKind::Compact,
     OrderKind::Migrate,
     OrderKind::Wipe,
+    OrderKind::Compare,
     OrderKind::Resend,
     OrderKind::Drop,
     OrderKind::End,
@@ -71,6 +73,7 @@ impl OrderKind {
             OrderKind::Compact => "compact",
             OrderKind::Migrate => "migrate",
             OrderKind::Wipe => "wipe",
+            OrderKind::Compare => "compare",
             OrderKind::Resend => "resend",
             OrderKind::Drop => "drop",
             OrderKind::End => "end",

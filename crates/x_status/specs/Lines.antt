@@ -12,7 +12,7 @@ use Rattle.pay_auth.specs.declared.refusal.PayRefusal.{PayRefusal}
 use Rattle.pay_auth.specs.declared.refusal.PayRefusal.TheVariants.{BadPay, PayLow}
 use Rattle.x_line.specs.Usage as usage
 use Rattle.x_status.specs.declared.status.Refusal.{Refusal}
-use Rattle.x_status.specs.declared.status.Refusal.TheVariants.{Text, Trailing, Decided, OtherParty, Audit, Pay}
+use Rattle.x_status.specs.declared.status.Refusal.TheVariants.{Text, Trailing, Decided, OtherParty, Audit, Pay, OtherBatch, OutOfStep, Unplanned, Unlike}
 use Rattle.x_status.specs.declared.status.Status.{Status}
 use Rattle.x_status.specs.declared.status.Status.TheVariants as status
 
@@ -31,6 +31,10 @@ refusal_text (Decided verdict) = decimal (number_of verdict)
 refusal_text (OtherParty asked found) = codes "42"
 refusal_text (Audit fault) = decimal (fault_number fault) ++ (codes " at " ++ decimal (fault_place fault))
 refusal_text (Pay refusal) = pay_text refusal
+refusal_text OtherBatch = codes "40"
+refusal_text (OutOfStep entry) = codes "41"
+refusal_text (Unplanned missing) = codes "49 missing " ++ decimal missing
+refusal_text Unlike = codes "50"
 
 -- the line, which ends with a line feed; `Done` has none. A refusal to read for want of memory, and a forged event as what an
 -- audit finds, which no run answers, are told as want of memory and as a forged event

@@ -24,6 +24,14 @@ pub enum Refusal {
     Audit(AuditFault),
     /// A payment isn't made, or isn't accepted.
     Pay(PayRefusal),
+    /// On the spool's disk stands another batch.
+    OtherBatch,
+    /// The party isn't where its spool says, at the plan of this entry, counted from 1.
+    OutOfStep(u32),
+    /// So many entries of a spool's batch have no plan yet.
+    Unplanned(u32),
+    /// Two disks don't stand for one party in one state.
+    Unlike,
 }
 
 /// How a run ended.
@@ -85,6 +93,10 @@ fn refusal_text(alloc: Global, refusal: &Refusal) -> Result<String, AllocError>
             format!(in alloc; "{number} at {place}")
         }
         Refusal::Pay(refusal) => pay_text(alloc, refusal),
+        Refusal::OtherBatch => format!(in alloc; "40"),
+        Refusal::OutOfStep(_) => format!(in alloc; "41"),
+        Refusal::Unplanned(missing) => format!(in alloc; "49 missing {missing}"),
+        Refusal::Unlike => format!(in alloc; "50"),
     }
 }
 

@@ -1,32 +1,36 @@
-use Rattle.std.proofs.Common.{◌≡◌, inl, inr, refl, sym, subst}
+use Rattle.std.proofs.Common.{◌≡◌, ◌∙◌, List, ℕ, Option, Some, None, inl, inr, refl, sym, subst}
 use Rattle.x_disk.specs.Shelf.{alike_refl}
 use Rattle.x_status.specs.declared.status.Status.TheVariants as status
 use Rattle.x_line.specs.declared.order.Order.{Order}
 use Rattle.x_line.specs.declared.order.Order.TheVariants as order
 use Rattle.x_line.specs.Line.{rows_of_line}
+use Rattle.x_line.specs.Orders.{IsGiven}
+use Rattle.x917.specs.Mirrored.{LeavesMirrored, ObeysMirrored}
 use Rattle.x917.specs.Obeys.{Obeys, Expects, LeavesOthers, IsSilentOf, most_of}
 use Rattle.csm_check.specs.Transfer.{TookAtMost}
 use Rattle.x917.proofs.Audits.{without_memory}
 use Rattle.x917.proofs.Orders.{idle, leaves_all, faults_of, took_nothing, within_of}
+use Rattle.x917.proofs.Played.{silent_of}
+use Rattle.x917.proofs.Mirrors.{idle_mirrored, left_all, never_both, not_replay}
 use Rattle.x917.proofs.NetworkEvents.{network_event}
 use Rattle.x917.proofs.top.run.Goals as goal
 
-pub returns-in-Ok-clause-complete : goal.returns-in-Ok-clause-complete
-returns-in-Ok-clause-complete g c = λ o is read_quiet put_quiet disk_quiet.
+pub returns-in-None-clause-complete : goal.returns-in-None-clause-complete
+returns-in-None-clause-complete g c = λ o is read_quiet put_quiet disk_quiet.
     subst (λ (x : Order). Expects x c.args.moment (g.S.Source.left c.args.source.now) (g.H.Shelf.entry c.args.shelf.now) c.carry_out.result)
-    (c.law_one_order.ensures c.args.words.now c.in-Ok.order o c.in-Ok.ensures.order is) (c.carry_out.ensures.expects read_quiet put_quiet disk_quiet)
+    ((c.law_one_order.ensures c.args.words.now c.in-Ok.given.order o c.in-Ok.given.mirror None c.in-Ok.ensures.order is).0) (c.carry_out.ensures.expects read_quiet put_quiet disk_quiet)
 
 pub returns-in-Err-NoMemory-clause-obeys : goal.returns-in-Err-NoMemory-clause-obeys
 returns-in-Err-NoMemory-clause-obeys g c = λ o is.
     idle c.args.moment (g.S.Source.left c.args.source.now) (g.K.Sink.written c.args.sink.now) (g.H.Shelf.entry c.args.shelf.now) (λ name. g.met.H.Shelf.sound c.args.shelf.now name) o
 
-pub returns-in-Ok-clause-others : goal.returns-in-Ok-clause-others
-returns-in-Ok-clause-others g c = λ o is.
+pub returns-in-None-clause-others : goal.returns-in-None-clause-others
+returns-in-None-clause-others g c = λ o is.
     subst (λ (x : Order). LeavesOthers x c.carry_out.result (g.H.Shelf.is_back c.carry_out.new.shelf) (c.carry_out.new.source ≡ c.args.source.now) (g.H.Shelf.entry c.args.shelf.now) (g.H.Shelf.entry c.carry_out.new.shelf))
-    (c.law_one_order.ensures c.args.words.now c.in-Ok.order o c.in-Ok.ensures.order is) c.carry_out.ensures.others
+    ((c.law_one_order.ensures c.args.words.now c.in-Ok.given.order o c.in-Ok.given.mirror None c.in-Ok.ensures.order is).0) c.carry_out.ensures.others
 
-pub returns-in-Ok-clause-faults : goal.returns-in-Ok-clause-faults
-returns-in-Ok-clause-faults g c =
+pub returns-in-None-clause-faults : goal.returns-in-None-clause-faults
+returns-in-None-clause-faults g c =
     faults_of c.carry_out.result (g.S.Source.faults c.args.source.now) (g.S.Source.faults c.carry_out.new.source) (g.K.Sink.faults c.args.sink.now) (g.K.Sink.faults c.carry_out.new.sink)
     (g.H.Shelf.faults c.args.shelf.now) (g.H.Shelf.faults c.carry_out.new.shelf) c.carry_out.ensures.cause
 
@@ -38,8 +42,8 @@ pub returns-in-Err-NoMemory-clause-others : goal.returns-in-Err-NoMemory-clause-
 returns-in-Err-NoMemory-clause-others g c = λ o is.
     leaves_all o status.NoMemory (g.H.Shelf.is_back c.args.shelf.now) (c.args.source.now ≡ c.args.source.now) (g.H.Shelf.entry c.args.shelf.now) (λ of. of) refl
 
-pub returns-in-Ok-clause-network : goal.returns-in-Ok-clause-network
-returns-in-Ok-clause-network g c = λ o is.
+pub returns-in-None-clause-network : goal.returns-in-None-clause-network
+returns-in-None-clause-network g c = λ o is.
     let laws = c.law_calls.ensures in
     let left = g.S.Source.left c.args.source.now in
     let rest = g.S.Source.left c.carry_out.new.source in
@@ -47,7 +51,7 @@ returns-in-Ok-clause-network g c = λ o is.
     let after = g.K.Sink.written c.carry_out.new.sink in
     let old = g.H.Shelf.entry c.args.shelf.now in
     let new = g.H.Shelf.entry c.carry_out.new.shelf in
-    let same = c.law_one_order.ensures c.args.words.now c.in-Ok.order o c.in-Ok.ensures.order is in
+    let same = (c.law_one_order.ensures c.args.words.now c.in-Ok.given.order o c.in-Ok.given.mirror None c.in-Ok.ensures.order is).0 in
     network_event g.H.Shelf.entry laws.commands laws.arrivals laws.compactions laws.migrations c.args.moment c.carry_out.result left rest before after c.args.shelf.now c.carry_out.new.shelf (rows_of_line c.args.words.now) o is.1.1
     (subst (λ (x : Order). Obeys x c.args.moment c.carry_out.result left rest before after old new) same c.carry_out.ensures.obeys)
 
@@ -62,38 +66,120 @@ returns-in-Err-NoMemory-clause-network g c = λ o is.
 
 pub carry_out-requires : goal.carry_out-requires
 carry_out-requires g c =
-    within_of c.law_few_events.ensures c.law_ledger_apart.ensures.pays c.law_ledger_apart.ensures.accepts c.args.words.now c.in-Ok.order c.in-Ok.ensures.order
+    within_of c.law_few_events.ensures c.law_ledger_apart.ensures.pays c.law_ledger_apart.ensures.accepts c.law_mirror_apart.ensures.compares c.args.words.now c.in-Ok.given.order
+    (subst (λ (m : Option (List ℕ)). IsGiven c.args.words.now c.in-Ok.given.order m) c.in-None.is c.in-Ok.ensures.order)
 
-pub returns-in-Ok-clause-silent : goal.returns-in-Ok-clause-silent
-returns-in-Ok-clause-silent g c = λ o is silent.
-    c.carry_out.ensures.silent (subst (λ (x : Order). IsSilentOf x c.carry_out.result) (sym (c.law_one_order.ensures c.args.words.now c.in-Ok.order o c.in-Ok.ensures.order is)) silent)
+pub returns-in-None-clause-silent : goal.returns-in-None-clause-silent
+returns-in-None-clause-silent g c = λ o m is silent.
+    c.carry_out.ensures.silent (subst (λ (x : Order). IsSilentOf x c.carry_out.result) (sym (c.law_one_order.ensures c.args.words.now c.in-Ok.given.order o c.in-Ok.given.mirror m c.in-Ok.ensures.order is).0) silent)
 
-pub returns-in-Ok-clause-most : goal.returns-in-Ok-clause-most
-returns-in-Ok-clause-most g c = λ o is.
+pub returns-in-None-clause-most : goal.returns-in-None-clause-most
+returns-in-None-clause-most g c = λ o m is.
     subst (λ (x : Order). TookAtMost (most_of x) (g.S.Source.left c.args.source.now) (g.S.Source.left c.carry_out.new.source))
-    (c.law_one_order.ensures c.args.words.now c.in-Ok.order o c.in-Ok.ensures.order is) c.carry_out.ensures.most
+    (c.law_one_order.ensures c.args.words.now c.in-Ok.given.order o c.in-Ok.given.mirror m c.in-Ok.ensures.order is).0 c.carry_out.ensures.most
 
-pub returns-in-Ok-clause-replays : goal.returns-in-Ok-clause-replays
-returns-in-Ok-clause-replays g c = λ is. c.carry_out.ensures.replays (c.law_one_order.ensures c.args.words.now c.in-Ok.order order.Replay c.in-Ok.ensures.order is)
+pub returns-in-None-clause-replays : goal.returns-in-None-clause-replays
+returns-in-None-clause-replays g c = λ is. c.carry_out.ensures.replays ((c.law_one_order.ensures c.args.words.now c.in-Ok.given.order order.Replay c.in-Ok.given.mirror None c.in-Ok.ensures.order is).0)
 
-pub returns-in-Ok-clause-drills : goal.returns-in-Ok-clause-drills
-returns-in-Ok-clause-drills g c = λ seed events is.
-    c.carry_out.ensures.drills seed events (c.law_one_order.ensures c.args.words.now c.in-Ok.order (order.Drill seed events) c.in-Ok.ensures.order is)
+pub returns-in-None-clause-drills : goal.returns-in-None-clause-drills
+returns-in-None-clause-drills g c = λ seed events is.
+    c.carry_out.ensures.drills seed events ((c.law_one_order.ensures c.args.words.now c.in-Ok.given.order (order.Drill seed events) c.in-Ok.given.mirror None c.in-Ok.ensures.order is).0)
 
-pub returns-in-Ok-clause-audits : goal.returns-in-Ok-clause-audits
-returns-in-Ok-clause-audits g c = λ is. c.carry_out.ensures.audits (c.law_one_order.ensures c.args.words.now c.in-Ok.order order.Audit c.in-Ok.ensures.order is)
+pub returns-in-None-clause-audits : goal.returns-in-None-clause-audits
+returns-in-None-clause-audits g c = λ is. c.carry_out.ensures.audits ((c.law_one_order.ensures c.args.words.now c.in-Ok.given.order order.Audit c.in-Ok.given.mirror None c.in-Ok.ensures.order is).0)
 
 pub returns-in-Err-NoMemory-clause-audits : goal.returns-in-Err-NoMemory-clause-audits
 returns-in-Err-NoMemory-clause-audits g c = λ is. ((without_memory (g.S.Source.left c.args.source.now), refl), refl)
 
 pub returns-in-Err-Usage-clause-most : goal.returns-in-Err-Usage-clause-most
-returns-in-Err-Usage-clause-most g c = λ o is. took_nothing (most_of o) (g.S.Source.left c.args.source.now)
+returns-in-Err-Usage-clause-most g c = λ o m is. took_nothing (most_of o) (g.S.Source.left c.args.source.now)
 
 pub returns-in-Err-NoMemory-clause-most : goal.returns-in-Err-NoMemory-clause-most
-returns-in-Err-NoMemory-clause-most g c = λ o is. took_nothing (most_of o) (g.S.Source.left c.args.source.now)
+returns-in-Err-NoMemory-clause-most g c = λ o m is. took_nothing (most_of o) (g.S.Source.left c.args.source.now)
 
 pub returns-in-Err-NoMemory-clause-replays : goal.returns-in-Err-NoMemory-clause-replays
 returns-in-Err-NoMemory-clause-replays g c = λ is. inl (inl (inr refl), refl, λ name. alike_refl (g.H.Shelf.entry c.args.shelf.now name))
 
 pub returns-in-Err-NoMemory-clause-drills : goal.returns-in-Err-NoMemory-clause-drills
 returns-in-Err-NoMemory-clause-drills g c = λ seed events is. ((tt, refl), refl, refl)
+
+pub returns-in-None-clause-obeys : goal.returns-in-None-clause-obeys
+returns-in-None-clause-obeys g c = λ o is.
+    subst (λ (x : Order). Obeys x c.args.moment c.carry_out.result (g.S.Source.left c.args.source.now) (g.S.Source.left c.carry_out.new.source) (g.K.Sink.written c.args.sink.now) (g.K.Sink.written c.carry_out.new.sink)
+    (g.H.Shelf.entry c.args.shelf.now) (g.H.Shelf.entry c.carry_out.new.shelf))
+    (c.law_one_order.ensures c.args.words.now c.in-Ok.given.order o c.in-Ok.given.mirror None c.in-Ok.ensures.order is).0 c.carry_out.ensures.obeys
+
+pub returns-in-None-clause-mirrored : goal.returns-in-None-clause-mirrored
+returns-in-None-clause-mirrored g c = λ o m is. never_both c.in-Ok.given.mirror m (c.law_one_order.ensures c.args.words.now c.in-Ok.given.order o c.in-Ok.given.mirror (Some m) c.in-Ok.ensures.order is).1 c.in-None.is
+
+pub returns-in-None-clause-mirrors : goal.returns-in-None-clause-mirrors
+returns-in-None-clause-mirrors g c = λ o m is. never_both c.in-Ok.given.mirror m (c.law_one_order.ensures c.args.words.now c.in-Ok.given.order o c.in-Ok.given.mirror (Some m) c.in-Ok.ensures.order is).1 c.in-None.is
+
+pub carry_out_mirrored-requires : goal.carry_out_mirrored-requires
+carry_out_mirrored-requires g c =
+    c.law_mirror_apart.ensures.mirrors c.args.words.now c.in-Ok.given.order c.in-Some.mirror (subst (λ (m : Option (List ℕ)). IsGiven c.args.words.now c.in-Ok.given.order m) c.in-Some.is c.in-Ok.ensures.order)
+
+pub returns-in-Some-clause-obeys : goal.returns-in-Some-clause-obeys
+returns-in-Some-clause-obeys g c = λ o is. never_both c.in-Ok.given.mirror c.in-Some.mirror c.in-Some.is (c.law_one_order.ensures c.args.words.now c.in-Ok.given.order o c.in-Ok.given.mirror None c.in-Ok.ensures.order is).1
+
+pub returns-in-Some-clause-complete : goal.returns-in-Some-clause-complete
+returns-in-Some-clause-complete g c = λ o is read_quiet put_quiet disk_quiet. never_both c.in-Ok.given.mirror c.in-Some.mirror c.in-Some.is (c.law_one_order.ensures c.args.words.now c.in-Ok.given.order o c.in-Ok.given.mirror None c.in-Ok.ensures.order is).1
+
+pub returns-in-Some-clause-network : goal.returns-in-Some-clause-network
+returns-in-Some-clause-network g c = λ o is. never_both c.in-Ok.given.mirror c.in-Some.mirror c.in-Some.is (c.law_one_order.ensures c.args.words.now c.in-Ok.given.order o c.in-Ok.given.mirror None c.in-Ok.ensures.order is).1
+
+pub returns-in-Some-clause-others : goal.returns-in-Some-clause-others
+returns-in-Some-clause-others g c = λ o is. never_both c.in-Ok.given.mirror c.in-Some.mirror c.in-Some.is (c.law_one_order.ensures c.args.words.now c.in-Ok.given.order o c.in-Ok.given.mirror None c.in-Ok.ensures.order is).1
+
+pub returns-in-Some-clause-replays : goal.returns-in-Some-clause-replays
+returns-in-Some-clause-replays g c = λ is. never_both c.in-Ok.given.mirror c.in-Some.mirror c.in-Some.is (c.law_one_order.ensures c.args.words.now c.in-Ok.given.order order.Replay c.in-Ok.given.mirror None c.in-Ok.ensures.order is).1
+
+pub returns-in-Some-clause-drills : goal.returns-in-Some-clause-drills
+returns-in-Some-clause-drills g c = λ seed events is. never_both c.in-Ok.given.mirror c.in-Some.mirror c.in-Some.is (c.law_one_order.ensures c.args.words.now c.in-Ok.given.order (order.Drill seed events) c.in-Ok.given.mirror None c.in-Ok.ensures.order is).1
+
+pub returns-in-Some-clause-audits : goal.returns-in-Some-clause-audits
+returns-in-Some-clause-audits g c = λ is. never_both c.in-Ok.given.mirror c.in-Some.mirror c.in-Some.is (c.law_one_order.ensures c.args.words.now c.in-Ok.given.order order.Audit c.in-Ok.given.mirror None c.in-Ok.ensures.order is).1
+
+pub returns-in-Some-clause-mirrored : goal.returns-in-Some-clause-mirrored
+returns-in-Some-clause-mirrored g c = λ o m is.
+    let both = c.law_one_order.ensures c.args.words.now c.in-Ok.given.order o c.in-Ok.given.mirror (Some m) c.in-Ok.ensures.order is in
+    let one : c.in-Some.mirror ≡ m = (let same : Some c.in-Some.mirror ≡ Some m = sym c.in-Some.is ∙ both.1 in cc) in
+    subst (λ (n : List ℕ). ObeysMirrored o n c.args.moment c.carry_out_mirrored.result (g.S.Source.left c.args.source.now) (g.S.Source.left c.carry_out_mirrored.new.source) (g.K.Sink.written c.args.sink.now)
+    (g.K.Sink.written c.carry_out_mirrored.new.sink) (g.H.Shelf.entry c.args.shelf.now) (g.H.Shelf.entry c.carry_out_mirrored.new.shelf)) one
+    (subst (λ (x : Order). ObeysMirrored x c.in-Some.mirror c.args.moment c.carry_out_mirrored.result (g.S.Source.left c.args.source.now) (g.S.Source.left c.carry_out_mirrored.new.source) (g.K.Sink.written c.args.sink.now)
+    (g.K.Sink.written c.carry_out_mirrored.new.sink) (g.H.Shelf.entry c.args.shelf.now) (g.H.Shelf.entry c.carry_out_mirrored.new.shelf)) both.0 c.carry_out_mirrored.ensures.obeys)
+
+pub returns-in-Some-clause-mirrors : goal.returns-in-Some-clause-mirrors
+returns-in-Some-clause-mirrors g c = λ o m is.
+    let both = c.law_one_order.ensures c.args.words.now c.in-Ok.given.order o c.in-Ok.given.mirror (Some m) c.in-Ok.ensures.order is in
+    let one : c.in-Some.mirror ≡ m = (let same : Some c.in-Some.mirror ≡ Some m = sym c.in-Some.is ∙ both.1 in cc) in
+    subst (λ (n : List ℕ). LeavesMirrored o n c.carry_out_mirrored.result (g.H.Shelf.is_back c.carry_out_mirrored.new.shelf) (c.carry_out_mirrored.new.source ≡ c.args.source.now) (g.H.Shelf.entry c.args.shelf.now) (g.H.Shelf.entry c.carry_out_mirrored.new.shelf)) one
+    (subst (λ (x : Order). LeavesMirrored x c.in-Some.mirror c.carry_out_mirrored.result (g.H.Shelf.is_back c.carry_out_mirrored.new.shelf) (c.carry_out_mirrored.new.source ≡ c.args.source.now) (g.H.Shelf.entry c.args.shelf.now) (g.H.Shelf.entry c.carry_out_mirrored.new.shelf)) both.0
+    c.carry_out_mirrored.ensures.others)
+
+pub returns-in-Some-clause-faults : goal.returns-in-Some-clause-faults
+returns-in-Some-clause-faults g c =
+    faults_of c.carry_out_mirrored.result (g.S.Source.faults c.args.source.now) (g.S.Source.faults c.carry_out_mirrored.new.source) (g.K.Sink.faults c.args.sink.now) (g.K.Sink.faults c.carry_out_mirrored.new.sink)
+    (g.H.Shelf.faults c.args.shelf.now) (g.H.Shelf.faults c.carry_out_mirrored.new.shelf) c.carry_out_mirrored.ensures.cause
+
+pub returns-in-Some-clause-silent : goal.returns-in-Some-clause-silent
+returns-in-Some-clause-silent g c = λ o m is silent.
+    let both = c.law_one_order.ensures c.args.words.now c.in-Ok.given.order o c.in-Ok.given.mirror m c.in-Ok.ensures.order is in
+    let of = carry_out_mirrored-requires g c in
+    c.carry_out_mirrored.ensures.silent (silent_of c.in-Ok.given.order c.carry_out_mirrored.result (not_replay c.in-Ok.given.order c.in-Some.mirror of) (subst (λ (x : Order). IsSilentOf x c.carry_out_mirrored.result) (sym both.0) silent))
+
+pub returns-in-Some-clause-most : goal.returns-in-Some-clause-most
+returns-in-Some-clause-most g c = λ o m is.
+    subst (λ (x : Order). TookAtMost (most_of x) (g.S.Source.left c.args.source.now) (g.S.Source.left c.carry_out_mirrored.new.source)) (c.law_one_order.ensures c.args.words.now c.in-Ok.given.order o c.in-Ok.given.mirror m c.in-Ok.ensures.order is).0 c.carry_out_mirrored.ensures.most
+
+pub returns-in-Err-NoMemory-clause-mirrored : goal.returns-in-Err-NoMemory-clause-mirrored
+returns-in-Err-NoMemory-clause-mirrored g c = λ o m is.
+    idle_mirrored c.args.moment (g.S.Source.left c.args.source.now) (g.K.Sink.written c.args.sink.now) (g.H.Shelf.entry c.args.shelf.now) (λ name. g.met.H.Shelf.sound c.args.shelf.now name) o m (c.law_mirror_apart.ensures.mirrors c.args.words.now o m is)
+
+pub returns-in-Err-NoMemory-clause-mirrors : goal.returns-in-Err-NoMemory-clause-mirrors
+returns-in-Err-NoMemory-clause-mirrors g c = λ o m is.
+    left_all o m status.NoMemory (g.H.Shelf.is_back c.args.shelf.now) (c.args.source.now ≡ c.args.source.now) (g.H.Shelf.entry c.args.shelf.now) (λ of. of) (λ reading. refl)
+
+pub returns-in-Err-Usage-clause-mirrors : goal.returns-in-Err-Usage-clause-mirrors
+returns-in-Err-Usage-clause-mirrors g c = λ o m is.
+    left_all o m _ (g.H.Shelf.is_back c.args.shelf.now) (c.args.source.now ≡ c.args.source.now) (g.H.Shelf.entry c.args.shelf.now) (λ of. of) (λ reading. refl)

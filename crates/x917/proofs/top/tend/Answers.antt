@@ -143,3 +143,30 @@ returns-in-Pay g c =
       cause = λ read reads. cause_paid read reads put puts disk disks c.pay-outcome.result s before after f.ends f.output.fault rest.disk_fault;
       silent = f.output.silent;
     }
+
+pub compare-requires : goal.compare-requires
+compare-requires g c = subst IsWithin c.in-Compare.is c.requires.within
+
+pub returns-in-Compare : goal.returns-in-Compare
+returns-in-Compare g c =
+    let is = c.in-Compare.is in
+    let party = c.in-Compare.party in
+    let mirror = c.in-Compare.mirror in
+    let r = c.compare.ensures in
+    let s = c.compare.result in
+    let before = g.K.Sink.written c.args.sink.now in
+    let after = g.K.Sink.written c.compare.new.sink in
+    let old = g.H.Shelf.entry c.args.shelf.now in
+    let new = g.H.Shelf.entry c.compare.new.shelf in
+    let put = g.K.Sink.faults c.args.sink.now in
+    let puts = g.K.Sink.faults c.compare.new.sink in
+    let disk = g.H.Shelf.faults c.args.shelf.now in
+    let disks = g.H.Shelf.faults c.compare.new.shelf in
+    record {
+      obeys = λ moment left. subst (λ (o : Order). Obeys o moment s left left before after old new) (sym is) r.compared;
+      expects = λ moment left put_quiet disk_quiet. subst (λ (o : Order). Expects o moment left old s) (sym is) (r.follows put_quiet disk_quiet);
+      others = leaves_two c.args.order.now party mirror s (g.H.Shelf.is_back c.compare.new.shelf) (Unit {0}) (c.compare.new.sink ≡ c.args.sink.now) old new put puts disk disks
+          (ap party_of is) (ap ledger_of is) r.rest (λ reading. tt);
+      cause = r.cause;
+      silent = r.rest.silent;
+    }
