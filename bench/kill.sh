@@ -2,6 +2,7 @@
 # Kills commands of a built program at each of their system calls in turn, from the first that opens the party's file on,
 # and lets each call on the disk, and each write of the reply, fail in turn. Each time it runs over a fresh copy of the
 # file; `show` must then give the party as it was or as it becomes, and as it becomes where any of the reply went out. A
+# payment's ledger is told by the payment that comes next: it has the number that it had, or the next one. A
 # replay has to leave its parties as behind some event, or as a part of the set-up leaves them, with so much written.
 # A killed process leaves the system's memory of the file as it is: this is no loss of power.
 # kill.sh [PROGRAM]; wants Linux and strace.
@@ -27,10 +28,17 @@ fresh() {
     : >../error
 }
 
-# shown: the party, in ../shown
+# shown: the party, in ../shown; of a payment what the same words answer now, without its code
+probe=
 shown() {
-    "$program" show --party "$party" >../shown 2>&1
-    echo "exit $?" >>../shown
+    if [ -n "$probe" ]; then
+        # shellcheck disable=SC2086
+        "$program" $words <../input
+    else
+        "$program" show --party "$party"
+    fi >../printed 2>&1
+    echo "exit $?" >>../printed
+    masked ../printed >../shown
 }
 
 # traced OPTIONS: the command under strace; its exit code in $code
@@ -111,7 +119,7 @@ subject() {
     mv ../output ../reply
     shown
     mv ../shown ../new
-    calls >../calls
+    calls "$probe" >../calls
     if cmp -s ../old ../new; then came=stays; else came=changes; fi
     { [ "$code" = 0 ] && [ "$came" = "$wanted" ]; } || { echo "$name: not done: exit $code"; cat ../error; exit 1; }
     while read -r call n kind; do
@@ -141,6 +149,27 @@ keep() {
     rm -rf ../before
     mkdir ../before
     cp -p ./* ../before
+}
+
+# at FILE PLACE COUNT: the number in so many bytes of the file from there on, most significant first
+at() {
+    od -An -v -tu1 -j "$2" -N "$3" "$1" | tr -s ' \n' '  ' | awk '{ n = 0; for (i = 1; i <= NF; i++) n = n * 256 + $i; print n }'
+}
+
+# in_format_1 FILE: turns each record of a file of format 2 into one of format 1, which has no code
+in_format_1() {
+    head -c 16 "$1" >../older
+    place=16
+    while [ "$(at "$1" "$place" 1)" = 1 ]; do
+        length=$(at "$1" $((place + 1)) 4)
+        {
+            printf '%b' "$(awk -v n=$((length - 4)) 'BEGIN { printf "\\0001\\0%03o\\0%03o\\0%03o\\0%03o\\0001", int(n / 16777216), int(n / 65536) % 256, int(n / 256) % 256, n % 256 }')"
+            tail -c +$((place + 7)) "$1" | head -c $((length - 5))
+        } >>../older
+        place=$((place + 5 + length))
+    done
+    printf '\000' >>../older
+    cat ../older >"$1"
 }
 
 # all_shown: the parties of the scenario, in ../shown
@@ -261,6 +290,14 @@ cp ../output ../input
 subject 'take (response)' BANKA 'take --party BANKA'
 keep
 : >../input
+probe=.x917
+subject pay BANKA 'pay --party BANKA --peer BANKB --name BANKA.BANKA.K1.1 --ledger LEDA --amount 2500'
+keep
+subject 'pay (again)' BANKA 'pay --party BANKA --peer BANKB --name BANKA.BANKA.K1.1 --ledger LEDA --amount 2500'
+cp ../reply ../input
+subject accept BANKB 'accept --party BANKB --ledger LEDB'
+probe=
+: >../input
 subject startkk BANKA 'startkk --party BANKA --peer BANKB --new K2'
 keep
 cp ../output ../input
@@ -275,6 +312,13 @@ keep
 subject compact BANKA 'compact --party BANKA' stays
 keep
 subject wipe BANKA 'wipe --party BANKA' stays
+keep
+words="init --party BANKM --role bank --genkey $pair --genseed 0000000000000005"
+keep
+words="load --party BANKM --peer BANKA --label K1 --side out --key $pair"
+keep
+in_format_1 ../before/BANKM.x917
+subject migrate BANKM 'migrate --party BANKM' stays
 keep
 one=0123456789ABCDEDFEDCBA9876543212
 other=0123456789ABCDEBFEDCBA9876543214

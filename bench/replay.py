@@ -88,12 +88,12 @@ def is_done(end, events):
     return end.startswith(b"done ") and end.split()[1:4] == [b"%d" % events, b"%d" % events, b"0"]
 
 
-def run(order, times, is_right):
+def run(order, times, is_right, program=CASES):
     """The processor time of one process that plays so many times."""
     with tempfile.TemporaryFile() as source, tempfile.TemporaryFile() as sink:
         source.write(order * times)
         source.seek(0)
-        child = subprocess.Popen([CASES], stdin=source, stdout=sink)
+        child = subprocess.Popen([program], stdin=source, stdout=sink)
         _, status, used = os.wait4(child.pid, 0)
         sink.seek(0)
         ends = [line for line in sink if line.startswith((b"done ", b"bad line "))]
@@ -152,13 +152,20 @@ SCENARIOS = [
     ("two banks and two centres", centres(20000)),
     ("64 banks, set up and shown", cut(banks(64)[1], 96)),
 ]
-seconds = in_memory([text for _, text in SCENARIOS])
-for (name, text), whole, reading in zip(SCENARIOS, seconds[::2], seconds[1::2]):
-    print(f"{name}: {events_of(text)} events")
-    told("in memory", text, whole)
-    told("the reading of it", text, reading)
-    told("the play of it", text, whole - reading)
-    if os.path.exists(X917) and events_of(text) > 0:
-        if os.path.isdir("/dev/shm"):
-            told("files in /dev/shm", text, over_files(text, "/dev/shm"))
-        told(f"files in {tempfile.gettempdir()}", text, over_files(text, None))
+
+
+def main():
+    seconds = in_memory([text for _, text in SCENARIOS])
+    for (name, text), whole, reading in zip(SCENARIOS, seconds[::2], seconds[1::2]):
+        print(f"{name}: {events_of(text)} events")
+        told("in memory", text, whole)
+        told("the reading of it", text, reading)
+        told("the play of it", text, whole - reading)
+        if os.path.exists(X917) and events_of(text) > 0:
+            if os.path.isdir("/dev/shm"):
+                told("files in /dev/shm", text, over_files(text, "/dev/shm"))
+            told(f"files in {tempfile.gettempdir()}", text, over_files(text, None))
+
+
+if __name__ == "__main__":
+    main()
