@@ -308,9 +308,16 @@ fn wrong_stop(alloc: Global, cases: &[Case], choice: u64) -> Result<Option<usize
 }
 
 #[test]
-fn a_command_is_stopped_by_its_disk(rt: HostRuntime) -> Result<(), Fail> {
+fn a_command_of_a_sender_is_stopped_by_its_disk(rt: HostRuntime) -> Result<(), Fail> {
     for choice in [0, 1, 7919] {
         assert_eq!(rt; wrong_stop(rt.alloc(), &SENDING, choice)?, None);
+    }
+    Ok(())
+}
+
+#[test]
+fn a_command_of_a_key_holder_is_stopped_by_its_disk(rt: HostRuntime) -> Result<(), Fail> {
+    for choice in [0, 1, 7919] {
         assert_eq!(rt; wrong_stop(rt.alloc(), &HAVING, choice)?, None);
     }
     Ok(())
