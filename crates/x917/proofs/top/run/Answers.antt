@@ -165,7 +165,7 @@ returns-in-Some-clause-faults g c =
 pub returns-in-Some-clause-silent : goal.returns-in-Some-clause-silent
 returns-in-Some-clause-silent g c = λ o m is silent.
     let both = c.law_one_order.ensures c.args.words.now c.in-Ok.given.order o c.in-Ok.given.mirror m c.in-Ok.ensures.order is in
-    let of = carry_out_mirrored-requires g c in
+    let of = c.law_mirror_apart.ensures.mirrors c.args.words.now c.in-Ok.given.order c.in-Some.mirror (subst (λ (m : Option (List ℕ)). IsGiven c.args.words.now c.in-Ok.given.order m) c.in-Some.is c.in-Ok.ensures.order) in
     c.carry_out_mirrored.ensures.silent (silent_of c.in-Ok.given.order c.carry_out_mirrored.result (not_replay c.in-Ok.given.order c.in-Some.mirror of) (subst (λ (x : Order). IsSilentOf x c.carry_out_mirrored.result) (sym both.0) silent))
 
 pub returns-in-Some-clause-most : goal.returns-in-Some-clause-most
