@@ -10,9 +10,18 @@ const RECEIPT: &str = "PAID BANKA 1 2500";
 
 /// How the first three payments of BANKB's begin.
 const PAID_OUT: [(u64, &str); 3] = [
-    (1, "PAY(FROM/BANKB TO/BANKA KEY/BANKA.BANKA.K1.1 NUM/1 AMT/7 MAC/"),
-    (2, "PAY(FROM/BANKB TO/BANKA KEY/BANKA.BANKA.K1.1 NUM/2 AMT/7 MAC/"),
-    (3, "PAY(FROM/BANKB TO/BANKA KEY/BANKA.BANKA.K1.1 NUM/3 AMT/7 MAC/"),
+    (
+        1,
+        "PAY(FROM/BANKB TO/BANKA KEY/BANKA.BANKA.K1.1 NUM/1 AMT/7 MAC/",
+    ),
+    (
+        2,
+        "PAY(FROM/BANKB TO/BANKA KEY/BANKA.BANKA.K1.1 NUM/2 AMT/7 MAC/",
+    ),
+    (
+        3,
+        "PAY(FROM/BANKB TO/BANKA KEY/BANKA.BANKA.K1.1 NUM/3 AMT/7 MAC/",
+    ),
 ];
 
 /// What BANKB does.

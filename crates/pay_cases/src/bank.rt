@@ -22,8 +22,7 @@ const LOADED: Pair = Pair {
 };
 
 /// BANKA's first key, which BANKB takes.
-const KSM: &str =
-    "CSM(MCL/KSM RCV/BANKB ORG/BANKA IDK2/K1 KD/C2A5290756D949F4 CTP/1 MAC/8F270CC6)";
+const KSM: &str = "CSM(MCL/KSM RCV/BANKB ORG/BANKA IDK2/K1 KD/C2A5290756D949F4 CTP/1 MAC/8F270CC6)";
 
 /// The names in a payment, and its amount.
 #[derive(Clone, Copy)]
@@ -88,13 +87,7 @@ pub(crate) fn shelf_of(alloc: Global, names: &Names) -> Result<MemoryShelf, Disk
     });
     let key = arrived(alloc, KSM.as_bytes())?;
     let mut shelf = MemoryShelf::new(alloc);
-    done(create(
-        alloc,
-        &mut shelf,
-        names.own,
-        Role::Bank,
-        GENERATOR,
-    ))?;
+    done(create(alloc, &mut shelf, names.own, Role::Bank, GENERATOR))?;
     done(turn(alloc, &mut shelf, &names.own, &load, 0))?;
     done(turn(alloc, &mut shelf, &names.own, &key, 0))?;
     Ok(shelf)

@@ -62,8 +62,10 @@ fn stops_of(
         disk.power_off(choice)?;
         let (disk, first) = made(alloc, state, disk, names, payment);
         let (_, second) = made(alloc, state, disk, names, payment);
-        let (Answer::Number(number), true) = (first, end == Answer::Stopped || end == Answer::Number(1))
-        else {
+        let (Answer::Number(number), true) = (
+            first,
+            end == Answer::Stopped || end == Answer::Number(1),
+        ) else {
             return Ok(None);
         };
         if number > 2 || !are_next(payment, number, second) {

@@ -21,11 +21,7 @@ const ROWS: [(Payment, u64, Option<u64>); 8] = [
 ];
 
 /// The next row.
-fn add_row(
-    table: &mut Table,
-    wanted: Option<u64>,
-    stops: Option<u64>,
-) -> Result<(), DiskErr> {
+fn add_row(table: &mut Table, wanted: Option<u64>, stops: Option<u64>) -> Result<(), DiskErr> {
     match wanted {
         Some(_) => table.row(&[Call::option("stops behind the keeping", stops, wanted)])?,
         None => table.row(&[Call::answer(

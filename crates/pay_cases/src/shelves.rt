@@ -55,8 +55,10 @@ pub(crate) fn stops(
         power_goes(&mut shelf, &names.ledger, choice)?;
         let first = made(alloc, &mut shelf, names, payment);
         let second = made(alloc, &mut shelf, names, payment);
-        let (Answer::Number(number), true) = (first, end == Answer::Stopped || end == Answer::Number(1))
-        else {
+        let (Answer::Number(number), true) = (
+            first,
+            end == Answer::Stopped || end == Answer::Number(1),
+        ) else {
             return Ok(None);
         };
         if number > 2 || !are_next(payment, number, second) {

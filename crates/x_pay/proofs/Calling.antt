@@ -80,7 +80,7 @@ module _ (one_party : (image : List ℕ) (p q : Party) → Stands image p → St
       let party_is : paid.p ≡ p = one_party found.image paid.p p (paid.is_own.reads found.image found.party_told) found.both.party.stands in
       let entries_are : paid.entries ≡ b.entries = reads_one one_list list_full found.book paid.entries b.entries (paid.reads found.book found.ledger_told) found.both.reads in
       let passes : w.Passes p b.entries paid.entry text =
-          subst (λ (es : List Entry). w.Passes p es paid.entry text) entries_are (subst (λ (q : Party). w.Passes q paid.entries paid.entry text) party_is paid.passes) in
+      subst (λ (es : List Entry). w.Passes p es paid.entry text) entries_are (subst (λ (q : Party). w.Passes q paid.entries paid.entry text) party_is paid.passes) in
       let done = made_of.done paid.entry text passes in
       record {
         next = done.0;
@@ -92,7 +92,7 @@ module _ (one_party : (image : List ℕ) (p q : Party) → Stands image p → St
       let party_is : refused.p ≡ p = one_party found.image refused.p p (refused.is_own.reads found.image found.party_told) found.both.party.stands in
       let entries_are : refused.entries ≡ b.entries = reads_one one_list list_full found.book refused.entries b.entries (refused.reads found.book found.ledger_told) found.both.reads in
       let refuses : w.Refuses p b.entries cause =
-          subst (λ (es : List Entry). w.Refuses p es cause) entries_are (subst (λ (q : Party). w.Refuses q refused.entries cause) party_is refused.refuses) in
+      subst (λ (es : List Entry). w.Refuses p es cause) entries_are (subst (λ (q : Party). w.Refuses q refused.entries cause) party_is refused.refuses) in
       let stays = made_of.refused cause refuses in
       record { next = b; steps = stays.0; tells = stays.1; kept = subst (KeepsEntries ledger_after) entries_are refused.stay }
   whole (outcome.OtherParty asked own) made answer = absurd answer
