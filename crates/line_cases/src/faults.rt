@@ -6,7 +6,7 @@ use x_base::{NoMemory, Text};
 use x_line::{LineFault, Opt, UsageKind, read_order};
 
 /// Command lines, their words parted by blanks, and what is wrong with them.
-const FAULTS: [(&str, UsageKind); 25] = [
+const FAULTS: [(&str, UsageKind); 35] = [
     ("check extra", UsageKind::Line),
     ("check --party", UsageKind::Line),
     ("check --par BANKA", UsageKind::Line),
@@ -56,10 +56,35 @@ const FAULTS: [(&str, UsageKind); 25] = [
         "startkk --single --party A --peer B --label k",
         UsageKind::Missing(Opt::New),
     ),
+    ("batch --party BANKA", UsageKind::Unwanted(Opt::Party)),
+    (
+        "outbox --spool SPOOLA --party BANKA",
+        UsageKind::Unwanted(Opt::Party),
+    ),
+    (
+        "check --mirror x --spool x",
+        UsageKind::Unwanted(Opt::Spool),
+    ),
+    (
+        "spool --party x --ledger x",
+        UsageKind::Unwanted(Opt::Ledger),
+    ),
+    ("spool --party x", UsageKind::Missing(Opt::Spool)),
+    ("outbox", UsageKind::Missing(Opt::Spool)),
+    ("enter --party x --key x", UsageKind::Unwanted(Opt::Key)),
+    (
+        "create --role bank --genkey x",
+        UsageKind::Unwanted(Opt::Genkey),
+    ),
+    ("value --mirror MIRA", UsageKind::Unwanted(Opt::Mirror)),
+    (
+        "enter --side x --mirror x --party x --peer x",
+        UsageKind::Missing(Opt::Label),
+    ),
 ];
 
 /// Command lines each of which has one bad value or more, and the option of the first one.
-const BAD_VALUES: [(&str, Opt); 25] = [
+const BAD_VALUES: [(&str, Opt); 31] = [
     ("show --party=", Opt::Party),
     ("take --party BANKa", Opt::Party),
     (
@@ -117,6 +142,21 @@ const BAD_VALUES: [(&str, Opt); 25] = [
     (
         "drill --seed 18446744073709551616 --events 10001",
         Opt::Seed,
+    ),
+    ("spool --party BANKA --spool BANKA", Opt::Spool),
+    ("outbox --spool spool", Opt::Spool),
+    ("create --party BANKA --role centre", Opt::Role),
+    (
+        "enter --party BANKA --peer BANKB --label k --side x",
+        Opt::Label,
+    ),
+    (
+        "value --party BANKA --peer BANKB --label K1 --side both",
+        Opt::Side,
+    ),
+    (
+        "enter --party BANKA --peer BANKB --label K1 --side in --mirror BANKA",
+        Opt::Mirror,
     ),
     ("drill --seed 7 --events 0", Opt::Events),
     ("drill --seed 0 --events 10001", Opt::Events),

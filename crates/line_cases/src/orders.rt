@@ -114,12 +114,13 @@ fn rows() -> Option<[Row; 16]> {
     ])
 }
 
-/// The same of ledgers, of a migration and of an audit.
-fn later_rows() -> Option<[Row; 4]> {
+/// The same of ledgers, of a migration, of an audit and of batches.
+fn later_rows() -> Option<[Row; 7]> {
     let party = Ident::read(b"BANKA").ok()?;
     let peer = Ident::read(b"CKDX").ok()?;
     let name = KeyName::read(b"CKDX.BANKA.C.7").ok()?;
     let ledger = Ident::read(b"LEDA").ok()?;
+    let spool = Ident::read(b"SPOOLA").ok()?;
     let amount = Count::of(2500)?;
     Some([
         ("migrate --party BANKA", Order::Migrate { party }),
@@ -138,11 +139,51 @@ fn later_rows() -> Option<[Row; 4]> {
             Order::Accept { party, ledger },
         ),
         ("audit", Order::Audit),
+        ("batch", Order::Batch),
+        (
+            "spool --spool SPOOLA --party BANKA",
+            Order::Spool { party, spool },
+        ),
+        ("outbox --spool=SPOOLA", Order::Outbox { spool }),
+    ])
+}
+
+/// The same of keys that come from the input, and of their check value.
+fn key_rows() -> Option<[Row; 3]> {
+    let party = Ident::read(b"BANKA").ok()?;
+    let peer = Ident::read(b"CKDX").ok()?;
+    let label = Label::read(b"C").ok()?;
+    Some([
+        (
+            "create --role distribution --party BANKA",
+            Order::Create {
+                party,
+                role: Role::Distribution,
+            },
+        ),
+        (
+            "enter --party BANKA --peer CKDX --label C --side in",
+            Order::Enter {
+                party,
+                peer,
+                label,
+                side: Side::Takes,
+            },
+        ),
+        (
+            "value --side out --label C --peer CKDX --party BANKA",
+            Order::Value {
+                party,
+                peer,
+                label,
+                side: Side::Sends,
+            },
+        ),
     ])
 }
 
 /// Command lines of a party that is kept on two disks, and what they give.
-fn mirrored_rows() -> Option<[(&'static str, Given); 3]> {
+fn mirrored_rows() -> Option<[(&'static str, Given); 4]> {
     let party = Ident::read(b"BANKA").ok()?;
     let peer = Ident::read(b"CKDX").ok()?;
     let mirror = Ident::read(b"MIRA").ok()?;
@@ -158,6 +199,16 @@ fn mirrored_rows() -> Option<[(&'static str, Given); 3]> {
             "drop --party BANKA --peer CKDX --mirror=MIRA",
             Given {
                 order: Order::Drop { party, peer },
+                mirror: Some(mirror),
+            },
+        ),
+        (
+            "create --party BANKA --mirror MIRA --role bank",
+            Given {
+                order: Order::Create {
+                    party,
+                    role: Role::Bank,
+                },
                 mirror: Some(mirror),
             },
         ),
@@ -217,11 +268,17 @@ fn add_mirrored(
 /// What is told of the orders that lines give.
 pub(crate) fn orders(alloc: Global) -> Result<Text, NoMemory> {
     let mut table = Table::new(alloc, "orders of command lines");
-    let (Some(rows), Some(later), Some(mirrored)) = (rows(), later_rows(), mirrored_rows()) else {
+    let (Some(rows), Some(later), Some(keys), Some(mirrored)) = (
+        rows(),
+        later_rows(),
+        key_rows(),
+        mirrored_rows(),
+    ) else {
         return table.told();
     };
     add_rows(alloc, &mut table, &rows)?;
     add_rows(alloc, &mut table, &later)?;
+    add_rows(alloc, &mut table, &keys)?;
     add_mirrored(alloc, &mut table, &mirrored)?;
     table.told()
 }

@@ -6,7 +6,7 @@ use Rattle.std.proofs.lemmas.Slice.Eq.{bytes_eq-Decides}
 use Rattle.std.specs.Str.{bytes_eq}
 use Rattle.clap.specs.Words.{first_of}
 use Rattle.x_line.specs.declared.opt.Opt.TheVariants as opt
-use Rattle.x_line.specs.Laws.{AcceptsApart, ComparesApart, FewEvents, PaysApart}
+use Rattle.x_line.specs.Laws.{AcceptsApart, ComparesApart, FewEvents, PaysApart, SpoolsApart}
 use Rattle.x_line.specs.Line.{rows_of_line}
 use Rattle.x_line.specs.LineValues.{given}
 use Rattle.x_line.specs.Options.{name_of}
@@ -51,6 +51,10 @@ pays_apart words party peer name ledger amount is =
 pub accepts_apart : AcceptsApart
 accepts_apart words party ledger is =
     apart party ledger (given ident_of opt.Party (rows_of_line words)) (given ident_of opt.Ledger (rows_of_line words)) is.1.1.0 is.1.1.1
+
+pub spools_apart : SpoolsApart
+spools_apart words party spool is =
+    apart party spool (given ident_of opt.Party (rows_of_line words)) (given ident_of opt.Spool (rows_of_line words)) is.1.1.0 is.1.1.1
 
 pub compares_apart : ComparesApart
 compares_apart words party mirror is =

@@ -28,7 +28,7 @@ none_at p [] back x h = (behind (p x) x (find p back) h).0
 none_at p (y ∷ front) back x h = none_at p front back x (behind (p y) y (find p (front ++ (x ∷ back))) h).1
 
 abbrev front : List Opt
-front = opt.Party ∷ opt.Role ∷ opt.Genkey ∷ opt.Genseed ∷ opt.Peer ∷ opt.Label ∷ opt.Side ∷ opt.Key ∷ opt.New ∷ opt.Ultimate ∷ opt.Name ∷ opt.Seed ∷ opt.Events ∷ []
+front = opt.Party ∷ opt.Role ∷ opt.Genkey ∷ opt.Genseed ∷ opt.Peer ∷ opt.Label ∷ opt.Side ∷ opt.Key ∷ opt.New ∷ opt.Ultimate ∷ opt.Name ∷ opt.Seed ∷ opt.Events ∷ opt.Spool ∷ []
 
 abbrev back : List Opt
 back = opt.Ledger ∷ opt.Amount ∷ opt.Single ∷ []
@@ -69,7 +69,9 @@ module _ (words : List (List ℕ)) (mirror : List ℕ) where
 
 pub mirrors_apart : MirrorsApart
 mirrors_apart words (order.Init party role key v) m is = right words m party is.1.1.0 is.2
+mirrors_apart words (order.Create party role) m is = right words m party is.1.1.0 is.2
 mirrors_apart words (order.Load party peer label side pair) m is = right words m party is.1.1.0 is.2
+mirrors_apart words (order.Enter party peer label side) m is = right words m party is.1.1.0 is.2
 mirrors_apart words (order.Start party peer label) m is = right words m party is.1.1.0 is.2
 mirrors_apart words (order.StartKk party peer new label single) m is = right words m party is.1.1.0 is.2
 mirrors_apart words (order.Ask party peer ultimate) m is = right words m party is.1.1.0 is.2
@@ -84,9 +86,13 @@ mirrors_apart words (order.Compare party mirror) m is = cc (is.2)
 mirrors_apart words order.Check m is = wrong words m order.Check refl is is.2
 mirrors_apart words order.Replay m is = wrong words m order.Replay refl is is.2
 mirrors_apart words order.Audit m is = wrong words m order.Audit refl is is.2
+mirrors_apart words order.Batch m is = wrong words m order.Batch refl is is.2
+mirrors_apart words (order.Value party peer label side) m is = wrong words m (order.Value party peer label side) refl is is.2
 mirrors_apart words (order.Compact party) m is = wrong words m (order.Compact party) refl is is.2
 mirrors_apart words (order.Migrate party) m is = wrong words m (order.Migrate party) refl is is.2
 mirrors_apart words (order.Wipe party) m is = wrong words m (order.Wipe party) refl is is.2
 mirrors_apart words (order.Pay party peer name ledger amount) m is = wrong words m (order.Pay party peer name ledger amount) refl is is.2
 mirrors_apart words (order.Accept party ledger) m is = wrong words m (order.Accept party ledger) refl is is.2
+mirrors_apart words (order.Spool party spool) m is = wrong words m (order.Spool party spool) refl is is.2
+mirrors_apart words (order.Outbox spool) m is = wrong words m (order.Outbox spool) refl is is.2
 mirrors_apart words (order.Drill seed events) m is = wrong words m (order.Drill seed events) refl is is.2

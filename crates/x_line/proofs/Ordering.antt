@@ -34,10 +34,14 @@ abbrev made : OrderKind → List Row → Option Order
 made kinds.Check rows = Some order.Check
 made kinds.Replay rows = Some order.Replay
 made kinds.Audit rows = Some order.Audit
+made kinds.Batch rows = Some order.Batch
+made kinds.Create rows = with (given ident_of opt.Party rows) (λ p. with (given role_of opt.Role rows) (λ r. Some (order.Create p r)))
 made kinds.Init rows = with (given ident_of opt.Party rows) (λ p. with (given role_of opt.Role rows) (λ r.
     with (given pair_of opt.Genkey rows) (λ k. with (given key_of opt.Genseed rows) (λ v. Some (order.Init p r k v)))))
 made kinds.Load rows = for_peer rows (λ p q. with (given label_of opt.Label rows) (λ l.
     with (given side_of opt.Side rows) (λ s. with (given one_or_two_of opt.Key rows) (λ k. Some (order.Load p q l s k)))))
+made kinds.Enter rows = for_peer rows (λ p q. with (given label_of opt.Label rows) (λ l.
+    with (given side_of opt.Side rows) (λ s. Some (order.Enter p q l s))))
 made kinds.Start rows = for_peer rows (λ p q. Some (order.Start p q (given label_of opt.Label rows)))
 made kinds.StartKk rows = for_peer rows (λ p q. with (given label_of opt.New rows) (λ n.
     Some (order.StartKk p q n (given label_of opt.Label rows) (is_given opt.Single rows))))
@@ -46,6 +50,8 @@ made kinds.Translate rows = for_peer rows (λ p q. with (given ident_of opt.Ulti
 made kinds.Take rows = for_party rows order.Take
 made kinds.Purge rows = for_party rows order.Purge
 made kinds.Show rows = for_party rows order.Show
+made kinds.Value rows = for_peer rows (λ p q. with (given label_of opt.Label rows) (λ l.
+    with (given side_of opt.Side rows) (λ s. Some (order.Value p q l s))))
 made kinds.Compact rows = for_party rows order.Compact
 made kinds.Migrate rows = for_party rows order.Migrate
 made kinds.Wipe rows = for_party rows order.Wipe
@@ -56,14 +62,19 @@ made kinds.End rows = for_peer rows (λ p q. with (given key_name_of opt.Name ro
 made kinds.Pay rows = for_peer rows (λ p q. with (given key_name_of opt.Name rows) (λ n.
     with (other_of opt.Ledger rows) (λ l. with (given count_of opt.Amount rows) (λ a. Some (order.Pay p q n l a)))))
 made kinds.Accept rows = with (given ident_of opt.Party rows) (λ p. with (other_of opt.Ledger rows) (λ l. Some (order.Accept p l)))
+made kinds.Spool rows = with (given ident_of opt.Party rows) (λ p. with (other_of opt.Spool rows) (λ s. Some (order.Spool p s)))
+made kinds.Outbox rows = with (other_of opt.Spool rows) (λ s. Some (order.Outbox s))
 made kinds.Drill rows = with (given number_of opt.Seed rows) (λ s. with (given events_of opt.Events rows) (λ e. Some (order.Drill s e)))
 
 made_is : (rows : List Row) (o : Order) → HasValues rows o → made (kind_of o) rows ≡ Some o
 made_is rows order.Check h = refl
 made_is rows order.Replay h = refl
 made_is rows order.Audit h = refl
+made_is rows order.Batch h = refl
+made_is rows (order.Create p r) h = rw (h.0, h.1) refl
 made_is rows (order.Init p r k v) h = rw (h.0, h.1, h.2, h.3) refl
 made_is rows (order.Load p q l s k) h = rw (h.0, h.1, h.2, h.3, h.4) refl
+made_is rows (order.Enter p q l s) h = rw (h.0, h.1, h.2, h.3) refl
 made_is rows (order.Start p q l) h = rw (h.0, h.1, h.2) refl
 made_is rows (order.StartKk p q n l s) h = rw (h.0, h.1, h.2, h.3, h.4) refl
 made_is rows (order.Ask p q u) h = rw (h.0, h.1, h.2) refl
@@ -71,6 +82,7 @@ made_is rows (order.Translate p q u) h = rw (h.0, h.1, h.2) refl
 made_is rows (order.Take p) h = rw h refl
 made_is rows (order.Purge p) h = rw h refl
 made_is rows (order.Show p) h = rw h refl
+made_is rows (order.Value p q l s) h = rw (h.0, h.1, h.2, h.3) refl
 made_is rows (order.Compact p) h = rw h refl
 made_is rows (order.Migrate p) h = rw h refl
 made_is rows (order.Wipe p) h = rw h refl
@@ -80,6 +92,8 @@ made_is rows (order.Drop p q) h = rw (h.0, h.1) refl
 made_is rows (order.End p q n) h = rw (h.0, h.1, h.2) refl
 made_is rows (order.Pay p q n l a) h = rw (h.3, h.0, h.1, h.2, h.4) refl
 made_is rows (order.Accept p l) h = rw (h.1, h.0) refl
+made_is rows (order.Spool p s) h = rw (h.1, h.0) refl
+made_is rows (order.Outbox s) h = rw h refl
 made_is rows (order.Drill s e) h = rw (h.0, h.1) refl
 
 same : (rows : List Row) (a b : Order) → Says rows a → Says rows b → a ≡ b
@@ -112,6 +126,11 @@ has_made : (c : OrderKind) (rows : List Row) → is_whole c rows ≡ true → Ma
 has_made kinds.Check rows h = (order.Check, refl, tt)
 has_made kinds.Replay rows h = (order.Replay, refl, tt)
 has_made kinds.Audit rows h = (order.Audit, refl, tt)
+has_made kinds.Batch rows h = (order.Batch, refl, tt)
+has_made kinds.Create rows h =
+    let p = first (given ident_of opt.Party rows) _ h in
+    let r = first (given role_of opt.Role rows) _ p.more in
+    (order.Create p.value r.value, refl, (p.is, r.is))
 has_made kinds.Init rows h =
     let p = first (given ident_of opt.Party rows) _ h in
     let r = first (given role_of opt.Role rows) _ p.more in
@@ -125,6 +144,12 @@ has_made kinds.Load rows h =
     let s = first (given side_of opt.Side rows) _ l.more in
     let k = first (given one_or_two_of opt.Key rows) _ s.more in
     (order.Load p.value q.value l.value s.value k.value, refl, (p.is, q.is, l.is, s.is, k.is))
+has_made kinds.Enter rows h =
+    let p = first (given ident_of opt.Party rows) _ h in
+    let q = first (given ident_of opt.Peer rows) _ p.more in
+    let l = first (given label_of opt.Label rows) _ q.more in
+    let s = first (given side_of opt.Side rows) _ l.more in
+    (order.Enter p.value q.value l.value s.value, refl, (p.is, q.is, l.is, s.is))
 has_made kinds.Start rows h =
     let p = first (given ident_of opt.Party rows) _ h in
     let q = first (given ident_of opt.Peer rows) _ p.more in
@@ -146,6 +171,12 @@ has_made kinds.Translate rows h =
 has_made kinds.Take rows h = let p = first (given ident_of opt.Party rows) _ h in (order.Take p.value, refl, p.is)
 has_made kinds.Purge rows h = let p = first (given ident_of opt.Party rows) _ h in (order.Purge p.value, refl, p.is)
 has_made kinds.Show rows h = let p = first (given ident_of opt.Party rows) _ h in (order.Show p.value, refl, p.is)
+has_made kinds.Value rows h =
+    let p = first (given ident_of opt.Party rows) _ h in
+    let q = first (given ident_of opt.Peer rows) _ p.more in
+    let l = first (given label_of opt.Label rows) _ q.more in
+    let s = first (given side_of opt.Side rows) _ l.more in
+    (order.Value p.value q.value l.value s.value, refl, (p.is, q.is, l.is, s.is))
 has_made kinds.Compact rows h = let p = first (given ident_of opt.Party rows) _ h in (order.Compact p.value, refl, p.is)
 has_made kinds.Migrate rows h = let p = first (given ident_of opt.Party rows) _ h in (order.Migrate p.value, refl, p.is)
 has_made kinds.Wipe rows h = let p = first (given ident_of opt.Party rows) _ h in (order.Wipe p.value, refl, p.is)
@@ -177,6 +208,11 @@ has_made kinds.Accept rows h =
     let p = first (given ident_of opt.Party rows) _ h in
     let l = first (other_of opt.Ledger rows) _ p.more in
     (order.Accept p.value l.value, refl, (p.is, l.is))
+has_made kinds.Spool rows h =
+    let p = first (given ident_of opt.Party rows) _ h in
+    let s = first (other_of opt.Spool rows) _ p.more in
+    (order.Spool p.value s.value, refl, (p.is, s.is))
+has_made kinds.Outbox rows h = let s = first (other_of opt.Spool rows) _ h in (order.Outbox s.value, refl, s.is)
 has_made kinds.Drill rows h =
     let s = first (given number_of opt.Seed rows) _ h in
     let e = first (given events_of opt.Events rows) _ s.more in

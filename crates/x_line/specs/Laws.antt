@@ -26,6 +26,10 @@ PaysApart = (words : List Text) (party peer : List ℕ) (name : KeyName) (ledger
 abbrev pub AcceptsApart : Type 0
 AcceptsApart = (words : List Text) (party ledger : List ℕ) → IsOrder words (order.Accept party ledger) → party ≢ ledger
 
+-- nor does a spool
+abbrev pub SpoolsApart : Type 0
+SpoolsApart = (words : List Text) (party spool : List ℕ) → IsOrder words (order.Spool party spool) → party ≢ spool
+
 -- a second disk comes with an order that acts on two, and doesn't lie under the party's name
 abbrev pub MirrorsApart : Type 0
 MirrorsApart = (words : List Text) (o : Order) (mirror : List ℕ) → IsMirrored words o mirror → IsOfTwo o mirror

@@ -17,6 +17,7 @@ name_of opt.Ultimate = codes "ultimate"
 name_of opt.Name = codes "name"
 name_of opt.Seed = codes "seed"
 name_of opt.Events = codes "events"
+name_of opt.Spool = codes "spool"
 name_of opt.Mirror = codes "mirror"
 name_of opt.Ledger = codes "ledger"
 name_of opt.Amount = codes "amount"
@@ -25,5 +26,5 @@ name_of opt.Single = codes "single"
 -- the order in which the first at fault is sought
 abbrev pub options : List Opt
 options = opt.Party ∷ opt.Role ∷ opt.Genkey ∷ opt.Genseed ∷ opt.Peer ∷ opt.Label ∷ opt.Side
-    ∷ opt.Key ∷ opt.New ∷ opt.Ultimate ∷ opt.Name ∷ opt.Seed ∷ opt.Events ∷ opt.Mirror ∷ opt.Ledger
-    ∷ opt.Amount ∷ opt.Single ∷ []
+    ∷ opt.Key ∷ opt.New ∷ opt.Ultimate ∷ opt.Name ∷ opt.Seed ∷ opt.Events ∷ opt.Spool ∷ opt.Mirror
+    ∷ opt.Ledger ∷ opt.Amount ∷ opt.Single ∷ []

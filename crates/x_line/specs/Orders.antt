@@ -22,8 +22,11 @@ abbrev pub kind_of : Order → OrderKind
 kind_of order.Check = kinds.Check
 kind_of order.Replay = kinds.Replay
 kind_of order.Audit = kinds.Audit
+kind_of order.Batch = kinds.Batch
 kind_of (order.Init party role key v) = kinds.Init
+kind_of (order.Create party role) = kinds.Create
 kind_of (order.Load party peer label side pair) = kinds.Load
+kind_of (order.Enter party peer label side) = kinds.Enter
 kind_of (order.Start party peer label) = kinds.Start
 kind_of (order.StartKk party peer new label single) = kinds.StartKk
 kind_of (order.Ask party peer ultimate) = kinds.Ask
@@ -31,6 +34,7 @@ kind_of (order.Translate party peer ultimate) = kinds.Translate
 kind_of (order.Take party) = kinds.Take
 kind_of (order.Purge party) = kinds.Purge
 kind_of (order.Show party) = kinds.Show
+kind_of (order.Value party peer label side) = kinds.Value
 kind_of (order.Compact party) = kinds.Compact
 kind_of (order.Migrate party) = kinds.Migrate
 kind_of (order.Wipe party) = kinds.Wipe
@@ -40,6 +44,8 @@ kind_of (order.Drop party peer) = kinds.Drop
 kind_of (order.End party peer name) = kinds.End
 kind_of (order.Pay party peer name ledger amount) = kinds.Pay
 kind_of (order.Accept party ledger) = kinds.Accept
+kind_of (order.Spool party spool) = kinds.Spool
+kind_of (order.Outbox spool) = kinds.Outbox
 kind_of (order.Drill seed events) = kinds.Drill
 
 -- each value of the order is what the value of its option stands for; one that may be left out is
@@ -48,13 +54,19 @@ abbrev pub HasValues : List Row → Order → Type 0
 HasValues rows order.Check = Unit {0}
 HasValues rows order.Replay = Unit {0}
 HasValues rows order.Audit = Unit {0}
+HasValues rows order.Batch = Unit {0}
 HasValues rows (order.Init party role key v) = (given ident_of opt.Party rows ≡ Some party)
     × (given role_of opt.Role rows ≡ Some role) × (given pair_of opt.Genkey rows ≡ Some key)
     × (given key_of opt.Genseed rows ≡ Some v)
+HasValues rows (order.Create party role) =
+    (given ident_of opt.Party rows ≡ Some party) × (given role_of opt.Role rows ≡ Some role)
 HasValues rows (order.Load party peer label side pair) =
     (given ident_of opt.Party rows ≡ Some party) × (given ident_of opt.Peer rows ≡ Some peer)
     × (given label_of opt.Label rows ≡ Some label) × (given side_of opt.Side rows ≡ Some side)
     × (given one_or_two_of opt.Key rows ≡ Some pair)
+HasValues rows (order.Enter party peer label side) =
+    (given ident_of opt.Party rows ≡ Some party) × (given ident_of opt.Peer rows ≡ Some peer)
+    × (given label_of opt.Label rows ≡ Some label) × (given side_of opt.Side rows ≡ Some side)
 HasValues rows (order.Start party peer label) = (given ident_of opt.Party rows ≡ Some party)
     × (given ident_of opt.Peer rows ≡ Some peer) × (given label_of opt.Label rows ≡ label)
 HasValues rows (order.StartKk party peer new label single) =
@@ -69,6 +81,9 @@ HasValues rows (order.Translate party peer ultimate) =
 HasValues rows (order.Take party) = given ident_of opt.Party rows ≡ Some party
 HasValues rows (order.Purge party) = given ident_of opt.Party rows ≡ Some party
 HasValues rows (order.Show party) = given ident_of opt.Party rows ≡ Some party
+HasValues rows (order.Value party peer label side) =
+    (given ident_of opt.Party rows ≡ Some party) × (given ident_of opt.Peer rows ≡ Some peer)
+    × (given label_of opt.Label rows ≡ Some label) × (given side_of opt.Side rows ≡ Some side)
 HasValues rows (order.Compact party) = given ident_of opt.Party rows ≡ Some party
 HasValues rows (order.Migrate party) = given ident_of opt.Party rows ≡ Some party
 HasValues rows (order.Wipe party) = given ident_of opt.Party rows ≡ Some party
@@ -85,6 +100,9 @@ HasValues rows (order.Pay party peer name ledger amount) = (given ident_of opt.P
     × (other_of opt.Ledger rows ≡ Some ledger) × (given count_of opt.Amount rows ≡ Some amount)
 HasValues rows (order.Accept party ledger) =
     (given ident_of opt.Party rows ≡ Some party) × (other_of opt.Ledger rows ≡ Some ledger)
+HasValues rows (order.Spool party spool) =
+    (given ident_of opt.Party rows ≡ Some party) × (other_of opt.Spool rows ≡ Some spool)
+HasValues rows (order.Outbox spool) = other_of opt.Spool rows ≡ Some spool
 HasValues rows (order.Drill seed events) =
     (given number_of opt.Seed rows ≡ Some seed) × (given events_of opt.Events rows ≡ Some events)
 
@@ -113,7 +131,9 @@ IsMirrored words o mirror = IsGiven words o (Some mirror)
 -- an order that acts on two disks of a party, the second of this name, which isn't the party's
 abbrev pub IsOfTwo : Order → List ℕ → Type 0
 IsOfTwo (order.Init party role key v) mirror = party ≢ mirror
+IsOfTwo (order.Create party role) mirror = party ≢ mirror
 IsOfTwo (order.Load party peer label side pair) mirror = party ≢ mirror
+IsOfTwo (order.Enter party peer label side) mirror = party ≢ mirror
 IsOfTwo (order.Start party peer label) mirror = party ≢ mirror
 IsOfTwo (order.StartKk party peer new label single) mirror = party ≢ mirror
 IsOfTwo (order.Ask party peer ultimate) mirror = party ≢ mirror

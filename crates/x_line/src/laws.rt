@@ -1,5 +1,5 @@
 // What is promised of every command line, whatever reads it.
-ghost use Rattle.x_line.specs.Laws.{AcceptsApart, ComparesApart, FewEvents, HasOrder, MirrorsApart, OneOrder, PaysApart};
+ghost use Rattle.x_line.specs.Laws.{AcceptsApart, ComparesApart, FewEvents, HasOrder, MirrorsApart, OneOrder, PaysApart, SpoolsApart};
 
 /// Words in which nothing is wrong stand for an order.
 #[tactic(auto, using(crate::proofs::Ordering::has_order))]
@@ -22,6 +22,11 @@ pub fn law_few_events()
 pub fn law_ledger_apart()
     ensures pays { PaysApart }
     ensures accepts { AcceptsApart }
+{}
+
+/// Words that stand for the next entry of a batch give its spool another name than the party.
+pub fn law_spool_apart()
+    ensures { SpoolsApart }
 {}
 
 /// A second disk is named with the orders alone that act on two, and under another name than the party.

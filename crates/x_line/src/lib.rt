@@ -13,7 +13,12 @@ mod order_kind;
 mod usage;
 mod values;
 
-pub use laws::{law_few_events, law_has_order, law_ledger_apart, law_mirror_apart, law_one_order};
-pub use opt::Opt;
+pub use laws::{
+    law_few_events, law_has_order, law_ledger_apart, law_mirror_apart, law_one_order,
+    law_spool_apart,
+};
+pub use opt::{OPTIONS, Opt};
 pub use order::{Given, Order, read_order};
+pub use order_kind::{ORDER_KINDS, OrderKind};
 pub use usage::{LineFault, UsageKind};
+pub use values::one_or_two;

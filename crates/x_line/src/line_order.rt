@@ -19,6 +19,15 @@ fn init(line: &Line<'_>) -> Option<Order>
     })
 }
 
+fn create(line: &Line<'_>) -> Option<Order>
+    ensures { IsMade OrderKind.Create line.now result }
+{
+    Some(Order::Create {
+        party: line.ident(Opt::Party)?,
+        role: line.role()?,
+    })
+}
+
 fn load(line: &Line<'_>) -> Option<Order>
     ensures { IsMade OrderKind.Load line.now result }
 {
@@ -28,6 +37,28 @@ fn load(line: &Line<'_>) -> Option<Order>
         label: line.label(Opt::Label)?,
         side: line.side()?,
         pair: line.loaded_pair()?,
+    })
+}
+
+fn enter(line: &Line<'_>) -> Option<Order>
+    ensures { IsMade OrderKind.Enter line.now result }
+{
+    Some(Order::Enter {
+        party: line.ident(Opt::Party)?,
+        peer: line.ident(Opt::Peer)?,
+        label: line.label(Opt::Label)?,
+        side: line.side()?,
+    })
+}
+
+fn value(line: &Line<'_>) -> Option<Order>
+    ensures { IsMade OrderKind.Value line.now result }
+{
+    Some(Order::Value {
+        party: line.ident(Opt::Party)?,
+        peer: line.ident(Opt::Peer)?,
+        label: line.label(Opt::Label)?,
+        side: line.side()?,
     })
 }
 
@@ -104,6 +135,23 @@ fn accept(line: &Line<'_>) -> Option<Order>
     })
 }
 
+fn spool(line: &Line<'_>) -> Option<Order>
+    ensures { IsMade OrderKind.Spool line.now result }
+{
+    Some(Order::Spool {
+        party: line.ident(Opt::Party)?,
+        spool: line.other(Opt::Spool)?,
+    })
+}
+
+fn outbox(line: &Line<'_>) -> Option<Order>
+    ensures { IsMade OrderKind.Outbox line.now result }
+{
+    Some(Order::Outbox {
+        spool: line.other(Opt::Spool)?,
+    })
+}
+
 fn compare(line: &Line<'_>) -> Option<Order>
     ensures { IsMade OrderKind.Compare line.now result }
 {
@@ -132,8 +180,11 @@ pub(crate) fn order_of(kind: OrderKind, line: &Line<'_>) -> Option<Order>
         OrderKind::Check => Some(Order::Check),
         OrderKind::Replay => Some(Order::Replay),
         OrderKind::Audit => Some(Order::Audit),
+        OrderKind::Batch => Some(Order::Batch),
         OrderKind::Init => init(line),
+        OrderKind::Create => create(line),
         OrderKind::Load => load(line),
+        OrderKind::Enter => enter(line),
         OrderKind::Start => start(line),
         OrderKind::StartKk => start_kk(line),
         OrderKind::Ask => ask(line),
@@ -141,6 +192,7 @@ pub(crate) fn order_of(kind: OrderKind, line: &Line<'_>) -> Option<Order>
         OrderKind::Take => Some(Order::Take { party: party? }),
         OrderKind::Purge => Some(Order::Purge { party: party? }),
         OrderKind::Show => Some(Order::Show { party: party? }),
+        OrderKind::Value => value(line),
         OrderKind::Compact => Some(Order::Compact { party: party? }),
         OrderKind::Migrate => Some(Order::Migrate { party: party? }),
         OrderKind::Wipe => Some(Order::Wipe { party: party? }),
@@ -156,6 +208,8 @@ pub(crate) fn order_of(kind: OrderKind, line: &Line<'_>) -> Option<Order>
         OrderKind::End => end(line),
         OrderKind::Pay => pay(line),
         OrderKind::Accept => accept(line),
+        OrderKind::Spool => spool(line),
+        OrderKind::Outbox => outbox(line),
         OrderKind::Drill => drill(line),
     }
 }

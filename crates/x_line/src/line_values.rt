@@ -110,7 +110,7 @@ impl Line<'_> {
             Opt::Name => self.name().is_some(),
             Opt::Seed => self.seed().is_some(),
             Opt::Events => self.events().is_some(),
-            Opt::Mirror | Opt::Ledger => self.other(opt).is_some(),
+            Opt::Spool | Opt::Mirror | Opt::Ledger => self.other(opt).is_some(),
             Opt::Amount => self.amount().is_some(),
             Opt::Single => true,
         }

@@ -20,9 +20,14 @@ impl OrderKind {
         match (self, opt) {
             (OrderKind::Init, Opt::Party | Opt::Role | Opt::Genkey | Opt::Genseed) =>
                 Need::Required,
+            (OrderKind::Create, Opt::Party | Opt::Role) => Need::Required,
             (OrderKind::Load, Opt::Party | Opt::Peer | Opt::Label | Opt::Side | Opt::Key) => {
                 Need::Required
             }
+            (
+                OrderKind::Enter | OrderKind::Value,
+                Opt::Party | Opt::Peer | Opt::Label | Opt::Side,
+            ) => Need::Required,
             (OrderKind::Start, Opt::Party | Opt::Peer) => Need::Required,
             (OrderKind::Start, Opt::Label) => Need::Optional,
             (OrderKind::StartKk, Opt::Party | Opt::Peer | Opt::New) => Need::Required,
@@ -44,11 +49,15 @@ impl OrderKind {
             (OrderKind::Pay, Opt::Party | Opt::Peer | Opt::Name | Opt::Ledger | Opt::Amount) =>
                 Need::Required,
             (OrderKind::Accept, Opt::Party | Opt::Ledger) => Need::Required,
+            (OrderKind::Spool, Opt::Party | Opt::Spool) => Need::Required,
+            (OrderKind::Outbox, Opt::Spool) => Need::Required,
             (OrderKind::Drill, Opt::Seed | Opt::Events) => Need::Required,
             (OrderKind::Compare, Opt::Party | Opt::Mirror) => Need::Required,
             (
                 OrderKind::Init
+                | OrderKind::Create
                 | OrderKind::Load
+                | OrderKind::Enter
                 | OrderKind::Start
                 | OrderKind::StartKk
                 | OrderKind::Ask
@@ -66,14 +75,14 @@ impl OrderKind {
     }
 
     /// Whether such an order doesn't take the option.
-    pub(crate) fn is_refusing(self, opt: Opt) -> bool
+    pub fn is_refusing(self, opt: Opt) -> bool
         ensures { result ≡ is_refused (need_of self opt) }
     {
         matches!(self.need(opt), Need::Refused)
     }
 
     /// Whether such an order can't do without the option.
-    pub(crate) fn is_requiring(self, opt: Opt) -> bool
+    pub fn is_requiring(self, opt: Opt) -> bool
         ensures { result ≡ is_required (need_of self opt) }
     {
         matches!(self.need(opt), Need::Required)

@@ -30,6 +30,8 @@ pub enum Opt {
     Seed,
     /// The number of events of a drill, 1 to 10,000.
     Events,
+    /// The identity under which a party's spool lies; it isn't the party's.
+    Spool,
     /// The identity under which a party's second disk lies; it isn't the party's.
     Mirror,
     /// The identity under which a ledger of payments lies; it isn't the party's.
@@ -41,7 +43,7 @@ pub enum Opt {
 }
 
 /// The options in the order in which the first at fault is sought.
-pub(crate) const OPTIONS: [Opt; 17] = [
+pub const OPTIONS: [Opt; 18] = [
     Opt::Party,
     Opt::Role,
     Opt::Genkey,
@@ -55,6 +57,7 @@ pub(crate) const OPTIONS: [Opt; 17] = [
     Opt::Name,
     Opt::Seed,
     Opt::Events,
+    Opt::Spool,
     Opt::Mirror,
     Opt::Ledger,
     Opt::Amount,
@@ -63,7 +66,7 @@ pub(crate) const OPTIONS: [Opt; 17] = [
 
 impl Opt {
     /// The option as it is written behind two dashes.
-    pub(crate) fn name<'a>(self) -> &'a str
+    pub fn name<'a>(self) -> &'a str
         ensures { result.now ≡ name_of self }
     {
         match self {
@@ -80,6 +83,7 @@ impl Opt {
             Opt::Name => "name",
             Opt::Seed => "seed",
             Opt::Events => "events",
+            Opt::Spool => "spool",
             Opt::Mirror => "mirror",
             Opt::Ledger => "ledger",
             Opt::Amount => "amount",

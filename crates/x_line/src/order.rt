@@ -21,12 +21,19 @@ pub enum Order {
     Replay,
     /// Compare a transcript with the scenario whose transcript it is said to be.
     Audit,
+    /// Write the messages of a stream as the lines of a batch.
+    Batch,
     /// Set up a party, with its generator's pair of keys and seed V.
     Init {
         party: Ident,
         role: Role,
         key: Pair,
         v: u64,
+    },
+    /// Set up a party, with its generator's pair of keys and seed V from the input.
+    Create {
+        party: Ident,
+        role: Role,
     },
     /// Load a key-encrypting key; a single one is a pair of equal halves.
     Load {
@@ -35,6 +42,13 @@ pub enum Order {
         label: Label,
         side: Side,
         pair: Pair,
+    },
+    /// Load a key-encrypting key from the input.
+    Enter {
+        party: Ident,
+        peer: Ident,
+        label: Label,
+        side: Side,
     },
     /// Send a new data key, under the key-encrypting key of this label.
     Start {
@@ -73,6 +87,13 @@ pub enum Order {
     /// Show the party's state.
     Show {
         party: Ident,
+    },
+    /// Show the check value of a loaded key-encrypting key.
+    Value {
+        party: Ident,
+        peer: Ident,
+        label: Label,
+        side: Side,
     },
     /// Write the party's state anew in one frame.
     Compact {
@@ -119,6 +140,15 @@ pub enum Order {
     Accept {
         party: Ident,
         ledger: Ident,
+    },
+    /// Take a batch at a party, with its plans in a spool.
+    Spool {
+        party: Ident,
+        spool: Ident,
+    },
+    /// Write the outbox of a spool.
+    Outbox {
+        spool: Ident,
     },
     /// Play a scenario that is made of a seed.
     Drill {

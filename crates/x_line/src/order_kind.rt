@@ -3,12 +3,15 @@ ghost use Rattle.x_line.specs.OrderKinds.{name_of_kind, named};
 
 /// A kind of order, named by the word in the place of the command.
 #[derive(Clone, Copy, Debug, PartialEq, Eq)]
-pub(crate) enum OrderKind {
+pub enum OrderKind {
     Check,
     Replay,
     Audit,
+    Batch,
     Init,
+    Create,
     Load,
+    Enter,
     Start,
     StartKk,
     Ask,
@@ -16,6 +19,7 @@ pub(crate) enum OrderKind {
     Take,
     Purge,
     Show,
+    Value,
     Compact,
     Migrate,
     Wipe,
@@ -25,15 +29,21 @@ pub(crate) enum OrderKind {
     End,
     Pay,
     Accept,
+    Spool,
+    Outbox,
     Drill,
 }
 
-const ORDER_KINDS: [OrderKind; 22] = [
+/// All kinds.
+pub const ORDER_KINDS: [OrderKind; 28] = [
     OrderKind::Check,
     OrderKind::Replay,
     OrderKind::Audit,
+    OrderKind::Batch,
     OrderKind::Init,
+    OrderKind::Create,
     OrderKind::Load,
+    OrderKind::Enter,
     OrderKind::Start,
     OrderKind::StartKk,
     OrderKind::Ask,
@@ -41,6 +51,7 @@ const ORDER_KINDS: [OrderKind; 22] = [
     OrderKind::Take,
     OrderKind::Purge,
     OrderKind::Show,
+    OrderKind::Value,
     OrderKind::Compact,
     OrderKind::Migrate,
     OrderKind::Wipe,
@@ -50,19 +61,25 @@ const ORDER_KINDS: [OrderKind; 22] = [
     OrderKind::End,
     OrderKind::Pay,
     OrderKind::Accept,
+    OrderKind::Spool,
+    OrderKind::Outbox,
     OrderKind::Drill,
 ];
 
 impl OrderKind {
-    fn name(self) -> &'static str
+    /// The word that names it.
+    pub fn name(self) -> &'static str
         ensures { result.now ≡ name_of_kind self }
     {
         match self {
             OrderKind::Check => "check",
             OrderKind::Replay => "replay",
             OrderKind::Audit => "audit",
+            OrderKind::Batch => "batch",
             OrderKind::Init => "init",
+            OrderKind::Create => "create",
             OrderKind::Load => "load",
+            OrderKind::Enter => "enter",
             OrderKind::Start => "start",
             OrderKind::StartKk => "startkk",
             OrderKind::Ask => "ask",
@@ -70,6 +87,7 @@ impl OrderKind {
             OrderKind::Take => "take",
             OrderKind::Purge => "purge",
             OrderKind::Show => "show",
+            OrderKind::Value => "value",
             OrderKind::Compact => "compact",
             OrderKind::Migrate => "migrate",
             OrderKind::Wipe => "wipe",
@@ -79,12 +97,14 @@ impl OrderKind {
             OrderKind::End => "end",
             OrderKind::Pay => "pay",
             OrderKind::Accept => "accept",
+            OrderKind::Spool => "spool",
+            OrderKind::Outbox => "outbox",
             OrderKind::Drill => "drill",
         }
     }
 
     /// The kind of this name.
-    pub(crate) fn named(name: &str) -> Option<OrderKind>
+    pub fn named(name: &str) -> Option<OrderKind>
         ensures { result ≡ named name.now }
     {
         ORDER_KINDS.iter().copied().find(|kind| kind.name() == name)

@@ -30,7 +30,7 @@ pub(crate) fn side(text: &str) -> Option<Side>
 }
 
 /// A pair of keys, or one key as a pair of equal halves.
-pub(crate) fn one_or_two(digits: &[u8]) -> Option<Pair>
+pub fn one_or_two(digits: &[u8]) -> Option<Pair>
     ensures { result ≡ one_or_two_of digits.now }
 {
     match key(digits) {
