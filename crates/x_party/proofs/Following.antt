@@ -21,17 +21,17 @@ use Rattle.x_party.specs.declared.outcome.Outcome.TheVariants as outcome
 use Rattle.x_party.proofs.Spaces.{as_format, in_format, so}
 
 -- the outcome is due, or a fault or want of memory came in its place
-abbrev DueOr : Outcome → Type 0 → Type 0
+abbrev pub DueOr : Outcome → Type 0 → Type 0
 DueOr o due = due ⊎ ((o ≡ outcome.Fault) ⊎ (o ≡ outcome.NoMemory))
 
-gives : (old : View) (o : Outcome) (due : List ℕ → Outcome → Type 0) → ((image : List ℕ) → old.now ≡ Some image → DueOr o (due image o))
+pub gives : (old : View) (o : Outcome) (due : List ℕ → Outcome → Type 0) → ((image : List ℕ) → old.now ≡ Some image → DueOr o (due image o))
     → ((image : List ℕ) (a b : Outcome) → due image a → due image b → a ≡ b) → GivesDue old due o
 gives old o due came one = λ image other now is. go image other is (came image now) where
   go : (image : List ℕ) (other : Outcome) → due image other → DueOr o (due image o) → (o ≡ other) ⊎ ((o ≡ outcome.Fault) ⊎ (o ≡ outcome.NoMemory))
   go image other is (inl mine) = inl (one image o other mine is)
   go image other is (inr failed) = inr failed
 
-blank_or : {A : Type 0} (image : List ℕ) → is_blank image ≡ true → is_blank image ≡ false → A
+pub blank_or : {A : Type 0} (image : List ℕ) → is_blank image ≡ true → is_blank image ≡ false → A
 blank_or image blank marked = let no : true ≡ false = sym blank ∙ marked in absurd cc
 
 done_same : (r t : Option (List ℕ)) → r ≡ t → outcome.Done r ≡ outcome.Done t
@@ -50,7 +50,7 @@ due_created old new p (outcome.Damaged place) is image now = absurd is
 due_created old new p outcome.Fault is image now = inr (inl refl)
 due_created old new p outcome.NoMemory is image now = inr (inr refl)
 
-nobody_due : (old new : View) (image : List ℕ) (verdict : Verdict) (reply : Option (List ℕ)) → old.now ≡ Some image
+pub nobody_due : (old new : View) (image : List ℕ) (verdict : Verdict) (reply : Option (List ℕ)) → old.now ≡ Some image
     → IsNobody old new verdict reply → FindsNobody image verdict reply
 nobody_due old new image verdict reply now none = record { blank = none.blank image now; said = none.verdict; written = none.reply }
 
@@ -163,10 +163,10 @@ module _ (one_party : (image : List ℕ) (first second : Party) → Stands image
     (not_blank : (image : List ℕ) (party : Party) → Stands image party → is_blank image ≡ false)
     (undamaged : (image : List ℕ) (party : Party) (place : ℕ) → Stands image party → IsFirstDamage image place → ⊥)
     (one_damage : (image : List ℕ) (first second : ℕ) → IsFirstDamage image first → IsFirstDamage image second → first ≡ second) where
-  stands_or_not : {A : Type 0} (image : List ℕ) (p : Party) (v : Verdict) (r : Option (List ℕ)) → Stands image p → FindsNobody image v r → A
+  pub stands_or_not : {A : Type 0} (image : List ℕ) (p : Party) (v : Verdict) (r : Option (List ℕ)) → Stands image p → FindsNobody image v r → A
   stands_or_not image p v r stands none = blank_or image none.blank (not_blank image p stands)
 
-  both_nobody : (image : List ℕ) (v w : Verdict) (r t : Option (List ℕ)) → FindsNobody image v r → FindsNobody image w t
+  pub both_nobody : (image : List ℕ) (v w : Verdict) (r t : Option (List ℕ)) → FindsNobody image v r → FindsNobody image w t
       → outcome.Refused v r ≡ outcome.Refused w t
   both_nobody image v w r t a b = refused_same v w r t (a.said ∙ sym b.said) (a.written ∙ sym b.written)
 

@@ -1,5 +1,6 @@
 mod Acted
 mod Alike
+mod Asked
 mod AlwaysDue
 mod Created
 mod Ended

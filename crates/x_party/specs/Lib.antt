@@ -2,3 +2,4 @@ pub mod Images
 pub mod Outcomes
 pub mod Steps
 pub mod Dues
+pub mod Asking

@@ -1,5 +1,5 @@
-//! A party on a shelf: it is created, shown, compacted, migrated, wiped, or has a turn with a command or a message. Its disk is
-//! fetched, and put back whatever comes.
+//! A party on a shelf: it is created, shown, asked for a check value, compacted, migrated, wiped, or has a turn with a command or
+//! a message. Its disk is fetched, and put back whatever comes.
 #![tactic(auto)]
 
 mod closing;
@@ -10,6 +10,7 @@ mod outcome;
 mod rewriting;
 mod showing;
 mod turning;
+mod valuing;
 mod wiping;
 
 pub use creating::create;
@@ -18,4 +19,5 @@ pub use outcome::Outcome;
 pub use rewriting::{compact, migrate};
 pub use showing::show;
 pub use turning::turn;
+pub use valuing::value;
 pub use wiping::wipe;
