@@ -1,0 +1,8 @@
+use Rattle.std.proofs.Common.{◌≡◌, ◌++◌, take}
+use Rattle.std.specs.List.{flat_map}
+use Rattle.help_texts.specs.Lines.{required_option}
+use Rattle.help_texts.proofs.options.push_all_required.Given as goal
+
+-- the options gone over are appended
+abbrev pub invariant-loop-opt : goal.invariant-loop-opt
+invariant-loop-opt l = l.out ≡ l.initial.out ++ flat_map (required_option l.initial.kind) (take l.opt-index l.opts)

@@ -1,0 +1,49 @@
+// The text of a topic.
+ghost use Rattle.std.specs.Prelude.{◌≡◌, ◌++◌, ℕ, List, IfOk};
+ghost use Rattle.help_texts.specs.Lines.{head_of};
+
+use crate::asking::Topic;
+use crate::command_texts::command_text;
+use crate::options::{push_all, push_usage};
+use crate::refusal_texts::refusal_text;
+use std::alloc::Global;
+use x_base::{NoMemory, Text};
+
+/// What stands behind the lines of all commands: the versions of the program and of what proved it.
+const VERSIONS: &[u8] = b"
+x917 help COMMAND tells of a command, x917 help NUMBER of a refusal.
+x917 1.0.0, proved with rattle-kit-13f
+";
+
+/// The line with which the text of a topic begins, or the lines.
+fn head(alloc: Global, topic: Topic) -> Result<Text, NoMemory>
+    ensures { IfOk result (λ text. text ≡ head_of topic) }
+{
+    let mut text = Text::new(alloc);
+    match topic {
+        Topic::All => push_all(&mut text)?,
+        Topic::Command(kind) => push_usage(&mut text, kind)?,
+        Topic::Refusal(number) => {
+            let line = format!(in alloc; "refused {number}\n")?;
+            text.push(line.as_bytes())?;
+        }
+    }
+    Ok(text)
+}
+
+fn rest(topic: Topic) -> &'static [u8] {
+    match topic {
+        Topic::All => VERSIONS,
+        Topic::Command(kind) => command_text(kind).as_bytes(),
+        Topic::Refusal(number) => refusal_text(number).as_bytes(),
+    }
+}
+
+/// The text of a topic: behind its first lines, which are told, words about it.
+pub fn help_text(alloc: Global, topic: Topic) -> Result<Text, NoMemory>
+    ensures { IfOk result (λ text. (rest : List ℕ) × (text ≡ head_of topic ++ rest)) }
+{
+    let mut text = head(alloc, topic)?;
+    text.push(rest(topic))?;
+    Ok(text)
+}
