@@ -1,5 +1,5 @@
 -- A disk is made to stand for a party: what a crash leaves.
-use Rattle.std.proofs.Common.{◌≡◌, ◌⊎◌, inl, inr, ℕ, List, true, false, Ok, Err, refl, sym, ◌∙◌, subst, arith}
+use Rattle.std.proofs.Common.{◌≡◌, ◌⊎◌, inl, inr, ℕ, List, true, false, Ok, Err, refl, sym, ◌∙◌, ap, subst, arith}
 use Rattle.x_disk.specs.Disk.{View, Tells, LeavesOnly, IsSound}
 use Rattle.x_disk.specs.declared.disk.DiskErr.{DiskErr}
 use Rattle.x_disk.specs.declared.disk.DiskErr.TheVariants as disk
@@ -53,10 +53,12 @@ fault_of disk.Fault is = refl
 fault_of disk.NoMemory is = absurd (cc is)
 
 module _ {D : Type 0} (told : D → View) (old : Stored D) (framed copy : Party) (is : framed ≡ copy) where
-  pub switched : (s : Stored D) → IsReplacing told old framed (Ok s) → IsCopying told old.disk (λ c. Stands c old.party) copy (Ok s)
-  switched s r = record {
+  pub switched : (s : Stored D) → IsReplacing told old framed (Ok s) → (IsTooLarge Two copy → ⊥) → IsCopying told old.disk (λ c. Stands c old.party) copy (Ok s)
+  switched s r small = record {
     stands = r.stands;
     party = r.party ∙ is;
+    left = r.left ∙ ap (space_of_whole Two) is;
+    small = small;
     refused = tt;
     moments = other_moments (told old.disk) (told s.disk) old.party framed copy (space old) is r.any_moment;
     faults = r.faults;
@@ -67,6 +69,8 @@ module _ {D : Type 0} (told : D → View) (old : Stored D) (framed copy : Party)
   switch_failed b r = record {
     stands = tt;
     party = tt;
+    left = tt;
+    small = tt;
     refused = (λ image now. free_cause b.cause, λ same. r.cause.fault (fault_of b.cause same));
     moments = other_moments (told old.disk) (told b.disk) old.party framed copy (space old) is r.any_moment;
     faults = r.faults;
@@ -79,7 +83,7 @@ module _ {D : Type 0} (told : D → View) (old : Stored D) (copy : Party) (sound
   still tells = rests (told old.disk) (λ c. Stands c copy ⊎ Stands c old.party) sound (λ c left. inr (store_left (told old.disk) old.gate old.end old.format old.party store tells c left))
 
   pub switch_too_large : IsTooLarge Two copy → IsCopying told old.disk (λ c. Stands c old.party) copy (Err (uncopied.TooLarge old.disk))
-  switch_too_large large = record { stands = tt; party = tt; refused = large; moments = still; faults = omega arith; tells = refl }
+  switch_too_large large = record { stands = tt; party = tt; left = tt; small = tt; refused = large; moments = still; faults = omega arith; tells = refl }
 
   pub switch_no_memory : IsCopying told old.disk (λ c. Stands c old.party) copy (Err (uncopied.Failed (record { disk = old.disk; cause = cause.NoMemory })))
-  switch_no_memory = record { stands = tt; party = tt; refused = (λ image now. tt, λ same. absurd (cc same)); moments = still; faults = omega arith; tells = refl }
+  switch_no_memory = record { stands = tt; party = tt; left = tt; small = tt; refused = (λ image now. tt, λ same. absurd (cc same)); moments = still; faults = omega arith; tells = refl }

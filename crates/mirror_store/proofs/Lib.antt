@@ -5,3 +5,4 @@ mod Created
 mod Turned
 mod Recovery
 mod Compared
+mod Fitting

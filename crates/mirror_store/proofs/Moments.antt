@@ -1,10 +1,10 @@
 -- What a crash leaves on a disk that isn't touched, and on one that is written after it was read.
-use Rattle.std.proofs.Common.{◌≡◌, ◌⊎◌, inr, ℕ, List, true, Option, Some, None, is_some, refl, sym, ◌∙◌, ap, subst}
+use Rattle.std.proofs.Common.{◌≡◌, ◌⊎◌, inr, ℕ, List, true, Option, Some, None, is_some, refl, sym, ◌∙◌, ap, subst, arith}
 use Rattle.x_disk.specs.Disk.{View, Tells, LeavesOnly, IsSound, IsUntouched}
 use Rattle.x_disk.proofs.Runs.{began, joined, weaker}
 use Rattle.party_state.specs.State.{Party}
 use Rattle.change_code.specs.declared.format.Format.{Format}
-use Rattle.key_store.specs.Store.{StandsAs, Stands, IsStore}
+use Rattle.key_store.specs.Store.{StandsAs, Stands, StandsWith, IsStore, space_between}
 use Rattle.mirror_store.specs.Pairs.{IsAsBefore}
 use Rattle.mirror_store.specs.Opening.{LeavesParty}
 
@@ -37,6 +37,12 @@ pub store_left : (v : View) (gate end : ℕ) (f : Format) (party : Party) → Is
 store_left v gate end f party store tells c left =
     let image = told_image v.now tells in
     subst (λ (l : List ℕ). Stands l party) (sym (store.durable.only image.0 c image.1 left)) (stands_for image.0 f party (store.stands image.0 image.1))
+
+-- the image of a store that a read gives, with its space
+pub stands_with : (v : View) (gate end : ℕ) (f : Format) (party : Party) → IsStore v gate end f party → (image : List ℕ) → v.now ≡ Some image → StandsWith image party (space_between gate end f)
+stands_with v gate end f party store image now =
+    let s = store.stands image now in
+    record { bodies = s.bodies; holds = s.holds; fold = s.fold; left = omega (arith, store.room s.bodies (record { image = image; now = now; holds = s.holds })) }
 
 -- a disk that was only read leaves what it could
 pub only_read : (v w : View) (before : List ℕ) (party : Party) → LeavesOnly v w v.may_leave → LeavesParty v w before party

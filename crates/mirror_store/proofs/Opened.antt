@@ -9,7 +9,10 @@ use Rattle.key_journal.specs.declared.cause.Cause.{Cause}
 use Rattle.key_journal.specs.declared.cause.Cause.TheVariants as cause
 use Rattle.key_journal.specs.declared.cause.Unmade.{Unmade}
 use Rattle.party_state.specs.State.{Party}
-use Rattle.key_store.specs.Store.{Stored, Stands, IsStore, IsRefusal}
+use Rattle.change_code.specs.Cost.{space_of_whole}
+use Rattle.change_code.specs.Whole.{IsTooLarge}
+use Rattle.change_code.specs.declared.format.Format.TheVariants.{Two}
+use Rattle.key_store.specs.Store.{Stored, Stands, StandsWith, IsStore, IsRefusal, space}
 use Rattle.key_store.specs.Loaded.{IsLoaded}
 use Rattle.mirror_store.specs.Pairs.{PairStands, IsBlankOrLike, Recovers, Twin}
 use Rattle.mirror_store.specs.Recovering.{IsPairFailure}
@@ -21,7 +24,7 @@ use Rattle.mirror_store.specs.declared.pair.PairCause.{PairCause}
 use Rattle.mirror_store.specs.declared.pair.PairCause.TheVariants.{First, Second, OtherParty, TooLarge}
 use Rattle.mirror_store.specs.declared.pair.PairUnmade.{PairUnmade}
 use Rattle.mirror_store.specs.declared.uncopied.Uncopied.TheVariants as uncopied
-use Rattle.mirror_store.proofs.Moments.{tells_by, untouched_self, untouched_then, rests, stands_for, store_left, only_read, read_then}
+use Rattle.mirror_store.proofs.Moments.{tells_by, untouched_self, untouched_then, rests, stands_for, store_left, stands_with, only_read, read_then}
 
 pub rose_later : (a b c : ℕ) → a ≤ b → Rose b c → Rose a c
 rose_later a b c le (inl less) = inl (omega (arith, le, less))
@@ -141,6 +144,8 @@ module _ (unique : (image : List ℕ) (p q : Party) → Stands image p → Stand
     beside_settled one two old (Ok m) load s = record {
       stand = s.stand;
       party = s.party;
+      same = s.same;
+      small = λ j now apart. s.small (λ is. apart (subst (Stands j) is (stands_for j two.format two.party (load.stands.stands j (load.now ∙ now)))));
       exact = λ j now. inr (two.party, stands_for j two.format two.party (load.stands.stands j (load.now ∙ now)), s.own);
       refused = tt;
       first = s.first;
@@ -155,6 +160,8 @@ module _ (unique : (image : List ℕ) (p q : Party) → Stands image p → Stand
     beside_settled one two old (Err u) load s = record {
       stand = tt;
       party = tt;
+      same = tt;
+      small = tt;
       exact = tt;
       refused = λ j now. unsettled one.party two.party j u.cause (stands_for j two.format two.party (load.stands.stands j (load.now ∙ now))) (s.refused j (load.now ∙ now));
       first = s.first;
@@ -190,6 +197,8 @@ module _ (unique : (image : List ℕ) (p q : Party) → Stands image p → Stand
       beside_copied s store copying = record {
         stand = record { first_stands = store; second_stands = copying.stands; same = copying.party };
         party = refl;
+        same = refl;
+        small = λ j now apart. copying.small;
         exact = λ j now. inl (load.refused j now);
         refused = tt;
         first = refl;
@@ -207,6 +216,8 @@ module _ (unique : (image : List ℕ) (p q : Party) → Stands image p → Stand
       beside_too_large new copying = record {
         stand = tt;
         party = tt;
+        same = tt;
+        small = tt;
         exact = tt;
         refused = λ j now. (copying.refused, inl (load.refused j now), λ stands. blank_never j one.party (load.refused j now) stands);
         first = refl;
@@ -224,6 +235,8 @@ module _ (unique : (image : List ℕ) (p q : Party) → Stands image p → Stand
       beside_failed u copying = record {
         stand = tt;
         party = tt;
+        same = tt;
+        small = tt;
         exact = tt;
         refused = λ j now. free_second one.party j u.cause (copying.refused.0 j (load.now ∙ now));
         first = refl;
@@ -242,6 +255,8 @@ module _ (unique : (image : List ℕ) (p q : Party) → Stands image p → Stand
     beside_refused one old u load other = record {
       stand = tt;
       party = tt;
+      same = tt;
+      small = tt;
       exact = tt;
       refused = λ j now. refused_second one.party j u.cause other (load.refused j now);
       first = refl;
@@ -277,6 +292,8 @@ module _ (unique : (image : List ℕ) (p q : Party) → Stands image p → Stand
           → IsOverBlank told old (Ok (record { first = s; second = two }))
       over_copied s copying = record {
         stand = record { first_stands = copying.stands; second_stands = load.stands; same = sym copying.party };
+        left = copying.left ∙ ap (space_of_whole Two) (sym copying.party);
+        small = λ large. copying.small (subst (IsTooLarge Two) copying.party large);
         exact = λ j now. subst (λ (p : Party). Stands j p) (sym copying.party) (stands_for j two.format two.party (load.stands.stands j (load.now ∙ now)));
         refused = tt;
         moments = over_moments s.disk copying.moments;
@@ -291,6 +308,8 @@ module _ (unique : (image : List ℕ) (p q : Party) → Stands image p → Stand
       over_too_large new copying = record {
         stand = tt;
         exact = tt;
+        left = tt;
+        small = tt;
         refused = λ i j now_i now_j. (two.party, stands_for j two.format two.party (load.stands.stands j (load.now ∙ now_j)), copying.refused);
         moments = over_moments new copying.moments;
         second = two_untouched;
@@ -304,6 +323,8 @@ module _ (unique : (image : List ℕ) (p q : Party) → Stands image p → Stand
       over_failed u copying = record {
         stand = tt;
         exact = tt;
+        left = tt;
+        small = tt;
         refused = λ i j now_i now_j. free_first j u.cause (copying.refused.0 i now_i);
         moments = over_moments u.disk copying.moments;
         second = two_untouched;
@@ -322,6 +343,8 @@ module _ (unique : (image : List ℕ) (p q : Party) → Stands image p → Stand
       over_blank disk load = record {
         stand = tt;
         exact = tt;
+        left = tt;
+        small = tt;
         refused = λ i j now_i now_j. load.refused j now_j;
         moments = still_moments;
         second = record { now = load.now; images = load.images; any_moment = load.any_moment };
@@ -335,6 +358,8 @@ module _ (unique : (image : List ℕ) (p q : Party) → Stands image p → Stand
       over_refused u load other = record {
         stand = tt;
         exact = tt;
+        left = tt;
+        small = tt;
         refused = λ i j now_i now_j. refused_blank j u.cause other (load.refused j now_j);
         moments = still_moments;
         second = record { now = load.now; images = load.images; any_moment = load.any_moment };
@@ -359,6 +384,9 @@ module _ (unique : (image : List ℕ) (p q : Party) → Stands image p → Stand
           → (i j : List ℕ) (party : Party) → AreRead (told old.first) (told old.second) i j → Recovers i j party → LeavesParty (told old.second) (told new) j party
       second_moments new run i j party read recovers = subst (λ (p : Party). LeavesParty (told old.second) (told new) j p) (recovered i j party read.first recovers) (run j read.second)
 
+      first_untouched : (new : D) → new ≡ one.disk → IsUntouched (told old.first) (told new)
+      first_untouched new is = subst (λ (d : D). IsUntouched (told old.first) (told d)) (sym is) (record { now = load.now; images = load.images; any_moment = load.any_moment })
+
       both_quiet : (new_first new_second : D) → new_first ≡ one.disk → ((j : List ℕ) → (told old.second).now ≡ Some j → Stands j one.party → IsUntouched (told old.second) (told new_second))
           → (i j : List ℕ) (party : Party) → AreRead (told old.first) (told old.second) i j → PairStands i j party → IsUntouched (told old.first) (told new_first) × IsUntouched (told old.second) (told new_second)
       both_quiet new_first new_second is quiet i j party read both = (
@@ -377,12 +405,18 @@ module _ (unique : (image : List ℕ) (p q : Party) → Stands image p → Stand
       opened_beside (Ok m) b = record {
         stand = b.stand;
         exact = λ i j read. subst (λ (p : Party). Recovers i j p) (sym b.party) (inl (one_stands i read.first, b.exact j read.second));
+        left = λ i j read. inl (subst (λ (s : Stored D). StandsWith i s.party (space s)) (sym b.same) (stands_with (told one.disk) one.gate one.end one.format one.party load.stands i (load.now ∙ read.first)));
+        small = λ i j read apart large. b.small j read.second
+            (λ stands. apart (subst (PairStands i j) (sym b.party) (record { first_is = one_stands i read.first; second_is = stands })))
+            (subst (IsTooLarge Two) b.party large);
         refused = tt;
         due = tt;
         first_moments = first_moments m.first.disk b.first;
         second_moments = second_moments m.second.disk b.moments;
         quiet = both_quiet m.first.disk m.second.disk b.first b.quiet;
         stays = both_stay m.first.disk m.second.disk b.first b.stays;
+        first_stays = λ i j read stands. first_untouched m.first.disk b.first;
+        second_stays = λ i j read blank. absurd (never_both (sym blank ∙ (load.marked i read.first).0));
         fault = tt;
         keeps = record {
           first_faults = subst (λ (d : D). (told old.first).faults ≤ (told d).faults) (sym b.first) load.faults;
@@ -394,12 +428,16 @@ module _ (unique : (image : List ℕ) (p q : Party) → Stands image p → Stand
       opened_beside (Err u) b = record {
         stand = tt;
         exact = tt;
+        left = tt;
+        small = tt;
         refused = λ i j read. pair_beside i j one.party u.cause (one_stands i read.first) (b.refused j read.second);
         due = λ i j party read recovers. failure i j party u.cause recovers (pair_beside i j one.party u.cause (one_stands i read.first) (b.refused j read.second));
         first_moments = first_moments u.disks.first b.first;
         second_moments = second_moments u.disks.second b.moments;
         quiet = both_quiet u.disks.first u.disks.second b.first b.quiet;
         stays = both_stay u.disks.first u.disks.second b.first b.stays;
+        first_stays = λ i j read stands. first_untouched u.disks.first b.first;
+        second_stays = λ i j read blank. absurd (never_both (sym blank ∙ (load.marked i read.first).0));
         fault = record { first = λ is. absurd (b.names is); second = λ is. b.fault is };
         keeps = record {
           first_faults = subst (λ (d : D). (told old.first).faults ≤ (told d).faults) (sym b.first) load.faults;
@@ -443,24 +481,32 @@ module _ (unique : (image : List ℕ) (p q : Party) → Stands image p → Stand
       opened_over (Ok m) b = record {
         stand = b.stand;
         exact = λ i j read. inr (load.refused i read.first, b.exact j read.second);
+        left = λ i j read. inr (load.refused i read.first, b.left);
+        small = λ i j read apart large. b.small large;
         refused = tt;
         due = tt;
         first_moments = blank_first m.first.disk b.moments;
         second_moments = blank_second m.second.disk b.second;
         quiet = blank_quiet_pair m.first.disk m.second.disk;
         stays = blank_stay_pair m.first.disk m.second.disk b.stays b.second;
+        first_stays = λ i j read stands. absurd (never_both (sym (load.refused i read.first) ∙ stands));
+        second_stays = λ i j read blank. b.second;
         fault = tt;
         keeps = record { first_faults = omega (arith, load.faults, b.keeps.first_faults); second_faults = b.keeps.second_faults; first_tells = b.keeps.first_tells ∙ ap is_some load.now; second_tells = b.keeps.second_tells };
       }
       opened_over (Err u) b = record {
         stand = tt;
         exact = tt;
+        left = tt;
+        small = tt;
         refused = λ i j read. pair_blank i j u.cause (load.refused i read.first) (b.refused i j (load.now ∙ read.first) read.second);
         due = λ i j party read recovers. failure i j party u.cause recovers (pair_blank i j u.cause (load.refused i read.first) (b.refused i j (load.now ∙ read.first) read.second));
         first_moments = blank_first u.disks.first b.moments;
         second_moments = blank_second u.disks.second b.second;
         quiet = blank_quiet_pair u.disks.first u.disks.second;
         stays = blank_stay_pair u.disks.first u.disks.second b.stays b.second;
+        first_stays = λ i j read stands. absurd (never_both (sym (load.refused i read.first) ∙ stands));
+        second_stays = λ i j read blank. b.second;
         fault = record { first = λ is. rose_later (told old.first).faults (told disk).faults (told u.disks.first).faults load.faults (b.fault.first is); second = b.fault.second };
         keeps = record { first_faults = omega (arith, load.faults, b.keeps.first_faults); second_faults = b.keeps.second_faults; first_tells = b.keeps.first_tells ∙ ap is_some load.now; second_tells = b.keeps.second_tells };
       }
@@ -471,12 +517,16 @@ module _ (unique : (image : List ℕ) (p q : Party) → Stands image p → Stand
     opened_refused failure old u load other sound = record {
       stand = tt;
       exact = tt;
+      left = tt;
+      small = tt;
       refused = λ i j read. refused_first i j u.cause other (load.refused i read.first);
       due = λ i j party read recovers. failure i j party (First u.cause) recovers (refused_first i j u.cause other (load.refused i read.first));
       first_moments = λ i j party read recovers. only_read (told old.first) (told u.disk) i party load.any_moment;
       second_moments = λ i j party read recovers. only_read (told old.second) (told old.second) j party (untouched_self (told old.second) sound).any_moment;
       quiet = λ i j party read both. (record { now = load.now; images = load.images; any_moment = load.any_moment }, untouched_self (told old.second) sound);
       stays = λ i j read none. (record { now = load.now; images = load.images; any_moment = load.any_moment }, untouched_self (told old.second) sound);
+      first_stays = λ i j read stands. record { now = load.now; images = load.images; any_moment = load.any_moment };
+      second_stays = λ i j read blank. untouched_self (told old.second) sound;
       fault = record { first = λ is. load.fault (first_same u.cause cause.Fault is); second = λ is. absurd (never_second u.cause cause.Fault is) };
       keeps = record { first_faults = load.faults; second_faults = omega arith; first_tells = ap is_some load.now; second_tells = refl };
     }
@@ -498,6 +548,8 @@ module _ {D : Type 0} (told : D → View) (one two : Stored D) (one_store : IsSt
     stand = tt;
     party = tt;
     own = tt;
+    same = tt;
+    small = tt;
     refused = λ image now. (a_is, b_is, apart);
     first = refl;
     quiet = λ same. refl;
@@ -514,6 +566,8 @@ module _ {D : Type 0} (told : D → View) (one two : Stored D) (one_store : IsSt
     stand = record { first_stands = one_store; second_stands = two_store; same = same };
     party = refl;
     own = ap (λ (p : Party). p.own) same;
+    same = refl;
+    small = λ apart. absurd (apart same);
     refused = tt;
     first = refl;
     quiet = λ is. refl;
@@ -525,12 +579,33 @@ module _ {D : Type 0} (told : D → View) (one two : Stored D) (one_store : IsSt
     tells = refl;
   }
 
+  pub settled_switched : (s : Stored D) → two.party.own ≡ one.party.own → (two.party ≡ one.party → ⊥) → IsCopying told two.disk (λ c. Stands c two.party) one.party (Ok s)
+      → IsSettled told one two (Ok (record { first = one; second = s }))
+  settled_switched s own apart copying = record {
+    stand = record { first_stands = one_store; second_stands = copying.stands; same = copying.party };
+    party = refl;
+    own = own;
+    same = refl;
+    small = λ differ. copying.small;
+    refused = tt;
+    first = refl;
+    quiet = λ same. absurd (apart same);
+    apart = λ differ. absurd (differ own);
+    moments = copying.moments;
+    fault = tt;
+    names = tt;
+    faults = copying.faults;
+    tells = copying.tells;
+  }
+
   pub settled_failed : (u : Unmade D) → two.party.own ≡ one.party.own → (two.party ≡ one.party → ⊥) → IsCopying told two.disk (λ c. Stands c two.party) one.party (Err (uncopied.Failed u))
       → IsSettled told one two (Err (record { disks = record { first = one.disk; second = u.disk }; cause = Second u.cause }))
   settled_failed u own apart copying = record {
     stand = tt;
     party = tt;
     own = tt;
+    same = tt;
+    small = tt;
     refused = λ image now. copying.refused.0 image now;
     first = refl;
     quiet = λ same. absurd (apart same);

@@ -1,5 +1,5 @@
 -- A plan is carried out over two disks: the answer, and what a crash may leave.
-use Rattle.std.proofs.Common.{◌≡◌, ◌≢◌, inl, ℕ, Bool, true, false, cond, List, [], ◌∷◌, Option, Some, None, Ok, Err, refl, sym, ◌∙◌, ap, subst, arith}
+use Rattle.std.proofs.Common.{◌≡◌, ◌≢◌, inl, ℕ, Bool, true, false, cond, List, [], ◌∷◌, Option, None, Ok, Err, refl, sym, ◌∙◌, ap, subst, arith}
 use Rattle.x_base.specs.declared.verdict.Verdict.{Verdict}
 use Rattle.x_base.specs.declared.verdict.Verdict.TheVariants.{Accept, JournalFull}
 use Rattle.x_base.specs.declared.key_name.FullName.{FullName}
@@ -35,7 +35,7 @@ use Rattle.mirror_store.specs.Turns.{fits_frame, pair_plan, IsKeptTwice, HasFail
 use Rattle.mirror_store.specs.declared.pair.PairCause.TheVariants.{First, Second}
 use Rattle.mirror_store.specs.declared.mirror.PairTurn.{PairTurn}
 use Rattle.mirror_store.specs.declared.mirror.PairTurn.TheVariants as turn
-use Rattle.mirror_store.proofs.Moments.{told_image}
+use Rattle.mirror_store.proofs.Moments.{told_image, stands_with}
 
 -- which plan is carried out
 
@@ -45,7 +45,7 @@ kept_plan party plan fits = ap (λ b. cond b plan (as_full plan.lead)) fits
 full_plan : (party : Party) (plan : Plan) → fits_frame party plan.edits ≡ false → pair_plan party plan ≡ as_full plan.lead
 full_plan party plan full = ap (λ b. cond b plan (as_full plan.lead)) full
 
-small_is : (b : Bool) (Large : Type 0) → (b ≡ false → Large) → (Large → ⊥) → b ≡ true
+pub small_is : (b : Bool) (Large : Type 0) → (b ≡ false → Large) → (Large → ⊥) → b ≡ true
 small_is true Large large small = refl
 small_is false Large large small = absurd (small (large refl))
 
@@ -57,7 +57,7 @@ pub fits_alone : (party : Party) (edits : List Edit) → ((p : Party) → can_co
 fits_alone party [] law small = refl
 fits_alone party (e ∷ es) law small = small_is (can_compact Two (apply (e ∷ es) party)) (IsTooLarge Two (apply (e ∷ es) party)) (law (apply (e ∷ es) party)) small
 
-fits_not : (party : Party) (edits : List Edit) → edits ≢ [] → ((p : Party) → can_compact Two p ≡ true → IsTooLarge Two p → ⊥) → IsTooLarge Two (apply edits party) → fits_frame party edits ≡ false
+pub fits_not : (party : Party) (edits : List Edit) → edits ≢ [] → ((p : Party) → can_compact Two p ≡ true → IsTooLarge Two p → ⊥) → IsTooLarge Two (apply edits party) → fits_frame party edits ≡ false
 fits_not party [] some law large = absurd (some refl)
 fits_not party (e ∷ es) some law large = large_is (can_compact Two (apply (e ∷ es) party)) (IsTooLarge Two (apply (e ∷ es) party)) (law (apply (e ∷ es) party)) large
 
@@ -82,12 +82,6 @@ pub accepted_plan : ((p : Party) (i : Input) (moment : ℕ) → is_accept (decis
 accepted_plan law x i moment some = accepted_by (fits x.space (decision x.party i moment).change) (lead_in x.party i) (decision x.party i moment) (law x.party i moment) some
 
 -- what rests
-
--- the image of a store that a crash may leave now, with its space
-stands_with : (v : View) (gate end : ℕ) (f : Format) (party : Party) → IsStore v gate end f party → (image : List ℕ) → v.now ≡ Some image → StandsWith image party (space_between gate end f)
-stands_with v gate end f party store image now =
-    let s = store.stands image now in
-    record { bodies = s.bodies; holds = s.holds; fold = s.fold; left = omega (arith, store.room s.bodies (record { image = image; now = now; holds = s.holds })) }
 
 at_rest : (v : View) (gate end : ℕ) (f : Format) (party : Party) → IsSound v → IsStore v gate end f party → Tells v → LeavesOnly v v (λ c. StandsWith c party (space_between gate end f))
 at_rest v gate end f party sound store tells =

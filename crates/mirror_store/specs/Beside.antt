@@ -5,9 +5,10 @@ use Rattle.x_disk.specs.Disk.{View, IsUntouched}
 use Rattle.key_journal.specs.Journal.{is_blank}
 use Rattle.key_journal.specs.declared.cause.Cause.TheVariants as cause
 use Rattle.party_state.specs.State.{Party}
+use Rattle.change_code.specs.Cost.{space_of_whole}
 use Rattle.change_code.specs.declared.format.Format.TheVariants.{Two}
 use Rattle.change_code.specs.Whole.{IsTooLarge}
-use Rattle.key_store.specs.Store.{Stored, Stands, IsFirstDamage}
+use Rattle.key_store.specs.Store.{Stored, Stands, IsFirstDamage, space}
 use Rattle.mirror_store.specs.Pairs.{IsBlankOrLike, Twin, IsTwin}
 use Rattle.mirror_store.specs.Answers.{opened_disks}
 use Rattle.mirror_store.specs.Opening.{LeavesParty, HasPairFault, KeepsPair}
@@ -31,7 +32,10 @@ IsBesideRefusal one second TooLarge = IsTooLarge Two one × IsBlankOrLike one se
 pub record IsBeside {D : Type 0} (told : D → View) (one : Stored D) (old : D) (result : Result (Twin D) (PairUnmade D)) : Type 0 where
   pub stand : IfOk result (IsTwin told)
   pub party : IfOk result (λ m. m.first.party ≡ one.party)
+  pub same : IfOk result (λ m. m.first ≡ one)
   pub exact : IfOk result (λ m. (j : List ℕ) → (told old).now ≡ Some j → IsBlankOrLike one.party j)
+  -- what is written isn't too large for one frame
+  pub small : IfOk result (λ m. (j : List ℕ) → (told old).now ≡ Some j → (Stands j one.party → ⊥) → IsTooLarge Two one.party → ⊥)
   pub refused : IfErr result (λ u. (j : List ℕ) → (told old).now ≡ Some j → IsBesideRefusal one.party j u.cause)
   pub first : (opened_disks result).first ≡ one.disk
   pub moments : (j : List ℕ) → (told old).now ≡ Some j → LeavesParty (told old) (told (opened_disks result).second) j one.party
@@ -61,6 +65,9 @@ IsBlankRefusal second TooLarge = (party : Party) × Stands second party × IsToo
 pub record IsOverBlank {D : Type 0} (told : D → View) (old : Disks D) (result : Result (Twin D) (PairUnmade D)) : Type 0 where
   pub stand : IfOk result (IsTwin told)
   pub exact : IfOk result (λ m. (j : List ℕ) → (told old.second).now ≡ Some j → Stands j m.first.party)
+  -- it is alone there as one frame, for which it isn't too large
+  pub left : IfOk result (λ m. space m.first ≡ space_of_whole Two m.first.party)
+  pub small : IfOk result (λ m. IsTooLarge Two m.first.party → ⊥)
   pub refused : IfErr result (λ u. (i j : List ℕ) → (told old.first).now ≡ Some i → (told old.second).now ≡ Some j → IsBlankRefusal j u.cause)
   pub moments : (i j : List ℕ) (party : Party) → (told old.first).now ≡ Some i → (told old.second).now ≡ Some j → Stands j party
       → LeavesParty (told old.first) (told (opened_disks result).first) i party

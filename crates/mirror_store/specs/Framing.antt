@@ -6,9 +6,10 @@ use Rattle.key_journal.specs.Journal.{is_blank}
 use Rattle.key_journal.specs.Opening.{IsFree}
 use Rattle.key_journal.specs.declared.cause.Cause.TheVariants as cause
 use Rattle.party_state.specs.State.{Party}
+use Rattle.change_code.specs.Cost.{space_of_whole}
 use Rattle.change_code.specs.declared.format.Format.TheVariants.{Two}
 use Rattle.change_code.specs.Whole.{IsTooLarge}
-use Rattle.key_store.specs.Store.{Stored, Stands, IsStore}
+use Rattle.key_store.specs.Store.{Stored, Stands, IsStore, space}
 use Rattle.mirror_store.specs.Pairs.{Twin, IsTwin}
 use Rattle.mirror_store.specs.Answers.{opened_disks}
 use Rattle.mirror_store.specs.declared.pair.PairCause.{PairCause}
@@ -31,6 +32,9 @@ IsUncopied told old party (uncopied.Failed u) = ((b : List ℕ) → (told old).n
 pub record IsCopying {D : Type 0} (told : D → View) (old : D) (P : List ℕ → Type 0) (copy : Party) (result : Result (Stored D) (Uncopied D)) : Type 0 where
   pub stands : IfOk result (λ s. IsStore (told s.disk) s.gate s.end s.format s.party)
   pub party : IfOk result (λ s. s.party ≡ copy)
+  -- it is alone there as one frame, for which it isn't too large
+  pub left : IfOk result (λ s. space s ≡ space_of_whole Two copy)
+  pub small : IfOk result (λ s. IsTooLarge Two copy → ⊥)
   pub refused : IfErr result (IsUncopied told old copy)
   pub moments : Tells (told old) → LeavesOnly (told old) (told (copied_disk result)) (λ c. Stands c copy ⊎ P c)
   pub faults : (told old).faults ≤ (told (copied_disk result)).faults
@@ -52,6 +56,9 @@ pub record IsSettled {D : Type 0} (told : D → View) (one two : Stored D) (resu
   pub stand : IfOk result (IsTwin told)
   pub party : IfOk result (λ m. m.first.party ≡ one.party)
   pub own : IfOk result (λ m. two.party.own ≡ one.party.own)
+  pub same : IfOk result (λ m. m.first ≡ one)
+  -- what is written isn't too large for one frame
+  pub small : IfOk result (λ m. two.party ≢ one.party → IsTooLarge Two one.party → ⊥)
   pub refused : IfErr result (λ u. (b : List ℕ) → (told two.disk).now ≡ Some b → IsUnsettled one.party two.party u.cause)
   -- the first disk isn't touched, nor the second where it stands for that party
   pub first : (opened_disks result).first ≡ one.disk

@@ -1,13 +1,15 @@
 -- How a pair of disks is opened as one party, or made, and why it isn't (this project's profile).
-use Rattle.std.specs.Prelude.{◌≡◌, ◌≢◌, ◌⊎◌, ℕ, ◌≤◌, true, List, Some, is_some, Result, IfOk, IfErr}
+use Rattle.std.specs.Prelude.{◌≡◌, ◌≢◌, ◌⊎◌, ℕ, ◌≤◌, true, false, List, Some, is_some, Result, IfOk, IfErr}
 use Rattle.x_base.specs.Edge.{Rose}
 use Rattle.x_disk.specs.Disk.{View, LeavesOnly, IsUntouched}
 use Rattle.key_journal.specs.Journal.{is_blank}
 use Rattle.key_journal.specs.declared.cause.Cause.TheVariants as cause
 use Rattle.party_state.specs.State.{Party}
+use Rattle.change_code.specs.Cost.{space_of_whole}
 use Rattle.change_code.specs.declared.format.Format.TheVariants.{Two}
+use Rattle.change_code.specs.declared.space.Space.{Space}
 use Rattle.change_code.specs.Whole.{IsTooLarge}
-use Rattle.key_store.specs.Store.{Stands, IsFirstDamage}
+use Rattle.key_store.specs.Store.{Stands, StandsWith, IsFirstDamage, space}
 use Rattle.mirror_store.specs.Pairs.{PairStands, Recovers, IsAsBefore, Twin, IsTwin}
 use Rattle.mirror_store.specs.Recovering.{IsPairFailure}
 use Rattle.mirror_store.specs.Answers.{opened_disks}
@@ -73,11 +75,19 @@ pub record AreRead (v w : View) (i j : List ℕ) : Type 0 where
   pub first : v.now ≡ Some i
   pub second : w.now ≡ Some j
 
+-- the space that the first disk has for the party: what its image leaves, or, where it was blank, what one frame of format 2 leaves
+abbrev pub HasFirstSpace : List ℕ → Party → Space → Type 0
+HasFirstSpace first party left = StandsWith first party left ⊎ ((is_blank first ≡ true) × (left ≡ space_of_whole Two party))
+
 -- two disks are opened as one party, after the one that lacks it was made to stand for it
 pub record IsPairOpened {D : Type 0} (told : D → View) (old : Disks D) (result : Result (Twin D) (PairUnmade D)) : Type 0 where
   pub stand : IfOk result (IsTwin told)
   -- the party is the one for which the first disk stands, or the second, where the first is blank
   pub exact : IfOk result (λ m. (i j : List ℕ) → AreRead (told old.first) (told old.second) i j → Recovers i j m.first.party)
+  -- with the space that the first image leaves, or the frame that was written over a blank one
+  pub left : IfOk result (λ m. (i j : List ℕ) → AreRead (told old.first) (told old.second) i j → HasFirstSpace i m.first.party (space m.first))
+  -- where it had to be written, it isn't too large for one frame
+  pub small : IfOk result (λ m. (i j : List ℕ) → AreRead (told old.first) (told old.second) i j → (PairStands i j m.first.party → ⊥) → IsTooLarge Two m.first.party → ⊥)
   pub refused : IfErr result (λ u. (i j : List ℕ) → AreRead (told old.first) (told old.second) i j → IsPairRefusal i j u.cause)
   -- where a party can be opened of the two images, it is, or a disk failed, memory was wanting, or the party is too large
   pub due : IfErr result (λ u. (i j : List ℕ) (party : Party) → AreRead (told old.first) (told old.second) i j → Recovers i j party → IsPairFailure party u.cause)
@@ -92,5 +102,8 @@ pub record IsPairOpened {D : Type 0} (told : D → View) (old : Disks D) (result
   -- and where no party can be opened of the two images
   pub stays : (i j : List ℕ) → AreRead (told old.first) (told old.second) i j → ((party : Party) → Recovers i j party → ⊥)
       → IsUntouched (told old.first) (told (opened_disks result).first) × IsUntouched (told old.second) (told (opened_disks result).second)
+  -- the first disk is written only where it is blank, and the second only where the first isn't
+  pub first_stays : (i j : List ℕ) → AreRead (told old.first) (told old.second) i j → is_blank i ≡ false → IsUntouched (told old.first) (told (opened_disks result).first)
+  pub second_stays : (i j : List ℕ) → AreRead (told old.first) (told old.second) i j → is_blank i ≡ true → IsUntouched (told old.second) (told (opened_disks result).second)
   pub fault : IfErr result (λ u. HasPairFault told old u.disks u.cause)
   pub keeps : KeepsPair told old (opened_disks result)

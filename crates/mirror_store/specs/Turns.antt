@@ -1,5 +1,5 @@
 -- What became of an input at a party over two disks (this project's profile).
-use Rattle.std.specs.Prelude.{◌≡◌, ◌≢◌, ℕ, Bool, true, cond, List, [], ◌∷◌, Option}
+use Rattle.std.specs.Prelude.{◌≡◌, ◌≢◌, ◌⊎◌, ℕ, Bool, true, false, cond, List, [], ◌∷◌, Option}
 use Rattle.x_base.specs.Edge.{Rose}
 use Rattle.x_base.specs.declared.verdict.Verdict.{Verdict}
 use Rattle.x_base.specs.declared.verdict.Verdict.TheVariants.{Accept}
@@ -10,7 +10,8 @@ use Rattle.party_state.specs.declared.command.Input.{Input}
 use Rattle.party_state.specs.declared.edit.Edit.{Edit}
 use Rattle.party_state.specs.State.{Party, apply}
 use Rattle.change_code.specs.declared.format.Format.TheVariants.{Two}
-use Rattle.change_code.specs.Cost.{can_compact, space_of_whole}
+use Rattle.change_code.specs.Cost.{can_compact, fits, space_of_whole}
+use Rattle.change_code.specs.Whole.{IsTooLarge}
 use Rattle.key_store.specs.Store.{space}
 use Rattle.key_store.specs.Replacing.{IsOldOrOther}
 use Rattle.member.specs.Member.{Member, Plan, plan_at, as_full, after}
@@ -38,6 +39,10 @@ pair_plan party plan = cond (fits_frame party plan.edits) plan (as_full plan.lea
 -- what a member that has a second disk will do with an input at a moment
 abbrev pub pair_plan_at : Member → Input → ℕ → Plan
 pair_plan_at x i moment = pair_plan x.party (plan_at x i moment)
+
+-- the edits don't fit into the space of the first disk, or there are some, and the party after them is too large for one frame
+abbrev pub DoesNotFit : Member → List Edit → Type 0
+DoesNotFit x es = (fits x.space es ≡ false) ⊎ ((es ≢ []) × IsTooLarge Two (apply es x.party))
 
 -- the edits are kept on the first disk, and the party after them alone in an area on the second; where there are none, neither
 -- disk is touched

@@ -10,6 +10,7 @@ use Rattle.party_state.specs.State.{Party, apply}
 use Rattle.party_show.specs.Show.{shown}
 use Rattle.change_code.specs.declared.space.Space.{Space}
 use Rattle.change_code.specs.Cost.{space_after}
+use Rattle.change_code.specs.Whole.{IsTooLarge}
 use Rattle.change_code.specs.declared.format.Format.TheVariants.{Two}
 use Rattle.key_store.specs.Store.{Stands, StandsWith, space}
 use Rattle.key_store.specs.Replacing.{IsOldOrOther}
@@ -18,7 +19,7 @@ use Rattle.node_core.specs.Turns.{member_of, IsOldOrNext}
 use Rattle.disk_pair.specs.declared.disks.Disks.{Disks}
 use Rattle.mirror_store.specs.Pairs.{PairStands, Recovers, Twin}
 use Rattle.mirror_store.specs.Answers.{twin_disks, turn_disks}
-use Rattle.mirror_store.specs.Opening.{IsPairOpened}
+use Rattle.mirror_store.specs.Opening.{HasFirstSpace, IsPairOpened}
 use Rattle.mirror_store.specs.Turns.{HasFailed, IsKeptTwice, IsPairTurn, pair_plan_at}
 use Rattle.mirror_store.specs.declared.pair.PairCause.{PairCause}
 use Rattle.mirror_store.specs.declared.pair.PairCause.TheVariants.{First, Second, OtherParty, TooLarge}
@@ -29,18 +30,19 @@ use Rattle.x_party.specs.declared.outcome.Outcome.TheVariants as outcome
 use Rattle.x_pair.specs.Outcomes.{Work, MakesOf, MayLeave, Opened, After, showing, turning}
 use Rattle.x_pair.specs.Steps.{HasActed, outcome_of_pair, outcome_of_turn}
 use Rattle.x_pair.proofs.Alike.{tells_by}
-use Rattle.x_pair.proofs.Opened.{both_stand, in_place, opening_leaves, rested}
+use Rattle.x_pair.proofs.Opened.{both_stand, opening_leaves, rested}
 
 -- a party of another name isn't asked
 pub other : {D : Type 0} (told : D → View) (old : Disks D) (name : List ℕ) (i : Input) (moment : ℕ) (m : Twin D) → IsPairOpened told old (Ok m) → (new : Disks D) → new ≡ twin_disks m
     → (own : List ℕ) → own ≡ m.first.party.own → own ≢ name → HasActed (turning name i moment) told old new (outcome.OtherParty name own)
 other told old name i moment m opened new is own own_is differs =
     rested told old (turning name i moment) m opened new is (outcome.OtherParty name own)
-    (λ a b recovers at stand. inl (record {
+    (λ a b recovers at small stand. inl (record {
       member = member_of m.first;
       next = member_of m.first;
       recovers = recovers;
       space = at;
+      small = small;
       says = record { called = refl; own = own_is; differs = differs; same = refl };
       stand = stand;
     })) (λ bad. cc bad)
@@ -50,17 +52,18 @@ pub displayed : {D : Type 0} (told : D → View) (old : Disks D) (m : Twin D) �
     → HasActed showing told old new (outcome.Done (Some text))
 displayed told old m opened new is text text_is =
     rested told old showing m opened new is (outcome.Done (Some text))
-    (λ a b recovers at stand. record {
+    (λ a b recovers at small stand. record {
       member = member_of m.first;
       next = member_of m.first;
       recovers = recovers;
       space = at;
+      small = small;
       says = (ap (λ (t : List ℕ). Some t) text_is, refl);
       stand = stand;
     }) (λ bad. cc bad)
 
 pub not_displayed : {D : Type 0} (told : D → View) (old : Disks D) (w : Work) (m : Twin D) → IsPairOpened told old (Ok m) → (new : Disks D) → new ≡ twin_disks m → HasActed w told old new outcome.NoMemory
-not_displayed told old w m opened new is = rested told old w m opened new is outcome.NoMemory (λ a b recovers at stand. tt) (λ bad. cc bad)
+not_displayed told old w m opened new is = rested told old w m opened new is outcome.NoMemory (λ a b recovers at small stand. tt) (λ bad. cc bad)
 
 -- of a failure nothing is said
 failed_makes : {D : Type 0} (told : D → View) (old new : Disks D) (reason : PairCause) → HasFailed told old new reason → (w : Work) (i j : List ℕ) (a b : View) → MakesOf w i j a b (outcome_of_pair reason)
@@ -123,37 +126,39 @@ module _ {D : Type 0} (told : D → View) (old : Disks D) (name : List ℕ) (i :
   plan = pair_plan_at x i moment
 
   -- what a crash in a turn leaves of the first disk, and of the second
-  first_left : (party : Party) (was : List ℕ) (before : List ℕ → Type 0) → m.first.party ≡ party → (c : List ℕ) → IsOldOrNext x (after x plan.edits) c → MayLeave w party was before c
-  first_left party was before is c (inl stood) = Opened (subst (Stands c) is (image_stands c m.first.party (space m.first) stood))
-  first_left party was before is c (inr stood) =
-      subst (λ (p : Party). MayLeave w p was before c) is
-      (After (apply plan.edits m.first.party) (record { space = space m.first; is = refl }) (image_stands c (apply plan.edits m.first.party) (space_after (space m.first) plan.edits) stood))
+  first_left : (first : List ℕ) → HasFirstSpace first m.first.party (space m.first) → (party : Party) (was : List ℕ) (before : List ℕ → Type 0) → m.first.party ≡ party → (c : List ℕ) → IsOldOrNext x (after x plan.edits) c → MayLeave w first party was before c
+  first_left first left party was before is c (inl stood) = Opened (subst (Stands c) is (image_stands c m.first.party (space m.first) stood))
+  first_left first left party was before is c (inr stood) =
+      subst (λ (p : Party). MayLeave w first p was before c) is
+      (After (apply plan.edits m.first.party) (record { space = space m.first; left = left; is = refl }) (image_stands c (apply plan.edits m.first.party) (space_after (space m.first) plan.edits) stood))
 
-  second_left : (party : Party) (was : List ℕ) (before : List ℕ → Type 0) → m.first.party ≡ party → (c : List ℕ) → IsOldOrOther m.first.party (space m.second) Two (apply plan.edits m.first.party) c → MayLeave w party was before c
-  second_left party was before is c (inl stood) = Opened (subst (Stands c) is (image_stands c m.first.party (space m.second) stood))
-  second_left party was before is c (inr stood) =
-      subst (λ (p : Party). MayLeave w p was before c) is
-      (After (apply plan.edits m.first.party) (record { space = space m.first; is = refl }) (image_stands c (apply plan.edits m.first.party) _ stood))
+  second_left : (first : List ℕ) → HasFirstSpace first m.first.party (space m.first) → (party : Party) (was : List ℕ) (before : List ℕ → Type 0) → m.first.party ≡ party → (c : List ℕ) → IsOldOrOther m.first.party (space m.second) Two (apply plan.edits m.first.party) c → MayLeave w first party was before c
+  second_left first left party was before is c (inl stood) = Opened (subst (Stands c) is (image_stands c m.first.party (space m.second) stood))
+  second_left first left party was before is c (inr stood) =
+      subst (λ (p : Party). MayLeave w first p was before c) is
+      (After (apply plan.edits m.first.party) (record { space = space m.first; left = left; is = refl }) (image_stands c (apply plan.edits m.first.party) _ stood))
 
-  makes_turn : (t : PairTurn D) → IsPairTurn told m plan t → (a b : List ℕ) → Recovers a b m.first.party → (PairStands a b m.first.party → StandsWith a m.first.party x.space) → MakesOf w a b (told (turn_disks t).first) (told (turn_disks t).second) (outcome_of_turn t)
-  makes_turn (turn.Done new reply under) is a b recovers at = record {
+  makes_turn : (t : PairTurn D) → IsPairTurn told m plan t → (a b : List ℕ) → Recovers a b m.first.party → HasFirstSpace a m.first.party x.space → ((PairStands a b m.first.party → ⊥) → IsTooLarge Two m.first.party → ⊥) → MakesOf w a b (told (turn_disks t).first) (told (turn_disks t).second) (outcome_of_turn t)
+  makes_turn (turn.Done new reply under) is a b recovers at small = record {
     member = x;
     next = member_of new.first;
     recovers = recovers;
     space = at;
+    small = small;
     says = record { own = own; accepted = is.answer.accepted; written = is.answer.reply; next = kept_next plan.edits m new is.answer.kept };
     stand = both_stand told new is.stand;
   }
-  makes_turn (turn.Refused new said reply under) is a b recovers at = inl (record {
+  makes_turn (turn.Refused new said reply under) is a b recovers at small = inl (record {
     member = x;
     next = member_of new.first;
     recovers = recovers;
     space = at;
+    small = small;
     says = record { own = own; refused = is.answer.refused; said = is.answer.verdict; written = is.answer.reply; same = ap (λ (n : Twin D). member_of n.first) is.answer.same };
     stand = both_stand told new is.stand;
   })
-  makes_turn (turn.Broken u) is a b recovers at = failed_makes told (twin_disks m) u.disks u.cause is.answer.failed w a b (told u.disks.first) (told u.disks.second)
-  makes_turn (turn.NoMemory new) is a b recovers at = tt
+  makes_turn (turn.Broken u) is a b recovers at small = failed_makes told (twin_disks m) u.disks u.cause is.answer.failed w a b (told u.disks.first) (told u.disks.second)
+  makes_turn (turn.NoMemory new) is a b recovers at small = tt
 
   rose_turn : (t : PairTurn D) → IsPairTurn told m plan t → outcome_of_turn t ≡ outcome.Fault
       → Rose (told m.first.disk).faults (told (turn_disks t).first).faults ⊎ Rose (told m.second.disk).faults (told (turn_disks t).second).faults
@@ -164,20 +169,20 @@ module _ {D : Type 0} (told : D → View) (old : Disks D) (name : List ℕ) (i :
 
   turned_of : (t : PairTurn D) → IsPairTurn told m plan t → HasActed w told old (turn_disks t) (outcome_of_turn t)
   turned_of t is = record {
-    makes = λ a b read. makes_turn t is a b (opened.exact a b read) (in_place told old m opened a b read);
+    makes = λ a b read. makes_turn t is a b (opened.exact a b read) (opened.left a b read) (opened.small a b read);
     safe = record {
       on_first = λ a b party read recovers.
-          joined (told old.first) (told m.first.disk) (told (turn_disks t).first) (MayLeave w party a (told old.first).may_leave)
-          (opening_leaves w (told old.first) (told m.first.disk) a party (opened.first_moments a b party read recovers))
-          (weaker (told m.first.disk) (told (turn_disks t).first) (IsOldOrNext x (after x plan.edits)) (MayLeave w party a (told old.first).may_leave)
+          joined (told old.first) (told m.first.disk) (told (turn_disks t).first) (MayLeave w a party a (told old.first).may_leave)
+          (opening_leaves w (told old.first) (told m.first.disk) a a party (opened.first_moments a b party read recovers))
+          (weaker (told m.first.disk) (told (turn_disks t).first) (IsOldOrNext x (after x plan.edits)) (MayLeave w a party a (told old.first).may_leave)
           (is.first_moments (opened.keeps.first_tells ∙ tells_by (told old.first).now a read.first))
-          (first_left party a (told old.first).may_leave (one_party a b m.first.party party (opened.exact a b read) recovers)));
+          (first_left a (opened.left a b read) party a (told old.first).may_leave (one_party a b m.first.party party (opened.exact a b read) recovers)));
       on_second = λ a b party read recovers.
-          joined (told old.second) (told m.second.disk) (told (turn_disks t).second) (MayLeave w party b (told old.second).may_leave)
-          (opening_leaves w (told old.second) (told m.second.disk) b party (opened.second_moments a b party read recovers))
-          (weaker (told m.second.disk) (told (turn_disks t).second) (IsOldOrOther m.first.party (space m.second) Two (apply plan.edits m.first.party)) (MayLeave w party b (told old.second).may_leave)
+          joined (told old.second) (told m.second.disk) (told (turn_disks t).second) (MayLeave w a party b (told old.second).may_leave)
+          (opening_leaves w (told old.second) (told m.second.disk) a b party (opened.second_moments a b party read recovers))
+          (weaker (told m.second.disk) (told (turn_disks t).second) (IsOldOrOther m.first.party (space m.second) Two (apply plan.edits m.first.party)) (MayLeave w a party b (told old.second).may_leave)
           (is.second_moments (opened.keeps.second_tells ∙ tells_by (told old.second).now b read.second))
-          (second_left party b (told old.second).may_leave (one_party a b m.first.party party (opened.exact a b read) recovers)));
+          (second_left a (opened.left a b read) party b (told old.second).may_leave (one_party a b m.first.party party (opened.exact a b read) recovers)));
       first_tells = is.keeps.first_tells ∙ opened.keeps.first_tells;
       second_tells = is.keeps.second_tells ∙ opened.keeps.second_tells;
     };

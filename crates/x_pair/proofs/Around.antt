@@ -63,8 +63,8 @@ module _ {D : Type 0} (told : D → View) (name other : List ℕ) (old new : She
 
   pub unfetched_safe : (w : Work) → IsSafePair w (old.entry name) (old.entry other) (new.entry name) (new.entry other)
   unfetched_safe w = record {
-    on_first = λ i j party read recovers. weaker (old.entry name) (new.entry name) (old.entry name).may_leave (MayLeave w party i (old.entry name).may_leave) first_still.any_moment (λ c left. Before left);
-    on_second = λ i j party read recovers. weaker (old.entry other) (new.entry other) (old.entry other).may_leave (MayLeave w party j (old.entry other).may_leave) second_still.any_moment (λ c left. Before left);
+    on_first = λ i j party read recovers. weaker (old.entry name) (new.entry name) (old.entry name).may_leave (MayLeave w i party i (old.entry name).may_leave) first_still.any_moment (λ c left. Before left);
+    on_second = λ i j party read recovers. weaker (old.entry other) (new.entry other) (old.entry other).may_leave (MayLeave w i party j (old.entry other).may_leave) second_still.any_moment (λ c left. Before left);
     first_tells = ap is_some out.first_stays.now;
     second_tells = ap is_some out.second_stays.now;
   }
@@ -106,6 +106,7 @@ module _ (first second out_first out_second mid_first mid_second new_first new_s
       next = is.next;
       recovers = is.recovers;
       space = is.space;
+      small = is.small;
       says = is.says;
       stand = record {
         on_first = stands_alike mid_first new_first is.next.party is.next.space is.stand.on_first first_back;
@@ -129,26 +130,26 @@ module _ (first second out_first out_second mid_first mid_second new_first new_s
     closed_makes o result before after (inr (inl is)) makes = λ i j read. subst (MakesOf w i j new_first new_second) (sym is.0) tt
     closed_makes o result before after (inr (inr is)) makes = λ i j read. subst (MakesOf w i j new_first new_second) (sym is) tt
 
-    leaves_first : (party : Party) (was c : List ℕ) → MayLeave w party was out_first.may_leave c → MayLeave w party was first.may_leave c
-    leaves_first party was c (Opened stands) = Opened stands
-    leaves_first party was c (After next may stands) = After next may stands
-    leaves_first party was c (AsItWas is) = AsItWas is
-    leaves_first party was c (Before left) = Before (first_out.images c left)
+    leaves_first : (image : List ℕ) (party : Party) (was c : List ℕ) → MayLeave w image party was out_first.may_leave c → MayLeave w image party was first.may_leave c
+    leaves_first image party was c (Opened stands) = Opened stands
+    leaves_first image party was c (After next may stands) = After next may stands
+    leaves_first image party was c (AsItWas is) = AsItWas is
+    leaves_first image party was c (Before left) = Before (first_out.images c left)
 
-    leaves_second : (party : Party) (was c : List ℕ) → MayLeave w party was out_second.may_leave c → MayLeave w party was second.may_leave c
-    leaves_second party was c (Opened stands) = Opened stands
-    leaves_second party was c (After next may stands) = After next may stands
-    leaves_second party was c (AsItWas is) = AsItWas is
-    leaves_second party was c (Before left) = Before (second_out.images c left)
+    leaves_second : (image : List ℕ) (party : Party) (was c : List ℕ) → MayLeave w image party was out_second.may_leave c → MayLeave w image party was second.may_leave c
+    leaves_second image party was c (Opened stands) = Opened stands
+    leaves_second image party was c (After next may stands) = After next may stands
+    leaves_second image party was c (AsItWas is) = AsItWas is
+    leaves_second image party was c (Before left) = Before (second_out.images c left)
 
     safe_around : IsSafePair w out_first out_second mid_first mid_second → IsSafePair w first second new_first new_second
     safe_around safe = record {
       on_first = λ i j party read recovers.
-          weaker first new_first (MayLeave w party i out_first.may_leave) (MayLeave w party i first.may_leave)
-          (leaves_around first out_first mid_first new_first first_out first_back (MayLeave w party i out_first.may_leave) (safe.on_first i j party (read_out i j read) recovers)) (leaves_first party i);
+          weaker first new_first (MayLeave w i party i out_first.may_leave) (MayLeave w i party i first.may_leave)
+          (leaves_around first out_first mid_first new_first first_out first_back (MayLeave w i party i out_first.may_leave) (safe.on_first i j party (read_out i j read) recovers)) (leaves_first i party i);
       on_second = λ i j party read recovers.
-          weaker second new_second (MayLeave w party j out_second.may_leave) (MayLeave w party j second.may_leave)
-          (leaves_around second out_second mid_second new_second second_out second_back (MayLeave w party j out_second.may_leave) (safe.on_second i j party (read_out i j read) recovers)) (leaves_second party j);
+          weaker second new_second (MayLeave w i party j out_second.may_leave) (MayLeave w i party j second.may_leave)
+          (leaves_around second out_second mid_second new_second second_out second_back (MayLeave w i party j out_second.may_leave) (safe.on_second i j party (read_out i j read) recovers)) (leaves_second i party j);
       first_tells = ap is_some first_back.now ∙ (safe.first_tells ∙ ap is_some first_out.now);
       second_tells = ap is_some second_back.now ∙ (safe.second_tells ∙ ap is_some second_out.now);
     }

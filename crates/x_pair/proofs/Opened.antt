@@ -1,16 +1,18 @@
 -- A pair is opened, or not, and what is told of it.
-use Rattle.std.proofs.Common.{◌≡◌, ◌⊎◌, inl, inr, ℕ, List, Ok, Err, refl, sym, ◌∙◌, subst}
+use Rattle.std.proofs.Common.{◌≡◌, ◌⊎◌, inl, inr, ℕ, List, Ok, Err, refl, sym, subst}
 use Rattle.x_base.specs.Edge.{Rose}
 use Rattle.x_disk.specs.Disk.{View, LeavesOnly}
 use Rattle.x_disk.proofs.Runs.{weaker}
 use Rattle.key_journal.specs.declared.cause.Cause.TheVariants as cause
 use Rattle.party_state.specs.State.{Party}
-use Rattle.key_store.specs.Store.{Stands, StandsWith}
+use Rattle.change_code.specs.Whole.{IsTooLarge}
+use Rattle.change_code.specs.declared.format.Format.TheVariants.{Two}
+use Rattle.key_store.specs.Store.{Stands, space}
 use Rattle.disk_pair.specs.declared.disks.Disks.{Disks}
 use Rattle.node_core.specs.Turns.{member_of}
 use Rattle.mirror_store.specs.Pairs.{PairStands, Recovers, IsAsBefore, Twin, IsTwin}
 use Rattle.mirror_store.specs.Answers.{twin_disks}
-use Rattle.mirror_store.specs.Opening.{AreRead, HasPairFault, IsPairRefusal, IsPairOpened}
+use Rattle.mirror_store.specs.Opening.{HasFirstSpace, HasPairFault, IsPairRefusal, IsPairOpened}
 use Rattle.mirror_store.specs.declared.pair.PairCause.{PairCause}
 use Rattle.mirror_store.specs.declared.pair.PairCause.TheVariants.{First, Second, OtherParty, TooLarge}
 use Rattle.mirror_store.specs.declared.pair.PairUnmade.{PairUnmade}
@@ -26,11 +28,6 @@ both_stand told m twin = record {
   durable = twin.second_stands.durable;
   on_second = λ image now. subst (Stands image) twin.same (record { format = m.second.format; stands = twin.second_stands.stands image now });
 }
-
--- where both images stand for the party, the first disk isn't touched, and its space stays
-pub in_place : {D : Type 0} (told : D → View) (old : Disks D) (m : Twin D) → IsPairOpened told old (Ok m) → (i j : List ℕ) → AreRead (told old.first) (told old.second) i j
-    → PairStands i j m.first.party → StandsWith i m.first.party (member_of m.first).space
-in_place told old m opened i j read pair = (both_stand told m opened.stand).on_first.reads i ((opened.quiet i j m.first.party read pair).0.now ∙ read.first)
 
 -- why no party is opened
 refusal_makes : (w : Work) (i j : List ℕ) (a b : View) (reason : PairCause) → IsPairRefusal i j reason → MakesOf w i j a b (outcome_of_pair reason)
@@ -63,21 +60,21 @@ refused_rose told old new (OtherParty a b) fault is = absurd (cc is)
 refused_rose told old new TooLarge fault is = absurd (cc is)
 
 -- what a crash in an opening leaves
-opened_leaves : (w : Work) (party : Party) (was : List ℕ) (before : List ℕ → Type 0) (c : List ℕ) → (Stands c party ⊎ IsAsBefore was c) ⊎ before c → MayLeave w party was before c
-opened_leaves w party was before c (inl (inl is)) = Opened is
-opened_leaves w party was before c (inl (inr is)) = AsItWas is
-opened_leaves w party was before c (inr left) = Before left
+opened_leaves : (w : Work) (first : List ℕ) (party : Party) (was : List ℕ) (before : List ℕ → Type 0) (c : List ℕ) → (Stands c party ⊎ IsAsBefore was c) ⊎ before c → MayLeave w first party was before c
+opened_leaves w first party was before c (inl (inl is)) = Opened is
+opened_leaves w first party was before c (inl (inr is)) = AsItWas is
+opened_leaves w first party was before c (inr left) = Before left
 
-pub opening_leaves : (w : Work) (old mid : View) (was : List ℕ) (party : Party) → LeavesOnly old mid (λ c. (Stands c party ⊎ IsAsBefore was c) ⊎ old.may_leave c) → LeavesOnly old mid (MayLeave w party was old.may_leave)
-opening_leaves w old mid was party run = weaker old mid (λ c. (Stands c party ⊎ IsAsBefore was c) ⊎ old.may_leave c) (MayLeave w party was old.may_leave) run (opened_leaves w party was old.may_leave)
+pub opening_leaves : (w : Work) (old mid : View) (first was : List ℕ) (party : Party) → LeavesOnly old mid (λ c. (Stands c party ⊎ IsAsBefore was c) ⊎ old.may_leave c) → LeavesOnly old mid (MayLeave w first party was old.may_leave)
+opening_leaves w old mid first was party run = weaker old mid (λ c. (Stands c party ⊎ IsAsBefore was c) ⊎ old.may_leave c) (MayLeave w first party was old.may_leave) run (opened_leaves w first party was old.may_leave)
 
 module _ {D : Type 0} (told : D → View) (old : Disks D) (w : Work) where
   pub not_opened : (u : PairUnmade D) → IsPairOpened told old (Err u) → HasActed w told old u.disks (outcome_of_pair u.cause)
   not_opened u opened = record {
     makes = λ i j read. refusal_makes w i j (told u.disks.first) (told u.disks.second) u.cause (opened.refused i j read);
     safe = record {
-      on_first = λ i j party read recovers. opening_leaves w (told old.first) (told u.disks.first) i party (opened.first_moments i j party read recovers);
-      on_second = λ i j party read recovers. opening_leaves w (told old.second) (told u.disks.second) j party (opened.second_moments i j party read recovers);
+      on_first = λ i j party read recovers. opening_leaves w (told old.first) (told u.disks.first) i i party (opened.first_moments i j party read recovers);
+      on_second = λ i j party read recovers. opening_leaves w (told old.second) (told u.disks.second) i j party (opened.second_moments i j party read recovers);
       first_tells = opened.keeps.first_tells;
       second_tells = opened.keeps.second_tells;
     };
@@ -90,13 +87,13 @@ module _ {D : Type 0} (told : D → View) (old : Disks D) (w : Work) where
 
   -- the pair is opened, and nothing more is done
   pub rested : (m : Twin D) → IsPairOpened told old (Ok m) → (new : Disks D) → new ≡ twin_disks m → (o : Outcome)
-      → ((i j : List ℕ) → Recovers i j m.first.party → (PairStands i j m.first.party → StandsWith i m.first.party (member_of m.first).space) → BothStand (told m.first.disk) (told m.second.disk) (member_of m.first) → MakesOf w i j (told m.first.disk) (told m.second.disk) o)
+      → ((i j : List ℕ) → Recovers i j m.first.party → HasFirstSpace i m.first.party (space m.first) → ((PairStands i j m.first.party → ⊥) → IsTooLarge Two m.first.party → ⊥) → BothStand (told m.first.disk) (told m.second.disk) (member_of m.first) → MakesOf w i j (told m.first.disk) (told m.second.disk) o)
       → (o ≡ outcome.Fault → ⊥) → HasActed w told old new o
   rested m opened new is o makes none = subst (λ (n : Disks D). HasActed w told old n o) (sym is) (record {
-    makes = λ i j read. makes i j (opened.exact i j read) (in_place told old m opened i j read) (both_stand told m opened.stand);
+    makes = λ i j read. makes i j (opened.exact i j read) (opened.left i j read) (opened.small i j read) (both_stand told m opened.stand);
     safe = record {
-      on_first = λ i j party read recovers. opening_leaves w (told old.first) (told m.first.disk) i party (opened.first_moments i j party read recovers);
-      on_second = λ i j party read recovers. opening_leaves w (told old.second) (told m.second.disk) j party (opened.second_moments i j party read recovers);
+      on_first = λ i j party read recovers. opening_leaves w (told old.first) (told m.first.disk) i i party (opened.first_moments i j party read recovers);
+      on_second = λ i j party read recovers. opening_leaves w (told old.second) (told m.second.disk) i j party (opened.second_moments i j party read recovers);
       first_tells = opened.keeps.first_tells;
       second_tells = opened.keeps.second_tells;
     };

@@ -9,12 +9,14 @@ use Rattle.key_journal.specs.Journal.{is_blank}
 use Rattle.party_state.specs.declared.command.Input.{Input}
 use Rattle.party_state.specs.State.{Party, apply}
 use Rattle.party_show.specs.Show.{shown}
+use Rattle.change_code.specs.Whole.{IsTooLarge}
+use Rattle.change_code.specs.declared.format.Format.TheVariants.{Two}
 use Rattle.change_code.specs.declared.space.Space.{Space}
-use Rattle.key_store.specs.Store.{Stands, StandsWith, IsFirstDamage}
+use Rattle.key_store.specs.Store.{Stands, IsFirstDamage}
 use Rattle.member.specs.Member.{Member, after}
 use Rattle.disk_pair.specs.Pairs.{ThirdsStay}
 use Rattle.mirror_store.specs.Pairs.{PairStands, Recovers, IsAsBefore}
-use Rattle.mirror_store.specs.Opening.{AreRead, AreOthers, IsSound, IsTooLargeToWrite}
+use Rattle.mirror_store.specs.Opening.{AreRead, AreOthers, IsSound, IsTooLargeToWrite, HasFirstSpace}
 use Rattle.mirror_store.specs.Turns.{pair_plan_at}
 use Rattle.x_party.specs.Images.{StandsFor, StillTells}
 use Rattle.x_party.specs.Outcomes.{IsNoFailure}
@@ -28,10 +30,10 @@ pub record BothStand (first second : View) (x : Member) : Type 0 where
   pub on_second : (image : List ℕ) → second.now ≡ Some image → Stands image x.party
 
 -- what a call does with the party that is opened of two disks: what is said of a member with an outcome, and the member
--- afterwards; and the parties that a crash may leave beside the one that is opened
+-- afterwards; and, by the image of the first disk, the parties that a crash may leave beside the one that is opened
 pub record Work : Type 1 where
   pub Says : Member → Outcome → Member → Type 0
-  pub May : Party → Party → Type 0
+  pub May : List ℕ → Party → Party → Type 0
 
 -- the party of the name accepts; its edits are kept, and this is answered
 pub record Accepts (name : List ℕ) (i : Input) (moment : ℕ) (x : Member) (reply : Option (List ℕ)) (y : Member) : Type 0 where
@@ -61,14 +63,15 @@ SaysTurn name i moment x (outcome.Refused verdict reply) y = Refuses name i mome
 SaysTurn name i moment x (outcome.OtherParty asked found) y = IsOther name x asked found y
 SaysTurn name i moment x o y = ⊥
 
--- the party after what it plans, with some space
-pub record IsAfter (i : Input) (moment : ℕ) (party next : Party) : Type 0 where
+-- the party after what it plans, with the space that the image of the first disk leaves, or one frame, where it was blank
+pub record IsAfter (i : Input) (moment : ℕ) (first : List ℕ) (party next : Party) : Type 0 where
   pub space : Space
+  pub left : HasFirstSpace first party space
   pub is : next ≡ apply (pair_plan_at (record { party = party; space = space }) i moment).edits party
 
 -- the turn of the party of this name with an input at a moment
 abbrev pub turning : List ℕ → Input → ℕ → Work
-turning name i moment = record { Says = λ x o y. SaysTurn name i moment x o y; May = λ party next. IsAfter i moment party next }
+turning name i moment = record { Says = λ x o y. SaysTurn name i moment x o y; May = λ first party next. IsAfter i moment first party next }
 
 abbrev pub SaysShow : Member → Outcome → Member → Type 0
 SaysShow x (outcome.Done reply) y = (reply ≡ Some (shown x.party)) × (y ≡ x)
@@ -76,7 +79,7 @@ SaysShow x o y = ⊥
 
 -- a party is shown
 abbrev pub showing : Work
-showing = record { Says = λ x o y. SaysShow x o y; May = λ party next. ⊥ }
+showing = record { Says = λ x o y. SaysShow x o y; May = λ first party next. ⊥ }
 
 -- a party is opened of two images, and this is said of it, with the space that its first disk has then; the disks stand for it
 -- afterwards
@@ -84,8 +87,10 @@ pub record OfOpened (w : Work) (i j : List ℕ) (first_after second_after : View
   pub member : Member
   pub next : Member
   pub recovers : Recovers i j member.party
-  -- where both images stand for it, that is the space of the first
-  pub space : PairStands i j member.party → StandsWith i member.party member.space
+  -- that is the space of the first image, or what one frame leaves, where it was blank
+  pub space : HasFirstSpace i member.party member.space
+  -- where it had to be written, it isn't too large for that frame
+  pub small : (PairStands i j member.party → ⊥) → IsTooLarge Two member.party → ⊥
   pub says : w.Says member o next
   pub stand : BothStand first_after second_after next
 
@@ -121,17 +126,17 @@ MakesPair w first second first_after second_after o = (i j : List ℕ) → AreRe
 
 -- an image that a crash may leave: it stands for the party that is opened or for one after it, is blank as it was, stands for the
 -- party for which it stood, or could be left before
-pub data MayLeave (w : Work) (party : Party) (was : List ℕ) (before : List ℕ → Type 0) (image : List ℕ) : Type 0 where
-  Opened : Stands image party → MayLeave w party was before image
-  After : (next : Party) → w.May party next → Stands image next → MayLeave w party was before image
-  AsItWas : IsAsBefore was image → MayLeave w party was before image
-  Before : before image → MayLeave w party was before image
+pub data MayLeave (w : Work) (first : List ℕ) (party : Party) (was : List ℕ) (before : List ℕ → Type 0) (image : List ℕ) : Type 0 where
+  Opened : Stands image party → MayLeave w first party was before image
+  After : (next : Party) → w.May first party next → Stands image next → MayLeave w first party was before image
+  AsItWas : IsAsBefore was image → MayLeave w first party was before image
+  Before : before image → MayLeave w first party was before image
 
 -- what holds of every outcome
 pub record IsSafePair (w : Work) (first second first_after second_after : View) : Type 0 where
   -- what a crash at any moment leaves of two disks of which a party is opened
-  pub on_first : (i j : List ℕ) (party : Party) → AreRead first second i j → Recovers i j party → LeavesOnly first first_after (MayLeave w party i first.may_leave)
-  pub on_second : (i j : List ℕ) (party : Party) → AreRead first second i j → Recovers i j party → LeavesOnly second second_after (MayLeave w party j second.may_leave)
+  pub on_first : (i j : List ℕ) (party : Party) → AreRead first second i j → Recovers i j party → LeavesOnly first first_after (MayLeave w i party i first.may_leave)
+  pub on_second : (i j : List ℕ) (party : Party) → AreRead first second i j → Recovers i j party → LeavesOnly second second_after (MayLeave w i party j second.may_leave)
   pub first_tells : StillTells first first_after
   pub second_tells : StillTells second second_after
 

@@ -9,7 +9,7 @@ use Rattle.mirror_store.proofs.Copies.{switched, switch_failed, switch_too_large
 use Rattle.mirror_store.proofs.copying.switch_to.Goals as goal
 
 pub returns-in-Ok-replace : goal.returns-in-Ok-replace
-returns-in-Ok-replace g c = switched g.D.Disk.told c.args.store c.in-Ok.framed c.args.state.now c.in-Ok.ensures.party c.in-Ok-replace.store c.in-Ok-replace.ensures
+returns-in-Ok-replace g c = switched g.D.Disk.told c.args.store c.in-Ok.framed c.args.state.now c.in-Ok.ensures.party c.in-Ok-replace.store c.in-Ok-replace.ensures c.in-Ok.ensures.fits
 
 pub returns-in-Err : goal.returns-in-Err
 returns-in-Err g c =

@@ -5,7 +5,7 @@ use Rattle.key_store.specs.Store.{Stands}
 use Rattle.mirror_store.specs.Framing.{IsSettled, IsCopying}
 use Rattle.mirror_store.specs.declared.pair.PairCause.TheVariants.{Second, OtherParty}
 use Rattle.mirror_store.specs.declared.uncopied.Uncopied.TheVariants as uncopied
-use Rattle.mirror_store.proofs.Opened.{unmade_is, settled_other, settled_same, settled_failed}
+use Rattle.mirror_store.proofs.Opened.{unmade_is, settled_other, settled_same, settled_switched, settled_failed}
 use Rattle.mirror_store.proofs.opening.settle.Goals as goal
 
 apart_by : (a b : List ℕ) (r : Bool) → r ≡ bytes_eq a b → r ≡ false → a ≡ b → ⊥
@@ -31,6 +31,16 @@ returns-then-same g c =
     subst (λ f. IsSettled told c.args.first c.args.second (Ok (record { first = f; second = c.args.second }))) (sym c.of.ensures)
     (settled_same told c.args.first c.args.second c.view.ensures.stands c.view-2.ensures.stands (g.met.D.Disk.sound c.args.second.disk)
     (sym c.view-4.ensures.party ∙ (sym (c.same.ensures.0 c.if-same.true) ∙ c.view-3.ensures.party)))
+
+pub returns-in-Ok : goal.returns-in-Ok
+returns-in-Ok g c =
+    let told = g.D.Disk.told in
+    let s = c.in-Ok.second in
+    let own : c.args.second.party.own ≡ c.args.first.party.own = one_by _ _ _ _ c.same_identity.result c.same_identity.ensures c.if-not-same_identity.false (c.own-own.ensures.own ∙ ap (λ (p : Party). p.own) c.view.ensures.party) (c.own-other.ensures.own ∙ ap (λ (p : Party). p.own) c.view-2.ensures.party) in
+    let apart : c.args.second.party ≡ c.args.first.party → ⊥ = (λ same. let no : true ≡ false = sym (c.same.ensures.1 (c.view-3.ensures.party ∙ (sym same ∙ sym c.view-4.ensures.party))) ∙ c.if-same.false in cc no) in
+    subst (λ f. IsSettled told c.args.first c.args.second (Ok (record { first = f; second = s }))) (sym c.of-in-Ok.ensures)
+    (settled_switched told c.args.first c.args.second c.view.ensures.stands c.view-2.ensures.stands (g.met.D.Disk.sound c.args.second.disk) s own apart
+    (subst (λ (p : Party). IsCopying told c.args.second.disk (λ image. Stands image c.args.second.party) p (Ok s)) c.view-5.ensures.party c.in-Ok.ensures))
 
 pub returns-in-Err-Failed : goal.returns-in-Err-Failed
 returns-in-Err-Failed g c =
