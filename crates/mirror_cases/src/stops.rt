@@ -1,0 +1,99 @@
+// A turn over two disks one of which fails, and the loss of one.
+use crate::answers::{Answer, Shown, Which, replied, seen, stopped};
+use crate::bank::{Names, arrived, shelf_of, show};
+use disk_pair::Disks;
+use mirror_store::{Mirror, PairTurn, PairUnmade};
+use party_state::Input;
+use std::alloc::Global;
+use x_disk::{Disk, DiskErr, Fused, MemoryShelf, Shelf, TornDisk};
+
+/// The disks afterwards, and what became of the turn.
+fn ended<D: Disk>(turn: PairTurn<D>) -> (Disks<D>, Answer) {
+    match turn {
+        PairTurn::Done { mirror, reply, .. } => (mirror.into_disks(), replied(reply)),
+        PairTurn::Refused { mirror, .. } => (mirror.into_disks(), Answer::Otherwise),
+        PairTurn::Broken(PairUnmade { disks, cause }) => (disks, stopped(cause)),
+        PairTurn::NoMemory(mirror) => (mirror.into_disks(), Answer::Otherwise),
+    }
+}
+
+/// Opens the pair, and gives it its turn.
+fn turned<D: Disk>(alloc: Global, disks: Disks<D>, input: &Input) -> (Disks<D>, Answer) {
+    match Mirror::open_pair(alloc, disks) {
+        Ok(mirror) => ended(mirror.turn(alloc, input, 0)),
+        Err(PairUnmade { disks, cause }) => (disks, stopped(cause)),
+    }
+}
+
+/// The disk, which fails after so many calls, where it is to fail.
+fn fused(disk: TornDisk, fails: bool, calls: u64) -> Fused<TornDisk> {
+    Fused::new(disk, if fails { calls } else { u64::MAX })
+}
+
+/// The disk behind the failure of its power, or an empty one, where it is lost.
+fn left(alloc: Global, disk: TornDisk, lost: bool, choice: u64) -> Result<TornDisk, DiskErr> {
+    if lost {
+        return Ok(TornDisk::new(alloc, 0)?);
+    }
+    let mut disk = disk;
+    disk.power_off(choice)?;
+    Ok(disk)
+}
+
+/// A row: the disk that fails, the one that is lost then, and the choice of the power-off.
+#[derive(Clone, Copy)]
+pub(crate) struct Stop {
+    pub(crate) fails: Which,
+    pub(crate) lost: Which,
+    pub(crate) choice: u64,
+}
+
+/// What became of the turn where that disk fails after so many calls, and of which party the pair is shown when the disk is lost.
+fn stop_at(
+    alloc: Global,
+    shelf: &mut MemoryShelf,
+    names: &Names,
+    stop: Stop,
+    calls: u64,
+) -> Result<(Answer, Shown), DiskErr> {
+    let input = arrived(alloc)?;
+    let first = shelf.fetch(&names.own)?;
+    let second = shelf.fetch(&names.mirror)?;
+    let disks = Disks {
+        first: fused(first, stop.fails == Which::First, calls),
+        second: fused(second, stop.fails == Which::Second, calls),
+    };
+    let (disks, answer) = turned(alloc, disks, &input);
+    let Disks { first, second } = disks;
+    let first = left(
+        alloc,
+        first.into_inner(),
+        stop.lost == Which::First,
+        stop.choice,
+    )?;
+    let second = left(
+        alloc,
+        second.into_inner(),
+        stop.lost == Which::Second,
+        stop.choice,
+    )?;
+    shelf.put_back(&names.own, first)?;
+    shelf.put_back(&names.mirror, second)?;
+    Ok((answer, seen(show(alloc, shelf, names))))
+}
+
+/// How many stops leave the party as it is to be, where the disk fails after more and more calls, fewer than 60, until the turn is
+/// done. Nothing where something else comes, as the old party behind a reply.
+pub(crate) fn stops(alloc: Global, names: &Names, stop: Stop) -> Result<Option<u64>, DiskErr> {
+    let mut after: u64 = 0;
+    for calls in 0..60 {
+        let mut shelf = shelf_of(alloc, names)?;
+        match stop_at(alloc, &mut shelf, names, stop, calls)? {
+            (Answer::Replied, Shown::New) => return Ok(Some(after)),
+            (Answer::Stopped, Shown::New) => after = after.saturating_add(1),
+            (Answer::Stopped, Shown::Old) => {}
+            _ => return Ok(None),
+        }
+    }
+    Ok(None)
+}

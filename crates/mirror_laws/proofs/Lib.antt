@@ -1,0 +1,6 @@
+mod Runs
+mod Lost
+mod Stores
+mod Turned
+mod Left
+mod Called

@@ -1,0 +1,4 @@
+pub mod Runs
+pub mod Losses
+pub mod Turns
+pub mod Calls
