@@ -1,0 +1,5 @@
+pub mod SetUp
+pub mod Rules
+pub mod SettingUp
+pub mod Failing
+pub mod Deeds
