@@ -38,7 +38,7 @@ leads_some s [] some lead = absurd (omega (arith, some))
 leads_some s (body ∷ []) some lead = subst (λ (o : Option Progress). Goes body s o) (sym lead.2) lead.1
 leads_some s (body ∷ next ∷ bodies) some lead = leads_some lead.0 (next ∷ bodies) (omega arith) lead.2
 
-never_none : (image : List ℕ) → journal.StandsFor Goes None image None → ⊥
+pub never_none : (image : List ℕ) → journal.StandsFor Goes None image None → ⊥
 never_none image is = leads_some None is.bodies is.holds.area.some is.lead
 
 free_refusal : (image text : List ℕ) (reason : Cause) → IsFree reason → IsSpoolRefusal image text (Journal reason)

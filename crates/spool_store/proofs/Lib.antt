@@ -6,3 +6,4 @@ mod Changes
 mod Lines
 mod Entries
 mod First
+mod Opened

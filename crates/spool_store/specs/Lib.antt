@@ -4,3 +4,4 @@ pub mod ContentLaws
 pub mod Spools
 pub mod Beginning
 pub mod Committing
+pub mod Opening

@@ -6,6 +6,7 @@ mod cause;
 mod committing;
 mod contents;
 mod entry_plan;
+mod loading;
 mod outbox;
 mod parsing;
 mod progress;

@@ -1,0 +1,125 @@
+-- The party is opened in front of what is done over the spool, or it isn't.
+use Rattle.std.proofs.Common.{◌≡◌, ◌⊎◌, inl, inr, ℕ, ◌≤◌, List, Some, refl, sym, ◌∙◌, ap, subst, arith}
+use Rattle.std.specs.Prelude.{is_some}
+use Rattle.x_base.specs.Edge.{Rose}
+use Rattle.x_disk.specs.Disk.{View, Tells, IsSound, IsUntouched}
+use Rattle.party_state.specs.State.{Party}
+use Rattle.key_store.specs.Store.{Stored, Stands}
+use Rattle.member.specs.Member.{Member}
+use Rattle.csm_batch.specs.declared.entry.Entry.{Entry}
+use Rattle.csm_spool.specs.InStep.{PairsInStep}
+use Rattle.disk_pair.specs.declared.disks.Disks.{Disks}
+use Rattle.x_spool.specs.Dues.{FindsMember, IsDueBatch}
+use Rattle.x_spool.specs.Outcomes.{BothStay, IsDoneOrFailed, IsNoFailure, LeavesBatch}
+use Rattle.x_spool.specs.Steps.{HasActed, IsNoParty, IsPartyOpened, WhyNoParty, two_disks}
+use Rattle.x_spool.specs.declared.outcome.SpoolOutcome.{SpoolOutcome}
+use Rattle.x_spool.specs.declared.outcome.SpoolOutcome.TheVariants as outcome
+use Rattle.x_spool.proofs.Alike.{untouched_on, untouched_self}
+use Rattle.x_spool.proofs.Standing.{stands_of}
+
+rose_later : (a b c : ℕ) → a ≤ b → Rose b c → Rose a c
+rose_later a b c le (inl less) = inl (omega (arith, le, less))
+rose_later a b c le (inr most) = inr most
+
+-- the party's disk was opened
+module _ {D : Type 0} (told : D → View) (name text : List ℕ) (entries : List Entry) (old : Disks D) (node : Stored D) (opened : IsPartyOpened told name old.first node) where
+  fewer : (x : Member) → PairsInStep (told old.first) (told old.second) text x entries → PairsInStep (told node.disk) (told old.second) text x entries
+  fewer x start i j left right = start i j (opened.untouched.images i left) right
+
+  tells_on : Tells (told old.first) → Tells (told node.disk)
+  tells_on tells = ap is_some opened.untouched.now ∙ tells
+
+  stays : (new : Disks D) → BothStay (told node.disk) (told old.second) (told new.first) (told new.second) → BothStay (told old.first) (told old.second) (told new.first) (told new.second)
+  stays new both = record { party = untouched_on (told old.first) (told node.disk) (told new.first) opened.untouched both.party; spool = both.spool }
+
+  left_on : (new : Disks D) (o : SpoolOutcome) → LeavesBatch text entries (told node.disk) (told old.second) (told new.first) (told new.second) o
+      → LeavesBatch text entries (told old.first) (told old.second) (told new.first) (told new.second) o
+  left_on new (outcome.Done out) is = record {
+    plans = is.plans;
+    whole = is.whole;
+    spool = is.spool;
+    outbox = is.outbox;
+    member = is.member;
+    party = is.party;
+    ends = λ x party_tells spool_tells start. is.ends x (tells_on party_tells) spool_tells (fewer x start);
+  }
+  left_on new outcome.OtherBatch is = stays new is
+  left_on new (outcome.OutOfStep e) is = stays new is
+  left_on new (outcome.OtherParty asked found) is = stays new is
+  left_on new outcome.Blank is = stays new is
+  left_on new (outcome.Damaged place) is = stays new is
+  left_on new outcome.Fault is = tt
+  left_on new outcome.NoMemory is = tt
+
+  behind : (new : Disks D) (o : SpoolOutcome) → HasActed name text entries told (two_disks node.disk old.second) new o → HasActed name text entries told old new o
+  behind new o did = record {
+    made = record {
+      due = λ image book now told_book answered. did.made.due image book (opened.untouched.now ∙ now) told_book answered;
+      left = left_on new o did.made.left;
+    };
+    in_step = record {
+      pairs = λ x party_tells spool_tells start. did.in_step.pairs x (tells_on party_tells) spool_tells (fewer x start);
+      complete = λ x y image tells start now finds. did.in_step.complete x y image tells (fewer x start) (opened.untouched.now ∙ now) finds;
+      party_tells = did.in_step.party_tells ∙ ap is_some opened.untouched.now;
+      spool_tells = did.in_step.spool_tells;
+    };
+    first_faults = omega (arith, opened.faults, did.first_faults);
+    second_faults = did.second_faults;
+    fault = λ is. elim (did.fault is) [ inl rose ↦ inl (rose_later (told old.first).faults (told node.disk).faults (told new.first).faults opened.faults rose) | inr rose ↦ inr rose ];
+  }
+
+  pub named : (new : Disks D) (o : SpoolOutcome) → HasActed node.party.own text entries told (two_disks node.disk old.second) new o → HasActed name text entries told old new o
+  named new o did = behind new o (subst (λ (n : List ℕ). HasActed n text entries told (two_disks node.disk old.second) new o) opened.own did)
+
+-- no party of the name was opened
+module _ {D : Type 0} (told : D → View) (sound : (d : D) → IsSound (told d)) (name text : List ℕ) (entries : List Entry) (old : Disks D) (new : D) (o : SpoolOutcome) (none : IsNoParty told name old.first new o) where
+  due : (out : SpoolOutcome) → WhyNoParty name (told old.first) (told new) out → (image book : List ℕ) → (told old.first).now ≡ Some image → (told old.second).now ≡ Some book → IsNoFailure out → IsDueBatch name image book text out
+  due (outcome.OtherParty asked found) why = λ image book now told_book answered. record { p = why.p; stands = why.reads image now; called = why.called; own = why.own; differs = why.differs }
+  due outcome.Blank why = λ image book now told_book answered. why image now
+  due (outcome.Damaged place) why = λ image book now told_book answered. inl (why image now)
+  due outcome.Fault why = λ image book now told_book answered. absurd answered
+  due outcome.NoMemory why = λ image book now told_book answered. absurd answered
+  due (outcome.Done out) why = absurd why
+  due outcome.OtherBatch why = absurd why
+  due (outcome.OutOfStep e) why = absurd why
+
+  rest : BothStay (told old.first) (told old.second) (told new) (told old.second)
+  rest = record { party = none.untouched; spool = λ tells. untouched_self (told old.second) (sound old.second) }
+
+  left : (out : SpoolOutcome) → WhyNoParty name (told old.first) (told new) out → LeavesBatch text entries (told old.first) (told old.second) (told new) (told old.second) out
+  left (outcome.OtherParty asked found) why = rest
+  left outcome.Blank why = rest
+  left (outcome.Damaged place) why = rest
+  left outcome.Fault why = tt
+  left outcome.NoMemory why = tt
+  left (outcome.Done out) why = absurd why
+  left outcome.OtherBatch why = absurd why
+  left (outcome.OutOfStep e) why = absurd why
+
+  shows : (out : SpoolOutcome) → WhyNoParty name (told old.first) (told new) out → out ≡ outcome.Fault → Rose (told old.first).faults (told new).faults
+  shows (outcome.OtherParty asked found) why is = absurd (cc is)
+  shows outcome.Blank why is = absurd (cc is)
+  shows (outcome.Damaged place) why is = absurd (cc is)
+  shows outcome.Fault why is = why
+  shows outcome.NoMemory why is = absurd (cc is)
+  shows (outcome.Done out) why is = absurd why
+  shows outcome.OtherBatch why is = absurd why
+  shows (outcome.OutOfStep e) why is = absurd why
+
+  failed : (o ≡ outcome.Fault) ⊎ (o ≡ outcome.NoMemory) → IsDoneOrFailed o
+  failed (inl is) = subst IsDoneOrFailed (sym is) tt
+  failed (inr is) = subst IsDoneOrFailed (sym is) tt
+
+  pub nobody : HasActed name text entries told old (two_disks new old.second) o
+  nobody = record {
+    made = record { due = due o none.why; left = left o none.why };
+    in_step = record {
+      pairs = λ x party_tells spool_tells start i j first second. start i j (none.untouched.images i first) second;
+      complete = λ x y image tells start now finds. failed (none.never image y.party now (stands_of y image finds.stands) finds.own);
+      party_tells = ap is_some none.untouched.now;
+      spool_tells = refl;
+    };
+    first_faults = none.faults;
+    second_faults = omega arith;
+    fault = λ is. inl (shows o none.why is);
+  }

@@ -1,0 +1,9 @@
+mod Alike
+mod Standing
+mod Single
+mod Parties
+mod Beside
+mod Front
+mod Around
+mod Following
+mod Looked

@@ -1,0 +1,6 @@
+pub mod Dues
+pub mod Outcomes
+pub mod Shelves
+pub mod Steps
+pub mod Outboxes
+pub mod Looks

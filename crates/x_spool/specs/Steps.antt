@@ -1,0 +1,136 @@
+-- The steps of a call: both disks are fetched, the party is opened, the spool is begun, the batch is driven, and both disks are put
+-- back (this project's profile).
+use Rattle.std.specs.Prelude.{◌≡◌, ◌≢◌, ◌⊎◌, ℕ, ◌≤◌, ◌<◌, true, List, Some, Result, IfOk, IfErr, OnOk, OnErr}
+use Rattle.x_base.specs.Edge.{Rose}
+use Rattle.x_disk.specs.Disk.{View, IsUntouched}
+use Rattle.x_disk.specs.Shelf.{ShelfView, IsAlike}
+use Rattle.x_disk.specs.declared.disk.DiskErr.{DiskErr}
+use Rattle.x_disk.specs.declared.disk.DiskErr.TheVariants as disk
+use Rattle.key_journal.specs.Causes.{cause_of}
+use Rattle.key_journal.specs.Journal.{is_blank}
+use Rattle.key_journal.specs.declared.cause.Cause.{Cause}
+use Rattle.key_journal.specs.declared.cause.Cause.TheVariants as cause
+use Rattle.party_state.specs.State.{Party}
+use Rattle.key_store.specs.Store.{Stored, Stands, IsStore, IsFirstDamage}
+use Rattle.csm_batch.specs.declared.entry.Entry.{Entry}
+use Rattle.spool_store.specs.declared.cause.SpoolCause.{SpoolCause}
+use Rattle.spool_store.specs.declared.cause.SpoolCause.TheVariants as spool
+use Rattle.spool_store.specs.Spools.{IsSpool, outbox_of}
+use Rattle.csm_spool.specs.declared.outcome.Driven.{Driven}
+use Rattle.csm_spool.specs.declared.outcome.Driven.TheVariants as drive
+use Rattle.csm_spool.specs.Drives.{party_disk, spool_disk}
+use Rattle.disk_pair.specs.declared.disks.Disks.{Disks}
+use Rattle.disk_pair.specs.Pairs.{ThirdsStay}
+use Rattle.x_spool.specs.Outcomes.{MakesBatch, StaysInStep, IsNoFailure}
+use Rattle.x_spool.specs.declared.outcome.SpoolOutcome.{SpoolOutcome}
+use Rattle.x_spool.specs.declared.outcome.SpoolOutcome.TheVariants as outcome
+
+-- the outcome where a party's disk isn't opened, or a disk failed
+abbrev pub outcome_of : Cause → SpoolOutcome
+outcome_of cause.Blank = outcome.Blank
+outcome_of cause.NotEmpty = outcome.Damaged 0
+outcome_of (cause.Damaged place) = outcome.Damaged place
+outcome_of cause.Fault = outcome.Fault
+outcome_of cause.NoMemory = outcome.NoMemory
+
+-- the outcome where no spool is begun; over a disk that tells it is neither blank nor not empty
+abbrev pub outcome_of_spool : SpoolCause → SpoolOutcome
+outcome_of_spool (spool.Journal cause.Blank) = outcome.Damaged 0
+outcome_of_spool (spool.Journal cause.NotEmpty) = outcome.Damaged 0
+outcome_of_spool (spool.Journal (cause.Damaged place)) = outcome.Damaged place
+outcome_of_spool (spool.Journal cause.Fault) = outcome.Fault
+outcome_of_spool (spool.Journal cause.NoMemory) = outcome.NoMemory
+outcome_of_spool spool.OtherBatch = outcome.OtherBatch
+
+-- what a batch did to the two disks
+pub record HasActed {D : Type 0} (name text : List ℕ) (entries : List Entry) (told : D → View) (old new : Disks D) (o : SpoolOutcome) : Type 0 where
+  pub made : MakesBatch name text entries (told old.first) (told old.second) (told new.first) (told new.second) o
+  pub in_step : StaysInStep name text entries (told old.first) (told old.second) (told new.first) (told new.second) o
+  pub first_faults : (told old.first).faults ≤ (told new.first).faults
+  pub second_faults : (told old.second).faults ≤ (told new.second).faults
+  pub fault : o ≡ outcome.Fault → Rose (told old.first).faults (told new.first).faults ⊎ Rose (told old.second).faults (told new.second).faults
+
+-- the disks of a party and of a spool
+abbrev pub two_disks : {D : Type 0} → D → D → Disks D
+two_disks first second = record { first = first; second = second }
+
+-- the disks of a batch that was driven
+abbrev pub driven_disks : {D : Type 0} → Driven D D → Disks D
+driven_disks d = two_disks (party_disk d) (spool_disk d)
+
+-- the outbox is handed out, or no memory was left for it
+abbrev pub HandsOut : List ℕ → SpoolOutcome → Type 0
+HandsOut text o = (o ≡ outcome.Done text) ⊎ (o ≡ outcome.NoMemory)
+
+-- what is told of a batch that was driven
+abbrev pub IsEnd : {D : Type 0} → (D → View) → Driven D D → SpoolOutcome → Type 0
+IsEnd told (drive.Done node s) o = IsStore (told node.disk) node.gate node.end node.format node.party × IsSpool (told s.disk) s.gate s.end s.progress × HandsOut (outbox_of s.progress.plans) o
+IsEnd told (drive.OutOfStep node s entry) o = o ≡ outcome.OutOfStep entry
+IsEnd told (drive.NodeBroken b s) o = o ≡ outcome_of (cause_of b.cause)
+IsEnd told (drive.SpoolBroken node b) o = o ≡ outcome_of (cause_of b.cause)
+IsEnd told (drive.NoMemory node s) o = o ≡ outcome.NoMemory
+
+-- the outcome, or an error of the put back in its place
+abbrev pub IsClosed : SpoolOutcome → ℕ → ℕ → SpoolOutcome → Type 0
+IsClosed o before after result = (result ≡ o) ⊎ (((result ≡ outcome.Fault) × Rose before after) ⊎ (result ≡ outcome.NoMemory))
+
+-- a failure of the shelf as an outcome
+abbrev pub failure_of : DiskErr → SpoolOutcome
+failure_of disk.Fault = outcome.Fault
+failure_of disk.NoMemory = outcome.NoMemory
+
+-- both disks are fetched, or all stays
+pub record AreOut {D : Type 0} (told : D → View) (name other : List ℕ) (old new : ShelfView) (result : Result (Disks D) SpoolOutcome) : Type 0 where
+  pub first : IfOk result (λ d. IsAlike (old.entry name) (told d.first))
+  pub second : IfOk result (λ d. IsAlike (old.entry other) (told d.second))
+  pub first_fresh : IfOk result (λ d. (told d.first).faults ≡ 0)
+  pub second_fresh : IfOk result (λ d. (told d.second).faults ≡ 0)
+  pub first_slot : OnOk result (new.has_slot name)
+  pub second_slot : OnOk result (new.has_slot other)
+  pub thirds : ThirdsStay name other old.entry new.entry
+  pub first_stays : OnErr result (IsAlike (old.entry name) (new.entry name))
+  pub second_stays : OnErr result (IsAlike (old.entry other) (new.entry other))
+  pub later : old.faults ≤ new.faults
+  pub failed : IfErr result (λ o. (o ≡ outcome.NoMemory) ⊎ ((o ≡ outcome.Fault) × Rose old.faults new.faults))
+
+-- both disks are put back
+pub record AreBack {D : Type 0} (told : D → View) (name other : List ℕ) (put : Disks D) (o : SpoolOutcome) (old new : ShelfView) (result : SpoolOutcome) : Type 0 where
+  pub first : IsAlike (told put.first) (new.entry name)
+  pub second : IsAlike (told put.second) (new.entry other)
+  pub back : IsNoFailure result → new.is_back name × new.is_back other
+  pub thirds : ThirdsStay name other old.entry new.entry
+  pub later : old.faults ≤ new.faults
+  pub first_seen : 0 < (told put.first).faults → Rose old.faults new.faults
+  pub second_seen : 0 < (told put.second).faults → Rose old.faults new.faults
+  pub closed : IsClosed o old.faults new.faults result
+
+-- the party of the name is opened
+pub record IsPartyOpened {D : Type 0} (told : D → View) (name : List ℕ) (old : D) (node : Stored D) : Type 0 where
+  pub store : IsStore (told node.disk) node.gate node.end node.format node.party
+  pub untouched : IsUntouched (told old) (told node.disk)
+  pub own : node.party.own ≡ name
+  pub faults : (told old).faults ≤ (told node.disk).faults
+
+-- the disk's image stands for a party of another identity
+pub record FindsOther (name : List ℕ) (old : View) (asked found : List ℕ) : Type 0 where
+  pub p : Party
+  pub reads : (image : List ℕ) → old.now ≡ Some image → Stands image p
+  pub called : asked ≡ name
+  pub own : found ≡ p.own
+  pub differs : found ≢ name
+
+-- why it isn't
+abbrev pub WhyNoParty : List ℕ → View → View → SpoolOutcome → Type 0
+WhyNoParty name old new (outcome.OtherParty asked found) = FindsOther name old asked found
+WhyNoParty name old new outcome.Blank = (image : List ℕ) → old.now ≡ Some image → is_blank image ≡ true
+WhyNoParty name old new (outcome.Damaged place) = (image : List ℕ) → old.now ≡ Some image → IsFirstDamage image place
+WhyNoParty name old new outcome.Fault = Rose old.faults new.faults
+WhyNoParty name old new outcome.NoMemory = Unit {0}
+WhyNoParty name old new other = ⊥
+
+pub record IsNoParty {D : Type 0} (told : D → View) (name : List ℕ) (old new : D) (o : SpoolOutcome) : Type 0 where
+  pub why : WhyNoParty name (told old) (told new) o
+  pub untouched : IsUntouched (told old) (told new)
+  pub faults : (told old).faults ≤ (told new).faults
+  -- an image that stands for a party of the name gives no other outcome than a failure
+  pub never : (image : List ℕ) (p : Party) → (told old).now ≡ Some image → Stands image p → p.own ≡ name → (o ≡ outcome.Fault) ⊎ (o ≡ outcome.NoMemory)

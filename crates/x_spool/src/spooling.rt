@@ -1,0 +1,40 @@
+// A batch is taken.
+ghost use Rattle.std.specs.Prelude.{◌≢◌};
+ghost use Rattle.x_spool.specs.Dues.{GivesDue};
+ghost use Rattle.x_spool.specs.Outcomes.{MakesBatch, StaysInStep};
+ghost use Rattle.x_spool.specs.Shelves.{LeavesShelf};
+
+use crate::closing::{close, fetch};
+use crate::driving::spool_over;
+use crate::laws::law_one_due;
+use crate::outcome::SpoolOutcome;
+use csm_batch::Batch;
+use std::alloc::Global;
+use x_base::Ident;
+use x_disk::Shelf;
+
+/// Takes a batch at a party, with the spool of that name, which differs from the party's: each entry's plan is on the spool's
+/// disk before the party carries it out, and a batch that was broken off goes on where it stopped. Both disks are put back,
+/// whatever comes, and the outbox is handed out where the batch is done. Once only is a promise as long as nobody else commands
+/// the party until then, and the spool's disk is kept.
+pub fn spool<H: Shelf>(
+    alloc: Global,
+    shelf: &mut H,
+    party: &Ident,
+    spool: &Ident,
+    batch: &Batch,
+) -> SpoolOutcome
+    requires { party.now ≢ spool.now }
+    ensures made { MakesBatch party.now batch.now.0 batch.now.1 (H.entry shelf.old party.now) (H.entry shelf.old spool.now) (H.entry shelf.new party.now) (H.entry shelf.new spool.now) result }
+    ensures in_step { StaysInStep party.now batch.now.0 batch.now.1 (H.entry shelf.old party.now) (H.entry shelf.old spool.now) (H.entry shelf.new party.now) (H.entry shelf.new spool.now) result }
+    ensures due { GivesDue party.now batch.now.0 (H.entry shelf.old party.now) (H.entry shelf.old spool.now) result }
+    ensures shelf { LeavesShelf party.now spool.now result (H.is_back shelf.new party.now) (H.is_back shelf.new spool.now) (H.entry shelf.old) (H.entry shelf.new) (H.faults shelf.old) (H.faults shelf.new) }
+{
+    law_one_due();
+    let disks = match fetch(shelf, party, spool) {
+        Ok(disks) => disks,
+        Err(outcome) => return outcome,
+    };
+    let (disks, outcome) = spool_over(alloc, disks, party, batch);
+    close(shelf, party, spool, disks, outcome)
+}
