@@ -1,7 +1,7 @@
 -- What an audit answers (this project's profile).
 use Rattle.std.specs.Prelude.{◌≡◌, ◌≢◌, ◌⊎◌, ◌+◌, ◌==◌, ◌++◌, ℕ, Bool, List, [], ◌∷◌, count_by, if◌then◌else◌}
 use Rattle.scenario.specs.declared.line.Line.{Line}
-use Rattle.course.specs.Course.{Course}
+use Rattle.course.specs.Course.{Course, events_of}
 use Rattle.course.specs.Lawful.{IsLawful}
 use Rattle.course.specs.Starts.{start_course, start_world}
 use Rattle.course.specs.Tallies.{IsTallied}
@@ -39,13 +39,14 @@ is_line_feed byte = byte == 10
 abbrev pub line_of_difference : List ℕ → List ℕ → ℕ
 line_of_difference xs ys = 1 + count_by is_line_feed (in_common xs ys)
 
--- the scenario has a run with these outcomes and this transcript; and it is lawful, as every honest run is
+-- the scenario has a run with these outcomes and this transcript; and by the list of its events it is lawful, as every honest
+-- run is
 pub record IsAudited (lines : List Line) (letters transcript : List ℕ) (tally : Tally) : Type 0 where
   pub end : Course
   pub run : IsRun lines letters end
   pub same : transcript ≡ transcript_of end
   pub tallied : IsTallied end.now end.world.members tally
-  pub lawful : IsLawful (start_world lines) end.world
+  pub lawful : IsLawful (start_world lines) (events_of end.happened) end.world
 
 -- it has a run with these outcomes, and another transcript
 pub record IsDifferent (lines : List Line) (letters transcript : List ℕ) (line : ℕ) : Type 0 where

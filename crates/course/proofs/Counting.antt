@@ -1,5 +1,6 @@
 -- What is counted on the way from one course to another: the texts that were written, the events and their outcomes.
 use Rattle.std.proofs.Common.{◌≡◌, ℕ, suc, ◌+◌, Bool, true, false, cond, ◌&&◌, List, [], ◌∷◌, ◌++◌, length, Option, Some, None, is_some, count_by, refl, sym, ap, subst, arith}
+use Rattle.std.proofs.lemmas.List.{length-append}
 use Rattle.std.proofs.lemmas.List.Sums.{sum_by-cons}
 use Rattle.party_state.specs.declared.command.Input.TheVariants as input
 use Rattle.party_state.specs.Rows.{Row, Reply}
@@ -17,7 +18,7 @@ use Rattle.world_laws.specs.Events.{Action, Orders, Hears, Compacts, Migrates, C
 use Rattle.world_laws.specs.Steps.{received_text, texts_of, member_after, world_after_row, world_with_answer, world_with_text, world_by_row, world_with_space, world_rewritten, world_after_action, step_at, step}
 use Rattle.course.specs.Transcript.{written_between}
 use Rattle.course.specs.Outcomes.{counted, with_text}
-use Rattle.course.specs.Course.{Course, IsEvent, IsNext, Leads}
+use Rattle.course.specs.Course.{Course, Happened, IsEvent, IsNext, Leads}
 use Rattle.course.specs.Starts.{start_course}
 use Rattle.course.specs.Ends.{is_event}
 use Rattle.course.specs.declared.progress.Counts.{Counts}
@@ -111,19 +112,21 @@ record Played (c e : Course) (events : ℕ) : Type 0 where
   pub texts : e.now.counts.texts + length c.world.texts ≡ c.now.counts.texts + length e.world.texts
   pub numbers : e.now.number ≡ c.now.number + events
   pub outcomes : sum_of e.now.counts ≡ sum_of c.now.counts + events
+  pub listed : length e.happened ≡ length c.happened + events
 
 both_played : (c mid e : Course) (m n : ℕ) → Played c mid m → Played mid e n → Played c e (m + n)
 both_played c mid e m n first second = record {
   texts = omega (arith, first.texts, second.texts);
   numbers = omega (arith, first.numbers, second.numbers);
   outcomes = omega (arith, first.outcomes, second.outcomes);
+  listed = omega (arith, first.listed, second.listed);
 }
 
 level : (a b m n t : ℕ) → a ≡ b + t → n ≡ m + t → a + m ≡ b + n
 level a b m n t told grown = omega arith
 
-event_played : (before after : ℕ) (l : Line) (c mid : Course) → IsEvent before after l c mid → Played c mid 1
-event_played before after l c mid is =
+event_played : (tell : Bool) (before after : ℕ) (l : Line) (c mid : Course) → IsEvent tell before after l c mid → Played c mid 1
+event_played tell before after l c mid is =
     let next : World = step c.now.number c.world is.event in
     let wrote : Bool = is_some (written_between c.world.texts next.texts) in
     let counts : Counts = with_text wrote (counted is.outcome c.now.counts) in
@@ -131,36 +134,41 @@ event_played before after l c mid is =
       texts = level counts.texts c.now.counts.texts (length c.world.texts) (length next.texts) (cond wrote 1 0) (counted_texts is.outcome wrote c.now.counts) (step_grown c.now.number c.world is.event).size;
       numbers = refl;
       outcomes = counted_sum is.outcome wrote c.now.counts;
+      listed = length-append c.happened (record { event = is.event; outcome = is.outcome } ∷ []);
     })
 
-quiet_played : (c mid : Course) → mid.world ≡ c.world → mid.now.number ≡ c.now.number → mid.now.counts ≡ c.now.counts → Played c mid 0
-quiet_played c mid world number counts = record {
+quiet_played : (c mid : Course) → mid.world ≡ c.world → mid.now.number ≡ c.now.number → mid.now.counts ≡ c.now.counts → mid.happened ≡ c.happened → Played c mid 0
+quiet_played c mid world number counts happened = record {
   texts = omega (arith, ap (λ (k : Counts). k.texts) counts, ap (λ (w : World). length w.texts) world);
   numbers = omega (arith, number);
   outcomes = omega (arith, ap (λ (k : Counts). sum_of k) counts);
+  listed = omega (arith, ap (λ (l : List Happened). length l) happened);
 }
 
-next_played : (before after : ℕ) (l : Line) (c mid : Course) → IsNext before after l c mid → Played c mid (cond (is_event l) 1 0)
-next_played before after (line.Party name role pair v) c mid is = quiet_played c mid (ap (λ (x : Course). x.world) is) (ap (λ (x : Course). x.now.number) is) (ap (λ (x : Course). x.now.counts) is)
-next_played before after (line.Link origin recipient label pair) c mid is = quiet_played c mid (ap (λ (x : Course). x.world) is) (ap (λ (x : Course). x.now.number) is) (ap (λ (x : Course). x.now.counts) is)
-next_played before after (line.Time moment) c mid is = quiet_played c mid (ap (λ (x : Course). x.world) is) (ap (λ (x : Course). x.now.number) is) (ap (λ (x : Course). x.now.counts) is)
-next_played before after (line.Stop n choice) c mid is = quiet_played c mid (ap (λ (x : Course). x.world) is) (ap (λ (x : Course). x.now.number) is) (ap (λ (x : Course). x.now.counts) is)
-next_played before after l c mid is = event_played before after l c mid is
+next_played : (tell : Bool) (before after : ℕ) (l : Line) (c mid : Course) → IsNext tell before after l c mid → Played c mid (cond (is_event l) 1 0)
+next_played tell before after (line.Party name role pair v) c mid is = quiet_played c mid (ap (λ (x : Course). x.world) is) (ap (λ (x : Course). x.now.number) is) (ap (λ (x : Course). x.now.counts) is) (ap (λ (x : Course). x.happened) is)
+next_played tell before after (line.Link origin recipient label pair) c mid is = quiet_played c mid (ap (λ (x : Course). x.world) is) (ap (λ (x : Course). x.now.number) is) (ap (λ (x : Course). x.now.counts) is) (ap (λ (x : Course). x.happened) is)
+next_played tell before after (line.Time moment) c mid is = quiet_played c mid (ap (λ (x : Course). x.world) is) (ap (λ (x : Course). x.now.number) is) (ap (λ (x : Course). x.now.counts) is) (ap (λ (x : Course). x.happened) is)
+next_played tell before after (line.Stop n choice) c mid is = quiet_played c mid (ap (λ (x : Course). x.world) is) (ap (λ (x : Course). x.now.number) is) (ap (λ (x : Course). x.now.counts) is) (ap (λ (x : Course). x.happened) is)
+next_played tell before after l c mid is = event_played tell before after l c mid is
 
-lines_played : (before after : ℕ) (lines : List Line) (c e : Course) → Leads before after lines c e → Played c e (count_by is_event lines)
-lines_played before after [] c e is = quiet_played c e (ap (λ (x : Course). x.world) is) (ap (λ (x : Course). x.now.number) is) (ap (λ (x : Course). x.now.counts) is)
-lines_played before after (l ∷ lines) c e leads =
+lines_played : (tell : Bool) (before after : ℕ) (lines : List Line) (c e : Course) → Leads tell before after lines c e → Played c e (count_by is_event lines)
+lines_played tell before after [] c e is = quiet_played c e (ap (λ (x : Course). x.world) is) (ap (λ (x : Course). x.now.number) is) (ap (λ (x : Course). x.now.counts) is) (ap (λ (x : Course). x.happened) is)
+lines_played tell before after (l ∷ lines) c e leads =
     subst (λ (n : ℕ). Played c e n) (sym (sum_by-cons (λ (x : Line). cond (is_event x) 1 0) l lines))
-    (both_played c leads.0 e (cond (is_event l) 1 0) (count_by is_event lines) (next_played before after l c leads.0 leads.1) (lines_played before after lines leads.0 e leads.2))
+    (both_played c leads.0 e (cond (is_event l) 1 0) (count_by is_event lines) (next_played tell before after l c leads.0 leads.1) (lines_played tell before after lines leads.0 e leads.2))
 
 -- from the start on
 
-pub texts_counted : (before after : ℕ) (lines : List Line) (e : Course) → Leads before after lines (start_course lines) e → e.now.counts.texts ≡ length e.world.texts
-texts_counted before after lines e leads = let p = lines_played before after lines (start_course lines) e leads in omega (arith, p.texts)
+pub texts_counted : (tell : Bool) (before after : ℕ) (lines : List Line) (e : Course) → Leads tell before after lines (start_course lines) e → e.now.counts.texts ≡ length e.world.texts
+texts_counted tell before after lines e leads = let p = lines_played tell before after lines (start_course lines) e leads in omega (arith, p.texts)
 
-pub events_counted : (before after : ℕ) (lines : List Line) (e : Course) → Leads before after lines (start_course lines) e → e.now.number ≡ 1 + count_by is_event lines
-events_counted before after lines e leads = let p = lines_played before after lines (start_course lines) e leads in p.numbers
+pub events_counted : (tell : Bool) (before after : ℕ) (lines : List Line) (e : Course) → Leads tell before after lines (start_course lines) e → e.now.number ≡ 1 + count_by is_event lines
+events_counted tell before after lines e leads = let p = lines_played tell before after lines (start_course lines) e leads in p.numbers
 
-pub outcomes_counted : (before after : ℕ) (lines : List Line) (e : Course) → Leads before after lines (start_course lines) e
+pub events_listed : (tell : Bool) (before after : ℕ) (lines : List Line) (e : Course) → Leads tell before after lines (start_course lines) e → length e.happened ≡ count_by is_event lines
+events_listed tell before after lines e leads = let p = lines_played tell before after lines (start_course lines) e leads in omega (arith, p.listed)
+
+pub outcomes_counted : (tell : Bool) (before after : ℕ) (lines : List Line) (e : Course) → Leads tell before after lines (start_course lines) e
     → e.now.counts.done + e.now.counts.refused + e.now.counts.stopped + e.now.counts.none + 1 ≡ e.now.number
-outcomes_counted before after lines e leads = let p = lines_played before after lines (start_course lines) e leads in omega (arith, p.numbers, p.outcomes)
+outcomes_counted tell before after lines e leads = let p = lines_played tell before after lines (start_course lines) e leads in omega (arith, p.numbers, p.outcomes)

@@ -7,13 +7,12 @@ use Rattle.world_laws.specs.Honest.{HonestRun}
 use Rattle.world_laws.specs.Laws.{Agreement, OneKeyPerCount, Once, EndedBoth}
 use Rattle.world_laws.specs.Starts.{IsStart}
 
--- a network to which events led from a start, and what holds of it
-pub record IsLawful (start w : World) : Type 0 where
+-- a network to which these events led from a start, and what holds of it
+pub record IsLawful (start : World) (events : List Event) (w : World) : Type 0 where
   -- at the start the identities of the parties don't expand alike, each key-encrypting key stands at both its ends, no two
   -- have the same pair, no count of one was used, and nothing has happened
   pub begins : IsStart start
-  -- the network is the end of the run of these events: commands, arriving bytes and crashes
-  pub events : List Event
+  -- the network is the end of the run of the events: commands, arriving bytes and crashes
   pub are : AreEvents events
   pub ran : w ≡ run 1 start events
   -- the run is honest: at each arrival whose code agrees, that code was made before, by a holder of its key

@@ -36,10 +36,10 @@ input_in Migrates = None
 abbrev pub outcome_of : Verdict → Outcome
 outcome_of v = cond (is_accept v) outcome.Done (outcome.Refused (number_of v))
 
--- an event is whole, or cut where a stop waits
-abbrev pub IsCompleted : ℕ → ℕ → Option Stop → Member → ℕ → Option Input → Completion → Type 0
-IsCompleted before after None x moment i completion = completion ≡ Whole
-IsCompleted before after (Some stop) x moment i completion = (next : Bool) × (completion ≡ completion_of next) × IsFixed (KeepsChange x i moment) stop before after next
+-- an event is whole, or cut where a stop waits; whether the disks tell their bytes, and two counts of the shelf's faults
+abbrev pub IsCompleted : Bool → ℕ → ℕ → Option Stop → Member → ℕ → Option Input → Completion → Type 0
+IsCompleted tell before after None x moment i completion = completion ≡ Whole
+IsCompleted tell before after (Some stop) x moment i completion = (next : Bool) × (completion ≡ completion_of next) × IsFixed tell (KeepsChange x i moment) stop before after next
 
 -- what becomes of it: by the verdict, or by the number of why nothing is heard
 abbrev pub IsOutcome : Option Stop → Member → ℕ → Option Input → ℕ → Outcome → Type 0

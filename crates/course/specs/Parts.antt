@@ -1,6 +1,6 @@
 -- An event that may not have ended: whole, cut or not begun, and the part of its lines that is written (this project's
 -- profile).
-use Rattle.std.specs.Prelude.{◌≡◌, ◌⊎◌, ℕ, List, [], take}
+use Rattle.std.specs.Prelude.{◌≡◌, ◌⊎◌, ℕ, true, List, [], take}
 use Rattle.scenario.specs.declared.line.Line.{Line}
 use Rattle.world_laws.specs.Events.{Event}
 use Rattle.world_laws.specs.Steps.{step}
@@ -18,9 +18,9 @@ IsBegun moment (At own action) e = e ≡ event_at own moment action e.completion
 abbrev pub IsEventOf : ℕ → Happening → Event → Type 0
 IsEventOf moment h e = (e ≡ no_event moment) ⊎ IsBegun moment h e
 
--- a beginning of the lines of an event that is done, which may be nothing
+-- a beginning of the lines of an event that is done over disks that tell their bytes, which may be nothing
 abbrev pub IsPartDone : ℕ → ℕ → Course → Happening → Event → List ℕ → Type 0
-IsPartDone before after c h e part = (o : Outcome) × (n : ℕ) × IsDone before after c h e o × (part ≡ take n (event_lines c.now.number o c.world.texts (step c.now.number c.world e).texts))
+IsPartDone before after c h e part = (o : Outcome) × (n : ℕ) × IsDone true before after c h e o × (part ≡ take n (event_lines c.now.number o c.world.texts (step c.now.number c.world e).texts))
 
 -- or nothing, of an event that is done or not
 abbrev pub IsPartOf : ℕ → ℕ → Course → Happening → Event → List ℕ → Type 0

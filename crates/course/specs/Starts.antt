@@ -75,7 +75,7 @@ abbrev pub start_progress : Progress
 start_progress = record { moment = 0; stop = None; number = 1; counts = record { done = 0; refused = 0; stopped = 0; none = 0; texts = 0 } }
 
 abbrev pub start_course : List Line → Course
-start_course lines = record { now = start_progress; world = start_world lines; transcript = [] }
+start_course lines = record { now = start_progress; world = start_world lines; happened = []; transcript = [] }
 
 -- ---- what the types of a line's parts fix
 

@@ -15,15 +15,16 @@ abbrev pub member_next : Member → Option Input → ℕ → Member
 member_next x None moment = x
 member_next x (Some i) moment = after x (plan_at x i moment).edits
 
--- which of the two stands, as far as the call and the choice fix it, between these counts of the shelf's faults
-pub record IsFixed (keep : Type 0) (stop : Stop) (before after : ℕ) (next : Bool) : Type 0 where
+-- which of the two stands, as far as the call and the choice fix it, between these counts of the shelf's faults. They fix it
+-- where the disks tell their bytes; where they don't, it is either
+pub record IsFixed (tell : Bool) (keep : Type 0) (stop : Stop) (before after : ℕ) (next : Bool) : Type 0 where
   -- the new one only where a change is kept
   pub kept : next ≡ true → keep
   -- with the first or the second call nothing is kept
-  pub early : keep → stop.n ≤ 2 → next ≡ false
+  pub early : tell ≡ true → keep → stop.n ≤ 2 → next ≡ false
   -- nor with the third or the fourth, where the image of the last sync is left
-  pub stable : keep → stop.n ≤ 4 → stop.choice ≡ 0 → next ≡ false
+  pub stable : tell ≡ true → keep → stop.n ≤ 4 → stop.choice ≡ 0 → next ≡ false
   -- the fourth call is the sync behind the gate, and what a read gives is left
-  pub pending : keep → stop.n ≡ 4 → stop.choice ≡ 1 → (Rose before after → ⊥) → next ≡ true
+  pub pending : tell ≡ true → keep → stop.n ≡ 4 → stop.choice ≡ 1 → (Rose before after → ⊥) → next ≡ true
   -- all four calls are made
-  pub whole : keep → 5 ≤ stop.n → next ≡ true
+  pub whole : tell ≡ true → keep → 5 ≤ stop.n → next ≡ true

@@ -11,7 +11,7 @@ use world_laws::{law_agreement, law_counts, law_ended, law_once, law_start};
 
 /// The end of each honest run of events from a start is lawful.
 pub fn law_lawful()
-    ensures { (start w : World) (events : List Event) → IsStart start → AreEvents events → w ≡ run 1 start events → HonestRun 1 start events → IsLawful start w }
+    ensures { (start w : World) (events : List Event) → IsStart start → AreEvents events → w ≡ run 1 start events → HonestRun 1 start events → IsLawful start events w }
 {
     law_start();
     law_counts();

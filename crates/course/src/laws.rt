@@ -1,5 +1,5 @@
 // That a scenario begins at a start, what its course is, and what is counted in it, told by calls that do nothing.
-ghost use Rattle.std.specs.Prelude.{◌≡◌, ◌+◌, ℕ, List, length, count_by};
+ghost use Rattle.std.specs.Prelude.{◌≡◌, ◌+◌, ℕ, Bool, List, length, count_by};
 ghost use Rattle.scenario.specs.declared.line.Line.{Line as TheLine};
 ghost use Rattle.scenario.specs.Behind.{EachBehind};
 ghost use Rattle.scenario.specs.Rules.{may_follow};
@@ -13,18 +13,20 @@ use party_state::{law_found, law_party, law_put, law_same};
 use scenario::Scenario;
 use x_gen::law_odd_stays;
 
-/// The network to which lines lead is the end of the run of their events, and that run is honest.
+/// The network to which lines lead is the end of the run of what happened on the way, and that run is honest.
 #[tactic(auto, using(crate::proofs::Running::ran_by))]
 pub fn law_ran()
-    ensures { (before after : ℕ) (lines : List TheLine) (c e : Course) → Leads before after lines c e → Ran c e }
+    ensures { (tell : Bool) (before after : ℕ) (lines : List TheLine) (c e : Course) → Leads tell before after lines c e → Ran c e }
 {}
 
 /// From the start of a scenario on, as many texts are counted as were written; events are numbered from
-/// 1, one for each line that is an event; and each event is counted under one outcome.
+/// 1, one for each line that is an event, and each stands in the list of what happened; and each event
+/// is counted under one outcome.
 pub fn law_counted()
-    ensures texts { (before after : ℕ) (lines : List TheLine) (e : Course) → Leads before after lines (start_course lines) e → e.now.counts.texts ≡ length e.world.texts }
-    ensures events { (before after : ℕ) (lines : List TheLine) (e : Course) → Leads before after lines (start_course lines) e → e.now.number ≡ 1 + count_by is_event lines }
-    ensures outcomes { (before after : ℕ) (lines : List TheLine) (e : Course) → Leads before after lines (start_course lines) e → e.now.counts.done + e.now.counts.refused + e.now.counts.stopped + e.now.counts.none + 1 ≡ e.now.number }
+    ensures texts { (tell : Bool) (before after : ℕ) (lines : List TheLine) (e : Course) → Leads tell before after lines (start_course lines) e → e.now.counts.texts ≡ length e.world.texts }
+    ensures events { (tell : Bool) (before after : ℕ) (lines : List TheLine) (e : Course) → Leads tell before after lines (start_course lines) e → e.now.number ≡ 1 + count_by is_event lines }
+    ensures listed { (tell : Bool) (before after : ℕ) (lines : List TheLine) (e : Course) → Leads tell before after lines (start_course lines) e → length e.happened ≡ count_by is_event lines }
+    ensures outcomes { (tell : Bool) (before after : ℕ) (lines : List TheLine) (e : Course) → Leads tell before after lines (start_course lines) e → e.now.counts.done + e.now.counts.refused + e.now.counts.stopped + e.now.counts.none + 1 ≡ e.now.number }
 {}
 
 /// The network of lines that keep the rules of a scenario is a start.

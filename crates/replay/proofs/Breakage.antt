@@ -1,5 +1,5 @@
 -- An event that breaks off, in the network.
-use Rattle.std.proofs.Common.{◌≡◌, ◌≢◌, ◌⊎◌, inl, inr, ℕ, ◌<◌, List, [], ◌∷◌, ◌++◌, length, Option, Some, None, bytes_eq, refl, sym, ◌∙◌, ap, subst}
+use Rattle.std.proofs.Common.{◌≡◌, ◌≢◌, ◌⊎◌, inl, inr, ℕ, ◌<◌, true, List, [], ◌∷◌, ◌++◌, length, Option, Some, None, bytes_eq, refl, sym, ◌∙◌, ap, subst}
 use Rattle.x_disk.specs.Disk.{View}
 use Rattle.party_tables.specs.Tables.{put_row}
 use Rattle.party_state.specs.declared.command.Input.{Input}
@@ -25,36 +25,36 @@ use Rattle.replay.proofs.Reading.{reads_one}
 
 -- the seats stand for the members that they show
 module _ {D : Type 0} (told : D → View) (entry : List ℕ → View) where
-  pub stand_seats : (seats : List (Seat D)) → AreIn told seats → StandForAll told entry seats (members seats)
+  pub stand_seats : (seats : List (Seat D)) → AreIn true told seats → StandForAll told entry seats (members seats)
   stand_seats [] all = tt
   stand_seats (s ∷ seats) all = go s.own s.held all.0 (stand_seats seats all.1)
     where
-      go : (own : List ℕ) (h : Held D) → IsIn told own h → StandForAll told entry seats (members seats) → StandForAll told entry (seat own h ∷ seats) (with_held h (members seats))
+      go : (own : List ℕ) (h : Held D) → IsIn true told own h → StandForAll told entry seats (members seats) → StandForAll told entry (seat own h ∷ seats) (with_held h (members seats))
       go own (Open m) is rest = ((is, refl), rest)
       go own (Loose disk) is rest = absurd is
       go own Out is rest = absurd is
 
-  pub shown_stand : (w : World) (s : Scene D) → Shows told w s → StandForAll told entry s.parties w.members
+  pub shown_stand : (w : World) (s : Scene D) → Shows true told w s → StandForAll told entry s.parties w.members
   shown_stand w s shows = subst (StandForAll told entry s.parties) shows.members_are (stand_seats s.parties shows.seated)
 
   module _ (own : List ℕ) (node : Stored D) (held : Held D) (back : List (Seat D)) where
-    stand_stays : StandsFor told entry own held (member_of node) → (front : List (Seat D)) → AreIn told (front ++ seat own (Open node) ∷ back) → StandForAll told entry (front ++ seat own held ∷ back) (members (front ++ seat own (Open node) ∷ back))
+    stand_stays : StandsFor told entry own held (member_of node) → (front : List (Seat D)) → AreIn true told (front ++ seat own (Open node) ∷ back) → StandForAll told entry (front ++ seat own held ∷ back) (members (front ++ seat own (Open node) ∷ back))
     stand_stays stands [] all = (stands, stand_seats back all.1)
     stand_stays stands (f ∷ front) all = go f.own f.held all.0 (stand_stays stands front all.1)
       where
-        go : (name : List ℕ) (h : Held D) → IsIn told name h → StandForAll told entry (front ++ seat own held ∷ back) (members (front ++ seat own (Open node) ∷ back))
+        go : (name : List ℕ) (h : Held D) → IsIn true told name h → StandForAll told entry (front ++ seat own held ∷ back) (members (front ++ seat own (Open node) ∷ back))
             → StandForAll told entry (seat name h ∷ (front ++ seat own held ∷ back)) (with_held h (members (front ++ seat own (Open node) ∷ back)))
         go name (Open m) is rest = ((is, refl), rest)
         go name (Loose disk) is rest = absurd is
         go name Out is rest = absurd is
 
-    stand_put : (y : Member) → y.party.own ≡ own → StandsFor told entry own held y → (front : List (Seat D)) → AreIn told (front ++ seat own (Open node) ∷ back) → NoneOf front own
+    stand_put : (y : Member) → y.party.own ≡ own → StandsFor told entry own held y → (front : List (Seat D)) → AreIn true told (front ++ seat own (Open node) ∷ back) → NoneOf front own
         → StandForAll told entry (front ++ seat own held ∷ back) (put_row own_of bytes_eq y (members (front ++ seat own (Open node) ∷ back)))
     stand_put y named stands [] all none =
         subst (StandForAll told entry (seat own held ∷ back)) (sym (cond_yes (bytes_eq y.party.own node.party.own) (y ∷ members back) (member_of node ∷ put_row own_of bytes_eq y (members back)) (same_yes y.party.own node.party.own (named ∙ sym all.0.named)))) (stands, stand_seats back all.1)
     stand_put y named stands (f ∷ front) all none = go f.own f.held none.0 all.0 (stand_put y named stands front all.1 none.1)
       where
-        go : (name : List ℕ) (h : Held D) → name ≢ own → IsIn told name h → StandForAll told entry (front ++ seat own held ∷ back) (put_row own_of bytes_eq y (members (front ++ seat own (Open node) ∷ back)))
+        go : (name : List ℕ) (h : Held D) → name ≢ own → IsIn true told name h → StandForAll told entry (front ++ seat own held ∷ back) (put_row own_of bytes_eq y (members (front ++ seat own (Open node) ∷ back)))
             → StandForAll told entry (seat name h ∷ (front ++ seat own held ∷ back)) (put_row own_of bytes_eq y (with_held h (members (front ++ seat own (Open node) ∷ back))))
         go name (Open m) apart is rest =
             subst (StandForAll told entry (seat name (Open m) ∷ (front ++ seat own held ∷ back)))
@@ -63,14 +63,14 @@ module _ {D : Type 0} (told : D → View) (entry : List ℕ → View) where
         go name Out apart is rest = absurd is
 
 -- an event that broke off at a place, where the seat stands for the member before, or for another of its name
-module _ {D : Type 0} (told : D → View) (entry : List ℕ → View) (old new : List (Seat D)) (place : ℕ) (w : World) (n : ℕ) (all : AreIn told old) (members_are : members old ≡ w.members)
+module _ {D : Type 0} (told : D → View) (entry : List ℕ → View) (old new : List (Seat D)) (place : ℕ) (w : World) (n : ℕ) (all : AreIn true told old) (members_are : members old ≡ w.members)
     (front : List (Seat D)) (name : List ℕ) (node : Stored D) (held : Held D) (back : List (Seat D)) (was : old ≡ front ++ seat name (Open node) ∷ back) (size : length front ≡ place) (is : new ≡ front ++ seat name held ∷ back)
     (own : List ℕ) (is_place : IsPlace old own place) where
-  split_in : AreIn told (front ++ seat name (Open node) ∷ back)
-  split_in = subst (AreIn told) was all
+  split_in : AreIn true told (front ++ seat name (Open node) ∷ back)
+  split_in = subst (AreIn true told) was all
 
-  pub was_of : IsOf told name node
-  was_of = of_in told name node back front split_in
+  pub was_of : IsOf true told name node
+  was_of = of_in true told name node back front split_in
 
   here : NoneOf front own × (name ≡ own)
   here = is_place front (seat name (Open node)) back was size
@@ -79,7 +79,7 @@ module _ {D : Type 0} (told : D → View) (entry : List ℕ → View) (old new :
   none = subst (NoneOf front) (sym here.1) here.0
 
   pub at_name : member_at name w.members ≡ Some (member_of node)
-  at_name = ap (λ (ms : List Member). member_at name ms) (sym members_are ∙ ap members was) ∙ found told name node back front split_in none
+  at_name = ap (λ (ms : List Member). member_at name ms) (sym members_are ∙ ap members was) ∙ found true told name node back front split_in none
 
   at : member_at own w.members ≡ Some (member_of node)
   at = subst (λ (o : List ℕ). member_at o w.members ≡ Some (member_of node)) here.1 at_name
@@ -114,8 +114,8 @@ module _ {D : Type 0} (told : D → View) (entry : List ℕ → View) (old : Sce
 
   stands_by : node.party.own ≡ l.own → (h : Held D) → StandsEither told (entry l.own) h (member_of node) (member_next (member_of node) i moment) (KeepsChange (member_of node) i moment)
       → StandsFor told entry l.own h (member_of node) ⊎ (KeepsChange (member_of node) i moment × StandsFor told entry l.own h (member_next (member_of node) i moment))
-  stands_by named (Open m) (tells, inl same) = inl (record { named = ap (λ (x : Member). x.party.own) same ∙ named; tells = tells }, same)
-  stands_by named (Open m) (tells, inr next) = inr (next.0, (record { named = ap (λ (x : Member). x.party.own) next.1 ∙ (own_next ∙ named); tells = tells }, next.1))
+  stands_by named (Open m) (tells, inl same) = inl (record { named = ap (λ (x : Member). x.party.own) same ∙ named; tells = λ t. tells }, same)
+  stands_by named (Open m) (tells, inr next) = inr (next.0, (record { named = ap (λ (x : Member). x.party.own) next.1 ∙ (own_next ∙ named); tells = λ t. tells }, next.1))
   stands_by named (Loose disk) reads = go (reads_one (told disk) (member_of node) (member_next (member_of node) i moment) (KeepsChange (member_of node) i moment) reads)
     where
       go : ReadsAs (told disk) (member_of node) ⊎ (KeepsChange (member_of node) i moment × ReadsAs (told disk) (member_next (member_of node) i moment)) → StandsFor told entry l.own (Loose disk) (member_of node) ⊎ (KeepsChange (member_of node) i moment × StandsFor told entry l.own (Loose disk) (member_next (member_of node) i moment))
@@ -132,16 +132,16 @@ module _ {D : Type 0} (told : D → View) (entry : List ℕ → View) (old : Sce
       let all = shows.seated in
       let is : new.parties ≡ l.front ++ seat l.own b.held ∷ l.back = b.fills l.front l.own l.back l.after l.size in
       let of = was_of told entry old.parties new.parties place w n all shows.members_are l.front l.own node b.held l.back l.before l.size is own is_place in
-      let f = b.fails of.tells in
+      let f = b.fails (of.tells refl) in
       let either : StandsEither told (entry l.own) b.held (member_of node) (member_next (member_of node) i moment) (KeepsChange (member_of node) i moment) =
       subst (λ (o : List ℕ). StandsEither told (entry o) b.held (member_of node) (member_next (member_of node) i moment) (KeepsChange (member_of node) i moment)) (sym name_is) f.1 in
       (f.0, go w n own is_place shows is of.named (stands_by of.named b.held either))
     where
-      here : (w : World) (n : ℕ) (own : List ℕ) (is_place : IsPlace old.parties own place) (shows : Shows told w old) → node.party.own ≡ l.own → member_at node.party.own w.members ≡ Some (member_of node)
+      here : (w : World) (n : ℕ) (own : List ℕ) (is_place : IsPlace old.parties own place) (shows : Shows true told w old) → node.party.own ≡ l.own → member_at node.party.own w.members ≡ Some (member_of node)
       here w n own is_place shows named = subst (λ (o : List ℕ). member_at o w.members ≡ Some (member_of node)) (sym named)
           (at_name told entry old.parties new.parties place w n shows.seated shows.members_are l.front l.own node b.held l.back l.before l.size (b.fills l.front l.own l.back l.after l.size) own is_place)
 
-      go : (w : World) (n : ℕ) (own : List ℕ) (is_place : IsPlace old.parties own place) (shows : Shows told w old) → new.parties ≡ l.front ++ seat l.own b.held ∷ l.back → node.party.own ≡ l.own
+      go : (w : World) (n : ℕ) (own : List ℕ) (is_place : IsPlace old.parties own place) (shows : Shows true told w old) → new.parties ≡ l.front ++ seat l.own b.held ∷ l.back → node.party.own ≡ l.own
           → StandsFor told entry l.own b.held (member_of node) ⊎ (KeepsChange (member_of node) i moment × StandsFor told entry l.own b.held (member_next (member_of node) i moment)) → IsBrokenOff told entry w n own new.parties i moment
       go w n own is_place shows is named (inl stands) =
           broke_before told entry old.parties new.parties place w n shows.seated shows.members_are l.front l.own node b.held l.back l.before l.size is own is_place i moment CutOld (ap (λ (u : World). u.members) (stays n w)) stands
@@ -150,7 +150,7 @@ module _ {D : Type 0} (told : D → View) (entry : List ℕ → View) (old : Sce
 
 -- nothing has begun
 module _ {D : Type 0} (told : D → View) (entry : List ℕ → View) (s : Scene D) (place : ℕ) (i : Option Input) (moment : ℕ) (within : place < length s.parties) (opened : AreOpen s.parties) (w : World) (n : ℕ) (own : List ℕ)
-    (is_place : IsPlace s.parties own place) (shows : Shows told w s) where
+    (is_place : IsPlace s.parties own place) (shows : Shows true told w s) where
   old_stays : (x : Member) (o : Option Input) → world_after_told n w x o moment CutOld ≡ w
   old_stays x None = refl
   old_stays x (Some input) = refl

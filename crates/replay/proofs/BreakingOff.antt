@@ -1,5 +1,5 @@
 -- A play breaks off at one of its lines.
-use Rattle.std.proofs.Common.{◌≡◌, inl, inr, ℕ, ◌+◌, ◌<◌, ◌≤◌, List, [], ◌∷◌, ◌++◌, length, take, drop, get_or, Option, refl, sym, ◌∙◌, ap, subst, arith, append-nil, take-append-drop}
+use Rattle.std.proofs.Common.{◌≡◌, inl, inr, ℕ, ◌+◌, ◌<◌, ◌≤◌, true, List, [], ◌∷◌, ◌++◌, length, take, drop, get_or, Option, refl, sym, ◌∙◌, ap, subst, arith, append-nil, take-append-drop}
 use Rattle.std.proofs.lemmas.List.{drop_more}
 use Rattle.x_base.specs.Edge.{AppendsTo}
 use Rattle.x_disk.specs.Disk.{View}
@@ -28,12 +28,12 @@ use Rattle.replay.proofs.Unfinished.{BreaksEvent}
 
 -- a line broke off, from whichever course the old scene and sink show; `entry` is the shelf's afterwards
 abbrev pub BreaksLine : {D : Type 0} → (D → View) → (List ℕ → View) → ℕ → ℕ → Line → Scene D → Scene D → Progress → Option (List ℕ) → Option (List ℕ) → Ending → Type 0
-BreaksLine told entry low high l old new p written next why = (before after : ℕ) → before ≤ low → high ≤ after → (start : Option (List ℕ)) (c : Course) → IsAt told start c old p written
+BreaksLine told entry low high l old new p written next why = (before after : ℕ) → before ≤ low → high ≤ after → (start : Option (List ℕ)) (c : Course) → IsAt true told start c old p written
     → IsBreak why × ((h : Happening) × HappensOr l c.world.texts h × IsBrokenAt told entry before after start c h new next why)
 
 module _ {D : Type 0} (told : D → View) (entry : List ℕ → View) (low high : ℕ) where
   -- no event has begun
-  pub none_begun : (before after : ℕ) (start : Option (List ℕ)) (c : Course) (h : Happening) (s : Scene D) (p : Progress) (written : Option (List ℕ)) (why : Ending) → (why ≡ ending.Write → ⊥) → IsAt told start c s p written → IsBrokenAt told entry before after start c h s written why
+  pub none_begun : (before after : ℕ) (start : Option (List ℕ)) (c : Course) (h : Happening) (s : Scene D) (p : Progress) (written : Option (List ℕ)) (why : Ending) → (why ≡ ending.Write → ⊥) → IsAt true told start c s p written → IsBrokenAt told entry before after start c h s written why
   none_begun before after start c h s p written why other at = record {
     event = no_event c.now.moment;
     is = inl refl;
@@ -62,7 +62,7 @@ module _ {D : Type 0} (told : D → View) (entry : List ℕ → View) where
   pub breaks_in : (low between high : ℕ) → low ≤ between → between ≤ high → (lines : List Line) (i : ℕ) (l : Line) → i < length lines → l ≡ get_or lines i l → (old mid new : Scene D) (p m : Progress) (written halfway next : Option (List ℕ)) (why : Ending)
       → Plays told low between (take i lines) old mid p m written halfway → BreaksLine told entry between high l mid new m halfway next why → BreaksIn told entry low high lines old new p written next why
   breaks_in low between high le1 le2 lines i l lt read old mid new p m written halfway next why plays breaks = λ before after first last start c at.
-      let one = plays before after first (omega (arith, le2, last)) start c at in
+      let one = plays true before after first (omega (arith, le2, last)) start c at in
       let b = breaks before after (omega (arith, first, le1)) last start one.0 one.2 in (
         b.0,
         record {

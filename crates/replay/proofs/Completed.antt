@@ -88,7 +88,7 @@ module _ {D : Type 0} (told : D → View) (old : Stored D) where
     makes lines n done = record {
       blank = begun_is.blank;
       tells = done.tells ∙ begun_is.tells;
-      member = λ tells. done.member ∙ ap (λ (m : Member). with_loads m (loads_of party.own lines)) begun_is.member;
+      member = done.member ∙ ap (λ (m : Member). with_loads m (loads_of party.own lines)) begun_is.member;
     }
 
     pub unset_part : (loads : List LinkRec) (w : View) (why : Failure) → IsPartlyLoaded (told old.disk) w (member_of old) loads why → IsUnsetDisk v w (new_member party) loads (Failed why)

@@ -17,9 +17,9 @@ use Rattle.replay.specs.Breaking.{AreOnShelf, IsBreak, IsBrokenIn, BreaksIn}
 use Rattle.replay.specs.Closing.{IsBack, AllBack}
 use Rattle.course.specs.Course.{no_event}
 use Rattle.replay.specs.Course.{IsAt}
-use Rattle.replay.specs.Finishing.{IsUnshown, Finishes, BreaksPlay, end_of, answer_of}
+use Rattle.replay.specs.Finishing.{IsUnshown, Finishes, BreaksPlay, end_of, answer_of, set_up_answer}
 use Rattle.replay.specs.Lines.{Plays, ForgesIn}
-use Rattle.replay.specs.Playing.{AreDurable, Surroundings, around, IsPlayed, IsPlayedToForged, IsBrokenPlay, IsUnwritten, IsPlayOn}
+use Rattle.replay.specs.Playing.{AreDurable, Surroundings, around, IsPlayed, IsPlayedToForged, IsBrokenPlay, IsUnwritten, IsPlayOn, IsRun, IsRunToForged, IsRunBy}
 use Rattle.course.specs.Tallies.{IsTallied}
 use Rattle.replay.specs.Scene.{Shows}
 use Rattle.replay.specs.Seats.{members, with_held, IsIn, AreIn}
@@ -31,6 +31,8 @@ use Rattle.replay.specs.declared.failure.Ending.TheVariants as ending
 use Rattle.replay.specs.declared.failure.Failure.{Failure}
 use Rattle.replay.specs.declared.failure.Failure.TheVariants as failure
 use Rattle.course.specs.declared.progress.Progress.{Progress}
+use Rattle.replay.specs.declared.making.SetUpEnd.{SetUpEnd}
+use Rattle.replay.specs.declared.making.SetUpEnd.TheVariants.{NotEmpty, Failed}
 use Rattle.replay.specs.declared.scene.Scene.{Scene}
 use Rattle.replay.specs.declared.seat.Seat.{Seat}
 use Rattle.replay.specs.declared.seat.Held.{Held}
@@ -57,19 +59,19 @@ module _ {D : Type 0} (told : D → View) where
       subst (λ (name : List ℕ). IsDurable (entry name)) (sym ((bytes_eq-Decides own node.party.own).0 is ∙ named)) (durable_alike (told node.disk) (entry mine) back.0 back.1.durable)
   durable_first old entry mine node ms back named rest own x false is at = rest own x (sym (cond_not (bytes_eq own node.party.own) (Some (member_of node)) (member_at own ms) is) ∙ at)
 
-  durable_more : (old entry : List ℕ → View) (mine : List ℕ) (h : Held D) (ms : List Member) → IsBack told old entry mine h → IsIn told mine h → AreDurable entry ms → AreDurable entry (with_held h ms)
+  durable_more : (old entry : List ℕ → View) (mine : List ℕ) (h : Held D) (ms : List Member) → IsBack told old entry mine h → IsIn true told mine h → AreDurable entry ms → AreDurable entry (with_held h ms)
   durable_more old entry mine (Open node) ms back is rest = λ own x at. durable_first old entry mine node ms back is.named rest own x (bytes_eq own node.party.own) refl at
   durable_more old entry mine (Loose disk) ms back is rest = absurd is
   durable_more old entry mine Out ms back is rest = absurd is
 
-  durable_back : (old entry : List ℕ → View) (seats : List (Seat D)) → AllBack told old entry seats → AreIn told seats → AreDurable entry (members seats)
+  durable_back : (old entry : List ℕ → View) (seats : List (Seat D)) → AllBack told old entry seats → AreIn true told seats → AreDurable entry (members seats)
   durable_back old entry [] back all = λ own x at. absurd (cc at)
   durable_back old entry (s ∷ seats) back all = durable_more old entry s.own s.held (members seats) back.0 all.0 (durable_back old entry seats back.1 all.1)
 
   -- the start is shown by the parties that are set up
-  pub starts : (lines : List Line) (s : Scene D) (written : Option (List ℕ)) → AreIn told s.parties → members s.parties ≡ start_members lines → s.texts ≡ [] → s.facts ≡ []
-      → IsAt told written (start_course lines) s start_progress written
-  starts lines s written seated members_are texts_are facts_are = record {
+  pub starts : (tell : Bool) (lines : List Line) (s : Scene D) (written : Option (List ℕ)) → AreIn tell told s.parties → members s.parties ≡ start_members lines → s.texts ≡ [] → s.facts ≡ []
+      → IsAt tell told written (start_course lines) s start_progress written
+  starts tell lines s written seated members_are texts_are facts_are = record {
     shows = record { seated = seated; members_are = members_are; texts_are = texts_are; facts_are = facts_are };
     now_is = refl;
     out = nothing_yet written;
@@ -94,8 +96,8 @@ shown_part (Some xs) next final a text out part = shown_some xs next final a tex
 module _ {D : Type 0} (told : D → View) (low high : ℕ) (lines : List Line) (old new : Scene D) (p : Progress) (written next final : Option (List ℕ)) where
   pub finishes : (q : Progress) (tally : Tally) → Plays told low high lines old new p q written next → IsTallied q (members new.parties) tally → AppendsTo next final (show_lines (members new.parties))
       → Finishes told low high lines old new p written final tally
-  finishes q tally plays tallied shown = λ before after first last start c at.
-      let one = plays before after first last start c at in
+  finishes q tally plays tallied shown = λ tell before after first last start c at.
+      let one = plays tell before after first last start c at in
       record {
         course = one.0;
         leads = one.1;
@@ -119,7 +121,7 @@ module _ {D : Type 0} (told : D → View) (low high : ℕ) (lines : List Line) (
   pub breaks_behind : (entry : List ℕ → View) (q : Progress) (why : Ending) → Plays told low high lines old new p q written next → IsWriteEnd why → WrotePrefix next final (show_lines (members new.parties))
       → BreaksPlay told entry low high lines old new p written final why
   breaks_behind entry q why plays end part = λ before after first last start c at.
-      let one = plays before after first last start c at in
+      let one = plays true before after first last start c at in
       let n = shown_part start next final one.0.transcript (show_lines one.0.world.members) one.2.out (subst (λ (ms : List Member). WrotePrefix next final (show_lines ms)) one.2.shows.members_are part) in (
         break_of why end,
         inr (record {
@@ -134,11 +136,11 @@ module _ {D : Type 0} (told : D → View) (low high : ℕ) (lines : List Line) (
 -- ---- all disks are back on the shelf
 
 module _ {D : Type 0} (told : D → View) (mid entry : List ℕ → View) (before low high after : ℕ) (first : before ≤ low) (last : high ≤ after) (lines : List Line) (old new : Scene D) (start written : Option (List ℕ))
-    (at : IsAt told start (start_course lines) old start_progress start) (back : AllBack told mid entry new.parties) where
-  images : (w : World) → Shows told w new → AreOnShelf entry w.members
+    (at : IsAt true told start (start_course lines) old start_progress start) (back : AllBack told mid entry new.parties) where
+  images : (w : World) → Shows true told w new → AreOnShelf entry w.members
   images w shows = stand_on_shelf told mid entry new.parties w.members back (shown_stand told mid w new shows)
 
-  durable : (w : World) → Shows told w new → AreDurable entry w.members
+  durable : (w : World) → Shows true told w new → AreDurable entry w.members
   durable w shows = subst (AreDurable entry) shows.members_are (durable_back told mid entry new.parties back shows.seated)
 
   abbrev s : Surroundings
@@ -146,13 +148,13 @@ module _ {D : Type 0} (told : D → View) (mid entry : List ℕ → View) (befor
 
   finished : (tally : Tally) → Finishes told low high lines old new start_progress start written tally → IsPlayed s tally
   finished tally finishes =
-      let f = finishes before after first last start (start_course lines) at in
+      let f = finishes true before after first last start (start_course lines) at in
       record { course = f.course; leads = f.leads; images = images f.course.world f.shows; durable = durable f.course.world f.shows; out = f.out; tallied = f.tallied }
 
   -- and one of them wasn't put back
   finished_lost : (tally : Tally) → Finishes told low high lines old new start_progress start written tally → IsBrokenPlay s
   finished_lost tally finishes =
-      let f = finishes before after first last start (start_course lines) at in
+      let f = finishes true before after first last start (start_course lines) at in
       let all = show_lines f.course.world.members in
       record {
         front = lines;
@@ -169,12 +171,12 @@ module _ {D : Type 0} (told : D → View) (mid entry : List ℕ → View) (befor
 
   forged : (n : ℕ) → ForgesIn told low high lines old new start_progress start written n → IsPlayedToForged s n
   forged n forges =
-      let f = forges before after first last start (start_course lines) at in
+      let f = forges true before after first last start (start_course lines) at in
       record { course = f.0; forged = f.2; images = images f.0.world f.3.shows; durable = durable f.0.world f.3.shows; out = f.3.out }
 
   forged_lost : (n : ℕ) → ForgesIn told low high lines old new start_progress start written n → IsBrokenPlay s
   forged_lost n forges =
-      let f = forges before after first last start (start_course lines) at in
+      let f = forges true before after first last start (start_course lines) at in
       let c = f.0 in
       record {
         front = f.2.front;
@@ -254,3 +256,41 @@ module _ {D : Type 0} (told : D → View) (mid entry : List ℕ → View) (befor
   concludes (Err (ending.Failed failure.Fault)) put sound f g b = broken (ending.Failed failure.Fault) (b (ending.Failed failure.Fault) refl (λ n is. absurd (cc is)))
   concludes (Err (ending.Failed failure.NoMemory)) put sound f g b = broken (ending.Failed failure.NoMemory) (b (ending.Failed failure.NoMemory) refl (λ n is. absurd (cc is)))
   concludes (Err (ending.Failed (failure.Damaged place))) put sound f g b = absurd (undamaged place (b (ending.Failed (failure.Damaged place)) refl (λ n is. absurd (cc is))))
+
+-- ---- over every shelf
+
+module _ {D : Type 0} (told : D → View) (entry : List ℕ → View) (before low high after : ℕ) (first : before ≤ low) (last : high ≤ after) (lines : List Line) (old new : Scene D) (start written : Option (List ℕ))
+    (at : IsAt false told start (start_course lines) old start_progress start) where
+  abbrev g : Surroundings
+  g = around lines entry before after start written
+
+  ran : (tally : Tally) → Finishes told low high lines old new start_progress start written tally → IsRun g tally
+  ran tally finishes =
+      let f = finishes false before after first last start (start_course lines) at in
+      record { course = f.course; leads = f.leads; out = f.out; tallied = f.tallied }
+
+  ran_to : (n : ℕ) → ForgesIn told low high lines old new start_progress start written n → IsRunToForged g n
+  ran_to n forges =
+      let f = forges false before after first last start (start_course lines) at in
+      record { course = f.0; forged = f.2; out = f.3.out }
+
+  pub runs : (outcome : Result Tally Ending) (put : Result Unit Failure) → IfOk outcome (λ tally. Finishes told low high lines old new start_progress start written tally)
+      → ((n : ℕ) → outcome ≡ Err (ending.Forged n) → ForgesIn told low high lines old new start_progress start written n) → IsRunBy g (answer_of (end_of outcome put))
+  runs (Ok tally) (Ok done) f k = ran tally f
+  runs (Ok tally) (Err failure.Fault) f k = tt
+  runs (Ok tally) (Err failure.NoMemory) f k = tt
+  runs (Ok tally) (Err (failure.Damaged place)) f k = tt
+  runs (Err (ending.Forged n)) (Ok done) f k = ran_to n (k n refl)
+  runs (Err (ending.Forged n)) (Err failure.Fault) f k = tt
+  runs (Err (ending.Forged n)) (Err failure.NoMemory) f k = tt
+  runs (Err (ending.Forged n)) (Err (failure.Damaged place)) f k = tt
+  runs (Err ending.Write) put f k = tt
+  runs (Err (ending.Failed failure.Fault)) put f k = tt
+  runs (Err (ending.Failed failure.NoMemory)) put f k = tt
+  runs (Err (ending.Failed (failure.Damaged place))) put f k = tt
+
+pub unset_runs : (s : Surroundings) (end : SetUpEnd) → IsRunBy s (set_up_answer end)
+unset_runs s NotEmpty = tt
+unset_runs s (Failed failure.Fault) = tt
+unset_runs s (Failed failure.NoMemory) = tt
+unset_runs s (Failed (failure.Damaged place)) = tt

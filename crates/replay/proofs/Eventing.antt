@@ -1,5 +1,5 @@
 -- An event at the party of a place, from the taking out to the putting in.
-use Rattle.std.proofs.Common.{◌≡◌, ℕ, Bool, true, false, List, [], ◌++◌, Option, Some, None, cond, bytes_eq, refl, sym, ◌∙◌, subst}
+use Rattle.std.proofs.Common.{◌≡◌, ℕ, Bool, true, false, List, [], ◌++◌, Option, Some, None, cond, bytes_eq, refl, sym, ◌∙◌, ap, subst}
 use Rattle.std.proofs.lemmas.List.{append-nil}
 use Rattle.x_base.specs.declared.verdict.Verdict.{Verdict}
 use Rattle.x_disk.specs.Disk.{View}
@@ -49,6 +49,13 @@ module _ {D : Type 0} (p : PlannedNode D) (node : Stored D) (i : Input) (moment 
 
   pub lifted_of : (old mid : List (Seat D)) (place : ℕ) → IsLifted old mid place node → IsLifted old mid place p.node
   lifted_of old mid place l = subst (λ (q : PlannedNode D). IsLifted old mid place q.node) (sym is) l
+
+-- the node as it was before the plan, with the plan that is made anew
+abbrev pub stopped_plan : {D : Type 0} → Stored D → Input → ℕ → PlannedNode D
+stopped_plan node i moment = record { node = node; plan = plan_at (member_of node) i moment }
+
+pub lifted_again : {D : Type 0} (p : PlannedNode D) (node again : Stored D) (i : Input) (moment : ℕ) → p ≡ record { node = node; plan = plan_at (member_of node) i moment } → again ≡ p.node → (old mid : List (Seat D)) (place : ℕ) → IsLifted old mid place node → IsLifted old mid place again
+lifted_again p node again i moment is same old mid place l = subst (λ (k : Stored _). IsLifted old mid place k) (sym (same ∙ ap (λ (q : PlannedNode _). q.node) is)) l
 
 -- an input is planned
 module _ {D : Type 0} (told : D → View) (laws : (x : Member) (i : Input) (moment : ℕ) → IsEventOf x (taking (plan_at x i moment)) (input_event x i moment)) (old mid new : Scene D) (place : ℕ) (p : PlannedNode D) (l : IsLifted old.parties mid.parties place p.node)

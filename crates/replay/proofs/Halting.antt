@@ -1,5 +1,5 @@
 -- A set-up ends early: the disks are put back.
-use Rattle.std.proofs.Common.{◌≡◌, ℕ, zero, ◌+◌, ◌<◌, List, ◌∷◌, ◌++◌, length, get_or, take, drop, Option, Some, None, is_some, refl, sym, ◌∙◌, ap, subst, arith}
+use Rattle.std.proofs.Common.{◌≡◌, ℕ, zero, ◌+◌, ◌<◌, true, List, ◌∷◌, ◌++◌, length, get_or, take, drop, Option, Some, None, is_some, refl, sym, ◌∙◌, ap, subst, arith}
 use Rattle.std.specs.Prelude.{Contains}
 use mathlib.Core.Logic.{◌≢◌}
 use Rattle.std.proofs.lemmas.List.Elements.{filter_map-append, Contains-append_left, Contains-append_right}
@@ -47,7 +47,7 @@ module _ {D : Type 0} (told : D → View) (lines : List Line) (start entry : Lis
   pub ends_early : AllTell start (parties_in lines) → IsSetUpEnd lines start entry3 end
   ends_early tells =
       let both = tell tells in
-      let s = so_far.shown both.0 in
+      let s = so_far.shown true (λ t. both.0) in
       let here = ap is_some alike.now ∙ both.1 in
       record {
         front = front;

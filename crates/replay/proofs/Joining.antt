@@ -1,5 +1,5 @@
 -- Parties take their seats one behind another, or a party isn't set up.
-use Rattle.std.proofs.Common.{◌≡◌, inl, inr, ℕ, zero, suc, ◌+◌, ◌<◌, true, false, List, [], ◌∷◌, ◌++◌, length, get_or, take, IfSome, Option, Some, None, option_map, is_some, refl, sym, ◌∙◌, ap, subst, arith}
+use Rattle.std.proofs.Common.{◌≡◌, inl, inr, ℕ, zero, suc, ◌+◌, ◌<◌, Bool, true, false, List, [], ◌∷◌, ◌++◌, length, get_or, take, IfSome, Option, Some, None, option_map, is_some, refl, sym, ◌∙◌, ap, subst, arith}
 use Rattle.std.specs.Prelude.{nat_lt, Contains, option_to_list}
 use Rattle.std.specs.List.{filter_map, list_all, list_any}
 use mathlib.Core.Logic.{◌≢◌}
@@ -154,9 +154,9 @@ module _ {D : Type 0} where
       go (Loose disk) = refl
       go Out = refl
 
-  in_push : (told : D → View) (seats : List (Seat D)) (own : List ℕ) (n : Stored D) → AreIn told seats → IsOf told own n → AreIn told (seats ++ seat own (Open n) ∷ [])
-  in_push told [] own n all of = (of, tt)
-  in_push told (s ∷ seats) own n all of = (all.0, in_push told seats own n all.1 of)
+  in_push : (tell : Bool) (told : D → View) (seats : List (Seat D)) (own : List ℕ) (n : Stored D) → AreIn tell told seats → IsOf tell told own n → AreIn tell told (seats ++ seat own (Open n) ∷ [])
+  in_push tell told [] own n all of = (of, tt)
+  in_push tell told (s ∷ seats) own n all of = (all.0, in_push tell told seats own n all.1 of)
 
 pub slots_on : (old new : List ℕ → Type 0) (own : List (List ℕ)) → SlotsStay old new → AllSlots old own → AllSlots new own
 slots_on old new [] stay all = tt
@@ -188,8 +188,8 @@ module _ {D : Type 0} (told : D → View) (lines : List Line) (start entry : Lis
       apart = so_far.apart;
       slots = slots_on slot slot2 (owners seats) stay so_far.slots;
       others = λ own none. alike_on (start own) (entry own) (entry2 own) (so_far.others own none) (all own);
-      shown = λ tells.
-          let s = so_far.shown (subst (AllTell start) parties tells) in
+      shown = λ tell tells.
+          let s = so_far.shown tell (λ t. subst (AllTell start) parties (tells t)) in
           record { seated = s.seated; members_are = s.members_are ∙ sym names; blank = subst (AllReadBlank start) (sym parties) s.blank };
     })
       where
@@ -203,29 +203,28 @@ module _ {D : Type 0} (told : D → View) (lines : List Line) (start entry : Lis
       parties : parties_in (take (i + 1) lines) ≡ parties_in (take i lines) ++ p.own ∷ []
       parties = parties_more lines i l lt is (Some p) at
 
-      tell : AllTell start (parties_in (take (i + 1) lines)) → AllTell start (parties_in (take i lines)) × Tells (start p.own)
-      tell tells = let both = tell_parts start (parties_in (take i lines)) (p.own ∷ []) (subst (AllTell start) parties tells) in (both.0, both.1.0)
+      told_both : AllTell start (parties_in (take (i + 1) lines)) → AllTell start (parties_in (take i lines)) × Tells (start p.own)
+      told_both tells = let both = tell_parts start (parties_in (take i lines)) (p.own ∷ []) (subst (AllTell start) parties tells) in (both.0, both.1.0)
 
       module _ (node : Stored D) (made : IsSetUp told (entry p.own) (full_member lines p) node) where
         here : Tells (start p.own) → Tells (entry p.own)
         here tells = ap is_some (alike_at p at).now ∙ tells
 
-        of : Tells (start p.own) → IsOf told p.own node
-        of tells = record {
-          named = ap own_of (made.member (here tells)) ∙ own_stays (new_member p) (loads_of p.own lines);
-          tells = made.tells ∙ here tells;
+        of : (tell : Bool) → (tell ≡ true → Tells (start p.own)) → IsOf tell told p.own node
+        of tell tells = record {
+          named = ap own_of made.member ∙ own_stays (new_member p) (loads_of p.own lines);
+          tells = λ t. made.tells ∙ here (tells t);
         }
 
-        shows : AllTell start (parties_in (take (i + 1) lines)) → ShowMembers told lines (take (i + 1) lines) start (seats ++ seat p.own (Open node) ∷ [])
-        shows tells =
-            let both = tell tells in
-            let s = so_far.shown both.0 in
+        shows : (tell : Bool) → (tell ≡ true → AllTell start (parties_in (take (i + 1) lines))) → ShowMembers tell told lines (take (i + 1) lines) start (seats ++ seat p.own (Open node) ∷ [])
+        shows tell tells =
+            let s = so_far.shown tell (λ t. (told_both (tells t)).0) in
             record {
-              seated = in_push told seats p.own node s.seated (of both.1);
+              seated = in_push tell told seats p.own node s.seated (of tell (λ t. (told_both (tells t)).1));
               members_are =
                   members_push seats p.own node
                   ∙ (ap (λ (ms : List Member). ms ++ member_of node ∷ []) s.members_are
-                  ∙ (ap (λ (m : Member). members_by lines (take i lines) ++ m ∷ []) (made.member (here both.1)) ∙ sym (members_more lines i l lt is (Some p) at)));
+                  ∙ (ap (λ (m : Member). members_by lines (take i lines) ++ m ∷ []) made.member ∙ sym (members_more lines i l lt is (Some p) at)));
               blank = subst (AllReadBlank start) (sym parties) (blank_push start (parties_in (take i lines)) p.own s.blank (λ image now. made.blank image ((alike_at p at).now ∙ now)));
             }
 

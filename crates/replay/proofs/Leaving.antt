@@ -1,5 +1,5 @@
 -- What an event leaves in the seat of its party.
-use Rattle.std.proofs.Common.{◌≡◌, ◌⊎◌, inl, inr, ℕ, ◌<◌, Bool, true, false, not, nat_eq, List, ◌++◌, Option, Some, None, Result, Ok, Err, IfOk, IfErr, sym, ◌∙◌, ap, subst}
+use Rattle.std.proofs.Common.{◌≡◌, ◌⊎◌, inl, inr, ℕ, ◌<◌, Bool, true, false, cond, not, nat_eq, List, ◌++◌, Option, Some, None, Result, Ok, Err, IfOk, IfErr, refl, sym, ◌∙◌, ap, subst}
 use Rattle.std.specs.Prelude.{option_to_list}
 use Rattle.x_base.specs.Edge.{Rose}
 use Rattle.x_base.specs.declared.verdict.Verdict.{Verdict}
@@ -10,7 +10,7 @@ use Rattle.key_journal.specs.States.{Failed}
 use Rattle.party_state.specs.declared.command.Input.{Input}
 use Rattle.key_store.specs.Store.{Stored, IsStore, space}
 use Rattle.change_code.specs.Cost.{is_change}
-use Rattle.member.specs.Member.{Plan, plan_at, after}
+use Rattle.member.specs.Member.{Member, Plan, plan_at, after}
 use Rattle.member.specs.Acts.{taking}
 use Rattle.node_core.specs.Planned.{PlannedNode}
 use Rattle.node_core.specs.Turns.{IsTurn, member_of}
@@ -18,10 +18,11 @@ use Rattle.node_core.specs.declared.node.Turn.TheVariants as turn
 use Rattle.world_laws.specs.Noted.{noted}
 use Rattle.course.specs.Stops.{KeepsChange, member_next}
 use Rattle.course.specs.declared.progress.Stop.{Stop}
-use Rattle.replay.specs.Events.{IsWhole, IsLeft, Begins, IsStoppedIn, IsStopLeft}
+use Rattle.replay.specs.Events.{IsWhole, IsLeft, AreExpected, Begins, IsStoppedIn, IsStopLeft}
 use Rattle.replay.specs.Failing.{IsFailing, ReadsEither, IsLost}
 use Rattle.replay.specs.Seats.{Fills}
 use Rattle.replay.specs.Stops.{IsResting, IsRestarted}
+use Rattle.replay.specs.declared.expecting.Expected.{Expected}
 use Rattle.replay.specs.declared.failure.Failure.{Failure}
 use Rattle.replay.specs.declared.failure.Failure.TheVariants as failure
 use Rattle.replay.specs.declared.scene.Scene.{Scene}
@@ -31,8 +32,8 @@ use Rattle.replay.specs.declared.stopped.Lost.{Lost}
 use Rattle.replay.proofs.Carrying.{done_or_not, broken_reads}
 use Rattle.replay.proofs.Images.{image_of}
 use Rattle.replay.proofs.Losing.{shelf_reads, lost_reads}
-use Rattle.replay.proofs.Planning.{takes_room}
-use Rattle.replay.proofs.Stopping.{rests_idle, stops}
+use Rattle.replay.proofs.Planning.{takes_room, keeps_or_not, same_next}
+use Rattle.replay.proofs.Stopping.{rests_idle, expected_found, stops}
 
 -- what is planned was carried out
 module _ {D : Type 0} (told : D → View) (p : PlannedNode D) (place : ℕ) where
@@ -63,19 +64,35 @@ module _ {D : Type 0} (told : D → View) (p : PlannedNode D) (place : ℕ) wher
   }
 
 -- the event was begun, and the power went
-module _ {D : Type 0} (told : D → View) (old new : List (Seat D)) (place : ℕ) (stop : Stop) (left : ℕ) (begun : Result D (Lost D)) (node : Stored D) (i : Option Input) (moment : ℕ) (b : Begins told node i moment stop.n left begun) where
+module _ {D : Type 0} (told : D → View) (old new : List (Seat D)) (place : ℕ) (stop : Stop) (e : Expected) (begun : Result D (Lost D)) (node : Stored D) (i : Option Input) (moment : ℕ) (b : Begins told node i moment stop.n e begun) where
   module _ (k : D) (is : begun ≡ Ok k) where
     rests : IsResting (told node.disk) (told k) (member_of node) (member_next (member_of node) i moment) (KeepsChange (member_of node) i moment) stop.n
     rests = subst (λ (r : Result D (Lost D)). IfOk r (λ (d : D). IsResting (told node.disk) (told d) (member_of node) (member_next (member_of node) i moment) (KeepsChange (member_of node) i moment) stop.n)) is b.rests
 
-    pub reopened : (again : D) (opened : Stored D) (before after seen_room : ℕ) → Fills old new place (Open opened) → IsAlike (told k) (told again) → IsRestarted (told again) (told opened.disk) stop.choice opened.gate opened.end opened.format opened.party → (0 < (told k).faults → Rose before after) → seen_room ≡ (space opened).room
-        → IsStoppedIn told old new place node i moment stop before after (not (nat_eq seen_room left))
-    reopened again opened before after seen_room fills alike restarted seen room_is = record {
-      opened = opened;
-      fills = fills;
-      stops = λ tells. stops told node opened (told k) (told again) (member_of node) (member_next (member_of node) i moment) (KeepsChange (member_of node) i moment) stop rests alike restarted before after seen
-          (takes_room (member_of node) i moment) (not (nat_eq seen_room left)) (λ j. not (nat_eq (room_is j) (b.left_is j))) tells;
-    }
+    module _ (again : D) (opened : Stored D) (before after : ℕ) (next : Bool) (alike : IsAlike (told k) (told again)) (restarted : IsRestarted (told again) (told opened.disk) stop.choice opened.gate opened.end opened.format opened.party)
+        (seen : 0 < (told k).faults → Rose before after) (next_is : next ≡ not (nat_eq (space opened).room e.before.space.room)) where
+      found : next ≡ not (nat_eq (space opened).room (member_of node).space.room)
+      found = next_is ∙ ap (λ (m : Member). not (nat_eq (space opened).room m.space.room)) b.expected.before
+
+      same_two : cond next e.after e.before ≡ cond next (member_next (member_of node) i moment) (member_of node)
+      same_two = λ j. cond next (b.expected.after j) (b.expected.before j)
+
+      pub reopened : Fills old new place (Open opened) → member_of opened ≡ cond next e.after e.before → IsStoppedIn told old new place node i moment stop before after next
+      reopened fills is = record {
+        opened = opened;
+        fills = fills;
+        stops = λ tell tells. stops told node opened (told k) (told again) (member_of node) (member_next (member_of node) i moment) (KeepsChange (member_of node) i moment) stop rests alike restarted before after seen
+            (takes_room (member_of node) i moment) next found (keeps_or_not (member_of node) i moment) (same_next (member_of node) i moment) (is ∙ same_two) tell tells;
+      }
+
+      -- another one was found, over a disk that tells nothing
+      pub left_other : (shelved : View) (why : Failure) → Fills old new place (Open opened) → (member_of opened ≡ cond next e.after e.before → ⊥) → IsStopLeft told shelved old new place node i moment why
+      left_other shelved why fills other = record {
+        held = Open opened;
+        fills = fills;
+        fails = λ tells. absurd (other (expected_found told node opened (told k) (told again) (member_of node) (member_next (member_of node) i moment) (KeepsChange (member_of node) i moment) stop rests alike restarted before after seen
+            (takes_room (member_of node) i moment) next found tells ∙ sym same_two));
+      }
 
     pub left_out : (shelved : View) (why : Failure) → IsFailing why → IsSound (told k) → IsAlike (told k) shelved → new ≡ old → IsStopLeft told shelved old new place node i moment why
     left_out shelved why failing sound alike same = record {
@@ -115,7 +132,7 @@ pub left_stopped : {D : Type 0} (told : D → View) (shelved : View) (old new : 
 left_stopped told shelved old new place node i moment stop before after next s = record {
   held = Open s.opened;
   fills = s.fills;
-  fails = λ tells. (tt, ((s.stops tells).tells, go (s.stops tells).fixed.kept (s.stops tells).cut));
+  fails = λ tells. (let t = s.stops true (λ same. tells) in (tt, (t.tells refl, go t.fixed.kept t.cut)));
 }
   where
     go : (next ≡ true → KeepsChange (member_of node) i moment) → ((next ≡ false) × (member_of s.opened ≡ member_of node)) ⊎ ((next ≡ true) × (member_of s.opened ≡ member_next (member_of node) i moment))
@@ -124,20 +141,20 @@ left_stopped told shelved old new place node i moment stop before after next s =
     go kept (inr two) = inr (kept two.0, two.1)
 
 -- what is planned was begun
-module _ {D : Type 0} (told : D → View) (p : PlannedNode D) (i : Input) (moment n left : ℕ) (begun : Result D (Lost D)) (planned : p.plan ≡ plan_at (member_of p.node) i moment) where
-  pub begins_so : left ≡ (space p.node).room → IfOk begun (λ disk. IsResting (told p.node.disk) (told disk) (member_of p.node) (after (member_of p.node) p.plan.edits) (is_change p.plan.edits ≡ true) n) → IfErr begun (λ lost. IsFailing lost.why)
-      → IfErr begun (λ lost. Tells (told p.node.disk) → ReadsEither (told lost.disk) (member_of p.node) (after (member_of p.node) p.plan.edits) (is_change p.plan.edits ≡ true)) → Begins told p.node (Some i) moment n left begun
-  begins_so left_is rests failing reads = record {
-    left_is = left_is;
-    rests = subst (λ (q : Plan). IfOk begun (λ disk. IsResting (told p.node.disk) (told disk) (member_of p.node) (after (member_of p.node) q.edits) (is_change q.edits ≡ true) n)) planned rests;
+module _ {D : Type 0} (told : D → View) (p : PlannedNode D) (node : Stored D) (i : Input) (moment n : ℕ) (e : Expected) (begun : Result D (Lost D)) (is : p ≡ record { node = node; plan = plan_at (member_of node) i moment }) where
+  pub begins_of : AreExpected e (member_of node) (Some i) moment → IfOk begun (λ disk. IsResting (told p.node.disk) (told disk) (member_of p.node) (after (member_of p.node) p.plan.edits) (is_change p.plan.edits ≡ true) n) → IfErr begun (λ lost. IsFailing lost.why)
+      → IfErr begun (λ lost. Tells (told p.node.disk) → ReadsEither (told lost.disk) (member_of p.node) (after (member_of p.node) p.plan.edits) (is_change p.plan.edits ≡ true)) → Begins told node (Some i) moment n e begun
+  begins_of expected rests failing reads = record {
+    expected = expected;
+    rests = subst (λ (q : PlannedNode D). IfOk begun (λ disk. IsResting (told q.node.disk) (told disk) (member_of q.node) (after (member_of q.node) q.plan.edits) (is_change q.plan.edits ≡ true) n)) is rests;
     failing = failing;
-    reads = subst (λ (q : Plan). IfErr begun (λ lost. Tells (told p.node.disk) → ReadsEither (told lost.disk) (member_of p.node) (after (member_of p.node) q.edits) (is_change q.edits ≡ true))) planned reads;
+    reads = subst (λ (q : PlannedNode D). IfErr begun (λ lost. Tells (told q.node.disk) → ReadsEither (told lost.disk) (member_of q.node) (after (member_of q.node) q.plan.edits) (is_change q.plan.edits ≡ true))) is reads;
   }
 
 -- nothing is begun of an event of which nothing is heard
-pub begins_idle : {D : Type 0} (told : D → View) (node : Stored D) (k : D) (moment n left : ℕ) → left ≡ (space node).room → k ≡ node.disk → IsDurable (told k) → IsStore (told node.disk) node.gate node.end node.format node.party → Begins told node None moment n left (Ok k)
-begins_idle {D = D} told node k moment n left left_is is durable stands = record {
-  left_is = left_is;
+pub begins_idle : {D : Type 0} (told : D → View) (node : Stored D) (k : D) (moment n : ℕ) (e : Expected) → AreExpected e (member_of node) None moment → k ≡ node.disk → IsDurable (told k) → IsStore (told node.disk) node.gate node.end node.format node.party → Begins told node None moment n e (Ok k)
+begins_idle {D = D} told node k moment n e expected is durable stands = record {
+  expected = expected;
   rests = subst (λ (j : D). IsResting (told node.disk) (told j) (member_of node) (member_of node) ⊥ n) (sym is) (rests_idle (told node.disk) (member_of node) n (subst (λ (j : D). IsDurable (told j)) is durable) (image_of (told node.disk) node.gate node.end node.format node.party stands));
   failing = tt;
   reads = tt;

@@ -71,11 +71,11 @@ module _ {D : Type 0} where
       go false lt is = subst (λ (l : List (Seat D)). NoneOf l own) (take_all (position_or_len (bytes_eq own) (owners seats)) seats (omega (arith, ltb-false _ _ lt, count_owners seats))) (first_of seats own).none
 
   -- an identity without a seat has no member
-  pub none_found : (told : D → View) (own : List ℕ) (seats : List (Seat D)) → AreIn told seats → NoneOf seats own → member_at own (members seats) ≡ None
-  none_found told own [] all none = refl
-  none_found told own (s ∷ seats) all none = go s.held all.0 (none_found told own seats all.1 none.1)
+  pub none_found : (tell : Bool) (told : D → View) (own : List ℕ) (seats : List (Seat D)) → AreIn tell told seats → NoneOf seats own → member_at own (members seats) ≡ None
+  none_found tell told own [] all none = refl
+  none_found tell told own (s ∷ seats) all none = go s.held all.0 (none_found tell told own seats all.1 none.1)
     where
-      go : (h : Held D) → IsIn told s.own h → member_at own (members seats) ≡ None → member_at own (with_held h (members seats)) ≡ None
+      go : (h : Held D) → IsIn tell told s.own h → member_at own (members seats) ≡ None → member_at own (with_held h (members seats)) ≡ None
       go (Open m) is rest = cond_not (bytes_eq own m.party.own) (Some (member_of m)) _ (same_not own m.party.own (λ same. none.0 (sym is.named ∙ sym same))) ∙ rest
       go (Loose disk) is rest = absurd is
       go Out is rest = absurd is

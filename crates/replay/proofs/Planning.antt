@@ -1,5 +1,5 @@
 -- What is known of a plan: its edits fit, and its lead is the party's.
-use Rattle.std.proofs.Common.{◌≡◌, ◌≢◌, ℕ, ◌+◌, ◌-◌, ◌≤◌, Bool, true, false, cond, List, [], ◌∷◌, length, Option, Some, None, refl, arith}
+use Rattle.std.proofs.Common.{◌≡◌, ◌≢◌, ◌⊎◌, inl, inr, ℕ, ◌+◌, ◌-◌, ◌≤◌, Bool, true, false, cond, List, [], ◌∷◌, length, Option, Some, None, refl, arith}
 use Rattle.std.proofs.lemmas.Bool.{leb-true}
 use Rattle.party_state.specs.declared.command.Input.{Input}
 use Rattle.party_state.specs.declared.decision.Decision.{Decision}
@@ -50,3 +50,12 @@ less_room x (e ∷ es) change fit = λ same.
 pub takes_room : (x : Member) (i : Option Input) (moment : ℕ) → KeepsChange x i moment → (member_next x i moment).space.room ≢ x.space.room
 takes_room x None moment keep = absurd keep
 takes_room x (Some i) moment keep = less_room x (plan_at x i moment).edits keep (plan_fits x i moment)
+
+-- a change is kept or not, and where none is, the member stays
+pub keeps_or_not : (x : Member) (i : Option Input) (moment : ℕ) → KeepsChange x i moment ⊎ (KeepsChange x i moment → ⊥)
+keeps_or_not x None moment = inr (λ keep. absurd keep)
+keeps_or_not x (Some i) moment = changes_or_not (plan_at x i moment).edits (KeepsChange x (Some i) moment ⊎ (KeepsChange x (Some i) moment → ⊥)) (λ some. inl some) (λ none. inr none)
+
+pub same_next : (x : Member) (i : Option Input) (moment : ℕ) → (KeepsChange x i moment → ⊥) → member_next x i moment ≡ x
+same_next x None moment none = refl
+same_next x (Some i) moment none = same_none x (plan_at x i moment).edits none

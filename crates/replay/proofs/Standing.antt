@@ -16,7 +16,7 @@ use Rattle.replay.proofs.Members.{cond_yes, cond_not}
 module _ {D : Type 0} (told : D → View) (old entry : List ℕ → View) where
   back_reads : (own : List ℕ) (h : Held D) (x : Member) → IsBack told old entry own h → StandsFor told old own h x → ReadsAs (entry own) x
   back_reads own (Open node) x back stands = record {
-    tells = ap is_some back.0.now ∙ stands.0.tells;
+    tells = ap is_some back.0.now ∙ stands.0.tells refl;
     stands = λ image now. subst (λ (m : Member). IsImageOf m image) stands.1 (image_of (told node.disk) node.gate node.end node.format node.party back.1 image (sym back.0.now ∙ now));
   }
   back_reads own (Loose disk) x back stands = record { tells = ap is_some back.now ∙ stands.1.tells; stands = λ image now. stands.1.stands image (sym back.now ∙ now) }

@@ -1,5 +1,5 @@
 -- An event that breaks off, or whose lines aren't all written, is one of the network.
-use Rattle.std.proofs.Common.{arith, ◌≡◌, ◌≤◌, inl, inr, ℕ, ◌+◌, List, [], ◌++◌, length, take, Option, Some, None, slice_get, refl, sym, ◌∙◌, ap, ap₂, subst}
+use Rattle.std.proofs.Common.{arith, ◌≡◌, ◌≤◌, inl, inr, ℕ, ◌+◌, Bool, true, List, [], ◌++◌, length, take, Option, Some, None, slice_get, refl, sym, ◌∙◌, ap, ap₂, subst}
 use Rattle.std.proofs.lemmas.List.{append-nil}
 use Rattle.x_base.specs.Edge.{AppendsTo, WrotePrefix}
 use Rattle.x_disk.specs.Disk.{View}
@@ -41,10 +41,10 @@ use Rattle.replay.proofs.Leading.{appends_more}
 module _ {D : Type 0} (told : D → View) (entry : List ℕ → View) (old new : Scene D) where
   -- an honest event broke off
   pub breaks_honest : (place : ℕ) (i : Option Input) (moment : ℕ) (why : Failure)
-      → ((w : World) (own : List ℕ) → IsPlace old.parties own place → Shows told w old → (x : Member) × (member_at own w.members ≡ Some x) × HonestInput w.facts x.party i)
+      → ((tell : Bool) (w : World) (own : List ℕ) → IsPlace old.parties own place → Shows tell told w old → (x : Member) × (member_at own w.members ≡ Some x) × HonestInput w.facts x.party i)
       → BreaksOff told entry old new place i moment why → BreaksHonest told entry old new place i moment why
   breaks_honest place i moment why honest breaks = λ w n own is_place shows.
-      let h = honest w own is_place shows in
+      let h = honest true w own is_place shows in
       let b = breaks w n own is_place shows in
       let one : Some h.0 ≡ Some b.1.member = sym h.1 ∙ b.1.at in
       let same : h.0 ≡ b.1.member = cc one in
@@ -52,7 +52,7 @@ module _ {D : Type 0} (told : D → View) (entry : List ℕ → View) (old new :
 
   module _ (now : Progress) (why : Failure) where
     broken_act : (party : List ℕ) (place number : ℕ) (action : Action) → IsNumbered action number → IsPlace old.parties party place → BreaksHonest told entry old new place (input_in action) now.moment why
-        → (c : Course) → c.now ≡ now → Shows told c.world old → IsFailing why × IsBrokenAct told entry c new.parties (At party action)
+        → (c : Course) → c.now ≡ now → Shows true told c.world old → IsFailing why × IsBrokenAct told entry c new.parties (At party action)
     broken_act party place number action numbered is_place breaks c is shows =
         let b = breaks c.world c.now.number party is_place shows in
         let moment : now.moment ≡ c.now.moment = sym (ap (λ (q : Progress). q.moment) is) in
@@ -108,11 +108,11 @@ none_fair c h e is = record {
   honest = subst (λ (d : Event). HonestAt c.world.facts (member_at d.party c.world.members) d.action) (sym is) (quiet_honest c);
 }
 
-fair_by : (before after : ℕ) (c : Course) (h : Happening) (e : Event) (o : Outcome) → IsDone before after c h e o → IsFair c h e
+fair_by : (before after : ℕ) (c : Course) (h : Happening) (e : Event) (o : Outcome) → IsDone true before after c h e o → IsFair c h e
 fair_by before after c Nothing e o done = none_fair c Nothing e done.0
 fair_by before after c (At own action) e o done = go (member_at own c.world.members) refl done
   where
-    go : (m : Option Member) → member_at own c.world.members ≡ m → IsDoneBy before after c own m action e o → IsFair c (At own action) e
+    go : (m : Option Member) → member_at own c.world.members ≡ m → IsDoneBy true before after c own m action e o → IsFair c (At own action) e
     go None is d = none_fair c (At own action) e d.0
     go (Some x) is d = subst (IsFair c (At own action)) (sym d.is) (record {
       is = inr refl;
@@ -136,7 +136,7 @@ wrote_none (Some xs) text = (0, omega arith, ap Some (sym (append-nil xs)))
 
 -- an event broke off, from whichever course the old scene and sink show; `entry` is the shelf's afterwards
 abbrev pub BreaksEvent : {D : Type 0} → (D → View) → (List ℕ → View) → ℕ → ℕ → Act → Scene D → Scene D → Progress → Option (List ℕ) → Option (List ℕ) → Ending → Type 0
-BreaksEvent told entry low high a old new p written next why = (before after : ℕ) → before ≤ low → high ≤ after → (start : Option (List ℕ)) (c : Course) (h : Happening) → IsAt told start c old p written → Means a h
+BreaksEvent told entry low high a old new p written next why = (before after : ℕ) → before ≤ low → high ≤ after → (start : Option (List ℕ)) (c : Course) (h : Happening) → IsAt true told start c old p written → Means a h
     → IsBreak why × IsBrokenAt told entry before after start c h new next why
 
 module _ {D : Type 0} (told : D → View) (entry : List ℕ → View) (low high : ℕ) (old new : Scene D) (p : Progress) (written next : Option (List ℕ)) where
@@ -161,7 +161,7 @@ module _ {D : Type 0} (told : D → View) (entry : List ℕ → View) (low high 
   pub lines_break : (a : Act) (o : Outcome) (k : ℕ) (text : Option (List ℕ)) (why : Ending) → Acts told low high a old new p o → k ≡ length old.texts → text ≡ slice_get new.texts k → IsBreak why
       → WrotePrefix written next (outcome_line p.number o ++ text_line (k + 1) text) → BreaksEvent told entry low high a old new p written next why
   lines_break a o k text why acts k_is text_is is_break wrote = λ before after first last start c h at means.
-      let m = acts before after first last c h at.now_is at.shows means in
+      let m = acts true before after first last c h at.now_is at.shows means in
       let count : k ≡ length c.world.texts = k_is ∙ ap length at.shows.texts_are in
       let behind : text ≡ written_between c.world.texts (step c.now.number c.world m.event).texts = text_is ∙ ap₂ (λ (l : List (List ℕ)) (n : ℕ). slice_get l n) m.shows.texts_are count in
       let lines : outcome_line p.number o ++ text_line (k + 1) text ≡ event_lines c.now.number o c.world.texts (step c.now.number c.world m.event).texts =

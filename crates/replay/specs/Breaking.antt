@@ -1,5 +1,5 @@
 -- A play that ends early: for what the disks stand, and what was written (this project's profile).
-use Rattle.std.specs.Prelude.{◌≡◌, ◌≤◌, ◌++◌, ℕ, List, [], ◌∷◌, Option, Some}
+use Rattle.std.specs.Prelude.{◌≡◌, ◌≤◌, ◌++◌, ℕ, true, List, [], ◌∷◌, Option, Some}
 use Rattle.x_base.specs.Edge.{AppendsTo}
 use Rattle.x_disk.specs.Disk.{View, Tells}
 use Rattle.scenario.specs.declared.line.Line.{Line}
@@ -34,7 +34,7 @@ AreOnShelf entry members = (own : List ℕ) (x : Member) → member_at own membe
 
 -- what is held of a party, or its disk on the shelf where nothing is held, stands for this member
 abbrev pub StandsFor : {D : Type 0} → (D → View) → (List ℕ → View) → List ℕ → Held D → Member → Type 0
-StandsFor told entry own (Open node) x = IsOf told own node × (member_of node ≡ x)
+StandsFor told entry own (Open node) x = IsOf true told own node × (member_of node ≡ x)
 StandsFor told entry own (Loose disk) x = (x.party.own ≡ own) × ReadsAs (told disk) x
 StandsFor told entry own Out x = (x.party.own ≡ own) × ReadsAs (entry own) x
 
@@ -72,11 +72,11 @@ pub record IsBrokenIn {D : Type 0} (told : D → View) (entry : List ℕ → Vie
   pub back : List Line
   pub split : lines ≡ front ++ line ∷ back
   pub mid : Course
-  pub leads : Leads before after front c mid
+  pub leads : Leads true before after front c mid
   pub happening : Happening
   pub happens : HappensOr line mid.world.texts happening
   pub broken : IsBrokenAt told entry before after start mid happening new written why
 
 abbrev pub BreaksIn : {D : Type 0} → (D → View) → (List ℕ → View) → ℕ → ℕ → List Line → Scene D → Scene D → Progress → Option (List ℕ) → Option (List ℕ) → Ending → Type 0
-BreaksIn told entry low high lines old new p written next why = (before after : ℕ) → before ≤ low → high ≤ after → (start : Option (List ℕ)) (c : Course) → IsAt told start c old p written
+BreaksIn told entry low high lines old new p written next why = (before after : ℕ) → before ≤ low → high ≤ after → (start : Option (List ℕ)) (c : Course) → IsAt true told start c old p written
     → IsBreak why × IsBrokenIn told entry before after start lines c new next why

@@ -1,5 +1,5 @@
 -- An event that breaks off: in its seat, in the network and over its line (this project's profile).
-use Rattle.std.specs.Prelude.{◌≡◌, ℕ, List, Option, Some}
+use Rattle.std.specs.Prelude.{◌≡◌, ℕ, true, List, Option, Some}
 use Rattle.x_disk.specs.Disk.{View}
 use Rattle.party_state.specs.declared.command.Input.{Input}
 use Rattle.member.specs.Member.{Member}
@@ -32,11 +32,11 @@ pub record IsBrokenOff {D : Type 0} (told : D → View) (entry : List ℕ → Vi
 
 -- whichever network the old scene shows
 abbrev pub BreaksOff : {D : Type 0} → (D → View) → (List ℕ → View) → Scene D → Scene D → ℕ → Option Input → ℕ → Failure → Type 0
-BreaksOff told entry old new place i moment why = (w : World) (n : ℕ) (own : List ℕ) → IsPlace old.parties own place → Shows told w old → IsFailing why × IsBrokenOff told entry w n own new.parties i moment
+BreaksOff told entry old new place i moment why = (w : World) (n : ℕ) (own : List ℕ) → IsPlace old.parties own place → Shows true told w old → IsFailing why × IsBrokenOff told entry w n own new.parties i moment
 
 -- and the event is honest
 abbrev pub BreaksHonest : {D : Type 0} → (D → View) → (List ℕ → View) → Scene D → Scene D → ℕ → Option Input → ℕ → Failure → Type 0
-BreaksHonest told entry old new place i moment why = (w : World) (n : ℕ) (own : List ℕ) → IsPlace old.parties own place → Shows told w old
+BreaksHonest told entry old new place i moment why = (w : World) (n : ℕ) (own : List ℕ) → IsPlace old.parties own place → Shows true told w old
     → IsFailing why × (b : IsBrokenOff told entry w n own new.parties i moment) × HonestInput w.facts b.member.party i
 
 -- an honest event of what happens, whole or cut, or none has begun; the seats, and the shelf, stand for the network behind it
@@ -48,4 +48,4 @@ pub record IsBrokenAct {D : Type 0} (told : D → View) (entry : List ℕ → Vi
 
 -- from every course that the old scene shows
 abbrev pub BreaksAct : {D : Type 0} → (D → View) → (List ℕ → View) → Act → Scene D → Scene D → Progress → Failure → Type 0
-BreaksAct told entry a old new now why = (c : Course) (h : Happening) → c.now ≡ now → Shows told c.world old → Means a h → IsFailing why × IsBrokenAct told entry c new.parties h
+BreaksAct told entry a old new now why = (c : Course) (h : Happening) → c.now ≡ now → Shows true told c.world old → Means a h → IsFailing why × IsBrokenAct told entry c new.parties h

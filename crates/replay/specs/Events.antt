@@ -19,6 +19,7 @@ use Rattle.replay.specs.declared.scene.Scene.{Scene}
 use Rattle.replay.specs.declared.seat.Seat.{Seat}
 use Rattle.replay.specs.declared.seat.Held.{Held}
 use Rattle.replay.specs.declared.seat.Held.TheVariants.{Open, Loose, Out}
+use Rattle.replay.specs.declared.expecting.Expected.{Expected}
 use Rattle.replay.specs.declared.stopped.Lost.{Lost}
 
 -- the party took its seat as it is after the event; what was planned to be written is among the texts, and its fact is noted
@@ -56,9 +57,14 @@ pub record IsLeft {D : Type 0} (told : D → View) (p : PlannedNode D) (old new 
   pub fills : Fills old new place held
   pub fails : Tells (told p.node.disk) → IsFailing why × HoldsEither told held (member_of p.node) (after (member_of p.node) p.plan.edits) (is_change p.plan.edits ≡ true)
 
--- on the disk that is begun an event of this member was carried out up to a call, or it failed
-pub record Begins {D : Type 0} (told : D → View) (node : Stored D) (i : Option Input) (moment n left : ℕ) (begun : Result D (Lost D)) : Type 0 where
-  pub left_is : left ≡ (space node).room
+-- these are the members of which one stands after a stopped event of this member
+pub record AreExpected (e : Expected) (x : Member) (i : Option Input) (moment : ℕ) : Type 0 where
+  pub before : e.before ≡ x
+  pub after : e.after ≡ member_next x i moment
+
+-- on the disk that is begun an event of this member was carried out up to a call, or it failed; these are expected behind it
+pub record Begins {D : Type 0} (told : D → View) (node : Stored D) (i : Option Input) (moment n : ℕ) (e : Expected) (begun : Result D (Lost D)) : Type 0 where
+  pub expected : AreExpected e (member_of node) i moment
   pub rests : IfOk begun (λ disk. IsResting (told node.disk) (told disk) (member_of node) (member_next (member_of node) i moment) (KeepsChange (member_of node) i moment) n)
   pub failing : IfErr begun (λ lost. IsFailing lost.why)
   pub reads : IfErr begun (λ lost. Tells (told node.disk) → ReadsEither (told lost.disk) (member_of node) (member_next (member_of node) i moment) (KeepsChange (member_of node) i moment))
@@ -67,7 +73,7 @@ pub record Begins {D : Type 0} (told : D → View) (node : Stored D) (i : Option
 pub record IsStoppedIn {D : Type 0} (told : D → View) (old new : List (Seat D)) (place : ℕ) (node : Stored D) (i : Option Input) (moment : ℕ) (stop : Stop) (before after : ℕ) (next : Bool) : Type 0 where
   pub opened : Stored D
   pub fills : Fills old new place (Open opened)
-  pub stops : Tells (told node.disk) → IsStopped told (member_of node) (member_next (member_of node) i moment) (KeepsChange (member_of node) i moment) stop before after opened next
+  pub stops : (tell : Bool) → (tell ≡ true → Tells (told node.disk)) → IsStopped tell told (member_of node) (member_next (member_of node) i moment) (KeepsChange (member_of node) i moment) stop before after opened next
 
 abbrev pub IsStopLeft : {D : Type 0} → (D → View) → View → List (Seat D) → List (Seat D) → ℕ → Stored D → Option Input → ℕ → Failure → Type 0
 IsStopLeft told shelved old new place node i moment why = IsBrokenIn told shelved old new place node (member_of node) (member_next (member_of node) i moment) (KeepsChange (member_of node) i moment) why

@@ -1,6 +1,6 @@
 -- A play over the open disks to its end: the lines, and the show lines behind them; and what is answered (this project's
 -- profile).
-use Rattle.std.specs.Prelude.{◌⊎◌, ◌≤◌, ◌++◌, ℕ, List, take, Option, Result, Ok, Err}
+use Rattle.std.specs.Prelude.{◌⊎◌, ◌≤◌, ◌++◌, ℕ, Bool, true, List, take, Option, Result, Ok, Err}
 use Rattle.x_base.specs.Edge.{AppendsTo}
 use Rattle.x_disk.specs.Disk.{View}
 use Rattle.scenario.specs.declared.line.Line.{Line}
@@ -24,17 +24,17 @@ use Rattle.replay.specs.declared.failure.Failure.TheVariants as failure
 use Rattle.replay.specs.declared.result.PlayResult.TheVariants as played
 
 -- the lines led to a course that the new scene shows; its transcript was written with the show lines behind it
-pub record IsFinished {D : Type 0} (told : D → View) (before after : ℕ) (start : Option (List ℕ)) (lines : List Line) (c : Course) (new : Scene D) (written : Option (List ℕ)) (tally : Tally) : Type 0 where
+pub record IsFinished {D : Type 0} (tell : Bool) (told : D → View) (before after : ℕ) (start : Option (List ℕ)) (lines : List Line) (c : Course) (new : Scene D) (written : Option (List ℕ)) (tally : Tally) : Type 0 where
   pub course : Course
-  pub leads : Leads before after lines c course
-  pub shows : Shows told course.world new
+  pub leads : Leads tell before after lines c course
+  pub shows : Shows tell told course.world new
   pub out : AppendsTo start written (course.transcript ++ show_lines course.world.members)
   pub tallied : IsTallied course.now course.world.members tally
 
 -- the lines led to a course for which the disks stand; a beginning of the show lines is out
 pub record IsUnshown {D : Type 0} (told : D → View) (entry : List ℕ → View) (before after : ℕ) (start : Option (List ℕ)) (lines : List Line) (c : Course) (new : Scene D) (written : Option (List ℕ)) : Type 0 where
   pub course : Course
-  pub leads : Leads before after lines c course
+  pub leads : Leads true before after lines c course
   pub stands : StandForAll told entry new.parties course.world.members
   pub shown : ℕ
   pub out : AppendsTo start written (course.transcript ++ take shown (show_lines course.world.members))
@@ -42,11 +42,11 @@ pub record IsUnshown {D : Type 0} (told : D → View) (entry : List ℕ → View
 -- the same from whichever course the old scene and sink show; `entry` is the shelf's afterwards
 
 abbrev pub Finishes : {D : Type 0} → (D → View) → ℕ → ℕ → List Line → Scene D → Scene D → Progress → Option (List ℕ) → Option (List ℕ) → Tally → Type 0
-Finishes told low high lines old new p written next tally = (before after : ℕ) → before ≤ low → high ≤ after → (start : Option (List ℕ)) (c : Course) → IsAt told start c old p written
-    → IsFinished told before after start lines c new next tally
+Finishes told low high lines old new p written next tally = (tell : Bool) (before after : ℕ) → before ≤ low → high ≤ after → (start : Option (List ℕ)) (c : Course) → IsAt tell told start c old p written
+    → IsFinished tell told before after start lines c new next tally
 
 abbrev pub BreaksPlay : {D : Type 0} → (D → View) → (List ℕ → View) → ℕ → ℕ → List Line → Scene D → Scene D → Progress → Option (List ℕ) → Option (List ℕ) → Ending → Type 0
-BreaksPlay told entry low high lines old new p written next why = (before after : ℕ) → before ≤ low → high ≤ after → (start : Option (List ℕ)) (c : Course) → IsAt told start c old p written
+BreaksPlay told entry low high lines old new p written next why = (before after : ℕ) → before ≤ low → high ≤ after → (start : Option (List ℕ)) (c : Course) → IsAt true told start c old p written
     → IsBreak why × (IsBrokenIn told entry before after start lines c new next why ⊎ IsUnshown told entry before after start lines c new next)
 
 -- an end that came before stays, where a disk can't be put back

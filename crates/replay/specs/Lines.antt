@@ -1,5 +1,5 @@
 -- Lines are played over the open disks (this project's profile).
-use Rattle.std.specs.Prelude.{◌≤◌, ℕ, List, Option}
+use Rattle.std.specs.Prelude.{◌≤◌, ℕ, Bool, List, Option}
 use Rattle.x_disk.specs.Disk.{View}
 use Rattle.scenario.specs.declared.line.Line.{Line}
 use Rattle.course.specs.Course.{Course, Leads}
@@ -8,13 +8,13 @@ use Rattle.course.specs.declared.progress.Progress.{Progress}
 use Rattle.replay.specs.declared.scene.Scene.{Scene}
 use Rattle.course.specs.Lines.{IsForgedIn}
 
--- from every course that the old scene and sink show, the lines lead to one that the new ones show; between counts of the
--- shelf's faults that hold these two
+-- from every course that the old scene and sink show, the lines lead to one that the new ones show, whether the disks tell
+-- their bytes or not; between counts of the shelf's faults that hold these two
 abbrev pub Plays : {D : Type 0} → (D → View) → ℕ → ℕ → List Line → Scene D → Scene D → Progress → Progress → Option (List ℕ) → Option (List ℕ) → Type 0
-Plays told low high lines old new p q written next = (before after : ℕ) → before ≤ low → high ≤ after → (start : Option (List ℕ)) (c : Course) → IsAt told start c old p written
-    → (e : Course) × Leads before after lines c e × IsAt told start e new q next
+Plays told low high lines old new p q written next = (tell : Bool) (before after : ℕ) → before ≤ low → high ≤ after → (start : Option (List ℕ)) (c : Course) → IsAt tell told start c old p written
+    → (e : Course) × Leads tell before after lines c e × IsAt tell told start e new q next
 
 -- or they lead up to a line that is forged
 abbrev pub ForgesIn : {D : Type 0} → (D → View) → ℕ → ℕ → List Line → Scene D → Scene D → Progress → Option (List ℕ) → Option (List ℕ) → ℕ → Type 0
-ForgesIn told low high lines old new p written next number = (before after : ℕ) → before ≤ low → high ≤ after → (start : Option (List ℕ)) (c : Course) → IsAt told start c old p written
-    → (e : Course) × (q : Progress) × IsForgedIn before after lines c e number × IsAt told start e new q next
+ForgesIn told low high lines old new p written next number = (tell : Bool) (before after : ℕ) → before ≤ low → high ≤ after → (start : Option (List ℕ)) (c : Course) → IsAt tell told start c old p written
+    → (e : Course) × (q : Progress) × IsForgedIn tell before after lines c e number × IsAt tell told start e new q next

@@ -1,5 +1,5 @@
 -- What the playing of a scenario answers, and what it leaves (this project's profile).
-use Rattle.std.specs.Prelude.{◌≡◌, ◌⊎◌, ◌++◌, ℕ, List, [], ◌∷◌, take, Option, Some}
+use Rattle.std.specs.Prelude.{◌≡◌, ◌⊎◌, ◌++◌, ℕ, true, false, List, [], ◌∷◌, take, Option, Some}
 use Rattle.x_base.specs.Edge.{AppendsTo}
 use Rattle.x_disk.specs.Disk.{View, IsDurable}
 use Rattle.scenario.specs.declared.line.Line.{Line}
@@ -44,7 +44,7 @@ around lines entry before after start written = record { lines = lines; entry = 
 -- all lines were played: to this course, whose transcript was written, with the show lines behind it
 pub record IsPlayed (s : Surroundings) (tally : Tally) : Type 0 where
   pub course : Course
-  pub leads : Leads s.before s.after s.lines (start_course s.lines) course
+  pub leads : Leads true s.before s.after s.lines (start_course s.lines) course
   pub images : AreOnShelf s.entry course.world.members
   pub durable : AreDurable s.entry course.world.members
   pub out : AppendsTo s.start s.written (course.transcript ++ show_lines course.world.members)
@@ -53,7 +53,7 @@ pub record IsPlayed (s : Surroundings) (tally : Tally) : Type 0 where
 -- the event of this number is forged: the lines before it led to this course, and nothing else was written
 pub record IsPlayedToForged (s : Surroundings) (number : ℕ) : Type 0 where
   pub course : Course
-  pub forged : IsForgedIn s.before s.after s.lines (start_course s.lines) course number
+  pub forged : IsForgedIn true s.before s.after s.lines (start_course s.lines) course number
   pub images : AreOnShelf s.entry course.world.members
   pub durable : AreDurable s.entry course.world.members
   pub out : AppendsTo s.start s.written course.transcript
@@ -86,7 +86,7 @@ pub record IsBrokenPlay (s : Surroundings) : Type 0 where
   pub back : List Line
   pub split : s.lines ≡ front ++ back
   pub course : Course
-  pub leads : Leads s.before s.after front (start_course s.lines) course
+  pub leads : Leads true s.before s.after front (start_course s.lines) course
   pub broken : IsBrokenAhead s back course
 
 -- where the sink failed at a line, its event is done
@@ -117,6 +117,26 @@ WereBlank old s = AllReadBlank old (parties_in s.lines)
 -- the set-up broke off, or the play behind it
 abbrev pub IsBroken : (List ℕ → View) → Surroundings → Type 0
 IsBroken old s = IsBrokenSetUp old s ⊎ (WereBlank old s × IsBrokenPlay s)
+
+-- over every shelf all lines were played, in an order of events in which a stopped one is cut in either way: to this course,
+-- whose transcript was written, with the show lines behind it
+pub record IsRun (s : Surroundings) (tally : Tally) : Type 0 where
+  pub course : Course
+  pub leads : Leads false s.before s.after s.lines (start_course s.lines) course
+  pub out : AppendsTo s.start s.written (course.transcript ++ show_lines course.world.members)
+  pub tallied : IsTallied course.now course.world.members tally
+
+-- the same up to the forged event of this number; nothing else was written
+pub record IsRunToForged (s : Surroundings) (number : ℕ) : Type 0 where
+  pub course : Course
+  pub forged : IsForgedIn false s.before s.after s.lines (start_course s.lines) course number
+  pub out : AppendsTo s.start s.written course.transcript
+
+-- what the answer says over every shelf
+abbrev pub IsRunBy : Surroundings → PlayResult → Type 0
+IsRunBy s (played.Done tally) = IsRun s tally
+IsRunBy s (played.Forged number) = IsRunToForged s number
+IsRunBy s r = Unit {0}
 
 -- what the answer says, where the disk of each party told its bytes
 abbrev pub IsPlay : (List ℕ → View) → Surroundings → PlayResult → Type 0

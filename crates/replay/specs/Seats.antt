@@ -1,5 +1,5 @@
 -- Seats, in the order of their parties: what is held of each.
-use Rattle.std.specs.Prelude.{◌≡◌, ◌≢◌, ℕ, List, [], ◌∷◌, ◌++◌, length, get_or}
+use Rattle.std.specs.Prelude.{◌≡◌, ◌≢◌, ℕ, Bool, true, List, [], ◌∷◌, ◌++◌, length, get_or}
 use Rattle.x_disk.specs.Disk.{View, Tells}
 use Rattle.party_state.specs.State.{Party}
 use Rattle.key_store.specs.Store.{Stored}
@@ -22,19 +22,19 @@ abbrev pub members : {D : Type 0} → List (Seat D) → List Member
 members [] = []
 members (s ∷ seats) = with_held s.held (members seats)
 
--- the disk is open and tells its bytes, and its party is the one whose seat this is
-pub record IsOf {D : Type 0} (told : D → View) (own : List ℕ) (node : Stored D) : Type 0 where
+-- the disk is open, and its party is the one whose seat this is; where the disks tell their bytes, it does
+pub record IsOf {D : Type 0} (tell : Bool) (told : D → View) (own : List ℕ) (node : Stored D) : Type 0 where
   pub named : node.party.own ≡ own
-  pub tells : Tells (told node.disk)
+  pub tells : tell ≡ true → Tells (told node.disk)
 
-abbrev pub IsIn : {D : Type 0} → (D → View) → List ℕ → Held D → Type 0
-IsIn told own (Open node) = IsOf told own node
-IsIn told own (Loose disk) = ⊥
-IsIn told own Out = ⊥
+abbrev pub IsIn : {D : Type 0} → Bool → (D → View) → List ℕ → Held D → Type 0
+IsIn tell told own (Open node) = IsOf tell told own node
+IsIn tell told own (Loose disk) = ⊥
+IsIn tell told own Out = ⊥
 
-abbrev pub AreIn : {D : Type 0} → (D → View) → List (Seat D) → Type 0
-AreIn told [] = Unit {0}
-AreIn told (s ∷ seats) = IsIn told s.own s.held × AreIn told seats
+abbrev pub AreIn : {D : Type 0} → Bool → (D → View) → List (Seat D) → Type 0
+AreIn tell told [] = Unit {0}
+AreIn tell told (s ∷ seats) = IsIn tell told s.own s.held × AreIn tell told seats
 
 -- the disk is open
 abbrev pub IsOpen : {D : Type 0} → Held D → Type 0

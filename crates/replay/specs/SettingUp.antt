@@ -1,5 +1,5 @@
 -- How the parties of a scenario are set up on their disks (this project's profile).
-use Rattle.std.specs.Prelude.{◌≡◌, ◌≢◌, ◌⊎◌, ◌+◌, ◌*◌, ◌<◌, ◌≤◌, ◌++◌, ℕ, true, false, length, take, List, [], ◌∷◌, Contains, Option, Some, None, is_some, codes}
+use Rattle.std.specs.Prelude.{◌≡◌, ◌≢◌, ◌⊎◌, ◌+◌, ◌*◌, ◌<◌, ◌≤◌, ◌++◌, ℕ, Bool, true, false, length, take, List, [], ◌∷◌, Contains, Option, Some, None, is_some, codes}
 use Rattle.x_disk.specs.Disk.{View, Tells}
 use Rattle.x_disk.specs.Shelf.{IsAlike, AllStay, OthersStay}
 use Rattle.key_journal.specs.Journal.{is_blank}
@@ -102,7 +102,7 @@ pub record IsPartlyLoaded (old new : View) (x : Member) (loads : List LinkRec) (
 pub record IsSetUp {D : Type 0} (told : D → View) (old : View) (x : Member) (node : Stored D) : Type 0 where
   pub blank : ReadsBlank old
   pub tells : is_some (told node.disk).now ≡ is_some old.now
-  pub member : Tells old → member_of node ≡ x
+  pub member : member_of node ≡ x
 
 -- what a read gives of the disk of the party at hand: what it gave before; or, where that was blank, a blank image, or
 -- one that stands in format 2 for the party with none or some of its loads, in order
@@ -169,9 +169,9 @@ UnsetsNext lines (Some p) old new why = IsUnsetNext lines p old new why
 
 -- ---- all parties
 
--- where the disks tell their bytes, the seats stand for the members that the lines in front declare
-pub record ShowMembers {D : Type 0} (told : D → View) (lines front : List Line) (old : List ℕ → View) (seats : List (Seat D)) : Type 0 where
-  pub seated : AreIn told seats
+-- the seats stand for the members that the lines in front declare; whether the disks tell their bytes comes first
+pub record ShowMembers {D : Type 0} (tell : Bool) (told : D → View) (lines front : List Line) (old : List ℕ → View) (seats : List (Seat D)) : Type 0 where
+  pub seated : AreIn tell told seats
   pub members_are : members seats ≡ members_by lines front
   pub blank : AllReadBlank old (parties_in front)
 
@@ -183,7 +183,7 @@ pub record AreSetUp {D : Type 0} (told : D → View) (lines front : List Line) (
   pub apart : AreApart seats
   pub slots : AllSlots slot (owners seats)
   pub others : OtherDisksStay old entry seats
-  pub shown : AllTell old (parties_in front) → ShowMembers told lines front old seats
+  pub shown : (tell : Bool) → (tell ≡ true → AllTell old (parties_in front)) → ShowMembers tell told lines front old seats
 
 -- the set-up came to a party: the disks of those before it stand for them, as they are set up; and those of all others stay
 pub record IsSetUpTo (lines front : List Line) (name : List ℕ) (old entry : List ℕ → View) : Type 0 where

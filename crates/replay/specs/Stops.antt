@@ -28,8 +28,8 @@ pub record IsRestarted (v w : View) (choice gate end : ℕ) (format : Format) (p
   pub exact : (image : List ℕ) (other : Format) (another : Party) → w.now ≡ Some image → StandsAs image other another → (format ≡ other) × (party ≡ another)
   pub tells : is_some w.now ≡ is_some v.now
 
--- the party that is opened is x or y, and which it is, is said
-pub record IsStopped {D : Type 0} (told : D → View) (x y : Member) (keep : Type 0) (stop : Stop) (before after : ℕ) (new : Stored D) (next : Bool) : Type 0 where
+-- the party that is opened is x or y, and where the disks tell their bytes, which it is, is said
+pub record IsStopped {D : Type 0} (tell : Bool) (told : D → View) (x y : Member) (keep : Type 0) (stop : Stop) (before after : ℕ) (new : Stored D) (next : Bool) : Type 0 where
   pub cut : ((next ≡ false) × (member_of new ≡ x)) ⊎ ((next ≡ true) × (member_of new ≡ y))
-  pub fixed : IsFixed keep stop before after next
-  pub tells : Tells (told new.disk)
+  pub fixed : IsFixed tell keep stop before after next
+  pub tells : tell ≡ true → Tells (told new.disk)

@@ -1,8 +1,6 @@
 // An event: it is tested, and carried out whole, or stopped where a stop waits.
 ghost use Rattle.std.specs.Prelude.{◌≡◌, ◌⊎◌, ◌<◌, ◌++◌, ℕ, [], cond, length, Some, None, Err, IfOk, IfErr, Option};
 ghost use Rattle.x_base.specs.Edge.{Rose};
-ghost use Rattle.party_state.specs.declared.command.Input.{Input as TheInput};
-ghost use Rattle.key_store.specs.Store.{space};
 ghost use Rattle.member.specs.Member.{plan_at};
 ghost use Rattle.node_core.specs.Turns.{member_of};
 ghost use Rattle.world_laws.specs.Noted.{noted};
@@ -13,6 +11,7 @@ ghost use Rattle.replay.specs.Closing.{AllSlots, AnyFaulty};
 ghost use Rattle.replay.specs.Events.{IsStopLeft, IsStoppedIn};
 ghost use Rattle.replay.specs.Seats.{AreOpen, IsEmptyAt, IsPlace, owners};
 
+use crate::expecting::Expected;
 use crate::failure::{Ending, Failure};
 use crate::restarting::reopen;
 use crate::scene::Scene;
@@ -20,7 +19,7 @@ use crate::seat::Held;
 use crate::stopped::begin;
 use crate::whole::play_whole;
 use course::{Act, Outcome, Progress, Stop, is_honest, note_if, outcome_of};
-use node_core::Planned;
+use node_core::Node;
 use party_state::Input;
 use std::alloc::Global;
 use world_laws::law_inputs;
@@ -37,30 +36,38 @@ fn copied(alloc: Global, reply: &Option<Text>) -> Result<Option<Text>, NoMemory>
     }
 }
 
-/// What is planned at the party whose seat is empty, and which had so much room, is stopped at a disk call. Where the
-/// party after it stands, its fact is noted.
+/// An input of the party whose seat is empty is stopped at a disk call. Where the party after it stands, its fact is noted.
 fn play_stopped<H: Shelf>(
     scene: &mut Scene<H::Disk>,
     place: usize,
     own: &Ident,
     shelf: &mut H,
     alloc: Global,
-    planned: Planned<H::Disk>,
-    left: u64,
+    node: Node<H::Disk>,
+    input: &Input,
+    moment: u64,
     stop: Stop,
 ) -> Result<bool, Failure>
     requires empty { IsEmptyAt scene.old.parties place }
     requires slot { H.has_slot shelf.old own.now }
-    requires left { left ≡ (space planned.node).room }
-    ensures stopped { IfOk result (λ next. (i : TheInput) (moment : ℕ) → planned.plan ≡ plan_at (member_of planned.node) i moment
-        → IsStoppedIn H.Disk.told scene.old.parties scene.new.parties place planned.node (Some i) moment stop (H.faults shelf.old) (H.faults shelf.new) next) }
-    ensures noted { IfOk result (λ next. scene.new.facts ≡ scene.old.facts ++ cond next (noted planned.plan.under planned.plan.reply) []) }
+    ensures stopped { IfOk result (λ next. IsStoppedIn H.Disk.told scene.old.parties scene.new.parties place node (Some input.now) moment stop (H.faults shelf.old) (H.faults shelf.new) next) }
+    ensures noted { IfOk result (λ next. scene.new.facts ≡ scene.old.facts ++ cond next (noted (plan_at (member_of node) input.now moment).under (plan_at (member_of node) input.now moment).reply) []) }
     ensures texts { scene.new.texts ≡ scene.old.texts }
-    ensures left { IfErr result (λ why. (i : TheInput) (moment : ℕ) → planned.plan ≡ plan_at (member_of planned.node) i moment
-        → IsStopLeft H.Disk.told (H.entry shelf.new own.now) scene.old.parties scene.new.parties place planned.node (Some i) moment why) }
+    ensures left { IfErr result (λ why. IsStopLeft H.Disk.told (H.entry shelf.new own.now) scene.old.parties scene.new.parties place node (Some input.now) moment why) }
     ensures fault { result ≡ Err Failure.Fault → Rose (H.faults shelf.old) (H.faults shelf.new) ⊎ AnyFaulty H.Disk.told scene.new.parties }
     ensures shelf { ShelfStays own.now (H.entry shelf.old) (H.entry shelf.new) (H.has_slot shelf.old) (H.has_slot shelf.new) (H.faults shelf.old) (H.faults shelf.new) }
 {
+    let Ok(expected) = Expected::of_input(alloc, &node, input, moment) else {
+        scene.parties.put_in(place, Held::Open(node));
+        return Err(Failure::NoMemory);
+    };
+    let planned = match node.plan(alloc, input, moment) {
+        Ok(planned) => planned,
+        Err(node) => {
+            scene.parties.put_in(place, Held::Open(node));
+            return Err(Failure::NoMemory);
+        }
+    };
     let answer = planned.plan();
     let under = answer.under;
     let Ok(reply) = copied(alloc, &answer.reply) else {
@@ -75,7 +82,7 @@ fn play_stopped<H: Shelf>(
         shelf,
         alloc,
         begun,
-        left,
+        &expected,
         stop,
     )?;
     note_if(&mut scene.facts, next, under, &reply)?;
@@ -104,7 +111,6 @@ fn play_input<H: Shelf>(
 {
     law_inputs();
     let node = scene.parties.take_out(place);
-    let left = node.space().room;
     let planned = match node.plan(alloc, input, now.moment) {
         Ok(planned) => planned,
         Err(node) => {
@@ -118,7 +124,10 @@ fn play_input<H: Shelf>(
     }
     match now.stop {
         Some(stop) => {
-            play_stopped(scene, place, own, shelf, alloc, planned, left, stop)?;
+            let node = planned.cancel();
+            play_stopped(
+                scene, place, own, shelf, alloc, node, input, now.moment, stop,
+            )?;
             Ok(Outcome::Stopped)
         }
         None => {
@@ -150,7 +159,10 @@ fn play_unheard<H: Shelf>(
         return Ok(Outcome::Refused(number));
     };
     let node = scene.parties.take_out(place);
-    let left = node.space().room;
+    let Ok(expected) = Expected::of_unheard(alloc, &node) else {
+        scene.parties.put_in(place, Held::Open(node));
+        return Err(Ending::Failed(Failure::NoMemory));
+    };
     node.view();
     reopen(
         &mut scene.parties,
@@ -159,7 +171,7 @@ fn play_unheard<H: Shelf>(
         shelf,
         alloc,
         Ok(node.into_disk()),
-        left,
+        &expected,
         stop,
     )?;
     Ok(Outcome::Stopped)

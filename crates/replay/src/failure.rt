@@ -7,7 +7,8 @@ pub(crate) enum Failure {
     /// A disk or the shelf failed.
     Fault,
     NoMemory,
-    /// An image that stands for no party was found; the place is that of its first damage.
+    /// An image that stands for no party was found, and the place is that of its first damage; or, at
+    /// place 0, a party that is neither of the two of which a stop leaves one.
     Damaged(u64),
 }
 

@@ -6,6 +6,7 @@
 mod acting;
 mod answering;
 mod closing;
+mod expecting;
 mod failure;
 mod keys;
 mod lines;

@@ -1,5 +1,5 @@
 // A scenario is played over the disks of its parties on a shelf, and its transcript is written to a sink.
-ghost use Rattle.std.specs.Prelude.{◌≡◌, ◌≤◌, ℕ, List, length, Contains, Err, IfOk};
+ghost use Rattle.std.specs.Prelude.{◌≡◌, ◌≤◌, ℕ, true, false, List, length, Contains, Err, IfOk};
 ghost use Rattle.x_base.specs.Edge.{Rose};
 ghost use Rattle.x_base.specs.declared.verdict.Verdict.{Verdict as TheVerdict};
 ghost use Rattle.x_disk.specs.Shelf.{IsAlike};
@@ -7,7 +7,7 @@ ghost use Rattle.replay.specs.Around.{Around, FaultsCounted, SinkStays};
 ghost use Rattle.replay.specs.Closing.{AllSlots, AreApart, OtherDisksStay};
 ghost use Rattle.replay.specs.Finishing.{Finishes, BreaksPlay};
 ghost use Rattle.replay.specs.Lines.{ForgesIn};
-ghost use Rattle.replay.specs.Playing.{around, IsPlay, IsPlayOn};
+ghost use Rattle.replay.specs.Playing.{around, IsPlay, IsPlayOn, IsRunBy};
 ghost use Rattle.replay.specs.Seats.{AreIn, AreOpen, members, owners};
 ghost use Rattle.replay.specs.SettingUp.{AllTell};
 ghost use Rattle.course.specs.Parties.{parties_in};
@@ -67,7 +67,9 @@ fn play_parties<K: Sink, H: Shelf>(
     requires seated { AreOpen parties }
     requires apart { AreApart parties }
     requires slots { AllSlots (H.has_slot shelf.old) (owners parties) }
-    ensures played { (before : ℕ) → before ≤ H.faults shelf.old → AreIn H.Disk.told parties → members parties ≡ start_members lines.now
+    ensures runs { (before : ℕ) → before ≤ H.faults shelf.old → AreIn false H.Disk.told parties → members parties ≡ start_members lines.now
+        → IsRunBy (around lines.now (H.entry shelf.new) before (H.faults shelf.new) (K.written sink.old) (K.written sink.new)) result }
+    ensures played { (before : ℕ) → before ≤ H.faults shelf.old → AreIn true H.Disk.told parties → members parties ≡ start_members lines.now
         → IsPlayOn (around lines.now (H.entry shelf.new) before (H.faults shelf.new) (K.written sink.old) (K.written sink.new)) result }
     ensures refused { (v : TheVerdict) → result ≡ PlayResult.Refused v → ⊥ }
     ensures faults { FaultsCounted (K.faults sink.old) (K.faults sink.new) (H.faults shelf.old) (H.faults shelf.new) result }
@@ -92,6 +94,7 @@ pub fn play<K: Sink, H: Shelf>(
     sink: &mut K,
     shelf: &mut H,
 ) -> PlayResult
+    ensures runs { IsRunBy (around scenario.now (H.entry shelf.new) (H.faults shelf.old) (H.faults shelf.new) (K.written sink.old) (K.written sink.new)) result }
     ensures played { AllTell (H.entry shelf.old) (parties_in scenario.now)
         → IsPlay (H.entry shelf.old) (around scenario.now (H.entry shelf.new) (H.faults shelf.old) (H.faults shelf.new) (K.written sink.old) (K.written sink.new)) result }
     ensures refused { (v : TheVerdict) → result ≡ PlayResult.Refused v → v ≡ TheVerdict.NotEmpty }

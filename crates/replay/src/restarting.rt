@@ -8,6 +8,7 @@ ghost use Rattle.replay.specs.Closing.{AnyFaulty};
 ghost use Rattle.replay.specs.Events.{Begins, IsStopLeft, IsStoppedIn};
 ghost use Rattle.replay.specs.Seats.{IsEmptyAt};
 
+use crate::expecting::Expected;
 use crate::failure::Failure;
 use crate::open_parties::OpenParties;
 use crate::seat::Held;
@@ -18,7 +19,7 @@ use x_base::Ident;
 use x_disk::Shelf;
 
 /// The party whose seat is empty is opened again on the disk on which its event was begun, once the power went; whether
-/// the party after the event stands, by the room that it had before.
+/// the party after the event stands. Over a disk that tells nothing another one may be found, which is damage.
 pub(crate) fn reopen<H: Shelf>(
     parties: &mut OpenParties<H::Disk>,
     place: usize,
@@ -26,15 +27,15 @@ pub(crate) fn reopen<H: Shelf>(
     shelf: &mut H,
     alloc: Global,
     begun: Result<H::Disk, Lost<H::Disk>>,
-    room: u64,
+    expected: &Expected,
     stop: Stop,
 ) -> Result<bool, Failure>
     requires empty { IsEmptyAt parties.old place }
     requires slot { H.has_slot shelf.old own.now }
     requires shown { IfErr begun (λ lost. lost.why ≡ Failure.Fault → 0 < (H.Disk.told lost.disk).faults) }
-    ensures stopped { IfOk result (λ next. (node : Stored H.Disk) (i : Option TheInput) (moment : ℕ) → Begins H.Disk.told node i moment stop.n room begun
+    ensures stopped { IfOk result (λ next. (node : Stored H.Disk) (i : Option TheInput) (moment : ℕ) → Begins H.Disk.told node i moment stop.n expected.now begun
         → IsStoppedIn H.Disk.told parties.old parties.new place node i moment stop (H.faults shelf.old) (H.faults shelf.new) next) }
-    ensures left { IfErr result (λ why. (node : Stored H.Disk) (i : Option TheInput) (moment : ℕ) → Begins H.Disk.told node i moment stop.n room begun
+    ensures left { IfErr result (λ why. (node : Stored H.Disk) (i : Option TheInput) (moment : ℕ) → Begins H.Disk.told node i moment stop.n expected.now begun
         → IsStopLeft H.Disk.told (H.entry shelf.new own.now) parties.old parties.new place node i moment why) }
     ensures fault { result ≡ Err Failure.Fault → Rose (H.faults shelf.old) (H.faults shelf.new) ⊎ AnyFaulty H.Disk.told parties.new }
     ensures shelf { ShelfStays own.now (H.entry shelf.old) (H.entry shelf.new) (H.has_slot shelf.old) (H.has_slot shelf.new) (H.faults shelf.old) (H.faults shelf.new) }
@@ -49,9 +50,13 @@ pub(crate) fn reopen<H: Shelf>(
     let disk = exchange(shelf, own, disk)?;
     match restart(disk, alloc, stop.choice) {
         Ok(node) => {
-            let is_next = node.space().room != room;
+            let is_after = expected.is_after(&node);
+            let is_expected = expected.holds(&node, is_after);
             parties.put_in(place, Held::Open(node));
-            Ok(is_next)
+            if !is_expected {
+                return Err(Failure::Damaged(0));
+            }
+            Ok(is_after)
         }
         Err(Lost { disk, why }) => {
             parties.put_in(place, Held::Loose(disk));

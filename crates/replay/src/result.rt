@@ -15,8 +15,9 @@ pub enum PlayResult {
     WriteFault,
     /// A disk or the shelf failed.
     DiskFault,
-    /// An image that stands for no party was found; the place is that of its first damage. A disk that
-    /// tells its bytes never leads to it.
+    /// An image that stands for no party was found, and the place is that of its first damage; or, at
+    /// place 0, a party that is neither of the two of which a stop leaves one. A disk that tells its
+    /// bytes never leads to it.
     Damaged(u64),
     NoMemory,
 }

@@ -5,7 +5,6 @@ use Rattle.course.proofs.lawful.law_lawful.Goals as goal
 pub returns : goal.returns
 returns c = λ start w events begins are is honest. record {
   begins = begins;
-  events = events;
   are = are;
   ran = is;
   honest = honest;

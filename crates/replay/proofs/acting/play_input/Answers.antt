@@ -10,7 +10,7 @@ use Rattle.replay.specs.declared.failure.Ending.TheVariants as ending
 use Rattle.replay.specs.declared.failure.Failure.TheVariants as failure
 use Rattle.replay.specs.declared.scene.Scene.{Scene}
 use Rattle.replay.specs.declared.seat.Held.TheVariants.{Open}
-use Rattle.replay.proofs.Eventing.{planned_of, lifted_of, input_whole, input_cut, input_breaks, left_so}
+use Rattle.replay.proofs.Eventing.{planned_of, lifted_of, lifted_again, stopped_plan, input_whole, input_cut, input_breaks, left_so}
 use Rattle.replay.proofs.Happened.{plays_whole, plays_stopped}
 use Rattle.replay.proofs.Judging.{honest_there, forged_there}
 use Rattle.replay.proofs.Planning.{plan_lead}
@@ -70,6 +70,8 @@ returns-in_err-play_stopped-in-Some-clause-broken g c = λ why is.
     let lead_is : lead ≡ lead_in p.node.party input = ap (λ a. a.lead) c.plan-2.ensures ∙ (ap (λ (q : Plan). q.lead) plan ∙ plan_lead (member_of p.node) input moment) in
     let honest = honest_there told old mid c.args.place p.node l refl input lead lead_is c.is_honest.result c.is_honest.ensures.honest c.if-not-is_honest.false in
     let new = c.play_stopped.new.scene in
+    let q = stopped_plan c.cancel-node.result input moment in
+    let k = lifted_again p c.take_out-node.result c.cancel-node.result input moment is_planned c.cancel-node.ensures old.parties mid.parties c.args.place c.take_out-node.ensures in
     let e = err_from_is_err_and c.from_residual.result c.from_residual.ensures.1 in
     let failed = c.in_err-play_stopped-in-Some.field-0.0 in
     let one : ending.Failed failed ≡ ending.Failed why = sym e.2 ∙ one_err c.from_residual.result e.0 (ending.Failed why) e.1 is in
@@ -77,7 +79,7 @@ returns-in_err-play_stopped-in-Some-clause-broken g c = λ why is.
     subst (λ f. BreaksAct told (entry c.play_stopped.new.shelf) (act.Tell c.args.own.now input) old new c.args.now.now f) same
     (told_act told (entry c.play_stopped.new.shelf) old new c.args.now.now failed c.args.own.now c.args.place input c.requires.placed
     (breaks_honest told (entry c.play_stopped.new.shelf) old new c.args.place (Some input) moment failed honest
-    (input_breaks told c.law_inputs.ensures old mid new c.args.place p l refl refl input moment plan (entry c.play_stopped.new.shelf) c.args.own.now failed c.requires.placed (c.in_err-play_stopped-in-Some.ensures.left input moment plan))))
+    (input_breaks told c.law_inputs.ensures old mid new c.args.place q k refl refl input moment refl (entry c.play_stopped.new.shelf) c.args.own.now failed c.requires.placed c.in_err-play_stopped-in-Some.ensures.left)))
 
 pub returns-in_err-play_stopped-in-Some-clause-around : goal.returns-in_err-play_stopped-in-Some-clause-around
 returns-in_err-play_stopped-in-Some-clause-around g c =
@@ -91,12 +93,11 @@ returns-in_err-play_stopped-in-Some-clause-around g c =
     let moment = c.args.now.now.moment in
     let p = c.in-Ok.planned in
     let is_planned = c.in-Ok.ensures.planned in
-    let l = lifted_of p c.take_out-node.result input moment is_planned old.parties mid.parties c.args.place c.take_out-node.ensures in
-    let plan = planned_of p c.take_out-node.result input moment is_planned in
+    let k = lifted_again p c.take_out-node.result c.cancel-node.result input moment is_planned c.cancel-node.ensures old.parties mid.parties c.args.place c.take_out-node.ensures in
     let e = err_from_is_err_and c.from_residual.result c.from_residual.ensures.1 in
     let failed = c.in_err-play_stopped-in-Some.field-0.0 in
-    let left = c.in_err-play_stopped-in-Some.ensures.left input moment plan in
-    rw (e.1, e.2) (around_place old.parties mid.parties c.play_stopped.new.scene.parties c.args.place p.node l left.held left.fills told c.args.own.now c.requires.placed
+    let left = c.in_err-play_stopped-in-Some.ensures.left in
+    rw (e.1, e.2) (around_place old.parties mid.parties c.play_stopped.new.scene.parties c.args.place c.cancel-node.result k left.held left.fills told c.args.own.now c.requires.placed
     (entry c.args.shelf.now) (entry c.play_stopped.new.shelf) (slot c.args.shelf.now) (slot c.play_stopped.new.shelf) (faults c.args.shelf.now) (faults c.play_stopped.new.shelf) (Err (ending.Failed failed)) c.play_stopped.ensures.shelf tt
     (λ is. (let same : failed ≡ failure.Fault = cc is in c.in_err-play_stopped-in-Some.ensures.fault (ap Err same))))
 
@@ -162,10 +163,12 @@ returns-in_ok-play_stopped-in-Some-clause-played g c =
     let lead = c.plan-2.result.now.lead in
     let lead_is : lead ≡ lead_in p.node.party input = ap (λ a. a.lead) c.plan-2.ensures ∙ (ap (λ (q : Plan). q.lead) plan ∙ plan_lead (member_of p.node) input moment) in
     let honest = honest_there told old mid c.args.place p.node l refl input lead lead_is c.is_honest.result c.is_honest.ensures.honest c.if-not-is_honest.false in
+    let q = stopped_plan c.cancel-node.result input moment in
+    let k = lifted_again p c.take_out-node.result c.cancel-node.result input moment is_planned c.cancel-node.ensures old.parties mid.parties c.args.place c.take_out-node.ensures in
     let next = c.in_ok-play_stopped-in-Some.field-0 in
     plays_stopped told (faults c.args.shelf.now) (faults c.play_stopped.new.shelf) old c.play_stopped.new.scene c.args.place (Some input) 0 c.args.now.now c.in-Some.stop next c.in-Some.is honest
-    (input_cut told c.law_inputs.ensures old mid c.play_stopped.new.scene c.args.place p l refl refl input moment plan c.in-Some.stop (faults c.args.shelf.now) (faults c.play_stopped.new.shelf) next
-    (c.in_ok-play_stopped-in-Some.ensures.stopped input moment plan) c.play_stopped.ensures.texts c.in_ok-play_stopped-in-Some.ensures.noted)
+    (input_cut told c.law_inputs.ensures old mid c.play_stopped.new.scene c.args.place q k refl refl input moment refl c.in-Some.stop (faults c.args.shelf.now) (faults c.play_stopped.new.shelf) next
+    c.in_ok-play_stopped-in-Some.ensures.stopped c.play_stopped.ensures.texts c.in_ok-play_stopped-in-Some.ensures.noted)
 
 pub returns-in_ok-play_stopped-in-Some-clause-around : goal.returns-in_ok-play_stopped-in-Some-clause-around
 returns-in_ok-play_stopped-in-Some-clause-around g c =
@@ -179,12 +182,11 @@ returns-in_ok-play_stopped-in-Some-clause-around g c =
     let moment = c.args.now.now.moment in
     let p = c.in-Ok.planned in
     let is_planned = c.in-Ok.ensures.planned in
-    let l = lifted_of p c.take_out-node.result input moment is_planned old.parties mid.parties c.args.place c.take_out-node.ensures in
-    let plan = planned_of p c.take_out-node.result input moment is_planned in
-    let s = c.in_ok-play_stopped-in-Some.ensures.stopped input moment plan in
-    around_place old.parties mid.parties c.play_stopped.new.scene.parties c.args.place p.node l (Open s.opened) s.fills told c.args.own.now c.requires.placed
+    let k = lifted_again p c.take_out-node.result c.cancel-node.result input moment is_planned c.cancel-node.ensures old.parties mid.parties c.args.place c.take_out-node.ensures in
+    let s = c.in_ok-play_stopped-in-Some.ensures.stopped in
+    around_place old.parties mid.parties c.play_stopped.new.scene.parties c.args.place c.cancel-node.result k (Open s.opened) s.fills told c.args.own.now c.requires.placed
     (entry c.args.shelf.now) (entry c.play_stopped.new.shelf) (slot c.args.shelf.now) (slot c.play_stopped.new.shelf) (faults c.args.shelf.now) (faults c.play_stopped.new.shelf) (Ok outcome.Stopped) c.play_stopped.ensures.shelf
-    (filled_open old.parties mid.parties c.play_stopped.new.scene.parties c.args.place p.node s.opened l s.fills c.requires.seated) (λ is. absurd (cc is))
+    (filled_open old.parties mid.parties c.play_stopped.new.scene.parties c.args.place c.cancel-node.result s.opened k s.fills c.requires.seated) (λ is. absurd (cc is))
 
 pub returns-in_ok-verdict-in-None-clause-played : goal.returns-in_ok-verdict-in-None-clause-played
 returns-in_ok-verdict-in-None-clause-played g c =

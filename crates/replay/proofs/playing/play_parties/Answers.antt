@@ -1,11 +1,11 @@
-use Rattle.std.proofs.Common.{sym, ap, subst, ◌∙◌, arith}
+use Rattle.std.proofs.Common.{true, false, sym, ap, subst, ◌∙◌, arith}
 use Rattle.replay.specs.Closing.{AllSlots, AnyFaulty}
 use Rattle.replay.specs.Finishing.{answer_of}
-use Rattle.replay.specs.Playing.{around, IsPlayOn}
+use Rattle.replay.specs.Playing.{around, IsPlayOn, IsRunBy}
 use Rattle.replay.specs.Seats.{owners}
 use Rattle.replay.specs.declared.scene.Scene.{Scene}
 use Rattle.replay.proofs.Causes.{write_fault_by, disk_fault_rose, never_refused}
-use Rattle.replay.proofs.Concluding.{starts, concludes}
+use Rattle.replay.proofs.Concluding.{starts, concludes, runs}
 use Rattle.replay.proofs.Owning.{slots_stay, apart_alike, none_alike}
 use Rattle.replay.proofs.PuttingBack.{alike_on}
 use Rattle.replay.proofs.playing.play_parties.Goals as goal
@@ -28,10 +28,24 @@ returns-clause-played g c = λ before first seated members_are.
     let played = c.play_scene-outcome in
     let back = c.put_back_all-back in
     let old : Scene _ = record { parties = c.args.parties; texts = c.new.result; facts = c.new-2.result } in
-    let at = starts told c.args.lines.now old (wrote c.args.sink.now) seated members_are c.new.ensures c.new-2.ensures in
+    let at = starts told true c.args.lines.now old (wrote c.args.sink.now) seated members_are c.new.ensures c.new-2.ensures in
     subst (IsPlayOn (around c.args.lines.now (entry back.new.shelf) before (faults back.new.shelf) (wrote c.args.sink.now) (wrote played.new.sink))) (sym (c.answer_of.ensures ∙ ap answer_of c.end_of.ensures))
     (concludes told (entry played.new.shelf) (entry back.new.shelf) before (faults c.args.shelf.now) (faults played.new.shelf) (faults back.new.shelf) first back.ensures.later c.args.lines.now old played.new.scene
     (wrote c.args.sink.now) (wrote played.new.sink) at back.ensures.back played.result back.result back.ensures.undamaged played.ensures.finished played.ensures.forged played.ensures.broken)
+
+pub returns-clause-runs : goal.returns-clause-runs
+returns-clause-runs g c = λ before first seated members_are.
+    let told = g.H.Disk.Disk.told in
+    let faults = g.H.Shelf.faults in
+    let entry = g.H.Shelf.entry in
+    let wrote = g.K.Sink.written in
+    let played = c.play_scene-outcome in
+    let back = c.put_back_all-back in
+    let old : Scene _ = record { parties = c.args.parties; texts = c.new.result; facts = c.new-2.result } in
+    let at = starts told false c.args.lines.now old (wrote c.args.sink.now) seated members_are c.new.ensures c.new-2.ensures in
+    subst (IsRunBy (around c.args.lines.now (entry back.new.shelf) before (faults back.new.shelf) (wrote c.args.sink.now) (wrote played.new.sink))) (sym (c.answer_of.ensures ∙ ap answer_of c.end_of.ensures))
+    (runs told (entry back.new.shelf) before (faults c.args.shelf.now) (faults played.new.shelf) (faults back.new.shelf) first back.ensures.later c.args.lines.now old played.new.scene
+    (wrote c.args.sink.now) (wrote played.new.sink) at played.result back.result played.ensures.finished played.ensures.forged)
 
 pub returns-clause-refused : goal.returns-clause-refused
 returns-clause-refused g c = λ v is. never_refused c.end_of.result v (sym c.answer_of.ensures ∙ is)

@@ -1,8 +1,7 @@
-use Rattle.std.proofs.Common.{◌≡◌, inr, ◌<◌, IfErr, ap, subst, refl}
-use Rattle.change_code.specs.declared.space.Space.{Space}
+use Rattle.std.proofs.Common.{◌≡◌, inr, ◌<◌, true, false, IfErr, sym, ◌∙◌, subst, refl}
 use Rattle.std.proofs.lemmas.Result.{err_from_is_err_and}
 use Rattle.replay.specs.declared.failure.Failure.TheVariants as failure
-use Rattle.replay.proofs.Leaving.{reopened, left_out, left_lost, left_begun}
+use Rattle.replay.proofs.Leaving.{reopened, left_other, left_out, left_lost, left_begun}
 use Rattle.replay.proofs.Surrounding.{empty_within, filled_faulty}
 use Rattle.replay.proofs.restarting.reopen.Goals as goal
 
@@ -15,19 +14,26 @@ put_in-requires-in-Ok-restart g c = empty_within c.args.parties.now c.args.place
 pub put_in-requires-in-Err-restart : goal.put_in-requires-in-Err-restart
 put_in-requires-in-Err-restart g c = empty_within c.args.parties.now c.args.place c.requires.empty
 
-pub returns-in-Ok-restart-clause-stopped : goal.returns-in-Ok-restart-clause-stopped
-returns-in-Ok-restart-clause-stopped g c = λ node i moment b.
+pub returns-else-not-is_expected-clause-stopped : goal.returns-else-not-is_expected-clause-stopped
+returns-else-not-is_expected-clause-stopped g c = λ node i moment b.
     let told = g.H.Disk.Disk.told in
-    reopened told c.args.parties.now c.put_in-in-Ok-restart.new.self c.args.place c.args.stop c.args.room c.args.begun node i moment b c.in-Ok.disk c.in-Ok.is c.in_ok-disk.disk c.in-Ok-restart.node (g.H.Shelf.faults c.args.shelf.now) (g.H.Shelf.faults c.exchange.new.shelf)
-    c.space.result.room c.put_in-in-Ok-restart.ensures c.in_ok-disk.ensures.alike c.in-Ok-restart.ensures.opened c.exchange.ensures.seen (ap (λ (s : Space). s.room) c.space.ensures)
+    reopened told c.args.parties.now c.put_in-in-Ok-restart.new.self c.args.place c.args.stop c.args.expected.now c.args.begun node i moment b c.in-Ok.disk c.in-Ok.is c.in_ok-disk.disk c.in-Ok-restart.node (g.H.Shelf.faults c.args.shelf.now) (g.H.Shelf.faults c.exchange.new.shelf)
+    c.is_after-is_after.result c.in_ok-disk.ensures.alike c.in-Ok-restart.ensures.opened c.exchange.ensures.seen c.is_after-is_after.ensures c.put_in-in-Ok-restart.ensures (c.holds-is_expected.ensures.0 c.if-not-is_expected.false)
+
+pub returns-then-not-is_expected-clause-left : goal.returns-then-not-is_expected-clause-left
+returns-then-not-is_expected-clause-left g c = λ node i moment b.
+    let told = g.H.Disk.Disk.told in
+    left_other told c.args.parties.now c.put_in-in-Ok-restart.new.self c.args.place c.args.stop c.args.expected.now c.args.begun node i moment b c.in-Ok.disk c.in-Ok.is c.in_ok-disk.disk c.in-Ok-restart.node (g.H.Shelf.faults c.args.shelf.now) (g.H.Shelf.faults c.exchange.new.shelf)
+    c.is_after-is_after.result c.in_ok-disk.ensures.alike c.in-Ok-restart.ensures.opened c.exchange.ensures.seen c.is_after-is_after.ensures (g.H.Shelf.entry c.exchange.new.shelf c.args.own.now) (failure.Damaged 0) c.put_in-in-Ok-restart.ensures
+    (λ is. (let lie : false ≡ true = sym c.if-not-is_expected.true ∙ c.holds-is_expected.ensures.1 is in cc lie))
 
 pub returns-in-Err-clause-left : goal.returns-in-Err-clause-left
 returns-in-Err-clause-left g c = λ node i moment b.
-    left_begun g.H.Disk.Disk.told c.args.parties.now c.put_in.new.self c.args.place c.args.stop c.args.room c.args.begun node i moment b c.in-Err.field-0 c.in-Err.is (g.H.Shelf.entry c.args.shelf.now c.args.own.now) c.put_in.ensures
+    left_begun g.H.Disk.Disk.told c.args.parties.now c.put_in.new.self c.args.place c.args.stop c.args.expected.now c.args.begun node i moment b c.in-Err.field-0 c.in-Err.is (g.H.Shelf.entry c.args.shelf.now c.args.own.now) c.put_in.ensures
 
 pub returns-in-Err-restart-clause-left : goal.returns-in-Err-restart-clause-left
 returns-in-Err-restart-clause-left g c = λ node i moment b.
-    left_lost g.H.Disk.Disk.told c.args.parties.now c.put_in-in-Err-restart.new.self c.args.place c.args.stop c.args.room c.args.begun node i moment b c.in-Ok.disk c.in-Ok.is (g.H.Shelf.entry c.exchange.new.shelf c.args.own.now) c.in_ok-disk.disk c.in-Err-restart.field-0.disk c.in-Err-restart.field-0.why
+    left_lost g.H.Disk.Disk.told c.args.parties.now c.put_in-in-Err-restart.new.self c.args.place c.args.stop c.args.expected.now c.args.begun node i moment b c.in-Ok.disk c.in-Ok.is (g.H.Shelf.entry c.exchange.new.shelf c.args.own.now) c.in_ok-disk.disk c.in-Err-restart.field-0.disk c.in-Err-restart.field-0.why
     c.put_in-in-Err-restart.ensures c.in_ok-disk.ensures.alike c.in-Err-restart.ensures.lost
 
 pub returns-in_err-disk-clause-left : goal.returns-in_err-disk-clause-left
@@ -35,7 +41,7 @@ returns-in_err-disk-clause-left g c =
     let told = g.H.Disk.Disk.told in
     let p = err_from_is_err_and c.from_residual.result c.from_residual.ensures.1 in
     rw (p.1, p.2) (λ node i moment b.
-    left_out told c.args.parties.now c.args.parties.now c.args.place c.args.stop c.args.room c.args.begun node i moment b c.in-Ok.disk c.in-Ok.is (g.H.Shelf.entry c.exchange.new.shelf c.args.own.now) c.in_err-disk.field-0.0
+    left_out told c.args.parties.now c.args.parties.now c.args.place c.args.stop c.args.expected.now c.args.begun node i moment b c.in-Ok.disk c.in-Ok.is (g.H.Shelf.entry c.exchange.new.shelf c.args.own.now) c.in_err-disk.field-0.0
     c.in_err-disk.ensures.failing (g.met.H.Disk.Disk.sound c.in-Ok.disk) c.in_err-disk.ensures.stays refl)
 
 pub returns-in-Err-clause-fault : goal.returns-in-Err-clause-fault
