@@ -121,10 +121,9 @@ module _ (never : NeverBoth) (one_bad : OneFirstBad) (one : OneScenario) where
 
 -- ---- a drill
 
-module _ (never : NeverBoth) (one_bad : OneFirstBad) (one : OneScenario) {H : Type 0} (entry : H → List ℕ → View) (seed events : ℕ) (before after : Option (List ℕ)) where
+module _ (one : OneScenario) {H : Type 0} (entry : H → List ℕ → View) (seed events : ℕ) (before after : Option (List ℕ)) where
   pub expects_done : (tally : Tally) → IsDrilled entry seed events tally → ExpectsDrill seed events status.Done
   expects_done tally p = record {
-    bad = λ number bad. absurd (never (drill_text seed events) p.lines number p.over.scenario bad);
     honest = λ lines is honest. inl refl;
     forged = λ lines is forged. absurd (subst IsForgedAlways (sym (one (drill_text seed events) p.lines lines p.over.scenario is)) forged 0 0 p.whole.course still_quiet p.whole.leads);
   }
@@ -133,18 +132,13 @@ module _ (never : NeverBoth) (one_bad : OneFirstBad) (one : OneScenario) {H : Ty
   expects_drill status.Done d write = expects_done d.0 d.1
   expects_drill status.WriteFault d write = absurd (write refl)
   expects_drill (status.Forged number) d write = let p = d.0 in record {
-    bad = λ other bad. absurd (never (drill_text seed events) p.lines other p.over.scenario bad);
     honest = λ lines is honest. absurd (subst IsHonest (sym (one (drill_text seed events) p.lines lines p.over.scenario is)) honest 0 0 p.up_to.course number still_quiet p.up_to.forged);
     forged = λ lines is forged. inl (number, refl);
   }
-  expects_drill (status.BadScenario number) d write = record {
-    bad = λ other bad. inl (ap (λ (n : ℕ). status.BadScenario n) (one_bad (drill_text seed events) number other d.0 bad));
-    honest = λ lines is honest. absurd (never (drill_text seed events) lines number is d.0);
-    forged = λ lines is forged. absurd (never (drill_text seed events) lines number is d.0);
-  }
-  expects_drill status.NoMemory d write = record { bad = λ number bad. inr refl; honest = λ lines is honest. inr refl; forged = λ lines is forged. inr refl }
+  expects_drill status.NoMemory d write = record { honest = λ lines is honest. inr refl; forged = λ lines is forged. inr refl }
   expects_drill (status.Refused refusal) d write = absurd d.0
   expects_drill (status.Usage kind) d write = absurd d.0
   expects_drill status.ReadFault d write = absurd d.0
   expects_drill status.DiskFault d write = absurd d.0
   expects_drill (status.Damaged place) d write = absurd d.0
+  expects_drill (status.BadScenario number) d write = absurd d.0

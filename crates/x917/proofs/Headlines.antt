@@ -1,5 +1,5 @@
 -- What became of a scenario is what its status says.
-use Rattle.std.proofs.Common.{◌≡◌, inl, inr, ℕ, List, [], ◌∷◌, refl, sym, subst}
+use Rattle.std.proofs.Common.{◌≡◌, inl, inr, ℕ, Bool, true, false, List, [], ◌∷◌, ◌++◌, refl, sym, subst}
 use Rattle.x_base.specs.declared.verdict.Verdict.{Verdict}
 use Rattle.x_base.specs.declared.verdict.Verdict.TheVariants.{NotEmpty}
 use Rattle.x_disk.specs.Disk.{View}
@@ -11,9 +11,9 @@ use Rattle.world_laws.specs.Starts.{IsStart}
 use Rattle.world_laws.specs.Steps.{step}
 use Rattle.replay.specs.Breaking.{AreOnShelf}
 use Rattle.course.specs.Parts.{HappensOr, IsEventOf}
-use Rattle.course.specs.Course.{Course, Leads}
+use Rattle.course.specs.Course.{Course, Leads, events_of}
 use Rattle.course.specs.Happenings.{Happening, Nothing, At}
-use Rattle.replay.specs.Playing.{Surroundings, IsBroken, IsBrokenAhead, IsBrokenPlay, IsPlay, IsPlayed, IsPlayedToForged, IsUnwritten, WereBlank}
+use Rattle.replay.specs.Playing.{Surroundings, IsBroken, IsBrokenAhead, IsBrokenPlay, IsPlay, IsPlayed, IsPlayedToForged, IsUnwritten, IsRun, IsRunToForged, IsRunBy, WereBlank}
 use Rattle.course.specs.Starts.{start_course, start_world}
 use Rattle.course.specs.declared.tally.Tally.{Tally}
 use Rattle.replay.specs.declared.result.PlayResult.{PlayResult}
@@ -21,7 +21,7 @@ use Rattle.replay.specs.declared.result.PlayResult.TheVariants as played
 use Rattle.x_status.specs.declared.status.Refusal.TheVariants.{Decided}
 use Rattle.x_status.specs.declared.status.Status.TheVariants as status
 use Rattle.course.specs.Lawful.{IsLawful}
-use Rattle.x917.specs.Headline.{IsPlayedWhole, IsPlayedUpTo, IsPlayedInPart, IsPlayedUnwritten, IsPlayedEarly, DisksTell, Says, broken_world, status_of_play}
+use Rattle.x917.specs.Headline.{IsPlayedWhole, IsPlayedUpTo, IsPlayedInPart, IsPlayedUnwritten, IsPlayedEarly, IsRunWhole, IsRunUpTo, DisksTell, Says, SaysOfRun, broken_events, broken_world, status_of_play}
 
 -- what a line makes happen is an action of a network
 action_of : (l : Line) (texts : List (List ℕ)) (moment : ℕ) (h : Happening) (e : Event) → HappensOr l texts h → IsEventOf moment h e → IsAction e.action
@@ -30,16 +30,16 @@ action_of l texts moment Nothing e happens (inr begun) = absurd begun
 action_of l texts moment (At own action) e (inl none) (inr begun) = let no : At own action ≡ Nothing = none.1 in absurd cc
 action_of l texts moment (At own action) e (inr happens) (inr begun) = subst (λ (x : Event). IsAction x.action) (sym begun) happens.1
 
-module _ (reached : (lines front : List Line) (before after : ℕ) (c : Course) → IsStart (start_world lines) → Leads before after front (start_course lines) c → IsLawful (start_world lines) c.world)
-    (behind : (lines front : List Line) (before after : ℕ) (c : Course) (e : Event) → IsStart (start_world lines) → Leads before after front (start_course lines) c
-    → IsAction e.action → HonestAt c.world.facts (member_at e.party c.world.members) e.action → IsLawful (start_world lines) (step c.now.number c.world e))
+module _ (reached : (lines front : List Line) (tell : Bool) (before after : ℕ) (c : Course) → IsStart (start_world lines) → Leads tell before after front (start_course lines) c → IsLawful (start_world lines) (events_of c.happened) c.world)
+    (behind : (lines front : List Line) (tell : Bool) (before after : ℕ) (c : Course) (e : Event) → IsStart (start_world lines) → Leads tell before after front (start_course lines) c
+    → IsAction e.action → HonestAt c.world.facts (member_at e.party c.world.members) e.action → IsLawful (start_world lines) (events_of c.happened ++ e ∷ []) (step c.now.number c.world e))
     (old : List ℕ → View) (g : Surroundings) (begins : IsStart (start_world g.lines)) where
   abbrev pub whole : (t : Tally) → WereBlank old g → IsPlayed g t → IsPlayedWhole old g
   whole t blank p = record {
     blank = blank;
     course = p.course;
     leads = p.leads;
-    lawful = reached g.lines g.lines g.before g.after p.course begins p.leads;
+    lawful = reached g.lines g.lines true g.before g.after p.course begins p.leads;
     images = p.images;
     durable = p.durable;
     out = p.out;
@@ -50,17 +50,17 @@ module _ (reached : (lines front : List Line) (before after : ℕ) (c : Course) 
     blank = blank;
     course = p.course;
     forged = p.forged;
-    lawful = reached g.lines p.forged.front g.before g.after p.course begins p.forged.leads;
+    lawful = reached g.lines p.forged.front true g.before g.after p.course begins p.forged.leads;
     images = p.images;
     durable = p.durable;
     out = p.out;
   }
 
-  broken_lawful : (front back : List Line) (c : Course) (at : IsBrokenAhead g back c) → Leads g.before g.after front (start_course g.lines) c
-      → IsLawful (start_world g.lines) (broken_world g back c at)
-  broken_lawful front [] c at leads = reached g.lines front g.before g.after c begins leads
+  broken_lawful : (front back : List Line) (c : Course) (at : IsBrokenAhead g back c) → Leads true g.before g.after front (start_course g.lines) c
+      → IsLawful (start_world g.lines) (broken_events g back c at) (broken_world g back c at)
+  broken_lawful front [] c at leads = reached g.lines front true g.before g.after c begins leads
   broken_lawful front (line ∷ back) c at leads =
-      behind g.lines front g.before g.after c at.event begins leads (action_of line c.world.texts c.now.moment at.happening at.event at.happens at.is) at.honest
+      behind g.lines front true g.before g.after c at.event begins leads (action_of line c.world.texts c.now.moment at.happening at.event at.happens at.is) at.honest
 
   broken_images : (back : List Line) (c : Course) (at : IsBrokenAhead g back c) → AreOnShelf g.entry (broken_world g back c at).members
   broken_images [] c at = at.images
@@ -90,3 +90,20 @@ module _ (reached : (lines front : List Line) (before after : ℕ) (c : Course) 
   says played.DiskFault refused play = λ tell. early (play tell)
   says (played.Damaged place) refused play = play
   says played.NoMemory refused play = λ tell. early (play tell)
+
+  -- over every shelf
+
+  ran_whole : (t : Tally) → IsRun g t → IsRunWhole g
+  ran_whole t p = record { course = p.course; leads = p.leads; lawful = reached g.lines g.lines false g.before g.after p.course begins p.leads; out = p.out }
+
+  ran_up_to : (number : ℕ) → IsRunToForged g number → IsRunUpTo g number
+  ran_up_to number p = record { course = p.course; forged = p.forged; lawful = reached g.lines p.forged.front false g.before g.after p.course begins p.forged.leads; out = p.out }
+
+  pub says_of_run : (r : PlayResult) → IsRunBy g r → SaysOfRun g (status_of_play r)
+  says_of_run (played.Done tally) is = ran_whole tally is
+  says_of_run (played.Refused verdict) is = tt
+  says_of_run (played.Forged number) is = ran_up_to number is
+  says_of_run played.WriteFault is = tt
+  says_of_run played.DiskFault is = tt
+  says_of_run (played.Damaged place) is = tt
+  says_of_run played.NoMemory is = tt

@@ -3,7 +3,10 @@ pub mod Following
 pub mod Arriving
 pub mod Audits
 pub mod Paying
+pub mod BatchEnds
+pub mod Inboxes
 pub mod Orders
+pub mod KeysEntered
 pub mod NetworkEvents
 pub mod Lawful
 pub mod Headlines
@@ -11,5 +14,6 @@ pub mod ScenarioBytes
 pub mod Expected
 pub mod Played
 pub mod Drills
+pub mod Forgetting
 pub mod Mirrors
 pub mod Likening

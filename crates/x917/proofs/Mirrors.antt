@@ -2,6 +2,7 @@
 use Rattle.std.proofs.Common.{◌≡◌, ◌≢◌, ◌∙◌, inl, inr, ℕ, false, List, [], ◌∷◌, Option, Some, None, IfSome, refl, sym, subst}
 use Rattle.x_base.specs.Edge.{Rose}
 use Rattle.x_base.specs.declared.party.Role.{Role}
+use Rattle.x_base.specs.declared.party.Side.{Side}
 use Rattle.x_mac.specs.declared.pair.Pair.{Pair}
 use Rattle.x_disk.specs.Disk.{View, IsSound, IsUntouched}
 use Rattle.x_disk.specs.Shelf.{alike_refl}
@@ -55,6 +56,12 @@ module _ (t : PartyCommand) (mirror : List ℕ) (moment : ℕ) (s : Status) (lef
       → ObeysMirrored o mirror moment s left rest before after old new
   obeys_mirrored (order.Init party role key v) of is call = absurd cc
   obeys_mirrored (order.Show party) of is call = absurd cc
+  obeys_mirrored (order.Create party role) of is call = absurd cc
+  obeys_mirrored (order.Enter party peer label side) of is call = absurd cc
+  obeys_mirrored (order.Value party peer label side) of is call = absurd of
+  obeys_mirrored (order.Spool party spool) of is call = absurd of
+  obeys_mirrored (order.Outbox spool) of is call = absurd of
+  obeys_mirrored order.Batch of is call = absurd of
   obeys_mirrored (order.Take party) of is call = absurd cc
   obeys_mirrored (order.Load party peer label side pair) of is call = obeys_some (command_of (order.Load party peer label side pair)) is call
   obeys_mirrored (order.Start party peer label) of is call = obeys_some (command_of (order.Start party peer label)) is call
@@ -83,6 +90,12 @@ apart_some o mirror t x first second apart = let same : Some x ≡ Some t = sym 
 pub apart_of : (o : Order) (mirror : List ℕ) (t : PartyCommand) → IsOfTwo o mirror → command_of o ≡ Some t → t.party ≢ mirror
 apart_of (order.Init party role key v) mirror t of is = absurd cc
 apart_of (order.Show party) mirror t of is = absurd cc
+apart_of (order.Create party role) mirror t of is = absurd cc
+apart_of (order.Enter party peer label side) mirror t of is = absurd cc
+apart_of (order.Value party peer label side) mirror t of is = absurd of
+apart_of (order.Spool party spool) mirror t of is = absurd of
+apart_of (order.Outbox spool) mirror t of is = absurd of
+apart_of order.Batch mirror t of is = absurd of
 apart_of (order.Take party) mirror t of is = absurd cc
 apart_of (order.Load party peer label side pair) mirror t of is = apart_some (order.Load party peer label side pair) mirror t _ refl is of
 apart_of (order.Start party peer label) mirror t of is = apart_some (order.Start party peer label) mirror t _ refl is of
@@ -105,29 +118,36 @@ apart_of (order.Accept party ledger) mirror t of is = absurd of
 apart_of (order.Drill seed events) mirror t of is = absurd of
 
 -- an order of two disks that neither creates nor shows nor takes a message is a command
-pub commands_of_two : (o : Order) (mirror : List ℕ) → IsOfTwo o mirror → ((party : List ℕ) (role : Role) (key : Pair) (v : ℕ) → o ≡ order.Init party role key v → ⊥) → ((party : List ℕ) → o ≡ order.Show party → ⊥) → ((party : List ℕ) → o ≡ order.Take party → ⊥) → command_of o ≡ None → ⊥
-commands_of_two (order.Init party role key v) mirror of init show take none = init party role key v refl
-commands_of_two (order.Show party) mirror of init show take none = show party refl
-commands_of_two (order.Take party) mirror of init show take none = take party refl
-commands_of_two (order.Load party peer label side pair) mirror of init show take none = cc none
-commands_of_two (order.Start party peer label) mirror of init show take none = cc none
-commands_of_two (order.StartKk party peer new label single) mirror of init show take none = cc none
-commands_of_two (order.Ask party peer ultimate) mirror of init show take none = cc none
-commands_of_two (order.Translate party peer ultimate) mirror of init show take none = cc none
-commands_of_two (order.Resend party peer) mirror of init show take none = cc none
-commands_of_two (order.End party peer name) mirror of init show take none = cc none
-commands_of_two (order.Drop party peer) mirror of init show take none = cc none
-commands_of_two (order.Purge party) mirror of init show take none = cc none
-commands_of_two order.Check mirror of init show take none = of
-commands_of_two order.Replay mirror of init show take none = of
-commands_of_two order.Audit mirror of init show take none = of
-commands_of_two (order.Compact party) mirror of init show take none = of
-commands_of_two (order.Migrate party) mirror of init show take none = of
-commands_of_two (order.Wipe party) mirror of init show take none = of
-commands_of_two (order.Compare party other) mirror of init show take none = of
-commands_of_two (order.Pay party peer name ledger amount) mirror of init show take none = of
-commands_of_two (order.Accept party ledger) mirror of init show take none = of
-commands_of_two (order.Drill seed events) mirror of init show take none = of
+pub commands_of_two : (o : Order) (mirror : List ℕ) → IsOfTwo o mirror → ((party : List ℕ) (role : Role) (key : Pair) (v : ℕ) → o ≡ order.Init party role key v → ⊥) → ((party : List ℕ) → o ≡ order.Show party → ⊥) → ((party : List ℕ) → o ≡ order.Take party → ⊥)
+    → ((party : List ℕ) (role : Role) → o ≡ order.Create party role → ⊥) → ((party peer label : List ℕ) (side : Side) → o ≡ order.Enter party peer label side → ⊥) → command_of o ≡ None → ⊥
+commands_of_two (order.Init party role key v) mirror of init show take create enter none = init party role key v refl
+commands_of_two (order.Show party) mirror of init show take create enter none = show party refl
+commands_of_two (order.Take party) mirror of init show take create enter none = take party refl
+commands_of_two (order.Create party role) mirror of init show take create enter none = create party role refl
+commands_of_two (order.Enter party peer label side) mirror of init show take create enter none = enter party peer label side refl
+commands_of_two (order.Value party peer label side) mirror of init show take create enter none = of
+commands_of_two (order.Spool party spool) mirror of init show take create enter none = of
+commands_of_two (order.Outbox spool) mirror of init show take create enter none = of
+commands_of_two order.Batch mirror of init show take create enter none = of
+commands_of_two (order.Load party peer label side pair) mirror of init show take create enter none = cc none
+commands_of_two (order.Start party peer label) mirror of init show take create enter none = cc none
+commands_of_two (order.StartKk party peer new label single) mirror of init show take create enter none = cc none
+commands_of_two (order.Ask party peer ultimate) mirror of init show take create enter none = cc none
+commands_of_two (order.Translate party peer ultimate) mirror of init show take create enter none = cc none
+commands_of_two (order.Resend party peer) mirror of init show take create enter none = cc none
+commands_of_two (order.End party peer name) mirror of init show take create enter none = cc none
+commands_of_two (order.Drop party peer) mirror of init show take create enter none = cc none
+commands_of_two (order.Purge party) mirror of init show take create enter none = cc none
+commands_of_two order.Check mirror of init show take create enter none = of
+commands_of_two order.Replay mirror of init show take create enter none = of
+commands_of_two order.Audit mirror of init show take create enter none = of
+commands_of_two (order.Compact party) mirror of init show take create enter none = of
+commands_of_two (order.Migrate party) mirror of init show take create enter none = of
+commands_of_two (order.Wipe party) mirror of init show take create enter none = of
+commands_of_two (order.Compare party other) mirror of init show take create enter none = of
+commands_of_two (order.Pay party peer name ledger amount) mirror of init show take create enter none = of
+commands_of_two (order.Accept party ledger) mirror of init show take create enter none = of
+commands_of_two (order.Drill seed events) mirror of init show take create enter none = of
 
 pub left_all : (o : Order) (mirror : List ℕ) (s : Status) (is_back : List ℕ → Type 0) (unread : Type 0) (e : List ℕ → View) → (IsOfParty s → ⊥) → (is_reading o ≡ false → unread) → LeavesMirrored o mirror s is_back unread e e
 left_all o mirror s is_back unread e none same = record { back = λ of. absurd (none of); others = all (party_of o); unread = same }
@@ -154,8 +174,8 @@ module _ (moment : ℕ) (left before : Option (List ℕ)) (e : List ℕ → View
     made = λ i j read. tt;
     due = λ i j other read is. inr (inr refl);
     safe = record {
-      on_first = λ i j p read recovers. began (e party) (MayLeave w p i (e party).may_leave) (sound party) (λ c left. Before left);
-      on_second = λ i j p read recovers. began (e mirror) (MayLeave w p j (e mirror).may_leave) (sound mirror) (λ c left. Before left);
+      on_first = λ i j p read recovers. began (e party) (MayLeave w i p i (e party).may_leave) (sound party) (λ c left. Before left);
+      on_second = λ i j p read recovers. began (e mirror) (MayLeave w i p j (e mirror).may_leave) (sound mirror) (λ c left. Before left);
       first_tells = refl;
       second_tells = refl;
     };
@@ -179,6 +199,12 @@ module _ (moment : ℕ) (left before : Option (List ℕ)) (e : List ℕ → View
   }
   idle_mirrored (order.Show party) mirror of = idle_call showing IsDueShow [] party mirror
   idle_mirrored (order.Take party) mirror of = inl (inl (inr refl), refl, λ name. alike_refl (e name))
+  idle_mirrored (order.Create party role) mirror of = inl (inl (inr refl), (refl, λ name. alike_refl (e name)))
+  idle_mirrored (order.Enter party peer label side) mirror of = inl (inl (inr refl), (refl, λ name. alike_refl (e name)))
+  idle_mirrored (order.Value party peer label side) mirror of = absurd of
+  idle_mirrored (order.Spool party spool) mirror of = absurd of
+  idle_mirrored (order.Outbox spool) mirror of = absurd of
+  idle_mirrored order.Batch mirror of = absurd of
   idle_mirrored (order.Load party peer label side pair) mirror of = idle_call (turning party (Ordered (command.Load peer label side pair)) moment) (IsDueTurn party (Ordered (command.Load peer label side pair)) moment) (10 ∷ []) party mirror
   idle_mirrored (order.Start party peer label) mirror of = idle_call (turning party (Ordered (command.Start peer label)) moment) (IsDueTurn party (Ordered (command.Start peer label)) moment) (10 ∷ []) party mirror
   idle_mirrored (order.StartKk party peer new label single) mirror of = idle_call (turning party (Ordered (command.StartKk peer label new single)) moment) (IsDueTurn party (Ordered (command.StartKk peer label new single)) moment) (10 ∷ []) party mirror

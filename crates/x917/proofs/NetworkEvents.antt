@@ -92,6 +92,9 @@ module _ {S : Type 0} (entry : S → List ℕ → View)
   network_event rows order.Check values obeys = tt
   network_event rows (order.Init party role key v) values obeys = tt
   network_event rows (order.Load party peer label side pair) values obeys = tt
+  network_event rows (order.Create party role) values obeys = tt
+  network_event rows (order.Enter party peer label side) values obeys = tt
+  network_event rows (order.Value party peer label side) values obeys = tt
   network_event rows (order.Show party) values obeys = tt
   network_event rows (order.Wipe party) values obeys = tt
   network_event rows (order.Compare party mirror) values obeys = tt
@@ -100,6 +103,9 @@ module _ {S : Type 0} (entry : S → List ℕ → View)
   network_event rows (order.Drill seed events) values obeys = tt
   network_event rows (order.Pay party peer name ledger amount) values obeys = tt
   network_event rows (order.Accept party ledger) values obeys = tt
+  network_event rows (order.Spool party spool) values obeys = tt
+  network_event rows (order.Outbox spool) values obeys = tt
+  network_event rows order.Batch values obeys = tt
   network_event rows (order.Compact party) values obeys = record {
     is_action = tt;
     outcome = obeys.outcome;

@@ -1,15 +1,18 @@
 -- An order that tells a party a command, and an order for which no memory is left.
 use Rattle.std.proofs.Common.{◌≡◌, ◌⊎◌, inl, inr, ℕ, true, false, List, [], Option, Some, IfSome, refl, sym, ap, subst, arith, option_map, None}
 use Rattle.x_base.specs.Edge.{Rose}
+use Rattle.x_base.specs.declared.party.Role.{Role}
+use Rattle.x_base.specs.declared.party.Side.{Side}
 use Rattle.x_disk.specs.Disk.{View, IsSound, IsUntouched}
 use Rattle.x_disk.specs.Shelf.{OthersStay, alike_refl}
 use Rattle.x_disk.proofs.Runs.{began}
 use Rattle.x_line.specs.declared.order.Order.{Order}
 use Rattle.x_line.specs.declared.order.Order.TheVariants as order
-use Rattle.x_line.specs.Laws.{AcceptsApart, ComparesApart, FewEvents, PaysApart}
+use Rattle.x_line.specs.Laws.{AcceptsApart, ComparesApart, FewEvents, PaysApart, SpoolsApart}
 use Rattle.x_line.specs.Orders.{IsOrder}
 use Rattle.x_pay.specs.Payments.{paying}
 use Rattle.x_pair.specs.declared.likeness.Compared.TheVariants as compared
+use Rattle.x_spool.specs.declared.outcome.OutboxOutcome.TheVariants as outbox
 use Rattle.party_state.specs.declared.command.Command.TheVariants as command
 use Rattle.party_state.specs.declared.command.Input.{Input}
 use Rattle.party_state.specs.declared.command.Input.TheVariants.{Ordered}
@@ -116,6 +119,9 @@ module _ (t : PartyCommand) (moment : ℕ) (s : Status) (left rest before after 
   obeys_command order.Check is turned = absurd cc
   obeys_command (order.Init party role key v) is turned = absurd cc
   obeys_command (order.Show party) is turned = absurd cc
+  obeys_command (order.Create party role) is turned = absurd cc
+  obeys_command (order.Enter party peer label side) is turned = absurd cc
+  obeys_command (order.Value party peer label side) is turned = absurd cc
   obeys_command (order.Take party) is turned = absurd cc
   obeys_command (order.Load party peer label side pair) is turned = obeys_some (command_of (order.Load party peer label side pair)) is turned
   obeys_command (order.Start party peer label) is turned = obeys_some (command_of (order.Start party peer label)) is turned
@@ -132,6 +138,9 @@ module _ (t : PartyCommand) (moment : ℕ) (s : Status) (left rest before after 
   obeys_command (order.Migrate party) is turned = absurd cc
   obeys_command (order.Pay party peer name ledger amount) is turned = absurd cc
   obeys_command (order.Accept party ledger) is turned = absurd cc
+  obeys_command (order.Spool party spool) is turned = absurd cc
+  obeys_command (order.Outbox spool) is turned = absurd cc
+  obeys_command order.Batch is turned = absurd cc
   obeys_command (order.Wipe party) is turned = absurd cc
   obeys_command (order.Compare party mirror) is turned = absurd cc
   obeys_command (order.Drill seed events) is turned = tt
@@ -143,6 +152,9 @@ module _ (t : PartyCommand) (moment : ℕ) (s : Status) (left rest before after 
   expects_command order.Check is follows = absurd cc
   expects_command (order.Init party role key v) is follows = absurd cc
   expects_command (order.Show party) is follows = absurd cc
+  expects_command (order.Create party role) is follows = absurd cc
+  expects_command (order.Enter party peer label side) is follows = absurd cc
+  expects_command (order.Value party peer label side) is follows = absurd cc
   expects_command (order.Take party) is follows = absurd cc
   expects_command (order.Load party peer label side pair) is follows = expects_some (command_of (order.Load party peer label side pair)) is follows
   expects_command (order.Start party peer label) is follows = expects_some (command_of (order.Start party peer label)) is follows
@@ -159,6 +171,9 @@ module _ (t : PartyCommand) (moment : ℕ) (s : Status) (left rest before after 
   expects_command (order.Migrate party) is follows = absurd cc
   expects_command (order.Pay party peer name ledger amount) is follows = absurd cc
   expects_command (order.Accept party ledger) is follows = absurd cc
+  expects_command (order.Spool party spool) is follows = absurd cc
+  expects_command (order.Outbox spool) is follows = absurd cc
+  expects_command order.Batch is follows = absurd cc
   expects_command (order.Wipe party) is follows = absurd cc
   expects_command (order.Compare party mirror) is follows = absurd cc
   expects_command (order.Drill seed events) is follows = absurd cc
@@ -171,12 +186,16 @@ module _ (t : PartyCommand) (moment : ℕ) (s : Status) (left rest before after 
   no_ledger (order.Pay party peer name ledger amount) is = absurd cc
   no_ledger (order.Accept party ledger) is = absurd cc
   no_ledger (order.Compare party mirror) is = absurd cc
+  no_ledger (order.Spool party spool) is = absurd cc
   no_ledger o is = refl
 
   pub is_party : (o : Order) → command_of o ≡ Some t → party_of o ≡ Some t.party
   is_party order.Check is = absurd cc
   is_party (order.Init party role key v) is = absurd cc
   is_party (order.Show party) is = absurd cc
+  is_party (order.Create party role) is = absurd cc
+  is_party (order.Enter party peer label side) is = absurd cc
+  is_party (order.Value party peer label side) is = absurd cc
   is_party (order.Take party) is = absurd cc
   is_party (order.Load party peer label side pair) is = party_given (command_of (order.Load party peer label side pair)) is
   is_party (order.Start party peer label) is = party_given (command_of (order.Start party peer label)) is
@@ -193,6 +212,9 @@ module _ (t : PartyCommand) (moment : ℕ) (s : Status) (left rest before after 
   is_party (order.Migrate party) is = absurd cc
   is_party (order.Pay party peer name ledger amount) is = absurd cc
   is_party (order.Accept party ledger) is = absurd cc
+  is_party (order.Spool party spool) is = absurd cc
+  is_party (order.Outbox spool) is = absurd cc
+  is_party order.Batch is = absurd cc
   is_party (order.Wipe party) is = absurd cc
   is_party (order.Compare party mirror) is = absurd cc
   is_party (order.Drill seed events) is = party_given (command_of (order.Drill seed events)) is
@@ -200,38 +222,47 @@ module _ (t : PartyCommand) (moment : ℕ) (s : Status) (left rest before after 
 -- ---- the other orders of a party
 
 pub tended_of : (o : Order) → (o ≡ order.Check → ⊥) → (o ≡ order.Replay → ⊥) → (o ≡ order.Audit → ⊥) → ((seed events : ℕ) → o ≡ order.Drill seed events → ⊥)
-    → ((party : List ℕ) → o ≡ order.Take party → ⊥) → ((party ledger : List ℕ) → o ≡ order.Accept party ledger → ⊥) → command_of o ≡ None → is_tended o ≡ true
-tended_of order.Check check replay audit drill take accept none = absurd (check refl)
-tended_of order.Replay check replay audit drill take accept none = absurd (replay refl)
-tended_of order.Audit check replay audit drill take accept none = absurd (audit refl)
-tended_of (order.Drill seed events) check replay audit drill take accept none = absurd (drill seed events refl)
-tended_of (order.Take party) check replay audit drill take accept none = absurd (take party refl)
-tended_of (order.Init party role key v) check replay audit drill take accept none = refl
-tended_of (order.Show party) check replay audit drill take accept none = refl
-tended_of (order.Compact party) check replay audit drill take accept none = refl
-tended_of (order.Migrate party) check replay audit drill take accept none = refl
-tended_of (order.Accept party ledger) check replay audit drill take accept none = absurd (accept party ledger refl)
-tended_of (order.Pay party peer name ledger amount) check replay audit drill take accept none = refl
-tended_of (order.Wipe party) check replay audit drill take accept none = refl
-tended_of (order.Compare party mirror) check replay audit drill take accept none = refl
-tended_of (order.Load party peer label side pair) check replay audit drill take accept none = absurd (cc none)
-tended_of (order.Start party peer label) check replay audit drill take accept none = absurd (cc none)
-tended_of (order.StartKk party peer new label single) check replay audit drill take accept none = absurd (cc none)
-tended_of (order.Ask party peer ultimate) check replay audit drill take accept none = absurd (cc none)
-tended_of (order.Translate party peer ultimate) check replay audit drill take accept none = absurd (cc none)
-tended_of (order.Resend party peer) check replay audit drill take accept none = absurd (cc none)
-tended_of (order.End party peer name) check replay audit drill take accept none = absurd (cc none)
-tended_of (order.Drop party peer) check replay audit drill take accept none = absurd (cc none)
-tended_of (order.Purge party) check replay audit drill take accept none = absurd (cc none)
+    → ((party : List ℕ) → o ≡ order.Take party → ⊥) → ((party ledger : List ℕ) → o ≡ order.Accept party ledger → ⊥)
+    → ((party : List ℕ) (role : Role) → o ≡ order.Create party role → ⊥) → ((party peer label : List ℕ) (side : Side) → o ≡ order.Enter party peer label side → ⊥)
+    → (o ≡ order.Batch → ⊥) → ((party spool : List ℕ) → o ≡ order.Spool party spool → ⊥) → command_of o ≡ None → is_tended o ≡ true
+tended_of order.Check check replay audit drill take accept create enter batch spool none = absurd (check refl)
+tended_of order.Replay check replay audit drill take accept create enter batch spool none = absurd (replay refl)
+tended_of order.Audit check replay audit drill take accept create enter batch spool none = absurd (audit refl)
+tended_of (order.Drill seed events) check replay audit drill take accept create enter batch spool none = absurd (drill seed events refl)
+tended_of (order.Take party) check replay audit drill take accept create enter batch spool none = absurd (take party refl)
+tended_of (order.Init party role key v) check replay audit drill take accept create enter batch spool none = refl
+tended_of (order.Show party) check replay audit drill take accept create enter batch spool none = refl
+tended_of (order.Value party peer label side) check replay audit drill take accept create enter batch spool none = refl
+tended_of (order.Create party role) check replay audit drill take accept create enter batch spool none = absurd (create party role refl)
+tended_of (order.Enter party peer label side) check replay audit drill take accept create enter batch spool none = absurd (enter party peer label side refl)
+tended_of (order.Compact party) check replay audit drill take accept create enter batch spool none = refl
+tended_of (order.Migrate party) check replay audit drill take accept create enter batch spool none = refl
+tended_of (order.Accept party ledger) check replay audit drill take accept create enter batch spool none = absurd (accept party ledger refl)
+tended_of (order.Pay party peer name ledger amount) check replay audit drill take accept create enter batch spool none = refl
+tended_of (order.Wipe party) check replay audit drill take accept create enter batch spool none = refl
+tended_of (order.Compare party mirror) check replay audit drill take accept create enter batch spool none = refl
+tended_of (order.Load party peer label side pair) check replay audit drill take accept create enter batch spool none = absurd (cc none)
+tended_of (order.Start party peer label) check replay audit drill take accept create enter batch spool none = absurd (cc none)
+tended_of (order.StartKk party peer new label single) check replay audit drill take accept create enter batch spool none = absurd (cc none)
+tended_of (order.Ask party peer ultimate) check replay audit drill take accept create enter batch spool none = absurd (cc none)
+tended_of (order.Translate party peer ultimate) check replay audit drill take accept create enter batch spool none = absurd (cc none)
+tended_of (order.Resend party peer) check replay audit drill take accept create enter batch spool none = absurd (cc none)
+tended_of (order.End party peer name) check replay audit drill take accept create enter batch spool none = absurd (cc none)
+tended_of (order.Drop party peer) check replay audit drill take accept create enter batch spool none = absurd (cc none)
+tended_of (order.Purge party) check replay audit drill take accept create enter batch spool none = absurd (cc none)
+tended_of order.Batch check replay audit drill take accept create enter batch spool none = absurd (batch refl)
+tended_of (order.Spool party name) check replay audit drill take accept create enter batch spool none = absurd (spool party name refl)
+tended_of (order.Outbox name) check replay audit drill take accept create enter batch spool none = refl
 
 -- ---- the values of an order
 
-pub within_of : FewEvents → PaysApart → AcceptsApart → ComparesApart → (words : List (List ℕ)) (o : Order) → IsOrder words o → IsWithin o
-within_of few pays accepts compares words (order.Drill seed events) is = few words seed events is
-within_of few pays accepts compares words (order.Pay party peer name ledger amount) is = pays words party peer name ledger amount is
-within_of few pays accepts compares words (order.Accept party ledger) is = accepts words party ledger is
-within_of few pays accepts compares words (order.Compare party mirror) is = compares words party mirror is
-within_of few pays accepts compares words o is = tt
+pub within_of : FewEvents → PaysApart → AcceptsApart → ComparesApart → SpoolsApart → (words : List (List ℕ)) (o : Order) → IsOrder words o → IsWithin o
+within_of few pays accepts compares spools words (order.Drill seed events) is = few words seed events is
+within_of few pays accepts compares spools words (order.Pay party peer name ledger amount) is = pays words party peer name ledger amount is
+within_of few pays accepts compares spools words (order.Accept party ledger) is = accepts words party ledger is
+within_of few pays accepts compares spools words (order.Compare party mirror) is = compares words party mirror is
+within_of few pays accepts compares spools words (order.Spool party spool) is = spools words party spool is
+within_of few pays accepts compares spools words o is = tt
 
 -- ---- where nothing was touched
 
@@ -294,6 +325,9 @@ module _ (moment : ℕ) (left before : Option (List ℕ)) (e : List ℕ → View
     ends = (refl, refl);
   }
   idle (order.Show party) = record { outcome = outcome.NoMemory; shows = tt; untouched = untouched (e party) (sound party); ends = (refl, refl) }
+  idle (order.Create party role) = inl (inl (inr refl), (refl, λ name. alike_refl (e name)))
+  idle (order.Enter party peer label side) = inl (inl (inr refl), (refl, λ name. alike_refl (e name)))
+  idle (order.Value party peer label side) = record { outcome = outcome.NoMemory; asked = inr tt; untouched = untouched (e party) (sound party); ends = (refl, refl) }
   idle (order.Take party) = inl (inl (inr refl), refl, alike_refl (e party))
   idle (order.Load party peer label side pair) = still_turn party (Ordered (command.Load peer label side pair))
   idle (order.Start party peer label) = still_turn party (Ordered (command.Start peer label))
@@ -306,6 +340,9 @@ module _ (moment : ℕ) (left before : Option (List ℕ)) (e : List ℕ → View
   idle order.Audit = tt
   idle (order.Pay party peer name ledger amount) = idle_payment (paying peer name amount) party ledger e before sound
   idle (order.Accept party ledger) = inl (inr refl, refl, λ name. alike_refl (e name))
+  idle (order.Spool party spool) = inl (inl (inr refl), refl, λ name. alike_refl (e name))
+  idle (order.Outbox spool) = record { outcome = outbox.NoMemory; shows = λ book now answered. absurd answered; untouched = untouched (e spool) (sound spool); ends = (refl, refl) }
+  idle order.Batch = inl (inr refl, refl)
   idle (order.StartKk party peer new label single) = still_turn party (Ordered (command.StartKk peer label new single))
   idle (order.Translate party peer ultimate) = still_turn party (Ordered (command.Translate peer ultimate))
   idle (order.Compact party) = record { outcome = outcome.NoMemory; rewritten = tt; safe = still_rewriting compacted_in (e party) (sound party); ends = (refl, refl) }

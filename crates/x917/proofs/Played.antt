@@ -100,7 +100,7 @@ module _ (read reads put puts disk disks : ℕ) where
   cause_drilled entry seed events status.WriteFault before after d write = write refl
   cause_drilled entry seed events status.DiskFault before after d write = absurd d.0
   cause_drilled entry seed events (status.Damaged place) before after d write = tt
-  cause_drilled entry seed events (status.BadScenario number) before after d write = tt
+  cause_drilled entry seed events (status.BadScenario number) before after d write = absurd d.0
   cause_drilled entry seed events (status.Forged number) before after d write = tt
   cause_drilled entry seed events status.NoMemory before after d write = tt
 

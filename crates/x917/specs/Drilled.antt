@@ -4,7 +4,7 @@ use Rattle.x_base.specs.Edge.{AppendsTo, WrotePrefix}
 use Rattle.x_disk.specs.Disk.{View}
 use Rattle.scenario.specs.declared.line.Line.{Line}
 use Rattle.scenario_drill.specs.Drill.{drill_text}
-use Rattle.scenario.specs.Reading.{IsFirstBad, IsScenario}
+use Rattle.scenario.specs.Reading.{IsScenario}
 use Rattle.course.specs.Ends.{is_event}
 use Rattle.replay.specs.Playing.{around, IsPlay}
 use Rattle.course.specs.Summary.{summary_of}
@@ -41,8 +41,10 @@ pub record IsDrilled {H : Type 0} (entry : H → List ℕ → View) (seed events
   pub whole : IsPlayedWhole (entry old) (around lines (entry new) 0 0 None None)
   -- the numbers are those of the outcomes so far, and of the key records of all parties in the end
   pub tallied : IsTallied whole.course.now whole.course.world.members tally
-  -- each line that is an event is one, each has one outcome, and the texts are those that were written
+  -- each line that is an event is one, and stands in the list of what happened; each has one outcome; and the texts are those
+  -- that were written
   pub events_are : tally.events ≡ count_by is_event lines
+  pub listed : length whole.course.happened ≡ tally.events
   pub outcomes_are : tally.done + tally.refused + tally.stopped + tally.none ≡ tally.events
   pub texts_are : tally.texts ≡ length whole.course.world.texts
 
@@ -54,10 +56,9 @@ pub record IsDrilledUpTo {H : Type 0} (entry : H → List ℕ → View) (seed ev
   pub over : IsDrillOver entry seed events lines old
   pub up_to : IsPlayedUpTo (entry old) (around lines (entry new) 0 0 None None) number
 
--- a drill that isn't played to its end
+-- a drill that isn't played to its end. Its text is a scenario, so that no line of it is bad
 abbrev pub EndsDrill : {H : Type 0} → (H → List ℕ → View) → ℕ → ℕ → Status → Type 0
 EndsDrill entry seed events (status.Forged number) = IsDrilledUpTo entry seed events number
-EndsDrill entry seed events (status.BadScenario number) = IsFirstBad (drill_text seed events) number
 EndsDrill entry seed events status.NoMemory = Unit {0}
 EndsDrill entry seed events s = ⊥
 

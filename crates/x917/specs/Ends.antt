@@ -3,7 +3,7 @@ use Rattle.std.specs.Prelude.{◌≡◌, ◌⊎◌, ◌++◌, ℕ, List, Option,
 use Rattle.x_base.specs.Edge.{AppendsTo, WrotePrefix}
 use Rattle.x_party.specs.declared.outcome.Outcome.{Outcome}
 use Rattle.x_party.specs.declared.outcome.Outcome.TheVariants as outcome
-use Rattle.x_status.specs.declared.status.Refusal.TheVariants.{Decided, OtherParty, Pay, Unlike}
+use Rattle.x_status.specs.declared.status.Refusal.TheVariants.{Decided, OtherBatch, OtherParty, OutOfStep, Pay, Unlike, Unplanned}
 use Rattle.x_status.specs.declared.status.Status.{Status}
 use Rattle.x_status.specs.declared.status.Status.TheVariants as status
 
@@ -38,6 +38,9 @@ IsOfParty (status.Refused (Decided verdict)) = Unit {0}
 IsOfParty (status.Refused (OtherParty asked found)) = Unit {0}
 IsOfParty (status.Refused (Pay cause)) = Unit {0}
 IsOfParty (status.Refused Unlike) = Unit {0}
+IsOfParty (status.Refused OtherBatch) = Unit {0}
+IsOfParty (status.Refused (OutOfStep entry)) = Unit {0}
+IsOfParty (status.Refused (Unplanned missing)) = Unit {0}
 IsOfParty (status.Damaged place) = Unit {0}
 IsOfParty status.WriteFault = Unit {0}
 IsOfParty s = ⊥

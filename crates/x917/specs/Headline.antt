@@ -1,6 +1,6 @@
 -- What the playing of a scenario says (this project's profile). `old` and `entry` are what the shelf tells of the disks
 -- before and after.
-use Rattle.std.specs.Prelude.{◌≡◌, ◌⊎◌, ◌++◌, ℕ, List, [], ◌∷◌, Contains, Option, Some, IfSome}
+use Rattle.std.specs.Prelude.{◌≡◌, ◌⊎◌, ◌++◌, ℕ, true, false, List, [], ◌∷◌, Contains, Option, Some, IfSome}
 use Rattle.x_base.specs.Edge.{AppendsTo}
 use Rattle.x_base.specs.declared.verdict.Verdict.TheVariants.{NotEmpty}
 use Rattle.x_disk.specs.Disk.{View}
@@ -8,9 +8,10 @@ use Rattle.x_disk.specs.Shelf.{IsAlike, AllStay}
 use Rattle.scenario.specs.declared.line.Line.{Line}
 use Rattle.scenario.specs.Reading.{IsFirstBad, IsScenario}
 use Rattle.world_laws.specs.World.{World}
+use Rattle.world_laws.specs.Events.{Event}
 use Rattle.world_laws.specs.Steps.{step}
 use Rattle.replay.specs.Breaking.{AreOnShelf}
-use Rattle.course.specs.Course.{Course, Leads}
+use Rattle.course.specs.Course.{Course, Leads, events_of}
 use Rattle.course.specs.Lawful.{IsLawful}
 use Rattle.course.specs.Lines.{IsForgedIn}
 use Rattle.replay.specs.Playing.{Surroundings, around, AreDurable, IsBrokenAhead, IsBrokenPlay, IsBrokenSetUp, IsDoneAhead, IsNotEmpty, WereBlank}
@@ -35,9 +36,9 @@ pub record IsPlayedWhole (old : List ℕ → View) (g : Surroundings) : Type 0 w
   -- its two outcomes. Which one, is in `IsFixed`: where the change fits, the old state stands with the disk call 1 or 2, and
   -- with 3 or 4 under choice 0; the new one with 4 under choice 1, where the shelf's faults didn't rise, and with 5
   pub course : Course
-  pub leads : Leads g.before g.after g.lines (start_course g.lines) course
-  -- that is an honest run, and the laws hold of its end
-  pub lawful : IsLawful (start_world g.lines) course.world
+  pub leads : Leads true g.before g.after g.lines (start_course g.lines) course
+  -- what happened on the way is an honest run, and the laws hold of its end
+  pub lawful : IsLawful (start_world g.lines) (events_of course.happened) course.world
   -- the image of each party's disk stands for its state in the end, with the room that is left; a crash leaves no other
   pub images : AreOnShelf g.entry course.world.members
   pub durable : AreDurable g.entry course.world.members
@@ -50,9 +51,9 @@ pub record IsPlayedUpTo (old : List ℕ → View) (g : Surroundings) (number : �
   -- the lines in front led to this course, in which the next event is the first forged one: a code agrees that no holder of
   -- its key made
   pub course : Course
-  pub forged : IsForgedIn g.before g.after g.lines (start_course g.lines) course number
-  -- the events before it are an honest run, and the laws hold of its end
-  pub lawful : IsLawful (start_world g.lines) course.world
+  pub forged : IsForgedIn true g.before g.after g.lines (start_course g.lines) course number
+  -- what happened before it is an honest run, and the laws hold of its end
+  pub lawful : IsLawful (start_world g.lines) (events_of course.happened) course.world
   -- the image of each party's disk stands for its state there, with its room
   pub images : AreOnShelf g.entry course.world.members
   pub durable : AreDurable g.entry course.world.members
@@ -64,6 +65,11 @@ abbrev pub broken_world : (g : Surroundings) (back : List Line) (c : Course) →
 broken_world g [] c at = c.world
 broken_world g (line ∷ back) c at = step c.now.number c.world at.event
 
+-- and what led there
+abbrev pub broken_events : (g : Surroundings) (back : List Line) (c : Course) → IsBrokenAhead g back c → List Event
+broken_events g [] c at = events_of c.happened
+broken_events g (line ∷ back) c at = events_of c.happened ++ at.event ∷ []
+
 -- the play broke off behind the set-up
 pub record IsPlayedInPart (old : List ℕ → View) (g : Surroundings) : Type 0 where
   pub blank : WereBlank old g
@@ -72,7 +78,7 @@ pub record IsPlayedInPart (old : List ℕ → View) (g : Surroundings) : Type 0 
   -- all events are done, a beginning of what the parties show
   pub part : IsBrokenPlay g
   -- the events so far are an honest run, and the laws hold of its end
-  pub lawful : IsLawful (start_world g.lines) (broken_world g part.back part.course part.broken)
+  pub lawful : IsLawful (start_world g.lines) (broken_events g part.back part.course part.broken) (broken_world g part.back part.course part.broken)
   -- the image of each party's disk stands for its state there, with its room
   pub images : AreOnShelf g.entry (broken_world g part.back part.course part.broken).members
 
@@ -100,6 +106,31 @@ Says old g status.DiskFault = DisksTell old g → IsPlayedEarly old g
 Says old g status.NoMemory = DisksTell old g → IsPlayedEarly old g
 Says old g (status.Damaged place) = DisksTell old g → ⊥
 Says old g s = ⊥
+
+-- over every shelf, whether its disks tell their bytes or not, the scenario was played to its end
+pub record IsRunWhole (g : Surroundings) : Type 0 where
+  -- line by line the scenario led from its start to this end. An event is whole; or, behind a STOP line, cut with the old
+  -- state or the new one, and with the new one only where a change is kept
+  pub course : Course
+  pub leads : Leads false g.before g.after g.lines (start_course g.lines) course
+  -- what happened on the way is an honest run, and the laws hold of its end
+  pub lawful : IsLawful (start_world g.lines) (events_of course.happened) course.world
+  -- what was written is the transcript: the lines of each event, and behind them what each party shows
+  pub out : AppendsTo g.start g.written (course.transcript ++ show_lines course.world.members)
+
+-- or up to the event of this number, the first forged one
+pub record IsRunUpTo (g : Surroundings) (number : ℕ) : Type 0 where
+  pub course : Course
+  pub forged : IsForgedIn false g.before g.after g.lines (start_course g.lines) course number
+  pub lawful : IsLawful (start_world g.lines) (events_of course.happened) course.world
+  -- the lines of the events before it were written, and nothing else
+  pub out : AppendsTo g.start g.written course.transcript
+
+-- what the status says over every shelf
+abbrev pub SaysOfRun : Surroundings → Status → Type 0
+SaysOfRun g status.Done = IsRunWhole g
+SaysOfRun g (status.Forged number) = IsRunUpTo g number
+SaysOfRun g s = Unit {0}
 
 -- the status of what became of a scenario
 abbrev pub status_of_play : PlayResult → Status
@@ -130,6 +161,7 @@ IsUnread left s = ((s ≡ status.ReadFault) ⊎ (s ≡ status.NoMemory))
 pub record IsReplayed (left rest : Option (List ℕ)) (old : List ℕ → View) (g : Surroundings) (s : Status) : Type 0 where
   pub read : ReadsScenario left rest g.lines
   pub says : Says old g s
+  pub runs : SaysOfRun g s
   pub others : (own : List ℕ) → (Contains (parties_in g.lines) own → ⊥) → IsAlike (old own) (g.entry own)
 
 -- what `replay` says. `left` and `rest` are what the source has before and after, `before` and `after` what the sink has, and

@@ -6,6 +6,9 @@ pub mod Playable
 pub mod Audited
 pub mod Paid
 pub mod Compared
+pub mod Entered
 pub mod Obeys
 pub mod Network
 pub mod Mirrored
+pub mod Spooled
+pub mod Batched

@@ -3,7 +3,9 @@
 use Rattle.std.specs.Prelude.{◌≡◌, ◌⊎◌, ℕ, false, List, [], ◌∷◌, Option, Some, None, IfSome}
 use Rattle.x_disk.specs.Disk.{View}
 use Rattle.x_disk.specs.Shelf.{AllStay}
+use Rattle.key_parts.specs.declared.part.Form.TheVariants as form
 use Rattle.csm_grammar.specs.declared.arrival.Arrival.{Arrival}
+use Rattle.party_state.specs.declared.command.Command.TheVariants as command
 use Rattle.party_state.specs.declared.command.Input.TheVariants.{Ordered, Arrived}
 use Rattle.party_state.specs.State.{Party, begun}
 use Rattle.disk_pair.specs.Pairs.{ThirdsStay}
@@ -17,6 +19,7 @@ use Rattle.x_status.specs.declared.status.Status.{Status}
 use Rattle.csm_check.specs.Listening.{IsHeard, IsUnheard}
 use Rattle.x917.specs.declared.party_command.PartyCommand.{PartyCommand}
 use Rattle.x917.specs.Ends.{Ends, IsOfParty}
+use Rattle.x917.specs.Entered.{EntersKey, IsUnchanged, IsValuedPairCall, IsValuedPairCreation}
 use Rattle.x917.specs.Obeys.{command_of, is_reading, party_of}
 
 -- a call over two disks did this, with the outcome that is due by the two images, a fault or want of memory; its reply was written
@@ -49,6 +52,10 @@ IsTakenOfTwo party mirror moment left rest old new s before after = (IsUnheard l
 abbrev pub ObeysMirrored : Order → List ℕ → ℕ → Status → Option (List ℕ) → Option (List ℕ) → Option (List ℕ) → Option (List ℕ) → (List ℕ → View) → (List ℕ → View) → Type 0
 ObeysMirrored (order.Init party role key v) mirror moment s left rest before after old new =
     IsPairCreation (begun party role (record { key = key; v = v })) party mirror old new s before after
+ObeysMirrored (order.Create party role) mirror moment s left rest before after old new = EntersKey form.Generator left rest s (IsUnchanged before after old new)
+    (λ part. IsValuedPairCreation (begun party role (record { key = part.pair; v = part.seed })) party mirror old new s before after)
+ObeysMirrored (order.Enter party peer label side) mirror moment s left rest before after old new = EntersKey form.Key left rest s (IsUnchanged before after old new)
+    (λ part. IsValuedPairCall (turning party (Ordered (command.Load peer label side part.pair)) moment) (IsDueTurn party (Ordered (command.Load peer label side part.pair)) moment) part.pair party mirror old new s before after)
 ObeysMirrored (order.Show party) mirror moment s left rest before after old new = IsPairCall showing IsDueShow [] party mirror old new s before after
 ObeysMirrored (order.Take party) mirror moment s left rest before after old new = IsTakenOfTwo party mirror moment left rest old new s before after
 ObeysMirrored o mirror moment s left rest before after old new = ObeysMirroredCommand (command_of o) mirror moment old new s before after

@@ -42,12 +42,16 @@ abbrev pub IsCommandEvent : Option PartyCommand → ℕ → (List ℕ → View) 
 IsCommandEvent (Some t) moment old new s before after = IsNamedEvent t.party (Orders t.command) moment (10 ∷ []) (old t.party) (new t.party) s before after
 IsCommandEvent None moment old new s before after = Unit {0}
 
--- what an order is in a network: parties begin, and links are loaded, before its events; showing, wiping, comparing,
--- checking, auditing and payments, which change no party, are none; a scenario is a network of its own, of which Headline speaks
+-- what an order is in a network: parties begin, and links are loaded, before its events; showing, check values, wiping,
+-- comparing, checking, auditing and payments, which change no party, are none, nor is a batch, which is many; a scenario is a
+-- network of its own, of which Headline speaks
 abbrev pub IsNetworkEvent : Order → ℕ → Status → Option (List ℕ) → Option (List ℕ) → Option (List ℕ) → (List ℕ → View) → (List ℕ → View) → Type 0
 IsNetworkEvent order.Check moment s left before after old new = Unit {0}
 IsNetworkEvent (order.Init party role key v) moment s left before after old new = Unit {0}
 IsNetworkEvent (order.Load party peer label side pair) moment s left before after old new = Unit {0}
+IsNetworkEvent (order.Create party role) moment s left before after old new = Unit {0}
+IsNetworkEvent (order.Enter party peer label side) moment s left before after old new = Unit {0}
+IsNetworkEvent (order.Value party peer label side) moment s left before after old new = Unit {0}
 IsNetworkEvent (order.Show party) moment s left before after old new = Unit {0}
 IsNetworkEvent (order.Wipe party) moment s left before after old new = Unit {0}
 IsNetworkEvent (order.Compare party mirror) moment s left before after old new = Unit {0}
@@ -56,6 +60,9 @@ IsNetworkEvent order.Audit moment s left before after old new = Unit {0}
 IsNetworkEvent (order.Drill seed events) moment s left before after old new = Unit {0}
 IsNetworkEvent (order.Pay party peer name ledger amount) moment s left before after old new = Unit {0}
 IsNetworkEvent (order.Accept party ledger) moment s left before after old new = Unit {0}
+IsNetworkEvent (order.Spool party spool) moment s left before after old new = Unit {0}
+IsNetworkEvent (order.Outbox spool) moment s left before after old new = Unit {0}
+IsNetworkEvent order.Batch moment s left before after old new = Unit {0}
 IsNetworkEvent (order.Compact party) moment s left before after old new = IsEvent Compacts moment [] (old party) (new party) s before after
 IsNetworkEvent (order.Migrate party) moment s left before after old new = IsEvent Migrates moment [] (old party) (new party) s before after
 IsNetworkEvent (order.Take party) moment s left before after old new = IsArrivalEvent party moment left (old party) (new party) s before after

@@ -11,6 +11,7 @@ use Rattle.x_line.specs.declared.usage.UsageKind.{UsageKind}
 use Rattle.x_line.specs.declared.usage.UsageKind.TheVariants.{Line}
 use Rattle.x_line.specs.Line.{is_line}
 use Rattle.x_line.specs.Usage.{usage_of}
+use Rattle.key_parts.specs.declared.part.Form.TheVariants as form
 use Rattle.csm_grammar.specs.declared.arrival.Arrival.{Arrival}
 use Rattle.csm_feed.specs.Heard.{input_limit}
 use Rattle.party_state.specs.declared.command.Command.TheVariants as command
@@ -20,6 +21,7 @@ use Rattle.party_state.specs.State.{Party, begun}
 use Rattle.change_code.specs.declared.format.Format.{Format}
 use Rattle.key_store.specs.Store.{IsBlankOrFirst}
 use Rattle.member.specs.Acts.{compacted_in, migrated_in}
+use Rattle.x_party.specs.Asking.{IsDueAnswer, value_answer}
 use Rattle.x_party.specs.Images.{StillTells, OrBefore}
 use Rattle.x_party.specs.Outcomes.{CreatesParty, ShowsParty, RewritesParty, WipesParty, TakesTurn, IsSafe, IsSafeRewriting, IsSafeWiping}
 use Rattle.x_party.specs.Dues.{IsDue, IsDueCompaction, IsDueCreation, IsDueMigration, IsDueShow, IsDueWiping}
@@ -39,6 +41,9 @@ use Rattle.x917.specs.Headline.{scenario_limit}
 use Rattle.x917.specs.Paid.{FollowsPayment, IsAccepted, IsPayment, payment_limit, payment_taken}
 use Rattle.x917.specs.Playable.{ExpectsReplay, ExpectsDrill}
 use Rattle.x917.specs.Compared.{FollowsComparison, IsComparing}
+use Rattle.x917.specs.Batched.{FollowsInbox, IsMade}
+use Rattle.x917.specs.Spooled.{FollowsBatch, FollowsOutbox, IsBatched, IsOutboxCall, batch_limit}
+use Rattle.x917.specs.Entered.{EntersKey, ExpectsKey, IsUnchanged, IsValuedCreation, IsValuedTurn, IsValuing, digits_limit}
 
 -- the command that an order gives to a party
 abbrev pub command_of : Order → Option PartyCommand
@@ -105,6 +110,12 @@ abbrev pub Obeys : Order → ℕ → Status → Option (List ℕ) → Option (Li
 Obeys order.Check moment s left rest before after old new = IsChecked s left rest before after
 Obeys (order.Init party role key v) moment s left rest before after old new =
     IsCreation (begun party role (record { key = key; v = v })) (old party) (new party) s before after
+Obeys (order.Create party role) moment s left rest before after old new = EntersKey form.Generator left rest s (IsUnchanged before after old new)
+    (λ part. IsValuedCreation (begun party role (record { key = part.pair; v = part.seed })) (old party) (new party) s before after)
+Obeys (order.Enter party peer label side) moment s left rest before after old new = EntersKey form.Key left rest s (IsUnchanged before after old new)
+    (λ part. IsValuedTurn party (Ordered (command.Load peer label side part.pair)) part.pair moment (old party) (new party) s before after)
+Obeys (order.Value party peer label side) moment s left rest before after old new =
+    IsValuing (record { peer = peer; label = label; side = side }) (old party) (new party) s before after
 Obeys (order.Show party) moment s left rest before after old new = IsListing (old party) (new party) s before after
 Obeys (order.Compact party) moment s left rest before after old new = IsRewriting compacted_in (old party) (new party) s before after
 Obeys (order.Migrate party) moment s left rest before after old new = IsRewriting migrated_in (old party) (new party) s before after
@@ -115,6 +126,9 @@ Obeys order.Audit moment s left rest before after old new = Unit {0}
 Obeys (order.Drill seed events) moment s left rest before after old new = Unit {0}
 Obeys (order.Pay party peer name ledger amount) moment s left rest before after old new = IsPayment (paying peer name amount) party ledger old new s before after
 Obeys (order.Accept party ledger) moment s left rest before after old new = IsAccepted party ledger left rest old new s before after
+Obeys (order.Spool party spool) moment s left rest before after old new = IsBatched party spool left rest old new s before after
+Obeys (order.Outbox spool) moment s left rest before after old new = IsOutboxCall (old spool) (new spool) s before after
+Obeys order.Batch moment s left rest before after old new = IsMade moment left rest s before after
 Obeys (order.Take party) moment s left rest before after old new = IsTaken party moment left rest (old party) (new party) s before after
 Obeys o moment s left rest before after old new = ObeysCommand (command_of o) moment old new s before after
 
@@ -126,6 +140,10 @@ ExpectsCommand None moment old s = Unit {0}
 abbrev pub Expects : Order → ℕ → Option (List ℕ) → (List ℕ → View) → Status → Type 0
 Expects order.Check moment left old s = IsExact left s
 Expects (order.Init party role key v) moment left old s = Follows (old party) IsDueCreation s
+Expects (order.Create party role) moment left old s = IfSome left (λ all. ExpectsKey form.Generator all s (λ part. Follows (old party) IsDueCreation s))
+Expects (order.Enter party peer label side) moment left old s = IfSome left (λ all. ExpectsKey form.Key all s (λ part.
+    Follows (old party) (IsDue party (Ordered (command.Load peer label side part.pair)) moment) s))
+Expects (order.Value party peer label side) moment left old s = Follows (old party) (IsDueAnswer (value_answer (record { peer = peer; label = label; side = side }))) s
 Expects (order.Show party) moment left old s = Follows (old party) IsDueShow s
 Expects (order.Compact party) moment left old s = Follows (old party) IsDueCompaction s
 Expects (order.Migrate party) moment left old s = Follows (old party) IsDueMigration s
@@ -136,13 +154,19 @@ Expects order.Audit moment left old s = IfSome left (λ all. ExpectsAudit (audit
 Expects (order.Drill seed events) moment left old s = ExpectsDrill seed events s
 Expects (order.Pay party peer name ledger amount) moment left old s = FollowsPayment (paying peer name amount) party (old party) (old ledger) s
 Expects (order.Accept party ledger) moment left old s = IfSome left (λ all. FollowsPayment (accepting (payment_taken all)) party (old party) (old ledger) s)
+Expects (order.Spool party spool) moment left old s = IfSome left (λ all. FollowsBatch party spool all old s)
+Expects (order.Outbox spool) moment left old s = FollowsOutbox (old spool) s
+Expects order.Batch moment left old s = IfSome left (λ all. FollowsInbox all s)
 Expects (order.Take party) moment left old s = IfSome left (λ all. FollowsBytes all party (old party) moment s)
 Expects o moment left old s = ExpectsCommand (command_of o) moment old s
 
--- the party of an order
+-- the party of an order, or the spool that is looked at
 abbrev pub party_of : Order → Option (List ℕ)
 party_of order.Check = None
 party_of (order.Init party role key v) = Some party
+party_of (order.Create party role) = Some party
+party_of (order.Enter party peer label side) = Some party
+party_of (order.Value party peer label side) = Some party
 party_of (order.Show party) = Some party
 party_of (order.Compact party) = Some party
 party_of (order.Migrate party) = Some party
@@ -151,13 +175,17 @@ party_of (order.Compare party mirror) = Some party
 party_of (order.Take party) = Some party
 party_of (order.Pay party peer name ledger amount) = Some party
 party_of (order.Accept party ledger) = Some party
+party_of order.Batch = None
+party_of (order.Spool party spool) = Some party
+party_of (order.Outbox spool) = Some spool
 party_of o = option_map (λ (t : PartyCommand). t.party) (command_of o)
 
--- the other disk of an order: a ledger, or the second disk of a party
+-- the other disk of an order: a ledger, a spool, or the second disk of a party
 abbrev pub ledger_of : Order → Option (List ℕ)
 ledger_of (order.Pay party peer name ledger amount) = Some ledger
 ledger_of (order.Accept party ledger) = Some ledger
 ledger_of (order.Compare party mirror) = Some mirror
+ledger_of (order.Spool party spool) = Some spool
 ledger_of o = None
 
 -- the disks under other names than these stay
@@ -166,15 +194,17 @@ OthersOf None ledger old new = AllStay old new
 OthersOf (Some party) None old new = OthersStay party old new
 OthersOf (Some party) (Some ledger) old new = ThirdsStay party ledger old new
 
--- the orders that begin, show, compare or look after the file of a party, or pay out of it
+-- the orders that begin, show, compare or look after the file of a party, pay out of it, or look at a spool
 abbrev pub is_tended : Order → Bool
 is_tended (order.Init party role key v) = true
 is_tended (order.Show party) = true
+is_tended (order.Value party peer label side) = true
 is_tended (order.Compact party) = true
 is_tended (order.Migrate party) = true
 is_tended (order.Wipe party) = true
 is_tended (order.Compare party mirror) = true
 is_tended (order.Pay party peer name ledger amount) = true
+is_tended (order.Outbox spool) = true
 is_tended o = false
 
 -- the order that sets up parties of its own on the shelf
@@ -188,7 +218,11 @@ is_reading order.Check = true
 is_reading order.Replay = true
 is_reading order.Audit = true
 is_reading (order.Take party) = true
+is_reading (order.Create party role) = true
+is_reading (order.Enter party peer label side) = true
 is_reading (order.Accept party ledger) = true
+is_reading (order.Spool party spool) = true
+is_reading order.Batch = true
 is_reading o = false
 
 -- how many bytes of the source an order takes at most
@@ -197,6 +231,10 @@ most_of order.Replay = scenario_limit
 most_of order.Audit = audit_limit
 most_of (order.Drill seed events) = 0
 most_of (order.Accept party ledger) = payment_limit
+most_of (order.Spool party spool) = batch_limit
+most_of order.Batch = batch_limit
+most_of (order.Create party role) = digits_limit
+most_of (order.Enter party peer label side) = digits_limit
 most_of o = input_limit
 
 -- with these statuses an order writes nothing. The playing of a scenario may break off behind its first lines
@@ -222,16 +260,17 @@ pub record JudgesWords (words : List (List ℕ)) (s : Status) (stays : Type 0) :
   pub line : s ≡ status.Usage Line → is_line words ≡ false
   pub untouched : (kind : UsageKind) → usage_of words ≡ Some kind → stays
 
--- what holds of the values of an order that words stand for: a drill has 1 to 10,000 events, and a ledger or a second disk
+-- what holds of the values of an order that words stand for: a drill has 1 to 10,000 events, and a ledger, a spool or a second disk
 -- another name than the party
 abbrev pub IsWithin : Order → Type 0
 IsWithin (order.Drill seed events) = (1 ≤ events) × (events ≤ 10000)
 IsWithin (order.Pay party peer name ledger amount) = party ≢ ledger
 IsWithin (order.Accept party ledger) = party ≢ ledger
 IsWithin (order.Compare party mirror) = party ≢ mirror
+IsWithin (order.Spool party spool) = party ≢ spool
 IsWithin o = Unit {0}
 
--- what a payment leaves, and why it failed: where the party answered both disks are back on the shelf, the others stay, with a
+-- what a payment or a batch leaves, and why it failed: where the party answered both disks are back on the shelf, the others stay, with a
 -- silent status nothing is written, and a fault comes only where a count of faults rose. The counts are those of the sink and the
 -- shelf, before and after
 pub record LeavesRest (party ledger : List ℕ) (s : Status) (is_back : List ℕ → Type 0) (unwritten : Type 0) (old new : List ℕ → View) (put puts disk disks : ℕ) : Type 0 where

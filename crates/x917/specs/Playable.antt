@@ -1,5 +1,5 @@
 -- The status that is due of the playing of a scenario, where no count of faults rises (this project's profile).
-use Rattle.std.specs.Prelude.{◌≡◌, ◌⊎◌, ℕ, false, List, [], ◌∷◌, Some}
+use Rattle.std.specs.Prelude.{◌≡◌, ◌⊎◌, ℕ, true, false, List, [], ◌∷◌, Some}
 use Rattle.x_base.specs.declared.verdict.Verdict.TheVariants.{NotEmpty}
 use Rattle.x_disk.specs.Disk.{View}
 use Rattle.key_journal.specs.Journal.{is_blank}
@@ -22,11 +22,11 @@ IsOrNoMemory s due = (s ≡ due) ⊎ (s ≡ status.NoMemory)
 
 -- whichever outcomes the stopped events have, no event of the scenario is forged
 abbrev pub IsHonest : List Line → Type 0
-IsHonest lines = (before after : ℕ) (c : Course) (number : ℕ) → IsQuiet before after → IsForgedIn before after lines (start_course lines) c number → ⊥
+IsHonest lines = (before after : ℕ) (c : Course) (number : ℕ) → IsQuiet before after → IsForgedIn true before after lines (start_course lines) c number → ⊥
 
 -- whichever outcomes the stopped events have, the scenario can't be played to its end
 abbrev pub IsForgedAlways : List Line → Type 0
-IsForgedAlways lines = (before after : ℕ) (c : Course) → IsQuiet before after → Leads before after lines (start_course lines) c → ⊥
+IsForgedAlways lines = (before after : ℕ) (c : Course) → IsQuiet before after → Leads true before after lines (start_course lines) c → ⊥
 
 -- the disk of a party isn't blank
 abbrev pub AnyFilled : (List ℕ → View) → List (List ℕ) → Type 0
@@ -55,6 +55,5 @@ pub record ExpectsReplay (all : List ℕ) (old : List ℕ → View) (s : Status)
 
 -- of a drill
 pub record ExpectsDrill (seed events : ℕ) (s : Status) : Type 0 where
-  pub bad : (number : ℕ) → IsFirstBad (drill_text seed events) number → IsOrNoMemory s (status.BadScenario number)
   pub honest : (lines : List Line) → IsScenario (drill_text seed events) lines → IsHonest lines → IsOrNoMemory s status.Done
   pub forged : (lines : List Line) → IsScenario (drill_text seed events) lines → IsForgedAlways lines → ((number : ℕ) × (s ≡ status.Forged number)) ⊎ (s ≡ status.NoMemory)

@@ -10,8 +10,8 @@ ghost use Rattle.x_status.specs.Causes.{IsSilent};
 use crate::courses::law_courses;
 use course::{Tally, law_counted, law_scenario_starts, summary};
 use replay::{PlayResult, play};
-use scenario::{Scenario, ScenarioFault, law_never_both, law_one_first_bad, law_one_scenario};
-use scenario_drill::drill;
+use scenario::{Scenario, ScenarioFault, law_never_both, law_one_scenario};
+use scenario_drill::{drill, law_drills_read};
 use std::alloc::Global;
 use x_base::{Sink, SinkFault, put_all};
 use x_disk::{MemoryShelf, Shelf};
@@ -38,12 +38,14 @@ fn drilled_scenario(alloc: Global, seed: u64, events: u32) -> Result<Scenario, S
     ensures read { IfOk result (λ lines. IsScenario (drill_text seed events) lines) }
     ensures unread { IfErr result (λ s. EndsDrill ⟦<MemoryShelf as Shelf>⟧.entry seed events s) }
 {
+    law_drills_read();
+    law_never_both();
     let Ok(text) = drill(alloc, seed, events) else {
         return Err(Status::NoMemory);
     };
     match scenario::read(alloc, text.bytes()) {
         Ok(scenario) => Ok(scenario),
-        Err(ScenarioFault::BadLine(number)) => Err(Status::BadScenario(number)),
+        Err(ScenarioFault::BadLine(_)) => unreachable!(),
         Err(ScenarioFault::NoMemory) => Err(Status::NoMemory),
     }
 }
@@ -83,8 +85,6 @@ pub fn drill_all<K: Sink>(alloc: Global, seed: u64, events: u32, sink: &mut K) -
     ensures expects { IsQuiet (K.faults sink.old) (K.faults sink.new) → ExpectsDrill seed events result }
     ensures output { GivesOutput result (IsSilent result) (sink.new ≡ sink.old) (K.faults sink.old) (K.faults sink.new) }
 {
-    law_never_both();
-    law_one_first_bad();
     law_one_scenario();
     let tally = match play_drill(alloc, seed, events) {
         Ok(tally) => tally,

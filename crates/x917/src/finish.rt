@@ -1,4 +1,4 @@
-// A call over a party, or a payment, ends: the text is written, and the status follows.
+// A call over a party, a payment, or a batch, ends: the text is written, and the status follows.
 ghost use Rattle.std.specs.Prelude.{◌≡◌, ◌⊎◌, ◌++◌, OnOk, OnErr};
 ghost use Rattle.x_base.specs.Edge.{Rose, AppendsTo, WrotePrefix};
 ghost use Rattle.csm_check.specs.Transfer.{GivesOutput};
@@ -7,10 +7,14 @@ ghost use Rattle.x_status.specs.Causes.{IsSilent};
 ghost use Rattle.x_pay.specs.Outcomes.{IsNoFailure as IsNoPayFailure};
 ghost use Rattle.x917.specs.Ends.{Ends, Puts, IsOfParty};
 ghost use Rattle.x917.specs.Paid.{EndsPayment};
+ghost use Rattle.x917.specs.Spooled.{EndsBatch, EndsOutbox, status_of_missing};
+ghost use Rattle.x_spool.specs.Outcomes.{IsNoFailure as IsNoBatchFailure};
+ghost use Rattle.x_spool.specs.Outboxes.{IsNoFailure as IsNoOutboxFailure};
 
 use x_base::{Sink, SinkFault, Text, Verdict, put_all};
 use x_party::Outcome;
 use x_pay::PayOutcome;
+use x_spool::{OutboxOutcome, SpoolOutcome};
 use x_status::{Refusal, Status};
 
 /// Puts the text and then its ending, without memory.
@@ -71,5 +75,52 @@ pub fn finish_payment<K: Sink>(sink: &mut K, outcome: PayOutcome) -> Status
         PayOutcome::Damaged(place) => Status::Damaged(place),
         PayOutcome::Fault => Status::DiskFault,
         PayOutcome::NoMemory => Status::NoMemory,
+    }
+}
+
+/// Writes the outbox of a batch that is done, without memory.
+pub fn finish_batch<K: Sink>(sink: &mut K, outcome: SpoolOutcome) -> Status
+    ensures ends { EndsBatch outcome result (K.written sink.old) (K.written sink.new) }
+    ensures answered { IsOfParty result → IsNoBatchFailure outcome }
+    ensures output { GivesOutput result (IsSilent result) (sink.new ≡ sink.old) (K.faults sink.old) (K.faults sink.new) }
+{
+    match outcome {
+        SpoolOutcome::Done { text } => put_text(sink, Some(text), b"", Status::Done),
+        SpoolOutcome::OtherBatch => Status::Refused(Refusal::OtherBatch),
+        SpoolOutcome::OutOfStep(entry) => Status::Refused(Refusal::OutOfStep(entry)),
+        SpoolOutcome::OtherParty(asked, found) => {
+            Status::Refused(Refusal::OtherParty(asked, found))
+        }
+        SpoolOutcome::Blank => Status::Refused(Refusal::Decided(Verdict::Blank)),
+        SpoolOutcome::Damaged(place) => Status::Damaged(place),
+        SpoolOutcome::Fault => Status::DiskFault,
+        SpoolOutcome::NoMemory => Status::NoMemory,
+    }
+}
+
+/// The status of so many entries without a plan.
+fn status_of(missing: u32) -> Status
+    ensures { result ≡ status_of_missing missing }
+{
+    if missing == 0 {
+        return Status::Done;
+    }
+    Status::Refused(Refusal::Unplanned(missing))
+}
+
+/// Writes the outbox of a spool, without memory.
+pub fn finish_outbox<K: Sink>(sink: &mut K, outcome: OutboxOutcome) -> Status
+    ensures ends { EndsOutbox outcome result (K.written sink.old) (K.written sink.new) }
+    ensures answered { IsOfParty result → IsNoOutboxFailure outcome }
+    ensures output { GivesOutput result (IsSilent result) (sink.new ≡ sink.old) (K.faults sink.old) (K.faults sink.new) }
+{
+    match outcome {
+        OutboxOutcome::Done { text, missing } => {
+            put_text(sink, Some(text), b"", status_of(missing))
+        }
+        OutboxOutcome::Blank => Status::Refused(Refusal::Decided(Verdict::Blank)),
+        OutboxOutcome::Damaged(place) => Status::Damaged(place),
+        OutboxOutcome::Fault => Status::DiskFault,
+        OutboxOutcome::NoMemory => Status::NoMemory,
     }
 }

@@ -5,11 +5,14 @@ mod auditing;
 mod comparing;
 mod courses;
 mod drilling;
+mod entering;
+mod entering_mirrored;
 mod finish;
 mod mirrored;
 mod party_command;
 mod payments;
 mod replaying;
+mod spooling;
 #[cfg(test)]
 mod tests;
 mod top;

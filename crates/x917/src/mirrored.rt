@@ -6,10 +6,12 @@ ghost use Rattle.x_status.specs.Causes.{HasCause, IsSilent};
 ghost use Rattle.x917.specs.Mirrored.{LeavesMirrored, ObeysMirrored};
 ghost use Rattle.x917.specs.Obeys.{most_of};
 
+use crate::entering_mirrored::{create_mirrored, enter_mirrored};
 use crate::finish::finish;
 use crate::party_command::command_of;
 use csm_check::listen;
 use party_state::Input;
+use party_tables::LinkKey;
 use std::alloc::Global;
 use x_base::{Ident, Sink, Source};
 use x_disk::Shelf;
@@ -44,6 +46,18 @@ pub fn carry_out_mirrored<S: Source, K: Sink, H: Shelf>(
         } => {
             let outcome = create_pair(alloc, shelf, party, mirror, role, Gen { key, v });
             finish(sink, outcome, b"")
+        }
+        Order::Create { party, role } => {
+            create_mirrored(alloc, source, sink, shelf, party, mirror, role)
+        }
+        Order::Enter {
+            party,
+            peer,
+            label,
+            side,
+        } => {
+            let key = LinkKey { peer, label, side };
+            enter_mirrored(alloc, source, sink, shelf, &party, mirror, key, moment)
         }
         Order::Show { party } => {
             let outcome = show_pair(alloc, shelf, &party, mirror);

@@ -15,25 +15,29 @@ ghost use Rattle.x917.specs.Network.{IsNetworkEvent};
 use crate::auditing::audit_all;
 use crate::comparing::compare;
 use crate::drilling::drill_all;
+use crate::entering::{create, enter};
 use crate::finish::{finish, finish_payment};
 use crate::mirrored::carry_out_mirrored;
 use crate::party_command::command_of;
 use crate::payments::accept;
 use crate::replaying::replay_all;
+use crate::spooling::{batch, outbox, spool};
 use csm_check::{check, listen};
 use csm_feed::law_one_hearing;
 use party_state::Input;
+use party_tables::LinkKey;
 use std::alloc::Global;
 use world_laws::law_calls;
 use x_base::{Sink, Source, Words};
 use x_disk::{MemoryShelf, Shelf};
 use x_gen::Gen;
 use x_line::{
-    LineFault, Order, law_few_events, law_ledger_apart, law_mirror_apart, law_one_order, read_order,
+    LineFault, Order, law_few_events, law_ledger_apart, law_mirror_apart, law_one_order,
+    law_spool_apart, read_order,
 };
 use x_status::Status;
 
-/// Begins, shows, compares or looks after the file of a party, or pays out of it, as an order says.
+/// Begins, shows, compares or looks after the file of a party, pays out of it, or looks at a spool, as an order says.
 fn tend<K: Sink, H: Shelf>(alloc: Global, order: &Order, sink: &mut K, shelf: &mut H) -> Status
     requires tended { is_tended order.now ≡ true }
     requires within { IsWithin order.now }
@@ -55,6 +59,16 @@ fn tend<K: Sink, H: Shelf>(alloc: Global, order: &Order, sink: &mut K, shelf: &m
             finish(sink, outcome, b"")
         }
         Order::Show { party } => finish(sink, x_party::show(alloc, shelf, &party), b""),
+        Order::Value {
+            party,
+            peer,
+            label,
+            side,
+        } => {
+            let key = LinkKey { peer, label, side };
+            let outcome = x_party::value(alloc, shelf, &party, key);
+            finish(sink, outcome, b"\n")
+        }
         Order::Compact { party } => finish(sink, x_party::compact(alloc, shelf, &party), b""),
         Order::Migrate { party } => finish(sink, x_party::migrate(alloc, shelf, &party), b""),
         Order::Wipe { party } => finish(sink, x_party::wipe(alloc, shelf, &party), b""),
@@ -69,6 +83,7 @@ fn tend<K: Sink, H: Shelf>(alloc: Global, order: &Order, sink: &mut K, shelf: &m
             let outcome = x_pay::pay(alloc, shelf, &party, &peer, &name, &ledger, amount);
             finish_payment(sink, outcome)
         }
+        Order::Outbox { spool } => outbox(alloc, sink, shelf, &spool),
         _ => unreachable!(),
     }
 }
@@ -110,6 +125,18 @@ fn carry_out<S: Source, K: Sink, H: Shelf>(
             Err(status) => status,
         },
         Order::Accept { party, ledger } => accept(alloc, source, sink, shelf, &party, &ledger),
+        Order::Batch => batch(alloc, moment, source, sink),
+        Order::Spool { party, spool: name } => spool(alloc, source, sink, shelf, &party, &name),
+        Order::Create { party, role } => create(alloc, source, sink, shelf, party, role),
+        Order::Enter {
+            party,
+            peer,
+            label,
+            side,
+        } => {
+            let key = LinkKey { peer, label, side };
+            enter(alloc, source, sink, shelf, &party, key, moment)
+        }
         _ => match command_of(order) {
             Some(given) => {
                 let input = Input::Ordered(given.command);
@@ -134,7 +161,9 @@ pub fn run<S: Source, K: Sink, H: Shelf>(
 ) -> Status
     // The words are looked at first: where something is wrong with them, that is the status and nothing is touched.
     ensures usage { JudgesWords words.now result ((source.new ≡ source.old) × (sink.new ≡ sink.old) × (shelf.new ≡ shelf.old)) }
-    // Otherwise they stand for an order, and it is done as it says.
+    // Otherwise they stand for an order, and it is done as it says. Of a batch: where party and spool were in step they are so
+    // afterwards at every pair of images that a crash may leave, whatever came; done, it has all plans, the party stands for its
+    // end, and the outbox is written.
     ensures obeys { (order : Order) → IsOrder words.now order → Obeys order moment result (S.left source.old) (S.left source.new) (K.written sink.old) (K.written sink.new) (H.entry shelf.old) (H.entry shelf.new) }
 
     // Where no count of faults rises the answer is the one that is due, or want of memory.
@@ -146,7 +175,7 @@ pub fn run<S: Source, K: Sink, H: Shelf>(
     // party.
     ensures network { (order : Order) → IsOrder words.now order → IsNetworkEvent order moment result (S.left source.old) (K.written sink.old) (K.written sink.new) (H.entry shelf.old) (H.entry shelf.new) }
 
-    // Where the party answered, its disk is back on the shelf, and that of its ledger; the other disks stay, and a source that
+    // Where the party answered, its disk is back on the shelf, and that of its ledger or its spool; the other disks stay, and a source that
     // isn't read.
     ensures others { (order : Order) → IsOrder words.now order → LeavesOthers order result (H.is_back shelf.new) (source.new ≡ source.old) (H.entry shelf.old) (H.entry shelf.new) }
 
@@ -171,7 +200,7 @@ pub fn run<S: Source, K: Sink, H: Shelf>(
     // A fault comes only where a count of faults rose, over every source, sink and shelf.
     ensures faults { HasFaults result (S.faults source.old) (S.faults source.new) (K.faults sink.old) (K.faults sink.new) (H.faults shelf.old) (H.faults shelf.new) }
 
-    // `check` and `take` take at most 2,049 bytes, `accept` 257, `replay` 16,777,217 and `audit` 67,108,865, from the front;
+    // `check` and `take` take at most 2,049 bytes, `accept` 257, `spool` and `batch` 1,048,577, `replay` 16,777,217 and `audit` 67,108,865, from the front;
     // with a silent status nothing is written.
     ensures silent { (order : Order) (mirror : Option (List ℕ)) → IsGiven words.now order mirror → IsSilentOf order result → sink.new ≡ sink.old }
     ensures most { (order : Order) (mirror : Option (List ℕ)) → IsGiven words.now order mirror → TookAtMost (most_of order) (S.left source.old) (S.left source.new) }
@@ -180,6 +209,7 @@ pub fn run<S: Source, K: Sink, H: Shelf>(
     law_few_events();
     law_ledger_apart();
     law_mirror_apart();
+    law_spool_apart();
     law_calls::<H>();
     match read_order(alloc, words) {
         Ok(given) => match given.mirror {

@@ -12,7 +12,7 @@ use Rattle.pay_auth.specs.declared.refusal.PayRefusal.{PayRefusal}
 use Rattle.pay_auth.specs.declared.refusal.PayRefusal.TheVariants.{BadPay, PayLow}
 use Rattle.x_line.specs.Usage as usage
 use Rattle.x_status.specs.declared.status.Refusal.{Refusal}
-use Rattle.x_status.specs.declared.status.Refusal.TheVariants.{Text, Trailing, Decided, OtherParty, Audit, Pay, OtherBatch, OutOfStep, Unplanned, Unlike}
+use Rattle.x_status.specs.declared.status.Refusal.TheVariants.{Text, Trailing, Decided, OtherParty, Audit, Pay, OtherBatch, OutOfStep, Unplanned, Unlike, BadDigits}
 use Rattle.x_status.specs.declared.status.Status.{Status}
 use Rattle.x_status.specs.declared.status.Status.TheVariants as status
 
@@ -35,6 +35,7 @@ refusal_text OtherBatch = codes "40"
 refusal_text (OutOfStep entry) = codes "41"
 refusal_text (Unplanned missing) = codes "49 missing " ++ decimal missing
 refusal_text Unlike = codes "50"
+refusal_text (BadDigits line) = codes "51 at " ++ decimal line
 
 -- the line, which ends with a line feed; `Done` has none. A refusal to read for want of memory, and a forged event as what an
 -- audit finds, which no run answers, are told as want of memory and as a forged event

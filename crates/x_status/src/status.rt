@@ -32,6 +32,8 @@ pub enum Refusal {
     Unplanned(u32),
     /// Two disks don't stand for one party in one state.
     Unlike,
+    /// This line of a key that comes from the input, counted from 1, isn't one of its components.
+    BadDigits(u32),
 }
 
 /// How a run ended.
@@ -97,6 +99,7 @@ fn refusal_text(alloc: Global, refusal: &Refusal) -> Result<String, AllocError>
         Refusal::OutOfStep(_) => format!(in alloc; "41"),
         Refusal::Unplanned(missing) => format!(in alloc; "49 missing {missing}"),
         Refusal::Unlike => format!(in alloc; "50"),
+        Refusal::BadDigits(line) => format!(in alloc; "51 at {line}"),
     }
 }
 

@@ -9,11 +9,11 @@ returns-in-Err g c =
     let write = early_write _ c.args.seed c.args.events c.in-Err.status c.in-Err.ensures.early in
     record {
       drills = drills;
-      expects = λ quiet. expects_drill c.law_never_both.ensures c.law_one_first_bad.ensures c.law_one_scenario.ensures _ c.args.seed c.args.events _ _ c.in-Err.status drills write;
+      expects = λ quiet. expects_drill c.law_one_scenario.ensures _ c.args.seed c.args.events _ _ c.in-Err.status drills write;
       output = record { silent = λ silent. refl; fault = λ is. absurd (write is) };
     }
 
 pub returns-in-Ok-put_all-clause-expects : goal.returns-in-Ok-put_all-clause-expects
 returns-in-Ok-put_all-clause-expects g c = λ quiet.
-    expects_done c.law_never_both.ensures c.law_one_first_bad.ensures c.law_one_scenario.ensures _ c.args.seed c.args.events (g.K.Sink.written c.args.sink.now) (g.K.Sink.written c.put_all.new.sink)
+    expects_done c.law_one_scenario.ensures _ c.args.seed c.args.events (g.K.Sink.written c.args.sink.now) (g.K.Sink.written c.put_all.new.sink)
     c.in-Ok.tally c.in-Ok.ensures.drilled

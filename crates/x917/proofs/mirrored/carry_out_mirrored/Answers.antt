@@ -6,7 +6,7 @@ use Rattle.x_line.specs.Orders.{IsOfTwo}
 use Rattle.x_pair.specs.Dues.{IsDueTurn}
 use Rattle.x_pair.specs.Outcomes.{turning}
 use Rattle.csm_check.specs.Transfer.{TookAtMost}
-use Rattle.x917.specs.Mirrored.{IsPairCall, ObeysMirrored}
+use Rattle.x917.specs.Mirrored.{IsPairCall, LeavesMirrored, ObeysMirrored}
 use Rattle.x917.specs.Obeys.{command_of, is_reading, most_of, party_of}
 use Rattle.x917.proofs.Arriving.{none_told}
 use Rattle.x917.proofs.Mirrors.{apart_of, commands_of_two, finished_of_two, left_all, obeys_mirrored}
@@ -53,6 +53,52 @@ returns-in-Init g c =
       cause = done.cause reads reads;
       silent = f.output.silent;
       most = took_nothing (most_of c.args.order) left;
+    }
+
+pub create_mirrored-requires : goal.create_mirrored-requires
+create_mirrored-requires g c = subst (λ (o : Order). IsOfTwo o c.args.mirror.now) c.in-Create.is c.requires
+
+pub returns-in-Create : goal.returns-in-Create
+returns-in-Create g c =
+    let is = c.in-Create.is in
+    let mirror = c.args.mirror.now in
+    let r = c.create_mirrored.ensures in
+    let s = c.create_mirrored.result in
+    let left = g.S.Source.left c.args.source.now in
+    let rest = g.S.Source.left c.create_mirrored.new.source in
+    let before = g.K.Sink.written c.args.sink.now in
+    let after = g.K.Sink.written c.create_mirrored.new.sink in
+    let old = g.H.Shelf.entry c.args.shelf.now in
+    let new = g.H.Shelf.entry c.create_mirrored.new.shelf in
+    record {
+      obeys = subst (λ (o : Order). ObeysMirrored o mirror c.args.moment s left rest before after old new) (sym is) (r.obeys c.args.moment);
+      others = subst (λ (o : Order). LeavesMirrored o mirror s (g.H.Shelf.is_back c.create_mirrored.new.shelf) (c.create_mirrored.new.source ≡ c.args.source.now) old new) (sym is) r.others;
+      cause = r.cause;
+      silent = r.silent;
+      most = subst (λ (o : Order). TookAtMost (most_of o) left rest) (sym is) r.most;
+    }
+
+pub enter_mirrored-requires : goal.enter_mirrored-requires
+enter_mirrored-requires g c = subst (λ (o : Order). IsOfTwo o c.args.mirror.now) c.in-Enter.is c.requires
+
+pub returns-in-Enter : goal.returns-in-Enter
+returns-in-Enter g c =
+    let is = c.in-Enter.is in
+    let mirror = c.args.mirror.now in
+    let r = c.enter_mirrored.ensures in
+    let s = c.enter_mirrored.result in
+    let left = g.S.Source.left c.args.source.now in
+    let rest = g.S.Source.left c.enter_mirrored.new.source in
+    let before = g.K.Sink.written c.args.sink.now in
+    let after = g.K.Sink.written c.enter_mirrored.new.sink in
+    let old = g.H.Shelf.entry c.args.shelf.now in
+    let new = g.H.Shelf.entry c.enter_mirrored.new.shelf in
+    record {
+      obeys = subst (λ (o : Order). ObeysMirrored o mirror c.args.moment s left rest before after old new) (sym is) r.obeys;
+      others = subst (λ (o : Order). LeavesMirrored o mirror s (g.H.Shelf.is_back c.enter_mirrored.new.shelf) (c.enter_mirrored.new.source ≡ c.args.source.now) old new) (sym is) r.others;
+      cause = r.cause;
+      silent = r.silent;
+      most = subst (λ (o : Order). TookAtMost (most_of o) left rest) (sym is) r.most;
     }
 
 pub returns-in-Show : goal.returns-in-Show
@@ -162,4 +208,4 @@ unreachable-requires g c =
     let i = c.in-None.is in
     let e = c.command_of.ensures in
     let none : command_of c.args.order ≡ None = cc in
-    commands_of_two c.args.order c.args.mirror.now c.requires c.in_default.not-Init c.in_default.not-Show c.in_default.not-Take none
+    commands_of_two c.args.order c.args.mirror.now c.requires c.in_default.not-Init c.in_default.not-Show c.in_default.not-Take c.in_default.not-Create c.in_default.not-Enter none

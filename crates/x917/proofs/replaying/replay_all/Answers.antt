@@ -3,11 +3,11 @@ use Rattle.x_disk.specs.Shelf.{alike_refl}
 use Rattle.replay.specs.Playing.{around}
 use Rattle.x_status.specs.declared.status.Status.{Status}
 use Rattle.x_status.specs.declared.status.Status.TheVariants as status
-use Rattle.x917.specs.Headline.{IsReplay, Says}
+use Rattle.x917.specs.Headline.{IsReplay, Says, SaysOfRun}
 use Rattle.x917.specs.Obeys.{IsSilentOf}
 use Rattle.x_line.specs.declared.order.Order.TheVariants as order
 use Rattle.x917.proofs.Expected.{expects_replay}
-use Rattle.x917.proofs.Headlines.{says}
+use Rattle.x917.proofs.Headlines.{says, says_of_run}
 use Rattle.x917.proofs.Played.{never_read, refused_of, write_of, disk_of, unread_write, unread_disk}
 use Rattle.x917.proofs.replaying.replay_all.Goals as goal
 
@@ -51,6 +51,7 @@ returns g c =
       record {
         read = c.in-Ok.ensures.read;
         says = subst (λ (x : Status). Says old around_it x) (sym is) (says laws.reached laws.behind old around_it c.law_scenario_starts.ensures c.play.result p.refused p.played);
+        runs = subst (λ (x : Status). SaysOfRun around_it x) (sym is) (says_of_run laws.reached laws.behind old around_it c.law_scenario_starts.ensures c.play.result p.runs);
         others = p.others;
       },
     ) in

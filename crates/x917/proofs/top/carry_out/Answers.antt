@@ -11,6 +11,8 @@ use Rattle.x917.proofs.Audits.{cause_audited}
 use Rattle.x917.proofs.Orders.{cause_checked, cause_unheard, expects_command, finished, is_party, no_ledger, obeys_command, tended_of, took_nothing}
 use Rattle.x917.proofs.Paying.{cause_accepted, leaves_two}
 use Rattle.x917.proofs.Played.{cause_played, cause_drilled, silent_of}
+use Rattle.x917.proofs.Inboxes.{cause_made}
+use Rattle.x917.proofs.BatchEnds.{cause_batched}
 use Rattle.x917.proofs.top.carry_out.Goals as goal
 
 pub returns-in-Check : goal.returns-in-Check
@@ -212,6 +214,110 @@ returns-in-Accept g c =
       audits = λ same. (let no : order.Accept party ledger ≡ order.Audit = sym is ∙ same in absurd cc);
     }
 
+pub returns-in-Create : goal.returns-in-Create
+returns-in-Create g c =
+    let is = c.in-Create.is in
+    let r = c.create.ensures in
+    let s = c.create.result in
+    let left = g.S.Source.left c.args.source.now in
+    let rest = g.S.Source.left c.create.new.source in
+    let before = g.K.Sink.written c.args.sink.now in
+    let after = g.K.Sink.written c.create.new.sink in
+    let old = g.H.Shelf.entry c.args.shelf.now in
+    let new = g.H.Shelf.entry c.create.new.shelf in
+    record {
+      obeys = subst (λ (o : Order). Obeys o c.args.moment s left rest before after old new) (sym is) (r.obeys c.args.moment);
+      expects = λ read_quiet put_quiet disk_quiet. subst (λ (o : Order). Expects o c.args.moment left old s) (sym is) (r.expects c.args.moment read_quiet put_quiet disk_quiet);
+      others = subst (λ (o : Order). LeavesOthers o s (g.H.Shelf.is_back c.create.new.shelf) (c.create.new.source ≡ c.args.source.now) old new) (sym is) r.others;
+      cause = r.cause;
+      silent = λ silent. r.silent (subst (λ (o : Order). IsSilentOf o s) is silent);
+      most = subst (λ (o : Order). TookAtMost (most_of o) left rest) (sym is) r.most;
+      replays = λ same. (let no : order.Create c.in-Create.party c.in-Create.role ≡ order.Replay = sym is ∙ same in absurd cc);
+      drills = λ seed events same. (let no : order.Create c.in-Create.party c.in-Create.role ≡ order.Drill seed events = sym is ∙ same in absurd cc);
+      audits = λ same. (let no : order.Create c.in-Create.party c.in-Create.role ≡ order.Audit = sym is ∙ same in absurd cc);
+    }
+
+pub returns-in-Enter : goal.returns-in-Enter
+returns-in-Enter g c =
+    let is = c.in-Enter.is in
+    let r = c.enter.ensures in
+    let s = c.enter.result in
+    let left = g.S.Source.left c.args.source.now in
+    let rest = g.S.Source.left c.enter.new.source in
+    let before = g.K.Sink.written c.args.sink.now in
+    let after = g.K.Sink.written c.enter.new.sink in
+    let old = g.H.Shelf.entry c.args.shelf.now in
+    let new = g.H.Shelf.entry c.enter.new.shelf in
+    record {
+      obeys = subst (λ (o : Order). Obeys o c.args.moment s left rest before after old new) (sym is) r.obeys;
+      expects = λ read_quiet put_quiet disk_quiet. subst (λ (o : Order). Expects o c.args.moment left old s) (sym is) (r.expects read_quiet put_quiet disk_quiet);
+      others = subst (λ (o : Order). LeavesOthers o s (g.H.Shelf.is_back c.enter.new.shelf) (c.enter.new.source ≡ c.args.source.now) old new) (sym is) r.others;
+      cause = r.cause;
+      silent = λ silent. r.silent (subst (λ (o : Order). IsSilentOf o s) is silent);
+      most = subst (λ (o : Order). TookAtMost (most_of o) left rest) (sym is) r.most;
+      replays = λ same. (let no : order.Enter c.in-Enter.party c.in-Enter.peer c.in-Enter.label c.in-Enter.side ≡ order.Replay = sym is ∙ same in absurd cc);
+      drills = λ seed events same. (let no : order.Enter c.in-Enter.party c.in-Enter.peer c.in-Enter.label c.in-Enter.side ≡ order.Drill seed events = sym is ∙ same in absurd cc);
+      audits = λ same. (let no : order.Enter c.in-Enter.party c.in-Enter.peer c.in-Enter.label c.in-Enter.side ≡ order.Audit = sym is ∙ same in absurd cc);
+    }
+
+pub spool-requires : goal.spool-requires
+spool-requires g c = subst IsWithin c.in-Spool.is c.requires
+
+pub returns-in-Spool : goal.returns-in-Spool
+returns-in-Spool g c =
+    let is = c.in-Spool.is in
+    let party = c.in-Spool.party in
+    let name = c.in-Spool.name in
+    let r = c.spool.ensures in
+    let s = c.spool.result in
+    let left = g.S.Source.left c.args.source.now in
+    let rest = g.S.Source.left c.spool.new.source in
+    let before = g.K.Sink.written c.args.sink.now in
+    let after = g.K.Sink.written c.spool.new.sink in
+    let old = g.H.Shelf.entry c.args.shelf.now in
+    let new = g.H.Shelf.entry c.spool.new.shelf in
+    let put = g.K.Sink.faults c.args.sink.now in
+    let puts = g.K.Sink.faults c.spool.new.sink in
+    let disk = g.H.Shelf.faults c.args.shelf.now in
+    let disks = g.H.Shelf.faults c.spool.new.shelf in
+    record {
+      obeys = subst (λ (o : Order). Obeys o c.args.moment s left rest before after old new) (sym is) r.batched;
+      expects = λ read_quiet put_quiet disk_quiet. subst (λ (o : Order). Expects o c.args.moment left old s) (sym is) (r.follows read_quiet put_quiet disk_quiet);
+      others = leaves_two c.args.order party name s (g.H.Shelf.is_back c.spool.new.shelf) (c.spool.new.source ≡ c.args.source.now) (c.spool.new.sink ≡ c.args.sink.now) old new put puts disk disks
+          (ap party_of is) (ap ledger_of is) r.rest (λ reading. (let e : is_reading c.args.order ≡ true = ap is_reading is in let no : true ≡ false = sym e ∙ reading in absurd cc));
+      cause = cause_batched (g.S.Source.faults c.args.source.now) (g.S.Source.faults c.spool.new.source) put puts disk disks party name left rest old new s before after r.batched
+          r.input.fault r.rest.write_fault r.rest.disk_fault;
+      silent = λ silent. r.rest.silent (subst (λ (o : Order). IsSilentOf o s) is silent);
+      most = subst (λ (o : Order). TookAtMost (most_of o) left rest) (sym is) r.input.most;
+      replays = λ same. (let no : order.Spool party name ≡ order.Replay = sym is ∙ same in absurd cc);
+      drills = λ seed events same. (let no : order.Spool party name ≡ order.Drill seed events = sym is ∙ same in absurd cc);
+      audits = λ same. (let no : order.Spool party name ≡ order.Audit = sym is ∙ same in absurd cc);
+    }
+
+pub returns-in-Batch : goal.returns-in-Batch
+returns-in-Batch g c =
+    let is = c.in-Batch.is in
+    let r = c.batch.ensures in
+    let s = c.batch.result in
+    let left = g.S.Source.left c.args.source.now in
+    let rest = g.S.Source.left c.batch.new.source in
+    let before = g.K.Sink.written c.args.sink.now in
+    let after = g.K.Sink.written c.batch.new.sink in
+    let entry = g.H.Shelf.entry c.args.shelf.now in
+    record {
+      obeys = subst (λ (o : Order). Obeys o c.args.moment s left rest before after entry entry) (sym is) r.made;
+      expects = λ read_quiet put_quiet disk_quiet. subst (λ (o : Order). Expects o c.args.moment left entry s) (sym is) (r.follows read_quiet put_quiet);
+      others = subst (λ (o : Order). LeavesOthers o s (g.H.Shelf.is_back c.args.shelf.now) (c.batch.new.source ≡ c.args.source.now) entry entry) (sym is)
+          (record { back = λ of. tt; ledger_back = λ of. tt; others = λ playing name. alike_refl (entry name); unread = λ reading. absurd (cc reading) });
+      cause = cause_made (g.S.Source.faults c.args.source.now) (g.S.Source.faults c.batch.new.source) (g.K.Sink.faults c.args.sink.now) (g.K.Sink.faults c.batch.new.sink)
+          (g.H.Shelf.faults c.args.shelf.now) (g.H.Shelf.faults c.args.shelf.now) c.args.moment left rest s before after r.made r.input.fault r.output.fault;
+      silent = λ silent. r.output.silent (subst (λ (o : Order). IsSilentOf o s) is silent);
+      most = subst (λ (o : Order). TookAtMost (most_of o) left rest) (sym is) r.input.most;
+      replays = λ same. (let no : order.Batch ≡ order.Replay = sym is ∙ same in absurd cc);
+      drills = λ seed events same. (let no : order.Batch ≡ order.Drill seed events = sym is ∙ same in absurd cc);
+      audits = λ same. (let no : order.Batch ≡ order.Audit = sym is ∙ same in absurd cc);
+    }
+
 pub returns-in-Some : goal.returns-in-Some
 returns-in-Some g c =
     let i = c.in-Some.is in
@@ -250,7 +356,7 @@ pub tend-requires-clause-tended : goal.tend-requires-clause-tended
 tend-requires-clause-tended g c =
     let i = c.in-None.is in
     let e = c.command_of.ensures in
-    tended_of c.args.order c.in_default.not-Check c.in_default.not-Replay c.in_default.not-Audit c.in_default.not-Drill c.in_default.not-Take c.in_default.not-Accept cc
+    tended_of c.args.order c.in_default.not-Check c.in_default.not-Replay c.in_default.not-Audit c.in_default.not-Drill c.in_default.not-Take c.in_default.not-Accept c.in_default.not-Create c.in_default.not-Enter c.in_default.not-Batch c.in_default.not-Spool cc
 
 pub returns-in-None : goal.returns-in-None
 returns-in-None g c =

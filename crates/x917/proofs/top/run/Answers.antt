@@ -9,6 +9,7 @@ use Rattle.x917.specs.Mirrored.{LeavesMirrored, ObeysMirrored}
 use Rattle.x917.specs.Obeys.{Obeys, Expects, LeavesOthers, IsSilentOf, most_of}
 use Rattle.csm_check.specs.Transfer.{TookAtMost}
 use Rattle.x917.proofs.Audits.{without_memory}
+use Rattle.x917.proofs.Forgetting.{forgets_order}
 use Rattle.x917.proofs.Orders.{idle, leaves_all, faults_of, took_nothing, within_of}
 use Rattle.x917.proofs.Played.{silent_of}
 use Rattle.x917.proofs.Mirrors.{idle_mirrored, left_all, never_both, not_replay}
@@ -19,6 +20,9 @@ pub returns-in-None-clause-complete : goal.returns-in-None-clause-complete
 returns-in-None-clause-complete g c = λ o is read_quiet put_quiet disk_quiet.
     subst (λ (x : Order). Expects x c.args.moment (g.S.Source.left c.args.source.now) (g.H.Shelf.entry c.args.shelf.now) c.carry_out.result)
     ((c.law_one_order.ensures c.args.words.now c.in-Ok.given.order o c.in-Ok.given.mirror None c.in-Ok.ensures.order is).0) (c.carry_out.ensures.expects read_quiet put_quiet disk_quiet)
+
+pub returns-in-Err-NoMemory-clause-complete : goal.returns-in-Err-NoMemory-clause-complete
+returns-in-Err-NoMemory-clause-complete g c = λ o is read_quiet put_quiet disk_quiet. forgets_order c.args.moment (g.H.Shelf.entry c.args.shelf.now) o (g.S.Source.left c.args.source.now)
 
 pub returns-in-Err-NoMemory-clause-obeys : goal.returns-in-Err-NoMemory-clause-obeys
 returns-in-Err-NoMemory-clause-obeys g c = λ o is.
@@ -66,7 +70,7 @@ returns-in-Err-NoMemory-clause-network g c = λ o is.
 
 pub carry_out-requires : goal.carry_out-requires
 carry_out-requires g c =
-    within_of c.law_few_events.ensures c.law_ledger_apart.ensures.pays c.law_ledger_apart.ensures.accepts c.law_mirror_apart.ensures.compares c.args.words.now c.in-Ok.given.order
+    within_of c.law_few_events.ensures c.law_ledger_apart.ensures.pays c.law_ledger_apart.ensures.accepts c.law_mirror_apart.ensures.compares c.law_spool_apart.ensures c.args.words.now c.in-Ok.given.order
     (subst (λ (m : Option (List ℕ)). IsGiven c.args.words.now c.in-Ok.given.order m) c.in-None.is c.in-Ok.ensures.order)
 
 pub returns-in-None-clause-silent : goal.returns-in-None-clause-silent

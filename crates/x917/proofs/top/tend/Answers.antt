@@ -1,9 +1,12 @@
-use Rattle.std.proofs.Common.{◌≡◌, [], sym, ap, subst}
+use Rattle.std.proofs.Common.{◌≡◌, [], ◌∷◌, sym, ap, subst}
+use Rattle.party_tables.specs.declared.link.LinkKey.{LinkKey}
 use Rattle.x_line.specs.declared.order.Order.{Order}
 use Rattle.x_pay.specs.Payments.{paying}
+use Rattle.x_party.specs.Asking.{IsDueAnswer, value_answer}
 use Rattle.x_party.specs.Dues.{IsDueCompaction, IsDueCreation, IsDueMigration, IsDueShow, IsDueWiping}
 use Rattle.x917.specs.Obeys.{Expects, IsWithin, Obeys, ledger_of, party_of}
 use Rattle.x917.proofs.Orders.{finished}
+use Rattle.x917.proofs.BatchEnds.{outbox_leaves}
 use Rattle.x917.proofs.Paying.{cause_paid, leaves_two, payment_follows, payment_rest}
 use Rattle.x917.proofs.top.tend.Goals as goal
 
@@ -43,6 +46,28 @@ returns-in-Show g c =
     (ap party_of is) (ap ledger_of is) f.ends f.answered f.output.fault r.due r.shelf (λ reading. tt) in
     record {
       obeys = λ moment left. subst (λ (o : Order). Obeys o moment s left left before after old new) (sym is) (record { outcome = c.show.result; shows = r.shown; untouched = r.untouched; ends = f.ends });
+      expects = λ moment left put_quiet disk_quiet. subst (λ (o : Order). Expects o moment left old s) (sym is) (done.expects put_quiet disk_quiet);
+      others = done.others;
+      cause = done.cause;
+      silent = f.output.silent;
+    }
+
+pub returns-in-Value : goal.returns-in-Value
+returns-in-Value g c =
+    let is = c.in-Value.is in
+    let key : LinkKey = record { peer = c.in-Value.peer; label = c.in-Value.label; side = c.in-Value.side } in
+    let r = c.value-outcome.ensures in
+    let f = c.finish-in-Value.ensures in
+    let s = c.finish-in-Value.result in
+    let before = g.K.Sink.written c.args.sink.now in
+    let after = g.K.Sink.written c.finish-in-Value.new.sink in
+    let old = g.H.Shelf.entry c.args.shelf.now in
+    let new = g.H.Shelf.entry c.value-outcome.new.shelf in
+    let done = finished c.args.order.now c.in-Value.party s (g.H.Shelf.is_back c.value-outcome.new.shelf) (Unit {0}) old new c.value-outcome.result (10 ∷ []) before after (IsDueAnswer (value_answer key))
+    (g.K.Sink.faults c.args.sink.now) (g.K.Sink.faults c.finish-in-Value.new.sink) (g.H.Shelf.faults c.args.shelf.now) (g.H.Shelf.faults c.value-outcome.new.shelf)
+    (ap party_of is) (ap ledger_of is) f.ends f.answered f.output.fault r.due r.shelf (λ reading. tt) in
+    record {
+      obeys = λ moment left. subst (λ (o : Order). Obeys o moment s left left before after old new) (sym is) (record { outcome = c.value-outcome.result; asked = r.valued; untouched = r.untouched; ends = f.ends });
       expects = λ moment left put_quiet disk_quiet. subst (λ (o : Order). Expects o moment left old s) (sym is) (done.expects put_quiet disk_quiet);
       others = done.others;
       cause = done.cause;
@@ -166,6 +191,29 @@ returns-in-Compare g c =
       obeys = λ moment left. subst (λ (o : Order). Obeys o moment s left left before after old new) (sym is) r.compared;
       expects = λ moment left put_quiet disk_quiet. subst (λ (o : Order). Expects o moment left old s) (sym is) (r.follows put_quiet disk_quiet);
       others = leaves_two c.args.order.now party mirror s (g.H.Shelf.is_back c.compare.new.shelf) (Unit {0}) (c.compare.new.sink ≡ c.args.sink.now) old new put puts disk disks
+          (ap party_of is) (ap ledger_of is) r.rest (λ reading. tt);
+      cause = r.cause;
+      silent = r.rest.silent;
+    }
+
+pub returns-in-Outbox : goal.returns-in-Outbox
+returns-in-Outbox g c =
+    let is = c.in-Outbox.is in
+    let name = c.in-Outbox.spool in
+    let r = c.outbox.ensures in
+    let s = c.outbox.result in
+    let before = g.K.Sink.written c.args.sink.now in
+    let after = g.K.Sink.written c.outbox.new.sink in
+    let old = g.H.Shelf.entry c.args.shelf.now in
+    let new = g.H.Shelf.entry c.outbox.new.shelf in
+    let put = g.K.Sink.faults c.args.sink.now in
+    let puts = g.K.Sink.faults c.outbox.new.sink in
+    let disk = g.H.Shelf.faults c.args.shelf.now in
+    let disks = g.H.Shelf.faults c.outbox.new.shelf in
+    record {
+      obeys = λ moment left. subst (λ (o : Order). Obeys o moment s left left before after old new) (sym is) r.told;
+      expects = λ moment left put_quiet disk_quiet. subst (λ (o : Order). Expects o moment left old s) (sym is) (r.follows put_quiet disk_quiet);
+      others = outbox_leaves c.args.order.now name s (g.H.Shelf.is_back c.outbox.new.shelf) (Unit {0}) (c.outbox.new.sink ≡ c.args.sink.now) old new put puts disk disks
           (ap party_of is) (ap ledger_of is) r.rest (λ reading. tt);
       cause = r.cause;
       silent = r.rest.silent;
