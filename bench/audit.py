@@ -16,14 +16,18 @@ CASES = os.path.realpath(sys.argv[1]) if len(sys.argv) > 1 else f"{HERE}/crates/
 AUDITS = os.path.realpath(sys.argv[2]) if len(sys.argv) > 2 else f"{HERE}/crates/audit_cases/out/audit_cases"
 TIMES = 5
 ROUNDS = int(os.environ.get("ROUNDS", "5"))
-PAIR = "0123456789ABCDEFFEDCBA9876543210"
+
+
+def pair(number):
+    """A pair of keys that no other number has, whatever the parity."""
+    return f"{0x0123456789ABCDEF ^ (number % 100 + 1) << 1:016X}{0xFEDCBA9876543210 ^ (number // 100 + 1) << 9:016X}"
 
 
 def banks(number):
     """So many banks with names of one length, each with its neighbour."""
     names = [f"BNK{i:02}" for i in range(number)]
-    lines = [f"PARTY {name} BANK {PAIR} {i + 1:016X}" for i, name in enumerate(names)]
-    return names, lines + [f"LINK {names[i]} {names[i + 1]} K1 {PAIR}" for i in range(0, number, 2)]
+    lines = [f"PARTY {name} BANK {pair(i)} {i + 1:016X}" for i, name in enumerate(names)]
+    return names, lines + [f"LINK {names[i]} {names[i + 1]} K1 {pair(100 + i)}" for i in range(0, number, 2)]
 
 
 def keys_that_end(number, events):

@@ -2,7 +2,8 @@
 # Kills commands of a built program at each of their system calls in turn, from the first that opens the party's file on,
 # and lets each call on the disk, and each write of the reply, fail in turn. Each time it runs over a fresh copy of the
 # file; `show` must then give the party as it was or as it becomes, and as it becomes where any of the reply went out. A
-# payment's ledger is told by the payment that comes next: it has the number that it had, or the next one. A
+# payment's ledger is told by the payment that comes next: it has the number that it had, or the next one. A batch has the
+# same outbox when it is taken again. A
 # replay has to leave its parties as behind some event, or as a part of the set-up leaves them, with so much written.
 # A killed process leaves the system's memory of the file as it is: this is no loss of power.
 # kill.sh [PROGRAM]; wants Linux and strace.
@@ -115,6 +116,7 @@ subject() {
     fresh
     shown
     mv ../shown ../old
+    fresh
     traced
     mv ../output ../reply
     shown
@@ -284,6 +286,13 @@ keep
 subject start BANKA 'start --party BANKA --peer BANKB'
 keep
 cp ../output ../input
+cat ../input ../input | "$program" batch >../batch || exit 1
+mv ../input ../message
+mv ../batch ../input
+probe=.x917
+subject spool BANKB 'spool --party BANKB --spool SPLB' stays
+probe=
+mv ../message ../input
 subject 'take (key)' BANKB 'take --party BANKB'
 keep
 cp ../output ../input
