@@ -3,7 +3,7 @@
 # and lets each call on the disk, and each write of the reply, fail in turn. Each time it runs over a fresh copy of the
 # file; `show` must then give the party as it was or as it becomes, and as it becomes where any of the reply went out. A
 # payment's ledger is told by the payment that comes next: it has the number that it had, or the next one. A batch has the
-# same outbox when it is taken again. A
+# same outbox when it is taken again. A turn over two disks is looked at as it is left, and with either disk removed. A
 # replay has to leave its parties as behind some event, or as a part of the set-up leaves them, with so much written.
 # A killed process leaves the system's memory of the file as it is: this is no loss of power.
 # kill.sh [PROGRAM]; wants Linux and strace.
@@ -29,12 +29,18 @@ fresh() {
     : >../error
 }
 
-# shown: the party, in ../shown; of a payment what the same words answer now, without its code
+# shown: the party, in ../shown; of two disks that are named, behind the loss of one, if one is lost; of a payment what the same
+# words answer now, without its code
 probe=
+mirror=
+lost=
 shown() {
     if [ -n "$probe" ]; then
         # shellcheck disable=SC2086
         "$program" $words <../input
+    elif [ -n "$mirror" ]; then
+        [ -z "$lost" ] || rm -f "$lost.x917"
+        "$program" show --party "$party" --mirror "$mirror"
     else
         "$program" show --party "$party"
     fi >../printed 2>&1
@@ -121,7 +127,7 @@ subject() {
     mv ../output ../reply
     shown
     mv ../shown ../new
-    calls "$probe" >../calls
+    calls "${probe:-${mirror:+.x917}}" >../calls
     if cmp -s ../old ../new; then came=stays; else came=changes; fi
     { [ "$code" = 0 ] && [ "$came" = "$wanted" ]; } || { echo "$name: not done: exit $code"; cat ../error; exit 1; }
     while read -r call n kind; do
@@ -293,6 +299,16 @@ probe=.x917
 subject spool BANKB 'spool --party BANKB --spool SPLB' stays
 probe=
 mv ../message ../input
+words='show --party BANKB --mirror MIRB'
+keep
+mirror=MIRB
+subject 'take (two disks)' BANKB 'take --party BANKB --mirror MIRB'
+lost=BANKB
+subject 'take, 1st lost' BANKB 'take --party BANKB --mirror MIRB'
+lost=MIRB
+subject 'take, 2nd lost' BANKB 'take --party BANKB --mirror MIRB'
+mirror=
+lost=
 subject 'take (key)' BANKB 'take --party BANKB'
 keep
 cp ../output ../input
