@@ -1,8 +1,6 @@
 //! The code of a change of a party's state.
 #![tactic(auto)]
 
-#[cfg(test)]
-mod code_tests;
 mod compaction;
 mod decoding;
 mod edit_code;

@@ -1,0 +1,145 @@
+// The edits of the tables of codes.
+ghost use Rattle.std.specs.Prelude.{◌+◌, IfOk};
+ghost use Rattle.x_base.specs.Count.{IsCount};
+ghost use Rattle.party_tables.specs.Ranges.{IsFittingKind};
+ghost use Rattle.party_state.specs.Ranges.{IsFitting};
+
+use party_state::{
+    Answer, Edit, Exchange, KeyRec, KeyStatus, Kind, LinkRec, Role, Side, Via, name_behind,
+};
+use std::alloc::Global;
+use x_base::{Ident, KeyName, Label, NoMemory, Text};
+use x_disk::DiskErr;
+use x_gen::Gen;
+use x_mac::Pair;
+
+const PAIR: Pair = Pair {
+    left: 0x0123456789ABCDEC,
+    right: 0xFEDCBA9876543213,
+};
+
+/// The names in the edits.
+#[derive(Clone, Copy)]
+pub(crate) struct Names {
+    pub(crate) peer: Ident,
+    pub(crate) label: Label,
+    pub(crate) name: KeyName,
+}
+
+/// The names of the table of edits.
+pub(crate) fn names_of_edits() -> Result<Names, DiskErr> {
+    let (Ok(peer), Ok(label), Ok(name)) = (
+        Ident::read(b"BANKB"),
+        Label::read(b"K-2"),
+        KeyName::read(b"BANKA.BANKA.K1.7"),
+    ) else {
+        return Err(DiskErr::Fault);
+    };
+    Ok(Names { peer, label, name })
+}
+
+/// The edit of that row.
+pub(crate) fn edit_of(row: usize, names: &Names) -> Edit
+    ensures { IsFitting result }
+{
+    let Names { peer, label, name } = *names;
+    match row {
+        0 => Edit::Begin {
+            own: peer,
+            role: Role::Distribution,
+            generator: Gen { key: PAIR, v: 1 },
+        },
+        1 => Edit::PutLink(LinkRec {
+            peer,
+            label,
+            side: Side::Takes,
+            pair: PAIR,
+            next: 100_000_000_000_000,
+            ready: true,
+        }),
+        2 => Edit::DropLink {
+            peer,
+            label,
+            side: Side::Sends,
+        },
+        3 => Edit::PutKey(KeyRec {
+            peer,
+            name,
+            value: 5,
+            status: KeyStatus::Held,
+        }),
+        4 => Edit::DropEnded,
+        5 => Edit::DropExchange { peer },
+        6 => Edit::PutAnswer(Answer {
+            requester: peer,
+            ultimate: name.issuer,
+            cta: name.count,
+            value: 6,
+        }),
+        7 => Edit::SetGen(0x1122334455667788),
+        _ => Edit::SetGen(1),
+    }
+}
+
+fn via_of(row: usize, name: &KeyName) -> Via {
+    let label = name.label;
+    let centre = name.issuer;
+    let cta = name.count;
+    match row {
+        3 => Via::Direct {
+            label,
+            new: Some(label),
+        },
+        4 => Via::Direct { label, new: None },
+        5 => Via::Distribution { centre, cta },
+        _ => Via::Translation { centre },
+    }
+}
+
+fn kind_of(row: usize, name: &KeyName) -> Kind
+    requires { IsCount (name.now.count + 1) }
+    ensures { IsFittingKind result }
+{
+    let ultimate = name.originator;
+    match row {
+        0 => Kind::Asked { ultimate },
+        1 => Kind::Translating {
+            ultimate,
+            value: 5,
+            cta: name.count,
+        },
+        2 => Kind::Ending { name: *name },
+        7 => Kind::PairSent { name: *name },
+        _ => Kind::KeySent {
+            name: *name,
+            via: via_of(row, name),
+        },
+    }
+}
+
+/// The edit of that row of the table of exchanges.
+pub(crate) fn exchange_of(alloc: Global, row: usize) -> Result<Edit, DiskErr>
+    ensures { IfOk result IsFitting }
+{
+    let (Ok(peer), Ok(name)) = (Ident::read(b"BANK"), KeyName::read(b"INST.ORIG.K.9")) else {
+        return Err(DiskErr::Fault);
+    };
+    if name_behind(&name).is_none() {
+        return Err(DiskErr::Fault);
+    }
+    let mut text = Text::new(alloc);
+    text.push(b"CS")?;
+    let kind = kind_of(row, &name);
+    Ok(Edit::PutExchange(Exchange { peer, kind, text }))
+}
+
+/// The code of a link with this side, next count and readiness.
+pub(crate) fn link_code(alloc: Global, side: u8, next: u64, ready: u8) -> Result<Text, NoMemory> {
+    let mut text = Text::new(alloc);
+    text.push(b"\x01\0\x01\x02\x04BANK\x01K")?;
+    text.push(&[side])?;
+    text.push(&[0; 16])?;
+    text.push(&next.to_be_bytes())?;
+    text.push(&[ready])?;
+    Ok(text)
+}
