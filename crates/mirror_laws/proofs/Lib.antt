@@ -1,5 +1,5 @@
 mod Runs
-mod Lost
+mod LostDisks
 mod Stores
 mod Turned
 mod Left

@@ -5,7 +5,7 @@ ghost use Rattle.world_laws.specs.Starts.{HasAcceptedNothing, IsBareStart, IsSta
 ghost use Rattle.world_laws.specs.Laws.{OneKeyPerCount, Once, Agreement, EndedBoth};
 ghost use Rattle.mirror_laws.specs.Runs.{PairEvent, pair_run, ArePairEvents, HonestPairRun};
 
-use world_laws::{law_agreement, law_counts, law_ended, law_once};
+use world_laws::{law_agreement, law_ended, law_once, law_one_key_per_count};
 
 /// The laws of a network hold also where disks are lost, one of a party's two at a time, between two events or behind one that is
 /// cut off: no count offsets two different keys under one key-encrypting key, and each key service message takes effect at most
@@ -18,7 +18,7 @@ pub fn law_mirror()
     ensures agreement { (start : World) (events : List PairEvent) → IsStart start → ArePairEvents events → HonestPairRun 1 start events → Agreement (pair_run 1 start events) }
     ensures ended { (start : World) (events : List PairEvent) → IsStart start → ArePairEvents events → HonestPairRun 1 start events → EndedBoth (pair_run 1 start events) }
 {
-    law_counts();
+    law_one_key_per_count();
     law_once();
     law_agreement();
     law_ended();

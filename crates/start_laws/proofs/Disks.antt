@@ -16,7 +16,7 @@ use Rattle.change_code.specs.Cost.{space_after}
 use Rattle.change_code.specs.declared.space.Space.{Space}
 use Rattle.key_store.specs.Store.{Stands, StandsWith}
 use Rattle.member.specs.Member.{Member}
-use Rattle.x_party.specs.Images.{StandsFor}
+use Rattle.x_party.specs.Images.{DiskStandsFor}
 use Rattle.x_party.specs.Outcomes.{IsAccepted}
 use Rattle.roles.specs.Deciding.{decision}
 use Rattle.world_laws.specs.World.{own_of, member_at}
@@ -29,7 +29,7 @@ use Rattle.start_laws.proofs.Members.{names_differ, put_cases}
 
 -- the disks tell, and stand for these members
 abbrev pub AreOn : List Member → (List ℕ → View) → Type 0
-AreOn ms disks = (name : List ℕ) (x : Member) → member_at name ms ≡ Some x → Tells (disks name) × StandsFor (disks name) x.party x.space
+AreOn ms disks = (name : List ℕ) (x : Member) → member_at name ms ≡ Some x → Tells (disks name) × DiskStandsFor (disks name) x.party x.space
 
 -- a party is created where none of its name was, and an end is loaded where its link doesn't stand
 pub record IsFree (ms : List Member) (e : End) : Type 0 where
@@ -54,7 +54,7 @@ tells_now v t = go v.now t
     go (Some image) h = (image, refl)
 
 -- what a disk that tells the same stands for
-alike_stands : (v w : View) (p : Party) (space : Space) → IsAlike v w → StandsFor v p space → StandsFor w p space
+alike_stands : (v w : View) (p : Party) (space : Space) → IsAlike v w → DiskStandsFor v p space → DiskStandsFor w p space
 alike_stands v w p space a s = record {
   durable = record { only = λ b c now left. s.durable.only b c (sym a.now ∙ now) (a.images c left); stable = a.stable ∙ (s.durable.stable ∙ sym a.now) };
   reads = λ image now. s.reads image (sym a.now ∙ now);
@@ -64,7 +64,7 @@ alike_tells : (v w : View) → IsAlike v w → Tells v → Tells w
 alike_tells v w a t = ap is_some a.now ∙ t
 
 -- what a disk stands for once the power has failed
-off_stands : (v w : View) (p : Party) (space : Space) → IsOff v.may_leave w → Tells v → StandsFor v p space → StandsFor w p space
+off_stands : (v w : View) (p : Party) (space : Space) → IsOff v.may_leave w → Tells v → DiskStandsFor v p space → DiskStandsFor w p space
 off_stands v w p space off t s =
     let now = tells_now v t in
     let is : off.image ≡ now.0 = s.durable.only now.0 off.image now.1 off.left in
@@ -100,8 +100,8 @@ module _ (exactly : LoadsExactly)
 
     created_on : Tells (old own) → AreOn (members_after (Creates own role generator) ms) new
     created_on tells name x at = elim (put_cases (first_member own role generator) ms name x at) [
-      | inl here ↦ subst (λ (q : List ℕ). Tells (new q) × StandsFor (new q) x.party x.space) (sym here.0)
-          (is.tells ∙ tells, subst (λ (z : Member). StandsFor (new own) z.party z.space) (sym here.1) is.made.stands)
+      | inl here ↦ subst (λ (q : List ℕ). Tells (new q) × DiskStandsFor (new q) x.party x.space) (sym here.0)
+          (is.tells ∙ tells, subst (λ (z : Member). DiskStandsFor (new own) z.party z.space) (sym here.1) is.made.stands)
       | inr there ↦ (alike_tells (old name) (new name) (is.others name there.0) (on name x there.1).0, alike_stands (old name) (new name) x.party x.space (is.others name there.0) (on name x there.1).1)
     ]
 
@@ -145,16 +145,16 @@ module _ (exactly : LoadsExactly)
     own_is : e.own ≡ x.party.own
     own_is = find_key own_of bytes_eq test_idents e.own x ms is.at
 
-    stands_new : StandsFor (new e.own) (with_link x (link_at e)).party (with_link x (link_at e)).space
-    stands_new = subst (λ (es : List Edit). StandsFor (new e.own) (apply es x.party) (space_after x.space es)) decided.change accepted.stands
+    stands_new : DiskStandsFor (new e.own) (with_link x (link_at e)).party (with_link x (link_at e)).space
+    stands_new = subst (λ (es : List Edit). DiskStandsFor (new e.own) (apply es x.party) (space_after x.space es)) decided.change accepted.stands
 
     members_are : members_after (Loads e moment) ms ≡ load_into (Some x) (link_at e) ms
     members_are = ap (λ (o : Option Member). load_into o (link_at e) ms) is.at
 
     pub loaded_on : AreOn (members_after (Loads e moment) ms) new
     loaded_on = subst (λ (zs : List Member). AreOn zs new) (sym members_are) (λ name z at. elim (put_cases (with_link x (link_at e)) ms name z at) [
-      | inl here ↦ subst (λ (q : List ℕ). Tells (new q) × StandsFor (new q) z.party z.space) (own_is ∙ sym here.0)
-          (is.tells ∙ tells, subst (λ (y : Member). StandsFor (new e.own) y.party y.space) (sym here.1) stands_new)
+      | inl here ↦ subst (λ (q : List ℕ). Tells (new q) × DiskStandsFor (new q) z.party z.space) (own_is ∙ sym here.0)
+          (is.tells ∙ tells, subst (λ (y : Member). DiskStandsFor (new e.own) y.party y.space) (sym here.1) stands_new)
       | inr there ↦ (let ne : name ≢ e.own = λ same. there.0 (same ∙ own_is) in
           (alike_tells (old name) (new name) (is.others name ne) (on name z there.1).0, alike_stands (old name) (new name) z.party z.space (is.others name ne) (on name z there.1).1))
     ])

@@ -10,7 +10,7 @@ use Rattle.change_code.specs.declared.format.Format.{Format}
 use Rattle.key_store.specs.Store.{StandsWith}
 use Rattle.member.specs.Member.{Member}
 use Rattle.member.specs.Acts.{compacted_in, migrated_in}
-use Rattle.x_party.specs.Images.{StandsFor, OrBefore}
+use Rattle.x_party.specs.Images.{DiskStandsFor, OrBefore}
 use Rattle.x_party.specs.Outcomes.{TakesTurn, IsSafe, CompactsParty, MigratesParty, IsSafeCompaction, IsSafeMigration}
 use Rattle.x_party.specs.declared.outcome.Outcome.{Outcome}
 use Rattle.world_laws.specs.World.{World, HasMember, member_at}
@@ -51,7 +51,7 @@ module _ (x : Member) (moment : ℕ) where
       subst (λ (y : Member). StandsWith image y.party y.space) same here.holds
 
   -- an image that a crash leaves of a call
-  image_left : (action : Action) (old : View) (image : List ℕ) → Tells old → StandsFor old x.party x.space → OrBefore old (IsCutCall x (event_at x moment action)) image → IsOldOrAfter x (event_at x moment action) image
+  image_left : (action : Action) (old : View) (image : List ℕ) → Tells old → DiskStandsFor old x.party x.space → OrBefore old (IsCutCall x (event_at x moment action)) image → IsOldOrAfter x (event_at x moment action) image
   image_left action old image tells stood left = elim left [
     | inl c ↦ cut c c.completion refl
     | inr was ↦ (let now = tells_now old tells in
@@ -65,7 +65,7 @@ module _ (x : Member) (moment : ℕ) where
       cut c CutNew is = inr (subst (λ (d : Completion). InEveryNetwork x (event_at x moment action d) (λ w after. HasMember after x.party.own (StandsWith image))) is c.stands)
 
   -- what is left in the end
-  pub call_left : (action : Action) (o : Outcome) (old new : View) → IsSound new → Tells old → StandsFor old x.party x.space → IsCallEvent x (event_at x moment action) old new o → IsLeft x (event_at x moment action) new
+  pub call_left : (action : Action) (o : Outcome) (old new : View) → IsSound new → Tells old → DiskStandsFor old x.party x.space → IsCallEvent x (event_at x moment action) old new o → IsLeft x (event_at x moment action) new
   call_left action o old new sound tells stood is = record { reads = λ image now. leaves image (sound.now_among image now); leaves = leaves }
     where
       leaves : (image : List ℕ) → new.may_leave image → IsOldOrAfter x (event_at x moment action) image
@@ -84,7 +84,7 @@ module _ (name : List ℕ) (old new : View)
   made_is_call x Compacts moment o own m image now stood = compactions moment o m.0 m.1 image x.party x.space now stood
   made_is_call x Migrates moment o own m image now stood = migrations moment o m.0 m.1 image x.party x.space now stood
 
-  pub made_left : (x : Member) (action : Action) (moment : ℕ) (o : Outcome) → x.party.own ≡ name → IsMade name action moment o old new → IsSound new → Tells old → StandsFor old x.party x.space → IsLeft x (event_at x moment action) new
+  pub made_left : (x : Member) (action : Action) (moment : ℕ) (o : Outcome) → x.party.own ≡ name → IsMade name action moment o old new → IsSound new → Tells old → DiskStandsFor old x.party x.space → IsLeft x (event_at x moment action) new
   made_left x action moment o own m sound tells stood =
       let now = tells_now old tells in
       call_left x moment action o old new sound tells stood (made_is_call x action moment o own m now.0 now.1 (stood.reads now.0 now.1))

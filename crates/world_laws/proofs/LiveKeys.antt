@@ -15,3 +15,6 @@ pub mod TranslationRun
 pub mod TwinRun
 pub mod EndRun
 pub mod ClosingRun
+pub mod Costs
+pub mod AnyRun
+pub mod AnyDraw

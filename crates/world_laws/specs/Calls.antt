@@ -5,7 +5,7 @@ use Rattle.x_disk.specs.Disk.{View, LeavesOnly, IsUntouched}
 use Rattle.party_state.specs.State.{Party}
 use Rattle.change_code.specs.declared.space.Space.{Space}
 use Rattle.key_store.specs.Store.{Stands, StandsWith}
-use Rattle.x_party.specs.Images.{StandsFor, OrBefore}
+use Rattle.x_party.specs.Images.{DiskStandsFor, OrBefore}
 use Rattle.x_party.specs.declared.outcome.Outcome.{Outcome}
 use Rattle.x_party.specs.declared.outcome.Outcome.TheVariants as outcome
 use Rattle.member.specs.Member.{Member}
@@ -23,7 +23,7 @@ InEveryNetwork x e P = (n : ℕ) (w : World) → member_at x.party.own w.members
 
 -- the whole event: the disk stands for the party as it is then, and what was handed out is the text that was written
 pub record IsWholeCall (x : Member) (e : Event) (new : View) (reply : Option (List ℕ)) : Type 0 where
-  pub stands : InEveryNetwork x e (λ w after. HasMember after x.party.own (StandsFor new))
+  pub stands : InEveryNetwork x e (λ w after. HasMember after x.party.own (DiskStandsFor new))
   pub texts : InEveryNetwork x e (λ w after. after.texts ≡ w.texts ++ option_to_list reply)
 
 -- a party that answered did the whole event; of one that stands the disk isn't damaged

@@ -13,4 +13,5 @@ pub mod Answered
 pub mod Nodes
 pub mod Calls
 pub mod Reached
+pub mod Exchanged
 pub mod Sessions

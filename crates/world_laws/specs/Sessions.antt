@@ -5,7 +5,7 @@ use Rattle.x_disk.specs.Disk.{View, IsDurable, Tells}
 use Rattle.x_disk.specs.Shelf.{OthersStay}
 use Rattle.party_state.specs.declared.command.Input.TheVariants as input
 use Rattle.member.specs.Member.{Member}
-use Rattle.x_party.specs.Images.{ReadsAs, StandsFor}
+use Rattle.x_party.specs.Images.{ReadsAs, DiskStandsFor}
 use Rattle.x_party.specs.Outcomes.{TakesTurn, IsSafe, CompactsParty, MigratesParty, IsSafeCompaction, IsSafeMigration}
 use Rattle.x_party.specs.declared.outcome.Outcome.{Outcome}
 use Rattle.x_party.specs.declared.outcome.Outcome.TheVariants as outcome
@@ -84,7 +84,7 @@ texts_in (d ∷ ds) = deed_texts d ++ texts_in ds
 
 -- the disks tell, and stand for the members of the network
 abbrev pub StandsOn : (List ℕ → View) → World → Type 0
-StandsOn disks w = (name : List ℕ) (x : Member) → member_at name w.members ≡ Some x → Tells (disks name) × StandsFor (disks name) x.party x.space
+StandsOn disks w = (name : List ℕ) (x : Member) → member_at name w.members ≡ Some x → Tells (disks name) × DiskStandsFor (disks name) x.party x.space
 
 -- there are events from this start after which the network reads from the disks, and has written these texts; so the laws hold
 -- of it

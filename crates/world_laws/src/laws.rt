@@ -17,7 +17,7 @@ pub fn law_start()
 
 /// No count offsets two different keys under one key-encrypting key.
 #[tactic(auto, using(crate::proofs::Counting::Runs::one_key_per_count))]
-pub fn law_counts()
+pub fn law_one_key_per_count()
     ensures { (start : World) (events : List Event) → IsBareStart start → AreEvents events → OneKeyPerCount (run 1 start events) }
 {}
 

@@ -3,25 +3,29 @@
 
 mod calls;
 mod compactions;
+mod exchanged;
 mod facts;
 mod hearing;
+mod honest_ends;
 mod inputs;
 mod laws;
-mod moments;
-mod reached;
+mod live_runs;
 mod runs;
 mod sessions;
 mod turns;
 
 pub use calls::law_calls;
 pub use compactions::law_compactions;
+pub use exchanged::law_exchanged;
 pub use fact_book::FactBook;
 pub use facts::law_facts;
 pub use hearing::law_hearing;
+pub use honest_ends::law_honest_ends;
 pub use inputs::law_inputs;
-pub use laws::{law_accepted, law_agreement, law_counts, law_ended, law_once, law_start, law_used};
-pub use moments::law_moments;
-pub use reached::law_reached;
+pub use laws::{
+    law_accepted, law_agreement, law_ended, law_once, law_one_key_per_count, law_start, law_used,
+};
+pub use live_runs::law_live_runs_exist;
 pub use runs::law_runs;
 pub use sessions::law_session;
 pub use turns::law_turns;

@@ -9,7 +9,7 @@ use Rattle.party_state.specs.State.{Party}
 use Rattle.change_code.specs.declared.space.Space.{Space}
 use Rattle.key_store.specs.Store.{Stands, StandsWith, IsFirstDamage}
 use Rattle.member.specs.Member.{Member}
-use Rattle.x_party.specs.Images.{StandsFor}
+use Rattle.x_party.specs.Images.{DiskStandsFor}
 use Rattle.x_party.specs.declared.outcome.Outcome.{Outcome}
 use Rattle.x_party.specs.declared.outcome.Outcome.TheVariants as outcome
 use Rattle.world_laws.specs.World.{World, HasMember, own_of, member_at}
@@ -100,7 +100,7 @@ module _ (one_space : (image : List ℕ) (first second : Party) (s t : Space) �
       -- the whole event
       whole : (reply : Option (List ℕ)) → IsWholeCall here.0 (event_at here.0 moment action Whole) (mid name) reply → (b : List ℕ) → (mid name).now ≡ Some b → (mid name).may_leave (image name) → Reached start (texts ++ option_to_list reply) image
       whole reply w b reads left =
-          let after : HasMember (step (number_after 1 r.events) (run 1 start r.events) (event_at here.0 moment action Whole)) here.0.party.own (StandsFor (mid name)) = w.stands (number_after 1 r.events) (run 1 start r.events) at_own in
+          let after : HasMember (step (number_after 1 r.events) (run 1 start r.events) (event_at here.0 moment action Whole)) here.0.party.own (DiskStandsFor (mid name)) = w.stands (number_after 1 r.events) (run 1 start r.events) at_own in
           let is : image name ≡ b = durable_is (mid name) b (image name) after.holds.durable reads left in
           go_on start texts (option_to_list reply) (put_image name now.0 image) image name r here.0 moment action Whole call.is_action here.1 own (put_there name now.0 image)
           (record { member = after.member; at = after.at; holds = subst (λ (c : List ℕ). StandsWith c after.member.party after.member.space) (sym is) (after.holds.reads b reads) })

@@ -13,13 +13,13 @@ use Rattle.x_gen.specs.declared.generator.Gen.{Gen}
 use Rattle.x_gen.specs.Parity.{odd_of, is_weak_key}
 use Rattle.x_gen.specs.Gen.{drawn, gen_after, draws, good_draw}
 
-abbrev weak : ℕ
+abbrev pub weak : ℕ
 weak = 0x0101010101010101
 
 abbrev pub key : ℕ
 key = 0x0123456789ABCDEF
 
-abbrev both_weak : Pair
+abbrev pub both_weak : Pair
 both_weak = record { left = weak; right = weak }
 
 -- the moment of each draw
@@ -43,10 +43,10 @@ either_way : (x : ℕ) → deciphered weak x ≡ enciphered weak x
 unfolding enciphered deciphered encrypted decrypted
 either_way x = ap (λ (ks : List (List Bool)). number (crypted ks (bits_of 64 x))) round_keys_alike
 
-twice : (x : ℕ) → x < 2 ^ 64 → enciphered weak (enciphered weak x) ≡ x
+pub twice : (x : ℕ) → x < 2 ^ 64 → enciphered weak (enciphered weak x) ≡ x
 twice x below = ap (enciphered weak) (sym (either_way x)) ∙ enciphered-deciphered weak x below
 
-once : (x : ℕ) → ede_of both_weak x ≡ enciphered weak x
+pub once : (x : ℕ) → ede_of both_weak x ≡ enciphered weak x
 once x = enciphered-deciphered weak (enciphered weak x) (enciphered-lt weak x)
 
 moment_is : ede_of both_weak moment ≡ 0
@@ -71,7 +71,7 @@ strong_key : is_weak_key key ≡ false
 unfolding odd_of lib.Count.ones
 strong_key = refl
 
-first_draw : (g : Gen) (at d : ℕ) → odd_of (drawn g at) ≡ d → is_weak_key d ≡ false → good_draw g at ≡ Some (d, gen_after g at)
+pub first_draw : (g : Gen) (at d : ℕ) → odd_of (drawn g at) ≡ d → is_weak_key d ≡ false → good_draw g at ≡ Some (d, gen_after g at)
 unfolding draws
 first_draw g at d e w = go (odd_of (drawn g at)) e
   where

@@ -25,8 +25,8 @@ use Rattle.roles.specs.Rows.{row_at}
 use Rattle.member.specs.Member.{Member, Plan, plan_at, as_decided, as_full, after}
 use Rattle.member.specs.Acts.{Act, Keeps, WritesWhole, verdict_alone, taking, rewriting, compacted_in, migrated_in, member_after}
 use Rattle.node_core.specs.Turns.{IsOldOrNext}
-use Rattle.x_party.specs.Images.{StandsFor, OfParty, OfOwnParty, OrBefore}
-use Rattle.x_party.specs.Outcomes.{IsAccepted, IsRefused, IsOther, IsNobody, IsTooLargeIn, FitsIn, space_in, IsRewritten, IsNotRewritten, IsOldOrRewritten, RewritesParty, CompactsParty, MigratesParty, IsSafe, IsSafeRewriting, IsSafeCompaction, IsSafeMigration, TakesTurn}
+use Rattle.x_party.specs.Images.{DiskStandsFor, OfParty, OfOwnParty, OrBefore}
+use Rattle.x_party.specs.Outcomes.{IsAccepted, IsRefusedTurn, IsOther, IsNobody, IsTooLargeIn, FitsIn, space_in, IsRewritten, IsNotRewritten, IsOldOrRewritten, RewritesParty, CompactsParty, MigratesParty, IsSafe, IsSafeRewriting, IsSafeCompaction, IsSafeMigration, TakesTurn}
 use Rattle.x_party.specs.declared.outcome.Outcome.{Outcome}
 use Rattle.x_party.specs.declared.outcome.Outcome.TheVariants as outcome
 use Rattle.world_laws.specs.World.{World, HasMember, member_at}
@@ -71,12 +71,12 @@ module _ (x : Member) (act : Act) (moment : ℕ) (action : Action) (event : ℕ 
   in_network : (c : Completion) (P : World → Type 0) (n : ℕ) (w : World) → member_at x.party.own w.members ≡ Some x → P (event n w c) → P (step n w (event_at x moment action c))
   in_network c P n w at p = subst (λ (o : Option Member). P (step_at n w (event_at x moment action c) o)) (sym at) (subst P (sym (gives n w c)) p)
 
-  whole_call : (y : Member) (reply : Option (List ℕ)) (new : View) → member_after x act.work ≡ y → act.reply ≡ reply → StandsFor new y.party y.space → IsWholeCall x (event_at x moment action Whole) new reply
+  whole_call : (y : Member) (reply : Option (List ℕ)) (new : View) → member_after x act.work ≡ y → act.reply ≡ reply → DiskStandsFor new y.party y.space → IsWholeCall x (event_at x moment action Whole) new reply
   whole_call y reply new next out stood = record {
-    stands = λ n w at. in_network Whole (λ v. HasMember v x.party.own (StandsFor new)) n w at (record {
+    stands = λ n w at. in_network Whole (λ v. HasMember v x.party.own (DiskStandsFor new)) n w at (record {
       member = member_after x act.work;
       at = ap (λ (ms : List Member). member_at x.party.own ms) (is.whole n w at).members ∙ after_at w.members x.party.own x (member_after x act.work) at is.own;
-      holds = subst (λ (z : Member). StandsFor new z.party z.space) (sym next) stood;
+      holds = subst (λ (z : Member). DiskStandsFor new z.party z.space) (sym next) stood;
     });
     texts = λ n w at. in_network Whole (λ v. v.texts ≡ w.texts ++ option_to_list reply) n w at
         ((is.whole n w at).texts ∙ ap (λ (o : Option (List ℕ)). w.texts ++ option_to_list o) out);
@@ -111,7 +111,7 @@ module _ (p : Party) (left : Space) (i : Input) (moment : ℕ) (action : Action)
   abbrev act : Act
   act = taking (plan_at here i moment)
 
-  is_whole : (y : Member) (reply : Option (List ℕ)) → member_after here act.work ≡ y → act.reply ≡ reply → StandsFor new y.party y.space → IsWholeCall here (event_at here moment action Whole) new reply
+  is_whole : (y : Member) (reply : Option (List ℕ)) → member_after here act.work ≡ y → act.reply ≡ reply → DiskStandsFor new y.party y.space → IsWholeCall here (event_at here moment action Whole) new reply
   is_whole y reply = whole_call here act moment action (input_event here i moment) (input_is here i moment) (λ n w c. gives n w here moment c) y reply new
 
   plan_fits : fits left (decision p i moment).change ≡ true → plan_at here i moment ≡ as_decided (lead_in p i) (decision p i moment)
@@ -124,7 +124,7 @@ module _ (p : Party) (left : Space) (i : Input) (moment : ℕ) (action : Action)
   accepted_call reply a =
       is_whole (after here (decision p i moment).change) reply (ap (λ (plan : Plan). after here plan.edits) (plan_fits a.fits)) (ap (λ (plan : Plan). plan.reply) (plan_fits a.fits) ∙ sym a.reply) a.stands
 
-  refused_call : (said : Verdict) (reply : Option (List ℕ)) → IsRefused old new (decision p i moment) p left said reply → IsWholeCall here (event_at here moment action Whole) new reply
+  refused_call : (said : Verdict) (reply : Option (List ℕ)) → IsRefusedTurn old new (decision p i moment) p left said reply → IsWholeCall here (event_at here moment action Whole) new reply
   refused_call said reply r = elim r.cause [
     | inl refusal ↦
         let none = refuses_nothing p i moment refusal.refuses in
@@ -225,7 +225,7 @@ module _ (format : Format → Option Format) (action : Action) (gives : Rewrites
   abbrev x : Member
   x = record { party = p; space = left }
 
-  is_rewritten : (y : Member) (reply : Option (List ℕ)) → member_after x (rewriting o p).work ≡ y → (rewriting o p).reply ≡ reply → StandsFor new y.party y.space → IsWholeCall x (event_at x moment action Whole) new reply
+  is_rewritten : (y : Member) (reply : Option (List ℕ)) → member_after x (rewriting o p).work ≡ y → (rewriting o p).reply ≡ reply → DiskStandsFor new y.party y.space → IsWholeCall x (event_at x moment action Whole) new reply
   is_rewritten y reply = whole_call x (rewriting o p) moment action (λ n w c. world_rewritten o w x c) (rewriting_is o x) (λ n w c. gives n w x moment c) y reply new
 
   rewritten_call : (reply : Option (List ℕ)) → IsRewritten old new o p left reply → IsWholeCall x (event_at x moment action Whole) new reply
@@ -274,7 +274,7 @@ module _ (one_space : (image : List ℕ) (first second : Party) (s t : Space) �
   own_call name old new i moment action image p left gives now stood own (outcome.Done reply) is =
       accepted_call p left i moment action gives old new reply (of_party old (λ q space. IsAccepted old new (decision q i moment) q space reply) image p left now stood (of_own name old _ is))
   own_call name old new i moment action image p left gives now stood own (outcome.Refused said reply) (inl is) =
-      refused_call p left i moment action gives old new said reply (of_party old (λ q space. IsRefused old new (decision q i moment) q space said reply) image p left now stood (of_own name old _ is))
+      refused_call p left i moment action gives old new said reply (of_party old (λ q space. IsRefusedTurn old new (decision q i moment) q space said reply) image p left now stood (of_own name old _ is))
   own_call name old new i moment action image p left gives now stood own (outcome.Refused said reply) (inr none) = somebody old new image p left said reply now stood none
   own_call name old new i moment action image p left gives now stood own (outcome.OtherParty asked found) is =
       let other = of_party old (λ q space. IsOther old new name q space asked found) image p left now stood is in

@@ -12,7 +12,7 @@ use Rattle.role_base.specs.Texts.{text_of}
 use Rattle.fact_book.specs.Facts.{NamedText}
 use Rattle.world_laws.specs.World.{Fact}
 use Rattle.world_laws.specs.Honest.{named_text}
-use Rattle.world_laws.specs.Noted.{authenticated, noted}
+use Rattle.world_laws.specs.Noted.{authenticated_in, noted}
 use Rattle.world_laws.specs.Steps.{facts_of, texts_of}
 
 -- the authenticated text of a text that is closed by a code
@@ -25,7 +25,7 @@ take_front : (front back : List ℕ) → take (length front) (front ++ back) ≡
 take_front [] back = refl
 take_front (b ∷ front) back = ap (λ (l : List ℕ). b ∷ l) (take_front front back)
 
-before_code : (front code : List ℕ) → length code ≡ 13 → authenticated (front ++ code) ≡ front
+before_code : (front code : List ℕ) → length code ≡ 13 → authenticated_in (front ++ code) ≡ front
 before_code front code size =
     let place : length (front ++ code) - 13 ≡ length front = omega (arith, length-append front code, size) in
     ap (λ (n : ℕ). take n (front ++ code)) place ∙ take_front front code
@@ -33,7 +33,7 @@ before_code front code size =
 closing_size : (digits : List ℕ) → length digits ≡ 8 → length ((codes "MAC" ++ 47 ∷ digits) ++ codes ")") ≡ 13
 closing_size digits size = omega (arith, length-append digits (codes ")"), size)
 
-coded_auth : (m : Message) (value : ℕ) → authenticated (canon m (closing.Mac value)) ≡ auth_of m
+coded_auth : (m : Message) (value : ℕ) → authenticated_in (canon m (closing.Mac value)) ≡ auth_of m
 coded_auth m value =
     let digits = code_digits (mac_of value (auth_of m)) in
     before_code (auth_of m) ((codes "MAC" ++ 47 ∷ digits) ++ codes ")") (closing_size digits (eight_digits (mac_of value (auth_of m))))

@@ -5,7 +5,7 @@ use Rattle.world_laws.proofs.LiveKeys.NewKkRun.{new_kk_run}
 use Rattle.world_laws.proofs.LiveKeys.DistributionRun.{distribution_run}
 use Rattle.world_laws.proofs.LiveKeys.TranslationRun.{translation_run}
 use Rattle.world_laws.proofs.LiveKeys.ClosingRun.{cut_run, closing_run, closed_run, forged_run}
-use Rattle.world_laws.proofs.reached.law_reached.Goals as goal
+use Rattle.world_laws.proofs.live_runs.law_live_runs_exist.Goals as goal
 
 pub returns-clause-direct : goal.returns-clause-direct
 returns-clause-direct c = live_run

@@ -8,7 +8,7 @@ ghost use Rattle.world_laws.specs.Reached.{LiveRun, LiveRunOf, HonestRunTo, IsFi
 /// live went by a command that was cut off with the new state; one in which the partner accepted the end of a key that its
 /// originator still counts as live, and one in which the end was answered. So the laws of honest runs don't hold for want of
 /// runs; nor are all runs honest: there is one with a forged event.
-pub fn law_reached()
+pub fn law_live_runs_exist()
     ensures direct { LiveRun }
     ensures under_new_kk { LiveRunOf IsUnderNewKk }
     ensures two_at_once { LiveRunOf IsFirstOfTwo }

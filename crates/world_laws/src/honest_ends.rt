@@ -14,7 +14,7 @@ ghost use Rattle.world_laws.specs.Facts.{ReadyAtBothEnds, CountsMeet, WaitingSta
 /// made have a name of their keys in common; an answer to a key was made where a message was accepted whose first key it
 /// is, and the answer to an end where the end was accepted; and the keys that were accepted are those that the message
 /// carries, each with its carried value at both ends.
-pub fn law_moments()
+pub fn law_honest_ends()
     ensures ends { (start : World) (events : List Event) → IsStart start → AreEvents events → HonestRun 1 start events → ReadyAtBothEnds (run 1 start events) }
     ensures counts { (start : World) (events : List Event) → IsStart start → AreEvents events → HonestRun 1 start events → CountsMeet (run 1 start events) }
     ensures waiting { (start : World) (events : List Event) → IsStart start → AreEvents events → HonestRun 1 start events → WaitingStands (run 1 start events) }

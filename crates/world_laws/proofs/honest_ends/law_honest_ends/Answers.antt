@@ -1,5 +1,5 @@
 use Rattle.world_laws.proofs.Agreeing.Moments.{ready_at_both_ends, counts_meet, waiting_stands, twins_stand, twins_carried, made_by_senders, one_ksm_per_name, answers_were_taken, keys_were_taken}
-use Rattle.world_laws.proofs.moments.law_moments.Goals as goal
+use Rattle.world_laws.proofs.honest_ends.law_honest_ends.Goals as goal
 
 pub returns-clause-ends : goal.returns-clause-ends
 returns-clause-ends c = ready_at_both_ends
