@@ -9,7 +9,7 @@ use Rattle.course.specs.Tallies.{IsTallied}
 use Rattle.course.specs.declared.progress.Progress.{Progress}
 use Rattle.course.specs.declared.tally.Tally.{Tally}
 use Rattle.audit_check.specs.Answers.{IsAnswer, start_audit}
-use Rattle.audit_check.specs.Audits.{Audit, Leads, Fails}
+use Rattle.audit_check.specs.Audits.{Audit, AuditLeads, Fails}
 use Rattle.audit_check.specs.Ends.{IsBehind}
 use Rattle.audit_check.specs.Laws.{OneAnswer}
 use Rattle.audit_check.specs.declared.fault.AuditFault.{AuditFault}
@@ -59,7 +59,7 @@ behind_once transcript end answer.NoMemory b some other one two = absurd (some r
 
 record Reaches (lines : List Line) (letters transcript : List ℕ) (a : AuditResult) : Type 0 where
   end : Audit
-  leads : Leads lines (start_audit lines letters) end
+  leads : AuditLeads lines (start_audit lines letters) end
   behind : IsBehind transcript end a
 
 record Stops (lines : List Line) (letters : List ℕ) (a : AuditResult) : Type 0 where

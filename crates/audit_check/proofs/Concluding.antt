@@ -4,7 +4,7 @@ use Rattle.scenario.specs.declared.line.Line.{Line}
 use Rattle.world_laws.specs.Starts.{IsStart}
 use Rattle.course.specs.Starts.{start_world}
 use Rattle.audit_check.specs.Answers.{IsRun, IsFault, IsAnswer, start_audit}
-use Rattle.audit_check.specs.Audits.{Audit, Leads, Fails}
+use Rattle.audit_check.specs.Audits.{Audit, AuditLeads, Fails}
 use Rattle.audit_check.specs.Ends.{IsBehind, answer_of}
 use Rattle.audit_check.specs.Laws.{RunsLawful}
 use Rattle.audit_check.specs.declared.failure.Failure.{Failure}
@@ -32,10 +32,10 @@ module _ (lines : List Line) (letters transcript : List ℕ) where
   failed_so failure.NoMemory fails = tt
 
   module _ (lawful : RunsLawful) (begins : IsStart (start_world lines)) where
-    run_of : (a : Audit) → Leads lines (start_audit lines letters) a → a.letters ≡ [] → IsRun lines letters a.course
-    run_of a leads none = subst (Leads lines (start_audit lines letters)) (λ i. record { course = a.course; letters = none i }) leads
+    run_of : (a : Audit) → AuditLeads lines (start_audit lines letters) a → a.letters ≡ [] → IsRun lines letters a.course
+    run_of a leads none = subst (AuditLeads lines (start_audit lines letters)) (λ i. record { course = a.course; letters = none i }) leads
 
-    pub concluded : (a : Audit) (r : AuditResult) → Leads lines (start_audit lines letters) a → IsBehind transcript a r → IsAnswer lines letters transcript r
+    pub concluded : (a : Audit) (r : AuditResult) → AuditLeads lines (start_audit lines letters) a → IsBehind transcript a r → IsAnswer lines letters transcript r
     concluded a (answer.Yes tally) leads is =
         let run = run_of a leads is.0 in
         record { end = a.course; run = run; same = is.1; tallied = is.2; lawful = lawful lines letters a.course begins run }

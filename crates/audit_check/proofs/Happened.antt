@@ -11,24 +11,24 @@ use Rattle.world_laws.specs.Steps.{step, step_at, world_after_action}
 use Rattle.world_laws.specs.Honest.{HonestAction}
 use Rattle.course.specs.Course.{IsForgedBy, no_event, event_at}
 use Rattle.course.specs.Forging.{HonestInput}
-use Rattle.course.specs.Happenings.{Happening, At, Happens, IsFormed, IsNumbered}
-use Rattle.course.specs.Outcomes.{world_after_told, input_in, IsOutcome}
+use Rattle.course.specs.LineEvents.{LineEvent, At, MakesEvent, IsFormed, IsNumbered}
+use Rattle.course.specs.Outcomes.{world_after_given, input_in, IsOutcome}
 use Rattle.course.specs.Stops.{KeepsChange}
-use Rattle.course.specs.declared.act.Act.TheVariants as act
-use Rattle.course.specs.declared.progress.Outcome.{Outcome}
-use Rattle.course.specs.declared.progress.Outcome.TheVariants as outcome
+use Rattle.course.specs.declared.act.LineAct.TheVariants as act
+use Rattle.course.specs.declared.progress.EventOutcome.{EventOutcome}
+use Rattle.course.specs.declared.progress.EventOutcome.TheVariants as outcome
 use Rattle.course.specs.declared.progress.Progress.{Progress}
 use Rattle.audit_check.specs.Audits.{Audit, IsCompleted, IsNothing, IsDone, IsDoneBy, IsStopped, IsWrong}
 use Rattle.audit_check.specs.Events.{IsHonestStop, IsWrongInput, PlaysAt, IsWrongAt}
 use Rattle.audit_check.specs.Faults.{fault_place}
-use Rattle.audit_check.specs.States.{IsSeated, IsPlaced, Shows, IsActed, Acts, ActsWrongly}
+use Rattle.audit_check.specs.States.{HoldsMembers, IsPlaced, Shows, IsActed, Acts, ActsWrongly}
 use Rattle.audit_check.specs.declared.fault.AuditFault.{AuditFault}
 use Rattle.audit_check.specs.declared.fault.AuditFault.TheVariants as fault
 use Rattle.audit_check.specs.declared.state.AuditState.{AuditState}
 
 -- ---- from an action to the input that it gives
 
-told_action : (n : ℕ) (w : World) (x : Member) (moment number : ℕ) (completion : Completion) (action : Action) → IsNumbered action number → world_after_action n w x moment completion action ≡ world_after_told n w x (input_in action) moment completion
+told_action : (n : ℕ) (w : World) (x : Member) (moment number : ℕ) (completion : Completion) (action : Action) → IsNumbered action number → world_after_action n w x moment completion action ≡ world_after_given n w x (input_in action) moment completion
 told_action n w x moment number completion (Orders c) numbered = refl
 told_action n w x moment number completion (Hears bytes (Some a)) numbered = refl
 told_action n w x moment number completion (Hears bytes None) numbered = refl
@@ -60,21 +60,21 @@ nothing_done n w moment = go (member_at [] w.members)
 -- ---- an event
 
 abbrev pub PlacedIn : List ℕ → AuditState → ℕ → Type 0
-PlacedIn own s place = (members : List Member) → IsSeated s.parties members → IsPlaced own members place
+PlacedIn own s place = (members : List Member) → HoldsMembers s.parties members → IsPlaced own members place
 
-module _ (old new : AuditState) (o : Outcome) where
+module _ (old new : AuditState) (o : EventOutcome) where
   -- at the party of a place
   acted_at : (own : List ℕ) (place number : ℕ) (action : Action) → IsNumbered action number → PlacedIn own old place → PlaysAt old new place (input_in action) number o
       → (a : Audit) → a.course.now ≡ old.now → Shows old a.course.world a.letters → IsActed a (At own action) new o
   acted_at own place number action numbered placed plays a is shows =
       let c = a.course in
-      let p = plays c.world c.now.number own a.letters (placed c.world.members shows.seated) shows in
+      let p = plays c.world c.now.number own a.letters (placed c.world.members shows.holds_each) shows in
       let moment : old.now.moment ≡ c.now.moment = sym (ap (λ (q : Progress). q.moment) is) in
       let event = event_at own c.now.moment action p.completion in
-      let world_is : step c.now.number c.world event ≡ world_after_told c.now.number c.world p.member (input_in action) old.now.moment p.completion =
+      let world_is : step c.now.number c.world event ≡ world_after_given c.now.number c.world p.member (input_in action) old.now.moment p.completion =
       ap (λ (m : Option Member). step_at c.now.number c.world event m) p.at
       ∙ (told_action c.now.number c.world p.member c.now.moment number p.completion action numbered
-      ∙ ap (λ (m : ℕ). world_after_told c.now.number c.world p.member (input_in action) m p.completion) (sym moment)) in
+      ∙ ap (λ (m : ℕ). world_after_given c.now.number c.world p.member (input_in action) m p.completion) (sym moment)) in
       record {
         event = event;
         left = p.left;
@@ -90,19 +90,19 @@ module _ (old new : AuditState) (o : Outcome) where
         shows = subst (λ (w : World). Shows new w p.left) (sym world_is) p.shows;
       }
 
-  pub acts_told : (own : List ℕ) (place : ℕ) (t : Input) → PlacedIn own old place → PlaysAt old new place (Some t) 0 o → Acts (act.Tell own t) old new o
-  acts_told own place (input.Ordered command) placed plays = λ a h is shows means.
-      subst (λ (k : Happening). IsActed a k new o) (sym means) (acted_at own place 0 (Orders command) tt placed plays a is shows)
-  acts_told own place (input.Arrived arrival) placed plays = λ a h is shows means.
-      subst (λ (k : Happening). IsActed a k new o) (sym means.1) (acted_at own place 0 (Hears means.0 (Some arrival)) tt placed plays a is shows)
+  pub acts_given : (own : List ℕ) (place : ℕ) (t : Input) → PlacedIn own old place → PlaysAt old new place (Some t) 0 o → Acts (act.Give own t) old new o
+  acts_given own place (input.Ordered command) placed plays = λ a h is shows means.
+      subst (λ (k : LineEvent). IsActed a k new o) (sym means) (acted_at own place 0 (Orders command) tt placed plays a is shows)
+  acts_given own place (input.Arrived arrival) placed plays = λ a h is shows means.
+      subst (λ (k : LineEvent). IsActed a k new o) (sym means.1) (acted_at own place 0 (Hears means.0 (Some arrival)) tt placed plays a is shows)
 
   pub acts_unheard : (own : List ℕ) (place number : ℕ) → PlacedIn own old place → PlaysAt old new place None number o → Acts (act.Refuse own number) old new o
   acts_unheard own place number placed plays = λ a h is shows means.
-      subst (λ (k : Happening). IsActed a k new o) (sym means.4) (acted_at own place number (Hears means.0 None) (means.1, means.2, means.3) placed plays a is shows)
+      subst (λ (k : LineEvent). IsActed a k new o) (sym means.4) (acted_at own place number (Hears means.0 None) (means.1, means.2, means.3) placed plays a is shows)
 
 -- nothing happens
 module _ (old : AuditState) where
-  none_acted : (a : Audit) (h : Happening) → Shows old a.course.world a.letters → IsDone a h (no_event a.course.now.moment) outcome.Nothing a.letters → IsActed a h old outcome.Nothing
+  none_acted : (a : Audit) (h : LineEvent) → Shows old a.course.world a.letters → IsDone a h (no_event a.course.now.moment) outcome.Nothing a.letters → IsActed a h old outcome.Nothing
   none_acted a h shows done = record {
     event = no_event a.course.now.moment;
     left = a.letters;
@@ -114,34 +114,34 @@ module _ (old : AuditState) where
   nothing_at a = record { event = refl; outcome = refl; letters = refl }
 
   pub acts_nothing : Acts act.Nothing old old outcome.Nothing
-  acts_nothing = λ a h is shows means. none_acted a h shows (subst (λ (k : Happening). IsDone a k (no_event a.course.now.moment) outcome.Nothing a.letters) (sym means) (nothing_at a))
+  acts_nothing = λ a h is shows means. none_acted a h shows (subst (λ (k : LineEvent). IsDone a k (no_event a.course.now.moment) outcome.Nothing a.letters) (sym means) (nothing_at a))
 
   abbrev pub Absent : List ℕ → Type 0
-  Absent own = (members : List Member) → IsSeated old.parties members → member_at own members ≡ None
+  Absent own = (members : List Member) → HoldsMembers old.parties members → member_at own members ≡ None
 
   nobody_at : (own : List ℕ) (action : Action) → Absent own → (a : Audit) → Shows old a.course.world a.letters → IsActed a (At own action) old outcome.Nothing
   nobody_at own action absent a shows =
-      none_acted a (At own action) shows (subst (λ (m : Option Member). IsDoneBy a own m action (no_event a.course.now.moment) outcome.Nothing a.letters) (sym (absent a.course.world.members shows.seated)) (nothing_at a))
+      none_acted a (At own action) shows (subst (λ (m : Option Member). IsDoneBy a own m action (no_event a.course.now.moment) outcome.Nothing a.letters) (sym (absent a.course.world.members shows.holds_each)) (nothing_at a))
 
-  pub acts_nobody : (own : List ℕ) (t : Input) → Absent own → Acts (act.Tell own t) old old outcome.Nothing
+  pub acts_nobody : (own : List ℕ) (t : Input) → Absent own → Acts (act.Give own t) old old outcome.Nothing
   acts_nobody own (input.Ordered command) absent = λ a h is shows means.
-      subst (λ (k : Happening). IsActed a k old outcome.Nothing) (sym means) (nobody_at own (Orders command) absent a shows)
+      subst (λ (k : LineEvent). IsActed a k old outcome.Nothing) (sym means) (nobody_at own (Orders command) absent a shows)
   acts_nobody own (input.Arrived arrival) absent = λ a h is shows means.
-      subst (λ (k : Happening). IsActed a k old outcome.Nothing) (sym means.1) (nobody_at own (Hears means.0 (Some arrival)) absent a shows)
+      subst (λ (k : LineEvent). IsActed a k old outcome.Nothing) (sym means.1) (nobody_at own (Hears means.0 (Some arrival)) absent a shows)
 
   pub acts_unheard_nobody : (own : List ℕ) (number : ℕ) → Absent own → Acts (act.Refuse own number) old old outcome.Nothing
   acts_unheard_nobody own number absent = λ a h is shows means.
-      subst (λ (k : Happening). IsActed a k old outcome.Nothing) (sym means.4) (nobody_at own (Hears means.0 None) absent a shows)
+      subst (λ (k : LineEvent). IsActed a k old outcome.Nothing) (sym means.4) (nobody_at own (Hears means.0 None) absent a shows)
 
 -- ---- a fault
 
 module _ (old : AuditState) where
   abbrev stopped_at : (own : List ℕ) (number : ℕ) (action : Action) (l : Line) (a : Audit) (x : Member) → IsNumbered action number → a.course.now ≡ old.now → member_at own a.course.world.members ≡ Some x
-      → IsHonestStop old.now a.course.world.facts x (input_in action) → Happens l a.course.world.texts (At own action) → IsFormed (At own action) → IsStopped l a.course
-  stopped_at own number action l a x numbered is at s happens formed = record {
+      → IsHonestStop old.now a.course.world.facts x (input_in action) → MakesEvent l a.course.world.texts (At own action) → IsFormed (At own action) → IsStopped l a.course
+  stopped_at own number action l a x numbered is at s makes_event formed = record {
     own = own;
     action = action;
-    happens = happens;
+    makes_event = makes_event;
     formed = formed;
     member = x;
     at = at;
@@ -151,9 +151,9 @@ module _ (old : AuditState) where
   }
 
   wrong_at : (own : List ℕ) (place number : ℕ) (action : Action) (f : AuditFault) → IsNumbered action number → PlacedIn own old place → IsWrongAt old place (input_in action) f
-      → (a : Audit) (l : Line) → a.course.now ≡ old.now → Shows old a.course.world a.letters → Happens l a.course.world.texts (At own action) → IsFormed (At own action) → IsWrong l a f × (fault_place f ≡ a.course.now.number)
-  wrong_at own place number action f numbered placed wrong a l is shows happens formed =
-      let w = wrong a.course.world own a.letters (placed a.course.world.members shows.seated) shows in
+      → (a : Audit) (l : Line) → a.course.now ≡ old.now → Shows old a.course.world a.letters → MakesEvent l a.course.world.texts (At own action) → IsFormed (At own action) → IsWrong l a f × (fault_place f ≡ a.course.now.number)
+  wrong_at own place number action f numbered placed wrong a l is shows makes_event formed =
+      let w = wrong a.course.world own a.letters (placed a.course.world.members shows.holds_each) shows in
       go f w.0 w.1 w.2
     where
       here : {n : ℕ} → n ≡ old.now.number → n ≡ a.course.now.number
@@ -162,8 +162,8 @@ module _ (old : AuditState) where
       go : (f : AuditFault) (x : Member) → member_at own a.course.world.members ≡ Some x → IsWrongInput old.now a.course.world.facts a.letters x (input_in action) f → IsWrong l a f × (fault_place f ≡ a.course.now.number)
       go (fault.Forged n) x at wrong = (
         record {
-          happening = At own action;
-          happens = happens;
+          line_event = At own action;
+          makes_event = makes_event;
           formed = formed;
           forged = subst (λ (m : Option Member). IsForgedBy a.course m action) (sym at) (λ honest. wrong.0 (honest_input a.course.world.facts x.party number action numbered honest));
         },
@@ -171,7 +171,7 @@ module _ (old : AuditState) where
       )
       go (fault.Impossible n) x at wrong = (
         record {
-          stopped = stopped_at own number action l a x numbered is at wrong.0 happens formed;
+          stopped = stopped_at own number action l a x numbered is at wrong.0 makes_event formed;
           left = wrong.1.0;
           letter = wrong.1.1;
           unchanged = λ keeps. wrong.2 (subst (λ (q : Progress). KeepsChange x (input_in action) q.moment) is keeps);
@@ -180,19 +180,19 @@ module _ (old : AuditState) where
       )
       go (fault.Letters n) x at wrong = (
         record {
-          stopped = stopped_at own number action l a x numbered is at wrong.0 happens formed;
+          stopped = stopped_at own number action l a x numbered is at wrong.0 makes_event formed;
           none = wrong.1;
         },
         here wrong.2,
       )
       go (fault.Differs n) x at wrong = absurd wrong
 
-  pub wrong_told : (own : List ℕ) (place : ℕ) (t : Input) (f : AuditFault) → PlacedIn own old place → IsWrongAt old place (Some t) f → ActsWrongly (act.Tell own t) old f
-  wrong_told own place (input.Ordered command) f placed wrong = λ a h l is shows means happens formed.
-      wrong_at own place 0 (Orders command) f tt placed wrong a l is shows (subst (Happens l a.course.world.texts) means happens) (subst IsFormed means formed)
-  wrong_told own place (input.Arrived arrival) f placed wrong = λ a h l is shows means happens formed.
-      wrong_at own place 0 (Hears means.0 (Some arrival)) f tt placed wrong a l is shows (subst (Happens l a.course.world.texts) means.1 happens) (subst IsFormed means.1 formed)
+  pub wrong_given : (own : List ℕ) (place : ℕ) (t : Input) (f : AuditFault) → PlacedIn own old place → IsWrongAt old place (Some t) f → ActsWrongly (act.Give own t) old f
+  wrong_given own place (input.Ordered command) f placed wrong = λ a h l is shows means makes_event formed.
+      wrong_at own place 0 (Orders command) f tt placed wrong a l is shows (subst (MakesEvent l a.course.world.texts) means makes_event) (subst IsFormed means formed)
+  wrong_given own place (input.Arrived arrival) f placed wrong = λ a h l is shows means makes_event formed.
+      wrong_at own place 0 (Hears means.0 (Some arrival)) f tt placed wrong a l is shows (subst (MakesEvent l a.course.world.texts) means.1 makes_event) (subst IsFormed means.1 formed)
 
   pub wrong_unheard : (own : List ℕ) (place number : ℕ) (f : AuditFault) → PlacedIn own old place → IsWrongAt old place None f → ActsWrongly (act.Refuse own number) old f
-  wrong_unheard own place number f placed wrong = λ a h l is shows means happens formed.
-      wrong_at own place number (Hears means.0 None) f (means.1, means.2, means.3) placed wrong a l is shows (subst (Happens l a.course.world.texts) means.4 happens) (subst IsFormed means.4 formed)
+  wrong_unheard own place number f placed wrong = λ a h l is shows means makes_event formed.
+      wrong_at own place number (Hears means.0 None) f (means.1, means.2, means.3) placed wrong a l is shows (subst (MakesEvent l a.course.world.texts) means.4 makes_event) (subst IsFormed means.4 formed)

@@ -5,56 +5,56 @@ use Rattle.std.proofs.lemmas.List.{drop_more}
 use Rattle.scenario.specs.declared.line.Line.{Line}
 use Rattle.world_laws.specs.Steps.{step}
 use Rattle.course.specs.Course.{after_event}
-use Rattle.course.specs.Happenings.{IsNoEvent}
+use Rattle.course.specs.LineEvents.{IsNoEvent}
 use Rattle.course.specs.Lines.{IsQuietNext}
-use Rattle.course.specs.Meanings.{IsMeant}
+use Rattle.course.specs.Meanings.{IsLineAct}
 use Rattle.course.specs.Outcomes.{after_outcome, counted, IsWithin}
 use Rattle.course.specs.Transcript.{outcome_line, text_line, event_lines, written_between}
-use Rattle.course.specs.declared.act.Act.{Act}
-use Rattle.course.specs.declared.progress.Counts.{Counts}
-use Rattle.course.specs.declared.progress.Outcome.{Outcome}
-use Rattle.course.specs.declared.progress.Outcome.TheVariants as outcome
+use Rattle.course.specs.declared.act.LineAct.{LineAct}
+use Rattle.course.specs.declared.progress.OutcomeCounts.{OutcomeCounts}
+use Rattle.course.specs.declared.progress.EventOutcome.{EventOutcome}
+use Rattle.course.specs.declared.progress.EventOutcome.TheVariants as outcome
 use Rattle.course.specs.declared.progress.Progress.{Progress}
-use Rattle.audit_check.specs.Audits.{Audit, IsNext, Leads, IsWrong, Fails}
+use Rattle.audit_check.specs.Audits.{Audit, IsNext, AuditLeads, IsWrong, Fails}
 use Rattle.audit_check.specs.Faults.{fault_place}
-use Rattle.audit_check.specs.States.{IsSeated, Shows, Acts, ActsWrongly, LeadsOn, IsWrongIn, LeadAll, AreWrong}
+use Rattle.audit_check.specs.States.{HoldsMembers, Shows, Acts, ActsWrongly, LeadsOn, IsWrongIn, LeadAll, AreWrong}
 use Rattle.audit_check.specs.Compared.{compared}
 use Rattle.audit_check.specs.declared.fault.AuditFault.{AuditFault}
 use Rattle.audit_check.specs.declared.state.AuditState.{AuditState}
 
 -- the numbers stay small
-counts_within : (o : Outcome) (p : Progress) (n : ℕ) → IsWithin p n → IsWithin (after_outcome p o false) (n + 1)
+counts_within : (o : EventOutcome) (p : Progress) (n : ℕ) → IsWithin p n → IsWithin (after_outcome p o false) (n + 1)
 counts_within outcome.Done p n w = record { least = omega (arith, w.least); number = omega (arith, w.number); done = omega (arith, w.done); refused = omega (arith, w.refused); stopped = omega (arith, w.stopped); none = omega (arith, w.none); texts = omega (arith, w.texts) }
 counts_within (outcome.Refused number) p n w = record { least = omega (arith, w.least); number = omega (arith, w.number); done = omega (arith, w.done); refused = omega (arith, w.refused); stopped = omega (arith, w.stopped); none = omega (arith, w.none); texts = omega (arith, w.texts) }
 counts_within outcome.Stopped p n w = record { least = omega (arith, w.least); number = omega (arith, w.number); done = omega (arith, w.done); refused = omega (arith, w.refused); stopped = omega (arith, w.stopped); none = omega (arith, w.none); texts = omega (arith, w.texts) }
 counts_within outcome.Nothing p n w = record { least = omega (arith, w.least); number = omega (arith, w.number); done = omega (arith, w.done); refused = omega (arith, w.refused); stopped = omega (arith, w.stopped); none = omega (arith, w.none); texts = omega (arith, w.texts) }
 
-same_texts : (o : Outcome) (c : Counts) → (counted o c).texts ≡ c.texts
+same_texts : (o : EventOutcome) (c : OutcomeCounts) → (counted o c).texts ≡ c.texts
 same_texts outcome.Done c = refl
 same_texts (outcome.Refused number) c = refl
 same_texts outcome.Stopped c = refl
 same_texts outcome.Nothing c = refl
 
-text_within : (o : Outcome) (wrote : Bool) (p : Progress) (n : ℕ) → IsWithin p n → IsWithin (after_outcome p o wrote) (n + 1)
+text_within : (o : EventOutcome) (wrote : Bool) (p : Progress) (n : ℕ) → IsWithin p n → IsWithin (after_outcome p o wrote) (n + 1)
 text_within o false p n w = counts_within o p n w
 text_within o true p n w =
     let c = counts_within o p n w in
     let texts = same_texts o p.counts in
     record { least = c.least; number = c.number; done = c.done; refused = c.refused; stopped = c.stopped; none = c.none; texts = omega (arith, w.texts, texts) }
 
-pub event_within : (o : Outcome) (wrote : Bool) (p q : Progress) → q ≡ after_outcome p o wrote → (n : ℕ) → IsWithin p n → IsWithin q (n + 1)
+pub event_within : (o : EventOutcome) (wrote : Bool) (p q : Progress) → q ≡ after_outcome p o wrote → (n : ℕ) → IsWithin p n → IsWithin q (n + 1)
 event_within o wrote p q is n w = subst (λ (r : Progress). IsWithin r (n + 1)) (sym is) (text_within o wrote p n w)
 
 -- ---- a line
 
 -- an event, with its lines
-pub leads_event : (l : Line) (a : Act) (o : Outcome) (old mid new : AuditState) (k : ℕ) (text : Option (List ℕ)) (buffer : List ℕ) → IsMeant l old.texts a → Acts a old mid o → mid.now ≡ old.now → mid.comparison ≡ old.comparison
+pub leads_event : (l : Line) (a : LineAct) (o : EventOutcome) (old mid new : AuditState) (k : ℕ) (text : Option (List ℕ)) (buffer : List ℕ) → IsLineAct l old.texts a → Acts a old mid o → mid.now ≡ old.now → mid.comparison ≡ old.comparison
     → k ≡ length old.texts → text ≡ slice_get mid.texts k → buffer ≡ outcome_line mid.now.number o ++ text_line (k + 1) text
     → new.parties ≡ mid.parties → new.texts ≡ mid.texts → new.facts ≡ mid.facts → new.letters ≡ mid.letters → new.now ≡ after_outcome mid.now o (is_some text)
     → ((made given : List ℕ) → mid.comparison ≡ compared made given → new.comparison ≡ compared (made ++ buffer) given) → LeadsOn l old new
 leads_event l a o old mid new k text buffer meant acts now_stays compared_stays k_is text_is buffer_is parties texts facts letters now adds = λ given audit at.
     let c = audit.course in
-    let h : IsMeant l c.world.texts a = subst (λ (ts : List (List ℕ)). IsMeant l ts a) at.shows.texts meant in
+    let h : IsLineAct l c.world.texts a = subst (λ (ts : List (List ℕ)). IsLineAct l ts a) at.shows.texts meant in
     let m = acts audit h.0 (sym at.now) at.shows h.3 in
     let later = step c.now.number c.world m.event in
     let mid_now : mid.now ≡ c.now = now_stays ∙ at.now in
@@ -62,10 +62,10 @@ leads_event l a o old mid new k text buffer meant acts now_stays compared_stays 
     let wrote : text ≡ written_between c.world.texts later.texts = text_is ∙ ap₂ (λ (ts : List (List ℕ)) (n : ℕ). slice_get ts n) m.shows.texts count in
     let lines : buffer ≡ event_lines c.now.number o c.world.texts later.texts = buffer_is ∙ ap₂ (λ (x y : List ℕ). x ++ y) (ap (λ (p : Progress). outcome_line p.number o) mid_now) (ap₂ (λ (n : ℕ) (t : Option (List ℕ)). text_line (n + 1) t) count wrote) in (
       record { course = after_event c m.event o; letters = m.left },
-      inr (record { happening = h.0; happens = h.1; formed = h.2; event = m.event; outcome = o; left = m.left; done = m.done; leads = refl }),
+      inr (record { line_event = h.0; makes_event = h.1; formed = h.2; event = m.event; outcome = o; left = m.left; done = m.done; leads = refl }),
       record {
         shows = record {
-          seated = subst (λ p. IsSeated p later.members) (sym parties) m.shows.seated;
+          holds_each = subst (λ p. HoldsMembers p later.members) (sym parties) m.shows.holds_each;
           texts = texts ∙ m.shows.texts;
           facts = facts ∙ m.shows.facts;
           letters_are = letters ∙ m.shows.letters_are;
@@ -81,21 +81,21 @@ leads_quiet l old new none quiet is = λ given audit at. (
   record { course = record audit.course { now = new.now }; letters = audit.letters },
   inl (record { none = none; now = new.now; changes = subst (λ (p : Progress). IsQuietNext l p new.now) at.now quiet; leads = refl }),
   record {
-    shows = subst (λ (s : AuditState). Shows s audit.course.world audit.letters) (sym is) (record { seated = at.shows.seated; texts = at.shows.texts; facts = at.shows.facts; letters_are = at.shows.letters_are });
+    shows = subst (λ (s : AuditState). Shows s audit.course.world audit.letters) (sym is) (record { holds_each = at.shows.holds_each; texts = at.shows.texts; facts = at.shows.facts; letters_are = at.shows.letters_are });
     now = refl;
     compares = ap (λ (s : AuditState). s.comparison) is ∙ at.compares;
   },
 )
 
 -- a fault
-pub wrong_event : (l : Line) (a : Act) (old : AuditState) (f : AuditFault) → IsMeant l old.texts a → ActsWrongly a old f → IsWrongIn l old f
+pub wrong_event : (l : Line) (a : LineAct) (old : AuditState) (f : AuditFault) → IsLineAct l old.texts a → ActsWrongly a old f → IsWrongIn l old f
 wrong_event l a old f meant wrong = λ given audit at.
-    let h : IsMeant l audit.course.world.texts a = subst (λ (ts : List (List ℕ)). IsMeant l ts a) at.shows.texts meant in
+    let h : IsLineAct l audit.course.world.texts a = subst (λ (ts : List (List ℕ)). IsLineAct l ts a) at.shows.texts meant in
     wrong audit h.0 l (sym at.now) at.shows h.3 h.1 h.2
 
 -- ---- all lines
 
-leads_more : (lines : List Line) (l : Line) (a mid e : Audit) → Leads lines a mid → IsNext l mid e → Leads (lines ++ l ∷ []) a e
+leads_more : (lines : List Line) (l : Line) (a mid e : Audit) → AuditLeads lines a mid → IsNext l mid e → AuditLeads (lines ++ l ∷ []) a e
 leads_more [] l a mid e is next = (e, subst (λ (m : Audit). IsNext l m e) is next, refl)
 leads_more (k ∷ lines) l a mid e leads next = (leads.0, leads.1, leads_more lines l leads.0 mid e leads.2 next)
 
@@ -105,7 +105,7 @@ lead_on lines l old mid new all line = λ given a at.
     let two = line given one.0 one.2 in
     (two.0, leads_more lines l a one.0 two.0 one.1 two.1, two.2)
 
-fails_at : (front : List Line) (l : Line) (back : List Line) (a mid : Audit) (f : AuditFault) → Leads front a mid → IsWrong l mid f × (fault_place f ≡ mid.course.now.number) → Fails (front ++ l ∷ back) a f
+fails_at : (front : List Line) (l : Line) (back : List Line) (a mid : Audit) (f : AuditFault) → AuditLeads front a mid → IsWrong l mid f × (fault_place f ≡ mid.course.now.number) → Fails (front ++ l ∷ back) a f
 fails_at [] l back a mid f is wrong = inl (subst (λ (m : Audit). IsWrong l m f × (fault_place f ≡ m.course.now.number)) is wrong)
 fails_at (k ∷ front) l back a mid f leads wrong = inr (leads.0, leads.1, fails_at front l back leads.0 mid f leads.2 wrong)
 

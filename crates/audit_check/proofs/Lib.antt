@@ -3,7 +3,7 @@ mod Planning
 mod Unique
 mod Answering
 mod Running
-mod Seats
+mod HeldMembers
 mod Happened
 mod Carrying
 mod Leading

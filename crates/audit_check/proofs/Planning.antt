@@ -15,8 +15,8 @@ use Rattle.world_laws.specs.Honest.{named_text}
 use Rattle.world_laws.specs.Noted.{noted}
 use Rattle.course.specs.Forging.{HonestInput}
 use Rattle.course.specs.Outcomes.{completion_of, outcome_of, IsOutcome}
-use Rattle.course.specs.declared.progress.Outcome.{Outcome}
-use Rattle.course.specs.declared.progress.Outcome.TheVariants.{Stopped}
+use Rattle.course.specs.declared.progress.EventOutcome.{EventOutcome}
+use Rattle.course.specs.declared.progress.EventOutcome.TheVariants.{Stopped}
 use Rattle.course.specs.declared.progress.Progress.{Progress}
 use Rattle.course.specs.declared.progress.Stop.{Stop}
 use Rattle.audit_check.specs.Audits.{IsCompleted, IsCut, letter_old, letter_new}
@@ -105,7 +105,7 @@ module _ (held : Member) (i : Input) (old : AuditState) (p : PlannedMember) (pla
       no_text true = sym (append-nil old.texts)
       no_text false = sym (append-nil old.texts)
 
-  pub whole_held : old.now.stop ≡ None → (y : Member) (o : Outcome) (texts : List (List ℕ)) (facts : List NamedText) → y ≡ after p.member p.plan.edits → o ≡ outcome_of p.plan.verdict
+  pub whole_held : old.now.stop ≡ None → (y : Member) (o : EventOutcome) (texts : List (List ℕ)) (facts : List NamedText) → y ≡ after p.member p.plan.edits → o ≡ outcome_of p.plan.verdict
       → texts ≡ old.texts ++ option_to_list p.plan.reply → facts ≡ old.facts ++ noted p.plan.under p.plan.reply → IsActedHeld held i old (record old { texts = texts; facts = facts }) y o
   whole_held waits y o texts facts next outcome texts_are facts_are = record {
     honest = honest;

@@ -13,7 +13,7 @@ use Rattle.scenario.specs.declared.fault.ScenarioFault.{ScenarioFault}
 use Rattle.scenario.specs.declared.fault.ScenarioFault.TheVariants as fault
 use Rattle.scenario.specs.declared.line.Line.{Line}
 use Rattle.audit_check.specs.Audits.{IsLetter}
-use Rattle.audit_check.specs.Inputs.{IsOther, Writes, IsAuditLine, IsCut, IsInput, IsBadWhole, IsBadBehind, IsBadCut, IsBadInput, IsInputReading, IsOnlyReading, IsFound, begins_audit, most_bytes, line_past_most, scenario_in, transcript_in}
+use Rattle.audit_check.specs.Inputs.{IsOther, Writes, IsAuditLine, IsCut, IsAuditInput, IsBadWhole, IsBadBehind, IsBadCut, IsBadInput, IsInputReading, IsOnlyReading, IsFound, begins_audit, most_bytes, line_past_most, scenario_in, transcript_in}
 use Rattle.audit_check.specs.Parts.{Parts}
 
 -- ---- the search
@@ -116,13 +116,13 @@ module _ (one_scenario : OneScenario) (one_bad : OneFirstBad) (never : NeverBoth
   good_cut bytes front row parts n scenario letters few (inr (_, inl bad)) = bad.0 parts.letters letters
   good_cut bytes front row parts n scenario letters few (inr (_, inr bad)) = omega (arith, few, bad.1)
 
-  good : (bytes : List ℕ) (parts : Parts) (n : ℕ) → IsInput bytes parts → IsBadInput bytes n → ⊥
+  good : (bytes : List ℕ) (parts : Parts) (n : ℕ) → IsAuditInput bytes parts → IsBadInput bytes n → ⊥
   good bytes parts n is (inl bad) = none_or_cut bytes is.front is.row is.back bad.0 is.cut
   good bytes parts n is (inr bad) =
       let same = cut_once bytes bad.0 is.front bad.1 is.row bad.2 is.back bad.3 is.cut in
       good_cut bytes is.front is.row parts n is.scenario is.letters is.few (subst (λ (r : Row). IsBadCut bytes is.front r n) same.row (subst (λ (f : List Row). IsBadCut bytes f bad.1 n) same.front bad.4))
 
-  input_once : (bytes : List ℕ) (a b : Parts) → IsInput bytes a → IsInput bytes b → a ≡ b
+  input_once : (bytes : List ℕ) (a b : Parts) → IsAuditInput bytes a → IsAuditInput bytes b → a ≡ b
   input_once bytes a b one two =
       let same = cut_once bytes one.front two.front one.row two.row one.back two.back one.cut two.cut in
       let lines : a.lines ≡ b.lines = one_scenario (scenario_in bytes two.front) a.lines b.lines (subst (λ (f : List Row). IsScenario (scenario_in bytes f) a.lines) same.front one.scenario) two.scenario in

@@ -10,20 +10,20 @@ use Rattle.world_laws.specs.Honest.{HonestAt, HonestRun}
 use Rattle.world_laws.specs.Starts.{IsStart}
 use Rattle.course.specs.Course.{Course, Happened, events_of, no_event}
 use Rattle.course.specs.Ends.{Ran}
-use Rattle.course.specs.Happenings.{Happening, Nothing, At, IsFormed}
+use Rattle.course.specs.LineEvents.{LineEvent, Nothing, At, IsFormed}
 use Rattle.course.specs.Lawful.{IsLawful}
 use Rattle.course.specs.Starts.{start_course, start_world}
-use Rattle.course.specs.declared.progress.Outcome.{Outcome}
+use Rattle.course.specs.declared.progress.EventOutcome.{EventOutcome}
 use Rattle.course.specs.declared.progress.Progress.{Progress}
 use Rattle.audit_check.specs.Answers.{start_audit}
-use Rattle.audit_check.specs.Audits.{Audit, IsNothing, IsDoneBy, IsDone, IsNext, Leads}
+use Rattle.audit_check.specs.Audits.{Audit, IsNothing, IsDoneBy, IsDone, IsNext, AuditLeads}
 use Rattle.course.specs.Lines.{IsQuietNext}
 use Rattle.audit_check.specs.Laws.{RunsLawful}
-use Rattle.course.specs.Happenings.{IsNoEvent}
+use Rattle.course.specs.LineEvents.{IsNoEvent}
 use Rattle.scenario.specs.declared.line.Line.TheVariants as line
 
 -- one event more, in front
-ran_on : (c mid e : Course) (event : Event) (o : Outcome) → IsAction event.action → HonestAt c.world.facts (member_at event.party c.world.members) event.action → mid.world ≡ step c.now.number c.world event → mid.now.number ≡ suc c.now.number → mid.happened ≡ c.happened ++ record { event = event; outcome = o } ∷ [] → Ran mid e → Ran c e
+ran_on : (c mid e : Course) (event : Event) (o : EventOutcome) → IsAction event.action → HonestAt c.world.facts (member_at event.party c.world.members) event.action → mid.world ≡ step c.now.number c.world event → mid.now.number ≡ suc c.now.number → mid.happened ≡ c.happened ++ record { event = event; outcome = o } ∷ [] → Ran mid e → Ran c e
 ran_on c mid e event o formed honest world number more r = record {
   happened = record { event = event; outcome = o } ∷ r.happened;
   listed = r.listed ∙ (ap (λ (l : List Happened). l ++ r.happened) more ∙ append_assoc c.happened (record { event = event; outcome = o } ∷ []) r.happened);
@@ -37,14 +37,14 @@ record Fair (c : Course) (event : Event) : Type 0 where
   pub formed : IsAction event.action
   pub honest : HonestAt c.world.facts (member_at event.party c.world.members) event.action
 
-nothing_fair : (a : Audit) (event : Event) (o : Outcome) (left : List ℕ) → IsNothing a event o left → Fair a.course event
+nothing_fair : (a : Audit) (event : Event) (o : EventOutcome) (left : List ℕ) → IsNothing a event o left → Fair a.course event
 nothing_fair a event o left nothing = subst (Fair a.course) (sym nothing.event) (record { formed = tt; honest = go (member_at [] a.course.world.members) })
   where
     go : (m : Option Member) → HonestAt a.course.world.facts m (no_event a.course.now.moment).action
     go None = tt
     go (Some x) = tt
 
-done_fair : (a : Audit) (h : Happening) (event : Event) (o : Outcome) (left : List ℕ) → IsFormed h → IsDone a h event o left → Fair a.course event
+done_fair : (a : Audit) (h : LineEvent) (event : Event) (o : EventOutcome) (left : List ℕ) → IsFormed h → IsDone a h event o left → Fair a.course event
 done_fair a Nothing event o left formed done = nothing_fair a event o left done
 done_fair a (At own action) event o left formed done = go (member_at own a.course.world.members) refl done
   where
@@ -76,10 +76,10 @@ next_ran : (l : Line) (a mid : Audit) (e : Course) → IsNext l a mid → Ran mi
 next_ran l a mid e (inl quiet) r =
     still_ran a.course mid.course e (ap (λ (x : Audit). x.course.world) quiet.leads) (ap (λ (x : Audit). x.course.now.number) quiet.leads ∙ quiet_number l a.course.now quiet.now quiet.none quiet.changes) (ap (λ (x : Audit). x.course.happened) quiet.leads) r
 next_ran l a mid e (inr is) r =
-    let fair : Fair a.course is.event = done_fair a is.happening is.event is.outcome is.left is.formed is.done in
+    let fair : Fair a.course is.event = done_fair a is.line_event is.event is.outcome is.left is.formed is.done in
     ran_on a.course mid.course e is.event is.outcome fair.formed fair.honest (ap (λ (x : Audit). x.course.world) is.leads) (ap (λ (x : Audit). x.course.now.number) is.leads ∙ omega arith) (ap (λ (x : Audit). x.course.happened) is.leads) r
 
-ran_by : (lines : List Line) (a b : Audit) → Leads lines a b → Ran a.course b.course
+ran_by : (lines : List Line) (a b : Audit) → AuditLeads lines a b → Ran a.course b.course
 ran_by [] a b is = still_ran a.course a.course b.course refl refl refl (subst (λ (x : Audit). Ran a.course x.course) (sym is) (record { happened = []; listed = sym (append-nil a.course.happened); are = tt; ran = refl; honest = tt; numbers = refl }))
 ran_by (l ∷ lines) a b leads = next_ran l a leads.0 b.course leads.1 (ran_by lines leads.0 b leads.2)
 

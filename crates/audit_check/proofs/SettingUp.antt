@@ -14,7 +14,7 @@ use Rattle.world_laws.specs.World.{own_of, member_at}
 use Rattle.course.specs.Parties.{full_member, new_party}
 use Rattle.course.specs.Starts.{load_at, loads_of, with_load, with_loads, start_member, members_by, start_members}
 use Rattle.course.specs.declared.declaring.NewParty.{NewParty}
-use Rattle.audit_check.proofs.Seats.{cond_yes, cond_not}
+use Rattle.audit_check.proofs.HeldMembers.{cond_yes, cond_not}
 
 -- ---- one line more
 

@@ -7,7 +7,7 @@ use Rattle.course.specs.Starts.{start_course, start_world}
 use Rattle.course.specs.Tallies.{IsTallied}
 use Rattle.course.specs.Transcript.{show_lines}
 use Rattle.course.specs.declared.tally.Tally.{Tally}
-use Rattle.audit_check.specs.Audits.{Audit, Leads, Fails}
+use Rattle.audit_check.specs.Audits.{Audit, AuditLeads, Fails}
 use Rattle.audit_check.specs.declared.fault.AuditFault.{AuditFault}
 use Rattle.audit_check.specs.declared.result.AuditResult.{AuditResult}
 use Rattle.audit_check.specs.declared.fault.AuditFault.TheVariants as fault
@@ -20,7 +20,7 @@ start_audit lines letters = record { course = start_course lines; letters = lett
 -- the scenario has a run with these outcomes, and this is its end: each event is honest, and cut as its letter says where it
 -- is stopped; and no letter is left
 abbrev pub IsRun : List Line → List ℕ → Course → Type 0
-IsRun lines letters end = Leads lines (start_audit lines letters) (record { course = end; letters = [] })
+IsRun lines letters end = AuditLeads lines (start_audit lines letters) (record { course = end; letters = [] })
 
 -- its transcript: the lines of each event, and behind them what each party shows
 abbrev pub transcript_of : Course → List ℕ
@@ -58,7 +58,7 @@ pub record IsDifferent (lines : List Line) (letters transcript : List ℕ) (line
 -- letters are left behind the last event; the number is that of the next one
 pub record HasLettersLeft (lines : List Line) (letters : List ℕ) (number : ℕ) : Type 0 where
   pub end : Audit
-  pub leads : Leads lines (start_audit lines letters) end
+  pub leads : AuditLeads lines (start_audit lines letters) end
   pub some : end.letters ≢ []
   pub number_is : number ≡ end.course.now.number
 

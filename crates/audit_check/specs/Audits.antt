@@ -7,16 +7,16 @@ use Rattle.world_laws.specs.World.{member_at}
 use Rattle.world_laws.specs.Events.{Action, Completion, Whole, CutOld, CutNew, Event}
 use Rattle.world_laws.specs.Honest.{HonestAction}
 use Rattle.course.specs.Course.{Course, IsForged, no_event, event_at, after_event}
-use Rattle.course.specs.Happenings.{Happening, Nothing, At, Happens, IsFormed, IsNoEvent, IsNumbered}
+use Rattle.course.specs.LineEvents.{LineEvent, Nothing, At, MakesEvent, IsFormed, IsNoEvent, IsNumbered}
 use Rattle.course.specs.Lines.{IsQuietNext}
 use Rattle.course.specs.Outcomes.{input_in, IsOutcome}
 use Rattle.course.specs.Stops.{KeepsChange}
-use Rattle.course.specs.declared.progress.Outcome.{Outcome}
+use Rattle.course.specs.declared.progress.EventOutcome.{EventOutcome}
 use Rattle.course.specs.declared.progress.Progress.{Progress}
 use Rattle.course.specs.declared.progress.Stop.{Stop}
 use Rattle.audit_check.specs.Faults.{fault_place}
 use Rattle.audit_check.specs.declared.fault.AuditFault.{AuditFault}
-use Rattle.course.specs.declared.progress.Outcome.TheVariants as outcome
+use Rattle.course.specs.declared.progress.EventOutcome.TheVariants as outcome
 use Rattle.audit_check.specs.declared.fault.AuditFault.TheVariants as fault
 
 -- where an audit stands: the course so far, and the letters of the stopped events that are to come
@@ -44,7 +44,7 @@ IsCompleted None letters x i moment completion left = (completion ≡ Whole) × 
 IsCompleted (Some stop) letters x i moment completion left = (letter : ℕ) × (letters ≡ letter ∷ left) × IsCut letter x i moment completion
 
 -- an honest event at a member, what becomes of it, and the letters that are left
-pub record IsDoneAt (a : Audit) (own : List ℕ) (x : Member) (action : Action) (e : Event) (o : Outcome) (left : List ℕ) : Type 0 where
+pub record IsDoneAt (a : Audit) (own : List ℕ) (x : Member) (action : Action) (e : Event) (o : EventOutcome) (left : List ℕ) : Type 0 where
   pub completion : Completion
   pub number : ℕ
   pub honest : HonestAction a.course.world.facts x.party action
@@ -54,28 +54,28 @@ pub record IsDoneAt (a : Audit) (own : List ℕ) (x : Member) (action : Action) 
   pub is : e ≡ event_at own a.course.now.moment action completion
 
 -- nothing happens, and no letter is taken
-pub record IsNothing (a : Audit) (e : Event) (o : Outcome) (left : List ℕ) : Type 0 where
+pub record IsNothing (a : Audit) (e : Event) (o : EventOutcome) (left : List ℕ) : Type 0 where
   pub event : e ≡ no_event a.course.now.moment
   pub outcome : o ≡ outcome.Nothing
   pub letters : left ≡ a.letters
 
-abbrev pub IsDoneBy : Audit → List ℕ → Option Member → Action → Event → Outcome → List ℕ → Type 0
+abbrev pub IsDoneBy : Audit → List ℕ → Option Member → Action → Event → EventOutcome → List ℕ → Type 0
 IsDoneBy a own None action e o left = IsNothing a e o left
 IsDoneBy a own (Some x) action e o left = IsDoneAt a own x action e o left
 
-abbrev pub IsDone : Audit → Happening → Event → Outcome → List ℕ → Type 0
+abbrev pub IsDone : Audit → LineEvent → Event → EventOutcome → List ℕ → Type 0
 IsDone a Nothing e o left = IsNothing a e o left
 IsDone a (At own action) e o left = IsDoneBy a own (member_at own a.course.world.members) action e o left
 
 -- a line that is an event leads from one audit to the next
 pub record IsEvent (l : Line) (a next : Audit) : Type 0 where
-  pub happening : Happening
-  pub happens : Happens l a.course.world.texts happening
-  pub formed : IsFormed happening
+  pub line_event : LineEvent
+  pub makes_event : MakesEvent l a.course.world.texts line_event
+  pub formed : IsFormed line_event
   pub event : Event
-  pub outcome : Outcome
+  pub outcome : EventOutcome
   pub left : List ℕ
-  pub done : IsDone a happening event outcome left
+  pub done : IsDone a line_event event outcome left
   pub leads : next ≡ record { course = after_event a.course event outcome; letters = left }
 
 -- a line that is no event
@@ -89,15 +89,15 @@ abbrev pub IsNext : Line → Audit → Audit → Type 0
 IsNext l a next = IsQuiet l a next ⊎ IsEvent l a next
 
 -- the lines lead from one audit to another
-abbrev pub Leads : List Line → Audit → Audit → Type 0
-Leads [] a end = end ≡ a
-Leads (l ∷ lines) a end = (next : Audit) × IsNext l a next × Leads lines next end
+abbrev pub AuditLeads : List Line → Audit → Audit → Type 0
+AuditLeads [] a end = end ≡ a
+AuditLeads (l ∷ lines) a end = (next : Audit) × IsNext l a next × AuditLeads lines next end
 
 -- the line is an honest event at a member, and it is stopped
 pub record IsStopped (l : Line) (c : Course) : Type 0 where
   pub own : List ℕ
   pub action : Action
-  pub happens : Happens l c.world.texts (At own action)
+  pub makes_event : MakesEvent l c.world.texts (At own action)
   pub formed : IsFormed (At own action)
   pub member : Member
   pub at : member_at own c.world.members ≡ Some member

@@ -10,9 +10,9 @@ use Rattle.world_laws.specs.Events.{Completion, Whole, CutOld, CutNew}
 use Rattle.world_laws.specs.Honest.{named_text}
 use Rattle.world_laws.specs.Noted.{noted}
 use Rattle.course.specs.Forging.{HonestInput}
-use Rattle.course.specs.Outcomes.{IsOutcome, completion_of, world_after_told}
+use Rattle.course.specs.Outcomes.{IsOutcome, completion_of, world_after_given}
 use Rattle.course.specs.Stops.{KeepsChange}
-use Rattle.course.specs.declared.progress.Outcome.{Outcome}
+use Rattle.course.specs.declared.progress.EventOutcome.{EventOutcome}
 use Rattle.course.specs.declared.progress.Progress.{Progress}
 use Rattle.course.specs.declared.progress.Stop.{Stop}
 use Rattle.audit_check.specs.Audits.{IsCompleted, letter_old, letter_new}
@@ -65,7 +65,7 @@ pub record IsCutBy (p : PlannedMember) (y : Member) (letters left : List ℕ) (f
   pub facts_are : later ≡ facts ++ facts_then p.plan (completion_of next)
 
 -- the party x took the input and is y then
-pub record IsActedHeld (x : Member) (i : Input) (old new : AuditState) (y : Member) (o : Outcome) : Type 0 where
+pub record IsActedHeld (x : Member) (i : Input) (old new : AuditState) (y : Member) (o : EventOutcome) : Type 0 where
   pub honest : (known : List Fact) → old.facts ≡ map named_text known → HonestInput known x.party (Some i)
   pub completion : Completion
   pub completes : IsCompleted old.now.stop old.letters x (Some i) old.now.moment completion new.letters
@@ -89,7 +89,7 @@ IsWrongInput now known letters x i (fault.Letters n) = IsHonestStop now known x 
 IsWrongInput now known letters x i (fault.Differs n) = ⊥
 
 -- an event at the member of a place, in a network that the old state shows; the new one shows what it makes of it
-pub record IsPlayedAt (w : World) (n : ℕ) (own letters : List ℕ) (old new : AuditState) (i : Option Input) (number : ℕ) (o : Outcome) : Type 0 where
+pub record IsPlayedAt (w : World) (n : ℕ) (own letters : List ℕ) (old new : AuditState) (i : Option Input) (number : ℕ) (o : EventOutcome) : Type 0 where
   pub member : Member
   pub at : member_at own w.members ≡ Some member
   pub honest : HonestInput w.facts member.party i
@@ -97,9 +97,9 @@ pub record IsPlayedAt (w : World) (n : ℕ) (own letters : List ℕ) (old new : 
   pub left : List ℕ
   pub completes : IsCompleted old.now.stop letters member i old.now.moment completion left
   pub becomes : IsOutcome old.now.stop member old.now.moment i number o
-  pub shows : Shows new (world_after_told n w member i old.now.moment completion) left
+  pub shows : Shows new (world_after_given n w member i old.now.moment completion) left
 
-abbrev pub PlaysAt : AuditState → AuditState → ℕ → Option Input → ℕ → Outcome → Type 0
+abbrev pub PlaysAt : AuditState → AuditState → ℕ → Option Input → ℕ → EventOutcome → Type 0
 PlaysAt old new place i number o = (w : World) (n : ℕ) (own letters : List ℕ) → IsPlaced own w.members place → Shows old w letters → IsPlayedAt w n own letters old new i number o
 
 abbrev pub IsWrongAt : AuditState → ℕ → Option Input → AuditFault → Type 0

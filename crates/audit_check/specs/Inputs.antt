@@ -43,7 +43,7 @@ abbrev pub transcript_in : List ℕ → List Row → Row → List ℕ
 transcript_in bytes front row = drop (total_of front + size_of row) bytes
 
 -- the bytes are an input with these parts
-pub record IsInput (bytes : List ℕ) (parts : Parts) : Type 0 where
+pub record IsAuditInput (bytes : List ℕ) (parts : Parts) : Type 0 where
   pub front : List Row
   pub row : Row
   pub back : List Row
@@ -76,7 +76,7 @@ IsBadInput bytes number = (All IsOther (rows_of bytes) × IsBadWhole bytes numbe
 
 -- what may be answered to bytes; want of memory to any
 abbrev pub IsInputReading : List ℕ → Result Parts ScenarioFault → Type 0
-IsInputReading bytes (Ok parts) = IsInput bytes parts
+IsInputReading bytes (Ok parts) = IsAuditInput bytes parts
 IsInputReading bytes (Err (fault.BadLine number)) = IsBadInput bytes number
 IsInputReading bytes (Err fault.NoMemory) = Unit {0}
 

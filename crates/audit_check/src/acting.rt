@@ -8,14 +8,14 @@ ghost use Rattle.world_laws.specs.Honest.{named_text};
 ghost use Rattle.world_laws.specs.Noted.{noted};
 ghost use Rattle.course.specs.Outcomes.{outcome_of};
 ghost use Rattle.audit_check.specs.Events.{IsActedHeld, IsCutBy, IsWrongAt, IsWrongInput, LacksLetter, PlaysAt};
-ghost use Rattle.audit_check.specs.States.{AreSeated, Acts, ActsWrongly};
+ghost use Rattle.audit_check.specs.States.{HoldsEach, Acts, ActsWrongly};
 ghost use Rattle.audit_check.specs.declared.fault.AuditFault.{AuditFault as TheFault};
 
 use crate::failure::Failure;
 use crate::fault::AuditFault;
 use crate::letters::Letters;
 use crate::state::AuditState;
-use course::{Act, Outcome, is_honest, note, note_if, outcome_of};
+use course::{EventOutcome, LineAct, is_honest, note, note_if, outcome_of};
 use fact_book::{FactBook, Texts};
 use member::{Answer, Held, Holder, PlannedHeld};
 use party_state::Input;
@@ -39,7 +39,7 @@ fn act_whole(
     planned: PlannedHeld,
     texts: &mut Texts,
     facts: &mut FactBook,
-) -> Result<(Held, Outcome), NoMemory>
+) -> Result<(Held, EventOutcome), NoMemory>
     ensures next { IfOk result (λ done. done.0 ≡ after planned.member planned.plan.edits) }
     ensures outcome { IfOk result (λ done. done.1 ≡ outcome_of planned.plan.verdict) }
     ensures texts { IfOk result (λ done. texts.new ≡ texts.old ++ option_to_list planned.plan.reply) }
@@ -80,13 +80,13 @@ fn act_cut(
     }
 }
 
-/// A party has an input. It is out of its seat.
+/// A party has an input. It was taken out of its place.
 fn input_held(
     state: &mut AuditState,
     held: Held,
     alloc: Global,
     input: &Input,
-) -> Result<(Held, Outcome), Failure>
+) -> Result<(Held, EventOutcome), Failure>
     ensures acted { IfOk result (λ done. IsActedHeld held input.now state.old state.new done.0 done.1) }
     ensures wrong { (f : TheFault) → result ≡ Err (Failure.Wrong f) → (known : List Fact) → state.old.facts ≡ map named_text known → IsWrongInput state.old.now known state.old.letters held (Some input.now) f }
     ensures now { state.new.now ≡ state.old.now }
@@ -103,7 +103,7 @@ fn input_held(
     match state.now.stop {
         Some(_) => {
             let held = act_cut(planned, room, &mut state.letters, &mut state.facts, number)?;
-            Ok((held, Outcome::Stopped))
+            Ok((held, EventOutcome::Stopped))
         }
         None => {
             let done = act_whole(planned, &mut state.texts, &mut state.facts)?;
@@ -118,26 +118,26 @@ fn input_at(
     place: usize,
     alloc: Global,
     input: &Input,
-) -> Result<Outcome, Failure>
-    requires seated { AreSeated state.old.parties }
-    requires within { place < length state.old.parties.seats.items }
+) -> Result<EventOutcome, Failure>
+    requires holds_each { HoldsEach state.old.parties }
+    requires within { place < length state.old.parties.members_held.items }
     ensures played { IfOk result (PlaysAt state.old state.new place (Some input.now) 0) }
     ensures wrong { (f : TheFault) → result ≡ Err (Failure.Wrong f) → IsWrongAt state.old place (Some input.now) f }
-    ensures seated { OnOk result (AreSeated state.new.parties) }
+    ensures holds_each { OnOk result (HoldsEach state.new.parties) }
     ensures now { state.new.now ≡ state.old.now }
     ensures comparison { state.new.comparison ≡ state.old.comparison }
 {
     law_inputs();
-    let Some(held) = state.parties.seats[place].take() else {
+    let Some(held) = state.parties.members_held[place].take() else {
         unreachable!();
     };
     let (held, outcome) = input_held(state, held, alloc, input)?;
-    state.parties.seats[place] = Some(held);
+    state.parties.members_held[place] = Some(held);
     Ok(outcome)
 }
 
 /// Bytes of which nothing is heard arrive at the party at a place; the number says why.
-fn unheard_at(state: &mut AuditState, place: usize, number: u32) -> Result<Outcome, Failure>
+fn unheard_at(state: &mut AuditState, place: usize, number: u32) -> Result<EventOutcome, Failure>
     ensures played { IfOk result (PlaysAt state.old state.new place None number) }
     ensures wrong { (f : TheFault) → result ≡ Err (Failure.Wrong f) → IsWrongAt state.old place None f }
     ensures parties { state.new.parties ≡ state.old.parties }
@@ -146,32 +146,36 @@ fn unheard_at(state: &mut AuditState, place: usize, number: u32) -> Result<Outco
 {
     match state.now.stop {
         Some(_) => match state.letters.take() {
-            Some(false) => Ok(Outcome::Stopped),
+            Some(false) => Ok(EventOutcome::Stopped),
             Some(true) => Err(Failure::Wrong(AuditFault::Impossible(state.now.number))),
             None => Err(Failure::Wrong(AuditFault::Letters(state.now.number))),
         },
-        None => Ok(Outcome::Refused(number)),
+        None => Ok(EventOutcome::Refused(number)),
     }
 }
 
 /// An event.
-pub(crate) fn perform(state: &mut AuditState, alloc: Global, act: &Act) -> Result<Outcome, Failure>
-    requires seated { AreSeated state.old.parties }
+pub(crate) fn perform(
+    state: &mut AuditState,
+    alloc: Global,
+    act: &LineAct,
+) -> Result<EventOutcome, Failure>
+    requires holds_each { HoldsEach state.old.parties }
     ensures acted { IfOk result (Acts act.now state.old state.new) }
     ensures wrong { (f : TheFault) → result ≡ Err (Failure.Wrong f) → ActsWrongly act.now state.old f }
-    ensures seated { OnOk result (AreSeated state.new.parties) }
+    ensures holds_each { OnOk result (HoldsEach state.new.parties) }
     ensures now { state.new.now ≡ state.old.now }
     ensures comparison { state.new.comparison ≡ state.old.comparison }
 {
     match act {
-        Act::Nothing => Ok(Outcome::Nothing),
-        Act::Tell { party, input } => match state.parties.place_of(party) {
+        LineAct::Nothing => Ok(EventOutcome::Nothing),
+        LineAct::Give { party, input } => match state.parties.place_of(party) {
             Some(place) => input_at(state, place, alloc, input),
-            None => Ok(Outcome::Nothing),
+            None => Ok(EventOutcome::Nothing),
         },
-        Act::Refuse { party, number } => match state.parties.place_of(party) {
+        LineAct::Refuse { party, number } => match state.parties.place_of(party) {
             Some(place) => unheard_at(state, place, *number),
-            None => Ok(Outcome::Nothing),
+            None => Ok(EventOutcome::Nothing),
         },
     }
 }

@@ -5,7 +5,7 @@ ghost use Rattle.course.specs.Starts.{start_progress};
 ghost use Rattle.audit_check.specs.Answers.{IsAnswer, IsOnly, start_audit};
 ghost use Rattle.audit_check.specs.Audits.{Audit, IsLetter};
 ghost use Rattle.audit_check.specs.Ends.{IsBehind, answer_of};
-ghost use Rattle.audit_check.specs.States.{AreSeated, IsAt};
+ghost use Rattle.audit_check.specs.States.{HoldsEach, IsAt};
 
 use crate::comparison::Comparison;
 use crate::ending::{compare_shows, tally_of};
@@ -49,7 +49,7 @@ fn start_state<'a>(
 
 /// The numbers of a scenario behind its last line, or what is wrong there.
 fn end_of(alloc: Global, state: AuditState, transcript: &[u8]) -> Result<Tally, Failure>
-    requires seated { AreSeated state.parties }
+    requires holds_each { HoldsEach state.parties }
     requires numbered { 1 ≤ state.now.number }
     ensures { (a : Audit) → IsAt transcript.now state.entry a → IsBehind transcript.now a (answer_of result) }
 {

@@ -4,7 +4,7 @@ ghost use Rattle.member.specs.Member.{Member};
 ghost use Rattle.course.specs.Tallies.{IsTallied, count_status, records_of};
 ghost use Rattle.course.specs.Transcript.{show_lines};
 ghost use Rattle.audit_check.specs.Compared.{compared};
-ghost use Rattle.audit_check.specs.States.{AreSeated, IsSeated};
+ghost use Rattle.audit_check.specs.States.{HoldsEach, HoldsMembers};
 
 use crate::comparison::Comparison;
 use crate::parties::Parties;
@@ -20,8 +20,8 @@ pub(crate) fn compare_shows(
     comparison: &mut Comparison,
     alloc: Global,
 ) -> Result<(), NoMemory>
-    requires { AreSeated parties.now }
-    ensures { OnOk result ((members : List Member) (made given : List ℕ) → IsSeated parties.now members → comparison.old ≡ compared made given
+    requires { HoldsEach parties.now }
+    ensures { OnOk result ((members : List Member) (made given : List ℕ) → HoldsMembers parties.now members → comparison.old ≡ compared made given
         → comparison.new ≡ compared (made ++ show_lines members) given) }
 {
     'showing: for place in 0..parties.len() {
@@ -46,8 +46,8 @@ fn sum_of(count: u32, more: usize) -> Result<u32, NoMemory>
 
 /// How many key records of all parties have this status.
 fn count_keys(parties: &Parties, status: KeyStatus) -> Result<u32, NoMemory>
-    requires { AreSeated parties.now }
-    ensures { IfOk result (λ count. (members : List Member) → IsSeated parties.now members → count ≡ count_status status (records_of members)) }
+    requires { HoldsEach parties.now }
+    ensures { IfOk result (λ count. (members : List Member) → HoldsMembers parties.now members → count ≡ count_status status (records_of members)) }
 {
     let mut count = 0;
     'counting: for place in 0..parties.len() {
@@ -58,9 +58,9 @@ fn count_keys(parties: &Parties, status: KeyStatus) -> Result<u32, NoMemory>
 
 /// The outcomes so far, and the key records of all parties as they are.
 pub(crate) fn tally_of(parties: &Parties, now: &Progress) -> Result<Tally, NoMemory>
-    requires seated { AreSeated parties.now }
+    requires holds_each { HoldsEach parties.now }
     requires numbered { 1 ≤ now.now.number }
-    ensures { IfOk result (λ tally. (members : List Member) → IsSeated parties.now members → IsTallied now.now members tally) }
+    ensures { IfOk result (λ tally. (members : List Member) → HoldsMembers parties.now members → IsTallied now.now members tally) }
 {
     let counts = now.counts;
     Ok(Tally {

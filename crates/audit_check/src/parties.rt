@@ -2,7 +2,7 @@
 ghost use Rattle.std.specs.Prelude.{◌≡◌, ◌<◌, ◌++◌, [], ◌∷◌, List, length, None, IfNone, IfSome, OnOk, bytes_eq, position, slice_get};
 ghost use Rattle.member.specs.Member.{Member};
 ghost use Rattle.world_laws.specs.World.{member_at};
-ghost use Rattle.audit_check.specs.States.{Adds, AreSeated, IsPlaced, IsSeated};
+ghost use Rattle.audit_check.specs.States.{Adds, HoldsEach, IsPlaced, HoldsMembers};
 
 use indexmap::IndexSet;
 use member::{Held, Holder};
@@ -10,11 +10,11 @@ use party_state::State;
 use std::alloc::Global;
 use x_base::{Ident, NoMemory};
 
-/// Parties, each in its seat. A seat is empty only while its party has an event.
+/// Parties, each in its place. A place is empty only while its party has an event.
 #[derive(Drop)]
 pub(crate) struct Parties {
     pub(crate) names: IndexSet<Ident>,
-    pub(crate) seats: Vec<Option<Held>>,
+    pub(crate) members_held: Vec<Option<Held>>,
 }
 
 /// The place of an identity among others.
@@ -27,11 +27,11 @@ fn index_of(names: &IndexSet<Ident>, own: &Ident) -> Option<usize>
 
 impl Parties {
     pub(crate) fn new(alloc: Global) -> Parties
-        ensures { IsSeated result [] }
+        ensures { HoldsMembers result [] }
     {
         Parties {
             names: IndexSet::new(alloc),
-            seats: Vec::new(alloc),
+            members_held: Vec::new(alloc),
         }
     }
 
@@ -44,35 +44,35 @@ impl Parties {
             Ok(_) => {}
             Err(_) => return Err(NoMemory),
         }
-        match self.seats.push(Some(held)) {
+        match self.members_held.push(Some(held)) {
             Ok(()) => Ok(()),
             Err(_) => Err(NoMemory),
         }
     }
 
     pub(crate) fn len(&self) -> usize
-        ensures { (members : List Member) → IsSeated self.now members → result ≡ length members }
+        ensures { (members : List Member) → HoldsMembers self.now members → result ≡ length members }
     {
-        self.seats.len()
+        self.members_held.len()
     }
 
     /// The place of a party.
     pub(crate) fn place_of(&self, own: &Ident) -> Option<usize>
-        requires { AreSeated self.now }
-        ensures within { IfSome result (λ place. place < length self.now.seats.items) }
-        ensures placed { IfSome result (λ place. (members : List Member) → IsSeated self.now members → IsPlaced own.now members place) }
-        ensures none { IfNone result ((members : List Member) → IsSeated self.now members → member_at own.now members ≡ None) }
+        requires { HoldsEach self.now }
+        ensures within { IfSome result (λ place. place < length self.now.members_held.items) }
+        ensures placed { IfSome result (λ place. (members : List Member) → HoldsMembers self.now members → IsPlaced own.now members place) }
+        ensures none { IfNone result ((members : List Member) → HoldsMembers self.now members → member_at own.now members ≡ None) }
     {
         index_of(&self.names, own)
     }
 
     /// The state of the party at a place.
     pub(crate) fn view_at(&self, place: usize) -> &State
-        requires seated { AreSeated self.now }
-        requires within { place < length self.now.seats.items }
-        ensures { (members : List Member) → IsSeated self.now members → (x : Member) × (slice_get members place ≡ Some x) × (result.now ≡ x.party) }
+        requires holds_each { HoldsEach self.now }
+        requires within { place < length self.now.members_held.items }
+        ensures { (members : List Member) → HoldsMembers self.now members → (x : Member) × (slice_get members place ≡ Some x) × (result.now ≡ x.party) }
     {
-        match &self.seats[place] {
+        match &self.members_held[place] {
             Some(held) => held.view(),
             None => unreachable!(),
         }

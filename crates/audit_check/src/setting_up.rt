@@ -5,7 +5,7 @@ ghost use Rattle.party_tables.specs.Ranges.{IsNextCount};
 ghost use Rattle.change_code.specs.Cost.{space_after};
 ghost use Rattle.course.specs.Parties.{full_member};
 ghost use Rattle.course.specs.Starts.{start_members, with_load};
-ghost use Rattle.audit_check.specs.States.{IsSeated};
+ghost use Rattle.audit_check.specs.States.{HoldsMembers};
 
 use crate::parties::Parties;
 use change_code::{Format, Framed, Space, law_short_code};
@@ -76,12 +76,12 @@ fn new_held(alloc: Global, lines: &[Line], party: &NewParty) -> Result<Held, NoM
 
 /// The parties of a scenario, with the links that its lines load.
 pub(crate) fn set_up(alloc: Global, scenario: &Scenario) -> Result<Parties, NoMemory>
-    ensures { IfOk result (λ parties. IsSeated parties (start_members scenario.now)) }
+    ensures { IfOk result (λ parties. HoldsMembers parties (start_members scenario.now)) }
 {
     law_scenario_starts(scenario);
     let lines = scenario.lines();
     let mut parties = Parties::new(alloc);
-    'seating: for line in lines {
+    'setting: for line in lines {
         if let Some(party) = new_party(line) {
             parties.add(new_held(alloc, lines, &party)?)?;
         }

@@ -18,12 +18,12 @@ use Rattle.world_laws.specs.Events.{Action, Orders, Hears, Compacts, Migrates, C
 use Rattle.world_laws.specs.Steps.{received_text, texts_of, member_after, world_after_row, world_with_answer, world_with_text, world_by_row, world_with_space, world_rewritten, world_after_action, step_at, step}
 use Rattle.course.specs.Transcript.{written_between}
 use Rattle.course.specs.Outcomes.{counted, with_text}
-use Rattle.course.specs.Course.{Course, Happened, IsEvent, IsNext, Leads}
+use Rattle.course.specs.Course.{Course, Happened, IsEvent, IsNext, LinesLead}
 use Rattle.course.specs.Starts.{start_course}
 use Rattle.course.specs.Ends.{is_event}
-use Rattle.course.specs.declared.progress.Counts.{Counts}
-use Rattle.course.specs.declared.progress.Outcome.{Outcome}
-use Rattle.course.specs.declared.progress.Outcome.TheVariants as outcome
+use Rattle.course.specs.declared.progress.OutcomeCounts.{OutcomeCounts}
+use Rattle.course.specs.declared.progress.EventOutcome.{EventOutcome}
+use Rattle.course.specs.declared.progress.EventOutcome.TheVariants as outcome
 
 -- a step appends one text at most, and then it is the one that was written
 
@@ -84,26 +84,26 @@ step_grown n w e = go (member_at e.party w.members)
 
 -- one event is counted under one outcome
 
-abbrev sum_of : Counts → ℕ
+abbrev sum_of : OutcomeCounts → ℕ
 sum_of c = c.done + c.refused + c.stopped + c.none
 
-one_outcome : (o : Outcome) (c : Counts) → sum_of (counted o c) ≡ sum_of c + 1
+one_outcome : (o : EventOutcome) (c : OutcomeCounts) → sum_of (counted o c) ≡ sum_of c + 1
 one_outcome outcome.Done c = omega arith
 one_outcome (outcome.Refused number) c = omega arith
 one_outcome outcome.Stopped c = omega arith
 one_outcome outcome.Nothing c = omega arith
 
-counted_sum : (o : Outcome) (wrote : Bool) (c : Counts) → sum_of (with_text wrote (counted o c)) ≡ sum_of c + 1
+counted_sum : (o : EventOutcome) (wrote : Bool) (c : OutcomeCounts) → sum_of (with_text wrote (counted o c)) ≡ sum_of c + 1
 counted_sum o true c = one_outcome o c
 counted_sum o false c = one_outcome o c
 
-same_texts : (o : Outcome) (c : Counts) → (counted o c).texts ≡ c.texts
+same_texts : (o : EventOutcome) (c : OutcomeCounts) → (counted o c).texts ≡ c.texts
 same_texts outcome.Done c = refl
 same_texts (outcome.Refused number) c = refl
 same_texts outcome.Stopped c = refl
 same_texts outcome.Nothing c = refl
 
-counted_texts : (o : Outcome) (wrote : Bool) (c : Counts) → (with_text wrote (counted o c)).texts ≡ c.texts + cond wrote 1 0
+counted_texts : (o : EventOutcome) (wrote : Bool) (c : OutcomeCounts) → (with_text wrote (counted o c)).texts ≡ c.texts + cond wrote 1 0
 counted_texts o true c = omega (arith, same_texts o c)
 counted_texts o false c = omega (arith, same_texts o c)
 
@@ -129,7 +129,7 @@ event_played : (tell : Bool) (before after : ℕ) (l : Line) (c mid : Course) �
 event_played tell before after l c mid is =
     let next : World = step c.now.number c.world is.event in
     let wrote : Bool = is_some (written_between c.world.texts next.texts) in
-    let counts : Counts = with_text wrote (counted is.outcome c.now.counts) in
+    let counts : OutcomeCounts = with_text wrote (counted is.outcome c.now.counts) in
     subst (λ (x : Course). Played c x 1) (sym is.leads) (record {
       texts = level counts.texts c.now.counts.texts (length c.world.texts) (length next.texts) (cond wrote 1 0) (counted_texts is.outcome wrote c.now.counts) (step_grown c.now.number c.world is.event).size;
       numbers = refl;
@@ -139,9 +139,9 @@ event_played tell before after l c mid is =
 
 quiet_played : (c mid : Course) → mid.world ≡ c.world → mid.now.number ≡ c.now.number → mid.now.counts ≡ c.now.counts → mid.happened ≡ c.happened → Played c mid 0
 quiet_played c mid world number counts happened = record {
-  texts = omega (arith, ap (λ (k : Counts). k.texts) counts, ap (λ (w : World). length w.texts) world);
+  texts = omega (arith, ap (λ (k : OutcomeCounts). k.texts) counts, ap (λ (w : World). length w.texts) world);
   numbers = omega (arith, number);
-  outcomes = omega (arith, ap (λ (k : Counts). sum_of k) counts);
+  outcomes = omega (arith, ap (λ (k : OutcomeCounts). sum_of k) counts);
   listed = omega (arith, ap (λ (l : List Happened). length l) happened);
 }
 
@@ -152,7 +152,7 @@ next_played tell before after (line.Time moment) c mid is = quiet_played c mid (
 next_played tell before after (line.Stop n choice) c mid is = quiet_played c mid (ap (λ (x : Course). x.world) is) (ap (λ (x : Course). x.now.number) is) (ap (λ (x : Course). x.now.counts) is) (ap (λ (x : Course). x.happened) is)
 next_played tell before after l c mid is = event_played tell before after l c mid is
 
-lines_played : (tell : Bool) (before after : ℕ) (lines : List Line) (c e : Course) → Leads tell before after lines c e → Played c e (count_by is_event lines)
+lines_played : (tell : Bool) (before after : ℕ) (lines : List Line) (c e : Course) → LinesLead tell before after lines c e → Played c e (count_by is_event lines)
 lines_played tell before after [] c e is = quiet_played c e (ap (λ (x : Course). x.world) is) (ap (λ (x : Course). x.now.number) is) (ap (λ (x : Course). x.now.counts) is) (ap (λ (x : Course). x.happened) is)
 lines_played tell before after (l ∷ lines) c e leads =
     subst (λ (n : ℕ). Played c e n) (sym (sum_by-cons (λ (x : Line). cond (is_event x) 1 0) l lines))
@@ -160,15 +160,15 @@ lines_played tell before after (l ∷ lines) c e leads =
 
 -- from the start on
 
-pub texts_counted : (tell : Bool) (before after : ℕ) (lines : List Line) (e : Course) → Leads tell before after lines (start_course lines) e → e.now.counts.texts ≡ length e.world.texts
+pub texts_counted : (tell : Bool) (before after : ℕ) (lines : List Line) (e : Course) → LinesLead tell before after lines (start_course lines) e → e.now.counts.texts ≡ length e.world.texts
 texts_counted tell before after lines e leads = let p = lines_played tell before after lines (start_course lines) e leads in omega (arith, p.texts)
 
-pub events_counted : (tell : Bool) (before after : ℕ) (lines : List Line) (e : Course) → Leads tell before after lines (start_course lines) e → e.now.number ≡ 1 + count_by is_event lines
+pub events_counted : (tell : Bool) (before after : ℕ) (lines : List Line) (e : Course) → LinesLead tell before after lines (start_course lines) e → e.now.number ≡ 1 + count_by is_event lines
 events_counted tell before after lines e leads = let p = lines_played tell before after lines (start_course lines) e leads in p.numbers
 
-pub events_listed : (tell : Bool) (before after : ℕ) (lines : List Line) (e : Course) → Leads tell before after lines (start_course lines) e → length e.happened ≡ count_by is_event lines
+pub events_listed : (tell : Bool) (before after : ℕ) (lines : List Line) (e : Course) → LinesLead tell before after lines (start_course lines) e → length e.happened ≡ count_by is_event lines
 events_listed tell before after lines e leads = let p = lines_played tell before after lines (start_course lines) e leads in omega (arith, p.listed)
 
-pub outcomes_counted : (tell : Bool) (before after : ℕ) (lines : List Line) (e : Course) → Leads tell before after lines (start_course lines) e
+pub outcomes_counted : (tell : Bool) (before after : ℕ) (lines : List Line) (e : Course) → LinesLead tell before after lines (start_course lines) e
     → e.now.counts.done + e.now.counts.refused + e.now.counts.stopped + e.now.counts.none + 1 ≡ e.now.number
 outcomes_counted tell before after lines e leads = let p = lines_played tell before after lines (start_course lines) e leads in omega (arith, p.numbers, p.outcomes)

@@ -11,3 +11,5 @@ mod StartMembers
 mod StartOrder
 mod StartEnds
 mod StartWhole
+pub mod LiveText
+pub mod LiveCourse

@@ -9,16 +9,16 @@ use Rattle.scenario.specs.declared.line.Line.{Line}
 use Rattle.scenario.specs.declared.line.Line.TheVariants as line
 use Rattle.world_laws.specs.Events.{Orders, Hears, IsCommand}
 use Rattle.world_laws.specs.Hearing.{IsHeard, HeardOnce}
-use Rattle.course.specs.Happenings.{Happening, Nothing, At, Arrives, IsFormed, Returns, at_receiver, input_bytes, receiver_of, text_back}
+use Rattle.course.specs.LineEvents.{LineEvent, Nothing, At, Arrives, IsFormed, Returns, at_receiver, input_bytes, receiver_of, text_back}
 use Rattle.csm_feed.specs.Numbers.{unheard_number}
-use Rattle.course.specs.Parts.{HasHappening}
-use Rattle.course.specs.Meanings.{HeardOf, IsMeant, IsNoOrder, MeantBy, arriving, order_in}
-use Rattle.course.specs.declared.act.Act.{Act}
-use Rattle.course.specs.declared.act.Act.TheVariants as act
+use Rattle.course.specs.Parts.{HasLineEvent}
+use Rattle.course.specs.Meanings.{HeardOf, IsLineAct, IsNoOrder, MeantBy, arriving, order_in}
+use Rattle.course.specs.declared.act.LineAct.{LineAct}
+use Rattle.course.specs.declared.act.LineAct.TheVariants as act
 
 -- this is heard of the bytes
 module _ (bytes : List ℕ) where
-  pub arrives_heard : (a : Arrival) → HeardOf bytes (Ok a) → (party : List ℕ) → (h : Happening) × Arrives party (Some bytes) h × IsFormed h × ((read : List ℕ) × (h ≡ At party (Hears read (Some a))))
+  pub arrives_heard : (a : Arrival) → HeardOf bytes (Ok a) → (party : List ℕ) → (h : LineEvent) × Arrives party (Some bytes) h × IsFormed h × ((read : List ℕ) × (h ≡ At party (Hears read (Some a))))
   arrives_heard a hears party = (
     At party (Hears (input_bytes bytes) (Some a)),
     (Some a, (hears.heard_is, hears.text), refl),
@@ -26,7 +26,7 @@ module _ (bytes : List ℕ) where
     (input_bytes bytes, refl),
   )
 
-  pub returns_heard : (a : Arrival) → HeardOf bytes (Ok a) → (party : List ℕ) → party ≡ receiver_of a.parsed.message → (h : Happening) × Returns (Some bytes) h × IsFormed h × ((read : List ℕ) × (h ≡ At party (Hears read (Some a))))
+  pub returns_heard : (a : Arrival) → HeardOf bytes (Ok a) → (party : List ℕ) → party ≡ receiver_of a.parsed.message → (h : LineEvent) × Returns (Some bytes) h × IsFormed h × ((read : List ℕ) × (h ≡ At party (Hears read (Some a))))
   returns_heard a hears party party_is = (
     At party (Hears (input_bytes bytes) (Some a)),
     (Some a, (hears.heard_is, hears.text), ap (λ (p : List ℕ). At p (Hears (input_bytes bytes) (Some a))) party_is),
@@ -53,7 +53,7 @@ abbrev what : Command → Option (List ℕ × Command) → Command
 what c None = c
 what c (Some order) = order.1
 
-meant_at : (p party : List ℕ) (c command : Command) → ◌≡◌ {A = Option (List ℕ × Command)} (Some (p, c)) (Some (party, command)) → IsCommand command → MeantBy (λ (h : Happening). h ≡ At p (Orders c)) (act.Tell party (input.Ordered command))
+meant_at : (p party : List ℕ) (c command : Command) → ◌≡◌ {A = Option (List ℕ × Command)} (Some (p, c)) (Some (party, command)) → IsCommand command → MeantBy (λ (h : LineEvent). h ≡ At p (Orders c)) (act.Give party (input.Ordered command))
 meant_at p party c command same formed =
     let same_party : p ≡ party = ap who same in
     let same_command : c ≡ command = ap (what c) same in
@@ -61,7 +61,7 @@ meant_at p party c command same formed =
     (At p (Orders c), refl, subst IsCommand (sym same_command) formed, all)
 
 -- a line that gives a command
-pub meant_order : (l : Line) (party : List ℕ) (command : Command) → order_in l ≡ Some (party, command) → IsCommand command → (texts : List (List ℕ)) → IsMeant l texts (act.Tell party (input.Ordered command))
+pub meant_order : (l : Line) (party : List ℕ) (command : Command) → order_in l ≡ Some (party, command) → IsCommand command → (texts : List (List ℕ)) → IsLineAct l texts (act.Give party (input.Ordered command))
 meant_order (line.Start p peer label) party command order formed texts = meant_at p party _ command order formed
 meant_order (line.StartKk p peer label new single) party command order formed texts = meant_at p party _ command order formed
 meant_order (line.Ask p peer ultimate) party command order formed texts = meant_at p party _ command order formed
@@ -89,7 +89,7 @@ receives (line.Bytes party bytes) = Some party
 receives l = None
 
 -- the line makes this text arrive
-pub meant_arrives : (l : Line) (party : List ℕ) (texts : List (List ℕ)) (bytes : List ℕ) (a : Act) → receives l ≡ Some party → arriving l texts ≡ Some bytes → MeantBy (Arrives party (Some bytes)) a → IsMeant l texts a
+pub meant_arrives : (l : Line) (party : List ℕ) (texts : List (List ℕ)) (bytes : List ℕ) (a : LineAct) → receives l ≡ Some party → arriving l texts ≡ Some bytes → MeantBy (Arrives party (Some bytes)) a → IsLineAct l texts a
 meant_arrives (line.Pass k p) party texts bytes a at is meant =
     let same : p ≡ party = ap named at in
     subst (λ q. MeantBy (Arrives q (slice_get texts (k - 1))) a) (sym same) (subst (λ o. MeantBy (Arrives party o) a) (sym is) meant)
@@ -121,7 +121,7 @@ heard_of bytes read (Ok heard) read_is hears text = record {
 
 -- something happens at each line that gives no command
 module _ (hearing : (bytes : List ℕ) → HeardOnce bytes) where
-  arrives_some : (party : List ℕ) (o : Option (List ℕ)) → (h : Happening) × Arrives party o h × IsFormed h
+  arrives_some : (party : List ℕ) (o : Option (List ℕ)) → (h : LineEvent) × Arrives party o h × IsFormed h
   arrives_some party None = (Nothing, refl, tt)
   arrives_some party (Some text) =
       let x = hearing (input_bytes text) in
@@ -131,18 +131,18 @@ module _ (hearing : (bytes : List ℕ) → HeardOnce bytes) where
   returned_formed bytes None is = tt
   returned_formed bytes (Some a) is = is
 
-  returns_some : (o : Option (List ℕ)) → (h : Happening) × Returns o h × IsFormed h
+  returns_some : (o : Option (List ℕ)) → (h : LineEvent) × Returns o h × IsFormed h
   returns_some None = (Nothing, refl, tt)
   returns_some (Some text) =
       let x = hearing (input_bytes text) in
       (at_receiver (input_bytes text) x.heard, (x.heard, x.holds, refl), returned_formed (input_bytes text) x.heard x.holds)
 
-  pub happens_some : (l : Line) → IsNoOrder l → (texts : List (List ℕ)) → HasHappening l texts
-  happens_some (line.Party name role pair v) none texts = (Nothing, inl (tt, refl))
-  happens_some (line.Link origin recipient label pair) none texts = (Nothing, inl (tt, refl))
-  happens_some (line.Time moment) none texts = (Nothing, inl (tt, refl))
-  happens_some (line.Stop n choice) none texts = (Nothing, inl (tt, refl))
-  happens_some (line.Pass k party) none texts = let x = arrives_some party (slice_get texts (k - 1)) in (x.0, inr (x.1, x.2))
-  happens_some (line.Recent j) none texts = let x = returns_some (text_back j texts) in (x.0, inr (x.1, x.2))
-  happens_some (line.Bytes party bytes) none texts = let x = arrives_some party (Some bytes) in (x.0, inr (x.1, x.2))
-  happens_some l none texts = absurd none
+  pub makes_event_some : (l : Line) → IsNoOrder l → (texts : List (List ℕ)) → HasLineEvent l texts
+  makes_event_some (line.Party name role pair v) none texts = (Nothing, inl (tt, refl))
+  makes_event_some (line.Link origin recipient label pair) none texts = (Nothing, inl (tt, refl))
+  makes_event_some (line.Time moment) none texts = (Nothing, inl (tt, refl))
+  makes_event_some (line.Stop n choice) none texts = (Nothing, inl (tt, refl))
+  makes_event_some (line.Pass k party) none texts = let x = arrives_some party (slice_get texts (k - 1)) in (x.0, inr (x.1, x.2))
+  makes_event_some (line.Recent j) none texts = let x = returns_some (text_back j texts) in (x.0, inr (x.1, x.2))
+  makes_event_some (line.Bytes party bytes) none texts = let x = arrives_some party (Some bytes) in (x.0, inr (x.1, x.2))
+  makes_event_some l none texts = absurd none

@@ -8,13 +8,13 @@ use Rattle.world_laws.specs.World.{World, member_at}
 use Rattle.world_laws.specs.Events.{Event, IsAction}
 use Rattle.world_laws.specs.Steps.{step, run, number_after}
 use Rattle.world_laws.specs.Honest.{HonestAt, HonestRun}
-use Rattle.course.specs.Happenings.{Happening, Nothing, At, IsFormed}
-use Rattle.course.specs.Course.{Course, Happened, events_of, no_event, IsDoneBy, IsDone, IsEvent, IsNext, Leads}
+use Rattle.course.specs.LineEvents.{LineEvent, Nothing, At, IsFormed}
+use Rattle.course.specs.Course.{Course, Happened, events_of, no_event, IsDoneBy, IsDone, IsEvent, IsNext, LinesLead}
 use Rattle.course.specs.Ends.{Ran}
-use Rattle.course.specs.declared.progress.Outcome.{Outcome}
+use Rattle.course.specs.declared.progress.EventOutcome.{EventOutcome}
 
 -- one event more, in front
-ran_on : (c mid e : Course) (event : Event) (o : Outcome) → IsAction event.action → HonestAt c.world.facts (member_at event.party c.world.members) event.action → mid.world ≡ step c.now.number c.world event → mid.now.number ≡ suc c.now.number → mid.happened ≡ c.happened ++ record { event = event; outcome = o } ∷ [] → Ran mid e → Ran c e
+ran_on : (c mid e : Course) (event : Event) (o : EventOutcome) → IsAction event.action → HonestAt c.world.facts (member_at event.party c.world.members) event.action → mid.world ≡ step c.now.number c.world event → mid.now.number ≡ suc c.now.number → mid.happened ≡ c.happened ++ record { event = event; outcome = o } ∷ [] → Ran mid e → Ran c e
 ran_on c mid e event o formed honest world number more r = record {
   happened = record { event = event; outcome = o } ∷ r.happened;
   listed = r.listed ∙ (ap (λ (l : List Happened). l ++ r.happened) more ∙ append_assoc c.happened (record { event = event; outcome = o } ∷ []) r.happened);
@@ -38,7 +38,7 @@ record Fair (c : Course) (event : Event) : Type 0 where
 nothing_fair : (c : Course) (event : Event) → event ≡ no_event c.now.moment → Fair c event
 nothing_fair c event is = subst (Fair c) (sym is) (record { formed = tt; honest = quiet_honest c })
 
-done_fair : (tell : Bool) (before after : ℕ) (c : Course) (h : Happening) (event : Event) (o : Outcome) → IsFormed h → IsDone tell before after c h event o → Fair c event
+done_fair : (tell : Bool) (before after : ℕ) (c : Course) (h : LineEvent) (event : Event) (o : EventOutcome) → IsFormed h → IsDone tell before after c h event o → Fair c event
 done_fair tell before after c Nothing event o formed done = nothing_fair c event done.0
 done_fair tell before after c (At own action) event o formed done = go (member_at own c.world.members) refl done
   where
@@ -51,7 +51,7 @@ done_fair tell before after c (At own action) event o formed done = go (member_a
 
 event_ran : (tell : Bool) (before after : ℕ) (l : Line) (c mid e : Course) → IsEvent tell before after l c mid → Ran mid e → Ran c e
 event_ran tell before after l c mid e is r =
-    let fair : Fair c is.event = done_fair tell before after c is.happening is.event is.outcome is.formed is.done in
+    let fair : Fair c is.event = done_fair tell before after c is.line_event is.event is.outcome is.formed is.done in
     ran_on c mid e is.event is.outcome fair.formed fair.honest (ap (λ (x : Course). x.world) is.leads) (ap (λ (x : Course). x.now.number) is.leads ∙ omega arith) (ap (λ (x : Course). x.happened) is.leads) r
 
 still_ran : (c mid e : Course) → mid.world ≡ c.world → mid.now.number ≡ c.now.number → mid.happened ≡ c.happened → Ran mid e → Ran c e
@@ -71,6 +71,6 @@ next_ran tell before after (line.Time moment) c mid e is r = still_ran c mid e (
 next_ran tell before after (line.Stop n choice) c mid e is r = still_ran c mid e (ap (λ (x : Course). x.world) is) (ap (λ (x : Course). x.now.number) is) (ap (λ (x : Course). x.happened) is) r
 next_ran tell before after l c mid e is r = event_ran tell before after l c mid e is r
 
-pub ran_by : (tell : Bool) (before after : ℕ) (lines : List Line) (c e : Course) → Leads tell before after lines c e → Ran c e
+pub ran_by : (tell : Bool) (before after : ℕ) (lines : List Line) (c e : Course) → LinesLead tell before after lines c e → Ran c e
 ran_by tell before after [] c e is = still_ran c c e refl refl refl (subst (λ (x : Course). Ran c x) (sym is) (record { happened = []; listed = sym (append-nil c.happened); are = tt; ran = refl; honest = tt; numbers = refl }))
 ran_by tell before after (l ∷ lines) c e leads = next_ran tell before after l c leads.0 e leads.1 (ran_by tell before after lines leads.0 e leads.2)

@@ -1,4 +1,4 @@
-pub mod Happenings
+pub mod LineEvents
 pub mod Acts
 pub mod Forging
 pub mod Meanings
@@ -9,6 +9,7 @@ pub mod Course
 pub mod Ends
 pub mod Lawful
 pub mod Starts
+pub mod Live
 pub mod Parts
 pub mod Lines
 pub mod Tallies

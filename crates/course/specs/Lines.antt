@@ -1,7 +1,7 @@
 -- Lines that are no event, and the line at which a scenario is forged (this project's profile).
 use Rattle.std.specs.Prelude.{◌≡◌, ℕ, Bool, List, ◌++◌, ◌∷◌, Some}
 use Rattle.scenario.specs.declared.line.Line.{Line}
-use Rattle.course.specs.Course.{Course, Leads, IsForged}
+use Rattle.course.specs.Course.{Course, LinesLead, IsForged}
 use Rattle.course.specs.declared.progress.Progress.{Progress}
 use Rattle.scenario.specs.declared.line.Line.TheVariants as line
 
@@ -17,6 +17,6 @@ pub record IsForgedIn (tell : Bool) (before after : ℕ) (lines : List Line) (c 
   pub line : Line
   pub back : List Line
   pub split : lines ≡ front ++ line ∷ back
-  pub leads : Leads tell before after front c e
+  pub leads : LinesLead tell before after front c e
   pub forged : IsForged line e
   pub number_is : number ≡ e.now.number

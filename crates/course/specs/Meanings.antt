@@ -6,8 +6,8 @@ use Rattle.csm_feed.specs.Heard.{Heard, behind, readings}
 use Rattle.party_state.specs.declared.command.Command.{Command}
 use Rattle.scenario.specs.declared.line.Line.{Line}
 use Rattle.course.specs.Acts.{Means}
-use Rattle.course.specs.Happenings.{Happening, Happens, IsFormed, input_bytes, text_back}
-use Rattle.course.specs.declared.act.Act.{Act}
+use Rattle.course.specs.LineEvents.{LineEvent, MakesEvent, IsFormed, input_bytes, text_back}
+use Rattle.course.specs.declared.act.LineAct.{LineAct}
 use Rattle.party_state.specs.declared.command.Command.TheVariants as command
 use Rattle.scenario.specs.declared.line.Line.TheVariants as line
 
@@ -16,13 +16,13 @@ pub record HeardOf (bytes : List ℕ) (heard : Result Arrival Unheard) : Type 0 
   pub heard_is : Heard (input_bytes bytes) (readings heard)
   pub text : IfOk heard (λ (a : Arrival). a.text ≡ take a.parsed.len (behind (input_bytes bytes)))
 
--- this is to be done for a happening of which this holds
-abbrev pub MeantBy : (Happening → Type 0) → Act → Type 0
-MeantBy holds a = (h : Happening) × holds h × IsFormed h × Means a h
+-- this is to be done for an event of which this holds
+abbrev pub MeantBy : (LineEvent → Type 0) → LineAct → Type 0
+MeantBy holds a = (h : LineEvent) × holds h × IsFormed h × Means a h
 
 -- this is to be done at a line that is an event, where these texts were written
-abbrev pub IsMeant : Line → List (List ℕ) → Act → Type 0
-IsMeant l texts a = MeantBy (Happens l texts) a
+abbrev pub IsLineAct : Line → List (List ℕ) → LineAct → Type 0
+IsLineAct l texts a = MeantBy (MakesEvent l texts) a
 
 -- the party and its command, of a line that gives one
 abbrev pub order_in : Line → Option (List ℕ × Command)

@@ -9,17 +9,17 @@ use Rattle.x_base.specs.declared.verdict.Verdict.{Verdict}
 use Rattle.party_state.specs.Verdicts.{is_accept}
 use Rattle.member.specs.Member.{Member, plan_at}
 use Rattle.course.specs.Stops.{KeepsChange, IsFixed}
-use Rattle.course.specs.declared.progress.Outcome.{Outcome}
-use Rattle.course.specs.declared.progress.Counts.{Counts}
+use Rattle.course.specs.declared.progress.EventOutcome.{EventOutcome}
+use Rattle.course.specs.declared.progress.OutcomeCounts.{OutcomeCounts}
 use Rattle.course.specs.declared.progress.Progress.{Progress}
 use Rattle.course.specs.declared.progress.Stop.{Stop}
 use Rattle.party_state.specs.declared.command.Input.TheVariants as input
-use Rattle.course.specs.declared.progress.Outcome.TheVariants as outcome
+use Rattle.course.specs.declared.progress.EventOutcome.TheVariants as outcome
 
 -- what an event makes of the network at a party that has an input; where nothing is heard, nothing changes
-abbrev pub world_after_told : ℕ → World → Member → Option Input → ℕ → Completion → World
-world_after_told n w x None moment completion = w
-world_after_told n w x (Some i) moment completion = world_after_input n w x i moment completion
+abbrev pub world_after_given : ℕ → World → Member → Option Input → ℕ → Completion → World
+world_after_given n w x None moment completion = w
+world_after_given n w x (Some i) moment completion = world_after_input n w x i moment completion
 
 -- the old state stands after a cut, or the new one
 abbrev pub completion_of : Bool → Completion
@@ -33,7 +33,7 @@ input_in (Hears bytes None) = None
 input_in Compacts = None
 input_in Migrates = None
 
-abbrev pub outcome_of : Verdict → Outcome
+abbrev pub outcome_of : Verdict → EventOutcome
 outcome_of v = cond (is_accept v) outcome.Done (outcome.Refused (number_of v))
 
 -- an event is whole, or cut where a stop waits; whether the disks tell their bytes, and two counts of the shelf's faults
@@ -42,24 +42,24 @@ IsCompleted tell before after None x moment i completion = completion ≡ Whole
 IsCompleted tell before after (Some stop) x moment i completion = (next : Bool) × (completion ≡ completion_of next) × IsFixed tell (KeepsChange x i moment) stop before after next
 
 -- what becomes of it: by the verdict, or by the number of why nothing is heard
-abbrev pub IsOutcome : Option Stop → Member → ℕ → Option Input → ℕ → Outcome → Type 0
+abbrev pub IsOutcome : Option Stop → Member → ℕ → Option Input → ℕ → EventOutcome → Type 0
 IsOutcome (Some stop) x moment i number o = o ≡ outcome.Stopped
 IsOutcome None x moment (Some i) number o = o ≡ outcome_of (plan_at x i moment).verdict
 IsOutcome None x moment None number o = o ≡ outcome.Refused number
 
-abbrev pub counted : Outcome → Counts → Counts
+abbrev pub counted : EventOutcome → OutcomeCounts → OutcomeCounts
 counted outcome.Done c = record c { done = c.done + 1 }
 counted (outcome.Refused number) c = record c { refused = c.refused + 1 }
 counted outcome.Stopped c = record c { stopped = c.stopped + 1 }
 counted outcome.Nothing c = record c { none = c.none + 1 }
 
 -- where a text was written
-abbrev pub with_text : Bool → Counts → Counts
+abbrev pub with_text : Bool → OutcomeCounts → OutcomeCounts
 with_text true c = record c { texts = c.texts + 1 }
 with_text false c = c
 
 -- behind an event: the next number, and no stop waits
-abbrev pub after_outcome : Progress → Outcome → Bool → Progress
+abbrev pub after_outcome : Progress → EventOutcome → Bool → Progress
 after_outcome p o wrote = record { moment = p.moment; stop = None; number = p.number + 1; counts = with_text wrote (counted o p.counts) }
 
 -- so many lines were played at most; events are numbered from 1

@@ -3,11 +3,11 @@ use Rattle.std.specs.Prelude.{ℕ, ◌+◌, List, [], ◌∷◌, ◌++◌, lengt
 use Rattle.std.specs.Fmt.{decimal}
 use Rattle.party_show.specs.Show.{shown}
 use Rattle.member.specs.Member.{Member}
-use Rattle.course.specs.declared.progress.Outcome.{Outcome}
-use Rattle.course.specs.declared.progress.Outcome.TheVariants as outcome
+use Rattle.course.specs.declared.progress.EventOutcome.{EventOutcome}
+use Rattle.course.specs.declared.progress.EventOutcome.TheVariants as outcome
 
 -- the line of event e: what became of it
-abbrev pub outcome_line : ℕ → Outcome → List ℕ
+abbrev pub outcome_line : ℕ → EventOutcome → List ℕ
 outcome_line e outcome.Done = codes "E" ++ (decimal e ++ codes " DONE\n")
 outcome_line e (outcome.Refused number) = codes "E" ++ (decimal e ++ (codes " REFUSED " ++ (decimal number ++ codes "\n")))
 outcome_line e outcome.Stopped = codes "E" ++ (decimal e ++ codes " STOPPED\n")
@@ -23,7 +23,7 @@ abbrev pub written_between : List (List ℕ) → List (List ℕ) → Option (Lis
 written_between before after = slice_get after (length before)
 
 -- the lines of event e, with the texts before and after it
-abbrev pub event_lines : ℕ → Outcome → List (List ℕ) → List (List ℕ) → List ℕ
+abbrev pub event_lines : ℕ → EventOutcome → List (List ℕ) → List (List ℕ) → List ℕ
 event_lines e o before after = outcome_line e o ++ text_line (length before + 1) (written_between before after)
 
 -- the show lines of each party in their order

@@ -4,10 +4,10 @@ use x_base::Ident;
 
 /// What is to be done.
 #[derive(Drop)]
-pub enum Act {
+pub enum LineAct {
     Nothing,
     /// A party has an input.
-    Tell { party: Ident, input: Input },
+    Give { party: Ident, input: Input },
     /// Bytes arrive at a party of which nothing is heard; the number of why.
     Refuse { party: Ident, number: u32 },
 }

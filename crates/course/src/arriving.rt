@@ -1,9 +1,9 @@
 // What is to be done where a text arrives.
 ghost use Rattle.std.specs.Prelude.{◌≡◌, ◌≤◌, ℕ, List, length, Some};
-ghost use Rattle.course.specs.Happenings.{Arrives, Returns, input_bytes, receiver_of};
+ghost use Rattle.course.specs.LineEvents.{Arrives, Returns, input_bytes, receiver_of};
 ghost use Rattle.course.specs.Meanings.{HeardOf, MeantBy};
 
-use crate::act::Act;
+use crate::act::LineAct;
 use csm_feed::{INPUT_LIMIT, Unheard};
 use csm_grammar::{Arrival, Message};
 use party_state::Input;
@@ -35,15 +35,15 @@ fn receiver_of(message: &Message) -> Ident
 }
 
 /// What is to be done at a party, where this is heard of the bytes that arrive at it.
-pub(crate) fn arrived(party: &Ident, heard: Result<Arrival, Unheard>) -> Act
+pub(crate) fn arrived(party: &Ident, heard: Result<Arrival, Unheard>) -> LineAct
     ensures { (bytes : List ℕ) → HeardOf bytes heard → MeantBy (Arrives party.now (Some bytes)) result }
 {
     match heard {
-        Ok(arrival) => Act::Tell {
+        Ok(arrival) => LineAct::Give {
             party: *party,
             input: Input::Arrived(arrival),
         },
-        Err(unheard) => Act::Refuse {
+        Err(unheard) => LineAct::Refuse {
             party: *party,
             number: unheard.number(),
         },
@@ -52,14 +52,14 @@ pub(crate) fn arrived(party: &Ident, heard: Result<Arrival, Unheard>) -> Act
 
 /// What is to be done at the party that the message names as its receiver, where this is heard of the bytes that arrive.
 #[tactic(auto, using(crate::proofs::Meant::returns_unheard))]
-pub(crate) fn returned(heard: Result<Arrival, Unheard>) -> Act
+pub(crate) fn returned(heard: Result<Arrival, Unheard>) -> LineAct
     ensures { (bytes : List ℕ) → HeardOf bytes heard → MeantBy (Returns (Some bytes)) result }
 {
     match heard {
-        Ok(arrival) => Act::Tell {
+        Ok(arrival) => LineAct::Give {
             party: receiver_of(&arrival.parsed.message),
             input: Input::Arrived(arrival),
         },
-        Err(_) => Act::Nothing,
+        Err(_) => LineAct::Nothing,
     }
 }

@@ -2,11 +2,11 @@
 ghost use Rattle.std.specs.Prelude.{◌≡◌, ◌-◌, List, ℕ, true, false, Some, IfNone, IfSome, IfOk, OnErr, option_map, slice_get};
 ghost use Rattle.x_base.specs.Names.{IsIdent, IsLabel};
 ghost use Rattle.world_laws.specs.Events.{IsCommand};
-ghost use Rattle.course.specs.Happenings.{IsNoEvent, text_back};
-ghost use Rattle.course.specs.Parts.{HasHappening};
-ghost use Rattle.course.specs.Meanings.{HeardOf, IsMeant, IsNoOrder, arriving, is_arrival, order_in};
+ghost use Rattle.course.specs.LineEvents.{IsNoEvent, text_back};
+ghost use Rattle.course.specs.Parts.{HasLineEvent};
+ghost use Rattle.course.specs.Meanings.{HeardOf, IsLineAct, IsNoOrder, arriving, is_arrival, order_in};
 
-use crate::act::Act;
+use crate::act::LineAct;
 use crate::arriving::{arrived, input_bytes, returned};
 use csm_feed::{Unheard, hear};
 use csm_grammar::Arrival;
@@ -141,9 +141,9 @@ fn bytes_at<'a>(texts: &'a Texts, line: &'a Line) -> Option<&'a [u8]>
 }
 
 /// What is to be done at a line, where this is heard of the bytes that arrive.
-fn act_of(line: &Line, heard: Result<Arrival, Unheard>) -> Act
+fn act_of(line: &Line, heard: Result<Arrival, Unheard>) -> LineAct
     requires { is_arrival line.now ≡ true }
-    ensures { (texts : List (List ℕ)) (bytes : List ℕ) → arriving line.now texts ≡ Some bytes → HeardOf bytes heard → IsMeant line.now texts result }
+    ensures { (texts : List (List ℕ)) (bytes : List ℕ) → arriving line.now texts ≡ Some bytes → HeardOf bytes heard → IsLineAct line.now texts result }
 {
     match line {
         Line::Pass { party, .. } => arrived(party, heard),
@@ -161,14 +161,14 @@ fn hear_front(alloc: Global, bytes: &[u8]) -> Result<Result<Arrival, Unheard>, N
 }
 
 /// What is to be done at a line, where these texts were written; nothing is answered of a line that is no event.
-pub fn act_at(alloc: Global, line: &Line, texts: &Texts) -> Result<Option<Act>, NoMemory>
-    ensures meant { IfOk result (λ o. IfSome o (λ act. IsMeant line.now texts.now act)) }
+pub fn act_at(alloc: Global, line: &Line, texts: &Texts) -> Result<Option<LineAct>, NoMemory>
+    ensures meant { IfOk result (λ o. IfSome o (λ act. IsLineAct line.now texts.now act)) }
     ensures none { IfOk result (λ o. IfNone o (IsNoEvent line.now)) }
-    ensures happens { OnErr result (HasHappening line.now texts.now) }
+    ensures makes_event { OnErr result (HasLineEvent line.now texts.now) }
 {
     law_hearing();
     if let Some((party, command)) = order_of(line) {
-        return Ok(Some(Act::Tell {
+        return Ok(Some(LineAct::Give {
             party,
             input: Input::Ordered(command),
         }));
@@ -177,7 +177,7 @@ pub fn act_at(alloc: Global, line: &Line, texts: &Texts) -> Result<Option<Act>, 
         return Ok(None);
     }
     let Some(bytes) = bytes_at(texts, line) else {
-        return Ok(Some(Act::Nothing));
+        return Ok(Some(LineAct::Nothing));
     };
     let heard = hear_front(alloc, bytes)?;
     Ok(Some(act_of(line, heard)))

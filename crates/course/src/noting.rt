@@ -1,13 +1,13 @@
 // The texts that were written, and the facts of their codes.
 ghost use Rattle.std.specs.Prelude.{◌≡◌, ◌++◌, [], cond, option_to_list, OnOk};
-ghost use Rattle.world_laws.specs.Noted.{authenticated, noted};
+ghost use Rattle.world_laws.specs.Noted.{authenticated_in, noted};
 
 use fact_book::{FactBook, Texts};
 use x_base::{FullName, NoMemory, Text};
 
 /// The authenticated text of a text that a party closed by a code.
-fn authenticated(text: &Text) -> &[u8]
-    ensures { result.now ≡ authenticated text.now }
+fn authenticated_in(text: &Text) -> &[u8]
+    ensures { result.now ≡ authenticated_in text.now }
 {
     let bytes = text.bytes();
     let (front, _) = bytes.split_at(bytes.len().saturating_sub(13));
@@ -28,7 +28,7 @@ pub fn note(
         return Ok(());
     };
     if let Some(under) = under {
-        facts.add(under, authenticated(text))?;
+        facts.add(under, authenticated_in(text))?;
     }
     texts.push(text.bytes())
 }
@@ -43,7 +43,7 @@ pub fn note_if(
     ensures { OnOk result (facts.new ≡ facts.old ++ cond next (noted under reply.now) []) }
 {
     match (next, under, reply) {
-        (true, Some(under), Some(text)) => facts.add(under, authenticated(text)),
+        (true, Some(under), Some(text)) => facts.add(under, authenticated_in(text)),
         _ => Ok(()),
     }
 }

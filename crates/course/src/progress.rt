@@ -16,7 +16,7 @@ pub struct Stop {
 
 /// What became of an event.
 #[derive(Clone, Copy, Debug, PartialEq, Eq)]
-pub enum Outcome {
+pub enum EventOutcome {
     Done,
     /// Refused, with the number of why.
     Refused(u32),
@@ -28,7 +28,7 @@ pub enum Outcome {
 
 /// How many events had each outcome.
 #[derive(Clone, Copy, Debug, PartialEq, Eq)]
-pub struct Counts {
+pub struct OutcomeCounts {
     pub done: u32,
     pub refused: u32,
     pub stopped: u32,
@@ -43,21 +43,21 @@ pub struct Progress {
     pub moment: u64,
     pub stop: Option<Stop>,
     pub number: u32,
-    pub counts: Counts,
+    pub counts: OutcomeCounts,
 }
 
 impl Progress {
     /// Advances past an event with this outcome, which wrote a text or none.
-    pub fn advance(&mut self, outcome: Outcome, wrote: bool)
+    pub fn advance(&mut self, outcome: EventOutcome, wrote: bool)
         requires few { IsWithin self.old 65535 }
         ensures { self.new ≡ after_outcome self.old outcome wrote }
     {
         let counts = &mut self.counts;
         match outcome {
-            Outcome::Done => counts.done += 1,
-            Outcome::Refused(_) => counts.refused += 1,
-            Outcome::Stopped => counts.stopped += 1,
-            Outcome::Nothing => counts.none += 1,
+            EventOutcome::Done => counts.done += 1,
+            EventOutcome::Refused(_) => counts.refused += 1,
+            EventOutcome::Stopped => counts.stopped += 1,
+            EventOutcome::Nothing => counts.none += 1,
         }
         if wrote {
             counts.texts += 1;
@@ -75,7 +75,7 @@ pub fn start() -> Progress
         moment: 0,
         stop: None,
         number: 1,
-        counts: Counts {
+        counts: OutcomeCounts {
             done: 0,
             refused: 0,
             stopped: 0,
@@ -102,11 +102,11 @@ pub fn advance_quiet(line: &Line, now: &mut Progress)
 }
 
 /// What becomes of an event with this verdict.
-pub fn outcome_of(verdict: Verdict) -> Outcome
+pub fn outcome_of(verdict: Verdict) -> EventOutcome
     ensures { result ≡ outcome_of verdict }
 {
     match verdict {
-        Verdict::Accept => Outcome::Done,
-        other => Outcome::Refused(other.number()),
+        Verdict::Accept => EventOutcome::Done,
+        other => EventOutcome::Refused(other.number()),
     }
 }

@@ -3,7 +3,7 @@ ghost use Rattle.std.specs.Prelude.{◌≡◌, ◌++◌, OnOk, option_map};
 ghost use Rattle.std.specs.Fmt.{decimal};
 ghost use Rattle.course.specs.Transcript.{outcome_line, text_line};
 
-use crate::progress::Outcome;
+use crate::progress::EventOutcome;
 use itoa::Buffer;
 use x_base::NoMemory;
 
@@ -17,20 +17,20 @@ fn push_number(buffer: &mut Vec<u8>, n: u64) -> Result<(), NoMemory>
 }
 
 /// Appends the line of an event.
-fn push_outcome(buffer: &mut Vec<u8>, number: u32, outcome: Outcome) -> Result<(), NoMemory>
+fn push_outcome(buffer: &mut Vec<u8>, number: u32, outcome: EventOutcome) -> Result<(), NoMemory>
     ensures { OnOk result (buffer.new.items ≡ buffer.old.items ++ outcome_line number outcome) }
 {
     buffer.extend_from_slice(b"E")?;
     push_number(buffer, number as u64)?;
     match outcome {
-        Outcome::Done => buffer.extend_from_slice(b" DONE\n")?,
-        Outcome::Refused(why) => {
+        EventOutcome::Done => buffer.extend_from_slice(b" DONE\n")?,
+        EventOutcome::Refused(why) => {
             buffer.extend_from_slice(b" REFUSED ")?;
             push_number(buffer, why as u64)?;
             buffer.extend_from_slice(b"\n")?;
         }
-        Outcome::Stopped => buffer.extend_from_slice(b" STOPPED\n")?,
-        Outcome::Nothing => buffer.extend_from_slice(b" NONE\n")?,
+        EventOutcome::Stopped => buffer.extend_from_slice(b" STOPPED\n")?,
+        EventOutcome::Nothing => buffer.extend_from_slice(b" NONE\n")?,
     }
     Ok(())
 }
@@ -54,7 +54,7 @@ fn push_text(buffer: &mut Vec<u8>, k: u64, text: Option<&[u8]>) -> Result<(), No
 pub fn compose_event(
     buffer: &mut Vec<u8>,
     number: u32,
-    outcome: Outcome,
+    outcome: EventOutcome,
     k: u64,
     text: Option<&[u8]>,
 ) -> Result<(), NoMemory>

@@ -1,8 +1,8 @@
 use Rattle.std.proofs.Common.{IfOk, Some, None, sym, subst}
-use Rattle.course.specs.declared.progress.Outcome.TheVariants as outcome
+use Rattle.course.specs.declared.progress.EventOutcome.TheVariants as outcome
 use Rattle.audit_check.specs.Events.{PlaysAt}
 use Rattle.audit_check.specs.States.{Acts, ActsWrongly}
-use Rattle.audit_check.proofs.Happened.{acts_told, acts_unheard, acts_nothing, acts_nobody, acts_unheard_nobody, wrong_told, wrong_unheard}
+use Rattle.audit_check.proofs.Happened.{acts_given, acts_unheard, acts_nothing, acts_nobody, acts_unheard_nobody, wrong_given, wrong_unheard}
 use Rattle.audit_check.proofs.Results.{if_ok}
 use Rattle.audit_check.proofs.acting.perform.Goals as goal
 
@@ -13,15 +13,15 @@ pub returns-in-Some-clause-acted : goal.returns-in-Some-clause-acted
 returns-in-Some-clause-acted c =
     let old = c.args.state.now in
     let new = c.input_at.new.state in
-    subst (λ a. IfOk c.input_at.result (λ o. Acts a old new o)) (sym c.in-Tell.is)
-    (if_ok c.input_at.result (λ o. PlaysAt old new c.in-Some.place (Some c.in-Tell.input) 0 o) _ (λ o plays. acts_told old new o c.in-Tell.party c.in-Some.place c.in-Tell.input c.in-Some.ensures.placed plays) c.input_at.ensures.played)
+    subst (λ a. IfOk c.input_at.result (λ o. Acts a old new o)) (sym c.in-Give.is)
+    (if_ok c.input_at.result (λ o. PlaysAt old new c.in-Some.place (Some c.in-Give.input) 0 o) _ (λ o plays. acts_given old new o c.in-Give.party c.in-Some.place c.in-Give.input c.in-Some.ensures.placed plays) c.input_at.ensures.played)
 
 pub returns-in-Some-clause-wrong : goal.returns-in-Some-clause-wrong
 returns-in-Some-clause-wrong c = λ f is.
-    subst (λ a. ActsWrongly a c.args.state.now f) (sym c.in-Tell.is) (wrong_told c.args.state.now c.in-Tell.party c.in-Some.place c.in-Tell.input f c.in-Some.ensures.placed (c.input_at.ensures.wrong f is))
+    subst (λ a. ActsWrongly a c.args.state.now f) (sym c.in-Give.is) (wrong_given c.args.state.now c.in-Give.party c.in-Some.place c.in-Give.input f c.in-Some.ensures.placed (c.input_at.ensures.wrong f is))
 
 pub returns-in-None-clause-acted : goal.returns-in-None-clause-acted
-returns-in-None-clause-acted c = subst (λ a. Acts a c.args.state.now c.args.state.now outcome.Nothing) (sym c.in-Tell.is) (acts_nobody c.args.state.now c.in-Tell.party c.in-Tell.input c.in-None.ensures.none)
+returns-in-None-clause-acted c = subst (λ a. Acts a c.args.state.now c.args.state.now outcome.Nothing) (sym c.in-Give.is) (acts_nobody c.args.state.now c.in-Give.party c.in-Give.input c.in-None.ensures.none)
 
 pub returns-in-Some-place_of-clause-acted : goal.returns-in-Some-place_of-clause-acted
 returns-in-Some-place_of-clause-acted c =

@@ -1,7 +1,7 @@
 use Rattle.std.proofs.Common.{List, Err, ap, subst}
 use Rattle.scenario.specs.declared.line.Line.{Line}
 use Rattle.audit_check.specs.Answers.{start_audit}
-use Rattle.audit_check.specs.Audits.{Leads, Fails}
+use Rattle.audit_check.specs.Audits.{AuditLeads, Fails}
 use Rattle.audit_check.specs.Ends.{answer_of}
 use Rattle.audit_check.proofs.Concluding.{concluded, failed_so}
 use Rattle.audit_check.proofs.auditing.tally_or_fault.Goals as goal
@@ -13,7 +13,7 @@ returns-in-Ok-audit_lines c =
     let transcript = c.args.transcript.now in
     let led = c.in-Ok-audit_lines.ensures.leads transcript (start_audit lines letters) c.in-Ok.ensures.at in
     concluded lines letters transcript c.law_runs_lawful.ensures c.law_scenario_starts.ensures led.0 (answer_of c.end_of.result)
-    (subst (λ (ls : List Line). Leads ls (start_audit lines letters) led.0) c.lines.ensures.lines led.1) (c.end_of.ensures led.0 led.2)
+    (subst (λ (ls : List Line). AuditLeads ls (start_audit lines letters) led.0) c.lines.ensures.lines led.1) (c.end_of.ensures led.0 led.2)
 
 pub returns-in-Err-audit_lines : goal.returns-in-Err-audit_lines
 returns-in-Err-audit_lines c =

@@ -20,6 +20,6 @@ auditing-preserved c =
     record {
       leads = subst (λ ls. LeadAll ls c.args.state.now c.audit_line.new.state) (sym (take_more lines c.auditing.line-index line c.auditing-test.true ∙ ap (λ x. take c.auditing.line-index lines ++ x ∷ []) (sym c.line-item.is)))
           (lead_on (take c.auditing.line-index lines) line c.args.state.now c.auditing.state c.audit_line.new.state c.auditing.invariant.leads c.in_ok-audit_line.ensures.leads);
-      seated = c.in_ok-audit_line.ensures.seated;
+      holds_each = c.in_ok-audit_line.ensures.holds_each;
       within = c.in_ok-audit_line.ensures.within c.auditing.line-index c.auditing.invariant.within;
     }

@@ -9,7 +9,7 @@ use Rattle.std.proofs.lemmas.List.{take_all, drop_more, length-take-le, length-m
 use Rattle.party_tables.specs.Tables.{put_row}
 use Rattle.member.specs.Member.{Member}
 use Rattle.world_laws.specs.World.{own_of, member_at}
-use Rattle.audit_check.specs.States.{IsPlaced, IsSeated}
+use Rattle.audit_check.specs.States.{IsPlaced, HoldsMembers}
 use Rattle.audit_check.specs.declared.parties.Parties.{Parties}
 
 pub cond_yes : {T : Type 0} (a : Bool) (x y : T) → a ≡ true → cond a x y ≡ x
@@ -98,16 +98,16 @@ nowhere own ms is = go (nat_lt (position_or_len (bytes_eq own) (map own_of ms)) 
     go true lt at = absurd (cc at)
     go false lt at = subst (λ (l : List Member). member_at own l ≡ None) (take_all (position_or_len (bytes_eq own) (map own_of ms)) ms (omega (arith, ltb-false _ _ lt, length-map ms own_of))) (first_of ms own).none
 
--- what is in the seat of a place
+-- what is held at a place
 there : (ms : List Member) (place : ℕ) (o : Option Member) → place < length ms → o ≡ get_or (map Some ms) place o → (x : Member) × (o ≡ Some x) × (slice_get ms place ≡ Some x)
 there [] place o lt read = absurd (omega (arith, lt))
 there (m ∷ ms) zero o lt read = (m, read, refl)
 there (m ∷ ms) (suc place) o lt read = there ms place o (omega (arith, lt)) read
 
-pub read_at : (p : Parties) (ms : List Member) (place : ℕ) (o : Option Member) → IsSeated p ms → place < length p.seats.items → o ≡ get_or p.seats.items place o → (x : Member) × (o ≡ Some x) × (slice_get ms place ≡ Some x)
+pub read_at : (p : Parties) (ms : List Member) (place : ℕ) (o : Option Member) → HoldsMembers p ms → place < length p.members_held.items → o ≡ get_or p.members_held.items place o → (x : Member) × (o ≡ Some x) × (slice_get ms place ≡ Some x)
 read_at p ms place o is lt read =
-    let long = ap length is.seated ∙ length-map ms Some in
-    there ms place o (omega (arith, lt, long)) (read ∙ ap (λ (l : List (Option Member)). get_or l place o) is.seated)
+    let long = ap length is.holds_each ∙ length-map ms Some in
+    there ms place o (omega (arith, lt, long)) (read ∙ ap (λ (l : List (Option Member)). get_or l place o) is.holds_each)
 
 -- one more
 never_named : (own : List ℕ) (ms : List Member) → member_at own ms ≡ None → list_any (bytes_eq own) (map own_of ms) ≡ false
@@ -118,9 +118,9 @@ never_named own (m ∷ ms) none = go (bytes_eq own (own_of m)) refl (never_named
     go true same rest = let lie : Some m ≡ None = sym (cond_yes (bytes_eq own (own_of m)) (Some m) (member_at own ms) same) ∙ none in absurd (cc lie)
     go false other rest = rw (other, rest (sym (cond_not (bytes_eq own (own_of m)) (Some m) (member_at own ms) other) ∙ none)) refl
 
-pub seated_more : (p q : Parties) (ms : List Member) (x : Member) → IsSeated p ms → member_at x.party.own ms ≡ None → q.names.keys ≡ insert_key bytes_eq p.names.keys x.party.own → q.seats.items ≡ p.seats.items ++ Some x ∷ [] → IsSeated q (ms ++ x ∷ [])
-seated_more p q ms x is none names seats = record {
+pub held_more : (p q : Parties) (ms : List Member) (x : Member) → HoldsMembers p ms → member_at x.party.own ms ≡ None → q.names.keys ≡ insert_key bytes_eq p.names.keys x.party.own → q.members_held.items ≡ p.members_held.items ++ Some x ∷ [] → HoldsMembers q (ms ++ x ∷ [])
+held_more p q ms x is none names members_held = record {
   named = names ∙ (ap (λ (ns : List (List ℕ)). insert_key bytes_eq ns x.party.own) is.named
       ∙ (cond_not (list_any (bytes_eq x.party.own) (map own_of ms)) (map own_of ms) (map own_of ms ++ x.party.own ∷ []) (never_named x.party.own ms none) ∙ sym (map_at own_of ms x [])));
-  seated = seats ∙ (ap (λ (l : List (Option Member)). l ++ Some x ∷ []) is.seated ∙ sym (map_at Some ms x []));
+  holds_each = members_held ∙ (ap (λ (l : List (Option Member)). l ++ Some x ∷ []) is.holds_each ∙ sym (map_at Some ms x []));
 }
