@@ -1,9 +1,10 @@
 -- A disk on which a party begins, and to which its links are loaded.
-use Rattle.std.proofs.Common.{◌≡◌, ◌⊎◌, inl, inr, ⊎_elim, ℕ, zero, suc, ◌+◌, ◌-◌, ◌<◌, ◌≤◌, Bool, true, false, List, [], ◌∷◌, length, take, Some, is_some, Ok, Err, refl, sym, ◌∙◌, ap, subst, arith}
+use Rattle.std.proofs.Common.{◌≡◌, ◌⊎◌, inl, inr, ⊎_elim, ℕ, zero, suc, ◌+◌, ◌-◌, ◌<◌, ◌≤◌, Bool, true, false, List, [], ◌∷◌, length, take, Some, is_some, Result, Ok, Err, refl, sym, ◌∙◌, ap, subst, arith}
 use Rattle.std.proofs.lemmas.Bool.{le-leb}
 use Rattle.x_base.specs.Edge.{Rose}
 use Rattle.x_base.specs.Names.{IsIdent}
-use Rattle.x_disk.specs.Disk.{View, Tells, LeavesOnly, IsDurable, IsSound}
+use Rattle.x_disk.specs.Disk.{View, Tells, LeavesOnly, LeavesNoMore, Elapses, IsDurable, IsSound}
+use Rattle.x_disk.specs.Calls.{IsSyncing}
 use Rattle.x_disk.specs.declared.disk.DiskErr.{DiskErr}
 use Rattle.x_disk.specs.declared.disk.DiskErr.TheVariants as disk
 use Rattle.key_journal.specs.Causes.{cause_of}
@@ -23,18 +24,22 @@ use Rattle.change_code.specs.Cost.{cost, fits}
 use Rattle.change_code.specs.declared.format.Format.TheVariants.{Two}
 use Rattle.key_store.specs.Store.{Stored, IsStore, IsOldOrNew, IsBlankOrFirst, space}
 use Rattle.key_store.specs.Creating.{IsNewStore}
+use Rattle.key_store.specs.Kept.{store_disk}
 use Rattle.key_store.specs.Keeping.{IsKeeping}
 use Rattle.key_store.specs.declared.store.Kept.TheVariants as kept
+use Rattle.member.specs.Member.{Member}
 use Rattle.node_core.specs.Turns.{member_of, IsImageOf}
+use Rattle.replay.specs.Crash.{AddsOnly}
 use Rattle.replay.specs.Failing.{IsFailing}
-use Rattle.course.specs.Starts.{with_loads}
-use Rattle.replay.specs.SettingUp.{ReadsBlank, longest_load, HasBegun, HasPlace, IsLoad, IsPartlyLoaded, IsBeginning, IsNotBlank, IsUnset, IsUnsetDisk, EndsBy}
+use Rattle.replay.specs.SettingUp.{ReadsBlank, longest_load, HasBegun, HasPlace, IsLoad, IsLoadedInPart, IsPartlyLoaded, BeginsInPart, IsBeginning, BeginsOnly, IsNotBlank, IsFailedSetUp, IsFailedSetUpDisk, EndsBy}
 use Rattle.course.specs.Parties.{new_member}
 use Rattle.replay.specs.declared.failure.Failure.{Failure}
 use Rattle.replay.specs.declared.failure.Failure.TheVariants as failure
 use Rattle.course.specs.declared.declaring.NewParty.{NewParty}
 use Rattle.replay.specs.declared.making.SetUpEnd.{SetUpEnd}
 use Rattle.replay.specs.declared.making.SetUpEnd.TheVariants.{Failed}
+use Rattle.x_disk.proofs.Runs.{began, weaker}
+use Rattle.replay.proofs.Adding.{OrBefore, adds_call, adds_on}
 use Rattle.replay.proofs.Carrying.{is_fault}
 use Rattle.replay.proofs.Images.{image_of, told_now}
 use Rattle.replay.proofs.Lengths.{first_few, longest_is}
@@ -79,7 +84,30 @@ module _ {D : Type 0} (told : D → View) (old after : D) (party : NewParty) (sa
         room = omega (arith, few, left, longest_is);
       }
 
-  module _ (loads : List LinkRec) (u : Unmade D) (new : IsNewStore told party.own party.role party.generator after (Err u)) (durable : IsDurable (told after)) (sound : IsSound (told u.disk)) where
+  -- a crash at any moment of the beginning; the disk was synced first
+  module _ (sound : IsSound (told old)) (middle : IsSound (told after)) (time : Elapses (told old) (told after)) (crash : LeavesNoMore (told old) (told after)) (loads : List LinkRec) where
+    reads_blank : (b : List ℕ) → (told old).now ≡ Some b → is_blank b ≡ true → ReadsBlank (told old)
+    reads_blank b was is other also = let one : Some b ≡ Some other = sym was ∙ also in let e : b ≡ other = cc one in subst (λ (l : List ℕ). is_blank l ≡ true) e is
+
+    pub begins_only : (result : Result (Stored D) (Unmade D)) → IsNewStore told party.own party.role party.generator after result → BeginsOnly (told old) (told (store_disk result)) (new_member party) loads
+    begins_only result new tells =
+        let here = told_now (told old).now tells in
+        adds_on (told old) (told after) (told (store_disk result)) (BeginsInPart (told old) (new_member party) loads) middle (adds_call (told old) (told after) (BeginsInPart (told old) (new_member party) loads) sound time crash)
+        (go here.0 here.1 (is_blank here.0) refl)
+      where
+        pick : (b : List ℕ) → (told old).now ≡ Some b → is_blank b ≡ true → (c : List ℕ) → IsBlankOrFirst (begun party.own party.role party.generator) c ⊎ (told after).may_leave c → OrBefore (told after) (BeginsInPart (told old) (new_member party) loads) c
+        pick b was is c (inl (inl blank)) = inl (reads_blank b was is, inl blank)
+        pick b was is c (inl (inr stands)) = inl (reads_blank b was is, inr (0, stands))
+        pick b was is c (inr may) = inr may
+
+        go : (b : List ℕ) → (told old).now ≡ Some b → (t : Bool) → is_blank b ≡ t → AddsOnly (told after) (told (store_disk result)) (BeginsInPart (told old) (new_member party) loads)
+        go b was false is =
+            weaker (told after) (told (store_disk result)) (told after).may_leave (OrBefore (told after) (BeginsInPart (told old) (new_member party) loads)) (new.nothing_written b (same ∙ was) is).any_moment (λ c may. inr may)
+        go b was true is =
+            weaker (told after) (told (store_disk result)) (λ (c : List ℕ). IsBlankOrFirst (begun party.own party.role party.generator) c ⊎ (told after).may_leave c) (OrBefore (told after) (BeginsInPart (told old) (new_member party) loads))
+            (new.any_moment (ap is_some same ∙ tells)) (pick b was is)
+
+  module _ (loads : List LinkRec) (u : Unmade D) (new : IsNewStore told party.own party.role party.generator after (Err u)) (durable : IsDurable (told after)) (sound : IsSound (told u.disk)) (only : BeginsOnly (told old) (told u.disk) (new_member party) loads) where
     tells_on : Tells (told old) → Tells (told after)
     tells_on tells = ap is_some same ∙ tells
 
@@ -115,21 +143,30 @@ module _ {D : Type 0} (told : D → View) (old after : D) (party : NewParty) (sa
         go b was false is = inl (sym (stays_filled b was is) ∙ now)
         go b was true is = left b was is (among (told after) (told u.disk) (λ (c : List ℕ). IsBlankOrFirst (begun party.own party.role party.generator) c ⊎ (told after).may_leave c) sound (new.any_moment (tells_on tells)) image now)
 
-    pub never_begins : (why : SetUpEnd) → EndsBy u.cause why → IsUnsetDisk (told old) (told u.disk) (new_member party) loads why
+    pub never_begins : (why : SetUpEnd) → EndsBy u.cause why → IsFailedSetUpDisk (told old) (told u.disk) (new_member party) loads why
     never_begins why ends = record {
-      unset = λ tells. go tells u.cause refl ends;
+      failed_set_up = λ tells. go tells u.cause refl ends;
+      any_moment = only;
       fault = λ is. rose_above (told after).faults (told u.disk).faults (new.fault (fault_end u.cause why ends is));
     }
       where
-        broken : Tells (told old) → (f : Failure) → IsFailing f → why ≡ Failed f → IsUnset (told old) (told u.disk) (new_member party) loads why
-        broken tells f fine is = subst (λ (k : SetUpEnd). IsUnset (told old) (told u.disk) (new_member party) loads k) (sym is) (record { failing = fine; tells = new.tells ∙ tells_on tells; begins = begins_or tells })
+        broken : Tells (told old) → (f : Failure) → IsFailing f → why ≡ Failed f → IsFailedSetUp (told old) (told u.disk) (new_member party) loads why
+        broken tells f fine is = subst (λ (k : SetUpEnd). IsFailedSetUp (told old) (told u.disk) (new_member party) loads k) (sym is) (record { failing = fine; tells = new.tells ∙ tells_on tells; begins = begins_or tells })
 
-        go : Tells (told old) → (reason : Cause) → u.cause ≡ reason → EndsBy reason why → IsUnset (told old) (told u.disk) (new_member party) loads why
+        go : Tells (told old) → (reason : Cause) → u.cause ≡ reason → EndsBy reason why → IsFailedSetUp (told old) (told u.disk) (new_member party) loads why
         go tells cause.Blank is by = absurd by
-        go tells cause.NotEmpty is by = subst (λ (k : SetUpEnd). IsUnset (told old) (told u.disk) (new_member party) loads k) (sym by) (is_filled tells is)
+        go tells cause.NotEmpty is by = subst (λ (k : SetUpEnd). IsFailedSetUp (told old) (told u.disk) (new_member party) loads k) (sym by) (is_filled tells is)
         go tells (cause.Damaged place) is by = absurd by
         go tells cause.Fault is by = broken tells failure.Fault tt by
         go tells cause.NoMemory is by = broken tells failure.NoMemory tt by
+
+-- the sync failed
+pub unsynced : (v w : View) (x : Member) (loads : List LinkRec) (d : DiskErr) (why : Failure) → IsSound v → IsSyncing v w (Err d) → IsFailing why → (why ≡ failure.Fault → d ≡ disk.Fault) → IsFailedSetUpDisk v w x loads (Failed why)
+unsynced v w x loads d why sound sync fails by = record {
+  failed_set_up = λ tells. record { failing = fails; tells = ap is_some sync.now ∙ tells; begins = λ image now. inl (sym sync.now ∙ now) };
+  any_moment = λ tells. adds_call v w (BeginsInPart v x loads) sound sync.time sync.crash;
+  fault = λ is. rose_above v.faults w.faults (sync.cause.fault (ap Err (by (cc is))));
+}
 
 -- ---- a link is loaded
 
@@ -161,28 +198,45 @@ module _ {D : Type 0} (told : D → View) (old : Stored D) (l : LinkRec) where
         tells = k.1.tells;
         links = omega (arith, more, put_longer l old.party.links);
         room = room_above old.gate old.end s.gate s.end (cost old.format (PutLink l ∷ [])) longest_load d.0 d.1 few;
+        any_moment = λ tells. k.1.any_moment tells;
       }
 
-  partly_on : (w : View) → IsSound w → LeavesOnly (told old.disk) w (IsOldOrNew old.party (space old) (PutLink l ∷ [])) → (image : List ℕ) → w.now ≡ Some image → (k : ℕ) × IsImageOf (with_loads (member_of old) (take k (l ∷ []))) image
-  partly_on w sound run image now = ⊎_elim (λ before. (0, before)) (λ after. (1, after)) (among (told old.disk) w (IsOldOrNew old.party (space old) (PutLink l ∷ [])) sound run image now)
+  in_part : (image : List ℕ) → IsOldOrNew old.party (space old) (PutLink l ∷ []) image → IsLoadedInPart (member_of old) (l ∷ []) image
+  in_part image (inl before) = (0, before)
+  in_part image (inr after) = (1, after)
 
-  pub lost_broken : (b : FailedDisk D) (k : D) (reason : Cause) (why : Failure) → k ≡ b.disk → reason ≡ cause_of b.cause → (why ≡ failure.Fault → reason ≡ cause.Fault) → (IsFree reason → IsFailing why) → IsSound (told b.disk) → IsKeeping told old (PutLink l ∷ []) (kept.Broken b)
+  partly_on : (w : View) → LeavesOnly (told old.disk) w (IsOldOrNew old.party (space old) (PutLink l ∷ [])) → LeavesOnly (told old.disk) w (IsLoadedInPart (member_of old) (l ∷ []))
+  partly_on w run = weaker (told old.disk) w (IsOldOrNew old.party (space old) (PutLink l ∷ [])) (IsLoadedInPart (member_of old) (l ∷ [])) run in_part
+
+  pub failed_broken : (b : FailedDisk D) (k : D) (reason : Cause) (why : Failure) → k ≡ b.disk → reason ≡ cause_of b.cause → (why ≡ failure.Fault → reason ≡ cause.Fault) → (IsFree reason → IsFailing why) → IsSound (told b.disk) → IsKeeping told old (PutLink l ∷ []) (kept.Broken b)
       → IsPartlyLoaded (told old.disk) (told k) (member_of old) (l ∷ []) why
-  lost_broken b k reason why one by fault failing sound keeping =
+  failed_broken b k reason why one by fault failing sound keeping =
       subst (λ (j : D). IsPartlyLoaded (told old.disk) (told j) (member_of old) (l ∷ []) why) (sym one) (record {
         failing = λ tells. failing (subst IsFree (sym by) (free_cause b.cause));
         tells = keeping.1.tells;
-        partly = λ tells. partly_on (told b.disk) sound (keeping.1.any_moment tells);
+        partly = λ tells. among (told old.disk) (told b.disk) (IsLoadedInPart (member_of old) (l ∷ [])) sound (partly_on (told b.disk) (keeping.1.any_moment tells));
+        any_moment = λ tells. partly_on (told b.disk) (keeping.1.any_moment tells);
         fault = λ is. rose_above (told old.disk).faults (told b.disk).faults (keeping.1.cause.fault (is_fault b.cause (sym by ∙ fault is)));
       })
 
 -- nothing was loaded, and the disk is as it was
-module _ {D : Type 0} (told : D → View) (old : Stored D) (store : IsStore (told old.disk) old.gate old.end old.format old.party) where
-  pub lost_memory : (loads : List LinkRec) (s : Stored D) (k : D) → s ≡ old → k ≡ s.disk → IsPartlyLoaded (told old.disk) (told k) (member_of old) loads failure.NoMemory
-  lost_memory loads s k same one =
+module _ {D : Type 0} (told : D → View) (old : Stored D) (sound : IsSound (told old.disk)) (store : IsStore (told old.disk) old.gate old.end old.format old.party) where
+  -- each image that may be left stands for the member
+  stands_now : Tells (told old.disk) → (image : List ℕ) → (told old.disk).may_leave image → IsImageOf (member_of old) image
+  stands_now tells image may =
+      let here = told_now (told old.disk).now tells in
+      let same = store.durable.only here.0 image here.1 may in
+      subst (IsImageOf (member_of old)) (sym same) (image_of (told old.disk) old.gate old.end old.format old.party store here.0 here.1)
+
+  pub none_loaded : (loads : List LinkRec) → Tells (told old.disk) → LeavesOnly (told old.disk) (told old.disk) (IsLoadedInPart (member_of old) loads)
+  none_loaded loads tells = began (told old.disk) (IsLoadedInPart (member_of old) loads) sound (λ image may. (0, stands_now tells image may))
+
+  pub failed_memory : (loads : List LinkRec) (s : Stored D) (k : D) → s ≡ old → k ≡ s.disk → IsPartlyLoaded (told old.disk) (told k) (member_of old) loads failure.NoMemory
+  failed_memory loads s k same one =
       subst (λ (j : D). IsPartlyLoaded (told old.disk) (told j) (member_of old) loads failure.NoMemory) (sym (one ∙ ap (λ (t : Stored D). t.disk) same)) (record {
         failing = λ tells. tt;
         tells = refl;
         partly = λ tells image now. (0, image_of (told old.disk) old.gate old.end old.format old.party store image now);
+        any_moment = none_loaded loads;
         fault = λ is. absurd (cc is);
       })

@@ -6,34 +6,35 @@ use Rattle.x_disk.specs.Disk.{View}
 use Rattle.scenario.specs.declared.line.Line.{Line}
 use Rattle.world_laws.specs.World.{World}
 use Rattle.replay.specs.Breaking.{StandForAll, IsBreak, IsBrokenAt, BreaksIn}
-use Rattle.course.specs.Parts.{HasHappening, HappensOr}
+use Rattle.course.specs.Parts.{HasLineEvent, MakesEventOrNone}
 use Rattle.replay.specs.Closing.{OtherDisksStay}
 use Rattle.course.specs.Course.{Course, no_event}
 use Rattle.replay.specs.Course.{IsAt}
-use Rattle.course.specs.Happenings.{Happening}
+use Rattle.course.specs.LineEvents.{LineEvent}
 use Rattle.replay.specs.Lines.{Plays}
-use Rattle.course.specs.Meanings.{IsMeant}
-use Rattle.replay.specs.Seats.{owners}
-use Rattle.course.specs.declared.act.Act.{Act}
+use Rattle.course.specs.Meanings.{IsLineAct}
+use Rattle.replay.specs.OpenParties.{owners}
+use Rattle.course.specs.declared.act.LineAct.{LineAct}
 use Rattle.replay.specs.declared.failure.Ending.{Ending}
 use Rattle.replay.specs.declared.failure.Ending.TheVariants as ending
 use Rattle.course.specs.declared.progress.Progress.{Progress}
-use Rattle.replay.specs.declared.scene.Scene.{Scene}
-use Rattle.replay.specs.declared.seat.Seat.{Seat}
+use Rattle.replay.specs.declared.play_state.PlayState.{PlayState}
+use Rattle.replay.specs.declared.open_party.OpenParty.{OpenParty}
 use Rattle.replay.proofs.Breakage.{shown_stand}
 use Rattle.replay.proofs.Happened.{nothing_done, quiet_honest}
 use Rattle.replay.proofs.Owning.{none_alike}
+use Rattle.replay.proofs.Shutting.{none_leaves}
 use Rattle.replay.proofs.PuttingBack.{alike_on}
 use Rattle.replay.proofs.Unfinished.{BreaksEvent}
 
--- a line broke off, from whichever course the old scene and sink show; `entry` is the shelf's afterwards
-abbrev pub BreaksLine : {D : Type 0} → (D → View) → (List ℕ → View) → ℕ → ℕ → Line → Scene D → Scene D → Progress → Option (List ℕ) → Option (List ℕ) → Ending → Type 0
+-- a line broke off, from whichever course the old state and sink show; `entry` is the shelf's afterwards
+abbrev pub BreaksLine : {D : Type 0} → (D → View) → (List ℕ → View) → ℕ → ℕ → Line → PlayState D → PlayState D → Progress → Option (List ℕ) → Option (List ℕ) → Ending → Type 0
 BreaksLine told entry low high l old new p written next why = (before after : ℕ) → before ≤ low → high ≤ after → (start : Option (List ℕ)) (c : Course) → IsAt true told start c old p written
-    → IsBreak why × ((h : Happening) × HappensOr l c.world.texts h × IsBrokenAt told entry before after start c h new next why)
+    → IsBreak why × ((h : LineEvent) × MakesEventOrNone l c.world.texts h × IsBrokenAt told entry before after start c h new next why)
 
 module _ {D : Type 0} (told : D → View) (entry : List ℕ → View) (low high : ℕ) where
   -- no event has begun
-  pub none_begun : (before after : ℕ) (start : Option (List ℕ)) (c : Course) (h : Happening) (s : Scene D) (p : Progress) (written : Option (List ℕ)) (why : Ending) → (why ≡ ending.Write → ⊥) → IsAt true told start c s p written → IsBrokenAt told entry before after start c h s written why
+  pub none_begun : (before after : ℕ) (start : Option (List ℕ)) (c : Course) (h : LineEvent) (s : PlayState D) (p : Progress) (written : Option (List ℕ)) (why : Ending) → (why ≡ ending.Write → ⊥) → IsAt true told start c s p written → IsBrokenAt told entry before after start c h s written why
   none_begun before after start c h s p written why other at = record {
     event = no_event c.now.moment;
     is = inl refl;
@@ -42,24 +43,26 @@ module _ {D : Type 0} (told : D → View) (entry : List ℕ → View) (low high 
     part = [];
     part_is = inl refl;
     done = λ write. absurd (other write);
+    opened = λ write. absurd (other write);
+    leaves = none_leaves told entry s c h at.shows;
     out = subst (λ (l : List ℕ). AppendsTo start written l) (sym (append-nil c.transcript)) at.out;
   }
 
-  pub breaks_ahead : (l : Line) (s : Scene D) → HasHappening l s.texts → (p : Progress) (written : Option (List ℕ)) (why : Ending) → IsBreak why → (why ≡ ending.Write → ⊥) → BreaksLine told entry low high l s s p written written why
+  pub breaks_ahead : (l : Line) (s : PlayState D) → HasLineEvent l s.texts → (p : Progress) (written : Option (List ℕ)) (why : Ending) → IsBreak why → (why ≡ ending.Write → ⊥) → BreaksLine told entry low high l s s p written written why
   breaks_ahead l s some p written why is other = λ before after first last start c at.
-      let h : HasHappening l c.world.texts = subst (λ (texts : List (List ℕ)). HasHappening l texts) at.shows.texts_are some in
+      let h : HasLineEvent l c.world.texts = subst (λ (texts : List (List ℕ)). HasLineEvent l texts) at.shows.texts_are some in
       (is, (h.0, h.1, none_begun before after start c h.0 s p written why other at))
 
   -- an event broke off
-  pub breaks_event : (l : Line) (a : Act) (old new : Scene D) (p : Progress) (written next : Option (List ℕ)) (why : Ending) → IsMeant l old.texts a → BreaksEvent told entry low high a old new p written next why → BreaksLine told entry low high l old new p written next why
+  pub breaks_event : (l : Line) (a : LineAct) (old new : PlayState D) (p : Progress) (written next : Option (List ℕ)) (why : Ending) → IsLineAct l old.texts a → BreaksEvent told entry low high a old new p written next why → BreaksLine told entry low high l old new p written next why
   breaks_event l a old new p written next why meant breaks = λ before after first last start c at.
-      let h : IsMeant l c.world.texts a = subst (λ (texts : List (List ℕ)). IsMeant l texts a) at.shows.texts_are meant in
+      let h : IsLineAct l c.world.texts a = subst (λ (texts : List (List ℕ)). IsLineAct l texts a) at.shows.texts_are meant in
       let b = breaks before after first last start c h.0 at h.3 in
       (b.0, (h.0, inr (h.1, h.2), b.1))
 
 -- behind the lines in front
 module _ {D : Type 0} (told : D → View) (entry : List ℕ → View) where
-  pub breaks_in : (low between high : ℕ) → low ≤ between → between ≤ high → (lines : List Line) (i : ℕ) (l : Line) → i < length lines → l ≡ get_or lines i l → (old mid new : Scene D) (p m : Progress) (written halfway next : Option (List ℕ)) (why : Ending)
+  pub breaks_in : (low between high : ℕ) → low ≤ between → between ≤ high → (lines : List Line) (i : ℕ) (l : Line) → i < length lines → l ≡ get_or lines i l → (old mid new : PlayState D) (p m : Progress) (written halfway next : Option (List ℕ)) (why : Ending)
       → Plays told low between (take i lines) old mid p m written halfway → BreaksLine told entry between high l mid new m halfway next why → BreaksIn told entry low high lines old new p written next why
   breaks_in low between high le1 le2 lines i l lt read old mid new p m written halfway next why plays breaks = λ before after first last start c at.
       let one = plays true before after first (omega (arith, le2, last)) start c at in
@@ -72,13 +75,13 @@ module _ {D : Type 0} (told : D → View) (entry : List ℕ → View) where
           split = sym (take-append-drop i lines) ∙ ap (λ (ls : List Line). take i lines ++ ls) (drop_more lines i l lt ∙ ap (λ (x : Line). x ∷ drop (i + 1) lines) (sym read));
           mid = one.0;
           leads = one.1;
-          happening = b.1.0;
-          happens = b.1.1;
+          line_event = b.1.0;
+          makes_event = b.1.1;
           broken = b.1.2;
         },
       )
 
 -- the disks of all others stay from line to line
 module _ {D : Type 0} where
-  pub others_on : (old mid new : List ℕ → View) (seats now : List (Seat D)) → owners now ≡ owners seats → OtherDisksStay old mid seats → OtherDisksStay mid new now → OtherDisksStay old new seats
-  others_on old mid new seats now same first more = λ own none. alike_on (old own) (mid own) (new own) (first own none) (more own (none_alike seats now own (sym same) none))
+  pub others_on : (old mid new : List ℕ → View) (open_parties now : List (OpenParty D)) → owners now ≡ owners open_parties → OtherDisksStay old mid open_parties → OtherDisksStay mid new now → OtherDisksStay old new open_parties
+  others_on old mid new open_parties now same first more = λ own none. alike_on (old own) (mid own) (new own) (first own none) (more own (none_alike open_parties now own (sym same) none))

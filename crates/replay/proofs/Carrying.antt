@@ -6,6 +6,7 @@ use Rattle.x_base.specs.declared.key_name.FullName.{FullName}
 use Rattle.x_disk.specs.Disk.{View, Tells, LeavesOnly, IsSound}
 use Rattle.x_disk.specs.Fuse.{WithFuse, IsFusedView, with_fuse, passes_of}
 use Rattle.x_disk.specs.Shelf.{IsAlike}
+use Rattle.x_disk.proofs.Runs.{weaker}
 use Rattle.x_disk.specs.declared.disk.DiskErr.{DiskErr}
 use Rattle.x_disk.specs.declared.disk.DiskErr.TheVariants as disk
 use Rattle.key_journal.specs.Causes.{cause_of}
@@ -18,24 +19,19 @@ use Rattle.change_code.specs.Cost.{is_change}
 use Rattle.key_store.specs.Store.{Stored}
 use Rattle.member.specs.Member.{Member, Plan, after}
 use Rattle.member.specs.Acts.{Keeps, taking}
-use Rattle.node_core.specs.Turns.{IsImageOf, IsOldOrNext, IsTurn, IsWorkDone, IsWorkCut, IsCutChange, member_of}
+use Rattle.node_core.specs.Turns.{IsImageOf, IsOldOrNext, IsTurn, IsWorkDone, IsWorkCut, IsCutChange, member_of, turn_disk}
+use Rattle.node_core.specs.declared.node.Turn.{Turn}
 use Rattle.node_core.specs.declared.node.Turn.TheVariants as turn
+use Rattle.replay.specs.Crash.{IsEither}
 use Rattle.replay.specs.Failing.{ReadsEither}
-use Rattle.replay.specs.Stops.{IsResting}
+use Rattle.replay.specs.Stops.{IsDiskAtStop}
 use Rattle.replay.proofs.Planning.{same_none, changes_or_not}
-use Rattle.replay.proofs.Stopping.{rests_none, rests_cut, rests_whole}
+use Rattle.replay.proofs.Stopping.{at_stop_none, at_stop_cut, at_stop_whole}
 use Rattle.replay.proofs.Images.{image_of, read_left}
 
 pub is_fault : (e : DiskErr) → cause_of e ≡ cause.Fault → e ≡ disk.Fault
 is_fault disk.Fault is = refl
 is_fault disk.NoMemory is = absurd (cc is)
-
-weaker : (v w : View) (P Q : List ℕ → Type 0) → LeavesOnly v w P → ((image : List ℕ) → P image → Q image) → LeavesOnly v w Q
-weaker v w P Q run more = record {
-  later = run.later;
-  each = λ c left. more c (run.each c left);
-  before = λ t c le left. ⊎_elim (λ was. inl was) (λ p. inr (more c p)) (run.before t c le left);
-}
 
 -- a change is cut where one is made
 cut_of : {D : Type 0} (told : D → View) (es : List Edit) (old : Stored D) (b : Failed D) → IsWorkCut told (Keeps es) old b → (is_change es ≡ true) × IsCutChange told es old b
@@ -47,13 +43,22 @@ few_calls : {D : Type 0} (told : D → View) (es : List Edit) (old new : Stored 
 few_calls told [] old new calls work passes few change = absurd (cc change)
 few_calls told (e ∷ es) old new calls work passes few change = let enough : 4 ≤ calls = work.enough calls passes in omega (arith, enough, few)
 
+-- the member before the edits, or the one after them where there are any
+either_of : (x : Member) (es : List Edit) (image : List ℕ) → IsOldOrNext x (after x es) image → IsEither x (after x es) (is_change es ≡ true) image
+either_of x es image (inl one) = inl one
+either_of x es image (inr next) = changes_or_not es (IsEither x (after x es) (is_change es ≡ true) image) (λ change. inr (change, next)) (λ none. inl (subst (λ (m : Member). IsImageOf m image) (same_none x es none) next))
+
 module _ {D : Type 0} (told : D → View) (old : Stored D) (p : Plan) where
+  -- at any moment a crash leaves one of the two
+  pub turn_leaves : (t : Turn D) → IsTurn told old (taking p) t → Tells (told old.disk) → LeavesOnly (told old.disk) (told (turn_disk t)) (IsEither (member_of old) (after (member_of old) p.edits) (is_change p.edits ≡ true))
+  turn_leaves t is tells = weaker (told old.disk) (told (turn_disk t)) (IsOldOrNext (member_of old) (after (member_of old) p.edits)) (IsEither (member_of old) (after (member_of old) p.edits) (is_change p.edits ≡ true)) (is.any_moment tells) (either_of (member_of old) p.edits)
+
   module _ (node : Stored D) (verdict : Verdict) (reply : Option (List ℕ)) (under : Option FullName) (t : IsTurn told old (taking p) (turn.Done node verdict reply under)) where
     stands_next : (image : List ℕ) → (told node.disk).now ≡ Some image → IsImageOf (after (member_of old) p.edits) image
     stands_next image now = subst (λ (m : Member). IsImageOf m image) t.answer.next (image_of (told node.disk) node.gate node.end node.format node.party t.stands image now)
 
-    pub done_rests : (n : ℕ) → 5 ≤ n → IsResting (told old.disk) (told node.disk) (member_of old) (after (member_of old) p.edits) (is_change p.edits ≡ true) n
-    done_rests n many = rests_whole (told old.disk) (told node.disk) (member_of old) (after (member_of old) p.edits) (is_change p.edits ≡ true) n t.tells many t.stands.durable stands_next
+    pub done_at_stop : (n : ℕ) → 5 ≤ n → IsDiskAtStop (told old.disk) (told node.disk) (member_of old) (after (member_of old) p.edits) (is_change p.edits ≡ true) n
+    done_at_stop n many = at_stop_whole (told old.disk) (told node.disk) (member_of old) (after (member_of old) p.edits) (is_change p.edits ≡ true) n t.tells many t.stands.durable stands_next
         (changes_or_not p.edits ((is_change p.edits ≡ true) ⊎ (is_change p.edits ≡ true → ⊥)) (λ yes. inl yes) (λ no. inr no)) (same_none (member_of old) p.edits)
 
     pub done_or_not : (member_of node ≡ member_of old) ⊎ ((is_change p.edits ≡ true) × (member_of node ≡ after (member_of old) p.edits))
@@ -126,10 +131,13 @@ module _ {D : Type 0} (told : D → View) (old : Stored D) (f : Stored (WithFuse
   unfuse : (k : WithFuse D) (P Q : List ℕ → Type 0) → LeavesOnly (with_fuse f.disk.fuse (told f.disk.disk)) (with_fuse k.fuse (told k.disk)) P → ((image : List ℕ) → P image → Q image) → LeavesOnly (told old.disk) (told k.disk) Q
   unfuse k P Q run more = weaker (told old.disk) (told k.disk) P Q (begins_as (with_fuse f.disk.fuse (told f.disk.disk)) (told old.disk) (told k.disk) P alike (plain k.fuse (told k.disk) P run)) more
 
+  pub fused_leaves : (t : Turn (WithFuse D)) → IsTurn fused_told f (taking q) t → Tells (told old.disk) → LeavesOnly (told old.disk) (told (turn_disk t).disk) (IsEither x y keep)
+  fused_leaves t is tells = unfuse (turn_disk t) (IsOldOrNext (member_of f) (after (member_of f) q.edits)) (IsEither x y keep) (is.any_moment (tells_fused tells)) (λ image one. either_of x p.edits image (either_for image one))
+
   pub fused_done : (node : Stored (WithFuse D)) (verdict : Verdict) (reply : Option (List ℕ)) (under : Option FullName) → IsTurn fused_told f (taking q) (turn.Done node verdict reply under)
-      → IsResting (told old.disk) (told node.disk.disk) x y keep n
+      → IsDiskAtStop (told old.disk) (told node.disk.disk) x y keep n
   fused_done node verdict reply under t =
-      rests_none (told old.disk) (told node.disk.disk) x y keep n (t.tells ∙ sym (ap is_some alike.now)) (record { only = t.stands.durable.only; stable = t.stands.durable.stable })
+      at_stop_none (told old.disk) (told node.disk.disk) x y keep n (t.tells ∙ sym (ap is_some alike.now)) (record { only = t.stands.durable.only; stable = t.stands.durable.stable })
       (λ image now. subst (λ (m : Member). IsImageOf m image) member_is (image_of (fused_told node.disk) node.gate node.end node.format node.party t.stands image now)) none
     where
       none : keep → ⊥
@@ -146,10 +154,10 @@ module _ {D : Type 0} (told : D → View) (old : Stored D) (f : Stored (WithFuse
       none_rose (inr end) = omega (arith, quiet, end)
   blown (Blown m) v rose quiet = refl
 
-  pub fused_cut : (b : Failed (WithFuse D)) → IsSound (told b.disk.disk) → b.cause ≡ disk.Fault → IsTurn fused_told f (taking q) (turn.Broken b) → IsResting (told old.disk) (told b.disk.disk) x y keep n
+  pub fused_cut : (b : Failed (WithFuse D)) → IsSound (told b.disk.disk) → b.cause ≡ disk.Fault → IsTurn fused_told f (taking q) (turn.Broken b) → IsDiskAtStop (told old.disk) (told b.disk.disk) x y keep n
   fused_cut b sound fault t =
       let cut = cut_of fused_told q.edits f b t.answer.work in
-      rests_cut (told old.disk) (told b.disk.disk) x y keep n (t.tells ∙ sym (ap is_some alike.now)) sound calls count_is most (keep_is cut.0)
+      at_stop_cut (told old.disk) (told b.disk.disk) x y keep n (t.tells ∙ sym (ap is_some alike.now)) sound calls count_is most (keep_is cut.0)
       (λ image is. subst (λ (m : Member). IsImageOf m image) same (cut.1.stable image is))
       (λ three quiet image now. subst (λ (m : Member). IsImageOf m image) next_is (cut.1.pending (passes ∙ ap Some three) fault (blown b.disk.fuse (told b.disk.disk) (t.answer.cause.fault fault) quiet) image now))
       (λ tells. unfuse b.disk (IsOldOrNext (member_of f) (after (member_of f) q.edits)) (IsOldOrNext x y) (t.any_moment (tells_fused tells)) either_for)

@@ -3,12 +3,15 @@ use Rattle.std.proofs.Common.{◌≡◌, ◌⊎◌, inl, inr, ℕ, ◌≤◌, Li
 use Rattle.x_base.specs.Edge.{Rose}
 use Rattle.x_base.specs.declared.verdict.Verdict.{Verdict}
 use Rattle.x_disk.specs.Disk.{View}
-use Rattle.replay.specs.Finishing.{end_of, answer_of}
+use Rattle.replay.specs.Finishing.{end_of, answer_of, set_up_answer}
+use Rattle.replay.specs.SettingUp.{IsSetUpEnd}
 use Rattle.replay.specs.Playing.{Surroundings, WereBlank, IsPlay, IsPlayOn}
 use Rattle.replay.specs.declared.failure.Ending.{Ending}
 use Rattle.replay.specs.declared.failure.Ending.TheVariants as ending
 use Rattle.replay.specs.declared.failure.Failure.{Failure}
 use Rattle.replay.specs.declared.failure.Failure.TheVariants as failure
+use Rattle.replay.specs.declared.making.SetUpEnd.{SetUpEnd}
+use Rattle.replay.specs.declared.making.SetUpEnd.TheVariants.{NotEmpty, Failed}
 use Rattle.course.specs.declared.tally.Tally.{Tally}
 use Rattle.replay.specs.declared.result.PlayResult.{PlayResult}
 use Rattle.replay.specs.declared.result.PlayResult.TheVariants as played
@@ -61,7 +64,7 @@ disk_fault_rose low mid high any outcome put le more first seen last is = by (di
 
     by : (outcome ≡ Err (ending.Failed failure.Fault)) ⊎ (put ≡ Err failure.Fault) → Rose low high
     by (inl failed) = either (first failed)
-    by (inr lost) = rose_on low mid high le (last lost)
+    by (inr failed_disk) = rose_on low mid high le (last failed_disk)
 
 -- ---- the set-up and the play behind it
 
@@ -73,3 +76,10 @@ behind_set_up old s played.WriteFault blank on = (blank, on)
 behind_set_up old s played.DiskFault blank on = inr (blank, on)
 behind_set_up old s (played.Damaged place) blank on = absurd on
 behind_set_up old s played.NoMemory blank on = inr (blank, on)
+
+-- the parties aren't set up, and nothing was written
+pub ended_in_set_up : (old : List ℕ → View) (s : Surroundings) (end : SetUpEnd) → IsSetUpEnd s.lines old s.entry end → s.written ≡ s.start → IsPlay old s (set_up_answer end)
+ended_in_set_up old s NotEmpty ended out = record { ended = ended; out = out }
+ended_in_set_up old s (Failed failure.Fault) ended out = inl (record { why = failure.Fault; ended = ended; out = out })
+ended_in_set_up old s (Failed failure.NoMemory) ended out = inl (record { why = failure.NoMemory; ended = ended; out = out })
+ended_in_set_up old s (Failed (failure.Damaged place)) ended out = absurd ended.failed_set_up.failing

@@ -1,28 +1,28 @@
 -- How a play over open disks concludes.
-use Rattle.std.proofs.Common.{◌≡◌, ◌⊎◌, inl, inr, ℕ, ◌≤◌, Bool, true, false, List, [], ◌∷◌, ◌++◌, length, take, Option, Some, None, bytes_eq, Result, Ok, Err, refl, sym, ◌∙◌, ap, subst, append_assoc}
+use Rattle.std.proofs.Common.{◌≡◌, ◌⊎◌, inl, inr, ℕ, ◌≤◌, Bool, true, false, List, [], ◌∷◌, ◌++◌, length, take, Option, Some, None, Result, Ok, Err, refl, sym, ◌∙◌, ap, subst, append_assoc}
 use Rattle.std.specs.Prelude.{IfOk}
 use Rattle.std.proofs.Math.Seq.{take-length}
 use Rattle.std.proofs.lemmas.List.{append-nil}
-use Rattle.std.proofs.lemmas.Slice.Eq.{bytes_eq-Decides}
 use Rattle.x_base.specs.Edge.{AppendsTo, WrotePrefix}
 use Rattle.x_disk.specs.Disk.{View, IsDurable}
-use Rattle.x_disk.specs.Shelf.{IsAlike}
-use Rattle.key_store.specs.Store.{Stored}
 use Rattle.scenario.specs.declared.line.Line.{Line}
 use Rattle.member.specs.Member.{Member}
 use Rattle.world_laws.specs.World.{World, member_at}
+use Rattle.world_laws.specs.Events.{Event}
 use Rattle.world_laws.specs.Steps.{step}
-use Rattle.node_core.specs.Turns.{member_of}
-use Rattle.replay.specs.Breaking.{AreOnShelf, IsBreak, IsBrokenIn, BreaksIn}
-use Rattle.replay.specs.Closing.{IsBack, AllBack}
-use Rattle.course.specs.Course.{no_event}
+use Rattle.node_core.specs.Turns.{IsImageOf}
+use Rattle.replay.specs.Breaking.{AreOnShelf, AreDurable, TellsAndReadsAs, IsShut, LeavesShut, StandForAll, IsBreak, IsBrokenIn, BreaksIn}
+use Rattle.replay.specs.Closing.{AllBack, OtherDisksStay}
+use Rattle.replay.specs.Crash.{held_of, disk_of, IsBehind, IsPartyOf}
+use Rattle.course.specs.Course.{Course, no_event}
+use Rattle.course.specs.LineEvents.{LineEvent}
 use Rattle.replay.specs.Course.{IsAt}
 use Rattle.replay.specs.Finishing.{IsUnshown, Finishes, BreaksPlay, end_of, answer_of, set_up_answer}
 use Rattle.replay.specs.Lines.{Plays, ForgesIn}
-use Rattle.replay.specs.Playing.{AreDurable, Surroundings, around, IsPlayed, IsPlayedToForged, IsBrokenPlay, IsUnwritten, IsPlayOn, IsRun, IsRunToForged, IsRunBy}
+use Rattle.replay.specs.Playing.{Surroundings, around, IsPlayed, IsPlayedToForged, IsBrokenPlay, IsUnwritten, IsPlayOn, IsRun, IsRunToForged, IsRunBy}
 use Rattle.course.specs.Tallies.{IsTallied}
-use Rattle.replay.specs.Scene.{Shows}
-use Rattle.replay.specs.Seats.{members, with_held, IsIn, AreIn}
+use Rattle.replay.specs.PlayState.{Shows}
+use Rattle.replay.specs.OpenParties.{members, AreIn}
 use Rattle.replay.specs.Showing.{IsWriteEnd}
 use Rattle.course.specs.Starts.{start_course, start_members, start_progress}
 use Rattle.course.specs.Transcript.{show_lines}
@@ -33,46 +33,25 @@ use Rattle.replay.specs.declared.failure.Failure.TheVariants as failure
 use Rattle.course.specs.declared.progress.Progress.{Progress}
 use Rattle.replay.specs.declared.making.SetUpEnd.{SetUpEnd}
 use Rattle.replay.specs.declared.making.SetUpEnd.TheVariants.{NotEmpty, Failed}
-use Rattle.replay.specs.declared.scene.Scene.{Scene}
-use Rattle.replay.specs.declared.seat.Seat.{Seat}
-use Rattle.replay.specs.declared.seat.Held.{Held}
-use Rattle.replay.specs.declared.seat.Held.TheVariants.{Open, Loose, Out}
+use Rattle.replay.specs.declared.play_state.PlayState.{PlayState}
+use Rattle.replay.specs.declared.open_party.OpenParty.{OpenParty}
+use Rattle.replay.specs.declared.open_party.PartyDisk.{PartyDisk}
+use Rattle.replay.specs.declared.open_party.PartyDisk.TheVariants.{Open, Closed, Away}
 use Rattle.course.specs.declared.tally.Tally.{Tally}
 use Rattle.replay.proofs.Breakage.{shown_stand}
+use Rattle.replay.proofs.Holding.{back_on_shelf}
+use Rattle.replay.proofs.Lasting.{durable_back, durable_image, durable_open, images_open}
 use Rattle.replay.proofs.Happened.{nothing_done, quiet_honest}
 use Rattle.replay.proofs.Leading.{appends_more}
-use Rattle.replay.proofs.Members.{cond_not}
+use Rattle.replay.proofs.Shutting.{all_open}
 use Rattle.replay.proofs.Standing.{stand_on_shelf}
 
--- ---- open disks, and what is left of them on the shelf
-
-durable_alike : (v w : View) → IsAlike v w → IsDurable v → IsDurable w
-durable_alike v w alike durable = record {
-  only = λ b c now left. durable.only b c (sym alike.now ∙ now) (alike.images c left);
-  stable = alike.stable ∙ (durable.stable ∙ sym alike.now);
-}
-
 module _ {D : Type 0} (told : D → View) where
-  durable_first : (old entry : List ℕ → View) (mine : List ℕ) (node : Stored D) (ms : List Member) → IsBack told old entry mine (Open node) → node.party.own ≡ mine → AreDurable entry ms
-      → (own : List ℕ) (x : Member) (t : Bool) → bytes_eq own node.party.own ≡ t → member_at own (member_of node ∷ ms) ≡ Some x → IsDurable (entry own)
-  durable_first old entry mine node ms back named rest own x true is at =
-      subst (λ (name : List ℕ). IsDurable (entry name)) (sym ((bytes_eq-Decides own node.party.own).0 is ∙ named)) (durable_alike (told node.disk) (entry mine) back.0 back.1.durable)
-  durable_first old entry mine node ms back named rest own x false is at = rest own x (sym (cond_not (bytes_eq own node.party.own) (Some (member_of node)) (member_at own ms) is) ∙ at)
-
-  durable_more : (old entry : List ℕ → View) (mine : List ℕ) (h : Held D) (ms : List Member) → IsBack told old entry mine h → IsIn true told mine h → AreDurable entry ms → AreDurable entry (with_held h ms)
-  durable_more old entry mine (Open node) ms back is rest = λ own x at. durable_first old entry mine node ms back is.named rest own x (bytes_eq own node.party.own) refl at
-  durable_more old entry mine (Loose disk) ms back is rest = absurd is
-  durable_more old entry mine Out ms back is rest = absurd is
-
-  durable_back : (old entry : List ℕ → View) (seats : List (Seat D)) → AllBack told old entry seats → AreIn true told seats → AreDurable entry (members seats)
-  durable_back old entry [] back all = λ own x at. absurd (cc at)
-  durable_back old entry (s ∷ seats) back all = durable_more old entry s.own s.held (members seats) back.0 all.0 (durable_back old entry seats back.1 all.1)
-
   -- the start is shown by the parties that are set up
-  pub starts : (tell : Bool) (lines : List Line) (s : Scene D) (written : Option (List ℕ)) → AreIn tell told s.parties → members s.parties ≡ start_members lines → s.texts ≡ [] → s.facts ≡ []
+  pub starts : (tell : Bool) (lines : List Line) (s : PlayState D) (written : Option (List ℕ)) → AreIn tell told s.parties → members s.parties ≡ start_members lines → s.texts ≡ [] → s.facts ≡ []
       → IsAt tell told written (start_course lines) s start_progress written
-  starts tell lines s written seated members_are texts_are facts_are = record {
-    shows = record { seated = seated; members_are = members_are; texts_are = texts_are; facts_are = facts_are };
+  starts tell lines s written all_open members_are texts_are facts_are = record {
+    shows = record { all_open = all_open; members_are = members_are; texts_are = texts_are; facts_are = facts_are };
     now_is = refl;
     out = nothing_yet written;
   }
@@ -93,7 +72,7 @@ shown_part : (start next final : Option (List ℕ)) (a text : List ℕ) → Appe
 shown_part None next final a text out part = (0, tt)
 shown_part (Some xs) next final a text out part = shown_some xs next final a text out part
 
-module _ {D : Type 0} (told : D → View) (low high : ℕ) (lines : List Line) (old new : Scene D) (p : Progress) (written next final : Option (List ℕ)) where
+module _ {D : Type 0} (told : D → View) (low high : ℕ) (lines : List Line) (old new : PlayState D) (p : Progress) (written next final : Option (List ℕ)) where
   pub finishes : (q : Progress) (tally : Tally) → Plays told low high lines old new p q written next → IsTallied q (members new.parties) tally → AppendsTo next final (show_lines (members new.parties))
       → Finishes told low high lines old new p written final tally
   finishes q tally plays tallied shown = λ tell before after first last start c at.
@@ -128,6 +107,7 @@ module _ {D : Type 0} (told : D → View) (low high : ℕ) (lines : List Line) (
           course = one.0;
           leads = one.1;
           stands = shown_stand told entry one.0.world new one.2.shows;
+          opened = all_open true told new.parties one.2.shows.all_open;
           shown = n.0;
           out = n.1;
         }),
@@ -135,13 +115,13 @@ module _ {D : Type 0} (told : D → View) (low high : ℕ) (lines : List Line) (
 
 -- ---- all disks are back on the shelf
 
-module _ {D : Type 0} (told : D → View) (mid entry : List ℕ → View) (before low high after : ℕ) (first : before ≤ low) (last : high ≤ after) (lines : List Line) (old new : Scene D) (start written : Option (List ℕ))
-    (at : IsAt true told start (start_course lines) old start_progress start) (back : AllBack told mid entry new.parties) where
+module _ {D : Type 0} (told : D → View) (mid entry : List ℕ → View) (before low high after : ℕ) (first : before ≤ low) (last : high ≤ after) (lines : List Line) (old new : PlayState D) (start written : Option (List ℕ))
+    (at : IsAt true told start (start_course lines) old start_progress start) (back : AllBack told mid entry new.parties) (others : OtherDisksStay mid entry new.parties) where
   images : (w : World) → Shows true told w new → AreOnShelf entry w.members
   images w shows = stand_on_shelf told mid entry new.parties w.members back (shown_stand told mid w new shows)
 
   durable : (w : World) → Shows true told w new → AreDurable entry w.members
-  durable w shows = subst (AreDurable entry) shows.members_are (durable_back told mid entry new.parties back shows.seated)
+  durable w shows = subst (AreDurable entry) shows.members_are (durable_back told mid entry new.parties back shows.all_open)
 
   abbrev s : Surroundings
   s = around lines entry before after start written
@@ -152,8 +132,8 @@ module _ {D : Type 0} (told : D → View) (mid entry : List ℕ → View) (befor
       record { course = f.course; leads = f.leads; images = images f.course.world f.shows; durable = durable f.course.world f.shows; out = f.out; tallied = f.tallied }
 
   -- and one of them wasn't put back
-  finished_lost : (tally : Tally) → Finishes told low high lines old new start_progress start written tally → IsBrokenPlay s
-  finished_lost tally finishes =
+  finished_failed : (tally : Tally) → Finishes told low high lines old new start_progress start written tally → IsBrokenPlay s
+  finished_failed tally finishes =
       let f = finishes true before after first last start (start_course lines) at in
       let all = show_lines f.course.world.members in
       record {
@@ -164,6 +144,7 @@ module _ {D : Type 0} (told : D → View) (mid entry : List ℕ → View) (befor
         leads = f.leads;
         broken = record {
           images = images f.course.world f.shows;
+          durable = durable f.course.world f.shows;
           shown = length all;
           out = subst (λ (l : List ℕ). AppendsTo start written (f.course.transcript ++ l)) (sym (take-length all)) f.out;
         };
@@ -174,8 +155,8 @@ module _ {D : Type 0} (told : D → View) (mid entry : List ℕ → View) (befor
       let f = forges true before after first last start (start_course lines) at in
       record { course = f.0; forged = f.2; images = images f.0.world f.3.shows; durable = durable f.0.world f.3.shows; out = f.3.out }
 
-  forged_lost : (n : ℕ) → ForgesIn told low high lines old new start_progress start written n → IsBrokenPlay s
-  forged_lost n forges =
+  forged_failed : (n : ℕ) → ForgesIn told low high lines old new start_progress start written n → IsBrokenPlay s
+  forged_failed n forges =
       let f = forges true before after first last start (start_course lines) at in
       let c = f.0 in
       record {
@@ -185,17 +166,35 @@ module _ {D : Type 0} (told : D → View) (mid entry : List ℕ → View) (befor
         course = c;
         leads = f.2.leads;
         broken = record {
-          happening = f.2.forged.happening;
-          happens = inr (f.2.forged.happens, f.2.forged.formed);
+          line_event = f.2.forged.line_event;
+          makes_event = inr (f.2.forged.makes_event, f.2.forged.formed);
           event = no_event c.now.moment;
           is = inl refl;
           honest = quiet_honest c;
           images = subst (λ (w : World). AreOnShelf entry w.members) (sym (nothing_done c.now.number c.world c.now.moment)) (images c.world f.3.shows);
+          leaves = λ own x is image may.
+              inl (subst (λ (w : World). IsPartyOf w own image) (sym (nothing_done c.now.number c.world c.now.moment))
+              (record { member = x; at = is; stands = durable_image (entry own) x (images c.world f.3.shows own x is) (durable c.world f.3.shows own x is) image may }));
           part = [];
           part_is = inl refl;
           out = subst (AppendsTo start written) (sym (append-nil c.transcript)) f.3.out;
         };
       }
+
+  -- each image that may be left behind an event that broke off
+  leaves_ahead : (c : Course) (h : LineEvent) (e : Event) → StandForAll told mid new.parties (step c.now.number c.world e).members → LeavesShut told mid c h new.parties → (own : List ℕ) (x : Member) → member_at own c.world.members ≡ Some x
+      → (image : List ℕ) → (entry own).may_leave image → IsPartyOf (step c.now.number c.world e) own image ⊎ IsBehind c h own image
+  leaves_ahead c h e stands shut own x is image may = go (held_of new.parties own) refl
+    where
+      before_put : (disk_of told mid new.parties own).may_leave image
+      before_put = (back_on_shelf told mid entry new.parties own back (others own)).images image may
+
+      go : (held : PartyDisk D) → held_of new.parties own ≡ held → IsPartyOf (step c.now.number c.world e) own image ⊎ IsBehind c h own image
+      go (Open node) there =
+          let y = images_open told mid entry new.parties (step c.now.number c.world e).members back stands own node there image may in
+          inl (record { member = y.0; at = y.1; stands = y.2 })
+      go (Closed disk) there = inr (shut own x is (subst IsShut (sym there) tt) image before_put)
+      go Away there = inr (shut own x is (subst IsShut (sym there) tt) image before_put)
 
   abbrev broken_by : (why : Ending) → IsBrokenIn told mid before after start lines (start_course lines) new written why ⊎ IsUnshown told mid before after start lines (start_course lines) new written → IsBrokenPlay s
   broken_by why (inl i) = record {
@@ -205,12 +204,13 @@ module _ {D : Type 0} (told : D → View) (mid entry : List ℕ → View) (befor
     course = i.mid;
     leads = i.leads;
     broken = record {
-      happening = i.happening;
-      happens = i.happens;
+      line_event = i.line_event;
+      makes_event = i.makes_event;
       event = i.broken.event;
       is = i.broken.is;
       honest = i.broken.honest;
       images = stand_on_shelf told mid entry new.parties (step i.mid.now.number i.mid.world i.broken.event).members back i.broken.stands;
+      leaves = leaves_ahead i.mid i.line_event i.broken.event i.broken.stands i.broken.leaves;
       part = i.broken.part;
       part_is = i.broken.part_is;
       out = i.broken.out;
@@ -222,7 +222,12 @@ module _ {D : Type 0} (told : D → View) (mid entry : List ℕ → View) (befor
     split = sym (append-nil lines);
     course = u.course;
     leads = u.leads;
-    broken = record { images = stand_on_shelf told mid entry new.parties u.course.world.members back u.stands; shown = u.shown; out = u.out };
+    broken = record {
+      images = stand_on_shelf told mid entry new.parties u.course.world.members back u.stands;
+      durable = durable_open told mid entry new.parties u.course.world.members u.opened back u.stands;
+      shown = u.shown;
+      out = u.out;
+    };
   }
 
   broken : (why : Ending) → BreaksPlay told mid low high lines old new start_progress start written why → IsBrokenPlay s
@@ -230,8 +235,12 @@ module _ {D : Type 0} (told : D → View) (mid entry : List ℕ → View) (befor
 
   -- where the sink failed
   unwritten_by : IsBrokenIn told mid before after start lines (start_course lines) new written ending.Write ⊎ IsUnshown told mid before after start lines (start_course lines) new written → IsUnwritten s
-  unwritten_by (inl i) = record { play = broken_by ending.Write (inl i); done = i.broken.done refl }
-  unwritten_by (inr u) = record { play = broken_by ending.Write (inr u); done = tt }
+  unwritten_by (inl i) = record {
+    play = broken_by ending.Write (inl i);
+    done = i.broken.done refl;
+    durable = durable_open told mid entry new.parties (step i.mid.now.number i.mid.world i.broken.event).members (i.broken.opened refl) back i.broken.stands;
+  }
+  unwritten_by (inr u) = record { play = broken_by ending.Write (inr u); done = tt; durable = durable_open told mid entry new.parties u.course.world.members u.opened back u.stands }
 
   unwritten : BreaksPlay told mid low high lines old new start_progress start written ending.Write → IsUnwritten s
   unwritten breaks = unwritten_by (breaks before after first last start (start_course lines) at).1
@@ -245,12 +254,12 @@ module _ {D : Type 0} (told : D → View) (mid entry : List ℕ → View) (befor
       → ((why : Ending) → outcome ≡ Err why → ((n : ℕ) → why ≡ ending.Forged n → ⊥) → BreaksPlay told mid low high lines old new start_progress start written why)
       → IsPlayOn s (answer_of (end_of outcome put))
   concludes (Ok tally) (Ok done) sound f g b = finished tally f
-  concludes (Ok tally) (Err failure.Fault) sound f g b = finished_lost tally f
-  concludes (Ok tally) (Err failure.NoMemory) sound f g b = finished_lost tally f
+  concludes (Ok tally) (Err failure.Fault) sound f g b = finished_failed tally f
+  concludes (Ok tally) (Err failure.NoMemory) sound f g b = finished_failed tally f
   concludes (Ok tally) (Err (failure.Damaged place)) sound f g b = absurd (sound place refl)
   concludes (Err (ending.Forged n)) (Ok done) sound f g b = forged n (g n refl)
-  concludes (Err (ending.Forged n)) (Err failure.Fault) sound f g b = forged_lost n (g n refl)
-  concludes (Err (ending.Forged n)) (Err failure.NoMemory) sound f g b = forged_lost n (g n refl)
+  concludes (Err (ending.Forged n)) (Err failure.Fault) sound f g b = forged_failed n (g n refl)
+  concludes (Err (ending.Forged n)) (Err failure.NoMemory) sound f g b = forged_failed n (g n refl)
   concludes (Err (ending.Forged n)) (Err (failure.Damaged place)) sound f g b = absurd (sound place refl)
   concludes (Err ending.Write) put sound f g b = unwritten (b ending.Write refl (λ n is. absurd (cc is)))
   concludes (Err (ending.Failed failure.Fault)) put sound f g b = broken (ending.Failed failure.Fault) (b (ending.Failed failure.Fault) refl (λ n is. absurd (cc is)))
@@ -259,7 +268,7 @@ module _ {D : Type 0} (told : D → View) (mid entry : List ℕ → View) (befor
 
 -- ---- over every shelf
 
-module _ {D : Type 0} (told : D → View) (entry : List ℕ → View) (before low high after : ℕ) (first : before ≤ low) (last : high ≤ after) (lines : List Line) (old new : Scene D) (start written : Option (List ℕ))
+module _ {D : Type 0} (told : D → View) (entry : List ℕ → View) (before low high after : ℕ) (first : before ≤ low) (last : high ≤ after) (lines : List Line) (old new : PlayState D) (start written : Option (List ℕ))
     (at : IsAt false told start (start_course lines) old start_progress start) where
   abbrev g : Surroundings
   g = around lines entry before after start written
@@ -289,8 +298,8 @@ module _ {D : Type 0} (told : D → View) (entry : List ℕ → View) (before lo
   runs (Err (ending.Failed failure.NoMemory)) put f k = tt
   runs (Err (ending.Failed (failure.Damaged place))) put f k = tt
 
-pub unset_runs : (s : Surroundings) (end : SetUpEnd) → IsRunBy s (set_up_answer end)
-unset_runs s NotEmpty = tt
-unset_runs s (Failed failure.Fault) = tt
-unset_runs s (Failed failure.NoMemory) = tt
-unset_runs s (Failed (failure.Damaged place)) = tt
+pub failed_set_up_runs : (s : Surroundings) (end : SetUpEnd) → IsRunBy s (set_up_answer end)
+failed_set_up_runs s NotEmpty = tt
+failed_set_up_runs s (Failed failure.Fault) = tt
+failed_set_up_runs s (Failed failure.NoMemory) = tt
+failed_set_up_runs s (Failed (failure.Damaged place)) = tt

@@ -14,56 +14,56 @@ use Rattle.fact_book.specs.Facts.{NamedText}
 use Rattle.world_laws.specs.World.{World, own_of, member_at}
 use Rattle.world_laws.specs.Events.{CutOld, CutNew}
 use Rattle.world_laws.specs.Noted.{noted}
-use Rattle.course.specs.Outcomes.{world_after_told}
+use Rattle.course.specs.Outcomes.{world_after_given}
 use Rattle.member.specs.Acts.{taking}
 use Rattle.world_laws.specs.Nodes.{IsEventOf, input_event}
 use Rattle.course.specs.Stops.{KeepsChange, member_next}
 use Rattle.course.specs.declared.progress.Stop.{Stop}
 use Rattle.replay.specs.Breaks.{BreaksOff}
 use Rattle.replay.specs.Events.{HoldsEither, StandsEither, IsWhole, IsLeft, IsBrokenIn, IsStoppedIn, IsStopLeft}
-use Rattle.replay.specs.Scene.{IsStep, IsCutStep}
-use Rattle.replay.specs.Seats.{IsPlace, IsLifted}
+use Rattle.replay.specs.PlayState.{IsStep, IsCutStep}
+use Rattle.replay.specs.OpenParties.{IsPlace, IsTakenOut}
 use Rattle.replay.specs.declared.failure.Failure.{Failure}
-use Rattle.replay.specs.declared.scene.Scene.{Scene}
-use Rattle.replay.specs.declared.seat.Seat.{Seat}
-use Rattle.replay.specs.declared.seat.Held.{Held}
-use Rattle.replay.specs.declared.seat.Held.TheVariants.{Open, Loose, Out}
+use Rattle.replay.specs.declared.play_state.PlayState.{PlayState}
+use Rattle.replay.specs.declared.open_party.OpenParty.{OpenParty}
+use Rattle.replay.specs.declared.open_party.PartyDisk.{PartyDisk}
+use Rattle.replay.specs.declared.open_party.PartyDisk.TheVariants.{Open, Closed, Away}
 use Rattle.replay.proofs.Breakage.{broken_off}
 use Rattle.replay.proofs.Stepping.{whole_step, cut_step}
 
 -- an old network stays where nothing is kept
-old_stays : (x : Member) (o : Option Input) (moment n : ℕ) (w : World) → world_after_told n w x o moment CutOld ≡ w
+pub old_stays : (x : Member) (o : Option Input) (moment n : ℕ) (w : World) → world_after_given n w x o moment CutOld ≡ w
 old_stays x None moment n w = refl
 old_stays x (Some i) moment n w = refl
 
 -- what is held stands, whatever is on the shelf
-on_shelf : {D : Type 0} (told : D → View) (shelved : View) (h : Held D) (x y : Member) (keep : Type 0) → HoldsEither told h x y keep → StandsEither told shelved h x y keep
+on_shelf : {D : Type 0} (told : D → View) (shelved : View) (h : PartyDisk D) (x y : Member) (keep : Type 0) → HoldsEither told h x y keep → StandsEither told shelved h x y keep
 on_shelf told shelved (Open node) x y keep is = is
-on_shelf told shelved (Loose disk) x y keep is = is
-on_shelf told shelved Out x y keep is = absurd is
+on_shelf told shelved (Closed disk) x y keep is = is
+on_shelf told shelved Away x y keep is = absurd is
 
 -- the plan that was made
 module _ {D : Type 0} (p : PlannedNode D) (node : Stored D) (i : Input) (moment : ℕ) (is : p ≡ record { node = node; plan = plan_at (member_of node) i moment }) where
   pub planned_of : p.plan ≡ plan_at (member_of p.node) i moment
   planned_of = subst (λ (q : PlannedNode D). q.plan ≡ plan_at (member_of q.node) i moment) (sym is) refl
 
-  pub lifted_of : (old mid : List (Seat D)) (place : ℕ) → IsLifted old mid place node → IsLifted old mid place p.node
-  lifted_of old mid place l = subst (λ (q : PlannedNode D). IsLifted old mid place q.node) (sym is) l
+  pub taken_out_of : (old mid : List (OpenParty D)) (place : ℕ) → IsTakenOut old mid place node → IsTakenOut old mid place p.node
+  taken_out_of old mid place l = subst (λ (q : PlannedNode D). IsTakenOut old mid place q.node) (sym is) l
 
 -- the node as it was before the plan, with the plan that is made anew
 abbrev pub stopped_plan : {D : Type 0} → Stored D → Input → ℕ → PlannedNode D
 stopped_plan node i moment = record { node = node; plan = plan_at (member_of node) i moment }
 
-pub lifted_again : {D : Type 0} (p : PlannedNode D) (node again : Stored D) (i : Input) (moment : ℕ) → p ≡ record { node = node; plan = plan_at (member_of node) i moment } → again ≡ p.node → (old mid : List (Seat D)) (place : ℕ) → IsLifted old mid place node → IsLifted old mid place again
-lifted_again p node again i moment is same old mid place l = subst (λ (k : Stored _). IsLifted old mid place k) (sym (same ∙ ap (λ (q : PlannedNode _). q.node) is)) l
+pub taken_out_again : {D : Type 0} (p : PlannedNode D) (node again : Stored D) (i : Input) (moment : ℕ) → p ≡ record { node = node; plan = plan_at (member_of node) i moment } → again ≡ p.node → (old mid : List (OpenParty D)) (place : ℕ) → IsTakenOut old mid place node → IsTakenOut old mid place again
+taken_out_again p node again i moment is same old mid place l = subst (λ (k : Stored _). IsTakenOut old mid place k) (sym (same ∙ ap (λ (q : PlannedNode _). q.node) is)) l
 
 -- an input is planned
-module _ {D : Type 0} (told : D → View) (laws : (x : Member) (i : Input) (moment : ℕ) → IsEventOf x (taking (plan_at x i moment)) (input_event x i moment)) (old mid new : Scene D) (place : ℕ) (p : PlannedNode D) (l : IsLifted old.parties mid.parties place p.node)
+module _ {D : Type 0} (told : D → View) (laws : (x : Member) (i : Input) (moment : ℕ) → IsEventOf x (taking (plan_at x i moment)) (input_event x i moment)) (old mid new : PlayState D) (place : ℕ) (p : PlannedNode D) (l : IsTakenOut old.parties mid.parties place p.node)
     (texts_stay : mid.texts ≡ old.texts) (facts_stay : mid.facts ≡ old.facts) (i : Input) (moment : ℕ) (planned : p.plan ≡ plan_at (member_of p.node) i moment) where
   own_next : (member_next (member_of p.node) (Some i) moment).party.own ≡ p.node.party.own
   own_next = (laws (member_of p.node) i moment).own
 
-  cuts : KeepsChange (member_of p.node) (Some i) moment → (n : ℕ) (w : World) → member_at p.node.party.own w.members ≡ Some (member_of p.node) → (world_after_told n w (member_of p.node) (Some i) moment CutNew).members ≡ put_row own_of bytes_eq (member_next (member_of p.node) (Some i) moment) w.members
+  cuts : KeepsChange (member_of p.node) (Some i) moment → (n : ℕ) (w : World) → member_at p.node.party.own w.members ≡ Some (member_of p.node) → (world_after_given n w (member_of p.node) (Some i) moment CutNew).members ≡ put_row own_of bytes_eq (member_next (member_of p.node) (Some i) moment) w.members
   cuts keep n w at = ((laws (member_of p.node) i moment).new n w at keep).members
 
   pub input_whole : (verdict : Verdict) → IsWhole told p mid new place verdict → IsStep told old new place i moment verdict
@@ -88,7 +88,7 @@ module _ {D : Type 0} (told : D → View) (laws : (x : Member) (i : Input) (mome
       })
 
 -- nothing is heard
-module _ {D : Type 0} (told : D → View) (old mid new : Scene D) (place : ℕ) (node : Stored D) (l : IsLifted old.parties mid.parties place node) (texts_are : new.texts ≡ old.texts) (facts_are : new.facts ≡ old.facts) (moment : ℕ) where
+module _ {D : Type 0} (told : D → View) (old mid new : PlayState D) (place : ℕ) (node : Stored D) (l : IsTakenOut old.parties mid.parties place node) (texts_are : new.texts ≡ old.texts) (facts_are : new.facts ≡ old.facts) (moment : ℕ) where
   pub unheard_cut : (stop : Stop) (before after : ℕ) (next : Bool) → IsStoppedIn told mid.parties new.parties place node None moment stop before after next → IsCutStep told old new place None moment stop before after next
   unheard_cut stop before after next s = cut_step told old mid new place node l None moment stop before after next s [] texts_are (facts_are ∙ sym (nothing old.facts next)) refl (λ keep. absurd keep) (old_stays (member_of node) None moment)
     where

@@ -10,11 +10,11 @@ use Rattle.party_show.specs.Show.{shown}
 use Rattle.member.specs.Member.{Member}
 use Rattle.node_core.specs.Turns.{member_of}
 use Rattle.course.specs.Tallies.{one_with, count_status, records_of}
-use Rattle.replay.specs.Seats.{with_held, members, HoldsParty}
+use Rattle.replay.specs.OpenParties.{with_held, members, HoldsParty}
 use Rattle.course.specs.Transcript.{show_lines}
-use Rattle.replay.specs.declared.seat.Seat.{Seat}
-use Rattle.replay.specs.declared.seat.Held.{Held}
-use Rattle.replay.specs.declared.seat.Held.TheVariants.{Open, Loose, Out}
+use Rattle.replay.specs.declared.open_party.OpenParty.{OpenParty}
+use Rattle.replay.specs.declared.open_party.PartyDisk.{PartyDisk}
+use Rattle.replay.specs.declared.open_party.PartyDisk.TheVariants.{Open, Closed, Away}
 use Rattle.replay.proofs.Leading.{appends_more}
 
 -- what is gathered of one member after another
@@ -28,36 +28,36 @@ module _ {A : Type 0} (of : Member → List A) (all : List Member → List A) (n
   gather-push : (a : List Member) (x : Member) → all (a ++ x ∷ []) ≡ all a ++ of x
   gather-push a x = gather-append a (x ∷ []) ∙ ap (λ (l : List A). all a ++ l) (one x [] ∙ (ap (λ (l : List A). of x ++ l) none ∙ append-nil (of x)))
 
-members-append : {D : Type 0} (a b : List (Seat D)) → members (a ++ b) ≡ members a ++ members b
+members-append : {D : Type 0} (a b : List (OpenParty D)) → members (a ++ b) ≡ members a ++ members b
 members-append [] b = refl
 members-append {D = D} (s ∷ a) b = go s.held (members-append a b)
   where
-    go : (h : Held D) → members (a ++ b) ≡ members a ++ members b → with_held h (members (a ++ b)) ≡ with_held h (members a) ++ members b
+    go : (h : PartyDisk D) → members (a ++ b) ≡ members a ++ members b → with_held h (members (a ++ b)) ≡ with_held h (members a) ++ members b
     go (Open node) is = ap (λ (l : List Member). member_of node ∷ l) is
-    go (Loose disk) is = is
-    go Out is = is
+    go (Closed disk) is = is
+    go Away is = is
 
 -- the member of an open disk, whose party this is
-record MemberIn {D : Type 0} (h : Held D) (p : Party) : Type 0 where
+record MemberIn {D : Type 0} (h : PartyDisk D) (p : Party) : Type 0 where
   member : Member
   is : with_held h [] ≡ member ∷ []
   party_is : member.party ≡ p
 
-member_in : {D : Type 0} (h : Held D) (p : Party) → HoldsParty h p → MemberIn h p
+member_in : {D : Type 0} (h : PartyDisk D) (p : Party) → HoldsParty h p → MemberIn h p
 member_in (Open node) p is = record { member = member_of node; is = refl; party_is = sym is }
-member_in (Loose disk) p is = absurd is
-member_in Out p is = absurd is
+member_in (Closed disk) p is = absurd is
+member_in Away p is = absurd is
 
--- what is gathered of one seat more
+-- what is gathered of one party more
 module _ {A D : Type 0} (of : Member → List A) (all : List Member → List A) (none : all [] ≡ []) (one : (x : Member) (ms : List Member) → all (x ∷ ms) ≡ of x ++ all ms) where
-  seats_more : (seats : List (Seat D)) (place : ℕ) (s : Seat D) (p : Party) → place < length seats → s ≡ get_or seats place s → HoldsParty s.held p
-      → (x : Member) × (x.party ≡ p) × (all (members (take (place + 1) seats)) ≡ all (members (take place seats)) ++ of x)
-  seats_more seats place s p lt read holds =
+  open_more : (open_parties : List (OpenParty D)) (place : ℕ) (s : OpenParty D) (p : Party) → place < length open_parties → s ≡ get_or open_parties place s → HoldsParty s.held p
+      → (x : Member) × (x.party ≡ p) × (all (members (take (place + 1) open_parties)) ≡ all (members (take place open_parties)) ++ of x)
+  open_more open_parties place s p lt read holds =
       let m : MemberIn s.held p = member_in s.held p holds in
-      let cut : take (place + 1) seats ≡ take place seats ++ s ∷ [] = take_more seats place s lt ∙ ap (λ (y : Seat D). take place seats ++ y ∷ []) (sym read) in
-      let split : members (take (place + 1) seats) ≡ members (take place seats) ++ m.member ∷ [] =
-      ap members cut ∙ (members-append (take place seats) (s ∷ []) ∙ ap (λ (l : List Member). members (take place seats) ++ l) m.is) in
-      (m.member, m.party_is, ap all split ∙ gather-push of all none one (members (take place seats)) m.member)
+      let cut : take (place + 1) open_parties ≡ take place open_parties ++ s ∷ [] = take_more open_parties place s lt ∙ ap (λ (y : OpenParty D). take place open_parties ++ y ∷ []) (sym read) in
+      let split : members (take (place + 1) open_parties) ≡ members (take place open_parties) ++ m.member ∷ [] =
+      ap members cut ∙ (members-append (take place open_parties) (s ∷ []) ∙ ap (λ (l : List Member). members (take place open_parties) ++ l) m.is) in
+      (m.member, m.party_is, ap all split ∙ gather-push of all none one (members (take place open_parties)) m.member)
 
 -- the show lines
 
@@ -80,33 +80,33 @@ wrote_more : (before mid after : Option (List ℕ)) (a b rest : List ℕ) → Ap
 wrote_more None mid after a b rest first more = tt
 wrote_more (Some xs) mid after a b rest first more = wrote_some xs mid after a b rest first more
 
-module _ {D : Type 0} (seats : List (Seat D)) (place : ℕ) (s : Seat D) (p : Party) (lt : place < length seats) (read : s ≡ get_or seats place s) (holds : HoldsParty s.held p) where
-  lines_more : show_lines (members (take (place + 1) seats)) ≡ show_lines (members (take place seats)) ++ shown p
+module _ {D : Type 0} (open_parties : List (OpenParty D)) (place : ℕ) (s : OpenParty D) (p : Party) (lt : place < length open_parties) (read : s ≡ get_or open_parties place s) (holds : HoldsParty s.held p) where
+  lines_more : show_lines (members (take (place + 1) open_parties)) ≡ show_lines (members (take place open_parties)) ++ shown p
   lines_more =
-      let m = seats_more lines_of show_lines refl (λ x ms. refl) seats place s p lt read holds in
-      m.2 ∙ ap (λ (q : Party). show_lines (members (take place seats)) ++ shown q) m.1
+      let m = open_more lines_of show_lines refl (λ x ms. refl) open_parties place s p lt read holds in
+      m.2 ∙ ap (λ (q : Party). show_lines (members (take place open_parties)) ++ shown q) m.1
 
-  pub shows_more : (before mid after : Option (List ℕ)) → AppendsTo before mid (show_lines (members (take place seats))) → AppendsTo mid after (shown p) → AppendsTo before after (show_lines (members (take (place + 1) seats)))
-  shows_more before mid after first more = subst (AppendsTo before after) (sym lines_more) (appends_more before mid after (show_lines (members (take place seats))) (shown p) first more)
+  pub shows_more : (before mid after : Option (List ℕ)) → AppendsTo before mid (show_lines (members (take place open_parties))) → AppendsTo mid after (shown p) → AppendsTo before after (show_lines (members (take (place + 1) open_parties)))
+  shows_more before mid after first more = subst (AppendsTo before after) (sym lines_more) (appends_more before mid after (show_lines (members (take place open_parties))) (shown p) first more)
 
-  pub shows_part : (before mid after : Option (List ℕ)) → AppendsTo before mid (show_lines (members (take place seats))) → WrotePrefix mid after (shown p) → WrotePrefix before after (show_lines (members seats))
+  pub shows_part : (before mid after : Option (List ℕ)) → AppendsTo before mid (show_lines (members (take place open_parties))) → WrotePrefix mid after (shown p) → WrotePrefix before after (show_lines (members open_parties))
   shows_part before mid after first more =
-      let rest = show_lines (members (drop (place + 1) seats)) in
-      let whole : show_lines (members seats) ≡ show_lines (members (take place seats)) ++ (shown p ++ rest) =
-      ap (λ (l : List (Seat D)). show_lines (members l)) (sym (take-append-drop (place + 1) seats))
-      ∙ (ap show_lines (members-append (take (place + 1) seats) (drop (place + 1) seats))
-      ∙ (gather-append lines_of show_lines refl (λ x ms. refl) (members (take (place + 1) seats)) (members (drop (place + 1) seats))
-      ∙ (ap (λ (l : List ℕ). l ++ rest) lines_more ∙ append_assoc (show_lines (members (take place seats))) (shown p) rest))) in
-      subst (WrotePrefix before after) (sym whole) (wrote_more before mid after (show_lines (members (take place seats))) (shown p) rest first more)
+      let rest = show_lines (members (drop (place + 1) open_parties)) in
+      let whole : show_lines (members open_parties) ≡ show_lines (members (take place open_parties)) ++ (shown p ++ rest) =
+      ap (λ (l : List (OpenParty D)). show_lines (members l)) (sym (take-append-drop (place + 1) open_parties))
+      ∙ (ap show_lines (members-append (take (place + 1) open_parties) (drop (place + 1) open_parties))
+      ∙ (gather-append lines_of show_lines refl (λ x ms. refl) (members (take (place + 1) open_parties)) (members (drop (place + 1) open_parties))
+      ∙ (ap (λ (l : List ℕ). l ++ rest) lines_more ∙ append_assoc (show_lines (members (take place open_parties))) (shown p) rest))) in
+      subst (WrotePrefix before after) (sym whole) (wrote_more before mid after (show_lines (members (take place open_parties))) (shown p) rest first more)
 
   -- the records
-  keys_more : (status : KeyStatus) → count_status status (records_of (members (take (place + 1) seats))) ≡ count_status status (records_of (members (take place seats))) + count_status status p.keys
+  keys_more : (status : KeyStatus) → count_status status (records_of (members (take (place + 1) open_parties))) ≡ count_status status (records_of (members (take place open_parties))) + count_status status p.keys
   keys_more status =
-      let m = seats_more (λ (x : Member). x.party.keys) records_of refl (λ x ms. refl) seats place s p lt read holds in
-      ap (count_status status) (m.2 ∙ ap (λ (q : Party). records_of (members (take place seats)) ++ q.keys) m.1)
-      ∙ sum_by-append (one_with status) (records_of (members (take place seats))) p.keys
+      let m = open_more (λ (x : Member). x.party.keys) records_of refl (λ x ms. refl) open_parties place s p lt read holds in
+      ap (count_status status) (m.2 ∙ ap (λ (q : Party). records_of (members (take place open_parties)) ++ q.keys) m.1)
+      ∙ sum_by-append (one_with status) (records_of (members (take place open_parties))) p.keys
 
-  pub keys_counted : (status : KeyStatus) (count here : ℕ) → count ≡ count_status status (records_of (members (take place seats))) → here ≡ count_status status p.keys
-      → count + here ≡ count_status status (records_of (members (take (place + 1) seats)))
+  pub keys_counted : (status : KeyStatus) (count here : ℕ) → count ≡ count_status status (records_of (members (take place open_parties))) → here ≡ count_status status p.keys
+      → count + here ≡ count_status status (records_of (members (take (place + 1) open_parties)))
   keys_counted status count here so_far is =
-      ap (λ (n : ℕ). n + here) so_far ∙ (ap (λ (n : ℕ). count_status status (records_of (members (take place seats))) + n) is ∙ sym (keys_more status))
+      ap (λ (n : ℕ). n + here) so_far ∙ (ap (λ (n : ℕ). count_status status (records_of (members (take place open_parties))) + n) is ∙ sym (keys_more status))

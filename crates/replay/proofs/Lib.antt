@@ -1,9 +1,10 @@
 mod Results
+mod Adding
 mod Images
 mod Planning
 mod Carrying
 mod Stopping
-mod Seating
+mod PuttingIn
 mod Members
 mod Stepping
 mod Places
@@ -31,4 +32,11 @@ mod Declaring
 mod Surrounding
 mod Naming
 mod Leaving
+mod Holding
+mod Lasting
+mod Throughout
 mod Eventing
+mod Crossing
+mod LineByLine
+mod HoldingAgain
+mod Shutting

@@ -9,23 +9,23 @@ use Rattle.key_store.specs.Loaded.{IsLoaded}
 use Rattle.key_store.specs.Store.{Stands}
 use Rattle.member.specs.Member.{Member}
 use Rattle.node_core.specs.Turns.{IsImageOf}
-use Rattle.replay.specs.Failing.{IsFailing, ReadsEither, IsLost}
-use Rattle.replay.specs.Stops.{IsResting}
+use Rattle.replay.specs.Failing.{IsFailing, ReadsEither, IsFailedPartyDisk}
+use Rattle.replay.specs.Stops.{IsDiskAtStop}
 use Rattle.replay.specs.declared.failure.Failure.{Failure}
 use Rattle.replay.specs.declared.failure.Failure.TheVariants as failure
 use Rattle.replay.proofs.Images.{told_now}
 
 -- the power-off failed, or the opening behind it
-pub lost_off : (v w : View) (why : Failure) → IsFailing why → IsSound w → LeavesNoMore v w → is_some w.now ≡ is_some v.now → IsLost v w why
-lost_off v w why failing sound crash tells = record {
+pub failed_off : (v w : View) (why : Failure) → IsFailing why → IsSound w → LeavesNoMore v w → is_some w.now ≡ is_some v.now → IsFailedPartyDisk v w why
+failed_off v w why failing sound crash tells = record {
   tells = tells;
   among = λ image now. crash image (sound.now_among image now);
   sound = λ tells_v stands. failing;
 }
 
-pub lost_open : {D : Type 0} (told : D → View) (v : View) (mid : D) (u : Unmade D) (why : Failure) → (IsFree u.cause → IsFailing why) → IsSound (told mid) → LeavesNoMore v (told mid) → is_some (told mid).now ≡ is_some v.now
-    → IsLoaded told mid (Err u) → IsLost v (told u.disk) why
-lost_open told v mid u why failing sound crash tells loaded = record {
+pub failed_open : {D : Type 0} (told : D → View) (v : View) (mid : D) (u : Unmade D) (why : Failure) → (IsFree u.cause → IsFailing why) → IsSound (told mid) → LeavesNoMore v (told mid) → is_some (told mid).now ≡ is_some v.now
+    → IsLoaded told mid (Err u) → IsFailedPartyDisk v (told u.disk) why
+failed_open told v mid u why failing sound crash tells loaded = record {
   tells = ap is_some loaded.now ∙ tells;
   among = λ image now. crash image (sound.now_among image (sym loaded.now ∙ now));
   sound = λ tells_v stands.
@@ -35,7 +35,7 @@ lost_open told v mid u why failing sound crash tells loaded = record {
 }
 
 -- an event was begun on the disk v1, which then lay on the shelf
-module _ (v v1 : View) (x y : Member) (keep : Type 0) (n : ℕ) (rest : IsResting v v1 x y keep n) where
+module _ (v v1 : View) (x y : Member) (keep : Type 0) (n : ℕ) (rest : IsDiskAtStop v v1 x y keep n) where
   either_stands : (image : List ℕ) → IsImageOf x image ⊎ (keep × IsImageOf y image) → (party : Party) × Stands image party
   either_stands image (inl one) = (x.party, record { format = x.space.format; stands = record { bodies = one.bodies; holds = one.holds; fold = one.fold } })
   either_stands image (inr next) = (y.party, record { format = y.space.format; stands = record { bodies = next.1.bodies; holds = next.1.holds; fold = next.1.fold } })
@@ -46,12 +46,12 @@ module _ (v v1 : View) (x y : Member) (keep : Type 0) (n : ℕ) (rest : IsRestin
     either = λ image now. rest.either tells image (sound.now_among image (sym alike.now ∙ now));
   }
 
-  pub lost_reads : (v2 w : View) (why : Failure) → IsAlike v1 v2 → IsLost v2 w why → Tells v → IsFailing why × ReadsEither w x y keep
-  lost_reads v2 w why alike lost tells = (
-    lost.sound (ap is_some alike.now ∙ (rest.tells ∙ tells)) (λ image left. either_stands image (rest.either tells image (alike.images image left))),
+  pub failed_reads : (v2 w : View) (why : Failure) → IsAlike v1 v2 → IsFailedPartyDisk v2 w why → Tells v → IsFailing why × ReadsEither w x y keep
+  failed_reads v2 w why alike failed_disk tells = (
+    failed_disk.sound (ap is_some alike.now ∙ (rest.tells ∙ tells)) (λ image left. either_stands image (rest.either tells image (alike.images image left))),
     record {
-      tells = lost.tells ∙ (ap is_some alike.now ∙ (rest.tells ∙ tells));
-      either = λ image now. rest.either tells image (alike.images image (lost.among image now));
+      tells = failed_disk.tells ∙ (ap is_some alike.now ∙ (rest.tells ∙ tells));
+      either = λ image now. rest.either tells image (alike.images image (failed_disk.among image now));
     },
   )
 

@@ -8,10 +8,10 @@ use Rattle.key_store.specs.Store.{Stored}
 use Rattle.member.specs.Member.{Member}
 use Rattle.world_laws.specs.World.{own_of, member_at}
 use Rattle.node_core.specs.Turns.{member_of}
-use Rattle.replay.specs.Seats.{seat, members, with_held, IsOf, IsIn, AreIn, AreOpen, NoneOf, owners}
-use Rattle.replay.specs.declared.seat.Seat.{Seat}
-use Rattle.replay.specs.declared.seat.Held.{Held}
-use Rattle.replay.specs.declared.seat.Held.TheVariants.{Open, Loose, Out}
+use Rattle.replay.specs.OpenParties.{open_party, members, with_held, IsOf, IsIn, AreIn, AreOpen, NoneOf, owners}
+use Rattle.replay.specs.declared.open_party.OpenParty.{OpenParty}
+use Rattle.replay.specs.declared.open_party.PartyDisk.{PartyDisk}
+use Rattle.replay.specs.declared.open_party.PartyDisk.TheVariants.{Open, Closed, Away}
 
 pub same_yes : (a b : List ℕ) → a ≡ b → bytes_eq a b ≡ true
 same_yes a b is = (bytes_eq-Decides a b).1 is
@@ -29,43 +29,43 @@ cond_yes a x y is = rw is refl
 pub cond_not : {T : Type 0} (a : Bool) (x y : T) → a ≡ false → cond a x y ≡ y
 cond_not a x y is = rw is refl
 
-module _ {D : Type 0} (tell : Bool) (told : D → View) (own : List ℕ) (n : Stored D) (back : List (Seat D)) where
-  -- the member whose seat it is
-  pub found : (front : List (Seat D)) → AreIn tell told (front ++ seat own (Open n) ∷ back) → NoneOf front own → member_at own (members (front ++ seat own (Open n) ∷ back)) ≡ Some (member_of n)
+module _ {D : Type 0} (tell : Bool) (told : D → View) (own : List ℕ) (n : Stored D) (back : List (OpenParty D)) where
+  -- the member whose place it is
+  pub found : (front : List (OpenParty D)) → AreIn tell told (front ++ open_party own (Open n) ∷ back) → NoneOf front own → member_at own (members (front ++ open_party own (Open n) ∷ back)) ≡ Some (member_of n)
   found [] all none = cond_yes (bytes_eq own n.party.own) (Some (member_of n)) _ (same_yes own n.party.own (sym all.0.named))
   found (f ∷ front) all none = go f.held all.0 (found front all.1 none.1)
     where
-      go : (h : Held D) → IsIn tell told f.own h → member_at own (members (front ++ seat own (Open n) ∷ back)) ≡ Some (member_of n) → member_at own (with_held h (members (front ++ seat own (Open n) ∷ back))) ≡ Some (member_of n)
+      go : (h : PartyDisk D) → IsIn tell told f.own h → member_at own (members (front ++ open_party own (Open n) ∷ back)) ≡ Some (member_of n) → member_at own (with_held h (members (front ++ open_party own (Open n) ∷ back))) ≡ Some (member_of n)
       go (Open m) is rest = cond_not (bytes_eq own m.party.own) (Some (member_of m)) _ (same_not own m.party.own (λ same. none.0 (sym is.named ∙ sym same))) ∙ rest
-      go (Loose disk) is rest = absurd is
-      go Out is rest = absurd is
+      go (Closed disk) is rest = absurd is
+      go Away is rest = absurd is
 
   -- and after it has another
-  pub put : (new : Stored D) → new.party.own ≡ own → (front : List (Seat D)) → AreIn tell told (front ++ seat own (Open n) ∷ back) → NoneOf front own
-      → members (front ++ seat own (Open new) ∷ back) ≡ put_row own_of bytes_eq (member_of new) (members (front ++ seat own (Open n) ∷ back))
+  pub put : (new : Stored D) → new.party.own ≡ own → (front : List (OpenParty D)) → AreIn tell told (front ++ open_party own (Open n) ∷ back) → NoneOf front own
+      → members (front ++ open_party own (Open new) ∷ back) ≡ put_row own_of bytes_eq (member_of new) (members (front ++ open_party own (Open n) ∷ back))
   put new named [] all none = sym (cond_yes (bytes_eq new.party.own n.party.own) _ _ (same_yes new.party.own n.party.own (named ∙ sym all.0.named)))
   put new named (f ∷ front) all none = go f.held all.0 (put new named front all.1 none.1)
     where
-      go : (h : Held D) → IsIn tell told f.own h → members (front ++ seat own (Open new) ∷ back) ≡ put_row own_of bytes_eq (member_of new) (members (front ++ seat own (Open n) ∷ back)) → with_held h (members (front ++ seat own (Open new) ∷ back)) ≡ put_row own_of bytes_eq (member_of new) (with_held h (members (front ++ seat own (Open n) ∷ back)))
+      go : (h : PartyDisk D) → IsIn tell told f.own h → members (front ++ open_party own (Open new) ∷ back) ≡ put_row own_of bytes_eq (member_of new) (members (front ++ open_party own (Open n) ∷ back)) → with_held h (members (front ++ open_party own (Open new) ∷ back)) ≡ put_row own_of bytes_eq (member_of new) (with_held h (members (front ++ open_party own (Open n) ∷ back)))
       go (Open m) is rest =
           ap (λ (ms : List Member). member_of m ∷ ms) rest
           ∙ sym (cond_not (bytes_eq new.party.own m.party.own) _ _ (same_not new.party.own m.party.own (λ same. none.0 (sym is.named ∙ (sym same ∙ named)))))
-      go (Loose disk) is rest = absurd is
-      go Out is rest = absurd is
+      go (Closed disk) is rest = absurd is
+      go Away is rest = absurd is
 
-  pub stay_in : (new : Stored D) → IsOf tell told own new → (front : List (Seat D)) → AreIn tell told (front ++ seat own (Open n) ∷ back) → AreIn tell told (front ++ seat own (Open new) ∷ back)
+  pub stay_in : (new : Stored D) → IsOf tell told own new → (front : List (OpenParty D)) → AreIn tell told (front ++ open_party own (Open n) ∷ back) → AreIn tell told (front ++ open_party own (Open new) ∷ back)
   stay_in new of [] all = (of, all.1)
   stay_in new of (f ∷ front) all = (all.0, stay_in new of front all.1)
 
-  pub of_in : (front : List (Seat D)) → AreIn tell told (front ++ seat own (Open n) ∷ back) → IsOf tell told own n
+  pub of_in : (front : List (OpenParty D)) → AreIn tell told (front ++ open_party own (Open n) ∷ back) → IsOf tell told own n
   of_in [] all = all.0
   of_in (f ∷ front) all = of_in front all.1
 
-pub still_open : {D : Type 0} (front : List (Seat D)) (own : List ℕ) (n new : Stored D) (back : List (Seat D)) → AreOpen (front ++ seat own (Open n) ∷ back) → AreOpen (front ++ seat own (Open new) ∷ back)
+pub still_open : {D : Type 0} (front : List (OpenParty D)) (own : List ℕ) (n new : Stored D) (back : List (OpenParty D)) → AreOpen (front ++ open_party own (Open n) ∷ back) → AreOpen (front ++ open_party own (Open new) ∷ back)
 still_open [] own n new back all = (tt, all.1)
 still_open (f ∷ front) own n new back all = (all.0, still_open front own n new back all.1)
 
-pub same_owners : {D : Type 0} (front : List (Seat D)) (own : List ℕ) (h k : Held D) (back : List (Seat D)) → owners (front ++ seat own h ∷ back) ≡ owners (front ++ seat own k ∷ back)
+pub same_owners : {D : Type 0} (front : List (OpenParty D)) (own : List ℕ) (h k : PartyDisk D) (back : List (OpenParty D)) → owners (front ++ open_party own h ∷ back) ≡ owners (front ++ open_party own k ∷ back)
 same_owners [] own h k back = refl
 same_owners (f ∷ front) own h k back = ap (λ (l : List (List ℕ)). f.own ∷ l) (same_owners front own h k back)
 

@@ -11,21 +11,21 @@ use Rattle.key_store.specs.Store.{Stored, Stands, StandsAs, IsStore, space}
 use Rattle.member.specs.Member.{Member}
 use Rattle.node_core.specs.Turns.{IsImageOf, IsOldOrNext, member_of}
 use Rattle.course.specs.declared.progress.Stop.{Stop}
-use Rattle.replay.specs.Stops.{IsResting, IsRestarted, IsStopped}
+use Rattle.replay.specs.Stops.{IsDiskAtStop, IsRestarted, IsStopped}
 use Rattle.replay.proofs.Images.{told_now}
 
 differ : (a : Bool) → a ≡ true → a ≡ false → ⊥
 differ a is not = let both : true ≡ false = sym is ∙ not in cc both
 
 -- a disk that is durable leaves what is read of it
-only_now : (w : View) (P : List ℕ → Type 0) → Tells w → IsDurable w → ((image : List ℕ) → w.now ≡ Some image → P image) → (image : List ℕ) → w.may_leave image → P image
+pub only_now : (w : View) (P : List ℕ → Type 0) → Tells w → IsDurable w → ((image : List ℕ) → w.now ≡ Some image → P image) → (image : List ℕ) → w.may_leave image → P image
 only_now w P tells durable now image left =
     let here = told_now w.now tells in
     subst P (sym (durable.only here.0 image here.1 left)) (now here.0 here.1)
 
 -- nothing was carried out
-pub rests_idle : (v : View) (x : Member) (n : ℕ) → IsDurable v → ((image : List ℕ) → v.now ≡ Some image → IsImageOf x image) → IsResting v v x x ⊥ n
-rests_idle v x n durable stands = record {
+pub at_stop_idle : (v : View) (x : Member) (n : ℕ) → IsDurable v → ((image : List ℕ) → v.now ≡ Some image → IsImageOf x image) → IsDiskAtStop v v x x ⊥ n
+at_stop_idle v x n durable stands = record {
   either = λ told image left. inl (only_now v (IsImageOf x) told durable stands image left);
   early = λ told keep. absurd keep;
   stable = λ keep. absurd keep;
@@ -35,8 +35,8 @@ rests_idle v x n durable stands = record {
 }
 
 module _ (v w : View) (x y : Member) (keep : Type 0) (n : ℕ) (tells : is_some w.now ≡ is_some v.now) where
-  pub rests_none : IsDurable w → ((image : List ℕ) → w.now ≡ Some image → IsImageOf x image) → (keep → ⊥) → IsResting v w x y keep n
-  rests_none durable stands none = record {
+  pub at_stop_none : IsDurable w → ((image : List ℕ) → w.now ≡ Some image → IsImageOf x image) → (keep → ⊥) → IsDiskAtStop v w x y keep n
+  at_stop_none durable stands none = record {
     either = λ told image left. inl (only_now w (IsImageOf x) (tells ∙ told) durable stands image left);
     early = λ told keep few. absurd (none keep);
     stable = λ keep few. absurd (none keep);
@@ -45,9 +45,9 @@ module _ (v w : View) (x y : Member) (keep : Type 0) (n : ℕ) (tells : is_some 
     tells = tells;
   }
 
-  pub rests_cut : IsSound w → (calls : ℕ) → calls ≡ n - 1 → n ≤ 4 → keep → ((image : List ℕ) → w.stable ≡ Some image → IsImageOf x image) → (calls ≡ 3 → w.faults ≡ 0 → (image : List ℕ) → w.now ≡ Some image → IsImageOf y image)
-      → (Tells v → LeavesOnly v w (IsOldOrNext x y)) → (calls ≤ 1 → Tells v → LeavesOnly v w (IsImageOf x)) → IsResting v w x y keep n
-  rests_cut sound calls is most kept stable pending run early = record {
+  pub at_stop_cut : IsSound w → (calls : ℕ) → calls ≡ n - 1 → n ≤ 4 → keep → ((image : List ℕ) → w.stable ≡ Some image → IsImageOf x image) → (calls ≡ 3 → w.faults ≡ 0 → (image : List ℕ) → w.now ≡ Some image → IsImageOf y image)
+      → (Tells v → LeavesOnly v w (IsOldOrNext x y)) → (calls ≤ 1 → Tells v → LeavesOnly v w (IsImageOf x)) → IsDiskAtStop v w x y keep n
+  at_stop_cut sound calls is most kept stable pending run early = record {
     either = λ told image left. one_of image ((run told).each image (sound.counts_now v.moment image (run told).later left));
     early = λ told keep low image left. (early (omega (arith, is, low)) told).each image (sound.counts_now v.moment image (early (omega (arith, is, low)) told).later left);
     stable = λ keep low image now. stable image now;
@@ -60,8 +60,8 @@ module _ (v w : View) (x y : Member) (keep : Type 0) (n : ℕ) (tells : is_some 
       one_of image (inl old) = inl old
       one_of image (inr new) = inr (kept, new)
 
-  pub rests_whole : 5 ≤ n → IsDurable w → ((image : List ℕ) → w.now ≡ Some image → IsImageOf y image) → keep ⊎ (keep → ⊥) → ((keep → ⊥) → y ≡ x) → IsResting v w x y keep n
-  rests_whole many durable stands decided same = record {
+  pub at_stop_whole : 5 ≤ n → IsDurable w → ((image : List ℕ) → w.now ≡ Some image → IsImageOf y image) → keep ⊎ (keep → ⊥) → ((keep → ⊥) → y ≡ x) → IsDiskAtStop v w x y keep n
+  at_stop_whole many durable stands decided same = record {
     either = λ told image left. go decided image (here told image left);
     early = λ told keep few. absurd (omega (arith, many, few));
     stable = λ keep few. absurd (omega (arith, many, few));
@@ -106,7 +106,7 @@ none_left zero some = refl
 none_left (suc n) some = absurd (some (omega arith))
 
 -- the disk v2 is the one that lay on the shelf between
-module _ {D : Type 0} (told : D → View) (old new : Stored D) (v1 v2 : View) (x y : Member) (keep : Type 0) (stop : Stop) (rest : IsResting (told old.disk) v1 x y keep stop.n)
+module _ {D : Type 0} (told : D → View) (old new : Stored D) (v1 v2 : View) (x y : Member) (keep : Type 0) (stop : Stop) (rest : IsDiskAtStop (told old.disk) v1 x y keep stop.n)
     (alike : IsAlike v1 v2) (again : IsRestarted v2 (told new.disk) stop.choice new.gate new.end new.format new.party) (before after : ℕ) (seen : 0 < v1.faults → Rose before after)
     (less : keep → y.space.room ≢ x.space.room) (next : Bool) (found : next ≡ not (nat_eq (space new).room x.space.room)) (told_old : Tells (told old.disk)) where
   member_is : (m : Member) (image : List ℕ) → (told new.disk).now ≡ Some image → IsImageOf m image → member_of new ≡ m
@@ -184,7 +184,7 @@ module _ {D : Type 0} (told : D → View) (new : Stored D) (x y : Member) (keep 
   }
 
 -- where the disks tell their bytes, it is one of the two
-module _ {D : Type 0} (told : D → View) (old new : Stored D) (v1 v2 : View) (x y : Member) (keep : Type 0) (stop : Stop) (rest : IsResting (told old.disk) v1 x y keep stop.n)
+module _ {D : Type 0} (told : D → View) (old new : Stored D) (v1 v2 : View) (x y : Member) (keep : Type 0) (stop : Stop) (rest : IsDiskAtStop (told old.disk) v1 x y keep stop.n)
     (alike : IsAlike v1 v2) (again : IsRestarted v2 (told new.disk) stop.choice new.gate new.end new.format new.party) (before after : ℕ) (seen : 0 < v1.faults → Rose before after)
     (less : keep → y.space.room ≢ x.space.room) (next : Bool) (found : next ≡ not (nat_eq (space new).room x.space.room)) where
   pub expected_found : Tells (told old.disk) → member_of new ≡ cond next y x

@@ -6,13 +6,13 @@ use Rattle.x_disk.specs.Shelf.{alike_refl}
 use Rattle.key_store.specs.Store.{Stored}
 use Rattle.replay.specs.Around.{Around, ShelfStays}
 use Rattle.replay.specs.Closing.{AllSlots, AnyFaulty}
-use Rattle.replay.specs.Seats.{seat, owners, Fills, AreOpen, IsEmptyAt, IsPlace, IsLifted}
+use Rattle.replay.specs.OpenParties.{open_party, owners, Fills, AreOpen, IsEmptyAt, IsPlace, IsTakenOut}
 use Rattle.replay.specs.declared.failure.Ending.{Ending}
 use Rattle.replay.specs.declared.failure.Ending.TheVariants as ending
 use Rattle.replay.specs.declared.failure.Failure.TheVariants as failure
-use Rattle.replay.specs.declared.seat.Seat.{Seat}
-use Rattle.replay.specs.declared.seat.Held.{Held}
-use Rattle.replay.specs.declared.seat.Held.TheVariants.{Open, Loose, Out}
+use Rattle.replay.specs.declared.open_party.OpenParty.{OpenParty}
+use Rattle.replay.specs.declared.open_party.PartyDisk.{PartyDisk}
+use Rattle.replay.specs.declared.open_party.PartyDisk.TheVariants.{Open, Closed, Away}
 use Rattle.replay.proofs.BreakingOff.{others_on}
 use Rattle.replay.proofs.Members.{same_owners, still_open}
 use Rattle.replay.proofs.PuttingBack.{others_stay, rose_on}
@@ -24,7 +24,7 @@ shelf_same own entry slot n = record { others = λ other apart. alike_refl (entr
 
 module _ {D : Type 0} where
   -- from one event to the next, which goes on or not
-  pub around_on : {T : Type 0} {U : Type 0} (told : D → View) (a b c : List (Seat D)) (old mid new : List ℕ → View) (had has keeps : List ℕ → Type 0) (low between high : ℕ) (x : T) (result : Result U Ending)
+  pub around_on : {T : Type 0} {U : Type 0} (told : D → View) (a b c : List (OpenParty D)) (old mid new : List ℕ → View) (had has keeps : List ℕ → Type 0) (low between high : ℕ) (x : T) (result : Result U Ending)
       → Around told a b old mid had has low between (Ok x) → Around told b c mid new has keeps between high result → Around told a c old new had keeps low high result
   around_on told a b c old mid new had has keeps low between high x result first more = record {
     owners_stay = more.owners_stay ∙ first.owners_stay;
@@ -36,7 +36,7 @@ module _ {D : Type 0} where
   }
 
   -- a call ends early as the one in it did
-  pub around_err : {T : Type 0} {U : Type 0} (told : D → View) (a b : List (Seat D)) (old new : List ℕ → View) (had has : List ℕ → Type 0) (low high : ℕ) (e : Ending) → Around {T = T} told a b old new had has low high (Err e) → Around {T = U} told a b old new had has low high (Err e)
+  pub around_err : {T : Type 0} {U : Type 0} (told : D → View) (a b : List (OpenParty D)) (old new : List ℕ → View) (had has : List ℕ → Type 0) (low high : ℕ) (e : Ending) → Around {T = T} told a b old new had has low high (Err e) → Around {T = U} told a b old new had has low high (Err e)
   around_err told a b old new had has low high e around = record {
     owners_stay = around.owners_stay;
     others = around.others;
@@ -47,7 +47,7 @@ module _ {D : Type 0} where
   }
 
   -- a call that went on answers another value
-  pub around_ok : {T : Type 0} {U : Type 0} (told : D → View) (a b : List (Seat D)) (old new : List ℕ → View) (had has : List ℕ → Type 0) (low high : ℕ) (x : T) (y : U) → Around told a b old new had has low high (Ok x) → Around told a b old new had has low high (Ok y)
+  pub around_ok : {T : Type 0} {U : Type 0} (told : D → View) (a b : List (OpenParty D)) (old new : List ℕ → View) (had has : List ℕ → Type 0) (low high : ℕ) (x : T) (y : U) → Around told a b old new had has low high (Ok x) → Around told a b old new had has low high (Ok y)
   around_ok told a b old new had has low high x y around = record {
     owners_stay = around.owners_stay;
     others = around.others;
@@ -58,7 +58,7 @@ module _ {D : Type 0} where
   }
 
   -- or ended late, but not by a fault
-  pub around_late : {T : Type 0} {U : Type 0} (told : D → View) (a b : List (Seat D)) (old new : List ℕ → View) (had has : List ℕ → Type 0) (low high : ℕ) (x : T) (e : Ending) → (e ≡ ending.Failed failure.Fault → ⊥) → Around told a b old new had has low high (Ok x) → Around {T = U} told a b old new had has low high (Err e)
+  pub around_late : {T : Type 0} {U : Type 0} (told : D → View) (a b : List (OpenParty D)) (old new : List ℕ → View) (had has : List ℕ → Type 0) (low high : ℕ) (x : T) (e : Ending) → (e ≡ ending.Failed failure.Fault → ⊥) → Around told a b old new had has low high (Ok x) → Around {T = U} told a b old new had has low high (Err e)
   around_late told a b old new had has low high x e other around = record {
     owners_stay = around.owners_stay;
     others = around.others;
@@ -68,8 +68,8 @@ module _ {D : Type 0} where
     fault = λ is. (let same : e ≡ ending.Failed failure.Fault = cc is in absurd (other same));
   }
 
-  module _ (old mid new : List (Seat D)) (place : ℕ) (node : Stored D) (l : IsLifted old mid place node) (held : Held D) (fills : Fills mid new place held) where
-    is : new ≡ l.front ++ seat l.own held ∷ l.back
+  module _ (old mid new : List (OpenParty D)) (place : ℕ) (node : Stored D) (l : IsTakenOut old mid place node) (held : PartyDisk D) (fills : Fills mid new place held) where
+    is : new ≡ l.front ++ open_party l.own held ∷ l.back
     is = fills l.front l.own l.back l.after l.size
 
     pub filled_owners : owners new ≡ owners old
@@ -86,24 +86,24 @@ module _ {D : Type 0} where
       fault = fault;
     }
 
-  -- the same party took its seat again
-  pub refilled : (old mid new : List (Seat D)) (place : ℕ) (node again : Stored D) → IsLifted old mid place node → again ≡ node → Fills mid new place (Open again) → new ≡ old
-  refilled old mid new place node again l same fills = fills l.front l.own l.back l.after l.size ∙ (ap (λ (n : Stored D). l.front ++ seat l.own (Open n) ∷ l.back) same ∙ sym l.before)
+  -- the same party was put back in its place
+  pub refilled : (old mid new : List (OpenParty D)) (place : ℕ) (node again : Stored D) → IsTakenOut old mid place node → again ≡ node → Fills mid new place (Open again) → new ≡ old
+  refilled old mid new place node again l same fills = fills l.front l.own l.back l.after l.size ∙ (ap (λ (n : Stored D). l.front ++ open_party l.own (Open n) ∷ l.back) same ∙ sym l.before)
 
-  pub filled_open : (old mid new : List (Seat D)) (place : ℕ) (node again : Stored D) → IsLifted old mid place node → Fills mid new place (Open again) → AreOpen old → AreOpen new
+  pub filled_open : (old mid new : List (OpenParty D)) (place : ℕ) (node again : Stored D) → IsTakenOut old mid place node → Fills mid new place (Open again) → AreOpen old → AreOpen new
   filled_open old mid new place node again l fills all = subst AreOpen (sym (fills l.front l.own l.back l.after l.size)) (still_open l.front l.own node again l.back (subst AreOpen l.before all))
 
-  pub filled_faulty : (told : D → View) (mid new : List (Seat D)) (place : ℕ) (disk : D) → IsEmptyAt mid place → Fills mid new place (Loose disk) → 0 < (told disk).faults → AnyFaulty told new
+  pub filled_faulty : (told : D → View) (mid new : List (OpenParty D)) (place : ℕ) (disk : D) → IsEmptyAt mid place → Fills mid new place (Closed disk) → 0 < (told disk).faults → AnyFaulty told new
   filled_faulty told mid new place disk e fills some = subst (AnyFaulty told) (sym (fills e.front e.own e.back e.is e.size)) (faulty_at told e.front e.own disk e.back some)
 
-  pub empty_within : (seats : List (Seat D)) (place : ℕ) → IsEmptyAt seats place → place < length seats
-  empty_within seats place e = omega (arith, ap length e.is, length-append e.front (seat e.own Out ∷ e.back), e.size)
+  pub empty_within : (open_parties : List (OpenParty D)) (place : ℕ) → IsEmptyAt open_parties place → place < length open_parties
+  empty_within open_parties place e = omega (arith, ap length e.is, length-append e.front (open_party e.own Away ∷ e.back), e.size)
 
   -- the party of a place has a slot
-  pub slot_at : (slot : List ℕ → Type 0) (old : List (Seat D)) (place : ℕ) (own : List ℕ) (mid : List (Seat D)) (node : Stored D) → AllSlots slot (owners old) → IsPlace old own place → IsLifted old mid place node → slot own
+  pub slot_at : (slot : List ℕ → Type 0) (old : List (OpenParty D)) (place : ℕ) (own : List ℕ) (mid : List (OpenParty D)) (node : Stored D) → AllSlots slot (owners old) → IsPlace old own place → IsTakenOut old mid place node → slot own
   slot_at slot old place own mid node all is_place l =
-      subst slot (is_place l.front (seat l.own (Open node)) l.back l.before l.size).1 (go l.front (subst (λ (ss : List (Seat D)). AllSlots slot (owners ss)) l.before all))
+      subst slot (is_place l.front (open_party l.own (Open node)) l.back l.before l.size).1 (go l.front (subst (λ (ss : List (OpenParty D)). AllSlots slot (owners ss)) l.before all))
     where
-      go : (front : List (Seat D)) → AllSlots slot (owners (front ++ seat l.own (Open node) ∷ l.back)) → slot l.own
+      go : (front : List (OpenParty D)) → AllSlots slot (owners (front ++ open_party l.own (Open node) ∷ l.back)) → slot l.own
       go [] all = all.0
       go (f ∷ front) all = go front all.1

@@ -2,7 +2,7 @@
 use Rattle.std.proofs.Common.{arith, ◌≡◌, ◌≤◌, inl, inr, ℕ, ◌+◌, Bool, true, List, [], ◌++◌, length, take, Option, Some, None, slice_get, refl, sym, ◌∙◌, ap, ap₂, subst}
 use Rattle.std.proofs.lemmas.List.{append-nil}
 use Rattle.x_base.specs.Edge.{AppendsTo, WrotePrefix}
-use Rattle.x_disk.specs.Disk.{View}
+use Rattle.x_disk.specs.Disk.{View, IsSound}
 use Rattle.party_state.specs.declared.command.Input.{Input}
 use Rattle.member.specs.Member.{Member}
 use Rattle.world_laws.specs.World.{World, member_at}
@@ -15,30 +15,32 @@ use Rattle.replay.specs.Breaking.{StandForAll, IsBreak, IsBrokenAt}
 use Rattle.course.specs.Parts.{IsEventOf}
 use Rattle.course.specs.Acts.{Means}
 use Rattle.replay.specs.Course.{IsAt}
+use Rattle.replay.specs.Crash.{Crosses}
 use Rattle.replay.specs.Breaks.{IsBrokenAct, BreaksOff, BreaksHonest, BreaksAct}
 use Rattle.course.specs.Course.{Course, no_event, event_at, IsDoneBy, IsDone}
 use Rattle.replay.specs.Failing.{IsFailing}
-use Rattle.course.specs.Happenings.{Happening, Nothing, At, IsNumbered}
-use Rattle.course.specs.Outcomes.{input_in, world_after_told}
-use Rattle.replay.specs.Scene.{Shows}
-use Rattle.replay.specs.Seats.{IsPlace}
+use Rattle.course.specs.LineEvents.{LineEvent, Nothing, At, IsNumbered}
+use Rattle.course.specs.Outcomes.{input_in, world_after_given}
+use Rattle.replay.specs.PlayState.{Shows}
+use Rattle.replay.specs.OpenParties.{IsPlace}
 use Rattle.course.specs.Transcript.{outcome_line, text_line, event_lines, written_between}
-use Rattle.course.specs.declared.act.Act.{Act}
-use Rattle.course.specs.declared.act.Act.TheVariants as act
+use Rattle.course.specs.declared.act.LineAct.{LineAct}
+use Rattle.course.specs.declared.act.LineAct.TheVariants as act
 use Rattle.party_state.specs.declared.command.Input.TheVariants as input
 use Rattle.replay.specs.declared.failure.Ending.{Ending}
 use Rattle.replay.specs.declared.failure.Ending.TheVariants as ending
 use Rattle.replay.specs.declared.failure.Failure.{Failure}
 use Rattle.replay.specs.declared.failure.Failure.TheVariants as failure
-use Rattle.course.specs.declared.progress.Outcome.{Outcome}
+use Rattle.course.specs.declared.progress.EventOutcome.{EventOutcome}
 use Rattle.course.specs.declared.progress.Progress.{Progress}
-use Rattle.replay.specs.declared.scene.Scene.{Scene}
-use Rattle.replay.specs.declared.seat.Seat.{Seat}
+use Rattle.replay.specs.declared.play_state.PlayState.{PlayState}
+use Rattle.replay.specs.declared.open_party.OpenParty.{OpenParty}
 use Rattle.replay.proofs.Breakage.{shown_stand}
+use Rattle.replay.proofs.Shutting.{all_open, leaves_shut}
 use Rattle.replay.proofs.Happened.{nothing_done, told_action, honest_action, quiet_honest}
 use Rattle.replay.proofs.Leading.{appends_more}
 
-module _ {D : Type 0} (told : D → View) (entry : List ℕ → View) (old new : Scene D) where
+module _ {D : Type 0} (told : D → View) (entry : List ℕ → View) (old new : PlayState D) where
   -- an honest event broke off
   pub breaks_honest : (place : ℕ) (i : Option Input) (moment : ℕ) (why : Failure)
       → ((tell : Bool) (w : World) (own : List ℕ) → IsPlace old.parties own place → Shows tell told w old → (x : Member) × (member_at own w.members ≡ Some x) × HonestInput w.facts x.party i)
@@ -57,10 +59,10 @@ module _ {D : Type 0} (told : D → View) (entry : List ℕ → View) (old new :
         let b = breaks c.world c.now.number party is_place shows in
         let moment : now.moment ≡ c.now.moment = sym (ap (λ (q : Progress). q.moment) is) in
         let event = event_at party c.now.moment action b.1.completion in
-        let world_is : step c.now.number c.world event ≡ world_after_told c.now.number c.world b.1.member (input_in action) now.moment b.1.completion =
+        let world_is : step c.now.number c.world event ≡ world_after_given c.now.number c.world b.1.member (input_in action) now.moment b.1.completion =
         ap (λ (m : Option Member). step_at c.now.number c.world event m) b.1.at
         ∙ (told_action c.now.number c.world b.1.member c.now.moment number b.1.completion action numbered
-        ∙ ap (λ (m : ℕ). world_after_told c.now.number c.world b.1.member (input_in action) m b.1.completion) (sym moment)) in (
+        ∙ ap (λ (m : ℕ). world_after_given c.now.number c.world b.1.member (input_in action) m b.1.completion) (sym moment)) in (
           b.0,
           record {
             event = event;
@@ -70,25 +72,25 @@ module _ {D : Type 0} (told : D → View) (entry : List ℕ → View) (old new :
           },
         )
 
-    pub told_act : (party : List ℕ) (place : ℕ) (t : Input) → IsPlace old.parties party place → BreaksHonest told entry old new place (Some t) now.moment why → BreaksAct told entry (act.Tell party t) old new now why
-    told_act party place (input.Ordered command) is_place breaks = λ c h is shows means.
-        subst (λ (k : Happening). IsFailing why × IsBrokenAct told entry c new.parties k) (sym means) (broken_act party place 0 (Orders command) tt is_place breaks c is shows)
-    told_act party place (input.Arrived a) is_place breaks = λ c h is shows means.
-        subst (λ (k : Happening). IsFailing why × IsBrokenAct told entry c new.parties k) (sym means.1) (broken_act party place 0 (Hears means.0 (Some a)) tt is_place breaks c is shows)
+    pub given_act : (party : List ℕ) (place : ℕ) (t : Input) → IsPlace old.parties party place → BreaksHonest told entry old new place (Some t) now.moment why → BreaksAct told entry (act.Give party t) old new now why
+    given_act party place (input.Ordered command) is_place breaks = λ c h is shows means.
+        subst (λ (k : LineEvent). IsFailing why × IsBrokenAct told entry c new.parties k) (sym means) (broken_act party place 0 (Orders command) tt is_place breaks c is shows)
+    given_act party place (input.Arrived a) is_place breaks = λ c h is shows means.
+        subst (λ (k : LineEvent). IsFailing why × IsBrokenAct told entry c new.parties k) (sym means.1) (broken_act party place 0 (Hears means.0 (Some a)) tt is_place breaks c is shows)
 
     pub refused_act : (party : List ℕ) (place number : ℕ) → IsPlace old.parties party place → BreaksHonest told entry old new place None now.moment why → BreaksAct told entry (act.Refuse party number) old new now why
     refused_act party place number is_place breaks = λ c h is shows means.
-        subst (λ (k : Happening). IsFailing why × IsBrokenAct told entry c new.parties k) (sym means.4) (broken_act party place number (Hears means.0 None) (means.1, means.2, means.3) is_place breaks c is shows)
+        subst (λ (k : LineEvent). IsFailing why × IsBrokenAct told entry c new.parties k) (sym means.4) (broken_act party place number (Hears means.0 None) (means.1, means.2, means.3) is_place breaks c is shows)
 
   -- no event has begun, for want of memory
-  pub unplanned : (a : Act) (now : Progress) → new.parties ≡ old.parties → BreaksAct told entry a old new now failure.NoMemory
+  pub unplanned : (a : LineAct) (now : Progress) → new.parties ≡ old.parties → BreaksAct told entry a old new now failure.NoMemory
   unplanned a now same = λ c h is shows means. (
     tt,
     record {
       event = no_event c.now.moment;
       is = inl refl;
       honest = quiet_honest c;
-      stands = subst (λ (w : World). StandForAll told entry new.parties w.members) (sym (nothing_done c.now.number c.world c.now.moment)) (subst (λ (seats : List (Seat D)). StandForAll told entry seats c.world.members) (sym same) (shown_stand told entry c.world old shows));
+      stands = subst (λ (w : World). StandForAll told entry new.parties w.members) (sym (nothing_done c.now.number c.world c.now.moment)) (subst (λ (open_parties : List (OpenParty D)). StandForAll told entry open_parties c.world.members) (sym same) (shown_stand told entry c.world old shows));
     },
   )
 
@@ -98,17 +100,17 @@ break_of failure.NoMemory fails = tt
 break_of (failure.Damaged place) fails = absurd fails
 
 -- an event that is done is of what happens, or is none, and is honest
-record IsFair (c : Course) (h : Happening) (e : Event) : Type 0 where
+record IsFair (c : Course) (h : LineEvent) (e : Event) : Type 0 where
   pub is : IsEventOf c.now.moment h e
   pub honest : HonestAt c.world.facts (member_at e.party c.world.members) e.action
 
-none_fair : (c : Course) (h : Happening) (e : Event) → e ≡ no_event c.now.moment → IsFair c h e
+none_fair : (c : Course) (h : LineEvent) (e : Event) → e ≡ no_event c.now.moment → IsFair c h e
 none_fair c h e is = record {
   is = inl is;
   honest = subst (λ (d : Event). HonestAt c.world.facts (member_at d.party c.world.members) d.action) (sym is) (quiet_honest c);
 }
 
-fair_by : (before after : ℕ) (c : Course) (h : Happening) (e : Event) (o : Outcome) → IsDone true before after c h e o → IsFair c h e
+fair_by : (before after : ℕ) (c : Course) (h : LineEvent) (e : Event) (o : EventOutcome) → IsDone true before after c h e o → IsFair c h e
 fair_by before after c Nothing e o done = none_fair c Nothing e done.0
 fair_by before after c (At own action) e o done = go (member_at own c.world.members) refl done
   where
@@ -134,15 +136,15 @@ pub wrote_none : (written : Option (List ℕ)) (text : List ℕ) → WrotePrefix
 wrote_none None text = tt
 wrote_none (Some xs) text = (0, omega arith, ap Some (sym (append-nil xs)))
 
--- an event broke off, from whichever course the old scene and sink show; `entry` is the shelf's afterwards
-abbrev pub BreaksEvent : {D : Type 0} → (D → View) → (List ℕ → View) → ℕ → ℕ → Act → Scene D → Scene D → Progress → Option (List ℕ) → Option (List ℕ) → Ending → Type 0
-BreaksEvent told entry low high a old new p written next why = (before after : ℕ) → before ≤ low → high ≤ after → (start : Option (List ℕ)) (c : Course) (h : Happening) → IsAt true told start c old p written → Means a h
+-- an event broke off, from whichever course the old state and sink show; `entry` is the shelf's afterwards
+abbrev pub BreaksEvent : {D : Type 0} → (D → View) → (List ℕ → View) → ℕ → ℕ → LineAct → PlayState D → PlayState D → Progress → Option (List ℕ) → Option (List ℕ) → Ending → Type 0
+BreaksEvent told entry low high a old new p written next why = (before after : ℕ) → before ≤ low → high ≤ after → (start : Option (List ℕ)) (c : Course) (h : LineEvent) → IsAt true told start c old p written → Means a h
     → IsBreak why × IsBrokenAt told entry before after start c h new next why
 
-module _ {D : Type 0} (told : D → View) (entry : List ℕ → View) (low high : ℕ) (old new : Scene D) (p : Progress) (written next : Option (List ℕ)) where
+module _ {D : Type 0} (told : D → View) (sound : (disk : D) → IsSound (told disk)) (begin entry : List ℕ → View) (shelved : (name : List ℕ) → IsSound (entry name)) (low high : ℕ) (old new : PlayState D) (p : Progress) (written next : Option (List ℕ)) where
   -- an event broke off, and nothing of its lines was written
-  pub event_breaks : (a : Act) (why : Failure) → BreaksAct told entry a old new p why → BreaksEvent told entry low high a old new p written written (ending.Failed why)
-  event_breaks a why breaks = λ before after first last start c h at means.
+  pub event_breaks : (a : LineAct) (why : Failure) → Crosses told begin entry a old new p → BreaksAct told entry a old new p why → BreaksEvent told entry low high a old new p written written (ending.Failed why)
+  event_breaks a why crosses breaks = λ before after first last start c h at means.
       let b = breaks c h at.now_is at.shows means in (
         break_of why b.0,
         record {
@@ -153,14 +155,16 @@ module _ {D : Type 0} (told : D → View) (entry : List ℕ → View) (low high 
           part = [];
           part_is = inl refl;
           done = λ write. absurd (cc write);
+          opened = λ write. absurd (cc write);
+          leaves = leaves_shut told begin entry a old new p sound shelved crosses c h at.now_is at.shows means;
           out = subst (AppendsTo start written) (sym (append-nil c.transcript)) at.out;
         },
       )
 
   -- an event was done, and a part of its lines was written
-  pub lines_break : (a : Act) (o : Outcome) (k : ℕ) (text : Option (List ℕ)) (why : Ending) → Acts told low high a old new p o → k ≡ length old.texts → text ≡ slice_get new.texts k → IsBreak why
+  pub lines_break : (a : LineAct) (o : EventOutcome) (k : ℕ) (text : Option (List ℕ)) (why : Ending) → Crosses told begin entry a old new p → Acts told low high a old new p o → k ≡ length old.texts → text ≡ slice_get new.texts k → IsBreak why
       → WrotePrefix written next (outcome_line p.number o ++ text_line (k + 1) text) → BreaksEvent told entry low high a old new p written next why
-  lines_break a o k text why acts k_is text_is is_break wrote = λ before after first last start c h at means.
+  lines_break a o k text why crosses acts k_is text_is is_break wrote = λ before after first last start c h at means.
       let m = acts true before after first last c h at.now_is at.shows means in
       let count : k ≡ length c.world.texts = k_is ∙ ap length at.shows.texts_are in
       let behind : text ≡ written_between c.world.texts (step c.now.number c.world m.event).texts = text_is ∙ ap₂ (λ (l : List (List ℕ)) (n : ℕ). slice_get l n) m.shows.texts_are count in
@@ -177,12 +181,14 @@ module _ {D : Type 0} (told : D → View) (entry : List ℕ → View) (low high 
           part = w.part;
           part_is = inr (o, w.count, m.done, w.of_text);
           done = λ write. (o, w.count, m.done, w.of_text);
+          opened = λ write. all_open true told new.parties m.shows.all_open;
+          leaves = leaves_shut told begin entry a old new p sound shelved crosses c h at.now_is at.shows means;
           out = appends_more start written next c.transcript w.part at.out w.out;
         },
       )
 
   -- an event broke off, and wasn't forged
-  pub act_breaks : (a : Act) (why : Ending) → ((n : ℕ) → why ≡ ending.Forged n → ⊥) → (why ≡ ending.Write → ⊥) → ((f : Failure) → why ≡ ending.Failed f → BreaksAct told entry a old new p f) → BreaksEvent told entry low high a old new p written written why
-  act_breaks a (ending.Forged n) unforged written_whole breaks = absurd (unforged n refl)
-  act_breaks a ending.Write unforged written_whole breaks = absurd (written_whole refl)
-  act_breaks a (ending.Failed f) unforged written_whole breaks = event_breaks a f (breaks f refl)
+  pub act_breaks : (a : LineAct) (why : Ending) → Crosses told begin entry a old new p → ((n : ℕ) → why ≡ ending.Forged n → ⊥) → (why ≡ ending.Write → ⊥) → ((f : Failure) → why ≡ ending.Failed f → BreaksAct told entry a old new p f) → BreaksEvent told entry low high a old new p written written why
+  act_breaks a (ending.Forged n) crosses unforged written_whole breaks = absurd (unforged n refl)
+  act_breaks a ending.Write crosses unforged written_whole breaks = absurd (written_whole refl)
+  act_breaks a (ending.Failed f) crosses unforged written_whole breaks = event_breaks a f crosses (breaks f refl)

@@ -4,14 +4,14 @@ use Rattle.x_base.specs.Edge.{Rose}
 use Rattle.x_disk.specs.Disk.{View}
 use Rattle.x_disk.specs.Shelf.{OthersStay, SlotsStay}
 use Rattle.replay.specs.Closing.{AnyFaulty, OtherDisksStay}
-use Rattle.replay.specs.Seats.{AreOpen, owners}
+use Rattle.replay.specs.OpenParties.{AreOpen, owners}
 use Rattle.replay.specs.declared.failure.Ending.{Ending}
 use Rattle.replay.specs.declared.failure.Ending.TheVariants as ending
 use Rattle.replay.specs.declared.failure.Failure.{Failure}
 use Rattle.replay.specs.declared.failure.Failure.TheVariants as failure
 use Rattle.replay.specs.declared.result.PlayResult.{PlayResult}
 use Rattle.replay.specs.declared.result.PlayResult.TheVariants as played
-use Rattle.replay.specs.declared.seat.Seat.{Seat}
+use Rattle.replay.specs.declared.open_party.OpenParty.{OpenParty}
 
 -- the disks of all parties but this one, each slot, and the count of faults, which doesn't fall
 pub record ShelfStays (own : List ℕ) (old new : List ℕ → View) (had has : List ℕ → Type 0) (before after : ℕ) : Type 0 where
@@ -25,11 +25,11 @@ pub record IsPut {T : Type 0} (own : List ℕ) (old new : List ℕ → View) (ha
   pub fault : result ≡ Err failure.Fault → Rose before after
   pub undamaged : (place : ℕ) → result ≡ Err (failure.Damaged place) → ⊥
 
--- the parties that have seats, the disks of all others, each slot, and the count of faults; the parties are open where the
+-- the parties that have places, the disks of all others, each slot, and the count of faults; the parties are open where the
 -- play goes on, and a fault is one that is counted
-pub record Around {D : Type 0} {T : Type 0} (told : D → View) (seats now : List (Seat D)) (old new : List ℕ → View) (had has : List ℕ → Type 0) (before after : ℕ) (result : Result T Ending) : Type 0 where
-  pub owners_stay : owners now ≡ owners seats
-  pub others : OtherDisksStay old new seats
+pub record Around {D : Type 0} {T : Type 0} (told : D → View) (open_parties now : List (OpenParty D)) (old new : List ℕ → View) (had has : List ℕ → Type 0) (before after : ℕ) (result : Result T Ending) : Type 0 where
+  pub owners_stay : owners now ≡ owners open_parties
+  pub others : OtherDisksStay old new open_parties
   pub slots : SlotsStay had has
   pub later : before ≤ after
   pub opened : OnOk result (AreOpen now)

@@ -1,4 +1,4 @@
--- A planned event at a party that was taken out of its seat: whole, stopped, or broken off (this project's profile).
+-- A planned event at a party that was taken out: whole, stopped, or broken off (this project's profile).
 use Rattle.std.specs.Prelude.{◌≡◌, ◌⊎◌, ◌++◌, ℕ, Bool, true, List, Option, Result, IfOk, IfErr, is_some, option_to_list}
 use Rattle.x_base.specs.declared.verdict.Verdict.{Verdict}
 use Rattle.x_disk.specs.Disk.{View, Tells}
@@ -12,18 +12,18 @@ use Rattle.world_laws.specs.Noted.{noted}
 use Rattle.course.specs.Stops.{KeepsChange, member_next}
 use Rattle.course.specs.declared.progress.Stop.{Stop}
 use Rattle.replay.specs.Failing.{IsFailing, ReadsEither}
-use Rattle.replay.specs.Seats.{Fills}
-use Rattle.replay.specs.Stops.{IsResting, IsStopped}
+use Rattle.replay.specs.OpenParties.{Fills}
+use Rattle.replay.specs.Stops.{IsDiskAtStop, IsStopped}
 use Rattle.replay.specs.declared.failure.Failure.{Failure}
-use Rattle.replay.specs.declared.scene.Scene.{Scene}
-use Rattle.replay.specs.declared.seat.Seat.{Seat}
-use Rattle.replay.specs.declared.seat.Held.{Held}
-use Rattle.replay.specs.declared.seat.Held.TheVariants.{Open, Loose, Out}
+use Rattle.replay.specs.declared.play_state.PlayState.{PlayState}
+use Rattle.replay.specs.declared.open_party.OpenParty.{OpenParty}
+use Rattle.replay.specs.declared.open_party.PartyDisk.{PartyDisk}
+use Rattle.replay.specs.declared.open_party.PartyDisk.TheVariants.{Open, Closed, Away}
 use Rattle.replay.specs.declared.expecting.Expected.{Expected}
-use Rattle.replay.specs.declared.stopped.Lost.{Lost}
+use Rattle.replay.specs.declared.stopped.FailedPartyDisk.{FailedPartyDisk}
 
--- the party took its seat as it is after the event; what was planned to be written is among the texts, and its fact is noted
-pub record IsWhole {D : Type 0} (told : D → View) (p : PlannedNode D) (old new : Scene D) (place : ℕ) (verdict : Verdict) : Type 0 where
+-- the party was put back as it is after the event; what was planned to be written is among the texts, and its fact is noted
+pub record IsWhole {D : Type 0} (told : D → View) (p : PlannedNode D) (old new : PlayState D) (place : ℕ) (verdict : Verdict) : Type 0 where
   pub node : Stored D
   pub fills : Fills old.parties new.parties place (Open node)
   pub next : member_of node ≡ after (member_of p.node) p.plan.edits
@@ -34,26 +34,26 @@ pub record IsWhole {D : Type 0} (told : D → View) (p : PlannedNode D) (old new
   pub facts_are : new.facts ≡ old.facts ++ noted p.plan.under p.plan.reply
 
 -- what is held of a party stands for x; or, where a change is kept, for y: an open party, or what a read gives of its disk
-abbrev pub HoldsEither : {D : Type 0} → (D → View) → Held D → Member → Member → Type 0 → Type 0
+abbrev pub HoldsEither : {D : Type 0} → (D → View) → PartyDisk D → Member → Member → Type 0 → Type 0
 HoldsEither told (Open node) x y keep = Tells (told node.disk) × ((member_of node ≡ x) ⊎ (keep × (member_of node ≡ y)))
-HoldsEither told (Loose disk) x y keep = ReadsEither (told disk) x y keep
-HoldsEither told Out x y keep = ⊥
+HoldsEither told (Closed disk) x y keep = ReadsEither (told disk) x y keep
+HoldsEither told Away x y keep = ⊥
 
 -- or what a read gives of the one on the shelf, where nothing is held
-abbrev pub StandsEither : {D : Type 0} → (D → View) → View → Held D → Member → Member → Type 0 → Type 0
+abbrev pub StandsEither : {D : Type 0} → (D → View) → View → PartyDisk D → Member → Member → Type 0 → Type 0
 StandsEither told shelved (Open node) x y keep = Tells (told node.disk) × ((member_of node ≡ x) ⊎ (keep × (member_of node ≡ y)))
-StandsEither told shelved (Loose disk) x y keep = ReadsEither (told disk) x y keep
-StandsEither told shelved Out x y keep = ReadsEither shelved x y keep
+StandsEither told shelved (Closed disk) x y keep = ReadsEither (told disk) x y keep
+StandsEither told shelved Away x y keep = ReadsEither shelved x y keep
 
 -- the event broke off
-pub record IsBrokenIn {D : Type 0} (told : D → View) (shelved : View) (old new : List (Seat D)) (place : ℕ) (node : Stored D) (x y : Member) (keep : Type 0) (why : Failure) : Type 0 where
-  pub held : Held D
+pub record IsBrokenIn {D : Type 0} (told : D → View) (shelved : View) (old new : List (OpenParty D)) (place : ℕ) (node : Stored D) (x y : Member) (keep : Type 0) (why : Failure) : Type 0 where
+  pub held : PartyDisk D
   pub fills : Fills old new place held
   pub fails : Tells (told node.disk) → IsFailing why × StandsEither told shelved held x y keep
 
 -- a whole one broke off, or memory was wanted behind it; the disk is held
-pub record IsLeft {D : Type 0} (told : D → View) (p : PlannedNode D) (old new : List (Seat D)) (place : ℕ) (why : Failure) : Type 0 where
-  pub held : Held D
+pub record IsLeft {D : Type 0} (told : D → View) (p : PlannedNode D) (old new : List (OpenParty D)) (place : ℕ) (why : Failure) : Type 0 where
+  pub held : PartyDisk D
   pub fills : Fills old new place held
   pub fails : Tells (told p.node.disk) → IsFailing why × HoldsEither told held (member_of p.node) (after (member_of p.node) p.plan.edits) (is_change p.plan.edits ≡ true)
 
@@ -63,17 +63,17 @@ pub record AreExpected (e : Expected) (x : Member) (i : Option Input) (moment : 
   pub after : e.after ≡ member_next x i moment
 
 -- on the disk that is begun an event of this member was carried out up to a call, or it failed; these are expected behind it
-pub record Begins {D : Type 0} (told : D → View) (node : Stored D) (i : Option Input) (moment n : ℕ) (e : Expected) (begun : Result D (Lost D)) : Type 0 where
+pub record Begins {D : Type 0} (told : D → View) (node : Stored D) (i : Option Input) (moment n : ℕ) (e : Expected) (begun : Result D (FailedPartyDisk D)) : Type 0 where
   pub expected : AreExpected e (member_of node) i moment
-  pub rests : IfOk begun (λ disk. IsResting (told node.disk) (told disk) (member_of node) (member_next (member_of node) i moment) (KeepsChange (member_of node) i moment) n)
-  pub failing : IfErr begun (λ lost. IsFailing lost.why)
-  pub reads : IfErr begun (λ lost. Tells (told node.disk) → ReadsEither (told lost.disk) (member_of node) (member_next (member_of node) i moment) (KeepsChange (member_of node) i moment))
+  pub at_stop : IfOk begun (λ disk. IsDiskAtStop (told node.disk) (told disk) (member_of node) (member_next (member_of node) i moment) (KeepsChange (member_of node) i moment) n)
+  pub failing : IfErr begun (λ failed_disk. IsFailing failed_disk.why)
+  pub reads : IfErr begun (λ failed_disk. Tells (told node.disk) → ReadsEither (told failed_disk.disk) (member_of node) (member_next (member_of node) i moment) (KeepsChange (member_of node) i moment))
 
--- the party took its seat as it was opened again
-pub record IsStoppedIn {D : Type 0} (told : D → View) (old new : List (Seat D)) (place : ℕ) (node : Stored D) (i : Option Input) (moment : ℕ) (stop : Stop) (before after : ℕ) (next : Bool) : Type 0 where
+-- the party was put back as it was opened again
+pub record IsStoppedIn {D : Type 0} (told : D → View) (old new : List (OpenParty D)) (place : ℕ) (node : Stored D) (i : Option Input) (moment : ℕ) (stop : Stop) (before after : ℕ) (next : Bool) : Type 0 where
   pub opened : Stored D
   pub fills : Fills old new place (Open opened)
   pub stops : (tell : Bool) → (tell ≡ true → Tells (told node.disk)) → IsStopped tell told (member_of node) (member_next (member_of node) i moment) (KeepsChange (member_of node) i moment) stop before after opened next
 
-abbrev pub IsStopLeft : {D : Type 0} → (D → View) → View → List (Seat D) → List (Seat D) → ℕ → Stored D → Option Input → ℕ → Failure → Type 0
+abbrev pub IsStopLeft : {D : Type 0} → (D → View) → View → List (OpenParty D) → List (OpenParty D) → ℕ → Stored D → Option Input → ℕ → Failure → Type 0
 IsStopLeft told shelved old new place node i moment why = IsBrokenIn told shelved old new place node (member_of node) (member_next (member_of node) i moment) (KeepsChange (member_of node) i moment) why

@@ -21,7 +21,7 @@ pub record ReadsEither (v : View) (x y : Member) (keep : Type 0) : Type 0 where
 
 -- a disk on which the power-off failed, or the opening behind it: what a read gives is an image that could be left, and
 -- where each of those stands for a party, no other was found
-pub record IsLost (v w : View) (why : Failure) : Type 0 where
+pub record IsFailedPartyDisk (v w : View) (why : Failure) : Type 0 where
   pub tells : is_some w.now ≡ is_some v.now
   pub among : (image : List ℕ) → w.now ≡ Some image → v.may_leave image
   pub sound : Tells v → ((image : List ℕ) → v.may_leave image → (party : Party) × Stands image party) → IsFailing why

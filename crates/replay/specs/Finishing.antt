@@ -5,17 +5,18 @@ use Rattle.x_base.specs.Edge.{AppendsTo}
 use Rattle.x_disk.specs.Disk.{View}
 use Rattle.scenario.specs.declared.line.Line.{Line}
 use Rattle.replay.specs.Breaking.{StandForAll, IsBreak, IsBrokenIn}
-use Rattle.course.specs.Course.{Course, Leads}
+use Rattle.course.specs.Course.{Course, LinesLead}
 use Rattle.replay.specs.Course.{IsAt}
 use Rattle.course.specs.Tallies.{IsTallied}
-use Rattle.replay.specs.Scene.{Shows}
+use Rattle.replay.specs.PlayState.{Shows}
+use Rattle.replay.specs.OpenParties.{AreOpen}
 use Rattle.course.specs.Transcript.{show_lines}
 use Rattle.replay.specs.declared.failure.Ending.{Ending}
 use Rattle.replay.specs.declared.failure.Failure.{Failure}
 use Rattle.replay.specs.declared.making.SetUpEnd.{SetUpEnd}
 use Rattle.replay.specs.declared.making.SetUpEnd.TheVariants.{NotEmpty, Failed}
 use Rattle.course.specs.declared.progress.Progress.{Progress}
-use Rattle.replay.specs.declared.scene.Scene.{Scene}
+use Rattle.replay.specs.declared.play_state.PlayState.{PlayState}
 use Rattle.course.specs.declared.tally.Tally.{Tally}
 use Rattle.replay.specs.declared.result.PlayResult.{PlayResult}
 use Rattle.x_base.specs.declared.verdict.Verdict.TheVariants as verdict
@@ -23,29 +24,30 @@ use Rattle.replay.specs.declared.failure.Ending.TheVariants as ending
 use Rattle.replay.specs.declared.failure.Failure.TheVariants as failure
 use Rattle.replay.specs.declared.result.PlayResult.TheVariants as played
 
--- the lines led to a course that the new scene shows; its transcript was written with the show lines behind it
-pub record IsFinished {D : Type 0} (tell : Bool) (told : D → View) (before after : ℕ) (start : Option (List ℕ)) (lines : List Line) (c : Course) (new : Scene D) (written : Option (List ℕ)) (tally : Tally) : Type 0 where
+-- the lines led to a course that the new state shows; its transcript was written with the show lines behind it
+pub record IsFinished {D : Type 0} (tell : Bool) (told : D → View) (before after : ℕ) (start : Option (List ℕ)) (lines : List Line) (c : Course) (new : PlayState D) (written : Option (List ℕ)) (tally : Tally) : Type 0 where
   pub course : Course
-  pub leads : Leads tell before after lines c course
+  pub leads : LinesLead tell before after lines c course
   pub shows : Shows tell told course.world new
   pub out : AppendsTo start written (course.transcript ++ show_lines course.world.members)
   pub tallied : IsTallied course.now course.world.members tally
 
 -- the lines led to a course for which the disks stand; a beginning of the show lines is out
-pub record IsUnshown {D : Type 0} (told : D → View) (entry : List ℕ → View) (before after : ℕ) (start : Option (List ℕ)) (lines : List Line) (c : Course) (new : Scene D) (written : Option (List ℕ)) : Type 0 where
+pub record IsUnshown {D : Type 0} (told : D → View) (entry : List ℕ → View) (before after : ℕ) (start : Option (List ℕ)) (lines : List Line) (c : Course) (new : PlayState D) (written : Option (List ℕ)) : Type 0 where
   pub course : Course
-  pub leads : Leads true before after lines c course
+  pub leads : LinesLead true before after lines c course
   pub stands : StandForAll told entry new.parties course.world.members
+  pub opened : AreOpen new.parties
   pub shown : ℕ
   pub out : AppendsTo start written (course.transcript ++ take shown (show_lines course.world.members))
 
--- the same from whichever course the old scene and sink show; `entry` is the shelf's afterwards
+-- the same from whichever course the old state and sink show; `entry` is the shelf's afterwards
 
-abbrev pub Finishes : {D : Type 0} → (D → View) → ℕ → ℕ → List Line → Scene D → Scene D → Progress → Option (List ℕ) → Option (List ℕ) → Tally → Type 0
+abbrev pub Finishes : {D : Type 0} → (D → View) → ℕ → ℕ → List Line → PlayState D → PlayState D → Progress → Option (List ℕ) → Option (List ℕ) → Tally → Type 0
 Finishes told low high lines old new p written next tally = (tell : Bool) (before after : ℕ) → before ≤ low → high ≤ after → (start : Option (List ℕ)) (c : Course) → IsAt tell told start c old p written
     → IsFinished tell told before after start lines c new next tally
 
-abbrev pub BreaksPlay : {D : Type 0} → (D → View) → (List ℕ → View) → ℕ → ℕ → List Line → Scene D → Scene D → Progress → Option (List ℕ) → Option (List ℕ) → Ending → Type 0
+abbrev pub BreaksPlay : {D : Type 0} → (D → View) → (List ℕ → View) → ℕ → ℕ → List Line → PlayState D → PlayState D → Progress → Option (List ℕ) → Option (List ℕ) → Ending → Type 0
 BreaksPlay told entry low high lines old new p written next why = (before after : ℕ) → before ≤ low → high ≤ after → (start : Option (List ℕ)) (c : Course) → IsAt true told start c old p written
     → IsBreak why × (IsBrokenIn told entry before after start lines c new next why ⊎ IsUnshown told entry before after start lines c new next)
 

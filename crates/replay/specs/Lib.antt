@@ -1,6 +1,6 @@
 pub mod Acting
 pub mod Stops
-pub mod Scene
+pub mod PlayState
 pub mod Course
 pub mod Breaking
 pub mod Lines
@@ -10,7 +10,8 @@ pub mod Breaks
 pub mod Closing
 pub mod Failing
 pub mod Finishing
-pub mod Seats
+pub mod OpenParties
 pub mod Showing
 pub mod Around
 pub mod Events
+pub mod Crash

@@ -1,6 +1,6 @@
 -- How the parties of a scenario are set up on their disks (this project's profile).
 use Rattle.std.specs.Prelude.{◌≡◌, ◌≢◌, ◌⊎◌, ◌+◌, ◌*◌, ◌<◌, ◌≤◌, ◌++◌, ℕ, Bool, true, false, length, take, List, [], ◌∷◌, Contains, Option, Some, None, is_some, codes}
-use Rattle.x_disk.specs.Disk.{View, Tells}
+use Rattle.x_disk.specs.Disk.{View, Tells, LeavesOnly}
 use Rattle.x_disk.specs.Shelf.{IsAlike, AllStay, OthersStay}
 use Rattle.key_journal.specs.Journal.{is_blank}
 use Rattle.key_journal.specs.declared.cause.Cause.{Cause}
@@ -13,18 +13,19 @@ use Rattle.change_code.specs.declared.format.Format.TheVariants.{Two}
 use Rattle.key_store.specs.Store.{Stored, StandsAs, space}
 use Rattle.scenario.specs.declared.line.Line.{Line}
 use Rattle.member.specs.Member.{Member}
-use Rattle.node_core.specs.Turns.{member_of, IsImageOf}
-use Rattle.replay.specs.Breaking.{AreOnShelf}
+use Rattle.node_core.specs.Turns.{member_of, IsImageOf, IsOldOrNext}
+use Rattle.replay.specs.Breaking.{AreOnShelf, AreDurable}
+use Rattle.replay.specs.Crash.{AddsOnly, disk_of, IsSetUpInPart}
 use Rattle.replay.specs.Failing.{IsFailing}
 use Rattle.replay.specs.Closing.{AllSlots, AreApart, OtherDisksStay}
-use Rattle.replay.specs.Seats.{seat, members, owners, AreOpen, AreIn}
+use Rattle.replay.specs.OpenParties.{open_party, members, owners, AreOpen, AreIn}
 use Rattle.course.specs.Starts.{with_load, with_loads, loads_of, members_by}
 use Rattle.replay.specs.declared.failure.Failure.{Failure}
 use Rattle.course.specs.declared.declaring.NewParty.{NewParty}
 use Rattle.replay.specs.declared.making.SetUpEnd.{SetUpEnd}
 use Rattle.replay.specs.declared.making.SetUpEnd.TheVariants.{NotEmpty, Failed}
-use Rattle.replay.specs.declared.seat.Seat.{Seat}
-use Rattle.replay.specs.declared.seat.Held.TheVariants.{Open}
+use Rattle.replay.specs.declared.open_party.OpenParty.{OpenParty}
+use Rattle.replay.specs.declared.open_party.PartyDisk.TheVariants.{Open}
 use Rattle.course.specs.Parties.{line_of_party, parties_in, new_member, full_member}
 use Rattle.key_journal.specs.declared.cause.Cause.TheVariants as cause
 use Rattle.replay.specs.declared.failure.Failure.TheVariants as failure
@@ -79,10 +80,16 @@ pub record IsLoad {D : Type 0} (told : D → View) (old new : Stored D) (l : Lin
   pub tells : is_some (told new.disk).now ≡ is_some (told old.disk).now
   pub links : length new.party.links ≤ length old.party.links + 1
   pub room : (space old).room ≤ (space new).room + longest_load
+  -- a crash at any moment of it leaves the member without the link, or with it
+  pub any_moment : Tells (told old.disk) → LeavesOnly (told old.disk) (told new.disk) (IsOldOrNext (member_of old) (with_load (member_of old) l))
 
 abbrev pub IsLoadOrSame : {D : Type 0} → (D → View) → Stored D → Stored D → Option LinkRec → Type 0
 IsLoadOrSame told old new None = new ≡ old
 IsLoadOrSame told old new (Some l) = IsLoad told old new l
+
+-- the image stands for the member with none or some of the loads, in order
+abbrev pub IsLoadedInPart : Member → List LinkRec → List ℕ → Type 0
+IsLoadedInPart x loads image = (k : ℕ) × IsImageOf (with_loads x (take k loads)) image
 
 -- the store of a party, from which the lines so far were loaded
 pub record IsLoadedTo {D : Type 0} (told : D → View) (old new : Stored D) (loads : List LinkRec) : Type 0 where
@@ -90,12 +97,14 @@ pub record IsLoadedTo {D : Type 0} (told : D → View) (old new : Stored D) (loa
   pub tells : is_some (told new.disk).now ≡ is_some (told old.disk).now
   pub links : length new.party.links ≤ length loads
   pub room : (space old).room ≤ (space new).room + longest_load * length loads
+  pub any_moment : Tells (told old.disk) → LeavesOnly (told old.disk) (told new.disk) (IsLoadedInPart (member_of old) loads)
 
 -- a failure left the disk of this member with none or some of the loads, in order
 pub record IsPartlyLoaded (old new : View) (x : Member) (loads : List LinkRec) (why : Failure) : Type 0 where
   pub failing : Tells old → IsFailing why
   pub tells : is_some new.now ≡ is_some old.now
-  pub partly : Tells old → (image : List ℕ) → new.now ≡ Some image → (k : ℕ) × IsImageOf (with_loads x (take k loads)) image
+  pub partly : Tells old → (image : List ℕ) → new.now ≡ Some image → IsLoadedInPart x loads image
+  pub any_moment : Tells old → LeavesOnly old new (IsLoadedInPart x loads)
   pub fault : why ≡ failure.Fault → 0 < new.faults
 
 -- the disk was blank, and the open one stands for this member
@@ -104,11 +113,17 @@ pub record IsSetUp {D : Type 0} (told : D → View) (old : View) (x : Member) (n
   pub tells : is_some (told node.disk).now ≡ is_some old.now
   pub member : member_of node ≡ x
 
--- what a read gives of the disk of the party at hand: what it gave before; or, where that was blank, a blank image, or
--- one that stands in format 2 for the party with none or some of its loads, in order
+-- the disk read blank, and the image is blank, or stands in format 2 for the party with none or some of its loads, in order
+abbrev pub BeginsInPart : View → Member → List LinkRec → List ℕ → Type 0
+BeginsInPart old x loads image = ReadsBlank old × ((is_blank image ≡ true) ⊎ ((k : ℕ) × StandsAs image Two (with_loads x (take k loads)).party))
+
+-- what a read gives of the disk of the party at hand: what it gave before, or a part of the set-up
 abbrev pub IsBeginning : View → Member → List LinkRec → List ℕ → Type 0
-IsBeginning old x loads image = (old.now ≡ Some image)
-    ⊎ (ReadsBlank old × ((is_blank image ≡ true) ⊎ ((k : ℕ) × StandsAs image Two (with_loads x (take k loads)).party)))
+IsBeginning old x loads image = (old.now ≡ Some image) ⊎ BeginsInPart old x loads image
+
+-- what a crash at any moment leaves of it: a part of the set-up, or what it could leave before
+abbrev pub BeginsOnly : View → View → Member → List LinkRec → Type 0
+BeginsOnly old new x loads = Tells old → AddsOnly old new (BeginsInPart old x loads)
 
 -- the disk isn't blank, and a read of it gives what it gave before
 pub record IsNotBlank (old new : View) : Type 0 where
@@ -122,13 +137,14 @@ pub record IsHalfSetUp (old new : View) (x : Member) (loads : List LinkRec) (why
   pub begins : (image : List ℕ) → new.now ≡ Some image → IsBeginning old x loads image
 
 -- why a party isn't set up, and what is left
-abbrev pub IsUnset : View → View → Member → List LinkRec → SetUpEnd → Type 0
-IsUnset old new x loads NotEmpty = IsNotBlank old new
-IsUnset old new x loads (Failed why) = IsHalfSetUp old new x loads why
+abbrev pub IsFailedSetUp : View → View → Member → List LinkRec → SetUpEnd → Type 0
+IsFailedSetUp old new x loads NotEmpty = IsNotBlank old new
+IsFailedSetUp old new x loads (Failed why) = IsHalfSetUp old new x loads why
 
 -- the same of a disk in hand
-pub record IsUnsetDisk (old new : View) (x : Member) (loads : List LinkRec) (why : SetUpEnd) : Type 0 where
-  pub unset : Tells old → IsUnset old new x loads why
+pub record IsFailedSetUpDisk (old new : View) (x : Member) (loads : List LinkRec) (why : SetUpEnd) : Type 0 where
+  pub failed_set_up : Tells old → IsFailedSetUp old new x loads why
+  pub any_moment : BeginsOnly old new x loads
   pub fault : why ≡ Failed failure.Fault → 0 < new.faults
 
 -- a cause for which no party begins
@@ -143,51 +159,63 @@ EndsBy cause.NoMemory e = e ≡ Failed failure.NoMemory
 abbrev pub IsOrFails : SetUpEnd → SetUpEnd → Type 0
 IsOrFails end new = (new ≡ end) ⊎ ((why : Failure) × IsFailing why × (new ≡ Failed why))
 
--- ---- a party takes its seat
+-- ---- a party is added
 
--- the party of a line is set up, and sits behind the others
-pub record IsSeatedNext {D : Type 0} (told : D → View) (lines : List Line) (p : NewParty) (old new : List ℕ → View) (slot : List ℕ → Type 0) (was seats : List (Seat D)) : Type 0 where
+-- the party of a line is set up, and stands behind the others
+pub record IsAddedNext {D : Type 0} (told : D → View) (lines : List Line) (p : NewParty) (old new : List ℕ → View) (slot : List ℕ → Type 0) (was open_parties : List (OpenParty D)) : Type 0 where
   pub node : Stored D
-  pub behind : seats ≡ was ++ seat p.own (Open node) ∷ []
+  pub behind : open_parties ≡ was ++ open_party p.own (Open node) ∷ []
   pub made : IsSetUp told (old p.own) (full_member lines p) node
+  pub any_moment : BeginsOnly (old p.own) (told node.disk) (new_member p) (loads_of p.own lines)
   pub placed : slot p.own
   pub others : OthersStay p.own old new
 
 -- where the line declares none, nothing changes
-abbrev pub SeatsNext : {D : Type 0} → (D → View) → List Line → Option NewParty → (List ℕ → View) → (List ℕ → View) → (List ℕ → Type 0) → List (Seat D) → List (Seat D) → Type 0
-SeatsNext told lines None old new slot was seats = (seats ≡ was) × AllStay old new
-SeatsNext told lines (Some p) old new slot was seats = IsSeatedNext told lines p old new slot was seats
+abbrev pub AddsNext : {D : Type 0} → (D → View) → List Line → Option NewParty → (List ℕ → View) → (List ℕ → View) → (List ℕ → Type 0) → List (OpenParty D) → List (OpenParty D) → Type 0
+AddsNext told lines None old new slot was open_parties = (open_parties ≡ was) × AllStay old new
+AddsNext told lines (Some p) old new slot was open_parties = IsAddedNext told lines p old new slot was open_parties
 
 -- the party of a line isn't set up, and the other disks stay
-pub record IsUnsetNext (lines : List Line) (p : NewParty) (old new : List ℕ → View) (why : SetUpEnd) : Type 0 where
-  pub unset : Tells (old p.own) → IsUnset (old p.own) (new p.own) (new_member p) (loads_of p.own lines) why
+pub record IsFailedSetUpNext (lines : List Line) (p : NewParty) (old new : List ℕ → View) (why : SetUpEnd) : Type 0 where
+  pub failed_set_up : Tells (old p.own) → IsFailedSetUp (old p.own) (new p.own) (new_member p) (loads_of p.own lines) why
+  pub any_moment : BeginsOnly (old p.own) (new p.own) (new_member p) (loads_of p.own lines)
   pub others : OthersStay p.own old new
 
-abbrev pub UnsetsNext : List Line → Option NewParty → (List ℕ → View) → (List ℕ → View) → SetUpEnd → Type 0
-UnsetsNext lines None old new why = ⊥
-UnsetsNext lines (Some p) old new why = IsUnsetNext lines p old new why
+abbrev pub FailsSetUpNext : List Line → Option NewParty → (List ℕ → View) → (List ℕ → View) → SetUpEnd → Type 0
+FailsSetUpNext lines None old new why = ⊥
+FailsSetUpNext lines (Some p) old new why = IsFailedSetUpNext lines p old new why
 
 -- ---- all parties
 
--- the seats stand for the members that the lines in front declare; whether the disks tell their bytes comes first
-pub record ShowMembers {D : Type 0} (tell : Bool) (told : D → View) (lines front : List Line) (old : List ℕ → View) (seats : List (Seat D)) : Type 0 where
-  pub seated : AreIn tell told seats
-  pub members_are : members seats ≡ members_by lines front
+-- the open parties stand for the members that the lines in front declare; whether the disks tell their bytes comes first
+pub record ShowMembers {D : Type 0} (tell : Bool) (told : D → View) (lines front : List Line) (old : List ℕ → View) (open_parties : List (OpenParty D)) : Type 0 where
+  pub all_open : AreIn tell told open_parties
+  pub members_are : members open_parties ≡ members_by lines front
   pub blank : AllReadBlank old (parties_in front)
 
--- the parties of the lines in front are set up, with all that the lines load, and each sits in its seat; `old` and `entry`
+-- the disk of the party of this name read blank, and the image is a part of its set-up
+abbrev pub IsOfSetUp : List Line → List ℕ → View → List ℕ → Type 0
+IsOfSetUp lines own old image = ReadsBlank old × IsSetUpInPart lines own image
+
+-- a crash at any moment leaves such an image, or what it could leave before
+abbrev pub SetsUpOnly : List Line → List ℕ → View → View → Type 0
+SetsUpOnly lines own old new = AddsOnly old new (IsOfSetUp lines own old)
+
+-- the parties of the lines in front are set up, with all that the lines load, and each stands in its place; `old` and `entry`
 -- are what the shelf told at first, and what it tells now
-pub record AreSetUp {D : Type 0} (told : D → View) (lines front : List Line) (old entry : List ℕ → View) (slot : List ℕ → Type 0) (seats : List (Seat D)) : Type 0 where
-  pub opened : AreOpen seats
-  pub owners_are : owners seats ≡ parties_in front
-  pub apart : AreApart seats
-  pub slots : AllSlots slot (owners seats)
-  pub others : OtherDisksStay old entry seats
-  pub shown : (tell : Bool) → (tell ≡ true → AllTell old (parties_in front)) → ShowMembers tell told lines front old seats
+pub record AreSetUp {D : Type 0} (told : D → View) (lines front : List Line) (old entry : List ℕ → View) (slot : List ℕ → Type 0) (open_parties : List (OpenParty D)) : Type 0 where
+  pub opened : AreOpen open_parties
+  pub owners_are : owners open_parties ≡ parties_in front
+  pub apart : AreApart open_parties
+  pub slots : AllSlots slot (owners open_parties)
+  pub others : OtherDisksStay old entry open_parties
+  pub shown : (tell : Bool) → (tell ≡ true → AllTell old (parties_in front)) → ShowMembers tell told lines front old open_parties
+  pub any_moment : AllTell old (parties_in front) → (own : List ℕ) → SetsUpOnly lines own (old own) (disk_of told entry open_parties own)
 
 -- the set-up came to a party: the disks of those before it stand for them, as they are set up; and those of all others stay
 pub record IsSetUpTo (lines front : List Line) (name : List ℕ) (old entry : List ℕ → View) : Type 0 where
   pub images : AreOnShelf entry (members_by lines front)
+  pub durable : AreDurable entry (members_by lines front)
   pub blank : AllReadBlank old (parties_in front)
   pub others : (own : List ℕ) → (Contains (parties_in front) own → ⊥) → own ≢ name → IsAlike (old own) (entry own)
 
@@ -198,4 +226,6 @@ pub record IsSetUpEnd (lines : List Line) (old entry : List ℕ → View) (why :
   pub back : List Line
   pub split : lines ≡ front ++ line_of_party party ∷ back
   pub to : IsSetUpTo lines front party.own old entry
-  pub unset : IsUnset (old party.own) (entry party.own) (new_member party) (loads_of party.own lines) why
+  pub failed_set_up : IsFailedSetUp (old party.own) (entry party.own) (new_member party) (loads_of party.own lines) why
+  -- a crash leaves of its disk a part of its set-up, or what it could leave before
+  pub leaves : (image : List ℕ) → (entry party.own).may_leave image → BeginsInPart (old party.own) (new_member party) (loads_of party.own lines) image ⊎ (old party.own).may_leave image

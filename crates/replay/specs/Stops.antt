@@ -11,7 +11,7 @@ use Rattle.course.specs.Stops.{IsFixed}
 use Rattle.course.specs.declared.progress.Stop.{Stop}
 
 -- a disk over which an event was carried out up to a call, before the power goes
-pub record IsResting (v w : View) (x y : Member) (keep : Type 0) (n : ℕ) : Type 0 where
+pub record IsDiskAtStop (v w : View) (x y : Member) (keep : Type 0) (n : ℕ) : Type 0 where
   pub either : Tells v → (image : List ℕ) → w.may_leave image → IsImageOf x image ⊎ (keep × IsImageOf y image)
   pub early : Tells v → keep → n ≤ 2 → (image : List ℕ) → w.may_leave image → IsImageOf x image
   pub stable : keep → n ≤ 4 → (image : List ℕ) → w.stable ≡ Some image → IsImageOf x image

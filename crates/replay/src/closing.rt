@@ -4,11 +4,11 @@ ghost use Rattle.x_base.specs.Edge.{Rose};
 ghost use Rattle.x_disk.specs.Shelf.{IsAlike};
 ghost use Rattle.replay.specs.Around.{IsPut};
 ghost use Rattle.replay.specs.Closing.{IsBack, AllBack, OtherDisksStay, AllSlots, AreApart, IsFaulty, AnyFaulty};
-ghost use Rattle.replay.specs.Seats.{owners};
+ghost use Rattle.replay.specs.OpenParties.{owners};
 
 use crate::failure::Failure;
 use crate::open_parties::OpenParties;
-use crate::seat::{Held, Seat};
+use crate::open_party::{OpenParty, PartyDisk};
 use x_base::Ident;
 use x_disk::{DiskErr, Shelf};
 
@@ -27,24 +27,27 @@ pub(crate) fn put_disk<H: Shelf>(shelf: &mut H, own: &Ident, disk: H::Disk) -> R
 }
 
 /// Puts back what is held of a party.
-pub(crate) fn put_seat<H: Shelf>(shelf: &mut H, seat: Seat<H::Disk>) -> Result<(), Failure>
-    requires { H.has_slot shelf.old seat.own }
-    ensures back { IsBack H.Disk.told (H.entry shelf.old) (H.entry shelf.new) seat.own seat.held }
-    ensures seen { IsFaulty H.Disk.told seat.held → Rose (H.faults shelf.old) (H.faults shelf.new) }
-    ensures put { IsPut seat.own (H.entry shelf.old) (H.entry shelf.new) (H.has_slot shelf.old) (H.has_slot shelf.new) (H.faults shelf.old) (H.faults shelf.new) result }
+pub(crate) fn put_party<H: Shelf>(
+    shelf: &mut H,
+    open_party: OpenParty<H::Disk>,
+) -> Result<(), Failure>
+    requires { H.has_slot shelf.old open_party.own }
+    ensures back { IsBack H.Disk.told (H.entry shelf.old) (H.entry shelf.new) open_party.own open_party.held }
+    ensures seen { IsFaulty H.Disk.told open_party.held → Rose (H.faults shelf.old) (H.faults shelf.new) }
+    ensures put { IsPut open_party.own (H.entry shelf.old) (H.entry shelf.new) (H.has_slot shelf.old) (H.has_slot shelf.new) (H.faults shelf.old) (H.faults shelf.new) result }
 {
-    let Seat { own, held } = seat;
+    let OpenParty { own, held } = open_party;
     match held {
-        Held::Open(node) => {
+        PartyDisk::Open(node) => {
             node.view();
             put_disk(shelf, &own, node.into_disk())
         }
-        Held::Loose(disk) => put_disk(shelf, &own, disk),
-        Held::Out => Ok(()),
+        PartyDisk::Closed(disk) => put_disk(shelf, &own, disk),
+        PartyDisk::Away => Ok(()),
     }
 }
 
-/// Puts back what is held of every party, whatever comes. The last error is told.
+/// Puts back what is held of every party, whatever comes. The last error is answered.
 pub(crate) fn put_back_all<H: Shelf>(
     shelf: &mut H,
     parties: OpenParties<H::Disk>,
@@ -58,10 +61,10 @@ pub(crate) fn put_back_all<H: Shelf>(
     ensures undamaged { (place : ℕ) → result ≡ Err (Failure.Damaged place) → ⊥ }
     ensures later { H.faults shelf.old ≤ H.faults shelf.new }
 {
-    let mut left = parties.into_seats();
+    let mut left = parties.into_parties();
     let mut outcome = Ok(());
-    'closing: while let Some(seat) = left.pop() {
-        match put_seat(shelf, seat) {
+    'closing: while let Some(open_party) = left.pop() {
+        match put_party(shelf, open_party) {
             Ok(()) => {}
             Err(why) => outcome = Err(why),
         }

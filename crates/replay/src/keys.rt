@@ -1,7 +1,7 @@
 // How many key records of all parties have a status.
 ghost use Rattle.std.specs.Prelude.{◌≡◌, ◌≤◌, length};
 ghost use Rattle.course.specs.Tallies.{count_status, records_of};
-ghost use Rattle.replay.specs.Seats.{AreOpen, members};
+ghost use Rattle.replay.specs.OpenParties.{AreOpen, members};
 
 use crate::open_parties::OpenParties;
 use course::count_in;
@@ -10,7 +10,7 @@ use x_disk::Disk;
 
 /// How many records of all parties have this status.
 pub(crate) fn count_keys<D: Disk>(parties: &OpenParties<D>, status: KeyStatus) -> u32
-    requires seated { AreOpen parties.now }
+    requires all_open { AreOpen parties.now }
     requires few { length parties.now ≤ 64 }
     ensures { result ≡ count_status status (records_of (members parties.now)) }
 {

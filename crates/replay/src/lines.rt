@@ -3,14 +3,15 @@ ghost use Rattle.std.specs.Prelude.{◌≡◌, ◌≤◌, ◌<◌, ◌^◌, ℕ,
 ghost use Rattle.replay.specs.Breaking.{BreaksIn};
 ghost use Rattle.replay.specs.Around.{Around, SinkStays};
 ghost use Rattle.replay.specs.Closing.{AllSlots};
+ghost use Rattle.replay.specs.Crash.{CrossesLines};
 ghost use Rattle.replay.specs.Lines.{Plays, ForgesIn};
 ghost use Rattle.course.specs.Outcomes.{IsWithin};
-ghost use Rattle.replay.specs.Seats.{AreOpen, owners};
+ghost use Rattle.replay.specs.OpenParties.{AreOpen, owners};
 ghost use Rattle.course.specs.Starts.{start_progress};
 
 use crate::acting::play_act;
 use crate::failure::Ending;
-use crate::scene::Scene;
+use crate::play_state::PlayState;
 use crate::writing::write_event;
 use course::{Progress, act_at, advance_quiet, start};
 use scenario::Line;
@@ -19,48 +20,49 @@ use x_base::Sink;
 use x_disk::{Disk, Shelf};
 
 /// How many texts were written.
-fn text_count<D: Disk>(scene: &Scene<D>) -> usize
-    ensures count { result ≡ length scene.now.texts }
+fn text_count<D: Disk>(play_state: &PlayState<D>) -> usize
+    ensures count { result ≡ length play_state.now.texts }
     ensures small { result < 2 ^ 63 }
 {
-    scene.texts.len()
+    play_state.texts.len()
 }
 
 /// The text behind so many.
-fn text_behind<D: Disk>(scene: &Scene<D>, count: usize) -> Option<&[u8]>
-    ensures { option_map (λ t. t.now) result ≡ slice_get scene.now.texts count }
+fn text_behind<D: Disk>(play_state: &PlayState<D>, count: usize) -> Option<&[u8]>
+    ensures { option_map (λ t. t.now) result ≡ slice_get play_state.now.texts count }
 {
-    scene.texts.get(count)
+    play_state.texts.get(count)
 }
 
 /// The lines, from the first moment on. What is written of an event is put together in one buffer.
 pub(crate) fn play_lines<K: Sink, H: Shelf>(
-    scene: &mut Scene<H::Disk>,
+    play_state: &mut PlayState<H::Disk>,
     sink: &mut K,
     shelf: &mut H,
     alloc: Global,
     lines: &[Line],
 ) -> Result<Progress, Ending>
-    requires seated { AreOpen scene.old.parties }
-    requires slots { AllSlots (H.has_slot shelf.old) (owners scene.old.parties) }
+    requires all_open { AreOpen play_state.old.parties }
+    requires slots { AllSlots (H.has_slot shelf.old) (owners play_state.old.parties) }
     requires few { length lines.now ≤ 65536 }
-    ensures played { IfOk result (λ after. Plays H.Disk.told (H.faults shelf.old) (H.faults shelf.new) lines.now scene.old scene.new start_progress after (K.written sink.old) (K.written sink.new)) }
-    ensures forged { (n : ℕ) → result ≡ Err (Ending.Forged n) → ForgesIn H.Disk.told (H.faults shelf.old) (H.faults shelf.new) lines.now scene.old scene.new start_progress (K.written sink.old) (K.written sink.new) n }
-    ensures broken { (why : Ending) → result ≡ Err why → ((n : ℕ) → why ≡ Ending.Forged n → ⊥) → BreaksIn H.Disk.told (H.entry shelf.new) (H.faults shelf.old) (H.faults shelf.new) lines.now scene.old scene.new start_progress (K.written sink.old) (K.written sink.new) why }
+    ensures played { IfOk result (λ after. Plays H.Disk.told (H.faults shelf.old) (H.faults shelf.new) lines.now play_state.old play_state.new start_progress after (K.written sink.old) (K.written sink.new)) }
+    ensures forged { (n : ℕ) → result ≡ Err (Ending.Forged n) → ForgesIn H.Disk.told (H.faults shelf.old) (H.faults shelf.new) lines.now play_state.old play_state.new start_progress (K.written sink.old) (K.written sink.new) n }
+    ensures broken { (why : Ending) → result ≡ Err why → ((n : ℕ) → why ≡ Ending.Forged n → ⊥) → BreaksIn H.Disk.told (H.entry shelf.new) (H.faults shelf.old) (H.faults shelf.new) lines.now play_state.old play_state.new start_progress (K.written sink.old) (K.written sink.new) why }
     ensures within { IfOk result (λ after. IsWithin after (length lines.now)) }
-    ensures around { Around H.Disk.told scene.old.parties scene.new.parties (H.entry shelf.old) (H.entry shelf.new) (H.has_slot shelf.old) (H.has_slot shelf.new) (H.faults shelf.old) (H.faults shelf.new) result }
+    ensures crash { CrossesLines H.Disk.told (H.entry shelf.old) (H.entry shelf.new) (H.faults shelf.old) (H.faults shelf.new) lines.now play_state.old play_state.new start_progress (K.written sink.old) }
+    ensures around { Around H.Disk.told play_state.old.parties play_state.new.parties (H.entry shelf.old) (H.entry shelf.new) (H.has_slot shelf.old) (H.has_slot shelf.new) (H.faults shelf.old) (H.faults shelf.new) result }
     ensures sink { SinkStays (K.faults sink.old) (K.faults sink.new) result }
 {
     let mut buffer = Vec::new(alloc);
     let mut now = start();
     'playing: for line in lines {
-        let Some(act) = act_at(alloc, line, &scene.texts)? else {
+        let Some(act) = act_at(alloc, line, &play_state.texts)? else {
             advance_quiet(line, &mut now);
             continue;
         };
-        let texts = text_count(scene);
-        let outcome = play_act(scene, shelf, alloc, &act, &now)?;
-        let text = text_behind(scene, texts);
+        let texts = text_count(play_state);
+        let outcome = play_act(play_state, shelf, alloc, &act, &now)?;
+        let text = text_behind(play_state, texts);
         write_event(
             sink,
             &mut buffer,

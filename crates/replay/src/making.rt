@@ -8,10 +8,10 @@ ghost use Rattle.scenario.specs.Rules.{may_follow};
 ghost use Rattle.node_core.specs.Turns.{member_of};
 ghost use Rattle.course.specs.Starts.{load_at, loads_of};
 ghost use Rattle.course.specs.Parties.{new_member, full_member};
-ghost use Rattle.replay.specs.SettingUp.{least_room, HasPlace, CanLoad, HasBegun, IsLoad, IsLoadOrSame, IsLoadedTo, IsPartlyLoaded, IsSetUp, IsUnsetDisk, EndsBy};
+ghost use Rattle.replay.specs.SettingUp.{least_room, HasPlace, CanLoad, HasBegun, IsLoad, IsLoadOrSame, IsLoadedTo, IsPartlyLoaded, IsSetUp, BeginsOnly, IsFailedSetUpDisk, EndsBy};
 
 use crate::failure::Failure;
-use crate::stopped::{Lost, failure_by, failure_of};
+use crate::stopped::{FailedPartyDisk, failure_by, failure_of};
 use change_code::law_short_code;
 use course::{NewParty, is_head, load_at};
 use key_journal::{Cause, Unmade};
@@ -33,13 +33,13 @@ pub(crate) enum SetUpEnd {
 
 /// A disk on which no party is set up, and why.
 #[derive(Drop)]
-pub(crate) struct Unset<D: Disk> {
+pub(crate) struct FailedSetUp<D: Disk> {
     pub(crate) disk: D,
     pub(crate) why: SetUpEnd,
 }
 
 /// Why no party begins on a disk.
-fn end_of(cause: Cause) -> SetUpEnd
+fn set_up_end_of(cause: Cause) -> SetUpEnd
     requires { IsFree cause ⊎ (cause ≡ Cause.NotEmpty) }
     ensures { EndsBy cause result }
 {
@@ -52,16 +52,21 @@ fn end_of(cause: Cause) -> SetUpEnd
 }
 
 /// A party begins on a disk, which has to be blank. The disk is synced first, so that a crash leaves what a read gives.
-fn begin<D: Disk>(disk: D, alloc: Global, party: &NewParty) -> Result<Store<D>, Unset<D>>
+fn begin_party<D: Disk>(
+    disk: D,
+    alloc: Global,
+    party: &NewParty,
+) -> Result<Store<D>, FailedSetUp<D>>
     ensures begun { IfOk result (λ store. HasBegun D.told (D.told disk) party.now store) }
-    ensures unset { IfErr result (λ u. (loads : List LinkRec) → IsUnsetDisk (D.told disk) (D.told u.disk) (new_member party.now) loads u.why) }
+    ensures any_moment { IfOk result (λ store. (loads : List LinkRec) → BeginsOnly (D.told disk) (D.told store.disk) (new_member party.now) loads) }
+    ensures failed_set_up { IfErr result (λ u. (loads : List LinkRec) → IsFailedSetUpDisk (D.told disk) (D.told u.disk) (new_member party.now) loads u.why) }
 {
     party.own.bytes();
     let mut disk = disk;
     match disk.sync() {
         Ok(()) => {}
         Err(error) => {
-            return Err(Unset {
+            return Err(FailedSetUp {
                 disk,
                 why: SetUpEnd::Failed(failure_of(error)),
             });
@@ -69,19 +74,23 @@ fn begin<D: Disk>(disk: D, alloc: Global, party: &NewParty) -> Result<Store<D>, 
     }
     match Store::create(alloc, disk, party.own, party.role, party.generator) {
         Ok(store) => Ok(store),
-        Err(Unmade { disk, cause }) => Err(Unset {
+        Err(Unmade { disk, cause }) => Err(FailedSetUp {
             disk,
-            why: end_of(cause),
+            why: set_up_end_of(cause),
         }),
     }
 }
 
 /// Loads a link, as a frame of its own.
-fn load_link<D: Disk>(store: Store<D>, alloc: Global, link: LinkRec) -> Result<Store<D>, Lost<D>>
+fn load_link<D: Disk>(
+    store: Store<D>,
+    alloc: Global,
+    link: LinkRec,
+) -> Result<Store<D>, FailedPartyDisk<D>>
     requires next { IsNextCount link.next }
     requires place { HasPlace store }
     ensures load { IfOk result (λ s. IsLoad D.told store s link) }
-    ensures lost { IfErr result (λ lost. IsPartlyLoaded (D.told store.disk) (D.told lost.disk) (member_of store) (link ∷ []) lost.why) }
+    ensures failed_disk { IfErr result (λ failed_disk. IsPartlyLoaded (D.told store.disk) (D.told failed_disk.disk) (member_of store) (link ∷ []) failed_disk.why) }
 {
     store.view();
     link.peer.bytes();
@@ -90,7 +99,7 @@ fn load_link<D: Disk>(store: Store<D>, alloc: Global, link: LinkRec) -> Result<S
     match change.push(Edit::PutLink(link)) {
         Ok(()) => {}
         Err(_) => {
-            return Err(Lost {
+            return Err(FailedPartyDisk {
                 disk: store.into_disk(),
                 why: Failure::NoMemory,
             });
@@ -100,13 +109,13 @@ fn load_link<D: Disk>(store: Store<D>, alloc: Global, link: LinkRec) -> Result<S
     match store.keep(alloc, change) {
         Kept::Done(store) => Ok(store),
         Kept::Full(_) => unreachable!(),
-        Kept::NoMemory(store) => Err(Lost {
+        Kept::NoMemory(store) => Err(FailedPartyDisk {
             disk: store.into_disk(),
             why: Failure::NoMemory,
         }),
         Kept::Broken(broken) => {
             let Unmade { disk, cause } = broken.give_up();
-            Err(Lost {
+            Err(FailedPartyDisk {
                 disk,
                 why: failure_by(cause),
             })
@@ -120,10 +129,10 @@ fn load_line<D: Disk>(
     alloc: Global,
     own: &Ident,
     line: &Line,
-) -> Result<Store<D>, Lost<D>>
+) -> Result<Store<D>, FailedPartyDisk<D>>
     requires { CanLoad store (load_at own.now line.now) }
     ensures load { IfOk result (λ s. IsLoadOrSame D.told store s (load_at own.now line.now)) }
-    ensures lost { IfErr result (λ lost. IsPartlyLoaded (D.told store.disk) (D.told lost.disk) (member_of store) (option_to_list (load_at own.now line.now)) lost.why) }
+    ensures failed_disk { IfErr result (λ failed_disk. IsPartlyLoaded (D.told store.disk) (D.told failed_disk.disk) (member_of store) (option_to_list (load_at own.now line.now)) failed_disk.why) }
 {
     match load_at(own, line) {
         Some(link) => load_link(store, alloc, link),
@@ -137,13 +146,14 @@ fn load_links<D: Disk>(
     alloc: Global,
     own: &Ident,
     lines: &[Line],
-) -> Result<Store<D>, Lost<D>>
+) -> Result<Store<D>, FailedPartyDisk<D>>
     requires rules { EachBehind may_follow lines.now }
     requires none { store.party.links ≡ [] }
     requires room { least_room ≤ (space store).room }
     ensures loaded { IfOk result (λ s. IsLoadedTo D.told store s (loads_of own.now lines.now)) }
-    ensures lost { IfErr result (λ lost. IsPartlyLoaded (D.told store.disk) (D.told lost.disk) (member_of store) (loads_of own.now lines.now) lost.why) }
+    ensures failed_disk { IfErr result (λ failed_disk. IsPartlyLoaded (D.told store.disk) (D.told failed_disk.disk) (member_of store) (loads_of own.now lines.now) failed_disk.why) }
 {
+    store.view();
     let mut loaded = store;
     for line in lines {
         if !is_head(line) {
@@ -160,15 +170,16 @@ pub(crate) fn make<D: Disk>(
     alloc: Global,
     lines: &[Line],
     party: &NewParty,
-) -> Result<Node<D>, Unset<D>>
+) -> Result<Node<D>, FailedSetUp<D>>
     requires rules { EachBehind may_follow lines.now }
     ensures made { IfOk result (λ node. IsSetUp D.told (D.told disk) (full_member lines.now party.now) node) }
-    ensures unset { IfErr result (λ u. IsUnsetDisk (D.told disk) (D.told u.disk) (new_member party.now) (loads_of party.now.own lines.now) u.why) }
+    ensures any_moment { IfOk result (λ node. BeginsOnly (D.told disk) (D.told node.disk) (new_member party.now) (loads_of party.now.own lines.now)) }
+    ensures failed_set_up { IfErr result (λ u. IsFailedSetUpDisk (D.told disk) (D.told u.disk) (new_member party.now) (loads_of party.now.own lines.now) u.why) }
 {
-    let store = begin(disk, alloc, party)?;
+    let store = begin_party(disk, alloc, party)?;
     match load_links(store, alloc, &party.own, lines) {
         Ok(loaded) => Ok(Node::of(loaded)),
-        Err(Lost { disk, why }) => Err(Unset {
+        Err(FailedPartyDisk { disk, why }) => Err(FailedSetUp {
             disk,
             why: SetUpEnd::Failed(why),
         }),

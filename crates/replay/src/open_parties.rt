@@ -1,10 +1,10 @@
 // Parties whose disks are held open together, by their identities and in the order in which they came.
 ghost use Rattle.std.specs.Prelude.{◌≡◌, ◌<◌, ◌++◌, [], ◌∷◌, length, IfNone, IfSome, Some, None, OnErr, OnOk, bytes_eq, position};
 ghost use Rattle.party_state.specs.Limits.{IsWithinLimits};
-ghost use Rattle.replay.specs.Seats.{seat, AreOpen, DropsLast, Fills, HoldsAt, IsLifted, IsPlace, NoneOf};
-ghost use Rattle.replay.specs.declared.seat.Held.TheVariants.{Out};
+ghost use Rattle.replay.specs.OpenParties.{open_party, AreOpen, DropsLast, Fills, HoldsAt, IsTakenOut, IsPlace, NoneOf};
+ghost use Rattle.replay.specs.declared.open_party.PartyDisk.TheVariants.{Away};
 
-use crate::seat::{Held, Seat};
+use crate::open_party::{OpenParty, PartyDisk};
 use indexmap::IndexSet;
 use node_core::Node;
 use party_state::State;
@@ -14,26 +14,26 @@ use std::mem;
 use x_base::{Ident, NoMemory};
 use x_disk::Disk;
 
-/// What is held of each party; each has one seat.
+/// What is held of each party; each has one place.
 #[derive(Drop)]
 pub(crate) struct OpenParties<D: Disk> {
     names: IndexSet<Ident>,
-    seats: Vec<Seat<D>>,
+    open_parties: Vec<OpenParty<D>>,
 }
 
 impl<D: Disk> Model for OpenParties<D> {
     ghost use Rattle.std.specs.Prelude.{◌≡◌, List};
-    ghost use Rattle.replay.specs.Seats.{owners};
-    ghost use Rattle.replay.specs.declared.seat.Seat.{Seat as TheSeat};
+    ghost use Rattle.replay.specs.OpenParties.{owners};
+    ghost use Rattle.replay.specs.declared.open_party.OpenParty.{OpenParty as TheOpenParty};
 
-    ghost Value = { List (TheSeat D) };
+    ghost Value = { List (TheOpenParty D) };
 
-    ghost view = { λ p. p.seats.items };
+    ghost view = { λ p. p.open_parties.items };
 
-    ghost invariant = { λ p. p.names.keys ≡ owners p.seats.items };
+    ghost invariant = { λ p. p.names.keys ≡ owners p.open_parties.items };
 }
 
-/// The place of an identity among those of the seats, in their order.
+/// The place of an identity among those of the parties, in their order.
 fn index_of(names: &IndexSet<Ident>, own: &Ident) -> Option<usize>
     ensures some { IfSome result (λ place. position (bytes_eq own.now) names.now.keys ≡ Some place) }
     ensures none { IfNone result (position (bytes_eq own.now) names.now.keys ≡ None) }
@@ -47,43 +47,44 @@ impl<D: Disk> OpenParties<D> {
     {
         OpenParties {
             names: IndexSet::new(alloc),
-            seats: Vec::new(alloc),
+            open_parties: Vec::new(alloc),
         }
     }
 
     pub(crate) fn len(&self) -> usize
         ensures { result ≡ length self.now }
     {
-        self.seats.len()
+        self.open_parties.len()
     }
 
-    /// One more seat behind the others, in which nothing is held yet. Where no memory is left, nothing changes.
+    /// One more party behind the others, of which nothing is held yet. Where no memory is left, nothing changes.
     pub(crate) fn add(&mut self, own: Ident) -> Result<(), NoMemory>
         requires { NoneOf self.old own }
-        ensures added { OnOk result (self.new ≡ self.old ++ seat own Out ∷ []) }
+        ensures added { OnOk result (self.new ≡ self.old ++ open_party own Away ∷ []) }
         ensures same { OnErr result (self.new ≡ self.old) }
     {
-        self.seats.reserve(1)?;
+        self.open_parties.reserve(1)?;
         match self.names.insert(own) {
             Ok(_) => {}
             Err(_) => return Err(NoMemory),
         }
-        let seat = Seat {
+        let open_party = OpenParty {
             own,
-            held: Held::Out,
+            held: PartyDisk::Away,
         };
-        match self.seats.push(seat) {
+        match self.open_parties.push(open_party) {
             Ok(()) => Ok(()),
             Err(_) => unreachable!(),
         }
     }
 
-    /// Drops the last seat.
+    /// Drops the last party.
     pub(crate) fn drop_last(&mut self)
         ensures { DropsLast self.old self.new }
     {
-        self.names.truncate(self.seats.len().saturating_sub(1));
-        self.seats.pop();
+        self.names
+            .truncate(self.open_parties.len().saturating_sub(1));
+        self.open_parties.pop();
     }
 
     /// The place of a party.
@@ -98,40 +99,40 @@ impl<D: Disk> OpenParties<D> {
     /// The state of the party at a place.
     pub(crate) fn view_at(&self, place: usize) -> &State
         requires within { place < length self.now }
-        requires seated { AreOpen self.now }
+        requires all_open { AreOpen self.now }
         ensures party { HoldsAt self.now place result.now }
         ensures within { IsWithinLimits result.now }
     {
-        match &self.seats[place].held {
-            Held::Open(node) => node.view(),
-            Held::Loose(_) | Held::Out => unreachable!(),
+        match &self.open_parties[place].held {
+            PartyDisk::Open(node) => node.view(),
+            PartyDisk::Closed(_) | PartyDisk::Away => unreachable!(),
         }
     }
 
-    /// Takes the open party out of its seat.
+    /// Takes the open party out of its place.
     pub(crate) fn take_out(&mut self, place: usize) -> Node<D>
         requires within { place < length self.old }
-        requires seated { AreOpen self.old }
-        ensures { IsLifted self.old self.new place result }
+        requires all_open { AreOpen self.old }
+        ensures { IsTakenOut self.old self.new place result }
     {
-        match mem::replace(&mut self.seats[place].held, Held::Out) {
-            Held::Open(node) => node,
-            Held::Loose(_) | Held::Out => unreachable!(),
+        match mem::replace(&mut self.open_parties[place].held, PartyDisk::Away) {
+            PartyDisk::Open(node) => node,
+            PartyDisk::Closed(_) | PartyDisk::Away => unreachable!(),
         }
     }
 
-    /// Puts what is held into its empty seat.
-    pub(crate) fn put_in(&mut self, place: usize, held: Held<D>)
+    /// Puts what is held into its empty place.
+    pub(crate) fn put_in(&mut self, place: usize, held: PartyDisk<D>)
         requires { place < length self.old }
         ensures { Fills self.old self.new place held }
     {
-        self.seats[place].held = held;
+        self.open_parties[place].held = held;
     }
 
     /// What is held of each, in order.
-    pub(crate) fn into_seats(self) -> Vec<Seat<D>>
+    pub(crate) fn into_parties(self) -> Vec<OpenParty<D>>
         ensures { result.items ≡ self }
     {
-        self.seats
+        self.open_parties
     }
 }

@@ -5,21 +5,22 @@ ghost use Rattle.x_base.specs.declared.verdict.Verdict.{Verdict as TheVerdict};
 ghost use Rattle.x_disk.specs.Shelf.{IsAlike};
 ghost use Rattle.replay.specs.Around.{Around, FaultsCounted, SinkStays};
 ghost use Rattle.replay.specs.Closing.{AllSlots, AreApart, OtherDisksStay};
+ghost use Rattle.replay.specs.Crash.{AddsOnly, CrossesLines, IsOfLines, disk_of};
 ghost use Rattle.replay.specs.Finishing.{Finishes, BreaksPlay};
 ghost use Rattle.replay.specs.Lines.{ForgesIn};
-ghost use Rattle.replay.specs.Playing.{around, IsPlay, IsPlayOn, IsRunBy};
-ghost use Rattle.replay.specs.Seats.{AreIn, AreOpen, members, owners};
+ghost use Rattle.replay.specs.Playing.{around, CrashLeaves, IsPlay, IsPlayOn, IsRunBy};
+ghost use Rattle.replay.specs.OpenParties.{AreIn, AreOpen, members, owners};
 ghost use Rattle.replay.specs.SettingUp.{AllTell};
 ghost use Rattle.course.specs.Parties.{parties_in};
-ghost use Rattle.course.specs.Starts.{start_members, start_progress};
+ghost use Rattle.course.specs.Starts.{start_course, start_members, start_progress};
 
 use crate::answering::{answer_of, end_of, set_up_answer};
 use crate::closing::put_back_all;
 use crate::failure::{Ending, Failure};
 use crate::lines::play_lines;
 use crate::open_parties::OpenParties;
+use crate::play_state::PlayState;
 use crate::result::PlayResult;
-use crate::scene::Scene;
 use crate::setting_up::set_up;
 use crate::showing::write_shows;
 use crate::tallying::tally_of;
@@ -31,26 +32,27 @@ use x_base::Sink;
 use x_disk::Shelf;
 
 /// Plays the lines over the open disks, and writes the show lines behind them.
-fn play_scene<K: Sink, H: Shelf>(
-    scene: &mut Scene<H::Disk>,
+fn play_to_end<K: Sink, H: Shelf>(
+    play_state: &mut PlayState<H::Disk>,
     sink: &mut K,
     shelf: &mut H,
     alloc: Global,
     lines: &[Line],
 ) -> Result<Tally, Ending>
     requires few { length lines.now ≤ 65536 }
-    requires count { length scene.old.parties ≤ 64 }
-    requires seated { AreOpen scene.old.parties }
-    requires slots { AllSlots (H.has_slot shelf.old) (owners scene.old.parties) }
-    ensures finished { IfOk result (λ tally. Finishes H.Disk.told (H.faults shelf.old) (H.faults shelf.new) lines.now scene.old scene.new start_progress (K.written sink.old) (K.written sink.new) tally) }
-    ensures forged { (n : ℕ) → result ≡ Err (Ending.Forged n) → ForgesIn H.Disk.told (H.faults shelf.old) (H.faults shelf.new) lines.now scene.old scene.new start_progress (K.written sink.old) (K.written sink.new) n }
-    ensures broken { (why : Ending) → result ≡ Err why → ((n : ℕ) → why ≡ Ending.Forged n → ⊥) → BreaksPlay H.Disk.told (H.entry shelf.new) (H.faults shelf.old) (H.faults shelf.new) lines.now scene.old scene.new start_progress (K.written sink.old) (K.written sink.new) why }
-    ensures around { Around H.Disk.told scene.old.parties scene.new.parties (H.entry shelf.old) (H.entry shelf.new) (H.has_slot shelf.old) (H.has_slot shelf.new) (H.faults shelf.old) (H.faults shelf.new) result }
+    requires count { length play_state.old.parties ≤ 64 }
+    requires all_open { AreOpen play_state.old.parties }
+    requires slots { AllSlots (H.has_slot shelf.old) (owners play_state.old.parties) }
+    ensures finished { IfOk result (λ tally. Finishes H.Disk.told (H.faults shelf.old) (H.faults shelf.new) lines.now play_state.old play_state.new start_progress (K.written sink.old) (K.written sink.new) tally) }
+    ensures forged { (n : ℕ) → result ≡ Err (Ending.Forged n) → ForgesIn H.Disk.told (H.faults shelf.old) (H.faults shelf.new) lines.now play_state.old play_state.new start_progress (K.written sink.old) (K.written sink.new) n }
+    ensures broken { (why : Ending) → result ≡ Err why → ((n : ℕ) → why ≡ Ending.Forged n → ⊥) → BreaksPlay H.Disk.told (H.entry shelf.new) (H.faults shelf.old) (H.faults shelf.new) lines.now play_state.old play_state.new start_progress (K.written sink.old) (K.written sink.new) why }
+    ensures crash { CrossesLines H.Disk.told (H.entry shelf.old) (H.entry shelf.new) (H.faults shelf.old) (H.faults shelf.new) lines.now play_state.old play_state.new start_progress (K.written sink.old) }
+    ensures around { Around H.Disk.told play_state.old.parties play_state.new.parties (H.entry shelf.old) (H.entry shelf.new) (H.has_slot shelf.old) (H.has_slot shelf.new) (H.faults shelf.old) (H.faults shelf.new) result }
     ensures sink { SinkStays (K.faults sink.old) (K.faults sink.new) result }
 {
-    let now = play_lines(scene, sink, shelf, alloc, lines)?;
-    let tally = tally_of(&scene.parties, &now);
-    write_shows(sink, alloc, &scene.parties)?;
+    let now = play_lines(play_state, sink, shelf, alloc, lines)?;
+    let tally = tally_of(&play_state.parties, &now);
+    write_shows(sink, alloc, &play_state.parties)?;
     Ok(tally)
 }
 
@@ -64,24 +66,26 @@ fn play_parties<K: Sink, H: Shelf>(
 ) -> PlayResult
     requires few { length lines.now ≤ 65536 }
     requires count { length parties ≤ 64 }
-    requires seated { AreOpen parties }
+    requires all_open { AreOpen parties }
     requires apart { AreApart parties }
     requires slots { AllSlots (H.has_slot shelf.old) (owners parties) }
     ensures runs { (before : ℕ) → before ≤ H.faults shelf.old → AreIn false H.Disk.told parties → members parties ≡ start_members lines.now
         → IsRunBy (around lines.now (H.entry shelf.new) before (H.faults shelf.new) (K.written sink.old) (K.written sink.new)) result }
     ensures played { (before : ℕ) → before ≤ H.faults shelf.old → AreIn true H.Disk.told parties → members parties ≡ start_members lines.now
         → IsPlayOn (around lines.now (H.entry shelf.new) before (H.faults shelf.new) (K.written sink.old) (K.written sink.new)) result }
+    ensures crash { (before : ℕ) → before ≤ H.faults shelf.old → AreIn true H.Disk.told parties → members parties ≡ start_members lines.now
+        → (own : List ℕ) → AddsOnly (disk_of H.Disk.told (H.entry shelf.old) parties own) (H.entry shelf.new own) (IsOfLines before (H.faults shelf.new) lines.now (start_course lines.now) own) }
     ensures refused { (v : TheVerdict) → result ≡ PlayResult.Refused v → ⊥ }
     ensures faults { FaultsCounted (K.faults sink.old) (K.faults sink.new) (H.faults shelf.old) (H.faults shelf.new) result }
     ensures others { OtherDisksStay (H.entry shelf.old) (H.entry shelf.new) parties }
 {
-    let mut scene = Scene {
+    let mut play_state = PlayState {
         parties,
         texts: Texts::new(alloc),
         facts: FactBook::new(alloc),
     };
-    let outcome = play_scene(&mut scene, sink, shelf, alloc, lines);
-    let Scene { parties, .. } = scene;
+    let outcome = play_to_end(&mut play_state, sink, shelf, alloc, lines);
+    let PlayState { parties, .. } = play_state;
     let back = put_back_all(shelf, parties);
     answer_of(end_of(outcome, back))
 }
@@ -97,6 +101,8 @@ pub fn play<K: Sink, H: Shelf>(
     ensures runs { IsRunBy (around scenario.now (H.entry shelf.new) (H.faults shelf.old) (H.faults shelf.new) (K.written sink.old) (K.written sink.new)) result }
     ensures played { AllTell (H.entry shelf.old) (parties_in scenario.now)
         → IsPlay (H.entry shelf.old) (around scenario.now (H.entry shelf.new) (H.faults shelf.old) (H.faults shelf.new) (K.written sink.old) (K.written sink.new)) result }
+    ensures crash { AllTell (H.entry shelf.old) (parties_in scenario.now)
+        → CrashLeaves (H.entry shelf.old) (around scenario.now (H.entry shelf.new) (H.faults shelf.old) (H.faults shelf.new) (K.written sink.old) (K.written sink.new)) }
     ensures refused { (v : TheVerdict) → result ≡ PlayResult.Refused v → v ≡ TheVerdict.NotEmpty }
     ensures nothing { (v : TheVerdict) → result ≡ PlayResult.Refused v → sink.new ≡ sink.old }
     ensures write { result ≡ PlayResult.WriteFault → Rose (K.faults sink.old) (K.faults sink.new) }

@@ -1,4 +1,4 @@
-// The parties of a scenario are set up on the disks of a shelf, each in its seat.
+// The parties of a scenario are set up on the disks of a shelf, and held open.
 ghost use Rattle.std.specs.Prelude.{◌≡◌, ◌≤◌, ◌<◌, ◌⊎◌, ℕ, List, Contains, Err, IfOk, IfErr, IfSome, OnOk};
 ghost use Rattle.x_base.specs.Edge.{Rose};
 ghost use Rattle.x_disk.specs.Disk.{Tells};
@@ -7,16 +7,16 @@ ghost use Rattle.scenario.specs.Behind.{EachBehind};
 ghost use Rattle.scenario.specs.Rules.{may_follow};
 ghost use Rattle.replay.specs.Around.{ShelfStays};
 ghost use Rattle.replay.specs.Closing.{AllBack, AllSlots, AreApart, OtherDisksStay};
-ghost use Rattle.replay.specs.Seats.{NoneOf, owners};
+ghost use Rattle.replay.specs.OpenParties.{NoneOf, owners};
 ghost use Rattle.course.specs.Starts.{loads_of};
 ghost use Rattle.course.specs.Parties.{new_party, parties_in, new_member, full_member};
-ghost use Rattle.replay.specs.SettingUp.{AllTell, IsSetUp, IsUnset, IsOrFails, SeatsNext, UnsetsNext, AreSetUp, IsSetUpEnd};
+ghost use Rattle.replay.specs.SettingUp.{AllTell, IsSetUp, BeginsOnly, IsFailedSetUp, IsOrFails, AddsNext, FailsSetUpNext, SetsUpOnly, AreSetUp, IsSetUpEnd};
 
 use crate::closing::{put_back_all, put_disk};
 use crate::failure::Failure;
-use crate::making::{SetUpEnd, Unset, make};
+use crate::making::{FailedSetUp, SetUpEnd, make};
 use crate::open_parties::OpenParties;
-use crate::seat::Held;
+use crate::open_party::PartyDisk;
 use crate::stopped::failure_of;
 use course::{NewParty, new_party};
 use node_core::Node;
@@ -26,15 +26,19 @@ use x_base::Ident;
 use x_disk::Shelf;
 
 /// Puts a disk back on which no party is set up. An error of that comes in place of the end.
-fn put_unset<H: Shelf>(shelf: &mut H, own: &Ident, unset: Unset<H::Disk>) -> SetUpEnd
+fn put_failed_set_up<H: Shelf>(
+    shelf: &mut H,
+    own: &Ident,
+    failed_set_up: FailedSetUp<H::Disk>,
+) -> SetUpEnd
     requires slot { H.has_slot shelf.old own.now }
-    requires faulty { unset.why ≡ SetUpEnd.Failed Failure.Fault → 0 < (H.Disk.told unset.disk).faults }
-    ensures back { IsAlike (H.Disk.told unset.disk) (H.entry shelf.new own.now) }
-    ensures end { IsOrFails unset.why result }
+    requires faulty { failed_set_up.why ≡ SetUpEnd.Failed Failure.Fault → 0 < (H.Disk.told failed_set_up.disk).faults }
+    ensures back { IsAlike (H.Disk.told failed_set_up.disk) (H.entry shelf.new own.now) }
+    ensures end { IsOrFails failed_set_up.why result }
     ensures fault { result ≡ SetUpEnd.Failed Failure.Fault → Rose (H.faults shelf.old) (H.faults shelf.new) }
     ensures shelf { ShelfStays own.now (H.entry shelf.old) (H.entry shelf.new) (H.has_slot shelf.old) (H.has_slot shelf.new) (H.faults shelf.old) (H.faults shelf.new) }
 {
-    let Unset { disk, why } = unset;
+    let FailedSetUp { disk, why } = failed_set_up;
     match put_disk(shelf, own, disk) {
         Ok(()) => why,
         Err(failure) => SetUpEnd::Failed(failure),
@@ -50,7 +54,9 @@ fn make_at<H: Shelf>(
 ) -> Result<Node<H::Disk>, SetUpEnd>
     requires rules { EachBehind may_follow lines.now }
     ensures made { IfOk result (λ node. IsSetUp H.Disk.told (H.entry shelf.old party.now.own) (full_member lines.now party.now) node) }
-    ensures unset { IfErr result (λ why. Tells (H.entry shelf.old party.now.own) → IsUnset (H.entry shelf.old party.now.own) (H.entry shelf.new party.now.own) (new_member party.now) (loads_of party.now.own lines.now) why) }
+    ensures any_moment { IfOk result (λ node. BeginsOnly (H.entry shelf.old party.now.own) (H.Disk.told node.disk) (new_member party.now) (loads_of party.now.own lines.now)) }
+    ensures left { IfErr result (λ why. BeginsOnly (H.entry shelf.old party.now.own) (H.entry shelf.new party.now.own) (new_member party.now) (loads_of party.now.own lines.now)) }
+    ensures failed_set_up { IfErr result (λ why. Tells (H.entry shelf.old party.now.own) → IsFailedSetUp (H.entry shelf.old party.now.own) (H.entry shelf.new party.now.own) (new_member party.now) (loads_of party.now.own lines.now) why) }
     ensures fault { result ≡ Err (SetUpEnd.Failed Failure.Fault) → Rose (H.faults shelf.old) (H.faults shelf.new) }
     ensures slot { OnOk result (H.has_slot shelf.new party.now.own) }
     ensures shelf { ShelfStays party.now.own (H.entry shelf.old) (H.entry shelf.new) (H.has_slot shelf.old) (H.has_slot shelf.new) (H.faults shelf.old) (H.faults shelf.new) }
@@ -61,12 +67,12 @@ fn make_at<H: Shelf>(
     };
     match make(disk, alloc, lines, party) {
         Ok(node) => Ok(node),
-        Err(unset) => Err(put_unset(shelf, &party.own, unset)),
+        Err(failed_set_up) => Err(put_failed_set_up(shelf, &party.own, failed_set_up)),
     }
 }
 
-/// The party that a line declares takes its seat behind the others.
-fn seat_next<H: Shelf>(
+/// The party that a line declares is added behind the others.
+fn add_next<H: Shelf>(
     shelf: &mut H,
     alloc: Global,
     lines: &[Line],
@@ -75,8 +81,8 @@ fn seat_next<H: Shelf>(
 ) -> Result<(), SetUpEnd>
     requires rules { EachBehind may_follow lines.now }
     requires apart { IfSome (new_party line.now) (λ p. NoneOf parties.old p.own) }
-    ensures seated { OnOk result (SeatsNext H.Disk.told lines.now (new_party line.now) (H.entry shelf.old) (H.entry shelf.new) (H.has_slot shelf.new) parties.old parties.new) }
-    ensures unset { IfErr result (λ why. UnsetsNext lines.now (new_party line.now) (H.entry shelf.old) (H.entry shelf.new) why) }
+    ensures all_open { OnOk result (AddsNext H.Disk.told lines.now (new_party line.now) (H.entry shelf.old) (H.entry shelf.new) (H.has_slot shelf.new) parties.old parties.new) }
+    ensures failed_set_up { IfErr result (λ why. FailsSetUpNext lines.now (new_party line.now) (H.entry shelf.old) (H.entry shelf.new) why) }
     ensures same { IfErr result (λ why. parties.new ≡ parties.old) }
     ensures fault { result ≡ Err (SetUpEnd.Failed Failure.Fault) → Rose (H.faults shelf.old) (H.faults shelf.new) }
     ensures slots { SlotsStay (H.has_slot shelf.old) (H.has_slot shelf.new) }
@@ -92,7 +98,7 @@ fn seat_next<H: Shelf>(
     }
     match make_at(shelf, alloc, lines, &party) {
         Ok(node) => {
-            parties.put_in(place, Held::Open(node));
+            parties.put_in(place, PartyDisk::Open(node));
             Ok(())
         }
         Err(why) => {
@@ -126,6 +132,7 @@ pub(crate) fn set_up<H: Shelf>(
     scenario: &Scenario,
 ) -> Result<OpenParties<H::Disk>, SetUpEnd>
     ensures set_up { IfOk result (λ parties. AreSetUp H.Disk.told scenario.now scenario.now (H.entry shelf.old) (H.entry shelf.new) (H.has_slot shelf.new) parties) }
+    ensures any_moment { IfErr result (λ why. AllTell (H.entry shelf.old) (parties_in scenario.now) → (own : List ℕ) → SetsUpOnly scenario.now own (H.entry shelf.old own) (H.entry shelf.new own)) }
     ensures ended { IfErr result (λ why. AllTell (H.entry shelf.old) (parties_in scenario.now) → IsSetUpEnd scenario.now (H.entry shelf.old) (H.entry shelf.new) why) }
     ensures others { (own : List ℕ) → (Contains (parties_in scenario.now) own → ⊥) → IsAlike (H.entry shelf.old own) (H.entry shelf.new own) }
     ensures fault { result ≡ Err (SetUpEnd.Failed Failure.Fault) → Rose (H.faults shelf.old) (H.faults shelf.new) }
@@ -134,7 +141,7 @@ pub(crate) fn set_up<H: Shelf>(
     let lines = scenario.lines();
     let mut parties = OpenParties::new(alloc);
     for line in lines {
-        match seat_next(shelf, alloc, lines, line, &mut parties) {
+        match add_next(shelf, alloc, lines, line, &mut parties) {
             Ok(()) => {}
             Err(why) => return Err(end_all(shelf, parties, why)),
         }

@@ -3,7 +3,7 @@ ghost use Rattle.std.specs.Prelude.{Err, IfErr, OnOk, OnErr};
 ghost use Rattle.x_base.specs.Edge.{AppendsTo, WrotePrefix};
 ghost use Rattle.party_show.specs.Show.{shown};
 ghost use Rattle.replay.specs.Around.{SinkStays};
-ghost use Rattle.replay.specs.Seats.{AreOpen, members};
+ghost use Rattle.replay.specs.OpenParties.{AreOpen, members};
 ghost use Rattle.replay.specs.Showing.{IsWriteEnd};
 ghost use Rattle.course.specs.Transcript.{show_lines};
 

@@ -1,15 +1,16 @@
 // A stopped event over a party's disk: it is begun, the power goes, and the party is opened again.
 ghost use Rattle.std.specs.Prelude.{◌≡◌, ◌<◌, ◌≤◌, ℕ, true, Err, IfOk, IfErr, OnErr};
 ghost use Rattle.x_base.specs.Edge.{Rose};
-ghost use Rattle.x_disk.specs.Disk.{Tells};
+ghost use Rattle.x_disk.specs.Disk.{Tells, LeavesOnly};
 ghost use Rattle.x_disk.specs.Shelf.{IsAlike};
 ghost use Rattle.key_journal.specs.Opening.{IsFree};
 ghost use Rattle.change_code.specs.Cost.{is_change};
 ghost use Rattle.member.specs.Member.{after};
 ghost use Rattle.node_core.specs.Turns.{member_of};
 ghost use Rattle.replay.specs.Around.{ShelfStays};
-ghost use Rattle.replay.specs.Failing.{IsFailing, IsLost, ReadsEither};
-ghost use Rattle.replay.specs.Stops.{IsResting, IsRestarted};
+ghost use Rattle.replay.specs.Crash.{IsEither, disk_begun, disk_opened};
+ghost use Rattle.replay.specs.Failing.{IsFailing, IsFailedPartyDisk, ReadsEither};
+ghost use Rattle.replay.specs.Stops.{IsDiskAtStop, IsRestarted};
 
 use crate::failure::Failure;
 use key_journal::{Cause, Unmade};
@@ -18,19 +19,20 @@ use std::alloc::Global;
 use x_base::Ident;
 use x_disk::{Disk, DiskErr, Shelf};
 
-/// A disk that is lost to a play, and why.
+/// A disk at which a play breaks off, and why.
 #[derive(Drop)]
-pub(crate) struct Lost<D: Disk> {
+pub(crate) struct FailedPartyDisk<D: Disk> {
     pub(crate) disk: D,
     pub(crate) why: Failure,
 }
 
 /// What is planned is carried out over a disk that fails at the `n`-th call.
-fn begin_fused<D: Disk>(planned: Planned<D>, n: u64) -> Result<D, Lost<D>>
+fn carry_out_fused<D: Disk>(planned: Planned<D>, n: u64) -> Result<D, FailedPartyDisk<D>>
     requires { n ≤ 4 }
-    ensures rests { IfOk result (λ disk. IsResting (D.told planned.node.disk) (D.told disk) (member_of planned.node) (after (member_of planned.node) planned.plan.edits) (is_change planned.plan.edits ≡ true) n) }
-    ensures memory { IfErr result (λ lost. lost.why ≡ Failure.NoMemory) }
-    ensures left { IfErr result (λ lost. Tells (D.told planned.node.disk) → ReadsEither (D.told lost.disk) (member_of planned.node) (after (member_of planned.node) planned.plan.edits) (is_change planned.plan.edits ≡ true)) }
+    ensures at_stop { IfOk result (λ disk. IsDiskAtStop (D.told planned.node.disk) (D.told disk) (member_of planned.node) (after (member_of planned.node) planned.plan.edits) (is_change planned.plan.edits ≡ true) n) }
+    ensures memory { IfErr result (λ failed_disk. failed_disk.why ≡ Failure.NoMemory) }
+    ensures left { IfErr result (λ failed_disk. Tells (D.told planned.node.disk) → ReadsEither (D.told failed_disk.disk) (member_of planned.node) (after (member_of planned.node) planned.plan.edits) (is_change planned.plan.edits ≡ true)) }
+    ensures crash { Tells (D.told planned.node.disk) → LeavesOnly (D.told planned.node.disk) (D.told (disk_begun result)) (IsEither (member_of planned.node) (after (member_of planned.node) planned.plan.edits) (is_change planned.plan.edits ≡ true)) }
 {
     match planned.fuse(n.saturating_sub(1)).carry_out() {
         Turn::Done { node, .. } => Ok(node.into_disk().into_inner()),
@@ -38,13 +40,13 @@ fn begin_fused<D: Disk>(planned: Planned<D>, n: u64) -> Result<D, Lost<D>>
             let Unmade { disk, cause } = broken.give_up();
             match cause {
                 Cause::Fault => Ok(disk.into_inner()),
-                _ => Err(Lost {
+                _ => Err(FailedPartyDisk {
                     disk: disk.into_inner(),
                     why: Failure::NoMemory,
                 }),
             }
         }
-        Turn::NoMemory(node) => Err(Lost {
+        Turn::NoMemory(node) => Err(FailedPartyDisk {
             disk: node.into_disk().into_inner(),
             why: Failure::NoMemory,
         }),
@@ -52,25 +54,29 @@ fn begin_fused<D: Disk>(planned: Planned<D>, n: u64) -> Result<D, Lost<D>>
 }
 
 /// What is planned is carried out up to the `n`-th disk call.
-pub(crate) fn begin<D: Disk>(planned: Planned<D>, n: u64) -> Result<D, Lost<D>>
-    ensures rests { IfOk result (λ disk. IsResting (D.told planned.node.disk) (D.told disk) (member_of planned.node) (after (member_of planned.node) planned.plan.edits) (is_change planned.plan.edits ≡ true) n) }
-    ensures failing { IfErr result (λ lost. IsFailing lost.why) }
-    ensures left { IfErr result (λ lost. Tells (D.told planned.node.disk) → ReadsEither (D.told lost.disk) (member_of planned.node) (after (member_of planned.node) planned.plan.edits) (is_change planned.plan.edits ≡ true)) }
-    ensures fault { IfErr result (λ lost. lost.why ≡ Failure.Fault → 0 < (D.told lost.disk).faults) }
+pub(crate) fn carry_out_to_call<D: Disk>(
+    planned: Planned<D>,
+    n: u64,
+) -> Result<D, FailedPartyDisk<D>>
+    ensures at_stop { IfOk result (λ disk. IsDiskAtStop (D.told planned.node.disk) (D.told disk) (member_of planned.node) (after (member_of planned.node) planned.plan.edits) (is_change planned.plan.edits ≡ true) n) }
+    ensures failing { IfErr result (λ failed_disk. IsFailing failed_disk.why) }
+    ensures left { IfErr result (λ failed_disk. Tells (D.told planned.node.disk) → ReadsEither (D.told failed_disk.disk) (member_of planned.node) (after (member_of planned.node) planned.plan.edits) (is_change planned.plan.edits ≡ true)) }
+    ensures fault { IfErr result (λ failed_disk. failed_disk.why ≡ Failure.Fault → 0 < (D.told failed_disk.disk).faults) }
+    ensures crash { Tells (D.told planned.node.disk) → LeavesOnly (D.told planned.node.disk) (D.told (disk_begun result)) (IsEither (member_of planned.node) (after (member_of planned.node) planned.plan.edits) (is_change planned.plan.edits ≡ true)) }
 {
     if n <= 4 {
-        return begin_fused(planned, n);
+        return carry_out_fused(planned, n);
     }
     match planned.carry_out() {
         Turn::Done { node, .. } => Ok(node.into_disk()),
         Turn::Broken(broken) => {
             let Unmade { disk, cause } = broken.give_up();
-            Err(Lost {
+            Err(FailedPartyDisk {
                 disk,
                 why: failure_by(cause),
             })
         }
-        Turn::NoMemory(node) => Err(Lost {
+        Turn::NoMemory(node) => Err(FailedPartyDisk {
             disk: node.into_disk(),
             why: Failure::NoMemory,
         }),
@@ -90,7 +96,7 @@ pub(crate) fn failure_of(error: DiskErr) -> Failure
 }
 
 /// Puts a disk back on the shelf and fetches it anew, so that its faults are among the shelf's.
-pub(crate) fn exchange<H: Shelf>(
+pub(crate) fn put_back_and_fetch<H: Shelf>(
     shelf: &mut H,
     own: &Ident,
     disk: H::Disk,
@@ -127,16 +133,21 @@ pub(crate) fn failure_by(cause: Cause) -> Failure
 }
 
 /// Powers the disk off with a choice, and opens its party.
-pub(crate) fn restart<D: Disk>(disk: D, alloc: Global, choice: u64) -> Result<Node<D>, Lost<D>>
+pub(crate) fn restart<D: Disk>(
+    disk: D,
+    alloc: Global,
+    choice: u64,
+) -> Result<Node<D>, FailedPartyDisk<D>>
     ensures opened { IfOk result (λ node. IsRestarted (D.told disk) (D.told node.disk) choice node.gate node.end node.format node.party) }
-    ensures lost { IfErr result (λ lost. IsLost (D.told disk) (D.told lost.disk) lost.why) }
-    ensures fault { IfErr result (λ lost. lost.why ≡ Failure.Fault → 0 < (D.told lost.disk).faults) }
+    ensures failed_disk { IfErr result (λ failed_disk. IsFailedPartyDisk (D.told disk) (D.told failed_disk.disk) failed_disk.why) }
+    ensures fault { IfErr result (λ failed_disk. failed_disk.why ≡ Failure.Fault → 0 < (D.told failed_disk.disk).faults) }
+    ensures crash { LeavesOnly (D.told disk) (D.told (disk_opened result)) (D.told disk).may_leave }
 {
     let mut disk = disk;
     match disk.power_off(choice) {
         Ok(()) => {}
         Err(error) => {
-            return Err(Lost {
+            return Err(FailedPartyDisk {
                 disk,
                 why: failure_of(error),
             });
@@ -144,7 +155,7 @@ pub(crate) fn restart<D: Disk>(disk: D, alloc: Global, choice: u64) -> Result<No
     }
     match Node::open_from(alloc, disk) {
         Ok(node) => Ok(node),
-        Err(Unmade { disk, cause }) => Err(Lost {
+        Err(Unmade { disk, cause }) => Err(FailedPartyDisk {
             disk,
             why: failure_by(cause),
         }),

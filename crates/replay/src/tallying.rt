@@ -1,7 +1,7 @@
 // The tally of a play at its end.
 ghost use Rattle.std.specs.Prelude.{◌≤◌, length};
 ghost use Rattle.course.specs.Tallies.{IsTallied};
-ghost use Rattle.replay.specs.Seats.{AreOpen, members};
+ghost use Rattle.replay.specs.OpenParties.{AreOpen, members};
 
 use crate::keys::count_keys;
 use crate::open_parties::OpenParties;
@@ -11,7 +11,7 @@ use x_disk::Disk;
 
 /// The outcomes so far, and the key records of all parties as they are.
 pub(crate) fn tally_of<D: Disk>(parties: &OpenParties<D>, now: &Progress) -> Tally
-    requires seated { AreOpen parties.now }
+    requires all_open { AreOpen parties.now }
     requires few { length parties.now ≤ 64 }
     requires numbered { 1 ≤ now.now.number }
     ensures { IsTallied now.now (members parties.now) result }

@@ -1,12 +1,16 @@
 // A planned event is carried out whole.
-ghost use Rattle.std.specs.Prelude.{◌≡◌, Err, IfOk, IfErr};
+ghost use Rattle.std.specs.Prelude.{◌≡◌, true, Err, IfOk, IfErr};
+ghost use Rattle.change_code.specs.Cost.{is_change};
+ghost use Rattle.member.specs.Member.{after};
+ghost use Rattle.node_core.specs.Turns.{member_of};
 ghost use Rattle.replay.specs.Closing.{AnyFaulty};
+ghost use Rattle.replay.specs.Crash.{HoldsSince};
 ghost use Rattle.replay.specs.Events.{IsWhole, IsLeft};
-ghost use Rattle.replay.specs.Seats.{IsEmptyAt};
+ghost use Rattle.replay.specs.OpenParties.{IsEmptyAt};
 
 use crate::failure::Failure;
-use crate::scene::Scene;
-use crate::seat::Held;
+use crate::open_party::PartyDisk;
+use crate::play_state::PlayState;
 use crate::stopped::failure_by;
 use course::note;
 use key_journal::Unmade;
@@ -14,17 +18,18 @@ use node_core::{Planned, Turn};
 use x_base::Verdict;
 use x_disk::Disk;
 
-/// What is planned at the party whose seat is empty is carried out whole; what is written is added to the texts, and its
-/// fact is noted. The party takes its seat again.
+/// What is planned at the party that was taken out is carried out whole; what is written is added to the texts, and its
+/// fact is noted. The party is put back in its place.
 pub(crate) fn play_whole<D: Disk>(
-    scene: &mut Scene<D>,
+    play_state: &mut PlayState<D>,
     place: usize,
     planned: Planned<D>,
 ) -> Result<Verdict, Failure>
-    requires { IsEmptyAt scene.old.parties place }
-    ensures whole { IfOk result (λ verdict. IsWhole D.told planned scene.old scene.new place verdict) }
-    ensures left { IfErr result (λ why. IsLeft D.told planned scene.old.parties scene.new.parties place why) }
-    ensures fault { result ≡ Err Failure.Fault → AnyFaulty D.told scene.new.parties }
+    requires { IsEmptyAt play_state.old.parties place }
+    ensures whole { IfOk result (λ verdict. IsWhole D.told planned play_state.old play_state.new place verdict) }
+    ensures left { IfErr result (λ why. IsLeft D.told planned play_state.old.parties play_state.new.parties place why) }
+    ensures fault { result ≡ Err Failure.Fault → AnyFaulty D.told play_state.new.parties }
+    ensures crash { HoldsSince D.told planned.node (member_of planned.node) (after (member_of planned.node) planned.plan.edits) (is_change planned.plan.edits ≡ true) play_state.old.parties play_state.new.parties place }
 {
     match planned.carry_out() {
         Turn::Done {
@@ -33,17 +38,17 @@ pub(crate) fn play_whole<D: Disk>(
             reply,
             under,
         } => {
-            scene.parties.put_in(place, Held::Open(node));
-            note(&mut scene.facts, &mut scene.texts, under, &reply)?;
+            play_state.parties.put_in(place, PartyDisk::Open(node));
+            note(&mut play_state.facts, &mut play_state.texts, under, &reply)?;
             Ok(verdict)
         }
         Turn::Broken(broken) => {
             let Unmade { disk, cause } = broken.give_up();
-            scene.parties.put_in(place, Held::Loose(disk));
+            play_state.parties.put_in(place, PartyDisk::Closed(disk));
             Err(failure_by(cause))
         }
         Turn::NoMemory(node) => {
-            scene.parties.put_in(place, Held::Open(node));
+            play_state.parties.put_in(place, PartyDisk::Open(node));
             Err(Failure::NoMemory)
         }
     }

@@ -6,7 +6,7 @@ ghost use Rattle.replay.specs.Breaking.{IsBreak};
 ghost use Rattle.course.specs.Transcript.{outcome_line, text_line};
 
 use crate::failure::{Ending, Failure};
-use course::{Outcome, compose_event};
+use course::{EventOutcome, compose_event};
 use x_base::{Sink, SinkFault, put_all};
 
 /// Writes the lines of an event: what became of it, and the text that it wrote, if it did. They are put together in memory
@@ -15,7 +15,7 @@ pub(crate) fn write_event<K: Sink>(
     sink: &mut K,
     buffer: &mut Vec<u8>,
     number: u32,
-    outcome: Outcome,
+    outcome: EventOutcome,
     k: u64,
     text: Option<&[u8]>,
 ) -> Result<(), Ending>

@@ -2,7 +2,7 @@ use Rattle.std.proofs.Common.{◌≡◌, ◌≤◌, ℕ, Err}
 use Rattle.std.specs.Vec.{vec_len}
 use Rattle.x_base.specs.Edge.{Rose}
 use Rattle.replay.specs.Closing.{AllSlots, IsClosing}
-use Rattle.replay.specs.Seats.{owners}
+use Rattle.replay.specs.OpenParties.{owners}
 use Rattle.replay.specs.declared.failure.Failure.TheVariants as failure
 use Rattle.replay.proofs.closing.put_back_all.Given as goal
 

@@ -1,7 +1,7 @@
 use Rattle.std.proofs.Common.{arith}
 use Rattle.x_base.specs.Edge.{WrotePrefix}
 use Rattle.course.specs.Transcript.{show_lines}
-use Rattle.replay.specs.Seats.{members}
+use Rattle.replay.specs.OpenParties.{members}
 use Rattle.replay.proofs.Gathering.{shows_more, shows_part}
 use Rattle.replay.proofs.Results.{on_err}
 use Rattle.replay.proofs.showing.write_shows.Goals as goal

@@ -1,4 +1,5 @@
-use Rattle.replay.proofs.Losing.{lost_off, lost_open}
+use Rattle.replay.proofs.Losing.{failed_off, failed_open}
+use Rattle.replay.proofs.HoldingAgain.{off_leaves, restart_leaves}
 use Rattle.replay.proofs.Stopping.{restarts}
 use Rattle.replay.proofs.stopped.restart.Goals as goal
 
@@ -10,12 +11,26 @@ returns-in-Ok-open_from-clause-opened g c =
     c.in-Ok.ensures.crash c.in-Ok.ensures.stable c.in-Ok.ensures.now c.in-Ok.ensures.tells
     c.in-Ok-open_from.ensures.now c.in-Ok-open_from.ensures.stands c.in-Ok-open_from.ensures.exact c.in-Ok-open_from.ensures.format
 
-pub returns-in-Err-clause-lost : goal.returns-in-Err-clause-lost
-returns-in-Err-clause-lost g c =
+pub returns-in-Err-clause-failed_disk : goal.returns-in-Err-clause-failed_disk
+returns-in-Err-clause-failed_disk g c =
     let told = g.D.Disk.told in
-    lost_off (told c.args.disk) (told c.power_off.new.self) c.failure_of.result c.failure_of.ensures.failing (g.met.D.Disk.sound c.power_off.new.self) c.in-Err.ensures.crash c.in-Err.ensures.tells
+    failed_off (told c.args.disk) (told c.power_off.new.self) c.failure_of.result c.failure_of.ensures.failing (g.met.D.Disk.sound c.power_off.new.self) c.in-Err.ensures.crash c.in-Err.ensures.tells
 
-pub returns-in-Err-open_from-clause-lost : goal.returns-in-Err-open_from-clause-lost
-returns-in-Err-open_from-clause-lost g c =
+pub returns-in-Err-open_from-clause-failed_disk : goal.returns-in-Err-open_from-clause-failed_disk
+returns-in-Err-open_from-clause-failed_disk g c =
     let told = g.D.Disk.told in
-    lost_open told (told c.args.disk) c.power_off.new.self c.in-Err-open_from.field-0 c.failure_by.result c.failure_by.ensures.failing (g.met.D.Disk.sound c.power_off.new.self) c.in-Ok.ensures.crash c.in-Ok.ensures.tells c.in-Err-open_from.ensures
+    failed_open told (told c.args.disk) c.power_off.new.self c.in-Err-open_from.field-0 c.failure_by.result c.failure_by.ensures.failing (g.met.D.Disk.sound c.power_off.new.self) c.in-Ok.ensures.crash c.in-Ok.ensures.tells c.in-Err-open_from.ensures
+
+pub returns-in-Err-clause-crash : goal.returns-in-Err-clause-crash
+returns-in-Err-clause-crash g c =
+    off_leaves (g.D.Disk.told c.args.disk) (g.D.Disk.told c.power_off.new.self) (g.met.D.Disk.sound c.args.disk) c.in-Err.ensures.time c.in-Err.ensures.crash
+
+pub returns-in-Ok-open_from-clause-crash : goal.returns-in-Ok-open_from-clause-crash
+returns-in-Ok-open_from-clause-crash g c =
+    let told = g.D.Disk.told in
+    restart_leaves (told c.args.disk) (told c.power_off.new.self) (told c.in-Ok-open_from.node.disk) (g.met.D.Disk.sound c.args.disk) c.in-Ok.ensures.time c.in-Ok.ensures.crash c.in-Ok-open_from.ensures.any_moment
+
+pub returns-in-Err-open_from-clause-crash : goal.returns-in-Err-open_from-clause-crash
+returns-in-Err-open_from-clause-crash g c =
+    let told = g.D.Disk.told in
+    restart_leaves (told c.args.disk) (told c.power_off.new.self) (told c.in-Err-open_from.field-0.disk) (g.met.D.Disk.sound c.args.disk) c.in-Ok.ensures.time c.in-Ok.ensures.crash c.in-Err-open_from.ensures.any_moment

@@ -1,5 +1,5 @@
 use Rattle.std.proofs.Common.{◌∙◌, ap}
-use Rattle.replay.specs.Seats.{owners}
+use Rattle.replay.specs.OpenParties.{owners}
 use Rattle.replay.proofs.Places.{placed, nowhere}
 use Rattle.replay.proofs.Results.{if_some, if_none}
 use Rattle.replay.proofs.open_parties.OpenParties.place_of.Goals as goal

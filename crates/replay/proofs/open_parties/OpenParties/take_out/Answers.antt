@@ -1,26 +1,26 @@
 use Rattle.std.proofs.Common.{◌≡◌, ◌<◌, sym, ◌∙◌, subst, List, length, set}
-use Rattle.replay.specs.Seats.{seat, AreOpen, IsLifted, IsOpen}
-use Rattle.replay.specs.declared.seat.Held.TheVariants.{Open}
-use Rattle.replay.specs.declared.seat.Seat.{Seat}
-use Rattle.replay.proofs.Seating.{is_in, not_open, lifts, owners_set}
+use Rattle.replay.specs.OpenParties.{open_party, AreOpen, IsTakenOut, IsOpen}
+use Rattle.replay.specs.declared.open_party.PartyDisk.TheVariants.{Open}
+use Rattle.replay.specs.declared.open_party.OpenParty.{OpenParty}
+use Rattle.replay.proofs.PuttingIn.{is_in, not_open, takes_out, owners_set}
 use Rattle.replay.proofs.open_parties.OpenParties.take_out.Goals as goal
 
 pub unreachable-requires : goal.unreachable-requires
 unreachable-requires g c =
-    let seats = c.self.inside.seats.items in
+    let open_parties = c.self.inside.open_parties.items in
     let s = c.index_mut.result.now in
-    let within : c.args.place < length seats = subst (λ (l : List (Seat _)). c.args.place < length l) (sym c.self.view_is) c.requires.within in
-    not_open c.replace.result c.in-Loose.is
-    (subst IsOpen (sym c.replace.ensures.value) (is_in seats c.args.place s within c.index_mut.ensures.value (subst AreOpen (sym c.self.view_is) c.requires.seated)))
+    let within : c.args.place < length open_parties = subst (λ (l : List (OpenParty _)). c.args.place < length l) (sym c.self.view_is) c.requires.within in
+    not_open c.replace.result c.in-Closed.is
+    (subst IsOpen (sym c.replace.ensures.value) (is_in open_parties c.args.place s within c.index_mut.ensures.value (subst AreOpen (sym c.self.view_is) c.requires.all_open)))
 
 pub returns : goal.returns
 returns g c =
-    let seats = c.self.inside.seats.items in
+    let open_parties = c.self.inside.open_parties.items in
     let s = c.index_mut.result.now in
-    let within : c.args.place < length seats = subst (λ (l : List (Seat _)). c.args.place < length l) (sym c.self.view_is) c.requires.within in
+    let within : c.args.place < length open_parties = subst (λ (l : List (OpenParty _)). c.args.place < length l) (sym c.self.view_is) c.requires.within in
     let opened : s.held ≡ Open c.in-Open.node = sym c.replace.ensures.value ∙ c.in-Open.is in
-    subst (λ (l : List (Seat _)). IsLifted l (set seats c.args.place (seat s.own c.replace.new.dest)) c.args.place c.in-Open.node) c.self.view_is
-    (lifts seats c.args.place s c.replace.new.dest c.in-Open.node within c.index_mut.ensures.value opened c.replace.ensures.after)
+    subst (λ (l : List (OpenParty _)). IsTakenOut l (set open_parties c.args.place (open_party s.own c.replace.new.dest)) c.args.place c.in-Open.node) c.self.view_is
+    (takes_out open_parties c.args.place s c.replace.new.dest c.in-Open.node within c.index_mut.ensures.value opened c.replace.ensures.after)
 
 pub invariant_of-self : goal.invariant_of-self
-invariant_of-self g c = c.self.invariant ∙ sym (owners_set c.self.inside.seats.items c.args.place c.index_mut.result.now c.replace.new.dest c.index_mut.ensures.value)
+invariant_of-self g c = c.self.invariant ∙ sym (owners_set c.self.inside.open_parties.items c.args.place c.index_mut.result.now c.replace.new.dest c.index_mut.ensures.value)

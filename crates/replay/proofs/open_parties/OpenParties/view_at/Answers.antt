@@ -1,12 +1,12 @@
 use Rattle.std.proofs.Common.{List, length, ◌<◌, sym, subst}
-use Rattle.replay.specs.Seats.{AreOpen}
-use Rattle.replay.specs.declared.seat.Seat.{Seat}
-use Rattle.replay.proofs.Seating.{is_in, not_open}
+use Rattle.replay.specs.OpenParties.{AreOpen}
+use Rattle.replay.specs.declared.open_party.OpenParty.{OpenParty}
+use Rattle.replay.proofs.PuttingIn.{is_in, not_open}
 use Rattle.replay.proofs.open_parties.OpenParties.view_at.Goals as goal
 
 pub unreachable-requires : goal.unreachable-requires
 unreachable-requires g c =
-    let seats = c.self.inside.seats.items in
+    let open_parties = c.self.inside.open_parties.items in
     let s = c.index.result.now in
-    let within : c.args.place < length seats = subst (λ (l : List (Seat _)). c.args.place < length l) (sym c.self.view_is) c.requires.within in
-    not_open s.held c.in-Loose.is (is_in seats c.args.place s within c.index.ensures (subst AreOpen (sym c.self.view_is) c.requires.seated))
+    let within : c.args.place < length open_parties = subst (λ (l : List (OpenParty _)). c.args.place < length l) (sym c.self.view_is) c.requires.within in
+    not_open s.held c.in-Closed.is (is_in open_parties c.args.place s within c.index.ensures (subst AreOpen (sym c.self.view_is) c.requires.all_open))

@@ -5,7 +5,7 @@ use x_disk::Disk;
 
 /// The open parties, the texts that were written, and the facts.
 #[derive(Drop)]
-pub(crate) struct Scene<D: Disk> {
+pub(crate) struct PlayState<D: Disk> {
     pub(crate) parties: OpenParties<D>,
     pub(crate) texts: Texts,
     pub(crate) facts: FactBook,

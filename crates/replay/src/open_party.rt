@@ -5,18 +5,18 @@ use x_disk::Disk;
 
 /// What is held of a party.
 #[derive(Drop)]
-pub(crate) enum Held<D: Disk> {
+pub(crate) enum PartyDisk<D: Disk> {
     /// Its open disk.
     Open(Node<D>),
     /// Its disk, on which a call failed.
-    Loose(D),
+    Closed(D),
     /// Nothing, while it acts, or where its disk is on the shelf.
-    Out,
+    Away,
 }
 
 /// A party, and what is held of it.
 #[derive(Drop)]
-pub(crate) struct Seat<D: Disk> {
+pub(crate) struct OpenParty<D: Disk> {
     pub(crate) own: Ident,
-    pub(crate) held: Held<D>,
+    pub(crate) held: PartyDisk<D>,
 }
