@@ -35,8 +35,9 @@ Example: x917 audit < run
         }
         OrderKind::Batch => {
             "
-Reads the messages of a batch, one behind the other.
-Reads: messages. Writes: a line of each.
+Makes a batch of the messages of its input, each to arrive at the present moment (\"Batches\");
+looks at no file.
+Reads: messages. Writes: the batch.
 Exit: 0 done, 1 refused, 2 a faulty command line, 3 input not read, 4 output not written, 7 a
 bad line, 9 no memory.
 Example: x917 batch < messages
@@ -54,9 +55,8 @@ Example: x917 init --party BANKA --role bank --genkey \"$PAIR\" --genseed \"$SEE
         }
         OrderKind::Create => {
             "
-Sets a party up as init does, with its generator from standard input: one, two or three lines,
-each of 32 digits for the pair, a blank and 16 digits for the seed, which are joined by
-exclusive or.
+Sets a party up as init does, with its generator from standard input: one to three lines, each
+of 32 digits for the pair, a blank and 16 digits for the seed, joined by exclusive or.
 Reads: digits. Writes: the check value of the pair.
 Exit: 0 done, 1 refused, 2 a faulty command line, 3 input not read, 4 output not written, 5 a
 fault of the disk, 6 a damaged file, 9 no memory.
@@ -77,8 +77,8 @@ Example: x917 load --party BANKA --peer BANKB --label K1 --side out --key \"$KEY
         }
         OrderKind::Enter => {
             "
-Loads a key-encrypting key as load does, with its digits from standard input: one, two or three
-lines of 32 digits, or of 16 for a single key, which are joined by exclusive or.
+Loads a key-encrypting key as load does, with its digits from standard input: one to three lines
+of 32 digits, or of 16 for a single key, joined by exclusive or.
 Reads: digits. Writes: the check value of the key.
 Exit: 0 done, 1 refused, 2 a faulty command line, 3 input not read, 4 output not written, 5 a
 fault of the disk, 6 a damaged file, 9 no memory.
@@ -126,7 +126,8 @@ Example: x917 translate --party BANKA --peer CKTX --ultimate BANKB > message.csm
         }
         OrderKind::Take => {
             "
-Reads a message and tells the party.
+Reads a message and tells the party; with --tell, a line on standard error says what was
+accepted.
 Reads: a message. Writes: the answer, where the message has one.
 Exit: 0 done, 1 refused, 2 a faulty command line, 3 input not read, 4 output not written, 5 a
 fault of the disk, 6 a damaged file, 9 no memory.
@@ -248,8 +249,9 @@ Example: x917 accept --party BANKB --ledger LEDB < payment
         }
         OrderKind::Spool => {
             "
-Does the messages of a batch at a party, and keeps what was done in a file of its own.
-Reads: a batch. Writes: the replies.
+Takes the messages of a batch one by one, each once, however often it is called; keeps what was
+decided in the spool, a file of its own.
+Reads: a batch. Writes: the outbox.
 Exit: 0 done, 1 refused, 2 a faulty command line, 3 input not read, 4 output not written, 5 a
 fault of the disk, 6 a damaged file, 7 a bad line, 9 no memory.
 Example: x917 spool --party BANKA --spool SPOOLA < batch
@@ -257,8 +259,8 @@ Example: x917 spool --party BANKA --spool SPOOLA < batch
         }
         OrderKind::Outbox => {
             "
-Shows what a spool has to send.
-Reads: nothing. Writes: the replies.
+Writes the outbox of a spool as far as it is; changes nothing.
+Reads: nothing. Writes: the outbox.
 Exit: 0 done, 1 refused, 2 a faulty command line, 4 output not written, 5 a fault of the disk, 6
 a damaged file, 9 no memory.
 Example: x917 outbox --spool SPOOLA

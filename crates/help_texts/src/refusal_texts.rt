@@ -146,12 +146,6 @@ load: the peer's identity, repeated to sixteen letters, is another known party's
 What to do: another identity.
 "
         }
-        36 => {
-            "
-replay, audit: the code of event P agrees, and nobody made it who holds its key.
-What to do: docs/NETWORK.md.
-"
-        }
         37 => {
             "
 No such party in the current folder.
@@ -166,14 +160,14 @@ What to do: hand in one message at a time.
         }
         40 => {
             "
-spool: the file of the spool holds another batch.
+spool: the spool's file holds another batch.
 What to do: a new spool for a new batch.
 "
         }
         41 => {
             "
 spool: the party was commanded between two runs of the batch, and isn't where the spool says.
-What to do: docs/OPERATOR.md, \"Batches\"; the same batch under a new spool is taken again.
+What to do: \"Batches\"; the same batch under a new spool is taken again.
 "
         }
         42 => {

@@ -11,7 +11,8 @@ use x_base::{NoMemory, Text};
 
 /// What stands behind the lines of all commands: the versions of the program and of what proved it.
 const VERSIONS: &[u8] = b"
-x917 help COMMAND tells of a command, x917 help NUMBER of a refusal.
+x917 help COMMAND tells of a command, x917 help NUMBER of a refusal. Words in quotation marks are
+sections of docs/OPERATOR.md.
 x917 1.0.0, proved with rattle-kit-13f
 ";
 

@@ -6,7 +6,7 @@ use x_base::{NoMemory, Text};
 use x_line::{LineFault, Opt, UsageKind, read_order};
 
 /// Command lines, their words parted by blanks, and what is wrong with them.
-const FAULTS: [(&str, UsageKind); 35] = [
+const FAULTS: [(&str, UsageKind); 40] = [
     ("check extra", UsageKind::Line),
     ("check --party", UsageKind::Line),
     ("check --par BANKA", UsageKind::Line),
@@ -19,6 +19,8 @@ const FAULTS: [(&str, UsageKind); 35] = [
     ("--help", UsageKind::Line),
     ("check --version", UsageKind::Line),
     ("help", UsageKind::Command),
+    ("help take", UsageKind::Line),
+    ("help 29", UsageKind::Line),
     ("Check", UsageKind::Command),
     ("--party BANKA --key 1 stop", UsageKind::Command),
     (
@@ -26,6 +28,9 @@ const FAULTS: [(&str, UsageKind); 35] = [
         UsageKind::Unwanted(Opt::Party),
     ),
     ("drill --seed 1 --single", UsageKind::Unwanted(Opt::Single)),
+    ("show --tell --party x", UsageKind::Unwanted(Opt::Tell)),
+    ("take --tell --party BANKA --tell", UsageKind::Line),
+    ("take --tell=yes --party BANKA", UsageKind::Line),
     ("drill --events 1", UsageKind::Missing(Opt::Seed)),
     ("check --party=", UsageKind::Unwanted(Opt::Party)),
     (

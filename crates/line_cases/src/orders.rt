@@ -182,8 +182,8 @@ fn key_rows() -> Option<[Row; 3]> {
     ])
 }
 
-/// Command lines of a party that is kept on two disks, and what they give.
-fn mirrored_rows() -> Option<[(&'static str, Given); 4]> {
+/// Command lines of a party that is kept on two disks, or that ask to be told what is accepted, and what they give.
+fn whole_rows() -> Option<[(&'static str, Given); 6]> {
     let party = Ident::read(b"BANKA").ok()?;
     let peer = Ident::read(b"CKDX").ok()?;
     let mirror = Ident::read(b"MIRA").ok()?;
@@ -193,6 +193,23 @@ fn mirrored_rows() -> Option<[(&'static str, Given); 4]> {
             Given {
                 order: Order::Take { party },
                 mirror: Some(mirror),
+                tell: false,
+            },
+        ),
+        (
+            "take --tell --party BANKA",
+            Given {
+                order: Order::Take { party },
+                mirror: None,
+                tell: true,
+            },
+        ),
+        (
+            "take --party BANKA --mirror MIRA --tell",
+            Given {
+                order: Order::Take { party },
+                mirror: Some(mirror),
+                tell: true,
             },
         ),
         (
@@ -200,6 +217,7 @@ fn mirrored_rows() -> Option<[(&'static str, Given); 4]> {
             Given {
                 order: Order::Drop { party, peer },
                 mirror: Some(mirror),
+                tell: false,
             },
         ),
         (
@@ -210,6 +228,7 @@ fn mirrored_rows() -> Option<[(&'static str, Given); 4]> {
                     role: Role::Bank,
                 },
                 mirror: Some(mirror),
+                tell: false,
             },
         ),
         (
@@ -217,6 +236,7 @@ fn mirrored_rows() -> Option<[(&'static str, Given); 4]> {
             Given {
                 order: Order::Compare { party, mirror },
                 mirror: None,
+                tell: false,
             },
         ),
     ])
@@ -248,13 +268,14 @@ fn add_rows(alloc: Global, table: &mut Table, rows: &[Row]) -> Result<(), NoMemo
         let wanted = Given {
             order: *order,
             mirror: None,
+            tell: false,
         };
         add_row(alloc, table, line, &wanted)?;
     }
     Ok(())
 }
 
-fn add_mirrored(
+fn add_whole(
     alloc: Global,
     table: &mut Table,
     rows: &[(&'static str, Given)],
@@ -268,17 +289,17 @@ fn add_mirrored(
 /// What is told of the orders that lines give.
 pub(crate) fn orders(alloc: Global) -> Result<Text, NoMemory> {
     let mut table = Table::new(alloc, "orders of command lines");
-    let (Some(rows), Some(later), Some(keys), Some(mirrored)) = (
+    let (Some(rows), Some(later), Some(keys), Some(whole)) = (
         rows(),
         later_rows(),
         key_rows(),
-        mirrored_rows(),
+        whole_rows(),
     ) else {
         return table.told();
     };
     add_rows(alloc, &mut table, &rows)?;
     add_rows(alloc, &mut table, &later)?;
     add_rows(alloc, &mut table, &keys)?;
-    add_mirrored(alloc, &mut table, &mirrored)?;
+    add_whole(alloc, &mut table, &whole)?;
     table.told()
 }

@@ -31,7 +31,7 @@ abbrev front : List Opt
 front = opt.Party ∷ opt.Role ∷ opt.Genkey ∷ opt.Genseed ∷ opt.Peer ∷ opt.Label ∷ opt.Side ∷ opt.Key ∷ opt.New ∷ opt.Ultimate ∷ opt.Name ∷ opt.Seed ∷ opt.Events ∷ opt.Spool ∷ []
 
 abbrev back : List Opt
-back = opt.Ledger ∷ opt.Amount ∷ opt.Single ∷ []
+back = opt.Ledger ∷ opt.Amount ∷ opt.Single ∷ opt.Tell ∷ []
 
 -- a second disk that a line gives is given by its option, which such a kind of order doesn't refuse
 refused : (k : OrderKind) (rows : List Row) (m : List ℕ) → unwanted_of k rows ≡ None → is_refused (need_of k opt.Mirror) ≡ true → other_of opt.Mirror rows ≡ Some m → ⊥

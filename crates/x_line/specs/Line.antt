@@ -1,4 +1,4 @@
--- The command line as clap is to read it: one positional, options of one value each, and a flag
+-- The command line as clap is to read it: one positional, options of one value each, and two flags
 -- (this project's profile).
 use Rattle.std.specs.Prelude.{Bool, true, List, fold, Some, codes}
 use Rattle.clap.specs.Words.{App, Row, Rule, Text, matches_of, new_app, new_rule, takes, with_rule}
@@ -12,10 +12,11 @@ use Rattle.x_line.specs.Options.{name_of, options}
 abbrev pub command_rule : Rule
 command_rule = record (new_rule (codes "command")) { required = true; action = Some Set }
 
--- `--name value` or `--name=value`, and `--single` alone
+-- `--name value` or `--name=value`, and `--single` and `--tell` alone
 abbrev pub option_rule : Opt → Rule
 option_rule opt.Single =
     record (new_rule (codes "single")) { long = Some (codes "single"); action = Some SetTrue }
+option_rule opt.Tell = record (new_rule (codes "tell")) { long = Some (codes "tell"); action = Some SetTrue }
 option_rule o = record (new_rule (name_of o)) { long = Some (name_of o); action = Some Set }
 
 abbrev pub with_option : App → Opt → App

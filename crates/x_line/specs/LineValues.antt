@@ -26,6 +26,7 @@ is_true None = false
 -- the option was given
 abbrev pub is_given : Opt → List Row → Bool
 is_given opt.Single rows = is_true (first_of (codes "single") rows)
+is_given opt.Tell rows = is_true (first_of (codes "tell") rows)
 is_given o rows = is_some (first_of (name_of o) rows)
 
 -- what the value of the option stands for, if it was given and stands for something
@@ -56,3 +57,4 @@ is_valid opt.Mirror rows = is_some (other_of opt.Mirror rows)
 is_valid opt.Ledger rows = is_some (other_of opt.Ledger rows)
 is_valid opt.Amount rows = is_some (given count_of opt.Amount rows)
 is_valid opt.Single rows = true
+is_valid opt.Tell rows = true

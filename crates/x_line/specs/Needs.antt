@@ -59,6 +59,7 @@ need_of kinds.Translate opt.Mirror = need.Optional
 need_of kinds.Translate o = need.Refused
 need_of kinds.Take opt.Party = need.Required
 need_of kinds.Take opt.Mirror = need.Optional
+need_of kinds.Take opt.Tell = need.Optional
 need_of kinds.Take o = need.Refused
 need_of kinds.Purge opt.Party = need.Required
 need_of kinds.Purge opt.Mirror = need.Optional

@@ -22,9 +22,10 @@ name_of opt.Mirror = codes "mirror"
 name_of opt.Ledger = codes "ledger"
 name_of opt.Amount = codes "amount"
 name_of opt.Single = codes "single"
+name_of opt.Tell = codes "tell"
 
 -- the order in which the first at fault is sought
 abbrev pub options : List Opt
 options = opt.Party ∷ opt.Role ∷ opt.Genkey ∷ opt.Genseed ∷ opt.Peer ∷ opt.Label ∷ opt.Side
     ∷ opt.Key ∷ opt.New ∷ opt.Ultimate ∷ opt.Name ∷ opt.Seed ∷ opt.Events ∷ opt.Spool ∷ opt.Mirror
-    ∷ opt.Ledger ∷ opt.Amount ∷ opt.Single ∷ []
+    ∷ opt.Ledger ∷ opt.Amount ∷ opt.Single ∷ opt.Tell ∷ []

@@ -120,6 +120,10 @@ mirror_of k rows = other_of opt.Mirror rows
 abbrev pub IsGiven : List Text → Order → Option (List ℕ) → Type 0
 IsGiven words o mirror = (usage_of words ≡ None) × Says (rows_of_line words) o × (mirror_of (kind_of o) (rows_of_line words) ≡ mirror)
 
+-- they ask to be told what is accepted, which `take` alone can be
+abbrev pub is_telling : List Text → Bool
+is_telling words = is_given opt.Tell (rows_of_line words)
+
 -- of a party with one disk
 abbrev pub IsOrder : List Text → Order → Type 0
 IsOrder words o = IsGiven words o None

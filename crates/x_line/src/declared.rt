@@ -15,7 +15,7 @@ fn argument<'a>(alloc: Global, opt: Opt, name: &'a str) -> Arg<'a>
     ensures local { result.global ≡ false }
 {
     let action = match opt {
-        Opt::Single => ArgAction::SetTrue,
+        Opt::Single | Opt::Tell => ArgAction::SetTrue,
         _ => ArgAction::Set,
     };
     Arg::new(alloc, name).long(name).action(action)

@@ -74,7 +74,7 @@ impl<'a> Line<'a> {
         ensures { result ≡ is_given opt self.now }
     {
         match opt {
-            Opt::Single => is_true(self.text(Opt::Single)),
+            Opt::Single | Opt::Tell => is_true(self.text(opt)),
             _ => self.text(opt).is_some(),
         }
     }

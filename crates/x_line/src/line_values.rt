@@ -112,7 +112,7 @@ impl Line<'_> {
             Opt::Events => self.events().is_some(),
             Opt::Spool | Opt::Mirror | Opt::Ledger => self.other(opt).is_some(),
             Opt::Amount => self.amount().is_some(),
-            Opt::Single => true,
+            Opt::Single | Opt::Tell => true,
         }
     }
 }

@@ -44,6 +44,7 @@ impl OrderKind {
                 | OrderKind::Wipe,
                 Opt::Party,
             ) => { Need::Required }
+            (OrderKind::Take, Opt::Tell) => Need::Optional,
             (OrderKind::Resend | OrderKind::Drop, Opt::Party | Opt::Peer) => Need::Required,
             (OrderKind::End, Opt::Party | Opt::Peer | Opt::Name) => Need::Required,
             (OrderKind::Pay, Opt::Party | Opt::Peer | Opt::Name | Opt::Ledger | Opt::Amount) =>

@@ -40,10 +40,12 @@ pub enum Opt {
     Amount,
     /// A single key-encrypting key is sent, and no pair: a flag, which takes no value.
     Single,
+    /// What is accepted is told on standard error: a flag, which takes no value.
+    Tell,
 }
 
 /// The options in the order in which the first at fault is sought.
-pub const OPTIONS: [Opt; 18] = [
+pub const OPTIONS: [Opt; 19] = [
     Opt::Party,
     Opt::Role,
     Opt::Genkey,
@@ -62,6 +64,7 @@ pub const OPTIONS: [Opt; 18] = [
     Opt::Ledger,
     Opt::Amount,
     Opt::Single,
+    Opt::Tell,
 ];
 
 impl Opt {
@@ -88,6 +91,7 @@ impl Opt {
             Opt::Ledger => "ledger",
             Opt::Amount => "amount",
             Opt::Single => "single",
+            Opt::Tell => "tell",
         }
     }
 }

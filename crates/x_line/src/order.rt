@@ -1,11 +1,12 @@
 ghost use Rattle.std.specs.Prelude.{◌≡◌, Err, true, false, IfOk, IfErr};
-ghost use Rattle.x_line.specs.LineValues.{named_kind};
+ghost use Rattle.x_line.specs.LineValues.{named_kind, is_given};
 ghost use Rattle.x_line.specs.Line.{is_line};
-ghost use Rattle.x_line.specs.Orders.{IsFault, IsGiven, Says, is_whole, kind_of, mirror_of};
+ghost use Rattle.x_line.specs.Orders.{IsFault, IsGiven, Says, is_telling, is_whole, kind_of, mirror_of};
 ghost use Rattle.x_line.specs.Usage.{rows_fault};
 
 use crate::line::{Line, Unread};
 use crate::line_order::{mirror_of, order_of};
+use crate::opt::Opt;
 use crate::order_kind::OrderKind;
 use crate::usage::{LineFault, UsageKind, bad_value, missing, unwanted};
 use std::alloc::Global;
@@ -163,6 +164,8 @@ pub struct Given {
     pub order: Order,
     /// The identity under which the second disk of the order's party lies, where it is kept on two. It isn't the party's.
     pub mirror: Option<Ident>,
+    /// Whether what is accepted is told.
+    pub tell: bool,
 }
 
 /// The kind of order of the line, where nothing is wrong with its options.
@@ -192,6 +195,7 @@ fn checked(line: &Line<'_>) -> Result<OrderKind, UsageKind>
 fn said(line: &Line<'_>) -> Result<Given, UsageKind>
     ensures says { IfOk result (λ g. Says line.now g.order) }
     ensures mirror { IfOk result (λ g. mirror_of (kind_of g.order) line.now ≡ g.mirror) }
+    ensures tell { IfOk result (λ g. g.tell ≡ is_given Opt.Tell line.now) }
     ensures none { IfOk result (λ _. rows_fault line.now ≡ None) }
     ensures fault { IfErr result (λ kind. rows_fault line.now ≡ Some kind) }
 {
@@ -200,6 +204,7 @@ fn said(line: &Line<'_>) -> Result<Given, UsageKind>
         Some(order) => Ok(Given {
             order,
             mirror: mirror_of(kind, line),
+            tell: line.is_given(Opt::Tell),
         }),
         None => unreachable!(),
     }
@@ -209,6 +214,7 @@ fn said(line: &Line<'_>) -> Result<Given, UsageKind>
 #[tactic(auto, using(crate::proofs::Checking::not_line))]
 pub fn read_order(alloc: Global, words: &Words) -> Result<Given, LineFault>
     ensures order { IfOk result (λ g. IsGiven words.now g.order g.mirror) }
+    ensures tell { IfOk result (λ g. g.tell ≡ is_telling words.now) }
     ensures fault { IfErr result (λ fault. IsFault words.now fault) }
     ensures line { result ≡ Err (LineFault.Usage UsageKind.Line) → is_line words.now ≡ false }
 {
