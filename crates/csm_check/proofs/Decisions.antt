@@ -13,7 +13,7 @@ use Rattle.x_status.specs.declared.status.Status.{Status}
 use Rattle.x_status.specs.declared.status.Status.TheVariants as status
 use Rattle.csm_check.specs.Transfer.{IsQuiet}
 use Rattle.csm_check.specs.Listening.{IsHeard, IsUnheard, refusal_of, taken}
-use Rattle.csm_check.specs.Check.{auth_text, decided_of, is_right, judged, reply_of, status_of, IsChecked, IsDecision, IsExact, IsReply}
+use Rattle.csm_check.specs.Check.{authenticated_part, decided_of, is_right, judged, reply_of, status_of, IsChecked, IsDecision, IsExact, IsReply}
 
 decided_once : OneHearing → (text : List ℕ) (d e : Result Parsed Refusal) → IsDecision text d → IsDecision text e → d ≡ e
 decided_once one text d e h k =
@@ -25,7 +25,7 @@ decided_once one text d e h k =
 abbrev pub auth_of : Arrival → List ℕ
 auth_of a = take a.parsed.auth_len a.text
 
-right_was : (all : List ℕ) (a : Arrival) (b : Bool) → IsHeard all a → b ≡ is_right (auth_of a) a.parsed.shut → b ≡ is_right (auth_text (taken all) a.parsed) a.parsed.shut
+right_was : (all : List ℕ) (a : Arrival) (b : Bool) → IsHeard all a → b ≡ is_right (auth_of a) a.parsed.shut → b ≡ is_right (authenticated_part (taken all) a.parsed) a.parsed.shut
 right_was all a b h e = e ∙ ap (λ (t : List ℕ). is_right (take a.parsed.auth_len t) a.parsed.shut) h.text
 
 decided : (all : List ℕ) (a : Arrival) (b : Bool) → IsHeard all a → b ≡ is_right (auth_of a) a.parsed.shut → IsDecision all (judged b a.parsed)

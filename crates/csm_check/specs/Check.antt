@@ -18,8 +18,8 @@ use Rattle.x_status.specs.declared.status.Status.TheVariants as status
 use Rattle.csm_check.specs.Listening.{taken, refusal_of, IsPossible}
 
 -- the authenticated text of the message in the bytes, as it was received
-abbrev pub auth_text : List ℕ → Parsed → List ℕ
-auth_text bytes parsed = take parsed.auth_len (take parsed.len (behind bytes))
+abbrev pub authenticated_part : List ℕ → Parsed → List ℕ
+authenticated_part bytes parsed = take parsed.auth_len (take parsed.len (behind bytes))
 
 -- an error detection code has to be that of the authenticated text; an authentication code, which has no key
 -- here, isn't verified
@@ -33,7 +33,7 @@ judged right parsed = if right then Ok parsed else Err (Decided BadEdc)
 
 -- what is decided of what was heard of the bytes
 abbrev pub decided_of : List ℕ → Result Parsed Unheard → Result Parsed Refusal
-decided_of bytes (Ok parsed) = judged (is_right (auth_text bytes parsed) parsed.shut) parsed
+decided_of bytes (Ok parsed) = judged (is_right (authenticated_part bytes parsed) parsed.shut) parsed
 decided_of bytes (Err unheard) = Err (refusal_of unheard)
 
 -- what is decided of an input: it follows from what is heard of the bytes that are taken

@@ -1,11 +1,10 @@
 -- A stream is messages in one way, or refused for one reason.
-use Rattle.std.proofs.Common.{◌≡◌, ◌≢◌, ◌⊎◌, inl, inr, ℕ, ◌+◌, List, [], ◌++◌, length, length-append, Option, Some, None, refl, sym, ◌∙◌, ap, subst, arith}
+use Rattle.std.proofs.Common.{◌≡◌, inl, inr, ℕ, List, [], ◌++◌, length, length-append, Option, Some, None, refl, sym, ◌∙◌, ap, subst, arith}
 use Rattle.std.proofs.lemmas.List.{append-nil}
 use Rattle.csm_grammar.specs.declared.arrival.Arrival.{Arrival}
 use Rattle.csm_grammar.specs.declared.refusal.ReadRefusal.{ReadRefusal}
-use Rattle.csm_grammar.specs.declared.refusal.ReadRefusal.TheVariants as refusal
 use Rattle.csm_read.specs.Laws.{OneAnswer, ReadStays}
-use Rattle.csm_feed.specs.Streams.{AreMessages, EndsWith, IsBegun}
+use Rattle.csm_feed.specs.Streams.{AreMessages, EndsWith}
 use Rattle.csm_feed.proofs.Fronts.{IsUnread}
 use Rattle.csm_feed.proofs.Cutting as cutting
 use Rattle.csm_inbox.specs.Inbox.{IsReason, IsRefusedStream, OneInbox}

@@ -1,5 +1,5 @@
 -- The messages of a stream are taken one by one.
-use Rattle.std.proofs.Common.{◌≡◌, ◌≢◌, ◌⊎◌, inl, inr, ℕ, ◌+◌, ◌-◌, ◌*◌, ◌<◌, ◌≤◌, ◌^◌, zero, suc, Bool, true, false, List, [], ◌∷◌, ◌++◌, length, take, drop, length-append, append_assoc, Option, Some, None, refl, sym, ◌∙◌, ap, subst, arith, true≢false}
+use Rattle.std.proofs.Common.{◌≡◌, ◌≢◌, inl, inr, ℕ, ◌+◌, ◌-◌, ◌*◌, ◌<◌, ◌≤◌, ◌^◌, zero, suc, Bool, true, false, List, [], ◌∷◌, ◌++◌, length, take, drop, length-append, append_assoc, None, refl, sym, ◌∙◌, ap, subst, arith, true≢false}
 use Rattle.std.specs.Prelude.{nat_lt, codes}
 use Rattle.std.specs.List.{prefix_len}
 use Rattle.std.proofs.lemmas.Bool.{ltb-true, ltb-false}
@@ -9,11 +9,9 @@ use Rattle.csm_grammar.specs.declared.arrival.Arrival.{Arrival}
 use Rattle.csm_grammar.specs.declared.refusal.ReadRefusal.{ReadRefusal}
 use Rattle.csm_grammar.specs.declared.refusal.ReadRefusal.TheVariants as refusal
 use Rattle.csm_grammar.specs.Spelling.{is_separator}
-use Rattle.csm_read.specs.Faults.{IsFault}
 use Rattle.csm_read.specs.Laws.{FaultEnds, FaultStays}
-use Rattle.csm_feed.specs.declared.next.Next.{Next}
 use Rattle.csm_feed.specs.declared.next.Next.TheVariants as next
-use Rattle.csm_feed.specs.Streams.{AreMessages, EndsWith, IsBegun, IsRefused, IsWaiting}
+use Rattle.csm_feed.specs.Streams.{AreMessages, IsBegun, IsRefused, IsWaiting}
 use Rattle.csm_feed.specs.Held.{Feeding}
 use Rattle.csm_feed.specs.Feeding.{Fed, Feeds, Hands, HandsOut, IsFull, gap_before, pushed, with_bytes, without}
 use Rattle.csm_feed.proofs.Cutting.{begun_more, refused_more}

@@ -15,7 +15,7 @@ use Rattle.change_code.specs.Code.{IsCode, code_of_change}
 use Rattle.change_code.specs.Framed.{IsFramed}
 use Rattle.spool_store.specs.Plans.{IsChange}
 use Rattle.csm_spool.specs.Planning.{code_or_nothing}
-use Rattle.csm_spool.proofs.Telling.{OneChange}
+use Rattle.csm_spool.proofs.PlanEdits.{OneChange}
 
 fits_kind : (k : Kind) → IsKind k → IsFittingKind k
 fits_kind (kind.Asked ultimate) is = tt

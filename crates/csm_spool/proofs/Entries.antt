@@ -20,14 +20,14 @@ use Rattle.csm_spool.specs.declared.catching.Caught.TheVariants as caught
 use Rattle.csm_spool.specs.Planning.{entry_plan}
 use Rattle.spool_store.specs.Contents.{Progress}
 use Rattle.spool_store.specs.Plans.{is_number, IsChange, plan_body, longest_plan}
-use Rattle.csm_spool.specs.Courses.{IsHeard, Leads, plan_for}
+use Rattle.csm_spool.specs.Courses.{IsHeard, EntryLeads, plan_for}
 use Rattle.csm_spool.specs.Foreseeing.{ForeseesMessage, ForeseesRefusal}
 use Rattle.csm_spool.specs.Drives.{KeepsBoth, IsSettled, IsLast, IsOut}
 use Rattle.spool_store.specs.Spools.{Spooled}
 use Rattle.spool_store.specs.Committing.{IsCommitting}
 use Rattle.csm_spool.specs.Stepping.{IsNext, IsStep, IsCarried}
 use Rattle.csm_spool.specs.Catching.{TakesUp, IsCatching}
-use Rattle.csm_spool.proofs.Telling.{Ranged, plan_edits}
+use Rattle.csm_spool.proofs.PlanEdits.{Ranged, plan_edits}
 use Rattle.csm_spool.proofs.LastPlans.{same_some}
 
 pub goes_on : Ranged → (x : Member) (a : Arrival) (e : Entry) → IsParty x.party → HasNoBegin (plan_for x a e).edits
@@ -42,7 +42,7 @@ next_at p q k e same count at = subst (λ (r : Progress). slice_get r.entries (l
 
 -- what is foreseen of an entry leads on
 
-pub message_leads : {D : Type 0} (node : Stored D) (e : Entry) (planned : PlannedNode D) (plan : EntryPlan) → ForeseesMessage node e planned plan → Leads (member_of planned.node) e plan (after (member_of planned.node) planned.plan.edits)
+pub message_leads : {D : Type 0} (node : Stored D) (e : Entry) (planned : PlannedNode D) (plan : EntryPlan) → ForeseesMessage node e planned plan → EntryLeads (member_of planned.node) e plan (after (member_of planned.node) planned.plan.edits)
 message_leads {D = D} node e planned plan f =
     let will : planned.plan ≡ plan_for (member_of planned.node) f.arrival e = f.will ∙ ap (λ (n : Stored D). plan_for (member_of n) f.arrival e) (sym f.same) in
     inr (record {
@@ -53,7 +53,7 @@ message_leads {D = D} node e planned plan f =
       after = ap (λ (q : Plan). after (member_of planned.node) q.edits) will;
     })
 
-pub refusal_leads : {D : Type 0} (node : Stored D) (e : Entry) (behind : Stored D) (plan : EntryPlan) → ForeseesRefusal node e behind plan → Leads (member_of behind) e plan (member_of behind)
+pub refusal_leads : {D : Type 0} (node : Stored D) (e : Entry) (behind : Stored D) (plan : EntryPlan) → ForeseesRefusal node e behind plan → EntryLeads (member_of behind) e plan (member_of behind)
 refusal_leads node e behind plan f = inl (record { unheard = f.unheard; heard = f.heard; plan = f.plan_is; stays = refl })
 
 -- a disk that wasn't touched
@@ -140,7 +140,7 @@ module _ {D : Type 0} (node : Stored D) (p : Progress) (number : ℕ) (kept : En
     entry = e;
     last = is_last;
     unsettled = subst (λ (n : Stored D). IsSettled n.party kept → ⊥) (sym f.same) unsettled;
-    leads = subst (λ (q : EntryPlan). Leads (member_of planned.node) e q (after (member_of planned.node) planned.plan.edits)) same (message_leads node e planned plan f);
+    leads = subst (λ (q : EntryPlan). EntryLeads (member_of planned.node) e q (after (member_of planned.node) planned.plan.edits)) same (message_leads node e planned plan f);
   }
 
 -- what a party will do with a message that is heard

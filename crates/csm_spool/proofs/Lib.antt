@@ -3,7 +3,7 @@ mod Images
 mod Carried
 mod Runs
 mod Whole
-mod Telling
+mod PlanEdits
 mod LastPlans
 mod Entries
 mod Numbers

@@ -11,7 +11,7 @@ use Rattle.csm_batch.specs.declared.entry.Entry.{Entry}
 use Rattle.spool_store.specs.declared.entry_plan.EntryPlan.{EntryPlan}
 use Rattle.csm_spool.specs.declared.outcome.Driven.TheVariants as drive
 use Rattle.spool_store.specs.Contents.{Progress, HoldsPlans, with_plan}
-use Rattle.csm_spool.specs.Courses.{Course}
+use Rattle.csm_spool.specs.Courses.{EntriesLead}
 use Rattle.csm_spool.specs.InStep.{InStep}
 use Rattle.spool_store.specs.Committing.{HoldsEither}
 use Rattle.csm_spool.specs.Drives.{KeepsBoth, IsRun}
@@ -40,7 +40,7 @@ module _ {D E : Type 0} (told : D → View) (told_spool : E → View) (first : S
   pub record IsRunning (node : Stored D) (spool : Spooled E) : Type 0 where
     pub text : spool.progress.text ≡ old.progress.text
     pub entries : spool.progress.entries ≡ old.progress.entries
-    pub course : (x : Member) → Course x old.progress.entries old.progress.plans (member_of first) → Course x old.progress.entries spool.progress.plans (member_of node)
+    pub course : (x : Member) → EntriesLead x old.progress.entries old.progress.plans (member_of first) → EntriesLead x old.progress.entries spool.progress.plans (member_of node)
     pub keeps : KeepsBoth (told first.disk) (told_spool old.disk) (told node.disk) (told_spool spool.disk)
 
   pub begun : IsRunning first old
@@ -65,14 +65,14 @@ module _ {D E : Type 0} (told : D → View) (told_spool : E → View) (first : S
       entries = ap (λ (p : Progress). p.entries) h.goes ∙ run.entries;
       course = λ x c.
           let n = next_now (member_of node) (member_of after) h.plan h.next in
-          subst (λ (ps : List EntryPlan). Course x old.progress.entries ps (member_of after)) (sym (ap (λ (p : Progress). p.plans) h.goes))
+          subst (λ (ps : List EntryPlan). EntriesLead x old.progress.entries ps (member_of after)) (sym (ap (λ (p : Progress). p.plans) h.goes))
           (course_on x old.progress.entries spool.progress.plans (member_of node) (member_of after) n.entry h.plan (run.course x c) n.at n.leads);
       keeps = keeps_on (told first.disk) (told_spool old.disk) (told node.disk) (told_spool spool.disk) (told after.disk) (told_spool new.disk) run.keeps keeps;
     }
 
     -- the party and the spool at rest
     resting : (after : Stored D) (new : Spooled E) → member_of after ≡ member_of node → new.progress ≡ spool.progress → IsStore (told after.disk) after.gate after.end after.format after.party → IsSpool (told_spool new.disk) new.gate new.end new.progress
-        → Tells (told after.disk) → Tells (told_spool new.disk) → (x : Member) → Course x old.progress.entries old.progress.plans (member_of first) → (i j : List ℕ) → (told after.disk).may_leave i → (told_spool new.disk).may_leave j → InStep i j old.progress.text x old.progress.entries
+        → Tells (told after.disk) → Tells (told_spool new.disk) → (x : Member) → EntriesLead x old.progress.entries old.progress.plans (member_of first) → (i j : List ℕ) → (told after.disk).may_leave i → (told_spool new.disk).may_leave j → InStep i j old.progress.text x old.progress.entries
     resting after new same still store kept party_tells spool_tells x c i j at_party at_spool =
         at_rest i j x (member_of node) now (run.course x c)
         (subst (λ (m : Member). IsImageOf m i) same (party_images told after store party_tells i at_party))

@@ -11,7 +11,7 @@ use Rattle.change_code.specs.Code.{IsCode, IsNoCode}
 use Rattle.spool_store.specs.declared.entry_plan.EntryPlan.{EntryPlan}
 use Rattle.spool_store.specs.Plans.{IsChange}
 use Rattle.csm_spool.specs.Drives.{IsSettled}
-use Rattle.csm_spool.proofs.Telling.{OneChange, no_code}
+use Rattle.csm_spool.proofs.PlanEdits.{OneChange, no_code}
 
 never_empty : (format : Format) (edits : List Edit) → IsCode format [] edits → ⊥
 never_empty One edits is = cc is.is

@@ -11,7 +11,7 @@ use Rattle.node_core.specs.Turns.{IsImageOf}
 use Rattle.csm_batch.specs.declared.entry.Entry.{Entry}
 use Rattle.spool_store.specs.declared.entry_plan.EntryPlan.{EntryPlan}
 use Rattle.spool_store.specs.Contents.{Progress, HoldsPlans}
-use Rattle.csm_spool.specs.Courses.{IsHeard, plan_for, Leads, Course}
+use Rattle.csm_spool.specs.Courses.{IsHeard, plan_for, EntryLeads, EntriesLead}
 use Rattle.csm_spool.specs.InStep.{InStep}
 use Rattle.csm_spool.specs.Stepping.{IsNext}
 use Rattle.csm_spool.specs.Laws.{OneCourse, LawBegins, LawCommit, LawTake}
@@ -49,7 +49,7 @@ heard_message bytes (Err u) a is heard text = absurd (cc is)
 pub heard_none : (bytes : List ℕ) (h : Result Arrival Unheard) (u : Unheard) → h ≡ Err u → Heard bytes (readings h) → Heard bytes (Err u)
 heard_none bytes h u is heard = subst (λ (k : Result Arrival Unheard). Heard bytes (readings k)) is heard
 
-pub one_lead : HeardOnce → (x : Member) (e : Entry) (p q : EntryPlan) (y z : Member) → Leads x e p y → Leads x e q z → y ≡ z
+pub one_lead : HeardOnce → (x : Member) (e : Entry) (p q : EntryPlan) (y z : Member) → EntryLeads x e p y → EntryLeads x e q z → y ≡ z
 one_lead once x e p q y z (inl a) (inl b) = a.stays ∙ sym b.stays
 one_lead once x e p q y z (inr a) (inr b) =
     let same : a.arrival ≡ b.arrival = same_arrival once e.bytes a.arrival b.arrival a.heard b.heard in
@@ -57,23 +57,23 @@ one_lead once x e p q y z (inr a) (inr b) =
 one_lead once x e p q y z (inl a) (inr b) = absurd (never_both once e.bytes b.arrival a.unheard b.heard a.heard)
 one_lead once x e p q y z (inr a) (inl b) = absurd (never_both once e.bytes a.arrival b.unheard a.heard b.heard)
 
-courses : HeardOnce → (x : Member) (entries : List Entry) (plans : List EntryPlan) (y z : Member) → Course x entries plans y → Course x entries plans z → y ≡ z
+courses : HeardOnce → (x : Member) (entries : List Entry) (plans : List EntryPlan) (y z : Member) → EntriesLead x entries plans y → EntriesLead x entries plans z → y ≡ z
 courses once x entries [] y z a b = a ∙ sym b
 courses once x [] (p ∷ plans) y z a b = absurd a
 courses once x (e ∷ entries) (p ∷ plans) y z a b =
     let same : a.0 ≡ b.0 = one_lead once x e p p a.0 b.0 a.1 b.1 in
-    courses once a.0 entries plans y z a.2 (subst (λ (m : Member). Course m entries plans z) (sym same) b.2)
+    courses once a.0 entries plans y z a.2 (subst (λ (m : Member). EntriesLead m entries plans z) (sym same) b.2)
 
 pub one_course : HeardOnce → OneCourse
 one_course once = courses once
 
 -- ---- one entry more, and one less
 
-pub course_on : (x : Member) (entries : List Entry) (plans : List EntryPlan) (here there : Member) (e : Entry) (p : EntryPlan) → Course x entries plans here → slice_get entries (length plans) ≡ Some e → Leads here e p there → Course x entries (plans ++ p ∷ []) there
+pub course_on : (x : Member) (entries : List Entry) (plans : List EntryPlan) (here there : Member) (e : Entry) (p : EntryPlan) → EntriesLead x entries plans here → slice_get entries (length plans) ≡ Some e → EntryLeads here e p there → EntriesLead x entries (plans ++ p ∷ []) there
 course_on x [] [] here there e p c g l = absurd (cc g)
 course_on x (f ∷ entries) [] here there e p c g l =
     let first : f ≡ e = cc g in
-    (there, subst (λ (y : Member). Leads y f p there) c (subst (λ (h : Entry). Leads here h p there) (sym first) l), refl)
+    (there, subst (λ (y : Member). EntryLeads y f p there) c (subst (λ (h : Entry). EntryLeads here h p there) (sym first) l), refl)
 course_on x [] (q ∷ plans) here there e p c g l = absurd c
 course_on x (f ∷ entries) (q ∷ plans) here there e p c g l = (c.0, c.1, course_on c.0 entries plans here there e p c.2 g l)
 
@@ -81,13 +81,13 @@ course_on x (f ∷ entries) (q ∷ plans) here there e p c g l = (c.0, c.1, cour
 pub record IsLastStep (x : Member) (entries : List Entry) (front : List EntryPlan) (last : EntryPlan) (here : Member) : Type 0 where
   pub before : Member
   pub entry : Entry
-  pub course : Course x entries front before
+  pub course : EntriesLead x entries front before
   pub at : slice_get entries (length front) ≡ Some entry
-  pub leads : Leads before entry last here
+  pub leads : EntryLeads before entry last here
 
-pub last_step : (x : Member) (entries : List Entry) (front : List EntryPlan) (last : EntryPlan) (here : Member) → Course x entries (front ++ last ∷ []) here → IsLastStep x entries front last here
+pub last_step : (x : Member) (entries : List Entry) (front : List EntryPlan) (last : EntryPlan) (here : Member) → EntriesLead x entries (front ++ last ∷ []) here → IsLastStep x entries front last here
 last_step x [] [] last here c = absurd c
-last_step x (e ∷ entries) [] last here c = record { before = x; entry = e; course = refl; at = refl; leads = subst (λ (y : Member). Leads x e last y) (sym c.2) c.1 }
+last_step x (e ∷ entries) [] last here c = record { before = x; entry = e; course = refl; at = refl; leads = subst (λ (y : Member). EntryLeads x e last y) (sym c.2) c.1 }
 last_step x [] (q ∷ front) last here c = absurd c
 last_step x (e ∷ entries) (q ∷ front) last here c =
     let rest = last_step c.0 entries front last here c.2 in
@@ -112,7 +112,7 @@ begins party spool text x entries stands left = ⊎_elim
     (λ holds. inr (record { plans = []; holds = holds; member = x; is_at = record { here = x; course = refl; at = inl refl }; stands = stands }))
     left
 
-pub on_there : (x here there : Member) (p : Progress) (plan : EntryPlan) → Course x p.entries p.plans here → IsNext p here plan there → Course x p.entries (p.plans ++ plan ∷ []) there
+pub on_there : (x here there : Member) (p : Progress) (plan : EntryPlan) → EntriesLead x p.entries p.plans here → IsNext p here plan there → EntriesLead x p.entries (p.plans ++ plan ∷ []) there
 on_there x here there p plan course next = course_on x p.entries p.plans here there next.entry plan course next.at next.leads
 
 pub commit : LawCommit
@@ -140,5 +140,5 @@ carried party spool x here there p plan course next stands holds = ⊎_elim
     stands
 
 -- the party is behind the plans that stand
-pub at_rest : (party spool : List ℕ) (x here : Member) (p : Progress) → Course x p.entries p.plans here → IsImageOf here party → HoldsPlans spool p → InStep party spool p.text x p.entries
+pub at_rest : (party spool : List ℕ) (x here : Member) (p : Progress) → EntriesLead x p.entries p.plans here → IsImageOf here party → HoldsPlans spool p → InStep party spool p.text x p.entries
 at_rest party spool x here p course stands holds = inr (record { plans = p.plans; holds = holds; member = here; is_at = record { here = here; course = course; at = inl refl }; stands = stands })

@@ -15,14 +15,14 @@ use Rattle.csm_spool.specs.declared.outcome.Driven.TheVariants as drive
 use Rattle.csm_spool.specs.declared.catching.Caught.TheVariants as caught
 use Rattle.csm_spool.specs.Planning.{entry_plan}
 use Rattle.spool_store.specs.Contents.{Progress, HoldsPlans}
-use Rattle.csm_spool.specs.Courses.{Leads, Course, plan_for}
+use Rattle.csm_spool.specs.Courses.{EntryLeads, EntriesLead, plan_for}
 use Rattle.csm_spool.specs.InStep.{InStep, IsAt, PairsInStep}
 use Rattle.csm_spool.specs.Drives.{KeepsBoth, IsOut, DoesOtherwise, IsRun, IsDrive, IsAnswer, IsRunAnswer, party_disk, spool_disk}
 use Rattle.spool_store.specs.Spools.{Spooled, IsSpool}
 use Rattle.csm_spool.specs.Catching.{CatchesUp, TakesUp, IsCatching}
 use Rattle.csm_spool.specs.Laws.{LawCaughtUp, LawNeverOut}
 use Rattle.csm_spool.proofs.Steps.{HeardOnce, never_both, same_arrival, at_rest}
-use Rattle.csm_spool.proofs.Telling.{no_code}
+use Rattle.csm_spool.proofs.PlanEdits.{no_code}
 use Rattle.csm_spool.proofs.LastPlans.{same_some}
 use Rattle.csm_spool.proofs.Images.{OneParty, OneFormat, OneProgress, NotBlank, starts_at, spool_images}
 use Rattle.csm_spool.proofs.Runs.{keeps_on, cause_on}
@@ -39,7 +39,7 @@ module _ (once : HeardOnce) (here : Member) (p : Progress) where
       let entry : o.entry ≡ t.entry = same_some (slice_get p.entries t.last.number) o.entry t.entry (subst (λ (n : ℕ). slice_get p.entries n ≡ Some o.entry) number o.last.entry_is) t.last.entry_is in
       go (subst (λ (q : EntryPlan). DoesOtherwise here t.entry q) plan (subst (λ (e : Entry). DoesOtherwise here e o.plan) entry o.otherwise)) t.leads
     where
-      go : DoesOtherwise here t.entry t.plan → Leads here t.entry t.plan there → ⊥
+      go : DoesOtherwise here t.entry t.plan → EntryLeads here t.entry t.plan there → ⊥
       go otherwise (inl r) = t.unsettled (λ edits is. absurd (no_code edits (subst (λ (q : EntryPlan). IsCode Two q.change edits) r.plan is)))
       go (inl (u, heard)) (inr r) = never_both once t.entry.bytes r.arrival u r.heard heard
       go (inr (a, heard, differs)) (inr r) = differs (ap (λ (m : Arrival). entry_plan (plan_for here m t.entry)) (same_arrival once t.entry.bytes a r.arrival heard r.heard) ∙ sym r.plan)
@@ -66,7 +66,7 @@ module _ (once : HeardOnce) (caught_up : LawCaughtUp) (never_out : LawNeverOut) 
     answered (drive.SpoolBroken n b) a = (a, not_out once (member_of node) old.progress (member_of after) catches)
     answered (drive.NoMemory n s) a = tt
 
-    course : (x : Member) → Tells (told node.disk) → Tells (told_spool old.disk) → Start x → Course x old.progress.entries old.progress.plans (member_of after)
+    course : (x : Member) → Tells (told node.disk) → Tells (told_spool old.disk) → Start x → EntriesLead x old.progress.entries old.progress.plans (member_of after)
     course x a b pairs = caught_up x (member_of node) (member_of after) old.progress (at_start x a b pairs) catches
 
     run_from : (result : Driven D E) → IsRun told told_spool after old result → IsDrive told told_spool node old result

@@ -10,7 +10,7 @@ use Rattle.spool_store.specs.declared.entry_plan.EntryPlan.{EntryPlan}
 use Rattle.csm_spool.specs.declared.catching.Caught.{Caught}
 use Rattle.csm_spool.specs.declared.catching.Caught.TheVariants.{Behind, OutOfStep, NodeBroken, NoMemory}
 use Rattle.spool_store.specs.Contents.{Progress}
-use Rattle.csm_spool.specs.Courses.{Leads}
+use Rattle.csm_spool.specs.Courses.{EntryLeads}
 use Rattle.csm_spool.specs.Drives.{IsSettled, IsLast, IsOut, KeepsBoth}
 use Rattle.spool_store.specs.Spools.{Spooled}
 
@@ -24,7 +24,7 @@ pub record TakesUp (here there : Member) (p : Progress) : Type 0 where
   pub entry : Entry
   pub last : IsLast p plan entry
   pub unsettled : IsSettled here.party plan → ⊥
-  pub leads : Leads here entry plan there
+  pub leads : EntryLeads here entry plan there
 
 -- the plan was carried out before, or is now
 abbrev pub CatchesUp : Member → Member → Progress → Type 0

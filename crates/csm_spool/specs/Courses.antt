@@ -35,11 +35,11 @@ pub record IsArrival (x : Member) (e : Entry) (p : EntryPlan) (y : Member) : Typ
   pub after : y ≡ after x (plan_for x arrival e).edits
 
 -- an entry, with its plan, leads from here to there
-abbrev pub Leads : Member → Entry → EntryPlan → Member → Type 0
-Leads x e p y = IsRefusal x e p y ⊎ IsArrival x e p y
+abbrev pub EntryLeads : Member → Entry → EntryPlan → Member → Type 0
+EntryLeads x e p y = IsRefusal x e p y ⊎ IsArrival x e p y
 
 -- the first entries, with these plans, lead from here to there
-abbrev pub Course : Member → List Entry → List EntryPlan → Member → Type 0
-Course x entries [] y = y ≡ x
-Course x [] (p ∷ plans) y = ⊥
-Course x (e ∷ entries) (p ∷ plans) y = (mid : Member) × Leads x e p mid × Course mid entries plans y
+abbrev pub EntriesLead : Member → List Entry → List EntryPlan → Member → Type 0
+EntriesLead x entries [] y = y ≡ x
+EntriesLead x [] (p ∷ plans) y = ⊥
+EntriesLead x (e ∷ entries) (p ∷ plans) y = (mid : Member) × EntryLeads x e p mid × EntriesLead mid entries plans y

@@ -19,7 +19,7 @@ use Rattle.csm_spool.specs.declared.outcome.Driven.{Driven}
 use Rattle.csm_spool.specs.declared.outcome.Driven.TheVariants.{Done, OutOfStep, NodeBroken, SpoolBroken, NoMemory}
 use Rattle.csm_spool.specs.Planning.{entry_plan}
 use Rattle.spool_store.specs.Contents.{Progress}
-use Rattle.csm_spool.specs.Courses.{IsHeard, Course, plan_for}
+use Rattle.csm_spool.specs.Courses.{IsHeard, EntriesLead, plan_for}
 use Rattle.csm_spool.specs.InStep.{PairsInStep}
 use Rattle.spool_store.specs.Spools.{Spooled}
 
@@ -83,7 +83,7 @@ IsAnswer told_party told_spool node old (NoMemory after new) = Unit {0}
 
 -- at the end the party is behind the plans of all entries; a batch that is in step is never out of step
 abbrev pub Ends : {D E : Type 0} → Member → Spooled E → Driven D E → Type 0
-Ends x old (Done after new) = Course x old.progress.entries new.progress.plans (member_of after)
+Ends x old (Done after new) = EntriesLead x old.progress.entries new.progress.plans (member_of after)
 Ends x old (OutOfStep after new entry) = ⊥
 Ends x old (NodeBroken b new) = Unit {0}
 Ends x old (SpoolBroken after b) = Unit {0}
@@ -110,7 +110,7 @@ IsRunAnswer told_party told_spool node old (NoMemory after new) = Unit {0}
 
 pub record IsRun {D E : Type 0} (told_party : D → View) (told_spool : E → View) (node : Stored D) (old : Spooled E) (result : Driven D E) : Type 0 where
   pub answer : IsRunAnswer told_party told_spool node old result
-  pub ends : (x : Member) → Course x old.progress.entries old.progress.plans (member_of node) → Ends x old result
-  pub in_step : (x : Member) → Course x old.progress.entries old.progress.plans (member_of node) → Tells (told_party node.disk) → Tells (told_spool old.disk)
+  pub ends : (x : Member) → EntriesLead x old.progress.entries old.progress.plans (member_of node) → Ends x old result
+  pub in_step : (x : Member) → EntriesLead x old.progress.entries old.progress.plans (member_of node) → Tells (told_party node.disk) → Tells (told_spool old.disk)
       → PairsInStep (told_party (party_disk result)) (told_spool (spool_disk result)) old.progress.text x old.progress.entries
   pub keeps : KeepsBoth (told_party node.disk) (told_spool old.disk) (told_party (party_disk result)) (told_spool (spool_disk result))

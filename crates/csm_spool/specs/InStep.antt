@@ -7,19 +7,19 @@ use Rattle.node_core.specs.Turns.{IsImageOf}
 use Rattle.csm_batch.specs.declared.entry.Entry.{Entry}
 use Rattle.spool_store.specs.declared.entry_plan.EntryPlan.{EntryPlan}
 use Rattle.spool_store.specs.Contents.{HoldsPlans}
-use Rattle.csm_spool.specs.Courses.{Course}
+use Rattle.csm_spool.specs.Courses.{EntriesLead}
 
 -- the entries lead to this member but for the last of the plans
 pub record LeadsBefore (x : Member) (entries : List Entry) (plans : List EntryPlan) (there : Member) : Type 0 where
   pub front : List EntryPlan
   pub last : EntryPlan
   pub split : plans ≡ front ++ last ∷ []
-  pub course : Course x entries front there
+  pub course : EntriesLead x entries front there
 
 -- the member is behind the plans, or before the last of them
 pub record IsAt (x : Member) (entries : List Entry) (plans : List EntryPlan) (y : Member) : Type 0 where
   pub here : Member
-  pub course : Course x entries plans here
+  pub course : EntriesLead x entries plans here
   pub at : (y ≡ here) ⊎ LeadsBefore x entries plans y
 
 -- the spool holds the plans of the first entries; the party stands behind them, or before the last of them

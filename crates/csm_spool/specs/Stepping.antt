@@ -11,7 +11,7 @@ use Rattle.spool_store.specs.declared.entry_plan.EntryPlan.{EntryPlan}
 use Rattle.csm_spool.specs.declared.stepping.Stepped.{Stepped}
 use Rattle.csm_spool.specs.declared.stepping.Stepped.TheVariants.{On, NodeBroken, SpoolBroken, NoMemory}
 use Rattle.spool_store.specs.Contents.{Progress, with_plan}
-use Rattle.csm_spool.specs.Courses.{Leads}
+use Rattle.csm_spool.specs.Courses.{EntryLeads}
 use Rattle.spool_store.specs.Committing.{HoldsEither}
 use Rattle.csm_spool.specs.Drives.{KeepsBoth}
 use Rattle.spool_store.specs.Spools.{Spooled}
@@ -20,7 +20,7 @@ use Rattle.spool_store.specs.Spools.{Spooled}
 pub record IsNext (p : Progress) (here : Member) (plan : EntryPlan) (there : Member) : Type 0 where
   pub entry : Entry
   pub at : slice_get p.entries (length p.plans) ≡ Some entry
-  pub leads : Leads here entry plan there
+  pub leads : EntryLeads here entry plan there
 
 -- its plan stands, and the party is behind it
 pub record IsOn {D E : Type 0} (node : Stored D) (old : Spooled E) (after : Stored D) (new : Spooled E) : Type 0 where

@@ -1,5 +1,5 @@
 // What is known of a batch and of the images of a party and a spool, by calls that do nothing.
-ghost use Rattle.csm_spool.specs.Laws.{OneCourse, LawBegins, LawCommit, LawTake, LawTells, LawCaughtUp, LawNeverOut};
+ghost use Rattle.csm_spool.specs.Laws.{OneCourse, LawBegins, LawCommit, LawTake, LawSettledOnlyBehind, LawCaughtUp, LawNeverOut};
 
 use change_code::law_one_change;
 use csm_feed::law_one_hearing;
@@ -21,8 +21,8 @@ pub fn law_steps()
 {}
 
 /// Whether the last plan was carried out can be told from the party.
-pub fn law_tells()
-    ensures { LawTells }
+pub fn law_settled_only_behind()
+    ensures { LawSettledOnlyBehind }
 {
     law_settling();
     law_ranged();
@@ -35,6 +35,6 @@ pub fn law_catching_up()
     ensures caught_up { LawCaughtUp }
     ensures never_out { LawNeverOut }
 {
-    law_tells();
+    law_settled_only_behind();
     law_one_hearing();
 }

@@ -14,6 +14,6 @@ pub use beginning::begin;
 pub use catching::Caught;
 pub use driving::drive;
 pub use foreseeing::Foreseen;
-pub use laws::{law_catching_up, law_one_course, law_steps, law_tells};
+pub use laws::{law_catching_up, law_one_course, law_settled_only_behind, law_steps};
 pub use outcome::Driven;
 pub use stepping::Stepped;

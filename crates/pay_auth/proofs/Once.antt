@@ -12,7 +12,7 @@ use Rattle.pay_auth.specs.declared.refusal.PayRefusal.{PayRefusal}
 use Rattle.pay_auth.specs.declared.refusal.PayRefusal.TheVariants.{NotForMe, UnknownKey, BadMac, CountSpent, PayLow, LedgerFull}
 use Rattle.pay_auth.specs.Entries.{entry_key, put_entry, last_number, is_full_for}
 use Rattle.pay_auth.specs.Decisions.{live_value, code_under, out_key, out_refusal, out_pay, out_entry, in_key, number_refusal, in_refusal, in_entry}
-use Rattle.pay_auth.specs.Runs.{Ending, Whole, CutOld, CutNew, Call, Pays, Accepts, Books, pay_out, take_in, if_passed, TakesBytes, Steps, Leads, opened_books, NoneLike, AllApart, PaidOnce}
+use Rattle.pay_auth.specs.Runs.{Ending, Whole, CutOld, CutNew, Call, Pays, Accepts, Books, pay_out, take_in, if_passed, TakesBytes, Steps, CallsLead, opened_books, NoneLike, AllApart, PaidOnce}
 use Rattle.pay_auth.proofs.Anew.{last_grows, last_put}
 
 -- no payment of the list has a number above the last one under its key
@@ -58,7 +58,7 @@ out_keyed : (p q : Pay) → p.to ≡ q.to → p.key ≡ q.key → paid_key p ≡
 out_keyed p q peer name = ap (λ (l : List ℕ). out_key l p.key) peer ∙ ap (λ (n : KeyName). out_key q.to n) name
 
 -- what holds behind each call
-record Holds (b : Books) : Type 0 where
+record KeepsNumbers (b : Books) : Type 0 where
   once : PaidOnce b
   taken_low : AllLow taken_key b.taken b.entries
   paid_low : AllLow paid_key b.paid b.entries
@@ -88,14 +88,14 @@ passed_above p entries pay mac is =
     number_above entries pay third.1
 
 -- the entries alone are changed
-entries_more : (b : Books) (e : Entry) → last_number (entry_key e) b.entries ≤ e.last → Holds b → Holds (record b { entries = put_entry e b.entries })
+entries_more : (b : Books) (e : Entry) → last_number (entry_key e) b.entries ≤ e.last → KeepsNumbers b → KeepsNumbers (record b { entries = put_entry e b.entries })
 entries_more b e low holds = record {
   once = record { taken = holds.once.taken; paid = holds.once.paid };
   taken_low = low_put taken_key b.taken e b.entries low holds.taken_low;
   paid_low = low_put paid_key b.paid e b.entries low holds.paid_low;
 }
 
-taken_more : (b : Books) (pay : Pay) → last_number (in_key pay) b.entries < pay.number → Holds b → Holds (record { entries = put_entry (in_entry pay) b.entries; paid = b.paid; taken = b.taken ++ pay ∷ [] })
+taken_more : (b : Books) (pay : Pay) → last_number (in_key pay) b.entries < pay.number → KeepsNumbers b → KeepsNumbers (record { entries = put_entry (in_entry pay) b.entries; paid = b.paid; taken = b.taken ++ pay ∷ [] })
 taken_more b pay above holds =
     let low : last_number (entry_key (in_entry pay)) b.entries ≤ pay.number = omega (arith, above) in
     let more = entries_more b (in_entry pay) low holds in
@@ -105,7 +105,7 @@ taken_more b pay above holds =
       paid_low = more.paid_low;
     }
 
-paid_more : (b : Books) (pay : Pay) → last_number (out_key pay.to pay.key) b.entries < pay.number → Holds b → Holds (record { entries = put_entry (out_entry pay) b.entries; paid = b.paid ++ pay ∷ []; taken = b.taken })
+paid_more : (b : Books) (pay : Pay) → last_number (out_key pay.to pay.key) b.entries < pay.number → KeepsNumbers b → KeepsNumbers (record { entries = put_entry (out_entry pay) b.entries; paid = b.paid ++ pay ∷ []; taken = b.taken })
 paid_more b pay above holds =
     let low : last_number (entry_key (out_entry pay)) b.entries ≤ pay.number = omega (arith, above) in
     let more = entries_more b (out_entry pay) low holds in
@@ -115,34 +115,34 @@ paid_more b pay above holds =
       paid_low = low_push paid_key b.paid pay (put_entry (out_entry pay) b.entries) more.paid_low (omega (arith, last_put (out_entry pay) b.entries));
     }
 
-after_take : (pay : Pay) (ending : Ending) (b : Books) → last_number (in_key pay) b.entries < pay.number → Holds b → Holds (take_in pay ending b)
+after_take : (pay : Pay) (ending : Ending) (b : Books) → last_number (in_key pay) b.entries < pay.number → KeepsNumbers b → KeepsNumbers (take_in pay ending b)
 after_take pay Whole b above holds = taken_more b pay above holds
 after_take pay CutOld b above holds = holds
 after_take pay CutNew b above holds = taken_more b pay above holds
 
-after_paying : (pay : Pay) (ending : Ending) (b : Books) → last_number (out_key pay.to pay.key) b.entries < pay.number → Holds b → Holds (pay_out pay ending b)
+after_paying : (pay : Pay) (ending : Ending) (b : Books) → last_number (out_key pay.to pay.key) b.entries < pay.number → KeepsNumbers b → KeepsNumbers (pay_out pay ending b)
 after_paying pay Whole b above holds = paid_more b pay above holds
 after_paying pay CutOld b above holds = holds
 after_paying pay CutNew b above holds = entries_more b (out_entry pay) (omega (arith, above)) holds
 
-after_test : (r : Option PayRefusal) (new old : Books) → Holds old → (r ≡ None → Holds new) → Holds (if_passed r new old)
+after_test : (r : Option PayRefusal) (new old : Books) → KeepsNumbers old → (r ≡ None → KeepsNumbers new) → KeepsNumbers (if_passed r new old)
 after_test None new old holds more = more refl
 after_test (Some cause) new old holds more = holds
 
-after_bytes : (party : Party) (bytes : List ℕ) (ending : Ending) (b next : Books) → TakesBytes party bytes ending b next → Holds b → Holds next
+after_bytes : (party : Party) (bytes : List ℕ) (ending : Ending) (b next : Books) → TakesBytes party bytes ending b next → KeepsNumbers b → KeepsNumbers next
 after_bytes party bytes ending b next (inl (pay, mac, spelled, is)) holds =
-    subst Holds (sym is) (after_test (in_refusal party b.entries pay mac) (take_in pay ending b) b holds (λ none. after_take pay ending b (passed_above party b.entries pay mac none) holds))
-after_bytes party bytes ending b next (inr (none, is)) holds = subst Holds (sym is) holds
+    subst KeepsNumbers (sym is) (after_test (in_refusal party b.entries pay mac) (take_in pay ending b) b holds (λ none. after_take pay ending b (passed_above party b.entries pay mac none) holds))
+after_bytes party bytes ending b next (inr (none, is)) holds = subst KeepsNumbers (sym is) holds
 
-after_step : (call : Call) (b next : Books) → Steps call b next → Holds b → Holds next
+after_step : (call : Call) (b next : Books) → Steps call b next → KeepsNumbers b → KeepsNumbers next
 after_step (Pays party peer name amount ending) b next is holds =
     let pay = out_pay party b.entries peer name amount in
-    subst Holds (sym is) (after_test (out_refusal party b.entries peer name) (pay_out pay ending b) b holds (λ none. after_paying pay ending b (omega arith) holds))
+    subst KeepsNumbers (sym is) (after_test (out_refusal party b.entries peer name) (pay_out pay ending b) b holds (λ none. after_paying pay ending b (omega arith) holds))
 after_step (Accepts party bytes ending) b next step holds = after_bytes party bytes ending b next step holds
 
-after_calls : (calls : List Call) (b end : Books) → Leads calls b end → Holds b → Holds end
-after_calls [] b end is holds = subst Holds (sym is) holds
+after_calls : (calls : List Call) (b end : Books) → CallsLead calls b end → KeepsNumbers b → KeepsNumbers end
+after_calls [] b end is holds = subst KeepsNumbers (sym is) holds
 after_calls (call ∷ calls) b end (next, step, leads) holds = after_calls calls next end leads (after_step call b next step holds)
 
-pub paid_once : (entries : List Entry) (calls : List Call) (end : Books) → Leads calls (opened_books entries) end → PaidOnce end
+pub paid_once : (entries : List Entry) (calls : List Call) (end : Books) → CallsLead calls (opened_books entries) end → PaidOnce end
 paid_once entries calls end leads = (after_calls calls (opened_books entries) end leads (record { once = record { taken = tt; paid = tt }; taken_low = tt; paid_low = tt })).once

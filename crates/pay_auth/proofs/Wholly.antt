@@ -3,7 +3,7 @@ use Rattle.std.proofs.Common.{◌≡◌, ℕ, zero, suc, ◌+◌, ◌-◌, ◌<�
 use Rattle.change_code.specs.Reading.{Form, StartsWith}
 use Rattle.change_code.proofs.Joining.{Apart, both, apart_both, begins_both}
 use Rattle.pay_auth.specs.declared.pay.Pay.{Pay}
-use Rattle.pay_auth.specs.Texts.{auth_text, SpellsPay, BeginsPay, IsNoPay}
+use Rattle.pay_auth.specs.Texts.{pay_auth_text, SpellsPay, BeginsPay, IsNoPay}
 use Rattle.pay_auth.specs.Scanning.{Stops, StopsPay, IsWholePay, pay_form, mac_form}
 use Rattle.pay_auth.proofs.Stopping.{stops_first, stops_second}
 use Rattle.pay_auth.proofs.Fields.{pay_apart, mac_apart}
@@ -64,7 +64,7 @@ module _ (bytes more rest : List ℕ) (p : Pay) (mac : ℕ) (front : StartsWith 
   pub all_read : (auth_len : ℕ) → (0 < length rest → ⊥) → auth_len ≡ length bytes - length more → IsWholePay bytes p mac auth_len
   all_read auth_len none is = record {
     spells = of_whole bytes (p, mac) there.fits (there.is ∙ (ap (λ (l : List ℕ). Whole.code (p, mac) ++ l) (empty rest none) ∙ append-nil (Whole.code (p, mac))));
-    auth = let size : length bytes ≡ length (auth_text p) + length more = ap length front.is ∙ length-append (auth_text p) more in omega (arith, is, size);
+    auth = let size : length bytes ≡ length (pay_auth_text p) + length more = ap length front.is ∙ length-append (pay_auth_text p) more in omega (arith, is, size);
   }
     where
       empty : (l : List ℕ) → (0 < length l → ⊥) → l ≡ []

@@ -15,7 +15,7 @@ use Rattle.pay_auth.specs.declared.entry.EntryKey.{EntryKey}
 use Rattle.pay_auth.specs.declared.refusal.PayRefusal.{PayRefusal}
 use Rattle.pay_auth.specs.declared.refusal.PayRefusal.TheVariants.{BadPay, NotForMe, UnknownKey, BadMac, CountSpent, PayLow, LedgerFull}
 use Rattle.pay_auth.specs.Entries.{last_number, is_full_for}
-use Rattle.pay_auth.specs.Texts.{auth_text, pay_text, without_line_end, SpellsPay, IsNoPay}
+use Rattle.pay_auth.specs.Texts.{pay_auth_text, pay_text, without_line_end, SpellsPay, IsNoPay}
 
 -- its originator knows that the recipient holds the key, or it is the recipient that holds it
 abbrev pub is_usable : KeyStatus → Bool
@@ -34,7 +34,7 @@ live_value peer name p = value_in (record_with (record { peer = peer; name = nam
 -- the code of a payment under a key
 abbrev pub code_under : Option ℕ → Pay → ℕ
 code_under None pay = 0
-code_under (Some value) pay = mac_of value (auth_text pay)
+code_under (Some value) pay = mac_of value (pay_auth_text pay)
 
 -- paid out
 

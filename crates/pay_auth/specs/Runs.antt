@@ -55,9 +55,9 @@ abbrev pub Steps : Call → Books → Books → Type 0
 Steps (Pays party peer name amount ending) b next = next ≡ if_passed (out_refusal party b.entries peer name) (pay_out (out_pay party b.entries peer name amount) ending b) b
 Steps (Accepts party bytes ending) b next = TakesBytes party bytes ending b next
 
-abbrev pub Leads : List Call → Books → Books → Type 0
-Leads [] b end = end ≡ b
-Leads (call ∷ calls) b end = (next : Books) × Steps call b next × Leads calls next end
+abbrev pub CallsLead : List Call → Books → Books → Type 0
+CallsLead [] b end = end ≡ b
+CallsLead (call ∷ calls) b end = (next : Books) × Steps call b next × CallsLead calls next end
 
 -- a ledger with these entries, over which no call was made yet
 abbrev pub opened_books : List Entry → Books

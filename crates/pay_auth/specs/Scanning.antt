@@ -10,7 +10,7 @@ use Rattle.csm_write.specs.Canon.{code_digits}
 use Rattle.pay_auth.specs.declared.pay.Pay.{Pay}
 use Rattle.pay_auth.specs.declared.scanner.Run.{Run}
 use Rattle.pay_auth.specs.declared.scanner.Run.TheVariants as run
-use Rattle.pay_auth.specs.Texts.{auth_text, IsPay, SpellsPay, BeginsPay}
+use Rattle.pay_auth.specs.Texts.{pay_auth_text, IsPay, SpellsPay, BeginsPay}
 
 -- the bytes are a prefix of a value's code
 pub record Extends {T : Type 0} (form : Form T) (bytes : List ℕ) : Type 0 where
@@ -112,7 +112,7 @@ abbrev pub name_form : Form KeyName
 name_form = record { code = λ n. written n ++ 32 ∷ []; Fits = IsKeyName }
 
 abbrev pub pay_form : Form Pay
-pay_form = record { code = auth_text; Fits = IsPay }
+pay_form = record { code = pay_auth_text; Fits = IsPay }
 
 abbrev pub mac_form : Form ℕ
 mac_form = record { code = λ n. codes "MAC/" ++ (code_digits n ++ codes ")"); Fits = λ n. n < 2 ^ 32 }
@@ -128,4 +128,4 @@ pub record StopsPay (bytes rest : List ℕ) : Type 0 where
 -- the bytes are this payment, of which so many bytes are authenticated
 pub record IsWholePay (bytes : List ℕ) (p : Pay) (mac auth_len : ℕ) : Type 0 where
   pub spells : SpellsPay bytes p mac
-  pub auth : auth_len ≡ length (auth_text p)
+  pub auth : auth_len ≡ length (pay_auth_text p)

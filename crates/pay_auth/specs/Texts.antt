@@ -16,13 +16,13 @@ pub record IsPay (p : Pay) : Type 0 where
   pub amount : IsCount p.amount
 
 -- the authenticated text: all before the tag MAC; counts in decimal digits without leading zeros
-abbrev pub auth_text : Pay → List ℕ
-auth_text p =
+abbrev pub pay_auth_text : Pay → List ℕ
+pay_auth_text p =
     codes "PAY(FROM/" ++ (p.from ++ (codes " TO/" ++ (p.to ++ (codes " KEY/" ++ (written p.key ++ (codes " NUM/" ++ (decimal p.number ++ (codes " AMT/" ++ (decimal p.amount ++ codes " ")))))))))
 
 -- the text of a payment with this code, in eight upper-case digits
 abbrev pub pay_text : Pay → ℕ → List ℕ
-pay_text p mac = auth_text p ++ (codes "MAC/" ++ (code_digits mac ++ codes ")"))
+pay_text p mac = pay_auth_text p ++ (codes "MAC/" ++ (code_digits mac ++ codes ")"))
 
 -- the bytes spell this payment with this code
 pub record SpellsPay (bytes : List ℕ) (p : Pay) (mac : ℕ) : Type 0 where

@@ -1,7 +1,7 @@
 // A payment is taken in.
 ghost use Rattle.std.specs.Prelude.{◌≡◌, Some, None, IfOk, IfErr, OnOk};
 ghost use Rattle.pay_auth.specs.Decisions.{in_refusal, number_refusal, PassesIn, RefusesIn, TakesIn};
-ghost use Rattle.pay_auth.specs.Texts.{auth_text};
+ghost use Rattle.pay_auth.specs.Texts.{pay_auth_text};
 ghost use Rattle.pay_auth.specs.Turns.{IsPayTurn};
 
 use crate::entries::Entries;
@@ -26,7 +26,7 @@ fn test_pay(
     parsed: &PayParsed,
     auth: &[u8],
 ) -> Result<(), PayRefusal>
-    requires { auth.now ≡ auth_text parsed.now.pay }
+    requires { auth.now ≡ pay_auth_text parsed.now.pay }
     ensures passes { OnOk result (in_refusal state.now entries.now parsed.now.pay parsed.now.mac ≡ None) }
     ensures fails { IfErr result (λ cause. in_refusal state.now entries.now parsed.now.pay parsed.now.mac ≡ Some cause) }
 {

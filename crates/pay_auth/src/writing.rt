@@ -2,7 +2,7 @@
 ghost use Rattle.std.specs.Prelude.{◌≡◌, ◌++◌, codes, IfOk, OnOk};
 ghost use Rattle.std.specs.Fmt.{decimal};
 ghost use Rattle.x_mac.specs.Code.{mac_of};
-ghost use Rattle.pay_auth.specs.Texts.{auth_text, pay_text};
+ghost use Rattle.pay_auth.specs.Texts.{pay_auth_text, pay_text};
 ghost use Rattle.pay_auth.specs.Decisions.{receipt};
 
 use crate::pay::Pay;
@@ -24,7 +24,7 @@ fn put_count(out: &mut Text, count: &Count) -> Result<(), NoMemory>
 
 /// The authenticated text of a payment.
 fn write_auth(alloc: Global, pay: &Pay) -> Result<Text, NoMemory>
-    ensures { IfOk result (λ text. text ≡ auth_text pay.now) }
+    ensures { IfOk result (λ text. text ≡ pay_auth_text pay.now) }
 {
     let mut out = Text::with_capacity(alloc, ROOM)?;
     out.push(b"PAY(FROM/")?;
@@ -43,7 +43,7 @@ fn write_auth(alloc: Global, pay: &Pay) -> Result<Text, NoMemory>
 
 /// The text of a payment, with its code under a key of 64 bits, without LF.
 pub fn write_pay(alloc: Global, pay: &Pay, key: u64) -> Result<Text, NoMemory>
-    ensures { IfOk result (λ text. text ≡ pay_text pay.now (mac_of key (auth_text pay.now))) }
+    ensures { IfOk result (λ text. text ≡ pay_text pay.now (mac_of key (pay_auth_text pay.now))) }
 {
     let mut out = write_auth(alloc, pay)?;
     let code = mac(key, out.bytes());

@@ -1,5 +1,5 @@
 -- A spool is opened, whatever its batch.
-use Rattle.std.proofs.Common.{◌≡◌, ℕ, ◌≤◌, List, Option, Some, None, Result, Ok, Err, refl, sym, ◌∙◌, ap, subst}
+use Rattle.std.proofs.Common.{◌≡◌, ℕ, ◌≤◌, List, Option, Some, None, Ok, Err, sym, ◌∙◌, subst}
 use Rattle.x_disk.specs.Disk.{View, IsUntouched}
 use Rattle.key_journal.specs.declared.cause.Cause.TheVariants as cause
 use Rattle.key_journal.specs.declared.cause.Unmade.{Unmade}
@@ -7,8 +7,8 @@ use Rattle.journal_state.specs.States as journal
 use Rattle.journal_state.specs.States.{Stood}
 use Rattle.journal_state.specs.Loading.{IsLoaded}
 use Rattle.spool_store.specs.Contents.{Progress, Goes, HoldsPlans, IsProgress}
-use Rattle.spool_store.specs.Spools.{Spooled, IsSpool, spooled}
-use Rattle.spool_store.specs.Opening.{IsSpoolOpened, IsOpenRefusal}
+use Rattle.spool_store.specs.Spools.{IsSpool, spooled}
+use Rattle.spool_store.specs.Opening.{IsSpoolOpened}
 use Rattle.spool_store.proofs.Begun.{never_none}
 
 module _ {E : Type 0} (told : E → View) (old : E) where

@@ -10,7 +10,7 @@ use Rattle.change_code.specs.declared.format.Format.{Format}
 use Rattle.change_code.specs.declared.space.Space.{Space}
 use Rattle.key_store.specs.Store.{IsStore, space_between}
 use Rattle.disk_pair.specs.Pairs.{ThirdsStay}
-use Rattle.x_party.specs.Images.{StandsFor}
+use Rattle.x_party.specs.Images.{DiskStandsFor}
 
 alike_trans : (u v w : View) → IsAlike u v → IsAlike v w → IsAlike u w
 alike_trans u v w first second = record {
@@ -56,7 +56,7 @@ durable_alike v w durable alike = record {
   stable = alike.stable ∙ (durable.stable ∙ sym alike.now);
 }
 
-pub stands_alike : (v w : View) (party : Party) (left : Space) → StandsFor v party left → IsAlike v w → StandsFor w party left
+pub stands_alike : (v w : View) (party : Party) (left : Space) → DiskStandsFor v party left → IsAlike v w → DiskStandsFor w party left
 stands_alike v w party left stands alike = record {
   durable = durable_alike v w stands.durable alike;
   reads = λ image now. stands.reads image (sym alike.now ∙ now);
@@ -65,7 +65,7 @@ stands_alike v w party left stands alike = record {
 left_over : (end gate room : ℕ) → end ≡ gate + room → room ≡ end - gate
 left_over end gate room is = omega (arith, is)
 
-pub store_stands : (v : View) (gate end : ℕ) (f : Format) (party : Party) → IsStore v gate end f party → StandsFor v party (space_between gate end f)
+pub store_stands : (v : View) (gate end : ℕ) (f : Format) (party : Party) → IsStore v gate end f party → DiskStandsFor v party (space_between gate end f)
 store_stands v gate end f party store = record {
   durable = store.durable;
   reads = λ image now.

@@ -7,7 +7,7 @@ use Rattle.disk_pair.specs.declared.disks.Disks.{Disks}
 use Rattle.disk_pair.specs.Pairs.{AreFetched, ArePutBack}
 use Rattle.x_disk.specs.declared.disk.DiskErr.{DiskErr}
 use Rattle.x_disk.specs.declared.disk.DiskErr.TheVariants as disk
-use Rattle.x_pair.specs.Comparisons.{IsAnswered, LeavesCompared, Tells}
+use Rattle.x_pair.specs.Comparisons.{IsAnswered, LeavesCompared, TellsLikeness}
 use Rattle.x_pair.specs.Looking.{HasCompared, failed_as}
 use Rattle.x_pair.specs.declared.likeness.Compared.{Compared}
 use Rattle.x_pair.specs.declared.likeness.Compared.TheVariants as compared
@@ -25,11 +25,11 @@ pub not_answered : {A : Type 0} (e : DiskErr) → IsAnswered (failed_as e) → A
 not_answered disk.Fault is = absurd is
 not_answered disk.NoMemory is = absurd is
 
-pub nothing_told : (v w : View) (e : DiskErr) → Tells v w (failed_as e)
+pub nothing_told : (v w : View) (e : DiskErr) → TellsLikeness v w (failed_as e)
 nothing_told v w disk.Fault = tt
 nothing_told v w disk.NoMemory = tt
 
-pub tells_around : (v w a b : View) (c : Compared) → IsAlike v a → IsAlike w b → Tells a b c → Tells v w c
+pub tells_around : (v w a b : View) (c : Compared) → IsAlike v a → IsAlike w b → TellsLikeness a b c → TellsLikeness v w c
 tells_around v w a b (compared.Done l) first second tells = λ i j read. tells i j (record { first = first.now ∙ read.first; second = second.now ∙ read.second })
 tells_around v w a b compared.Fault first second tells = tt
 tells_around v w a b compared.NoMemory first second tells = tt

@@ -13,7 +13,7 @@ use Rattle.mirror_store.specs.Comparing.{IsComparison}
 use Rattle.mirror_store.specs.Opening.{AreRead}
 use Rattle.mirror_store.specs.declared.comparing.Comparison.{Comparison}
 use Rattle.mirror_store.specs.declared.comparing.Comparison.TheVariants as comparison
-use Rattle.x_pair.specs.Comparisons.{IsLikeness, Tells}
+use Rattle.x_pair.specs.Comparisons.{IsLikeness, TellsLikeness}
 use Rattle.x_pair.specs.Looking.{Finds, HasFailed, IsFound, IsLikenessOf, IsBesideBlank, IsBesideParty, IsTold, found_with, like_of}
 use Rattle.x_pair.specs.declared.found.Found.{Found}
 use Rattle.x_pair.specs.declared.found.Found.TheVariants as found
@@ -100,12 +100,12 @@ told_of i j (found.Damaged disk place) g c first second is = subst (IsToldOf i j
 told_of i j (found.Fault disk) g c first second is = subst (IsToldOf i j) (sym is) tt
 told_of i j (found.NoMemory disk) g c first second is = subst (IsToldOf i j) (sym is) tt
 
-as_told : (first second : View) (c : Compared) → ((i j : List ℕ) → AreRead first second i j → IsToldOf i j c) → Tells first second c
+as_told : (first second : View) (c : Compared) → ((i j : List ℕ) → AreRead first second i j → IsToldOf i j c) → TellsLikeness first second c
 as_told first second (compared.Done l) is = is
 as_told first second compared.Fault is = tt
 as_told first second compared.NoMemory is = tt
 
-pub tells : {D : Type 0} (told : D → View) (one two : D) (f g : Found D) (c : Compared) → IsFound told one f → IsFound told two g → IsTold f g c → Tells (told one) (told two) c
+pub tells : {D : Type 0} (told : D → View) (one two : D) (f g : Found D) (c : Compared) → IsFound told one f → IsFound told two g → IsTold f g c → TellsLikeness (told one) (told two) c
 tells told one two f g c first second is = as_told (told one) (told two) c (λ i j read. told_of i j f g c (first.finds i read.first) (second.finds j read.second) is)
 
 -- a fault is told only where one was found

@@ -7,7 +7,7 @@ use Rattle.key_store.specs.Store.{Stands, IsFirstDamage}
 use Rattle.mirror_store.specs.Comparing.{IsComparison, lacks}
 use Rattle.mirror_store.specs.declared.comparing.Comparison.{Comparison}
 use Rattle.mirror_store.specs.declared.comparing.Comparison.TheVariants as comparison
-use Rattle.x_pair.specs.Comparisons.{AreStates, IsLikeness, Tells, GivesDueLikeness}
+use Rattle.x_pair.specs.Comparisons.{AreStates, IsLikeness, TellsLikeness, GivesDueLikeness}
 use Rattle.x_pair.specs.Looking.{IsLikenessOf, like_of}
 use Rattle.x_pair.specs.declared.likeness.Compared.{Compared}
 use Rattle.x_pair.specs.declared.likeness.Compared.TheVariants as compared
@@ -128,7 +128,7 @@ module _ (unique : (image : List ℕ) (p q : Party) → Stands image p → Stand
       let y = found i j m b in
       one_found j y.0 l m (subst (λ (f : Finding). Found j f l) (one_finding i x.0 y.0 x.1 y.1) x.2) y.2
 
-  pub likeness_due : (first second : View) (c : Compared) → Tells first second c → GivesDueLikeness first second c
+  pub likeness_due : (first second : View) (c : Compared) → TellsLikeness first second c → GivesDueLikeness first second c
   likeness_due first second (compared.Done l) tells = λ i j m read is. inl (ap compared.Done (one_likeness i j l m (tells i j read) is))
   likeness_due first second compared.Fault tells = λ i j m read is. inr (inl refl)
   likeness_due first second compared.NoMemory tells = λ i j m read is. inr (inr refl)

@@ -47,10 +47,10 @@ IsLikeness i j (likeness.FirstDamaged place) = IsFirstDamage i place
 IsLikeness i j (likeness.SecondDamaged place) = IsSound i × IsFirstDamage j place
 
 -- what is told of two disks
-abbrev pub Tells : View → View → Compared → Type 0
-Tells first second (compared.Done l) = (i j : List ℕ) → AreRead first second i j → IsLikeness i j l
-Tells first second compared.Fault = Unit {0}
-Tells first second compared.NoMemory = Unit {0}
+abbrev pub TellsLikeness : View → View → Compared → Type 0
+TellsLikeness first second (compared.Done l) = (i j : List ℕ) → AreRead first second i j → IsLikeness i j l
+TellsLikeness first second compared.Fault = Unit {0}
+TellsLikeness first second compared.NoMemory = Unit {0}
 
 -- it is the one that is due by the two images, or a fault or want of memory came in its place
 abbrev pub GivesDueLikeness : View → View → Compared → Type 0

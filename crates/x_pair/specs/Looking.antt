@@ -13,7 +13,7 @@ use Rattle.disk_pair.specs.declared.disks.Disks.{Disks}
 use Rattle.mirror_store.specs.Comparing.{IsComparison}
 use Rattle.mirror_store.specs.declared.comparing.Comparison.{Comparison}
 use Rattle.mirror_store.specs.declared.comparing.Comparison.TheVariants as comparison
-use Rattle.x_pair.specs.Comparisons.{Tells}
+use Rattle.x_pair.specs.Comparisons.{TellsLikeness}
 use Rattle.x_pair.specs.declared.found.Found.{Found}
 use Rattle.x_pair.specs.declared.found.Found.TheVariants as found
 use Rattle.x_pair.specs.declared.likeness.Compared.{Compared}
@@ -98,7 +98,7 @@ failed_as disk.NoMemory = compared.NoMemory
 
 -- two disks were compared, and nothing was written
 pub record HasCompared {D : Type 0} (told : D → View) (old new : Disks D) (c : Compared) : Type 0 where
-  pub tells : Tells (told old.first) (told old.second) c
+  pub tells : TellsLikeness (told old.first) (told old.second) c
   pub first : IsUntouched (told old.first) (told new.first)
   pub second : IsUntouched (told old.second) (told new.second)
   pub first_later : (told old.first).faults ≤ (told new.first).faults

@@ -18,14 +18,14 @@ use Rattle.disk_pair.specs.Pairs.{ThirdsStay}
 use Rattle.mirror_store.specs.Pairs.{PairStands, Recovers, IsAsBefore}
 use Rattle.mirror_store.specs.Opening.{AreRead, AreOthers, IsSound, IsTooLargeToWrite, HasFirstSpace}
 use Rattle.mirror_store.specs.Turns.{pair_plan_at}
-use Rattle.x_party.specs.Images.{StandsFor, StillTells}
+use Rattle.x_party.specs.Images.{DiskStandsFor, StillTells}
 use Rattle.x_party.specs.Outcomes.{IsNoFailure}
 use Rattle.x_party.specs.declared.outcome.Outcome.{Outcome}
 use Rattle.x_party.specs.declared.outcome.Outcome.TheVariants as outcome
 
 -- each image of either disk that a crash may leave stands for the party of this member; the first has its space left
 pub record BothStand (first second : View) (x : Member) : Type 0 where
-  pub on_first : StandsFor first x.party x.space
+  pub on_first : DiskStandsFor first x.party x.space
   pub durable : IsDurable second
   pub on_second : (image : List ℕ) → second.now ≡ Some image → Stands image x.party
 

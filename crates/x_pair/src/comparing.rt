@@ -1,6 +1,6 @@
 // The two disks of a party are compared.
 ghost use Rattle.std.specs.Prelude.{◌≡◌, ◌≢◌};
-ghost use Rattle.x_pair.specs.Comparisons.{GivesDueLikeness, LeavesCompared, Tells};
+ghost use Rattle.x_pair.specs.Comparisons.{GivesDueLikeness, LeavesCompared, TellsLikeness};
 ghost use Rattle.x_pair.specs.Looking.{HasCompared, IsBesideBlank, IsBesideParty, IsFound, IsLikenessOf, IsTold, failed_as, found_disk, found_with, like_of};
 
 use crate::found::Found;
@@ -146,7 +146,7 @@ pub fn compare_pair<H: Shelf>(
     mirror: &Ident,
 ) -> Compared
     requires { name.now ≢ mirror.now }
-    ensures tells { Tells (H.entry shelf.old name.now) (H.entry shelf.old mirror.now) result }
+    ensures tells { TellsLikeness (H.entry shelf.old name.now) (H.entry shelf.old mirror.now) result }
     ensures due { GivesDueLikeness (H.entry shelf.old name.now) (H.entry shelf.old mirror.now) result }
     ensures shelf { LeavesCompared name.now mirror.now result (H.is_back shelf.new name.now) (H.is_back shelf.new mirror.now) (H.entry shelf.old) (H.entry shelf.new) (H.faults shelf.old) (H.faults shelf.new) }
 {

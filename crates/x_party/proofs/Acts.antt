@@ -8,14 +8,14 @@ use Rattle.change_code.specs.declared.format.Format.{Format}
 use Rattle.change_code.specs.declared.space.Space.{Space}
 use Rattle.key_store.specs.Store.{StandsWith, IsOldOrNew}
 use Rattle.x_party.specs.Images.{StillTells}
-use Rattle.x_party.specs.Outcomes.{IsToKeep, IsAccepted, IsRefused, IsOther, FitsIn, IsOldOrRewritten, IsRewritten, IsNotRewritten, IsWipedParty}
+use Rattle.x_party.specs.Outcomes.{IsToKeep, IsAccepted, IsRefusedTurn, IsOther, FitsIn, IsOldOrRewritten, IsRewritten, IsNotRewritten, IsWipedParty}
 use Rattle.x_party.specs.declared.outcome.Outcome.{Outcome}
 use Rattle.x_party.specs.declared.outcome.Outcome.TheVariants as outcome
 
 -- what the party did with an input, where it is that of the name
 abbrev pub Acts : List ℕ → View → View → Space → Party → Decision → Outcome → Type 0
 Acts name now then space p d (outcome.Done reply) = (p.own ≡ name) × IsAccepted now then d p space reply
-Acts name now then space p d (outcome.Refused verdict reply) = (p.own ≡ name) × IsRefused now then d p space verdict reply
+Acts name now then space p d (outcome.Refused verdict reply) = (p.own ≡ name) × IsRefusedTurn now then d p space verdict reply
 Acts name now then space p d (outcome.OtherParty asked found) = IsOther now then name p space asked found
 Acts name now then space p d (outcome.Damaged place) = ⊥
 Acts name now then space p d outcome.Fault = Rose now.faults then.faults

@@ -8,7 +8,7 @@ use Rattle.key_journal.specs.States.{room_of}
 use Rattle.change_code.specs.declared.format.Format.{Format}
 use Rattle.change_code.specs.declared.space.Space.{Space}
 use Rattle.key_store.specs.Store.{Stored, IsStore, space, space_between}
-use Rattle.x_party.specs.Images.{StandsFor}
+use Rattle.x_party.specs.Images.{DiskStandsFor}
 
 pub alike_trans : (u v w : View) → IsAlike u v → IsAlike v w → IsAlike u w
 alike_trans u v w first second = record {
@@ -46,7 +46,7 @@ untouched_on old v w new first second back = record {
       (ends_alike v w new old.may_leave (weaker v w v.may_leave old.may_leave second.any_moment first.images) back);
 }
 
-pub stands_alike : (v w : View) (party : Party) (left : Space) → StandsFor v party left → IsAlike v w → StandsFor w party left
+pub stands_alike : (v w : View) (party : Party) (left : Space) → DiskStandsFor v party left → IsAlike v w → DiskStandsFor w party left
 stands_alike v w party left stands alike = record {
   durable = record {
     only = λ b c now stays. stands.durable.only b c (sym alike.now ∙ now) (alike.images c stays);
@@ -58,7 +58,7 @@ stands_alike v w party left stands alike = record {
 left_over : (end gate room : ℕ) → end ≡ gate + room → room ≡ end - gate
 left_over end gate room is = omega (arith, is)
 
-pub store_stands : (v : View) (gate end : ℕ) (f : Format) (party : Party) → IsStore v gate end f party → StandsFor v party (space_between gate end f)
+pub store_stands : (v : View) (gate end : ℕ) (f : Format) (party : Party) → IsStore v gate end f party → DiskStandsFor v party (space_between gate end f)
 store_stands v gate end f party store = record {
   durable = store.durable;
   reads = λ image now.
@@ -76,5 +76,5 @@ module _ {D : Type 0} (told : D → View) (old new : Stored D) (is : new ≡ old
   pub same_disk : IsSound (told old.disk) → IsUntouched (told old.disk) (told new.disk)
   same_disk sound = subst (λ (s : Stored D). IsUntouched (told old.disk) (told s.disk)) (sym is) (untouched_self (told old.disk) sound)
 
-  pub old_stands : IsStore (told new.disk) new.gate new.end new.format new.party → StandsFor (told new.disk) old.party (space old)
-  old_stands store = subst (λ (s : Stored D). StandsFor (told new.disk) s.party (space s)) is (store_stands (told new.disk) new.gate new.end new.format new.party store)
+  pub old_stands : IsStore (told new.disk) new.gate new.end new.format new.party → DiskStandsFor (told new.disk) old.party (space old)
+  old_stands store = subst (λ (s : Stored D). DiskStandsFor (told new.disk) s.party (space s)) is (store_stands (told new.disk) new.gate new.end new.format new.party store)

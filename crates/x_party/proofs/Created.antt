@@ -18,7 +18,7 @@ use Rattle.change_code.specs.declared.format.Format.TheVariants.{Two}
 use Rattle.change_code.specs.declared.space.Space.{Space}
 use Rattle.change_code.specs.Cost.{cost}
 use Rattle.key_store.specs.Store.{Stored, IsStore, IsBlankOrFirst}
-use Rattle.x_party.specs.Images.{StandsFor, first_space}
+use Rattle.x_party.specs.Images.{DiskStandsFor, first_space}
 use Rattle.x_party.specs.Outcomes.{CreatesParty}
 use Rattle.x_party.specs.Steps.{MakesParty, HasCreated, IsOutcome, outcome_of}
 use Rattle.x_party.specs.declared.outcome.Outcome.{Outcome}
@@ -68,11 +68,11 @@ same_space f g m n format room = cc
 module _ {D : Type 0} (told : D → View) (was : D) (new : Stored D) (own : List ℕ) (role : Role) (generator : Gen) where
   first_stands : IsStore (told new.disk) new.gate new.end new.format new.party → new.party ≡ begun own role generator → new.format ≡ Two
       → (new.gate ≡ first_start + cost Two (Begin own role generator ∷ [])) × (new.end ≡ second_start)
-      → StandsFor (told new.disk) (begun own role generator) (first_space (begun own role generator))
+      → DiskStandsFor (told new.disk) (begun own role generator) (first_space (begun own role generator))
   first_stands store party format place =
       let left : new.end - new.gate ≡ (first_space (begun own role generator)).room = omega (arith, place.0, place.1) in
-      subst (λ (p : Party). StandsFor (told new.disk) p (first_space (begun own role generator))) party
-      (subst (λ (s : Space). StandsFor (told new.disk) new.party s) (same_space new.format Two (new.end - new.gate) (first_space (begun own role generator)).room format left)
+      subst (λ (p : Party). DiskStandsFor (told new.disk) p (first_space (begun own role generator))) party
+      (subst (λ (s : Space). DiskStandsFor (told new.disk) new.party s) (same_space new.format Two (new.end - new.gate) (first_space (begun own role generator)).room format left)
       (store_stands (told new.disk) new.gate new.end new.format new.party store))
 
   pub create_done : (disk : D) → disk ≡ new.disk → IsStore (told new.disk) new.gate new.end new.format new.party → new.party ≡ begun own role generator → new.format ≡ Two

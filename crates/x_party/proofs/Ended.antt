@@ -22,7 +22,7 @@ use Rattle.member.specs.Acts.{Keeps, taking}
 use Rattle.node_core.specs.Turns.{member_of, IsOldOrNext, IsWorkDone, IsWorkCut, IsTurn, turn_disk}
 use Rattle.node_core.specs.declared.node.Turn.{Turn}
 use Rattle.node_core.specs.declared.node.Turn.TheVariants as turn
-use Rattle.x_party.specs.Images.{StandsFor}
+use Rattle.x_party.specs.Images.{DiskStandsFor}
 use Rattle.x_party.specs.Outcomes.{IsToKeep}
 use Rattle.x_party.specs.Steps.{outcome_of, outcome_with, outcome_of_turn}
 use Rattle.x_party.specs.declared.outcome.Outcome.TheVariants as outcome
@@ -34,8 +34,8 @@ accepting Accept is = refl
 accepting v is = absurd (cc is)
 
 -- each member of what is left stands on the disk
-pub member_stands : (v : View) (gate end : ℕ) (f : Format) (p : Party) (x : Member) → IsStore v gate end f p → (let here : Member = record { party = p; space = space_between gate end f } in here) ≡ x → StandsFor v x.party x.space
-member_stands v gate end f p x store is = subst (λ (m : Member). StandsFor v m.party m.space) is (store_stands v gate end f p store)
+pub member_stands : (v : View) (gate end : ℕ) (f : Format) (p : Party) (x : Member) → IsStore v gate end f p → (let here : Member = record { party = p; space = space_between gate end f } in here) ≡ x → DiskStandsFor v x.party x.space
+member_stands v gate end f p x store is = subst (λ (m : Member). DiskStandsFor v m.party m.space) is (store_stands v gate end f p store)
 
 none_left : (n : ℕ) → n - 0 ≡ n
 none_left n = omega arith

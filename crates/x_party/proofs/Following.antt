@@ -14,7 +14,7 @@ use Rattle.change_code.specs.Cost.{fits}
 use Rattle.key_store.specs.Store.{Stands, StandsAs, StandsWith, IsFirstDamage}
 use Rattle.roles.specs.Deciding.{decision}
 use Rattle.x_party.specs.Images.{OfOwnParty}
-use Rattle.x_party.specs.Outcomes.{IsAsDecided, IsTooLong, IsTooLargeIn, IsRefused, IsNobody, CreatesParty, ShowsParty, RewritesParty, WipesParty, TakesTurn}
+use Rattle.x_party.specs.Outcomes.{IsAsDecided, IsTooLong, IsTooLargeIn, IsRefusedTurn, IsNobody, CreatesParty, ShowsParty, RewritesParty, WipesParty, TakesTurn}
 use Rattle.x_party.specs.Dues.{Accepts, Refuses, FindsOther, FindsNobody, FitsOneFrame, PassesOneFrame, IsDue, IsDueCreation, IsDueShow, IsDueRewriting, IsDueWiping, GivesDue}
 use Rattle.x_party.specs.declared.outcome.Outcome.{Outcome}
 use Rattle.x_party.specs.declared.outcome.Outcome.TheVariants as outcome
@@ -98,7 +98,7 @@ Cause d space verdict reply = IsAsDecided d verdict reply ⊎ IsTooLong d space 
 
 module _ (name : List ℕ) (old new : View) (i : Input) (moment : ℕ) (image : List ℕ) (now : old.now ≡ Some image) where
   refused_due : (verdict : Verdict) (reply : Option (List ℕ))
-      → OfOwnParty name old (λ party space. IsRefused old new (decision party i moment) party space verdict reply) ⊎ IsNobody old new verdict reply
+      → OfOwnParty name old (λ party space. IsRefusedTurn old new (decision party i moment) party space verdict reply) ⊎ IsNobody old new verdict reply
       → Refuses name image i moment verdict reply ⊎ FindsNobody image verdict reply
   refused_due verdict reply (inr none) = inr (nobody_due old new image verdict reply now none)
   refused_due verdict reply (inl k) = inl (record { party = k.party; space = k.space; stood = k.reads image now; own = k.own; cause = k.holds.cause })

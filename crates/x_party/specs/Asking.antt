@@ -9,7 +9,7 @@ use Rattle.party_tables.specs.declared.link.LinkRec.{LinkRec}
 use Rattle.party_state.specs.State.{Party, knows, link_with}
 use Rattle.change_code.specs.declared.space.Space.{Space}
 use Rattle.key_store.specs.Store.{Stands, IsFirstDamage}
-use Rattle.x_party.specs.Images.{StandsFor, OfParty}
+use Rattle.x_party.specs.Images.{DiskStandsFor, OfParty}
 use Rattle.x_party.specs.Dues.{FindsNobody}
 use Rattle.x_party.specs.Steps.{HasNoParty}
 use Rattle.x_party.specs.declared.outcome.Outcome.{Outcome}
@@ -28,7 +28,7 @@ value_answer k p = value_found (link_with k p) (knows k.peer p)
 -- the party answered so, and stays
 pub record IsAnswered (new : View) (answer : Party → Outcome) (party : Party) (space : Space) (o : Outcome) : Type 0 where
   pub said : o ≡ answer party
-  pub stands : StandsFor new party space
+  pub stands : DiskStandsFor new party space
 
 -- what became of a question: the party answered, or none was opened
 abbrev pub AsksParty : (Party → Outcome) → View → View → Outcome → Type 0

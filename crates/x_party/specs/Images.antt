@@ -14,7 +14,7 @@ abbrev pub ReadsAs : View → Party → Space → Type 0
 ReadsAs v party space = (image : List ℕ) → v.now ≡ Some image → StandsWith image party space
 
 -- the same of each image that a crash may leave
-pub record StandsFor (v : View) (party : Party) (space : Space) : Type 0 where
+pub record DiskStandsFor (v : View) (party : Party) (space : Space) : Type 0 where
   pub durable : IsDurable v
   pub reads : ReadsAs v party space
 

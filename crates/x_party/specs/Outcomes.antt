@@ -19,7 +19,7 @@ use Rattle.change_code.specs.declared.space.Space.{Space}
 use Rattle.key_store.specs.Store.{Stands, StandsWith, IsFirstDamage, IsOldOrNew}
 use Rattle.member.specs.Acts.{compacted_in, migrated_in}
 use Rattle.roles.specs.Deciding.{decision}
-use Rattle.x_party.specs.Images.{StandsFor, OfParty, OfOwnParty, first_space, StillTells, OrBefore}
+use Rattle.x_party.specs.Images.{DiskStandsFor, OfParty, OfOwnParty, first_space, StillTells, OrBefore}
 use Rattle.x_party.specs.declared.outcome.Outcome.{Outcome}
 use Rattle.x_party.specs.declared.outcome.Outcome.TheVariants as outcome
 
@@ -49,7 +49,7 @@ pub record IsAccepted (old new : View) (d : Decision) (party : Party) (space : S
   pub accepts : d.verdict ≡ Accept
   pub fits : fits space d.change ≡ true
   pub reply : answer ≡ d.reply
-  pub stands : StandsFor new (apply d.change party) (space_after space d.change)
+  pub stands : DiskStandsFor new (apply d.change party) (space_after space d.change)
   -- without a change nothing is written
   pub unchanged : d.change ≡ [] → IsUntouched old new
 
@@ -67,9 +67,9 @@ pub record IsTooLong (d : Decision) (space : Space) (said : Verdict) (answer : O
   pub reply : answer ≡ None
 
 -- refused, or its change doesn't fit: party and space stay, and nothing is written
-pub record IsRefused (old new : View) (d : Decision) (party : Party) (space : Space) (said : Verdict) (answer : Option (List ℕ)) : Type 0 where
+pub record IsRefusedTurn (old new : View) (d : Decision) (party : Party) (space : Space) (said : Verdict) (answer : Option (List ℕ)) : Type 0 where
   pub cause : IsAsDecided d said answer ⊎ IsTooLong d space said answer
-  pub stands : StandsFor new party space
+  pub stands : DiskStandsFor new party space
   pub untouched : IsUntouched old new
 
 -- the party isn't that of the name, and isn't asked: party and space stay, and nothing is written
@@ -77,7 +77,7 @@ pub record IsOther (old new : View) (name : List ℕ) (party : Party) (space : S
   pub called : asked ≡ name
   pub stood : found ≡ party.own
   pub differs : found ≢ name
-  pub stands : StandsFor new party space
+  pub stands : DiskStandsFor new party space
   pub untouched : IsUntouched old new
 
 -- no party stands on the disk, and nothing is written
@@ -96,7 +96,7 @@ pub record IsDamaged (old new : View) (place : ℕ) : Type 0 where
 abbrev pub TakesTurn : List ℕ → View → View → Input → ℕ → Outcome → Type 0
 TakesTurn name old new i moment (outcome.Done reply) = OfOwnParty name old (λ party space. IsAccepted old new (decision party i moment) party space reply)
 TakesTurn name old new i moment (outcome.Refused verdict reply) =
-    OfOwnParty name old (λ party space. IsRefused old new (decision party i moment) party space verdict reply) ⊎ IsNobody old new verdict reply
+    OfOwnParty name old (λ party space. IsRefusedTurn old new (decision party i moment) party space verdict reply) ⊎ IsNobody old new verdict reply
 TakesTurn name old new i moment (outcome.OtherParty asked found) = OfParty old (λ party space. IsOther old new name party space asked found)
 TakesTurn name old new i moment (outcome.Damaged place) = IsDamaged old new place
 TakesTurn name old new i moment outcome.Fault = Unit {0}
@@ -140,7 +140,7 @@ space_in (Some format) party space = space_of_whole format party
 pub record IsRewritten (old new : View) (format : Option Format) (party : Party) (space : Space) (answer : Option (List ℕ)) : Type 0 where
   pub fits : IsTooLargeIn format party → ⊥
   pub nothing : answer ≡ None
-  pub stands : StandsFor new party (space_in format party space)
+  pub stands : DiskStandsFor new party (space_in format party space)
   -- where it isn't to be written, nothing is
   pub unchanged : format ≡ None → IsUntouched old new
 
@@ -149,7 +149,7 @@ pub record IsNotRewritten (old new : View) (format : Option Format) (party : Par
   pub too_large : IsTooLargeIn format party
   pub verdict : said ≡ JournalFull
   pub nothing : answer ≡ None
-  pub stands : StandsFor new party space
+  pub stands : DiskStandsFor new party space
   pub untouched : IsUntouched old new
 
 -- what became of writing the party whole, in the format that its own calls for
@@ -187,7 +187,7 @@ IsSafeMigration = IsSafeRewriting migrated_in
 -- the party stays with its space; what counts of its file is as it was, and each other byte is zero
 pub record IsWipedParty (old new : View) (party : Party) (space : Space) (answer : Option (List ℕ)) : Type 0 where
   pub nothing : answer ≡ None
-  pub stands : StandsFor new party space
+  pub stands : DiskStandsFor new party space
   pub wiped : Wipes old new
 
 -- what became of wiping the party's file
@@ -207,7 +207,7 @@ IsSafeWiping old new = IsSafeCall old new (λ party space c. StandsWith c party 
 pub record IsCreated (old new : View) (party : Party) (answer : Option (List ℕ)) : Type 0 where
   pub blank : (image : List ℕ) → old.now ≡ Some image → is_blank image ≡ true
   pub reply : answer ≡ None
-  pub stands : StandsFor new party (first_space party)
+  pub stands : DiskStandsFor new party (first_space party)
 
 -- the image isn't blank
 pub record IsNotEmpty (old : View) (said : Verdict) (answer : Option (List ℕ)) : Type 0 where
@@ -227,7 +227,7 @@ CreatesParty old new party outcome.NoMemory = Unit {0}
 -- the party is shown, and stays
 pub record IsShown (new : View) (party : Party) (space : Space) (reply : Option (List ℕ)) : Type 0 where
   pub text : reply ≡ Some (shown party)
-  pub stands : StandsFor new party space
+  pub stands : DiskStandsFor new party space
 
 -- what became of showing the party
 abbrev pub ShowsParty : View → View → Outcome → Type 0

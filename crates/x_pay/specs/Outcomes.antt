@@ -49,7 +49,7 @@ pub record IsPaid (w : Payment) (name : List ℕ) (party_disk ledger_disk ledger
   pub kept : KeepsEntries ledger_after (put_entry entry entries)
 
 -- a test fails, and this is the first: the entries stay
-pub record IsRefused (w : Payment) (name : List ℕ) (party_disk ledger_disk ledger_after : View) (cause : PayRefusal) : Type 0 where
+pub record IsRefusedPayment (w : Payment) (name : List ℕ) (party_disk ledger_disk ledger_after : View) (cause : PayRefusal) : Type 0 where
   pub p : Party
   pub entries : List Entry
   pub is_own : IsOwnParty name party_disk p
@@ -86,7 +86,7 @@ pub record IsLedgerDamaged (name : List ℕ) (party_disk ledger_disk ledger_afte
 -- what became of the payment
 abbrev pub MakesPayment : Payment → List ℕ → View → View → View → PayOutcome → Type 0
 MakesPayment w name party_disk ledger_disk ledger_after (outcome.Done text) = IsPaid w name party_disk ledger_disk ledger_after text
-MakesPayment w name party_disk ledger_disk ledger_after (outcome.Refused cause) = IsRefused w name party_disk ledger_disk ledger_after cause
+MakesPayment w name party_disk ledger_disk ledger_after (outcome.Refused cause) = IsRefusedPayment w name party_disk ledger_disk ledger_after cause
 MakesPayment w name party_disk ledger_disk ledger_after (outcome.OtherParty asked found) = IsOther name party_disk ledger_disk ledger_after asked found
 MakesPayment w name party_disk ledger_disk ledger_after outcome.Blank = IsNobody party_disk ledger_disk ledger_after
 MakesPayment w name party_disk ledger_disk ledger_after (outcome.Damaged place) = IsPartyDamaged party_disk ledger_disk ledger_after place ⊎ IsLedgerDamaged name party_disk ledger_disk ledger_after place

@@ -21,7 +21,7 @@ use Rattle.spool_store.specs.Beginning.{IsBegun, IsSpoolRefusal, IsFreeCause, Ho
 use Rattle.spool_store.specs.Contents.{Progress, HoldsPlans}
 use Rattle.spool_store.specs.Spools.{Spooled, IsSpool, outbox_of}
 use Rattle.csm_spool.specs.Beginning as beginning
-use Rattle.csm_spool.specs.Courses.{Course}
+use Rattle.csm_spool.specs.Courses.{EntriesLead}
 use Rattle.csm_spool.specs.Drives.{IsDrive, IsOut, party_disk, spool_disk}
 use Rattle.csm_spool.specs.InStep.{InStep, PairsInStep}
 use Rattle.csm_spool.specs.declared.outcome.Driven.{Driven}
@@ -228,7 +228,7 @@ module _ {D : Type 0} (told : D → View) (sound : (d : D) → IsSound (told d))
         member = member_of after;
         party = record { durable = stands.durable; stands = λ image now. now_image told after stands image now };
         ends = λ x party_tells spool_tells start.
-            subst (λ (es : List Entry). Course x es plans (member_of after)) begun.batch.1
+            subst (λ (es : List Entry). EntriesLead x es plans (member_of after)) begun.batch.1
             (run.ends x party_tells (tells_on spool_tells) (begun_start x spool_tells start));
       }
 

@@ -8,7 +8,7 @@ use Rattle.csm_batch.specs.declared.entry.Entry.{Entry}
 use Rattle.spool_store.specs.declared.entry_plan.EntryPlan.{EntryPlan}
 use Rattle.spool_store.specs.Contents.{Progress, HoldsPlans}
 use Rattle.spool_store.specs.Spools.{outbox_of}
-use Rattle.csm_spool.specs.Courses.{Course}
+use Rattle.csm_spool.specs.Courses.{EntriesLead}
 use Rattle.csm_spool.specs.InStep.{PairsInStep}
 use Rattle.x_spool.specs.Dues.{FindsMember, IsDueBatch}
 use Rattle.x_spool.specs.declared.outcome.SpoolOutcome.{SpoolOutcome}
@@ -40,7 +40,7 @@ pub record IsSpooled (text : List ℕ) (entries : List Entry) (party_disk spool_
   pub member : Member
   pub party : KeepsMember party_after member
   -- it is the one to which the plans of the whole batch lead from the start
-  pub ends : (x : Member) → Tells party_disk → Tells spool_disk → PairsInStep party_disk spool_disk text x entries → Course x entries plans member
+  pub ends : (x : Member) → Tells party_disk → Tells spool_disk → PairsInStep party_disk spool_disk text x entries → EntriesLead x entries plans member
 
 -- nothing is written to either disk
 pub record BothStay (party_disk spool_disk party_after spool_after : View) : Type 0 where

@@ -1,5 +1,5 @@
 use Rattle.std.proofs.Common.{sym, subst}
-use Rattle.x_pair.specs.Comparisons.{Tells}
+use Rattle.x_pair.specs.Comparisons.{TellsLikeness}
 use Rattle.x_pair.proofs.BetweenFetches.{all_back, no_fetch, not_back, nothing_told, tells_around}
 use Rattle.x_pair.proofs.OneLikeness.{likeness_due}
 use Rattle.x_pair.proofs.comparing.compare_pair.Goals as goal
@@ -10,7 +10,7 @@ returns-in-Err g c =
     let entry = g.H.Shelf.entry in
     let name = c.args.name.now in
     let mirror = c.args.mirror.now in
-    let tells = subst (λ x. Tells (entry c.args.shelf.now name) (entry c.args.shelf.now mirror) x) (sym c.failed.ensures) (nothing_told (entry c.args.shelf.now name) (entry c.args.shelf.now mirror) c.in-Err.cause) in
+    let tells = subst (λ x. TellsLikeness (entry c.args.shelf.now name) (entry c.args.shelf.now mirror) x) (sym c.failed.ensures) (nothing_told (entry c.args.shelf.now name) (entry c.args.shelf.now mirror) c.in-Err.cause) in
     record {
       tells = tells;
       due = likeness_due law.party law.not_blank law.undamaged law.one_damage (entry c.args.shelf.now name) (entry c.args.shelf.now mirror) c.failed.result tells;
@@ -44,7 +44,7 @@ returns-in-Err-put_back_two g c =
     let did = c.compare_over-disks.result in
     let e = c.in-Err-put_back_two.cause in
     let o = c.failed-in-Err-put_back_two.result in
-    let tells = subst (λ x. Tells (entry c.args.shelf.now name) (entry c.args.shelf.now mirror) x) (sym c.failed-in-Err-put_back_two.ensures) (nothing_told (entry c.args.shelf.now name) (entry c.args.shelf.now mirror) e) in
+    let tells = subst (λ x. TellsLikeness (entry c.args.shelf.now name) (entry c.args.shelf.now mirror) x) (sym c.failed-in-Err-put_back_two.ensures) (nothing_told (entry c.args.shelf.now name) (entry c.args.shelf.now mirror) e) in
     record {
       tells = tells;
       due = likeness_due law.party law.not_blank law.undamaged law.one_damage (entry c.args.shelf.now name) (entry c.args.shelf.now mirror) o tells;

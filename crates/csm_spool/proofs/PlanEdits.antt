@@ -21,8 +21,8 @@ use Rattle.member.specs.Member.{Member, Plan, after, as_decided, as_full}
 use Rattle.csm_batch.specs.declared.entry.Entry.{Entry}
 use Rattle.spool_store.specs.declared.entry_plan.EntryPlan.{EntryPlan}
 use Rattle.csm_spool.specs.Planning.{code_or_nothing}
-use Rattle.csm_spool.specs.Courses.{IsRefusal, IsArrival, Leads, plan_for}
-use Rattle.csm_spool.specs.Laws.{Tells, LawTells}
+use Rattle.csm_spool.specs.Courses.{IsRefusal, IsArrival, EntryLeads, plan_for}
+use Rattle.csm_spool.specs.Laws.{IsSettledOnlyBehind, LawSettledOnlyBehind}
 
 abbrev pub Undone : Type 0
 Undone = (p : Party) (i : Input) (moment : ℕ) → NoneDone p (decision p i moment).change
@@ -60,7 +60,7 @@ pub after_none : (x : Member) → after x [] ≡ x
 after_none x = ap (λ (r : ℕ). let y : Member = record { party = x.party; space = record { format = x.space.format; room = r } } in y) (none_left x.space.room)
 
 module _ (undone : Undone) (done : Done) (ranged : Ranged) (one : OneChange) (there here : Member) (e : Entry) (p : EntryPlan) where
-  of_refusal : IsRefusal there e p here → Tells there here p
+  of_refusal : IsRefusal there e p here → IsSettledOnlyBehind there here p
   of_refusal r = record {
     behind = λ edits is. absurd (no_code edits (subst (λ (q : EntryPlan). IsCode Two q.change edits) r.plan is));
     before = λ settled. sym r.stays;
@@ -97,15 +97,15 @@ module _ (undone : Undone) (done : Done) (ranged : Ranged) (one : OneChange) (th
         let code : IsCode Two (code_of_change Two (f ∷ es)) (f ∷ es) = record { few = subst (λ (l : List Edit). length l ≤ most_edits) is kept.0; in_range = subst AreInRange is kept.1; is = refl } in
         absurd (none.0 (settled (f ∷ es) code).0)
 
-    of_arrival : Tells there here p
+    of_arrival : IsSettledOnlyBehind there here p
     of_arrival = record {
       behind = λ edits is. subst (AreDone here.party) (coded edits is) all_done;
       before = λ settled. stays will.edits refl none_before (λ edits is. settled edits (subst (λ (q : EntryPlan). IsCode Two q.change edits) (sym r.plan) is));
     }
 
-  leads_tell : Leads there e p here → Tells there here p
+  leads_tell : EntryLeads there e p here → IsSettledOnlyBehind there here p
   leads_tell (inl r) = of_refusal r
   leads_tell (inr r) = of_arrival r
 
-pub tells : Undone → Done → Ranged → OneChange → LawTells
+pub tells : Undone → Done → Ranged → OneChange → LawSettledOnlyBehind
 tells undone done ranged one there here e p leads = leads_tell undone done ranged one there here e p leads
