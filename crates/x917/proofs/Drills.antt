@@ -17,7 +17,7 @@ use Rattle.world_laws.specs.Events.{Event, IsAction}
 use Rattle.world_laws.specs.Honest.{HonestAt}
 use Rattle.world_laws.specs.Starts.{IsStart}
 use Rattle.world_laws.specs.Steps.{step}
-use Rattle.course.specs.Course.{Course, Leads, events_of}
+use Rattle.course.specs.Course.{Course, LinesLead, events_of}
 use Rattle.course.specs.Ends.{is_event}
 use Rattle.replay.specs.Playing.{Surroundings, around, IsNotEmpty, IsPlay}
 use Rattle.course.specs.Tallies.{IsTallied}
@@ -42,7 +42,7 @@ drill_tells entry lines are = all_tell entry (parties_in lines) (λ name. (are n
 
 -- an empty disk is blank
 filled_empty : (old : List ℕ → View) (g : Surroundings) → ((name : List ℕ) → (old name).now ≡ Some []) → IsNotEmpty old g → ⊥
-filled_empty old g empty is = let e = is.ended in true≢false (e.unset.filled [] (empty e.party.own))
+filled_empty old g empty is = let e = is.ended in true≢false (e.failed_set_up.filled [] (empty e.party.own))
 
 -- no other answer comes
 pub only_ends : {H : Type 0} (entry : H → List ℕ → View) (lines : List Line) (r : PlayResult) → IsPlayedAlone entry lines r
@@ -57,18 +57,18 @@ only_ends entry lines played.NoMemory p done forged memory = memory refl
 
 -- ---- what is said of a drill
 
-module _ (reached : (lines front : List Line) (tell : Bool) (before after : ℕ) (c : Course) → IsStart (start_world lines) → Leads tell before after front (start_course lines) c → IsLawful (start_world lines) (events_of c.happened) c.world)
-    (behind : (lines front : List Line) (tell : Bool) (before after : ℕ) (c : Course) (e : Event) → IsStart (start_world lines) → Leads tell before after front (start_course lines) c
+module _ (reached : (lines front : List Line) (tell : Bool) (before after : ℕ) (c : Course) → IsStart (start_world lines) → LinesLead tell before after front (start_course lines) c → IsLawful (start_world lines) (events_of c.happened) c.world)
+    (behind : (lines front : List Line) (tell : Bool) (before after : ℕ) (c : Course) (e : Event) → IsStart (start_world lines) → LinesLead tell before after front (start_course lines) c
     → IsAction e.action → HonestAt c.world.facts (member_at e.party c.world.members) e.action → IsLawful (start_world lines) (events_of c.happened ++ e ∷ []) (step c.now.number c.world e))
     {H : Type 0} (entry : H → List ℕ → View) (seed events : ℕ) (lines : List Line) (is : IsScenario (drill_text seed events) lines) (begins : IsStart (start_world lines))
     (r : PlayResult) (alone : IsPlayedAlone entry lines r) where
   played_as : (x : PlayResult) → r ≡ x → IsPlay (entry alone.old) (around lines (entry alone.new) 0 0 None None) x
   played_as x same = subst (λ (y : PlayResult). IsPlay (entry alone.old) (around lines (entry alone.new) 0 0 None None) y) same alone.play
 
-  pub drilled : ((tell : Bool) (before after : ℕ) (lines : List Line) (e : Course) → Leads tell before after lines (start_course lines) e → e.now.counts.texts ≡ length e.world.texts)
-      → ((tell : Bool) (before after : ℕ) (lines : List Line) (e : Course) → Leads tell before after lines (start_course lines) e → e.now.number ≡ 1 + count_by is_event lines)
-      → ((tell : Bool) (before after : ℕ) (lines : List Line) (e : Course) → Leads tell before after lines (start_course lines) e → length e.happened ≡ count_by is_event lines)
-      → ((tell : Bool) (before after : ℕ) (lines : List Line) (e : Course) → Leads tell before after lines (start_course lines) e → e.now.counts.done + e.now.counts.refused + e.now.counts.stopped + e.now.counts.none + 1 ≡ e.now.number)
+  pub drilled : ((tell : Bool) (before after : ℕ) (lines : List Line) (e : Course) → LinesLead tell before after lines (start_course lines) e → e.now.counts.texts ≡ length e.world.texts)
+      → ((tell : Bool) (before after : ℕ) (lines : List Line) (e : Course) → LinesLead tell before after lines (start_course lines) e → e.now.number ≡ 1 + count_by is_event lines)
+      → ((tell : Bool) (before after : ℕ) (lines : List Line) (e : Course) → LinesLead tell before after lines (start_course lines) e → length e.happened ≡ count_by is_event lines)
+      → ((tell : Bool) (before after : ℕ) (lines : List Line) (e : Course) → LinesLead tell before after lines (start_course lines) e → e.now.counts.done + e.now.counts.refused + e.now.counts.stopped + e.now.counts.none + 1 ≡ e.now.number)
       → (tally : Tally) → r ≡ played.Done tally → IsDrilled entry seed events tally
   drilled texts numbers list outcomes tally done =
       let p = played_as (played.Done tally) done in

@@ -56,7 +56,7 @@ not_blank old g is tell blank =
     let p = e.party in
     let at = at_party old p.own p.role p.generator.key p.generator.v e.back e.front (subst (λ (l : List Line). AllTell old (parties_in l)) e.split tell)
     (subst (λ (l : List Line). AllReadBlank old (parties_in l)) e.split blank) in
-    both_ways (old p.own) at.0 at.1 e.unset.filled
+    both_ways (old p.own) at.0 at.1 e.failed_set_up.filled
 
 -- ---- a scenario that was played
 

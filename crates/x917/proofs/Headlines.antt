@@ -10,10 +10,10 @@ use Rattle.world_laws.specs.Honest.{HonestAt}
 use Rattle.world_laws.specs.Starts.{IsStart}
 use Rattle.world_laws.specs.Steps.{step}
 use Rattle.replay.specs.Breaking.{AreOnShelf}
-use Rattle.course.specs.Parts.{HappensOr, IsEventOf}
-use Rattle.course.specs.Course.{Course, Leads, events_of}
-use Rattle.course.specs.Happenings.{Happening, Nothing, At}
-use Rattle.replay.specs.Playing.{Surroundings, IsBroken, IsBrokenAhead, IsBrokenPlay, IsPlay, IsPlayed, IsPlayedToForged, IsUnwritten, IsRun, IsRunToForged, IsRunBy, WereBlank}
+use Rattle.course.specs.Parts.{MakesEventOrNone, IsEventOf}
+use Rattle.course.specs.Course.{Course, LinesLead, events_of}
+use Rattle.course.specs.LineEvents.{LineEvent, Nothing, At}
+use Rattle.replay.specs.Playing.{Surroundings, broken_world, IsBroken, IsBrokenAhead, IsBrokenPlay, IsPlay, IsPlayed, IsPlayedToForged, IsUnwritten, IsRun, IsRunToForged, IsRunBy, WereBlank}
 use Rattle.course.specs.Starts.{start_course, start_world}
 use Rattle.course.specs.declared.tally.Tally.{Tally}
 use Rattle.replay.specs.declared.result.PlayResult.{PlayResult}
@@ -21,17 +21,17 @@ use Rattle.replay.specs.declared.result.PlayResult.TheVariants as played
 use Rattle.x_status.specs.declared.status.Refusal.TheVariants.{Decided}
 use Rattle.x_status.specs.declared.status.Status.TheVariants as status
 use Rattle.course.specs.Lawful.{IsLawful}
-use Rattle.x917.specs.Headline.{IsPlayedWhole, IsPlayedUpTo, IsPlayedInPart, IsPlayedUnwritten, IsPlayedEarly, IsRunWhole, IsRunUpTo, DisksTell, Says, SaysOfRun, broken_events, broken_world, status_of_play}
+use Rattle.x917.specs.Headline.{IsPlayedWhole, IsPlayedUpTo, IsPlayedInPart, IsPlayedUnwritten, IsPlayedEarly, IsRunWhole, IsRunUpTo, DisksTell, Says, SaysOfRun, broken_events, status_of_play}
 
 -- what a line makes happen is an action of a network
-action_of : (l : Line) (texts : List (List ℕ)) (moment : ℕ) (h : Happening) (e : Event) → HappensOr l texts h → IsEventOf moment h e → IsAction e.action
-action_of l texts moment h e happens (inl none) = subst (λ (x : Event). IsAction x.action) (sym none) tt
-action_of l texts moment Nothing e happens (inr begun) = absurd begun
+action_of : (l : Line) (texts : List (List ℕ)) (moment : ℕ) (h : LineEvent) (e : Event) → MakesEventOrNone l texts h → IsEventOf moment h e → IsAction e.action
+action_of l texts moment h e makes_event (inl none) = subst (λ (x : Event). IsAction x.action) (sym none) tt
+action_of l texts moment Nothing e makes_event (inr begun) = absurd begun
 action_of l texts moment (At own action) e (inl none) (inr begun) = let no : At own action ≡ Nothing = none.1 in absurd cc
-action_of l texts moment (At own action) e (inr happens) (inr begun) = subst (λ (x : Event). IsAction x.action) (sym begun) happens.1
+action_of l texts moment (At own action) e (inr makes_event) (inr begun) = subst (λ (x : Event). IsAction x.action) (sym begun) makes_event.1
 
-module _ (reached : (lines front : List Line) (tell : Bool) (before after : ℕ) (c : Course) → IsStart (start_world lines) → Leads tell before after front (start_course lines) c → IsLawful (start_world lines) (events_of c.happened) c.world)
-    (behind : (lines front : List Line) (tell : Bool) (before after : ℕ) (c : Course) (e : Event) → IsStart (start_world lines) → Leads tell before after front (start_course lines) c
+module _ (reached : (lines front : List Line) (tell : Bool) (before after : ℕ) (c : Course) → IsStart (start_world lines) → LinesLead tell before after front (start_course lines) c → IsLawful (start_world lines) (events_of c.happened) c.world)
+    (behind : (lines front : List Line) (tell : Bool) (before after : ℕ) (c : Course) (e : Event) → IsStart (start_world lines) → LinesLead tell before after front (start_course lines) c
     → IsAction e.action → HonestAt c.world.facts (member_at e.party c.world.members) e.action → IsLawful (start_world lines) (events_of c.happened ++ e ∷ []) (step c.now.number c.world e))
     (old : List ℕ → View) (g : Surroundings) (begins : IsStart (start_world g.lines)) where
   abbrev pub whole : (t : Tally) → WereBlank old g → IsPlayed g t → IsPlayedWhole old g
@@ -56,11 +56,11 @@ module _ (reached : (lines front : List Line) (tell : Bool) (before after : ℕ)
     out = p.out;
   }
 
-  broken_lawful : (front back : List Line) (c : Course) (at : IsBrokenAhead g back c) → Leads true g.before g.after front (start_course g.lines) c
+  broken_lawful : (front back : List Line) (c : Course) (at : IsBrokenAhead g back c) → LinesLead true g.before g.after front (start_course g.lines) c
       → IsLawful (start_world g.lines) (broken_events g back c at) (broken_world g back c at)
   broken_lawful front [] c at leads = reached g.lines front true g.before g.after c begins leads
   broken_lawful front (line ∷ back) c at leads =
-      behind g.lines front true g.before g.after c at.event begins leads (action_of line c.world.texts c.now.moment at.happening at.event at.happens at.is) at.honest
+      behind g.lines front true g.before g.after c at.event begins leads (action_of line c.world.texts c.now.moment at.line_event at.event at.makes_event at.is) at.honest
 
   broken_images : (back : List Line) (c : Course) (at : IsBrokenAhead g back c) → AreOnShelf g.entry (broken_world g back c at).members
   broken_images [] c at = at.images
@@ -75,7 +75,7 @@ module _ (reached : (lines front : List Line) (tell : Bool) (before after : ℕ)
   }
 
   unwritten : WereBlank old g → IsUnwritten g → IsPlayedUnwritten old g
-  unwritten blank p = record { part = in_part blank p.play; done = p.done }
+  unwritten blank p = record { part = in_part blank p.play; done = p.done; durable = p.durable }
 
   early : IsBroken old g → IsPlayedEarly old g
   early (inl set_up) = inl set_up

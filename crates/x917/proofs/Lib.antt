@@ -10,6 +10,8 @@ pub mod KeysEntered
 pub mod NetworkEvents
 pub mod Lawful
 pub mod Headlines
+pub mod HelpWritten
+pub mod Noticing
 pub mod ScenarioBytes
 pub mod Expected
 pub mod Played

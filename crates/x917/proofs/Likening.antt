@@ -2,7 +2,7 @@
 use Rattle.std.proofs.Common.{◌≡◌, ◌⊎◌, inl, inr, ℕ, List, Option, refl, sym, ap, ◌∙◌, subst}
 use Rattle.x_base.specs.Edge.{Rose}
 use Rattle.x_disk.specs.Disk.{View, IsUntouched}
-use Rattle.x_pair.specs.Comparisons.{GivesDueLikeness, IsAnswered, LeavesCompared, Tells}
+use Rattle.x_pair.specs.Comparisons.{GivesDueLikeness, IsAnswered, LeavesCompared, TellsLikeness}
 use Rattle.x_pair.specs.declared.likeness.Compared.{Compared}
 use Rattle.x_pair.specs.declared.likeness.Compared.TheVariants as compared
 use Rattle.x_pair.specs.declared.likeness.Likeness.{Likeness}
@@ -54,7 +54,7 @@ likeness_cause likeness.BothBlank read reads put puts disk disks = tt
 likeness_cause (likeness.FirstDamaged place) read reads put puts disk disks = tt
 likeness_cause (likeness.SecondDamaged place) read reads put puts disk disks = tt
 
-pub comparing : (party mirror : List ℕ) (old new : List ℕ → View) (c : Compared) (s : Status) (before after : Option (List ℕ)) → Tells (old party) (old mirror) c → IsUntouched (old party) (new party) → IsUntouched (old mirror) (new mirror)
+pub comparing : (party mirror : List ℕ) (old new : List ℕ → View) (c : Compared) (s : Status) (before after : Option (List ℕ)) → TellsLikeness (old party) (old mirror) c → IsUntouched (old party) (new party) → IsUntouched (old mirror) (new mirror)
     → EndsOrForgets c s before after → IsComparing party mirror old new s before after
 comparing party mirror old new c s before after tells first second (inl ends) = record { outcome = c; tells = tells; first_stays = first; second_stays = second; ends = ends }
 comparing party mirror old new c s before after tells first second (inr forgets) = record { outcome = compared.NoMemory; tells = tt; first_stays = first; second_stays = second; ends = forgets }

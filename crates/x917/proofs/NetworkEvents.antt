@@ -75,7 +75,7 @@ module _ {S : Type 0} (entry : S → List ℕ → View)
   }
 
   arrival_event : (name : List ℕ) → IsTaken name moment left rest (entry old name) (entry new name) s before after → IsArrivalEvent name moment left (entry old name) (entry new name) s before after
-  arrival_event name (inl unheard) = inl unheard.0
+  arrival_event name (inl unheard) = inl unheard
   arrival_event name (inr (a, heard, turned)) = inr (by_source left heard)
     where
       by_source : (o : Option (List ℕ)) → IfSome o (λ all. IsHeard all a × (rest ≡ Some []))

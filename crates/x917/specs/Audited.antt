@@ -5,7 +5,7 @@ use Rattle.x_base.specs.Edge.{AppendsTo, WrotePrefix}
 use Rattle.course.specs.Summary.{summary_of}
 use Rattle.course.specs.declared.tally.Tally.{Tally}
 use Rattle.audit_check.specs.Answers.{IsAudited, IsFault}
-use Rattle.audit_check.specs.Inputs.{IsBadInput, IsInput}
+use Rattle.audit_check.specs.Inputs.{IsBadInput, IsAuditInput}
 use Rattle.audit_check.specs.Parts.{Parts}
 use Rattle.audit_check.specs.declared.fault.AuditFault.{AuditFault}
 use Rattle.audit_check.specs.declared.fault.AuditFault.TheVariants.{Forged}
@@ -28,13 +28,13 @@ audit_taken all = take audit_limit all
 -- honest and has that transcript, with these numbers, and the laws hold of its end
 pub record IsConfirmed (bytes : List ℕ) (tally : Tally) : Type 0 where
   pub parts : Parts
-  pub input : IsInput bytes parts
+  pub input : IsAuditInput bytes parts
   pub audited : IsAudited parts.lines parts.letters parts.transcript tally
 
 -- this is what is wrong first
 pub record IsDenied (bytes : List ℕ) (fault : AuditFault) : Type 0 where
   pub parts : Parts
-  pub input : IsInput bytes parts
+  pub input : IsAuditInput bytes parts
   pub wrong : IsFault parts.lines parts.letters parts.transcript fault
 
 -- the status of what is wrong: a forged event has its own

@@ -4,7 +4,7 @@ use Rattle.std.specs.Prelude.{◌≡◌, ◌⊎◌, ◌++◌, ℕ, List, [], ◌
 use Rattle.std.specs.Fmt.{decimal}
 use Rattle.x_disk.specs.Disk.{View, IsUntouched}
 use Rattle.mirror_store.specs.Opening.{AreRead}
-use Rattle.x_pair.specs.Comparisons.{IsLikeness, Tells}
+use Rattle.x_pair.specs.Comparisons.{IsLikeness, TellsLikeness}
 use Rattle.x_pair.specs.declared.likeness.Compared.{Compared}
 use Rattle.x_pair.specs.declared.likeness.Compared.TheVariants as compared
 use Rattle.x_pair.specs.declared.likeness.Likeness.{Likeness}
@@ -42,7 +42,7 @@ EndsComparison compared.NoMemory s before after = (s ≡ status.NoMemory) × (af
 -- the two disks of these names were compared, and nothing was written to them
 pub record IsComparing (party mirror : List ℕ) (old new : List ℕ → View) (s : Status) (before after : Option (List ℕ)) : Type 0 where
   pub outcome : Compared
-  pub tells : Tells (old party) (old mirror) outcome
+  pub tells : TellsLikeness (old party) (old mirror) outcome
   pub first_stays : IsUntouched (old party) (new party)
   pub second_stays : IsUntouched (old mirror) (new mirror)
   pub ends : EndsComparison outcome s before after

@@ -7,14 +7,12 @@ use Rattle.x_disk.specs.Disk.{View}
 use Rattle.x_disk.specs.Shelf.{IsAlike, AllStay}
 use Rattle.scenario.specs.declared.line.Line.{Line}
 use Rattle.scenario.specs.Reading.{IsFirstBad, IsScenario}
-use Rattle.world_laws.specs.World.{World}
 use Rattle.world_laws.specs.Events.{Event}
-use Rattle.world_laws.specs.Steps.{step}
-use Rattle.replay.specs.Breaking.{AreOnShelf}
-use Rattle.course.specs.Course.{Course, Leads, events_of}
+use Rattle.replay.specs.Breaking.{AreOnShelf, AreDurable}
+use Rattle.course.specs.Course.{Course, LinesLead, events_of}
 use Rattle.course.specs.Lawful.{IsLawful}
 use Rattle.course.specs.Lines.{IsForgedIn}
-use Rattle.replay.specs.Playing.{Surroundings, around, AreDurable, IsBrokenAhead, IsBrokenPlay, IsBrokenSetUp, IsDoneAhead, IsNotEmpty, WereBlank}
+use Rattle.replay.specs.Playing.{Surroundings, around, broken_world, CrashLeaves, IsBrokenAhead, IsBrokenPlay, IsBrokenSetUp, IsDoneAhead, IsNotEmpty, WereBlank}
 use Rattle.replay.specs.SettingUp.{AllTell}
 use Rattle.course.specs.Parties.{parties_in}
 use Rattle.course.specs.Starts.{start_course, start_world}
@@ -36,7 +34,7 @@ pub record IsPlayedWhole (old : List ℕ → View) (g : Surroundings) : Type 0 w
   -- its two outcomes. Which one, is in `IsFixed`: where the change fits, the old state stands with the disk call 1 or 2, and
   -- with 3 or 4 under choice 0; the new one with 4 under choice 1, where the shelf's faults didn't rise, and with 5
   pub course : Course
-  pub leads : Leads true g.before g.after g.lines (start_course g.lines) course
+  pub leads : LinesLead true g.before g.after g.lines (start_course g.lines) course
   -- what happened on the way is an honest run, and the laws hold of its end
   pub lawful : IsLawful (start_world g.lines) (events_of course.happened) course.world
   -- the image of each party's disk stands for its state in the end, with the room that is left; a crash leaves no other
@@ -60,12 +58,7 @@ pub record IsPlayedUpTo (old : List ℕ → View) (g : Surroundings) (number : �
   -- the lines of the events before it were written, and nothing else
   pub out : AppendsTo g.start g.written course.transcript
 
--- the network where a play broke off: behind the event at hand, or behind all
-abbrev pub broken_world : (g : Surroundings) (back : List Line) (c : Course) → IsBrokenAhead g back c → World
-broken_world g [] c at = c.world
-broken_world g (line ∷ back) c at = step c.now.number c.world at.event
-
--- and what led there
+-- what led to the network where a play broke off: behind the event at hand, or behind all
 abbrev pub broken_events : (g : Surroundings) (back : List Line) (c : Course) → IsBrokenAhead g back c → List Event
 broken_events g [] c at = events_of c.happened
 broken_events g (line ∷ back) c at = events_of c.happened ++ at.event ∷ []
@@ -74,8 +67,9 @@ broken_events g (line ∷ back) c at = events_of c.happened ++ at.event ∷ []
 pub record IsPlayedInPart (old : List ℕ → View) (g : Surroundings) : Type 0 where
   pub blank : WereBlank old g
   -- the lines in front led to a course. Of the event of the next line, which is honest, all is done, or it is cut with one of
-  -- its outcomes, or it hasn't begun. The lines of the events before it were written, and a beginning of its own; or, where
-  -- all events are done, a beginning of what the parties show
+  -- its outcomes, or it hasn't begun. A crash then leaves of each party's disk an image of the party before it or behind it.
+  -- The lines of the events before it were written, and a beginning of its own; or, where all events are done, a beginning of
+  -- what the parties show
   pub part : IsBrokenPlay g
   -- the events so far are an honest run, and the laws hold of its end
   pub lawful : IsLawful (start_world g.lines) (broken_events g part.back part.course part.broken) (broken_world g part.back part.course part.broken)
@@ -87,6 +81,8 @@ pub record IsPlayedUnwritten (old : List ℕ → View) (g : Surroundings) : Type
   pub part : IsPlayedInPart old g
   -- the event at hand is done, with the outcome of which a beginning of the lines was written
   pub done : IsDoneAhead g part.part.back part.part.course part.part.broken
+  -- a crash leaves no other image
+  pub durable : AreDurable g.entry (broken_world g part.part.back part.part.course part.part.broken).members
 
 -- a play ended early: in the set-up, or behind it
 abbrev pub IsPlayedEarly : (List ℕ → View) → Surroundings → Type 0
@@ -112,7 +108,7 @@ pub record IsRunWhole (g : Surroundings) : Type 0 where
   -- line by line the scenario led from its start to this end. An event is whole; or, behind a STOP line, cut with the old
   -- state or the new one, and with the new one only where a change is kept
   pub course : Course
-  pub leads : Leads false g.before g.after g.lines (start_course g.lines) course
+  pub leads : LinesLead false g.before g.after g.lines (start_course g.lines) course
   -- what happened on the way is an honest run, and the laws hold of its end
   pub lawful : IsLawful (start_world g.lines) (events_of course.happened) course.world
   -- what was written is the transcript: the lines of each event, and behind them what each party shows
@@ -157,11 +153,14 @@ abbrev pub IsUnread : Option (List ℕ) → Status → Type 0
 IsUnread left s = ((s ≡ status.ReadFault) ⊎ (s ≡ status.NoMemory))
     ⊎ ((number : ℕ) × (s ≡ status.BadScenario number) × IfSome left (λ all. IsFirstBad all number))
 
--- a scenario was read, and the status says what became of it; the disks of names that are no party's stay
+-- a scenario was read, and the status says what became of it; the disks of names that are no party's stay. A crash at any
+-- moment leaves of each disk what it could leave before, or an image of its party: as it is set up, with none or some of its
+-- links; or behind some of the lines, from the first on, the last event whole or cut
 pub record IsReplayed (left rest : Option (List ℕ)) (old : List ℕ → View) (g : Surroundings) (s : Status) : Type 0 where
   pub read : ReadsScenario left rest g.lines
   pub says : Says old g s
   pub runs : SaysOfRun g s
+  pub crash : DisksTell old g → CrashLeaves old g
   pub others : (own : List ℕ) → (Contains (parties_in g.lines) own → ⊥) → IsAlike (old own) (g.entry own)
 
 -- what `replay` says. `left` and `rest` are what the source has before and after, `before` and `after` what the sink has, and

@@ -1,4 +1,6 @@
 pub mod Ends
+pub mod Helped
+pub mod Notice
 pub mod Dues
 pub mod Headline
 pub mod Drilled

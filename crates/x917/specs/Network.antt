@@ -2,6 +2,7 @@
 -- `after` what the sink has, `old` and `new` what the shelf tells of the disks.
 use Rattle.std.specs.Prelude.{◌≡◌, ◌≢◌, ◌⊎◌, ℕ, List, [], ◌∷◌, Option, Some, None, IfSome}
 use Rattle.x_disk.specs.Disk.{View, IsUntouched}
+use Rattle.x_disk.specs.Shelf.{IsAlike}
 use Rattle.csm_grammar.specs.declared.arrival.Arrival.{Arrival}
 use Rattle.party_state.specs.State.{Party}
 use Rattle.key_store.specs.Store.{Stands}
@@ -33,9 +34,10 @@ pub record IsNamedEvent (name : List ℕ) (action : Action) (moment : ℕ) (endi
   pub ends : Ends outcome ending s before after
   pub other : (image : List ℕ) (party : Party) → old.now ≡ Some image → Stands image party → party.own ≢ name → IsUntouched old new × (after ≡ before)
 
--- a message is heard of the bytes that are taken, and its arrival is the event; or none is
+-- a message is heard of the bytes that are taken, and its arrival is the event; or none is heard, and nothing is changed or
+-- written
 abbrev pub IsArrivalEvent : List ℕ → ℕ → Option (List ℕ) → View → View → Status → Option (List ℕ) → Option (List ℕ) → Type 0
-IsArrivalEvent name moment left old new s before after = IsUnheard left s
+IsArrivalEvent name moment left old new s before after = (IsUnheard left s × (after ≡ before) × IsAlike old new)
     ⊎ IfSome left (λ all. (arrival : Arrival) × IsNamedEvent name (Hears (taken all) (Some arrival)) moment (10 ∷ []) old new s before after)
 
 abbrev pub IsCommandEvent : Option PartyCommand → ℕ → (List ℕ → View) → (List ℕ → View) → Status → Option (List ℕ) → Option (List ℕ) → Type 0

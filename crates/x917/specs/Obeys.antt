@@ -11,6 +11,7 @@ use Rattle.x_line.specs.declared.usage.UsageKind.{UsageKind}
 use Rattle.x_line.specs.declared.usage.UsageKind.TheVariants.{Line}
 use Rattle.x_line.specs.Line.{is_line}
 use Rattle.x_line.specs.Usage.{usage_of}
+use Rattle.help_texts.specs.Topics.{topic_of}
 use Rattle.key_parts.specs.declared.part.Form.TheVariants as form
 use Rattle.csm_grammar.specs.declared.arrival.Arrival.{Arrival}
 use Rattle.csm_feed.specs.Heard.{input_limit}
@@ -253,12 +254,13 @@ pub record LeavesOthers (o : Order) (s : Status) (is_back : List ℕ → Type 0)
   pub others : is_replay o ≡ false → OthersOf (party_of o) (ledger_of o) old new
   pub unread : is_reading o ≡ false → stays
 
--- the words are judged first: the status says what is wrong with them, or no memory was left, and then nothing is touched
+-- the words are judged first: where they don't ask for help the status says what is wrong with them, or no memory was left, and
+-- then nothing is touched
 pub record JudgesWords (words : List (List ℕ)) (s : Status) (stays : Type 0) : Type 0 where
-  pub usage : (kind : UsageKind) → s ≡ status.Usage kind → usage_of words ≡ Some kind
-  pub wrong : (kind : UsageKind) → usage_of words ≡ Some kind → (s ≡ status.Usage kind) ⊎ (s ≡ status.NoMemory)
+  pub usage : (kind : UsageKind) → s ≡ status.Usage kind → (usage_of words ≡ Some kind) × (topic_of words ≡ None)
+  pub wrong : (kind : UsageKind) → usage_of words ≡ Some kind → topic_of words ≡ None → (s ≡ status.Usage kind) ⊎ (s ≡ status.NoMemory)
   pub line : s ≡ status.Usage Line → is_line words ≡ false
-  pub untouched : (kind : UsageKind) → usage_of words ≡ Some kind → stays
+  pub untouched : (kind : UsageKind) → usage_of words ≡ Some kind → topic_of words ≡ None → stays
 
 -- what holds of the values of an order that words stand for: a drill has 1 to 10,000 events, and a ledger, a spool or a second disk
 -- another name than the party

@@ -6,7 +6,7 @@ use Rattle.key_journal.specs.Journal.{is_blank}
 use Rattle.scenario.specs.declared.line.Line.{Line}
 use Rattle.scenario_drill.specs.Drill.{drill_text}
 use Rattle.scenario.specs.Reading.{IsFirstBad, IsScenario}
-use Rattle.course.specs.Course.{Course, Leads}
+use Rattle.course.specs.Course.{Course, LinesLead}
 use Rattle.course.specs.Lines.{IsForgedIn}
 use Rattle.replay.specs.SettingUp.{AllReadBlank, AllTell}
 use Rattle.course.specs.Parties.{parties_in}
@@ -26,7 +26,7 @@ IsHonest lines = (before after : ℕ) (c : Course) (number : ℕ) → IsQuiet be
 
 -- whichever outcomes the stopped events have, the scenario can't be played to its end
 abbrev pub IsForgedAlways : List Line → Type 0
-IsForgedAlways lines = (before after : ℕ) (c : Course) → IsQuiet before after → Leads true before after lines (start_course lines) c → ⊥
+IsForgedAlways lines = (before after : ℕ) (c : Course) → IsQuiet before after → LinesLead true before after lines (start_course lines) c → ⊥
 
 -- the disk of a party isn't blank
 abbrev pub AnyFilled : (List ℕ → View) → List (List ℕ) → Type 0

@@ -19,9 +19,9 @@ use x_status::Status;
 
 /// A sink that keeps nothing.
 #[derive(Drop)]
-struct Nowhere;
+struct NullSink;
 
-impl Sink for Nowhere {
+impl Sink for NullSink {
     ghost written = { λ _. None };
 
     ghost faults = { λ _. 0 };
@@ -55,7 +55,7 @@ fn play_alone(alloc: Global, scenario: &Scenario) -> PlayResult
     ensures { IsPlayedAlone ⟦<MemoryShelf as Shelf>⟧.entry scenario.now result }
 {
     let mut shelf = MemoryShelf::new(alloc);
-    play(alloc, scenario, &mut Nowhere, &mut shelf)
+    play(alloc, scenario, &mut NullSink, &mut shelf)
 }
 
 /// Plays a drill.

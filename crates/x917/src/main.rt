@@ -8,13 +8,13 @@ mod drilling;
 mod entering;
 mod entering_mirrored;
 mod finish;
+mod helping;
 mod mirrored;
+mod notice;
 mod party_command;
 mod payments;
 mod replaying;
 mod spooling;
-#[cfg(test)]
-mod tests;
 mod top;
 
 use std::alloc::AllocGlobal;
@@ -28,6 +28,9 @@ use x_base::{NoMemory, StdSink, StdSource, Words};
 use x_disk::FolderShelf;
 use x_line::UsageKind;
 use x_status::{Status, exit_code, status_line};
+
+/// What stands on standard error behind the line of a faulty command line.
+const ASK_FOR_HELP: &[u8] = b"Try 'x917 help' for the commands and their options.\n";
 
 /// The highest of the numbers 0, 1 and 2 of standard input, output and error.
 const LAST_STANDARD: i32 = 2;
@@ -70,6 +73,7 @@ fn main(rt: HostRuntime) -> io::Result<ExitCode> {
     let mut sink = StdSink::new(rt.stdout());
     let mut shelf = FolderShelf::new(rt.clone()?, rt.alloc());
     let moment = moment_of(&rt)?;
+    let mut notice = None;
     let status = match words_of(&rt) {
         Ok(Ok(words)) => top::run(
             rt.alloc(),
@@ -78,6 +82,7 @@ fn main(rt: HostRuntime) -> io::Result<ExitCode> {
             &mut source,
             &mut sink,
             &mut shelf,
+            &mut notice,
         ),
         Ok(Err(NoMemory)) => Status::NoMemory,
         Err(e) => match e.kind() {
@@ -86,10 +91,16 @@ fn main(rt: HostRuntime) -> io::Result<ExitCode> {
             _ => return Err(e),
         },
     };
-    // What becomes of the line changes nothing.
+    // What becomes of these lines changes nothing.
     let _ = match status_line(rt.alloc(), &status) {
         Ok(line) => rt.stderr().write_all(line.bytes()),
         Err(NoMemory) => rt.stderr().write_all(b"x917: no memory\n"),
     };
+    if let Status::Usage(_) = status {
+        let _ = rt.stderr().write_all(ASK_FOR_HELP);
+    }
+    if let Some(notice) = notice {
+        let _ = rt.stderr().write_all(notice.bytes());
+    }
     Ok(ExitCode::from(exit_code(&status)))
 }

@@ -1,12 +1,14 @@
 // The top call.
-ghost use Rattle.std.specs.Prelude.{◌≡◌, ℕ, List, Option, true};
-ghost use Rattle.x_line.specs.Orders.{IsGiven, IsMirrored, IsOrder};
+ghost use Rattle.std.specs.Prelude.{◌≡◌, ℕ, List, Option, None, true};
+ghost use Rattle.x_line.specs.Orders.{IsGiven, IsMirrored, IsOrder, is_telling};
 ghost use Rattle.x_line.specs.declared.order.Order.{Order};
 ghost use Rattle.x_line.specs.declared.order.Order.TheVariants.{Audit, Replay, Drill};
 ghost use Rattle.csm_check.specs.Transfer.{TookAtMost, IsQuiet};
 ghost use Rattle.x_status.specs.Causes.{HasCause, HasFaults, IsSilent};
 ghost use Rattle.x917.specs.Audited.{IsAudit};
 ghost use Rattle.x917.specs.Headline.{IsReplay};
+ghost use Rattle.x917.specs.Helped.{Helps};
+ghost use Rattle.x917.specs.Notice.{LeavesNotice};
 ghost use Rattle.x917.specs.Drilled.{IsDrill};
 ghost use Rattle.x917.specs.Obeys.{Obeys, Expects, IsWithin, LeavesOthers, JudgesWords, IsSilentOf, is_tended, most_of};
 ghost use Rattle.x917.specs.Mirrored.{LeavesMirrored, ObeysMirrored};
@@ -17,7 +19,9 @@ use crate::comparing::compare;
 use crate::drilling::drill_all;
 use crate::entering::{create, enter};
 use crate::finish::{finish, finish_payment};
+use crate::helping::help_or_fault;
 use crate::mirrored::carry_out_mirrored;
+use crate::notice::carry_out_with_notice;
 use crate::party_command::command_of;
 use crate::payments::accept;
 use crate::replaying::replay_all;
@@ -28,7 +32,7 @@ use party_state::Input;
 use party_tables::LinkKey;
 use std::alloc::Global;
 use world_laws::law_calls;
-use x_base::{Sink, Source, Words};
+use x_base::{Sink, Source, Text, Words};
 use x_disk::{MemoryShelf, Shelf};
 use x_gen::Gen;
 use x_line::{
@@ -89,7 +93,7 @@ fn tend<K: Sink, H: Shelf>(alloc: Global, order: &Order, sink: &mut K, shelf: &m
 }
 
 /// Does what an order says.
-fn carry_out<S: Source, K: Sink, H: Shelf>(
+pub(crate) fn carry_out<S: Source, K: Sink, H: Shelf>(
     alloc: Global,
     order: Order,
     moment: u64,
@@ -150,7 +154,7 @@ fn carry_out<S: Source, K: Sink, H: Shelf>(
 
 /// Runs the command that the words name, at a moment: `check` and `audit` over the source and the sink, `replay` over the disks of the
 /// scenario's parties, `drill` over disks of its own, and the others over a party's disk on the shelf. A party's fetched disk
-/// is put back before anything is written.
+/// is put back before anything is written. The notice is for standard error, behind what is written.
 pub fn run<S: Source, K: Sink, H: Shelf>(
     alloc: Global,
     words: &Words,
@@ -158,9 +162,13 @@ pub fn run<S: Source, K: Sink, H: Shelf>(
     source: &mut S,
     sink: &mut K,
     shelf: &mut H,
+    notice: &mut Option<Text>,
 ) -> Status
-    // The words are looked at first: where something is wrong with them, that is the status and nothing is touched.
+    // The words are looked at first: where something is wrong with them, and they don't ask for help, that is the status and
+    // nothing is touched.
     ensures usage { JudgesWords words.now result ((source.new ≡ source.old) × (sink.new ≡ sink.old) × (shelf.new ≡ shelf.old)) }
+    // Where they ask for help it is written, and the source and the shelf stay as they are.
+    ensures helps { Helps words.now result (K.written sink.old) (K.written sink.new) ((source.new ≡ source.old) × (shelf.new ≡ shelf.old)) }
     // Otherwise they stand for an order, and it is done as it says. Of a batch: where party and spool were in step they are so
     // afterwards at every pair of images that a crash may leave, whatever came; done, it has all plans, the party stands for its
     // end, and the outbox is written.
@@ -204,7 +212,13 @@ pub fn run<S: Source, K: Sink, H: Shelf>(
     // with a silent status nothing is written.
     ensures silent { (order : Order) (mirror : Option (List ℕ)) → IsGiven words.now order mirror → IsSilentOf order result → sink.new ≡ sink.old }
     ensures most { (order : Order) (mirror : Option (List ℕ)) → IsGiven words.now order mirror → TookAtMost (most_of order) (S.left source.old) (S.left source.new) }
+
+    // The notice that is handed out for standard error: of a message that is taken with `--tell`, where it is done, its class, and
+    // the name and the status of each data key whose record the party put. Otherwise there is none.
+    ensures notice { (order : Order) → IsOrder words.now order → LeavesNotice (is_telling words.now) order moment result (S.left source.old) (H.entry shelf.old) notice.new }
+    ensures no_notice { (order : Order) (mirror : List ℕ) → IsMirrored words.now order mirror → notice.new ≡ None }
 {
+    *notice = None;
     law_one_order();
     law_few_events();
     law_ledger_apart();
@@ -213,12 +227,15 @@ pub fn run<S: Source, K: Sink, H: Shelf>(
     law_calls::<H>();
     match read_order(alloc, words) {
         Ok(given) => match given.mirror {
+            None if given.tell => {
+                carry_out_with_notice(alloc, given.order, moment, source, sink, shelf, notice)
+            }
             None => carry_out(alloc, given.order, moment, source, sink, shelf),
             Some(mirror) => {
                 carry_out_mirrored(alloc, given.order, &mirror, moment, source, sink, shelf)
             }
         },
-        Err(LineFault::Usage(kind)) => Status::Usage(kind),
+        Err(LineFault::Usage(kind)) => help_or_fault(alloc, words, kind, sink),
         Err(LineFault::NoMemory) => Status::NoMemory,
     }
 }

@@ -52,6 +52,7 @@ returns g c =
         read = c.in-Ok.ensures.read;
         says = subst (λ (x : Status). Says old around_it x) (sym is) (says laws.reached laws.behind old around_it c.law_scenario_starts.ensures c.play.result p.refused p.played);
         runs = subst (λ (x : Status). SaysOfRun around_it x) (sym is) (says_of_run laws.reached laws.behind old around_it c.law_scenario_starts.ensures c.play.result p.runs);
+        crash = p.crash;
         others = p.others;
       },
     ) in
