@@ -1,35 +1,18 @@
-/* Times error detection codes of many texts of one length, made in four ways: one chain after the other, two and four
-   chains side by side, and 64 in the bits of words. A code is that of FIPS 113 under one key: blocks of DES, each behind
-   the one before. Each figure is the least of many rounds, in nanoseconds a block. codes [BLOCKS OF A TEXT]
-   In the bits of words each S-box is a tree of choices, one variable a level, of which the compiler joins what is alike. */
+/* Times error detection codes of many texts of 16 blocks, made in several ways: one chain after the other, two and four chains side
+   by side, and 64 to 512 in the bits of words and vectors, by the circuits of boxes.h. A code is that of FIPS 113 under one key:
+   blocks of DES, each after the one before. Of each way and round a line: the way, a tab, the nanoseconds a block. The vectors of 256
+   and 512 bits are of later processors than x86-64 begins with, and left out where there are none. codes ROUNDS */
 #include <stdint.h>
 #include <stdio.h>
 #include <stdlib.h>
 #include <string.h>
 #include <time.h>
+#include "boxes.h"
+#include "tables.h"
 
-enum { TEXTS = 512, ROUNDS = 400, MOST = 64 };
+enum { TEXTS = 512, BLOCKS = 16 };
 
 static const uint64_t KEY = 0x0123456789ABCDEFu;
-
-static const uint8_t BOXES[8][64] = {
-    {14,4,13,1,2,15,11,8,3,10,6,12,5,9,0,7, 0,15,7,4,14,2,13,1,10,6,12,11,9,5,3,8,
-     4,1,14,8,13,6,2,11,15,12,9,7,3,10,5,0, 15,12,8,2,4,9,1,7,5,11,3,14,10,0,6,13},
-    {15,1,8,14,6,11,3,4,9,7,2,13,12,0,5,10, 3,13,4,7,15,2,8,14,12,0,1,10,6,9,11,5,
-     0,14,7,11,10,4,13,1,5,8,12,6,9,3,2,15, 13,8,10,1,3,15,4,2,11,6,7,12,0,5,14,9},
-    {10,0,9,14,6,3,15,5,1,13,12,7,11,4,2,8, 13,7,0,9,3,4,6,10,2,8,5,14,12,11,15,1,
-     13,6,4,9,8,15,3,0,11,1,2,12,5,10,14,7, 1,10,13,0,6,9,8,7,4,15,14,3,11,5,2,12},
-    {7,13,14,3,0,6,9,10,1,2,8,5,11,12,4,15, 13,8,11,5,6,15,0,3,4,7,2,12,1,10,14,9,
-     10,6,9,0,12,11,7,13,15,1,3,14,5,2,8,4, 3,15,0,6,10,1,13,8,9,4,5,11,12,7,2,14},
-    {2,12,4,1,7,10,11,6,8,5,3,15,13,0,14,9, 14,11,2,12,4,7,13,1,5,0,15,10,3,9,8,6,
-     4,2,1,11,10,13,7,8,15,9,12,5,6,3,0,14, 11,8,12,7,1,14,2,13,6,15,0,9,10,4,5,3},
-    {12,1,10,15,9,2,6,8,0,13,3,4,14,7,5,11, 10,15,4,2,7,12,9,5,6,1,13,14,0,11,3,8,
-     9,14,15,5,2,8,12,3,7,0,4,10,1,13,11,6, 4,3,2,12,9,5,15,10,11,14,1,7,6,0,8,13},
-    {4,11,2,14,15,0,8,13,3,12,9,7,5,10,6,1, 13,0,11,7,4,9,1,10,14,3,5,12,2,15,8,6,
-     1,4,11,13,12,3,7,14,10,15,6,8,0,5,9,2, 6,11,13,8,1,4,10,7,9,5,0,15,14,2,3,12},
-    {13,2,8,4,6,15,11,1,10,9,3,14,5,0,12,7, 1,15,13,8,10,3,7,4,12,5,6,11,0,14,9,2,
-     7,11,4,1,9,12,14,2,0,6,10,13,15,3,5,8, 2,1,14,7,4,10,8,13,15,12,9,0,3,5,6,11},
-};
 
 static const uint8_t P[32] = {16,7,20,21,29,12,28,17,1,15,23,26,5,18,31,10,2,8,24,14,32,27,3,9,19,13,30,6,22,11,4,25};
 
@@ -52,13 +35,12 @@ static const uint8_t SHIFTS[16] = {1,1,2,2,2,2,2,2,1,2,2,2,2,2,2,1};
 
 /* The bits of each round key, the first at place 0; the same as the groups of six that
    end the bytes of a half that stands twice; what P makes of each box's output, twice too. */
-static uint8_t round_bits[16][48];
+static uint8_t round_bits[16][48], sliced_key[16][48];
 static uint64_t groups[16];
 static uint64_t tables[8][64];
-static uint64_t words[TEXTS][MOST];
-static uint64_t permuted[TEXTS][MOST][2];
-static uint64_t codes[5][TEXTS];
-static volatile uint64_t sink;
+static uint64_t words[TEXTS][BLOCKS];
+static uint64_t permuted[TEXTS][BLOCKS][2];
+static uint64_t codes[TEXTS], wanted[TEXTS];
 
 static unsigned bit(uint64_t word, unsigned width, unsigned place)
 {
@@ -153,140 +135,117 @@ CHAINS(1)
 CHAINS(2)
 CHAINS(4)
 
-/* ---- 64 chains in the bits of words: word i holds bit i of each block */
+/* ---- chains in the bits of words or vectors: word i holds bit i of each block. What a box gives complemented is undone by the
+   next round keys: each bit of a half is complemented once in each two rounds. */
 
-#define INLINE static inline __attribute__((always_inline))
+#define P_OF_1(H) (H)[8], (H)[16], (H)[22], (H)[30]
+#define P_OF_2(H) (H)[12], (H)[27], (H)[1], (H)[17]
+#define P_OF_3(H) (H)[23], (H)[15], (H)[29], (H)[5]
+#define P_OF_4(H) (H)[25], (H)[19], (H)[9], (H)[0]
+#define P_OF_5(H) (H)[7], (H)[13], (H)[24], (H)[2]
+#define P_OF_6(H) (H)[3], (H)[28], (H)[10], (H)[18]
+#define P_OF_7(H) (H)[31], (H)[11], (H)[21], (H)[6]
+#define P_OF_8(H) (H)[4], (H)[26], (H)[14], (H)[20]
 
-/* The function of two variables whose values at 00, 01, 10, 11 are the bits of the table, the first highest. */
-INLINE uint64_t of_two(unsigned table, uint64_t a, uint64_t b)
+static const uint8_t COMPLEMENTED[8] = {COMPLEMENTED_1, COMPLEMENTED_2, COMPLEMENTED_3, COMPLEMENTED_4,
+                                        COMPLEMENTED_5, COMPLEMENTED_6, COMPLEMENTED_7, COMPLEMENTED_8};
+
+/* Bit i of a half, the first at 0, after P, where a box gives it complemented. */
+static unsigned is_complemented(unsigned i)
 {
-    switch (table) {
-    case 0: return 0;
-    case 1: return a & b;
-    case 2: return a & ~b;
-    case 3: return a;
-    case 4: return ~a & b;
-    case 5: return b;
-    case 6: return a ^ b;
-    case 7: return a | b;
-    case 8: return ~(a | b);
-    case 9: return ~(a ^ b);
-    case 10: return ~b;
-    case 11: return a | ~b;
-    case 12: return ~a;
-    case 13: return ~a | b;
-    case 14: return ~(a & b);
-    default: return ~(uint64_t)0;
-    }
+    unsigned output = P[i] - 1u;
+    return COMPLEMENTED[output / 4] >> (3 - output % 4) & 1;
 }
 
-INLINE uint64_t choice(uint64_t by, uint64_t zero, uint64_t one)
+static void make_sliced_keys(void)
 {
-    return zero ^ (by & (zero ^ one));
-}
-
-INLINE unsigned values(unsigned box, unsigned output, unsigned front)
-{
-    unsigned table = 0;
-    for (unsigned i = 0; i < 4; i++)
-        table = table << 1 | (box_output(box, front << 2 | i) >> (3 - output) & 1);
-    return table;
-}
-
-INLINE uint64_t of_three(unsigned box, unsigned output, unsigned front, const uint64_t *v)
-{
-    return choice(v[3], of_two(values(box, output, front << 1), v[4], v[5]), of_two(values(box, output, front << 1 | 1), v[4], v[5]));
-}
-
-INLINE uint64_t of_four(unsigned box, unsigned output, unsigned front, const uint64_t *v)
-{
-    return choice(v[2], of_three(box, output, front << 1, v), of_three(box, output, front << 1 | 1, v));
-}
-
-INLINE uint64_t of_five(unsigned box, unsigned output, unsigned front, const uint64_t *v)
-{
-    return choice(v[1], of_four(box, output, front << 1, v), of_four(box, output, front << 1 | 1, v));
-}
-
-#define SLICED_BOX(BOX)                                                                           \
-    static __attribute__((noinline)) void sliced_##BOX(const uint64_t *in, uint64_t *out)         \
-    {                                                                                             \
-        uint64_t v[6];                                                                            \
-        memcpy(v, in, sizeof v);                                                                  \
-        out[0] = choice(v[0], of_five(BOX, 0, 0, v), of_five(BOX, 0, 1, v));                      \
-        out[1] = choice(v[0], of_five(BOX, 1, 0, v), of_five(BOX, 1, 1, v));                      \
-        out[2] = choice(v[0], of_five(BOX, 2, 0, v), of_five(BOX, 2, 1, v));                      \
-        out[3] = choice(v[0], of_five(BOX, 3, 0, v), of_five(BOX, 3, 1, v));                      \
-    }
-
-SLICED_BOX(0)
-SLICED_BOX(1)
-SLICED_BOX(2)
-SLICED_BOX(3)
-SLICED_BOX(4)
-SLICED_BOX(5)
-SLICED_BOX(6)
-SLICED_BOX(7)
-
-static void sliced_round(const uint64_t *half, uint64_t *other, const uint8_t *key)
-{
-    uint64_t given[8][6], taken[32];
-    for (int box = 0; box < 8; box++)
-        for (int i = 0; i < 6; i++)
-            given[box][i] = half[(4 * box + i + 31) & 31] ^ ((uint64_t)0 - key[6 * box + i]);
-    sliced_0(given[0], taken);
-    sliced_1(given[1], taken + 4);
-    sliced_2(given[2], taken + 8);
-    sliced_3(given[3], taken + 12);
-    sliced_4(given[4], taken + 16);
-    sliced_5(given[5], taken + 20);
-    sliced_6(given[6], taken + 24);
-    sliced_7(given[7], taken + 28);
-    for (int i = 0; i < 32; i++)
-        other[i] ^= taken[P[i] - 1];
-}
-
-/* The square of 64 times 64 bits, turned over. */
-static void transposed(uint64_t *square)
-{
-    uint64_t mask = 0x00000000FFFFFFFFu;
-    for (int width = 32; width != 0; width >>= 1, mask ^= mask << width)
-        for (int row = 0; row < 64; row = (row + width + 1) & ~width) {
-            uint64_t changed = (square[row] ^ square[row + width] >> width) & mask;
-            square[row] ^= changed;
-            square[row + width] ^= changed << width;
+    for (unsigned round = 0; round < 16; round++)
+        for (unsigned i = 0; i < 48; i++) {
+            unsigned place = (i / 6 * 4 + i % 6 + 31) % 32;
+            sliced_key[round][i] = (uint8_t)(round_bits[round][i] ^ ((round + 1) / 2 % 2 & is_complemented(place)));
         }
 }
 
-static void sliced(int blocks, uint64_t *out)
-{
-    for (int text = 0; text < TEXTS; text += 64) {
-        uint64_t state[64] = {0}, square[64];
-        uint64_t *left = state, *right = state + 32;
-        for (int block = 0; block < blocks; block++) {
-            for (int i = 0; i < 64; i++)
-                square[i] = words[text + i][block];
-            transposed(square);
-            for (int i = 0; i < 32; i++) {
-                left[i] ^= square[IP[i] - 1];
-                right[i] ^= square[IP[i + 32] - 1];
-            }
-            for (int round = 0; round < 16; round += 2) {
-                sliced_round(right, left, round_bits[round]);
-                sliced_round(left, right, round_bits[round + 1]);
-            }
-            uint64_t *held = left;
-            left = right;
-            right = held;
-        }
-        for (int i = 0; i < 32; i++) {
-            square[i] = left[i];
-            square[i + 32] = right[i];
-        }
-        transposed(square);
-        memcpy(out + text, square, sizeof square);
+#define CALL(BOX, ...) BOX(__VA_ARGS__)
+#define APPLY(N, V, H, K, A, B, C, D, E, F, O)                                                            \
+    CALL(BOX_##N, V, (H)[A] ^ (K)[6 * N - 6], (H)[B] ^ (K)[6 * N - 5], (H)[C] ^ (K)[6 * N - 4],            \
+         (H)[D] ^ (K)[6 * N - 3], (H)[E] ^ (K)[6 * N - 2], (H)[F] ^ (K)[6 * N - 1], P_OF_##N(O))
+
+#define SLICED(NAME, V, ATTRIBUTE)                                                                        \
+    ATTRIBUTE static __attribute__((noinline)) void NAME##_round(const V *half, V *other, const V *key)   \
+    {                                                                                                     \
+        APPLY(1, V, half, key, 31, 0, 1, 2, 3, 4, other);                                                 \
+        APPLY(2, V, half, key, 3, 4, 5, 6, 7, 8, other);                                                  \
+        APPLY(3, V, half, key, 7, 8, 9, 10, 11, 12, other);                                               \
+        APPLY(4, V, half, key, 11, 12, 13, 14, 15, 16, other);                                            \
+        APPLY(5, V, half, key, 15, 16, 17, 18, 19, 20, other);                                            \
+        APPLY(6, V, half, key, 19, 20, 21, 22, 23, 24, other);                                            \
+        APPLY(7, V, half, key, 23, 24, 25, 26, 27, 28, other);                                            \
+        APPLY(8, V, half, key, 27, 28, 29, 30, 31, 0, other);                                             \
+    }                                                                                                     \
+    ATTRIBUTE static __attribute__((noinline)) void NAME##_transposed(V *square)                          \
+    {                                                                                                     \
+        uint64_t mask = 0x00000000FFFFFFFFu;                                                              \
+        for (int width = 32; width != 0; width >>= 1, mask ^= mask << width)                              \
+            for (int row = 0; row < 64; row = (row + width + 1) & ~width) {                               \
+                V changed = (square[row] ^ square[row + width] >> width) & (mask ^ (V){0});               \
+                square[row] ^= changed;                                                                   \
+                square[row + width] ^= changed << width;                                                  \
+            }                                                                                             \
+    }                                                                                                     \
+    ATTRIBUTE static void NAME(int blocks, uint64_t *out)                                                 \
+    {                                                                                                     \
+        enum { LANES = sizeof(V) / 8 };                                                                   \
+        V keys[16][48], square[64];                                                                       \
+        for (int round = 0; round < 16; round++)                                                          \
+            for (int i = 0; i < 48; i++)                                                                  \
+                keys[round][i] = (V){0} ^ ((uint64_t)0 - (uint64_t)sliced_key[round][i]);                 \
+        for (int text = 0; text < TEXTS; text += 64 * LANES) {                                            \
+            V state[64];                                                                                  \
+            memset(state, 0, sizeof state);                                                               \
+            V *left = state, *right = state + 32;                                                         \
+            for (int block = 0; block < blocks; block++) {                                                \
+                for (int i = 0; i < 64; i++) {                                                            \
+                    uint64_t lanes[LANES];                                                                \
+                    for (int lane = 0; lane < LANES; lane++)                                              \
+                        lanes[lane] = words[text + 64 * lane + i][block];                                 \
+                    memcpy(&square[i], lanes, sizeof lanes);                                              \
+                }                                                                                         \
+                NAME##_transposed(square);                                                                \
+                for (int i = 0; i < 32; i++) {                                                            \
+                    left[i] ^= square[IP[i] - 1];                                                         \
+                    right[i] ^= square[IP[i + 32] - 1];                                                   \
+                }                                                                                         \
+                for (int round = 0; round < 16; round += 2) {                                             \
+                    NAME##_round(right, left, keys[round]);                                               \
+                    NAME##_round(left, right, keys[round + 1]);                                           \
+                }                                                                                         \
+                V *held = left;                                                                           \
+                left = right;                                                                             \
+                right = held;                                                                             \
+            }                                                                                             \
+            for (int i = 0; i < 32; i++) {                                                                \
+                square[i] = left[i];                                                                      \
+                square[i + 32] = right[i];                                                                \
+            }                                                                                             \
+            NAME##_transposed(square);                                                                    \
+            for (int i = 0; i < 64; i++) {                                                                \
+                uint64_t lanes[LANES];                                                                    \
+                memcpy(lanes, &square[i], sizeof lanes);                                                  \
+                for (int lane = 0; lane < LANES; lane++)                                                  \
+                    out[text + 64 * lane + i] = lanes[lane];                                              \
+            }                                                                                             \
+        }                                                                                                 \
     }
-}
+
+typedef uint64_t bits_128 __attribute__((vector_size(16)));
+typedef uint64_t bits_256 __attribute__((vector_size(32)));
+typedef uint64_t bits_512 __attribute__((vector_size(64)));
+
+SLICED(sliced_64, uint64_t, )
+SLICED(sliced_128, bits_128, )
+SLICED(sliced_256, bits_256, __attribute__((target("avx2"))))
+SLICED(sliced_512, bits_512, __attribute__((target("avx512f"))))
 
 static void put_block(int text, int block, uint64_t word)
 {
@@ -303,44 +262,52 @@ static double now(void)
     return (double)t.tv_sec * 1e9 + (double)t.tv_nsec;
 }
 
-static void (*const WAYS[])(int, uint64_t *) = {chains_1, chains_2, chains_4, sliced};
-static const char *const NAMES[] = {"one chain after the other", "two side by side", "four side by side", "64 in the bits of words"};
+static const struct {
+    const char *name;
+    void (*made)(int, uint64_t *);
+} WAYS[] = {
+    {"one chain after the other", chains_1},   {"two side by side", chains_2},
+    {"four side by side", chains_4},           {"64 in words", sliced_64},
+    {"128 in vectors of 128 bits", sliced_128}, {"256 in vectors of 256 bits", sliced_256},
+    {"512 in vectors of 512 bits", sliced_512},
+};
 
-int main(int argc, char **argv)
+static int many_ways(void)
 {
-    int blocks = argc > 1 ? atoi(argv[1]) : 16;
-    if (blocks < 1 || blocks > MOST)
-        return 2;
+    if (__builtin_cpu_supports("avx512f"))
+        return 7;
+    return __builtin_cpu_supports("avx2") ? 6 : 5;
+}
+
+int main(int count, char **arguments)
+{
+    int rounds = count > 1 ? atoi(arguments[1]) : 1;
     make_tables();
+    make_sliced_keys();
     /* The plain text of FIPS 81's example, whose first block under this key is 3FA40E8A984D4815. */
-    words[0][0] = 0x4E6F772069732074u;
-    put_block(0, 0, words[0][0]);
-    chains_1(1, codes[0]);
-    if (unpicked(codes[0][0], IP) != 0x3FA40E8A984D4815u) {
-        printf("this isn't DES: %016llX\n", (unsigned long long)unpicked(codes[0][0], IP));
+    put_block(0, 0, 0x4E6F772069732074u);
+    chains_1(1, codes);
+    if (unpicked(codes[0], IP) != 0x3FA40E8A984D4815u) {
+        fprintf(stderr, "this isn't DES\n");
         return 1;
     }
     uint64_t word = 1;
     for (int text = 0; text < TEXTS; text++)
-        for (int block = 0; block < blocks; block++) {
+        for (int block = 0; block < BLOCKS; block++) {
             word = word * 6364136223846793005u + 1442695040888963407u;
             put_block(text, block, word);
         }
-    for (int way = 0; way < 4; way++) {
-        double least = 1e18;
-        for (int round = 0; round < ROUNDS; round++) {
+    chains_1(BLOCKS, wanted);
+    for (int round = 0; round < rounds; round++)
+        for (int way = 0; way < many_ways(); way++) {
             double begin = now();
-            WAYS[way](blocks, codes[way]);
-            double each = (now() - begin) / TEXTS / blocks;
-            if (each < least)
-                least = each;
+            WAYS[way].made(BLOCKS, codes);
+            double took = now() - begin;
+            if (memcmp(codes, wanted, sizeof codes) != 0) {
+                fprintf(stderr, "%s: other codes\n", WAYS[way].name);
+                return 1;
+            }
+            printf("%s\t%.3f\n", WAYS[way].name, took / TEXTS / BLOCKS);
         }
-        sink = codes[way][0];
-        if (memcmp(codes[way], codes[0], sizeof codes[0]) != 0) {
-            printf("%s: other codes\n", NAMES[way]);
-            return 1;
-        }
-        printf("%-28s %7.2f ns a block, %8.1f us for %d texts of %d blocks\n", NAMES[way], least, least * TEXTS * blocks / 1e3, TEXTS, blocks);
-    }
     return 0;
 }
