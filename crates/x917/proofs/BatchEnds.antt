@@ -1,17 +1,15 @@
 -- How a batch ends, and what follows of it.
 use Rattle.std.proofs.Common.{◌≡◌, ◌⊎◌, inl, inr, ℕ, zero, suc, ◌<◌, ◌≤◌, false, List, [], length, Option, Some, None, IfSome, refl, sym, ap, ◌∙◌, subst, arith}
-use Rattle.std.specs.Prelude.{take, ◌++◌}
+use Rattle.std.specs.Prelude.{◌++◌}
 use Rattle.std.proofs.lemmas.List.{append-nil}
 use Rattle.x_base.specs.Edge.{Rose}
-use Rattle.x_disk.specs.Disk.{View, IsSound, IsUntouched}
-use Rattle.x_disk.specs.Shelf.{AllStay, alike_refl}
-use Rattle.x_disk.proofs.Runs.{began}
+use Rattle.x_disk.specs.Disk.{View}
 use Rattle.csm_batch.specs.declared.entry.Entry.{Entry}
 use Rattle.csm_batch.specs.Batches.{IsBatch, IsFirstBad}
 use Rattle.csm_batch.specs.Laws.{BadInFront, OneReading}
 use Rattle.csm_spool.specs.InStep.{PairsInStep}
 use Rattle.x_spool.specs.Dues.{GivesDue, IsSame}
-use Rattle.x_spool.specs.Outcomes.{IsDoneOrFailed, IsNoFailure, MakesBatch, StaysInStep}
+use Rattle.x_spool.specs.Outcomes.{IsDoneOrFailed, IsNoFailure, StaysInStep}
 use Rattle.x_spool.specs.Outboxes as outboxes
 use Rattle.x_spool.specs.Outboxes.{GivesOutbox, LeavesOne}
 use Rattle.x_spool.specs.Shelves.{LeavesShelf}
@@ -28,7 +26,7 @@ use Rattle.x_status.specs.declared.status.Status.TheVariants as status
 use Rattle.x917.specs.Ends.{IsOfParty, Puts}
 use Rattle.x917.specs.Obeys.{LeavesOthers, LeavesRest, OthersOf, is_reading, ledger_of, party_of}
 use Rattle.x917.specs.Playable.{IsOrNoMemory}
-use Rattle.x917.specs.Spooled.{EndsBatch, EndsOutbox, FollowsBatch, FollowsOutbox, IsBatched, IsSpooling, IsUnbatched, LeavesSpool, TakesBatch, batch_limit, status_of_batch, status_of_missing, status_of_outbox}
+use Rattle.x917.specs.Spooled.{EndsBatch, EndsOutbox, FollowsBatch, FollowsOutbox, IsBatched, IsUnbatched, LeavesSpool, TakesBatch, batch_limit, status_of_batch, status_of_missing, status_of_outbox}
 
 batch_ended : (o : SpoolOutcome) (s : Status) (before after : Option (List ℕ)) → EndsBatch o s before after → (s ≡ status_of_batch o) ⊎ (s ≡ status.WriteFault)
 batch_ended (outcome.Done out) s before after (inl puts) = inl puts.0

@@ -1,5 +1,5 @@
 -- Of any order, want of memory may be the answer.
-use Rattle.std.proofs.Common.{◌≡◌, inl, inr, ℕ, List, Option, Some, None, Result, Ok, Err, refl}
+use Rattle.std.proofs.Common.{inr, ℕ, List, Option, Some, None, Result, Ok, Err, refl}
 use Rattle.x_disk.specs.Disk.{View}
 use Rattle.key_parts.specs.Parts.{entered_of}
 use Rattle.key_parts.specs.declared.part.Form.TheVariants as form

@@ -1,5 +1,5 @@
 -- Help is written: it ends done, or the sink failed.
-use Rattle.std.proofs.Common.{◌≡◌, ◌⊎◌, ◌++◌, inl, inr, ℕ, List, [], Option, Some, None, refl, sym, ◌∙◌, subst}
+use Rattle.std.proofs.Common.{◌≡◌, ◌⊎◌, ◌++◌, inl, inr, ℕ, List, [], Option, Some, None, sym, ◌∙◌, subst}
 use Rattle.x_base.specs.Edge.{Rose}
 use Rattle.help_texts.specs.declared.asking.Topic.{Topic}
 use Rattle.help_texts.specs.Lines.{head_of}

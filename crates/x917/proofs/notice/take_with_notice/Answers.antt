@@ -1,11 +1,8 @@
-use Rattle.std.proofs.Common.{◌≡◌, ◌∙◌, true, false, Some, [], ◌∷◌, inl, inr, refl, sym, ap, subst}
+use Rattle.std.proofs.Common.{◌≡◌, true, Some, [], ◌∷◌, inl, inr, refl, sym, subst}
 use Rattle.x_disk.specs.Shelf.{alike_refl}
 use Rattle.party_state.specs.declared.command.Input.TheVariants.{Arrived}
-use Rattle.turn_notice.specs.Notices.{HasNotice}
 use Rattle.x_line.specs.declared.order.Order.TheVariants as order
-use Rattle.x_line.specs.declared.order.Order.{Order}
 use Rattle.x_party.specs.Dues.{IsDue}
-use Rattle.x_status.specs.declared.status.Status.TheVariants as status
 use Rattle.x917.specs.Ends.{IsOfParty}
 use Rattle.x917.specs.Notice.{LeavesNotice}
 use Rattle.x917.specs.Obeys.{IsPartyTurn}

@@ -1,4 +1,3 @@
-use Rattle.std.proofs.Common.{◌≡◌}
 use Rattle.x917.proofs.BatchEnds.{bad_batch, batch_read}
 use Rattle.x917.proofs.spooling.take_batch.Goals as goal
 
