@@ -24,7 +24,7 @@ fn number_of(digits: &[u8]) -> usize {
 }
 
 /// What stands behind a word.
-fn behind<'a>(line: &'a [u8], word: &[u8]) -> Option<&'a [u8]> {
+fn after_word<'a>(line: &'a [u8], word: &[u8]) -> Option<&'a [u8]> {
     line.strip_prefix(word)
 }
 
@@ -33,15 +33,15 @@ pub(crate) fn order_of(line: &[u8]) -> Option<Order> {
     if line.starts_with(b"#".as_slice()) {
         return Some(Order::Remark);
     }
-    if let Some(digits) = behind(line, b"audit ".as_slice()) {
+    if let Some(digits) = after_word(line, b"audit ".as_slice()) {
         return Some(Order::Audit(number_of(digits)));
     }
-    if let Some(digits) = behind(line, b"changed ".as_slice()) {
+    if let Some(digits) = after_word(line, b"changed ".as_slice()) {
         return Some(Order::With(Change::Changed, number_of(digits)));
     }
-    if let Some(digits) = behind(line, b"without ".as_slice()) {
+    if let Some(digits) = after_word(line, b"without ".as_slice()) {
         return Some(Order::With(Change::Without, number_of(digits)));
     }
-    let digits = behind(line, b"twice ".as_slice())?;
+    let digits = after_word(line, b"twice ".as_slice())?;
     Some(Order::With(Change::Twice, number_of(digits)))
 }

@@ -17,8 +17,8 @@ use Rattle.role_base.specs.declared.exchanges.Sent.{Sent}
 use Rattle.role_base.specs.declared.exchanges.Twins.{Twins}
 use Rattle.role_base.proofs.TwinKeys.{twins_at}
 use Rattle.role_base.specs.Exchanges.{record_of, sent_by, sent_in, sent_to, both_of, twins_to, ending_by, ending_in, ending_with}
-use Rattle.bank_arrivals.specs.declared.error_message.Subject.{Subject}
-use Rattle.bank_arrivals.specs.declared.error_message.Subject.TheVariants.{SentKey, SentTwins, Translated}
+use Rattle.bank_arrivals.specs.declared.error_message.ErrorSubject.{ErrorSubject}
+use Rattle.bank_arrivals.specs.declared.error_message.ErrorSubject.TheVariants.{SentKey, SentTwins, Translated}
 use Rattle.bank_arrivals.specs.Esm.{subject_by, subject_in, subject_with}
 use Rattle.role_base.specs.Conditions.{is_for}
 use Rattle.role_base.proofs.Addressed.{for_me}
@@ -54,18 +54,18 @@ is_to p receiver originator h = let w : (receiver ≡ p.own) × (originator ≢ 
 -- a key that was sent
 pub record FoundSent (p : Party) (peer : List ℕ) (s : Sent) : Type 0 where
   pub name : KeyName
-  pub sent : IsAbout p peer (kind.KeySent name s.way)
+  pub sent : IsAbout p peer (kind.KeySent name s.via)
   pub stands : HasKey p peer name s.key
 
-sent_named : (p : Party) (peer : List ℕ) (s : Sent) (name : KeyName) (way : Via) (o : Option KeyRec) → IsAbout p peer (kind.KeySent name way) → record_of p peer name ≡ o → option_map (λ (k : KeyRec). let t : Sent = record { key = k; way = way } in t) o ≡ Some s → FoundSent p peer s
-sent_named p peer s name way None a f h = absurd (cc)
-sent_named p peer s name way (Some k) a f h =
-    let t : Sent = record { key = k; way = way } in
+sent_named : (p : Party) (peer : List ℕ) (s : Sent) (name : KeyName) (via : Via) (o : Option KeyRec) → IsAbout p peer (kind.KeySent name via) → record_of p peer name ≡ o → option_map (λ (k : KeyRec). let t : Sent = record { key = k; via = via } in t) o ≡ Some s → FoundSent p peer s
+sent_named p peer s name via None a f h = absurd (cc)
+sent_named p peer s name via (Some k) a f h =
+    let t : Sent = record { key = k; via = via } in
     let e : s ≡ t = cc in
     rw e (record { name = name; sent = a; stands = f })
 
 sent_kind : (p : Party) (peer : List ℕ) (s : Sent) (x : Kind) → IsAbout p peer x → sent_by p peer x ≡ Some s → FoundSent p peer s
-sent_kind p peer s (kind.KeySent name way) a h = sent_named p peer s name way (record_of p peer name) a refl h
+sent_kind p peer s (kind.KeySent name via) a h = sent_named p peer s name via (record_of p peer name) a refl h
 sent_kind p peer s (kind.Asked ultimate) a h = absurd (cc)
 sent_kind p peer s (kind.Translating ultimate value cta) a h = absurd (cc)
 sent_kind p peer s (kind.Ending name) a h = absurd (cc)
@@ -92,7 +92,7 @@ found_ending p peer k h = go (exchange_with peer p) refl h
   where
     by_kind : (x : Kind) → IsAbout p peer x → ending_by p peer x ≡ Some k → FoundEnding p peer k
     by_kind (kind.Ending name) a h = record { name = name; ending = a; stands = h }
-    by_kind (kind.KeySent name way) a h = absurd (cc)
+    by_kind (kind.KeySent name via) a h = absurd (cc)
     by_kind (kind.Asked ultimate) a h = absurd (cc)
     by_kind (kind.Translating ultimate value cta) a h = absurd (cc)
     by_kind (kind.PairSent name) a h = absurd (cc)
@@ -114,12 +114,12 @@ found_twins p peer t h =
     record { name = at.name; sent = about p peer at.exchange at.at ∙ ap (λ (k : Kind). Some k) at.kind_is; first = at.first; second = at.second }
 
 -- what an error message speaks of
-abbrev pub FoundSubject : Party → List ℕ → Subject → Type 0
+abbrev pub FoundSubject : Party → List ℕ → ErrorSubject → Type 0
 FoundSubject p peer (SentKey s) = FoundSent p peer s
 FoundSubject p peer (SentTwins t) = FoundTwins p peer t
 FoundSubject p peer (Translated value cta) = (u : List ℕ) × IsAbout p peer (kind.Translating u value cta)
 
-pub found_subject : (p : Party) (peer : List ℕ) (s : Subject) → subject_with p peer ≡ Some s → FoundSubject p peer s
+pub found_subject : (p : Party) (peer : List ℕ) (s : ErrorSubject) → subject_with p peer ≡ Some s → FoundSubject p peer s
 found_subject p peer s h = go (exchange_with peer p) refl h
   where
     by_sent : (x : Kind) (o : Option Sent) → IsAbout p peer x → sent_by p peer x ≡ o → option_map SentKey o ≡ Some s → FoundSubject p peer s
@@ -135,7 +135,7 @@ found_subject p peer s h = go (exchange_with peer p) refl h
         rw e (record { name = name; sent = a; first = f; second = g })
 
     by_kind : (x : Kind) → IsAbout p peer x → subject_by p peer x ≡ Some s → FoundSubject p peer s
-    by_kind (kind.KeySent name way) a h = by_sent (kind.KeySent name way) (sent_by p peer (kind.KeySent name way)) a refl h
+    by_kind (kind.KeySent name via) a h = by_sent (kind.KeySent name via) (sent_by p peer (kind.KeySent name via)) a refl h
     by_kind (kind.Translating ultimate value cta) a h = let e : s ≡ Translated value cta = cc in rw e (ultimate, a)
     by_kind (kind.Asked ultimate) a h = absurd (cc)
     by_kind (kind.Ending name) a h = absurd (cc)

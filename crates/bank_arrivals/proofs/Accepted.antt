@@ -25,9 +25,9 @@ use Rattle.role_base.specs.Exchanges.{record_of, sent_by, sent_in, sent_to, both
 use Rattle.role_base.proofs.Addressed.{mine}
 use Rattle.role_base.proofs.PartyLaws.{HeldAtAccept, AcceptedIfHeld, LinkLaws, KeyLaws, ExchangeLaws, LinksDropped}
 use Rattle.bank_arrivals.specs.declared.asking_again.Retry.{Retry}
-use Rattle.bank_arrivals.specs.declared.disconnection.Named.{Named}
-use Rattle.bank_arrivals.specs.declared.error_message.Subject.{Subject}
-use Rattle.bank_arrivals.specs.declared.error_message.Subject.TheVariants.{SentKey, SentTwins, Translated}
+use Rattle.bank_arrivals.specs.declared.disconnection.NamedKey.{NamedKey}
+use Rattle.bank_arrivals.specs.declared.error_message.ErrorSubject.{ErrorSubject}
+use Rattle.bank_arrivals.specs.declared.error_message.ErrorSubject.TheVariants.{SentKey, SentTwins, Translated}
 use Rattle.bank_arrivals.specs.AskingAgain.{retry_in}
 use Rattle.bank_arrivals.specs.Rsm.{rsm_front, twins_front, end_front, rsm_to, rsm_by, answer_to, rsm_with, rsm}
 use Rattle.bank_arrivals.specs.Esm.{subject_by, subject_in, subject_with, subject_value, esm_front, error_of, error_with, plain_tests, error}
@@ -43,15 +43,15 @@ use Rattle.bank_arrivals.proofs.HeardErrors.{heard_error}
 addressed : (p : Party) (receiver originator : List ℕ) → IsTo p receiver originator → is_for p receiver originator ≡ true
 addressed p receiver originator t = mine p receiver originator t.receiver t.originator
 
-sent_from : (p : Party) (peer : List ℕ) (name : KeyName) (way : Via) (k : KeyRec) → IsAbout p peer (kind.KeySent name way) → HasKey p peer name k → sent_to p peer ≡ Some (record { key = k; way = way })
-sent_from p peer name way k a s = go (exchange_with peer p) a
+sent_from : (p : Party) (peer : List ℕ) (name : KeyName) (via : Via) (k : KeyRec) → IsAbout p peer (kind.KeySent name via) → HasKey p peer name k → sent_to p peer ≡ Some (record { key = k; via = via })
+sent_from p peer name via k a s = go (exchange_with peer p) a
   where
-    by_name : sent_by p peer (kind.KeySent name way) ≡ Some (record { key = k; way = way })
-    by_name = ap (λ (o : Option KeyRec). option_map (λ (r : KeyRec). let t : Sent = record { key = r; way = way } in t) o) s
+    by_name : sent_by p peer (kind.KeySent name via) ≡ Some (record { key = k; via = via })
+    by_name = ap (λ (o : Option KeyRec). option_map (λ (r : KeyRec). let t : Sent = record { key = r; via = via } in t) o) s
 
-    go : (o : Option Exchange) → option_map (λ (e : Exchange). e.kind) o ≡ Some (kind.KeySent name way) → sent_in p peer o ≡ Some (record { key = k; way = way })
+    go : (o : Option Exchange) → option_map (λ (e : Exchange). e.kind) o ≡ Some (kind.KeySent name via) → sent_in p peer o ≡ Some (record { key = k; via = via })
     go None h = absurd (cc)
-    go (Some e) h = let i : e.kind ≡ kind.KeySent name way = cc in ap (λ (x : Kind). sent_by p peer x) i ∙ by_name
+    go (Some e) h = let i : e.kind ≡ kind.KeySent name via = cc in ap (λ (x : Kind). sent_by p peer x) i ∙ by_name
 
 twins_about : (p : Party) (peer : List ℕ) (k : Kind) → IsAbout p peer k → twins_to p peer ≡ twins_by p peer k
 twins_about p peer k a = go (exchange_with peer p) a
@@ -70,7 +70,7 @@ ending_from p peer name k a s = go (exchange_with peer p) a
     go None h = absurd (cc)
     go (Some e) h = let i : e.kind ≡ kind.Ending name = cc in ap (λ (x : Kind). ending_by p peer x) i ∙ s
 
-subject_from : (p : Party) (peer : List ℕ) (k : Kind) (s : Subject) → IsAbout p peer k → subject_by p peer k ≡ Some s → subject_with p peer ≡ Some s
+subject_from : (p : Party) (peer : List ℕ) (k : Kind) (s : ErrorSubject) → IsAbout p peer k → subject_by p peer k ≡ Some s → subject_with p peer ≡ Some s
 subject_from p peer k s a h = go (exchange_with peer p) a
   where
     go : (o : Option Exchange) → option_map (λ (e : Exchange). e.kind) o ≡ Some k → subject_in p peer o ≡ Some s
@@ -84,7 +84,7 @@ there p peer name None f h = absurd (cc)
 there p peer name (Some k) f h = (k, f)
 
 key_stands : (p : Party) (peer : List ℕ) (k : Kind) → stands_by p peer k ≡ true → KeyStands p peer k
-key_stands p peer (kind.KeySent name way) h = there p peer name (record_of p peer name) refl h
+key_stands p peer (kind.KeySent name via) h = there p peer name (record_of p peer name) refl h
 key_stands p peer (kind.Ending name) h = there p peer name (record_of p peer name) refl h
 key_stands p peer (kind.Asked ultimate) h = tt
 key_stands p peer (kind.Translating ultimate value cta) h = tt
@@ -93,7 +93,7 @@ key_stands p peer (kind.PairSent name) h =
     (there p peer name (record_of p peer name) refl both.0, there p peer (name_behind name) (record_of p peer (name_behind name)) refl both.1)
 
 stands_so : (p : Party) (peer : List ℕ) (k : Kind) → KeyStands p peer k → stands_by p peer k ≡ true
-stands_so p peer (kind.KeySent name way) s = ap (λ (o : Option KeyRec). is_some o) s.1
+stands_so p peer (kind.KeySent name via) s = ap (λ (o : Option KeyRec). is_some o) s.1
 stands_so p peer (kind.Ending name) s = ap (λ (o : Option KeyRec). is_some o) s.1
 stands_so p peer (kind.Asked ultimate) s = refl
 stands_so p peer (kind.Translating ultimate value cta) s = refl
@@ -134,7 +134,7 @@ module _ (held : HeldAtAccept) (accepted : AcceptedIfHeld) (of_links : LinkLaws)
   confirms_exactly p a m i = (λ e. told (heard_response held of_links of_keys of_exchanges p a m i e), so)
     where
       told : {q : Party} → HeardResponse p q a m ⊎ HeardResponseToTwo p q a m → Confirms p a m ⊎ ConfirmsTwo p a m
-      told (inl h) = inl (record { to = h.to; name = h.name; way = h.way; key = h.key; sent = h.sent; stands = h.stands; code = h.code })
+      told (inl h) = inl (record { to = h.to; name = h.name; via = h.via; key = h.key; sent = h.sent; stands = h.stands; code = h.code })
       told (inr h) = inr (record { to = h.to; name = h.name; first = h.first; second = h.second; together = h.together })
 
       -- what becomes of it where the exchange is of this kind
@@ -143,9 +143,9 @@ module _ (held : HeldAtAccept) (accepted : AcceptedIfHeld) (of_links : LinkLaws)
 
       so : Confirms p a m ⊎ ConfirmsTwo p a m → (rsm p a m).verdict ≡ Accept
       so (inl c) =
-          let s : Sent = record { key = c.key; way = c.way } in
-          row (kind.KeySent c.name c.way) c.sent
-          ∙ (ap (λ (o : Option Sent). (rsm_to p a m o).verdict) (sent_from p m.originator c.name c.way c.key c.sent c.stands)
+          let s : Sent = record { key = c.key; via = c.via } in
+          row (kind.KeySent c.name c.via) c.sent
+          ∙ (ap (λ (o : Option Sent). (rsm_to p a m o).verdict) (sent_from p m.originator c.name c.via c.key c.sent c.stands)
           ∙ accepted (rsm_front p m (Some s) ++ (is_verified a c.key.value, BadMac) ∷ []) (addressed p m.receiver m.originator c.to, (refl, (c.code, tt))))
       so (inr c) =
           let t : Twins = record { first = c.first; second = c.second } in
@@ -177,21 +177,21 @@ module _ (held : HeldAtAccept) (accepted : AcceptedIfHeld) (of_links : LinkLaws)
       again = retry_in p (subject_with p m.originator) m.ctr
 
       told : {q : Party} → HeardError p q a m (error p a m) ⊎ (HeardErrorOfTwo p q a m (error p a m) ⊎ HeardCentre p q a m (error p a m)) → Complains p a m ⊎ (ComplainsOfTwo p a m ⊎ ComplainsAsCentre p a m)
-      told (inl h) = inl (record { to = h.to; name = h.name; way = h.way; key = h.key; sent = h.sent; stands = h.stands; code = h.code })
+      told (inl h) = inl (record { to = h.to; name = h.name; via = h.via; key = h.key; sent = h.sent; stands = h.stands; code = h.code })
       told (inr (inl h)) = inr (inl (record { to = h.to; name = h.name; first = h.first; second = h.second; together = h.together }))
       told (inr (inr h)) = inr (inr (record { to = h.to; ultimate = h.ultimate; value = h.value; cta = h.cta; waiting = h.waiting; code = h.code }))
 
-      by_subject : (s : Subject) → IsTo p m.receiver m.originator → subject_with p m.originator ≡ Some s → is_verified a (subject_value s) ≡ true → (error p a m).verdict ≡ Accept
+      by_subject : (s : ErrorSubject) → IsTo p m.receiver m.originator → subject_with p m.originator ≡ Some s → is_verified a (subject_value s) ≡ true → (error p a m).verdict ≡ Accept
       by_subject s t f v =
           ap (λ (b : Bool). (error_with p a m b (retry_in p (subject_with p m.originator) m.ctr)).verdict) coded
-          ∙ (ap (λ (o : Option Subject). (error_of p a m o (retry_in p (subject_with p m.originator) m.ctr)).verdict) f
+          ∙ (ap (λ (o : Option ErrorSubject). (error_of p a m o (retry_in p (subject_with p m.originator) m.ctr)).verdict) f
           ∙ accepted (esm_front p m (Some s) ++ (is_verified a (subject_value s), BadMac) ∷ []) (addressed p m.receiver m.originator t, (refl, (v, tt))))
 
       so : Complains p a m ⊎ (ComplainsOfTwo p a m ⊎ ComplainsAsCentre p a m) → (error p a m).verdict ≡ Accept
       so (inl c) =
-          let s : Sent = record { key = c.key; way = c.way } in
-          let by_name : sent_by p m.originator (kind.KeySent c.name c.way) ≡ Some s = ap (λ (o : Option KeyRec). option_map (λ (r : KeyRec). let t : Sent = record { key = r; way = c.way } in t) o) c.stands in
-          by_subject (SentKey s) c.to (subject_from p m.originator (kind.KeySent c.name c.way) (SentKey s) c.sent (ap (λ (o : Option Sent). option_map SentKey o) by_name)) c.code
+          let s : Sent = record { key = c.key; via = c.via } in
+          let by_name : sent_by p m.originator (kind.KeySent c.name c.via) ≡ Some s = ap (λ (o : Option KeyRec). option_map (λ (r : KeyRec). let t : Sent = record { key = r; via = c.via } in t) o) c.stands in
+          by_subject (SentKey s) c.to (subject_from p m.originator (kind.KeySent c.name c.via) (SentKey s) c.sent (ap (λ (o : Option Sent). option_map SentKey o) by_name)) c.code
       so (inr (inl c)) =
           let t : Twins = record { first = c.first; second = c.second } in
           let both : twins_by p m.originator (kind.PairSent c.name) ≡ Some t = both_from p m.originator c.name c.first c.second c.together.first_stands c.together.second_stands in
@@ -221,5 +221,5 @@ module _ (held : HeldAtAccept) (accepted : AcceptedIfHeld) (of_links : LinkLaws)
 
       so : Disconnects p a m → (dsm p a m).verdict ≡ Accept
       so c =
-          ap (λ (o : Option Named). (dsm_on p a m o).verdict) (both_named p m c.key c.by c.stands c.closing)
+          ap (λ (o : Option NamedKey). (dsm_on p a m o).verdict) (both_named p m c.key c.by c.stands c.closing)
           ∙ accepted (dsm_front p m true ++ (is_verified a c.by.value, BadMac) ∷ []) (addressed p m.receiver m.originator c.to, (refl, (c.code, tt)))

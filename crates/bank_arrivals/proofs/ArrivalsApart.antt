@@ -16,7 +16,7 @@ use Rattle.party_tables.specs.declared.link.LinkRec.{LinkRec}
 use Rattle.party_tables.specs.declared.key.KeyRec.{KeyRec}
 use Rattle.party_tables.specs.declared.key.KeyStatus.TheVariants.{Ended}
 use Rattle.party_tables.specs.declared.exchange.Via.{Via}
-use Rattle.party_tables.specs.declared.exchange.Via.TheVariants as via
+use Rattle.party_tables.specs.declared.exchange.Via.TheVariants as vias
 use Rattle.party_tables.specs.declared.exchange.Kind.{Kind}
 use Rattle.party_tables.specs.declared.exchange.Kind.TheVariants as kind
 use Rattle.party_tables.specs.declared.exchange.Exchange.{Exchange}
@@ -41,15 +41,15 @@ use Rattle.party_tables.specs.Statuses.{is_ended}
 use Rattle.party_state.specs.State.{Party, centre_label, link_with, exchange_with, first_link}
 use Rattle.role_base.specs.declared.exchanges.Sent.{Sent}
 use Rattle.bank_arrivals.specs.declared.asking_again.Retry.{Retry}
-use Rattle.bank_arrivals.specs.declared.error_message.Subject.{Subject}
-use Rattle.bank_arrivals.specs.declared.error_message.Subject.TheVariants.{SentKey, SentTwins, Translated}
-use Rattle.bank_arrivals.specs.declared.disconnection.Named.{Named}
+use Rattle.bank_arrivals.specs.declared.error_message.ErrorSubject.{ErrorSubject}
+use Rattle.bank_arrivals.specs.declared.error_message.ErrorSubject.TheVariants.{SentKey, SentTwins, Translated}
+use Rattle.bank_arrivals.specs.declared.disconnection.NamedKey.{NamedKey}
 use Rattle.role_base.specs.Texts.{is_plain}
 use Rattle.role_base.specs.Exchanges.{record_of, sent_to, twins_by, twins_in, twins_to, twins_value, ending_with, new_link_at, new_link, readied, dropped, ended}
 use Rattle.role_base.proofs.PartyLaws.{LinkLaws, KeyLaws}
 use Rattle.bank_arrivals.specs.Rsi.{rsi_tests, rsi_row, rsi_under, rsi}
 use Rattle.bank_arrivals.specs.Rsm.{rsm_to, rsm_by, answer_to, rsm_with, rsm}
-use Rattle.bank_arrivals.specs.Esm.{subject_by, subject_in, subject_with, is_renewed, way_link, raised, error_of, error_with, error}
+use Rattle.bank_arrivals.specs.Esm.{subject_by, subject_in, subject_with, is_renewed, via_link, raised, error_of, error_with, error}
 use Rattle.bank_arrivals.specs.AskingAgain.{retry_in, asked_again}
 use Rattle.bank_arrivals.specs.Dsm.{named_by, left_by, left_in, dsm_on, dsm}
 
@@ -90,7 +90,7 @@ named_apart keys p a m None = by_twins (twins_to p m.originator) refl
 
     by_sent : (o : Option Sent) → AreApart (rsm_to p a m o).edits
     by_sent None = tt
-    by_sent (Some s) = by_new (new_link p m.originator s.way) _
+    by_sent (Some s) = by_new (new_link p m.originator s.via) _
 
     by_twins : (o : Option Twins) → twins_to p m.originator ≡ o → AreApart (rsm_by p a m o).edits
     by_twins None h = by_sent (sent_to p m.originator)
@@ -120,7 +120,7 @@ subject_twins p peer t h = by_exchange (exchange_with peer p) h
 
     by_kind : (k : Kind) → subject_by p peer k ≡ Some (SentTwins t) → twins_by p peer k ≡ Some t
     by_kind (kind.PairSent name) h = by_option (twins_by p peer (kind.PairSent name)) h
-    by_kind (kind.KeySent name way) h = by_sent _ h
+    by_kind (kind.KeySent name via) h = by_sent _ h
     by_kind (kind.Asked ultimate) h = absurd (cc)
     by_kind (kind.Translating ultimate value cta) h = absurd (cc)
     by_kind (kind.Ending name) h = absurd (cc)
@@ -134,7 +134,7 @@ abbrev IsAway : Esm → Option Retry → Type 0
 IsAway m None = Unit {0}
 IsAway m (Some t) = bytes_eq t.centre m.originator ≡ false
 
-error_apart : LinkLaws → KeyLaws → (p : Party) (a : Arrival) (m : Esm) (o : Option Subject) (again : Option Retry) → subject_with p m.originator ≡ o → IsAway m again → AreApart (error_of p a m o again).edits
+error_apart : LinkLaws → KeyLaws → (p : Party) (a : Arrival) (m : Esm) (o : Option ErrorSubject) (again : Option Retry) → subject_with p m.originator ≡ o → IsAway m again → AreApart (error_of p a m o again).edits
 error_apart links keys p a m None again h away = tt
 error_apart links keys p a m (Some (SentTwins t)) again h away = by_link (link_with (sends m.originator t.first.name.label) p) m.ctr again away
   where
@@ -165,7 +165,7 @@ error_apart links keys p a m (Some (Translated value cta)) again h away = by_lin
     by_link (Some l) None (Some t) w = ((w, tt), (tt, tt))
     by_link (Some l) (Some n) None w = ((refl, tt), (tt, tt))
     by_link (Some l) (Some n) (Some t) w = ((refl, (refl, tt)), ((w, tt), (tt, tt)))
-error_apart links keys p a m (Some (SentKey s)) again h away = by_way s.way
+error_apart links keys p a m (Some (SentKey s)) again h away = by_via s.via
   where
     -- the link that goes, the key that ends, and what is asked again
     behind : Option LinkRec → Option Retry → List Edit
@@ -196,13 +196,13 @@ error_apart links keys p a m (Some (SentKey s)) again h away = by_way s.way
     by_label label new true e = unraised (new_link_at p m.originator new) again away
     by_label label new false e = by_link (new_link_at p m.originator new) (link_with (sends m.originator label) p) m.ctr (λ l f. others label new l e f (new_link_at p m.originator new) refl)
 
-    by_way : (w : Via) → AreApart (raised (way_link p m.originator w) m.ctr ++ behind (new_link p m.originator w) again)
-    by_way (via.Direct label new) = by_label label new (is_renewed label new) refl
-    by_way (via.Distribution centre cta) = unraised None again away
-    by_way (via.Translation centre) = unraised None again away
+    by_via : (w : Via) → AreApart (raised (via_link p m.originator w) m.ctr ++ behind (new_link p m.originator w) again)
+    by_via (vias.Direct label new) = by_label label new (is_renewed label new) refl
+    by_via (vias.Distribution centre cta) = unraised None again away
+    by_via (vias.Translation centre) = unraised None again away
 
 -- what an error message speaks of is what an exchange is about
-subject_there : (p : Party) (peer : List ℕ) (o : Option Exchange) (s : Subject) → subject_in p peer o ≡ Some s → is_some o ≡ true
+subject_there : (p : Party) (peer : List ℕ) (o : Option Exchange) (s : ErrorSubject) → subject_in p peer o ≡ Some s → is_some o ≡ true
 subject_there p peer None s h = absurd (cc)
 subject_there p peer (Some e) s h = refl
 
@@ -213,7 +213,7 @@ asks_away p m (Some t) there f = peers_apart p m.originator t.centre there (ap i
 pub esm_apart : LinkLaws → KeyLaws → (p : Party) (a : Arrival) (m : Esm) → AreApart (error p a m).edits
 esm_apart links keys p a m = go (is_plain a.parsed.shut)
   where
-    away : (o : Option Subject) → subject_with p m.originator ≡ o → IsAway m (retry_in p o m.ctr)
+    away : (o : Option ErrorSubject) → subject_with p m.originator ≡ o → IsAway m (retry_in p o m.ctr)
     away None h = tt
     away (Some s) h = asks_away p m (retry_in p (Some s) m.ctr) (subject_there p m.originator (exchange_with m.originator p) s h) (retry_in_free p (Some s) m.ctr)
 
@@ -225,7 +225,7 @@ esm_apart links keys p a m = go (is_plain a.parsed.shut)
 abbrev around : KeyRec → List Edit × List Edit → List Edit
 around k gone = gone.0 ++ (PutKey k ∷ gone.1)
 
-on_apart : KeyLaws → (p : Party) (a : Arrival) (m : Dsm) (o : Option Named) → AreApart (dsm_on p a m o).edits
+on_apart : KeyLaws → (p : Party) (a : Arrival) (m : Dsm) (o : Option NamedKey) → AreApart (dsm_on p a m o).edits
 on_apart keys p a m None = tt
 on_apart keys p a m (Some n) = by_status (is_ended n.key.status)
   where
@@ -261,7 +261,7 @@ on_apart keys p a m (Some n) = by_status (is_ended n.key.status)
     by_pair sent j k f g false false b_is c_is = (tt, tt)
 
     by_kind : (k : Kind) → AreApart (around ends (left_by p m.originator n.key.name k))
-    by_kind (kind.KeySent sent way) = by_sent (new_link p m.originator way) (same_name n.key.name sent)
+    by_kind (kind.KeySent sent via) = by_sent (new_link p m.originator via) (same_name n.key.name sent)
     by_kind (kind.Ending ending) = by_ending (same_name n.key.name ending)
     by_kind (kind.Asked ultimate) = (tt, tt)
     by_kind (kind.Translating ultimate value cta) = (tt, tt)

@@ -52,10 +52,10 @@ use Rattle.role_base.proofs.Kept.{row_kept}
 use Rattle.role_base.proofs.PartyLaws.{HeldIfAccepted, LinksFound, KeysFound, FirstLinksFound, LinksInRange, KeysInRange, ExchangesInRange}
 use Rattle.role_base.proofs.Ranged.{AllInRange, IsShort, AreRanged, WrapsBelow, row_ranged, dropped_in_range, ended_in_range, append_in_range, nothing_ranged, refused_kept, coded_short, key_in_range, with_status, with_next, with_ready, seed_below, named_next, sending_ranged, sending_kept}
 use Rattle.bank_arrivals.specs.declared.asking_again.Retry.{Retry}
-use Rattle.bank_arrivals.specs.declared.disconnection.Named.{Named}
+use Rattle.bank_arrivals.specs.declared.disconnection.NamedKey.{NamedKey}
 use Rattle.bank_arrivals.specs.declared.draws.TwinsDrawn.{TwinsDrawn}
-use Rattle.bank_arrivals.specs.declared.error_message.Subject.{Subject}
-use Rattle.bank_arrivals.specs.declared.error_message.Subject.TheVariants.{SentKey, SentTwins, Translated}
+use Rattle.bank_arrivals.specs.declared.error_message.ErrorSubject.{ErrorSubject}
+use Rattle.bank_arrivals.specs.declared.error_message.ErrorSubject.TheVariants.{SentKey, SentTwins, Translated}
 use Rattle.bank_arrivals.specs.AskingAgain.{retry_of, retry_in, retry_by, asked_again, again_reply}
 use Rattle.bank_arrivals.specs.Dsm.{named_by, left_by, left_in, disconnected, dsm_response, dsm_on, dsm}
 use Rattle.bank_arrivals.specs.Esm.{subject_with, subject_value, subject_link, raised, error_row, error_of, error_with, error}
@@ -186,17 +186,17 @@ rsi_ranged short below odd held first in_range p a m moment w = by_link (first_l
 pub rsm_ranged : LinksFound → KeysFound → LinksInRange → KeysInRange → (p : Party) (a : Arrival) (m : Rsm) → IsParty p → IsIdent m.originator → IsRanged p (decision_of p (rsm p a m))
 rsm_ranged links keys links_in_range keys_in_range p a m w i = row_ranged p (rsm p a m) (rsm_kept links keys links_in_range p a m (Ok (decision_of p (rsm p a m))) w refl).kept (by_name m.idd)
   where
-    readied_in_range : (way : Via) → AllInRange (readied (new_link p m.originator way))
-    readied_in_range way = go (new_link p m.originator way) refl
+    readied_in_range : (via : Via) → AllInRange (readied (new_link p m.originator via))
+    readied_in_range via = go (new_link p m.originator via) refl
       where
-        go : (o : Option LinkRec) → new_link p m.originator way ≡ o → AllInRange (readied o)
+        go : (o : Option LinkRec) → new_link p m.originator via ≡ o → AllInRange (readied o)
         go None e = tt
-        go (Some l) e = (with_ready l true (new_link_stands links links_in_range p m.originator way l w e).range, tt)
+        go (Some l) e = (with_ready l true (new_link_stands links links_in_range p m.originator via l w e).range, tt)
 
     by_sent : (o : Option Sent) → sent_to p m.originator ≡ o → AreRanged (rsm_to p a m o)
     by_sent None e = nothing_ranged _
     by_sent (Some s) e = record {
-      edits = λ _. append_in_range (readied (new_link p m.originator s.way)) (PutKey (record s.key { status = Live }) ∷ DropExchange m.originator ∷ []) (readied_in_range s.way)
+      edits = λ _. append_in_range (readied (new_link p m.originator s.via)) (PutKey (record s.key { status = Live }) ∷ DropExchange m.originator ∷ []) (readied_in_range s.via)
           (with_status s.key Live (key_in_range keys_in_range p s.key w (sent_stands keys p m.originator s e)), (i, tt));
       reply = λ _. tt;
       answer = tt;
@@ -234,9 +234,9 @@ disconnected_in_range links keys links_in_range keys_in_range p peer k w i r = b
     gone : (es fs : List Edit) → AllInRange es → AllInRange fs → AllInRange (with_key k (es, fs))
     gone es fs a b = append_in_range es (PutKey (record k { status = Ended }) ∷ fs) a (ends, b)
 
-    by_sent : (way : Via) (b : Bool) → AllInRange (with_key k (cond b (dropped (new_link p peer way), DropExchange peer ∷ []) ([], [])))
-    by_sent way true = gone (dropped (new_link p peer way)) (DropExchange peer ∷ []) (dropped_in_range links links_in_range p peer way w) (i, tt)
-    by_sent way false = (ends, tt)
+    by_sent : (via : Via) (b : Bool) → AllInRange (with_key k (cond b (dropped (new_link p peer via), DropExchange peer ∷ []) ([], [])))
+    by_sent via true = gone (dropped (new_link p peer via)) (DropExchange peer ∷ []) (dropped_in_range links links_in_range p peer via w) (i, tt)
+    by_sent via false = (ends, tt)
 
     by_ending : (b : Bool) → AllInRange (with_key k (cond b ([], DropExchange peer ∷ []) ([], [])))
     by_ending true = (ends, (i, tt))
@@ -248,7 +248,7 @@ disconnected_in_range links keys links_in_range keys_in_range p peer k w i r = b
     by_pair sent false false = (ends, tt)
 
     by_kind : (x : Kind) → AllInRange (with_key k (left_by p peer k.name x))
-    by_kind (kind.KeySent sent way) = by_sent way _
+    by_kind (kind.KeySent sent via) = by_sent via _
     by_kind (kind.Ending ending) = by_ending _
     by_kind (kind.Asked ultimate) = (ends, tt)
     by_kind (kind.Translating ultimate value cta) = (ends, tt)
@@ -265,7 +265,7 @@ disconnected_in_range links keys links_in_range keys_in_range p peer k w i r = b
 pub dsm_ranged : CanonShort → LinksFound → KeysFound → LinksInRange → KeysInRange → (p : Party) (a : Arrival) (m : Dsm) → IsParty p → IsIdent m.originator → IsRanged p (decision_of p (dsm p a m))
 dsm_ranged short links keys links_in_range keys_in_range p a m w i = row_ranged p (dsm p a m) (dsm_kept keys p a m (named_by p m) (Ok (decision_of p (dsm p a m))) refl refl).kept (by_named (named_by p m) refl)
   where
-    by_named : (o : Option Named) → named_by p m ≡ o → AreRanged (dsm_on p a m o)
+    by_named : (o : Option NamedKey) → named_by p m ≡ o → AreRanged (dsm_on p a m o)
     by_named None e = nothing_ranged _
     by_named (Some n) e =
         let r : IsRecord n.key = key_in_range keys_in_range p n.key w (named_stands keys p m n e) in
@@ -298,7 +298,7 @@ esm_ranged short links keys links_in_range keys_in_range in_range p a m w g c =
     behind : (value : ℕ) (again : Option Retry) → IfSome again IsRetry → AllInRange (DropExchange m.originator ∷ asked_again p m value again)
     behind value again r = (g.originator, asked_in_range p m value again g.originator r (asked_short short p m value again w g r))
 
-    about : (s : Subject) (again : Option Retry) (ends : List Edit) → IfSome again IsRetry → AllInRange ends → AllInRange (raised (subject_link p m.originator s) m.ctr ++ (ends ++ DropExchange m.originator ∷ asked_again p m (subject_value s) again))
+    about : (s : ErrorSubject) (again : Option Retry) (ends : List Edit) → IfSome again IsRetry → AllInRange ends → AllInRange (raised (subject_link p m.originator s) m.ctr ++ (ends ++ DropExchange m.originator ∷ asked_again p m (subject_value s) again))
     about s again ends r e = append_in_range (raised (subject_link p m.originator s) m.ctr) (ends ++ DropExchange m.originator ∷ asked_again p m (subject_value s) again)
         (raised_in_range p (subject_link p m.originator s) m.ctr (counted_stands links links_in_range p m.originator s w) c)
         (append_in_range ends (DropExchange m.originator ∷ asked_again p m (subject_value s) again) e (behind (subject_value s) again r))
@@ -306,14 +306,14 @@ esm_ranged short links keys links_in_range keys_in_range in_range p a m w g c =
     writes : (value : ℕ) (again : Option Retry) → IfSome again IsRetry → IsShort (again_reply p m value again)
     writes value again r = again_short p m value again (asked_short short p m value again w g r)
 
-    by_stands : (s : Subject) → SubjectStands p s → AreRanged (error_row p a m s (retry_of p s m.ctr))
+    by_stands : (s : ErrorSubject) → SubjectStands p s → AreRanged (error_row p a m s (retry_of p s m.ctr))
     by_stands (SentKey x) st =
-        let r : IfSome (retry_by p x.way m.ctr) IsRetry = is_retry p x.way m.ctr st.1 c in
+        let r : IfSome (retry_by p x.via m.ctr) IsRetry = is_retry p x.via m.ctr st.1 c in
         let key : IsRecord x.key = key_in_range keys_in_range p x.key w st.0 in
         record {
-          edits = λ _. about (SentKey x) (retry_by p x.way m.ctr) (dropped (new_link p m.originator x.way) ++ PutKey (record x.key { status = Ended }) ∷ []) r
-              (append_in_range (dropped (new_link p m.originator x.way)) (PutKey (record x.key { status = Ended }) ∷ []) (dropped_in_range links links_in_range p m.originator x.way w) (with_status x.key Ended key, tt));
-          reply = λ _. writes x.key.value (retry_by p x.way m.ctr) r;
+          edits = λ _. about (SentKey x) (retry_by p x.via m.ctr) (dropped (new_link p m.originator x.via) ++ PutKey (record x.key { status = Ended }) ∷ []) r
+              (append_in_range (dropped (new_link p m.originator x.via)) (PutKey (record x.key { status = Ended }) ∷ []) (dropped_in_range links links_in_range p m.originator x.via w) (with_status x.key Ended key, tt));
+          reply = λ _. writes x.key.value (retry_by p x.via m.ctr) r;
           answer = tt;
         }
     by_stands (SentTwins t) st = record {
@@ -324,7 +324,7 @@ esm_ranged short links keys links_in_range keys_in_range in_range p a m w g c =
     }
     by_stands (Translated value cta) st = record { edits = λ _. about (Translated value cta) None [] tt tt; reply = λ _. tt; answer = tt }
 
-    by_subject : (o : Option Subject) → subject_with p m.originator ≡ o → AreRanged (error_of p a m o (retry_in p o m.ctr))
+    by_subject : (o : Option ErrorSubject) → subject_with p m.originator ≡ o → AreRanged (error_of p a m o (retry_in p o m.ctr))
     by_subject None e = nothing_ranged _
     by_subject (Some s) e = by_stands s (subject_stands keys in_range p m.originator s w e)
 

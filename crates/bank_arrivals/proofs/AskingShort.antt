@@ -17,7 +17,7 @@ use Rattle.csm_write.specs.declared.closing.Closing.TheVariants as closing
 use Rattle.csm_write.specs.Shortness.{CanonShort, free_length}
 use Rattle.csm_write.specs.Writable.{IsTypedField, AreTyped}
 use Rattle.party_tables.specs.declared.exchange.Via.{Via}
-use Rattle.party_tables.specs.declared.exchange.Via.TheVariants as via
+use Rattle.party_tables.specs.declared.exchange.Via.TheVariants as vias
 use Rattle.party_tables.specs.Ranges.{IsVia, longest_text}
 use Rattle.party_state.specs.State.{Party, exchange_with}
 use Rattle.role_base.specs.Texts.{text_of}
@@ -48,15 +48,15 @@ pub record IsRetry (t : Retry) : Type 0 where
   pub centre : IsIdent t.centre
   pub ctr : IsCount t.ctr
 
-pub is_retry : (p : Party) (way : Via) (ctr : Option ℕ) → IsVia way → IfSome ctr IsCount → IfSome (retry_by p way ctr) IsRetry
-is_retry p (via.Distribution centre cta) (Some ctr) i c = go (is_none (exchange_with centre p))
+pub is_retry : (p : Party) (via : Via) (ctr : Option ℕ) → IsVia via → IfSome ctr IsCount → IfSome (retry_by p via ctr) IsRetry
+is_retry p (vias.Distribution centre cta) (Some ctr) i c = go (is_none (exchange_with centre p))
   where
     go : (b : Bool) → IfSome (cond b (Some (record { centre = centre; cta = cta; ctr = ctr })) None) IsRetry
     go true = record { centre = i.0; ctr = c }
     go false = tt
-is_retry p (via.Distribution centre cta) None i c = tt
-is_retry p (via.Direct label new) ctr i c = tt
-is_retry p (via.Translation centre) ctr i c = tt
+is_retry p (vias.Distribution centre cta) None i c = tt
+is_retry p (vias.Direct label new) ctr i c = tt
+is_retry p (vias.Translation centre) ctr i c = tt
 
 free_bytes_few : (m : Esm) (p : Party) (t : Retry) → length m.erf ≤ 16 → free_length (ers_message p m t) ≤ 64
 free_bytes_few m p t h = few (length m.erf) h

@@ -32,9 +32,9 @@ use Rattle.role_base.specs.Texts.{is_plain}
 use Rattle.role_base.proofs.PartyLaws.{HeldIfAccepted}
 use Rattle.role_base.proofs.Beginning.{first_peer, free_with, begin_append, dropped_begin, sending_begins}
 use Rattle.bank_arrivals.specs.declared.asking_again.Retry.{Retry}
-use Rattle.bank_arrivals.specs.declared.disconnection.Named.{Named}
-use Rattle.bank_arrivals.specs.declared.error_message.Subject.{Subject}
-use Rattle.bank_arrivals.specs.declared.error_message.Subject.TheVariants.{SentKey, SentTwins, Translated}
+use Rattle.bank_arrivals.specs.declared.disconnection.NamedKey.{NamedKey}
+use Rattle.bank_arrivals.specs.declared.error_message.ErrorSubject.{ErrorSubject}
+use Rattle.bank_arrivals.specs.declared.error_message.ErrorSubject.TheVariants.{SentKey, SentTwins, Translated}
 use Rattle.bank_arrivals.specs.declared.draws.TwinsDrawn.{TwinsDrawn}
 use Rattle.bank_arrivals.specs.AskingAgain.{retry_in, asked_again}
 use Rattle.bank_arrivals.specs.SendingTwins.{twins_drawn, twins_tests, twins_sending_drawn}
@@ -79,7 +79,7 @@ named_begins p a m None = by_twins (twins_to p m.originator)
 
     by_sent : (o : Option Sent) → AllBeginFree p (rsm_to p a m o).edits
     by_sent None = tt
-    by_sent (Some s) = by_new (new_link p m.originator s.way) _
+    by_sent (Some s) = by_new (new_link p m.originator s.via) _
 
     by_twins : (o : Option Twins) → AllBeginFree p (rsm_by p a m o).edits
     by_twins None = by_sent (sent_to p m.originator)
@@ -95,9 +95,9 @@ rsm_begins p a m = named_begins p a m m.idd
 
 -- an error message: a centre is asked again only where no exchange with it stands
 
-pub retry_in_free : (p : Party) (s : Option Subject) (ctr : Option ℕ) → IfSome (retry_in p s ctr) (IsFree p)
+pub retry_in_free : (p : Party) (s : Option ErrorSubject) (ctr : Option ℕ) → IfSome (retry_in p s ctr) (IsFree p)
 retry_in_free p None ctr = tt
-retry_in_free p (Some (SentKey s)) ctr = retry_free p s.way ctr
+retry_in_free p (Some (SentKey s)) ctr = retry_free p s.via ctr
 retry_in_free p (Some (SentTwins t)) ctr = tt
 retry_in_free p (Some (Translated value cta)) ctr = tt
 
@@ -106,8 +106,8 @@ raised_begin p None c = tt
 raised_begin p (Some l) None = tt
 raised_begin p (Some l) (Some n) = (tt, tt)
 
-ended_begin : (p : Party) (peer : List ℕ) (s : Subject) → AllBeginFree p (subject_ended p peer s)
-ended_begin p peer (SentKey s) = begin_append p (dropped (new_link p peer s.way)) (PutKey (record s.key { status = Ended }) ∷ []) (dropped_begin p (new_link p peer s.way)) (tt, tt)
+ended_begin : (p : Party) (peer : List ℕ) (s : ErrorSubject) → AllBeginFree p (subject_ended p peer s)
+ended_begin p peer (SentKey s) = begin_append p (dropped (new_link p peer s.via)) (PutKey (record s.key { status = Ended }) ∷ []) (dropped_begin p (new_link p peer s.via)) (tt, tt)
 ended_begin p peer (SentTwins t) = (tt, (tt, tt))
 ended_begin p peer (Translated value cta) = tt
 
@@ -115,7 +115,7 @@ asked_begins : (p : Party) (m : Esm) (value : ℕ) (t : Option Retry) → IfSome
 asked_begins p m value None f = tt
 asked_begins p m value (Some t) f = (f, tt)
 
-error_begins : (p : Party) (a : Arrival) (m : Esm) (o : Option Subject) (t : Option Retry) → IfSome t (IsFree p) → AllBeginFree p (error_of p a m o t).edits
+error_begins : (p : Party) (a : Arrival) (m : Esm) (o : Option ErrorSubject) (t : Option Retry) → IfSome t (IsFree p) → AllBeginFree p (error_of p a m o t).edits
 error_begins p a m None t f = tt
 error_begins p a m (Some s) t f =
     begin_append p (raised (subject_link p m.originator s) m.ctr) (subject_ended p m.originator s ++ DropExchange m.originator ∷ asked_again p m (subject_value s) t) (raised_begin p (subject_link p m.originator s) m.ctr)
@@ -133,7 +133,7 @@ esm_begins p a m = go (is_plain a.parsed.shut)
 abbrev around : KeyRec → List Edit × List Edit → List Edit
 around k gone = gone.0 ++ (PutKey k ∷ gone.1)
 
-on_begins : (p : Party) (a : Arrival) (m : Dsm) (o : Option Named) → AllBeginFree p (dsm_on p a m o).edits
+on_begins : (p : Party) (a : Arrival) (m : Dsm) (o : Option NamedKey) → AllBeginFree p (dsm_on p a m o).edits
 on_begins p a m None = tt
 on_begins p a m (Some n) = by_status (is_ended n.key.status)
   where
@@ -156,7 +156,7 @@ on_begins p a m (Some n) = by_status (is_ended n.key.status)
     by_names i j false false = (tt, tt)
 
     by_kind : (k : Kind) → AllBeginFree p (around ends (left_by p m.originator n.key.name k))
-    by_kind (kind.KeySent sent way) = by_sent (new_link p m.originator way) (same_name n.key.name sent)
+    by_kind (kind.KeySent sent via) = by_sent (new_link p m.originator via) (same_name n.key.name sent)
     by_kind (kind.Ending ending) = by_ending (same_name n.key.name ending)
     by_kind (kind.Asked ultimate) = (tt, tt)
     by_kind (kind.Translating ultimate value cta) = (tt, tt)

@@ -23,13 +23,13 @@ use Rattle.role_base.specs.declared.texts.Written.{Written}
 use Rattle.role_base.specs.Texts.{lead_under}
 use Rattle.role_base.proofs.ByRow.{by_answered, by_accept_with}
 use Rattle.csm_grammar.specs.declared.message.Dsm.{Dsm}
-use Rattle.bank_arrivals.specs.declared.disconnection.Named.{Named}
+use Rattle.bank_arrivals.specs.declared.disconnection.NamedKey.{NamedKey}
 use Rattle.bank_arrivals.specs.Dsm.{dsm_front, disconnected, dsm_response, dsm_on}
 
-pub dsm_refuses : (p : Party) (a : Arrival) (m : Dsm) (n : Named) (l : Lead) (v : Verdict) → v ≡ verdict_of (dsm_front p m true ++ (l.verified, BadMac) ∷ []) → l ≡ lead_under a (full_name p.own n.by) n.by.value → is_accept v ≡ false → refusal_of v ≡ decision_of p (dsm_on p a m (Some n))
+pub dsm_refuses : (p : Party) (a : Arrival) (m : Dsm) (n : NamedKey) (l : Lead) (v : Verdict) → v ≡ verdict_of (dsm_front p m true ++ (l.verified, BadMac) ∷ []) → l ≡ lead_under a (full_name p.own n.by) n.by.value → is_accept v ≡ false → refusal_of v ≡ decision_of p (dsm_on p a m (Some n))
 dsm_refuses p a m n l v e i f = by_answered p (dsm_on p a m (Some n)) v (e ∙ ap (λ (k : Lead). verdict_of (dsm_front p m true ++ (k.verified, BadMac) ∷ [])) i) f
 
-pub dsm_accepts : (p : Party) (a : Arrival) (m : Dsm) (n : Named) (l : Lead) (v : Verdict) (es : List Edit) (w : Written) (made : Result Decision NoMemory) → v ≡ verdict_of (dsm_front p m true ++ (l.verified, BadMac) ∷ []) → l ≡ lead_under a (full_name p.own n.by) n.by.value → is_accept v ≡ true → es ≡ disconnected p m.originator n.key → IsWritten w (Coded (dsm_response p n.key) (full_name p.own n.key) n.key.value) → IfOk made (λ d. (r : Option Reply) → AreWritten (Some w) r → d ≡ accepting p es r) → IfOk made (λ d. d ≡ decision_of p (dsm_on p a m (Some n)))
+pub dsm_accepts : (p : Party) (a : Arrival) (m : Dsm) (n : NamedKey) (l : Lead) (v : Verdict) (es : List Edit) (w : Written) (made : Result Decision NoMemory) → v ≡ verdict_of (dsm_front p m true ++ (l.verified, BadMac) ∷ []) → l ≡ lead_under a (full_name p.own n.by) n.by.value → is_accept v ≡ true → es ≡ disconnected p m.originator n.key → IsWritten w (Coded (dsm_response p n.key) (full_name p.own n.key) n.key.value) → IfOk made (λ d. (r : Option Reply) → AreWritten (Some w) r → d ≡ accepting p es r) → IfOk made (λ d. d ≡ decision_of p (dsm_on p a m (Some n)))
 dsm_accepts p a m n l v es w made e i t j written k = by_accept_with p (dsm_on p a m (Some n)) v es w (Coded (dsm_response p n.key) (full_name p.own n.key) n.key.value) made (e ∙ ap (λ (k : Lead). verdict_of (dsm_front p m true ++ (k.verified, BadMac) ∷ [])) i) t j refl written k
 
 -- a name with a count isn't the one behind the last count

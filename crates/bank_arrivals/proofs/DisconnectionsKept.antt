@@ -21,7 +21,7 @@ use Rattle.role_base.specs.Deciding.{decision_of, Decides}
 use Rattle.role_base.specs.Storable.{can_put_key, AreFew}
 use Rattle.role_base.specs.Standing.{KeyStands}
 use Rattle.role_base.specs.Exchanges.{record_of, new_link, dropped, ended}
-use Rattle.bank_arrivals.specs.declared.disconnection.Named.{Named}
+use Rattle.bank_arrivals.specs.declared.disconnection.NamedKey.{NamedKey}
 use Rattle.bank_arrivals.specs.Dsm.{paired, code_name, named_by, left_by, left_in, disconnected, dsm_on}
 use Rattle.role_base.proofs.Found.{key_stands}
 use Rattle.role_base.proofs.Keeping.{key_room, key_room_behind}
@@ -29,7 +29,7 @@ use Rattle.role_base.proofs.Kept.{row_kept, made_kept}
 use Rattle.role_base.proofs.PartyLaws.{KeysFound}
 
 -- the record of the key that ends stands
-pub named_stands : KeysFound → (p : Party) (m : Dsm) (n : Named) → named_by p m ≡ Some n → KeyStands p n.key
+pub named_stands : KeysFound → (p : Party) (m : Dsm) (n : NamedKey) → named_by p m ≡ Some n → KeyStands p n.key
 named_stands keys p m n h = go (record_of p m.originator m.idd) refl (record_of p m.originator (code_name m.idd m.ida)) h
   where
     go : (o : Option KeyRec) → record_of p m.originator m.idd ≡ o → (b : Option KeyRec) → paired o b ≡ Some n → KeyStands p n.key
@@ -59,7 +59,7 @@ disconnected_few keys p peer k st = by_status (is_ended k.status) (by_exchange (
     by_name false l = nothing
 
     by_kind : (x : Kind) → AreFew p (with_key k (left_by p peer k.name x))
-    by_kind (kind.KeySent sent way) = by_name (same_name k.name sent) (new_link p peer way)
+    by_kind (kind.KeySent sent via) = by_name (same_name k.name sent) (new_link p peer via)
     by_kind (kind.Ending ending) = by_name (same_name k.name ending) None
     by_kind (kind.Asked ultimate) = nothing
     by_kind (kind.Translating ultimate value cta) = nothing
@@ -83,7 +83,7 @@ disconnected_few keys p peer k st = by_status (is_ended k.status) (by_exchange (
     by_status true f = record { keepable = record { each = tt; order = refl }; few = lit≤ tt }
     by_status false f = f
 
-pub dsm_kept : KeysFound → (p : Party) (a : Arrival) (m : Dsm) (o : Option Named) (made : Result Decision NoMemory) → o ≡ named_by p m → IfOk made (λ d. d ≡ decision_of p (dsm_on p a m o)) → Decides p (dsm_on p a m o) made
+pub dsm_kept : KeysFound → (p : Party) (a : Arrival) (m : Dsm) (o : Option NamedKey) (made : Result Decision NoMemory) → o ≡ named_by p m → IfOk made (λ d. d ≡ decision_of p (dsm_on p a m o)) → Decides p (dsm_on p a m o) made
 dsm_kept keys p a m None made h e = made_kept p (dsm_on p a m None) made (row_kept p (dsm_on p a m None) (λ _. record { each = tt; order = refl }) (lit≤ tt)) e
 dsm_kept keys p a m (Some n) made h e =
     let f : AreFew p (disconnected p m.originator n.key) = disconnected_few keys p m.originator n.key (named_stands keys p m n (sym h)) in

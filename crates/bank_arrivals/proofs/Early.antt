@@ -27,8 +27,8 @@ use Rattle.party_state.specs.Verdicts.{Test}
 use Rattle.role_base.specs.declared.exchanges.Sent.{Sent}
 use Rattle.role_base.specs.declared.exchanges.Twins.{Twins}
 use Rattle.bank_arrivals.specs.declared.asking_again.Retry.{Retry}
-use Rattle.bank_arrivals.specs.declared.error_message.Subject.{Subject}
-use Rattle.bank_arrivals.specs.declared.disconnection.Named.{Named}
+use Rattle.bank_arrivals.specs.declared.error_message.ErrorSubject.{ErrorSubject}
+use Rattle.bank_arrivals.specs.declared.disconnection.NamedKey.{NamedKey}
 use Rattle.role_base.specs.Texts.{is_verified, is_plain, lead_under}
 use Rattle.role_base.specs.Conditions.{is_for}
 use Rattle.role_base.specs.Exchanges.{sent_to, twins_to, twins_value, ending_with}
@@ -73,7 +73,7 @@ esm_led p a m = go (is_plain a.parsed.shut)
     again : Option Retry
     again = retry_in p (subject_with p m.originator) m.ctr
 
-    of : (o : Option Subject) → is_none (esm_lead_of p a m o) ≡ is_early (error_of p a m o again).verdict
+    of : (o : Option ErrorSubject) → is_none (esm_lead_of p a m o) ≡ is_early (error_of p a m o again).verdict
     of None = early_refusal ((is_for p m.receiver m.originator, NotForMe) ∷ []) NoExchange refl refl
     of (Some s) = led (esm_front p m (Some s)) ((is_verified a (subject_value s), BadMac) ∷ []) (lead_under a (subject_name p m.originator s) (subject_value s)) refl refl
 
@@ -84,7 +84,7 @@ esm_led p a m = go (is_plain a.parsed.shut)
 dsm_led : (p : Party) (a : Arrival) (m : Dsm) → is_none (dsm_lead p a m) ≡ is_early (dsm p a m).verdict
 dsm_led p a m = on (named_by p m)
   where
-    on : (o : Option Named) → is_none (dsm_lead_on p a m o) ≡ is_early (dsm_on p a m o).verdict
+    on : (o : Option NamedKey) → is_none (dsm_lead_on p a m o) ≡ is_early (dsm_on p a m o).verdict
     on None = early_refusal ((is_for p m.receiver m.originator, NotForMe) ∷ []) UnknownKey refl refl
     on (Some n) = led (dsm_front p m true) ((is_verified a n.by.value, BadMac) ∷ []) (lead_under a (full_name p.own n.by) n.by.value) refl refl
 

@@ -15,16 +15,16 @@ use Rattle.role_base.specs.Replies.{AreWritten}
 use Rattle.role_base.specs.Texts.{lead_under}
 use Rattle.role_base.proofs.ByRow.{by_answered, by_accept}
 use Rattle.csm_grammar.specs.declared.message.Esm.{Esm}
-use Rattle.bank_arrivals.specs.declared.error_message.Subject.{Subject}
+use Rattle.bank_arrivals.specs.declared.error_message.ErrorSubject.{ErrorSubject}
 use Rattle.role_base.specs.Conditions.{answer_front}
 use Rattle.bank_arrivals.specs.AskingAgain.{retry_of}
 use Rattle.bank_arrivals.specs.Esm.{subject_name, subject_value, error_row, plain_tests, plain_esm}
 
 -- the row of the message, by what it speaks of
-abbrev row_of : Party → Arrival → Esm → Subject → Row
+abbrev row_of : Party → Arrival → Esm → ErrorSubject → Row
 row_of p a m s = error_row p a m s (retry_of p s m.ctr)
 
-verdict_is : (p : Party) (a : Arrival) (m : Esm) (s : Subject) (l : Lead) (v : Verdict) → v ≡ verdict_of (answer_front p m.receiver m.originator true ++ (l.verified, BadMac) ∷ []) → l ≡ lead_under a (subject_name p m.originator s) (subject_value s) → v ≡ (row_of p a m s).verdict
+verdict_is : (p : Party) (a : Arrival) (m : Esm) (s : ErrorSubject) (l : Lead) (v : Verdict) → v ≡ verdict_of (answer_front p m.receiver m.originator true ++ (l.verified, BadMac) ∷ []) → l ≡ lead_under a (subject_name p m.originator s) (subject_value s) → v ≡ (row_of p a m s).verdict
 verdict_is p a m s l v e i = e ∙ ap (λ (k : Lead). verdict_of (answer_front p m.receiver m.originator true ++ (k.verified, BadMac) ∷ [])) i
 
 pub plain_refuses : (p : Party) (a : Arrival) (m : Esm) (v : Verdict) → v ≡ verdict_of (plain_tests p a m) → is_accept v ≡ false → refusal_of v ≡ decision_of p (plain_esm p a m)

@@ -12,7 +12,7 @@ use Rattle.party_tables.specs.declared.link.LinkRec.{LinkRec}
 use Rattle.party_tables.specs.declared.key.KeyRec.{KeyRec}
 use Rattle.party_tables.specs.declared.key.KeyStatus.TheVariants.{Ended}
 use Rattle.party_tables.specs.declared.exchange.Via.{Via}
-use Rattle.party_tables.specs.declared.exchange.Via.TheVariants as via
+use Rattle.party_tables.specs.declared.exchange.Via.TheVariants as vias
 use Rattle.party_tables.specs.declared.exchange.Kind.{Kind}
 use Rattle.party_tables.specs.declared.exchange.Kind.TheVariants as kind
 use Rattle.party_tables.specs.declared.exchange.Exchange.{Exchange}
@@ -32,11 +32,11 @@ use Rattle.party_tables.specs.Names.{name_behind}
 use Rattle.role_base.specs.declared.exchanges.Sent.{Sent}
 use Rattle.role_base.specs.declared.exchanges.Twins.{Twins}
 use Rattle.bank_arrivals.specs.declared.asking_again.Retry.{Retry}
-use Rattle.bank_arrivals.specs.declared.error_message.Subject.{Subject}
-use Rattle.bank_arrivals.specs.declared.error_message.Subject.TheVariants.{SentKey, SentTwins, Translated}
+use Rattle.bank_arrivals.specs.declared.error_message.ErrorSubject.{ErrorSubject}
+use Rattle.bank_arrivals.specs.declared.error_message.ErrorSubject.TheVariants.{SentKey, SentTwins, Translated}
 use Rattle.role_base.specs.Exchanges.{record_of, both_of, new_link, dropped}
 use Rattle.bank_arrivals.specs.AskingAgain.{retry_by, retry_of, retry_in, ers_reply, asked_again}
-use Rattle.bank_arrivals.specs.Esm.{subject_by, subject_in, subject_with, is_renewed, way_link, subject_link, raised, error_row, error_of, plain_esm, error}
+use Rattle.bank_arrivals.specs.Esm.{subject_by, subject_in, subject_with, is_renewed, via_link, subject_link, raised, error_row, error_of, plain_esm, error}
 use Rattle.bank_arrivals.proofs.AskingShort.{IsHeard, IsRetry, is_retry, ers_short}
 use Rattle.role_base.proofs.Found.{found_stands, key_stands}
 use Rattle.role_base.proofs.Keeping.{link_room, key_room, key_room_behind}
@@ -46,18 +46,18 @@ use Rattle.role_base.proofs.Counted.{greater_next}
 use Rattle.role_base.proofs.PartyLaws.{LinksFound, KeysFound, LinksInRange, ExchangesInRange}
 
 -- the record of a key that an error message speaks of stands, and its way is in its range
-abbrev pub SubjectStands : Party → Subject → Type 0
-SubjectStands p (SentKey s) = KeyStands p s.key × IsVia s.way
+abbrev pub SubjectStands : Party → ErrorSubject → Type 0
+SubjectStands p (SentKey s) = KeyStands p s.key × IsVia s.via
 SubjectStands p (SentTwins t) = TwinsStand p t
 SubjectStands p (Translated value cta) = Unit {0}
 
-pub subject_stands : KeysFound → ExchangesInRange → (p : Party) (peer : List ℕ) (s : Subject) → IsParty p → subject_with p peer ≡ Some s → SubjectStands p s
+pub subject_stands : KeysFound → ExchangesInRange → (p : Party) (peer : List ℕ) (s : ErrorSubject) → IsParty p → subject_with p peer ≡ Some s → SubjectStands p s
 subject_stands keys in_range p peer s w h = by_exchange (exchange_with peer p) refl h
   where
-    by_record : (name : KeyName) (way : Via) (o : Option KeyRec) → IsVia way → record_of p peer name ≡ o → option_map SentKey (option_map (λ (k : KeyRec). let t : Sent = record { key = k; way = way } in t) o) ≡ Some s → SubjectStands p s
-    by_record name way None i f h = absurd (cc)
-    by_record name way (Some k) i f h =
-        let t : Sent = record { key = k; way = way } in
+    by_record : (name : KeyName) (via : Via) (o : Option KeyRec) → IsVia via → record_of p peer name ≡ o → option_map SentKey (option_map (λ (k : KeyRec). let t : Sent = record { key = k; via = via } in t) o) ≡ Some s → SubjectStands p s
+    by_record name via None i f h = absurd (cc)
+    by_record name via (Some k) i f h =
+        let t : Sent = record { key = k; via = via } in
         let e : s ≡ SentKey t = cc in
         rw e (key_stands keys p (record { peer = peer; name = name }) k f, i)
 
@@ -70,7 +70,7 @@ subject_stands keys in_range p peer s w h = by_exchange (exchange_with peer p) r
         rw e (record { first = key_stands keys p (record { peer = peer; name = name }) j f; second = key_stands keys p (record { peer = peer; name = name_behind name }) k g })
 
     by_kind : (x : Kind) → IsKind x → subject_by p peer x ≡ Some s → SubjectStands p s
-    by_kind (kind.KeySent name way) i h = by_record name way (record_of p peer name) i.1 refl h
+    by_kind (kind.KeySent name via) i h = by_record name via (record_of p peer name) i.1 refl h
     by_kind (kind.Translating ultimate value cta) i h = let e : s ≡ Translated value cta = cc in rw e tt
     by_kind (kind.Asked ultimate) i h = absurd (cc)
     by_kind (kind.Ending name) i h = absurd (cc)
@@ -89,19 +89,19 @@ looked_up links in_range p k w = go (link_with k p) refl
     go (Some l) h = found_stands links in_range p k l w h
 
 -- the link whose count the message names stands
-pub counted_stands : LinksFound → LinksInRange → (p : Party) (peer : List ℕ) (s : Subject) → IsParty p → IfSome (subject_link p peer s) (LinkStands p)
+pub counted_stands : LinksFound → LinksInRange → (p : Party) (peer : List ℕ) (s : ErrorSubject) → IsParty p → IfSome (subject_link p peer s) (LinkStands p)
 counted_stands links in_range p peer (Translated value cta) w = looked_up links in_range p (sends peer centre_label) w
 counted_stands links in_range p peer (SentTwins t) w = looked_up links in_range p (sends peer t.first.name.label) w
-counted_stands links in_range p peer (SentKey s) w = by_way s.way
+counted_stands links in_range p peer (SentKey s) w = by_via s.via
   where
     by_label : (label : List ℕ) (b : Bool) → IfSome (cond b None (link_with (sends peer label) p)) (LinkStands p)
     by_label label true = tt
     by_label label false = looked_up links in_range p (sends peer label) w
 
-    by_way : (way : Via) → IfSome (way_link p peer way) (LinkStands p)
-    by_way (via.Direct label new) = by_label label (is_renewed label new)
-    by_way (via.Distribution centre cta) = tt
-    by_way (via.Translation centre) = tt
+    by_via : (via : Via) → IfSome (via_link p peer via) (LinkStands p)
+    by_via (vias.Direct label new) = by_label label (is_renewed label new)
+    by_via (vias.Distribution centre cta) = tt
+    by_via (vias.Translation centre) = tt
 
 raised_few : (p : Party) (l : Option LinkRec) (c : Option ℕ) (rest : List Edit) → IfSome l (LinkStands p) → IfSome c IsCount → AreKeepable p rest → list_any puts_link rest ≡ false → length rest ≤ 8 → AreFew p (raised l c ++ rest)
 raised_few p None c rest st i t n few = record { keepable = t; few = omega arith }
@@ -120,14 +120,14 @@ asked_short short p m value None w i r = tt
 asked_short short p m value (Some t) w i r = ers_short short p m value t w.own i r
 
 -- an error message with an authentication code
-about_kept : LinksFound → KeysFound → LinksInRange → ExchangesInRange → CanonShort → (p : Party) (a : Arrival) (m : Esm) (o : Option Subject) → IsParty p → IsHeard m → IfSome m.ctr IsCount → subject_with p m.originator ≡ o → IsStorable p (change_of p (error_of p a m o (retry_in p o m.ctr)))
+about_kept : LinksFound → KeysFound → LinksInRange → ExchangesInRange → CanonShort → (p : Party) (a : Arrival) (m : Esm) (o : Option ErrorSubject) → IsParty p → IsHeard m → IfSome m.ctr IsCount → subject_with p m.originator ≡ o → IsStorable p (change_of p (error_of p a m o (retry_in p o m.ctr)))
 about_kept links keys links_in_range in_range short p a m None w g i h = row_kept p (error_of p a m None None) (λ _. record { each = tt; order = refl }) (lit≤ tt)
 about_kept links keys links_in_range in_range short p a m (Some s) w g i h = kept (by_subject s (subject_stands keys in_range p m.originator s w h))
   where
     kept : AreFew p (error_row p a m s (retry_of p s m.ctr)).edits → IsStorable p (change_of p (error_row p a m s (retry_of p s m.ctr)))
     kept f = row_kept p (error_row p a m s (retry_of p s m.ctr)) (λ _. f.keepable) f.few
 
-    raised_with : (x : Subject) (rest : List Edit) → AreKeepable p rest → list_any puts_link rest ≡ false → length rest ≤ 8 → AreFew p (raised (subject_link p m.originator x) m.ctr ++ rest)
+    raised_with : (x : ErrorSubject) (rest : List Edit) → AreKeepable p rest → list_any puts_link rest ≡ false → length rest ≤ 8 → AreFew p (raised (subject_link p m.originator x) m.ctr ++ rest)
     raised_with x rest t n few = raised_few p (subject_link p m.originator x) m.ctr rest (counted_stands links links_in_range p m.originator x w) i t n few
 
     by_link : (x : Sent) (l : Option LinkRec) (t : Option Retry) → can_put_key p (record_key x.key) ≡ true → IsAskedShort p m x.key.value t → AreFew p (raised (subject_link p m.originator (SentKey x)) m.ctr ++ ((dropped l ++ PutKey (record x.key { status = Ended }) ∷ []) ++ DropExchange m.originator ∷ asked_again p m x.key.value t))
@@ -136,8 +136,8 @@ about_kept links keys links_in_range in_range short p a m (Some s) w g i h = kep
     by_link x (Some l) None room c = raised_with (SentKey x) _ (record { each = (tt, (room, (tt, tt))); order = refl }) refl (lit≤ tt)
     by_link x (Some l) (Some t) room c = raised_with (SentKey x) _ (record { each = (tt, (room, (tt, (record { kind = tt; text = c }, tt)))); order = refl }) refl (lit≤ tt)
 
-    by_subject : (x : Subject) → SubjectStands p x → AreFew p (error_row p a m x (retry_of p x m.ctr)).edits
-    by_subject (SentKey x) st = by_link x (new_link p m.originator x.way) (retry_by p x.way m.ctr) (key_room p x.key st.0) (asked_short short p m x.key.value (retry_by p x.way m.ctr) w g (is_retry p x.way m.ctr st.1 i))
+    by_subject : (x : ErrorSubject) → SubjectStands p x → AreFew p (error_row p a m x (retry_of p x m.ctr)).edits
+    by_subject (SentKey x) st = by_link x (new_link p m.originator x.via) (retry_by p x.via m.ctr) (key_room p x.key st.0) (asked_short short p m x.key.value (retry_by p x.via m.ctr) w g (is_retry p x.via m.ctr st.1 i))
     by_subject (SentTwins t) st = raised_with (SentTwins t) _ (record { each = (key_room p t.first st.first, (key_room_behind _ p t.second st.second, (tt, tt))); order = refl }) refl (lit≤ tt)
     by_subject (Translated value cta) st = raised_with (Translated value cta) _ (record { each = (tt, tt); order = refl }) refl (lit≤ tt)
 

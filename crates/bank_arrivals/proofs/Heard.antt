@@ -12,7 +12,7 @@ use Rattle.party_tables.specs.declared.key.RecordKey.{RecordKey}
 use Rattle.party_tables.specs.declared.key.KeyStatus.{KeyStatus}
 use Rattle.party_tables.specs.declared.key.KeyStatus.TheVariants.{Live, Ended}
 use Rattle.party_tables.specs.declared.exchange.Via.{Via}
-use Rattle.party_tables.specs.declared.exchange.Via.TheVariants as via
+use Rattle.party_tables.specs.declared.exchange.Via.TheVariants as vias
 use Rattle.party_tables.specs.declared.exchange.Kind.{Kind}
 use Rattle.party_tables.specs.declared.exchange.Kind.TheVariants as kind
 use Rattle.party_tables.specs.declared.exchange.Exchange.{Exchange}
@@ -48,14 +48,14 @@ module _ (held : HeldAtAccept) (of_links : LinkLaws) (of_keys : KeyLaws) (of_exc
       record {
         to = is_to p m.receiver m.originator h.0;
         name = d.name;
-        way = s.way;
+        via = s.via;
         key = s.key;
         sent = d.sent;
         stands = d.stands;
         code = h.1.1.0;
-        live = live d (new_link p m.originator s.way);
+        live = live d (new_link p m.originator s.via);
         ready = ready;
-        over = over (new_link p m.originator s.way);
+        over = over (new_link p m.originator s.via);
       }
     where
       lives : KeyRec
@@ -65,9 +65,9 @@ module _ (held : HeldAtAccept) (of_links : LinkLaws) (of_keys : KeyLaws) (of_exc
       live d None = put_found of_keys p m.originator d.name s.key lives d.stands refl
       live d (Some l) = put_found of_keys p m.originator d.name s.key lives d.stands refl
 
-      ready : (label new : List ℕ) (l : LinkRec) → s.way ≡ via.Direct label (Some new) → HasLink p m.originator new l → HasLink (apply (readied (new_link p m.originator s.way) ++ PutKey lives ∷ DropExchange m.originator ∷ []) p) m.originator new (record l { ready = true })
+      ready : (label new : List ℕ) (l : LinkRec) → s.via ≡ vias.Direct label (Some new) → HasLink p m.originator new l → HasLink (apply (readied (new_link p m.originator s.via) ++ PutKey lives ∷ DropExchange m.originator ∷ []) p) m.originator new (record l { ready = true })
       ready label new l w f =
-          let is : new_link p m.originator s.way ≡ Some l = ap (λ (y : Via). new_link p m.originator y) w ∙ f in
+          let is : new_link p m.originator s.via ≡ Some l = ap (λ (y : Via). new_link p m.originator y) w ∙ f in
           rw is (put_link_found of_links p m.originator new l (record l { ready = true }) f refl)
 
       over : (l : Option LinkRec) → exchange_with m.originator (apply (readied l ++ PutKey lives ∷ DropExchange m.originator ∷ []) p) ≡ None
@@ -152,7 +152,7 @@ module _ (held : HeldAtAccept) (of_links : LinkLaws) (of_keys : KeyLaws) (of_exc
       by_names sent i j f g false false b_is c_is = put
 
       by_kind : (x : Kind) → (let g : List Edit × List Edit = left_by p peer k.name x in HasKey (apply (g.0 ++ (PutKey ends ∷ g.1)) p) peer name ends)
-      by_kind (kind.KeySent sent way) = by_link (new_link p peer way) (same_name k.name sent)
+      by_kind (kind.KeySent sent via) = by_link (new_link p peer via) (same_name k.name sent)
       by_kind (kind.Ending ending) = by_link None (same_name k.name ending)
       by_kind (kind.Asked ultimate) = put
       by_kind (kind.Translating ultimate value cta) = put

@@ -11,7 +11,7 @@ use Rattle.party_tables.specs.declared.link.LinkRec.{LinkRec}
 use Rattle.party_tables.specs.declared.key.KeyRec.{KeyRec}
 use Rattle.party_tables.specs.declared.key.KeyStatus.TheVariants.{Ended}
 use Rattle.party_tables.specs.declared.exchange.Via.{Via}
-use Rattle.party_tables.specs.declared.exchange.Via.TheVariants as via
+use Rattle.party_tables.specs.declared.exchange.Via.TheVariants as vias
 use Rattle.party_tables.specs.declared.exchange.Kind.{Kind}
 use Rattle.party_tables.specs.declared.exchange.Kind.TheVariants as kind
 use Rattle.party_tables.specs.declared.exchange.Exchange.{Exchange}
@@ -31,20 +31,20 @@ use Rattle.role_base.specs.Texts.{text_of, is_plain, is_verified}
 use Rattle.role_base.specs.Exchanges.{new_link_at, new_link, dropped, twins_value}
 use Rattle.role_base.proofs.PartyLaws.{HeldAtAccept, LinkLaws, KeyLaws, ExchangeLaws, LinksDropped, put_other, exchange_put, exchange_put_other, drop_other, exchange_dropped}
 use Rattle.bank_arrivals.specs.declared.asking_again.Retry.{Retry}
-use Rattle.bank_arrivals.specs.declared.error_message.Subject.{Subject}
-use Rattle.bank_arrivals.specs.declared.error_message.Subject.TheVariants.{SentKey, SentTwins, Translated}
+use Rattle.bank_arrivals.specs.declared.error_message.ErrorSubject.{ErrorSubject}
+use Rattle.bank_arrivals.specs.declared.error_message.ErrorSubject.TheVariants.{SentKey, SentTwins, Translated}
 use Rattle.bank_arrivals.specs.AskingAgain.{retry_by, retry_in, ers_reply, asked_again, again_reply}
-use Rattle.bank_arrivals.specs.Esm.{subject_with, is_renewed, way_link, raised, esm_front, error_row, error_of, error_with, error}
+use Rattle.bank_arrivals.specs.Esm.{subject_with, is_renewed, via_link, raised, esm_front, error_row, error_of, error_with, error}
 use Rattle.bank_arrivals.specs.Heard.{IsAbout, HasLink, MayAskAgain, AsksAgain, HeardError, HeardErrorOfTwo, HeardCentre}
 use Rattle.bank_arrivals.proofs.About.{put_found, put_beside, put_link_found, is_to, FoundSent, FoundTwins, found_subject}
 
 -- what is asked again, and when
 
-retry_is : (p : Party) (m : Esm) (way : Via) (t : MayAskAgain p m way) → retry_by p way m.ctr ≡ Some (record { centre = t.centre; cta = t.cta; ctr = t.ctr })
-retry_is p m way t = rw t.given (rw t.told (rw t.free refl))
+retry_is : (p : Party) (m : Esm) (via : Via) (t : MayAskAgain p m via) → retry_by p via m.ctr ≡ Some (record { centre = t.centre; cta = t.cta; ctr = t.ctr })
+retry_is p m via t = rw t.given (rw t.told (rw t.free refl))
 
-retry_none : (p : Party) (m : Esm) (way : Via) (c : Option ℕ) → m.ctr ≡ c → (MayAskAgain p m way → ⊥) → retry_by p way c ≡ None
-retry_none p m (via.Distribution centre cta) (Some ctr) i n = go (exchange_with centre p) refl
+retry_none : (p : Party) (m : Esm) (via : Via) (c : Option ℕ) → m.ctr ≡ c → (MayAskAgain p m via → ⊥) → retry_by p via c ≡ None
+retry_none p m (vias.Distribution centre cta) (Some ctr) i n = go (exchange_with centre p) refl
   where
     t : Retry
     t = record { centre = centre; cta = cta; ctr = ctr }
@@ -52,16 +52,16 @@ retry_none p m (via.Distribution centre cta) (Some ctr) i n = go (exchange_with 
     go : (o : Option Exchange) → exchange_with centre p ≡ o → cond (is_none o) (Some t) None ≡ None
     go None f = absurd (n (record { centre = centre; cta = cta; ctr = ctr; given = refl; told = i; free = f }))
     go (Some e) f = refl
-retry_none p m (via.Distribution centre cta) None i n = refl
-retry_none p m (via.Direct label new) c i n = refl
-retry_none p m (via.Translation centre) c i n = refl
+retry_none p m (vias.Distribution centre cta) None i n = refl
+retry_none p m (vias.Direct label new) c i n = refl
+retry_none p m (vias.Translation centre) c i n = refl
 
 -- no exchange with the centre stands
 abbrev pub IsFree : Party → Retry → Type 0
 IsFree p t = exchange_with t.centre p ≡ None
 
-pub retry_free : (p : Party) (way : Via) (c : Option ℕ) → IfSome (retry_by p way c) (IsFree p)
-retry_free p (via.Distribution centre cta) (Some ctr) = go (exchange_with centre p) refl
+pub retry_free : (p : Party) (via : Via) (c : Option ℕ) → IfSome (retry_by p via c) (IsFree p)
+retry_free p (vias.Distribution centre cta) (Some ctr) = go (exchange_with centre p) refl
   where
     t : Retry
     t = record { centre = centre; cta = cta; ctr = ctr }
@@ -69,9 +69,9 @@ retry_free p (via.Distribution centre cta) (Some ctr) = go (exchange_with centre
     go : (o : Option Exchange) → exchange_with centre p ≡ o → IfSome (cond (is_none o) (Some t) None) (IsFree p)
     go None f = f
     go (Some e) f = tt
-retry_free p (via.Distribution centre cta) None = tt
-retry_free p (via.Direct label new) c = tt
-retry_free p (via.Translation centre) c = tt
+retry_free p (vias.Distribution centre cta) None = tt
+retry_free p (vias.Direct label new) c = tt
+retry_free p (vias.Translation centre) c = tt
 
 -- one that is closed by an error detection code
 pub heard_plain : (p : Party) (a : Arrival) (m : Esm) → is_plain a.parsed.shut ≡ true → ((error p a m).edits ≡ []) × ((error p a m).reply ≡ None)
@@ -152,7 +152,7 @@ module _ (held : HeldAtAccept) (of_links : LinkLaws) (of_keys : KeyLaws) (of_exc
   not_renewed label (Some n) ne = false_from_ne_true (bytes_eq n label) (λ s. ne (ap (λ (z : List ℕ). Some z) ((bytes_eq-Decides n label).0 s)))
 
   -- the link whose count is named isn't that of the new key-encrypting key
-  unlike_new : (p : Party) (peer label new : List ℕ) → IfSome (way_link p peer (via.Direct label (Some new))) (λ y. same_link (sends peer new) (link_key y) ≡ false)
+  unlike_new : (p : Party) (peer label new : List ℕ) → IfSome (via_link p peer (vias.Direct label (Some new))) (λ y. same_link (sends peer new) (link_key y) ≡ false)
   unlike_new p peer label new = go (bytes_eq new label) refl
     where
       go : (b : Bool) → bytes_eq new label ≡ b → IfSome (cond b None (link_with (sends peer label) p)) (λ y. same_link (sends peer new) (link_key y) ≡ false)
@@ -191,37 +191,37 @@ module _ (held : HeldAtAccept) (of_links : LinkLaws) (of_keys : KeyLaws) (of_exc
 
   -- about a key that was sent
 
-  heard_sent : (p : Party) (a : Arrival) (m : Esm) (s : Sent) → subject_with p m.originator ≡ Some (SentKey s) → (error_row p a m (SentKey s) (retry_by p s.way m.ctr)).verdict ≡ Accept → HeardError p (apply (error_row p a m (SentKey s) (retry_by p s.way m.ctr)).edits p) a m (error_row p a m (SentKey s) (retry_by p s.way m.ctr))
+  heard_sent : (p : Party) (a : Arrival) (m : Esm) (s : Sent) → subject_with p m.originator ≡ Some (SentKey s) → (error_row p a m (SentKey s) (retry_by p s.via m.ctr)).verdict ≡ Accept → HeardError p (apply (error_row p a m (SentKey s) (retry_by p s.via m.ctr)).edits p) a m (error_row p a m (SentKey s) (retry_by p s.via m.ctr))
   heard_sent p a m s f e =
       let h : Held (esm_front p m (Some (SentKey s)) ++ (is_verified a s.key.value, BadMac) ∷ []) = held (esm_front p m (Some (SentKey s)) ++ (is_verified a s.key.value, BadMac) ∷ []) refl e in
       let d : FoundSent p m.originator s = found_subject p m.originator (SentKey s) f in
       record {
         to = is_to p m.receiver m.originator h.0;
         name = d.name;
-        way = s.way;
+        via = s.via;
         key = s.key;
         sent = d.sent;
         stands = d.stands;
         code = h.1.1.0;
         ended = ap (λ (ks : List KeyRec). find_row record_key same_record (record { peer = m.originator; name = d.name }) ks) parts.0 ∙ put_found of_keys p m.originator d.name s.key ends d.stands refl;
-        over = exchanges m.originator ∙ over_with p m s.key.value (kind.KeySent d.name s.way) again d.sent (retry_free p s.way m.ctr);
+        over = exchanges m.originator ∙ over_with p m s.key.value (kind.KeySent d.name s.via) again d.sent (retry_free p s.via m.ctr);
         counted = counted;
         given_up = given_up;
         again = asks;
-        silent = λ n. ap (λ (t : Option Retry). again_reply p m s.key.value t) (retry_none p m s.way m.ctr refl n);
+        silent = λ n. ap (λ (t : Option Retry). again_reply p m s.key.value t) (retry_none p m s.via m.ctr refl n);
       }
     where
       ends : KeyRec
       ends = record s.key { status = Ended }
 
       raises : Option LinkRec
-      raises = way_link p m.originator s.way
+      raises = via_link p m.originator s.via
 
       new : Option LinkRec
-      new = new_link p m.originator s.way
+      new = new_link p m.originator s.via
 
       again : Option Retry
-      again = retry_by p s.way m.ctr
+      again = retry_by p s.via m.ctr
 
       edits : Option LinkRec → Option ℕ → Option LinkRec → Option Retry → List Edit
       edits l c n t = raised l c ++ ((dropped n ++ PutKey ends ∷ []) ++ DropExchange m.originator ∷ asked_again p m s.key.value t)
@@ -253,9 +253,9 @@ module _ (held : HeldAtAccept) (of_links : LinkLaws) (of_keys : KeyLaws) (of_exc
       links : (label : List ℕ) → link_with (sends m.originator label) after ≡ find_row link_key same_link (sends m.originator label) (linked p raises m.ctr new)
       links label = ap (λ (ls : List LinkRec). find_row link_key same_link (sends m.originator label) ls) parts.1
 
-      counted : (label : List ℕ) (n : Option (List ℕ)) (l : LinkRec) (ctr : ℕ) → s.way ≡ via.Direct label n → n ≢ Some label → HasLink p m.originator label l → m.ctr ≡ Some ctr → HasLink after m.originator label (record l { next = max l.next ctr })
+      counted : (label : List ℕ) (n : Option (List ℕ)) (l : LinkRec) (ctr : ℕ) → s.via ≡ vias.Direct label n → n ≢ Some label → HasLink p m.originator label l → m.ctr ≡ Some ctr → HasLink after m.originator label (record l { next = max l.next ctr })
       counted label n l ctr w ne f i =
-          let stands : raises ≡ Some l = ap (λ (y : Via). way_link p m.originator y) w ∙ ap (λ (b : Bool). cond b None (link_with (sends m.originator label) p)) (not_renewed label n ne) ∙ f in
+          let stands : raises ≡ Some l = ap (λ (y : Via). via_link p m.originator y) w ∙ ap (λ (b : Bool). cond b None (link_with (sends m.originator label) p)) (not_renewed label n ne) ∙ f in
           let goes : new ≡ new_link_at p m.originator n = ap (λ (y : Via). new_link p m.originator y) w in
           links label
           ∙ ap (λ (o : Option LinkRec). find_row link_key same_link (sends m.originator label) (linked p o m.ctr new)) stands
@@ -263,16 +263,16 @@ module _ (held : HeldAtAccept) (of_links : LinkLaws) (of_keys : KeyLaws) (of_exc
           ∙ ap (λ (o : Option LinkRec). find_row link_key same_link (sends m.originator label) (linked p (Some l) (Some ctr) o)) goes
           ∙ counted_with p m.originator label l ctr n ne f
 
-      given_up : (label n : List ℕ) → s.way ≡ via.Direct label (Some n) → link_with (sends m.originator n) after ≡ None
+      given_up : (label n : List ℕ) → s.via ≡ vias.Direct label (Some n) → link_with (sends m.originator n) after ≡ None
       given_up label n w =
           links n
-          ∙ ap (λ (y : Via). find_row link_key same_link (sends m.originator n) (linked p (way_link p m.originator y) m.ctr (new_link p m.originator y))) w
-          ∙ given_up_with p m.originator n (way_link p m.originator (via.Direct label (Some n))) m.ctr (unlike_new p m.originator label n)
+          ∙ ap (λ (y : Via). find_row link_key same_link (sends m.originator n) (linked p (via_link p m.originator y) m.ctr (new_link p m.originator y))) w
+          ∙ given_up_with p m.originator n (via_link p m.originator (vias.Direct label (Some n))) m.ctr (unlike_new p m.originator label n)
 
-      asks : (t : MayAskAgain p m s.way) → AsksAgain p after m s.key (error_row p a m (SentKey s) again) t.centre t.cta t.ctr
+      asks : (t : MayAskAgain p m s.via) → AsksAgain p after m s.key (error_row p a m (SentKey s) again) t.centre t.cta t.ctr
       asks t =
           let u : Retry = record { centre = t.centre; cta = t.cta; ctr = t.ctr } in
-          let is : again ≡ Some u = retry_is p m s.way t in
+          let is : again ≡ Some u = retry_is p m s.via t in
           record {
             written = ap (λ (o : Option Retry). again_reply p m s.key.value o) is;
             waits = ap (λ (o : Option Exchange). option_map (λ (x : Exchange). x.kind) o) (exchanges t.centre ∙ ap (λ (o : Option Retry). exchange_with t.centre (apply (asked_again p m s.key.value o) (apply_edit (DropExchange m.originator) p))) is) ∙ asked p m s.key.value u;
@@ -327,7 +327,7 @@ module _ (held : HeldAtAccept) (of_links : LinkLaws) (of_keys : KeyLaws) (of_exc
       counted : (l : LinkRec) (ctr : ℕ) → HasLink p m.originator t.first.name.label l → m.ctr ≡ Some ctr → HasLink (apply (edits raises m.ctr) p) m.originator t.first.name.label (record l { next = max l.next ctr })
       counted l ctr f i = rw f (rw i (put_link_found of_links p m.originator t.first.name.label l (record l { next = max l.next ctr }) f refl))
 
-  heard_subject : (p : Party) (a : Arrival) (m : Esm) (o : Option Subject) → subject_with p m.originator ≡ o → (error_of p a m o (retry_in p o m.ctr)).verdict ≡ Accept
+  heard_subject : (p : Party) (a : Arrival) (m : Esm) (o : Option ErrorSubject) → subject_with p m.originator ≡ o → (error_of p a m o (retry_in p o m.ctr)).verdict ≡ Accept
       → HeardError p (apply (error_of p a m o (retry_in p o m.ctr)).edits p) a m (error_of p a m o (retry_in p o m.ctr)) ⊎ (HeardErrorOfTwo p (apply (error_of p a m o (retry_in p o m.ctr)).edits p) a m (error_of p a m o (retry_in p o m.ctr)) ⊎ HeardCentre p (apply (error_of p a m o (retry_in p o m.ctr)).edits p) a m (error_of p a m o (retry_in p o m.ctr)))
   heard_subject p a m None f e = let h : Held (esm_front p m None) = held (esm_front p m None) refl e in absurd (both_ways false refl h.1.0)
   heard_subject p a m (Some (Translated value cta)) f e = inr (inr (heard_translated p a m value cta f e))

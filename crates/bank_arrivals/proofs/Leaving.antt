@@ -9,7 +9,7 @@ use Rattle.party_tables.specs.declared.key.KeyRec.{KeyRec}
 use Rattle.party_tables.specs.declared.key.RecordKey.{RecordKey}
 use Rattle.party_tables.specs.declared.key.KeyStatus.TheVariants.{Ended}
 use Rattle.party_tables.specs.declared.exchange.Via.{Via}
-use Rattle.party_tables.specs.declared.exchange.Via.TheVariants as via
+use Rattle.party_tables.specs.declared.exchange.Via.TheVariants as vias
 use Rattle.party_tables.specs.declared.exchange.Kind.{Kind}
 use Rattle.party_tables.specs.declared.exchange.Kind.TheVariants as kind
 use Rattle.party_tables.specs.declared.exchange.Exchange.{Exchange}
@@ -20,7 +20,7 @@ use Rattle.party_tables.specs.Names.{name_behind}
 use Rattle.party_state.specs.State.{Party, exchange_with, link_with, apply}
 use Rattle.role_base.specs.Exchanges.{record_of, new_link, dropped, ended}
 use Rattle.role_base.proofs.PartyLaws.{LinkLaws, KeyLaws, ExchangeLaws, LinksDropped, exchange_dropped}
-use Rattle.bank_arrivals.specs.declared.disconnection.Named.{Named}
+use Rattle.bank_arrivals.specs.declared.disconnection.NamedKey.{NamedKey}
 use Rattle.bank_arrivals.specs.Dsm.{left_by, left_in, disconnected, dsm_on, dsm}
 use Rattle.bank_arrivals.specs.Heard.{IsAbout, HasKey}
 use Rattle.bank_arrivals.specs.Accepting.{Disconnects}
@@ -65,7 +65,7 @@ module _ (of_links : LinkLaws) (of_keys : KeyLaws) (of_exchanges : ExchangeLaws)
   keeps p m k n o = record {
     gone = λ h. absurd (n h);
     stays = λ h. refl;
-    given_up = λ new w. absurd (n (inl (via.Direct w.0 (Some new), w.1)));
+    given_up = λ new w. absurd (n (inl (vias.Direct w.0 (Some new), w.1)));
     links_stay = λ h. refl;
     other_ends = o;
   }
@@ -106,8 +106,8 @@ module _ (of_links : LinkLaws) (of_keys : KeyLaws) (of_exchanges : ExchangeLaws)
       links (Some x) (Some y) = refl
 
   -- and with one
-  goes_with : (p : Party) (m : Dsm) (k : KeyRec) (label new : List ℕ) (l : Option LinkRec) → IsAbout p m.originator (kind.KeySent m.idd (via.Direct label (Some new))) → link_with (sends m.originator new) p ≡ l → Leaves p m k (dropped l, DropExchange m.originator ∷ [])
-  goes_with p m k label new l a f o = record { gone = λ h. over l; stays = λ h. absurd (h (inl (via.Direct label (Some new), a))); given_up = given_up; links_stay = λ h. absurd (h new (label, a)); other_ends = o }
+  goes_with : (p : Party) (m : Dsm) (k : KeyRec) (label new : List ℕ) (l : Option LinkRec) → IsAbout p m.originator (kind.KeySent m.idd (vias.Direct label (Some new))) → link_with (sends m.originator new) p ≡ l → Leaves p m k (dropped l, DropExchange m.originator ∷ [])
+  goes_with p m k label new l a f o = record { gone = λ h. over l; stays = λ h. absurd (h (inl (vias.Direct label (Some new), a))); given_up = given_up; links_stay = λ h. absurd (h new (label, a)); other_ends = o }
     where
       ends : KeyRec
       ends = record k { status = Ended }
@@ -124,32 +124,32 @@ module _ (of_links : LinkLaws) (of_keys : KeyLaws) (of_exchanges : ExchangeLaws)
 
       given_up : (other : List ℕ) → WentWith p m.originator m.idd other → link_with (sends m.originator other) (apply (dropped l ++ (PutKey ends ∷ DropExchange m.originator ∷ [])) p) ≡ None
       given_up other w =
-          let e : kind.KeySent m.idd (via.Direct label (Some new)) ≡ kind.KeySent m.idd (via.Direct w.0 (Some other)) = one_kind p m.originator _ _ a w.1 in
+          let e : kind.KeySent m.idd (vias.Direct label (Some new)) ≡ kind.KeySent m.idd (vias.Direct w.0 (Some other)) = one_kind p m.originator _ _ a w.1 in
           let same : new ≡ other = cc in
           subst (λ (x : List ℕ). link_with (sends m.originator x) (apply (dropped l ++ (PutKey ends ∷ DropExchange m.originator ∷ [])) p) ≡ None) same (freed l f)
 
   -- the key was sent this way
-  sent_goes : (p : Party) (m : Dsm) (k : KeyRec) (way : Via) → IsAbout p m.originator (kind.KeySent m.idd way) → Leaves p m k (dropped (new_link p m.originator way), DropExchange m.originator ∷ [])
-  sent_goes p m k (via.Direct label (Some new)) a = goes_with p m k label new (link_with (sends m.originator new) p) a refl
-  sent_goes p m k (via.Direct label None) a = goes_alone p m k (inl (via.Direct label None, a)) (λ new w. (let e : kind.KeySent m.idd (via.Direct label None) ≡ kind.KeySent m.idd (via.Direct w.0 (Some new)) = one_kind p m.originator _ _ a w.1 in cc))
-  sent_goes p m k (via.Distribution centre cta) a = goes_alone p m k (inl (via.Distribution centre cta, a)) (λ new w. (let e : kind.KeySent m.idd (via.Distribution centre cta) ≡ kind.KeySent m.idd (via.Direct w.0 (Some new)) = one_kind p m.originator _ _ a w.1 in cc))
-  sent_goes p m k (via.Translation centre) a = goes_alone p m k (inl (via.Translation centre, a)) (λ new w. (let e : kind.KeySent m.idd (via.Translation centre) ≡ kind.KeySent m.idd (via.Direct w.0 (Some new)) = one_kind p m.originator _ _ a w.1 in cc))
+  sent_goes : (p : Party) (m : Dsm) (k : KeyRec) (via : Via) → IsAbout p m.originator (kind.KeySent m.idd via) → Leaves p m k (dropped (new_link p m.originator via), DropExchange m.originator ∷ [])
+  sent_goes p m k (vias.Direct label (Some new)) a = goes_with p m k label new (link_with (sends m.originator new) p) a refl
+  sent_goes p m k (vias.Direct label None) a = goes_alone p m k (inl (vias.Direct label None, a)) (λ new w. (let e : kind.KeySent m.idd (vias.Direct label None) ≡ kind.KeySent m.idd (vias.Direct w.0 (Some new)) = one_kind p m.originator _ _ a w.1 in cc))
+  sent_goes p m k (vias.Distribution centre cta) a = goes_alone p m k (inl (vias.Distribution centre cta, a)) (λ new w. (let e : kind.KeySent m.idd (vias.Distribution centre cta) ≡ kind.KeySent m.idd (vias.Direct w.0 (Some new)) = one_kind p m.originator _ _ a w.1 in cc))
+  sent_goes p m k (vias.Translation centre) a = goes_alone p m k (inl (vias.Translation centre, a)) (λ new w. (let e : kind.KeySent m.idd (vias.Translation centre) ≡ kind.KeySent m.idd (vias.Direct w.0 (Some new)) = one_kind p m.originator _ _ a w.1 in cc))
 
   leaves_kind : (p : Party) (m : Dsm) (k : KeyRec) (x : Kind) → m.idd ≡ k.name → IsAbout p m.originator x → Leaves p m k (left_by p m.originator k.name x)
-  leaves_kind p m k (kind.KeySent sent way) named a = go (same_name k.name sent) refl
+  leaves_kind p m k (kind.KeySent sent via) named a = go (same_name k.name sent) refl
     where
       other : same_name k.name sent ≡ false → NamesKey p m.originator m.idd → ⊥
       other e (inl w) =
-          let i : kind.KeySent sent way ≡ kind.KeySent m.idd w.0 = one_kind p m.originator _ _ a w.1 in
+          let i : kind.KeySent sent via ≡ kind.KeySent m.idd w.0 = one_kind p m.originator _ _ a w.1 in
           let j : sent ≡ m.idd = cc in
           both_ways (same_name k.name sent) e (alike k.name sent (sym named ∙ sym j))
-      other e (inr (inl w)) = let i : kind.KeySent sent way ≡ kind.Ending m.idd = one_kind p m.originator _ _ a w in cc
+      other e (inr (inl w)) = let i : kind.KeySent sent via ≡ kind.Ending m.idd = one_kind p m.originator _ _ a w in cc
       other e (inr (inr w)) = no_two p m.originator m.idd w.0 _ (λ n i. cc) a w.1
 
-      go : (b : Bool) → same_name k.name sent ≡ b → Leaves p m k (cond b (dropped (new_link p m.originator way), DropExchange m.originator ∷ []) ([], []))
+      go : (b : Bool) → same_name k.name sent ≡ b → Leaves p m k (cond b (dropped (new_link p m.originator via), DropExchange m.originator ∷ []) ([], []))
       go true e =
           let i : sent ≡ m.idd = sym (named ∙ named_alike k.name sent e) in
-          sent_goes p m k way (subst (λ (n : KeyName). IsAbout p m.originator (kind.KeySent n way)) i a)
+          sent_goes p m k via (subst (λ (n : KeyName). IsAbout p m.originator (kind.KeySent n via)) i a)
       go false e = keeps p m k (other e)
   leaves_kind p m k (kind.Ending ending) named a = go (same_name k.name ending) refl
     where
@@ -164,7 +164,7 @@ module _ (of_links : LinkLaws) (of_keys : KeyLaws) (of_exchanges : ExchangeLaws)
       go : (b : Bool) → same_name k.name ending ≡ b → Leaves p m k (cond b ([], DropExchange m.originator ∷ []) ([], []))
       go true e =
           let i : ending ≡ m.idd = sym (named ∙ named_alike k.name ending e) in
-          goes_alone p m k (inr (inl (subst (λ (n : KeyName). IsAbout p m.originator (kind.Ending n)) i a))) (λ new w. (let j : kind.Ending ending ≡ kind.KeySent m.idd (via.Direct w.0 (Some new)) = one_kind p m.originator _ _ a w.1 in cc))
+          goes_alone p m k (inr (inl (subst (λ (n : KeyName). IsAbout p m.originator (kind.Ending n)) i a))) (λ new w. (let j : kind.Ending ending ≡ kind.KeySent m.idd (vias.Direct w.0 (Some new)) = one_kind p m.originator _ _ a w.1 in cc))
       go false e = keeps p m k (other e)
   leaves_kind p m k (kind.Asked ultimate) named a = keeps p m k other
     where
@@ -181,7 +181,7 @@ module _ (of_links : LinkLaws) (of_keys : KeyLaws) (of_exchanges : ExchangeLaws)
   leaves_kind p m k (kind.PairSent sent) named a = by_first (same_name k.name sent) refl
     where
       bare : (new : List ℕ) → WentWith p m.originator m.idd new → ⊥
-      bare new w = let i : kind.PairSent sent ≡ kind.KeySent m.idd (via.Direct w.0 (Some new)) = one_kind p m.originator _ _ a w.1 in cc
+      bare new w = let i : kind.PairSent sent ≡ kind.KeySent m.idd (vias.Direct w.0 (Some new)) = one_kind p m.originator _ _ a w.1 in cc
 
       other : same_name k.name sent ≡ false → same_name k.name (name_behind sent) ≡ false → NamesKey p m.originator m.idd → ⊥
       other e f (inl w) = let i : kind.PairSent sent ≡ kind.KeySent m.idd w.0 = one_kind p m.originator _ _ a w.1 in cc
@@ -233,5 +233,5 @@ module _ (of_links : LinkLaws) (of_keys : KeyLaws) (of_exchanges : ExchangeLaws)
 
   pub leaves_exchange : (p : Party) (a : Arrival) (m : Dsm) (k : KeyRec) → Disconnects p a m → HasKey p m.originator m.idd k → k.status ≢ Ended → LeavesExchange p (apply (dsm p a m).edits p) m
   leaves_exchange p a m k c s n =
-      let edits : (dsm p a m).edits ≡ disconnected p m.originator k = ap (λ (o : Option Named). (dsm_on p a m o).edits) (both_named p m k c.by s c.closing) in
+      let edits : (dsm p a m).edits ≡ disconnected p m.originator k = ap (λ (o : Option NamedKey). (dsm_on p a m o).edits) (both_named p m k c.by s c.closing) in
       subst (λ (es : List Edit). LeavesExchange p (apply es p) m) (sym edits) (leaves p m k s n)

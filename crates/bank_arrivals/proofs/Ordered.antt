@@ -17,7 +17,7 @@ use Rattle.role_base.specs.Exchanges.{sent_to, twins_to, ending_with}
 use Rattle.role_base.specs.Order.{InOrder}
 use Rattle.role_base.specs.Sending.{sending_tests}
 use Rattle.role_base.specs.Texts.{is_verified}
-use Rattle.bank_arrivals.specs.declared.error_message.Subject.{Subject}
+use Rattle.bank_arrivals.specs.declared.error_message.ErrorSubject.{ErrorSubject}
 use Rattle.bank_arrivals.specs.declared.draws.TwinsDrawn.{TwinsDrawn}
 use Rattle.bank_arrivals.specs.SendingTwins.{twins_tests}
 use Rattle.bank_arrivals.specs.Rsi.{rsi_tests}
@@ -40,7 +40,7 @@ rsm_to_two_order p a m value = refl
 pub end_order : (p : Party) (a : Arrival) (m : Rsm) (name : KeyName) (found : Option KeyRec) (value : ℕ) → InOrder (end_front p m name found ++ (is_verified a value, BadMac) ∷ [])
 end_order p a m name found value = refl
 
-pub esm_order : (p : Party) (a : Arrival) (m : Esm) (found : Option Subject) (value : ℕ) → InOrder (esm_front p m found ++ (is_verified a value, BadMac) ∷ [])
+pub esm_order : (p : Party) (a : Arrival) (m : Esm) (found : Option ErrorSubject) (value : ℕ) → InOrder (esm_front p m found ++ (is_verified a value, BadMac) ∷ [])
 esm_order p a m found value = refl
 
 pub plain_order : (p : Party) (a : Arrival) (m : Esm) → InOrder (plain_tests p a m)

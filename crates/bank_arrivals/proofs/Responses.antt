@@ -30,7 +30,7 @@ use Rattle.bank_arrivals.specs.Rsm.{rsm_to, rsm_twins, answer_to}
 pub rsm_refuses : (p : Party) (a : Arrival) (m : Rsm) (s : Sent) (l : Lead) (v : Verdict) → v ≡ verdict_of (answer_front p m.receiver m.originator true ++ (l.verified, BadMac) ∷ []) → l ≡ lead_under a (full_name p.own s.key) s.key.value → is_accept v ≡ false → refusal_of v ≡ decision_of p (rsm_to p a m (Some s))
 rsm_refuses p a m s l v e i f = by_answered p (rsm_to p a m (Some s)) v (e ∙ ap (λ (k : Lead). verdict_of (answer_front p m.receiver m.originator true ++ (k.verified, BadMac) ∷ [])) i) f
 
-pub rsm_accepts : (p : Party) (a : Arrival) (m : Rsm) (s : Sent) (l : Lead) (v : Verdict) (es : List Edit) (made : Result Decision NoMemory) → v ≡ verdict_of (answer_front p m.receiver m.originator true ++ (l.verified, BadMac) ∷ []) → l ≡ lead_under a (full_name p.own s.key) s.key.value → is_accept v ≡ true → es ≡ readied (new_link p m.originator s.way) ++ PutKey (record s.key { status = Live }) ∷ DropExchange m.originator ∷ [] → IfOk made (λ d. (r : Option Reply) → AreWritten None r → d ≡ accepting p es r) → IfOk made (λ d. d ≡ decision_of p (rsm_to p a m (Some s)))
+pub rsm_accepts : (p : Party) (a : Arrival) (m : Rsm) (s : Sent) (l : Lead) (v : Verdict) (es : List Edit) (made : Result Decision NoMemory) → v ≡ verdict_of (answer_front p m.receiver m.originator true ++ (l.verified, BadMac) ∷ []) → l ≡ lead_under a (full_name p.own s.key) s.key.value → is_accept v ≡ true → es ≡ readied (new_link p m.originator s.via) ++ PutKey (record s.key { status = Live }) ∷ DropExchange m.originator ∷ [] → IfOk made (λ d. (r : Option Reply) → AreWritten None r → d ≡ accepting p es r) → IfOk made (λ d. d ≡ decision_of p (rsm_to p a m (Some s)))
 rsm_accepts p a m s l v es made e i t j k = by_accept p (rsm_to p a m (Some s)) v es made (e ∙ ap (λ (k : Lead). verdict_of (answer_front p m.receiver m.originator true ++ (k.verified, BadMac) ∷ [])) i) t j refl k
 
 pub answer_refuses : (p : Party) (a : Arrival) (m : Rsm) (name : KeyName) (k : KeyRec) (l : Lead) (v : Verdict) → v ≡ verdict_of (answer_front p m.receiver m.originator (same_name name k.name) ++ (l.verified, BadMac) ∷ []) → l ≡ lead_under a (full_name p.own k) k.value → is_accept v ≡ false → refusal_of v ≡ decision_of p (answer_to p a m name (Some k))

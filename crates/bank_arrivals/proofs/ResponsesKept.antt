@@ -31,12 +31,12 @@ use Rattle.role_base.proofs.PartyLaws.{LinksFound, KeysFound, LinksInRange}
 pub sent_stands : KeysFound → (p : Party) (peer : List ℕ) (s : Sent) → sent_to p peer ≡ Some s → KeyStands p s.key
 sent_stands keys p peer s h = by_exchange (exchange_with peer p) h
   where
-    by_record : (name : KeyName) (way : Via) (o : Option KeyRec) → record_of p peer name ≡ o → option_map (λ (k : KeyRec). let t : Sent = record { key = k; way = way } in t) o ≡ Some s → KeyStands p s.key
-    by_record name way None f h = absurd (cc)
-    by_record name way (Some k) f h = let e : s.key ≡ k = cc in rw e (key_stands keys p (record { peer = peer; name = name }) k f)
+    by_record : (name : KeyName) (via : Via) (o : Option KeyRec) → record_of p peer name ≡ o → option_map (λ (k : KeyRec). let t : Sent = record { key = k; via = via } in t) o ≡ Some s → KeyStands p s.key
+    by_record name via None f h = absurd (cc)
+    by_record name via (Some k) f h = let e : s.key ≡ k = cc in rw e (key_stands keys p (record { peer = peer; name = name }) k f)
 
     by_kind : (k : Kind) → sent_by p peer k ≡ Some s → KeyStands p s.key
-    by_kind (kind.KeySent name way) h = by_record name way (record_of p peer name) refl h
+    by_kind (kind.KeySent name via) h = by_record name via (record_of p peer name) refl h
     by_kind (kind.Asked ultimate) h = absurd (cc)
     by_kind (kind.Translating ultimate value cta) h = absurd (cc)
     by_kind (kind.Ending name) h = absurd (cc)
@@ -49,14 +49,14 @@ sent_stands keys p peer s h = by_exchange (exchange_with peer p) h
 -- the response to a key
 rsm_to_kept : LinksFound → KeysFound → LinksInRange → (p : Party) (a : Arrival) (m : Rsm) (o : Option Sent) → IsParty p → sent_to p m.originator ≡ o → IsStorable p (change_of p (rsm_to p a m o))
 rsm_to_kept links keys in_range p a m None w h = row_kept p (rsm_to p a m None) (λ _. record { each = tt; order = refl }) (omega arith)
-rsm_to_kept links keys in_range p a m (Some s) w h = by_link (new_link p m.originator s.way) refl
+rsm_to_kept links keys in_range p a m (Some s) w h = by_link (new_link p m.originator s.via) refl
   where
     key : can_put_key p (record_key s.key) ≡ true
     key = key_room p s.key (sent_stands keys p m.originator s h)
 
-    by_link : (l : Option LinkRec) → new_link p m.originator s.way ≡ l → IsStorable p (change_of p (rsm_to p a m (Some s)))
+    by_link : (l : Option LinkRec) → new_link p m.originator s.via ≡ l → IsStorable p (change_of p (rsm_to p a m (Some s)))
     by_link None e = row_kept p (rsm_to p a m (Some s)) (λ _. rw e (record { each = (key, (tt, tt)); order = refl })) (rw e (omega arith))
-    by_link (Some l) e = let st : LinkStands p l = new_link_stands links in_range p m.originator s.way l w e in
+    by_link (Some l) e = let st : LinkStands p l = new_link_stands links in_range p m.originator s.via l w e in
         row_kept p (rsm_to p a m (Some s)) (λ _. rw e (record { each = ((st.range.next, link_room p l st), (key, (tt, tt))); order = refl })) (rw e (omega arith))
 
 -- the response to two keys, or to one
@@ -71,7 +71,7 @@ ending_stands keys p peer k h = by_exchange (exchange_with peer p) h
   where
     by_kind : (x : Kind) → ending_by p peer x ≡ Some k → KeyStands p k
     by_kind (kind.Ending name) h = key_stands keys p (record { peer = peer; name = name }) k h
-    by_kind (kind.KeySent name way) h = absurd (cc)
+    by_kind (kind.KeySent name via) h = absurd (cc)
     by_kind (kind.Asked ultimate) h = absurd (cc)
     by_kind (kind.Translating ultimate value cta) h = absurd (cc)
     by_kind (kind.PairSent name) h = absurd (cc)

@@ -74,9 +74,9 @@ pub record CanServeTwo (p : Party) (a : Arrival) (m : Rsi) (moment : ℕ) : Type
 pub record Confirms (p : Party) (a : Arrival) (m : Rsm) : Type 0 where
   pub to : IsTo p m.receiver m.originator
   pub name : KeyName
-  pub way : Via
+  pub via : Via
   pub key : KeyRec
-  pub sent : IsAbout p m.originator (kind.KeySent name way)
+  pub sent : IsAbout p m.originator (kind.KeySent name via)
   pub stands : HasKey p m.originator name key
   pub code : IsTrue (is_verified a key.value)
 
@@ -101,9 +101,9 @@ pub record ConfirmsEnd (p : Party) (a : Arrival) (m : Rsm) (idd : KeyName) : Typ
 pub record Complains (p : Party) (a : Arrival) (m : Esm) : Type 0 where
   pub to : IsTo p m.receiver m.originator
   pub name : KeyName
-  pub way : Via
+  pub via : Via
   pub key : KeyRec
-  pub sent : IsAbout p m.originator (kind.KeySent name way)
+  pub sent : IsAbout p m.originator (kind.KeySent name via)
   pub stands : HasKey p m.originator name key
   pub code : IsTrue (is_verified a key.value)
 
@@ -127,7 +127,7 @@ pub record ComplainsAsCentre (p : Party) (a : Arrival) (m : Esm) : Type 0 where
 
 -- the record of the key that an exchange names stands, and of two keys both records
 abbrev pub KeyStands : Party → List ℕ → Kind → Type 0
-KeyStands p peer (kind.KeySent name way) = (k : KeyRec) × HasKey p peer name k
+KeyStands p peer (kind.KeySent name via) = (k : KeyRec) × HasKey p peer name k
 KeyStands p peer (kind.Ending name) = (k : KeyRec) × HasKey p peer name k
 KeyStands p peer (kind.Asked ultimate) = Unit {0}
 KeyStands p peer (kind.Translating ultimate value cta) = Unit {0}

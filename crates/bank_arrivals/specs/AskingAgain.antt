@@ -5,30 +5,30 @@ use Rattle.csm_grammar.specs.declared.message.Message.{Message}
 use Rattle.csm_grammar.specs.declared.message.Message.TheVariants as message
 use Rattle.csm_grammar.specs.declared.message.Esm.{Esm}
 use Rattle.party_tables.specs.declared.exchange.Via.{Via}
-use Rattle.party_tables.specs.declared.exchange.Via.TheVariants as via
+use Rattle.party_tables.specs.declared.exchange.Via.TheVariants as vias
 use Rattle.party_tables.specs.declared.exchange.Kind.TheVariants as kind
 use Rattle.party_state.specs.declared.edit.Edit.{Edit}
 use Rattle.party_state.specs.declared.edit.Edit.TheVariants.{PutExchange}
 use Rattle.party_state.specs.State.{Party, centre_label, exchange_with}
 use Rattle.party_state.specs.Rows.{Reply, Coded}
 use Rattle.bank_arrivals.specs.declared.asking_again.Retry.{Retry}
-use Rattle.bank_arrivals.specs.declared.error_message.Subject.{Subject}
-use Rattle.bank_arrivals.specs.declared.error_message.Subject.TheVariants.{SentKey, SentTwins, Translated}
+use Rattle.bank_arrivals.specs.declared.error_message.ErrorSubject.{ErrorSubject}
+use Rattle.bank_arrivals.specs.declared.error_message.ErrorSubject.TheVariants.{SentKey, SentTwins, Translated}
 use Rattle.role_base.specs.Texts.{text_of, direct_name}
 
 -- what the centre is asked, by the way of the key: where no exchange with the centre stands
 abbrev pub retry_by : Party → Via → Option ℕ → Option Retry
-retry_by p (via.Distribution centre cta) (Some ctr) = cond (is_none (exchange_with centre p)) (Some (record { centre = centre; cta = cta; ctr = ctr })) None
-retry_by p (via.Distribution centre cta) None = None
-retry_by p (via.Direct label new) ctr = None
-retry_by p (via.Translation centre) ctr = None
+retry_by p (vias.Distribution centre cta) (Some ctr) = cond (is_none (exchange_with centre p)) (Some (record { centre = centre; cta = cta; ctr = ctr })) None
+retry_by p (vias.Distribution centre cta) None = None
+retry_by p (vias.Direct label new) ctr = None
+retry_by p (vias.Translation centre) ctr = None
 
-abbrev pub retry_of : Party → Subject → Option ℕ → Option Retry
-retry_of p (SentKey s) ctr = retry_by p s.way ctr
+abbrev pub retry_of : Party → ErrorSubject → Option ℕ → Option Retry
+retry_of p (SentKey s) ctr = retry_by p s.via ctr
 retry_of p (SentTwins t) ctr = None
 retry_of p (Translated value cta) ctr = None
 
-abbrev pub retry_in : Party → Option Subject → Option ℕ → Option Retry
+abbrev pub retry_in : Party → Option ErrorSubject → Option ℕ → Option Retry
 retry_in p None ctr = None
 retry_in p (Some s) ctr = retry_of p s ctr
 

@@ -19,15 +19,15 @@ use Rattle.party_tables.specs.Keys.{same_name}
 use Rattle.party_tables.specs.Names.{full_name, name_behind}
 use Rattle.party_tables.specs.Statuses.{is_ended}
 use Rattle.party_state.specs.State.{Party, exchange_with}
-use Rattle.party_state.specs.Verdicts.{Test, verdict_of, passes}
+use Rattle.party_state.specs.Verdicts.{Test, verdict_of, tests_pass}
 use Rattle.party_state.specs.Rows.{Row, Coded, OfDsm, refused}
-use Rattle.bank_arrivals.specs.declared.disconnection.Named.{Named}
+use Rattle.bank_arrivals.specs.declared.disconnection.NamedKey.{NamedKey}
 use Rattle.role_base.specs.Texts.{no_extras, is_verified, lead_under}
 use Rattle.role_base.specs.Conditions.{is_for}
 use Rattle.role_base.specs.Exchanges.{record_of, new_link, dropped, ended}
 
 -- the key that ends, and the key whose code closes the message: that of IDA, or of IDD where IDA is absent
-abbrev pub paired : Option KeyRec → Option KeyRec → Option Named
+abbrev pub paired : Option KeyRec → Option KeyRec → Option NamedKey
 paired (Some key) (Some by) = Some (record { key = key; by = by })
 paired (Some key) None = None
 paired None by = None
@@ -36,7 +36,7 @@ abbrev pub code_name : KeyName → Option KeyName → KeyName
 code_name idd None = idd
 code_name idd (Some ida) = ida
 
-abbrev pub named_by : Party → Dsm → Option Named
+abbrev pub named_by : Party → Dsm → Option NamedKey
 named_by p m = paired (record_of p m.originator m.idd) (record_of p m.originator (code_name m.idd m.ida))
 
 abbrev pub dsm_front : Party → Dsm → Bool → List Test
@@ -44,7 +44,7 @@ dsm_front p m stands = (is_for p m.receiver m.originator, NotForMe) ∷ (stands,
 
 -- an exchange that names the key goes, with a new key-encrypting key; where two keys were sent, the other ends too
 abbrev pub left_by : Party → List ℕ → KeyName → Kind → List Edit × List Edit
-left_by p peer name (kind.KeySent sent way) = cond (same_name name sent) (dropped (new_link p peer way), DropExchange peer ∷ []) ([], [])
+left_by p peer name (kind.KeySent sent via) = cond (same_name name sent) (dropped (new_link p peer via), DropExchange peer ∷ []) ([], [])
 left_by p peer name (kind.Ending ending) = cond (same_name name ending) ([], DropExchange peer ∷ []) ([], [])
 left_by p peer name (kind.Asked ultimate) = ([], [])
 left_by p peer name (kind.Translating ultimate value cta) = ([], [])
@@ -63,7 +63,7 @@ disconnected p peer k =
 abbrev pub dsm_response : Party → KeyRec → Message
 dsm_response p k = message.Rsm (record { receiver = k.peer; originator = p.own; idd = Some k.name; extras = no_extras })
 
-abbrev pub dsm_on : Party → Arrival → Dsm → Option Named → Row
+abbrev pub dsm_on : Party → Arrival → Dsm → Option NamedKey → Row
 dsm_on p a m None = refused (verdict_of (dsm_front p m false))
 dsm_on p a m (Some n) = record {
   verdict = verdict_of (dsm_front p m true ++ (is_verified a n.by.value, BadMac) ∷ []);
@@ -78,9 +78,9 @@ dsm_on p a m (Some n) = record {
 abbrev pub dsm : Party → Arrival → Dsm → Row
 dsm p a m = dsm_on p a m (named_by p m)
 
-abbrev pub dsm_lead_on : Party → Arrival → Dsm → Option Named → Option Lead
+abbrev pub dsm_lead_on : Party → Arrival → Dsm → Option NamedKey → Option Lead
 dsm_lead_on p a m None = None
-dsm_lead_on p a m (Some n) = cond (passes (dsm_front p m true)) (Some (lead_under a (full_name p.own n.by) n.by.value)) None
+dsm_lead_on p a m (Some n) = cond (tests_pass (dsm_front p m true)) (Some (lead_under a (full_name p.own n.by) n.by.value)) None
 
 abbrev pub dsm_lead : Party → Arrival → Dsm → Option Lead
 dsm_lead p a m = dsm_lead_on p a m (named_by p m)

@@ -9,7 +9,7 @@ use Rattle.csm_grammar.specs.declared.arrival.Arrival.{Arrival}
 use Rattle.party_tables.specs.declared.link.LinkRec.{LinkRec}
 use Rattle.party_tables.specs.declared.key.KeyStatus.TheVariants.{Ended}
 use Rattle.party_tables.specs.declared.exchange.Via.{Via}
-use Rattle.party_tables.specs.declared.exchange.Via.TheVariants as via
+use Rattle.party_tables.specs.declared.exchange.Via.TheVariants as vias
 use Rattle.party_tables.specs.declared.exchange.Kind.{Kind}
 use Rattle.party_tables.specs.declared.exchange.Kind.TheVariants as kind
 use Rattle.party_tables.specs.declared.exchange.Exchange.{Exchange}
@@ -19,11 +19,11 @@ use Rattle.party_state.specs.declared.decision.Lead.{Lead}
 use Rattle.party_tables.specs.Keys.{sends}
 use Rattle.party_tables.specs.Names.{full_name}
 use Rattle.party_state.specs.State.{Party, centre_label, link_with, exchange_with}
-use Rattle.party_state.specs.Verdicts.{Test, verdict_of, passes}
+use Rattle.party_state.specs.Verdicts.{Test, verdict_of, tests_pass}
 use Rattle.party_state.specs.Rows.{Row, Accepted, OfEsm, refused}
 use Rattle.bank_arrivals.specs.declared.asking_again.Retry.{Retry}
-use Rattle.bank_arrivals.specs.declared.error_message.Subject.{Subject}
-use Rattle.bank_arrivals.specs.declared.error_message.Subject.TheVariants.{SentKey, SentTwins, Translated}
+use Rattle.bank_arrivals.specs.declared.error_message.ErrorSubject.{ErrorSubject}
+use Rattle.bank_arrivals.specs.declared.error_message.ErrorSubject.TheVariants.{SentKey, SentTwins, Translated}
 use Rattle.role_base.specs.Texts.{direct_name, is_verified, is_right, is_plain, lead_under}
 use Rattle.role_base.specs.Conditions.{answer_front}
 use Rattle.role_base.specs.Exchanges.{sent_by, twins_by, twins_value, is_waiting, new_link, dropped}
@@ -32,27 +32,27 @@ use Rattle.bank_arrivals.specs.AskingAgain.{retry_in, asked_again, again_reply}
 -- what an error message from the peer speaks of: a key that was sent, or a key with a translation centre,
 -- by its value and its count at the centre
 
-abbrev pub subject_by : Party → List ℕ → Kind → Option Subject
-subject_by p peer (kind.KeySent name way) = option_map SentKey (sent_by p peer (kind.KeySent name way))
+abbrev pub subject_by : Party → List ℕ → Kind → Option ErrorSubject
+subject_by p peer (kind.KeySent name via) = option_map SentKey (sent_by p peer (kind.KeySent name via))
 subject_by p peer (kind.Translating ultimate value cta) = Some (Translated value cta)
 subject_by p peer (kind.Asked ultimate) = None
 subject_by p peer (kind.Ending name) = None
 subject_by p peer (kind.PairSent name) = option_map SentTwins (twins_by p peer (kind.PairSent name))
 
-abbrev pub subject_in : Party → List ℕ → Option Exchange → Option Subject
+abbrev pub subject_in : Party → List ℕ → Option Exchange → Option ErrorSubject
 subject_in p peer None = None
 subject_in p peer (Some e) = subject_by p peer e.kind
 
-abbrev pub subject_with : Party → List ℕ → Option Subject
+abbrev pub subject_with : Party → List ℕ → Option ErrorSubject
 subject_with p peer = subject_in p peer (exchange_with peer p)
 
-abbrev pub subject_value : Subject → ℕ
+abbrev pub subject_value : ErrorSubject → ℕ
 subject_value (SentKey s) = s.key.value
 subject_value (SentTwins t) = twins_value t
 subject_value (Translated value cta) = value
 
 -- the full name of its key
-abbrev pub subject_name : Party → List ℕ → Subject → FullName
+abbrev pub subject_name : Party → List ℕ → ErrorSubject → FullName
 subject_name p peer (SentKey s) = full_name p.own s.key
 subject_name p peer (SentTwins t) = full_name p.own t.first
 subject_name p peer (Translated value cta) = record { name = direct_name p.own centre_label cta; recipient = peer }
@@ -63,14 +63,14 @@ is_renewed label None = false
 is_renewed label (Some new) = bytes_eq new label
 
 -- the link under which a key went, unless it goes with a new key-encrypting key
-abbrev pub way_link : Party → List ℕ → Via → Option LinkRec
-way_link p peer (via.Direct label new) = cond (is_renewed label new) None (link_with (sends peer label) p)
-way_link p peer (via.Distribution centre cta) = None
-way_link p peer (via.Translation centre) = None
+abbrev pub via_link : Party → List ℕ → Via → Option LinkRec
+via_link p peer (vias.Direct label new) = cond (is_renewed label new) None (link_with (sends peer label) p)
+via_link p peer (vias.Distribution centre cta) = None
+via_link p peer (vias.Translation centre) = None
 
 -- the link whose count the partner names
-abbrev pub subject_link : Party → List ℕ → Subject → Option LinkRec
-subject_link p peer (SentKey s) = way_link p peer s.way
+abbrev pub subject_link : Party → List ℕ → ErrorSubject → Option LinkRec
+subject_link p peer (SentKey s) = via_link p peer s.via
 subject_link p peer (SentTwins t) = link_with (sends peer t.first.name.label) p
 subject_link p peer (Translated value cta) = link_with (sends peer centre_label) p
 
@@ -79,20 +79,20 @@ raised (Some l) (Some ctr) = PutLink (record l { next = max l.next ctr }) ∷ []
 raised (Some l) None = []
 raised None ctr = []
 
-abbrev pub subject_ended : Party → List ℕ → Subject → List Edit
-subject_ended p peer (SentKey s) = dropped (new_link p peer s.way) ++ PutKey (record s.key { status = Ended }) ∷ []
+abbrev pub subject_ended : Party → List ℕ → ErrorSubject → List Edit
+subject_ended p peer (SentKey s) = dropped (new_link p peer s.via) ++ PutKey (record s.key { status = Ended }) ∷ []
 subject_ended p peer (SentTwins t) = PutKey (record t.first { status = Ended }) ∷ PutKey (record t.second { status = Ended }) ∷ []
 subject_ended p peer (Translated value cta) = []
 
-abbrev pub subject_accepted : Party → Subject → Option Accepted
+abbrev pub subject_accepted : Party → ErrorSubject → Option Accepted
 subject_accepted p (SentKey s) = Some (record { class = OfEsm; names = full_name p.own s.key ∷ [] })
 subject_accepted p (SentTwins t) = Some (record { class = OfEsm; names = full_name p.own t.first ∷ full_name p.own t.second ∷ [] })
 subject_accepted p (Translated value cta) = None
 
-abbrev pub esm_front : Party → Esm → Option Subject → List Test
+abbrev pub esm_front : Party → Esm → Option ErrorSubject → List Test
 esm_front p m found = answer_front p m.receiver m.originator (is_some found)
 
-abbrev pub error_row : Party → Arrival → Esm → Subject → Option Retry → Row
+abbrev pub error_row : Party → Arrival → Esm → ErrorSubject → Option Retry → Row
 error_row p a m s again = record {
   verdict = verdict_of (esm_front p m (Some s) ++ (is_verified a (subject_value s), BadMac) ∷ []);
   edits = raised (subject_link p m.originator s) m.ctr ++ (subject_ended p m.originator s ++ DropExchange m.originator ∷ asked_again p m (subject_value s) again);
@@ -103,13 +103,13 @@ error_row p a m s again = record {
   answer = None;
 }
 
-abbrev pub error_of : Party → Arrival → Esm → Option Subject → Option Retry → Row
+abbrev pub error_of : Party → Arrival → Esm → Option ErrorSubject → Option Retry → Row
 error_of p a m None again = refused (verdict_of (esm_front p m None))
 error_of p a m (Some s) again = error_row p a m s again
 
-abbrev pub esm_lead_of : Party → Arrival → Esm → Option Subject → Option Lead
+abbrev pub esm_lead_of : Party → Arrival → Esm → Option ErrorSubject → Option Lead
 esm_lead_of p a m None = None
-esm_lead_of p a m (Some s) = cond (passes (esm_front p m (Some s))) (Some (lead_under a (subject_name p m.originator s) (subject_value s))) None
+esm_lead_of p a m (Some s) = cond (tests_pass (esm_front p m (Some s))) (Some (lead_under a (subject_name p m.originator s) (subject_value s))) None
 
 abbrev pub plain_tests : Party → Arrival → Esm → List Test
 plain_tests p a m = answer_front p m.receiver m.originator (is_waiting p m.originator) ++ (is_right a, BadEdc) ∷ []

@@ -12,7 +12,7 @@ use Rattle.party_tables.specs.declared.link.LinkRec.{LinkRec}
 use Rattle.party_tables.specs.declared.key.KeyRec.{KeyRec}
 use Rattle.party_tables.specs.declared.key.KeyStatus.TheVariants.{Live, Ended}
 use Rattle.party_tables.specs.declared.exchange.Via.{Via}
-use Rattle.party_tables.specs.declared.exchange.Via.TheVariants as via
+use Rattle.party_tables.specs.declared.exchange.Via.TheVariants as vias
 use Rattle.party_tables.specs.declared.exchange.Kind.{Kind}
 use Rattle.party_tables.specs.declared.exchange.Kind.TheVariants as kind
 use Rattle.party_tables.specs.declared.exchange.Exchange.{Exchange}
@@ -44,13 +44,13 @@ pub record IsTo (p : Party) (rcv org : List ℕ) : Type 0 where
 pub record HeardResponse (p after : Party) (a : Arrival) (m : Rsm) : Type 0 where
   pub to : IsTo p m.receiver m.originator
   pub name : KeyName
-  pub way : Via
+  pub via : Via
   pub key : KeyRec
-  pub sent : IsAbout p m.originator (kind.KeySent name way)
+  pub sent : IsAbout p m.originator (kind.KeySent name via)
   pub stands : HasKey p m.originator name key
   pub code : IsTrue (is_verified a key.value)
   pub live : HasKey after m.originator name (record key { status = Live })
-  pub ready : (label new : List ℕ) (l : LinkRec) → way ≡ via.Direct label (Some new) → HasLink p m.originator new l → HasLink after m.originator new (record l { ready = true })
+  pub ready : (label new : List ℕ) (l : LinkRec) → via ≡ vias.Direct label (Some new) → HasLink p m.originator new l → HasLink after m.originator new (record l { ready = true })
   pub over : exchange_with m.originator after ≡ None
 
 -- the records of two keys that were sent to the peer in one message, the first of this name, and the message about them
@@ -83,11 +83,11 @@ pub record HeardEnd (p after : Party) (a : Arrival) (m : Rsm) (idd : KeyName) : 
   pub over : exchange_with m.originator after ≡ None
 
 -- a centre can be asked again: it gave the key, the message tells a count, and no exchange with the centre stands
-pub record MayAskAgain (p : Party) (m : Esm) (way : Via) : Type 0 where
+pub record MayAskAgain (p : Party) (m : Esm) (via : Via) : Type 0 where
   pub centre : List ℕ
   pub cta : ℕ
   pub ctr : ℕ
-  pub given : way ≡ via.Distribution centre cta
+  pub given : via ≡ vias.Distribution centre cta
   pub told : m.ctr ≡ Some ctr
   pub free : exchange_with centre p ≡ None
 
@@ -104,18 +104,18 @@ pub record AsksAgain (p after : Party) (m : Esm) (key : KeyRec) (r : Row) (centr
 pub record HeardError (p after : Party) (a : Arrival) (m : Esm) (r : Row) : Type 0 where
   pub to : IsTo p m.receiver m.originator
   pub name : KeyName
-  pub way : Via
+  pub via : Via
   pub key : KeyRec
-  pub sent : IsAbout p m.originator (kind.KeySent name way)
+  pub sent : IsAbout p m.originator (kind.KeySent name via)
   pub stands : HasKey p m.originator name key
   pub code : IsTrue (is_verified a key.value)
   pub ended : HasKey after m.originator name (record key { status = Ended })
   pub over : exchange_with m.originator after ≡ None
-  pub counted : (label : List ℕ) (new : Option (List ℕ)) (l : LinkRec) (ctr : ℕ) → way ≡ via.Direct label new → new ≢ Some label → HasLink p m.originator label l → m.ctr ≡ Some ctr
+  pub counted : (label : List ℕ) (new : Option (List ℕ)) (l : LinkRec) (ctr : ℕ) → via ≡ vias.Direct label new → new ≢ Some label → HasLink p m.originator label l → m.ctr ≡ Some ctr
       → HasLink after m.originator label (record l { next = max l.next ctr })
-  pub given_up : (label new : List ℕ) → way ≡ via.Direct label (Some new) → link_with (sends m.originator new) after ≡ None
-  pub again : (t : MayAskAgain p m way) → AsksAgain p after m key r t.centre t.cta t.ctr
-  pub silent : (MayAskAgain p m way → ⊥) → r.reply ≡ None
+  pub given_up : (label new : List ℕ) → via ≡ vias.Direct label (Some new) → link_with (sends m.originator new) after ≡ None
+  pub again : (t : MayAskAgain p m via) → AsksAgain p after m key r t.centre t.cta t.ctr
+  pub silent : (MayAskAgain p m via → ⊥) → r.reply ≡ None
 
 -- an error message about two keys: both end, and the next count of the link under which they went is CTR, if that is
 -- larger

@@ -7,7 +7,7 @@ use Rattle.csm_grammar.specs.declared.message.Dsm.{Dsm}
 use Rattle.party_tables.specs.declared.key.KeyRec.{KeyRec}
 use Rattle.party_tables.specs.declared.key.KeyStatus.TheVariants.{Ended}
 use Rattle.party_tables.specs.declared.exchange.Via.{Via}
-use Rattle.party_tables.specs.declared.exchange.Via.TheVariants as via
+use Rattle.party_tables.specs.declared.exchange.Via.TheVariants as vias
 use Rattle.party_tables.specs.declared.exchange.Kind.TheVariants as kind
 use Rattle.party_tables.specs.Keys.{sends}
 use Rattle.party_tables.specs.Names.{name_behind}
@@ -20,11 +20,11 @@ WereTwo p peer name other = (IsAbout p peer (kind.PairSent name) × (other ≡ n
 
 -- the exchange with the peer names the key: it was sent, or its end was, or it was sent with another
 abbrev pub NamesKey : Party → List ℕ → KeyName → Type 0
-NamesKey p peer name = ((way : Via) × IsAbout p peer (kind.KeySent name way)) ⊎ (IsAbout p peer (kind.Ending name) ⊎ ((other : KeyName) × WereTwo p peer name other))
+NamesKey p peer name = ((via : Via) × IsAbout p peer (kind.KeySent name via)) ⊎ (IsAbout p peer (kind.Ending name) ⊎ ((other : KeyName) × WereTwo p peer name other))
 
 -- the key was sent with a new key-encrypting key of this label
 abbrev pub WentWith : Party → List ℕ → KeyName → List ℕ → Type 0
-WentWith p peer name new = (label : List ℕ) × IsAbout p peer (kind.KeySent name (via.Direct label (Some new)))
+WentWith p peer name new = (label : List ℕ) × IsAbout p peer (kind.KeySent name (vias.Direct label (Some new)))
 
 -- the key that was sent with it ends, where its record stands
 abbrev pub EndsOther : Party → Party → List ℕ → KeyName → Type 0

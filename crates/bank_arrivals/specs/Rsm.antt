@@ -12,7 +12,7 @@ use Rattle.party_state.specs.declared.decision.Lead.{Lead}
 use Rattle.party_tables.specs.Keys.{same_name}
 use Rattle.party_tables.specs.Names.{full_name}
 use Rattle.party_state.specs.State.{Party}
-use Rattle.party_state.specs.Verdicts.{Test, verdict_of, passes}
+use Rattle.party_state.specs.Verdicts.{Test, verdict_of, tests_pass}
 use Rattle.party_state.specs.Rows.{Row, OfRsm, OfAnswer, refused}
 use Rattle.role_base.specs.Texts.{is_verified, lead_under}
 use Rattle.role_base.specs.Conditions.{answer_front}
@@ -29,7 +29,7 @@ abbrev pub rsm_to : Party → Arrival → Rsm → Option Sent → Row
 rsm_to p a m None = refused (verdict_of (rsm_front p m None))
 rsm_to p a m (Some s) = record {
   verdict = verdict_of (rsm_front p m (Some s) ++ (is_verified a s.key.value, BadMac) ∷ []);
-  edits = readied (new_link p m.originator s.way) ++ PutKey (record s.key { status = Live }) ∷ DropExchange m.originator ∷ [];
+  edits = readied (new_link p m.originator s.via) ++ PutKey (record s.key { status = Live }) ∷ DropExchange m.originator ∷ [];
   reply = None;
   uses = [];
   makes = None;
@@ -39,7 +39,7 @@ rsm_to p a m (Some s) = record {
 
 abbrev pub rsm_lead_to : Party → Arrival → Rsm → Option Sent → Option Lead
 rsm_lead_to p a m None = None
-rsm_lead_to p a m (Some s) = cond (passes (rsm_front p m (Some s))) (Some (lead_under a (full_name p.own s.key) s.key.value)) None
+rsm_lead_to p a m (Some s) = cond (tests_pass (rsm_front p m (Some s))) (Some (lead_under a (full_name p.own s.key) s.key.value)) None
 
 -- the answer to two keys
 
@@ -59,7 +59,7 @@ rsm_twins p a m t = record {
 
 -- its code is made under the exclusive-or of the two, in the name of the first
 abbrev pub twins_lead : Party → Arrival → Rsm → Twins → Option Lead
-twins_lead p a m t = cond (passes (twins_front p m)) (Some (lead_under a (full_name p.own t.first) (twins_value t))) None
+twins_lead p a m t = cond (tests_pass (twins_front p m)) (Some (lead_under a (full_name p.own t.first) (twins_value t))) None
 
 abbrev pub rsm_by : Party → Arrival → Rsm → Option Twins → Row
 rsm_by p a m None = rsm_to p a m (sent_to p m.originator)
@@ -92,7 +92,7 @@ answer_to p a m name (Some k) = record {
 
 abbrev pub answer_lead_to : Party → Arrival → Rsm → KeyName → Option KeyRec → Option Lead
 answer_lead_to p a m name None = None
-answer_lead_to p a m name (Some k) = cond (passes (end_front p m name (Some k))) (Some (lead_under a (full_name p.own k) k.value)) None
+answer_lead_to p a m name (Some k) = cond (tests_pass (end_front p m name (Some k))) (Some (lead_under a (full_name p.own k) k.value)) None
 
 abbrev pub rsm_with : Party → Arrival → Rsm → Option KeyName → Row
 rsm_with p a m None = rsm_by p a m (twins_to p m.originator)

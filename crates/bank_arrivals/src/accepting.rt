@@ -21,7 +21,7 @@ ghost use Rattle.role_base.specs.Order.{InOrder};
 ghost use Rattle.role_base.specs.Sending.{sending_tests};
 ghost use Rattle.role_base.specs.Sends.{SendsKey};
 ghost use Rattle.role_base.specs.Texts.{is_plain, is_verified};
-ghost use Rattle.bank_arrivals.specs.declared.error_message.Subject.{Subject as TheSubject};
+ghost use Rattle.bank_arrivals.specs.declared.error_message.ErrorSubject.{ErrorSubject as TheErrorSubject};
 ghost use Rattle.bank_arrivals.specs.Rsi.{rsi, rsi_tests};
 ghost use Rattle.bank_arrivals.specs.declared.draws.TwinsDrawn.{TwinsDrawn as TheTwinsDrawn};
 ghost use Rattle.bank_arrivals.specs.SendingTwins.{twins_tests};
@@ -85,7 +85,7 @@ pub fn law_order()
     ensures rsm { (p : Party) (a : TheArrival) (m : TheRsm) (found : Option TheSent) (value : ℕ) → InOrder (rsm_front p m found ++ (is_verified a value, BadMac) ∷ []) }
     ensures rsm_to_two { (p : Party) (a : TheArrival) (m : TheRsm) (value : ℕ) → InOrder (twins_front p m ++ (is_verified a value, BadMac) ∷ []) }
     ensures end { (p : Party) (a : TheArrival) (m : TheRsm) (name : TheKeyName) (found : Option TheRecord) (value : ℕ) → InOrder (end_front p m name found ++ (is_verified a value, BadMac) ∷ []) }
-    ensures esm { (p : Party) (a : TheArrival) (m : TheEsm) (found : Option TheSubject) (value : ℕ) → InOrder (esm_front p m found ++ (is_verified a value, BadMac) ∷ []) }
+    ensures esm { (p : Party) (a : TheArrival) (m : TheEsm) (found : Option TheErrorSubject) (value : ℕ) → InOrder (esm_front p m found ++ (is_verified a value, BadMac) ∷ []) }
     ensures plain { (p : Party) (a : TheArrival) (m : TheEsm) → InOrder (plain_tests p a m) }
     ensures dsm { (p : Party) (a : TheArrival) (m : TheDsm) (value : ℕ) → InOrder (dsm_front p m true ++ (is_verified a value, BadMac) ∷ []) }
 {}

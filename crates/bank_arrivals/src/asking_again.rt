@@ -3,7 +3,7 @@ ghost use Rattle.std.specs.Prelude.{◌≡◌, IfOk};
 ghost use Rattle.role_base.specs.Replies.{IsWritten, AreWritten};
 ghost use Rattle.bank_arrivals.specs.AskingAgain.{retry_by, retry_of, ers_message, ers_reply, asked_again, again_reply};
 
-use crate::error_message::Subject;
+use crate::error_message::ErrorSubject;
 use csm_grammar::{Ers, Esm, Message};
 use party_state::{Edit, Exchange, Kind, State, Via};
 use role_base::{Written, centre_label, direct_name, list_of};
@@ -20,10 +20,10 @@ pub struct Retry {
 }
 
 /// The centre of a key that went this way, where no exchange with it stands.
-fn retry_by(state: &State, way: &Via, ctr: Option<Count>) -> Option<Retry>
-    ensures { result ≡ retry_by state.now way.now ctr }
+fn retry_by(state: &State, via: &Via, ctr: Option<Count>) -> Option<Retry>
+    ensures { result ≡ retry_by state.now via.now ctr }
 {
-    match way {
+    match via {
         Via::Distribution { centre, cta } => {
             let ctr = ctr?;
             if state.exchange(centre).is_none() {
@@ -41,12 +41,12 @@ fn retry_by(state: &State, way: &Via, ctr: Option<Count>) -> Option<Retry>
 }
 
 /// What a centre is to be asked, where the error message names a count.
-pub(crate) fn retry_of(state: &State, subject: &Subject, ctr: Option<Count>) -> Option<Retry>
+pub(crate) fn retry_of(state: &State, subject: &ErrorSubject, ctr: Option<Count>) -> Option<Retry>
     ensures { result ≡ retry_of state.now subject.now ctr }
 {
     match subject {
-        Subject::SentKey(sent) => retry_by(state, &sent.way, ctr),
-        Subject::SentTwins(_) | Subject::Translated(..) => None,
+        ErrorSubject::SentKey(sent) => retry_by(state, &sent.via, ctr),
+        ErrorSubject::SentTwins(_) | ErrorSubject::Translated(..) => None,
     }
 }
 

@@ -15,20 +15,20 @@ use csm_grammar::{Arrival, Dsm, Message, Rsm};
 use party_state::{Decision, Edit, KeyRec, KeyStatus, Kind, Lead, State, law_found, name_behind};
 use role_base::{
     Written, accept, dropped, early_refusal, ended, is_accept, is_for, joined, key_lead, list_of,
-    new_link, no_extras, passes, record_behind, record_of, refusal, verdict_after, verdict_of,
+    new_link, no_extras, record_behind, record_of, refusal, tests_pass, verdict_after, verdict_of,
 };
 use std::alloc::Global;
 use x_base::{Ident, KeyName, NoMemory, Verdict};
 
 /// The key that ends, and the key whose code closes the message.
 #[derive(Clone, Copy)]
-pub struct Named {
+pub struct NamedKey {
     pub key: KeyRec,
     pub by: KeyRec,
 }
 
 /// The keys that a message names: the second is that of IDA, or of IDD where IDA is absent.
-fn named_by(state: &State, message: &Dsm) -> Option<Named>
+fn named_by(state: &State, message: &Dsm) -> Option<NamedKey>
     ensures { result ≡ named_by state.now message.now }
 {
     let key = record_of(state, &message.originator, &message.idd)?;
@@ -36,7 +36,7 @@ fn named_by(state: &State, message: &Dsm) -> Option<Named>
         None => key,
         Some(ida) => record_of(state, &message.originator, ida)?,
     };
-    Some(Named { key, by })
+    Some(NamedKey { key, by })
 }
 
 /// The tests before the code's.
@@ -213,7 +213,7 @@ pub fn dsm_lead(state: &State, arrival: &Arrival, message: &Dsm) -> Option<Lead>
     ensures { result ≡ dsm_lead state.now arrival.now message.now }
 {
     let named = named_by(state, message)?;
-    if passes(&dsm_front(state, message, true)) {
+    if tests_pass(&dsm_front(state, message, true)) {
         Some(key_lead(state, arrival, &named.by))
     } else {
         None

@@ -1,9 +1,9 @@
 // What is given up where an error message arrives, and the count that it names.
 ghost use Rattle.std.specs.Prelude.{◌≡◌, ◌++◌, ◌∷◌, IfOk};
 ghost use Rattle.party_state.specs.declared.edit.Edit.TheVariants.{DropExchange};
-ghost use Rattle.bank_arrivals.specs.Esm.{is_renewed, way_link, subject_link, raised, subject_ended};
+ghost use Rattle.bank_arrivals.specs.Esm.{is_renewed, via_link, subject_link, raised, subject_ended};
 
-use crate::error_message::Subject;
+use crate::error_message::ErrorSubject;
 use csm_grammar::Esm;
 use party_state::{Edit, KeyRec, KeyStatus, LinkRec, State, Via};
 use role_base::{Twins, centre_label, dropped, joined, list_of, new_link};
@@ -21,10 +21,10 @@ fn is_renewed(label: &Label, new: &Option<Label>) -> bool
 }
 
 /// The link under which a key went, unless it goes with a new key-encrypting key.
-fn way_link(state: &State, peer: &Ident, way: &Via) -> Option<LinkRec>
-    ensures { result ≡ way_link state.now peer.now way.now }
+fn via_link(state: &State, peer: &Ident, via: &Via) -> Option<LinkRec>
+    ensures { result ≡ via_link state.now peer.now via.now }
 {
-    match way {
+    match via {
         Via::Direct { label, new } => {
             if is_renewed(label, new) {
                 None
@@ -37,17 +37,17 @@ fn way_link(state: &State, peer: &Ident, way: &Via) -> Option<LinkRec>
 }
 
 /// The link whose count the partner names.
-fn subject_link(state: &State, peer: &Ident, subject: &Subject) -> Option<LinkRec>
+fn subject_link(state: &State, peer: &Ident, subject: &ErrorSubject) -> Option<LinkRec>
     ensures { result ≡ subject_link state.now peer.now subject.now }
 {
     match subject {
-        Subject::SentKey(sent) => way_link(state, peer, &sent.way),
-        Subject::SentTwins(twins) => {
+        ErrorSubject::SentKey(sent) => via_link(state, peer, &sent.via),
+        ErrorSubject::SentTwins(twins) => {
             state
                 .link(peer, &twins.first.name.label, Side::Sends)
                 .copied()
         }
-        Subject::Translated(..) => state.link(peer, &centre_label(), Side::Sends).copied(),
+        ErrorSubject::Translated(..) => state.link(peer, &centre_label(), Side::Sends).copied(),
     }
 }
 
@@ -66,23 +66,23 @@ fn subject_ended(
     alloc: Global,
     state: &State,
     peer: &Ident,
-    subject: &Subject,
+    subject: &ErrorSubject,
 ) -> Result<Vec<Edit>, NoMemory>
     ensures { IfOk result (λ edits. edits.items ≡ subject_ended state.now peer.now subject.now) }
 {
     match subject {
-        Subject::SentKey(sent) => {
+        ErrorSubject::SentKey(sent) => {
             let status = KeyStatus::Ended;
             let key = list_of(alloc, [Edit::PutKey(KeyRec { status, ..sent.key })])?;
-            joined(dropped(alloc, new_link(state, peer, &sent.way))?, key)
+            joined(dropped(alloc, new_link(state, peer, &sent.via))?, key)
         }
-        Subject::SentTwins(Twins { first, second }) => {
+        ErrorSubject::SentTwins(Twins { first, second }) => {
             let status = KeyStatus::Ended;
             let first = Edit::PutKey(KeyRec { status, ..*first });
             let second = Edit::PutKey(KeyRec { status, ..*second });
             list_of(alloc, [first, second])
         }
-        Subject::Translated(..) => Ok(Vec::new(alloc)),
+        ErrorSubject::Translated(..) => Ok(Vec::new(alloc)),
     }
 }
 
@@ -91,7 +91,7 @@ pub(crate) fn error_edits(
     alloc: Global,
     state: &State,
     message: &Esm,
-    subject: &Subject,
+    subject: &ErrorSubject,
     asked: Vec<Edit>,
 ) -> Result<Vec<Edit>, NoMemory>
     ensures { let peer = message.now.originator in IfOk result (λ edits. edits.items ≡

@@ -16,7 +16,7 @@ use csm_write::law_canon_short;
 use party_state::{Decision, Kind, Lead, State, law_found, law_found_in_range};
 use role_base::{
     Sent, Twins, accept, answer_front, answer_verdict, centre_label, direct_name, early_refusal,
-    is_accept, lead_under, not_answering, passes, refusal, sent_by, twins_by,
+    is_accept, lead_under, not_answering, refusal, sent_by, tests_pass, twins_by,
 };
 use std::alloc::Global;
 use x_base::{Count, FullName, Ident, NoMemory};
@@ -24,63 +24,63 @@ use x_base::{Count, FullName, Ident, NoMemory};
 /// What an error message speaks of: a key that was sent, two keys that were sent in one message, or a
 /// key with a translation centre.
 #[derive(Clone, Copy)]
-pub enum Subject {
+pub enum ErrorSubject {
     SentKey(Sent),
     SentTwins(Twins),
     /// Its value, and the count at the centre.
     Translated(u64, Count),
 }
 
-fn subject_by(state: &State, peer: &Ident, kind: &Kind) -> Option<Subject>
+fn subject_by(state: &State, peer: &Ident, kind: &Kind) -> Option<ErrorSubject>
     ensures { result ≡ subject_by state.now peer.now kind.now }
 {
     match kind {
         Kind::KeySent { .. } => {
             let sent = sent_by(state, peer, kind)?;
-            Some(Subject::SentKey(sent))
+            Some(ErrorSubject::SentKey(sent))
         }
         Kind::PairSent { .. } => {
             let twins = twins_by(state, peer, kind)?;
-            Some(Subject::SentTwins(twins))
+            Some(ErrorSubject::SentTwins(twins))
         }
-        Kind::Translating { value, cta, .. } => Some(Subject::Translated(*value, *cta)),
+        Kind::Translating { value, cta, .. } => Some(ErrorSubject::Translated(*value, *cta)),
         Kind::Asked { .. } | Kind::Ending { .. } => None,
     }
 }
 
 /// What the exchange with the peer is about, where an error message can speak of it.
-fn subject_with(state: &State, peer: &Ident) -> Option<Subject>
+fn subject_with(state: &State, peer: &Ident) -> Option<ErrorSubject>
     ensures { result ≡ subject_with state.now peer.now }
 {
     let exchange = state.exchange(peer)?;
     subject_by(state, peer, &exchange.kind)
 }
 
-fn subject_value(subject: &Subject) -> u64
+fn subject_value(subject: &ErrorSubject) -> u64
     ensures { result ≡ subject_value subject.now }
 {
     match subject {
-        Subject::SentKey(sent) => sent.key.value,
-        Subject::SentTwins(twins) => twins.value(),
-        Subject::Translated(value, _) => *value,
+        ErrorSubject::SentKey(sent) => sent.key.value,
+        ErrorSubject::SentTwins(twins) => twins.value(),
+        ErrorSubject::Translated(value, _) => *value,
     }
 }
 
 /// The full name of its key, of two keys that of the first.
-fn subject_name(state: &State, peer: &Ident, subject: &Subject) -> FullName
+fn subject_name(state: &State, peer: &Ident, subject: &ErrorSubject) -> FullName
     ensures { result ≡ subject_name state.now peer.now subject.now }
 {
     match subject {
-        Subject::SentKey(sent) => sent.key.full_name(&state.own()),
-        Subject::SentTwins(twins) => twins.first.full_name(&state.own()),
-        Subject::Translated(_, cta) => FullName {
+        ErrorSubject::SentKey(sent) => sent.key.full_name(&state.own()),
+        ErrorSubject::SentTwins(twins) => twins.first.full_name(&state.own()),
+        ErrorSubject::Translated(_, cta) => FullName {
             name: direct_name(state.own(), centre_label(), *cta),
             recipient: *peer,
         },
     }
 }
 
-fn subject_lead(state: &State, arrival: &Arrival, peer: &Ident, subject: &Subject) -> Lead
+fn subject_lead(state: &State, arrival: &Arrival, peer: &Ident, subject: &ErrorSubject) -> Lead
     ensures { result ≡ lead_under arrival.now (subject_name state.now peer.now subject.now) (subject_value subject.now) }
 {
     let under = subject_name(state, peer, subject);
@@ -93,7 +93,7 @@ fn esm_about(
     state: &State,
     arrival: &Arrival,
     message: &Esm,
-    found: &Option<Subject>,
+    found: &Option<ErrorSubject>,
     lead: &Option<Lead>,
 ) -> Result<Decision, NoMemory>
     requires { lead.now ≡ esm_lead_of state.now arrival.now message.now found.now }
@@ -158,7 +158,7 @@ fn esm_lead_of(
     state: &State,
     arrival: &Arrival,
     message: &Esm,
-    found: &Option<Subject>,
+    found: &Option<ErrorSubject>,
 ) -> Option<Lead>
     ensures { result ≡ esm_lead_of state.now arrival.now message.now found.now }
 {
@@ -166,7 +166,7 @@ fn esm_lead_of(
         return None;
     };
     let peer = &message.originator;
-    if passes(&answer_front(state, &message.receiver, peer, true)) {
+    if tests_pass(&answer_front(state, &message.receiver, peer, true)) {
         Some(subject_lead(state, arrival, peer, subject))
     } else {
         None

@@ -22,7 +22,7 @@ use csm_grammar::law_arrived;
 use party_state::{law_accept, law_drop, law_found, law_put, law_same};
 
 /// The edits of each of these rows are apart.
-pub fn law_apart()
+pub fn law_arrivals_apart()
     ensures rsi { (p : Party) (a : TheArrival) (m : TheRsi) (moment : ℕ) → AreApart (rsi p a m moment).edits }
     ensures rsm { (p : Party) (a : TheArrival) (m : TheRsm) → AreApart (rsm p a m).edits }
     ensures esm { (p : Party) (a : TheArrival) (m : TheEsm) → AreApart (error p a m).edits }
@@ -35,7 +35,7 @@ pub fn law_apart()
 
 /// There is no key to test the code of an arrival under exactly where the arrival is closed by an
 /// error detection code, as each request is, or is refused before its code is looked at.
-pub fn law_lead()
+pub fn law_arrival_lead()
     ensures rsi { (a : TheArrival) (m : TheRsi) → a.parsed.message ≡ message.Rsi m → is_plain a.parsed.shut ≡ true }
     ensures rsm { (p : Party) (a : TheArrival) (m : TheRsm) → a.parsed.message ≡ message.Rsm m →
         ((rsm_lead p a m ≡ None) ↔ ((is_plain a.parsed.shut ≡ true) ⊎ (is_early (rsm p a m).verdict ≡ true))) }

@@ -19,10 +19,10 @@ mod twin_response;
 
 pub use accepting::{law_accepts, law_begins, law_left, law_order, law_serves};
 pub use asking_again::Retry;
-pub use disconnection::{Named, dsm, dsm_lead};
+pub use disconnection::{NamedKey, dsm, dsm_lead};
 pub use draws::TwinsDrawn;
-pub use error_message::{Subject, esm, esm_lead};
-pub use laws::{law_apart, law_heard, law_lead};
+pub use error_message::{ErrorSubject, esm, esm_lead};
+pub use laws::{law_arrival_lead, law_arrivals_apart, law_heard};
 pub use ranged::law_ranged;
 pub use request::rsi;
 pub use response::{rsm, rsm_lead};

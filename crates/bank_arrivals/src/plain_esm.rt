@@ -15,8 +15,8 @@ fn plain_verdict(state: &State, arrival: &Arrival, message: &Esm) -> Verdict
     ensures { result ≡ verdict_of (plain_tests state.now arrival.now message.now) }
 {
     let peer = &message.originator;
-    let front = answer_front(state, &message.receiver, peer, is_waiting(state, peer));
-    verdict_after(&front, &[(is_right(arrival), Verdict::BadEdc)])
+    let tests_before_code = answer_front(state, &message.receiver, peer, is_waiting(state, peer));
+    verdict_after(&tests_before_code, &[(is_right(arrival), Verdict::BadEdc)])
 }
 
 /// One that is closed by an error detection code alone changes nothing.

@@ -12,17 +12,17 @@ use csm_grammar::{Arrival, Rsm};
 use party_state::{Decision, Edit, KeyRec, KeyStatus, Lead, State, law_found, law_found_in_range};
 use role_base::{
     Sent, Twins, accept, answer_front, answer_verdict, early_refusal, ending_with, is_accept,
-    joined, key_lead, list_of, new_link, not_answering, passes, readied, refusal, sent_by,
+    joined, key_lead, list_of, new_link, not_answering, readied, refusal, sent_by, tests_pass,
     twins_by,
 };
 use std::alloc::Global;
 use x_base::{Ident, KeyName, NoMemory};
 
 fn live(alloc: Global, state: &State, message: &Rsm, sent: &Sent) -> Result<Vec<Edit>, NoMemory>
-    ensures { IfOk result (λ edits. edits.items ≡ readied (new_link state.now message.now.originator sent.now.way)
+    ensures { IfOk result (λ edits. edits.items ≡ readied (new_link state.now message.now.originator sent.now.via)
         ++ PutKey (record sent.now.key { status = Live }) ∷ DropExchange message.now.originator ∷ []) }
 {
-    let link = new_link(state, &message.originator, &sent.way);
+    let link = new_link(state, &message.originator, &sent.via);
     let key = KeyRec {
         status: KeyStatus::Live,
         ..sent.key
@@ -77,7 +77,7 @@ fn rsm_lead_to(state: &State, arrival: &Arrival, message: &Rsm, found: Option<Se
     ensures { result ≡ rsm_lead_to state.now arrival.now message.now found }
 {
     let sent = found?;
-    if passes(&answer_front(state, &message.receiver, &message.originator, true)) {
+    if tests_pass(&answer_front(state, &message.receiver, &message.originator, true)) {
         Some(key_lead(state, arrival, &sent.key))
     } else {
         None
@@ -135,7 +135,7 @@ fn answer_lead_to(
 {
     let named = is_named(name, &found);
     let key = found?;
-    if passes(&answer_front(state, &message.receiver, &message.originator, named)) {
+    if tests_pass(&answer_front(state, &message.receiver, &message.originator, named)) {
         Some(key_lead(state, arrival, &key))
     } else {
         None

@@ -9,7 +9,7 @@ use csm_grammar::{Arrival, Rsm};
 use party_state::{Decision, Edit, KeyRec, KeyStatus, Lead, State};
 use role_base::{
     Twins, accept, answer_front, answer_verdict, early_refusal, is_accept, lead_under, list_of,
-    passes, refusal,
+    refusal, tests_pass,
 };
 use std::alloc::Global;
 use x_base::{Ident, NoMemory};
@@ -62,7 +62,7 @@ pub(crate) fn twins_lead(
 ) -> Option<Lead>
     ensures { result ≡ twins_lead state.now arrival.now message.now twins.now }
 {
-    if passes(&answer_front(state, &message.receiver, &message.originator, true)) {
+    if tests_pass(&answer_front(state, &message.receiver, &message.originator, true)) {
         let under = twins.first.full_name(&state.own());
         Some(lead_under(arrival, under, twins.value()))
     } else {

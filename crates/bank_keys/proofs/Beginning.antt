@@ -14,7 +14,7 @@ use Rattle.party_state.specs.Verdicts.{Held, is_accept}
 use Rattle.role_base.specs.Beginning.{AllBeginFree}
 use Rattle.role_base.proofs.PartyLaws.{HeldIfAccepted}
 use Rattle.role_base.proofs.Beginning.{none_stands, begin_append}
-use Rattle.bank_keys.specs.declared.waits.Waiting.{Waiting}
+use Rattle.bank_keys.specs.declared.waits.KeyAtCentre.{KeyAtCentre}
 use Rattle.bank_keys.specs.Waiting.{waiting_with}
 use Rattle.bank_keys.specs.Ksm.{body_link, body_count, body_new, body_record, body_second, taken_edits, second_edits, key_row, key_arrives}
 use Rattle.bank_keys.specs.Rtr.{brought_tests, brought, translated_tests, translated, rtr_with, rtr}
@@ -45,7 +45,7 @@ with_begins held p a m (Some k) e = by_link (link_with (takes m.originator centr
     by_link (Some l) e = let h : Held (brought_tests p a m k l) = held (brought_tests p a m k l) refl e in (tt, (tt, (tt, (none_stands (exchange_with m.ultimate p) h.1.1.1.0, tt))))
 with_begins held p a m None e = by_waiting (waiting_with p m.originator) e
   where
-    by_waiting : (o : Option Waiting) → is_accept (translated p a m o).verdict ≡ true → AllBeginFree p (translated p a m o).edits
+    by_waiting : (o : Option KeyAtCentre) → is_accept (translated p a m o).verdict ≡ true → AllBeginFree p (translated p a m o).edits
     by_waiting None e = tt
     by_waiting (Some t) e = let h : Held (translated_tests p a m t) = held (translated_tests p a m t) refl e in (tt, (tt, (none_stands (exchange_with m.ultimate p) h.1.1.1.0, tt)))
 

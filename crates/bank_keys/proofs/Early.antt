@@ -27,7 +27,7 @@ use Rattle.role_base.specs.Conditions.{is_for, body_issuer, count_tests}
 use Rattle.role_base.specs.Errors.{is_early}
 use Rattle.role_base.proofs.Early.{early_refusal, led}
 use Rattle.role_base.proofs.Unled.{none_exactly}
-use Rattle.bank_keys.specs.declared.waits.Waiting.{Waiting}
+use Rattle.bank_keys.specs.declared.waits.KeyAtCentre.{KeyAtCentre}
 use Rattle.bank_keys.specs.Waiting.{waiting_with, is_asked_in}
 use Rattle.bank_keys.specs.Ksm.{body_link, body_count, body_new, body_code, body_front, body_rest, key_row, key_arrives, key_found, key_lead_with, key_lead}
 use Rattle.bank_keys.specs.Rtr.{rtr_front, rtr_rest, brought_front, brought_value, brought, brought_under, brought_lead, translated_front, translated, translated_under, translated_lead, rtr_with, rtr, rtr_lead_with, rtr_lead}
@@ -43,7 +43,7 @@ brought_led : (p : Party) (a : Arrival) (m : Rtr) (k : ℕ × ℕ) (o : Option L
 brought_led p a m k None = early_refusal (rtr_front p m (is_asked_in (exchange_with m.originator p) m.ultimate)) UnknownKk refl refl
 brought_led p a m k (Some l) = led (brought_front p m (Some l)) ((is_verified a (brought_value l k), BadMac) ∷ (count_tests l k.1 ++ rtr_rest p m)) (lead_under a (brought_under p m k.1) (brought_value l k)) refl refl
 
-translated_led : (p : Party) (a : Arrival) (m : Rtr) (o : Option Waiting) → is_none (translated_lead p a m o) ≡ is_early (translated p a m o).verdict
+translated_led : (p : Party) (a : Arrival) (m : Rtr) (o : Option KeyAtCentre) → is_none (translated_lead p a m o) ≡ is_early (translated p a m o).verdict
 translated_led p a m None = go (is_for p m.receiver m.originator) (knows m.originator p)
   where
     go : (x k : Bool) → true ≡ is_early (cond x (cond k NoExchange UnknownPeer) NotForMe)

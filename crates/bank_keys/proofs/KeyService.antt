@@ -14,9 +14,9 @@ use Rattle.party_state.specs.declared.edit.Edit.{Edit}
 use Rattle.party_state.specs.declared.decision.Decision.{Decision}
 use Rattle.party_state.specs.declared.decision.Lead.{Lead}
 use Rattle.party_state.specs.State.{Party, knows}
-use Rattle.party_state.specs.Verdicts.{Test, verdict_of, passes, is_accept}
+use Rattle.party_state.specs.Verdicts.{Test, verdict_of, tests_pass, is_accept}
 use Rattle.party_state.specs.Rows.{Reply, Coded}
-use Rattle.role_base.specs.declared.errors.Counts.{Counts}
+use Rattle.role_base.specs.declared.errors.ErrorCounts.{ErrorCounts}
 use Rattle.role_base.specs.Deciding.{decision_of, accepting}
 use Rattle.role_base.specs.Errors.{answering, coded_under, error_for}
 use Rattle.role_base.specs.Replies.{AreWritten, IsWritten}
@@ -30,15 +30,15 @@ verdict_is : (p : Party) (a : Arrival) (m : Ksm) (b : KsmBody) (l : LinkRec) (x 
 verdict_is p a m b l x v e i = e ∙ ap (λ (y : Lead). verdict_of (body_front p m b (Some l) ++ (y.verified, BadMac) ∷ body_rest p m b l)) i
 
 -- the tests before the code's hold where a lead is there
-pub key_passed : (p : Party) (a : Arrival) (m : Ksm) (b : KsmBody) (l : LinkRec) (o : Option LinkRec) (x : Option Lead) (y : Lead) → o ≡ Some l → x ≡ key_lead_with p a m b o → x ≡ Some y → passes (body_front p m b (Some l)) ≡ true
-key_passed p a m b l o x y f h i = by_test (passes (body_front p m b (Some l))) (key_found p a m b l) x (h ∙ ap (λ (k : Option LinkRec). key_lead_with p a m b k) f) i
+pub key_passed : (p : Party) (a : Arrival) (m : Ksm) (b : KsmBody) (l : LinkRec) (o : Option LinkRec) (x : Option Lead) (y : Lead) → o ≡ Some l → x ≡ key_lead_with p a m b o → x ≡ Some y → tests_pass (body_front p m b (Some l)) ≡ true
+key_passed p a m b l o x y f h i = by_test (tests_pass (body_front p m b (Some l))) (key_found p a m b l) x (h ∙ ap (λ (k : Option LinkRec). key_lead_with p a m b k) f) i
   where
     by_test : (t : Bool) (z : Lead) (o : Option Lead) → o ≡ cond t (Some z) None → o ≡ Some y → t ≡ true
     by_test true z o e j = refl
     by_test false z o e j = absurd (cc)
 
 -- where they hold, the others give the verdict
-front_verdict : (p : Party) (m : Ksm) (b : KsmBody) (l : LinkRec) (ts : List Test) → passes (body_front p m b (Some l)) ≡ true → verdict_of (body_front p m b (Some l) ++ ts) ≡ verdict_of ts
+front_verdict : (p : Party) (m : Ksm) (b : KsmBody) (l : LinkRec) (ts : List Test) → tests_pass (body_front p m b (Some l)) ≡ true → verdict_of (body_front p m b (Some l) ++ ts) ≡ verdict_of ts
 front_verdict p m b l ts h = go (is_for p m.receiver m.originator) (knows (body_issuer m.originator b) p) h
   where
     go : (x k : Bool) → (x && (k && true)) ≡ true → cond x (cond k (verdict_of ts) UnknownPeer) NotForMe ≡ verdict_of ts
@@ -48,7 +48,7 @@ front_verdict p m b l ts h = go (is_for p m.receiver m.originator) (knows (body_
 
 -- the verdict, with what was found of the keys that come
 pub key_verdict : (p : Party) (m : Ksm) (b : KsmBody) (l : LinkRec) (taken : Option LinkRec) (first : KeyRec) (second : Option KeyRec) (room code : Bool) (v : Verdict) → taken ≡ body_taken m.originator l b → first ≡ body_record p m b l → second ≡ body_second p m b l → room ≡ have_room p (record_key first) second
-    → passes (body_front p m b (Some l)) ≡ true → v ≡ verdict_of ((code, BadMac) ∷ (count_tests l (body_count b) ++ (link_tests p taken ++ (room, KeysFull) ∷ []))) → v ≡ verdict_of (body_front p m b (Some l) ++ (code, BadMac) ∷ body_rest p m b l)
+    → tests_pass (body_front p m b (Some l)) ≡ true → v ≡ verdict_of ((code, BadMac) ∷ (count_tests l (body_count b) ++ (link_tests p taken ++ (room, KeysFull) ∷ []))) → v ≡ verdict_of (body_front p m b (Some l) ++ (code, BadMac) ∷ body_rest p m b l)
 key_verdict p m b l taken first second room code v t f s r h e =
     e ∙ (ap (λ (o : Option LinkRec). verdict_of ((code, BadMac) ∷ (count_tests l (body_count b) ++ (link_tests p o ++ (room, KeysFull) ∷ [])))) t
     ∙ ap (λ (x : Bool). verdict_of ((code, BadMac) ∷ (count_tests l (body_count b) ++ (link_tests p (body_taken m.originator l b) ++ (x, KeysFull) ∷ []))))
@@ -67,13 +67,13 @@ key_edits p m b l taken first second es t f s e =
 pub key_led : (p : Party) (a : Arrival) (m : Ksm) (b : KsmBody) (l : LinkRec) (o : Option LinkRec) (x : Option Lead) (y : Lead) → o ≡ Some l → x ≡ key_lead_with p a m b o → x ≡ Some y → y ≡ key_found p a m b l
 key_led p a m b l o x y f h i = given_is _ (key_found p a m b l) y x (h ∙ ap (λ (k : Option LinkRec). key_lead_with p a m b k) f) i
 
-pub key_refuses : (p : Party) (a : Arrival) (m : Ksm) (b : KsmBody) (l : LinkRec) (x : Lead) (v : Verdict) (counts : Counts) (made : Result Decision NoMemory) → v ≡ verdict_of (body_front p m b (Some l) ++ (x.verified, BadMac) ∷ body_rest p m b l) → x ≡ key_found p a m b l → is_accept v ≡ false → counts ≡ body_counts b
+pub key_refuses : (p : Party) (a : Arrival) (m : Ksm) (b : KsmBody) (l : LinkRec) (x : Lead) (v : Verdict) (counts : ErrorCounts) (made : Result Decision NoMemory) → v ≡ verdict_of (body_front p m b (Some l) ++ (x.verified, BadMac) ∷ body_rest p m b l) → x ≡ key_found p a m b l → is_accept v ≡ false → counts ≡ body_counts b
     → IfOk made (λ d. d ≡ answering v (coded_under x.under x.value (error_for p m.originator counts v))) → IfOk made (λ d. d ≡ decision_of p (key_row p a m b (Some l)))
 key_refuses p a m b l x v counts made e i f n k =
     let w : v ≡ (key_row p a m b (Some l)).verdict = verdict_is p a m b l x v e i in
     let r : answering v (coded_under x.under x.value (error_for p m.originator counts v)) ≡ decision_of p (key_row p a m b (Some l)) =
     ap (λ (y : Lead). answering v (coded_under y.under y.value (error_for p m.originator counts v))) i
-    ∙ (ap (λ (c : Counts). answering v (coded_under (body_name p m.originator b l) (body_code l.pair m.originator p.own b) (error_for p m.originator c v))) n
+    ∙ (ap (λ (c : ErrorCounts). answering v (coded_under (body_name p m.originator b l) (body_code l.pair m.originator p.own b) (error_for p m.originator c v))) n
     ∙ (ap (λ (u : Verdict). answering v (coded_under (body_name p m.originator b l) (body_code l.pair m.originator p.own b) (error_for p m.originator (body_counts b) u))) w
     ∙ by_answered p (key_row p a m b (Some l)) v w f)) in
     if_made made _ _ r k

@@ -14,7 +14,7 @@ use Rattle.party_tables.specs.declared.link.LinkRec.{LinkRec}
 use Rattle.party_tables.specs.declared.key.KeyRec.{KeyRec}
 use Rattle.party_tables.specs.declared.exchange.Exchange.{Exchange}
 use Rattle.party_tables.specs.declared.exchange.Via.{Via}
-use Rattle.party_tables.specs.declared.exchange.Via.TheVariants as via
+use Rattle.party_tables.specs.declared.exchange.Via.TheVariants as vias
 use Rattle.party_state.specs.declared.edit.Edit.TheVariants.{PutLink, PutKey}
 use Rattle.party_tables.specs.Keys.{same_link, link_key, record_key, takes}
 use Rattle.party_state.specs.State.{Party, centre_label, link_with, exchange_with, is_usable}
@@ -27,7 +27,7 @@ use Rattle.role_base.proofs.PartyLaws.{HeldIfAccepted, LinkLaws, KeyLaws}
 use Rattle.role_base.proofs.TwinKeys.{other_record}
 use Rattle.role_base.proofs.Beginning.{peers_apart}
 use Rattle.bank_keys.proofs.TwoKeys.{OtherKey, others_apart}
-use Rattle.bank_keys.specs.declared.waits.Waiting.{Waiting}
+use Rattle.bank_keys.specs.declared.waits.KeyAtCentre.{KeyAtCentre}
 use Rattle.bank_keys.specs.Waiting.{waiting_in, waiting_with, is_asked_in}
 use Rattle.bank_keys.specs.Ksm.{link_in_use, body_link, body_count, body_next, body_new, body_record, second_edits, body_second, body_tests, new_tests, taken_edits, key_row, key_arrives}
 use Rattle.bank_keys.specs.Rtr.{passed_on, used_edits, brought_value, brought_tests, brought, translated_tests, translated, rtr_with, rtr}
@@ -92,13 +92,13 @@ asked_there : (o : Option Exchange) (u : List ℕ) → is_asked_in o u ≡ true 
 asked_there None u h = cc
 asked_there (Some e) u h = refl
 
-waiting_there : (o : Option Exchange) (t : Waiting) → waiting_in o ≡ Some t → is_some o ≡ true
+waiting_there : (o : Option Exchange) (t : KeyAtCentre) → waiting_in o ≡ Some t → is_some o ≡ true
 waiting_there None t h = cc
 waiting_there (Some e) t h = refl
 
-passed_apart : (p : Party) (m : Rtr) (used : Option LinkRec) (value : ℕ) (way : Via) → is_some (exchange_with m.originator p) ≡ true → is_none (exchange_with m.ultimate p) ≡ true → AreApart (used_edits used ++ passed_on p m value way)
-passed_apart p m None value way there free = ((refl, (refl, tt)), ((peers_apart p m.originator m.ultimate there free, tt), (tt, tt)))
-passed_apart p m (Some l) value way there free = ((refl, (refl, (refl, tt))), ((refl, (refl, tt)), ((peers_apart p m.originator m.ultimate there free, tt), (tt, tt))))
+passed_apart : (p : Party) (m : Rtr) (used : Option LinkRec) (value : ℕ) (via : Via) → is_some (exchange_with m.originator p) ≡ true → is_none (exchange_with m.ultimate p) ≡ true → AreApart (used_edits used ++ passed_on p m value via)
+passed_apart p m None value via there free = ((refl, (refl, tt)), ((peers_apart p m.originator m.ultimate there free, tt), (tt, tt)))
+passed_apart p m (Some l) value via there free = ((refl, (refl, (refl, tt))), ((refl, (refl, tt)), ((peers_apart p m.originator m.ultimate there free, tt), (tt, tt))))
 
 with_apart : HeldIfAccepted → (p : Party) (a : Arrival) (m : Rtr) (o : Option (ℕ × ℕ)) → is_accept (rtr_with p a m o).verdict ≡ true → AreApart (rtr_with p a m o).edits
 with_apart held p a m (Some k) t = by_link (link_with (takes m.originator centre_label) p) t
@@ -107,14 +107,14 @@ with_apart held p a m (Some k) t = by_link (link_with (takes m.originator centre
     by_link None t = tt
     by_link (Some l) t =
         let h : Held (brought_tests p a m k l) = held (brought_tests p a m k l) refl t in
-        passed_apart p m (Some (record l { next = k.1 + 1 })) (brought_value l k) (via.Distribution m.originator k.1) (asked_there (exchange_with m.originator p) m.ultimate h.1.1.0) h.1.1.1.0
+        passed_apart p m (Some (record l { next = k.1 + 1 })) (brought_value l k) (vias.Distribution m.originator k.1) (asked_there (exchange_with m.originator p) m.ultimate h.1.1.0) h.1.1.1.0
 with_apart held p a m None t = by_waiting (waiting_with p m.originator) refl t
   where
-    by_waiting : (o : Option Waiting) → waiting_with p m.originator ≡ o → is_accept (translated p a m o).verdict ≡ true → AreApart (translated p a m o).edits
+    by_waiting : (o : Option KeyAtCentre) → waiting_with p m.originator ≡ o → is_accept (translated p a m o).verdict ≡ true → AreApart (translated p a m o).edits
     by_waiting None e t = tt
     by_waiting (Some w) e t =
         let h : Held (translated_tests p a m w) = held (translated_tests p a m w) refl t in
-        passed_apart p m None w.value (via.Translation m.originator) (waiting_there (exchange_with m.originator p) w e) h.1.1.1.0
+        passed_apart p m None w.value (vias.Translation m.originator) (waiting_there (exchange_with m.originator p) w e) h.1.1.1.0
 
 pub rtr_apart : HeldIfAccepted → (p : Party) (a : Arrival) (m : Rtr) → is_accept (rtr p a m).verdict ≡ true → AreApart (rtr p a m).edits
 rtr_apart held p a m t = with_apart held p a m m.kd t

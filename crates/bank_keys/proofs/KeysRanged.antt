@@ -28,7 +28,7 @@ use Rattle.party_tables.specs.declared.exchange.Exchange.{Exchange}
 use Rattle.party_tables.specs.declared.exchange.Kind.{Kind}
 use Rattle.party_tables.specs.declared.exchange.Kind.TheVariants as kind
 use Rattle.party_tables.specs.declared.exchange.Via.{Via}
-use Rattle.party_tables.specs.declared.exchange.Via.TheVariants as via
+use Rattle.party_tables.specs.declared.exchange.Via.TheVariants as vias
 use Rattle.party_tables.specs.declared.link.LinkRec.{LinkRec}
 use Rattle.party_state.specs.Ranges.{IsParty}
 use Rattle.party_state.specs.State.{Party, centre_label, link_with, exchange_with}
@@ -43,7 +43,7 @@ use Rattle.role_base.proofs.Counted.{next_on}
 use Rattle.role_base.proofs.Kept.{row_kept}
 use Rattle.role_base.proofs.PartyLaws.{HeldIfAccepted, LinkLaws, LinksInRange, ExchangesInRange}
 use Rattle.role_base.proofs.Ranged.{AllInRange, AreRanged, AreCounts, row_ranged, nothing_ranged, refused_kept, coded_short, with_next, error_short}
-use Rattle.bank_keys.specs.declared.waits.Waiting.{Waiting}
+use Rattle.bank_keys.specs.declared.waits.KeyAtCentre.{KeyAtCentre}
 use Rattle.bank_keys.specs.Waiting.{waiting_by, waiting_in, waiting_with}
 use Rattle.bank_keys.specs.Ksm.{IsCounted, response, link_in_use, body_link, body_count, body_next, body_name, body_value, body_code, body_counts, body_new, body_record, body_second, second_edits, taken_edits, opened_kk, key_row, key_arrives}
 use Rattle.bank_keys.specs.Rtr.{centre_name, centre_ksm, passed_reply, passed_on, used_edits, brought_value, brought_tests, brought, translated_tests, translated, rtr_row, rtr_with, rtr}
@@ -197,29 +197,29 @@ passed_short : CanonShort → (p : Party) (m : Rtr) (value : ℕ) → IsIdent p.
 passed_short short p m value own t = coded_short short (message.Ksm (centre_ksm p m)) (record { name = centre_name p m; recipient = m.ultimate }) value (t.ultimate, (own, (t.originator, (t.kdu, (t.ctb, tt))))) (lit≤ tt)
 
 -- the rows where a key goes on, with the link that brought it, its value and its way
-passed_ranged : CanonShort → (p : Party) (m : Rtr) (tests : List Test) (used : Option LinkRec) (value : ℕ) (way : Via) → IsParty p → IsTypedAnswer m → IfSome used IsLink → IsWord value → IsVia way → AreRanged (rtr_row p m tests used value way)
-passed_ranged short p m tests used value way w t u v y = record { edits = λ _. by_used used u; reply = λ _. passed_short short p m value w.own t; answer = tt }
+passed_ranged : CanonShort → (p : Party) (m : Rtr) (tests : List Test) (used : Option LinkRec) (value : ℕ) (via : Via) → IsParty p → IsTypedAnswer m → IfSome used IsLink → IsWord value → IsVia via → AreRanged (rtr_row p m tests used value via)
+passed_ranged short p m tests used value via w t u v y = record { edits = λ _. by_used used u; reply = λ _. passed_short short p m value w.own t; answer = tt }
   where
     name : IsKeyName (centre_name p m)
     name = record { issuer = t.originator; originator = w.own; label = refl; count = t.ctb }
 
-    rest : AllInRange (passed_on p m value way)
+    rest : AllInRange (passed_on p m value via)
     rest = (record { peer = t.ultimate; name = name; value = v }, (t.originator, (record { peer = t.ultimate; kind = (name, y); text = passed_short short p m value w.own t }, tt)))
 
-    by_used : (o : Option LinkRec) → IfSome o IsLink → AllInRange (used_edits o ++ passed_on p m value way)
+    by_used : (o : Option LinkRec) → IfSome o IsLink → AllInRange (used_edits o ++ passed_on p m value via)
     by_used None u = rest
     by_used (Some l) u = (u, rest)
 
-waiting_in_range : ExchangesInRange → (p : Party) (peer : List ℕ) (x : Waiting) → IsParty p → waiting_with p peer ≡ Some x → IsWord x.value
+waiting_in_range : ExchangesInRange → (p : Party) (peer : List ℕ) (x : KeyAtCentre) → IsParty p → waiting_with p peer ≡ Some x → IsWord x.value
 waiting_in_range in_range p peer x w h = by_exchange (exchange_with peer p) refl h
   where
     by_kind : (k : Kind) → IsKind k → waiting_by k ≡ Some x → IsWord x.value
     by_kind (kind.Translating ultimate value cta) i h =
-        let made : Waiting = record { ultimate = ultimate; value = value; cta = cta } in
+        let made : KeyAtCentre = record { ultimate = ultimate; value = value; cta = cta } in
         let is : made ≡ x = cc in
-        subst (λ (y : Waiting). IsWord y.value) is i.1
+        subst (λ (y : KeyAtCentre). IsWord y.value) is i.1
     by_kind (kind.Asked ultimate) i h = absurd (cc)
-    by_kind (kind.KeySent name way) i h = absurd (cc)
+    by_kind (kind.KeySent name via) i h = absurd (cc)
     by_kind (kind.Ending name) i h = absurd (cc)
     by_kind (kind.PairSent name) i h = absurd (cc)
 
@@ -242,23 +242,23 @@ rtr_ranged short below held links in_range exchanges_in_range p a m arrived e w 
         let next : IsNextCount (k.1 + 1) = next_on k.1 (k.1 + 1) c refl in
         row_ranged p (brought p a m k (Some l))
         (row_kept p (brought p a m k (Some l))
-        (λ h. passed_keepable p m (Some (record l { next = k.1 + 1 })) (brought_value l k) (via.Distribution m.originator k.1) (next, link_room p l st)
+        (λ h. passed_keepable p m (Some (record l { next = k.1 + 1 })) (brought_value l k) (vias.Distribution m.originator k.1) (next, link_room p l st)
         (brought_room held p m k l (is_verified a (brought_value l k)) (verdict_of (brought_tests p a m k l)) refl h) (passed_short short p m (brought_value l k) w.own t))
-        (passed_few p m (Some (record l { next = k.1 + 1 })) (brought_value l k) (via.Distribution m.originator k.1)))
-        (passed_ranged short p m (brought_tests p a m k l) (Some (record l { next = k.1 + 1 })) (brought_value l k) (via.Distribution m.originator k.1) w t (with_next l (k.1 + 1) r next) (below.unwrapped l.pair k.1 k.0) (t.originator, c))
+        (passed_few p m (Some (record l { next = k.1 + 1 })) (brought_value l k) (vias.Distribution m.originator k.1)))
+        (passed_ranged short p m (brought_tests p a m k l) (Some (record l { next = k.1 + 1 })) (brought_value l k) (vias.Distribution m.originator k.1) w t (with_next l (k.1 + 1) r next) (below.unwrapped l.pair k.1 k.0) (t.originator, c))
       where
         by_link_key : (l : LinkRec) → link_with (takes m.originator centre_label) p ≡ Some l → link_with (link_key l) p ≡ Some l
         by_link_key l f = of_key links p (takes m.originator centre_label) l f
 
-    by_waiting : (o : Option Waiting) → waiting_with p m.originator ≡ o → IsRanged p (decision_of p (translated p a m o))
+    by_waiting : (o : Option KeyAtCentre) → waiting_with p m.originator ≡ o → IsRanged p (decision_of p (translated p a m o))
     by_waiting None f = row_ranged p (translated p a m None) (refused_kept p _) (nothing_ranged _)
     by_waiting (Some x) f =
         row_ranged p (translated p a m (Some x))
         (row_kept p (translated p a m (Some x))
-        (λ h. passed_keepable p m None x.value (via.Translation m.originator) tt
+        (λ h. passed_keepable p m None x.value (vias.Translation m.originator) tt
         (translated_room held p m x (is_verified a x.value) (verdict_of (translated_tests p a m x)) refl h) (passed_short short p m x.value w.own t))
-        (passed_few p m None x.value (via.Translation m.originator)))
-        (passed_ranged short p m (translated_tests p a m x) None x.value (via.Translation m.originator) w t tt (waiting_in_range exchanges_in_range p m.originator x w f) t.originator)
+        (passed_few p m None x.value (vias.Translation m.originator)))
+        (passed_ranged short p m (translated_tests p a m x) None x.value (vias.Translation m.originator) w t tt (waiting_in_range exchanges_in_range p m.originator x w f) t.originator)
 
     by_key : (o : Option (ℕ × ℕ)) → IfSome o (λ (k : ℕ × ℕ). IsCount k.1) → IsRanged p (decision_of p (rtr_with p a m o))
     by_key (Some k) c = by_link k c (link_with (takes m.originator centre_label) p) refl

@@ -8,7 +8,7 @@ use Rattle.csm_grammar.specs.declared.arrival.Arrival.{Arrival}
 use Rattle.party_tables.specs.declared.link.LinkRec.{LinkRec}
 use Rattle.party_state.specs.State.{Party}
 use Rattle.role_base.specs.Order.{InOrder}
-use Rattle.bank_keys.specs.declared.waits.Waiting.{Waiting}
+use Rattle.bank_keys.specs.declared.waits.KeyAtCentre.{KeyAtCentre}
 use Rattle.bank_keys.specs.Ksm.{body_front, body_tests}
 use Rattle.bank_keys.specs.Rtr.{brought_front, brought_tests, translated_front, translated_tests}
 
@@ -27,7 +27,7 @@ brought_order p a m k l = refl
 pub brought_front_order : (p : Party) (m : Rtr) → InOrder (brought_front p m None)
 brought_front_order p m = refl
 
-pub translated_order : (p : Party) (a : Arrival) (m : Rtr) (t : Waiting) → InOrder (translated_tests p a m t)
+pub translated_order : (p : Party) (a : Arrival) (m : Rtr) (t : KeyAtCentre) → InOrder (translated_tests p a m t)
 translated_order p a m t = refl
 
 pub translated_front_order : (p : Party) (m : Rtr) → InOrder (translated_front p m None)

@@ -21,7 +21,7 @@ use Rattle.role_base.specs.Conditions.{has_count}
 use Rattle.role_base.specs.Deciding.{decision_of}
 use Rattle.role_base.proofs.Addressed.{for_me, mine}
 use Rattle.role_base.proofs.PartyLaws.{HeldAtAccept, AcceptedIfHeld, KeysCounted}
-use Rattle.bank_keys.specs.declared.waits.Waiting.{Waiting}
+use Rattle.bank_keys.specs.declared.waits.KeyAtCentre.{KeyAtCentre}
 use Rattle.bank_keys.specs.Waiting.{waiting_by, waiting_in, waiting_with, is_asked_by, is_asked_in}
 use Rattle.bank_keys.specs.Rtr.{centre_key, passed_record, brought_front, brought_value, brought_tests, brought, translated_front, translated_tests, translated, rtr_with, rtr}
 use Rattle.bank_keys.specs.Passing.{Brought, Waits, IsKeyOf, CanPassOn, PassesKeys}
@@ -40,18 +40,18 @@ asked_for (Some e) u h = by_kind e.kind refl h
     by_kind : (k : Kind) → e.kind ≡ k → is_asked_by k u ≡ true → (x : Exchange) × (Some e ≡ Some x) × (x.kind ≡ kind.Asked u)
     by_kind (kind.Asked v) i h = (e, refl, i ∙ ap kind.Asked ((bytes_eq-Decides v u).0 h))
     by_kind (kind.Translating v value cta) i h = absurd (cc)
-    by_kind (kind.KeySent name way) i h = absurd (cc)
+    by_kind (kind.KeySent name via) i h = absurd (cc)
     by_kind (kind.Ending name) i h = absurd (cc)
     by_kind (kind.PairSent name) i h = absurd (cc)
 
-waits_for : (o : Option Exchange) (t : Waiting) → waiting_in o ≡ Some t → (e : Exchange) × (o ≡ Some e) × (e.kind ≡ kind.Translating t.ultimate t.value t.cta)
+waits_for : (o : Option Exchange) (t : KeyAtCentre) → waiting_in o ≡ Some t → (e : Exchange) × (o ≡ Some e) × (e.kind ≡ kind.Translating t.ultimate t.value t.cta)
 waits_for None t h = absurd (cc)
 waits_for (Some e) t h = by_kind e.kind refl h
   where
     by_kind : (k : Kind) → e.kind ≡ k → waiting_by k ≡ Some t → (x : Exchange) × (Some e ≡ Some x) × (x.kind ≡ kind.Translating t.ultimate t.value t.cta)
     by_kind (kind.Asked v) i h = absurd (cc)
-    by_kind (kind.Translating v value cta) i h = let same : record { ultimate = v; value = value; cta = cta } ≡ t = cc in (e, refl, i ∙ ap (λ (x : Waiting). kind.Translating x.ultimate x.value x.cta) same)
-    by_kind (kind.KeySent name way) i h = absurd (cc)
+    by_kind (kind.Translating v value cta) i h = let same : record { ultimate = v; value = value; cta = cta } ≡ t = cc in (e, refl, i ∙ ap (λ (x : KeyAtCentre). kind.Translating x.ultimate x.value x.cta) same)
+    by_kind (kind.KeySent name via) i h = absurd (cc)
     by_kind (kind.Ending name) i h = absurd (cc)
     by_kind (kind.PairSent name) i h = absurd (cc)
 
@@ -111,7 +111,7 @@ module _ (held : HeldAtAccept) (accepted : AcceptedIfHeld) (keys : KeysCounted) 
 
   -- without it
 
-  passes_translated : (p : Party) (a : Arrival) (m : Rtr) (t : Waiting) → waiting_with p m.originator ≡ Some t → m.kd ≡ None → verdict_of (translated_tests p a m t) ≡ Accept → CanPassOn p a m
+  passes_translated : (p : Party) (a : Arrival) (m : Rtr) (t : KeyAtCentre) → waiting_with p m.originator ≡ Some t → m.kd ≡ None → verdict_of (translated_tests p a m t) ≡ Accept → CanPassOn p a m
   passes_translated p a m t f is e =
       let h : Held (translated_tests p a m t) = held (translated_tests p a m t) refl e in
       let who = for_me p m.receiver m.originator h.0 in
@@ -152,7 +152,7 @@ module _ (held : HeldAtAccept) (accepted : AcceptedIfHeld) (keys : KeysCounted) 
       by_link (Some l) f e = passes_brought p a m k l f is e
   accepts p a m None is e = by_waiting (waiting_with p m.originator) refl e
     where
-      by_waiting : (o : Option Waiting) → waiting_with p m.originator ≡ o → (translated p a m o).verdict ≡ Accept → CanPassOn p a m
+      by_waiting : (o : Option KeyAtCentre) → waiting_with p m.originator ≡ o → (translated p a m o).verdict ≡ Accept → CanPassOn p a m
       by_waiting None f e = let h : Held (translated_front p m None) = held (translated_front p m None) refl e in absurd (both_ways false refl h.1.1.0)
       by_waiting (Some t) f e = passes_translated p a m t f is e
 

@@ -9,7 +9,7 @@ use Rattle.party_tables.specs.declared.link.LinkRec.{LinkRec}
 use Rattle.party_state.specs.declared.decision.Decision.{Decision}
 use Rattle.party_state.specs.declared.decision.Lead.{Lead}
 use Rattle.party_state.specs.State.{Party, knows}
-use Rattle.party_state.specs.Verdicts.{Test, verdict_of, passes}
+use Rattle.party_state.specs.Verdicts.{Test, verdict_of, tests_pass}
 use Rattle.role_base.specs.Texts.{is_verified}
 use Rattle.role_base.specs.Conditions.{is_for, body_issuer}
 use Rattle.role_base.specs.Errors.{coded_under}
@@ -19,7 +19,7 @@ use Rattle.role_base.proofs.Given.{given_none}
 use Rattle.bank_keys.specs.Ksm.{body_name, body_code, body_front, body_rest, body_error, key_row, key_found, key_lead_with}
 
 -- a key service message that is refused before its code is looked at isn't answered
-pub key_unanswered : (p : Party) (a : Arrival) (m : Ksm) (b : KsmBody) (l : LinkRec) → passes (body_front p m b (Some l)) ≡ false → (key_row p a m b (Some l)).answer ≡ None
+pub key_unanswered : (p : Party) (a : Arrival) (m : Ksm) (b : KsmBody) (l : LinkRec) → tests_pass (body_front p m b (Some l)) ≡ false → (key_row p a m b (Some l)).answer ≡ None
 key_unanswered p a m b l f = go (is_for p m.receiver m.originator) (knows (body_issuer m.originator b) p) f
   where
     rest : List Test
@@ -39,5 +39,5 @@ key_early p a m b (Some k) x front d l f (inl n) e = absurd (cc)
 key_early p a m b (Some k) x front d l f (inr n) e =
     let g : RefusesEarly (body_front p m b (Some k)) d = subst (λ ts. RefusesEarly ts d) f e in
     let value = body_code k.pair m.originator p.own b in
-    let fails : passes (body_front p m b (Some k)) ≡ false = given_none _ (key_found p a m b k) x l n in
+    let fails : tests_pass (body_front p m b (Some k)) ≡ false = given_none _ (key_found p a m b k) x l n in
     g p (key_row p a m b (Some k)) ((is_verified a value, BadMac) ∷ body_rest p m b k) refl fails refl (key_unanswered p a m b k fails)

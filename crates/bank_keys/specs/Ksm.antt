@@ -28,9 +28,9 @@ use Rattle.party_tables.specs.declared.key.RecordKey.{RecordKey}
 use Rattle.party_tables.specs.Names.{name_behind, full_behind}
 use Rattle.party_tables.specs.Keys.{takes, record_key}
 use Rattle.party_state.specs.State.{Party, centre_label, link_with, first_link, has_pair, knows}
-use Rattle.party_state.specs.Verdicts.{Test, verdict_of, passes}
+use Rattle.party_state.specs.Verdicts.{Test, verdict_of, tests_pass}
 use Rattle.party_state.specs.Rows.{Row, Coded, OfKsm, refused}
-use Rattle.role_base.specs.declared.errors.Counts.{Counts}
+use Rattle.role_base.specs.declared.errors.ErrorCounts.{ErrorCounts}
 use Rattle.role_base.specs.Texts.{direct_name, no_extras, is_verified, lead_under}
 use Rattle.role_base.specs.Conditions.{is_for, body_issuer, count_tests, has_key_room, has_room_for_two, has_link_room}
 use Rattle.role_base.specs.Load.{odd_pair}
@@ -186,7 +186,7 @@ abbrev pub body_edits : Party → Ksm → KsmBody → LinkRec → List Edit
 body_edits p m b l = PutLink (record l { next = body_next b }) ∷ (taken_edits m.originator l (body_count b) (body_new b) ++ PutKey (body_record p m b l) ∷ second_edits (body_second p m b l))
 
 -- the refused count, under the tag of the message
-abbrev pub body_counts : KsmBody → Counts
+abbrev pub body_counts : KsmBody → ErrorCounts
 body_counts (body.Direct idk2 new kd ctp) = record { ctp = Some ctp; cta = None; ctb = None }
 body_counts (body.Centre centre kdu ctb) = record { ctp = None; cta = None; ctb = Some ctb }
 body_counts (body.Twin idk2 first second ctp) = record { ctp = Some ctp; cta = None; ctb = None }
@@ -220,7 +220,7 @@ key_found p a m b l = record (lead_under a (body_name p m.originator b l) (body_
 
 abbrev pub key_lead_with : Party → Arrival → Ksm → KsmBody → Option LinkRec → Option Lead
 key_lead_with p a m b None = None
-key_lead_with p a m b (Some l) = cond (passes (body_front p m b (Some l))) (Some (key_found p a m b l)) None
+key_lead_with p a m b (Some l) = cond (tests_pass (body_front p m b (Some l))) (Some (key_found p a m b l)) None
 
 abbrev pub key_lead : Party → Arrival → Ksm → Option Lead
 key_lead p a m = key_lead_with p a m m.body (body_link p m.originator m.body)

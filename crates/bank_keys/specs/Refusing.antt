@@ -7,7 +7,7 @@ use Rattle.x_base.specs.declared.party.Side.TheVariants.{Takes}
 use Rattle.x_base.specs.declared.verdict.Verdict.{Verdict}
 use Rattle.x_base.specs.declared.verdict.Verdict.TheVariants.{CountLow, CountSpent, LabelTaken, SameKey, LinksFull, KeysFull}
 use Rattle.x_mac.specs.declared.pair.Pair.{Pair}
-use Rattle.x_gen.specs.Parity.{odd_of}
+use Rattle.x_gen.specs.Parity.{odd_parity_of}
 use Rattle.x_seal.specs.Wrapped.{unwrap_of, unseal_of}
 use Rattle.csm_grammar.specs.declared.message.Message.TheVariants as message
 use Rattle.csm_grammar.specs.declared.message.KsmBody.{KsmBody}
@@ -29,8 +29,8 @@ InUse p originator (Some label) l = (label ≢ centre_label) × (link_with (take
 
 -- the new key-encrypting key that came, with odd parity; a single key is both halves
 abbrev pub new_pair : Pair → ℕ → NewKk → Pair
-new_pair pair ctp (new_kk.Double left right) = record { left = odd_of (unwrap_of pair ctp left); right = odd_of (unwrap_of pair ctp right) }
-new_pair pair ctp (new_kk.Single key) = record { left = odd_of (unwrap_of pair ctp key); right = odd_of (unwrap_of pair ctp key) }
+new_pair pair ctp (new_kk.Double left right) = record { left = odd_parity_of (unwrap_of pair ctp left); right = odd_parity_of (unwrap_of pair ctp right) }
+new_pair pair ctp (new_kk.Single key) = record { left = odd_parity_of (unwrap_of pair ctp key); right = odd_parity_of (unwrap_of pair ctp key) }
 
 -- a key that a message carries, or the exclusive-or of two, with the name of the key, of two that of the first, and the count
 -- that came with it: CTP, or CTB from a centre

@@ -14,19 +14,19 @@ use Rattle.party_tables.specs.declared.key.KeyRec.{KeyRec}
 use Rattle.party_tables.specs.declared.key.RecordKey.{RecordKey}
 use Rattle.party_tables.specs.declared.key.KeyStatus.TheVariants.{Pending}
 use Rattle.party_tables.specs.declared.exchange.Via.{Via}
-use Rattle.party_tables.specs.declared.exchange.Via.TheVariants as via
+use Rattle.party_tables.specs.declared.exchange.Via.TheVariants as vias
 use Rattle.party_tables.specs.declared.exchange.Kind.TheVariants as kind
 use Rattle.party_state.specs.declared.edit.Edit.{Edit}
 use Rattle.party_state.specs.declared.edit.Edit.TheVariants.{PutLink, PutKey, PutExchange, DropExchange}
 use Rattle.party_state.specs.declared.decision.Lead.{Lead}
 use Rattle.party_tables.specs.Keys.{takes}
 use Rattle.party_state.specs.State.{Party, centre_label, link_with, exchange_with, knows}
-use Rattle.party_state.specs.Verdicts.{Test, verdict_of, passes}
+use Rattle.party_state.specs.Verdicts.{Test, verdict_of, tests_pass}
 use Rattle.party_state.specs.Rows.{Row, Reply, Coded, refused}
 use Rattle.role_base.specs.Texts.{text_of, direct_name, no_extras, is_verified, lead_under}
 use Rattle.role_base.specs.Conditions.{is_for, count_tests, has_key_room}
 use Rattle.role_base.specs.Exchanges.{record_of}
-use Rattle.bank_keys.specs.declared.waits.Waiting.{Waiting}
+use Rattle.bank_keys.specs.declared.waits.KeyAtCentre.{KeyAtCentre}
 use Rattle.bank_keys.specs.Waiting.{waiting_with, is_asked_in}
 
 -- the name of the key, by the count for the ultimate recipient
@@ -53,10 +53,10 @@ abbrev pub passed_record : Party → Rtr → ℕ → KeyRec
 passed_record p m value = record { peer = m.ultimate; name = centre_name p m; value = value; status = Pending }
 
 abbrev pub passed_on : Party → Rtr → ℕ → Via → List Edit
-passed_on p m value way =
+passed_on p m value via =
     PutKey (passed_record p m value)
     ∷ DropExchange m.originator
-    ∷ PutExchange (record { peer = m.ultimate; kind = kind.KeySent (centre_name p m) way; text = text_of (passed_reply p m value) })
+    ∷ PutExchange (record { peer = m.ultimate; kind = kind.KeySent (centre_name p m) via; text = text_of (passed_reply p m value) })
     ∷ []
 
 -- the link that brought the key, where one did
@@ -66,9 +66,9 @@ used_edits (Some l) = PutLink l ∷ []
 
 -- the row, whatever came with the key: the tests, the link, the key's value and the way
 abbrev pub rtr_row : Party → Rtr → List Test → Option LinkRec → ℕ → Via → Row
-rtr_row p m tests used value way = record {
+rtr_row p m tests used value via = record {
   verdict = verdict_of tests;
-  edits = used_edits used ++ passed_on p m value way;
+  edits = used_edits used ++ passed_on p m value via;
   reply = Some (passed_reply p m value);
   uses = [];
   makes = None;
@@ -89,37 +89,37 @@ brought_tests p a m k l = brought_front p m (Some l) ++ (is_verified a (brought_
 
 abbrev pub brought : Party → Arrival → Rtr → ℕ × ℕ → Option LinkRec → Row
 brought p a m k None = refused (verdict_of (brought_front p m None))
-brought p a m k (Some l) = rtr_row p m (brought_tests p a m k l) (Some (record l { next = k.1 + 1 })) (brought_value l k) (via.Distribution m.originator k.1)
+brought p a m k (Some l) = rtr_row p m (brought_tests p a m k l) (Some (record l { next = k.1 + 1 })) (brought_value l k) (vias.Distribution m.originator k.1)
 
 abbrev pub brought_under : Party → Rtr → ℕ → FullName
 brought_under p m cta = record { name = direct_name m.originator centre_label cta; recipient = p.own }
 
 abbrev pub brought_lead : Party → Arrival → Rtr → ℕ × ℕ → Option LinkRec → Option Lead
 brought_lead p a m k None = None
-brought_lead p a m k (Some l) = cond (passes (brought_front p m (Some l))) (Some (lead_under a (brought_under p m k.1) (brought_value l k))) None
+brought_lead p a m k (Some l) = cond (tests_pass (brought_front p m (Some l))) (Some (lead_under a (brought_under p m k.1) (brought_value l k))) None
 
 -- without it: from a translation centre
 
-abbrev pub is_ultimate : Option Waiting → List ℕ → Bool
+abbrev pub is_ultimate : Option KeyAtCentre → List ℕ → Bool
 is_ultimate None u = false
 is_ultimate (Some t) u = bytes_eq t.ultimate u
 
-abbrev pub translated_front : Party → Rtr → Option Waiting → List Test
+abbrev pub translated_front : Party → Rtr → Option KeyAtCentre → List Test
 translated_front p m found = rtr_front p m (is_ultimate found m.ultimate)
 
-abbrev pub translated_tests : Party → Arrival → Rtr → Waiting → List Test
+abbrev pub translated_tests : Party → Arrival → Rtr → KeyAtCentre → List Test
 translated_tests p a m t = translated_front p m (Some t) ++ (is_verified a t.value, BadMac) ∷ rtr_rest p m
 
-abbrev pub translated : Party → Arrival → Rtr → Option Waiting → Row
+abbrev pub translated : Party → Arrival → Rtr → Option KeyAtCentre → Row
 translated p a m None = refused (verdict_of (translated_front p m None))
-translated p a m (Some t) = rtr_row p m (translated_tests p a m t) None t.value (via.Translation m.originator)
+translated p a m (Some t) = rtr_row p m (translated_tests p a m t) None t.value (vias.Translation m.originator)
 
-abbrev pub translated_under : Party → Rtr → Waiting → FullName
+abbrev pub translated_under : Party → Rtr → KeyAtCentre → FullName
 translated_under p m t = record { name = direct_name p.own centre_label t.cta; recipient = m.originator }
 
-abbrev pub translated_lead : Party → Arrival → Rtr → Option Waiting → Option Lead
+abbrev pub translated_lead : Party → Arrival → Rtr → Option KeyAtCentre → Option Lead
 translated_lead p a m None = None
-translated_lead p a m (Some t) = cond (passes (translated_front p m (Some t))) (Some (lead_under a (translated_under p m t) t.value)) None
+translated_lead p a m (Some t) = cond (tests_pass (translated_front p m (Some t))) (Some (lead_under a (translated_under p m t) t.value)) None
 
 abbrev pub rtr_with : Party → Arrival → Rtr → Option (ℕ × ℕ) → Row
 rtr_with p a m (Some k) = brought p a m k (link_with (takes m.originator centre_label) p)

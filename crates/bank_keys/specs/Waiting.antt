@@ -4,28 +4,28 @@ use Rattle.party_tables.specs.declared.exchange.Kind.{Kind}
 use Rattle.party_tables.specs.declared.exchange.Kind.TheVariants as kind
 use Rattle.party_tables.specs.declared.exchange.Exchange.{Exchange}
 use Rattle.party_state.specs.State.{Party, exchange_with}
-use Rattle.bank_keys.specs.declared.waits.Waiting.{Waiting}
+use Rattle.bank_keys.specs.declared.waits.KeyAtCentre.{KeyAtCentre}
 
 -- a key that is with a translation centre: for whom, its value and its count there
-abbrev pub waiting_by : Kind → Option Waiting
+abbrev pub waiting_by : Kind → Option KeyAtCentre
 waiting_by (kind.Translating ultimate value cta) = Some (record { ultimate = ultimate; value = value; cta = cta })
 waiting_by (kind.Asked ultimate) = None
-waiting_by (kind.KeySent name way) = None
+waiting_by (kind.KeySent name via) = None
 waiting_by (kind.Ending name) = None
 waiting_by (kind.PairSent name) = None
 
-abbrev pub waiting_in : Option Exchange → Option Waiting
+abbrev pub waiting_in : Option Exchange → Option KeyAtCentre
 waiting_in None = None
 waiting_in (Some e) = waiting_by e.kind
 
-abbrev pub waiting_with : Party → List ℕ → Option Waiting
+abbrev pub waiting_with : Party → List ℕ → Option KeyAtCentre
 waiting_with p peer = waiting_in (exchange_with peer p)
 
 -- a key for this ultimate recipient was asked for
 abbrev pub is_asked_by : Kind → List ℕ → Bool
 is_asked_by (kind.Asked ultimate) u = bytes_eq ultimate u
 is_asked_by (kind.Translating ultimate value cta) u = false
-is_asked_by (kind.KeySent name way) u = false
+is_asked_by (kind.KeySent name via) u = false
 is_asked_by (kind.Ending name) u = false
 is_asked_by (kind.PairSent name) u = false
 

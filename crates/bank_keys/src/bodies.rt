@@ -7,7 +7,7 @@ ghost use Rattle.bank_keys.specs.Ksm.{link_in_use, IsCounted, body_link, body_co
 use csm_grammar::{Ksm, KsmBody, NewKk};
 use party_state::{KeyRec, KeyStatus, Lead, LinkRec, State};
 use role_base::{
-    Counts, centre_label, count_behind, direct_name, first_link, has_link_room, is_of_centre,
+    ErrorCounts, centre_label, count_behind, direct_name, first_link, has_link_room, is_of_centre,
     link_with, odd_pair,
 };
 use x_base::{Count, FullName, Ident, KeyName, LIMIT, Label, Side, Verdict};
@@ -84,16 +84,16 @@ pub(crate) fn body_next(body: &KsmBody) -> u64
 }
 
 /// The count at which the key comes, under the tag of the message.
-pub(crate) fn body_counts(body: &KsmBody) -> Counts
+pub(crate) fn body_counts(body: &KsmBody) -> ErrorCounts
     ensures { result ≡ body_counts body.now }
 {
     match body {
-        KsmBody::Direct { ctp, .. } | KsmBody::Twin { ctp, .. } => Counts {
+        KsmBody::Direct { ctp, .. } | KsmBody::Twin { ctp, .. } => ErrorCounts {
             ctp: Some(*ctp),
             cta: None,
             ctb: None,
         },
-        KsmBody::Centre { ctb, .. } => Counts {
+        KsmBody::Centre { ctb, .. } => ErrorCounts {
             ctp: None,
             cta: None,
             ctb: Some(*ctb),

@@ -16,7 +16,7 @@ use csm_grammar::{Arrival, Rtr};
 use party_state::{Decision, Lead, LinkRec, State, Via, law_accept};
 use role_base::{
     centre_label, count_tests, direct_name, early_refusal, is_accept, lead_under, link_behind,
-    link_with, passes, refusal, verdict_after,
+    link_with, refusal, tests_pass, verdict_after,
 };
 use std::alloc::Global;
 use x_base::{Count, FullName, Ident, NoMemory, Side, Verdict};
@@ -84,12 +84,12 @@ pub(crate) fn brought(
     if !is_accept(&verdict) {
         return Ok(refusal(verdict));
     }
-    let way = Via::Distribution {
+    let via = Via::Distribution {
         centre: message.originator,
         cta: kd.1,
     };
     let used = link_behind(link, kd.1);
-    pass_on(alloc, state, message, Some(used), lead.value, way)
+    pass_on(alloc, state, message, Some(used), lead.value, via)
 }
 
 /// The name of the key as it came.
@@ -113,7 +113,7 @@ pub(crate) fn brought_lead(
     let found = centre_link(state, &message.originator);
     let front = brought_front(state, message, &found);
     let link = found?;
-    if passes(&front) {
+    if tests_pass(&front) {
         let value = unwrap(link.pair, kd.1, kd.0);
         Some(lead_under(arrival, brought_under(state, message, kd.1), value))
     } else {

@@ -8,16 +8,17 @@ ghost use Rattle.bank_keys.specs.Waiting.{waiting_with};
 ghost use Rattle.bank_keys.specs.Rtr.{rtr_rest, is_ultimate, translated_front, translated, translated_under, translated_lead};
 
 use crate::passing::{pass_on, rtr_front, rtr_rest};
-use crate::waits::{Waiting, waiting_with};
+use crate::waits::{KeyAtCentre, waiting_with};
 use csm_grammar::{Arrival, Rtr};
 use party_state::{Decision, Lead, State, Via, law_accept};
 use role_base::{
-    centre_label, direct_name, early_refusal, is_accept, lead_under, passes, refusal, verdict_after,
+    centre_label, direct_name, early_refusal, is_accept, lead_under, refusal, tests_pass,
+    verdict_after,
 };
 use std::alloc::Global;
 use x_base::{FullName, Ident, NoMemory, Verdict};
 
-fn is_ultimate(found: &Option<Waiting>, ultimate: &Ident) -> bool
+fn is_ultimate(found: &Option<KeyAtCentre>, ultimate: &Ident) -> bool
     ensures { result ≡ is_ultimate found.now ultimate.now }
 {
     match found {
@@ -26,14 +27,23 @@ fn is_ultimate(found: &Option<Waiting>, ultimate: &Ident) -> bool
     }
 }
 
-fn translated_front(state: &State, message: &Rtr, found: &Option<Waiting>) -> [(bool, Verdict); 4]
+fn translated_front(
+    state: &State,
+    message: &Rtr,
+    found: &Option<KeyAtCentre>,
+) -> [(bool, Verdict); 4]
     ensures { result ≡ translated_front state.now message.now found.now }
 {
     rtr_front(state, message, is_ultimate(found, &message.ultimate))
 }
 
 /// The verdict for a key that waits, the code being tested.
-fn translated_verdict(state: &State, message: &Rtr, waiting: &Waiting, verified: bool) -> Verdict
+fn translated_verdict(
+    state: &State,
+    message: &Rtr,
+    waiting: &KeyAtCentre,
+    verified: bool,
+) -> Verdict
     ensures { result ≡ verdict_of (translated_front state.now message.now (Some waiting.now) ++ (verified, BadMac) ∷ rtr_rest state.now message.now) }
 {
     let front = translated_front(state, message, &Some(*waiting));
@@ -66,14 +76,14 @@ pub(crate) fn translated(
     if !is_accept(&verdict) {
         return Ok(refusal(verdict));
     }
-    let way = Via::Translation {
+    let via = Via::Translation {
         centre: message.originator,
     };
-    pass_on(alloc, state, message, None, lead.value, way)
+    pass_on(alloc, state, message, None, lead.value, via)
 }
 
 /// The name of the key as it went to the centre.
-fn translated_under(state: &State, message: &Rtr, waiting: &Waiting) -> FullName
+fn translated_under(state: &State, message: &Rtr, waiting: &KeyAtCentre) -> FullName
     ensures { result ≡ translated_under state.now message.now waiting.now }
 {
     FullName {
@@ -88,7 +98,7 @@ pub(crate) fn translated_lead(state: &State, arrival: &Arrival, message: &Rtr) -
     let found = waiting_with(state, &message.originator);
     let front = translated_front(state, message, &found);
     let waiting = found?;
-    if passes(&front) {
+    if tests_pass(&front) {
         let under = translated_under(state, message, &waiting);
         Some(lead_under(arrival, under, waiting.value))
     } else {

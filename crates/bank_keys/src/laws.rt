@@ -20,7 +20,7 @@ ghost use Rattle.role_base.specs.Apart.{AreApart};
 ghost use Rattle.role_base.specs.Deciding.{decision_of};
 ghost use Rattle.role_base.specs.Errors.{is_early};
 ghost use Rattle.role_base.specs.Order.{InOrder};
-ghost use Rattle.bank_keys.specs.declared.waits.Waiting.{Waiting as TheWaiting};
+ghost use Rattle.bank_keys.specs.declared.waits.KeyAtCentre.{KeyAtCentre as TheKeyAtCentre};
 ghost use Rattle.bank_keys.specs.Ksm.{body_new, body_front, body_tests, key_arrives, key_lead};
 ghost use Rattle.bank_keys.specs.Rtr.{brought_front, brought_tests, translated_front, translated_tests, rtr, rtr_lead};
 ghost use Rattle.bank_keys.specs.Refusing.{AnswersRefused, AnswersNoOther};
@@ -32,7 +32,7 @@ use party_state::{law_accept, law_counts, law_found, law_put, law_same};
 
 /// The edits of an accepted key service message, at a party that has each link once, are apart, and
 /// so are those of an accepted answer of a centre.
-pub fn law_apart()
+pub fn law_keys_apart()
     ensures ksm { (p : Party) (a : TheArrival) (m : TheKsm) → Distinct link_key same_link p.links → is_accept (key_arrives p a m).verdict ≡ true → AreApart (key_arrives p a m).edits }
     ensures rtr { (p : Party) (a : TheArrival) (m : TheRtr) → is_accept (rtr p a m).verdict ≡ true → AreApart (rtr p a m).edits }
 {
@@ -44,7 +44,7 @@ pub fn law_apart()
 
 /// There is no key to test the code of an arrival under exactly where the arrival is closed by an
 /// error detection code, or is refused before its code is looked at.
-pub fn law_lead()
+pub fn law_key_lead()
     ensures ksm { (p : Party) (a : TheArrival) (m : TheKsm) → a.parsed.message ≡ message.Ksm m →
         ((key_lead p a m ≡ None) ↔ ((is_plain a.parsed.shut ≡ true) ⊎ (is_early (key_arrives p a m).verdict ≡ true))) }
     ensures rtr { (p : Party) (a : TheArrival) (m : TheRtr) → a.parsed.message ≡ message.Rtr m →
@@ -113,7 +113,7 @@ pub fn law_order()
     ensures ksm_front { (p : Party) (m : TheKsm) (b : TheKsmBody) → InOrder (body_front p m b None) }
     ensures brought { (p : Party) (a : TheArrival) (m : TheRtr) (k : ℕ × ℕ) (l : TheLink) → InOrder (brought_tests p a m k l) }
     ensures brought_front { (p : Party) (m : TheRtr) → InOrder (brought_front p m None) }
-    ensures translated { (p : Party) (a : TheArrival) (m : TheRtr) (t : TheWaiting) → InOrder (translated_tests p a m t) }
+    ensures translated { (p : Party) (a : TheArrival) (m : TheRtr) (t : TheKeyAtCentre) → InOrder (translated_tests p a m t) }
     ensures translated_front { (p : Party) (m : TheRtr) → InOrder (translated_front p m None) }
 {}
 

@@ -14,9 +14,9 @@ mod waits;
 
 pub use key_service::{ksm, ksm_lead};
 pub use laws::{
-    law_apart, law_begins, law_both_taken, law_lead, law_order, law_passing, law_refused,
+    law_begins, law_both_taken, law_key_lead, law_keys_apart, law_order, law_passing, law_refused,
     law_taken, law_taking,
 };
 pub use ranged::law_ranged;
 pub use responses::{rtr, rtr_lead};
-pub use waits::Waiting;
+pub use waits::KeyAtCentre;

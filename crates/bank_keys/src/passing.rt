@@ -104,11 +104,11 @@ fn passed_on(
     state: &State,
     message: &Rtr,
     value: u64,
-    way: Via,
+    via: Via,
     text: Text,
 ) -> Result<Vec<Edit>, NoMemory>
     requires { text ≡ text_of (passed_reply state.now message.now value) }
-    ensures { IfOk result (λ edits. edits.items ≡ passed_on state.now message.now value way) }
+    ensures { IfOk result (λ edits. edits.items ≡ passed_on state.now message.now value via) }
 {
     let key = KeyRec {
         peer: message.ultimate,
@@ -119,7 +119,7 @@ fn passed_on(
     let name = centre_name(state, message);
     let exchange = Exchange {
         peer: message.ultimate,
-        kind: Kind::KeySent { name, via: way },
+        kind: Kind::KeySent { name, via },
         text,
     };
     let gone = Edit::DropExchange {
@@ -148,15 +148,15 @@ pub(crate) fn pass_on(
     message: &Rtr,
     used: Option<LinkRec>,
     value: u64,
-    way: Via,
+    via: Via,
 ) -> Result<Decision, NoMemory>
     requires used { IfSome used (λ (l : TheLink). IsKeepable state.now (PutLink l)) }
     requires room { has_key_room state.now (centre_key state.now message.now) ≡ true }
-    ensures { AcceptsWith state.now (used_edits used ++ passed_on state.now message.now value way) (Some (passed_reply state.now message.now value)) result }
+    ensures { AcceptsWith state.now (used_edits used ++ passed_on state.now message.now value via) (Some (passed_reply state.now message.now value)) result }
 {
     let written = passed_text(alloc, state, message, value)?;
     let text = written.text.copy(alloc)?;
     let links = used_edits(alloc, used)?;
-    let edits = joined(links, passed_on(alloc, state, message, value, way, text)?)?;
+    let edits = joined(links, passed_on(alloc, state, message, value, via, text)?)?;
     accept(alloc, state, edits, Some(written))
 }

@@ -8,13 +8,13 @@ use x_base::{Count, Ident};
 
 /// A key of 64 bits that is with a translation centre: for whom, its value and its count there.
 #[derive(Clone, Copy)]
-pub struct Waiting {
+pub struct KeyAtCentre {
     pub ultimate: Ident,
     pub value: u64,
     pub cta: Count,
 }
 
-fn waiting_by(kind: &Kind) -> Option<Waiting>
+fn waiting_by(kind: &Kind) -> Option<KeyAtCentre>
     ensures { result ≡ waiting_by kind.now }
 {
     match kind {
@@ -22,7 +22,7 @@ fn waiting_by(kind: &Kind) -> Option<Waiting>
             ultimate,
             value,
             cta,
-        } => Some(Waiting {
+        } => Some(KeyAtCentre {
             ultimate: *ultimate,
             value: *value,
             cta: *cta,
@@ -33,7 +33,7 @@ fn waiting_by(kind: &Kind) -> Option<Waiting>
 }
 
 /// The key that is with this translation centre.
-pub(crate) fn waiting_with(state: &State, peer: &Ident) -> Option<Waiting>
+pub(crate) fn waiting_with(state: &State, peer: &Ident) -> Option<KeyAtCentre>
     ensures { result ≡ waiting_with state.now peer.now }
 {
     let exchange = state.exchange(peer)?;

@@ -96,7 +96,7 @@ module _ (held : HeldIfAccepted) (links : LinksFound) (keys : KeysFound) where
       by_key (Some k) = (tt, tt)
 
       by_kind : (k : Kind) → AllBeginFree p (given_up p peer k ++ DropExchange peer ∷ [])
-      by_kind (kind.KeySent name way) = begin_append p (dropped (new_link p peer way) ++ ended (record_of p peer name)) (DropExchange peer ∷ []) (begin_append p (dropped (new_link p peer way)) (ended (record_of p peer name)) (dropped_begin p (new_link p peer way)) (by_key (record_of p peer name))) (tt, tt)
+      by_kind (kind.KeySent name via) = begin_append p (dropped (new_link p peer via) ++ ended (record_of p peer name)) (DropExchange peer ∷ []) (begin_append p (dropped (new_link p peer via)) (ended (record_of p peer name)) (dropped_begin p (new_link p peer via)) (by_key (record_of p peer name))) (tt, tt)
       by_kind (kind.Asked ultimate) = (tt, tt)
       by_kind (kind.Translating ultimate value cta) = (tt, tt)
       by_kind (kind.Ending name) = (tt, tt)

@@ -10,7 +10,7 @@ use Rattle.party_tables.specs.declared.key.KeyRec.{KeyRec}
 use Rattle.party_tables.specs.declared.key.RecordKey.{RecordKey}
 use Rattle.party_tables.specs.declared.key.KeyStatus.TheVariants.{Ended}
 use Rattle.party_tables.specs.declared.exchange.Via.{Via}
-use Rattle.party_tables.specs.declared.exchange.Via.TheVariants as via
+use Rattle.party_tables.specs.declared.exchange.Via.TheVariants as vias
 use Rattle.party_tables.specs.declared.exchange.Kind.{Kind}
 use Rattle.party_tables.specs.declared.exchange.Kind.TheVariants as kind
 use Rattle.party_tables.specs.declared.exchange.Exchange.{Exchange}
@@ -129,8 +129,8 @@ module _ (of_links : LinkLaws) (of_keys : KeyLaws) (of_exchanges : ExchangeLaws)
       ∙ keeps_others p (record { peer = peer; name = sent }) (record_of p peer sent) refl j (λ i. n (named j peer sent i).0 (named j peer sent i).1)
 
   -- with no new key-encrypting key
-  leaves_alone : (p q : Party) (peer : List ℕ) (sent : KeyName) (way : Via) → Splits p q peer (ended (record_of p peer sent)) [] → ((new : List ℕ) → SentNewKk (kind.KeySent sent way) new → ⊥) → Leaves p q peer (kind.KeySent sent way)
-  leaves_alone p q peer sent way s n = record {
+  leaves_alone : (p q : Party) (peer : List ℕ) (sent : KeyName) (via : Via) → Splits p q peer (ended (record_of p peer sent)) [] → ((new : List ℕ) → SentNewKk (kind.KeySent sent via) new → ⊥) → Leaves p q peer (kind.KeySent sent via)
+  leaves_alone p q peer sent via s n = record {
     ended = sent_ends p q peer sent s.keys;
     kept = sent_kept p q peer sent s.keys;
     withdrawn = λ new i. absurd (n new i);
@@ -139,7 +139,7 @@ module _ (of_links : LinkLaws) (of_keys : KeyLaws) (of_exchanges : ExchangeLaws)
   }
 
   -- and with one
-  leaves_with : (p q : Party) (peer : List ℕ) (sent : KeyName) (label new : List ℕ) → Splits p q peer (ended (record_of p peer sent)) (dropped (link_with (sends peer new) p)) → Leaves p q peer (kind.KeySent sent (via.Direct label (Some new)))
+  leaves_with : (p q : Party) (peer : List ℕ) (sent : KeyName) (label new : List ℕ) → Splits p q peer (ended (record_of p peer sent)) (dropped (link_with (sends peer new) p)) → Leaves p q peer (kind.KeySent sent (vias.Direct label (Some new)))
   leaves_with p q peer sent label new s = record {
     ended = sent_ends p q peer sent s.keys;
     kept = sent_kept p q peer sent s.keys;
@@ -148,15 +148,15 @@ module _ (of_links : LinkLaws) (of_keys : KeyLaws) (of_exchanges : ExchangeLaws)
     exchanges = s.exchanges;
   }
 
-  leaves_sent : (p : Party) (peer : List ℕ) (sent : KeyName) (way : Via) → Leaves p (apply (given_up p peer (kind.KeySent sent way) ++ DropExchange peer ∷ []) p) peer (kind.KeySent sent way)
-  leaves_sent p peer sent (via.Direct label (Some new)) =
-      leaves_with p (apply (given_up p peer (kind.KeySent sent (via.Direct label (Some new))) ++ DropExchange peer ∷ []) p) peer sent label new (split_sent p peer (link_with (sends peer new) p) (record_of p peer sent))
-  leaves_sent p peer sent (via.Direct label None) =
-      leaves_alone p (apply (given_up p peer (kind.KeySent sent (via.Direct label None)) ++ DropExchange peer ∷ []) p) peer sent (via.Direct label None) (split_sent p peer None (record_of p peer sent)) (λ new i. i)
-  leaves_sent p peer sent (via.Distribution centre cta) =
-      leaves_alone p (apply (given_up p peer (kind.KeySent sent (via.Distribution centre cta)) ++ DropExchange peer ∷ []) p) peer sent (via.Distribution centre cta) (split_sent p peer None (record_of p peer sent)) (λ new i. i)
-  leaves_sent p peer sent (via.Translation centre) =
-      leaves_alone p (apply (given_up p peer (kind.KeySent sent (via.Translation centre)) ++ DropExchange peer ∷ []) p) peer sent (via.Translation centre) (split_sent p peer None (record_of p peer sent)) (λ new i. i)
+  leaves_sent : (p : Party) (peer : List ℕ) (sent : KeyName) (via : Via) → Leaves p (apply (given_up p peer (kind.KeySent sent via) ++ DropExchange peer ∷ []) p) peer (kind.KeySent sent via)
+  leaves_sent p peer sent (vias.Direct label (Some new)) =
+      leaves_with p (apply (given_up p peer (kind.KeySent sent (vias.Direct label (Some new))) ++ DropExchange peer ∷ []) p) peer sent label new (split_sent p peer (link_with (sends peer new) p) (record_of p peer sent))
+  leaves_sent p peer sent (vias.Direct label None) =
+      leaves_alone p (apply (given_up p peer (kind.KeySent sent (vias.Direct label None)) ++ DropExchange peer ∷ []) p) peer sent (vias.Direct label None) (split_sent p peer None (record_of p peer sent)) (λ new i. i)
+  leaves_sent p peer sent (vias.Distribution centre cta) =
+      leaves_alone p (apply (given_up p peer (kind.KeySent sent (vias.Distribution centre cta)) ++ DropExchange peer ∷ []) p) peer sent (vias.Distribution centre cta) (split_sent p peer None (record_of p peer sent)) (λ new i. i)
+  leaves_sent p peer sent (vias.Translation centre) =
+      leaves_alone p (apply (given_up p peer (kind.KeySent sent (vias.Translation centre)) ++ DropExchange peer ∷ []) p) peer sent (vias.Translation centre) (split_sent p peer None (record_of p peer sent)) (λ new i. i)
 
   -- two keys: the first ends, then the second
   leaves_pair : (p : Party) (peer : List ℕ) (first : KeyName) → Leaves p (apply (given_up p peer (kind.PairSent first) ++ DropExchange peer ∷ []) p) peer (kind.PairSent first)
@@ -206,7 +206,7 @@ module _ (of_links : LinkLaws) (of_keys : KeyLaws) (of_exchanges : ExchangeLaws)
           ∙ keeps_others p one (record_with one p) refl j (λ e. n (named j peer first e).0 (inl (named j peer first e).1)))
 
   leaves : (p : Party) (peer : List ℕ) (x : Kind) → Leaves p (apply (given_up p peer x ++ DropExchange peer ∷ []) p) peer x
-  leaves p peer (kind.KeySent sent way) = leaves_sent p peer sent way
+  leaves p peer (kind.KeySent sent via) = leaves_sent p peer sent via
   leaves p peer (kind.PairSent first) = leaves_pair p peer first
   leaves p peer (kind.Asked ultimate) = record { ended = λ name k i f. absurd i; kept = λ k n. refl; withdrawn = λ new i. absurd i; links = λ k n. refl; exchanges = refl }
   leaves p peer (kind.Translating ultimate value cta) = record { ended = λ name k i f. absurd i; kept = λ k n. refl; withdrawn = λ new i. absurd i; links = λ k n. refl; exchanges = refl }

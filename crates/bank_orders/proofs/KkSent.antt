@@ -12,7 +12,7 @@ use Rattle.party_tables.specs.declared.key.KeyRec.{KeyRec}
 use Rattle.party_tables.specs.declared.key.KeyStatus.TheVariants.{Pending}
 use Rattle.party_tables.specs.declared.exchange.Exchange.{Exchange}
 use Rattle.party_tables.specs.declared.exchange.Kind.TheVariants as kind
-use Rattle.party_tables.specs.declared.exchange.Via.TheVariants as via
+use Rattle.party_tables.specs.declared.exchange.Via.TheVariants as vias
 use Rattle.party_state.specs.declared.edit.Edit.TheVariants.{SetGen, PutLink, PutKey, PutExchange}
 use Rattle.party_tables.specs.Keys.{link_key, record_key}
 use Rattle.party_tables.specs.Ranges.{IsFittingExchange}
@@ -79,7 +79,7 @@ kk_sent result p front l new single (Some d) keys v i h e t =
 
 pub kk_same : (p : Party) (l : LinkRec) (new : List ℕ) (single : Bool) (keys : KkDrawn) (name : KeyName) (text : List ℕ) → name ≡ next_name p l → text ≡ text_of (kk_reply p l new single keys)
     → (SetGen keys.v ∷ PutLink (record l { next = l.next + 1 }) ∷ PutLink (fresh_link l new keys.pair) ∷ PutKey (record { peer = l.peer; name = name; value = keys.key; status = Pending })
-    ∷ PutExchange (record { peer = l.peer; kind = kind.KeySent name (via.Direct l.label (Some new)); text = text }) ∷ []) ≡ kk_edits p l new single keys
+    ∷ PutExchange (record { peer = l.peer; kind = kind.KeySent name (vias.Direct l.label (Some new)); text = text }) ∷ []) ≡ kk_edits p l new single keys
 kk_same p l new single keys name text n t = rw (n, t) refl
 
 -- the link in use is put in its place, and for the new one there is room

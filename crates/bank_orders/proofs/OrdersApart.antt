@@ -53,7 +53,7 @@ given_up_apart keys p peer (Some e) = by_kind e.kind
     by_pair name (Some j) (Some k) f g = ((other_record keys (record_key j) (record_key k) (records_apart keys.found p peer name j k f g), (refl, tt)), ((refl, tt), (tt, tt)))
 
     by_kind : (k : Kind) → AreApart (given_up p peer k ++ DropExchange peer ∷ [])
-    by_kind (kind.KeySent name way) = by_parts (new_link p peer way) (record_of p peer name)
+    by_kind (kind.KeySent name via) = by_parts (new_link p peer via) (record_of p peer name)
     by_kind (kind.Asked ultimate) = (tt, tt)
     by_kind (kind.Translating ultimate value cta) = (tt, tt)
     by_kind (kind.Ending name) = (tt, tt)

@@ -45,7 +45,7 @@ given_up_keepable keys p peer e = by_kind e.kind
     by_pair name (Some j) (Some k) f g = record { each = (key_room p j (stands name j f), (key_room_behind _ p k (stands (name_behind name) k g), (tt, tt))); order = refl }
 
     by_kind : (k : Kind) → AreKeepable p (given_up p peer k ++ DropExchange peer ∷ [])
-    by_kind (kind.KeySent name way) = by_record (new_link p peer way) name (record_of p peer name) refl
+    by_kind (kind.KeySent name via) = by_record (new_link p peer via) name (record_of p peer name) refl
     by_kind (kind.Asked ultimate) = record { each = (tt, tt); order = refl }
     by_kind (kind.Translating ultimate value cta) = record { each = (tt, tt); order = refl }
     by_kind (kind.Ending name) = record { each = (tt, tt); order = refl }
@@ -67,7 +67,7 @@ given_up_few p peer e = by_kind e.kind
     by_pair (Some j) (Some k) = lit≤ tt
 
     by_kind : (k : Kind) → length (given_up p peer k ++ DropExchange peer ∷ []) ≤ 9
-    by_kind (kind.KeySent name way) = by_parts (new_link p peer way) (record_of p peer name)
+    by_kind (kind.KeySent name via) = by_parts (new_link p peer via) (record_of p peer name)
     by_kind (kind.Asked ultimate) = lit≤ tt
     by_kind (kind.Translating ultimate value cta) = lit≤ tt
     by_kind (kind.Ending name) = lit≤ tt

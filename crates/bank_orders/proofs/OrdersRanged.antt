@@ -230,7 +230,7 @@ drop_ranged links keys links_in_range keys_in_range p peer w i = row_ranged p (d
     few (Some e) = given_up_few p peer e
 
     parts : (x : Kind) → AllInRange (given_up p peer x)
-    parts (kind.KeySent name way) = append_in_range (dropped (new_link p peer way)) (ended (record_of p peer name)) (dropped_in_range links links_in_range p peer way w) (ended_in_range keys_in_range p peer name w)
+    parts (kind.KeySent name via) = append_in_range (dropped (new_link p peer via)) (ended (record_of p peer name)) (dropped_in_range links links_in_range p peer via w) (ended_in_range keys_in_range p peer name w)
     parts (kind.Asked ultimate) = tt
     parts (kind.Translating ultimate value cta) = tt
     parts (kind.Ending name) = tt

@@ -6,7 +6,7 @@ use Rattle.x_base.specs.declared.verdict.Verdict.TheVariants.{Accept}
 use Rattle.x_mac.specs.declared.pair.Pair.{Pair}
 use Rattle.x_gen.specs.declared.generator.Gen.{Gen}
 use Rattle.x_gen.specs.Gen.{good_draw}
-use Rattle.x_gen.specs.Parity.{odd_of}
+use Rattle.x_gen.specs.Parity.{odd_parity_of}
 use Rattle.x_gen.specs.Laws.{IsOdd, DrawsOdd}
 use Rattle.x_seal.specs.Wrapped.{wrap_of, unwrap_of}
 use Rattle.csm_grammar.specs.declared.message.KsmBody.TheVariants as body
@@ -16,7 +16,7 @@ use Rattle.party_tables.specs.declared.link.LinkRec.{LinkRec}
 use Rattle.party_tables.specs.declared.key.KeyRec.{KeyRec}
 use Rattle.party_tables.specs.declared.key.KeyStatus.TheVariants.{Pending}
 use Rattle.party_tables.specs.declared.exchange.Exchange.{Exchange}
-use Rattle.party_tables.specs.declared.exchange.Via.TheVariants as via
+use Rattle.party_tables.specs.declared.exchange.Via.TheVariants as vias
 use Rattle.party_tables.specs.declared.exchange.Kind.TheVariants as kind
 use Rattle.party_state.specs.declared.edit.Edit.TheVariants.{PutLink}
 use Rattle.party_state.specs.Limits.{most_links, most_keys}
@@ -152,11 +152,11 @@ module _ (held : HeldAtAccept) (accepted : AcceptedIfHeld) (links : LinkLaws) wh
   -- what goes out
 
   module _ (unwraps : Unwraps) (odd : DrawsOdd) (keys : KeyLaws) (exchanges : ExchangeLaws) where
-    half : (under : Pair) (ctp key : ℕ) → IsOdd key → odd_of (unwrap_of under ctp (wrap_of under ctp key)) ≡ key
-    half under ctp key o = ap (λ (x : ℕ). odd_of x) (unwraps under ctp key o.below) ∙ o.same
+    half : (under : Pair) (ctp key : ℕ) → IsOdd key → odd_parity_of (unwrap_of under ctp (wrap_of under ctp key)) ≡ key
+    half under ctp key o = ap (λ (x : ℕ). odd_parity_of x) (unwraps under ctp key o.below) ∙ o.same
 
     opens : (under : Pair) (ctp : ℕ) (g : Gen) (moment : ℕ) (single : Bool) (pair : Pair) (key : ℕ) (last : Gen) → Draws g moment single pair key last → Opens under ctp single (sealed_kk under ctp single pair) pair
-    opens under ctp g moment true pair key last d = let left : odd_of (unwrap_of under ctp (wrap_of under ctp pair.left)) ≡ pair.left = half under ctp pair.left (odd g moment (pair.left, d.0) d.1.0) in (left, left ∙ sym d.1.1.0)
+    opens under ctp g moment true pair key last d = let left : odd_parity_of (unwrap_of under ctp (wrap_of under ctp pair.left)) ≡ pair.left = half under ctp pair.left (odd g moment (pair.left, d.0) d.1.0) in (left, left ∙ sym d.1.1.0)
     opens under ctp g moment false pair key last d = (half under ctp pair.left (odd g moment (pair.left, d.0) d.1.1.0), half under ctp pair.right (odd d.0 moment (pair.right, d.1.0) d.1.1.1.0))
 
     key_below : (g : Gen) (moment : ℕ) (single : Bool) (pair : Pair) (key : ℕ) (last : Gen) → Draws g moment single pair key last → key < 2 ^ 64
@@ -206,7 +206,7 @@ module _ (held : HeldAtAccept) (accepted : AcceptedIfHeld) (links : LinkLaws) wh
         pending = record { peer = l.peer; name = next_name p l; value = d.key; status = Pending }
 
         waits : Exchange
-        waits = record { peer = l.peer; kind = kind.KeySent (next_name p l) (via.Direct l.label (Some new)); text = text_of (kk_reply p l new single d) }
+        waits = record { peer = l.peer; kind = kind.KeySent (next_name p l) (vias.Direct l.label (Some new)); text = text_of (kk_reply p l new single d) }
 
         unlike : (k : LinkKey) (x : LinkRec) → k ≢ link_key x → same_link k (link_key x) ≡ false
         unlike k x n = false_from_ne_true (same_link k (link_key x)) (λ e. n ((links.same k (link_key x)).0 e))

@@ -7,7 +7,7 @@ use Rattle.party_tables.specs.declared.link.LinkKey.{LinkKey}
 use Rattle.party_tables.specs.declared.key.KeyRec.{KeyRec}
 use Rattle.party_tables.specs.declared.key.RecordKey.{RecordKey}
 use Rattle.party_tables.specs.declared.key.KeyStatus.TheVariants.{Ended}
-use Rattle.party_tables.specs.declared.exchange.Via.TheVariants as via
+use Rattle.party_tables.specs.declared.exchange.Via.TheVariants as vias
 use Rattle.party_tables.specs.declared.exchange.Kind.{Kind}
 use Rattle.party_tables.specs.declared.exchange.Kind.TheVariants as kind
 use Rattle.party_tables.specs.declared.exchange.Exchange.{Exchange}
@@ -16,13 +16,13 @@ use Rattle.party_state.specs.Rows.{Row}
 
 -- the exchange sent the key of this name: alone, or as the first or the second of two
 abbrev pub SentDataKey : Kind → KeyName → Type 0
-SentDataKey (kind.KeySent sent way) name = name ≡ sent
+SentDataKey (kind.KeySent sent via) name = name ≡ sent
 SentDataKey (kind.PairSent first) name = (name ≡ first) ⊎ (name ≡ record first { count = first.count + 1 })
 SentDataKey other name = ⊥
 
 -- the exchange sent a new key-encrypting key of this label
 abbrev pub SentNewKk : Kind → List ℕ → Type 0
-SentNewKk (kind.KeySent name (via.Direct label (Some new))) sent = sent ≡ new
+SentNewKk (kind.KeySent name (vias.Direct label (Some new))) sent = sent ≡ new
 SentNewKk other sent = ⊥
 
 pub record GivesUp (p after : Party) (r : Row) (peer : List ℕ) (e : Exchange) : Type 0 where

@@ -15,7 +15,7 @@ use Rattle.role_base.specs.Exchanges.{record_of, new_link, dropped, ended}
 
 -- what becomes of what the exchange names
 abbrev pub given_up : Party → List ℕ → Kind → List Edit
-given_up p peer (kind.KeySent name way) = dropped (new_link p peer way) ++ ended (record_of p peer name)
+given_up p peer (kind.KeySent name via) = dropped (new_link p peer via) ++ ended (record_of p peer name)
 given_up p peer (kind.Asked ultimate) = []
 given_up p peer (kind.Translating ultimate value cta) = []
 given_up p peer (kind.Ending name) = []

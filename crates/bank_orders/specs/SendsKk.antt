@@ -4,7 +4,7 @@ use Rattle.std.specs.Prelude.{ℕ, ◌≡◌, ◌≢◌, ◌+◌, Bool, true, fa
 use Rattle.x_base.specs.declared.key_name.KeyName.{KeyName}
 use Rattle.x_base.specs.declared.party.Side.TheVariants.{Sends}
 use Rattle.x_mac.specs.declared.pair.Pair.{Pair}
-use Rattle.x_gen.specs.Parity.{odd_of}
+use Rattle.x_gen.specs.Parity.{odd_parity_of}
 use Rattle.x_gen.specs.declared.generator.Gen.{Gen}
 use Rattle.x_seal.specs.Wrapped.{unwrap_of}
 use Rattle.csm_grammar.specs.declared.message.Message.TheVariants as message
@@ -17,7 +17,7 @@ use Rattle.csm_write.specs.Canon.{canon}
 use Rattle.party_tables.specs.declared.link.LinkKey.{LinkKey}
 use Rattle.party_tables.specs.declared.link.LinkRec.{LinkRec}
 use Rattle.party_tables.specs.declared.key.KeyStatus.TheVariants.{Pending}
-use Rattle.party_tables.specs.declared.exchange.Via.TheVariants as via
+use Rattle.party_tables.specs.declared.exchange.Via.TheVariants as vias
 use Rattle.party_tables.specs.declared.exchange.Kind.TheVariants as kind
 use Rattle.party_tables.specs.Keys.{link_key}
 use Rattle.party_state.specs.State.{Party, link_with, record_with, exchange_with}
@@ -28,8 +28,8 @@ use Rattle.bank_orders.specs.Starts.{SendsUnder, Draws}
 -- what the recipient of a new key-encrypting key decrypts under the link in use at CTP, with odd parity, is the pair: *KK
 -- gives the two halves, KK the one that is both
 abbrev pub Opens : Pair → ℕ → Bool → NewKk → Pair → Type 0
-Opens under ctp true (new_kk.Single key) pair = (odd_of (unwrap_of under ctp key) ≡ pair.left) × (odd_of (unwrap_of under ctp key) ≡ pair.right)
-Opens under ctp false (new_kk.Double left right) pair = (odd_of (unwrap_of under ctp left) ≡ pair.left) × (odd_of (unwrap_of under ctp right) ≡ pair.right)
+Opens under ctp true (new_kk.Single key) pair = (odd_parity_of (unwrap_of under ctp key) ≡ pair.left) × (odd_parity_of (unwrap_of under ctp key) ≡ pair.right)
+Opens under ctp false (new_kk.Double left right) pair = (odd_parity_of (unwrap_of under ctp left) ≡ pair.left) × (odd_parity_of (unwrap_of under ctp right) ≡ pair.right)
 Opens under ctp single sealed pair = ⊥
 
 pub record SendsKk (p after : Party) (r : Row) (peer : List ℕ) (label : Option (List ℕ)) (new : List ℕ) (single : Bool) (moment : ℕ) : Type 0 where
@@ -62,4 +62,4 @@ pub record SendsKk (p after : Party) (r : Row) (peer : List ℕ) (label : Option
   pub others : (k : LinkKey) → k ≢ link_key link → k ≢ record { peer = peer; label = new; side = Sends } → link_with k after ≡ link_with k p
   -- the data key is pending, and the exchange keeps the text and the new label
   pub pending : record_with (record { peer = peer; name = name }) after ≡ Some (record { peer = peer; name = name; value = key; status = Pending })
-  pub waits : exchange_with peer after ≡ Some (record { peer = peer; kind = kind.KeySent name (via.Direct link.label (Some new)); text = canon (message.Ksm ksm) (closing.Mac key) })
+  pub waits : exchange_with peer after ≡ Some (record { peer = peer; kind = kind.KeySent name (vias.Direct link.label (Some new)); text = canon (message.Ksm ksm) (closing.Mac key) })

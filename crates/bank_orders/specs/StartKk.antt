@@ -12,7 +12,7 @@ use Rattle.csm_grammar.specs.declared.message.NewKk.{NewKk}
 use Rattle.csm_grammar.specs.declared.message.NewKk.TheVariants as new_kk
 use Rattle.party_tables.specs.declared.link.LinkRec.{LinkRec}
 use Rattle.party_tables.specs.declared.key.KeyStatus.TheVariants.{Pending}
-use Rattle.party_tables.specs.declared.exchange.Via.TheVariants as via
+use Rattle.party_tables.specs.declared.exchange.Via.TheVariants as vias
 use Rattle.party_tables.specs.declared.exchange.Kind.TheVariants as kind
 use Rattle.party_state.specs.declared.edit.Edit.{Edit}
 use Rattle.party_state.specs.declared.edit.Edit.TheVariants.{PutLink, PutKey, PutExchange, SetGen}
@@ -62,7 +62,7 @@ kk_edits p l new single d =
     ∷ PutLink (record l { next = l.next + 1 })
     ∷ PutLink (fresh_link l new d.pair)
     ∷ PutKey (record { peer = l.peer; name = next_name p l; value = d.key; status = Pending })
-    ∷ PutExchange (record { peer = l.peer; kind = kind.KeySent (next_name p l) (via.Direct l.label (Some new)); text = text_of (kk_reply p l new single d) })
+    ∷ PutExchange (record { peer = l.peer; kind = kind.KeySent (next_name p l) (vias.Direct l.label (Some new)); text = text_of (kk_reply p l new single d) })
     ∷ []
 
 abbrev pub kk_sending : Party → List Test → LinkRec → List ℕ → Bool → Option KkDrawn → Row

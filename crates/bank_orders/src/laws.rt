@@ -36,7 +36,7 @@ use x_gen::law_draws_odd;
 use x_seal::law_unwraps;
 
 /// The edits of an accepted command's row are apart.
-pub fn law_apart()
+pub fn law_orders_apart()
     ensures { (p : Party) (c : TheCommand) (moment : ℕ) → is_accept (command_row p c moment).verdict ≡ true → AreApart (command_row p c moment).edits }
 {
     law_accept();

@@ -15,7 +15,8 @@ mod translate;
 
 pub use commands::command;
 pub use laws::{
-    law_apart, law_asks, law_asks_centre, law_begins, law_ends, law_gives_up, law_loads_at_bank,
-    law_order, law_purges, law_sends_to_translate, law_starts, law_starts_kk, law_writes_again,
+    law_asks, law_asks_centre, law_begins, law_ends, law_gives_up, law_loads_at_bank, law_order,
+    law_orders_apart, law_purges, law_sends_to_translate, law_starts, law_starts_kk,
+    law_writes_again,
 };
 pub use ranged::law_ranged;

@@ -19,8 +19,8 @@ use crate::start::{sending_link, start_tests};
 use csm_grammar::{Ksm, KsmBody, Message, NewKk};
 use party_state::{Decision, Edit, Exchange, Kind, LinkRec, State, Via, law_accept};
 use role_base::{
-    Written, accept, has_count, has_key_room, has_link_room, is_accept, is_of_centre, list_of,
-    next_name, no_extras, pending, refusal, used, verdict_after, verdict_of,
+    Written, accept, has_count, has_key_room, has_link_room, is_accept, is_of_centre,
+    link_after_use, list_of, next_name, no_extras, pending, refusal, verdict_after, verdict_of,
 };
 use std::alloc::Global;
 use x_base::{Count, FullName, Ident, KeyName, Label, NoMemory, Side, Verdict};
@@ -164,7 +164,7 @@ fn kk_changes(
 {
     [
         Edit::SetGen(drawn.v),
-        Edit::PutLink(used(link, count)),
+        Edit::PutLink(link_after_use(link, count)),
         Edit::PutLink(fresh_link(link, label, drawn.pair)),
         Edit::PutKey(pending(link, name, drawn.key)),
         Edit::PutExchange(exchange),

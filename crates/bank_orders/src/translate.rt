@@ -14,8 +14,8 @@ use crate::ask::centre_front;
 use csm_grammar::{Message, Rfs};
 use party_state::{Decision, Edit, Exchange, Kind, LinkRec, State};
 use role_base::{
-    Written, accept, centre_label, direct_name, has_count, is_accept, link_with, list_of, refusal,
-    used, verdict_after,
+    Written, accept, centre_label, direct_name, has_count, is_accept, link_after_use, link_with,
+    list_of, refusal, verdict_after,
 };
 use std::alloc::Global;
 use x_base::{Count, FullName, Ident, NoMemory, Side, Verdict};
@@ -83,7 +83,7 @@ fn translate_changes(link: &LinkRec, count: Count, after: &Gen, exchange: Exchan
 {
     [
         Edit::SetGen(after.v),
-        Edit::PutLink(used(link, count)),
+        Edit::PutLink(link_after_use(link, count)),
         Edit::PutExchange(exchange),
     ]
 }

@@ -36,10 +36,10 @@ takes keys p (input.Arrived a) moment = λ b m brought.
     rw row (keys p a m is b m brought)
 takes keys p (input.Ordered c) moment = λ a m brought. absurd (cc (brought.arrived))
 
-pub passes : KeysPassed → (p : Party) (i : Input) (moment : ℕ) → PassesKeys p i (decided p i moment)
-passes keys p (input.Arrived a) moment = λ b m brought.
+pub keys_pass : KeysPassed → (p : Party) (i : Input) (moment : ℕ) → PassesKeys p i (decided p i moment)
+keys_pass keys p (input.Arrived a) moment = λ b m brought.
     let same : a ≡ b = ap (arrival_of a) brought.arrived in
     let is : a.parsed.message ≡ message.Rtr m = ap (λ (x : Arrival). x.parsed.message) same ∙ brought.message in
     let row : message_row p a a.parsed.message moment ≡ rtr p a m = ap (λ (n : Message). message_row p a n moment) is in
     rw row (keys p a m is b m brought)
-passes keys p (input.Ordered c) moment = λ a m brought. absurd (cc (brought.arrived))
+keys_pass keys p (input.Ordered c) moment = λ a m brought. absurd (cc (brought.arrived))

@@ -21,23 +21,23 @@ ghost use Rattle.bank_role.specs.Deciding.{decided};
 
 /// There is no key to test the code of an arrival under exactly where the arrival is closed by an
 /// error detection code, or is refused before its code is looked at.
-pub fn law_lead()
+pub fn law_bank_lead()
     ensures { (p : Party) (a : TheArrival) (moment : ℕ) →
         ((lead_of p a ≡ None) ↔ ((is_plain a.parsed.shut ≡ true) ⊎ (is_early (decided p (Arrived a) moment).verdict ≡ true))) }
 {
-    bank_arrivals::law_lead();
-    bank_keys::law_lead();
+    bank_arrivals::law_arrival_lead();
+    bank_keys::law_key_lead();
 }
 
 /// The edits of an accepted row, at a party that has each link once, are apart. An exchange is begun
 /// only with a peer with whom none stands.
-pub fn law_apart()
+pub fn law_bank_apart()
     ensures apart { (p : Party) (i : TheInput) (moment : ℕ) → Distinct link_key same_link p.links → is_accept (row_of p i moment).verdict ≡ true → AreApart (row_of p i moment).edits }
     ensures begins { (p : Party) (i : TheInput) (moment : ℕ) → is_accept (row_of p i moment).verdict ≡ true → AllBeginFree p (row_of p i moment).edits }
 {
-    bank_orders::law_apart();
-    bank_arrivals::law_apart();
-    bank_keys::law_apart();
+    bank_orders::law_orders_apart();
+    bank_arrivals::law_arrivals_apart();
+    bank_keys::law_keys_apart();
     bank_orders::law_begins();
     bank_arrivals::law_begins();
     bank_keys::law_begins();

@@ -3,4 +3,4 @@
 
 mod laws;
 
-pub use laws::{law_apart, law_lead, law_passing, law_ranged, law_taking};
+pub use laws::{law_bank_apart, law_bank_lead, law_passing, law_ranged, law_taking};

@@ -1,7 +1,7 @@
 // What an order line says.
 use crate::parting::parted;
 use x_base::Ident;
-use x_values::{number, plain_number_within};
+use x_values::{read_decimal_number, read_plain_number_within};
 
 /// An order. A scenario's is followed by so many bytes.
 #[derive(Clone, Copy)]
@@ -29,8 +29,8 @@ pub(crate) enum Order {
 /// The seed of a drill and how many events it has.
 fn drill_of(words: &[u8]) -> Option<(u64, u32)> {
     let (seed, events) = parted(words, b' ')?;
-    let events = u32::try_from(plain_number_within(1, 10_000, events)?).ok()?;
-    Some((number(seed)?, events))
+    let events = u32::try_from(read_plain_number_within(1, 10_000, events)?).ok()?;
+    Some((read_decimal_number(seed)?, events))
 }
 
 /// The order of a scenario with so many bytes.
@@ -69,5 +69,5 @@ pub(crate) fn order_of(line: &[u8]) -> Option<Order> {
         let (seed, events) = drill_of(rest)?;
         return Some(Order::Text { seed, events });
     }
-    scenario_of(kind, number(rest)?)
+    scenario_of(kind, read_decimal_number(rest)?)
 }

@@ -3,7 +3,7 @@ use crate::plain::plain;
 use case_table::{Call, Table};
 use std::alloc::Global;
 use x_base::{NoMemory, Text};
-use x_des::{Block, Schedule, decrypt, encrypt, sp};
+use x_des::{Block, Schedule, box_and_permutation, decrypt, encrypt};
 
 /// A key, a block and its encryption, which another program made.
 const BLOCKS: [(u64, u64, u64); 52] = [
@@ -90,8 +90,16 @@ pub(crate) fn blocks(alloc: Global) -> Result<Text, NoMemory> {
 pub(crate) fn parts(alloc: Global) -> Result<Text, NoMemory> {
     let mut table = Table::new(alloc, "S-boxes with P, exclusive or");
     let sum = Block::new(0x0123456789ABCDEF).xor(&Block::new(0x85E813540F0AB405));
-    table.row(&[Call::number("sp of S1", sp(0, 0).into(), 0x0080_8200)])?;
-    table.row(&[Call::number("sp of S8", sp(7, 63).into(), 0x0802_0800)])?;
+    table.row(&[Call::number(
+        "box_and_permutation of S1",
+        box_and_permutation(0, 0).into(),
+        0x0080_8200,
+    )])?;
+    table.row(&[Call::number(
+        "box_and_permutation of S8",
+        box_and_permutation(7, 63).into(),
+        0x0802_0800,
+    )])?;
     table.row(&[Call::number("xor", sum.word(), 0x84CB563386A179EA)])?;
     table.told()
 }

@@ -2,7 +2,7 @@
 use case_table::{Call, Table};
 use std::alloc::Global;
 use x_base::{NoMemory, Text};
-use x_gen::{Gen, is_weak, odd};
+use x_gen::{Gen, is_weak, with_odd_parity};
 use x_mac::Pair;
 
 /// The halves of a generator's pair, its seed, a moment, and three keys that another program drew. That
@@ -151,7 +151,7 @@ pub(crate) fn steps(alloc: Global) -> Result<Text, NoMemory> {
 pub(crate) fn parity(alloc: Global) -> Result<Text, NoMemory> {
     let mut table = Table::new(alloc, "odd parity, weak keys");
     for (word, expected) in PARITY {
-        table.row(&[Call::number("odd", odd(word), expected)])?;
+        table.row(&[Call::number("with_odd_parity", with_odd_parity(word), expected)])?;
     }
     for (key, expected) in WEAK {
         table.row(&[Call::answer("is_weak", is_weak(key), expected)])?;

@@ -8,7 +8,7 @@ use Rattle.x_base.specs.declared.party.Role.TheVariants.{Bank}
 use Rattle.x_base.specs.declared.party.Side.TheVariants.{Sends, Takes}
 use Rattle.x_mac.specs.declared.pair.Pair.{Pair}
 use Rattle.x_gen.specs.declared.generator.Gen.{Gen}
-use Rattle.x_gen.specs.Parity.{odd_of, is_weak_key}
+use Rattle.x_gen.specs.Parity.{odd_parity_of, is_weak_key}
 use Rattle.party_state.specs.declared.command.Command.TheVariants as command
 use Rattle.party_state.specs.declared.command.Input.{Input}
 use Rattle.party_state.specs.declared.command.Input.TheVariants as input
@@ -134,8 +134,8 @@ second_roomy : HasRoom second_room
 unfolding two four eight
 second_roomy = lit≤ tt
 
-pub strong : is_weak_key (odd_of live_moment) ≡ false
-unfolding odd_of lib.Count.ones
+pub strong : is_weak_key (odd_parity_of live_moment) ≡ false
+unfolding odd_parity_of lib.Count.ones
 strong = refl
 
 -- ---- the course

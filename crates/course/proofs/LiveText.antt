@@ -6,7 +6,7 @@ use Rattle.std.proofs.lemmas.List.Elements.{All-from_recursion}
 use Rattle.hex.specs.Hex.{decode_pairs}
 use Rattle.x_base.specs.Ident.{repeated, expanded}
 use Rattle.party_tables.specs.Ranges.{IsPair}
-use Rattle.x_gen.specs.Parity.{odd_of}
+use Rattle.x_gen.specs.Parity.{odd_parity_of}
 use Rattle.scenario.specs.Behind.{EachBehind}
 use Rattle.scenario.specs.Reading.{IsScenario, is_good, lines_in}
 use Rattle.scenario.specs.Rows.{rows_of}
@@ -35,11 +35,11 @@ passes_behind {A} passes before (r ∷ rest) h (y ∷ front) back x is = passes_
         subst (λ (z : A). passes (before ++ z ∷ front) x ≡ true) same (subst (λ (l : List A). passes l x ≡ true) (append_assoc before (r ∷ []) front) t)
 
 lines_pass : all_pass is_good [] (rows_of live_text) ≡ true
-unfolding expanded repeated odd_of lib.Count.ones decode_pairs
+unfolding expanded repeated odd_parity_of lib.Count.ones decode_pairs
 lines_pass = refl
 
 rules_pass : all_pass may_follow [] live_lines ≡ true
-unfolding expanded repeated odd_of lib.Count.ones
+unfolding expanded repeated odd_parity_of lib.Count.ones
 rules_pass = refl
 
 -- each line may stand behind those before it

@@ -2,7 +2,7 @@
 use Rattle.std.proofs.Common.{◌≡◌, inl, inr, ◌-◌, ℕ, slice_get, List, [], Option, Some, None, Result, Ok, Err, IfOk, take, refl, ap, sym, subst}
 use Rattle.csm_grammar.specs.declared.arrival.Arrival.{Arrival}
 use Rattle.csm_feed.specs.declared.unheard.Unheard.{Unheard}
-use Rattle.csm_feed.specs.Heard.{Heard, behind, readings}
+use Rattle.csm_feed.specs.Heard.{Heard, after_leading, readings}
 use Rattle.party_state.specs.declared.command.Command.{Command}
 use Rattle.party_state.specs.declared.command.Input.TheVariants as input
 use Rattle.scenario.specs.declared.line.Line.{Line}
@@ -112,11 +112,11 @@ meant_arrives (line.Stop n choice) party texts bytes a at is meant = cc at
 
 -- what the reader hears of the first bytes is heard of the bytes
 pub heard_of : {E : Type 0} (bytes read : List ℕ) (r : Result (Result Arrival Unheard) E) → read ≡ input_bytes bytes → IfOk r (λ (h : Result Arrival Unheard). Heard read (readings h))
-    → IfOk r (λ (h : Result Arrival Unheard). IfOk h (λ (a : Arrival). a.text ≡ take a.parsed.len (behind read))) → IfOk r (λ (h : Result Arrival Unheard). HeardOf bytes h)
+    → IfOk r (λ (h : Result Arrival Unheard). IfOk h (λ (a : Arrival). a.text ≡ take a.parsed.len (after_leading read))) → IfOk r (λ (h : Result Arrival Unheard). HeardOf bytes h)
 heard_of bytes read (Err e) read_is hears text = tt
 heard_of bytes read (Ok heard) read_is hears text = record {
   heard_is = subst (λ (b : List ℕ). Heard b (readings heard)) read_is hears;
-  text = subst (λ (b : List ℕ). IfOk heard (λ (a : Arrival). a.text ≡ take a.parsed.len (behind b))) read_is text;
+  text = subst (λ (b : List ℕ). IfOk heard (λ (a : Arrival). a.text ≡ take a.parsed.len (after_leading b))) read_is text;
 }
 
 -- something happens at each line that gives no command

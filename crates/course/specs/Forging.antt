@@ -4,7 +4,7 @@ use Rattle.party_state.specs.declared.command.Input.{Input}
 use Rattle.party_state.specs.declared.command.Input.TheVariants as input
 use Rattle.party_state.specs.declared.decision.Lead.{Lead}
 use Rattle.party_state.specs.State.{Party}
-use Rattle.csm_grammar.specs.Arrivals.{authenticated}
+use Rattle.csm_grammar.specs.Arrivals.{authenticated_text}
 use Rattle.fact_book.specs.Facts.{NamedText}
 use Rattle.world_laws.specs.World.{Fact}
 use Rattle.world_laws.specs.Honest.{HonestArrival, is_honest_lead}
@@ -18,4 +18,4 @@ HonestInput facts p (Some (input.Arrived a)) = HonestArrival facts p a
 -- the search that decides it, by the lead of the input
 abbrev pub is_honest_input : List NamedText → Input → Option Lead → Bool
 is_honest_input facts (input.Ordered command) lead = true
-is_honest_input facts (input.Arrived a) lead = is_honest_lead facts (authenticated a) lead
+is_honest_input facts (input.Arrived a) lead = is_honest_lead facts (authenticated_text a) lead

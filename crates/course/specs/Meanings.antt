@@ -2,7 +2,7 @@
 use Rattle.std.specs.Prelude.{◌≡◌, ◌-◌, ℕ, Bool, true, false, List, take, slice_get, Option, Some, None, Result, IfOk}
 use Rattle.csm_grammar.specs.declared.arrival.Arrival.{Arrival}
 use Rattle.csm_feed.specs.declared.unheard.Unheard.{Unheard}
-use Rattle.csm_feed.specs.Heard.{Heard, behind, readings}
+use Rattle.csm_feed.specs.Heard.{Heard, after_leading, readings}
 use Rattle.party_state.specs.declared.command.Command.{Command}
 use Rattle.scenario.specs.declared.line.Line.{Line}
 use Rattle.course.specs.Acts.{Means}
@@ -14,7 +14,7 @@ use Rattle.scenario.specs.declared.line.Line.TheVariants as line
 -- this is heard of the first bytes
 pub record HeardOf (bytes : List ℕ) (heard : Result Arrival Unheard) : Type 0 where
   pub heard_is : Heard (input_bytes bytes) (readings heard)
-  pub text : IfOk heard (λ (a : Arrival). a.text ≡ take a.parsed.len (behind (input_bytes bytes)))
+  pub text : IfOk heard (λ (a : Arrival). a.text ≡ take a.parsed.len (after_leading (input_bytes bytes)))
 
 -- this is to be done for an event of which this holds
 abbrev pub MeantBy : (LineEvent → Type 0) → LineAct → Type 0

@@ -11,7 +11,7 @@ use crate::fault::BatchFault;
 use scenario::{decoded, first_row, first_word, one};
 use std::alloc::Global;
 use x_base::{NoMemory, Text};
-use x_values::number;
+use x_values::read_decimal_number;
 
 /// How many lines a batch may have.
 const MOST_LINES: u32 = 2_048;
@@ -23,7 +23,7 @@ const MOST_BYTES: usize = 1_048_576;
 fn entry_with(alloc: Global, moment: &[u8], digits: &[u8]) -> Result<Option<Entry>, NoMemory>
     ensures { IfOk result (λ entry. entry ≡ entry_with (number_of moment.now) (bytes_of digits.now)) }
 {
-    let Some(moment) = number(moment) else {
+    let Some(moment) = read_decimal_number(moment) else {
         return Ok(None);
     };
     match decoded(alloc, digits)? {

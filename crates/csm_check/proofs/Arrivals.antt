@@ -6,7 +6,7 @@ use Rattle.csm_grammar.specs.declared.refusal.ReadRefusal.{ReadRefusal}
 use Rattle.csm_grammar.specs.declared.refusal.ReadRefusal.TheVariants as reason
 use Rattle.csm_feed.specs.declared.unheard.Unheard.{Unheard}
 use Rattle.csm_feed.specs.declared.unheard.Unheard.TheVariants as unheard
-use Rattle.csm_feed.specs.Heard.{leading, behind, refused_place, Heard, readings, input_limit}
+use Rattle.csm_feed.specs.Heard.{leading, after_leading, refused_place, Heard, readings, input_limit}
 use Rattle.x_status.specs.declared.status.Refusal.{Refusal}
 use Rattle.x_status.specs.declared.status.Status.TheVariants as status
 use Rattle.csm_check.specs.Transfer.{IsAtEnd, IsFront}
@@ -46,19 +46,19 @@ module _ (before after : Option (List ℕ)) (text bytes : List ℕ) (front : IsF
   of_text : (q : Result Arrival Unheard) → r ≡ q → Heard text (readings q)
   of_text q is = subst (λ (t : List ℕ). Heard t (readings q)) same (subst (λ (x : Result Arrival Unheard). Heard bytes (readings x)) is h)
 
-  heard_in : (o : Option (List ℕ)) (a : Arrival) → IsFront input_limit o text → (length text < input_limit → IsAtEnd o after) → Heard text (Ok a.parsed) → a.text ≡ take a.parsed.len (behind text)
+  heard_in : (o : Option (List ℕ)) (a : Arrival) → IsFront input_limit o text → (length text < input_limit → IsAtEnd o after) → Heard text (Ok a.parsed) → a.text ≡ take a.parsed.len (after_leading text)
       → IfSome o (λ all. IsHeard all a × (after ≡ Some []))
   heard_in None a t e heard kept = tt
   heard_in (Some all) a t e heard kept =
       let is : text ≡ taken all = t in (
-        record { heard = subst (λ (b : List ℕ). Heard b (Ok a.parsed)) is heard; text = kept ∙ ap (λ (b : List ℕ). take a.parsed.len (behind b)) is },
+        record { heard = subst (λ (b : List ℕ). Heard b (Ok a.parsed)) is heard; text = kept ∙ ap (λ (b : List ℕ). take a.parsed.len (after_leading b)) is },
         e (heard_short a heard),
       )
 
-  pub heard_was : (a : Arrival) → IfOk r (λ a. a.text ≡ take a.parsed.len (behind bytes)) → r ≡ Ok a → IfSome before (λ all. IsHeard all a × (after ≡ Some []))
+  pub heard_was : (a : Arrival) → IfOk r (λ a. a.text ≡ take a.parsed.len (after_leading bytes)) → r ≡ Ok a → IfSome before (λ all. IsHeard all a × (after ≡ Some []))
   heard_was a kept is =
-      let k : a.text ≡ take a.parsed.len (behind bytes) = subst (λ (x : Result Arrival Unheard). IfOk x (λ a. a.text ≡ take a.parsed.len (behind bytes))) is kept in
-      heard_in before a front end (of_text (Ok a) is) (k ∙ ap (λ (b : List ℕ). take a.parsed.len (behind b)) same)
+      let k : a.text ≡ take a.parsed.len (after_leading bytes) = subst (λ (x : Result Arrival Unheard). IfOk x (λ a. a.text ≡ take a.parsed.len (after_leading bytes))) is kept in
+      heard_in before a front end (of_text (Ok a) is) (k ∙ ap (λ (b : List ℕ). take a.parsed.len (after_leading b)) same)
 
   unheard_in : (o : Option (List ℕ)) (u : Unheard) → IsFront input_limit o text → Heard text (Err u) → IfSome o (λ all. Heard (taken all) (Err u))
   unheard_in None u t heard = tt

@@ -7,7 +7,7 @@ use Rattle.csm_grammar.specs.declared.parsed.Parsed.{Parsed}
 use Rattle.csm_grammar.specs.declared.parsed.Shut.{Shut}
 use Rattle.csm_grammar.specs.declared.parsed.Shut.TheVariants as shuts
 use Rattle.csm_feed.specs.declared.unheard.Unheard.{Unheard}
-use Rattle.csm_feed.specs.Heard.{behind, Heard}
+use Rattle.csm_feed.specs.Heard.{after_leading, Heard}
 use Rattle.csm_write.specs.declared.closing.Closing.{Closing}
 use Rattle.csm_write.specs.declared.closing.Closing.TheVariants as closings
 use Rattle.csm_write.specs.Canon.{canon}
@@ -18,8 +18,8 @@ use Rattle.x_status.specs.declared.status.Status.TheVariants as status
 use Rattle.csm_check.specs.Listening.{taken, refusal_of, IsPossible}
 
 -- the authenticated text of the message in the bytes, as it was received
-abbrev pub authenticated_part : List ℕ → Parsed → List ℕ
-authenticated_part bytes parsed = take parsed.auth_len (take parsed.len (behind bytes))
+abbrev pub authenticated_text_in : List ℕ → Parsed → List ℕ
+authenticated_text_in bytes parsed = take parsed.auth_len (take parsed.len (after_leading bytes))
 
 -- an error detection code has to be that of the authenticated text; an authentication code, which has no key
 -- here, isn't verified
@@ -33,7 +33,7 @@ judged right parsed = if right then Ok parsed else Err (Decided BadEdc)
 
 -- what is decided of what was heard of the bytes
 abbrev pub decided_of : List ℕ → Result Parsed Unheard → Result Parsed Refusal
-decided_of bytes (Ok parsed) = judged (is_right (authenticated_part bytes parsed) parsed.shut) parsed
+decided_of bytes (Ok parsed) = judged (is_right (authenticated_text_in bytes parsed) parsed.shut) parsed
 decided_of bytes (Err unheard) = Err (refusal_of unheard)
 
 -- what is decided of an input: it follows from what is heard of the bytes that are taken

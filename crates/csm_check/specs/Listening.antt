@@ -5,7 +5,7 @@ use Rattle.csm_grammar.specs.declared.arrival.Arrival.{Arrival}
 use Rattle.csm_grammar.specs.declared.refusal.ReadRefusal.TheVariants.{NoMemory}
 use Rattle.csm_feed.specs.declared.unheard.Unheard.{Unheard}
 use Rattle.csm_feed.specs.declared.unheard.Unheard.TheVariants as unheard
-use Rattle.csm_feed.specs.Heard.{behind, Heard, input_limit}
+use Rattle.csm_feed.specs.Heard.{after_leading, Heard, input_limit}
 use Rattle.x_status.specs.declared.status.Refusal.{Refusal}
 use Rattle.x_status.specs.declared.status.Refusal.TheVariants.{Text, Trailing, Decided}
 use Rattle.x_status.specs.declared.status.Status.{Status}
@@ -18,7 +18,7 @@ taken input = take input_limit input
 -- a message that arrives: it is heard of the bytes that are taken, and is kept as it was received
 pub record IsHeard (all : List ℕ) (arrival : Arrival) : Type 0 where
   pub heard : Heard (taken all) (Ok arrival.parsed)
-  pub text : arrival.text ≡ take arrival.parsed.len (behind (taken all))
+  pub text : arrival.text ≡ take arrival.parsed.len (after_leading (taken all))
 
 -- where no message is heard, that is the refusal
 abbrev pub refusal_of : Unheard → Refusal

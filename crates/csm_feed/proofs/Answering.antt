@@ -13,7 +13,7 @@ use Rattle.csm_read.specs.Laws.{OneAnswer, FaultEnds}
 use Rattle.csm_feed.specs.declared.next.Next.{Next}
 use Rattle.csm_feed.specs.declared.next.Next.TheVariants.{Message, NotYet, Refused, NoMemory}
 use Rattle.csm_grammar.specs.Places.{moved}
-use Rattle.csm_feed.specs.Streams.{Leads, IsWaiting, IsRefused, EndsWith, Holds}
+use Rattle.csm_feed.specs.Streams.{Leads, IsWaiting, IsRefusedAfter, EndsWith, HoldsArrivals}
 use Rattle.csm_feed.specs.Held.{Feeding, IsKept}
 use Rattle.csm_feed.specs.Feeding.{with_refusal, Hands, Answers, ComesAs, Fed, HandsOut, Exhausts}
 use Rattle.csm_feed.proofs.Fronts.{one_parsed}
@@ -38,7 +38,7 @@ comes_not_yet old new NotYet one h i = inr refl
 comes_not_yet old new (Refused r) one h i = let e = one_end old.before old.held None (Some r) i h.0 in absurd cc
 comes_not_yet old new NoMemory one h i = inl refl
 
-comes_refused : (old new : Feeding) (answer : Next) (r : ReadRefusal) → OneAnswer → Answers old answer new → IsRefused old.before old.held r → (answer ≡ NoMemory) ⊎ (answer ≡ Refused r)
+comes_refused : (old new : Feeding) (answer : Next) (r : ReadRefusal) → OneAnswer → Answers old answer new → IsRefusedAfter old.before old.held r → (answer ≡ NoMemory) ⊎ (answer ≡ Refused r)
 comes_refused old new (Message a) r one h i = absurd (no_read old (Some r) a.parsed one i h.read)
 comes_refused old new NotYet r one h i = let e = one_end old.before old.held None (Some r) h.0 i in absurd cc
 comes_refused old new (Refused s) r one h i = let e = one_end old.before old.held (Some s) (Some r) h.0 i in let k : s ≡ r = cc in inr (ap (λ (x : ReadRefusal). Refused x) k)
@@ -130,7 +130,7 @@ hands_out old new (Refused r) h stream ms f =
 hands_out old new NoMemory h stream ms f = subst (λ (z : Feeding). Fed z stream (ms ++ [])) (sym h.2) (subst (Fed old stream) (sym (append-nil ms)) f)
 
 -- what is held is the rest of the stream
-fed_holds : (old : Feeding) (stream : List ℕ) (ms : List Arrival) (end : Option ReadRefusal) → IsKept old → Fed old stream ms → EndsWith old.before old.held end → Holds stream ms end
+fed_holds : (old : Feeding) (stream : List ℕ) (ms : List Arrival) (end : Option ReadRefusal) → IsKept old → Fed old stream ms → EndsWith old.before old.held end → HoldsArrivals stream ms end
 fed_holds old stream ms end kept f h = record {
   front = f.front;
   rest = old.held;
@@ -148,7 +148,7 @@ exhausts old new answer kept h = record {
   waiting : answer ≡ NotYet → IsWaiting old.held
   waiting e = (subst (λ (x : Next). Answers old x new) e h).0
 
-  refusing : (r : ReadRefusal) → answer ≡ Refused r → IsRefused old.before old.held r
+  refusing : (r : ReadRefusal) → answer ≡ Refused r → IsRefusedAfter old.before old.held r
   refusing r e = (subst (λ (x : Next). Answers old x new) e h).0
 
 pub moved_other : (n : ℕ) (r : ReadRefusal) → r ≢ refusal.NoMemory → moved n r ≢ refusal.NoMemory
@@ -165,7 +165,7 @@ moved_other n (refusal.Unsupported t m) h = λ e. cc
 moved_other n refusal.NoMemory h = h
 
 -- want of memory is no refusal
-pub refused_other : (n : ℕ) (held : List ℕ) (r : ReadRefusal) → FaultEnds → IsRefused n held r → r ≢ refusal.NoMemory
+pub refused_other : (n : ℕ) (held : List ℕ) (r : ReadRefusal) → FaultEnds → IsRefusedAfter n held r → r ≢ refusal.NoMemory
 refused_other n held r ends h e = moved_other n h.reason (ends held h.reason h.fault).memory (sym h.place ∙ e)
 
 pub answer_other : (old new : Feeding) (answer : Next) → FaultEnds → Answers old answer new → answer ≢ Refused refusal.NoMemory

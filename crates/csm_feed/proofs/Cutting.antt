@@ -9,7 +9,7 @@ use Rattle.csm_grammar.specs.declared.refusal.ReadRefusal.TheVariants as refusal
 use Rattle.csm_grammar.specs.Spelling.{is_separator, AreSeparators}
 use Rattle.csm_read.specs.Laws.{OneAnswer, FaultStays, ReadStays}
 use Rattle.csm_grammar.specs.Places.{moved}
-use Rattle.csm_feed.specs.Streams.{Leads, AreMessages, IsBegun, IsWaiting, IsRefused, EndsWith}
+use Rattle.csm_feed.specs.Streams.{Leads, AreMessages, IsBegun, IsWaiting, IsRefusedAfter, EndsWith}
 use Rattle.csm_feed.specs.Laws.{OneHolding, RefusalStays, FirstHeld}
 use Rattle.csm_feed.proofs.Fronts.{IsUnread, same_front, same_lead, leads_more, no_lead, unread}
 
@@ -42,11 +42,11 @@ one_list (a ∷ ms) (d ∷ ns) f g x y one stays h k e b c n m =
     let j : ms ≡ ns = more.0 in
     (cc, more.1)
 
-no_wait : (n : ℕ) (x : List ℕ) (r : ReadRefusal) → IsWaiting x → IsRefused n x r → ⊥
+no_wait : (n : ℕ) (x : List ℕ) (r : ReadRefusal) → IsWaiting x → IsRefusedAfter n x r → ⊥
 no_wait n x r (inl e) h = h.something e
 no_wait n x r (inr w) h = let f = h.fault in h.lasting (length x) (let k : Some h.reason ≡ Some (refusal.Unended (length x)) = sym f ∙ w in cc)
 
-one_refusal : (n : ℕ) (x : List ℕ) (r s : ReadRefusal) → IsRefused n x r → IsRefused n x s → r ≡ s
+one_refusal : (n : ℕ) (x : List ℕ) (r s : ReadRefusal) → IsRefusedAfter n x r → IsRefusedAfter n x s → r ≡ s
 one_refusal n x r s h k =
     let e : Some h.reason ≡ Some k.reason = sym h.fault ∙ k.fault in
     let i : h.reason ≡ k.reason = cc in
@@ -75,7 +75,7 @@ pub begun_more : (x more : List ℕ) → x ≢ [] → IsBegun x → IsBegun (x +
 begun_more [] more n b = absurd (n refl)
 begun_more (a ∷ x) more n b = b
 
-pub refused_more : (n : ℕ) (x more : List ℕ) (r : ReadRefusal) → FaultStays → IsRefused n x r → IsRefused n (x ++ more) r
+pub refused_more : (n : ℕ) (x more : List ℕ) (r : ReadRefusal) → FaultStays → IsRefusedAfter n x r → IsRefusedAfter n (x ++ more) r
 refused_more n x more r stays h = record {
   something = go x h.something;
   reason = h.reason;

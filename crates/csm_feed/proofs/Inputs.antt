@@ -8,7 +8,7 @@ use Rattle.csm_grammar.specs.Places.{moved}
 use Rattle.csm_read.specs.Laws.{OneSpelling, OneFault, OneAnswer}
 use Rattle.csm_feed.specs.declared.unheard.Unheard.{Unheard}
 use Rattle.csm_feed.specs.declared.unheard.Unheard.TheVariants.{Text, Trailing}
-use Rattle.csm_feed.specs.Heard.{leading, behind, trailing, Heard, OneHeard}
+use Rattle.csm_feed.specs.Heard.{leading, after_leading, trailing, Heard, OneHeard}
 use Rattle.csm_feed.specs.Laws.{OneHearing}
 
 -- what is heard of a message, by what follows it
@@ -16,19 +16,19 @@ abbrev ended : Parsed → Option ℕ → Result Parsed Unheard
 ended p None = Ok p
 ended p (Some place) = Err (Trailing place)
 
-ended_heard : (bytes : List ℕ) (p : Parsed) (o : Option ℕ) → IsRead (behind bytes) p → trailing bytes (leading bytes + p.len) ≡ o → Heard bytes (ended p o)
+ended_heard : (bytes : List ℕ) (p : Parsed) (o : Option ℕ) → IsRead (after_leading bytes) p → trailing bytes (leading bytes + p.len) ≡ o → Heard bytes (ended p o)
 ended_heard bytes p None h e = (h, e)
 ended_heard bytes p (Some place) h e = (p, h, e)
 
-abbrev hearing : (bytes : List ℕ) → OneSpelling (behind bytes) ⊎ OneFault (behind bytes) → Result Parsed Unheard
+abbrev hearing : (bytes : List ℕ) → OneSpelling (after_leading bytes) ⊎ OneFault (after_leading bytes) → Result Parsed Unheard
 hearing bytes (inl o) = ended o.parsed (trailing bytes (leading bytes + o.parsed.len))
 hearing bytes (inr f) = Err (Text (moved (leading bytes) f.reason))
 
-same_end : (bytes : List ℕ) (o : OneSpelling (behind bytes)) (p : Parsed) → IsRead (behind bytes) p
+same_end : (bytes : List ℕ) (o : OneSpelling (after_leading bytes)) (p : Parsed) → IsRead (after_leading bytes) p
     → ended p (trailing bytes (leading bytes + p.len)) ≡ ended o.parsed (trailing bytes (leading bytes + o.parsed.len))
 same_end bytes o p h = ap (λ (q : Parsed). ended q (trailing bytes (leading bytes + q.len))) (o.alone p h)
 
-heard_is : (bytes : List ℕ) (one : OneSpelling (behind bytes) ⊎ OneFault (behind bytes)) (r : Result Parsed Unheard) → Heard bytes r → r ≡ hearing bytes one
+heard_is : (bytes : List ℕ) (one : OneSpelling (after_leading bytes) ⊎ OneFault (after_leading bytes)) (r : Result Parsed Unheard) → Heard bytes r → r ≡ hearing bytes one
 heard_is bytes (inl o) (Ok p) h = ap (ended p) (sym h.1) ∙ same_end bytes o p h.0
 heard_is bytes (inl o) (Err (Text f)) h = absurd (o.faultless h.0 h.1)
 heard_is bytes (inl o) (Err (Trailing place)) h = ap (ended h.0) (sym h.2) ∙ same_end bytes o h.0 h.1
@@ -37,8 +37,8 @@ heard_is bytes (inr f) (Err (Text g)) h = ap (λ (r : ReadRefusal). Err (Text r)
 heard_is bytes (inr f) (Err (Trailing place)) h = absurd (f.unread h.0 h.1)
 
 pub one_hearing : OneAnswer → OneHearing
-one_hearing one bytes = go (one (behind bytes)) where
-  go : OneSpelling (behind bytes) ⊎ OneFault (behind bytes) → OneHeard bytes
+one_hearing one bytes = go (one (after_leading bytes)) where
+  go : OneSpelling (after_leading bytes) ⊎ OneFault (after_leading bytes) → OneHeard bytes
   go (inl o) = record {
     heard = ended o.parsed (trailing bytes (leading bytes + o.parsed.len));
     holds = ended_heard bytes o.parsed (trailing bytes (leading bytes + o.parsed.len)) o.read refl;

@@ -6,7 +6,7 @@ use Rattle.std.proofs.lemmas.List.Sums.{prefix_len-le-length}
 use Rattle.csm_grammar.specs.declared.refusal.ReadRefusal.{ReadRefusal}
 use Rattle.csm_grammar.specs.Spelling.{is_separator, AreSeparators}
 use Rattle.csm_read.specs.Laws.{FaultStays}
-use Rattle.csm_feed.specs.Streams.{IsBegun, IsRefused}
+use Rattle.csm_feed.specs.Streams.{IsBegun, IsRefusedAfter}
 use Rattle.csm_feed.specs.Held.{Feeding, IsKept}
 use Rattle.csm_feed.specs.Feeding.{gap_before, with_bytes, Feeds}
 use Rattle.csm_feed.proofs.Cutting.{messages_gap, refused_more}
@@ -67,9 +67,9 @@ gap_begun : (held b : List ℕ) → IsBegun held → IsBegun (held ++ drop (gap_
 gap_begun [] b h = span_begun b
 gap_begun (x ∷ xs) b h = h
 
-refused_by : (n gap : ℕ) (held b : List ℕ) (r : ReadRefusal) → FaultStays → IsRefused n held r → IsRefused (n + gap_before held b) (held ++ drop (gap_before held b) b) r
+refused_by : (n gap : ℕ) (held b : List ℕ) (r : ReadRefusal) → FaultStays → IsRefusedAfter n held r → IsRefusedAfter (n + gap_before held b) (held ++ drop (gap_before held b) b) r
 refused_by n gap [] b r stays h = absurd (h.something refl)
-refused_by n gap (x ∷ xs) b r stays h = let e : n ≡ n + 0 = omega arith in subst (λ (m : ℕ). IsRefused m (x ∷ xs ++ b) r) e (refused_more n (x ∷ xs) b r stays h)
+refused_by n gap (x ∷ xs) b r stays h = let e : n ≡ n + 0 = omega arith in subst (λ (m : ℕ). IsRefusedAfter m (x ∷ xs ++ b) r) e (refused_more n (x ∷ xs) b r stays h)
 
 kept_with : (old : Feeding) (b : List ℕ) → FaultStays → IsKept old → length (with_bytes old b).held ≤ 1025 → (with_bytes old b).before + length (with_bytes old b).held < 2 ^ 64 → IsKept (with_bytes old b)
 kept_with old b stays k short counted = record {

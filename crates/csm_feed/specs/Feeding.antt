@@ -8,7 +8,7 @@ use Rattle.csm_grammar.specs.Spelling.{is_separator}
 use Rattle.csm_grammar.specs.Reading.{IsRead}
 use Rattle.csm_feed.specs.declared.next.Next.{Next}
 use Rattle.csm_feed.specs.declared.next.Next.TheVariants.{Message, NotYet, Refused, NoMemory}
-use Rattle.csm_feed.specs.Streams.{AreMessages, Holds, IsWaiting, IsRefused}
+use Rattle.csm_feed.specs.Streams.{AreMessages, HoldsArrivals, IsWaiting, IsRefusedAfter}
 use Rattle.csm_feed.specs.Held.{Feeding, held_limit}
 
 -- how many bytes were pushed
@@ -47,14 +47,14 @@ pub record Hands (old : Feeding) (a : Arrival) (new : Feeding) : Type 0 where
 abbrev pub Answers : Feeding → Next → Feeding → Type 0
 Answers old (Message a) new = Hands old a new
 Answers old NotYet new = IsWaiting old.held × (new ≡ old)
-Answers old (Refused r) new = IsRefused old.before old.held r × (new ≡ with_refusal old r)
+Answers old (Refused r) new = IsRefusedAfter old.before old.held r × (new ≡ with_refusal old r)
 Answers old NoMemory new = (old.held ≢ []) × (old.refusal ≡ None) × (new ≡ old)
 
 -- when each answer comes: where there is memory
 pub record ComesAs (old : Feeding) (answer : Next) : Type 0 where
   pub message : (p : Parsed) → IsRead old.held p → (answer ≡ NoMemory) ⊎ ((a : Arrival) × (answer ≡ Message a) × (a.parsed ≡ p))
   pub not_yet : IsWaiting old.held → (answer ≡ NoMemory) ⊎ (answer ≡ NotYet)
-  pub refused : (r : ReadRefusal) → IsRefused old.before old.held r → (answer ≡ NoMemory) ⊎ (answer ≡ Refused r)
+  pub refused : (r : ReadRefusal) → IsRefusedAfter old.before old.held r → (answer ≡ NoMemory) ⊎ (answer ≡ Refused r)
   pub again : (r : ReadRefusal) → old.refusal ≡ Some r → answer ≡ Refused r
   pub nothing : old.held ≡ [] → answer ≡ NotYet
 
@@ -82,5 +82,5 @@ HandsOut old answer new = (stream : List ℕ) (arrivals : List Arrival) → Fed 
 
 -- NotYet and Refused come when all messages of the stream were handed out
 pub record Exhausts (old : Feeding) (answer : Next) : Type 0 where
-  pub not_yet : (stream : List ℕ) (arrivals : List Arrival) → Fed old stream arrivals → answer ≡ NotYet → Holds stream arrivals None
-  pub refused : (stream : List ℕ) (arrivals : List Arrival) (r : ReadRefusal) → Fed old stream arrivals → answer ≡ Refused r → Holds stream arrivals (Some r)
+  pub not_yet : (stream : List ℕ) (arrivals : List Arrival) → Fed old stream arrivals → answer ≡ NotYet → HoldsArrivals stream arrivals None
+  pub refused : (stream : List ℕ) (arrivals : List Arrival) (r : ReadRefusal) → Fed old stream arrivals → answer ≡ Refused r → HoldsArrivals stream arrivals (Some r)

@@ -20,8 +20,8 @@ abbrev pub leading : List ℕ → ℕ
 leading bytes = prefix_len is_separator bytes
 
 -- what stands behind them
-abbrev pub behind : List ℕ → List ℕ
-behind bytes = drop (leading bytes) bytes
+abbrev pub after_leading : List ℕ → List ℕ
+after_leading bytes = drop (leading bytes) bytes
 
 -- the place of the first byte that is no separator
 abbrev pub first_other : List ℕ → Option ℕ
@@ -39,9 +39,9 @@ trailing bytes end = refused_place end (length bytes) (first_other (drop end byt
 -- what is heard: the one message behind the separators in front, which nothing but separators follows; the
 -- refusal to read it, with its place counted from the first byte; or what follows it
 abbrev pub Heard : List ℕ → Result Parsed Unheard → Type 0
-Heard bytes (Ok parsed) = IsRead (behind bytes) parsed × (trailing bytes (leading bytes + parsed.len) ≡ None)
-Heard bytes (Err (Text refusal)) = (r : ReadRefusal) × IsFault (behind bytes) r × (refusal ≡ moved (leading bytes) r)
-Heard bytes (Err (Trailing place)) = (parsed : Parsed) × IsRead (behind bytes) parsed × (trailing bytes (leading bytes + parsed.len) ≡ Some place)
+Heard bytes (Ok parsed) = IsRead (after_leading bytes) parsed × (trailing bytes (leading bytes + parsed.len) ≡ None)
+Heard bytes (Err (Text refusal)) = (r : ReadRefusal) × IsFault (after_leading bytes) r × (refusal ≡ moved (leading bytes) r)
+Heard bytes (Err (Trailing place)) = (parsed : Parsed) × IsRead (after_leading bytes) parsed × (trailing bytes (leading bytes + parsed.len) ≡ Some place)
 
 -- what was read of arrivals
 abbrev pub readings : Result Arrival Unheard → Result Parsed Unheard

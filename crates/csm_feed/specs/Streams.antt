@@ -32,7 +32,7 @@ IsWaiting held = (held ≡ []) ⊎ IsFault held (refusal.Unended (length held))
 
 -- something in which no message begins, whatever follows. The refusal is that of `read`, its place
 -- counted from so many bytes before
-pub record IsRefused (before : ℕ) (held : List ℕ) (r : ReadRefusal) : Type 0 where
+pub record IsRefusedAfter (before : ℕ) (held : List ℕ) (r : ReadRefusal) : Type 0 where
   pub something : held ≢ []
   pub reason : ReadRefusal
   pub fault : IsFault held reason
@@ -42,10 +42,10 @@ pub record IsRefused (before : ℕ) (held : List ℕ) (r : ReadRefusal) : Type 0
 -- what stands behind the messages is a refusal, or waits for more
 abbrev pub EndsWith : ℕ → List ℕ → Option ReadRefusal → Type 0
 EndsWith before held None = IsWaiting held
-EndsWith before held (Some r) = IsRefused before held r
+EndsWith before held (Some r) = IsRefusedAfter before held r
 
 -- all that a stream holds: its messages in order, and the refusal behind them, if there is one
-pub record Holds (stream : List ℕ) (arrivals : List Arrival) (end : Option ReadRefusal) : Type 0 where
+pub record HoldsArrivals (stream : List ℕ) (arrivals : List Arrival) (end : Option ReadRefusal) : Type 0 where
   pub front : List ℕ
   pub rest : List ℕ
   pub text : stream ≡ front ++ rest

@@ -1,6 +1,6 @@
 // What is heard of the bytes of an input.
 ghost use Rattle.std.specs.Prelude.{◌≡◌, ◌≢◌, ◌≤◌, length, take, Ok, Err, IfOk};
-ghost use Rattle.csm_feed.specs.Heard.{behind, first_other, trailing, Heard, readings, input_limit};
+ghost use Rattle.csm_feed.specs.Heard.{after_leading, first_other, trailing, Heard, readings, input_limit};
 
 use crate::separators::leading_separators;
 use crate::unheard::Unheard;
@@ -38,7 +38,7 @@ fn trailing(bytes: &[u8], end: usize) -> Option<u64>
 pub fn hear(alloc: Global, bytes: &[u8]) -> Result<Result<Arrival, Unheard>, NoMemory>
     requires { length bytes.now ≤ input_limit }
     ensures heard { IfOk result (λ h. Heard bytes.now (readings h)) }
-    ensures text { IfOk result (λ h. IfOk h (λ a. a.text ≡ take a.parsed.len (behind bytes.now))) }
+    ensures text { IfOk result (λ h. IfOk h (λ a. a.text ≡ take a.parsed.len (after_leading bytes.now))) }
     ensures memory { result ≢ Ok (Err (Unheard.Text ReadRefusal.NoMemory)) }
 {
     law_fault_ends();

@@ -11,8 +11,8 @@ use Rattle.csm_grammar.specs.Reading.{IsRead}
 use Rattle.csm_grammar.specs.Kinds.{IsFieldOfKind}
 
 -- the authenticated text of an arrival, as it was received
-abbrev pub authenticated : Arrival → List ℕ
-authenticated a = take a.parsed.auth_len a.text
+abbrev pub authenticated_text : Arrival → List ℕ
+authenticated_text a = take a.parsed.auth_len a.text
 
 -- the form of the message allows the code that closes it
 abbrev pub AllowsItsCode : Parsed → Type 0

@@ -14,12 +14,12 @@ pub record IsFor (f : Field) (v : Valued) : Type 0 where
   pub value : Denotes (kind_of v.tag) f.contents v.value
 
 -- fields, each with a blank behind it: an authenticated text
-abbrev pub auth_text : List Field → List ℕ
-auth_text fs = codes "CSM(" ++ flat_map (λ f. field_text f ++ codes " ") fs
+abbrev pub authenticated_fields : List Field → List ℕ
+authenticated_fields fs = codes "CSM(" ++ flat_map (λ f. field_text f ++ codes " ") fs
 
 -- fields and a code with single blanks between them
 abbrev pub blank_text : List Field → Field → List ℕ
-blank_text fs code = auth_text fs ++ (field_text code ++ codes ")")
+blank_text fs code = authenticated_fields fs ++ (field_text code ++ codes ")")
 
 -- the fields and the code are those of the message in the writer's order
 pub record IsWritten (fs : List Field) (code : Field) (m : Message) (shut : Shut) : Type 0 where

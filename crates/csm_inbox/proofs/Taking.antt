@@ -11,7 +11,7 @@ use Rattle.csm_grammar.specs.declared.refusal.ReadRefusal.TheVariants as refusal
 use Rattle.csm_grammar.specs.Spelling.{is_separator}
 use Rattle.csm_read.specs.Laws.{FaultEnds, FaultStays}
 use Rattle.csm_feed.specs.declared.next.Next.TheVariants as next
-use Rattle.csm_feed.specs.Streams.{AreMessages, IsBegun, IsRefused, IsWaiting}
+use Rattle.csm_feed.specs.Streams.{AreMessages, IsBegun, IsRefusedAfter, IsWaiting}
 use Rattle.csm_feed.specs.Held.{Feeding}
 use Rattle.csm_feed.specs.Feeding.{Fed, Feeds, Hands, HandsOut, IsFull, gap_before, pushed, with_bytes, without}
 use Rattle.csm_feed.proofs.Cutting.{begun_more, refused_more}
@@ -186,7 +186,7 @@ module _ (moment : ℕ) (stream lines : List ℕ) (at : ℕ) (goes_on : Bool) (o
         by_test false stops = omega (arith, ap turn on, zero_of stops, held_less, at_is, t.within)
 
   -- what stands behind the messages begins none
-  pub refused : FaultStays → (r : ReadRefusal) → IsRefused old.before old.held r → IsRefusedStream stream r
+  pub refused : FaultStays → (r : ReadRefusal) → IsRefusedAfter old.before old.held r → IsRefusedStream stream r
   refused stays r is = record {
     arrivals = t.arrivals;
     front = t.fed.front;
@@ -195,7 +195,7 @@ module _ (moment : ℕ) (stream lines : List ℕ) (at : ℕ) (goes_on : Bool) (o
     messages = t.fed.messages;
     begun = begun_more old.held (drop at stream) is.something t.begun;
     something = λ none. is.something (front_nil old.held (drop at stream) none);
-    reason = inl (subst (λ (n : ℕ). IsRefused n (old.held ++ drop at stream) r) t.fed.counted (refused_more old.before old.held (drop at stream) r stays is));
+    reason = inl (subst (λ (n : ℕ). IsRefusedAfter n (old.held ++ drop at stream) r) t.fed.counted (refused_more old.before old.held (drop at stream) r stays is));
   }
     where
       front_nil : (xs ys : List ℕ) → xs ++ ys ≡ [] → xs ≡ []

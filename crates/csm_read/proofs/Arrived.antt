@@ -5,7 +5,7 @@ use Rattle.std.specs.Coded.{Coded-set}
 use Rattle.csm_grammar.specs.declared.arrival.Arrival.{Arrival}
 use Rattle.csm_grammar.specs.Spelling.{Says}
 use Rattle.csm_grammar.specs.Reading.{IsRead}
-use Rattle.csm_grammar.specs.Arrivals.{authenticated}
+use Rattle.csm_grammar.specs.Arrivals.{authenticated_text}
 use Rattle.csm_grammar.proofs.Coding.{parsed}
 use Rattle.csm_read.specs.Laws.{ArrivalsRead}
 use Rattle.csm_read.proofs.Lawful.{one_answer, read_says}
@@ -18,7 +18,7 @@ arrival_read a = elim (one_answer a.text) [
 ]
 
 -- so its authenticated text says its message
-pub arrival_says : (a : Arrival) → Says (authenticated a) a.parsed.message
+pub arrival_says : (a : Arrival) → Says (authenticated_text a) a.parsed.message
 arrival_says a = read_says a.text a.parsed (arrival_read a)
 
 pub arrivals_read : ArrivalsRead

@@ -12,14 +12,14 @@ use Rattle.csm_grammar.specs.Kinds.{IsOfKind}
 use Rattle.csm_grammar.specs.declared.tag.Tag.TheVariants.{Iv, Edk, P}
 use Rattle.csm_read.specs.Slotting.{slot_in, second_in, came}
 use Rattle.csm_read.specs.Building.{AreExtras}
-use Rattle.csm_read.specs.Denoting.{is_number, StandsFor, IsDenoted, value_at, second_value, AreDenoted}
+use Rattle.csm_read.specs.Denoting.{is_number, IsKeptValue, IsDenoted, value_at, second_value, AreDenoted}
 use Rattle.csm_grammar.proofs.TagLemmas.{each_tag, tag_small, same_tags}
 use Rattle.csm_read.proofs.SlotLemmas.{slot_set}
 use Rattle.csm_grammar.proofs.Typed.{kind_value, OfKindIfAny}
 
 -- the readers
 
-pub number_stands : (o : Option Value) (n : ℕ) → Some (ANumber n) ≡ o → StandsFor o n
+pub number_stands : (o : Option Value) (n : ℕ) → Some (ANumber n) ≡ o → IsKeptValue o n
 number_stands o n e = record {
   some = ap is_some (sym e);
   number = λ m h. (let same : Some (ANumber n) ≡ Some (ANumber m) = e ∙ h in cc);
@@ -45,7 +45,7 @@ no_number OfCode n h k = true≢false h
 no_number Unsupported n h k = k
 
 -- contents that stand for no number
-pub other_stands : (k : Kind) (c : List ℕ) (n : ℕ) → is_number k ≡ false → is_some (value_of k c) ≡ true → StandsFor (value_of k c) n
+pub other_stands : (k : Kind) (c : List ℕ) (n : ℕ) → is_number k ≡ false → is_some (value_of k c) ≡ true → IsKeptValue (value_of k c) n
 other_stands k c n h e = record {
   some = e;
   number = λ m i. absurd (no_number k m h (subst (OfKindIfAny k) i (kind_value k c)));
@@ -113,7 +113,7 @@ second_set slots o h = ap (λ (x : Option (Bor (List ℕ))). option_map (λ y. y
 
 -- one more is kept
 pub more_denoted : (slots : List (Option (Bor (List ℕ)))) (numbers : List ℕ) (tag : Tag) (x : Bor (List ℕ)) (d : ℕ) → length slots ≡ 28 → length numbers ≡ 28 → AreDenoted slots numbers
-    → StandsFor (value_of (kind_of tag) x.now) d → AreDenoted (set slots (tag_place tag) (Some x)) (set numbers (tag_place tag) d)
+    → IsKeptValue (value_of (kind_of tag) x.now) d → AreDenoted (set slots (tag_place tag) (Some x)) (set numbers (tag_place tag) d)
 more_denoted slots numbers tag x d n m all new = record {
   tags = λ t v h. go t v h (same_tag tag t) refl;
   second = λ v h. get_or-set_other numbers (tag_place tag) 27 d 0 (apart tag) ∙ all.second v (ap (option_and_then (value_of OfKey)) (sym (second_kept slots tag (Some x))) ∙ h);
@@ -172,7 +172,7 @@ pub renumbered_at : (slots : List (Option (Bor (List ℕ)))) (numbers : List ℕ
 renumbered_at slots numbers tag d p q e f n m all = subst (λ (x : ℕ). AreDenoted (set slots x None) (set numbers q d)) (sym e) (subst (λ (y : ℕ). AreDenoted (set slots (tag_place tag) None) (set numbers y d)) (sym f) (renumbered slots numbers tag d n m all))
 
 pub written_at : (slots : List (Option (Bor (List ℕ)))) (numbers : List ℕ) (tag : Tag) (x : Bor (List ℕ)) (d p q r : ℕ) → p ≡ tag_place tag → q ≡ tag_place tag → r ≡ tag_place tag → length slots ≡ 28 → length numbers ≡ 28 → AreDenoted slots numbers
-    → StandsFor (value_of (kind_of tag) x.now) d → AreDenoted (set (set slots p None) r (Some x)) (set numbers q d)
+    → IsKeptValue (value_of (kind_of tag) x.now) d → AreDenoted (set (set slots p None) r (Some x)) (set numbers q d)
 written_at slots numbers tag x d p q r e f g n m all new =
     let whole = more_denoted (set slots p None) numbers tag x d (length-set slots p None ∙ n) m (cleared_at slots numbers tag p e n all) new in
     subst (λ (z : ℕ). AreDenoted (set (set slots p None) z (Some x)) (set numbers q d)) (sym g) (subst (λ (y : ℕ). AreDenoted (set (set slots p None) (tag_place tag) (Some x)) (set numbers y d)) (sym f) whole)
@@ -202,7 +202,7 @@ second_renumbered slots numbers d n all = record {
   second = λ v h. absurd (let none : None ≡ Some (ANumber v) = sym (ap (option_and_then (value_of OfKey)) (second_set slots None n)) ∙ h in cc);
 }
 
-pub second_denoted : (slots : List (Option (Bor (List ℕ)))) (numbers : List ℕ) (x : Bor (List ℕ)) (d : ℕ) → length slots ≡ 28 → length numbers ≡ 28 → AreDenoted slots numbers → StandsFor (value_of OfKey x.now) d
+pub second_denoted : (slots : List (Option (Bor (List ℕ)))) (numbers : List ℕ) (x : Bor (List ℕ)) (d : ℕ) → length slots ≡ 28 → length numbers ≡ 28 → AreDenoted slots numbers → IsKeptValue (value_of OfKey x.now) d
     → AreDenoted (set (set slots 27 None) 27 (Some x)) (set numbers 27 d)
 second_denoted slots numbers x d n m all new = record {
   tags = λ t v h. get_or-set_other numbers 27 (tag_place t) d 0 (λ e. apart t (sym e)) ∙ all.tags t v (ap (option_and_then (value_of (kind_of t))) (sym (slot_kept (set slots 27 None) (Some x) t ∙ slot_kept slots None t)) ∙ h);

@@ -14,7 +14,7 @@ use Rattle.csm_grammar.specs.Values.{kind_of, value_of}
 use Rattle.csm_grammar.specs.Messages.{Valued, form_of, fields_of, shut_field, all_fields}
 use Rattle.csm_grammar.specs.Spelling.{Field, field_text, Spelled, spelled_text, fields_in, tags_in, AreParted, ComesAs, AreOfForm, values_in, values_for, StandFor}
 use Rattle.csm_grammar.specs.Reading.{IsRead}
-use Rattle.csm_grammar.specs.Written.{IsFor, auth_text, blank_text}
+use Rattle.csm_grammar.specs.Written.{IsFor, authenticated_fields, blank_text}
 use Rattle.csm_read.specs.Laws.{WrittenRead}
 use Rattle.csm_grammar.proofs.Slots.{count_values}
 use Rattle.csm_read.proofs.Forming.{fields_form}
@@ -104,4 +104,4 @@ written_read fs code m shut rest w =
     let r : IsRead (blank_text fs code ++ rest) (record { message = m; shut = shut; auth_len = 4 + (length none + length (flat_map spelled_text ss)); len = len }) =
     spells_from (blank_text fs code ++ rest) none rest ss l m shut (map (λ v. v.tag) (fields_of m)) len refl (blank_parted fs code) (blank_is xs c rest _ flat) (omega arith) n
     (ap tags_in (blank_fields fs) ∙ tags.0) tags.1 (subst (AreOfForm (form_of m)) (sym e) form) (subst (λ (hs : List Field). StandFor hs m shut) (sym e) stands) in
-    subst (λ (a : ℕ). IsRead (blank_text fs code ++ rest) (record { message = m; shut = shut; auth_len = a; len = len })) (let a : 4 + (length none + length (flat_map spelled_text ss)) ≡ length (auth_text fs) = omega arith in a) r
+    subst (λ (a : ℕ). IsRead (blank_text fs code ++ rest) (record { message = m; shut = shut; auth_len = a; len = len })) (let a : 4 + (length none + length (flat_map spelled_text ss)) ≡ length (authenticated_fields fs) = omega arith in a) r

@@ -14,13 +14,13 @@ is_number OfCode = true
 is_number k = false
 
 -- contents of a kind stand for a value, and if it is a number, it is the one that is kept
-pub record StandsFor (o : Option Value) (kept : ℕ) : Type 0 where
+pub record IsKeptValue (o : Option Value) (kept : ℕ) : Type 0 where
   pub some : is_some o ≡ true
   pub number : (n : ℕ) → o ≡ Some (ANumber n) → kept ≡ n
 
 -- what is kept of contents of a kind, where they stand for something
 abbrev pub IsDenoted : Kind → List ℕ → Option ℕ → Type 0
-IsDenoted k c result = MatchOption result (value_of k c ≡ None) (StandsFor (value_of k c))
+IsDenoted k c result = MatchOption result (value_of k c ≡ None) (IsKeptValue (value_of k c))
 
 -- the value of the contents behind a tag
 abbrev pub value_at : List (Option (Bor (List ℕ))) → Tag → Option Value

@@ -7,9 +7,9 @@ use Rattle.csm_grammar.specs.declared.arrival.Arrival.{Arrival}
 use Rattle.csm_grammar.specs.declared.refusal.ReadRefusal.{ReadRefusal}
 use Rattle.csm_grammar.specs.declared.refusal.ReadRefusal.TheVariants as refusal
 use Rattle.csm_grammar.specs.Spelling.{Field, Says, message_limit}
-use Rattle.csm_grammar.specs.Written.{auth_text, blank_text, IsWritten}
+use Rattle.csm_grammar.specs.Written.{authenticated_fields, blank_text, IsWritten}
 use Rattle.csm_grammar.specs.Reading.{IsRead}
-use Rattle.csm_grammar.specs.Arrivals.{authenticated}
+use Rattle.csm_grammar.specs.Arrivals.{authenticated_text}
 use Rattle.csm_grammar.specs.Places.{place_of}
 use Rattle.csm_read.specs.Faults.{IsFault}
 use Rattle.csm_read.specs.Judging.{ArePlain}
@@ -66,12 +66,12 @@ ReadSays = (b : List ℕ) (p : Parsed) → IsRead b p → Says (take p.auth_len 
 -- what is written so is read back, whatever follows
 abbrev pub WrittenRead : Type 0
 WrittenRead = (fs : List Field) (code : Field) (m : Message) (shut : Shut) (rest : List ℕ) → IsWritten fs code m shut
-    → IsRead (blank_text fs code ++ rest) (record { message = m; shut = shut; auth_len = length (auth_text fs); len = length (blank_text fs code) })
+    → IsRead (blank_text fs code ++ rest) (record { message = m; shut = shut; auth_len = length (authenticated_fields fs); len = length (blank_text fs code) })
 
 -- what holds of an arrival: what it keeps is read of its text, and its authenticated text says its message
 pub record IsReadWhole (a : Arrival) : Type 0 where
   pub read : IsRead a.text a.parsed
-  pub says : Says (authenticated a) a.parsed.message
+  pub says : Says (authenticated_text a) a.parsed.message
 
 abbrev pub ArrivalsRead : Type 0
 ArrivalsRead = (a : Arrival) → IsReadWhole a

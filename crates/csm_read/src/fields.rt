@@ -7,7 +7,7 @@ ghost use Rattle.csm_grammar.specs.Classes.{forms, class_forms, required, times}
 ghost use Rattle.csm_grammar.specs.FormSets.{forms_in, has_form};
 ghost use Rattle.csm_grammar.specs.Values.{kind_of, value_of};
 ghost use Rattle.csm_grammar.specs.Values.Kind.{OfKey};
-ghost use Rattle.csm_read.specs.Denoting.{StandsFor, AreDenoted};
+ghost use Rattle.csm_read.specs.Denoting.{IsKeptValue, AreDenoted};
 ghost use Rattle.csm_read.specs.Slotting.{slot_in, second_in, came, comes, Puts, Keeps, is_absent_by, absent_by, lacking_by, missing_by};
 
 mod end;
@@ -193,7 +193,7 @@ impl<'a> Fields<'a> {
 
     /// Adds a field without a fault, and the number that its contents stand for.
     pub fn put(&mut self, tag: Tag, contents: &'a [u8], number: u64)
-        requires { StandsFor (value_of (kind_of tag) contents.now) number }
+        requires { IsKeptValue (value_of (kind_of tag) contents.now) number }
         ensures contents { Puts self.old.slots self.new.slots tag contents.now }
         ensures forms { forms_in self.new.left.bits ≡ (if same_tag tag Mcl then class_forms contents.now else filter (λ f. nat_lt (comes self.old.slots tag) (times f tag)) (forms_in self.old.left.bits)) }
     {
@@ -208,7 +208,7 @@ impl<'a> Fields<'a> {
 
     /// Puts the contents behind the tag.
     fn put_first(&mut self, tag: Tag, contents: &'a [u8], number: u64)
-        requires { StandsFor (value_of (kind_of tag) contents.now) number }
+        requires { IsKeptValue (value_of (kind_of tag) contents.now) number }
         ensures contents { (t : Tag) → slot_in self.new.slots t ≡ (if same_tag tag t then Some contents.now else slot_in self.old.slots t) }
         ensures second { second_in self.new.slots ≡ second_in self.old.slots }
         ensures forms { self.new.left ≡ self.old.left }
@@ -221,7 +221,7 @@ impl<'a> Fields<'a> {
 
     /// Puts the contents behind a second KD.
     fn put_second(&mut self, contents: &'a [u8], number: u64)
-        requires { StandsFor (value_of OfKey contents.now) number }
+        requires { IsKeptValue (value_of OfKey contents.now) number }
         ensures contents { (t : Tag) → slot_in self.new.slots t ≡ slot_in self.old.slots t }
         ensures second { second_in self.new.slots ≡ Some contents.now }
         ensures forms { self.new.left ≡ self.old.left }

@@ -43,7 +43,7 @@ fn judged(bytes: &[u8]) -> &[u8]
     front
 }
 
-fn behind(bytes: &[u8], place: usize) -> &[u8]
+fn bytes_from(bytes: &[u8], place: usize) -> &[u8]
     requires { place ≤ length bytes.now }
     ensures { result.now ≡ drop place bytes.now }
 {
@@ -55,7 +55,7 @@ fn token(bytes: &[u8], place: usize, len: usize) -> &[u8]
     requires { place + len ≤ length bytes.now }
     ensures { result.now ≡ take len (drop place bytes.now) }
 {
-    let (token, _) = behind(bytes, place).split_at(len);
+    let (token, _) = bytes_from(bytes, place).split_at(len);
     token
 }
 
@@ -84,7 +84,7 @@ pub(crate) fn answer(alloc: Global, bytes: &[u8]) -> Result<Parsed, ReadRefusal>
     let mut fields = Fields::new();
     let mut place = 4;
     let mut last = 0;
-    while let Some(len) = unit_len(behind(judged, place)) {
+    while let Some(len) = unit_len(bytes_from(judged, place)) {
         if len > 0 {
             if let Err(fault) = fields.take(place, token(judged, place, len)) {
                 return Err(fault);

@@ -5,7 +5,7 @@ use Rattle.csm_grammar.specs.declared.arrival.Arrival.{Arrival}
 use Rattle.csm_grammar.specs.declared.parsed.Parsed.{Parsed}
 use Rattle.csm_feed.specs.declared.unheard.Unheard.{Unheard}
 use Rattle.csm_grammar.specs.Reading.{IsArrival as IsRead}
-use Rattle.csm_feed.specs.Heard.{Heard, readings, behind, OneHeard}
+use Rattle.csm_feed.specs.Heard.{Heard, readings, after_leading, OneHeard}
 use Rattle.member.specs.Member.{Member, after}
 use Rattle.node_core.specs.Turns.{IsImageOf}
 use Rattle.csm_batch.specs.declared.entry.Entry.{Entry}
@@ -38,11 +38,11 @@ pub same_arrival : HeardOnce → (bytes : List ℕ) (a b : Arrival) → IsHeard 
 same_arrival once bytes a b h k =
     let both : Ok a.parsed ≡ Ok b.parsed = same_heard once bytes (Ok a.parsed) (Ok b.parsed) h.heard k.heard in
     let parsed : a.parsed ≡ b.parsed = cc both in
-    let text : a.text ≡ b.text = h.text ∙ (ap (λ (p : Parsed). take p.len (behind bytes)) parsed ∙ sym k.text) in
+    let text : a.text ≡ b.text = h.text ∙ (ap (λ (p : Parsed). take p.len (after_leading bytes)) parsed ∙ sym k.text) in
     alike a b text parsed
 
 -- what is heard, told by its answer
-pub heard_message : (bytes : List ℕ) (h : Result Arrival Unheard) (a : Arrival) → h ≡ Ok a → Heard bytes (readings h) → IfOk h (λ (m : Arrival). m.text ≡ take m.parsed.len (behind bytes)) → IsHeard bytes a
+pub heard_message : (bytes : List ℕ) (h : Result Arrival Unheard) (a : Arrival) → h ≡ Ok a → Heard bytes (readings h) → IfOk h (λ (m : Arrival). m.text ≡ take m.parsed.len (after_leading bytes)) → IsHeard bytes a
 heard_message bytes (Ok b) a is heard text = let same : b ≡ a = cc is in subst (IsHeard bytes) same (record { heard = heard; text = text })
 heard_message bytes (Err u) a is heard text = absurd (cc is)
 

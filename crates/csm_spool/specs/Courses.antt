@@ -2,7 +2,7 @@
 use Rattle.std.specs.Prelude.{◌≡◌, ◌⊎◌, ℕ, List, [], ◌∷◌, take, Ok, Err}
 use Rattle.csm_grammar.specs.declared.arrival.Arrival.{Arrival}
 use Rattle.csm_feed.specs.declared.unheard.Unheard.{Unheard}
-use Rattle.csm_feed.specs.Heard.{Heard, behind}
+use Rattle.csm_feed.specs.Heard.{Heard, after_leading}
 use Rattle.party_state.specs.declared.command.Input.TheVariants.{Arrived}
 use Rattle.party_state.specs.Ranges.{IsParty}
 use Rattle.member.specs.Member.{Member, Plan, plan_at, after}
@@ -13,7 +13,7 @@ use Rattle.csm_spool.specs.Planning.{entry_plan, plan_of_unheard}
 -- the message that is heard of the bytes
 pub record IsHeard (bytes : List ℕ) (a : Arrival) : Type 0 where
   pub heard : Heard bytes (Ok a.parsed)
-  pub text : a.text ≡ take a.parsed.len (behind bytes)
+  pub text : a.text ≡ take a.parsed.len (after_leading bytes)
 
 -- what a member does with a message that arrives as an entry says
 abbrev pub plan_for : Member → Arrival → Entry → Plan

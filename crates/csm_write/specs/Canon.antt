@@ -14,7 +14,7 @@ use Rattle.csm_grammar.specs.Classes.{class_text}
 use Rattle.csm_grammar.specs.Values.{Value, AText, AName, AService, ANumber, APair, Kind, OfKey, OfCode, kind_of, service_text}
 use Rattle.csm_grammar.specs.Messages.{Valued, valued, form_of, fields_of, shut_field}
 use Rattle.csm_grammar.specs.Spelling.{Field}
-use Rattle.csm_grammar.specs.Written.{auth_text, blank_text}
+use Rattle.csm_grammar.specs.Written.{authenticated_fields, blank_text}
 use Rattle.csm_write.specs.declared.closing.Closing.{Closing}
 use Rattle.csm_write.specs.declared.closing.Closing.TheVariants as closings
 
@@ -44,7 +44,7 @@ front_fields m = map field_for (valued Mcl (AText (class_text (form_of m))) ∷ 
 
 -- the authenticated text
 abbrev pub auth_of : Message → List ℕ
-auth_of m = auth_text (front_fields m)
+auth_of m = authenticated_fields (front_fields m)
 
 -- the code that closes an authenticated text
 abbrev pub shut_over : List ℕ → Closing → Shut

@@ -13,7 +13,7 @@ use Rattle.party_state.specs.declared.decision.Decision.{Decision}
 use Rattle.party_tables.specs.declared.link.LinkRec.{LinkRec}
 use Rattle.party_tables.specs.Keys.{sends}
 use Rattle.party_state.specs.State.{Party, centre_label, link_with, answer_with}
-use Rattle.party_state.specs.Verdicts.{Test, verdict_of, is_accept, passes}
+use Rattle.party_state.specs.Verdicts.{Test, verdict_of, is_accept, tests_pass}
 use Rattle.role_base.specs.Conditions.{has_count}
 use Rattle.role_base.specs.Texts.{lead_under}
 use Rattle.role_base.specs.Deciding.{decision_of, refusal_of, accepting}
@@ -70,5 +70,5 @@ pub ers_is : (p : Party) (a : Arrival) (m : Ers) (x : Answer) (l b : LinkRec) (m
 ers_is p a m x l b moment k f g = rw (k, f, g) refl
 
 pub ers_lead_is : (p : Party) (a : Arrival) (m : Ers) (x : Answer) (l b : LinkRec) → answer_with (record { requester = m.originator; ultimate = m.ultimate }) p ≡ Some x → link_with (sends m.originator centre_label) p ≡ Some l → link_with (sends m.ultimate centre_label) p ≡ Some b
-    → ers_lead p a m ≡ cond (passes (ers_front p m true true)) (Some (lead_under a (answer_under p m.originator x.cta) x.value)) None
+    → ers_lead p a m ≡ cond (tests_pass (ers_front p m true true)) (Some (lead_under a (answer_under p m.originator x.cta) x.value)) None
 ers_lead_is p a m x l b k f g = rw (k, f, g) refl

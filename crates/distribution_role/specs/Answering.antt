@@ -14,10 +14,10 @@ use Rattle.party_state.specs.State.{Party, centre_label}
 use Rattle.party_state.specs.Verdicts.{Test, verdict_of}
 use Rattle.party_state.specs.Rows.{Row, Reply, Coded, OneKey, refused}
 use Rattle.role_base.specs.Texts.{direct_name, no_extras}
-use Rattle.distribution_role.specs.declared.answering.Links.{Links}
+use Rattle.distribution_role.specs.declared.answering.RecipientLinks.{RecipientLinks}
 
 -- the links with both banks, each with its next count
-abbrev pub links_of : LinkRec → LinkRec → Links
+abbrev pub links_of : LinkRec → LinkRec → RecipientLinks
 links_of a b = record { requester = a; cta = a.next; ultimate = b; ctb = b.next }
 
 -- the answer: the drawn key for both banks

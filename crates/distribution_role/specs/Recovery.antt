@@ -11,7 +11,7 @@ use Rattle.party_tables.specs.declared.answer.Answer.{Answer}
 use Rattle.party_state.specs.declared.decision.Lead.{Lead}
 use Rattle.party_tables.specs.Keys.{sends}
 use Rattle.party_state.specs.State.{Party, centre_label, link_with, answer_with}
-use Rattle.party_state.specs.Verdicts.{Test, verdict_of, passes}
+use Rattle.party_state.specs.Verdicts.{Test, verdict_of, tests_pass}
 use Rattle.party_state.specs.Rows.{Row, refused}
 use Rattle.role_base.specs.Texts.{is_verified, lead_under}
 use Rattle.role_base.specs.Conditions.{has_count}
@@ -43,7 +43,7 @@ abbrev pub ers_lead_between : Party → Arrival → Ers → Option Answer → Op
 ers_lead_between p a m None la lb = None
 ers_lead_between p a m (Some t) None lb = None
 ers_lead_between p a m (Some t) (Some l) None = None
-ers_lead_between p a m (Some t) (Some l) (Some b) = cond (passes (ers_front p m true true)) (Some (lead_under a (answer_under p m.originator t.cta) t.value)) None
+ers_lead_between p a m (Some t) (Some l) (Some b) = cond (tests_pass (ers_front p m true true)) (Some (lead_under a (answer_under p m.originator t.cta) t.value)) None
 
 abbrev pub ers_lead : Party → Arrival → Ers → Option Lead
 ers_lead p a m = ers_lead_between p a m (answer_with (record { requester = m.originator; ultimate = m.ultimate }) p) (link_with (sends m.originator centre_label) p) (link_with (sends m.ultimate centre_label) p)

@@ -3,7 +3,7 @@ ghost use Rattle.std.specs.Prelude.{◌≡◌, ◌++◌, ◌∷◌, ◌&&◌, []
 ghost use Rattle.x_base.specs.declared.verdict.Verdict.TheVariants.{WeakDraws};
 ghost use Rattle.x_gen.specs.Gen.{good_draw};
 ghost use Rattle.party_tables.specs.Ranges.{IsNextCount};
-ghost use Rattle.party_state.specs.Verdicts.{verdict_of, passes, all_refuse};
+ghost use Rattle.party_state.specs.Verdicts.{verdict_of, tests_pass, all_refuse};
 ghost use Rattle.role_base.specs.Replies.{IsWritten};
 ghost use Rattle.role_base.specs.Conditions.{has_count};
 ghost use Rattle.role_base.specs.Deciding.{decision_of, accepting};
@@ -22,14 +22,14 @@ use x_seal::{seal, wrap};
 
 /// The links under which a key goes to both, each with its next count.
 #[derive(Clone, Copy)]
-pub struct Links {
+pub struct RecipientLinks {
     pub requester: LinkRec,
     pub cta: Count,
     pub ultimate: LinkRec,
     pub ctb: Count,
 }
 
-fn rtr_of(state: &State, asked: &AnswerKey, links: &Links, key: u64) -> Rtr
+fn rtr_of(state: &State, asked: &AnswerKey, links: &RecipientLinks, key: u64) -> Rtr
     requires cta { links.now.cta ≡ links.now.requester.next }
     requires ctb { links.now.ctb ≡ links.now.ultimate.next }
     ensures { result ≡ rtr_of state.now asked.now.requester asked.now.ultimate links.now.requester links.now.ultimate key }
@@ -60,7 +60,7 @@ fn answer_text(
     alloc: Global,
     state: &State,
     asked: &AnswerKey,
-    links: &Links,
+    links: &RecipientLinks,
     key: u64,
 ) -> Result<Written, NoMemory>
     requires cta { links.now.cta ≡ links.now.requester.next }
@@ -76,7 +76,7 @@ fn answer_text(
 fn answer_edits(
     alloc: Global,
     asked: &AnswerKey,
-    links: &Links,
+    links: &RecipientLinks,
     key: u64,
     v: u64,
 ) -> Result<Vec<Edit>, NoMemory>
@@ -104,7 +104,7 @@ fn answer_with(
     alloc: Global,
     state: &State,
     asked: &AnswerKey,
-    links: &Links,
+    links: &RecipientLinks,
     key: u64,
     v: u64,
 ) -> Result<Decision, NoMemory>
@@ -132,7 +132,7 @@ fn answer_drawn(
     state: &State,
     tests: &[(bool, Verdict)],
     asked: &AnswerKey,
-    links: &Links,
+    links: &RecipientLinks,
     drawn: Option<(u64, Gen)>,
 ) -> Result<Decision, NoMemory>
     requires cta { links.now.cta ≡ links.now.requester.next }
@@ -153,7 +153,7 @@ fn answer_drawn(
 }
 
 /// Both links with their next counts, where both have one left.
-fn counted(requester: &LinkRec, ultimate: &LinkRec) -> Option<Links>
+fn counted(requester: &LinkRec, ultimate: &LinkRec) -> Option<RecipientLinks>
     requires requester { IsNextCount requester.now.next }
     requires ultimate { IsNextCount ultimate.now.next }
     ensures { result ≡ cond (has_count requester.now && has_count ultimate.now)
@@ -164,7 +164,7 @@ fn counted(requester: &LinkRec, ultimate: &LinkRec) -> Option<Links>
     }
     let cta = Count::of(requester.next)?;
     let ctb = Count::of(ultimate.next)?;
-    Some(Links {
+    Some(RecipientLinks {
         requester: *requester,
         cta,
         ultimate: *ultimate,
@@ -192,7 +192,7 @@ pub(crate) fn answer(
     requires requester { IsNextCount requester.now.next }
     requires ultimate { IsNextCount ultimate.now.next }
     requires refuse { all_refuse tests.now ≡ true }
-    requires counted { passes tests.now ≡ true → (has_count requester.now && has_count ultimate.now) ≡ true }
+    requires counted { tests_pass tests.now ≡ true → (has_count requester.now && has_count ultimate.now) ≡ true }
     ensures { IfOk result (λ d. d ≡ decision_of state.now (answering state.now asked.now.requester asked.now.ultimate tests.now requester.now ultimate.now (good_draw state.now.generator moment))) }
 {
     let found = counted(requester, ultimate);

@@ -19,7 +19,7 @@ use x_seal::{law_unseals, law_unwraps};
 
 /// The edits of an accepted row are apart: the two links that an answer puts are not one link. No row
 /// begins an exchange.
-pub fn law_apart()
+pub fn law_distribution_apart()
     ensures apart { (p : Party) (i : TheInput) (moment : ℕ) → is_accept (distribution_row p i moment).verdict ≡ true → AreApart (distribution_row p i moment).edits }
     ensures begins { (p : Party) (i : TheInput) (moment : ℕ) → AllBeginFree p (distribution_row p i moment).edits }
 {
@@ -32,7 +32,7 @@ pub fn law_apart()
 
 /// There is no key to test the code of an arrival under exactly where the arrival is closed by an
 /// error detection code, or is refused before its code is looked at.
-pub fn law_lead()
+pub fn law_distribution_lead()
     ensures { (p : Party) (a : TheArrival) (moment : ℕ) →
         ((distribution_lead p a a.parsed.message ≡ None) ↔ ((is_plain a.parsed.shut ≡ true) ⊎ (is_early (distribution_message p a a.parsed.message moment).verdict ≡ true))) }
 {

@@ -12,9 +12,9 @@ mod recovery;
 mod requests;
 mod served;
 
-pub use answering::Links;
+pub use answering::RecipientLinks;
 pub use deciding::decide;
-pub use laws::{law_answers, law_apart, law_gives, law_lead};
+pub use laws::{law_answers, law_distribution_apart, law_distribution_lead, law_gives};
 pub use leads::lead;
 pub use ranged::law_ranged;
 pub use served::{law_order, law_serves};

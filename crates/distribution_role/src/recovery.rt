@@ -13,8 +13,8 @@ use crate::answering::{answer, answer_under};
 use csm_grammar::{Arrival, Ers};
 use party_state::{Answer, AnswerKey, Decision, Lead, LinkRec, State, law_accept};
 use role_base::{
-    centre_label, early_refusal, has_count, lead_under, link_with, passes, refusal, request_front,
-    verdict_of,
+    centre_label, early_refusal, has_count, lead_under, link_with, refusal, request_front,
+    tests_pass, verdict_of,
 };
 use std::alloc::Global;
 use x_base::{Count, NoMemory, Side, Verdict};
@@ -134,7 +134,7 @@ pub(crate) fn ers_lead(state: &State, arrival: &Arrival, message: &Ers) -> Optio
     let kept = kept_answer(state, message)?;
     let _from = link_with(state, &message.originator, &label, Side::Sends)?;
     let _to = link_with(state, &message.ultimate, &label, Side::Sends)?;
-    if passes(&ers_front(state, message, true, true)) {
+    if tests_pass(&ers_front(state, message, true, true)) {
         Some(answer_lead(state, arrival, message, &kept))
     } else {
         None

@@ -4,7 +4,7 @@ ghost use Rattle.help_texts.specs.Topics.{named_topic, refusal_of, topic_of};
 
 use x_base::Words;
 use x_line::OrderKind;
-use x_values::plain_number_within;
+use x_values::read_plain_number_within;
 
 /// What help is asked about.
 #[derive(Clone, Copy, Debug, PartialEq, Eq)]
@@ -21,7 +21,7 @@ pub enum Topic {
 fn refusal(word: &str) -> Option<Topic>
     ensures { result ≡ refusal_of word.now }
 {
-    Some(Topic::Refusal(plain_number_within(4, 51, word.as_bytes())?))
+    Some(Topic::Refusal(read_plain_number_within(4, 51, word.as_bytes())?))
 }
 
 /// The topic of this name.

@@ -3,11 +3,11 @@ use Rattle.std.proofs.Common.{◌≡◌, inl, inr, ℕ, ◌≤◌, List, [], ◌
 use Rattle.x_disk.specs.Disk.{View, Tells, LeavesOnly, IsDurable}
 use Rattle.x_disk.specs.declared.disk.DiskErr.{DiskErr}
 use Rattle.x_disk.proofs.Runs.{joined, weaker}
-use Rattle.key_journal.specs.Journal.{Holds, IsBody, frame_of}
+use Rattle.key_journal.specs.Journal.{HoldsBodies, IsBody, frame_of}
 use Rattle.key_journal.specs.States.{HasBodies, HasStaged, FaultsRose, HasRoom, Site, Pending, Failed}
 use Rattle.key_journal.specs.States as journal
 use Rattle.key_journal.specs.Writing.{IsStaging, IsCommit, IsSwitch}
-use Rattle.journal_state.specs.States.{Lead, Stood, IsStanding, IsOldOrNext}
+use Rattle.journal_state.specs.States.{Lead, Stood, IsStanding, StandsForOldOrNext}
 use Rattle.journal_state.specs.Keeping.{IsFrameOf, IsKept, IsReplaced}
 use Rattle.journal_state.proofs.Leading.{lead_on}
 use Rattle.journal_state.proofs.Loaded.{rose_later}
@@ -34,7 +34,7 @@ made_standing step first v0 v1 gate end state same there durable room = record {
       let is = there (ap is_some was.1) in
       let both : Some is.1.image ≡ Some image = sym is.1.now ∙ now in
       let one : is.1.image ≡ image = cc both in
-      record { bodies = is.0; holds = subst (λ (l : List ℕ). Holds l is.0) one is.1.holds; lead = is.2 };
+      record { bodies = is.0; holds = subst (λ (l : List ℕ). HoldsBodies l is.0) one is.1.holds; lead = is.2 };
   room = room;
 }
 
@@ -55,15 +55,15 @@ module _ {D S : Type 0} (step : List ℕ → S → S → Type 0) (first : S) (to
       alone : Lead step first (is.body ∷ []) next
       alone = (next, is.leads, refl)
 
-      either_alone : (bodies : List (List ℕ)) (c : List ℕ) → Lead step first bodies old.state → journal.IsOldOrAlone bodies is.body c → IsOldOrNext step first old.state next c
+      either_alone : (bodies : List (List ℕ)) (c : List ℕ) → Lead step first bodies old.state → journal.IsOldOrAlone bodies is.body c → StandsForOldOrNext step first old.state next c
       either_alone bodies c lead (inl holds) = inl (record { bodies = bodies; holds = holds; lead = lead })
       either_alone bodies c lead (inr holds) = inr (record { bodies = is.body ∷ []; holds = holds; lead = alone })
 
       switched_any : (v : View) → ((bodies : List (List ℕ)) (body : List ℕ) → HasBodies (told old.disk) bodies → IsBody body → frame ≡ frame_of body → LeavesOnly (told old.disk) v (journal.IsOldOrAlone bodies body))
-          → Tells (told old.disk) → LeavesOnly (told old.disk) v (IsOldOrNext step first old.state next)
+          → Tells (told old.disk) → LeavesOnly (told old.disk) v (StandsForOldOrNext step first old.state next)
       switched_any v any tells =
           let h = here tells in
-          weaker (told old.disk) v (journal.IsOldOrAlone h.0 is.body) (IsOldOrNext step first old.state next) (any h.0 is.body h.1 is.is_body is.is) (λ c either. either_alone h.0 c h.2 either)
+          weaker (told old.disk) v (journal.IsOldOrAlone h.0 is.body) (StandsForOldOrNext step first old.state next) (any h.0 is.body h.1 is.is_body is.is) (λ c either. either_alone h.0 c h.2 either)
 
       pub switched_standing : (r : Site D) → IsSwitch told site frame (Ok r) → IsStanding step first (told r.disk) r.gate r.end next
       switched_standing r switch =
@@ -91,14 +91,14 @@ module _ {D S : Type 0} (step : List ℕ → S → S → Type 0) (first : S) (to
 
     -- a body more
     module _ (is : IsFrameOf step frame old.state next) where
-      either_more : (bodies : List (List ℕ)) (c : List ℕ) → Lead step first bodies old.state → journal.IsOldOrNew bodies is.body c → IsOldOrNext step first old.state next c
+      either_more : (bodies : List (List ℕ)) (c : List ℕ) → Lead step first bodies old.state → journal.HoldsOldOrNew bodies is.body c → StandsForOldOrNext step first old.state next c
       either_more bodies c lead (inl holds) = inl (record { bodies = bodies; holds = holds; lead = lead })
       either_more bodies c lead (inr holds) = inr (record { bodies = bodies ++ is.body ∷ []; holds = holds; lead = lead_on step first old.state next bodies is.body lead is.leads })
 
-      staged_any : (v : View) → ((bodies : List (List ℕ)) → HasBodies (told old.disk) bodies → LeavesOnly (told old.disk) v (λ c. Holds c bodies)) → Tells (told old.disk) → LeavesOnly (told old.disk) v (IsOldOrNext step first old.state next)
+      staged_any : (v : View) → ((bodies : List (List ℕ)) → HasBodies (told old.disk) bodies → LeavesOnly (told old.disk) v (λ c. HoldsBodies c bodies)) → Tells (told old.disk) → LeavesOnly (told old.disk) v (StandsForOldOrNext step first old.state next)
       staged_any v any tells =
           let h = here tells in
-          weaker (told old.disk) v (λ c. Holds c h.0) (IsOldOrNext step first old.state next) (any h.0 h.1) (λ c holds. inl (record { bodies = h.0; holds = holds; lead = h.2 }))
+          weaker (told old.disk) v (λ c. HoldsBodies c h.0) (StandsForOldOrNext step first old.state next) (any h.0 h.1) (λ c holds. inl (record { bodies = h.0; holds = holds; lead = h.2 }))
 
       pub not_staged : (b : Failed D) → IsStaging told site frame (Err b) → IsKept step first told old (length frame) next (Err b)
       not_staged b staging = record {
@@ -114,12 +114,12 @@ module _ {D S : Type 0} (step : List ℕ → S → S → Type 0) (first : S) (to
       }
 
       module _ (s : Pending D) (staging : IsStaging told site frame (Ok s)) where
-        committed_any : (v : View) → ((bodies : List (List ℕ)) (body : List ℕ) → HasStaged (told s.disk) bodies body → LeavesOnly (told s.disk) v (journal.IsOldOrNew bodies body))
-            → Tells (told old.disk) → LeavesOnly (told old.disk) v (IsOldOrNext step first old.state next)
+        committed_any : (v : View) → ((bodies : List (List ℕ)) (body : List ℕ) → HasStaged (told s.disk) bodies body → LeavesOnly (told s.disk) v (journal.HoldsOldOrNew bodies body))
+            → Tells (told old.disk) → LeavesOnly (told old.disk) v (StandsForOldOrNext step first old.state next)
         committed_any v any tells =
             let h = here tells in
-            joined (told old.disk) (told s.disk) v (IsOldOrNext step first old.state next) (staged_any (told s.disk) staging.any_moment tells)
-            (weaker (told s.disk) v (journal.IsOldOrNew h.0 is.body) (IsOldOrNext step first old.state next) (any h.0 is.body (staging.staged h.0 is.body h.1 is.is_body is.is)) (λ c either. either_more h.0 c h.2 either))
+            joined (told old.disk) (told s.disk) v (StandsForOldOrNext step first old.state next) (staged_any (told s.disk) staging.any_moment tells)
+            (weaker (told s.disk) v (journal.HoldsOldOrNew h.0 is.body) (StandsForOldOrNext step first old.state next) (any h.0 is.body (staging.staged h.0 is.body h.1 is.is_body is.is)) (λ c either. either_more h.0 c h.2 either))
 
         pub not_committed : (b : Failed D) → IsCommit told s (Err b) → IsKept step first told old (length frame) next (Err b)
         not_committed b commit = record {

@@ -1,7 +1,7 @@
 -- An image is blank, stands for one state or has one first damage, and no two of these.
 use Rattle.std.proofs.Common.{◌≡◌, ◌⊎◌, inl, inr, ℕ, ◌+◌, Bool, true, false, List, [], ◌∷◌, ◌++◌, Some, None, Ok, Err, sym, ◌∙◌, ap, subst, append_assoc, append-nil}
 use Rattle.key_journal.specs.Layout.{area_size}
-use Rattle.key_journal.specs.Journal.{Holds, Begins, is_blank, has_magic, start, gate_place}
+use Rattle.key_journal.specs.Journal.{HoldsBodies, Begins, is_blank, has_magic, start, gate_place}
 use Rattle.key_journal.specs.Opening.{found_at}
 use Rattle.key_journal.specs.States.{AreFirst}
 use Rattle.key_journal.specs.declared.cause.Cause.TheVariants as cause
@@ -66,18 +66,18 @@ module _ {S : Type 0} (step : List ℕ → S → S → Type 0) (first : S) (one 
         ]
       ]
 
-      module _ (begins : (image : List ℕ) (bodies : List (List ℕ)) → Holds image bodies → Begins image bodies (gate_place image bodies))
-          (end : (image : List ℕ) (bodies : List (List ℕ)) (gate : ℕ) → Begins image bodies gate → Holds image bodies → found_at image gate (start image + area_size) ≡ Ok None)
-          (head : (image : List ℕ) (bodies : List (List ℕ)) → Holds image bodies → (is_blank image ≡ false) × (has_magic image ≡ true)) where
-        sound_of_all : (image : List ℕ) (place : ℕ) (d : IsDamagedFrame step first image place) (all rest : List (List ℕ)) (state : S) → Holds image all → Lead step first all state → all ≡ d.bodies ++ rest → ⊥
+      module _ (begins : (image : List ℕ) (bodies : List (List ℕ)) → HoldsBodies image bodies → Begins image bodies (gate_place image bodies))
+          (end : (image : List ℕ) (bodies : List (List ℕ)) (gate : ℕ) → Begins image bodies gate → HoldsBodies image bodies → found_at image gate (start image + area_size) ≡ Ok None)
+          (head : (image : List ℕ) (bodies : List (List ℕ)) → HoldsBodies image bodies → (is_blank image ≡ false) × (has_magic image ≡ true)) where
+        sound_of_all : (image : List ℕ) (place : ℕ) (d : IsDamagedFrame step first image place) (all rest : List (List ℕ)) (state : S) → HoldsBodies image all → Lead step first all state → all ≡ d.bodies ++ rest → ⊥
         sound_of_all image place d all [] state holds lead whole =
-            sound_end image place d.state (end image d.bodies place d.begins (subst (λ (l : List (List ℕ)). Holds image l) (whole ∙ append-nil d.bodies) holds)) d.damage
+            sound_end image place d.state (end image d.bodies place d.begins (subst (λ (l : List (List ℕ)). HoldsBodies image l) (whole ∙ append-nil d.bodies) holds)) d.damage
         sound_of_all image place d all (body ∷ rest) state holds lead whole =
-            let holds_all = subst (λ (l : List (List ℕ)). Holds image l) whole holds in
+            let holds_all = subst (λ (l : List (List ℕ)). HoldsBodies image l) whole holds in
             sound_there image place d.bodies rest body d.state state (next image d.bodies rest body place (gate_place image (d.bodies ++ body ∷ rest)) d.begins (begins image (d.bodies ++ body ∷ rest) holds_all))
             (subst (λ (l : List (List ℕ)). Lead step first l state) whole lead) d.lead d.damage
 
-        longer_than_all : (image : List ℕ) (place : ℕ) (d : IsDamagedFrame step first image place) (all rest : List (List ℕ)) (state : S) → Holds image all → Lead step first all state → d.bodies ≡ all ++ rest → ⊥
+        longer_than_all : (image : List ℕ) (place : ℕ) (d : IsDamagedFrame step first image place) (all rest : List (List ℕ)) (state : S) → HoldsBodies image all → Lead step first all state → d.bodies ≡ all ++ rest → ⊥
         longer_than_all image place d all [] state holds lead whole =
             sound_of_all image place d all [] state holds lead (sym (append-nil all) ∙ (sym whole ∙ sym (append-nil d.bodies)))
         longer_than_all image place d all (body ∷ rest) state holds lead whole =
@@ -97,6 +97,6 @@ module _ {S : Type 0} (step : List ℕ → S → S → Type 0) (first : S) (one 
           ]
         ]
 
-  pub one_state : ((image : List ℕ) (front other : List (List ℕ)) → Holds image front → Holds image other → front ≡ other) → (image : List ℕ) (a b : S) → StandsFor step first image a → StandsFor step first image b → a ≡ b
+  pub one_state : ((image : List ℕ) (front other : List (List ℕ)) → HoldsBodies image front → HoldsBodies image other → front ≡ other) → (image : List ℕ) (a b : S) → StandsFor step first image a → StandsFor step first image b → a ≡ b
   one_state list image a b x y =
       one_lead step one first a b x.bodies x.lead (subst (λ (l : List (List ℕ)). Lead step first l b) (list image y.bodies x.bodies y.holds x.holds) y.lead)

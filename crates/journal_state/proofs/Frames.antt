@@ -2,7 +2,7 @@
 use Rattle.std.proofs.Common.{◌≡◌, ◌⊎◌, inl, inr, ℕ, ◌+◌, List, [], ◌∷◌, ◌++◌, Some, Ok, Err, refl, sym, ◌∙◌, ap, subst}
 use Rattle.key_journal.specs.Layout.{area_size}
 use Rattle.x_disk.specs.Disk.{View}
-use Rattle.key_journal.specs.Journal.{Holds, Begins, start}
+use Rattle.key_journal.specs.Journal.{HoldsBodies, Begins, start}
 use Rattle.key_journal.specs.Opening.{IsFree, IsFound, found_at}
 use Rattle.key_journal.specs.States.{HasRead, HasBodies, AreFirst}
 use Rattle.key_journal.specs.declared.cause.Cause.{Cause}
@@ -59,7 +59,7 @@ module _ {S : Type 0} (step : List ℕ → S → S → Type 0) (first : S) where
           let r = read image before in
           let there : HasRead v0 r.bodies gate = record { image = image; now = before; begins = r.begins } in
           let has = all r.bodies there in (
-            record { bodies = r.bodies; holds = subst (λ (l : List ℕ). Holds l r.bodies) (same_image v1 image has.image now has.now) has.holds; lead = r.lead },
+            record { bodies = r.bodies; holds = subst (λ (l : List ℕ). HoldsBodies l r.bodies) (same_image v1 image has.image now has.now) has.holds; lead = r.lead },
             λ other stands.
                 let all_same = only r.bodies stands.bodies there (record { image = image; now = before; holds = stands.holds }) in
                 one_lead step one first state other r.bodies r.lead (subst (λ (l : List (List ℕ)). Lead step first l other) all_same stands.lead),

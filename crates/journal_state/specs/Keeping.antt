@@ -4,7 +4,7 @@ use Rattle.x_disk.specs.Disk.{View, Tells, LeavesOnly}
 use Rattle.key_journal.specs.Journal.{frame_of, IsBody}
 use Rattle.key_journal.specs.States.{Failed, FaultsRose}
 use Rattle.journal_state.specs.Results.{kept_disk}
-use Rattle.journal_state.specs.States.{Stood, IsStanding, IsOldOrNext}
+use Rattle.journal_state.specs.States.{Stood, IsStanding, StandsForOldOrNext}
 
 -- the frame is that of a body that leads from one state to the next
 pub record IsFrameOf {S : Type 0} (step : List ℕ → S → S → Type 0) (frame : List ℕ) (old next : S) : Type 0 where
@@ -19,7 +19,7 @@ pub record IsReplaced {D S : Type 0} (step : List ℕ → S → S → Type 0) (f
   -- each image that a crash may leave stands for it
   pub stands : IfOk result (λ s. IsStanding step first (told s.disk) s.gate s.end s.state)
   -- a crash at any moment leaves an image that stands for the state before, or for the next one
-  pub any_moment : Tells (told old.disk) → LeavesOnly (told old.disk) (told (kept_disk result)) (IsOldOrNext step first old.state next)
+  pub any_moment : Tells (told old.disk) → LeavesOnly (told old.disk) (told (kept_disk result)) (StandsForOldOrNext step first old.state next)
   pub cause : IfErr result (λ b. FaultsRose (told old.disk) (told b.disk) b.cause)
   pub faults : (told old.disk).faults ≤ (told (kept_disk result)).faults
   pub tells : is_some (told (kept_disk result)).now ≡ is_some (told old.disk).now

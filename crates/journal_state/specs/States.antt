@@ -3,7 +3,7 @@
 use Rattle.std.specs.Prelude.{◌≡◌, ◌⊎◌, ℕ, ◌+◌, true, false, List, [], ◌∷◌, Option, Some, Result, Ok, Err}
 use Rattle.key_journal.specs.Layout.{area_size}
 use Rattle.x_disk.specs.Disk.{View, IsDurable}
-use Rattle.key_journal.specs.Journal.{Holds, Begins, is_blank, has_magic, start}
+use Rattle.key_journal.specs.Journal.{HoldsBodies, Begins, is_blank, has_magic, start}
 use Rattle.key_journal.specs.Opening.{found_at}
 use Rattle.key_journal.specs.States.{HasRoom, Site}
 use Rattle.key_journal.specs.declared.cause.Cause.{Cause}
@@ -17,7 +17,7 @@ Lead {S} step old (body ∷ bodies) new = (mid : S) × step body old mid × Lead
 -- the image stands for this state
 pub record StandsFor {S : Type 0} (step : List ℕ → S → S → Type 0) (first : S) (image : List ℕ) (state : S) : Type 0 where
   pub bodies : List (List ℕ)
-  pub holds : Holds image bodies
+  pub holds : HoldsBodies image bodies
   pub lead : Lead step first bodies state
 
 -- what lies at a gate of the selected area
@@ -55,8 +55,8 @@ pub record IsStanding {S : Type 0} (step : List ℕ → S → S → Type 0) (fir
   pub room : HasRoom v gate end
 
 -- the state before, or the one after
-abbrev pub IsOldOrNext : {S : Type 0} → (List ℕ → S → S → Type 0) → S → S → S → List ℕ → Type 0
-IsOldOrNext step first old next image = StandsFor step first image old ⊎ StandsFor step first image next
+abbrev pub StandsForOldOrNext : {S : Type 0} → (List ℕ → S → S → Type 0) → S → S → S → List ℕ → Type 0
+StandsForOldOrNext step first old next image = StandsFor step first image old ⊎ StandsFor step first image next
 
 -- no journal yet, or one of this state
 abbrev pub IsBlankOrFor : {S : Type 0} → (List ℕ → S → S → Type 0) → S → S → List ℕ → Type 0

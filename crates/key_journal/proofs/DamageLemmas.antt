@@ -5,7 +5,7 @@ use mathlib.Core.Logic.{◌≢◌}
 use Rattle.std.proofs.lemmas.List.{drop_more, append-nil}
 use Rattle.std.proofs.lemmas.Bool.Decides.{nat_tests}
 use Rattle.x_disk.specs.Disk.{View}
-use Rattle.key_journal.specs.Journal.{magic, four_bytes, frames, AreBodies, is_blank, has_magic, start, Holds, Begins}
+use Rattle.key_journal.specs.Journal.{magic, four_bytes, frames, AreBodies, is_blank, has_magic, start, HoldsBodies, Begins}
 use Rattle.key_journal.specs.Opening.{AreBytes, IsDamagedAt, IsDamagedGate, IsJudged, IsOpen, is_open, is_whole, stated, found_at, refusal_of}
 use Rattle.key_journal.specs.States.{AreFirst}
 use Rattle.key_journal.specs.declared.cause.Cause.{Cause}
@@ -73,7 +73,7 @@ one_damage image first second a b = either a.damage b.damage
     either (inr x) (inl y) = absurd (not_both (has_magic image) x.0 y.0)
     either (inr x) (inr y) = gates x.1 y.1
 
-pub sound_or_damaged : (image : List ℕ) (bodies : List (List ℕ)) (place : ℕ) → Holds image bodies → IsDamagedAt image place → ⊥
+pub sound_or_damaged : (image : List ℕ) (bodies : List (List ℕ)) (place : ℕ) → HoldsBodies image bodies → IsDamagedAt image place → ⊥
 sound_or_damaged image bodies place h d = either d.damage
   where
     gate : IsDamagedGate image place → ⊥
@@ -135,7 +135,7 @@ found_torn b gate end opened whole =
 
 -- what the frames from a gate on come to
 abbrev Outcome : List ℕ → Type 0
-Outcome image = ((bodies : List (List ℕ)) × Holds image bodies) ⊎ ((place : ℕ) × IsDamagedGate image place)
+Outcome image = ((bodies : List (List ℕ)) × HoldsBodies image bodies) ⊎ ((place : ℕ) × IsDamagedGate image place)
 
 ended_gate : (image : List ℕ) (bodies : List (List ℕ)) (gate : ℕ) → Begins image bodies gate → is_open image gate ≡ false → Outcome image
 ended_gate image [] gate b not_open = inr (gate, record { bodies = []; begins = b; damage = found_first image gate (start image + area_size) not_open (omega (arith, b.place)) })
@@ -202,7 +202,7 @@ judged_image image bytes = by_blank (is_blank image) refl
     by_blank true blank = inl blank
     by_blank false not_blank = by_magic (has_magic image) refl not_blank
 
-pub sound_or_blank : (image : List ℕ) (bodies : List (List ℕ)) → is_blank image ≡ true → Holds image bodies → ⊥
+pub sound_or_blank : (image : List ℕ) (bodies : List (List ℕ)) → is_blank image ≡ true → HoldsBodies image bodies → ⊥
 sound_or_blank image bodies blank h =
     let refused : refusal_of image ≡ Some cause.Blank = ap (λ (t : Bool). refusal_by t (has_magic image)) blank in
     let both : Some cause.Blank ≡ None = sym refused ∙ open_by_front image h.opened h.magic in

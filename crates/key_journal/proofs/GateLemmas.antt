@@ -3,7 +3,7 @@ use Rattle.std.proofs.Common.{◌≡◌, ◌⊎◌, inl, inr, ℕ, ◌+◌, ◌%
 use Rattle.key_journal.specs.Layout.{area_size, largest_body}
 use Rattle.std.proofs.lemmas.List.{take_at}
 use Rattle.std.proofs.Math.Seq.{drop-drop}
-use Rattle.key_journal.specs.Journal.{four_bytes, frames, AreBodies, is_blank, has_magic, start, gate_place, Holds, Begins}
+use Rattle.key_journal.specs.Journal.{four_bytes, frames, AreBodies, is_blank, has_magic, start, gate_place, HoldsBodies, Begins}
 use Rattle.key_journal.specs.Opening.{found_at, stated, is_whole}
 use Rattle.key_journal.specs.States.{AreFirst}
 use Rattle.key_journal.proofs.ImageLemmas.{whole_of, gate_in}
@@ -11,7 +11,7 @@ use Rattle.key_journal.proofs.ReadLemmas.{behind, same_length, same_parts, same_
 use Rattle.key_journal.proofs.OpenLemmas.{open_by_front}
 
 -- an image that stands for bodies begins with them
-pub begins_all : (image : List ℕ) (bodies : List (List ℕ)) → Holds image bodies → Begins image bodies (gate_place image bodies)
+pub begins_all : (image : List ℕ) (bodies : List (List ℕ)) → HoldsBodies image bodies → Begins image bodies (gate_place image bodies)
 begins_all image bodies h =
     let w = whole_of image bodies h in
     record {
@@ -24,7 +24,7 @@ begins_all image bodies h =
       within = λ some. omega (arith, gate_in image bodies h);
     }
 
-pub head_stands : (image : List ℕ) (bodies : List (List ℕ)) → Holds image bodies → (is_blank image ≡ false) × (has_magic image ≡ true)
+pub head_stands : (image : List ℕ) (bodies : List (List ℕ)) → HoldsBodies image bodies → (is_blank image ≡ false) × (has_magic image ≡ true)
 head_stands image bodies h = refused_by (is_blank image) (has_magic image) (open_by_front image h.opened h.magic)
 
 -- of two lists of frames from one place on, one is the longer
@@ -72,8 +72,8 @@ pub next_at : (image : List ℕ) (bodies rest : List (List ℕ)) (body : List �
 next_at image bodies rest body gate last b h = found_next image bodies rest body gate last (start image + area_size) b h refl
 
 -- behind all of them none
-pub none_at : (image : List ℕ) (bodies : List (List ℕ)) (gate : ℕ) → Begins image bodies gate → Holds image bodies → found_at image gate (start image + area_size) ≡ Ok None
-none_at image bodies gate b h = found_none image bodies gate (start image + area_size) b (subst (λ (l : List (List ℕ)). Holds image l) (sym (append-nil bodies)) h)
+pub none_at : (image : List ℕ) (bodies : List (List ℕ)) (gate : ℕ) → Begins image bodies gate → HoldsBodies image bodies → found_at image gate (start image + area_size) ≡ Ok None
+none_at image bodies gate b h = found_none image bodies gate (start image + area_size) b (subst (λ (l : List (List ℕ)). HoldsBodies image l) (sym (append-nil bodies)) h)
 
 bodies_front : (bodies rest : List (List ℕ)) → AreBodies (bodies ++ rest) → AreBodies bodies
 bodies_front [] rest all = tt

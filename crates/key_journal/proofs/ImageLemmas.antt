@@ -7,7 +7,7 @@ use Rattle.std.proofs.lemmas.List.{take_at, drop_at, drop_more, append-nil, take
 use Rattle.std.proofs.lemmas.Bool.{cases_eq}
 use Rattle.std.proofs.lemmas.Bool.Decides.{nat_tests}
 use Rattle.x_disk.specs.Disk.{IsTornAt, overwrite}
-use Rattle.key_journal.specs.Journal.{magic, four_bytes, frame_of, frames, IsBody, AreBodies, start, Holds, gate_place, Stages}
+use Rattle.key_journal.specs.Journal.{magic, four_bytes, frame_of, frames, IsBody, AreBodies, start, HoldsBodies, gate_place, Stages}
 
 pub start_in : (image : List ℕ) → (16 ≤ start image) × (start image ≤ second_start)
 start_in image = elim (cases_eq (get_or image 1 0) 1) [
@@ -36,7 +36,7 @@ area_parts size behind fr gate rest is =
       room = omega (arith, long, length-take size behind);
     }
 
-pub whole_of : (image : List ℕ) (bodies : List (List ℕ)) → Holds image bodies → Whole image bodies
+pub whole_of : (image : List ℕ) (bodies : List (List ℕ)) → HoldsBodies image bodies → Whole image bodies
 whole_of image bodies h =
     let a = h.area in
     let parts = area_parts area_size (drop (start image) image) (frames bodies) a.gate a.rest a.whole in
@@ -59,7 +59,7 @@ head_start image c same =
     ap (λ (n : ℕ). if n == 1 then second_start else 16) at
 
 pub holds_by : (c : List ℕ) (bodies : List (List ℕ)) (gate : ℕ) (tail : List ℕ) → take 1 c ≡ 1 ∷ [] → take 14 (drop 2 c) ≡ magic → gate ≢ 1 → drop (start c) c ≡ frames bodies ++ gate ∷ tail
-    → length (frames bodies) + 1 ≤ area_size → 0 < length bodies → AreBodies bodies → Holds c bodies
+    → length (frames bodies) + 1 ≤ area_size → 0 < length bodies → AreBodies bodies → HoldsBodies c bodies
 holds_by c bodies gate tail opened is closed whole room some all = record {
   opened = opened;
   magic = is;
@@ -73,8 +73,8 @@ holds_by c bodies gate tail opened is closed whole room some all = record {
   };
 }
 
-pub holds_of : (image c : List ℕ) (bodies more : List (List ℕ)) (gate : ℕ) (tail : List ℕ) → Holds image bodies → SameHead image c → gate ≢ 1
-    → drop (start image) c ≡ frames more ++ gate ∷ tail → length (frames more) + 1 ≤ area_size → 0 < length more → AreBodies more → Holds c more
+pub holds_of : (image c : List ℕ) (bodies more : List (List ℕ)) (gate : ℕ) (tail : List ℕ) → HoldsBodies image bodies → SameHead image c → gate ≢ 1
+    → drop (start image) c ≡ frames more ++ gate ∷ tail → length (frames more) + 1 ≤ area_size → 0 < length more → AreBodies more → HoldsBodies c more
 holds_of image c bodies more gate tail h same closed is room some all =
     holds_by c more gate tail (sym (take-take 1 16 c (omega arith)) ∙ ap (λ (l : List ℕ). take 1 l) same.head ∙ take-take 1 16 image (omega arith) ∙ h.opened)
     (sym (drop-take 2 14 c) ∙ ap (λ (l : List ℕ). drop 2 l) same.head ∙ drop-take 2 14 image ∙ h.magic) closed (ap (λ (n : ℕ). drop n c) (head_start image c same) ∙ is) room some all
@@ -88,7 +88,7 @@ drop_join s m c front is le =
     ap (λ (l : List ℕ). drop s l) (sym (take-append-drop (s + m) c) ∙ ap (λ (l : List ℕ). l ++ drop (s + m) c) is) ∙ drop-append-le s front (drop (s + m) c) le
 
 -- the same bytes up to and with the closed gate
-pub same_front : (image c : List ℕ) (bodies : List (List ℕ)) → Holds image bodies → take (gate_place image bodies + 1) c ≡ take (gate_place image bodies + 1) image → Holds c bodies
+pub same_front : (image c : List ℕ) (bodies : List (List ℕ)) → HoldsBodies image bodies → take (gate_place image bodies + 1) c ≡ take (gate_place image bodies + 1) image → HoldsBodies c bodies
 same_front image c bodies h is =
     let w = whole_of image bodies h in
     let s = start image in
@@ -132,7 +132,7 @@ pub gate_long : (image : List ℕ) (bodies : List (List ℕ)) (body : List ℕ) 
 gate_long image bodies body staged =
     omega (arith, ap length staged.behind, length-frame_of body, length-take (length body + 5) (drop (gate_place image bodies + 1) image), length-drop (gate_place image bodies + 1) image)
 
-behind_gate : (gate : ℕ) (image c : List ℕ) (bodies : List (List ℕ)) → Holds image bodies → gate_place image bodies + 1 ≤ length image → GateIs gate image c (gate_place image bodies)
+behind_gate : (gate : ℕ) (image c : List ℕ) (bodies : List (List ℕ)) → HoldsBodies image bodies → gate_place image bodies + 1 ≤ length image → GateIs gate image c (gate_place image bodies)
     → drop (start image) c ≡ frames bodies ++ gate ∷ drop (gate_place image bodies + 1) image
 behind_gate gate image c bodies h long is =
     let w = whole_of image bodies h in
@@ -151,12 +151,12 @@ module _ (image : List ℕ) (bodies : List (List ℕ)) (body : List ℕ) (staged
   head : (gate : ℕ) (c : List ℕ) → GateIs gate image c e → SameHead image c
   head gate c is = same_head e image c (omega (arith, start_in image)) is.front
 
-  pub gate_not_open : (gate : ℕ) (c : List ℕ) → GateIs gate image c e → gate ≢ 1 → Holds c bodies
+  pub gate_not_open : (gate : ℕ) (c : List ℕ) → GateIs gate image c e → gate ≢ 1 → HoldsBodies c bodies
   gate_not_open gate c is not_open =
       let w = whole_of image bodies staged.holds in
       holds_of image c bodies bodies gate (drop (e + 1) image) staged.holds (head gate c is) not_open (behind_gate gate image c bodies staged.holds long is) w.room staged.holds.area.some staged.holds.area.all
 
-  pub gate_open : (c : List ℕ) → GateIs 1 image c e → Holds c (bodies ++ body ∷ [])
+  pub gate_open : (c : List ℕ) → GateIs 1 image c e → HoldsBodies c (bodies ++ body ∷ [])
   gate_open c is =
       let tail = drop (length body + 5) (drop (e + 1) image) in
       let frame : drop (e + 1) image ≡ four_bytes (length body) ++ (body ++ 0 ∷ tail) =
@@ -166,7 +166,7 @@ module _ (image : List ℕ) (bodies : List (List ℕ)) (body : List ℕ) (staged
       holds_of image c bodies (bodies ++ body ∷ []) 0 tail staged.holds (head 1 c is) (omega arith) all (omega (arith, length-frames-push bodies body, staged.fits)) (omega (arith, length-append bodies (body ∷ []))) (AreBodies-push bodies body staged.holds.area.all staged.is_body)
 
   -- a crash in the write of the gate
-  pub gate_torn : (c : List ℕ) → IsTornAt e 1 image c → Holds c bodies ⊎ Holds c (bodies ++ body ∷ [])
+  pub gate_torn : (c : List ℕ) → IsTornAt e 1 image c → HoldsBodies c bodies ⊎ HoldsBodies c (bodies ++ body ∷ [])
   gate_torn c torn =
       let gate = get_or c e 0 in
       let front : take e c ≡ take e image = sym (take-take e (length image) c (omega (arith, long))) ∙ torn.before in
@@ -183,7 +183,7 @@ overwrite_in at bytes old le =
     ap (λ (l : List ℕ). take at l ++ bytes ++ drop (at + length bytes) old) same ∙ append_assoc (take at old) bytes (drop (at + length bytes) old)
 
 -- the gate is written
-pub gate_written : (image : List ℕ) (bodies : List (List ℕ)) (body : List ℕ) → Stages image bodies body → Holds (overwrite (gate_place image bodies) (1 ∷ []) image) (bodies ++ body ∷ [])
+pub gate_written : (image : List ℕ) (bodies : List (List ℕ)) (body : List ℕ) → Stages image bodies body → HoldsBodies (overwrite (gate_place image bodies) (1 ∷ []) image) (bodies ++ body ∷ [])
 gate_written image bodies body staged =
     let e = gate_place image bodies in
     let le : e ≤ length image = omega (arith, gate_long image bodies body staged) in
@@ -194,19 +194,19 @@ gate_written image bodies body staged =
       back = ap (λ (l : List ℕ). drop e l) is ∙ drop_at (take e image) (1 ∷ drop (e + 1) image) e size;
     })
 
-pub gate_in : (image : List ℕ) (bodies : List (List ℕ)) → Holds image bodies → gate_place image bodies + 1 ≤ length image
+pub gate_in : (image : List ℕ) (bodies : List (List ℕ)) → HoldsBodies image bodies → gate_place image bodies + 1 ≤ length image
 gate_in image bodies h =
     let w = whole_of image bodies h in
     omega (arith, length-drop (start image) image, ap length w.whole, length-append (frames bodies) (w.gate ∷ w.tail))
 
 -- a crash in the write of a frame
-pub frame_torn : (image : List ℕ) (bodies : List (List ℕ)) (n : ℕ) (c : List ℕ) → Holds image bodies → IsTornAt (gate_place image bodies + 1) n image c → Holds c bodies
+pub frame_torn : (image : List ℕ) (bodies : List (List ℕ)) (n : ℕ) (c : List ℕ) → HoldsBodies image bodies → IsTornAt (gate_place image bodies + 1) n image c → HoldsBodies c bodies
 frame_torn image bodies n c h torn =
     let e = gate_place image bodies in
     same_front image c bodies h (sym (take-take (e + 1) (length image) c (gate_in image bodies h)) ∙ torn.before)
 
 -- the frame is written
-pub frame_written : (image : List ℕ) (bodies : List (List ℕ)) (body : List ℕ) → Holds image bodies → IsBody body → gate_place image bodies + length (frame_of body) + 1 ≤ start image + area_size
+pub frame_written : (image : List ℕ) (bodies : List (List ℕ)) (body : List ℕ) → HoldsBodies image bodies → IsBody body → gate_place image bodies + length (frame_of body) + 1 ≤ start image + area_size
     → Stages (overwrite (gate_place image bodies + 1) (frame_of body) image) bodies body
 frame_written image bodies body h is_body fits =
     let at = gate_place image bodies + 1 in
@@ -232,5 +232,5 @@ start_kept at bytes image low le =
     let front : take at (overwrite at bytes image) ≡ take at image = ap (λ (l : List ℕ). take at l) is ∙ take_at (take at image) (bytes ++ drop (at + length bytes) image) at (length-take-le at image le) in
     head_start image (overwrite at bytes image) (same_head at image (overwrite at bytes image) low front)
 
-pub fits_area : (image : List ℕ) (bodies : List (List ℕ)) → Holds image bodies → length (frames bodies) + 1 ≤ area_size
+pub fits_area : (image : List ℕ) (bodies : List (List ℕ)) → HoldsBodies image bodies → length (frames bodies) + 1 ≤ area_size
 fits_area image bodies h = (whole_of image bodies h).room

@@ -7,7 +7,7 @@ use Rattle.std.proofs.lemmas.Bool.{cases_eq}
 use Rattle.std.proofs.lemmas.Bool.Decides.{nat_tests}
 use Rattle.x_disk.specs.Disk.{View, IsTornAt, IsDurable, IsWritten, LeavesOnly, Tells, overwrite}
 use Rattle.x_disk.proofs.Runs.{weaker, joined}
-use Rattle.key_journal.specs.Journal.{magic, four_bytes, frame_of, frames, IsBody, is_blank, start, Holds}
+use Rattle.key_journal.specs.Journal.{magic, four_bytes, frame_of, frames, IsBody, is_blank, start, HoldsBodies}
 use Rattle.key_journal.specs.States.{HasClosedGate, IsEmpty, IsAt, IsReady, HasBodies, MayTear, IsBlankOrFirst}
 use Rattle.key_journal.proofs.ImageLemmas.{area_is, rest_of, overwrite_in, length-frame_of}
 use Rattle.key_journal.proofs.StepLemmas.{told_before, torn_from_now}
@@ -87,7 +87,7 @@ laid_is frame b some =
 pub alone_front : (body tail : List ℕ) → 1 ∷ (frame_of body ++ tail) ≡ frames (body ∷ []) ++ 0 ∷ tail
 alone_front body tail = ap (λ (l : List ℕ). 1 ∷ (four_bytes (length body) ++ l)) (append_assoc body (0 ∷ []) tail ∙ ap (λ (l : List ℕ). l ++ 0 ∷ tail) (sym (append-nil body)))
 
-pub holds_first : (body tail : List ℕ) → IsBody body → Holds (1 ∷ (head ++ (frame_of body ++ tail))) (body ∷ [])
+pub holds_first : (body tail : List ℕ) → IsBody body → HoldsBodies (1 ∷ (head ++ (frame_of body ++ tail))) (body ∷ [])
 holds_first body tail is = record {
   opened = refl;
   magic = refl;
@@ -118,15 +118,15 @@ made_torn body b c is some torn =
     let long : 1 ≤ length c = omega (arith, torn.no_shorter, ap length l.1, length-append (take 1 b) rest, length-take-le 1 b some) in
     let all : c ≡ get_or c 0 0 ∷ rest = head_cons c rest long back in
     elim (cases_eq (get_or c 0 0) 1) [
-      | inl one ↦ inr (subst (λ (x : List ℕ). Holds x (body ∷ [])) (sym (all ∙ ap (λ (g : ℕ). g ∷ rest) one)) (holds_first body l.0 is))
+      | inl one ↦ inr (subst (λ (x : List ℕ). HoldsBodies x (body ∷ [])) (sym (all ∙ ap (λ (g : ℕ). g ∷ rest) one)) (holds_first body l.0 is))
       | inr not_open ↦ inl (blank_gate c c (record { some = long; closed = not_open }) refl)
     ]
 
-pub made_written : (body b : List ℕ) → IsBody body → 1 ≤ length b → Holds (overwrite 0 (1 ∷ []) (laid (frame_of body) b)) (body ∷ [])
+pub made_written : (body b : List ℕ) → IsBody body → 1 ≤ length b → HoldsBodies (overwrite 0 (1 ∷ []) (laid (frame_of body) b)) (body ∷ [])
 made_written body b is some =
     let l = laid_is (frame_of body) b some in
     let rest = head ++ (frame_of body ++ l.0) in
-    subst (λ (x : List ℕ). Holds x (body ∷ [])) (sym (ap (λ (x : List ℕ). 1 ∷ drop 1 x) l.1 ∙ ap (λ (x : List ℕ). 1 ∷ x) (drop_first b rest some))) (holds_first body l.0 is)
+    subst (λ (x : List ℕ). HoldsBodies x (body ∷ [])) (sym (ap (λ (x : List ℕ). 1 ∷ drop 1 x) l.1 ∙ ap (λ (x : List ℕ). 1 ∷ x) (drop_first b rest some))) (holds_first body l.0 is)
 
 made_start : (body b : List ℕ) → 1 ≤ length b → start (overwrite 0 (1 ∷ []) (laid (frame_of body) b)) ≡ 16
 made_start body b some =

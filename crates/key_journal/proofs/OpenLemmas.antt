@@ -6,9 +6,9 @@ use Rattle.std.proofs.Math.Seq.{drop-drop, take-add}
 use Rattle.std.proofs.lemmas.List.{take_at, get_or-take, take-take, drop-take, take_min, length-take, length-take-le}
 use Rattle.std.proofs.lemmas.Bool.Decides.{nat_tests}
 use Rattle.x_disk.specs.Disk.{View, IsDurable, IsStill, disk_size}
-use Rattle.key_journal.specs.Journal.{magic, four_bytes, is_blank, has_magic, start, Holds, Begins}
+use Rattle.key_journal.specs.Journal.{magic, four_bytes, is_blank, has_magic, start, HoldsBodies, Begins}
 use Rattle.key_journal.specs.Judged.{judged_at, IsSized}
-use Rattle.key_journal.specs.Opening.{IsHeaderOf, IsRefused, IsOpened, IsOpen, IsDamagedAt, refusal_of, is_open, is_whole, stated, found_at}
+use Rattle.key_journal.specs.Opening.{IsHeaderOf, IsRefusedOpening, IsOpened, IsOpen, IsDamagedAt, refusal_of, is_open, is_whole, stated, found_at}
 use Rattle.key_journal.specs.States.{IsReady, HasBodies, HasRead, AreFirst}
 use Rattle.key_journal.specs.declared.judge.Judged.TheVariants as kind
 use Rattle.key_journal.specs.declared.cause.Cause.{Cause}
@@ -104,7 +104,7 @@ window_part buffer b from held at same low high =
     ∙ drop-take a n (drop from b) ∙ ap (λ (l : List ℕ). take n l) (drop-drop a from b ∙ ap (λ (m : ℕ). drop m b) (omega (arith, low))) in
     take_own n (drop at b) (take n (drop a buffer)) moved
 
-pub refused_is : (old new : View) (reason : Cause) → new.now ≡ old.now → (reason ≡ cause.Blank) ⊎ (reason ≡ cause.Damaged 2) → ((b : List ℕ) → old.now ≡ Some b → refusal_of b ≡ Some reason) → IsRefused old new reason
+pub refused_is : (old new : View) (reason : Cause) → new.now ≡ old.now → (reason ≡ cause.Blank) ⊎ (reason ≡ cause.Damaged 2) → ((b : List ℕ) → old.now ≡ Some b → refusal_of b ≡ Some reason) → IsRefusedOpening old new reason
 refused_is old new reason now names is = record {
   now = now;
   fault = λ fault. absurd (not_fault names fault);
@@ -133,7 +133,7 @@ told_once v b c first second = let both : Some b ≡ Some c = sym first ∙ seco
 
 pub first_of : (v : View) (bodies all : List (List ℕ)) (gate : ℕ) → HasRead v bodies gate → HasBodies v all → AreFirst bodies all
 first_of v bodies all gate read has =
-    first_bodies read.image bodies all gate read.begins (subst (λ (l : List ℕ). Holds l all) (told_once v has.image read.image has.now read.now) has.holds)
+    first_bodies read.image bodies all gate read.begins (subst (λ (l : List ℕ). HoldsBodies l all) (told_once v has.image read.image has.now read.now) has.holds)
 
 -- what was judged says what is found
 closed_by : (opened whole : Bool) (n : ℕ) → (if opened then (if whole then kind.Frame n else kind.Damaged) else kind.Closed) ≡ kind.Closed → opened ≡ false
@@ -296,7 +296,7 @@ undamaged_header v bodies reason has refused =
 -- the list that a disk tells is one
 pub one_list : (old new : View) (bodies all : List (List ℕ)) → new.now ≡ old.now → HasBodies new bodies → HasBodies old all → all ≡ bodies
 one_list old new bodies all now has other =
-    same_holds has.image all bodies (subst (λ (l : List ℕ). Holds l all) (told_once new other.image has.image (now ∙ other.now) has.now) other.holds) has.holds
+    same_holds has.image all bodies (subst (λ (l : List ℕ). HoldsBodies l all) (told_once new other.image has.image (now ∙ other.now) has.now) other.holds) has.holds
 
 -- where damage is told
 refused_twice : (blank magic : Bool) (place : ℕ) → refusal_by blank magic ≡ Some (cause.Damaged place) → (blank ≡ false) × ((magic ≡ false) × (place ≡ 2))

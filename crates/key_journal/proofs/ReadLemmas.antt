@@ -6,7 +6,7 @@ use Rattle.std.proofs.lemmas.List.{take_at, drop_at, drop_more, get_or-take, get
 use Rattle.std.proofs.Math.Seq.{drop-drop}
 use Rattle.std.proofs.lemmas.Bool.Decides.{nat_tests}
 use Rattle.std.proofs.lemmas.Slice.Eq.{bytes_eq-Decides}
-use Rattle.key_journal.specs.Journal.{magic, four_bytes, frames, IsBody, AreBodies, is_blank, has_magic, start, Holds, Begins}
+use Rattle.key_journal.specs.Journal.{magic, four_bytes, frames, IsBody, AreBodies, is_blank, has_magic, start, HoldsBodies, Begins}
 use Rattle.key_journal.specs.Opening.{is_open, stated, is_whole, found_at, refusal_of}
 use Rattle.key_journal.specs.Judged.{number, judged, judged_at}
 use Rattle.key_journal.specs.States.{AreFirst}
@@ -73,7 +73,7 @@ begins_more image bodies gate next end n body b last head some small in_file in_
 closed_gate : (image : List ℕ) (gate : ℕ) → gate < length image → is_open image gate ≡ false → get_or image gate 0 ≢ 1
 closed_gate image gate within closed = grind (arith, nat_tests)
 
-pub all_read : (image : List ℕ) (bodies : List (List ℕ)) (gate : ℕ) → Begins image bodies gate → is_open image gate ≡ false → 0 < length bodies → Holds image bodies
+pub all_read : (image : List ℕ) (bodies : List (List ℕ)) (gate : ℕ) → Begins image bodies gate → is_open image gate ≡ false → 0 < length bodies → HoldsBodies image bodies
 all_read image bodies gate b not_open some =
     let within = b.within some in
     let at_gate : drop gate image ≡ get_or image gate 0 ∷ drop (gate + 1) image = drop_more image gate 0 within in
@@ -114,7 +114,7 @@ longer (b ∷ bs) (c ∷ all) g r s all_b all_a not_open is =
     let more = longer bs all g r s all_b.1 all_a.1 not_open parts.1 in
     record { rest = more.rest; whole = ap (λ (x : List ℕ). x ∷ all) (sym first) ∙ ap (λ (l : List (List ℕ)). b ∷ l) more.whole }
 
-pub first_bodies : (image : List ℕ) (bodies all : List (List ℕ)) (gate : ℕ) → Begins image bodies gate → Holds image all → AreFirst bodies all
+pub first_bodies : (image : List ℕ) (bodies all : List (List ℕ)) (gate : ℕ) → Begins image bodies gate → HoldsBodies image all → AreFirst bodies all
 first_bodies image bodies all gate b h =
     let w = whole_of image all h in
     longer bodies all w.gate (drop gate image) w.tail b.all h.area.all w.closed (sym (behind image bodies gate b) ∙ w.whole)
@@ -130,7 +130,7 @@ pub same_back : (xs us vs : List ℕ) → xs ++ us ≡ xs ++ vs → us ≡ vs
 same_back xs us vs is = (same_parts xs xs us vs refl is).1
 
 -- what stands at the gate of an image that stands for bodies
-at_gate : (image : List ℕ) (bodies rest : List (List ℕ)) (gate : ℕ) (b : Begins image bodies gate) (h : Holds image (bodies ++ rest)) → let w = whole_of image (bodies ++ rest) h in drop gate image ≡ frames rest ++ w.gate ∷ w.tail
+at_gate : (image : List ℕ) (bodies rest : List (List ℕ)) (gate : ℕ) (b : Begins image bodies gate) (h : HoldsBodies image (bodies ++ rest)) → let w = whole_of image (bodies ++ rest) h in drop gate image ≡ frames rest ++ w.gate ∷ w.tail
 at_gate image bodies rest gate b h =
     let w = whole_of image (bodies ++ rest) h in
     same_back (frames bodies) (drop gate image) (frames rest ++ w.gate ∷ w.tail) (sym (behind image bodies gate b) ∙ w.whole ∙ frames-append bodies rest (w.gate ∷ w.tail))
@@ -201,7 +201,7 @@ frame_found image body tail gate end is_body front in_file in_area =
     ∙ ap (λ (l : List ℕ). found_by true true (gate == start image) gate l) text
 
 -- the end of the list
-pub found_none : (image : List ℕ) (bodies : List (List ℕ)) (gate end : ℕ) → Begins image bodies gate → Holds image (bodies ++ []) → found_at image gate end ≡ Ok None
+pub found_none : (image : List ℕ) (bodies : List (List ℕ)) (gate end : ℕ) → Begins image bodies gate → HoldsBodies image (bodies ++ []) → found_at image gate end ≡ Ok None
 found_none image bodies gate end b h =
     let w = whole_of image (bodies ++ []) h in
     let front = at_gate image bodies [] gate b h in
@@ -211,7 +211,7 @@ found_none image bodies gate end b h =
     ap (λ (t : Bool). found_by t (is_whole image gate end) (gate == start image) gate (take (stated image gate) (drop (gate + 5) image))) not_open
     ∙ ap (λ (t : Bool). found_by false (is_whole image gate end) t gate (take (stated image gate) (drop (gate + 5) image))) apart
 
-reads_rest : (image : List ℕ) (bodies rest : List (List ℕ)) (gate end : ℕ) → Begins image bodies gate → Holds image (bodies ++ rest) → end ≡ start image + area_size → Reads image gate end
+reads_rest : (image : List ℕ) (bodies rest : List (List ℕ)) (gate end : ℕ) → Begins image bodies gate → HoldsBodies image (bodies ++ rest) → end ≡ start image + area_size → Reads image gate end
 reads_rest image bodies [] gate end b h last = record { body = None; is = found_none image bodies gate end b h }
 reads_rest image bodies (body ∷ rest) gate end b h last =
     let w = whole_of image (bodies ++ body ∷ rest) h in
@@ -225,10 +225,10 @@ reads_rest image bodies (body ∷ rest) gate end b h last =
       is = frame_found image body tail gate end (second_body bodies body rest h.area.all) front (omega (arith, size)) (omega (arith, last, b.place, w.room, room_of bodies body rest));
     }
 
-pub undamaged : (image : List ℕ) (bodies all : List (List ℕ)) (gate end : ℕ) → Begins image bodies gate → Holds image all → end ≡ start image + area_size → Reads image gate end
+pub undamaged : (image : List ℕ) (bodies all : List (List ℕ)) (gate end : ℕ) → Begins image bodies gate → HoldsBodies image all → end ≡ start image + area_size → Reads image gate end
 undamaged image bodies all gate end b h last =
     let first = first_bodies image bodies all gate b h in
-    reads_rest image bodies first.rest gate end b (subst (λ (l : List (List ℕ)). Holds image l) first.whole h) last
+    reads_rest image bodies first.rest gate end b (subst (λ (l : List (List ℕ)). HoldsBodies image l) first.whole h) last
 
 cases_lt_le : (a b : ℕ) → (a < b) ⊎ (b ≤ a)
 cases_lt_le a b = by_test (nat_lt a b) refl

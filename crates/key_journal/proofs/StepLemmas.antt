@@ -3,8 +3,8 @@ use Rattle.std.proofs.Common.{◌≡◌, ℕ, ◌+◌, ◌≤◌, List, [], ◌�
 use Rattle.key_journal.specs.Layout.{area_size}
 use Rattle.x_disk.specs.Disk.{View, IsTornAt, overwrite, IsDurable, IsWritten, LeavesOnly}
 use Rattle.x_disk.proofs.Runs.{weaker}
-use Rattle.key_journal.specs.Journal.{frame_of, frames, start, Holds, gate_place, IsBody, Stages}
-use Rattle.key_journal.specs.States.{HasBodies, HasStaged, IsFrame, IsReady, IsStaged, IsOldOrNew, HasRoom, MayTear}
+use Rattle.key_journal.specs.Journal.{frame_of, frames, start, HoldsBodies, gate_place, IsBody, Stages}
+use Rattle.key_journal.specs.States.{HasBodies, HasStaged, IsFrame, IsReady, IsStaged, HoldsOldOrNew, HasRoom, MayTear}
 use Rattle.key_journal.proofs.ImageLemmas.{frame_torn, frame_written, gate_torn, gate_written, length-frame_of, length-frames-push, gate_in, gate_long, start_kept, start_in, fits_area}
 use Rattle.key_journal.proofs.SameLemmas.{same_holds}
 
@@ -18,7 +18,7 @@ pub torn_from_now : (old : View) (at n : ℕ) (image c : List ℕ) → IsDurable
 torn_from_now old at n image c durable now torn = subst (λ (l : List ℕ). IsTornAt at n l c) (durable.only image torn.0 now torn.1) torn.2
 
 module _ (old new : View) (gate end : ℕ) where
-  pub ready_place : IsReady old gate end → (bodies : List (List ℕ)) (image : List ℕ) → old.now ≡ Some image → Holds image bodies → (gate ≡ gate_place image bodies) × (end ≡ start image + area_size)
+  pub ready_place : IsReady old gate end → (bodies : List (List ℕ)) (image : List ℕ) → old.now ≡ Some image → HoldsBodies image bodies → (gate ≡ gate_place image bodies) × (end ≡ start image + area_size)
   ready_place ready bodies image now holds =
       let at = ready.journal image now in
       let same = same_holds image at.bodies bodies at.holds holds in (
@@ -26,13 +26,13 @@ module _ (old new : View) (gate end : ℕ) where
         at.last,
       )
 
-  pub stage_moment : (n : ℕ) → IsReady old gate end → LeavesOnly old new (MayTear old (gate + 1) n) → (bodies : List (List ℕ)) → HasBodies old bodies → LeavesOnly old new (λ c. Holds c bodies)
+  pub stage_moment : (n : ℕ) → IsReady old gate end → LeavesOnly old new (MayTear old (gate + 1) n) → (bodies : List (List ℕ)) → HasBodies old bodies → LeavesOnly old new (λ c. HoldsBodies c bodies)
   stage_moment n ready run bodies has =
       let place = ready_place ready bodies has.image has.now has.holds in
-      weaker old new (MayTear old (gate + 1) n) (λ c. Holds c bodies) run
+      weaker old new (MayTear old (gate + 1) n) (λ c. HoldsBodies c bodies) run
       (λ c torn. frame_torn has.image bodies n c has.holds (subst (λ (g : ℕ). IsTornAt (g + 1) n has.image c) place.0 (torn_from_now old (gate + 1) n has.image c ready.durable has.now torn)))
 
-  stage_image : (bodies : List (List ℕ)) (body image : List ℕ) → Holds image bodies → IsBody body → gate + 1 + length (frame_of body) ≤ end → gate ≡ gate_place image bodies → end ≡ start image + area_size
+  stage_image : (bodies : List (List ℕ)) (body image : List ℕ) → HoldsBodies image bodies → IsBody body → gate + 1 + length (frame_of body) ≤ end → gate ≡ gate_place image bodies → end ≡ start image + area_size
       → Stages (overwrite (gate + 1) (frame_of body) image) bodies body
   stage_image bodies body image holds is_body fits place last =
       subst (λ (g : ℕ). Stages (overwrite (g + 1) (frame_of body) image) bodies body) (sym place) (frame_written image bodies body holds is_body (omega (arith, fits, place, last)))
@@ -75,14 +75,14 @@ module _ (old new : View) (gate next end : ℕ) where
       let at = staged.journal image now in
       at.place ∙ ap (λ (bs : List (List ℕ)). gate_place image bs) (same_holds image at.bodies bodies at.stages.holds stages.holds)
 
-  pub commit_moment : IsStaged old gate next end → LeavesOnly old new (MayTear old gate 1) → (bodies : List (List ℕ)) (body : List ℕ) → HasStaged old bodies body → LeavesOnly old new (IsOldOrNew bodies body)
+  pub commit_moment : IsStaged old gate next end → LeavesOnly old new (MayTear old gate 1) → (bodies : List (List ℕ)) (body : List ℕ) → HasStaged old bodies body → LeavesOnly old new (HoldsOldOrNew bodies body)
   commit_moment staged run bodies body has =
       let place = staged_place staged bodies body has.image has.now has.stages in
-      weaker old new (MayTear old gate 1) (IsOldOrNew bodies body) run
+      weaker old new (MayTear old gate 1) (HoldsOldOrNew bodies body) run
       (λ c torn. gate_torn has.image bodies body has.stages c (subst (λ (g : ℕ). IsTornAt g 1 has.image c) place (torn_from_now old gate 1 has.image c staged.durable has.now torn)))
 
-  commit_image : (bodies : List (List ℕ)) (body image : List ℕ) → Stages image bodies body → gate ≡ gate_place image bodies → Holds (overwrite gate (1 ∷ []) image) (bodies ++ body ∷ [])
-  commit_image bodies body image stages place = subst (λ (g : ℕ). Holds (overwrite g (1 ∷ []) image) (bodies ++ body ∷ [])) (sym place) (gate_written image bodies body stages)
+  commit_image : (bodies : List (List ℕ)) (body image : List ℕ) → Stages image bodies body → gate ≡ gate_place image bodies → HoldsBodies (overwrite gate (1 ∷ []) image) (bodies ++ body ∷ [])
+  commit_image bodies body image stages place = subst (λ (g : ℕ). HoldsBodies (overwrite g (1 ∷ []) image) (bodies ++ body ∷ [])) (sym place) (gate_written image bodies body stages)
 
   pub commit_done : IsStaged old gate next end → IsWritten gate (1 ∷ []) old new → (bodies : List (List ℕ)) (body : List ℕ) → HasStaged old bodies body → HasBodies new (bodies ++ body ∷ [])
   commit_done staged written bodies body has = record {
@@ -105,7 +105,7 @@ module _ (old new : View) (gate next end : ℕ) where
         ap start (sym same) ∙ start_kept gate (1 ∷ []) was.0 (omega (arith, at.place, start_in was.0)) (omega (arith, at.place, gate_long was.0 at.bodies at.body at.stages)) in
         record {
           bodies = at.bodies ++ at.body ∷ [];
-          holds = subst (λ (l : List ℕ). Holds l (at.bodies ++ at.body ∷ [])) same (commit_image at.bodies at.body was.0 at.stages at.place);
+          holds = subst (λ (l : List ℕ). HoldsBodies l (at.bodies ++ at.body ∷ [])) same (commit_image at.bodies at.body was.0 at.stages at.place);
           place = omega (arith, at.place, at.after, kept, length-frames-push at.bodies at.body);
           last = omega (arith, at.last, kept);
         };

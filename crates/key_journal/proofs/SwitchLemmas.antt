@@ -8,7 +8,7 @@ use Rattle.std.proofs.lemmas.Bool.{cases_eq}
 use Rattle.std.proofs.lemmas.Bool.Decides.{nat_tests}
 use Rattle.x_disk.specs.Disk.{View, IsTornAt, IsDurable, IsWritten, LeavesOnly, IsSound, Tells, overwrite, disk_size}
 use Rattle.x_disk.proofs.Runs.{weaker, joined}
-use Rattle.key_journal.specs.Journal.{magic, frame_of, frames, IsBody, start, Holds, gate_place}
+use Rattle.key_journal.specs.Journal.{magic, frame_of, frames, IsBody, start, HoldsBodies, gate_place}
 use Rattle.key_journal.specs.States.{HasBodies, IsAt, IsReady, MayTear, IsOldOrAlone, other_start, selector_of}
 use Rattle.key_journal.proofs.ImageLemmas.{whole_of, same_front, holds_of, holds_by, drop_join, start_in, head_start, gate_in, fits_area, length-frame_of}
 use Rattle.key_journal.proofs.StepLemmas.{told_before, torn_from_now}
@@ -70,10 +70,10 @@ behind_same s m b c le is =
     ap (λ (k : ℕ). drop k c) (sym sum) ∙ sym (drop-drop (s - m) m c) ∙ ap (λ (l : List ℕ). drop (s - m) l) is ∙ drop-drop (s - m) m b ∙ ap (λ (k : ℕ). drop k b) sum
 
 -- a torn write in the other area leaves the selected one
-pub other_torn : (image : List ℕ) (bodies : List (List ℕ)) (other n : ℕ) (c : List ℕ) → Holds image bodies → Apart image other → n ≤ area_size → IsTornAt other n image c → Holds c bodies
+pub other_torn : (image : List ℕ) (bodies : List (List ℕ)) (other n : ℕ) (c : List ℕ) → HoldsBodies image bodies → Apart image other → n ≤ area_size → IsTornAt other n image c → HoldsBodies c bodies
 other_torn image bodies other n c h apart small torn = either apart.which
   where
-    either : ((start image ≡ first_start) × (other ≡ second_start)) ⊎ ((start image ≡ second_start) × (other ≡ first_start)) → Holds c bodies
+    either : ((start image ≡ first_start) × (other ≡ second_start)) ⊎ ((start image ≡ second_start) × (other ≡ first_start)) → HoldsBodies c bodies
     either (inl low) =
         let g = gate_place image bodies + 1 in
         let le : g ≤ other = omega (arith, fits_area image bodies h, low.0, low.1) in
@@ -112,7 +112,7 @@ torn_twice at n b d c first second =
 
 -- the journal stands for its bodies, and one frame lies in the other area
 pub record HasBeside (image : List ℕ) (bodies : List (List ℕ)) (other : ℕ) (body : List ℕ) : Type 0 where
-  pub holds : Holds image bodies
+  pub holds : HoldsBodies image bodies
   pub apart : Apart image other
   pub is_body : IsBody body
   pub tail : List ℕ
@@ -123,19 +123,19 @@ pub record SameButSelector (image c : List ℕ) : Type 0 where
   pub gate : take 1 c ≡ take 1 image
   pub behind : drop 2 c ≡ drop 2 image
 
-selector_magic : (image c : List ℕ) (bodies : List (List ℕ)) → Holds image bodies → SameButSelector image c → take 14 (drop 2 c) ≡ magic
+selector_magic : (image c : List ℕ) (bodies : List (List ℕ)) → HoldsBodies image bodies → SameButSelector image c → take 14 (drop 2 c) ≡ magic
 selector_magic image c bodies h same = ap (λ (l : List ℕ). take 14 l) same.behind ∙ h.magic
 
 selector_area : (s : ℕ) (image c : List ℕ) → 2 ≤ s → SameButSelector image c → drop s c ≡ drop s image
 selector_area s image c le same = behind_same s 2 image c le same.behind
 
-selected_old : (image c : List ℕ) (bodies : List (List ℕ)) → Holds image bodies → SameButSelector image c → start c ≡ start image → Holds c bodies
+selected_old : (image c : List ℕ) (bodies : List (List ℕ)) → HoldsBodies image bodies → SameButSelector image c → start c ≡ start image → HoldsBodies c bodies
 selected_old image c bodies h same is =
     let w = whole_of image bodies h in
     holds_by c bodies w.gate w.tail (same.gate ∙ h.opened) (selector_magic image c bodies h same) w.closed
     (ap (λ (k : ℕ). drop k c) is ∙ selector_area (start image) image c (omega (arith, start_in image)) same ∙ w.whole) w.room h.area.some h.area.all
 
-selected_new : (image c : List ℕ) (bodies : List (List ℕ)) (other : ℕ) (body : List ℕ) → HasBeside image bodies other body → SameButSelector image c → start c ≡ other → Holds c (body ∷ [])
+selected_new : (image c : List ℕ) (bodies : List (List ℕ)) (other : ℕ) (body : List ℕ) → HasBeside image bodies other body → SameButSelector image c → start c ≡ other → HoldsBodies c (body ∷ [])
 selected_new image c bodies other body h same is =
     let front : 1 ∷ (frame_of body ++ h.tail) ≡ frames (body ∷ []) ++ 0 ∷ h.tail = alone_front body h.tail in
     holds_by c (body ∷ []) 0 h.tail (same.gate ∙ h.holds.opened) (selector_magic image c bodies h.holds same) (omega arith)
@@ -151,10 +151,10 @@ start_else c not = by_byte (get_or c 1 0) not
     by_byte n not = grind (arith, nat_tests)
 
 -- a crash in the write of the selector
-selected : (image c : List ℕ) (bodies : List (List ℕ)) (other : ℕ) (body : List ℕ) → HasBeside image bodies other body → SameButSelector image c → Holds c bodies ⊎ Holds c (body ∷ [])
+selected : (image c : List ℕ) (bodies : List (List ℕ)) (other : ℕ) (body : List ℕ) → HasBeside image bodies other body → SameButSelector image c → HoldsBodies c bodies ⊎ HoldsBodies c (body ∷ [])
 selected image c bodies other body h same = either h.apart.which (cases_eq (get_or c 1 0) 1)
   where
-    either : ((start image ≡ first_start) × (other ≡ second_start)) ⊎ ((start image ≡ second_start) × (other ≡ first_start)) → (get_or c 1 0 ≡ 1) ⊎ (get_or c 1 0 ≢ 1) → Holds c bodies ⊎ Holds c (body ∷ [])
+    either : ((start image ≡ first_start) × (other ≡ second_start)) ⊎ ((start image ≡ second_start) × (other ≡ first_start)) → (get_or c 1 0 ≡ 1) ⊎ (get_or c 1 0 ≢ 1) → HoldsBodies c bodies ⊎ HoldsBodies c (body ∷ [])
     either (inl low) (inl one) = inr (selected_new image c bodies other body h same (start_one c one ∙ sym low.1))
     either (inl low) (inr low_area) = inl (selected_old image c bodies h.holds same (start_else c low_area ∙ sym low.0))
     either (inr high) (inl one) = inl (selected_old image c bodies h.holds same (start_one c one ∙ sym high.0))
@@ -213,10 +213,10 @@ module _ (old mid new : View) (gate end other : ℕ) (is_other : other ≡ other
       let size : length frame ≡ length body + 5 = ap length is ∙ length-frame_of body in
       (size, omega (arith, size, is_body.small))
 
-  pub beside_moment : IsReady old gate end → IsBody body → frame ≡ frame_of body → LeavesOnly old mid (MayTear old other (1 + length frame)) → (bodies : List (List ℕ)) → HasBodies old bodies → LeavesOnly old mid (λ c. Holds c bodies)
+  pub beside_moment : IsReady old gate end → IsBody body → frame ≡ frame_of body → LeavesOnly old mid (MayTear old other (1 + length frame)) → (bodies : List (List ℕ)) → HasBodies old bodies → LeavesOnly old mid (λ c. HoldsBodies c bodies)
   beside_moment ready is_body is run bodies has =
       let at = ready.journal has.image has.now in
-      weaker old mid (MayTear old other (1 + length frame)) (λ c. Holds c bodies) run
+      weaker old mid (MayTear old other (1 + length frame)) (λ c. HoldsBodies c bodies) run
       (λ c torn. other_torn has.image bodies other (1 + length frame) c has.holds (apart has.image at.last) (frame_size is_body is).1 (torn_from_now old other (1 + length frame) has.image c ready.durable has.now torn))
 
   has_beside : IsReady old gate end → IsSound mid → IsBody body → frame ≡ frame_of body → LeavesOnly old mid (MayTear old other (1 + length frame)) → Laid → (bodies : List (List ℕ)) (has : HasBodies old bodies)
@@ -226,7 +226,7 @@ module _ (old mid new : View) (gate end other : ℕ) (is_other : other ≡ other
       let at = ready.journal has.image has.now in
       let now = laid has.image has.now in
       let first = beside_moment ready is_body is run bodies has in
-      let holds : Holds image bodies = first.each image (sound.counts_now old.moment image first.later (sound.now_among image now)) in
+      let holds : HoldsBodies image bodies = first.each image (sound.counts_now old.moment image first.later (sound.now_among image now)) in
       let long : 16 ≤ length has.image = omega (arith, gate_in has.image bodies has.holds, start_in has.image) in
       let same : start image ≡ start has.image = head_start has.image image (record { head = beside_front 16 other frame has.image (omega (arith, (other_in end).0, is_other)) long }) in
       let area = beside_area other frame has.image in
@@ -244,13 +244,13 @@ module _ (old mid new : View) (gate end other : ℕ) (is_other : other ≡ other
       let h = has_beside ready sound is_body is run laid bodies has in
       let image = beside other frame has.image in
       let some : 1 ≤ length image = omega (arith, gate_in image bodies h.holds) in
-      joined old mid new (IsOldOrAlone bodies body) (weaker old mid (λ c. Holds c bodies) (IsOldOrAlone bodies body) (beside_moment ready is_body is run bodies has) (λ c holds. inl holds))
+      joined old mid new (IsOldOrAlone bodies body) (weaker old mid (λ c. HoldsBodies c bodies) (IsOldOrAlone bodies body) (beside_moment ready is_body is run bodies has) (λ c holds. inl holds))
       (weaker mid new (MayTear mid 1 1) (IsOldOrAlone bodies body) second
       (λ c torn. selected image c bodies other body h (selector_torn image c some (torn_from_now mid 1 1 image c durable (laid has.image has.now) torn))))
 
   -- what a read gives in the end
   switch_image : IsReady old gate end → IsSound mid → IsBody body → frame ≡ frame_of body → LeavesOnly old mid (MayTear old other (1 + length frame)) → Laid → (bodies : List (List ℕ)) (has : HasBodies old bodies)
-      → let c = overwrite 1 (selector_of other ∷ []) (beside other frame has.image) in Holds c (body ∷ []) × (start c ≡ other)
+      → let c = overwrite 1 (selector_of other ∷ []) (beside other frame has.image) in HoldsBodies c (body ∷ []) × (start c ≡ other)
   switch_image ready sound is_body is run laid bodies has =
       let h = has_beside ready sound is_body is run laid bodies has in
       let image = beside other frame has.image in

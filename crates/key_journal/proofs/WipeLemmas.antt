@@ -7,9 +7,9 @@ use Rattle.std.proofs.lemmas.List.{take-take, get_or-take, get_or-drop, get_or_p
 use Rattle.x_disk.specs.Disk.{View, IsTornAt, IsDurable, IsWritten, IsStill, Elapses, LeavesOnly, IsSound, overwrite, disk_size}
 use Rattle.x_disk.proofs.Runs.{began, stays, weaker, joined, goes_on}
 use Rattle.key_journal.specs.Layout.{area_size, first_start, second_start}
-use Rattle.key_journal.specs.Journal.{frames, start, Holds, gate_place}
+use Rattle.key_journal.specs.Journal.{frames, start, HoldsBodies, gate_place}
 use Rattle.key_journal.specs.States.{HasBodies, IsAt, IsReady, MayTear, other_start}
-use Rattle.key_journal.specs.Wiping.{Counts, KeepsCounting, IsWiped, Wipes, LeavesCounting, HasZeros}
+use Rattle.key_journal.specs.Wiping.{PlaceCounts, KeepsCounting, IsWiped, Wipes, LeavesCounting, HasZeros}
 use Rattle.key_journal.proofs.ImageLemmas.{same_front, holds_of, whole_of, gate_in, start_in, fits_area}
 use Rattle.key_journal.proofs.StepLemmas.{told_before, torn_from_now, ready_place}
 use Rattle.key_journal.proofs.SwitchLemmas.{Apart, apart_by, take_swap, behind_same, overwrite_front, overwrite_back, overwrite_long}
@@ -50,10 +50,10 @@ pub record IsIdle (image : List ℕ) (bodies : List (List ℕ)) (at n : ℕ) : T
   pub within : at + n ≤ length image
   pub apart : (gate_place image bodies + 1 ≤ at) ⊎ ((first_start ≤ at) × (at + n ≤ start image))
 
-idle_holds : (image : List ℕ) (bodies : List (List ℕ)) (at n : ℕ) (c : List ℕ) → Holds image bodies → IsIdle image bodies at n → IsTornAt at n image c → Holds c bodies
+idle_holds : (image : List ℕ) (bodies : List (List ℕ)) (at n : ℕ) (c : List ℕ) → HoldsBodies image bodies → IsIdle image bodies at n → IsTornAt at n image c → HoldsBodies c bodies
 idle_holds image bodies at n c h idle torn = either idle.apart
   where
-    either : (gate_place image bodies + 1 ≤ at) ⊎ ((first_start ≤ at) × (at + n ≤ start image)) → Holds c bodies
+    either : (gate_place image bodies + 1 ≤ at) ⊎ ((first_start ≤ at) × (at + n ≤ start image)) → HoldsBodies c bodies
     either (inl low) =
         let g = gate_place image bodies + 1 in
         same_front image c bodies h
@@ -67,7 +67,7 @@ idle_holds image bodies at n c h idle torn = either idle.apart
         sym (take-take 16 (length image) c long) ∙ sym (take-take 16 at (take (length image) c) high.0) ∙ ap (λ (l : List ℕ). take 16 l) torn.before ∙ take-take 16 at image high.0 in
         holds_of image c bodies bodies w.gate w.tail h (record { head = head }) w.closed (back ∙ w.whole) w.room h.area.some h.area.all
 
-pub idle_keeps : (image : List ℕ) (bodies : List (List ℕ)) (at n : ℕ) (c : List ℕ) → Holds image bodies → IsIdle image bodies at n → IsTornAt at n image c → KeepsCounting image bodies c
+pub idle_keeps : (image : List ℕ) (bodies : List (List ℕ)) (at n : ℕ) (c : List ℕ) → HoldsBodies image bodies → IsIdle image bodies at n → IsTornAt at n image c → KeepsCounting image bodies c
 idle_keeps image bodies at n c h idle torn = record {
   holds = idle_holds image bodies at n c h idle torn;
   long = torn_long at n image c torn idle.within;
@@ -80,7 +80,7 @@ idle_keeps image bodies at n c h idle torn = record {
     low : (16 ≤ start image) × (start image ≤ second_start)
     low = start_in image
 
-    both : (gate_place image bodies + 1 ≤ at) ⊎ ((first_start ≤ at) × (at + n ≤ start image)) → (place : ℕ) → Counts image bodies place → get_or c place 0 ≡ get_or image place 0
+    both : (gate_place image bodies + 1 ≤ at) ⊎ ((first_start ≤ at) × (at + n ≤ start image)) → (place : ℕ) → PlaceCounts image bodies place → get_or c place 0 ≡ get_or image place 0
     both (inl before) place (inl head) = torn_before at n place image c torn (omega (arith, before, head, low)) (omega (arith, within, head, low))
     both (inl before) place (inr area) = torn_before at n place image c torn (omega (arith, before, area.1)) (omega (arith, within, area.1))
     both (inr behind) place (inl head) = torn_before at n place image c torn (omega (arith, behind.0, head)) (omega (arith, within, head, low))
@@ -96,7 +96,7 @@ keeps_both image d c bodies first second = record {
   same = λ place counts. second.same place (counts_too place counts) ∙ first.same place counts;
 }
   where
-    counts_too : (place : ℕ) → Counts image bodies place → Counts d bodies place
+    counts_too : (place : ℕ) → PlaceCounts image bodies place → PlaceCounts d bodies place
     counts_too place (inl head) = inl head
     counts_too place (inr area) = inr (omega (arith, area.0, same_start image d bodies first), omega (arith, area.1, same_start image d bodies first))
 
@@ -162,7 +162,7 @@ pub record Ranges (size gate end : ℕ) (other from to first last : ℕ) : Type 
   pub last_is : last ≡ min size end
 
 module _ (image : List ℕ) (bodies : List (List ℕ)) (gate end size other from to first last : ℕ) (ranges : Ranges size gate end other from to first last)
-    (h : Holds image bodies) (place : gate ≡ gate_place image bodies) (area_end : end ≡ start image + area_size) (long : size ≡ length image) where
+    (h : HoldsBodies image bodies) (place : gate ≡ gate_place image bodies) (area_end : end ≡ start image + area_size) (long : size ≡ length image) where
   abbrev Lower : Type 0
   Lower = (start image ≡ first_start) × (other ≡ second_start)
 
@@ -212,7 +212,7 @@ module _ (image : List ℕ) (bodies : List (List ℕ)) (gate end size other from
             ∙ beside.zero p (omega (arith, lower.0, lower.1, area_end, low, ranges.from_is)) (omega (arith, lower.1, within, in_disk, ranges.to_is))
         either (inr upper) = absurd (omega (arith, upper.0, area_end, low, in_disk))
 
-    zero : (p : ℕ) → p < disk_size → (Counts image bodies p → ⊥) → get_or c p 0 ≡ 0
+    zero : (p : ℕ) → p < disk_size → (PlaceCounts image bodies p → ⊥) → get_or c p 0 ≡ 0
     zero p in_disk idle = elim (cases_lt p size) [
       | inr high ↦ past p high
       | inl within ↦ elim (cases_lt gate p) [
@@ -233,7 +233,7 @@ module _ (image : List ℕ) (bodies : List (List ℕ)) (gate end size other from
     pub is_wiped : IsWiped image bodies c
     is_wiped = record { keeps = keeps_both image d c bodies keeps keeps_too; zero = zero }
 
-keeps_self : (image : List ℕ) (bodies : List (List ℕ)) → Holds image bodies → KeepsCounting image bodies image
+keeps_self : (image : List ℕ) (bodies : List (List ℕ)) → HoldsBodies image bodies → KeepsCounting image bodies image
 keeps_self image bodies h = record { holds = h; long = refl; same = λ place counts. refl }
 
 -- ---- a disk's view: the length is told, the other area is overwritten, and then what lies behind the last gate
@@ -267,7 +267,7 @@ module _ (old v : View) (gate end : ℕ) (ready : IsReady old gate end) (sound :
       pub keeps : KeepsCounting image bodies d
       pub idle : IsIdle d bodies first (last - first)
 
-    between : (image : List ℕ) (bodies : List (List ℕ)) → old.now ≡ Some image → Holds image bodies → Between image bodies
+    between : (image : List ℕ) (bodies : List (List ℕ)) → old.now ≡ Some image → HoldsBodies image bodies → Between image bodies
     between image bodies now holds =
         let at = ready_place old v gate end ready bodies image now holds in
         let d = told_before mid.now v.now image (sym tells) (still.now ∙ now) in

@@ -50,7 +50,7 @@ pub record IsArea (bodies : List (List ℕ)) (area : List ℕ) : Type 0 where
   pub whole : area ≡ frames bodies ++ gate ∷ rest
 
 -- the image stands for these bodies
-pub record Holds (image : List ℕ) (bodies : List (List ℕ)) : Type 0 where
+pub record HoldsBodies (image : List ℕ) (bodies : List (List ℕ)) : Type 0 where
   pub opened : take 1 image ≡ 1 ∷ []
   pub magic : take 14 (drop 2 image) ≡ magic
   pub area : IsArea bodies (area_of image)
@@ -61,7 +61,7 @@ gate_place image bodies = start image + length (frames bodies)
 
 -- a frame with this body lies behind the closed gate
 pub record Stages (image : List ℕ) (bodies : List (List ℕ)) (body : List ℕ) : Type 0 where
-  pub holds : Holds image bodies
+  pub holds : HoldsBodies image bodies
   pub is_body : IsBody body
   pub behind : take (length body + 5) (drop (gate_place image bodies + 1) image) ≡ frame_of body
   pub fits : length (frames bodies) + 6 + length body ≤ area_size

@@ -3,7 +3,7 @@ use Rattle.std.specs.Prelude.{◌≡◌, ◌⊎◌, ℕ, ◌+◌, ◌*◌, ◌<�
 use Rattle.key_journal.specs.Layout.{area_size, largest_body}
 use Rattle.x_base.specs.Edge.{Rose}
 use Rattle.x_disk.specs.Disk.{View, IsStill, IsDurable, disk_size}
-use Rattle.key_journal.specs.Journal.{is_blank, has_magic, start, Holds, Begins}
+use Rattle.key_journal.specs.Journal.{is_blank, has_magic, start, HoldsBodies, Begins}
 use Rattle.x_disk.specs.declared.disk.DiskErr.{DiskErr}
 use Rattle.key_journal.specs.States.{HasFaults}
 use Rattle.key_journal.specs.declared.cause.Cause.{Cause}
@@ -49,7 +49,7 @@ AreBytes image = (place : ℕ) → slice_index image place < 256
 
 -- what an image stands for: nothing yet, a list of bodies, or nothing since it is damaged
 abbrev pub IsJudged : List ℕ → Type 0
-IsJudged image = (is_blank image ≡ true) ⊎ (((bodies : List (List ℕ)) × Holds image bodies) ⊎ ((place : ℕ) × IsDamagedAt image place))
+IsJudged image = (is_blank image ≡ true) ⊎ (((bodies : List (List ℕ)) × HoldsBodies image bodies) ⊎ ((place : ℕ) × IsDamagedAt image place))
 
 -- causes that no image gives
 abbrev pub IsFree : Cause → Type 0
@@ -65,7 +65,7 @@ pub record IsHeaderOf (size : ℕ) (bytes image : List ℕ) : Type 0 where
   pub front : take (min size 16) bytes ≡ take 16 image
 
 -- a disk on which opening was refused
-pub record IsRefused (old new : View) (reason : Cause) : Type 0 where
+pub record IsRefusedOpening (old new : View) (reason : Cause) : Type 0 where
   pub now : new.now ≡ old.now
   pub fault : reason ≡ cause.Fault → Rose old.faults new.faults
   pub names : IsFree reason ⊎ ((reason ≡ cause.Blank) ⊎ (reason ≡ cause.Damaged 2))

@@ -3,7 +3,7 @@ use Rattle.std.specs.Prelude.{◌≡◌, ◌⊎◌, ℕ, ◌+◌, ◌<◌, ◌�
 use Rattle.x_base.specs.Edge.{Rose}
 use Rattle.x_disk.specs.Disk.{View, IsStill, IsDurable, Tells, LeavesOnly, LeavesNoMore}
 use Rattle.key_journal.specs.Journal.{is_blank, IsBody}
-use Rattle.key_journal.specs.Opening.{IsOpened, IsRefused, IsFound, IsFree, IsDamagedAt, found_at}
+use Rattle.key_journal.specs.Opening.{IsOpened, IsRefusedOpening, IsFound, IsFree, IsDamagedAt, found_at}
 use Rattle.key_journal.specs.Results.{empty_disk, opened_disk}
 use Rattle.key_journal.specs.States.{Empty, Reading, HasBodies, HasRead, AreFirst, WritesOnlyToBlank}
 use Rattle.key_journal.specs.declared.cause.Cause.{Cause}
@@ -29,7 +29,7 @@ pub record IsPrepared {D : Type 0} (told : D → View) (old : D) (result : Resul
 -- a disk is synced, and the header of its image read
 pub record IsOpening {D : Type 0} (told : D → View) (old : D) (result : Result (Reading D) (Unmade D)) : Type 0 where
   pub opened : IfOk result (λ o. IsOpened (told old) (told o.disk) o.gate o.end o.ended)
-  pub refused : IfErr result (λ u. IsRefused (told old) (told u.disk) u.cause)
+  pub refused : IfErr result (λ u. IsRefusedOpening (told old) (told u.disk) u.cause)
   -- an image that stands is opened
   pub undamaged : (bodies : List (List ℕ)) → HasBodies (told old) bodies → IfErr result (λ u. IsFree u.cause)
   -- a damage that is told is there

@@ -5,7 +5,7 @@ use Rattle.x_base.specs.Edge.{Rose}
 use Rattle.x_disk.specs.Disk.{View, IsTornAt, IsDurable, IsUntouched, disk_size}
 use Rattle.x_disk.specs.declared.disk.DiskErr.{DiskErr}
 use Rattle.x_disk.specs.declared.disk.DiskErr.TheVariants.{Fault}
-use Rattle.key_journal.specs.Journal.{frame_of, frames, start, is_blank, Holds, gate_place, IsBody, Stages, Begins}
+use Rattle.key_journal.specs.Journal.{frame_of, frames, start, is_blank, HoldsBodies, gate_place, IsBody, Stages, Begins}
 
 -- a disk whose image is blank
 pub record Empty (D : Type 0) : Type 0 where
@@ -54,7 +54,7 @@ MayTear v at n image = (c : List ℕ) × v.may_leave c × IsTornAt at n c image
 pub record HasBodies (v : View) (bodies : List (List ℕ)) : Type 0 where
   pub image : List ℕ
   pub now : v.now ≡ Some image
-  pub holds : Holds image bodies
+  pub holds : HoldsBodies image bodies
 
 -- the same, and a frame with this body lies behind the closed gate
 pub record HasStaged (v : View) (bodies : List (List ℕ)) (body : List ℕ) : Type 0 where
@@ -104,7 +104,7 @@ pub record IsEmpty (v : View) : Type 0 where
 -- the image stands for some bodies, and its closed gate is at this place
 pub record IsAt (image : List ℕ) (gate end : ℕ) : Type 0 where
   pub bodies : List (List ℕ)
-  pub holds : Holds image bodies
+  pub holds : HoldsBodies image bodies
   pub place : gate ≡ gate_place image bodies
   pub last : end ≡ start image + area_size
 
@@ -133,16 +133,16 @@ pub record IsStaged (v : View) (gate next end : ℕ) : Type 0 where
   pub journal : (image : List ℕ) → v.now ≡ Some image → IsAtWith image gate next end
 
 -- one of the two
-abbrev pub IsOldOrNew : List (List ℕ) → List ℕ → List ℕ → Type 0
-IsOldOrNew bodies body image = Holds image bodies ⊎ Holds image (bodies ++ body ∷ [])
+abbrev pub HoldsOldOrNew : List (List ℕ) → List ℕ → List ℕ → Type 0
+HoldsOldOrNew bodies body image = HoldsBodies image bodies ⊎ HoldsBodies image (bodies ++ body ∷ [])
 
 -- nothing yet, or the first body
 abbrev pub IsBlankOrFirst : List ℕ → List ℕ → Type 0
-IsBlankOrFirst body image = (is_blank image ≡ true) ⊎ Holds image (body ∷ [])
+IsBlankOrFirst body image = (is_blank image ≡ true) ⊎ HoldsBodies image (body ∷ [])
 
 -- the old bodies, or the new one alone
 abbrev pub IsOldOrAlone : List (List ℕ) → List ℕ → List ℕ → Type 0
-IsOldOrAlone bodies body image = Holds image bodies ⊎ Holds image (body ∷ [])
+IsOldOrAlone bodies body image = HoldsBodies image bodies ⊎ HoldsBodies image (body ∷ [])
 
 -- where the other area begins, by the end of the selected one
 abbrev pub other_start : ℕ → ℕ

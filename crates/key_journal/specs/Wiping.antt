@@ -3,32 +3,32 @@ use Rattle.std.specs.Prelude.{◌≡◌, ◌⊎◌, ℕ, ◌+◌, ◌-◌, ◌<�
 use Rattle.x_disk.specs.Disk.{View, IsDurable, LeavesOnly, disk_size}
 use Rattle.x_disk.specs.declared.disk.DiskErr.{DiskErr}
 use Rattle.key_journal.specs.Layout.{first_start}
-use Rattle.key_journal.specs.Journal.{Holds, start, gate_place}
+use Rattle.key_journal.specs.Journal.{HoldsBodies, start, gate_place}
 use Rattle.key_journal.specs.Results.{ready_disk}
 use Rattle.key_journal.specs.States.{Site, Failed, HasRoom, HasFaults, FaultsRose, MayTear}
 
 -- the byte at this place counts: it lies before the areas, or in the selected one, up to and with its last gate
-abbrev pub Counts : List ℕ → List (List ℕ) → ℕ → Type 0
-Counts image bodies place = (place < first_start) ⊎ ((start image ≤ place) × (place ≤ gate_place image bodies))
+abbrev pub PlaceCounts : List ℕ → List (List ℕ) → ℕ → Type 0
+PlaceCounts image bodies place = (place < first_start) ⊎ ((start image ≤ place) × (place ≤ gate_place image bodies))
 
 -- the image stands for the same bodies, its bytes that count are as they were, and so is its length
 pub record KeepsCounting (image : List ℕ) (bodies : List (List ℕ)) (c : List ℕ) : Type 0 where
-  pub holds : Holds c bodies
+  pub holds : HoldsBodies c bodies
   pub long : length c ≡ length image
-  pub same : (place : ℕ) → Counts image bodies place → slice_index c place ≡ slice_index image place
+  pub same : (place : ℕ) → PlaceCounts image bodies place → slice_index c place ≡ slice_index image place
 
 -- the same, and each byte that doesn't count is zero, as far as a disk takes bytes
 pub record IsWiped (image : List ℕ) (bodies : List (List ℕ)) (c : List ℕ) : Type 0 where
   pub keeps : KeepsCounting image bodies c
-  pub zero : (place : ℕ) → place < disk_size → (Counts image bodies place → ⊥) → slice_index c place ≡ 0
+  pub zero : (place : ℕ) → place < disk_size → (PlaceCounts image bodies place → ⊥) → slice_index c place ≡ 0
 
 -- what a read gives is wiped
 abbrev pub Wipes : View → View → Type 0
-Wipes old new = (image : List ℕ) (bodies : List (List ℕ)) → old.now ≡ Some image → Holds image bodies → (c : List ℕ) × (new.now ≡ Some c) × IsWiped image bodies c
+Wipes old new = (image : List ℕ) (bodies : List (List ℕ)) → old.now ≡ Some image → HoldsBodies image bodies → (c : List ℕ) × (new.now ≡ Some c) × IsWiped image bodies c
 
 -- a crash at any moment leaves the bytes that count
 abbrev pub LeavesCounting : View → View → Type 0
-LeavesCounting old new = (image : List ℕ) (bodies : List (List ℕ)) → old.now ≡ Some image → Holds image bodies → LeavesOnly old new (KeepsCounting image bodies)
+LeavesCounting old new = (image : List ℕ) (bodies : List (List ℕ)) → old.now ≡ Some image → HoldsBodies image bodies → LeavesOnly old new (KeepsCounting image bodies)
 
 -- from one place up to another all bytes are zero, and the list is no shorter than the other
 pub record HasZeros (from to : ℕ) (b c : List ℕ) : Type 0 where

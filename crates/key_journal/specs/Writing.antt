@@ -4,9 +4,9 @@ use Rattle.x_disk.specs.Disk.{View, IsDurable, IsWritten, Tells, LeavesOnly, one
 use Rattle.x_disk.specs.declared.disk.DiskErr.{DiskErr}
 use Rattle.x_disk.specs.declared.disk.DiskErr.TheVariants.{Fault, NoMemory}
 use Rattle.key_journal.specs.Layout.{area_size, first_start, second_start}
-use Rattle.key_journal.specs.Journal.{frame_of, Holds, IsBody}
+use Rattle.key_journal.specs.Journal.{frame_of, HoldsBodies, IsBody}
 use Rattle.key_journal.specs.Results.{staged_disk, ready_disk}
-use Rattle.key_journal.specs.States.{Empty, Site, Pending, Failed, HasBodies, HasStaged, HasRoom, HasFaults, FaultsRose, MayTear, IsOldOrNew, IsOldOrAlone, IsBlankOrFirst, other_start}
+use Rattle.key_journal.specs.States.{Empty, Site, Pending, Failed, HasBodies, HasStaged, HasRoom, HasFaults, FaultsRose, MayTear, HoldsOldOrNew, IsOldOrAlone, IsBlankOrFirst, other_start}
 
 -- these bytes are written and synced
 pub record IsPut (at : ℕ) (bytes : List ℕ) (old new : View) (result : Result Unit DiskErr) : Type 0 where
@@ -19,13 +19,13 @@ pub record IsPut (at : ℕ) (bytes : List ℕ) (old new : View) (result : Result
   pub stable : OnErr result (new.stable ≡ old.stable)
   pub cause : HasFaults old new result
   -- two calls are made
-  pub passes : OnOk result (new.passes ≡ one_less (one_less old.passes))
+  pub calls_left : OnOk result (new.calls_left ≡ one_less (one_less old.calls_left))
   -- one or two are, where it fails
-  pub left : OnErr result ((new.passes ≡ one_less old.passes) ⊎ (new.passes ≡ one_less (one_less old.passes)))
+  pub left : OnErr result ((new.calls_left ≡ one_less old.calls_left) ⊎ (new.calls_left ≡ one_less (one_less old.calls_left)))
   -- it fails where one call passes at most
-  pub blows : (old.passes ≡ Some 0) ⊎ (old.passes ≡ Some 1) → IsErr result
+  pub blows : (old.calls_left ≡ Some 0) ⊎ (old.calls_left ≡ Some 1) → IsErr result
   -- where the sync was the call that failed, a read gives what was written
-  pub pending : old.passes ≡ Some 1 → IsErrOf result Fault → new.passes ≡ None
+  pub pending : old.calls_left ≡ Some 1 → IsErrOf result Fault → new.calls_left ≡ None
       → IsWritten at bytes old new
   -- no memory is wanting that is reserved
   pub covered : (end n calls : ℕ) → old.covers end n (suc (suc calls)) → at + length bytes ≤ end → length bytes ≤ n
@@ -43,9 +43,9 @@ pub record IsLaidAlone (start : ℕ) (frame : List ℕ) (old new : View) (result
   pub tells : is_some new.now ≡ is_some old.now
   pub cause : HasFaults old new result
   -- three calls are made
-  pub passes : OnOk result (new.passes ≡ one_less (one_less (one_less old.passes)))
+  pub calls_left : OnOk result (new.calls_left ≡ one_less (one_less (one_less old.calls_left)))
   -- it fails where two calls pass at most
-  pub blows : (k : ℕ) → old.passes ≡ Some k → k < 3 → IsErr result
+  pub blows : (k : ℕ) → old.calls_left ≡ Some k → k < 3 → IsErr result
   -- no memory is wanting that is reserved
   pub covered : (end n calls : ℕ) → old.covers end n (suc (suc (suc calls))) → start + 1 + length frame ≤ end → 1 + length frame ≤ n
       → IsErrOf result NoMemory → ⊥
@@ -63,7 +63,7 @@ pub record IsStaging {D : Type 0} (told : D → View) (old : Site D) (frame : Li
   pub durable : IfOk result (λ s. IsDurable (told s.disk))
   -- a crash at any moment leaves the bodies that were there
   pub any_moment : (bodies : List (List ℕ)) → HasBodies (told old.disk) bodies
-      → LeavesOnly (told old.disk) (told (staged_disk result)) (λ c. Holds c bodies)
+      → LeavesOnly (told old.disk) (told (staged_disk result)) (λ c. HoldsBodies c bodies)
   -- where the gates are
   pub place : IfOk result (λ s. (s.gate ≡ old.gate) × (s.next ≡ old.gate + length frame) × (s.end ≡ old.end))
   -- the image at the last sync stays where it fails
@@ -72,11 +72,11 @@ pub record IsStaging {D : Type 0} (told : D → View) (old : Site D) (frame : Li
   pub faults : (told old.disk).faults ≤ (told (staged_disk result)).faults
   pub tells : is_some (told (staged_disk result)).now ≡ is_some (told old.disk).now
   -- two calls are made
-  pub passes : IfOk result (λ s. (told s.disk).passes ≡ one_less (one_less (told old.disk).passes))
+  pub calls_left : IfOk result (λ s. (told s.disk).calls_left ≡ one_less (one_less (told old.disk).calls_left))
   -- one or two are, where it fails
-  pub left : IfErr result (λ b. ((told b.disk).passes ≡ one_less (told old.disk).passes) ⊎ ((told b.disk).passes ≡ one_less (one_less (told old.disk).passes)))
+  pub left : IfErr result (λ b. ((told b.disk).calls_left ≡ one_less (told old.disk).calls_left) ⊎ ((told b.disk).calls_left ≡ one_less (one_less (told old.disk).calls_left)))
   -- it fails where one call passes at most
-  pub blows : ((told old.disk).passes ≡ Some 0) ⊎ ((told old.disk).passes ≡ Some 1) → IsErr result
+  pub blows : ((told old.disk).calls_left ≡ Some 0) ⊎ ((told old.disk).calls_left ≡ Some 1) → IsErr result
   -- no memory is wanting that is reserved
   pub covered : IfErr result (λ b. (end n calls : ℕ) → (told old.disk).covers end n (suc (suc calls)) → old.gate + 1 + length frame ≤ end → length frame ≤ n → b.cause ≡ NoMemory → ⊥)
   -- what is reserved goes on
@@ -98,16 +98,16 @@ pub record IsSwitch {D : Type 0} (told : D → View) (old : Site D) (frame : Lis
   pub faults : (told old.disk).faults ≤ (told (ready_disk result)).faults
   pub tells : is_some (told (ready_disk result)).now ≡ is_some (told old.disk).now
   -- five calls are made
-  pub passes : IfOk result (λ s. (told s.disk).passes ≡ one_less (one_less (one_less (one_less (one_less (told old.disk).passes)))))
+  pub calls_left : IfOk result (λ s. (told s.disk).calls_left ≡ one_less (one_less (one_less (one_less (one_less (told old.disk).calls_left)))))
   -- it fails where four calls pass at most
-  pub blows : (k : ℕ) → (told old.disk).passes ≡ Some k → k < 5 → IsErr result
+  pub blows : (k : ℕ) → (told old.disk).calls_left ≡ Some k → k < 5 → IsErr result
   -- no memory is wanting that is reserved
   pub covered : IfErr result (λ b. (end n calls : ℕ) → (told old.disk).covers end n (suc (suc (suc (suc (suc calls))))) → other_start old.end + 1 + length frame ≤ end → 2 + length frame ≤ n → b.cause ≡ NoMemory → ⊥)
   -- what is reserved goes on
   pub covered_then : IfOk result (λ s. (end n calls : ℕ) → (told old.disk).covers end n (suc (suc (suc (suc (suc calls))))) → other_start old.end + 1 + length frame ≤ end → 2 + length frame ≤ n
       → (told s.disk).covers end (n - 1 - length frame - 1) calls)
   -- where it fails, the image at the last sync stands for the bodies that were there
-  pub stable : IfErr result (λ b. (bodies : List (List ℕ)) → HasBodies (told old.disk) bodies → (image : List ℕ) → (told b.disk).stable ≡ Some image → Holds image bodies)
+  pub stable : IfErr result (λ b. (bodies : List (List ℕ)) → HasBodies (told old.disk) bodies → (image : List ℕ) → (told b.disk).stable ≡ Some image → HoldsBodies image bodies)
 
 -- the gate before a staged frame is opened
 pub record IsCommit {D : Type 0} (told : D → View) (old : Pending D) (result : Result (Site D) (Failed D)) : Type 0 where
@@ -117,7 +117,7 @@ pub record IsCommit {D : Type 0} (told : D → View) (old : Pending D) (result :
   pub durable : IfOk result (λ s. IsDurable (told s.disk))
   -- a crash at any moment leaves the bodies that were there, with the new one or without
   pub any_moment : (bodies : List (List ℕ)) (body : List ℕ) → HasStaged (told old.disk) bodies body
-      → LeavesOnly (told old.disk) (told (ready_disk result)) (IsOldOrNew bodies body)
+      → LeavesOnly (told old.disk) (told (ready_disk result)) (HoldsOldOrNew bodies body)
   -- where the gate and the end of the area are
   pub place : IfOk result (λ s. (s.gate ≡ old.next) × (s.end ≡ old.end))
   -- the image at the last sync stays where it fails
@@ -126,12 +126,12 @@ pub record IsCommit {D : Type 0} (told : D → View) (old : Pending D) (result :
   pub faults : (told old.disk).faults ≤ (told (ready_disk result)).faults
   pub tells : is_some (told (ready_disk result)).now ≡ is_some (told old.disk).now
   -- two calls are made
-  pub passes : IfOk result (λ s. (told s.disk).passes ≡ one_less (one_less (told old.disk).passes))
+  pub calls_left : IfOk result (λ s. (told s.disk).calls_left ≡ one_less (one_less (told old.disk).calls_left))
   -- it fails where one call passes at most
-  pub blows : ((told old.disk).passes ≡ Some 0) ⊎ ((told old.disk).passes ≡ Some 1) → IsErr result
+  pub blows : ((told old.disk).calls_left ≡ Some 0) ⊎ ((told old.disk).calls_left ≡ Some 1) → IsErr result
   -- where the sync was the call that failed, a read gives the bodies with the new one
   pub pending : IfErr result (λ b. (bodies : List (List ℕ)) (body : List ℕ) → HasStaged (told old.disk) bodies body
-      → (told old.disk).passes ≡ Some 1 → b.cause ≡ Fault → (told b.disk).passes ≡ None → HasBodies (told b.disk) (bodies ++ body ∷ []))
+      → (told old.disk).calls_left ≡ Some 1 → b.cause ≡ Fault → (told b.disk).calls_left ≡ None → HasBodies (told b.disk) (bodies ++ body ∷ []))
   -- no memory is wanting that is reserved
   pub covered : IfErr result (λ b. (end n calls : ℕ) → (told old.disk).covers end n (suc (suc calls)) → old.gate + 1 ≤ end → 1 ≤ n → b.cause ≡ NoMemory → ⊥)
   -- what is reserved goes on

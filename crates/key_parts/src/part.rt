@@ -4,7 +4,7 @@ ghost use Rattle.key_parts.specs.Parts.{generator_of, joined_with, part_of};
 
 use x_line::one_or_two;
 use x_mac::Pair;
-use x_values::{key, pair};
+use x_values::{read_key, read_pair};
 
 /// What each line of an input spells.
 #[derive(Clone, Copy, Debug, PartialEq, Eq)]
@@ -46,8 +46,8 @@ fn generator(line: &[u8]) -> Option<Part>
     let (front, _) = line.split_at(32);
     let (_, behind) = line.split_at(33);
     Some(Part {
-        pair: pair(front)?,
-        seed: key(behind)?,
+        pair: read_pair(front)?,
+        seed: read_key(behind)?,
     })
 }
 

@@ -67,7 +67,7 @@ module _ {D : Type 0} (told : D → View) (old : Stored D) (edits : List Edit) (
           tells = staging.tells;
           calls = tt;
           stable = stable_staged (told old.disk) (told b.disk) old.gate old.end old.format old.party store staging.stable;
-          pending = λ three fault none image now. absurd (still_told (told old.disk).passes (told b.disk).passes three staging.left none);
+          pending = λ three fault none image now. absurd (still_told (told old.disk).calls_left (told b.disk).calls_left three staging.left none);
           covered = λ end n calls covers le small. staging.covered end n (suc (suc calls)) covers (omega (arith, size, le)) (omega (arith, size, small));
         }
 
@@ -83,7 +83,7 @@ module _ {D : Type 0} (told : D → View) (old : Stored D) (edits : List Edit) (
             stands = tt;
             unchanged = λ none. absurd (framed.some none);
             any_moment = λ tells. after_commit (told old.disk) (told s.disk) old.gate old.end old.format old.party store staging.any_moment (told b.disk) edits change text framed.is staging.staged commit.any_moment tells;
-            early = λ calls is few tells. absurd (never_err (staging.blows (few_calls (told old.disk).passes calls is few)));
+            early = λ calls is few tells. absurd (never_err (staging.blows (few_calls (told old.disk).calls_left calls is few)));
             cause = faults_later (told old.disk) (told s.disk) (told b.disk) b.cause staging.faults commit.cause;
             faults = omega (arith, staging.faults, commit.faults);
             tells = commit.tells ∙ staging.tells;
@@ -91,7 +91,7 @@ module _ {D : Type 0} (told : D → View) (old : Stored D) (edits : List Edit) (
             stable = stable_commit (told old.disk) (told s.disk) (told b.disk) old.gate old.end old.format old.party edits store change text framed.is staging.staged staging.tells staging.durable commit.stable;
             pending = λ three fault none image now.
                 now_new (told old.disk) (told s.disk) (told b.disk) old.gate old.end old.format old.party edits store change text framed.is staging.staged staging.tells commit.tells
-                (λ bodies body has. commit.pending bodies body has (one_left (told old.disk).passes (told s.disk).passes three staging.passes) fault none) image now;
+                (λ bodies body has. commit.pending bodies body has (one_left (told old.disk).calls_left (told s.disk).calls_left three staging.calls_left) fault none) image now;
             covered = λ end n calls covers le small.
                 commit.covered end (n - length text) calls (staging.covered_then end n (suc (suc calls)) covers (omega (arith, size, le)) (omega (arith, size, small)))
                 (omega (arith, staging.place.0, size, le)) (omega (arith, size, small));
@@ -116,14 +116,14 @@ module _ {D : Type 0} (told : D → View) (old : Stored D) (edits : List Edit) (
               stands = new_stands;
               unchanged = λ none. absurd (framed.some none);
               any_moment = λ tells. after_commit (told old.disk) (told s.disk) old.gate old.end old.format old.party store staging.any_moment (told r.disk) edits change text framed.is staging.staged commit.any_moment tells;
-              early = λ calls is few tells. absurd (never_err (staging.blows (few_calls (told old.disk).passes calls is few)));
+              early = λ calls is few tells. absurd (never_err (staging.blows (few_calls (told old.disk).calls_left calls is few)));
               cause = tt;
               faults = omega (arith, staging.faults, commit.faults);
               tells = commit.tells ∙ staging.tells;
               calls = λ some. record {
-                passes = commit.passes ∙ ap (λ p. one_less (one_less p)) staging.passes;
+                calls_left = commit.calls_left ∙ ap (λ p. one_less (one_less p)) staging.calls_left;
                 enough = λ calls is.
-                    four_pass calls (never_done (told old.disk).passes (told s.disk).passes (λ low. never_err (staging.blows low)) staging.passes (λ low. never_err (commit.blows low)) calls is);
+                    four_pass calls (never_done (told old.disk).calls_left (told s.disk).calls_left (λ low. never_err (staging.blows low)) staging.calls_left (λ low. never_err (commit.blows low)) calls is);
               };
               stable = tt;
               pending = tt;

@@ -36,7 +36,7 @@ module _ {D : Type 0} (told : D → View) (old : Stored D) (store : IsStore (tol
     cause = tt;
     faults = switch.faults;
     tells = switch.tells;
-    calls = record { passes = switch.passes; enough = λ calls passes. five_pass calls (λ few. never_err (switch.blows calls passes few)) };
+    calls = record { calls_left = switch.calls_left; enough = λ calls calls_left. five_pass calls (λ few. never_err (switch.blows calls calls_left few)) };
     covered = tt;
   }
 

@@ -4,7 +4,7 @@ use Rattle.std.proofs.Math.Nat.{le_refl}
 use Rattle.x_disk.specs.Disk.{View, Tells, LeavesOnly, IsSound}
 use Rattle.x_disk.proofs.Runs.{weaker}
 use Rattle.key_journal.specs.Layout.{area_size}
-use Rattle.key_journal.specs.Journal.{Holds, IsBody, frame_of, frames, four_bytes}
+use Rattle.key_journal.specs.Journal.{HoldsBodies, IsBody, frame_of, frames, four_bytes}
 use Rattle.key_journal.specs.States.{HasBodies, Site, Failed, FaultsRose, room_of, other_start}
 use Rattle.key_journal.specs.Writing.{IsSwitch}
 use Rattle.key_store.specs.declared.store.Kept.TheVariants as kept
@@ -62,7 +62,7 @@ module _ (v0 : View) (gate end : ℕ) (old format : Format) (party other : Party
       (λ c either. one_of h.bodies c alone h.fold h.left either)
 
   -- where it failed, the image at the last sync
-  pub switched_stable : (v1 : View) → ((bodies : List (List ℕ)) → HasBodies v0 bodies → (image : List ℕ) → v1.stable ≡ Some image → Holds image bodies)
+  pub switched_stable : (v1 : View) → ((bodies : List (List ℕ)) → HasBodies v0 bodies → (image : List ℕ) → v1.stable ≡ Some image → HoldsBodies image bodies)
       → Tells v0 → (image : List ℕ) → v1.stable ≡ Some image → StandsWith image party (space_between gate end old)
   switched_stable v1 holds tells image stable =
       let h = here v0 gate end old party store tells in
@@ -150,7 +150,7 @@ module _ {D : Type 0} (told : D → View) (format : Format) (old : Stored D) (so
           covered = λ b is. absurd (cc is);
           calls = λ t is.
               subst (λ (x : Stored D). Makes 5 (told old.disk) (told x.disk)) (done_same new t is)
-              (record { passes = switch.passes; enough = λ calls passes. five_pass calls (λ few. never_err (switch.blows calls passes few)) });
+              (record { calls_left = switch.calls_left; enough = λ calls calls_left. five_pass calls (λ few. never_err (switch.blows calls calls_left few)) });
           stable = λ b is. absurd (cc is);
         }
 

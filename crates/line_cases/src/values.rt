@@ -3,7 +3,8 @@ use case_table::{Call, Table};
 use std::alloc::Global;
 use x_base::{NoMemory, Text};
 use x_values::{
-    count, ident, key, key_name, label, number, pair, plain_number, plain_number_within,
+    read_count, read_decimal_number, read_ident, read_key, read_key_name, read_label, read_pair,
+    read_plain_number, read_plain_number_within,
 };
 
 /// A word, and what it stands for as a number, as one without a leading zero, and as such a one from
@@ -30,11 +31,11 @@ pub(crate) fn numbers(alloc: Global) -> Result<Text, NoMemory> {
     let mut table = Table::new(alloc, "numbers");
     for (word, any, plain, within) in NUMBERS {
         table.row(&[
-            Call::option("number", number(word), any),
-            Call::option("plain_number", plain_number(word), plain),
+            Call::option("number", read_decimal_number(word), any),
+            Call::option("plain_number", read_plain_number(word), plain),
             Call::option(
                 "plain_number_within",
-                plain_number_within(1, 10_000, word),
+                read_plain_number_within(1, 10_000, word),
                 within,
             ),
         ])?;
@@ -45,9 +46,13 @@ pub(crate) fn numbers(alloc: Global) -> Result<Text, NoMemory> {
 /// What is told of keys and names.
 pub(crate) fn keys_and_names(alloc: Global) -> Result<Text, NoMemory> {
     let mut table = Table::new(alloc, "keys and names");
-    let pair = pair(b"0123456789ABCDEFFEDCBA9876543210");
-    let name = key_name(b"CKDX.BANKA.C.007");
-    table.row(&[Call::option("key", key(b"0123456789abCDEF"), Some(0x0123456789ABCDEF))])?;
+    let pair = read_pair(b"0123456789ABCDEFFEDCBA9876543210");
+    let name = read_key_name(b"CKDX.BANKA.C.007");
+    table.row(&[Call::option(
+        "key",
+        read_key(b"0123456789abCDEF"),
+        Some(0x0123456789ABCDEF),
+    )])?;
     table.row(&[
         Call::option(
             "the left half of pair",
@@ -60,16 +65,16 @@ pub(crate) fn keys_and_names(alloc: Global) -> Result<Text, NoMemory> {
             Some(0xFEDCBA9876543210),
         ),
     ])?;
-    table.row(&[Call::answer("ident of BANKA", ident(b"BANKA").is_some(), true)])?;
-    table.row(&[Call::answer("ident of C", ident(b"C").is_some(), false)])?;
-    table.row(&[Call::answer("label of C", label(b"C").is_some(), true)])?;
-    table.row(&[Call::answer("label of k", label(b"k").is_some(), false)])?;
+    table.row(&[Call::answer("ident of BANKA", read_ident(b"BANKA").is_some(), true)])?;
+    table.row(&[Call::answer("ident of C", read_ident(b"C").is_some(), false)])?;
+    table.row(&[Call::answer("label of C", read_label(b"C").is_some(), true)])?;
+    table.row(&[Call::answer("label of k", read_label(b"k").is_some(), false)])?;
     table.row(&[Call::option(
         "count of 00000000002500",
-        count(b"00000000002500").map(|count| count.value()),
+        read_count(b"00000000002500").map(|count| count.value()),
         Some(2500),
     )])?;
-    table.row(&[Call::answer("count of 0", count(b"0").is_some(), false)])?;
+    table.row(&[Call::answer("count of 0", read_count(b"0").is_some(), false)])?;
     table.row(&[Call::option(
         "the count of key_name",
         name.map(|name| name.count.value()),

@@ -2,7 +2,7 @@
 use Rattle.std.proofs.Common.{◌≡◌, Bool, true, false, cond, not, ◌&&◌, List, [], ◌∷◌, ◌++◌, refl, ap}
 use Rattle.x_base.specs.declared.verdict.Verdict.{Verdict}
 use Rattle.x_base.specs.declared.verdict.Verdict.TheVariants.{Accept}
-use Rattle.party_state.specs.Verdicts.{Test, verdict_of, passes, Held, is_accept, all_refuse}
+use Rattle.party_state.specs.Verdicts.{Test, verdict_of, tests_pass, Held, is_accept, all_refuse}
 
 -- where the verdict is Accept, each test held
 pub held : (ts : List Test) → all_refuse ts ≡ true → is_accept (verdict_of ts) ≡ true → Held ts
@@ -46,14 +46,14 @@ pub verdict_after : (ts us : List Test) → Held ts → verdict_of (ts ++ us) �
 verdict_after [] us h = refl
 verdict_after (t ∷ ts) us h = rw h.0 (verdict_after ts us h.1)
 
-pub passes_held : (ts : List Test) → Held ts → passes ts ≡ true
+pub passes_held : (ts : List Test) → Held ts → tests_pass ts ≡ true
 passes_held [] h = refl
 passes_held (t ∷ ts) h = rw h.0 (passes_held ts h.1)
 
-pub held_passes : (ts : List Test) → passes ts ≡ true → Held ts
+pub held_passes : (ts : List Test) → tests_pass ts ≡ true → Held ts
 held_passes [] h = tt
 held_passes (t ∷ ts) h = go t.0 refl h (held_passes ts)
   where
-    go : (b : Bool) → t.0 ≡ b → (b && passes ts) ≡ true → (passes ts ≡ true → Held ts) → (t.0 ≡ true) × Held ts
+    go : (b : Bool) → t.0 ≡ b → (b && tests_pass ts) ≡ true → (tests_pass ts ≡ true → Held ts) → (t.0 ≡ true) × Held ts
     go true b= h ih = (b=, ih h)
     go false b= h ih = absurd (cc)

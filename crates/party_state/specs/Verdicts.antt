@@ -13,9 +13,9 @@ verdict_of [] = Accept
 verdict_of (t ∷ ts) = cond t.0 (verdict_of ts) t.1
 
 -- all of the tests hold
-abbrev pub passes : List Test → Bool
-passes [] = true
-passes (t ∷ ts) = t.0 && passes ts
+abbrev pub tests_pass : List Test → Bool
+tests_pass [] = true
+tests_pass (t ∷ ts) = t.0 && tests_pass ts
 
 abbrev pub Held : List Test → Type 0
 Held [] = Unit {0}

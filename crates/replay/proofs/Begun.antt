@@ -22,7 +22,7 @@ use Rattle.party_state.specs.Ranges.{HasNoBegin}
 use Rattle.party_state.specs.State.{Party, begun}
 use Rattle.change_code.specs.Cost.{cost, fits}
 use Rattle.change_code.specs.declared.format.Format.TheVariants.{Two}
-use Rattle.key_store.specs.Store.{Stored, IsStore, IsOldOrNew, IsBlankOrFirst, space}
+use Rattle.key_store.specs.Store.{Stored, IsStore, StandsForOldOrNew, IsBlankOrFirst, space}
 use Rattle.key_store.specs.Creating.{IsNewStore}
 use Rattle.key_store.specs.Kept.{store_disk}
 use Rattle.key_store.specs.Keeping.{IsKeeping}
@@ -201,12 +201,12 @@ module _ {D : Type 0} (told : D → View) (old : Stored D) (l : LinkRec) where
         any_moment = λ tells. k.1.any_moment tells;
       }
 
-  in_part : (image : List ℕ) → IsOldOrNew old.party (space old) (PutLink l ∷ []) image → IsLoadedInPart (member_of old) (l ∷ []) image
+  in_part : (image : List ℕ) → StandsForOldOrNew old.party (space old) (PutLink l ∷ []) image → IsLoadedInPart (member_of old) (l ∷ []) image
   in_part image (inl before) = (0, before)
   in_part image (inr after) = (1, after)
 
-  partly_on : (w : View) → LeavesOnly (told old.disk) w (IsOldOrNew old.party (space old) (PutLink l ∷ [])) → LeavesOnly (told old.disk) w (IsLoadedInPart (member_of old) (l ∷ []))
-  partly_on w run = weaker (told old.disk) w (IsOldOrNew old.party (space old) (PutLink l ∷ [])) (IsLoadedInPart (member_of old) (l ∷ [])) run in_part
+  partly_on : (w : View) → LeavesOnly (told old.disk) w (StandsForOldOrNew old.party (space old) (PutLink l ∷ [])) → LeavesOnly (told old.disk) w (IsLoadedInPart (member_of old) (l ∷ []))
+  partly_on w run = weaker (told old.disk) w (StandsForOldOrNew old.party (space old) (PutLink l ∷ [])) (IsLoadedInPart (member_of old) (l ∷ [])) run in_part
 
   pub failed_broken : (b : FailedDisk D) (k : D) (reason : Cause) (why : Failure) → k ≡ b.disk → reason ≡ cause_of b.cause → (why ≡ failure.Fault → reason ≡ cause.Fault) → (IsFree reason → IsFailing why) → IsSound (told b.disk) → IsKeeping told old (PutLink l ∷ []) (kept.Broken b)
       → IsPartlyLoaded (told old.disk) (told k) (member_of old) (l ∷ []) why

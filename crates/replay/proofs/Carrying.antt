@@ -39,9 +39,9 @@ cut_of told [] old b work = absurd work
 cut_of told (e ∷ es) old b work = (refl, work)
 
 -- a change that is kept takes four calls
-few_calls : {D : Type 0} (told : D → View) (es : List Edit) (old new : Stored D) (calls : ℕ) → IsWorkDone told (Keeps es) old new → (told old.disk).passes ≡ Some calls → calls ≤ 3 → is_change es ≡ true → ⊥
-few_calls told [] old new calls work passes few change = absurd (cc change)
-few_calls told (e ∷ es) old new calls work passes few change = let enough : 4 ≤ calls = work.enough calls passes in omega (arith, enough, few)
+few_calls : {D : Type 0} (told : D → View) (es : List Edit) (old new : Stored D) (calls : ℕ) → IsWorkDone told (Keeps es) old new → (told old.disk).calls_left ≡ Some calls → calls ≤ 3 → is_change es ≡ true → ⊥
+few_calls told [] old new calls work calls_left few change = absurd (cc change)
+few_calls told (e ∷ es) old new calls work calls_left few change = let enough : 4 ≤ calls = work.enough calls calls_left in omega (arith, enough, few)
 
 -- the member before the edits, or the one after them where there are any
 either_of : (x : Member) (es : List Edit) (image : List ℕ) → IsOldOrNext x (after x es) image → IsEither x (after x es) (is_change es ≡ true) image
@@ -103,8 +103,8 @@ module _ {D : Type 0} (told : D → View) (old : Stored D) (f : Stored (WithFuse
   abbrev keep : Type 0
   keep = is_change p.edits ≡ true
 
-  passes : passes_of f.disk.fuse ≡ Some calls
-  passes = fused.passes
+  calls_left : passes_of f.disk.fuse ≡ Some calls
+  calls_left = fused.calls_left
 
   few : calls ≤ 3
   few = omega (arith, count_is, most)
@@ -141,7 +141,7 @@ module _ {D : Type 0} (told : D → View) (old : Stored D) (f : Stored (WithFuse
       (λ image now. subst (λ (m : Member). IsImageOf m image) member_is (image_of (fused_told node.disk) node.gate node.end node.format node.party t.stands image now)) none
     where
       none : keep → ⊥
-      none change = few_calls fused_told q.edits f node calls t.answer.work passes few (keep_for change)
+      none change = few_calls fused_told q.edits f node calls t.answer.work calls_left few (keep_for change)
 
       member_is : member_of node ≡ x
       member_is = t.answer.next ∙ (next_is ∙ same_none x p.edits none)
@@ -159,6 +159,6 @@ module _ {D : Type 0} (told : D → View) (old : Stored D) (f : Stored (WithFuse
       let cut = cut_of fused_told q.edits f b t.answer.work in
       at_stop_cut (told old.disk) (told b.disk.disk) x y keep n (t.tells ∙ sym (ap is_some alike.now)) sound calls count_is most (keep_is cut.0)
       (λ image is. subst (λ (m : Member). IsImageOf m image) same (cut.1.stable image is))
-      (λ three quiet image now. subst (λ (m : Member). IsImageOf m image) next_is (cut.1.pending (passes ∙ ap Some three) fault (blown b.disk.fuse (told b.disk.disk) (t.answer.cause.fault fault) quiet) image now))
+      (λ three quiet image now. subst (λ (m : Member). IsImageOf m image) next_is (cut.1.pending (calls_left ∙ ap Some three) fault (blown b.disk.fuse (told b.disk.disk) (t.answer.cause.fault fault) quiet) image now))
       (λ tells. unfuse b.disk (IsOldOrNext (member_of f) (after (member_of f) q.edits)) (IsOldOrNext x y) (t.any_moment (tells_fused tells)) either_for)
-      (λ low tells. unfuse b.disk (IsImageOf (member_of f)) (IsImageOf x) (t.early q.edits refl calls passes low (tells_fused tells)) (λ image one. subst (λ (m : Member). IsImageOf m image) same one))
+      (λ low tells. unfuse b.disk (IsImageOf (member_of f)) (IsImageOf x) (t.early q.edits refl calls calls_left low (tells_fused tells)) (λ image one. subst (λ (m : Member). IsImageOf m image) same one))

@@ -7,7 +7,7 @@ use Rattle.party_state.specs.declared.edit.Edit.{Edit}
 use Rattle.party_state.specs.declared.decision.Decision.{Decision}
 use Rattle.party_state.specs.declared.decision.Lead.{Lead}
 use Rattle.party_state.specs.State.{Party}
-use Rattle.party_state.specs.Verdicts.{Test, verdict_of, is_accept, passes, all_refuse}
+use Rattle.party_state.specs.Verdicts.{Test, verdict_of, is_accept, tests_pass, all_refuse}
 use Rattle.party_state.specs.Rows.{Row, Reply}
 use Rattle.role_base.specs.declared.texts.Written.{Written}
 use Rattle.role_base.specs.Deciding.{decision_of, accepting, refusal_of, IsDecision, Decides, AcceptsWith, RefusesEarly}
@@ -51,9 +51,9 @@ pub refuses : (p : Party) (row : Row) (v : Verdict) → v ≡ row.verdict → is
 refuses p row v i t n = let m : None ≡ row.answer = sym n in ap (λ (a : Option Reply). answering v a) m ∙ by_answered p row v i t
 
 -- a row that is refused before its code is looked at
-pub refuses_before : (p : Party) (front : List Test) (d : Decision) (v : Verdict) → d ≡ refusal_of v → all_refuse front ≡ true → passes front ≡ false → v ≡ verdict_of front → (r : Row) (rest : List Test) → r.verdict ≡ verdict_of (front ++ rest) → r.answer ≡ None → IsDecision p r d
-refuses_before p front d v j a f i r rest e n = refuses_row p r d v j (refuses p r v (i ∙ sym (fails_early front rest f) ∙ sym e) (ap is_accept i ∙ refuses_early front a f) n)
+pub refuses_before : (p : Party) (tests_before_code : List Test) (d : Decision) (v : Verdict) → d ≡ refusal_of v → all_refuse tests_before_code ≡ true → tests_pass tests_before_code ≡ false → v ≡ verdict_of tests_before_code → (r : Row) (tests_after_code : List Test) → r.verdict ≡ verdict_of (tests_before_code ++ tests_after_code) → r.answer ≡ None → IsDecision p r d
+refuses_before p tests_before_code d v j a f i r tests_after_code e n = refuses_row p r d v j (refuses p r v (i ∙ sym (fails_early tests_before_code tests_after_code f) ∙ sym e) (ap is_accept i ∙ refuses_early tests_before_code a f) n)
 
 -- one for which no key to test the code under was found, though what it would stand under was
-pub decided_early : (p : Party) (front ts rest : List Test) (d : Decision) (r : Row) (x : Lead) (o : Option Lead) → RefusesEarly ts d → ts ≡ front → all_refuse front ≡ true → o ≡ cond (passes front) (Some x) None → o ≡ None → r.verdict ≡ verdict_of (front ++ rest) → r.answer ≡ None → IsDecision p r d
-decided_early p front ts rest d r x o e f all h n v a = let g : RefusesEarly front d = subst (λ us. RefusesEarly us d) f e in g p r rest all (given_none (passes front) x o h n) v a
+pub decided_early : (p : Party) (tests_before_code ts tests_after_code : List Test) (d : Decision) (r : Row) (x : Lead) (o : Option Lead) → RefusesEarly ts d → ts ≡ tests_before_code → all_refuse tests_before_code ≡ true → o ≡ cond (tests_pass tests_before_code) (Some x) None → o ≡ None → r.verdict ≡ verdict_of (tests_before_code ++ tests_after_code) → r.answer ≡ None → IsDecision p r d
+decided_early p tests_before_code ts tests_after_code d r x o e f all h n v a = let g : RefusesEarly tests_before_code d = subst (λ us. RefusesEarly us d) f e in g p r tests_after_code all (given_none (tests_pass tests_before_code) x o h n) v a

@@ -5,7 +5,7 @@ use Rattle.std.specs.List.{list_all}
 use Rattle.std.proofs.lemmas.Bool.{and_parts, not-true}
 use Rattle.x_base.specs.declared.verdict.Verdict.{Verdict}
 use Rattle.party_state.specs.declared.decision.Lead.{Lead}
-use Rattle.party_state.specs.Verdicts.{Test, verdict_of, passes}
+use Rattle.party_state.specs.Verdicts.{Test, verdict_of, tests_pass}
 use Rattle.role_base.specs.Errors.{is_early}
 
 -- each verdict among them is early, and none is
@@ -24,11 +24,11 @@ late (t ∷ ts) h = go t.0 (late ts (and_parts _ _ h).1)
     go false ih = not-true _ (and_parts _ _ h).0
 
 -- the verdict is early exactly where the early tests, which come first, don't pass
-early_front : (front rest : List Test) → all_early front ≡ true → none_early rest ≡ true → is_early (verdict_of (front ++ rest)) ≡ not (passes front)
-early_front [] rest f r = late rest r
-early_front (t ∷ ts) rest f r = go t.0 (early_front ts rest (and_parts _ _ f).1 r)
+early_front : (tests_before_code tests_after_code : List Test) → all_early tests_before_code ≡ true → none_early tests_after_code ≡ true → is_early (verdict_of (tests_before_code ++ tests_after_code)) ≡ not (tests_pass tests_before_code)
+early_front [] tests_after_code f r = late tests_after_code r
+early_front (t ∷ ts) tests_after_code f r = go t.0 (early_front ts tests_after_code (and_parts _ _ f).1 r)
   where
-    go : (b : Bool) → is_early (verdict_of (ts ++ rest)) ≡ not (passes ts) → is_early (cond b (verdict_of (ts ++ rest)) t.1) ≡ not (b && passes ts)
+    go : (b : Bool) → is_early (verdict_of (ts ++ tests_after_code)) ≡ not (tests_pass ts) → is_early (cond b (verdict_of (ts ++ tests_after_code)) t.1) ≡ not (b && tests_pass ts)
     go true ih = ih
     go false ih = (and_parts _ _ f).0
 
@@ -42,8 +42,8 @@ early_refusal (t ∷ ts) v f e = go t.0 (early_refusal ts v (and_parts _ _ f).1 
     go false ih = sym (and_parts _ _ f).0
 
 -- a key is there where the tests in front pass
-pub led : (front rest : List Test) (l : Lead) → all_early front ≡ true → none_early rest ≡ true → is_none (cond (passes front) (Some l) None) ≡ is_early (verdict_of (front ++ rest))
-led front rest l f r = go (passes front) ∙ sym (early_front front rest f r)
+pub led : (tests_before_code tests_after_code : List Test) (l : Lead) → all_early tests_before_code ≡ true → none_early tests_after_code ≡ true → is_none (cond (tests_pass tests_before_code) (Some l) None) ≡ is_early (verdict_of (tests_before_code ++ tests_after_code))
+led tests_before_code tests_after_code l f r = go (tests_pass tests_before_code) ∙ sym (early_front tests_before_code tests_after_code f r)
   where
     go : (b : Bool) → is_none (cond b (Some l) None) ≡ not b
     go true = refl

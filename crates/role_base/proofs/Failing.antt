@@ -5,7 +5,7 @@ use Rattle.std.specs.List.{find}
 use Rattle.std.proofs.lemmas.Bool.{true≢false}
 use Rattle.x_base.specs.declared.verdict.Verdict.{Verdict}
 use Rattle.x_base.specs.declared.verdict.Verdict.TheVariants.{Accept, CountSpent, KeysFull}
-use Rattle.party_state.specs.Verdicts.{Test, verdict_of, passes, is_accept, all_refuse}
+use Rattle.party_state.specs.Verdicts.{Test, verdict_of, tests_pass, is_accept, all_refuse}
 use Rattle.role_base.specs.Failing.{failed_in}
 
 -- where no test fails, the verdict is that of the tests behind
@@ -58,11 +58,11 @@ accept_is Accept h = refl
 accept_is _ h = cc
 
 -- every test holds where none fails
-pub passes_where : (ts : List Test) → is_none (failed_in ts) ≡ passes ts
+pub passes_where : (ts : List Test) → is_none (failed_in ts) ≡ tests_pass ts
 passes_where [] = refl
 passes_where (t ∷ ts) = go t.0 (passes_where ts)
   where
-    go : (b : Bool) → is_none (failed_in ts) ≡ passes ts → is_none (option_map (λ (t : Test). t.1) (cond (not b) (Some t) (find (λ (t : Test). not t.0) ts))) ≡ (b && passes ts)
+    go : (b : Bool) → is_none (failed_in ts) ≡ tests_pass ts → is_none (option_map (λ (t : Test). t.1) (cond (not b) (Some t) (find (λ (t : Test). not t.0) ts))) ≡ (b && tests_pass ts)
     go true ih = ih
     go false ih = refl
 
@@ -89,29 +89,29 @@ unspent (t ∷ ts) r = go t.0 (is_accept t.1) refl r (unspent ts)
     go false false i r ih = i
 
 -- where a test fails, what stands behind doesn't count
-pub fails_early : (front us : List Test) → passes front ≡ false → verdict_of (front ++ us) ≡ verdict_of front
+pub fails_early : (front us : List Test) → tests_pass front ≡ false → verdict_of (front ++ us) ≡ verdict_of front
 fails_early [] us h = absurd (true≢false h)
 fails_early (t ∷ ts) us h = go t.0 h (fails_early ts us)
   where
-    go : (b : Bool) → (b && passes ts) ≡ false → (passes ts ≡ false → verdict_of (ts ++ us) ≡ verdict_of ts) → cond b (verdict_of (ts ++ us)) t.1 ≡ cond b (verdict_of ts) t.1
+    go : (b : Bool) → (b && tests_pass ts) ≡ false → (tests_pass ts ≡ false → verdict_of (ts ++ us) ≡ verdict_of ts) → cond b (verdict_of (ts ++ us)) t.1 ≡ cond b (verdict_of ts) t.1
     go true h ih = ih h
     go false h ih = refl
 
 -- where one of them fails, not all pass
-pub fails_at : (ts us : List Test) (v : Verdict) → passes (ts ++ (false, v) ∷ us) ≡ false
+pub fails_at : (ts us : List Test) (v : Verdict) → tests_pass (ts ++ (false, v) ∷ us) ≡ false
 fails_at [] us v = refl
 fails_at (t ∷ ts) us v = go t.0 (fails_at ts us v)
   where
-    go : (b : Bool) → passes (ts ++ (false, v) ∷ us) ≡ false → (b && passes (ts ++ (false, v) ∷ us)) ≡ false
+    go : (b : Bool) → tests_pass (ts ++ (false, v) ∷ us) ≡ false → (b && tests_pass (ts ++ (false, v) ∷ us)) ≡ false
     go true ih = ih
     go false ih = refl
 
 -- tests that refuse, one of which fails, don't accept
-pub refuses_early : (ts : List Test) → all_refuse ts ≡ true → passes ts ≡ false → is_accept (verdict_of ts) ≡ false
+pub refuses_early : (ts : List Test) → all_refuse ts ≡ true → tests_pass ts ≡ false → is_accept (verdict_of ts) ≡ false
 refuses_early [] r h = absurd (true≢false h)
 refuses_early (t ∷ ts) r h = go t.0 (is_accept t.1) refl r h (refuses_early ts)
   where
-    go : (b w : Bool) → is_accept t.1 ≡ w → (not w && all_refuse ts) ≡ true → (b && passes ts) ≡ false → (all_refuse ts ≡ true → passes ts ≡ false → is_accept (verdict_of ts) ≡ false) → is_accept (cond b (verdict_of ts) t.1) ≡ false
+    go : (b w : Bool) → is_accept t.1 ≡ w → (not w && all_refuse ts) ≡ true → (b && tests_pass ts) ≡ false → (all_refuse ts ≡ true → tests_pass ts ≡ false → is_accept (verdict_of ts) ≡ false) → is_accept (cond b (verdict_of ts) t.1) ≡ false
     go b true i r h ih = absurd (cc)
     go true false i r h ih = ih r h
     go false false i r h ih = i

@@ -31,8 +31,8 @@ pub key_stands : KeysFound → (p : Party) (k : RecordKey) (r : KeyRec) → reco
 key_stands found p k r h = let e : k ≡ record_key r = found k r p h in rw e at h
 
 -- the link of a new key-encrypting key stands, where it is found
-pub new_link_stands : LinksFound → LinksInRange → (p : Party) (peer : List ℕ) (way : Via) (l : LinkRec) → IsParty p → new_link p peer way ≡ Some l → LinkStands p l
-new_link_stands links in_range p peer way l w h = by_label (new_label way) h
+pub new_link_stands : LinksFound → LinksInRange → (p : Party) (peer : List ℕ) (via : Via) (l : LinkRec) → IsParty p → new_link p peer via ≡ Some l → LinkStands p l
+new_link_stands links in_range p peer via l w h = by_label (new_label via) h
   where
     by_label : (o : Option (List ℕ)) → new_link_at p peer o ≡ Some l → LinkStands p l
     by_label None h = absurd (cc)

@@ -14,7 +14,7 @@ use Rattle.x_base.specs.declared.key_name.KeyName.{KeyName}
 use Rattle.x_base.specs.declared.party.Side.{Side}
 use Rattle.x_des.proofs.Inverse.{enciphered-lt}
 use Rattle.x_gen.specs.declared.generator.Gen.{Gen}
-use Rattle.x_gen.specs.Parity.{odd_of, is_weak_key}
+use Rattle.x_gen.specs.Parity.{odd_parity_of, is_weak_key}
 use Rattle.x_gen.specs.Gen.{drawn, gen_after, draws, good_draw}
 use Rattle.x_gen.specs.Laws.{DrawsOdd, OddStays}
 use Rattle.x_mac.specs.declared.pair.Pair.{Pair}
@@ -44,7 +44,7 @@ use Rattle.party_state.specs.Rows.{Row, Reply, Coded, Plain, Again, refused}
 use Rattle.role_base.specs.Conditions.{has_key_room}
 use Rattle.role_base.specs.Differing.{differs, differing}
 use Rattle.role_base.specs.Deciding.{change_of, decision_of}
-use Rattle.role_base.specs.declared.errors.Counts.{Counts}
+use Rattle.role_base.specs.declared.errors.ErrorCounts.{ErrorCounts}
 use Rattle.role_base.specs.Errors.{TellsCount, error_message, error_letter, expected_count, error_for, coded_under}
 use Rattle.role_base.specs.Exchanges.{record_of, new_link, dropped, ended}
 use Rattle.role_base.specs.Load.{load}
@@ -122,11 +122,11 @@ with_ready l b r = record { peer = r.peer; label = r.label; pair = r.pair; next 
 seed_in : (n : ℕ) (g : Gen) (moment : ℕ) (d : ℕ × Gen) → find (λ (x : ℕ × Gen). not (is_weak_key x.0)) (draws n g moment) ≡ Some d → IsWord d.1.v
 unfolding draws
 seed_in zero g moment d h = absurd (cc)
-seed_in (suc n) g moment d h = go (not (is_weak_key (odd_of (drawn g moment)))) h (seed_in n (gen_after g moment) moment d)
+seed_in (suc n) g moment d h = go (not (is_weak_key (odd_parity_of (drawn g moment)))) h (seed_in n (gen_after g moment) moment d)
   where
-    go : (b : Bool) → cond b (Some (odd_of (drawn g moment), gen_after g moment)) (find (λ (x : ℕ × Gen). not (is_weak_key x.0)) (draws n (gen_after g moment) moment)) ≡ Some d
+    go : (b : Bool) → cond b (Some (odd_parity_of (drawn g moment), gen_after g moment)) (find (λ (x : ℕ × Gen). not (is_weak_key x.0)) (draws n (gen_after g moment) moment)) ≡ Some d
         → (find (λ (x : ℕ × Gen). not (is_weak_key x.0)) (draws n (gen_after g moment) moment) ≡ Some d → IsWord d.1.v) → IsWord d.1.v
-    go true h ih = (let is : (odd_of (drawn g moment), gen_after g moment) ≡ d = cc in subst (λ (x : ℕ × Gen). IsWord x.1.v) is (enciphered-lt _ _))
+    go true h ih = (let is : (odd_parity_of (drawn g moment), gen_after g moment) ≡ d = cc in subst (λ (x : ℕ × Gen). IsWord x.1.v) is (enciphered-lt _ _))
     go false h ih = ih h
 
 pub seed_below : (g : Gen) (moment : ℕ) (d : ℕ × Gen) → good_draw g moment ≡ Some d → IsWord d.1.v
@@ -174,7 +174,7 @@ sending_kept short below p front l (Some d) w st facts = row_kept p (sending_dra
 
 -- error messages
 
-pub record AreCounts (c : Counts) : Type 0 where
+pub record AreCounts (c : ErrorCounts) : Type 0 where
   pub ctp : IfSome c.ctp IsCount
   pub cta : IfSome c.cta IsCount
   pub ctb : IfSome c.ctb IsCount
@@ -202,7 +202,7 @@ free_ctr : (o : Option ℕ) (rest : List Valued) → free_in (if_any Ctr ANumber
 free_ctr None rest = refl
 free_ctr (Some n) rest = refl
 
-error_few : (p : Party) (originator : List ℕ) (c : Counts) (erf : List ℕ) (ctr : Option ℕ) → length erf ≤ 16 → free_length (error_message p originator c erf ctr) ≤ 64
+error_few : (p : Party) (originator : List ℕ) (c : ErrorCounts) (erf : List ℕ) (ctr : Option ℕ) → length erf ≤ 16 → free_length (error_message p originator c erf ctr) ≤ 64
 error_few p originator c erf ctr h =
     let all : free_length (error_message p originator c erf ctr) ≡ 0 + length erf = free_ctp c.ctp _ ∙ (free_cta c.cta _ ∙ (free_ctb c.ctb _ ∙ free_ctr ctr _)) in
     subst (λ (n : ℕ). n ≤ 64) (sym all) (few (length erf) h)
@@ -210,7 +210,7 @@ error_few p originator c erf ctr h =
     few : (n : ℕ) → n ≤ 16 → 0 + n ≤ 64
     few n h = omega arith
 
-error_typed : (p : Party) (originator : List ℕ) (c : Counts) (erf : List ℕ) (ctr : Option ℕ) → IsIdent p.own → IsIdent originator → AreCounts c → IfSome ctr IsCount → AllByRecursion IsTypedField (fields_of (error_message p originator c erf ctr))
+error_typed : (p : Party) (originator : List ℕ) (c : ErrorCounts) (erf : List ℕ) (ctr : Option ℕ) → IsIdent p.own → IsIdent originator → AreCounts c → IfSome ctr IsCount → AllByRecursion IsTypedField (fields_of (error_message p originator c erf ctr))
 error_typed p originator c erf ctr own i cs e =
     (i, (own, any_typed Ctp c.ctp _ (λ n k. k) cs.ctp (any_typed Cta c.cta _ (λ n k. k) cs.cta (any_typed Ctb c.ctb _ (λ n k. k) cs.ctb (any_typed Ctr ctr _ (λ n k. k) e (tt, tt))))))
 
@@ -228,7 +228,7 @@ told_expected (verdict.CountLow expected) h = h
 told_expected _ h = tt
 
 -- the answer to a refusal is short
-pub error_short : CanonShort → (p : Party) (originator : List ℕ) (c : Counts) (v : Verdict) (under : FullName) (value : ℕ) → IsIdent p.own → IsIdent originator → AreCounts c → TellsCount v → IsShort (coded_under under value (error_for p originator c v))
+pub error_short : CanonShort → (p : Party) (originator : List ℕ) (c : ErrorCounts) (v : Verdict) (under : FullName) (value : ℕ) → IsIdent p.own → IsIdent originator → AreCounts c → TellsCount v → IsShort (coded_under under value (error_for p originator c v))
 error_short short p originator c v under value own i cs tells = go (error_letter v) (letter_short v)
   where
     go : (o : Option (List ℕ)) → IfSome o (λ (erf : List ℕ). length erf ≤ 16) → IsShort (coded_under under value (option_map (λ erf. error_message p originator c erf (expected_count v)) o))
@@ -237,12 +237,12 @@ error_short short p originator c v under value own i cs tells = go (error_letter
 
 -- a link that goes
 
-pub dropped_in_range : LinksFound → LinksInRange → (p : Party) (peer : List ℕ) (way : Via) → IsParty p → AllInRange (dropped (new_link p peer way))
-dropped_in_range links in_range p peer way w = go (new_link p peer way) refl
+pub dropped_in_range : LinksFound → LinksInRange → (p : Party) (peer : List ℕ) (via : Via) → IsParty p → AllInRange (dropped (new_link p peer via))
+dropped_in_range links in_range p peer via w = go (new_link p peer via) refl
   where
-    go : (o : Option LinkRec) → new_link p peer way ≡ o → AllInRange (dropped o)
+    go : (o : Option LinkRec) → new_link p peer via ≡ o → AllInRange (dropped o)
     go None e = tt
-    go (Some l) e = let r : IsLink l = (new_link_stands links in_range p peer way l w e).range in ((r.peer, r.label), tt)
+    go (Some l) e = let r : IsLink l = (new_link_stands links in_range p peer via l w e).range in ((r.peer, r.label), tt)
 
 pub append_in_range : (es fs : List Edit) → AllInRange es → AllInRange fs → AllInRange (es ++ fs)
 append_in_range [] fs a b = b

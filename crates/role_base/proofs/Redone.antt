@@ -11,7 +11,7 @@ use Rattle.party_tables.specs.declared.exchange.Exchange.{Exchange}
 use Rattle.party_tables.specs.declared.exchange.Kind.{Kind}
 use Rattle.party_tables.specs.declared.exchange.Kind.TheVariants as kind
 use Rattle.party_tables.specs.declared.exchange.Via.{Via}
-use Rattle.party_tables.specs.declared.exchange.Via.TheVariants as via
+use Rattle.party_tables.specs.declared.exchange.Via.TheVariants as vias
 use Rattle.party_tables.specs.Keys.{exchange_key, same_name}
 use Rattle.party_tables.proofs.Keys.{test_idents, test_names}
 use Rattle.x_base.specs.declared.key_name.KeyName.{KeyName}
@@ -49,23 +49,23 @@ label_refl None = refl
 label_refl (Some a) = ident_refl a
 
 via_is : (a b : Via) → same_via a b ≡ true → a ≡ b
-via_is (via.Direct label new) (via.Direct other fresh) h =
+via_is (vias.Direct label new) (vias.Direct other fresh) h =
     let parts = and_parts _ _ h in
     let l : label ≡ other = ident_is label other parts.0 in
     let n : new ≡ fresh = label_is new fresh parts.1 in
-    λ i. via.Direct (l i) (n i)
-via_is (via.Distribution centre cta) (via.Distribution other count) h =
+    λ i. vias.Direct (l i) (n i)
+via_is (vias.Distribution centre cta) (vias.Distribution other count) h =
     let parts = and_parts _ _ h in
     let l : centre ≡ other = ident_is centre other parts.0 in
     let n : cta ≡ count = number_is cta count parts.1 in
-    λ i. via.Distribution (l i) (n i)
-via_is (via.Translation centre) (via.Translation other) h = ap (λ (x : List ℕ). via.Translation x) (ident_is centre other h)
+    λ i. vias.Distribution (l i) (n i)
+via_is (vias.Translation centre) (vias.Translation other) h = ap (λ (x : List ℕ). vias.Translation x) (ident_is centre other h)
 via_is _ _ h = cc
 
 via_refl : (a : Via) → same_via a a ≡ true
-via_refl (via.Direct label new) = and_from _ _ (ident_refl label) (label_refl new)
-via_refl (via.Distribution centre cta) = and_from _ _ (ident_refl centre) (number_refl cta)
-via_refl (via.Translation centre) = ident_refl centre
+via_refl (vias.Direct label new) = and_from _ _ (ident_refl label) (label_refl new)
+via_refl (vias.Distribution centre cta) = and_from _ _ (ident_refl centre) (number_refl cta)
+via_refl (vias.Translation centre) = ident_refl centre
 
 kind_is : (a b : Kind) → same_kind a b ≡ true → a ≡ b
 kind_is (kind.Asked ultimate) (kind.Asked other) h = ap (λ (x : List ℕ). kind.Asked x) (ident_is ultimate other h)

@@ -11,7 +11,7 @@ use Rattle.party_tables.specs.declared.link.LinkRec.{LinkRec}
 use Rattle.party_tables.specs.declared.key.KeyRec.{KeyRec}
 use Rattle.party_tables.specs.declared.key.KeyStatus.TheVariants.{Pending}
 use Rattle.party_tables.specs.declared.exchange.Exchange.{Exchange}
-use Rattle.party_tables.specs.declared.exchange.Via.TheVariants as via
+use Rattle.party_tables.specs.declared.exchange.Via.TheVariants as vias
 use Rattle.party_tables.specs.declared.exchange.Kind.TheVariants as kind
 use Rattle.party_state.specs.State.{Party, apply}
 use Rattle.party_state.specs.Verdicts.{Test}
@@ -53,7 +53,7 @@ module _ (unwraps : Unwraps) (odd : DrawsOdd) (links : LinkLaws) (keys : KeyLaws
       pending = record { peer = l.peer; name = next_name p l; value = d.0; status = Pending }
 
       waits : Exchange
-      waits = record { peer = l.peer; kind = kind.KeySent (next_name p l) (via.Direct l.label None); text = text_of (data_key_reply p l d.0) }
+      waits = record { peer = l.peer; kind = kind.KeySent (next_name p l) (vias.Direct l.label None); text = text_of (data_key_reply p l d.0) }
 
   pub sends : (p : Party) (front : List Test) (l : LinkRec) (moment : ℕ) (d : ℕ × Gen) → good_draw p.generator moment ≡ Some d → SendsKey p (apply (sending p front l moment).edits p) (sending p front l moment) l moment
   sends p front l moment d drawn = rw drawn (sends_drawn p front l moment d drawn)

@@ -22,7 +22,7 @@ use Rattle.party_tables.specs.declared.key.KeyRec.{KeyRec}
 use Rattle.party_tables.specs.declared.key.KeyStatus.TheVariants.{Pending}
 use Rattle.party_state.specs.declared.edit.Edit.TheVariants.{SetGen, PutLink, PutKey, PutExchange}
 use Rattle.party_tables.specs.declared.exchange.Kind.TheVariants as kind
-use Rattle.party_tables.specs.declared.exchange.Via.TheVariants as via
+use Rattle.party_tables.specs.declared.exchange.Via.TheVariants as vias
 use Rattle.role_base.proofs.Failing.{stopped, unspent}
 use Rattle.role_base.proofs.ByRow.{by_refused}
 use Rattle.role_base.proofs.Decided.{refuses, decides_with}
@@ -62,5 +62,5 @@ drawn_sent result p front l (Some d) key after v i h e t =
 
 pub sent_same : (p : Party) (l used : LinkRec) (key v : ℕ) (sent : KeyRec) (name : KeyName) (text : List ℕ) → used ≡ record l { next = l.next + 1 }
     → sent ≡ record { peer = l.peer; name = name; value = key; status = Pending } → name ≡ next_name p l → text ≡ text_of (data_key_reply p l key)
-    → (SetGen v ∷ PutLink used ∷ PutKey sent ∷ PutExchange (record { peer = l.peer; kind = kind.KeySent name (via.Direct l.label None); text = text }) ∷ []) ≡ sent_edits p l key v
+    → (SetGen v ∷ PutLink used ∷ PutKey sent ∷ PutExchange (record { peer = l.peer; kind = kind.KeySent name (vias.Direct l.label None); text = text }) ∷ []) ≡ sent_edits p l key v
 sent_same p l used key v sent name text a b c t = rw (a, b, c, t) refl

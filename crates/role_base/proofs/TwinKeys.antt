@@ -40,7 +40,7 @@ twins_at p peer t h = by_exchange (exchange_with peer p) refl h
 
     by_kind : (e : Exchange) → exchange_with peer p ≡ Some e → (k : Kind) → e.kind ≡ k → twins_by p peer k ≡ Some t → TwinsAt p peer t
     by_kind e at (kind.PairSent name) k h = by_records e name at k (record_of p peer name) (record_of p peer (name_behind name)) refl refl h
-    by_kind e at (kind.KeySent name way) k h = absurd (cc)
+    by_kind e at (kind.KeySent name via) k h = absurd (cc)
     by_kind e at (kind.Asked ultimate) k h = absurd (cc)
     by_kind e at (kind.Translating ultimate value cta) k h = absurd (cc)
     by_kind e at (kind.Ending name) k h = absurd (cc)

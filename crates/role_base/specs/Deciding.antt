@@ -7,7 +7,7 @@ use Rattle.x_base.specs.declared.verdict.Verdict.TheVariants.{Accept}
 use Rattle.party_state.specs.declared.edit.Edit.{Edit}
 use Rattle.party_state.specs.declared.decision.Decision.{Decision}
 use Rattle.party_state.specs.State.{Party}
-use Rattle.party_state.specs.Verdicts.{Test, verdict_of, passes, all_refuse, is_accept}
+use Rattle.party_state.specs.Verdicts.{Test, verdict_of, tests_pass, all_refuse, is_accept}
 use Rattle.party_state.specs.Rows.{Row, Reply}
 use Rattle.role_base.specs.Texts.{text_of, name_under}
 use Rattle.role_base.specs.Differing.{differing}
@@ -48,7 +48,7 @@ refusal_of v = record { change = []; reply = None; under = None; verdict = v }
 
 -- the refusal of each row that begins with these tests, one of which fails, and that isn't answered
 abbrev pub RefusesEarly : List Test → Decision → Type 0
-RefusesEarly front d = (p : Party) (r : Row) (rest : List Test) → all_refuse front ≡ true → passes front ≡ false → r.verdict ≡ verdict_of (front ++ rest) → r.answer ≡ None → IsDecision p r d
+RefusesEarly tests_before_code d = (p : Party) (r : Row) (tests_after_code : List Test) → all_refuse tests_before_code ≡ true → tests_pass tests_before_code ≡ false → r.verdict ≡ verdict_of (tests_before_code ++ tests_after_code) → r.answer ≡ None → IsDecision p r d
 
 -- accepted, with these edits and this reply
 abbrev pub accepting : Party → List Edit → Option Reply → Decision

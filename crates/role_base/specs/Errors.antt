@@ -9,7 +9,7 @@ use Rattle.csm_grammar.specs.declared.message.Message.TheVariants as message
 use Rattle.party_state.specs.declared.decision.Decision.{Decision}
 use Rattle.party_state.specs.State.{Party}
 use Rattle.party_state.specs.Rows.{Reply, Coded}
-use Rattle.role_base.specs.declared.errors.Counts.{Counts}
+use Rattle.role_base.specs.declared.errors.ErrorCounts.{ErrorCounts}
 use Rattle.role_base.specs.Texts.{text_of}
 use Rattle.role_base.specs.Deciding.{name_of}
 
@@ -23,7 +23,7 @@ abbrev pub answering : Verdict → Option Reply → Decision
 answering v answer = record { change = []; reply = option_map text_of answer; under = name_of answer; verdict = v }
 
 -- the error message, with the refused counts, and the expected one where it is named
-abbrev pub error_message : Party → List ℕ → Counts → List ℕ → Option ℕ → Message
+abbrev pub error_message : Party → List ℕ → ErrorCounts → List ℕ → Option ℕ → Message
 error_message p originator c erf ctr =
     message.Esm (record { receiver = originator; originator = p.own; erf = erf; ctp = c.ctp; cta = c.cta; ctb = c.ctb; ctr = ctr })
 
@@ -43,7 +43,7 @@ expected_count (verdict.CountLow expected) = Some expected
 expected_count v = None
 
 -- the answer to a refusal, by its verdict
-abbrev pub error_for : Party → List ℕ → Counts → Verdict → Option Message
+abbrev pub error_for : Party → List ℕ → ErrorCounts → Verdict → Option Message
 error_for p originator c v = option_map (λ erf. error_message p originator c erf (expected_count v)) (error_letter v)
 
 abbrev pub coded_under : FullName → ℕ → Option Message → Option Reply

@@ -6,7 +6,7 @@ use Rattle.x_base.specs.declared.key_name.KeyName.{KeyName}
 use Rattle.party_tables.specs.declared.link.LinkRec.{LinkRec}
 use Rattle.party_tables.specs.declared.key.KeyRec.{KeyRec}
 use Rattle.party_tables.specs.declared.exchange.Via.{Via}
-use Rattle.party_tables.specs.declared.exchange.Via.TheVariants as via
+use Rattle.party_tables.specs.declared.exchange.Via.TheVariants as vias
 use Rattle.party_tables.specs.declared.exchange.Kind.{Kind}
 use Rattle.party_tables.specs.declared.exchange.Kind.TheVariants as kind
 use Rattle.party_tables.specs.declared.exchange.Exchange.{Exchange}
@@ -24,7 +24,7 @@ abbrev pub record_of : Party → List ℕ → KeyName → Option KeyRec
 record_of p peer name = record_with (record { peer = peer; name = name }) p
 
 abbrev pub sent_by : Party → List ℕ → Kind → Option Sent
-sent_by p peer (kind.KeySent name way) = option_map (λ k. record { key = k; way = way }) (record_of p peer name)
+sent_by p peer (kind.KeySent name via) = option_map (λ k. record { key = k; via = via }) (record_of p peer name)
 sent_by p peer (kind.Asked ultimate) = None
 sent_by p peer (kind.Translating ultimate value cta) = None
 sent_by p peer (kind.Ending name) = None
@@ -46,7 +46,7 @@ both_of None second = None
 
 abbrev pub twins_by : Party → List ℕ → Kind → Option Twins
 twins_by p peer (kind.PairSent name) = both_of (record_of p peer name) (record_of p peer (name_behind name))
-twins_by p peer (kind.KeySent name way) = None
+twins_by p peer (kind.KeySent name via) = None
 twins_by p peer (kind.Asked ultimate) = None
 twins_by p peer (kind.Translating ultimate value cta) = None
 twins_by p peer (kind.Ending name) = None
@@ -67,7 +67,7 @@ abbrev pub ending_by : Party → List ℕ → Kind → Option KeyRec
 ending_by p peer (kind.Ending name) = record_of p peer name
 ending_by p peer (kind.Asked ultimate) = None
 ending_by p peer (kind.Translating ultimate value cta) = None
-ending_by p peer (kind.KeySent name way) = None
+ending_by p peer (kind.KeySent name via) = None
 ending_by p peer (kind.PairSent name) = None
 
 abbrev pub ending_in : Party → List ℕ → Option Exchange → Option KeyRec
@@ -79,7 +79,7 @@ abbrev pub ending_with : Party → List ℕ → Option KeyRec
 ending_with p peer = ending_in p peer (exchange_with peer p)
 
 abbrev pub stands_by : Party → List ℕ → Kind → Bool
-stands_by p peer (kind.KeySent name way) = is_some (record_of p peer name)
+stands_by p peer (kind.KeySent name via) = is_some (record_of p peer name)
 stands_by p peer (kind.Ending name) = is_some (record_of p peer name)
 stands_by p peer (kind.Asked ultimate) = true
 stands_by p peer (kind.Translating ultimate value cta) = true
@@ -94,9 +94,9 @@ abbrev pub is_waiting : Party → List ℕ → Bool
 is_waiting p peer = stands_in p peer (exchange_with peer p)
 
 abbrev pub new_label : Via → Option (List ℕ)
-new_label (via.Direct label new) = new
-new_label (via.Distribution centre cta) = None
-new_label (via.Translation centre) = None
+new_label (vias.Direct label new) = new
+new_label (vias.Distribution centre cta) = None
+new_label (vias.Translation centre) = None
 
 abbrev pub new_link_at : Party → List ℕ → Option (List ℕ) → Option LinkRec
 new_link_at p peer None = None
@@ -104,7 +104,7 @@ new_link_at p peer (Some label) = link_with (sends peer label) p
 
 -- the link of a new key-encrypting key that went this way
 abbrev pub new_link : Party → List ℕ → Via → Option LinkRec
-new_link p peer way = new_link_at p peer (new_label way)
+new_link p peer via = new_link_at p peer (new_label via)
 
 -- a new key-encrypting key that its recipient holds is ready
 abbrev pub readied : Option LinkRec → List Edit

@@ -3,7 +3,7 @@ use Rattle.std.specs.Prelude.{ℕ, not, is_some, true, List, [], ◌∷◌, None
 use Rattle.x_base.specs.declared.party.Side.{Side}
 use Rattle.x_base.specs.declared.verdict.Verdict.TheVariants.{LabelTaken, SameKey, Alias, LinksFull}
 use Rattle.x_mac.specs.declared.pair.Pair.{Pair}
-use Rattle.x_gen.specs.Parity.{odd_of}
+use Rattle.x_gen.specs.Parity.{odd_parity_of}
 use Rattle.party_tables.specs.declared.link.LinkKey.{LinkKey}
 use Rattle.party_state.specs.declared.edit.Edit.TheVariants.{PutLink}
 use Rattle.party_state.specs.State.{Party, link_with, has_pair, aliases}
@@ -13,7 +13,7 @@ use Rattle.role_base.specs.Conditions.{has_link_room}
 
 -- both halves with odd parity
 abbrev pub odd_pair : Pair → Pair
-odd_pair pair = record { left = odd_of pair.left; right = odd_of pair.right }
+odd_pair pair = record { left = odd_parity_of pair.left; right = odd_parity_of pair.right }
 
 abbrev pub load_tests : Party → LinkKey → Pair → List Test
 load_tests p key pair =

@@ -3,7 +3,7 @@
 use Rattle.std.specs.Prelude.{ℕ, ◌≡◌, ◌≢◌, ◌+◌, ◌≤◌, true, false, List, length, Some, None}
 use Rattle.x_base.specs.declared.party.Side.{Side}
 use Rattle.x_mac.specs.declared.pair.Pair.{Pair}
-use Rattle.x_gen.specs.Parity.{odd_of}
+use Rattle.x_gen.specs.Parity.{odd_parity_of}
 use Rattle.party_tables.specs.declared.link.LinkKey.{LinkKey}
 use Rattle.party_state.specs.State.{Party, link_with, has_pair, aliases}
 use Rattle.party_state.specs.Rows.{Row}
@@ -13,7 +13,7 @@ pub record CanLoad (p : Party) (peer label : List ℕ) (side : Side) (pair : Pai
   -- no link with the peer has the label on this side
   pub free : link_with (record { peer = peer; label = label; side = side }) p ≡ None
   -- no link has the pair, once it has odd parity
-  pub other : has_pair (record { left = odd_of pair.left; right = odd_of pair.right }) p ≡ false
+  pub other : has_pair (record { left = odd_parity_of pair.left; right = odd_parity_of pair.right }) p ≡ false
   -- the peer doesn't expand as this party does, nor as another peer of a link
   pub alone : aliases peer p ≡ false
   -- with its link 64 stand at most
@@ -25,7 +25,7 @@ pub record Loads (p after : Party) (r : Row) (key : LinkKey) (pair : Pair) : Typ
     peer = key.peer;
     label = key.label;
     side = key.side;
-    pair = record { left = odd_of pair.left; right = odd_of pair.right };
+    pair = record { left = odd_parity_of pair.left; right = odd_parity_of pair.right };
     next = 1;
     ready = true;
   })

@@ -4,7 +4,7 @@ use Rattle.party_tables.specs.declared.exchange.Exchange.{Exchange}
 use Rattle.party_tables.specs.declared.exchange.Kind.{Kind}
 use Rattle.party_tables.specs.declared.exchange.Kind.TheVariants as kind
 use Rattle.party_tables.specs.declared.exchange.Via.{Via}
-use Rattle.party_tables.specs.declared.exchange.Via.TheVariants as via
+use Rattle.party_tables.specs.declared.exchange.Via.TheVariants as vias
 use Rattle.party_tables.specs.Keys.{same_name}
 
 abbrev pub same_label : Option (List ℕ) → Option (List ℕ) → Bool
@@ -13,9 +13,9 @@ same_label (Some a) (Some b) = bytes_eq a b
 same_label _ _ = false
 
 abbrev pub same_via : Via → Via → Bool
-same_via (via.Direct label new) (via.Direct other fresh) = bytes_eq label other && same_label new fresh
-same_via (via.Distribution centre cta) (via.Distribution other count) = bytes_eq centre other && (cta == count)
-same_via (via.Translation centre) (via.Translation other) = bytes_eq centre other
+same_via (vias.Direct label new) (vias.Direct other fresh) = bytes_eq label other && same_label new fresh
+same_via (vias.Distribution centre cta) (vias.Distribution other count) = bytes_eq centre other && (cta == count)
+same_via (vias.Translation centre) (vias.Translation other) = bytes_eq centre other
 same_via _ _ = false
 
 abbrev pub same_kind : Kind → Kind → Bool

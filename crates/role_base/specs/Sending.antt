@@ -11,7 +11,7 @@ use Rattle.csm_grammar.specs.declared.message.Message.TheVariants as message
 use Rattle.csm_grammar.specs.declared.message.KsmBody.TheVariants as body
 use Rattle.party_tables.specs.declared.link.LinkRec.{LinkRec}
 use Rattle.party_tables.specs.declared.key.KeyStatus.TheVariants.{Pending}
-use Rattle.party_tables.specs.declared.exchange.Via.TheVariants as via
+use Rattle.party_tables.specs.declared.exchange.Via.TheVariants as vias
 use Rattle.party_tables.specs.declared.exchange.Kind.TheVariants as kind
 use Rattle.party_state.specs.declared.edit.Edit.{Edit}
 use Rattle.party_state.specs.declared.edit.Edit.TheVariants.{PutLink, PutKey, PutExchange, SetGen}
@@ -47,7 +47,7 @@ sent_edits p l key v =
     SetGen v
     ∷ PutLink (record l { next = l.next + 1 })
     ∷ PutKey (record { peer = l.peer; name = next_name p l; value = key; status = Pending })
-    ∷ PutExchange (record { peer = l.peer; kind = kind.KeySent (next_name p l) (via.Direct l.label None); text = text_of (data_key_reply p l key) })
+    ∷ PutExchange (record { peer = l.peer; kind = kind.KeySent (next_name p l) (vias.Direct l.label None); text = text_of (data_key_reply p l key) })
     ∷ []
 
 -- the row behind the tests that come before, with what is drawn

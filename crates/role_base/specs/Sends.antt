@@ -12,7 +12,7 @@ use Rattle.csm_write.specs.declared.closing.Closing.TheVariants as closing
 use Rattle.csm_write.specs.Canon.{canon}
 use Rattle.party_tables.specs.declared.link.LinkRec.{LinkRec}
 use Rattle.party_tables.specs.declared.key.KeyStatus.TheVariants.{Pending}
-use Rattle.party_tables.specs.declared.exchange.Via.TheVariants as via
+use Rattle.party_tables.specs.declared.exchange.Via.TheVariants as vias
 use Rattle.party_tables.specs.declared.exchange.Kind.TheVariants as kind
 use Rattle.party_tables.specs.Keys.{link_key}
 use Rattle.party_state.specs.State.{Party, link_with, record_with, exchange_with}
@@ -43,4 +43,4 @@ pub record SendsKey (p after : Party) (r : Row) (l : LinkRec) (moment : ℕ) : T
   -- the count is used, the key is pending, and the exchange keeps the text
   pub used : link_with (link_key l) after ≡ Some (record l { next = l.next + 1 })
   pub pending : record_with (record { peer = l.peer; name = name }) after ≡ Some (record { peer = l.peer; name = name; value = key; status = Pending })
-  pub waits : exchange_with l.peer after ≡ Some (record { peer = l.peer; kind = kind.KeySent name (via.Direct l.label None); text = canon (message.Ksm ksm) (closing.Mac key) })
+  pub waits : exchange_with l.peer after ≡ Some (record { peer = l.peer; kind = kind.KeySent name (vias.Direct l.label None); text = canon (message.Ksm ksm) (closing.Mac key) })

@@ -7,7 +7,7 @@ use Rattle.csm_grammar.specs.declared.message.Extras.{Extras}
 use Rattle.csm_grammar.specs.declared.parsed.Shut.{Shut}
 use Rattle.csm_grammar.specs.declared.parsed.Shut.TheVariants as shut
 use Rattle.csm_grammar.specs.declared.arrival.Arrival.{Arrival}
-use Rattle.csm_grammar.specs.Arrivals.{authenticated}
+use Rattle.csm_grammar.specs.Arrivals.{authenticated_text}
 use Rattle.csm_write.specs.declared.closing.Closing.TheVariants as closing
 use Rattle.csm_write.specs.Canon.{canon}
 use Rattle.party_state.specs.declared.decision.Lead.{Lead}
@@ -42,7 +42,7 @@ is_edc_of auth (shut.Edc digits) = edc_of auth == digits
 
 -- the arrival's authentication code is made under this key
 unfoldable pub is_verified : Arrival → ℕ → Bool
-is_verified a value = is_mac_of value (authenticated a) a.parsed.shut
+is_verified a value = is_mac_of value (authenticated_text a) a.parsed.shut
 
 -- a key, and whether the arrival's code is made under it; no key-encrypting key comes
 abbrev pub lead_under : Arrival → FullName → ℕ → Lead
@@ -50,7 +50,7 @@ lead_under a under value = record { under = under; value = value; verified = is_
 
 -- its error detection code is right
 unfoldable pub is_right : Arrival → Bool
-is_right a = is_edc_of (authenticated a) a.parsed.shut
+is_right a = is_edc_of (authenticated_text a) a.parsed.shut
 
 abbrev pub is_plain : Shut → Bool
 is_plain (shut.Mac digits) = false

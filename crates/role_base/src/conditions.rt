@@ -181,8 +181,8 @@ pub fn answer_verdict(
 ) -> Verdict
     ensures { result ≡ verdict_of (answer_front state.now receiver.now originator.now stands ++ (verified, BadMac) ∷ []) }
 {
-    let front = answer_front(state, receiver, originator, stands);
-    verdict_after(&front, &[(verified, Verdict::BadMac)])
+    let tests_before_code = answer_front(state, receiver, originator, stands);
+    verdict_after(&tests_before_code, &[(verified, Verdict::BadMac)])
 }
 
 /// Refused, since it answers no exchange.

@@ -26,10 +26,10 @@ pub fn refusal(verdict: Verdict) -> Decision
 }
 
 /// Refused, where one of the tests fails that stand before a code's.
-pub fn early_refusal(front: &[(bool, Verdict)]) -> Decision
-    ensures { RefusesEarly front.now result }
+pub fn early_refusal(tests_before_code: &[(bool, Verdict)]) -> Decision
+    ensures { RefusesEarly tests_before_code.now result }
 {
-    refusal(verdict_of(front))
+    refusal(verdict_of(tests_before_code))
 }
 
 /// Whether each of the edits makes a difference.

@@ -12,7 +12,7 @@ use x_base::{Count, Ident, NoMemory, Text, Verdict};
 
 /// The counts that an error message names, each under the tag of the message that it answers.
 #[derive(Clone, Copy)]
-pub struct Counts {
+pub struct ErrorCounts {
     pub ctp: Option<Count>,
     pub cta: Option<Count>,
     pub ctb: Option<Count>,
@@ -48,7 +48,7 @@ fn error_for(
     alloc: Global,
     state: &State,
     originator: Ident,
-    counts: Counts,
+    counts: ErrorCounts,
     verdict: &Verdict,
 ) -> Result<Option<Message>, NoMemory>
     requires { TellsCount verdict.now }
@@ -75,7 +75,7 @@ pub fn error_answer(
     alloc: Global,
     state: &State,
     originator: Ident,
-    counts: Counts,
+    counts: ErrorCounts,
     verdict: Verdict,
     lead: &Lead,
 ) -> Result<Decision, NoMemory>

@@ -12,7 +12,7 @@ use x_base::{Ident, KeyName, Label, Side};
 #[derive(Clone, Copy)]
 pub struct Sent {
     pub key: KeyRec,
-    pub way: Via,
+    pub via: Via,
 }
 
 /// Two keys that were sent to a peer in one message.
@@ -61,7 +61,7 @@ pub fn sent_by(state: &State, peer: &Ident, kind: &Kind) -> Option<Sent>
     match kind {
         Kind::KeySent { name, via } => {
             let key = record_of(state, peer, name)?;
-            Some(Sent { key, way: *via })
+            Some(Sent { key, via: *via })
         }
         Kind::Asked { .. }
         | Kind::Translating { .. }
@@ -131,19 +131,19 @@ pub fn is_waiting(state: &State, peer: &Ident) -> bool
     }
 }
 
-fn new_label(way: &Via) -> Option<Label>
-    ensures { result ≡ new_label way.now }
+fn new_label(via: &Via) -> Option<Label>
+    ensures { result ≡ new_label via.now }
 {
-    match way {
+    match via {
         Via::Direct { new, .. } => *new,
         Via::Distribution { .. } | Via::Translation { .. } => None,
     }
 }
 
 /// The link of a new key-encrypting key that went this way.
-pub fn new_link(state: &State, peer: &Ident, way: &Via) -> Option<LinkRec>
-    ensures { result ≡ new_link state.now peer.now way.now }
+pub fn new_link(state: &State, peer: &Ident, via: &Via) -> Option<LinkRec>
+    ensures { result ≡ new_link state.now peer.now via.now }
 {
-    let label = new_label(way)?;
+    let label = new_label(via)?;
     state.link(peer, &label, Side::Sends).copied()
 }

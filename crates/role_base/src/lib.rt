@@ -30,7 +30,7 @@ pub use conditions::{
 };
 pub use decisions::{accept, early_refusal, refusal};
 pub use edits::{dropped, ended, joined, list_of, readied};
-pub use errors::{Counts, error_answer};
+pub use errors::{ErrorCounts, error_answer};
 pub use exchanges::{
     Sent, Twins, ending_with, is_waiting, new_link, record_behind, record_of, sent_by, twins_by,
 };
@@ -41,6 +41,6 @@ pub use links::{first_link, link_behind, link_with};
 pub use loading::{load, odd_pair};
 pub use names::{centre_label, direct_name, no_extras};
 pub use redoing::are_done;
-pub use sending::{next_name, pending, send, used};
+pub use sending::{link_after_use, next_name, pending, send};
 pub use texts::{Written, is_right};
-pub use verdicts::{is_accept, passes, verdict_after, verdict_of};
+pub use verdicts::{is_accept, tests_pass, verdict_after, verdict_of};

@@ -10,7 +10,7 @@ use crate::verdicts::{is_accept, verdict_of};
 use party_state::{Decision, Edit, LinkRec, State, law_accept};
 use std::alloc::Global;
 use x_base::{Ident, Label, NoMemory, Side, Verdict};
-use x_gen::odd;
+use x_gen::with_odd_parity;
 use x_mac::Pair;
 
 /// Both halves with odd parity.
@@ -18,8 +18,8 @@ pub fn odd_pair(pair: Pair) -> Pair
     ensures { result ≡ odd_pair pair }
 {
     Pair {
-        left: odd(pair.left),
-        right: odd(pair.right),
+        left: with_odd_parity(pair.left),
+        right: with_odd_parity(pair.right),
     }
 }
 

@@ -70,7 +70,7 @@ fn data_key_text(
 }
 
 /// The link behind its next count.
-pub fn used(link: &LinkRec, count: Count) -> LinkRec
+pub fn link_after_use(link: &LinkRec, count: Count) -> LinkRec
     requires { count ≡ link.now.next }
     ensures used { result ≡ record link.now { next = link.now.next + 1 } }
     ensures count { IsCount link.now.next }
@@ -120,7 +120,7 @@ fn send_key(
     };
     let edits = [
         Edit::SetGen(after.v),
-        Edit::PutLink(used(link, count)),
+        Edit::PutLink(link_after_use(link, count)),
         Edit::PutKey(pending(link, name, key)),
         Edit::PutExchange(exchange),
     ];

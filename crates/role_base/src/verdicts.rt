@@ -1,6 +1,6 @@
 // The verdict of a list of tests, each with the verdict where it is the first that fails.
 ghost use Rattle.std.specs.Prelude.{◌≡◌, ◌++◌};
-ghost use Rattle.party_state.specs.Verdicts.{verdict_of, passes, is_accept};
+ghost use Rattle.party_state.specs.Verdicts.{verdict_of, tests_pass, is_accept};
 ghost use Rattle.role_base.specs.Failing.{failed_in};
 
 use x_base::Verdict;
@@ -41,8 +41,8 @@ pub fn is_accept(verdict: &Verdict) -> bool
 }
 
 /// Whether every test holds.
-pub fn passes(tests: &[(bool, Verdict)]) -> bool
-    ensures { result ≡ passes tests.now }
+pub fn tests_pass(tests: &[(bool, Verdict)]) -> bool
+    ensures { result ≡ tests_pass tests.now }
 {
     match failed_in(tests) {
         Some(_) => false,

@@ -2,7 +2,7 @@
 use party_state::{Role, Side};
 use x_base::{Ident, KeyName, Label};
 use x_mac::Pair;
-use x_values::{ident, key_name, label, number, pair};
+use x_values::{read_decimal_number, read_ident, read_key_name, read_label, read_pair};
 
 /// The first words of a line, which blanks part.
 pub(crate) fn words_of(line: &str) -> [Option<&str>; 6] {
@@ -18,23 +18,23 @@ pub(crate) fn words_of(line: &str) -> [Option<&str>; 6] {
 }
 
 pub(crate) fn ident_of(word: Option<&str>) -> Option<Ident> {
-    ident(word?.as_bytes())
+    read_ident(word?.as_bytes())
 }
 
 pub(crate) fn label_of(word: Option<&str>) -> Option<Label> {
-    label(word?.as_bytes())
+    read_label(word?.as_bytes())
 }
 
 pub(crate) fn name_of(word: Option<&str>) -> Option<KeyName> {
-    key_name(word?.as_bytes())
+    read_key_name(word?.as_bytes())
 }
 
 pub(crate) fn pair_of(word: Option<&str>) -> Option<Pair> {
-    pair(word?.as_bytes())
+    read_pair(word?.as_bytes())
 }
 
 pub(crate) fn number_of(word: Option<&str>) -> Option<u64> {
-    number(word?.as_bytes())
+    read_decimal_number(word?.as_bytes())
 }
 
 pub(crate) fn side_of(word: Option<&str>) -> Option<Side> {

@@ -51,9 +51,9 @@ takes held bank p i moment = λ a m brought. by_role a m brought p.role refl
         ap (λ (x : Input). translation_row p x) brought.arrived ∙ ap (λ (n : Message). translation_message p a n) brought.message in
         (λ h. absurd (not_served held p m.receiver m.originator (body_issuer m.originator m.body) (translation_row p i) row h), λ t. absurd (cc (e, t.0)))
 
-pub passes : HeldAtAccept → ((p : Party) (i : Input) (moment : ℕ) → PassesKeys p i (decided p i moment)) → (p : Party) (i : Input) (moment : ℕ) → PassesAsBank p i (decision p i moment)
+pub keys_pass : HeldAtAccept → ((p : Party) (i : Input) (moment : ℕ) → PassesKeys p i (decided p i moment)) → (p : Party) (i : Input) (moment : ℕ) → PassesAsBank p i (decision p i moment)
 unfolding decision
-passes held bank p i moment = λ a m brought. by_role a m brought p.role refl
+keys_pass held bank p i moment = λ a m brought. by_role a m brought p.role refl
   where
     by_role : (a : Arrival) (m : Rtr) → Responds i a m → (r : Role) → p.role ≡ r → ((row_by r p i moment).verdict ≡ Accept) ↔ ((p.role ≡ Bank) × CanPassOn p a m)
     by_role a m brought Bank e = (λ h. (e, (bank p i moment a m brought).0 h), λ t. (bank p i moment a m brought).1 t.1)
@@ -75,12 +75,12 @@ bank_row p i moment a m arrived is = ap (λ (x : Input). row_by Bank p x moment)
 pub decided_by : ((p : Party) (i : Input) (moment : ℕ) → TakesAsBank p i (decision p i moment)) → ((p : Party) (i : Input) (moment : ℕ) → PassesAsBank p i (decision p i moment))
     → (p : Party) (i : Input) (moment : ℕ) → IsRanged p (decision p i moment) → (role : Role) (made : Result Decision NoMemory) → p.role ≡ role → Decides p (row_by role p i moment) made → IfOk made (IsDecided p i moment)
 unfolding decision
-decided_by takes passes p i moment ranged role (Ok d) r e =
+decided_by takes keys_pass p i moment ranged role (Ok d) r e =
     let is : d ≡ decision_of p (row_at p i moment) = e.is ∙ ap (λ (x : Role). decision_of p (row_by x p i moment)) (sym r) in
-    record { is = is; kept = e.kept; short = rw is ranged.short; complete = rw is (takes p i moment); passed_on = rw is (passes p i moment) }
-decided_by takes passes p i moment ranged role (Err f) r e = tt
+    record { is = is; kept = e.kept; short = rw is ranged.short; complete = rw is (takes p i moment); passed_on = rw is (keys_pass p i moment) }
+decided_by takes keys_pass p i moment ranged role (Err f) r e = tt
 
 -- the same at a bank, by the row of the input
 pub decided_at_bank : ((p : Party) (i : Input) (moment : ℕ) → TakesAsBank p i (decision p i moment)) → ((p : Party) (i : Input) (moment : ℕ) → PassesAsBank p i (decision p i moment))
     → (p : Party) (i : Input) (moment : ℕ) → IsRanged p (decision p i moment) → (made : Result Decision NoMemory) (r : Row) → p.role ≡ Bank → row_by Bank p i moment ≡ r → Decides p r made → IfOk made (IsDecided p i moment)
-decided_at_bank takes passes p i moment ranged made r role row e = decided_by takes passes p i moment ranged Bank made role (subst (λ (x : Row). Decides p x made) (sym row) e)
+decided_at_bank takes keys_pass p i moment ranged made r role row e = decided_by takes keys_pass p i moment ranged Bank made role (subst (λ (x : Row). Decides p x made) (sym row) e)

@@ -25,13 +25,13 @@ use party_state::law_accept;
 
 /// There is no key to test the code of an arrival under exactly where the arrival is closed by an
 /// error detection code, or is refused before its code is looked at.
-pub fn law_lead()
+pub fn law_role_lead()
     ensures { (p : Party) (a : TheArrival) (moment : ℕ) →
         ((lead_at p a ≡ None) ↔ ((is_plain a.parsed.shut ≡ true) ⊎ (is_early (decision p (Arrived a) moment).verdict ≡ true))) }
 {
-    bank_role::law_lead();
-    distribution_role::law_lead();
-    translation_role::law_lead();
+    bank_role::law_bank_lead();
+    distribution_role::law_distribution_lead();
+    translation_role::law_translation_lead();
 }
 
 /// An edit that makes no difference changes nothing. One that changes nothing makes no difference,
@@ -45,9 +45,9 @@ pub fn law_differing()
         apply (differing p (row_at p i moment).edits) p ≡ apply (row_at p i moment).edits p }
 {
     role_base::law_differing();
-    bank_role::law_apart();
-    distribution_role::law_apart();
-    translation_role::law_apart();
+    bank_role::law_bank_apart();
+    distribution_role::law_distribution_apart();
+    translation_role::law_translation_apart();
 }
 
 /// Of the change of each decision, at a party that has each link once, no edit is done at the party,
@@ -61,9 +61,9 @@ pub fn law_settling()
         apply (decision p i moment).change (apply (decision p i moment).change q) ≡ apply (decision p i moment).change q }
 {
     role_base::law_settling();
-    bank_role::law_apart();
-    distribution_role::law_apart();
-    translation_role::law_apart();
+    bank_role::law_bank_apart();
+    distribution_role::law_distribution_apart();
+    translation_role::law_translation_apart();
 }
 
 /// What a decision changes can be kept, each part of it in its range, so that it has a code, and what

@@ -7,6 +7,6 @@ mod leads;
 
 pub use deciding::decide;
 pub use laws::{
-    law_differing, law_lead, law_passing, law_ranged, law_serves, law_settling, law_taking,
+    law_differing, law_passing, law_ranged, law_role_lead, law_serves, law_settling, law_taking,
 };
 pub use leads::lead;

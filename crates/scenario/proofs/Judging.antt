@@ -7,17 +7,17 @@ use Rattle.scenario.specs.Rows.{rows_of}
 use Rattle.scenario.specs.Laws.{HasReading, NeverBoth, OneFirstBad, OneScenario}
 
 -- the test of what stands behind this element
-abbrev behind : {A : Type 0} → (List A → A → Bool) → A → List A → A → Bool
-behind passes x before y = passes (x ∷ before) y
+abbrev tested_behind : {A : Type 0} → (List A → A → Bool) → A → List A → A → Bool
+tested_behind passes x before y = passes (x ∷ before) y
 
 none_behind : {A : Type 0} (passes : List A → A → Bool) → EachBehind passes []
 none_behind passes [] after x e = absurd (cc)
 none_behind passes (b ∷ before) after x e = absurd (cc)
 
-tail_behind : {A : Type 0} (passes : List A → A → Bool) (x : A) (xs : List A) → EachBehind passes (x ∷ xs) → EachBehind (behind passes x) xs
+tail_behind : {A : Type 0} (passes : List A → A → Bool) (x : A) (xs : List A) → EachBehind passes (x ∷ xs) → EachBehind (tested_behind passes x) xs
 tail_behind passes x xs h before after y e = h (x ∷ before) after y (ap (λ l. x ∷ l) e)
 
-cons_behind : {A : Type 0} (passes : List A → A → Bool) (x : A) (xs : List A) → passes [] x ≡ true → EachBehind (behind passes x) xs → EachBehind passes (x ∷ xs)
+cons_behind : {A : Type 0} (passes : List A → A → Bool) (x : A) (xs : List A) → passes [] x ≡ true → EachBehind (tested_behind passes x) xs → EachBehind passes (x ∷ xs)
 cons_behind passes x xs first h [] after y e = let same : x ≡ y = cc in subst (λ z. passes [] z ≡ true) same first
 cons_behind passes x xs first h (b ∷ before) after y e =
     let same : x ≡ b = cc in
@@ -25,15 +25,15 @@ cons_behind passes x xs first h (b ∷ before) after y e =
 
 -- one more that passes
 pub more_behind : {A : Type 0} (passes : List A → A → Bool) (xs : List A) (y : A) → EachBehind passes xs → passes xs y ≡ true → EachBehind passes (xs ++ y ∷ [])
-more_behind passes [] y h last = cons_behind passes y [] last (none_behind (behind passes y))
+more_behind passes [] y h last = cons_behind passes y [] last (none_behind (tested_behind passes y))
 more_behind passes (x ∷ xs) y h last =
-    cons_behind passes x (xs ++ y ∷ []) (h [] xs x refl) (more_behind (behind passes x) xs y (tail_behind passes x xs h) last)
+    cons_behind passes x (xs ++ y ∷ []) (h [] xs x refl) (more_behind (tested_behind passes x) xs y (tail_behind passes x xs h) last)
 
 pub first_fails : {A : Type 0} (passes : List A → A → Bool) (xs : List A) → EachBehind passes xs ⊎ ((before : List A) × FirstFails passes xs before)
 first_fails passes [] = inl (none_behind passes)
-first_fails {A} passes (x ∷ xs) = by (passes [] x) refl (first_fails (behind passes x) xs)
+first_fails {A} passes (x ∷ xs) = by (passes [] x) refl (first_fails (tested_behind passes x) xs)
   where
-    by : (b : Bool) → passes [] x ≡ b → (EachBehind (behind passes x) xs ⊎ ((before : List A) × FirstFails (behind passes x) xs before))
+    by : (b : Bool) → passes [] x ≡ b → (EachBehind (tested_behind passes x) xs ⊎ ((before : List A) × FirstFails (tested_behind passes x) xs before))
         → EachBehind passes (x ∷ xs) ⊎ ((before : List A) × FirstFails passes (x ∷ xs) before)
     by false e rest = inr ([], record { each = none_behind passes; here = x; after = xs; whole = refl; fails = e })
     by true e (inl h) = inl (cons_behind passes x xs e h)
@@ -48,12 +48,12 @@ same_place passes xs (x ∷ a) [] f g = absurd (
     let same : g.here ≡ x = cc (f.whole, g.whole) in
     true≢false (sym (f.each [] a x refl) ∙ sym (ap (passes []) same) ∙ g.fails))
 same_place passes [] (x ∷ a) (y ∷ b) f g = absurd (cc (f.whole))
-same_place {A} passes (z ∷ xs) (x ∷ a) (y ∷ b) f g = ap (λ n. suc n) (same_place (behind passes z) xs a b (inside x a f) (inside y b g))
+same_place {A} passes (z ∷ xs) (x ∷ a) (y ∷ b) f g = ap (λ n. suc n) (same_place (tested_behind passes z) xs a b (inside x a f) (inside y b g))
   where
-    inside : (w : A) (c : List A) → FirstFails passes (z ∷ xs) (w ∷ c) → FirstFails (behind passes z) xs c
+    inside : (w : A) (c : List A) → FirstFails passes (z ∷ xs) (w ∷ c) → FirstFails (tested_behind passes z) xs c
     inside w c h =
         let same : w ≡ z = cc (h.whole) in
-        subst (λ v. FirstFails (behind passes v) xs c) same (record {
+        subst (λ v. FirstFails (tested_behind passes v) xs c) same (record {
           each = tail_behind passes w c h.each;
           here = h.here;
           after = h.after;

@@ -7,7 +7,7 @@ use Rattle.x_base.specs.Ident.{expanded}
 use Rattle.x_base.specs.declared.party.Role.{Role}
 use Rattle.x_base.specs.declared.party.Role.TheVariants.{Bank, Distribution, Translation}
 use Rattle.x_mac.specs.declared.pair.Pair.{Pair}
-use Rattle.x_gen.specs.Parity.{odd_of}
+use Rattle.x_gen.specs.Parity.{odd_parity_of}
 use Rattle.scenario.specs.declared.line.Line.{Line}
 use Rattle.scenario.specs.declared.line.Line.TheVariants as line
 
@@ -45,7 +45,7 @@ same_two a b = (a.0 == b.0) && (a.1 == b.1)
 
 -- the pair that a LINK line loads, given odd parity
 abbrev pub odd_pair : Pair → ℕ × ℕ
-odd_pair pair = (odd_of pair.left, odd_of pair.right)
+odd_pair pair = (odd_parity_of pair.left, odd_parity_of pair.right)
 
 abbrev pub loaded : Line → Option (ℕ × ℕ)
 loaded (line.Link origin recipient label pair) = Some (odd_pair pair)

@@ -10,7 +10,10 @@ use crate::words::{first_word, five, four, one, one_or_two, three, two, two_or_t
 use hex::FromHexError;
 use std::alloc::Global;
 use x_base::{Ident, Label, NoMemory, Role, Text};
-use x_values::{ident, key, key_name, label, number, pair, plain_number, plain_number_within};
+use x_values::{
+    read_decimal_number, read_ident, read_key, read_key_name, read_label, read_pair,
+    read_plain_number, read_plain_number_within,
+};
 
 /// How many lines a scenario may have, and so how many texts a line may count.
 const MOST_TEXTS: u64 = 65_536;
@@ -49,7 +52,7 @@ fn ident_if_there(word: Option<&[u8]>) -> Option<Option<Ident>>
 {
     match word {
         None => Some(None),
-        Some(word) => Some(Some(ident(word)?)),
+        Some(word) => Some(Some(read_ident(word)?)),
     }
 }
 
@@ -58,7 +61,7 @@ fn label_if_there(word: Option<&[u8]>) -> Option<Option<Label>>
 {
     match word {
         None => Some(None),
-        Some(word) => Some(Some(label(word)?)),
+        Some(word) => Some(Some(read_label(word)?)),
     }
 }
 
@@ -67,10 +70,10 @@ fn party(words: &[u8]) -> Option<Line>
 {
     let (name, what, keys, v) = four(words)?;
     Some(Line::Party {
-        name: ident(name)?,
+        name: read_ident(name)?,
         role: role(what)?,
-        pair: pair(keys)?,
-        v: key(v)?,
+        pair: read_pair(keys)?,
+        v: read_key(v)?,
     })
 }
 
@@ -79,10 +82,10 @@ fn link(words: &[u8]) -> Option<Line>
 {
     let (origin, recipient, name, keys) = four(words)?;
     Some(Line::Link {
-        origin: ident(origin)?,
-        recipient: ident(recipient)?,
-        label: label(name)?,
-        pair: pair(keys)?,
+        origin: read_ident(origin)?,
+        recipient: read_ident(recipient)?,
+        label: read_label(name)?,
+        pair: read_pair(keys)?,
     })
 }
 
@@ -91,7 +94,7 @@ fn time(words: &[u8]) -> Option<Line>
 {
     let moment = one(words)?;
     Some(Line::Time {
-        moment: number(moment)?,
+        moment: read_decimal_number(moment)?,
     })
 }
 
@@ -100,8 +103,8 @@ fn start(words: &[u8]) -> Option<Line>
 {
     let (party, peer, name) = two_or_three(words)?;
     Some(Line::Start {
-        party: ident(party)?,
-        peer: ident(peer)?,
+        party: read_ident(party)?,
+        peer: read_ident(peer)?,
         label: label_if_there(name)?,
     })
 }
@@ -111,10 +114,10 @@ fn start_kk(words: &[u8]) -> Option<Line>
 {
     let (party, peer, under, new, how) = five(words)?;
     Some(Line::StartKk {
-        party: ident(party)?,
-        peer: ident(peer)?,
-        label: label(under)?,
-        new: label(new)?,
+        party: read_ident(party)?,
+        peer: read_ident(peer)?,
+        label: read_label(under)?,
+        new: read_label(new)?,
         single: is_single(how)?,
     })
 }
@@ -124,8 +127,8 @@ fn ask(words: &[u8]) -> Option<Line>
 {
     let (party, peer, ultimate) = two_or_three(words)?;
     Some(Line::Ask {
-        party: ident(party)?,
-        peer: ident(peer)?,
+        party: read_ident(party)?,
+        peer: read_ident(peer)?,
         ultimate: ident_if_there(ultimate)?,
     })
 }
@@ -135,9 +138,9 @@ fn translate(words: &[u8]) -> Option<Line>
 {
     let (party, centre, ultimate) = three(words)?;
     Some(Line::Translate {
-        party: ident(party)?,
-        centre: ident(centre)?,
-        ultimate: ident(ultimate)?,
+        party: read_ident(party)?,
+        centre: read_ident(centre)?,
+        ultimate: read_ident(ultimate)?,
     })
 }
 
@@ -146,8 +149,8 @@ fn resend(words: &[u8]) -> Option<Line>
 {
     let (party, peer) = two(words)?;
     Some(Line::Resend {
-        party: ident(party)?,
-        peer: ident(peer)?,
+        party: read_ident(party)?,
+        peer: read_ident(peer)?,
     })
 }
 
@@ -156,9 +159,9 @@ fn end(words: &[u8]) -> Option<Line>
 {
     let (party, peer, name) = three(words)?;
     Some(Line::End {
-        party: ident(party)?,
-        peer: ident(peer)?,
-        name: key_name(name)?,
+        party: read_ident(party)?,
+        peer: read_ident(peer)?,
+        name: read_key_name(name)?,
     })
 }
 
@@ -167,8 +170,8 @@ fn drop_exchange(words: &[u8]) -> Option<Line>
 {
     let (party, peer) = two(words)?;
     Some(Line::Drop {
-        party: ident(party)?,
-        peer: ident(peer)?,
+        party: read_ident(party)?,
+        peer: read_ident(peer)?,
     })
 }
 
@@ -177,7 +180,7 @@ fn purge(words: &[u8]) -> Option<Line>
 {
     let party = one(words)?;
     Some(Line::Purge {
-        party: ident(party)?,
+        party: read_ident(party)?,
     })
 }
 
@@ -185,10 +188,10 @@ fn pass(words: &[u8]) -> Option<Line>
     ensures { result ≡ pass_line (words_behind words.now) }
 {
     let (k, party) = two(words)?;
-    let k = plain_number_within(1, MOST_TEXTS, k)?;
+    let k = read_plain_number_within(1, MOST_TEXTS, k)?;
     Some(Line::Pass {
         k: k as u32,
-        party: ident(party)?,
+        party: read_ident(party)?,
     })
 }
 
@@ -196,7 +199,7 @@ fn recent(words: &[u8]) -> Option<Line>
     ensures { result ≡ recent_line (words_behind words.now) }
 {
     let j = one(words)?;
-    let j = plain_number_within(1, MOST_TEXTS, j)?;
+    let j = read_plain_number_within(1, MOST_TEXTS, j)?;
     Some(Line::Recent { j: j as u32 })
 }
 
@@ -205,8 +208,8 @@ fn stop(words: &[u8]) -> Option<Line>
 {
     let (n, choice) = two(words)?;
     Some(Line::Stop {
-        n: plain_number_within(1, 5, n)?,
-        choice: plain_number(choice)?,
+        n: read_plain_number_within(1, 5, n)?,
+        choice: read_plain_number(choice)?,
     })
 }
 
@@ -243,7 +246,7 @@ fn bytes(alloc: Global, words: &[u8]) -> Result<Option<Line>, NoMemory>
     let Some((party, digits)) = one_or_two(words) else {
         return Ok(None);
     };
-    let Some(party) = ident(party) else {
+    let Some(party) = read_ident(party) else {
         return Ok(None);
     };
     match bytes_there(alloc, digits)? {

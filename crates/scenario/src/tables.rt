@@ -9,7 +9,7 @@ use crate::line::Line;
 use indexmap::{IndexMap, IndexSet};
 use std::alloc::Global;
 use x_base::{Ident, Label, NoMemory, Role};
-use x_gen::odd;
+use x_gen::with_odd_parity;
 use x_mac::Pair;
 
 /// How many parties a scenario may have, and how many links a party.
@@ -30,7 +30,7 @@ pub(crate) struct Tables {
 fn odd_halves(pair: &Pair) -> (u64, u64)
     ensures { result ≡ odd_pair pair.now }
 {
-    (odd(pair.left), odd(pair.right))
+    (with_odd_parity(pair.left), with_odd_parity(pair.right))
 }
 
 /// The party that a line names first, where it must be declared.

@@ -8,7 +8,7 @@ use Rattle.x_base.specs.Ident.{repeated, expanded}
 use Rattle.x_base.specs.declared.party.Role.{Role}
 use Rattle.x_base.specs.declared.party.Role.TheVariants.{Bank, Distribution, Translation}
 use Rattle.x_mac.specs.declared.pair.Pair.{Pair}
-use Rattle.x_gen.specs.Parity.{odd_of}
+use Rattle.x_gen.specs.Parity.{odd_parity_of}
 use Rattle.x_seal.specs.Offset.{spread_of}
 use Rattle.x_values.specs.Words.{ident_of, key_of, pair_of}
 use Rattle.scenario.specs.declared.line.Line.{Line}
@@ -21,7 +21,7 @@ use Rattle.scenario_drill.proofs.Numbers.{key_read, key_plain}
 use Rattle.scenario_drill.proofs.Gathered.{Sets, not_skipped, one_as, both}
 
 abbrev pub pair_at : ℕ → Pair
-pair_at i = record { left = odd_of (bit_xor 0x0123456789ABCDEF (spread_of i)); right = odd_of (bit_xor 0xFEDCBA9876543210 (spread_of i)) }
+pair_at i = record { left = odd_parity_of (bit_xor 0x0123456789ABCDEF (spread_of i)); right = odd_parity_of (bit_xor 0xFEDCBA9876543210 (spread_of i)) }
 
 abbrev pub party_at : ℕ → ℕ → List ℕ → Role → Line
 party_at seed p name role = line.Party name role (pair_at (15 + p)) ((seed + p) % 2 ^ 64)
@@ -81,7 +81,7 @@ all_parties seed =
     ∷ party_at seed 4 (codes "CKDX") Distribution ∷ party_at seed 5 (codes "CKTX") Translation ∷ []
 
 parties_set : (seed : ℕ) → Sets [] (parties seed) (all_parties seed) 5
-unfolding parties encode_with decode_pairs odd_of ones spread_of expanded repeated
+unfolding parties encode_with decode_pairs odd_parity_of ones spread_of expanded repeated
 parties_set seed =
     let a = party_at seed 1 (codes "BANKA") Bank in
     let b = party_at seed 2 (codes "BANKB") Bank in
@@ -116,7 +116,7 @@ three : (before : List Line) (a b c : List ℕ) (x y z : Line) → Sets before a
 three before a b c x y z first second third = both before (a ++ b) c (x ∷ y ∷ []) (z ∷ []) 2 1 (both before a b (x ∷ []) (y ∷ []) 1 1 first second) third
 
 six_set : (seed : ℕ) → Sets (all_parties seed) links_of_banks bank_links 6
-unfolding links_of_banks encode_with decode_pairs odd_of ones spread_of
+unfolding links_of_banks encode_with decode_pairs odd_parity_of ones spread_of
 six_set seed =
     let p = all_parties seed in
     let l1 = link_at 1 (codes "BANKA") (codes "BANKB") (codes "K1") in
@@ -163,7 +163,7 @@ abbrev pub set_lines : ℕ → List Line
 set_lines seed = all_parties seed ++ bank_links ++ to_x ++ from_t ++ to_t
 
 to_x_set : (seed : ℕ) → Sets (all_parties seed ++ bank_links) (links_to_banks 7 (codes "CKDX")) to_x 3
-unfolding encode_with decode_pairs odd_of ones spread_of
+unfolding encode_with decode_pairs odd_parity_of ones spread_of
 to_x_set seed =
     let p = all_parties seed ++ bank_links in
     to_set seed 7 p (codes "CKDX") (link_set 7 p (codes "CKDX") (codes "BANKA") (codes "C") refl refl refl refl)
@@ -171,7 +171,7 @@ to_x_set seed =
     (link_set 9 (p ++ (link_at 7 (codes "CKDX") (codes "BANKA") (codes "C") ∷ link_at 8 (codes "CKDX") (codes "BANKB") (codes "C") ∷ [])) (codes "CKDX") (codes "BANKC") (codes "C") refl refl refl refl)
 
 from_t_set : (seed : ℕ) → Sets ((all_parties seed ++ bank_links) ++ to_x) (links_from_banks 10 (codes "CKTX")) from_t 3
-unfolding encode_with decode_pairs odd_of ones spread_of
+unfolding encode_with decode_pairs odd_parity_of ones spread_of
 from_t_set seed =
     let p = (all_parties seed ++ bank_links) ++ to_x in
     from_set seed 10 p (codes "CKTX") (link_set 10 p (codes "BANKA") (codes "CKTX") (codes "C") refl refl refl refl)
@@ -179,7 +179,7 @@ from_t_set seed =
     (link_set 12 (p ++ (link_at 10 (codes "BANKA") (codes "CKTX") (codes "C") ∷ link_at 11 (codes "BANKB") (codes "CKTX") (codes "C") ∷ [])) (codes "BANKC") (codes "CKTX") (codes "C") refl refl refl refl)
 
 to_t_set : (seed : ℕ) → Sets (((all_parties seed ++ bank_links) ++ to_x) ++ from_t) (links_to_banks 13 (codes "CKTX")) to_t 3
-unfolding encode_with decode_pairs odd_of ones spread_of
+unfolding encode_with decode_pairs odd_parity_of ones spread_of
 to_t_set seed =
     let p = ((all_parties seed ++ bank_links) ++ to_x) ++ from_t in
     to_set seed 13 p (codes "CKTX") (link_set 13 p (codes "CKTX") (codes "BANKA") (codes "C") refl refl refl refl)

@@ -3,7 +3,7 @@ use Rattle.std.specs.Prelude.{ℕ, zero, suc, ◌==◌, ◌+◌, ◌*◌, ◌/�
 use Rattle.std.specs.Fmt.{decimal}
 use Rattle.std.specs.Int.{w64, to_be_bytes}
 use Rattle.hex.specs.Hex.{encode_upper}
-use Rattle.x_gen.specs.Parity.{odd_of}
+use Rattle.x_gen.specs.Parity.{odd_parity_of}
 use Rattle.x_seal.specs.Offset.{spread_of}
 
 -- ---- the draws
@@ -37,8 +37,8 @@ key_digits key = encode_upper (to_be_bytes w64 key)
 -- pair i, in thirty-two digits: two fixed keys, each exclusive or the spread of i, with odd parity
 abbrev pub pair_digits : ℕ → List ℕ
 pair_digits i =
-    key_digits (odd_of (bit_xor 0x0123456789ABCDEF (spread_of i)))
-    ++ key_digits (odd_of (bit_xor 0xFEDCBA9876543210 (spread_of i)))
+    key_digits (odd_parity_of (bit_xor 0x0123456789ABCDEF (spread_of i)))
+    ++ key_digits (odd_parity_of (bit_xor 0xFEDCBA9876543210 (spread_of i)))
 
 -- ---- parties and links
 

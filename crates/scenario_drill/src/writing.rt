@@ -5,7 +5,7 @@ ghost use Rattle.std.specs.Fmt.{decimal};
 
 use std::alloc::Global;
 use x_base::{Count, NoMemory, Text};
-use x_gen::odd;
+use x_gen::with_odd_parity;
 use x_seal::spread;
 
 /// A text that grows line by line.
@@ -86,8 +86,8 @@ impl Script {
         ensures { OnOk result (self.new.text ≡ self.old.text ++ pair_digits i) }
     {
         let spread = spread(i);
-        self.key(odd(0x0123456789ABCDEF ^ spread))?;
-        self.key(odd(0xFEDCBA9876543210 ^ spread))
+        self.key(with_odd_parity(0x0123456789ABCDEF ^ spread))?;
+        self.key(with_odd_parity(0xFEDCBA9876543210 ^ spread))
     }
 
     /// The text.

@@ -30,7 +30,7 @@ module _ {E : Type 0} (told : E → View) (old : Stood E (Option Progress)) (p :
   progress : (spooled old).progress ≡ p
   progress = ap progress_in state
 
-  either : (c : List ℕ) → journal.IsOldOrNext Goes None old.state next c → HoldsEither (spooled old).progress plan c
+  either : (c : List ℕ) → journal.StandsForOldOrNext Goes None old.state next c → HoldsEither (spooled old).progress plan c
   either c (inl before) = inl (subst (HoldsPlans c) (sym progress) (subst (journal.StandsFor Goes None c) state before))
   either c (inr behind) = inr (subst (λ (q : Progress). HoldsPlans c (with_plan q plan)) (sym progress) (subst (journal.StandsFor Goes None c) next_is behind))
 
@@ -38,7 +38,7 @@ module _ {E : Type 0} (told : E → View) (old : Stood E (Option Progress)) (p :
   cut b sound k = record {
     answer = record {
       cause = k.replaced.cause;
-      leaves = λ tells c left. either c (left_now (told old.disk) (told b.disk) (journal.IsOldOrNext Goes None old.state next) sound (k.replaced.any_moment tells) c left);
+      leaves = λ tells c left. either c (left_now (told old.disk) (told b.disk) (journal.StandsForOldOrNext Goes None old.state next) sound (k.replaced.any_moment tells) c left);
     };
     faults = k.replaced.faults;
     tells = k.replaced.tells;

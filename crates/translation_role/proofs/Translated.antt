@@ -12,7 +12,7 @@ use Rattle.party_tables.specs.declared.link.LinkRec.{LinkRec}
 use Rattle.party_tables.specs.Ranges.{IsNextCount}
 use Rattle.party_tables.specs.Keys.{sends, takes}
 use Rattle.party_state.specs.State.{Party, centre_label, link_with, knows}
-use Rattle.party_state.specs.Verdicts.{Test, verdict_of, is_accept, passes}
+use Rattle.party_state.specs.Verdicts.{Test, verdict_of, is_accept, tests_pass}
 use Rattle.role_base.specs.Conditions.{is_for}
 use Rattle.role_base.specs.Deciding.{decision_of, accepting}
 use Rattle.role_base.specs.Errors.{TellsCount, answering, coded_under}
@@ -51,7 +51,7 @@ pub rfs_accepts : (p : Party) (a : Arrival) (m : Rfs) (l b : LinkRec) (x : Lead)
 rfs_accepts p a m l b x v made e i t k = decides_row made p (rfs_between p a m (Some l) (Some b)) v k (verdict_is p a m l b x v e i) t
 
 -- one that is refused before its code is looked at isn't answered
-pub rfs_unanswered : (p : Party) (a : Arrival) (m : Rfs) (l b : LinkRec) → passes (rfs_front p m true) ≡ false → (rfs_between p a m (Some l) (Some b)).answer ≡ None
+pub rfs_unanswered : (p : Party) (a : Arrival) (m : Rfs) (l b : LinkRec) → tests_pass (rfs_front p m true) ≡ false → (rfs_between p a m (Some l) (Some b)).answer ≡ None
 rfs_unanswered p a m l b f = go (is_for p m.receiver m.originator) (knows m.originator p) (not (bytes_eq m.ultimate m.originator)) f
   where
     rest : List Test
@@ -69,5 +69,5 @@ pub rfs_is : (p : Party) (a : Arrival) (m : Rfs) (l b : LinkRec) → link_with (
 rfs_is p a m l b f g = rw (f, g) refl
 
 pub rfs_lead_is : (p : Party) (a : Arrival) (m : Rfs) (l b : LinkRec) → link_with (takes m.originator centre_label) p ≡ Some l → link_with (sends m.ultimate centre_label) p ≡ Some b
-    → rfs_lead p a m ≡ cond (passes (rfs_front p m true)) (Some (lead_under a (rfs_under p m) (rfs_value m l))) None
+    → rfs_lead p a m ≡ cond (tests_pass (rfs_front p m true)) (Some (lead_under a (rfs_under p m) (rfs_value m l))) None
 rfs_lead_is p a m l b f g = rw (f, g) refl

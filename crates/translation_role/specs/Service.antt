@@ -16,9 +16,9 @@ use Rattle.party_state.specs.declared.edit.Edit.TheVariants.{PutLink}
 use Rattle.party_state.specs.declared.decision.Lead.{Lead}
 use Rattle.party_tables.specs.Keys.{sends, takes}
 use Rattle.party_state.specs.State.{Party, centre_label, link_with}
-use Rattle.party_state.specs.Verdicts.{Test, verdict_of, passes}
+use Rattle.party_state.specs.Verdicts.{Test, verdict_of, tests_pass}
 use Rattle.party_state.specs.Rows.{Row, Reply, Coded, OneKey, refused}
-use Rattle.role_base.specs.declared.errors.Counts.{Counts}
+use Rattle.role_base.specs.declared.errors.ErrorCounts.{ErrorCounts}
 use Rattle.role_base.specs.Texts.{direct_name, no_extras, is_verified, lead_under}
 use Rattle.role_base.specs.Conditions.{has_count, count_tests}
 use Rattle.role_base.specs.Errors.{error_message, error_for, coded_under}
@@ -53,7 +53,7 @@ rfs_tests p a m l b = rfs_front p m true ++ (is_verified a (rfs_value m l), BadM
 
 -- a refusal names the count that came
 
-abbrev pub rfs_counts : Rfs → Counts
+abbrev pub rfs_counts : Rfs → ErrorCounts
 rfs_counts m = record { ctp = None; cta = Some m.cta; ctb = None }
 
 abbrev pub rfs_message : Party → Rfs → List ℕ → Option ℕ → Message
@@ -83,7 +83,7 @@ rfs p a m = rfs_between p a m (link_with (takes m.originator centre_label) p) (l
 abbrev pub rfs_lead_between : Party → Arrival → Rfs → Option LinkRec → Option LinkRec → Option Lead
 rfs_lead_between p a m None found = None
 rfs_lead_between p a m (Some l) None = None
-rfs_lead_between p a m (Some l) (Some b) = cond (passes (rfs_front p m true)) (Some (lead_under a (rfs_under p m) (rfs_value m l))) None
+rfs_lead_between p a m (Some l) (Some b) = cond (tests_pass (rfs_front p m true)) (Some (lead_under a (rfs_under p m) (rfs_value m l))) None
 
 abbrev pub rfs_lead : Party → Arrival → Rfs → Option Lead
 rfs_lead p a m = rfs_lead_between p a m (link_with (takes m.originator centre_label) p) (link_with (sends m.ultimate centre_label) p)

@@ -16,7 +16,7 @@ use x_seal::{law_keys_below, law_unseals};
 
 /// The edits of a row are apart: the two links that a translation puts have different sides. No row
 /// begins an exchange.
-pub fn law_apart()
+pub fn law_translation_apart()
     ensures apart { (p : Party) (i : TheInput) → AreApart (translation_row p i).edits }
     ensures begins { (p : Party) (i : TheInput) → AllBeginFree p (translation_row p i).edits }
 {
@@ -28,7 +28,7 @@ pub fn law_apart()
 
 /// There is no key to test the code of an arrival under exactly where the arrival is closed by an
 /// error detection code, or is refused before its code is looked at.
-pub fn law_lead()
+pub fn law_translation_lead()
     ensures { (p : Party) (a : TheArrival) →
         ((translation_lead p a a.parsed.message ≡ None) ↔ ((is_plain a.parsed.shut ≡ true) ⊎ (is_early (translation_message p a a.parsed.message).verdict ≡ true))) }
 {

@@ -10,7 +10,7 @@ mod served;
 mod service;
 
 pub use deciding::decide;
-pub use laws::{law_apart, law_lead, law_refused_counts, law_translates};
+pub use laws::{law_refused_counts, law_translates, law_translation_apart, law_translation_lead};
 pub use leads::lead;
 pub use ranged::law_ranged;
 pub use served::{law_order, law_serves};

@@ -10,9 +10,9 @@ ghost use Rattle.translation_role.specs.Service.{rfs_value, rfs_under, rfs_answe
 use csm_grammar::{Arrival, Message, Rfs, Rtr};
 use party_state::{Decision, Edit, Lead, LinkRec, State, law_accept};
 use role_base::{
-    Counts, Written, accept, centre_label, count_tests, direct_name, early_refusal, error_answer,
-    has_count, is_accept, lead_under, link_behind, link_with, list_of, no_extras, passes, refusal,
-    request_front, verdict_after, verdict_of,
+    ErrorCounts, Written, accept, centre_label, count_tests, direct_name, early_refusal,
+    error_answer, has_count, is_accept, lead_under, link_behind, link_with, list_of, no_extras,
+    refusal, request_front, tests_pass, verdict_after, verdict_of,
 };
 use std::alloc::Global;
 use x_base::{Count, FullName, NoMemory, Side, Verdict};
@@ -149,10 +149,10 @@ fn rfs_accepted(
 }
 
 /// A refusal that is answered names the count that came.
-fn rfs_counts(message: &Rfs) -> Counts
+fn rfs_counts(message: &Rfs) -> ErrorCounts
     ensures { result ≡ rfs_counts message.now }
 {
-    Counts {
+    ErrorCounts {
         ctp: None,
         cta: Some(message.cta),
         ctb: None,
@@ -203,7 +203,7 @@ pub(crate) fn rfs_lead(state: &State, arrival: &Arrival, message: &Rfs) -> Optio
     let label = centre_label();
     let from = link_with(state, &message.originator, &label, Side::Takes)?;
     let _to = link_with(state, &message.ultimate, &label, Side::Sends)?;
-    if passes(&rfs_front(state, message, true)) {
+    if tests_pass(&rfs_front(state, message, true)) {
         Some(carried_lead(state, arrival, message, &from))
     } else {
         None

@@ -10,7 +10,7 @@ use Rattle.x_disk.specs.declared.disk.DiskErr.TheVariants as disk
 use Rattle.x_disk.proofs.Runs.{joined, weaker}
 use Rattle.change_code.specs.declared.space.Space.{Space}
 use Rattle.csm_grammar.specs.declared.arrival.Arrival.{Arrival}
-use Rattle.key_store.specs.Store.{IsOldOrNew}
+use Rattle.key_store.specs.Store.{StandsForOldOrNew}
 use Rattle.party_state.specs.declared.command.Input.{Input}
 use Rattle.party_state.specs.declared.command.Input.TheVariants.{Arrived}
 use Rattle.party_state.specs.State.{Party}
@@ -82,7 +82,7 @@ module _ (old mid new : View) (looked : IsUntouched old mid) where
 
   pub safe_before : (name : List ℕ) (i : Input) (moment : ℕ) → IsSafe name mid new i moment → IsSafe name old new i moment
   safe_before name i moment safe = record {
-    party = λ image party space now stands. or_before (IsOldOrNew party space (decision party i moment).change) (safe.party image party space (looked.now ∙ now) stands);
+    party = λ image party space now stands. or_before (StandsForOldOrNew party space (decision party i moment).change) (safe.party image party space (looked.now ∙ now) stands);
     still = λ image party space now stands none. untouched_then old mid new looked (safe.still image party space (looked.now ∙ now) stands none);
     nobody = λ image now none. untouched_then old mid new looked (safe.nobody image (looked.now ∙ now) none);
     tells = safe.tells ∙ ap (λ (x : Option (List ℕ)). is_some x) looked.now;
@@ -100,7 +100,7 @@ module _ (old new : View) (looked : IsUntouched old new) where
 
   pub safe_unasked : (name : List ℕ) (i : Input) (moment : ℕ) → IsSafe name old new i moment
   safe_unasked name i moment = record {
-    party = λ image party space now stands. weaker old new old.may_leave (OrBefore old (IsOldOrNew party space (decision party i moment).change)) looked.any_moment (λ c left. inr left);
+    party = λ image party space now stands. weaker old new old.may_leave (OrBefore old (StandsForOldOrNew party space (decision party i moment).change)) looked.any_moment (λ c left. inr left);
     still = λ image party space now stands none. looked;
     nobody = λ image now none. looked;
     tells = ap (λ (x : Option (List ℕ)). is_some x) looked.now;

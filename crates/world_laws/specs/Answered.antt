@@ -6,7 +6,7 @@ use Rattle.x_base.specs.declared.key_name.KeyName.{KeyName}
 use Rattle.csm_grammar.specs.declared.arrival.Arrival.{Arrival}
 use Rattle.csm_grammar.specs.declared.message.Message.{Message}
 use Rattle.csm_grammar.specs.declared.message.Message.TheVariants as message
-use Rattle.csm_grammar.specs.Arrivals.{authenticated}
+use Rattle.csm_grammar.specs.Arrivals.{authenticated_text}
 use Rattle.party_state.specs.declared.command.Input.TheVariants as input
 use Rattle.party_state.specs.Rows.{Class, OfAnswer}
 use Rattle.party_state.specs.State.{Party}
@@ -28,7 +28,7 @@ answers_in accs = filter (λ a. is_end_answer a.class) accs
 abbrev pub answer_of : Party → Arrival → List ℕ → Option KeyName → List Acceptance
 answer_of p a originator None = []
 answer_of p a originator (Some name) =
-    record { party = p.own; text = authenticated a; class = OfAnswer; names = record { name = name; recipient = cond (bytes_eq name.originator p.own) originator p.own } ∷ [] } ∷ []
+    record { party = p.own; text = authenticated_text a; class = OfAnswer; names = record { name = name; recipient = cond (bytes_eq name.originator p.own) originator p.own } ∷ [] } ∷ []
 
 -- a response service message that names a key is one, and no other message
 abbrev pub message_answers : Party → Arrival → Message → List Acceptance

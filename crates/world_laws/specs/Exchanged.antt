@@ -5,7 +5,7 @@ use Rattle.x_base.specs.declared.party.Side.{Side}
 use Rattle.x_base.specs.declared.party.Side.TheVariants.{Sends, Takes}
 use Rattle.x_mac.specs.declared.pair.Pair.{Pair}
 use Rattle.x_gen.specs.declared.generator.Gen.{Gen}
-use Rattle.x_gen.specs.Parity.{odd_of}
+use Rattle.x_gen.specs.Parity.{odd_parity_of}
 use Rattle.x_gen.specs.Gen.{good_draw}
 use Rattle.csm_grammar.specs.declared.arrival.Arrival.{Arrival}
 use Rattle.party_tables.specs.declared.link.LinkRec.{LinkRec}
@@ -93,4 +93,4 @@ weak_generator = record { key = record { left = 0x0101010101010101; right = 0x01
 -- at this moment it draws the moment itself, with odd parity
 pub record DrawsMoment (moment : ℕ) : Type 0 where
   pub after : Gen
-  pub draws : good_draw weak_generator moment ≡ Some (odd_of moment, after)
+  pub draws : good_draw weak_generator moment ≡ Some (odd_parity_of moment, after)

@@ -11,7 +11,7 @@ use Rattle.csm_grammar.specs.declared.message.Message.TheVariants as message
 use Rattle.csm_grammar.specs.Spelling.{Says}
 use Rattle.party_tables.specs.declared.exchange.Exchange.{Exchange}
 use Rattle.party_tables.specs.declared.exchange.Kind.TheVariants as kind
-use Rattle.party_tables.specs.declared.exchange.Via.TheVariants as via
+use Rattle.party_tables.specs.declared.exchange.Via.TheVariants as vias
 use Rattle.party_tables.specs.declared.key.KeyRec.{KeyRec}
 use Rattle.party_tables.specs.declared.key.KeyStatus.TheVariants.{Pending}
 use Rattle.party_tables.specs.declared.link.LinkRec.{LinkRec}
@@ -50,7 +50,7 @@ pub record WaitsWithNewKk (p : Party) (peer : List ℕ) (name : KeyName) (new : 
 
 abbrev pub WaitingStands : World → Type 0
 WaitingStands w = (p : List ℕ) (x : Member) (peer : List ℕ) (e : Exchange) (name : KeyName) (label new : List ℕ) → member_at p w.members ≡ Some x → exchange_with peer x.party ≡ Some e
-    → e.kind ≡ kind.KeySent name (via.Direct label (Some new)) → WaitsWithNewKk x.party peer name new
+    → e.kind ≡ kind.KeySent name (vias.Direct label (Some new)) → WaitsWithNewKk x.party peer name new
 
 -- where an exchange waits for the answer to two keys, the record of each stands and is pending
 pub record StandsPending (p : Party) (peer : List ℕ) (name : KeyName) : Type 0 where

@@ -5,7 +5,7 @@ use Rattle.x_base.specs.declared.key_name.FullName.{FullName}
 use Rattle.csm_grammar.specs.declared.arrival.Arrival.{Arrival}
 use Rattle.party_state.specs.declared.decision.Lead.{Lead}
 use Rattle.party_state.specs.State.{Party}
-use Rattle.csm_grammar.specs.Arrivals.{authenticated}
+use Rattle.csm_grammar.specs.Arrivals.{authenticated_text}
 use Rattle.fact_book.specs.Facts.{NamedText, has_named, same_full_name}
 use Rattle.member.specs.Member.{Member}
 use Rattle.world_laws.specs.World.{Fact, World, member_at}
@@ -22,7 +22,7 @@ pub record HasFact (facts : List Fact) (under : FullName) (text : List ℕ) : Ty
 
 -- where the code of a message agrees with the key under which it is tested, the fact stands already
 abbrev pub HonestArrival : List Fact → Party → Arrival → Type 0
-HonestArrival facts p a = (l : Lead) → lead_at p a ≡ Some l → l.verified ≡ true → HasFact facts l.under (authenticated a)
+HonestArrival facts p a = (l : Lead) → lead_at p a ≡ Some l → l.verified ≡ true → HasFact facts l.under (authenticated_text a)
 
 abbrev pub HonestAction : List Fact → Party → Action → Type 0
 HonestAction facts p (Orders c) = Unit {0}
@@ -65,7 +65,7 @@ is_honest_lead facts text (Some l) = not l.verified || has_named facts l.under t
 
 abbrev pub is_honest_action : List Fact → Party → Action → Bool
 is_honest_action facts p (Orders c) = true
-is_honest_action facts p (Hears bytes (Some a)) = is_honest_lead (map named_text facts) (authenticated a) (lead_at p a)
+is_honest_action facts p (Hears bytes (Some a)) = is_honest_lead (map named_text facts) (authenticated_text a) (lead_at p a)
 is_honest_action facts p (Hears bytes None) = true
 is_honest_action facts p Compacts = true
 is_honest_action facts p Migrates = true

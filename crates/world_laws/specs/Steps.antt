@@ -6,7 +6,7 @@ use Rattle.party_state.specs.declared.command.Input.TheVariants as input
 use Rattle.party_tables.specs.Tables.{put_row}
 use Rattle.party_state.specs.Verdicts.{is_accept}
 use Rattle.party_state.specs.Rows.{Row, Reply, Coded, Plain, Again, Use, Made, Accepted}
-use Rattle.csm_grammar.specs.Arrivals.{authenticated}
+use Rattle.csm_grammar.specs.Arrivals.{authenticated_text}
 use Rattle.role_base.specs.Texts.{text_of}
 use Rattle.role_base.specs.Differing.{differing}
 use Rattle.change_code.specs.Cost.{fits, is_change, can_compact, space_of_whole}
@@ -21,7 +21,7 @@ use Rattle.world_laws.specs.Events.{Action, Orders, Hears, Compacts, Migrates, C
 -- the authenticated text of an input
 abbrev pub received_text : Input → List ℕ
 received_text (input.Ordered c) = []
-received_text (input.Arrived a) = authenticated a
+received_text (input.Arrived a) = authenticated_text a
 
 -- what a row adds to the lists: a text, a fact, a birth, uses and an acceptance
 

@@ -2,7 +2,7 @@
 ghost use Rattle.std.specs.Prelude.{◌≡◌, ◌<◌, ◌^◌, ℕ, false, Some};
 ghost use Rattle.x_mac.specs.declared.pair.Pair.{Pair as ThePair};
 ghost use Rattle.x_gen.specs.declared.generator.Gen.{Gen as TheGen};
-ghost use Rattle.x_gen.specs.Parity.{odd_of, is_weak_key};
+ghost use Rattle.x_gen.specs.Parity.{odd_parity_of, is_weak_key};
 ghost use Rattle.x_gen.specs.Gen.{good_draw};
 ghost use Rattle.change_code.specs.declared.space.Space.{Space as TheSpace};
 ghost use Rattle.world_laws.specs.Exchanged.{DrawsMoment, HasRoom, KeyExchanged, banks_with, receiver_name, sender_name};
@@ -12,7 +12,7 @@ ghost use Rattle.world_laws.specs.Exchanged.{DrawsMoment, HasRoom, KeyExchanged,
 /// have room for 10,000 bytes, three events in turn make a key live: the command that starts it, the arrival of
 /// its text, and the arrival of the answer's text.
 pub fn law_exchanged()
-    ensures draws { (moment : ℕ) → moment < 2 ^ 64 → is_weak_key (odd_of moment) ≡ false → DrawsMoment moment }
+    ensures draws { (moment : ℕ) → moment < 2 ^ 64 → is_weak_key (odd_parity_of moment) ≡ false → DrawsMoment moment }
     ensures live { (g h : TheGen) (pair : ThePair) (s t : TheSpace) (moment : ℕ) (drawn : ℕ × TheGen) → good_draw g moment ≡ Some drawn → HasRoom s → HasRoom t
         → KeyExchanged (banks_with g h pair s t) sender_name receiver_name moment }
 {}

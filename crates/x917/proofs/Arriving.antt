@@ -7,7 +7,7 @@ use Rattle.csm_grammar.specs.declared.parsed.Parsed.{Parsed}
 use Rattle.csm_grammar.specs.Reading.{IsArrival}
 use Rattle.csm_feed.specs.declared.unheard.Unheard.{Unheard}
 use Rattle.csm_feed.specs.declared.unheard.Unheard.TheVariants as unheard
-use Rattle.csm_feed.specs.Heard.{behind, Heard}
+use Rattle.csm_feed.specs.Heard.{after_leading, Heard}
 use Rattle.csm_feed.specs.Laws.{OneHearing}
 use Rattle.x_disk.specs.Disk.{View}
 use Rattle.party_state.specs.declared.command.Input.TheVariants.{Arrived}
@@ -44,7 +44,7 @@ module _ (one : OneHearing) where
   one_arrival all a b h k =
       let read : Ok a.parsed ≡ Ok b.parsed = same_heard (taken all) (Ok a.parsed) (Ok b.parsed) h.heard k.heard in
       let parsed : a.parsed ≡ b.parsed = cc in
-      same_arrival a b parsed (h.text ∙ (ap (λ (p : Parsed). take p.len (behind (taken all))) parsed ∙ sym k.text))
+      same_arrival a b parsed (h.text ∙ (ap (λ (p : Parsed). take p.len (after_leading (taken all))) parsed ∙ sym k.text))
 
   heard_or_not : {A : Type 0} (all : List ℕ) (a : Arrival) (u : Unheard) → IsHeard all a → Heard (taken all) (Err u) → A
   heard_or_not all a u h k = let no : Ok a.parsed ≡ Err u = same_heard (taken all) (Ok a.parsed) (Err u) h.heard k in absurd cc

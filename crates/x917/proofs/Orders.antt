@@ -18,7 +18,7 @@ use Rattle.party_state.specs.declared.command.Input.{Input}
 use Rattle.party_state.specs.declared.command.Input.TheVariants.{Ordered}
 use Rattle.party_state.specs.State.{begun}
 use Rattle.change_code.specs.declared.format.Format.{Format}
-use Rattle.key_store.specs.Store.{IsBlankOrFirst, IsOldOrNew, StandsWith}
+use Rattle.key_store.specs.Store.{IsBlankOrFirst, StandsForOldOrNew, StandsWith}
 use Rattle.member.specs.Acts.{compacted_in, migrated_in}
 use Rattle.roles.specs.Deciding.{decision}
 use Rattle.x_party.specs.Images.{OrBefore}
@@ -289,7 +289,7 @@ module _ (moment : ℕ) (left before : Option (List ℕ)) (e : List ℕ → View
 
   safe : (name : List ℕ) (v : View) (i : Input) → IsSound v → IsSafe name v v i moment
   safe name v i is = record {
-    party = λ image p space now stands. began v (OrBefore v (IsOldOrNew p space (decision p i moment).change)) is (λ c left. inr left);
+    party = λ image p space now stands. began v (OrBefore v (StandsForOldOrNew p space (decision p i moment).change)) is (λ c left. inr left);
     still = λ image p space now stands none. untouched v is;
     nobody = λ image now none. untouched v is;
     tells = refl;

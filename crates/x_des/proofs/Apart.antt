@@ -7,7 +7,7 @@ use Rattle.std.proofs.lemmas.Nat.{xor_comm}
 use Rattle.std.proofs.lemmas.Nat.Bits.{bit_at_or, bit_at-lt}
 use Rattle.x_des.specs.Bits.{bit, bits_of, chosen, differ, exclusive_or, pick}
 use Rattle.x_des.specs.Block.{doubled, sixes}
-use Rattle.x_des.specs.Combined.{placed, sp_of}
+use Rattle.x_des.specs.Combined.{placed, box_and_permutation_of}
 use Rattle.x_des.specs.Des.{substituted}
 use Rattle.x_des.specs.Tables.{permutation, s_boxes}
 use Rattle.x_des.proofs.BitsLemmas.{bits-bit_xor, bits-number_at, length-pick}
@@ -45,40 +45,40 @@ places which = doubled (pick permutation (placed which (true ∷ true ∷ true �
 abbrev of_box : ℕ → ℕ → List Bool
 of_box which six = doubled (pick permutation (placed which (substituted (get_or s_boxes which []) (bits_of 6 six))))
 
-doubled-sp_of : (which six : ℕ) → doubled (bits_of 32 (sp_of which six)) ≡ of_box which six
-unfolding sp_of
-doubled-sp_of which six =
+doubled-box_and_permutation_of : (which six : ℕ) → doubled (bits_of 32 (box_and_permutation_of which six)) ≡ of_box which six
+unfolding box_and_permutation_of
+doubled-box_and_permutation_of which six =
     let bs = pick permutation (placed which (substituted (get_or s_boxes which []) (bits_of 6 six))) in
     ap doubled (bits-number_at 32 bs (length-pick permutation (placed which (substituted (get_or s_boxes which []) (bits_of 6 six)))))
 
 -- the entries of two boxes that share no place
-or_of : (i j a b x y : ℕ) → bits_of 64 x ≡ doubled (bits_of 32 (sp_of i a)) → bits_of 64 y ≡ doubled (bits_of 32 (sp_of j b))
+or_of : (i j a b x y : ℕ) → bits_of 64 x ≡ doubled (bits_of 32 (box_and_permutation_of i a)) → bits_of 64 y ≡ doubled (bits_of 32 (box_and_permutation_of j b))
     → chosen (places j) (replicate 64 false) (of_box i a) ≡ of_box i a → chosen (places j) (of_box j b) (replicate 64 false) ≡ of_box j b
-    → bits_of 64 (bit_or x y) ≡ doubled (bits_of 32 (bit_xor (sp_of i a) (sp_of j b)))
+    → bits_of 64 (bit_or x y) ≡ doubled (bits_of 32 (bit_xor (box_and_permutation_of i a) (box_and_permutation_of j b)))
 or_of i j a b x y p q r s =
     bits-bit_or 64 (places j) x y
-    (subst (λ bs. chosen (places j) (replicate 64 false) bs ≡ bs) (sym (p ∙ doubled-sp_of i a)) r)
-    (subst (λ bs. chosen (places j) bs (replicate 64 false) ≡ bs) (sym (q ∙ doubled-sp_of j b)) s)
-    ∙ ap (λ bs. exclusive_or bs (bits_of 64 y)) p ∙ ap (exclusive_or (doubled (bits_of 32 (sp_of i a)))) q
-    ∙ doubled-exclusive_or (sp_of i a) (sp_of j b) ∙ ap doubled (sym (bits-bit_xor 32 (sp_of i a) (sp_of j b)))
+    (subst (λ bs. chosen (places j) (replicate 64 false) bs ≡ bs) (sym (p ∙ doubled-box_and_permutation_of i a)) r)
+    (subst (λ bs. chosen (places j) bs (replicate 64 false) ≡ bs) (sym (q ∙ doubled-box_and_permutation_of j b)) s)
+    ∙ ap (λ bs. exclusive_or bs (bits_of 64 y)) p ∙ ap (exclusive_or (doubled (bits_of 32 (box_and_permutation_of i a)))) q
+    ∙ doubled-exclusive_or (box_and_permutation_of i a) (box_and_permutation_of j b) ∙ ap doubled (sym (bits-bit_xor 32 (box_and_permutation_of i a) (box_and_permutation_of j b)))
 
-pub or_7_5 : (a b x y : ℕ) → bits_of 64 x ≡ doubled (bits_of 32 (sp_of 7 a)) → bits_of 64 y ≡ doubled (bits_of 32 (sp_of 5 b))
-    → bits_of 64 (bit_or x y) ≡ doubled (bits_of 32 (bit_xor (sp_of 7 a) (sp_of 5 b)))
+pub or_7_5 : (a b x y : ℕ) → bits_of 64 x ≡ doubled (bits_of 32 (box_and_permutation_of 7 a)) → bits_of 64 y ≡ doubled (bits_of 32 (box_and_permutation_of 5 b))
+    → bits_of 64 (bit_or x y) ≡ doubled (bits_of 32 (bit_xor (box_and_permutation_of 7 a) (box_and_permutation_of 5 b)))
 unfolding bits_of chosen pick sixes substituted
 or_7_5 a b x y p q = or_of 7 5 a b x y p q refl refl
 
-pub or_3_1 : (a b x y : ℕ) → bits_of 64 x ≡ doubled (bits_of 32 (sp_of 3 a)) → bits_of 64 y ≡ doubled (bits_of 32 (sp_of 1 b))
-    → bits_of 64 (bit_or x y) ≡ doubled (bits_of 32 (bit_xor (sp_of 3 a) (sp_of 1 b)))
+pub or_3_1 : (a b x y : ℕ) → bits_of 64 x ≡ doubled (bits_of 32 (box_and_permutation_of 3 a)) → bits_of 64 y ≡ doubled (bits_of 32 (box_and_permutation_of 1 b))
+    → bits_of 64 (bit_or x y) ≡ doubled (bits_of 32 (bit_xor (box_and_permutation_of 3 a) (box_and_permutation_of 1 b)))
 unfolding bits_of chosen pick sixes substituted
 or_3_1 a b x y p q = or_of 3 1 a b x y p q refl refl
 
-pub or_6_4 : (a b x y : ℕ) → bits_of 64 x ≡ doubled (bits_of 32 (sp_of 6 a)) → bits_of 64 y ≡ doubled (bits_of 32 (sp_of 4 b))
-    → bits_of 64 (bit_or x y) ≡ doubled (bits_of 32 (bit_xor (sp_of 6 a) (sp_of 4 b)))
+pub or_6_4 : (a b x y : ℕ) → bits_of 64 x ≡ doubled (bits_of 32 (box_and_permutation_of 6 a)) → bits_of 64 y ≡ doubled (bits_of 32 (box_and_permutation_of 4 b))
+    → bits_of 64 (bit_or x y) ≡ doubled (bits_of 32 (bit_xor (box_and_permutation_of 6 a) (box_and_permutation_of 4 b)))
 unfolding bits_of chosen pick sixes substituted
 or_6_4 a b x y p q = or_of 6 4 a b x y p q refl refl
 
-pub or_2_0 : (a b x y : ℕ) → bits_of 64 x ≡ doubled (bits_of 32 (sp_of 2 a)) → bits_of 64 y ≡ doubled (bits_of 32 (sp_of 0 b))
-    → bits_of 64 (bit_or x y) ≡ doubled (bits_of 32 (bit_xor (sp_of 2 a) (sp_of 0 b)))
+pub or_2_0 : (a b x y : ℕ) → bits_of 64 x ≡ doubled (bits_of 32 (box_and_permutation_of 2 a)) → bits_of 64 y ≡ doubled (bits_of 32 (box_and_permutation_of 0 b))
+    → bits_of 64 (bit_or x y) ≡ doubled (bits_of 32 (bit_xor (box_and_permutation_of 2 a) (box_and_permutation_of 0 b)))
 unfolding bits_of chosen pick sixes substituted
 or_2_0 a b x y p q = or_of 2 0 a b x y p q refl refl
 

@@ -8,7 +8,7 @@ use Rattle.x_des.specs.Bits.{bits_of, chosen, pick, exclusive_or}
 use Rattle.x_des.specs.Block.{IsDoubled, doubled, half, sixes}
 use Rattle.x_des.specs.RoundKey.{gathered}
 use Rattle.x_des.specs.Des.{substituted, substitution}
-use Rattle.x_des.specs.Combined.{placed, sp_of}
+use Rattle.x_des.specs.Combined.{placed, box_and_permutation_of}
 use Rattle.x_des.specs.Tables.{expansion, permutation, s_boxes}
 use Rattle.x_des.proofs.BitsLemmas.{length-pick, bits-bit_xor, bits-number_at}
 use Rattle.x_des.proofs.Words.{bits-sixes}
@@ -73,15 +73,15 @@ placed_more i full h size =
 -- one box more
 pub combined_step : (i v six : ℕ) (x : List Bool) → i < 8 → bits_of 6 six ≡ take 6 (drop (6 * i) x)
     → bits_of 32 v ≡ pick permutation (padded (take (4 * i) (substitution s_boxes x)))
-    → bits_of 32 (bit_xor v (sp_of i six)) ≡ pick permutation (padded (take (4 * (i + 1)) (substitution s_boxes x)))
-unfolding sp_of
+    → bits_of 32 (bit_xor v (box_and_permutation_of i six)) ≡ pick permutation (padded (take (4 * (i + 1)) (substitution s_boxes x)))
+unfolding box_and_permutation_of
 combined_step i v six x h e so_far =
     let full = substitution s_boxes x in
     let size : length full ≡ 32 = length-substitution s_boxes x in
     let four = take 4 (drop (4 * i) full) in
     let box : substituted (get_or s_boxes i []) (bits_of 6 six) ≡ four
     = ap (substituted (get_or s_boxes i [])) e ∙ sym (four-substitution i s_boxes x h) in
-    let entry : bits_of 32 (sp_of i six) ≡ pick permutation (placed i four)
+    let entry : bits_of 32 (box_and_permutation_of i six) ≡ pick permutation (placed i four)
     = bits-number_at 32 (pick permutation (placed i (substituted (get_or s_boxes i []) (bits_of 6 six)))) (length-pick permutation _) ∙ ap (λ bs. pick permutation (placed i bs)) box in
     let taken : length (take (4 * i) full) ≡ 4 * i = length-take-le (4 * i) full (omega (arith, size)) in
     let lfour : length four ≡ 4 = length-take-le 4 (drop (4 * i) full) (omega (arith, size, length-drop (4 * i) full)) in
@@ -91,8 +91,8 @@ combined_step i v six x h e so_far =
     = length-append (replicate (4 * i) false ++ four) (replicate (28 - 4 * i) false)
     ∙ omega (arith, lfour, length-append (replicate (4 * i) false) four, length-replicate (4 * i) false, length-replicate (28 - 4 * i) false) in
     let las : length (padded (take (4 * i) full)) ≡ length (placed i four) = left ∙ sym right in
-    bits-bit_xor 32 v (sp_of i six)
-    ∙ ap (λ bs. exclusive_or bs (bits_of 32 (sp_of i six))) so_far
+    bits-bit_xor 32 v (box_and_permutation_of i six)
+    ∙ ap (λ bs. exclusive_or bs (bits_of 32 (box_and_permutation_of i six))) so_far
     ∙ ap (exclusive_or (pick permutation (padded (take (4 * i) full)))) entry
     ∙ sym (pick-exclusive_or permutation (padded (take (4 * i) full)) (placed i four) las)
     ∙ ap (pick permutation) (placed_more i full h size)
@@ -113,12 +113,12 @@ combined_all x =
 pub combined_is : (a b c d e f g h : ℕ) (x : List Bool)
     → bits_of 6 a ≡ take 6 (drop 0 x) → bits_of 6 b ≡ take 6 (drop 6 x) → bits_of 6 c ≡ take 6 (drop 12 x) → bits_of 6 d ≡ take 6 (drop 18 x)
     → bits_of 6 e ≡ take 6 (drop 24 x) → bits_of 6 f ≡ take 6 (drop 30 x) → bits_of 6 g ≡ take 6 (drop 36 x) → bits_of 6 h ≡ take 6 (drop 42 x)
-    → bits_of 32 (bit_xor (bit_xor (bit_xor (bit_xor (bit_xor (bit_xor (bit_xor (sp_of 0 a) (sp_of 1 b)) (sp_of 2 c)) (sp_of 3 d)) (sp_of 4 e)) (sp_of 5 f)) (sp_of 6 g)) (sp_of 7 h))
+    → bits_of 32 (bit_xor (bit_xor (bit_xor (bit_xor (bit_xor (bit_xor (bit_xor (box_and_permutation_of 0 a) (box_and_permutation_of 1 b)) (box_and_permutation_of 2 c)) (box_and_permutation_of 3 d)) (box_and_permutation_of 4 e)) (box_and_permutation_of 5 f)) (box_and_permutation_of 6 g)) (box_and_permutation_of 7 h))
     ≡ pick permutation (substitution s_boxes x)
 combined_is a b c d e f g h x p0 p1 p2 p3 p4 p5 p6 p7 =
-    let v0 : bits_of 32 (sp_of 0 a) ≡ pick permutation (padded (take (4 * 1) (substitution s_boxes x)))
-    = ap (bits_of 32) (sym (xor_zero_l (sp_of 0 a))) ∙ combined_step 0 0 a x (omega arith) p0 combined_none in
-    let v1 = combined_step 1 (sp_of 0 a) b x (omega arith) p1 v0 in
+    let v0 : bits_of 32 (box_and_permutation_of 0 a) ≡ pick permutation (padded (take (4 * 1) (substitution s_boxes x)))
+    = ap (bits_of 32) (sym (xor_zero_l (box_and_permutation_of 0 a))) ∙ combined_step 0 0 a x (omega arith) p0 combined_none in
+    let v1 = combined_step 1 (box_and_permutation_of 0 a) b x (omega arith) p1 v0 in
     let v2 = combined_step 2 _ c x (omega arith) p2 v1 in
     let v3 = combined_step 3 _ d x (omega arith) p3 v2 in
     let v4 = combined_step 4 _ e x (omega arith) p4 v3 in

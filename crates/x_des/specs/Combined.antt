@@ -9,5 +9,5 @@ abbrev pub placed : ℕ → List Bool → List Bool
 placed which four = replicate (4 * which) false ++ four ++ replicate (28 - 4 * which) false
 
 -- P of the output of S-box `which + 1` for six bits, in the box's places among zeros
-unfoldable pub sp_of : ℕ → ℕ → ℕ
-sp_of which six = number (pick permutation (placed which (substituted (slice_index_or s_boxes which []) (bits_of 6 six))))
+unfoldable pub box_and_permutation_of : ℕ → ℕ → ℕ
+box_and_permutation_of which six = number (pick permutation (placed which (substituted (slice_index_or s_boxes which []) (bits_of 6 six))))

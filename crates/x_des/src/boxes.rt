@@ -1,7 +1,7 @@
 ghost use Rattle.std.specs.Prelude.{◌≡◌, ◌<◌, ◌≤◌, ◌-◌, ◌∷◌, [], false, take, drop};
 ghost use Rattle.x_des.specs.Bits.{bits_of};
 ghost use Rattle.x_des.specs.Block.{IsDoubled, doubled, half};
-ghost use Rattle.x_des.specs.Combined.{sp_of};
+ghost use Rattle.x_des.specs.Combined.{box_and_permutation_of};
 ghost use Rattle.x_des.specs.Des.{cipher};
 ghost use Rattle.x_des.specs.RoundKey.{gathered};
 
@@ -10,10 +10,10 @@ use crate::combined::COMBINED;
 
 /// What P makes of the output of S-box `which + 1` for six input bits, the other boxes giving
 /// zeros.
-pub fn sp(which: usize, bits: u8) -> u32
+pub fn box_and_permutation(which: usize, bits: u8) -> u32
     requires which { which < 8 }
     requires bits { bits < 64 }
-    ensures { result ≡ sp_of which bits }
+    ensures { result ≡ box_and_permutation_of which bits }
 {
     single(COMBINED[which][bits as usize])
 }
@@ -22,7 +22,7 @@ pub fn sp(which: usize, bits: u8) -> u32
 fn entry(which: usize, bits: u8) -> u64
     requires which { which < 8 }
     requires bits { bits < 64 }
-    ensures { bits_of 64 result ≡ doubled (bits_of 32 (sp_of which bits)) }
+    ensures { bits_of 64 result ≡ doubled (bits_of 32 (box_and_permutation_of which bits)) }
 {
     COMBINED[which][bits as usize]
 }

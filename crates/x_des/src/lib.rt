@@ -12,7 +12,7 @@ mod schedule;
 mod wiring;
 
 pub use block::Block;
-pub use boxes::sp;
+pub use boxes::box_and_permutation;
 pub use cipher::{decrypt, encrypt};
 pub use schedule::Schedule;
 pub use wiring::Wiring;

@@ -55,5 +55,5 @@ pub record IsPowerOff (choice : ℕ) (old new : View) (result : Result Unit Disk
   pub as_before : OnErr result (IsKept old new)
   pub time : Elapses old new
   pub clock : OnOk result (Ticks old new)
-  pub passes : new.passes ≡ old.passes
+  pub calls_left : new.calls_left ≡ old.calls_left
   pub cause : HasCause old new result

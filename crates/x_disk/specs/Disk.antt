@@ -13,7 +13,7 @@ pub record View : Type 1 where
   pub left_since : ℕ → List ℕ → Type 0  -- an image that a crash at some moment from that one on may have left
   pub faults : ℕ  -- how often the disk has failed
   pub covers : ℕ → ℕ → ℕ → Type 0  -- memory is reserved for writes that end at or below a place, of so many bytes in all, and for so many calls
-  pub passes : Option ℕ  -- the calls that still pass before one fails
+  pub calls_left : Option ℕ  -- the calls that still pass before one fails
 
 -- a disk takes so many bytes
 abbrev pub disk_size : ℕ
@@ -103,8 +103,8 @@ one_less (Some zero) = None
 one_less (Some (suc k)) = Some k
 
 pub record IsCounted {T : Type 0} (old new : View) (result : Result T DiskErr) : Type 0 where
-  pub passes : new.passes ≡ one_less old.passes
-  pub blows : old.passes ≡ Some 0 → IsErrOf result Fault
+  pub calls_left : new.calls_left ≡ one_less old.calls_left
+  pub blows : old.calls_left ≡ Some 0 → IsErrOf result Fault
 
 -- a write of n bytes that ends at this place takes no memory that isn't reserved
 pub record IsCovered (place n : ℕ) (old new : View) (result : Result Unit DiskErr) : Type 0 where

@@ -33,7 +33,7 @@ with_fuse fuse v = record {
   left_since = v.left_since;
   faults = v.faults + faults_of fuse;
   covers = λ end bytes calls. v.covers end bytes calls × (faults_of fuse + calls < 2 ^ 64);
-  passes = passes_of fuse;
+  calls_left = passes_of fuse;
 }
 
 -- what a disk with a fuse tells
@@ -46,14 +46,14 @@ StillCovers old new = (end bytes calls : ℕ) → calls < 2 ^ 64 → old.covers 
 
 -- a disk with a fuse for so many calls tells what it told without
 pub record IsFusedView (calls : ℕ) (old new : View) : Type 0 where
-  pub passes : new.passes ≡ Some calls
+  pub calls_left : new.calls_left ≡ Some calls
   pub disk : IsAlike new old
   pub faults : new.faults ≡ old.faults
   pub covers : StillCovers old new
 
 -- what a counted call makes of the fuse; the count of faults ends at 2 ^ 64 of them
 pub record IsCall (old new : Fuse) : Type 0 where
-  pub passes : (n : ℕ) → old ≡ Passes (suc n) → new ≡ Passes n
+  pub calls_left : (n : ℕ) → old ≡ Passes (suc n) → new ≡ Passes n
   pub blows : old ≡ Passes 0 → new ≡ Blown 0
   pub counts : (n : ℕ) → old ≡ Blown n → n < 18446744073709551615 → new ≡ Blown (n + 1)
 
@@ -84,7 +84,7 @@ is_blown (Blown n) = true
 -- what a counted call is answered before the disk is asked
 pub record IsBurnt (old new : Fuse) (result : Result Unit DiskErr) : Type 0 where
   pub call : IsCall old new
-  pub passes : passes_of new ≡ one_less (passes_of old)
+  pub calls_left : passes_of new ≡ one_less (passes_of old)
   pub unblown : OnOk result (faults_of old ≡ 0 × faults_of new ≡ 0)
   pub blows : old ≡ Passes 0 → result ≡ Err Fault
   pub fails : (n : ℕ) → old ≡ Blown n → IsErr result

@@ -40,7 +40,7 @@ pub record IsPass {H : Type 0} (old new : WithCalls H) (result : Result Unit Dis
   pub inner : new.inner ≡ old.inner
   pub shelf_calls : new.shelf_calls ≡ old.shelf_calls - 1
   pub disk_calls : new.disk_calls ≡ old.disk_calls
-  pub passes : OnOk result ((0 < old.shelf_calls) × (new.faults ≡ old.faults))
+  pub calls_left : OnOk result ((0 < old.shelf_calls) × (new.faults ≡ old.faults))
   pub fails : IsErrOf result Fault → (old.shelf_calls ≡ 0) × Rose old.faults new.faults
   pub later : old.faults ≤ new.faults
   pub only : IsErrOf result NoMemory → ⊥

@@ -104,5 +104,5 @@ view_of h = record {
   left_since = λ t c. (k : ℕ) × (t ≤ k) × (k ≤ length h.steps) × IsImage (state_of (take k h.steps)) c;
   faults = 0;
   covers = λ end bytes calls. IsReserved h end bytes calls;
-  passes = None;
+  calls_left = None;
 }

@@ -11,7 +11,7 @@ untold faults = record {
   left_since = λ t c. ⊥;
   faults = faults;
   covers = λ end bytes calls. ⊥;
-  passes = None;
+  calls_left = None;
 }
 
 pub untold_sound : (faults : ℕ) → IsSound (untold faults)

@@ -92,7 +92,7 @@ impl<H: Shelf> Shelf for FusedShelf<H> {
 
     fn fetch(&mut self, name: &Ident) -> Result<Fused<H::Disk>, DiskErr>
         ensures call { IsFetched (fused_view H.Disk.told) name.now (fused_shelf_view H.entry H.has_slot H.is_back H.faults self.old) (fused_shelf_view H.entry H.has_slot H.is_back H.faults self.new) result }
-        ensures passes { IfOk result (λ disk. (fused_view H.Disk.told disk).passes ≡ Some self.old.disk_calls) }
+        ensures calls_left { IfOk result (λ disk. (fused_view H.Disk.told disk).calls_left ≡ Some self.old.disk_calls) }
         ensures inner { 0 < self.old.shelf_calls → IsErrOf result DiskErr.Fault → Rose (H.faults self.old.inner) (H.faults self.new.inner) }
         ensures own { 0 < self.old.shelf_calls → self.new.faults ≡ self.old.faults }
         ensures fails { self.old.shelf_calls ≡ 0 → IsErrOf result DiskErr.Fault × Rose self.old.faults self.new.faults × (self.new.inner ≡ self.old.inner) }

@@ -4,7 +4,7 @@ use Rattle.std.proofs.Common.{arith, ◌≡◌, ℕ, zero, suc, ◌+◌, ◌*◌
 use Rattle.std.specs.List.{find}
 use Rattle.std.specs.Int.{from_be_bytes, to_be_bytes, w64}
 use Rattle.std.proofs.lemmas.Nat.{be_bytes_8}
-use Rattle.x_gen.specs.Parity.{odd_byte, odd_of, is_weak_key}
+use Rattle.x_gen.specs.Parity.{odd_byte, odd_parity_of, is_weak_key}
 use Rattle.x_gen.specs.declared.generator.Gen.{Gen}
 use Rattle.x_gen.specs.Gen.{drawn, gen_after, draws}
 use Rattle.x_gen.specs.Laws.{IsOdd, OddStays, DrawsOdd}
@@ -30,14 +30,14 @@ each_below key (suc (suc (suc (suc (suc (suc zero)))))) = byte_below _ (omega ar
 each_below key (suc (suc (suc (suc (suc (suc (suc zero))))))) = byte_below _ (omega arith)
 each_below key (suc (suc (suc (suc (suc (suc (suc (suc i)))))))) = omega arith
 
-odd_again : (key : ℕ) → odd_of (odd_of key) ≡ odd_of key
-unfolding odd_of
+odd_again : (key : ℕ) → odd_parity_of (odd_parity_of key) ≡ odd_parity_of key
+unfolding odd_parity_of
 odd_again key =
-    let bytes : to_be_bytes w64 (odd_of key) ≡ map odd_byte (to_be_bytes w64 key) = be_bytes_8 (map odd_byte (to_be_bytes w64 key)) (odd_of key) refl (each_below key) refl in
+    let bytes : to_be_bytes w64 (odd_parity_of key) ≡ map odd_byte (to_be_bytes w64 key) = be_bytes_8 (map odd_byte (to_be_bytes w64 key)) (odd_parity_of key) refl (each_below key) refl in
     ap (λ (bs : List ℕ). from_be_bytes w64 (map odd_byte bs)) bytes ∙ ap (from_be_bytes w64) (bytes_again (to_be_bytes w64 key))
 
-odd_below : (key : ℕ) → odd_of key < 2 ^ 64
-unfolding odd_of
+odd_below : (key : ℕ) → odd_parity_of key < 2 ^ 64
+unfolding odd_parity_of
 odd_below key =
     let a = byte_below (key / 2 ^ 56 % 256) (omega arith) in
     let b = byte_below (key / 2 ^ 48 % 256) (omega arith) in
@@ -56,11 +56,11 @@ odd_stays key = record { below = odd_below key; same = odd_again key }
 odd_in : (n : ℕ) (g : Gen) (moment : ℕ) (d : ℕ × Gen) → find (λ (x : ℕ × Gen). not (is_weak_key x.0)) (draws n g moment) ≡ Some d → IsOdd d.0
 unfolding draws
 odd_in zero g moment d h = absurd (cc)
-odd_in (suc n) g moment d h = go (not (is_weak_key (odd_of (drawn g moment)))) h (odd_in n (gen_after g moment) moment d)
+odd_in (suc n) g moment d h = go (not (is_weak_key (odd_parity_of (drawn g moment)))) h (odd_in n (gen_after g moment) moment d)
   where
-    go : (b : Bool) → cond b (Some (odd_of (drawn g moment), gen_after g moment)) (find (λ (x : ℕ × Gen). not (is_weak_key x.0)) (draws n (gen_after g moment) moment)) ≡ Some d
+    go : (b : Bool) → cond b (Some (odd_parity_of (drawn g moment), gen_after g moment)) (find (λ (x : ℕ × Gen). not (is_weak_key x.0)) (draws n (gen_after g moment) moment)) ≡ Some d
         → (find (λ (x : ℕ × Gen). not (is_weak_key x.0)) (draws n (gen_after g moment) moment) ≡ Some d → IsOdd d.0) → IsOdd d.0
-    go true h ih = (let is : (odd_of (drawn g moment), gen_after g moment) ≡ d = cc in subst (λ (x : ℕ × Gen). IsOdd x.0) is (odd_stays (drawn g moment)))
+    go true h ih = (let is : (odd_parity_of (drawn g moment), gen_after g moment) ≡ d = cc in subst (λ (x : ℕ × Gen). IsOdd x.0) is (odd_stays (drawn g moment)))
     go false h ih = ih h
 
 pub draws_odd : DrawsOdd

@@ -3,7 +3,7 @@
 use Rattle.std.specs.Prelude.{ℕ, zero, suc, bit_xor, not, List, [], ◌∷◌, Option}
 use Rattle.std.specs.List.{find}
 use Rattle.x_mac.specs.Pair.{ede_of}
-use Rattle.x_gen.specs.Parity.{odd_of, is_weak_key}
+use Rattle.x_gen.specs.Parity.{odd_parity_of, is_weak_key}
 use Rattle.x_gen.specs.declared.generator.Gen.{Gen}
 
 -- R of a draw at a moment
@@ -17,7 +17,7 @@ gen_after g moment = record { key = g.key; v = ede_of g.key (bit_xor (drawn g mo
 -- n successive draws at one moment (this project's profile): each key, with the generator after it
 unfoldable pub draws : ℕ → Gen → ℕ → List (ℕ × Gen)
 draws zero g moment = []
-draws (suc n) g moment = (odd_of (drawn g moment), gen_after g moment) ∷ draws n (gen_after g moment) moment
+draws (suc n) g moment = (odd_parity_of (drawn g moment), gen_after g moment) ∷ draws n (gen_after g moment) moment
 
 -- the first of sixteen draws whose key isn't weak (this project's profile)
 abbrev pub good_draw : Gen → ℕ → Option (ℕ × Gen)

@@ -1,17 +1,17 @@
 -- What is promised of every key that is drawn.
 use Rattle.std.specs.Prelude.{◌≡◌, ℕ, ◌<◌, ◌^◌, Some}
-use Rattle.x_gen.specs.Parity.{odd_of}
+use Rattle.x_gen.specs.Parity.{odd_parity_of}
 use Rattle.x_gen.specs.Gen.{good_draw}
 use Rattle.x_gen.specs.declared.generator.Gen.{Gen}
 
 -- a key of 64 bits that is left as it is when it is given odd parity
 pub record IsOdd (key : ℕ) : Type 0 where
   pub below : key < 2 ^ 64
-  pub same : odd_of key ≡ key
+  pub same : odd_parity_of key ≡ key
 
 -- every key is so once it has been given odd parity
 abbrev pub OddStays : Type 0
-OddStays = (key : ℕ) → IsOdd (odd_of key)
+OddStays = (key : ℕ) → IsOdd (odd_parity_of key)
 
 -- and every key that sixteen draws give
 abbrev pub DrawsOdd : Type 0

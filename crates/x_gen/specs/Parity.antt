@@ -8,8 +8,8 @@ abbrev pub odd_byte : ℕ → ℕ
 odd_byte b = b / 2 * 2 + (1 - count_ones (b / 2) % 2)
 
 -- a key with odd parity in every byte
-unfoldable pub odd_of : ℕ → ℕ
-odd_of key = from_be_bytes w64 (map odd_byte (to_be_bytes w64 key))
+unfoldable pub odd_parity_of : ℕ → ℕ
+odd_parity_of key = from_be_bytes w64 (map odd_byte (to_be_bytes w64 key))
 
 -- the four weak keys and the twelve semi-weak keys of DES, with odd parity (this project's profile)
 abbrev pub weak_keys : List ℕ
@@ -20,4 +20,4 @@ weak_keys =
     ∷ 0x011F011F010E010E ∷ 0x1F011F010E010E01 ∷ 0xE0FEE0FEF1FEF1FE ∷ 0xFEE0FEE0FEF1FEF1 ∷ []
 
 abbrev pub is_weak_key : ℕ → Bool
-is_weak_key key = list_any (λ w. odd_of key == w) weak_keys
+is_weak_key key = list_any (λ w. odd_parity_of key == w) weak_keys

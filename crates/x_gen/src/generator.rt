@@ -1,6 +1,6 @@
 ghost use Rattle.std.specs.Prelude.{◌≡◌, Some, None, MatchResult};
 
-use crate::parity::{is_weak, odd};
+use crate::parity::{is_weak, with_odd_parity};
 use thiserror::Error;
 use x_mac::{Pair, PairSchedule};
 
@@ -18,18 +18,18 @@ pub struct WeakDraws;
 
 impl Gen {
     ghost use Rattle.x_gen.specs.Gen.{drawn, gen_after, good_draw};
-    ghost use Rattle.x_gen.specs.Parity.{odd_of};
+    ghost use Rattle.x_gen.specs.Parity.{odd_parity_of};
 
     /// The key that is drawn at a moment, and the generator after the draw.
     pub fn draw(&self, moment: u64) -> (u64, Gen)
-        ensures key { result.0 ≡ odd_of (drawn self.now moment) }
+        ensures key { result.0 ≡ odd_parity_of (drawn self.now moment) }
         ensures after { result.1 ≡ gen_after self.now moment }
     {
         let schedule = PairSchedule::new(self.key);
         let stamp = schedule.ede(moment);
         let drawn = schedule.ede(stamp ^ self.v);
         let v = schedule.ede(drawn ^ stamp);
-        (odd(drawn), Gen { key: self.key, v })
+        (with_odd_parity(drawn), Gen { key: self.key, v })
     }
 
     /// The first of sixteen successive draws whose key isn't weak, and the generator after it;

@@ -7,4 +7,4 @@ mod parity;
 
 pub use generator::{Gen, WeakDraws};
 pub use laws::{law_draws_odd, law_odd_stays};
-pub use parity::{is_weak, odd};
+pub use parity::{is_weak, with_odd_parity};

@@ -1,5 +1,5 @@
 ghost use Rattle.std.specs.Prelude.{◌≡◌};
-ghost use Rattle.x_gen.specs.Parity.{is_weak_key, odd_of};
+ghost use Rattle.x_gen.specs.Parity.{is_weak_key, odd_parity_of};
 
 /// The weak keys and the semi-weak keys of DES, with odd parity.
 const WEAK: [u64; 16] = [
@@ -23,8 +23,8 @@ const WEAK: [u64; 16] = [
 
 /// The key of 64 bits with the lowest bit of each byte set so that the byte has an odd number of
 /// ones.
-pub fn odd(key: u64) -> u64
-    ensures { result ≡ odd_of key }
+pub fn with_odd_parity(key: u64) -> u64
+    ensures { result ≡ odd_parity_of key }
 {
     let mut bytes = key.to_be_bytes();
     for byte in bytes.iter_mut() {
@@ -38,5 +38,5 @@ pub fn odd(key: u64) -> u64
 pub fn is_weak(key: u64) -> bool
     ensures { result ≡ is_weak_key key }
 {
-    WEAK.contains(&odd(key))
+    WEAK.contains(&with_odd_parity(key))
 }

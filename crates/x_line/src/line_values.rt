@@ -22,13 +22,13 @@ impl Line<'_> {
     pub(crate) fn ident(&self, opt: Opt) -> Option<Ident>
         ensures { result ≡ given ident_of opt self.now }
     {
-        x_values::ident(self.text(opt)?.as_bytes())
+        x_values::read_ident(self.text(opt)?.as_bytes())
     }
 
     pub(crate) fn label(&self, opt: Opt) -> Option<Label>
         ensures { result ≡ given label_of opt self.now }
     {
-        x_values::label(self.text(opt)?.as_bytes())
+        x_values::read_label(self.text(opt)?.as_bytes())
     }
 
     pub(crate) fn role(&self) -> Option<Role>
@@ -41,14 +41,14 @@ impl Line<'_> {
     pub(crate) fn generator_pair(&self) -> Option<Pair>
         ensures { result ≡ given pair_of Opt.Genkey self.now }
     {
-        x_values::pair(self.text(Opt::Genkey)?.as_bytes())
+        x_values::read_pair(self.text(Opt::Genkey)?.as_bytes())
     }
 
     /// The generator's seed V.
     pub(crate) fn generator_seed(&self) -> Option<u64>
         ensures { result ≡ given key_of Opt.Genseed self.now }
     {
-        x_values::key(self.text(Opt::Genseed)?.as_bytes())
+        x_values::read_key(self.text(Opt::Genseed)?.as_bytes())
     }
 
     pub(crate) fn side(&self) -> Option<Side>
@@ -67,13 +67,13 @@ impl Line<'_> {
     pub(crate) fn name(&self) -> Option<KeyName>
         ensures { result ≡ given key_name_of Opt.Name self.now }
     {
-        x_values::key_name(self.text(Opt::Name)?.as_bytes())
+        x_values::read_key_name(self.text(Opt::Name)?.as_bytes())
     }
 
     pub(crate) fn seed(&self) -> Option<u64>
         ensures { result ≡ given number_of Opt.Seed self.now }
     {
-        x_values::number(self.text(Opt::Seed)?.as_bytes())
+        x_values::read_decimal_number(self.text(Opt::Seed)?.as_bytes())
     }
 
     pub(crate) fn events(&self) -> Option<u32>
@@ -92,7 +92,7 @@ impl Line<'_> {
     pub(crate) fn amount(&self) -> Option<Count>
         ensures { result ≡ given count_of Opt.Amount self.now }
     {
-        x_values::count(self.text(Opt::Amount)?.as_bytes())
+        x_values::read_count(self.text(Opt::Amount)?.as_bytes())
     }
 
     /// Whether the value of the option stands for something; a flag has none.

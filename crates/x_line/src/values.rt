@@ -4,7 +4,7 @@ ghost use Rattle.x_line.specs.Values.{events_of, one_or_two_of, other_than, role
 
 use x_base::{Ident, Role, Side};
 use x_mac::Pair;
-use x_values::{key, pair, plain_number_within};
+use x_values::{read_key, read_pair, read_plain_number_within};
 
 /// What a party is.
 pub(crate) fn role(text: &str) -> Option<Role>
@@ -33,12 +33,12 @@ pub(crate) fn side(text: &str) -> Option<Side>
 pub fn one_or_two(digits: &[u8]) -> Option<Pair>
     ensures { result ≡ one_or_two_of digits.now }
 {
-    match key(digits) {
+    match read_key(digits) {
         Some(key) => Some(Pair {
             left: key,
             right: key,
         }),
-        None => pair(digits),
+        None => read_pair(digits),
     }
 }
 
@@ -57,6 +57,6 @@ pub(crate) fn other_than(taken: Option<Ident>, name: Ident) -> Option<Ident>
 pub(crate) fn events(digits: &[u8]) -> Option<u32>
     ensures { result ≡ events_of digits.now }
 {
-    let number = plain_number_within(1, 10_000, digits)?;
+    let number = read_plain_number_within(1, 10_000, digits)?;
     u32::try_from(number).ok()
 }

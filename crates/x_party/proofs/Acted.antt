@@ -8,7 +8,7 @@ use Rattle.party_state.specs.State.{Party, apply}
 use Rattle.change_code.specs.declared.format.Format.{Format}
 use Rattle.change_code.specs.declared.space.Space.{Space}
 use Rattle.change_code.specs.Cost.{space_after}
-use Rattle.key_store.specs.Store.{StandsWith, IsOldOrNew, space_between}
+use Rattle.key_store.specs.Store.{StandsWith, StandsForOldOrNew, space_between}
 use Rattle.roles.specs.Deciding.{decision}
 use Rattle.x_party.specs.Images.{ReadsAs, OrBefore}
 use Rattle.x_party.specs.Outcomes.{IsToKeep, TakesTurn, IsSafe, IsSafeCall}
@@ -116,4 +116,4 @@ module _ (old v : View) (gate end : ℕ) (f : Format) (p : Party) (opened : IsOp
     pub safe_on : ((image : List ℕ) (first second : Party) (s t : Space) → StandsWith image first s → StandsWith image second t → (first ≡ second) × (s ≡ t))
         → (o : Outcome) → HasActed name v w left p (decision p i moment) o → IsSafe name old new i moment
     safe_on one_space o acted = safe_call one_space w new back (Acts name v w left p (decision p i moment) o)
-        (λ other space. IsOldOrNew other space (decision other i moment).change) (λ other space. IsToKeep name other (decision other i moment) space) acted
+        (λ other space. StandsForOldOrNew other space (decision other i moment).change) (λ other space. IsToKeep name other (decision other i moment) space) acted

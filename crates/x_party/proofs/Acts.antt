@@ -6,7 +6,7 @@ use Rattle.party_state.specs.declared.decision.Decision.{Decision}
 use Rattle.party_state.specs.State.{Party}
 use Rattle.change_code.specs.declared.format.Format.{Format}
 use Rattle.change_code.specs.declared.space.Space.{Space}
-use Rattle.key_store.specs.Store.{StandsWith, IsOldOrNew}
+use Rattle.key_store.specs.Store.{StandsWith, StandsForOldOrNew}
 use Rattle.x_party.specs.Images.{StillTells}
 use Rattle.x_party.specs.Outcomes.{IsToKeep, IsAccepted, IsRefusedTurn, IsOther, FitsIn, IsOldOrRewritten, IsRewritten, IsNotRewritten, IsWipedParty}
 use Rattle.x_party.specs.declared.outcome.Outcome.{Outcome}
@@ -30,7 +30,7 @@ pub record IsAct (now then : View) (did : Type 0) (leaves : List ℕ → Type 0)
   pub faults : now.faults ≤ then.faults
 
 abbrev pub HasActed : List ℕ → View → View → Space → Party → Decision → Outcome → Type 0
-HasActed name now then space p d o = IsAct now then (Acts name now then space p d o) (IsOldOrNew p space d.change) (IsToKeep name p d space)
+HasActed name now then space p d o = IsAct now then (Acts name now then space p d o) (StandsForOldOrNew p space d.change) (IsToKeep name p d space)
 
 -- what became of writing the party whole in this format, if in any
 abbrev pub Rewrites : Option Format → View → View → Space → Party → Outcome → Type 0

@@ -16,7 +16,7 @@ use Rattle.party_state.specs.Verdicts.{is_accept}
 use Rattle.change_code.specs.declared.format.Format.{Format}
 use Rattle.change_code.specs.declared.space.Space.{Space}
 use Rattle.change_code.specs.Cost.{fits, space_after}
-use Rattle.key_store.specs.Store.{Stored, StandsWith, IsStore, IsOldOrNew, space, space_between}
+use Rattle.key_store.specs.Store.{Stored, StandsWith, IsStore, StandsForOldOrNew, space, space_between}
 use Rattle.member.specs.Member.{Member, Plan, after, as_decided, as_full, plan_of}
 use Rattle.member.specs.Acts.{Keeps, taking}
 use Rattle.node_core.specs.Turns.{member_of, IsOldOrNext, IsWorkDone, IsWorkCut, IsTurn, turn_disk}
@@ -145,9 +145,9 @@ module _ {D : Type 0} (told : D → View) (name : List ℕ) (old : Stored D) (d 
     acts_full (turn.NoMemory new) turned = tt
     acts_full (turn.Broken b) turned = absurd turned.answer.work
 
-    run_full : (t : Turn D) → IsTurn told old (taking (as_full l)) t → Tells (told old.disk) → LeavesOnly (told old.disk) (told (turn_disk t)) (IsOldOrNew old.party left d.change)
+    run_full : (t : Turn D) → IsTurn told old (taking (as_full l)) t → Tells (told old.disk) → LeavesOnly (told old.disk) (told (turn_disk t)) (StandsForOldOrNew old.party left d.change)
     run_full t turned tells =
-        weaker (told old.disk) (told (turn_disk t)) (IsOldOrNext (member_of old) (after (member_of old) [])) (IsOldOrNew old.party left d.change) (turned.any_moment tells)
+        weaker (told old.disk) (told (turn_disk t)) (IsOldOrNext (member_of old) (after (member_of old) [])) (StandsForOldOrNew old.party left d.change) (turned.any_moment tells)
         (λ c either. elim either [ inl stays ↦ inl stays | inr same ↦ inl (same_left old.party old.format (old.end - old.gate) c same) ])
 
   -- ---- either

@@ -7,7 +7,7 @@ use Rattle.party_state.specs.declared.decision.Decision.{Decision}
 use Rattle.party_state.specs.State.{Party}
 use Rattle.change_code.specs.declared.format.Format.{Format}
 use Rattle.change_code.specs.declared.space.Space.{Space}
-use Rattle.key_store.specs.Store.{Stored, StandsWith, IsStore, IsOldOrNew, space, space_between}
+use Rattle.key_store.specs.Store.{Stored, StandsWith, IsStore, StandsForOldOrNew, space, space_between}
 use Rattle.x_party.proofs.Acts.{HasActed}
 use Rattle.x_party.specs.declared.outcome.Outcome.TheVariants as outcome
 use Rattle.x_party.proofs.Alike.{untouched_self, store_stands}
@@ -34,10 +34,10 @@ module _ (name : List ℕ) (v : View) (gate end : ℕ) (f : Format) (p : Party) 
   abbrev left : Space
   left = space_between gate end f
 
-  at_rest : Tells v → LeavesOnly v v (IsOldOrNew p left d.change)
+  at_rest : Tells v → LeavesOnly v v (StandsForOldOrNew p left d.change)
   at_rest tells =
       let now = told_now v.now tells in
-      began v (IsOldOrNew p left d.change) sound
+      began v (StandsForOldOrNew p left d.change) sound
       (λ c stays. inl (subst (λ (i : List ℕ). StandsWith i p left) (sym (store.durable.only now.0 c now.1 stays)) ((store_stands v gate end f p store).reads now.0 now.1)))
 
   pub not_asked : p.own ≢ name → HasActed name v v left p d (outcome.OtherParty name p.own)

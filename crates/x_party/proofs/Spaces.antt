@@ -1,6 +1,6 @@
 -- An image stands for one party, with one space.
 use Rattle.std.proofs.Common.{◌≡◌, ℕ, List, ap, sym, ◌∙◌}
-use Rattle.key_journal.specs.Journal.{Holds}
+use Rattle.key_journal.specs.Journal.{HoldsBodies}
 use Rattle.key_journal.specs.States.{room_of}
 use Rattle.party_state.specs.State.{Party}
 use Rattle.change_code.specs.declared.format.Format.{Format}
@@ -22,7 +22,7 @@ same_space s t format room = let same : (let u : Space = record { format = s.for
 
 module _ (one_party : (image : List ℕ) (first second : Party) → Stands image first → Stands image second → first ≡ second)
     (one_format : (image : List ℕ) (first second : Format) (party other : Party) → StandsAs image first party → StandsAs image second other → first ≡ second)
-    (one_list : (image : List ℕ) (first second : List (List ℕ)) → Holds image first → Holds image second → first ≡ second) where
+    (one_list : (image : List ℕ) (first second : List (List ℕ)) → HoldsBodies image first → HoldsBodies image second → first ≡ second) where
   pub one_space : (image : List ℕ) (first second : Party) (space other : Space) → StandsWith image first space → StandsWith image second other → (first ≡ second) × (space ≡ other)
   one_space image first second space other a b = (
     one_party image first second (so image first space a) (so image second other b),

@@ -16,7 +16,7 @@ use Rattle.change_code.specs.Cost.{fits, space_after, space_of_whole}
 use Rattle.change_code.specs.Whole.{IsTooLarge}
 use Rattle.change_code.specs.declared.format.Format.{Format}
 use Rattle.change_code.specs.declared.space.Space.{Space}
-use Rattle.key_store.specs.Store.{Stands, StandsWith, IsFirstDamage, IsOldOrNew}
+use Rattle.key_store.specs.Store.{Stands, StandsWith, IsFirstDamage, StandsForOldOrNew}
 use Rattle.member.specs.Acts.{compacted_in, migrated_in}
 use Rattle.roles.specs.Deciding.{decision}
 use Rattle.x_party.specs.Images.{DiskStandsFor, OfParty, OfOwnParty, first_space, StillTells, OrBefore}
@@ -118,7 +118,7 @@ pub record IsSafeCall (old new : View) (leaves : Party → Space → List ℕ �
 -- a turn: a crash leaves the party before the decision or the one after it, each with its space; and where the party isn't
 -- that of the name, or makes no change that fits, nothing is written
 abbrev pub IsSafe : List ℕ → View → View → Input → ℕ → Type 0
-IsSafe name old new i moment = IsSafeCall old new (λ party space. IsOldOrNew party space (decision party i moment).change)
+IsSafe name old new i moment = IsSafeCall old new (λ party space. StandsForOldOrNew party space (decision party i moment).change)
     (λ party space. IsToKeep name party (decision party i moment) space)
 
 -- the party is to be written whole in a format, and is too large for one frame in it

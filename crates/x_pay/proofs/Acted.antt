@@ -10,7 +10,7 @@ use Rattle.key_journal.specs.States.{Failed}
 use Rattle.key_journal.specs.Causes.{cause_of}
 use Rattle.party_state.specs.State.{Party}
 use Rattle.key_store.specs.Store.{Stored}
-use Rattle.journal_state.specs.States.{IsOldOrNext}
+use Rattle.journal_state.specs.States.{StandsForOldOrNext}
 use Rattle.journal_state.specs.Results.{kept_disk}
 use Rattle.journal_state.specs.Keeping.{IsReplaced}
 use Rattle.disk_pair.specs.declared.disks.Disks.{Disks}
@@ -71,7 +71,7 @@ module _ {D : Type 0} (told : D → View) (sound : (d : D) → IsSound (told d))
   replaced : (entry : Entry) (text : List ℕ) (result : Result (LedgerView D) (Failed D)) → w.Passes node.party book.state entry text
       → IsReplaced PutsBody [] told book (put_entry entry book.state) result → Leaves (told (kept_disk result))
   replaced entry text result passes kept tells p entries party_is entries_are =
-      weaker (told book.disk) (told (kept_disk result)) (IsOldOrNext PutsBody [] book.state (put_entry entry book.state)) (MayLeave w p entries (told old.second).may_leave) (kept.any_moment tells)
+      weaker (told book.disk) (told (kept_disk result)) (StandsForOldOrNext PutsBody [] book.state (put_entry entry book.state)) (MayLeave w p entries (told old.second).may_leave) (kept.any_moment tells)
       (λ c left. elim left [
         | inl was ↦ Old (inr (subst (HasEntries c) entries_are was))
         | inr is ↦ New entry text (subst (λ (q : Party). w.Passes q entries entry text) party_is (subst (λ (es : List Entry). w.Passes node.party es entry text) entries_are passes))

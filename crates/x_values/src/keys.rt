@@ -5,7 +5,7 @@ use hex::FromHex;
 use x_mac::Pair;
 
 /// A key of 16 hexadecimal digits of either case.
-pub fn key(digits: &[u8]) -> Option<u64>
+pub fn read_key(digits: &[u8]) -> Option<u64>
     ensures { result ≡ key_of digits.now }
 {
     match <[u8; 8] as FromHex>::from_hex(digits) {
@@ -15,7 +15,7 @@ pub fn key(digits: &[u8]) -> Option<u64>
 }
 
 /// A pair of keys, 32 hexadecimal digits of either case, the left half first.
-pub fn pair(digits: &[u8]) -> Option<Pair>
+pub fn read_pair(digits: &[u8]) -> Option<Pair>
     ensures { result ≡ pair_of digits.now }
 {
     if digits.len() != 32 {
@@ -23,7 +23,7 @@ pub fn pair(digits: &[u8]) -> Option<Pair>
     }
     let (left, right) = digits.split_at(16);
     Some(Pair {
-        left: key(left)?,
-        right: key(right)?,
+        left: read_key(left)?,
+        right: read_key(right)?,
     })
 }

@@ -23,7 +23,7 @@ fn decimal(digits: &[u8]) -> Option<u64>
 }
 
 /// A number of 1 to 20 decimal digits, with leading zeros too.
-pub fn number(digits: &[u8]) -> Option<u64>
+pub fn read_decimal_number(digits: &[u8]) -> Option<u64>
     ensures { result ≡ number_of digits.now }
 {
     if digits.len() > 20 {
@@ -33,7 +33,7 @@ pub fn number(digits: &[u8]) -> Option<u64>
 }
 
 /// A number in decimal digits without a leading zero; `0` alone is zero.
-pub fn plain_number(digits: &[u8]) -> Option<u64>
+pub fn read_plain_number(digits: &[u8]) -> Option<u64>
     ensures { result ≡ plain_number_of digits.now }
 {
     if digits.len() != 1 && digits.first() == Some(&b'0') {
@@ -43,10 +43,10 @@ pub fn plain_number(digits: &[u8]) -> Option<u64>
 }
 
 /// A number from `low` to `high` in decimal digits without a leading zero.
-pub fn plain_number_within(low: u64, high: u64, digits: &[u8]) -> Option<u64>
+pub fn read_plain_number_within(low: u64, high: u64, digits: &[u8]) -> Option<u64>
     ensures { result ≡ plain_number_within low high digits.now }
 {
-    let number = plain_number(digits)?;
+    let number = read_plain_number(digits)?;
     if low <= number && number <= high {
         Some(number)
     } else {

@@ -9,7 +9,7 @@ use Rattle.party_state.specs.State.{Party, centre_label, link_with, apply}
 use Rattle.party_state.specs.Rows.{Plain}
 use Rattle.party_tables.proofs.Keys.{test_idents}
 use Rattle.x_base.specs.declared.verdict.Verdict.TheVariants.{UnknownKk}
-use Rattle.bank_keys.specs.declared.waits.Waiting.{Waiting}
+use Rattle.bank_keys.specs.declared.waits.KeyAtCentre.{KeyAtCentre}
 use Rattle.member.specs.Member.{Member}
 use Rattle.world_laws.specs.World.{member_at}
 use Rattle.world_laws.proofs.Links.Growth.{PartyGrows}
@@ -39,7 +39,7 @@ use Rattle.world_laws.proofs.Agreeing.Backs.{backed}
 use Rattle.world_laws.proofs.Agreeing.Steps.{some_is, after_is, still_agreeing, refused_agreeing}
 use Rattle.bank_orders.specs.Ask.{ask_peer}
 use Rattle.x_base.specs.declared.verdict.Verdict.TheVariants.{UnknownKk}
-use Rattle.bank_keys.specs.declared.waits.Waiting.{Waiting}
+use Rattle.bank_keys.specs.declared.waits.KeyAtCentre.{KeyAtCentre}
 use Rattle.bank_keys.specs.Waiting.{waiting_by, waiting_in}
 use Rattle.bank_orders.specs.Ask.{centre_front, centre_request, ask_centre, ask_of}
 use Rattle.bank_orders.specs.Translate.{translate_tests, translate_reply, translate_drawn, translate_under}
@@ -102,11 +102,11 @@ module _ (v : Lists) (p : List ℕ) (x : Member) (space : Space) (at : member_at
       grown : PartyGrows o x.party (apply (translate_drawn x.party centre u l (Some d)).edits x.party)
       grown = change_grows o (translate_drawn x.party centre u l (Some d)).edits x.party sound.edits
 
-      at_count : (n : Waiting) → Some (record { ultimate = u; value = d.0; cta = l.next }) ≡ Some n → l.next ≤ n.cta
-      at_count n h = let k : l.next ≡ n.cta = ap (λ (z : Waiting). z.cta) (some_is (record { ultimate = u; value = d.0; cta = l.next }) n h) in omega (arith, k)
+      at_count : (n : KeyAtCentre) → Some (record { ultimate = u; value = d.0; cta = l.next }) ≡ Some n → l.next ≤ n.cta
+      at_count n h = let k : l.next ≡ n.cta = ap (λ (z : KeyAtCentre). z.cta) (some_is (record { ultimate = u; value = d.0; cta = l.next }) n h) in omega (arith, k)
 
-      with_value : (n : Waiting) → Some (record { ultimate = u; value = d.0; cta = l.next }) ≡ Some n → n.value ≡ d.0
-      with_value n h = sym (ap (λ (z : Waiting). z.value) (some_is (record { ultimate = u; value = d.0; cta = l.next }) n h))
+      with_value : (n : KeyAtCentre) → Some (record { ultimate = u; value = d.0; cta = l.next }) ≡ Some n → n.value ≡ d.0
+      with_value n h = sym (ap (λ (z : KeyAtCentre). z.value) (some_is (record { ultimate = u; value = d.0; cta = l.next }) n h))
 
   pub translate_row_agreeing : (o : Option LinkKey) (text : List ℕ) (centre u : List ℕ) (found : Option LinkRec) (moment : ℕ) → link_with (sends centre centre_label) x.party ≡ found → IsSound o x.party text (translate_under x.party centre u found moment) → Agreeing v x space text (translate_under x.party centre u found moment)
   translate_row_agreeing o text centre u None moment e sound = refused_agreeing v p x space at i text (verdict_of (centre_front x.party centre u ++ (false, UnknownKk) ∷ []))

@@ -42,9 +42,9 @@ use Rattle.world_laws.proofs.Agreeing.Waiting.{news_stay}
 use Rattle.world_laws.proofs.Agreeing.Exchanges.{sent_same}
 use Rattle.world_laws.proofs.Agreeing.Backs.{backed}
 use Rattle.world_laws.proofs.Agreeing.Steps.{other_of, fact_says, here, there, after_is, refused_agreeing}
-use Rattle.party_state.specs.Verdicts.{passes}
+use Rattle.party_state.specs.Verdicts.{tests_pass}
 use Rattle.csm_grammar.specs.declared.arrival.Arrival.{Arrival}
-use Rattle.csm_grammar.specs.Arrivals.{authenticated}
+use Rattle.csm_grammar.specs.Arrivals.{authenticated_text}
 use Rattle.role_base.specs.Texts.{lead_under}
 use Rattle.world_laws.proofs.Agreeing.AnswerRows.{HonestAs}
 use Rattle.world_laws.proofs.Links.Found.{link_at}
@@ -94,24 +94,24 @@ module _ (v : Lists) (p : List ℕ) (x : Member) (space : Space) (at : member_at
         accepts = tt;
       }
 
-  rsi_agreeing : (o : Option LinkKey) (a : Arrival) (m : Rsi) (u : List ℕ) (fa fb : Option LinkRec) (moment : ℕ) → link_with (sends m.originator centre_label) x.party ≡ fa → link_with (sends u centre_label) x.party ≡ fb → is_accept (rsi_between x.party a m u fa fb (good_draw x.party.generator moment)).verdict ≡ true → IsSound o x.party (authenticated a) (rsi_between x.party a m u fa fb (good_draw x.party.generator moment)) → Agreeing v x space (authenticated a) (rsi_between x.party a m u fa fb (good_draw x.party.generator moment))
-  rsi_agreeing o a m u None fb moment ea eb h sound = refused_agreeing v p x space at i (authenticated a) (verdict_of (rsi_front x.party m u false))
-  rsi_agreeing o a m u (Some l) None moment ea eb h sound = refused_agreeing v p x space at i (authenticated a) (verdict_of (rsi_front x.party m u false))
-  rsi_agreeing o a m u (Some l) (Some b) moment ea eb h sound = answering_agreeing o (authenticated a) m.originator u (rsi_tests x.party a m u l b) l b b moment (good_draw x.party.generator moment) refl ea eb (link_stays b) refl (rsi_apart x.party a m u l b (good_draw x.party.generator moment) h) sound
+  rsi_agreeing : (o : Option LinkKey) (a : Arrival) (m : Rsi) (u : List ℕ) (fa fb : Option LinkRec) (moment : ℕ) → link_with (sends m.originator centre_label) x.party ≡ fa → link_with (sends u centre_label) x.party ≡ fb → is_accept (rsi_between x.party a m u fa fb (good_draw x.party.generator moment)).verdict ≡ true → IsSound o x.party (authenticated_text a) (rsi_between x.party a m u fa fb (good_draw x.party.generator moment)) → Agreeing v x space (authenticated_text a) (rsi_between x.party a m u fa fb (good_draw x.party.generator moment))
+  rsi_agreeing o a m u None fb moment ea eb h sound = refused_agreeing v p x space at i (authenticated_text a) (verdict_of (rsi_front x.party m u false))
+  rsi_agreeing o a m u (Some l) None moment ea eb h sound = refused_agreeing v p x space at i (authenticated_text a) (verdict_of (rsi_front x.party m u false))
+  rsi_agreeing o a m u (Some l) (Some b) moment ea eb h sound = answering_agreeing o (authenticated_text a) m.originator u (rsi_tests x.party a m u l b) l b b moment (good_draw x.party.generator moment) refl ea eb (link_stays b) refl (rsi_apart x.party a m u l b (good_draw x.party.generator moment) h) sound
 
-  pub rsi_row_agreeing : (o : Option LinkKey) (a : Arrival) (m : Rsi) (u : Option (List ℕ)) (moment : ℕ) → is_accept (rsi_for x.party a m u moment).verdict ≡ true → IsSound o x.party (authenticated a) (rsi_for x.party a m u moment) → Agreeing v x space (authenticated a) (rsi_for x.party a m u moment)
-  rsi_row_agreeing o a m None moment h sound = refused_agreeing v p x space at i (authenticated a) (verdict_of (request_front x.party m.receiver m.originator false))
+  pub rsi_row_agreeing : (o : Option LinkKey) (a : Arrival) (m : Rsi) (u : Option (List ℕ)) (moment : ℕ) → is_accept (rsi_for x.party a m u moment).verdict ≡ true → IsSound o x.party (authenticated_text a) (rsi_for x.party a m u moment) → Agreeing v x space (authenticated_text a) (rsi_for x.party a m u moment)
+  rsi_row_agreeing o a m None moment h sound = refused_agreeing v p x space at i (authenticated_text a) (verdict_of (request_front x.party m.receiver m.originator false))
   rsi_row_agreeing o a m (Some u) moment h sound = rsi_agreeing o a m u (link_with (sends m.originator centre_label) x.party) (link_with (sends u centre_label) x.party) moment refl refl h sound
 
-  pub ers_agreeing : (o : Option LinkKey) (a : Arrival) (m : Ers) (found : Option Answer) (fa fb : Option LinkRec) (moment : ℕ) → link_with (sends m.originator centre_label) x.party ≡ fa → link_with (sends m.ultimate centre_label) x.party ≡ fb → is_accept (ers_between x.party a m found fa fb (good_draw x.party.generator moment)).verdict ≡ true → IsSound o x.party (authenticated a) (ers_between x.party a m found fa fb (good_draw x.party.generator moment)) → Agreeing v x space (authenticated a) (ers_between x.party a m found fa fb (good_draw x.party.generator moment))
-  ers_agreeing o a m None fa fb moment ea eb h sound = refused_agreeing v p x space at i (authenticated a) (verdict_of (ers_front x.party m false false))
-  ers_agreeing o a m (Some t) None fb moment ea eb h sound = refused_agreeing v p x space at i (authenticated a) (verdict_of (ers_front x.party m true false))
-  ers_agreeing o a m (Some t) (Some l) None moment ea eb h sound = refused_agreeing v p x space at i (authenticated a) (verdict_of (ers_front x.party m true false))
-  ers_agreeing o a m (Some t) (Some l) (Some b) moment ea eb h sound = answering_agreeing o (authenticated a) m.originator m.ultimate (ers_tests x.party a m t l b) l (record b { next = max b.next m.ctr }) b moment (good_draw x.party.generator moment) refl ea eb (next_up b (max b.next m.ctr) (omega arith)) refl (ers_apart x.party a m t l b (record b { next = max b.next m.ctr }) (good_draw x.party.generator moment) h) sound
+  pub ers_agreeing : (o : Option LinkKey) (a : Arrival) (m : Ers) (found : Option Answer) (fa fb : Option LinkRec) (moment : ℕ) → link_with (sends m.originator centre_label) x.party ≡ fa → link_with (sends m.ultimate centre_label) x.party ≡ fb → is_accept (ers_between x.party a m found fa fb (good_draw x.party.generator moment)).verdict ≡ true → IsSound o x.party (authenticated_text a) (ers_between x.party a m found fa fb (good_draw x.party.generator moment)) → Agreeing v x space (authenticated_text a) (ers_between x.party a m found fa fb (good_draw x.party.generator moment))
+  ers_agreeing o a m None fa fb moment ea eb h sound = refused_agreeing v p x space at i (authenticated_text a) (verdict_of (ers_front x.party m false false))
+  ers_agreeing o a m (Some t) None fb moment ea eb h sound = refused_agreeing v p x space at i (authenticated_text a) (verdict_of (ers_front x.party m true false))
+  ers_agreeing o a m (Some t) (Some l) None moment ea eb h sound = refused_agreeing v p x space at i (authenticated_text a) (verdict_of (ers_front x.party m true false))
+  ers_agreeing o a m (Some t) (Some l) (Some b) moment ea eb h sound = answering_agreeing o (authenticated_text a) m.originator m.ultimate (ers_tests x.party a m t l b) l (record b { next = max b.next m.ctr }) b moment (good_draw x.party.generator moment) refl ea eb (next_up b (max b.next m.ctr) (omega arith)) refl (ers_apart x.party a m t l b (record b { next = max b.next m.ctr }) (good_draw x.party.generator moment) h) sound
 
-  pub rfs_agreeing : (o : Option LinkKey) (a : Arrival) (m : Rfs) (fa fb : Option LinkRec) → Says (authenticated a) (message.Rfs m) → link_with (takes m.originator centre_label) x.party ≡ fa → link_with (sends m.ultimate centre_label) x.party ≡ fb → HonestAs v.facts a (rfs_lead_between x.party a m fa fb) → is_accept (rfs_between x.party a m fa fb).verdict ≡ true → IsSound o x.party (authenticated a) (rfs_between x.party a m fa fb) → Agreeing v x space (authenticated a) (rfs_between x.party a m fa fb)
-  rfs_agreeing o a m None fb said ea eb honest h sound = refused_agreeing v p x space at i (authenticated a) (verdict_of (rfs_front x.party m false))
-  rfs_agreeing o a m (Some l) None said ea eb honest h sound = refused_agreeing v p x space at i (authenticated a) (verdict_of (rfs_front x.party m false))
+  pub rfs_agreeing : (o : Option LinkKey) (a : Arrival) (m : Rfs) (fa fb : Option LinkRec) → Says (authenticated_text a) (message.Rfs m) → link_with (takes m.originator centre_label) x.party ≡ fa → link_with (sends m.ultimate centre_label) x.party ≡ fb → HonestAs v.facts a (rfs_lead_between x.party a m fa fb) → is_accept (rfs_between x.party a m fa fb).verdict ≡ true → IsSound o x.party (authenticated_text a) (rfs_between x.party a m fa fb) → Agreeing v x space (authenticated_text a) (rfs_between x.party a m fa fb)
+  rfs_agreeing o a m None fb said ea eb honest h sound = refused_agreeing v p x space at i (authenticated_text a) (verdict_of (rfs_front x.party m false))
+  rfs_agreeing o a m (Some l) None said ea eb honest h sound = refused_agreeing v p x space at i (authenticated_text a) (verdict_of (rfs_front x.party m false))
   rfs_agreeing o a m (Some l) (Some b) said ea eb honest h sound = record {
     back = backed v.members x.party (rfs_between x.party a m (Some l) (Some b)).edits (inr (inr (l, rw la.key ea, refl, refl)), (inr (inr (b, rfs_fine x.party m l b ea eb, refl, refl)), tt));
     news = news_stay x.party (apply (rfs_between x.party a m (Some l) (Some b)).edits x.party) refl;
@@ -146,14 +146,14 @@ module _ (v : Lists) (p : List ℕ) (x : Member) (space : Space) (at : member_at
       mine_is : (m.receiver ≡ x.party.own) × (m.originator ≢ x.party.own)
       mine_is = other_of x.party m.receiver m.originator t.0
 
-      front : passes (rfs_front x.party m true) ≡ true
+      front : tests_pass (rfs_front x.party m true) ≡ true
       front = rw (t.0, t.1.0, t.1.1.0) refl
 
-      fact : HasFact v.facts (rfs_under x.party m) (authenticated a)
+      fact : HasFact v.facts (rfs_under x.party m) (authenticated_text a)
       fact = honest (lead_under a (rfs_under x.party m) (rfs_value m l)) (rw front refl) t.1.1.1.1.0
 
       says : RfsFact v.members fact.fact m
-      says = fact_says v p x space at i (rfs_under x.party m) (authenticated a) fact (message.Rfs m) said
+      says = fact_says v p x space at i (rfs_under x.party m) (authenticated_text a) fact (message.Rfs m) said
 
       value_is : says.value ≡ kdu_value (record b { next = b.next + 1 }) (rfs_answer x.party m l b)
       value_is =

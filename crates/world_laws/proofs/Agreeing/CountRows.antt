@@ -34,7 +34,7 @@ use Rattle.party_tables.specs.declared.exchange.Exchange.{Exchange}
 use Rattle.party_tables.specs.declared.exchange.Kind.{Kind}
 use Rattle.party_tables.specs.declared.exchange.Kind.TheVariants as kind
 use Rattle.party_tables.specs.declared.exchange.Via.{Via}
-use Rattle.party_tables.specs.declared.exchange.Via.TheVariants as via
+use Rattle.party_tables.specs.declared.exchange.Via.TheVariants as vias
 use Rattle.party_tables.specs.declared.key.KeyRec.{KeyRec}
 use Rattle.party_tables.specs.declared.key.KeyStatus.TheVariants.{Ended}
 use Rattle.party_tables.specs.declared.link.LinkKey.{LinkKey}
@@ -48,18 +48,18 @@ use Rattle.party_tables.proofs.Tables.{one_found, find_put_same}
 use Rattle.role_base.specs.declared.exchanges.Sent.{Sent}
 use Rattle.role_base.specs.Exchanges.{record_of, sent_to, ending_with, new_link, readied, dropped}
 use Rattle.role_base.specs.Sending.{sending_drawn}
-use Rattle.csm_grammar.specs.Arrivals.{authenticated}
+use Rattle.csm_grammar.specs.Arrivals.{authenticated_text}
 use Rattle.role_base.specs.Texts.{is_plain}
 use Rattle.bank_orders.specs.Start.{sending_link, start_tests, start_under}
 use Rattle.bank_orders.specs.Resend.{resend_of}
 use Rattle.bank_orders.specs.GivingUp.{given_up, given_up_in}
 use Rattle.bank_orders.specs.Ending.{end_record}
-use Rattle.bank_arrivals.specs.declared.disconnection.Named.{Named}
-use Rattle.bank_arrivals.specs.declared.error_message.Subject.{Subject}
-use Rattle.bank_arrivals.specs.declared.error_message.Subject.TheVariants.{SentKey, SentTwins, Translated}
+use Rattle.bank_arrivals.specs.declared.disconnection.NamedKey.{NamedKey}
+use Rattle.bank_arrivals.specs.declared.error_message.ErrorSubject.{ErrorSubject}
+use Rattle.bank_arrivals.specs.declared.error_message.ErrorSubject.TheVariants.{SentKey, SentTwins, Translated}
 use Rattle.bank_arrivals.specs.Rsi.{rsi_tests, rsi_row, rsi_under}
 use Rattle.bank_arrivals.specs.Rsm.{rsm_to, answer_to, rsm_with}
-use Rattle.bank_arrivals.specs.Esm.{subject_with, subject_link, subject_value, raised, subject_ended, plain_esm, error_of, way_link, is_renewed}
+use Rattle.bank_arrivals.specs.Esm.{subject_with, subject_link, subject_value, raised, subject_ended, plain_esm, error_of, via_link, is_renewed}
 use Rattle.bank_arrivals.specs.Dsm.{named_by, left_by, left_in, dsm_on}
 use Rattle.bank_keys.specs.Rtr.{translated, rtr_with, rtr_lead_with}
 use Rattle.bank_orders.specs.Translate.{translate_drawn, translate_under}
@@ -69,7 +69,7 @@ use Rattle.bank_arrivals.specs.declared.asking_again.Retry.{Retry}
 use Rattle.bank_arrivals.specs.AskingAgain.{asked_again, retry_in}
 use Rattle.bank_keys.specs.Ksm.{body_link, key_row, key_lead_with}
 use Rattle.bank_orders.specs.StartKk.{kk_sending, start_kk_under, fresh_link, kk_edits}
-use Rattle.bank_keys.specs.declared.waits.Waiting.{Waiting}
+use Rattle.bank_keys.specs.declared.waits.KeyAtCentre.{KeyAtCentre}
 use Rattle.bank_keys.specs.Waiting.{waiting_with}
 use Rattle.roles.specs.Rows.{row_by, row_at}
 use Rattle.bank_orders.specs.Orders.{command_row}
@@ -99,23 +99,23 @@ joined : (es fs : List Edit) → AllByRecursion PutsSends es → AllByRecursion 
 joined [] fs a b = b
 joined (e ∷ es) fs a b = (a.0, joined es fs a.1 b)
 
-new_side : (p : Party) (peer : List ℕ) (way : Via) (l : LinkRec) → new_link p peer way ≡ Some l → l.side ≡ Sends
-new_side p peer (via.Direct label None) l h = absurd (cc)
-new_side p peer (via.Direct label (Some new)) l h = side_of p (sends peer new) l h
-new_side p peer (via.Distribution centre cta) l h = absurd (cc)
-new_side p peer (via.Translation centre) l h = absurd (cc)
+new_side : (p : Party) (peer : List ℕ) (via : Via) (l : LinkRec) → new_link p peer via ≡ Some l → l.side ≡ Sends
+new_side p peer (vias.Direct label None) l h = absurd (cc)
+new_side p peer (vias.Direct label (Some new)) l h = side_of p (sends peer new) l h
+new_side p peer (vias.Distribution centre cta) l h = absurd (cc)
+new_side p peer (vias.Translation centre) l h = absurd (cc)
 
-way_side : (p : Party) (peer : List ℕ) (way : Via) (l : LinkRec) → way_link p peer way ≡ Some l → l.side ≡ Sends
-way_side p peer (via.Direct label new) l h = go (is_renewed label new) h
+via_side : (p : Party) (peer : List ℕ) (via : Via) (l : LinkRec) → via_link p peer via ≡ Some l → l.side ≡ Sends
+via_side p peer (vias.Direct label new) l h = go (is_renewed label new) h
   where
     go : (b : Bool) → cond b None (link_with (sends peer label) p) ≡ Some l → l.side ≡ Sends
     go true h = absurd (cc)
     go false h = side_of p (sends peer label) l h
-way_side p peer (via.Distribution centre cta) l h = absurd (cc)
-way_side p peer (via.Translation centre) l h = absurd (cc)
+via_side p peer (vias.Distribution centre cta) l h = absurd (cc)
+via_side p peer (vias.Translation centre) l h = absurd (cc)
 
-subject_side : (p : Party) (peer : List ℕ) (s : Subject) (l : LinkRec) → subject_link p peer s ≡ Some l → l.side ≡ Sends
-subject_side p peer (SentKey s) l h = way_side p peer s.way l h
+subject_side : (p : Party) (peer : List ℕ) (s : ErrorSubject) (l : LinkRec) → subject_link p peer s ≡ Some l → l.side ≡ Sends
+subject_side p peer (SentKey s) l h = via_side p peer s.via l h
 subject_side p peer (SentTwins t) l h = side_of p (sends peer t.first.name.label) l h
 subject_side p peer (Translated value cta) l h = side_of p (sends peer centre_label) l h
 
@@ -186,7 +186,7 @@ module _ (ms : List Member) (p : Party) (links : HasLinks p) where
   drop_sends peer (Some e) = by_kind e.kind
     where
       by_kind : (k : Kind) → AllByRecursion PutsSends (given_up p peer k ++ DropExchange peer ∷ [])
-      by_kind (kind.KeySent name way) = joined (dropped (new_link p peer way) ++ ended (record_of p peer name)) (DropExchange peer ∷ []) (joined (dropped (new_link p peer way)) (ended (record_of p peer name)) (dropped_sends (new_link p peer way)) (ended_sends (record_of p peer name))) (tt, tt)
+      by_kind (kind.KeySent name via) = joined (dropped (new_link p peer via) ++ ended (record_of p peer name)) (DropExchange peer ∷ []) (joined (dropped (new_link p peer via)) (ended (record_of p peer name)) (dropped_sends (new_link p peer via)) (ended_sends (record_of p peer name))) (tt, tt)
       by_kind (kind.Asked ultimate) = (tt, tt)
       by_kind (kind.Translating ultimate value cta) = (tt, tt)
       by_kind (kind.Ending name) = (tt, tt)
@@ -219,7 +219,7 @@ module _ (ms : List Member) (p : Party) (links : HasLinks p) where
       by_service true = by_draw (twins_drawn p.generator moment)
       by_service false = sending_of (rsi_tests p a m (Some l)) l (good_draw p.generator moment) side
 
-  translated_counts : (a : Arrival) (m : Rtr) (o : Option Waiting) → CountsMove ms p (translated p a m o)
+  translated_counts : (a : Arrival) (m : Rtr) (o : Option KeyAtCentre) → CountsMove ms p (translated p a m o)
   translated_counts a m None = sending_counts ms p (translated p a m None) tt refl
   translated_counts a m (Some t) = sending_counts ms p (translated p a m (Some t)) (tt, (tt, (tt, tt))) refl
 
@@ -228,7 +228,7 @@ module _ (ms : List Member) (p : Party) (links : HasLinks p) where
     where
       go : (o : Option Sent) → CountsMove ms p (rsm_to p a m o)
       go None = sending_counts ms p (rsm_to p a m None) tt refl
-      go (Some s) = sending_counts ms p (rsm_to p a m (Some s)) (joined (readied (new_link p m.originator s.way)) _ (readied_sends (new_link p m.originator s.way) (λ l e. new_side p m.originator s.way l e)) (tt, (tt, tt))) refl
+      go (Some s) = sending_counts ms p (rsm_to p a m (Some s)) (joined (readied (new_link p m.originator s.via)) _ (readied_sends (new_link p m.originator s.via) (λ l e. new_side p m.originator s.via l e)) (tt, (tt, tt))) refl
 
       by_twins : (t : Option Twins) → CountsMove ms p (rsm_by p a m t)
       by_twins None = go (sent_to p m.originator)
@@ -243,26 +243,26 @@ module _ (ms : List Member) (p : Party) (links : HasLinks p) where
   again_sends m value None = (tt, tt)
   again_sends m value (Some t) = (tt, (tt, tt))
 
-  subject_sends : (peer : List ℕ) (s : Subject) → AllByRecursion PutsSends (subject_ended p peer s)
-  subject_sends peer (SentKey s) = joined (dropped (new_link p peer s.way)) _ (dropped_sends (new_link p peer s.way)) (tt, tt)
+  subject_sends : (peer : List ℕ) (s : ErrorSubject) → AllByRecursion PutsSends (subject_ended p peer s)
+  subject_sends peer (SentKey s) = joined (dropped (new_link p peer s.via)) _ (dropped_sends (new_link p peer s.via)) (tt, tt)
   subject_sends peer (SentTwins t) = (tt, (tt, tt))
   subject_sends peer (Translated value cta) = tt
 
-  esm_counts : (a : Arrival) (m : Esm) (b : Bool) (o : Option Subject) (again : Option Retry) → CountsMove ms p (cond b (plain_esm p a m) (error_of p a m o again))
+  esm_counts : (a : Arrival) (m : Esm) (b : Bool) (o : Option ErrorSubject) (again : Option Retry) → CountsMove ms p (cond b (plain_esm p a m) (error_of p a m o again))
   esm_counts a m true o again = sending_counts ms p (plain_esm p a m) tt refl
   esm_counts a m false None again = sending_counts ms p (error_of p a m None again) tt refl
   esm_counts a m false (Some s) again = sending_counts ms p (error_of p a m (Some s) again) (joined (raised (subject_link p m.originator s) m.ctr) (subject_ended p m.originator s ++ DropExchange m.originator ∷ asked_again p m (subject_value s) again) (raised_sends (subject_link p m.originator s) m.ctr (λ l e. subject_side p m.originator s l e)) (joined (subject_ended p m.originator s) (DropExchange m.originator ∷ asked_again p m (subject_value s) again) (subject_sends m.originator s) (again_sends m (subject_value s) again))) refl
 
-  dsm_counts : (a : Arrival) (m : Dsm) (o : Option Named) → CountsMove ms p (dsm_on p a m o)
+  dsm_counts : (a : Arrival) (m : Dsm) (o : Option NamedKey) → CountsMove ms p (dsm_on p a m o)
   dsm_counts a m None = sending_counts ms p (dsm_on p a m None) tt refl
   dsm_counts a m (Some n) = sending_counts ms p (dsm_on p a m (Some n)) (by_status (is_ended n.key.status)) refl
     where
       Both : List Edit × List Edit → Type 0
       Both gone = AllByRecursion PutsSends (gone.0 ++ (PutKey (record n.key { status = Ended }) ∷ gone.1))
 
-      by_sent : (way : Via) (b : Bool) → Both (cond b (dropped (new_link p m.originator way), DropExchange m.originator ∷ []) ([], []))
-      by_sent way true = joined (dropped (new_link p m.originator way)) _ (dropped_sends (new_link p m.originator way)) (tt, (tt, tt))
-      by_sent way false = (tt, tt)
+      by_sent : (via : Via) (b : Bool) → Both (cond b (dropped (new_link p m.originator via), DropExchange m.originator ∷ []) ([], []))
+      by_sent via true = joined (dropped (new_link p m.originator via)) _ (dropped_sends (new_link p m.originator via)) (tt, (tt, tt))
+      by_sent via false = (tt, tt)
 
       by_ending : (b : Bool) → Both (cond b ([], DropExchange m.originator ∷ []) ([], []))
       by_ending true = (tt, (tt, tt))
@@ -276,7 +276,7 @@ module _ (ms : List Member) (p : Party) (links : HasLinks p) where
       by_pair j k false false = (tt, tt)
 
       by_kind : (k : Kind) → Both (left_by p m.originator n.key.name k)
-      by_kind (kind.KeySent sent way) = by_sent way (same_name n.key.name sent)
+      by_kind (kind.KeySent sent via) = by_sent via (same_name n.key.name sent)
       by_kind (kind.Ending ending) = by_ending (same_name n.key.name ending)
       by_kind (kind.Asked ultimate) = (tt, tt)
       by_kind (kind.Translating ultimate value cta) = (tt, tt)
@@ -291,15 +291,15 @@ module _ (ms : List Member) (p : Party) (links : HasLinks p) where
       by_status false = by_exchange (exchange_with m.originator p)
 
 module _ (v : Lists) (p : List ℕ) (x : Member) (space : Space) (at : member_at p v.members ≡ Some x) (i : Agreed v) (links : HasLinks x.party) where
-  key_counts : (a : Arrival) (m : Ksm) (b : KsmBody) (o : Option LinkRec) → Says (authenticated a) (message.Ksm m) → m.body ≡ b → body_link x.party m.originator b ≡ o → HonestAs v.facts a (key_lead_with x.party a m b o) → is_accept (key_row x.party a m b o).verdict ≡ true → CountsMove v.members x.party (key_row x.party a m b o)
+  key_counts : (a : Arrival) (m : Ksm) (b : KsmBody) (o : Option LinkRec) → Says (authenticated_text a) (message.Ksm m) → m.body ≡ b → body_link x.party m.originator b ≡ o → HonestAs v.facts a (key_lead_with x.party a m b o) → is_accept (key_row x.party a m b o).verdict ≡ true → CountsMove v.members x.party (key_row x.party a m b o)
   key_counts a m b None said is found honest h = sending_counts v.members x.party (key_row x.party a m b None) tt refl
   key_counts a m b (Some l) said is found honest h = taken_counts v p x space at i links a m b l said is found honest h
 
-  rtr_counts : (a : Arrival) (m : Rtr) (kd : Option (ℕ × ℕ)) → m.kd ≡ kd → Says (authenticated a) (message.Rtr m) → HonestAs v.facts a (rtr_lead_with x.party a m kd) → is_accept (rtr_with x.party a m kd).verdict ≡ true → CountsMove v.members x.party (rtr_with x.party a m kd)
+  rtr_counts : (a : Arrival) (m : Rtr) (kd : Option (ℕ × ℕ)) → m.kd ≡ kd → Says (authenticated_text a) (message.Rtr m) → HonestAs v.facts a (rtr_lead_with x.party a m kd) → is_accept (rtr_with x.party a m kd).verdict ≡ true → CountsMove v.members x.party (rtr_with x.party a m kd)
   rtr_counts a m (Some k) is said honest h = rtr_brought_counts v p x space at i a m k (link_with (takes m.originator centre_label) x.party) said is refl honest h
   rtr_counts a m None is said honest h = translated_counts v.members x.party links a m (waiting_with x.party m.originator)
 
-  message_counts : (a : Arrival) (m : Message) (moment : ℕ) → Says (authenticated a) m → HonestAs v.facts a (message_lead x.party a m) → is_accept (message_row x.party a m moment).verdict ≡ true → CountsMove v.members x.party (message_row x.party a m moment)
+  message_counts : (a : Arrival) (m : Message) (moment : ℕ) → Says (authenticated_text a) m → HonestAs v.facts a (message_lead x.party a m) → is_accept (message_row x.party a m moment).verdict ≡ true → CountsMove v.members x.party (message_row x.party a m moment)
   message_counts a (message.Rsi m) moment said honest h = rsi_counts v.members x.party links a m moment (first_link m.originator Sends x.party) refl
   message_counts a (message.Rfs m) moment said honest h = sending_counts v.members x.party (message_row x.party a (message.Rfs m) moment) tt refl
   message_counts a (message.Rtr m) moment said honest h = rtr_counts a m m.kd refl said honest h
@@ -309,7 +309,7 @@ module _ (v : Lists) (p : List ℕ) (x : Member) (space : Space) (at : member_at
   message_counts a (message.Esm m) moment said honest h = esm_counts v.members x.party links a m (is_plain a.parsed.shut) (subject_with x.party m.originator) (retry_in x.party (subject_with x.party m.originator) m.ctr)
   message_counts a (message.Dsm m) moment said honest h = dsm_counts v.members x.party links a m (named_by x.party m)
 
-  translation_counts : (a : Arrival) (m : Message) → Says (authenticated a) m → HonestAs v.facts a (translation_lead x.party a m) → is_accept (translation_message x.party a m).verdict ≡ true → CountsMove v.members x.party (translation_message x.party a m)
+  translation_counts : (a : Arrival) (m : Message) → Says (authenticated_text a) m → HonestAs v.facts a (translation_lead x.party a m) → is_accept (translation_message x.party a m).verdict ≡ true → CountsMove v.members x.party (translation_message x.party a m)
   translation_counts a (message.Rfs m) said honest h = rfs_counts v p x space at i a m (link_with (takes m.originator centre_label) x.party) (link_with (sends m.ultimate centre_label) x.party) said refl refl honest h
   translation_counts a (message.Rsi m) said honest h = sending_counts v.members x.party (translation_message x.party a (message.Rsi m)) tt refl
   translation_counts a (message.Rtr m) said honest h = sending_counts v.members x.party (translation_message x.party a (message.Rtr m)) tt refl

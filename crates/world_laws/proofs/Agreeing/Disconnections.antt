@@ -54,13 +54,13 @@ use Rattle.party_tables.specs.Tables.{drop_row}
 use Rattle.party_state.specs.declared.edit.Edit.TheVariants.{DropExchange}
 use Rattle.party_tables.specs.declared.exchange.Via.{Via}
 use Rattle.csm_grammar.specs.declared.arrival.Arrival.{Arrival}
-use Rattle.csm_grammar.specs.Arrivals.{authenticated}
+use Rattle.csm_grammar.specs.Arrivals.{authenticated_text}
 use Rattle.role_base.specs.Exchanges.{new_link, dropped, ended}
 use Rattle.party_tables.specs.Keys.{same_name}
 use Rattle.party_tables.proofs.Keys.{test_names}
 use Rattle.party_tables.proofs.Tables.{put_stands}
 use Rattle.csm_grammar.specs.declared.message.Dsm.{Dsm}
-use Rattle.bank_arrivals.specs.declared.disconnection.Named.{Named}
+use Rattle.bank_arrivals.specs.declared.disconnection.NamedKey.{NamedKey}
 use Rattle.role_base.specs.Exchanges.{record_of}
 use Rattle.bank_arrivals.specs.Dsm.{paired, code_name, named_by, dsm_front, left_by, left_in, disconnected, dsm_on}
 use Rattle.world_laws.proofs.Links.Waiting.{Waits}
@@ -70,13 +70,13 @@ use Rattle.world_laws.proofs.Agreeing.Waiting.{SentOk}
 use Rattle.change_code.specs.declared.space.Space.{Space}
 
 -- the key that ends stands
-named_at : (q : Party) (m : Dsm) (n : Named) → named_by q m ≡ Some n → record_of q m.originator m.idd ≡ Some n.key
+named_at : (q : Party) (m : Dsm) (n : NamedKey) → named_by q m ≡ Some n → record_of q m.originator m.idd ≡ Some n.key
 named_at q m n h = go (record_of q m.originator m.idd) (record_of q m.originator (code_name m.idd m.ida)) h
   where
     go : (a b : Option KeyRec) → paired a b ≡ Some n → a ≡ Some n.key
     go None b h = absurd (cc)
     go (Some k) None h = absurd (cc)
-    go (Some k) (Some j) h = (let made : Named = record { key = k; by = j } in let is : made ≡ n = cc in ap (λ (z : Named). let o : Option KeyRec = Some z.key in o) is)
+    go (Some k) (Some j) h = (let made : NamedKey = record { key = k; by = j } in let is : made ≡ n = cc in ap (λ (z : NamedKey). let o : Option KeyRec = Some z.key in o) is)
 
 ended_is : (s : KeyStatus) → is_ended s ≡ true → s ≡ Ended
 ended_is Pending h = absurd (cc)
@@ -111,12 +111,12 @@ disconnects s peer k sent = by_status (is_ended k.status) refl
     same_is : (a b : KeyName) → same_name k.name a ≡ false → b ≡ a → b ≢ k.name
     same_is a b off e i = (let t : same_name k.name a ≡ true = (test_names.decides k.name a).1 (sym i ∙ e) in cc)
 
-    by_sent : (e : Exchange) → exchange_with peer s ≡ Some e → (name : KeyName) (way : Via) → e.kind ≡ kind.KeySent name way → (b : Bool) → same_name k.name name ≡ b
-        → Disconnects s peer k ((cond {A = List Edit × List Edit} b (dropped (new_link s peer way), DropExchange peer ∷ []) ([], [])).0 ++ (PutKey (record k { status = Ended }) ∷ (cond {A = List Edit × List Edit} b (dropped (new_link s peer way), DropExchange peer ∷ []) ([], [])).1))
-    by_sent e at name way is true b = dropping (new_link s peer way) refl
-    by_sent e at name way is false b = alone (λ f other g n. other_name other (names_of e f (kind.KeySent name way) other at is g n)) refl
+    by_sent : (e : Exchange) → exchange_with peer s ≡ Some e → (name : KeyName) (via : Via) → e.kind ≡ kind.KeySent name via → (b : Bool) → same_name k.name name ≡ b
+        → Disconnects s peer k ((cond {A = List Edit × List Edit} b (dropped (new_link s peer via), DropExchange peer ∷ []) ([], [])).0 ++ (PutKey (record k { status = Ended }) ∷ (cond {A = List Edit × List Edit} b (dropped (new_link s peer via), DropExchange peer ∷ []) ([], [])).1))
+    by_sent e at name via is true b = dropping (new_link s peer via) refl
+    by_sent e at name via is false b = alone (λ f other g n. other_name other (names_of e f (kind.KeySent name via) other at is g n)) refl
       where
-        other_name : (other : KeyName) → SendsName (kind.KeySent name way) other → other ≢ k.name
+        other_name : (other : KeyName) → SendsName (kind.KeySent name via) other → other ≢ k.name
         other_name other (inl h) = same_is name other b (sym (some_is name other h))
         other_name other (inr h) = absurd (cc)
 
@@ -151,7 +151,7 @@ disconnects s peer k sent = by_status (is_ended k.status) refl
     no_name name (inr h) = cc
 
     by_kind : (e : Exchange) → exchange_with peer s ≡ Some e → (x : Kind) → e.kind ≡ x → Disconnects s peer k ((left_by s peer k.name x).0 ++ (PutKey (record k { status = Ended }) ∷ (left_by s peer k.name x).1))
-    by_kind e at (kind.KeySent name way) is = by_sent e at name way is (same_name k.name name) refl
+    by_kind e at (kind.KeySent name via) is = by_sent e at name via is (same_name k.name name) refl
     by_kind e at (kind.Ending name) is = by_ending (same_name k.name name) (none_sent e (kind.Ending name) at is no_name)
     by_kind e at (kind.Asked ultimate) is = alone (none_sent e (kind.Asked ultimate) at is no_name) refl
     by_kind e at (kind.Translating ultimate value cta) is = alone (none_sent e (kind.Translating ultimate value cta) at is no_name) refl
@@ -266,8 +266,8 @@ module _ (v : Lists) (p : List ℕ) (x : Member) (space : Space) (at : member_at
   sent : AllSent x.party
   sent = i.sent p x at
 
-  pub dsm_agreeing : (o : Option LinkKey) (a : Arrival) (m : Dsm) (found : Option Named) → named_by x.party m ≡ found → IsSound o x.party (authenticated a) (dsm_on x.party a m found) → Agreeing v x space (authenticated a) (dsm_on x.party a m found)
-  dsm_agreeing o a m None e sound = refused_agreeing v p x space at i (authenticated a) (verdict_of (dsm_front x.party m false))
+  pub dsm_agreeing : (o : Option LinkKey) (a : Arrival) (m : Dsm) (found : Option NamedKey) → named_by x.party m ≡ found → IsSound o x.party (authenticated_text a) (dsm_on x.party a m found) → Agreeing v x space (authenticated_text a) (dsm_on x.party a m found)
+  dsm_agreeing o a m None e sound = refused_agreeing v p x space at i (authenticated_text a) (verdict_of (dsm_front x.party m false))
   dsm_agreeing o a m (Some n) e sound = record {
     back = passes_backed v.members x.party (disconnected x.party m.originator n.key) (dsm_passes x.party a m n w);
     news = news_from x.party (apply (disconnected x.party m.originator n.key) x.party) (λ q g new j s. left.stood q g j);
@@ -276,7 +276,7 @@ module _ (v : Lists) (p : List ℕ) (x : Member) (space : Space) (at : member_at
     waits = moved;
     replies = new;
     new = tt;
-    accepts = record { ksm = λ class. absurd (cc); answer = λ class. absurd (cc); dsm = λ class u among. subst (DsmOk (lists_after v x space (authenticated a) (dsm_on x.party a m (Some n))) x.party.own) (of_one (full_name x.party.own n.key) u among) ended_key };
+    accepts = record { ksm = λ class. absurd (cc); answer = λ class. absurd (cc); dsm = λ class u among. subst (DsmOk (lists_after v x space (authenticated_text a) (dsm_on x.party a m (Some n))) x.party.own) (of_one (full_name x.party.own n.key) u among) ended_key };
   }
     where
       is : (record_with (record_key n.key) x.party ≡ Some n.key) × (n.key.peer ≡ m.originator) × (m.idd ≡ n.key.name)
@@ -294,19 +294,19 @@ module _ (v : Lists) (p : List ℕ) (x : Member) (space : Space) (at : member_at
       known_s : Known v x.party (record_key n.key)
       known_s = i.known p x at (record_key n.key) n.key is.0
 
-      known_k : Known (lists_after v x space (authenticated a) (dsm_on x.party a m (Some n))) (apply (disconnected x.party m.originator n.key) x.party) (record_key n.key)
-      known_k = known_later v p x space at i o (authenticated a) (dsm_on x.party a m (Some n)) (record_key n.key) grown moved known_s
+      known_k : Known (lists_after v x space (authenticated_text a) (dsm_on x.party a m (Some n))) (apply (disconnected x.party m.originator n.key) x.party) (record_key n.key)
+      known_k = known_later v p x space at i o (authenticated_text a) (dsm_on x.party a m (Some n)) (record_key n.key) grown moved known_s
 
-      new : HasAccepted (acceptances_after v.acceptances x (authenticated a) (dsm_on x.party a m (Some n))) OfDsm x.party.own (full_name x.party.own n.key)
-      new = record { acceptance = record { party = x.party.own; text = authenticated a; class = OfDsm; names = full_name x.party.own n.key ∷ [] }; stands = Contains-push v.acceptances _; class_is = refl; party_is = refl; among = first_in (full_name x.party.own n.key) [] }
+      new : HasAccepted (acceptances_after v.acceptances x (authenticated_text a) (dsm_on x.party a m (Some n))) OfDsm x.party.own (full_name x.party.own n.key)
+      new = record { acceptance = record { party = x.party.own; text = authenticated_text a; class = OfDsm; names = full_name x.party.own n.key ∷ [] }; stands = Contains-push v.acceptances _; class_is = refl; party_is = refl; among = first_in (full_name x.party.own n.key) [] }
 
-      fine : KeyFine v (lists_after v x space (authenticated a) (dsm_on x.party a m (Some n))) x.party (apply (disconnected x.party m.originator n.key) x.party) (with_status n.key Ended)
-      fine = status_fine v p x space at i o (authenticated a) (dsm_on x.party a m (Some n)) n.key Ended grown moved is.0 (λ g. refl) (λ no own. absurd no) (λ held. inr (inl new))
+      fine : KeyFine v (lists_after v x space (authenticated_text a) (dsm_on x.party a m (Some n))) x.party (apply (disconnected x.party m.originator n.key) x.party) (with_status n.key Ended)
+      fine = status_fine v p x space at i o (authenticated_text a) (dsm_on x.party a m (Some n)) n.key Ended grown moved is.0 (λ g. refl) (λ no own. absurd no) (λ held. inr (inl new))
 
-      other_fine : (j : KeyRec) → OtherTwin x.party m.originator n.key j → KeyFine v (lists_after v x space (authenticated a) (dsm_on x.party a m (Some n))) x.party (apply (disconnected x.party m.originator n.key) x.party) (with_status j Ended)
-      other_fine j t = status_fine v p x space at i o (authenticated a) (dsm_on x.party a m (Some n)) j Ended grown moved t.found (λ g. refl) (λ no own. absurd no) (λ held. absurd (pending_not_held j.status t.pending held))
+      other_fine : (j : KeyRec) → OtherTwin x.party m.originator n.key j → KeyFine v (lists_after v x space (authenticated_text a) (dsm_on x.party a m (Some n))) x.party (apply (disconnected x.party m.originator n.key) x.party) (with_status j Ended)
+      other_fine j t = status_fine v p x space at i o (authenticated_text a) (dsm_on x.party a m (Some n)) j Ended grown moved t.found (λ g. refl) (λ no own. absurd no) (λ held. absurd (pending_not_held j.status t.pending held))
 
-      keys_move : LeftKeys x.party (apply (disconnected x.party m.originator n.key) x.party) m.originator n.key → KeysMove v (lists_after v x space (authenticated a) (dsm_on x.party a m (Some n))) x.party (apply (disconnected x.party m.originator n.key) x.party)
+      keys_move : LeftKeys x.party (apply (disconnected x.party m.originator n.key) x.party) m.originator n.key → KeysMove v (lists_after v x space (authenticated_text a) (dsm_on x.party a m (Some n))) x.party (apply (disconnected x.party m.originator n.key) x.party)
       keys_move (one_left ks) = one (with_status n.key Ended) ks fine
       keys_move (behind_left j t none ks) = two (with_status n.key Ended) (with_status j Ended) t.other ks fine (other_fine j t)
       keys_move (front_left j t none ks) = two (with_status j Ended) (with_status n.key Ended) (λ e. t.other (sym e)) ks (other_fine j t) fine
@@ -330,5 +330,5 @@ module _ (v : Lists) (p : List ℕ) (x : Member) (space : Space) (at : member_at
               let kr : Known v x.party (record_key r) = subst (Known v x.party) key (i.known p x at z r old) in
               absurd (ne (key ∙ one_key v x.party (record_key r) (record_key n.key) kr known_s full_r))
 
-      ended_key : DsmOk (lists_after v x space (authenticated a) (dsm_on x.party a m (Some n))) x.party.own (full_name x.party.own n.key)
-      ended_key = record { ended = ended; key = record_key n.key; full_is = refl; known = λ y f. subst (λ (z : Member). Known (lists_after v x space (authenticated a) (dsm_on x.party a m (Some n))) z.party (record_key n.key)) (one_found (after x space (dsm_on x.party a m (Some n))) y after_here f) known_k }
+      ended_key : DsmOk (lists_after v x space (authenticated_text a) (dsm_on x.party a m (Some n))) x.party.own (full_name x.party.own n.key)
+      ended_key = record { ended = ended; key = record_key n.key; full_is = refl; known = λ y f. subst (λ (z : Member). Known (lists_after v x space (authenticated_text a) (dsm_on x.party a m (Some n))) z.party (record_key n.key)) (one_found (after x space (dsm_on x.party a m (Some n))) y after_here f) known_k }

@@ -108,23 +108,23 @@ module _ (v : Lists) (p : List ℕ) (x : Member) (space : Space) (at : member_at
           let es : DropExchange peer ∷ [] ≡ (drop x.party peer).edits = ap (λ (z : List Edit). z ++ DropExchange peer ∷ []) (sym none) ∙ edits_are f k a b in
           drop_with text peer (DropExchange peer ∷ []) es refl refl (unmoved refl) (sent_less x.party (apply (DropExchange peer ∷ []) x.party) peer refl refl refl sent)
 
-      by_record : (f : Exchange) (name : KeyName) (way : Via) → exchange_with peer x.party ≡ Some f → f.kind ≡ kind.KeySent name way → (k : Option KeyRec) → record_of x.party peer name ≡ k → Agreeing v x space text (drop x.party peer)
-      by_record f name way a b None r =
-          let es : (dropped (new_link x.party peer way) ++ ended None) ++ DropExchange peer ∷ [] ≡ (drop x.party peer).edits = ap (λ (z : Option KeyRec). (dropped (new_link x.party peer way) ++ ended z) ++ DropExchange peer ∷ []) (sym r) ∙ edits_are f (kind.KeySent name way) a b in
-          let parts = gone_parts x.party peer (new_link x.party peer way) None in
-          let keys = gone_none x.party peer (new_link x.party peer way) in
-          drop_with text peer ((dropped (new_link x.party peer way) ++ ended None) ++ DropExchange peer ∷ []) es parts.1 parts.0 (unmoved keys) (sent_less x.party (apply ((dropped (new_link x.party peer way) ++ ended None) ++ DropExchange peer ∷ []) x.party) peer parts.1 parts.0 keys sent)
-      by_record f name way a b (Some k) r =
-          let es : (dropped (new_link x.party peer way) ++ ended (Some k)) ++ DropExchange peer ∷ [] ≡ (drop x.party peer).edits = ap (λ (z : Option KeyRec). (dropped (new_link x.party peer way) ++ ended z) ++ DropExchange peer ∷ []) (sym r) ∙ edits_are f (kind.KeySent name way) a b in
-          let parts = gone_parts x.party peer (new_link x.party peer way) (Some k) in
-          let keys = gone_some x.party peer (new_link x.party peer way) k in
-          let y : Sent = record { key = k; way = way } in
+      by_record : (f : Exchange) (name : KeyName) (via : Via) → exchange_with peer x.party ≡ Some f → f.kind ≡ kind.KeySent name via → (k : Option KeyRec) → record_of x.party peer name ≡ k → Agreeing v x space text (drop x.party peer)
+      by_record f name via a b None r =
+          let es : (dropped (new_link x.party peer via) ++ ended None) ++ DropExchange peer ∷ [] ≡ (drop x.party peer).edits = ap (λ (z : Option KeyRec). (dropped (new_link x.party peer via) ++ ended z) ++ DropExchange peer ∷ []) (sym r) ∙ edits_are f (kind.KeySent name via) a b in
+          let parts = gone_parts x.party peer (new_link x.party peer via) None in
+          let keys = gone_none x.party peer (new_link x.party peer via) in
+          drop_with text peer ((dropped (new_link x.party peer via) ++ ended None) ++ DropExchange peer ∷ []) es parts.1 parts.0 (unmoved keys) (sent_less x.party (apply ((dropped (new_link x.party peer via) ++ ended None) ++ DropExchange peer ∷ []) x.party) peer parts.1 parts.0 keys sent)
+      by_record f name via a b (Some k) r =
+          let es : (dropped (new_link x.party peer via) ++ ended (Some k)) ++ DropExchange peer ∷ [] ≡ (drop x.party peer).edits = ap (λ (z : Option KeyRec). (dropped (new_link x.party peer via) ++ ended z) ++ DropExchange peer ∷ []) (sym r) ∙ edits_are f (kind.KeySent name via) a b in
+          let parts = gone_parts x.party peer (new_link x.party peer via) (Some k) in
+          let keys = gone_some x.party peer (new_link x.party peer via) k in
+          let y : Sent = record { key = k; via = via } in
           let is = record_is x.party peer name k r in
-          let h : SentIs x.party peer (record { key = k; way = way }) = record { at = is.0; peer_is = is.1; exchange = f; stands = a; kind_is = b ∙ ap (λ (n : KeyName). kind.KeySent n way) is.2 } in
-          let moved : WaitsMove x.party (apply (drop x.party peer).edits x.party) = subst (λ (z : List Edit). WaitsMove x.party (apply z x.party)) es (waits_drop x.party (apply ((dropped (new_link x.party peer way) ++ ended (Some k)) ++ DropExchange peer ∷ []) x.party) peer parts.0) in
+          let h : SentIs x.party peer (record { key = k; via = via }) = record { at = is.0; peer_is = is.1; exchange = f; stands = a; kind_is = b ∙ ap (λ (n : KeyName). kind.KeySent n via) is.2 } in
+          let moved : WaitsMove x.party (apply (drop x.party peer).edits x.party) = subst (λ (z : List Edit). WaitsMove x.party (apply z x.party)) es (waits_drop x.party (apply ((dropped (new_link x.party peer via) ++ ended (Some k)) ++ DropExchange peer ∷ []) x.party) peer parts.0) in
           let fine : KeyFine v (lists_after v x space text (drop x.party peer)) x.party (apply (drop x.party peer).edits x.party) (with_status k Ended) = ended_fine v p x space at i o text (drop x.party peer) peer y grown moved h in
-          let fine_e : KeyFine v (lists_after v x space text (drop x.party peer)) x.party (apply ((dropped (new_link x.party peer way) ++ ended (Some k)) ++ DropExchange peer ∷ []) x.party) (with_status k Ended) = subst (λ (z : List Edit). KeyFine v (lists_after v x space text (drop x.party peer)) x.party (apply z x.party) (with_status k Ended)) (sym es) fine in
-          drop_with text peer ((dropped (new_link x.party peer way) ++ ended (Some k)) ++ DropExchange peer ∷ []) es parts.1 parts.0 (one (with_status k Ended) keys fine_e) (sent_drop x.party (apply ((dropped (new_link x.party peer way) ++ ended (Some k)) ++ DropExchange peer ∷ []) x.party) peer (with_status k Ended) parts.1 parts.0 keys is.1 sent)
+          let fine_e : KeyFine v (lists_after v x space text (drop x.party peer)) x.party (apply ((dropped (new_link x.party peer via) ++ ended (Some k)) ++ DropExchange peer ∷ []) x.party) (with_status k Ended) = subst (λ (z : List Edit). KeyFine v (lists_after v x space text (drop x.party peer)) x.party (apply z x.party) (with_status k Ended)) (sym es) fine in
+          drop_with text peer ((dropped (new_link x.party peer via) ++ ended (Some k)) ++ DropExchange peer ∷ []) es parts.1 parts.0 (one (with_status k Ended) keys fine_e) (sent_drop x.party (apply ((dropped (new_link x.party peer via) ++ ended (Some k)) ++ DropExchange peer ∷ []) x.party) peer (with_status k Ended) parts.1 parts.0 keys is.1 sent)
 
       -- the records of two keys, as many as stand
       pair_is : (f : Exchange) (name : KeyName) (j k : Option KeyRec) → exchange_with peer x.party ≡ Some f → f.kind ≡ kind.PairSent name → record_of x.party peer name ≡ j → record_of x.party peer (name_behind name) ≡ k → (ended j ++ ended k) ++ DropExchange peer ∷ [] ≡ (drop x.party peer).edits
@@ -163,7 +163,7 @@ module _ (v : Lists) (p : List ℕ) (x : Member) (space : Space) (at : member_at
           drop_with text peer (PutKey (with_status j Ended) ∷ PutKey (with_status k Ended) ∷ DropExchange peer ∷ []) es refl refl (two (with_status j Ended) (with_status k Ended) ne refl fine_j fine_k) (sent_drop_two x.party (apply (PutKey (with_status j Ended) ∷ PutKey (with_status k Ended) ∷ DropExchange peer ∷ []) x.party) peer (with_status j Ended) (with_status k Ended) refl refl refl is_j.1 is_k.1 sent)
 
       by_kind : (f : Exchange) → exchange_with peer x.party ≡ Some f → (k : Kind) → f.kind ≡ k → Agreeing v x space text (drop x.party peer)
-      by_kind f a (kind.KeySent name way) b = by_record f name way a b (record_of x.party peer name) refl
+      by_kind f a (kind.KeySent name via) b = by_record f name via a b (record_of x.party peer name) refl
       by_kind f a (kind.Asked ultimate) b = quiet f (kind.Asked ultimate) a b refl
       by_kind f a (kind.Translating ultimate value cta) b = quiet f (kind.Translating ultimate value cta) a b refl
       by_kind f a (kind.Ending name) b = quiet f (kind.Ending name) a b refl

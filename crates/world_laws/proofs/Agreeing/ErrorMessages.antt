@@ -40,12 +40,12 @@ use Rattle.world_laws.proofs.Agreeing.Steps.{plain, with_status, ended_fine, sti
 use Rattle.party_tables.specs.Tables.{drop_row}
 use Rattle.party_state.specs.declared.edit.Edit.TheVariants.{DropExchange}
 use Rattle.csm_grammar.specs.declared.arrival.Arrival.{Arrival}
-use Rattle.csm_grammar.specs.Arrivals.{authenticated}
+use Rattle.csm_grammar.specs.Arrivals.{authenticated_text}
 use Rattle.role_base.specs.Exchanges.{new_link, dropped}
 use Rattle.party_state.specs.Rows.{OfEsm}
 use Rattle.csm_grammar.specs.declared.message.Esm.{Esm}
-use Rattle.bank_arrivals.specs.declared.error_message.Subject.{Subject}
-use Rattle.bank_arrivals.specs.declared.error_message.Subject.TheVariants.{SentKey, SentTwins, Translated}
+use Rattle.bank_arrivals.specs.declared.error_message.ErrorSubject.{ErrorSubject}
+use Rattle.bank_arrivals.specs.declared.error_message.ErrorSubject.TheVariants.{SentKey, SentTwins, Translated}
 use Rattle.bank_arrivals.specs.Esm.{subject_with, subject_link, raised, esm_front, plain_esm}
 use Rattle.bank_arrivals.specs.declared.asking_again.Retry.{Retry}
 use Rattle.bank_arrivals.specs.AskingAgain.{ers_reply, asked_again, again_reply, retry_in}
@@ -62,19 +62,19 @@ data GivenUp (s t : Party) (m : Esm) (value : ℕ) : Type 0 where
   again : (r : Retry) → t.exchanges ≡ put_row exchange_key bytes_eq (record { peer = r.centre; kind = kind.Asked m.originator; text = text_of (ers_reply s m value r) }) (drop_row exchange_key bytes_eq m.originator s.exchanges) → GivenUp s t m value
 
 -- a centre is asked again about a key that was sent alone
-abbrev pub AsksFor : Option Subject → Option Retry → Type 0
+abbrev pub AsksFor : Option ErrorSubject → Option Retry → Type 0
 AsksFor None retry = Unit {0}
 AsksFor (Some (SentKey s)) retry = Unit {0}
 AsksFor (Some (SentTwins t)) retry = retry ≡ None
 AsksFor (Some (Translated value cta)) retry = retry ≡ None
 
-pub asks_for : (p : Party) (o : Option Subject) (ctr : Option ℕ) → AsksFor o (retry_in p o ctr)
+pub asks_for : (p : Party) (o : Option ErrorSubject) (ctr : Option ℕ) → AsksFor o (retry_in p o ctr)
 asks_for p None ctr = tt
 asks_for p (Some (SentKey s)) ctr = tt
 asks_for p (Some (SentTwins t)) ctr = refl
 asks_for p (Some (Translated value cta)) ctr = refl
 
-pub asks_none : (o : Option Subject) → AsksFor o None
+pub asks_none : (o : Option ErrorSubject) → AsksFor o None
 asks_none None = tt
 asks_none (Some (SentKey s)) = tt
 asks_none (Some (SentTwins t)) = refl
@@ -117,8 +117,8 @@ module _ (v : Lists) (p : List ℕ) (x : Member) (space : Space) (at : member_at
   again_new m value None = tt
   again_new m value (Some r) = tt
 
-  error_agreeing : (o : Option LinkKey) (a : Arrival) (m : Esm) (found : Option Subject) (again_is : Option Retry) → AsksFor found again_is → subject_with x.party m.originator ≡ found → IsSound o x.party (authenticated a) (error_of x.party a m found again_is) → Agreeing v x space (authenticated a) (error_of x.party a m found again_is)
-  error_agreeing o a m None again_is fits e sound = refused_agreeing v p x space at i (authenticated a) (verdict_of (esm_front x.party m None))
+  error_agreeing : (o : Option LinkKey) (a : Arrival) (m : Esm) (found : Option ErrorSubject) (again_is : Option Retry) → AsksFor found again_is → subject_with x.party m.originator ≡ found → IsSound o x.party (authenticated_text a) (error_of x.party a m found again_is) → Agreeing v x space (authenticated_text a) (error_of x.party a m found again_is)
+  error_agreeing o a m None again_is fits e sound = refused_agreeing v p x space at i (authenticated_text a) (verdict_of (esm_front x.party m None))
   error_agreeing o a m (Some (Translated value cta)) (Some r) fits e sound = absurd (cc)
   error_agreeing o a m (Some (Translated value cta)) None fits e sound =
       let parts = alone_parts x.party m.originator (subject_link x.party m.originator (Translated value cta)) m.ctr in
@@ -139,7 +139,7 @@ module _ (v : Lists) (p : List ℕ) (x : Member) (space : Space) (at : member_at
       let grown : PartyGrows o x.party (apply (error_row x.party a m (SentTwins t) None).edits x.party) = change_grows o (error_row x.party a m (SentTwins t) None).edits x.party sound.edits in
       let is : TwinsIs x.party m.originator t = twins_is x.party m.originator t (subject_twins x.party m.originator t e) in
       let moved : WaitsMove x.party (apply (error_row x.party a m (SentTwins t) None).edits x.party) = waits_drop x.party (apply (error_row x.party a m (SentTwins t) None).edits x.party) m.originator parts.1 in
-      let fine = twins_ended v p x space at i o (authenticated a) (error_row x.party a m (SentTwins t) None) m.originator t grown moved is in
+      let fine = twins_ended v p x space at i o (authenticated_text a) (error_row x.party a m (SentTwins t) None) m.originator t grown moved is in
       record {
         back = passes_backed v.members x.party (error_row x.party a m (SentTwins t) None).edits (error_passes x.party a m (SentTwins t) None w e);
         news = news_drop x.party (apply (error_row x.party a m (SentTwins t) None).edits x.party) m.originator parts.1;
@@ -148,12 +148,12 @@ module _ (v : Lists) (p : List ℕ) (x : Member) (space : Space) (at : member_at
         waits = moved;
         replies = tt;
         new = tt;
-        accepts = plain (lists_after v x space (authenticated a) (error_row x.party a m (SentTwins t) None)) x.party.own (authenticated a) OfEsm (full_name x.party.own t.first ∷ full_name x.party.own t.second ∷ []) (λ g. cc) (λ g. cc) (λ g. cc);
+        accepts = plain (lists_after v x space (authenticated_text a) (error_row x.party a m (SentTwins t) None)) x.party.own (authenticated_text a) OfEsm (full_name x.party.own t.first ∷ full_name x.party.own t.second ∷ []) (λ g. cc) (λ g. cc) (λ g. cc);
       }
   error_agreeing o a m (Some (SentKey y)) again_is fits e sound = go parts.1
     where
       parts : ((apply (error_row x.party a m (SentKey y) again_is).edits x.party).keys ≡ put_row record_key same_record (with_status y.key Ended) x.party.keys) × GivenUp x.party (apply (error_row x.party a m (SentKey y) again_is).edits x.party) m y.key.value
-      parts = given_parts x.party m y.key.value (subject_link x.party m.originator (SentKey y)) m.ctr (new_link x.party m.originator y.way) (with_status y.key Ended) again_is
+      parts = given_parts x.party m y.key.value (subject_link x.party m.originator (SentKey y)) m.ctr (new_link x.party m.originator y.via) (with_status y.key Ended) again_is
 
       grown : PartyGrows o x.party (apply (error_row x.party a m (SentKey y) again_is).edits x.party)
       grown = change_grows o (error_row x.party a m (SentKey y) again_is).edits x.party sound.edits
@@ -164,19 +164,19 @@ module _ (v : Lists) (p : List ℕ) (x : Member) (space : Space) (at : member_at
       back : Backed v.members x.party (apply (error_row x.party a m (SentKey y) again_is).edits x.party)
       back = passes_backed v.members x.party (error_row x.party a m (SentKey y) again_is).edits (error_passes x.party a m (SentKey y) again_is w e)
 
-      accepts : AcceptsOk (lists_after v x space (authenticated a) (error_row x.party a m (SentKey y) again_is)) x.party.own (authenticated a) (Some (record { class = OfEsm; names = full_name x.party.own y.key ∷ [] }))
-      accepts = plain (lists_after v x space (authenticated a) (error_row x.party a m (SentKey y) again_is)) x.party.own (authenticated a) OfEsm (full_name x.party.own y.key ∷ []) (λ g. cc) (λ g. cc) (λ g. cc)
+      accepts : AcceptsOk (lists_after v x space (authenticated_text a) (error_row x.party a m (SentKey y) again_is)) x.party.own (authenticated_text a) (Some (record { class = OfEsm; names = full_name x.party.own y.key ∷ [] }))
+      accepts = plain (lists_after v x space (authenticated_text a) (error_row x.party a m (SentKey y) again_is)) x.party.own (authenticated_text a) OfEsm (full_name x.party.own y.key ∷ []) (λ g. cc) (λ g. cc) (λ g. cc)
 
-      go : GivenUp x.party (apply (error_row x.party a m (SentKey y) again_is).edits x.party) m y.key.value → Agreeing v x space (authenticated a) (error_row x.party a m (SentKey y) again_is)
+      go : GivenUp x.party (apply (error_row x.party a m (SentKey y) again_is).edits x.party) m y.key.value → Agreeing v x space (authenticated_text a) (error_row x.party a m (SentKey y) again_is)
       go (quietly ex) =
           let moved : WaitsMove x.party (apply (error_row x.party a m (SentKey y) again_is).edits x.party) = waits_drop x.party (apply (error_row x.party a m (SentKey y) again_is).edits x.party) m.originator ex in
           record {
             back = back;
             news = news_drop x.party (apply (error_row x.party a m (SentKey y) again_is).edits x.party) m.originator ex;
-            keys = one (with_status y.key Ended) parts.0 (ended_fine v p x space at i o (authenticated a) (error_row x.party a m (SentKey y) again_is) m.originator y grown moved is);
+            keys = one (with_status y.key Ended) parts.0 (ended_fine v p x space at i o (authenticated_text a) (error_row x.party a m (SentKey y) again_is) m.originator y grown moved is);
             exchanges = sent_drop x.party (apply (error_row x.party a m (SentKey y) again_is).edits x.party) m.originator (with_status y.key Ended) grown.own ex parts.0 is.peer_is sent;
             waits = moved;
-            replies = again_ok a m y.key.value (lists_after v x space (authenticated a) (error_row x.party a m (SentKey y) again_is)) again_is;
+            replies = again_ok a m y.key.value (lists_after v x space (authenticated_text a) (error_row x.party a m (SentKey y) again_is)) again_is;
             new = again_new m y.key.value again_is;
             accepts = accepts;
           }
@@ -186,15 +186,15 @@ module _ (v : Lists) (p : List ℕ) (x : Member) (space : Space) (at : member_at
           record {
             back = back;
             news = news_both x.party (apply (error_row x.party a m (SentKey y) again_is).edits x.party) m.originator n ex refl;
-            keys = one (with_status y.key Ended) parts.0 (ended_fine v p x space at i o (authenticated a) (error_row x.party a m (SentKey y) again_is) m.originator y grown moved is);
+            keys = one (with_status y.key Ended) parts.0 (ended_fine v p x space at i o (authenticated_text a) (error_row x.party a m (SentKey y) again_is) m.originator y grown moved is);
             exchanges = sent_both x.party (apply (error_row x.party a m (SentKey y) again_is).edits x.party) m.originator n (with_status y.key Ended) grown.own ex parts.0 (inl is.peer_is) (λ name q. absurd (cc)) refl sent;
             waits = moved;
-            replies = again_ok a m y.key.value (lists_after v x space (authenticated a) (error_row x.party a m (SentKey y) again_is)) again_is;
+            replies = again_ok a m y.key.value (lists_after v x space (authenticated_text a) (error_row x.party a m (SentKey y) again_is)) again_is;
             new = again_new m y.key.value again_is;
             accepts = accepts;
           }
 
   -- one that is closed by an error detection code changes nothing
-  pub error_row_agreeing : (o : Option LinkKey) (a : Arrival) (m : Esm) (b : Bool) (again_is : Option Retry) → AsksFor (subject_with x.party m.originator) again_is → IsSound o x.party (authenticated a) (error_with x.party a m b again_is) → Agreeing v x space (authenticated a) (error_with x.party a m b again_is)
-  error_row_agreeing o a m true again_is fits sound = still_agreeing v p x space at i (authenticated a) (plain_esm x.party a m) refl tt tt tt
+  pub error_row_agreeing : (o : Option LinkKey) (a : Arrival) (m : Esm) (b : Bool) (again_is : Option Retry) → AsksFor (subject_with x.party m.originator) again_is → IsSound o x.party (authenticated_text a) (error_with x.party a m b again_is) → Agreeing v x space (authenticated_text a) (error_with x.party a m b again_is)
+  error_row_agreeing o a m true again_is fits sound = still_agreeing v p x space at i (authenticated_text a) (plain_esm x.party a m) refl tt tt tt
   error_row_agreeing o a m false again_is fits sound = error_agreeing o a m (subject_with x.party m.originator) again_is fits refl sound

@@ -13,7 +13,7 @@ use Rattle.party_tables.specs.Keys.{same_record, record_key, exchange_key, sends
 use Rattle.party_state.specs.State.{Party, centre_label, link_with, record_with, exchange_with}
 use Rattle.party_tables.proofs.Keys.{test_idents, test_records}
 use Rattle.party_tables.proofs.Tables.{one_found, find_put}
-use Rattle.bank_keys.specs.declared.waits.Waiting.{Waiting}
+use Rattle.bank_keys.specs.declared.waits.KeyAtCentre.{KeyAtCentre}
 use Rattle.std.specs.Prelude.{option_map}
 use Rattle.party_tables.specs.Tables.{drop_row}
 use Rattle.party_tables.proofs.Tables.{find_key, find_put_same, find_drop}
@@ -71,11 +71,11 @@ ex_put es n peer e h = go (bytes_eq peer n.peer) refl
     go true i = inl ((test_idents.decides peer n.peer).0 i, (let q = at_put true i in cc))
     go false i = inr (at_put false i, λ q. (let t : bytes_eq peer n.peer ≡ true = (test_idents.decides peer n.peer).1 q in cc))
 
-pub waiting_some : (o : Option Exchange) (v : Waiting) → waiting_in o ≡ Some v → (e : Exchange) × (o ≡ Some e) × (waiting_by e.kind ≡ Some v)
+pub waiting_some : (o : Option Exchange) (v : KeyAtCentre) → waiting_in o ≡ Some v → (e : Exchange) × (o ≡ Some e) × (waiting_by e.kind ≡ Some v)
 waiting_some None v h = absurd (cc)
 waiting_some (Some e) v h = (e, refl, h)
 
-pub waits_from : (s t : Party) → ((peer : List ℕ) (e : Exchange) (v : Waiting) → exchange_with peer t ≡ Some e → waiting_by e.kind ≡ Some v → (exchange_with peer s ≡ Some e) ⊎ ((l : LinkRec) × (link_with (sends peer centre_label) s ≡ Some l) × (l.next ≤ v.cta))) → WaitsMove s t
+pub waits_from : (s t : Party) → ((peer : List ℕ) (e : Exchange) (v : KeyAtCentre) → exchange_with peer t ≡ Some e → waiting_by e.kind ≡ Some v → (exchange_with peer s ≡ Some e) ⊎ ((l : LinkRec) × (link_with (sends peer centre_label) s ≡ Some l) × (l.next ≤ v.cta))) → WaitsMove s t
 waits_from s t f peer v h =
     let w = waiting_some (exchange_with peer t) v h in
     elim (f peer w.0 v w.1 w.2) [ inl a ↦ inl (ap waiting_in a ∙ w.2) | inr a ↦ inr a ]
@@ -200,21 +200,21 @@ pub record SentIs (s : Party) (peer : List ℕ) (x : Sent) : Type 0 where
   pub peer_is : x.key.peer ≡ peer
   pub exchange : Exchange
   pub stands : exchange_with peer s ≡ Some exchange
-  pub kind_is : exchange.kind ≡ kind.KeySent x.key.name x.way
+  pub kind_is : exchange.kind ≡ kind.KeySent x.key.name x.via
 
 pub sent_is : (s : Party) (peer : List ℕ) (x : Sent) → sent_to s peer ≡ Some x → SentIs s peer x
 sent_is s peer x h = go (exchange_with peer s) refl h
   where
-    with_record : (e : Exchange) (name : KeyName) (way : Via) (o : Option KeyRec) → exchange_with peer s ≡ Some e → e.kind ≡ kind.KeySent name way → record_of s peer name ≡ o → option_map (λ (k : KeyRec). let t : Sent = record { key = k; way = way } in t) o ≡ Some x → SentIs s peer x
-    with_record e name way None i k j h = absurd (cc)
-    with_record e name way (Some q) i k j h =
-        let t : Sent = record { key = q; way = way } in let is : t ≡ x = cc in
+    with_record : (e : Exchange) (name : KeyName) (via : Via) (o : Option KeyRec) → exchange_with peer s ≡ Some e → e.kind ≡ kind.KeySent name via → record_of s peer name ≡ o → option_map (λ (k : KeyRec). let t : Sent = record { key = k; via = via } in t) o ≡ Some x → SentIs s peer x
+    with_record e name via None i k j h = absurd (cc)
+    with_record e name via (Some q) i k j h =
+        let t : Sent = record { key = q; via = via } in let is : t ≡ x = cc in
         let r = record_is s peer name q j in
-        let kind_q : e.kind ≡ kind.KeySent q.name way = k ∙ ap (λ (n : KeyName). kind.KeySent n way) r.2 in
+        let kind_q : e.kind ≡ kind.KeySent q.name via = k ∙ ap (λ (n : KeyName). kind.KeySent n via) r.2 in
         subst (SentIs s peer) is (record { at = r.0; peer_is = r.1; exchange = e; stands = i; kind_is = kind_q })
 
     by_kind : (e : Exchange) (k : Kind) → exchange_with peer s ≡ Some e → e.kind ≡ k → sent_by s peer k ≡ Some x → SentIs s peer x
-    by_kind e (kind.KeySent name way) i k h = with_record e name way (record_of s peer name) i k refl h
+    by_kind e (kind.KeySent name via) i k h = with_record e name via (record_of s peer name) i k refl h
     by_kind e (kind.Asked u) i k h = absurd (cc)
     by_kind e (kind.Translating u value cta) i k h = absurd (cc)
     by_kind e (kind.Ending name) i k h = absurd (cc)
@@ -266,7 +266,7 @@ ending_is s peer k h = go (exchange_with peer s) h
   where
     by_kind : (q : Kind) → ending_by s peer q ≡ Some k → (record_with (record_key k) s ≡ Some k) × (k.peer ≡ peer)
     by_kind (kind.Ending name) h = let r = record_is s peer name k h in (r.0, r.1)
-    by_kind (kind.KeySent name way) h = absurd (cc)
+    by_kind (kind.KeySent name via) h = absurd (cc)
     by_kind (kind.Asked u) h = absurd (cc)
     by_kind (kind.Translating u value cta) h = absurd (cc)
     by_kind (kind.PairSent name) h = absurd (cc)

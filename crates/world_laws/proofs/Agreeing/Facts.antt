@@ -25,7 +25,7 @@ use Rattle.role_base.specs.Conditions.{body_issuer}
 use Rattle.party_tables.specs.declared.exchange.Kind.TheVariants as kind
 use Rattle.party_tables.specs.Names.{full_behind}
 use Rattle.bank_keys.specs.Ksm.{body_count, body_twin, body_value, second_value, body_new, opened_kk, key_names}
-use Rattle.bank_keys.specs.declared.waits.Waiting.{Waiting}
+use Rattle.bank_keys.specs.declared.waits.KeyAtCentre.{KeyAtCentre}
 use Rattle.bank_keys.specs.Waiting.{waiting_with}
 use Rattle.member.specs.Member.{Member}
 use Rattle.world_laws.specs.World.{Fact, Acceptance, member_at}
@@ -74,7 +74,7 @@ pub record KsmFact (v : Lists) (f : Fact) (k : Ksm) : Type 0 where
 
 -- where the bank still waits at this count, it waits with this value
 abbrev pub WaitsWith : Party → List ℕ → ℕ → ℕ → Type 0
-WaitsWith s centre cta value = (t : Waiting) → waiting_with s centre ≡ Some t → t.cta ≡ cta → t.value ≡ value
+WaitsWith s centre cta value = (t : KeyAtCentre) → waiting_with s centre ≡ Some t → t.cta ≡ cta → t.value ≡ value
 
 pub record WaitsAt (ps : List Member) (bank centre : List ℕ) (cta value : ℕ) : Type 0 where
   pub party : Member

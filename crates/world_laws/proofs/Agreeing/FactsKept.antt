@@ -29,7 +29,7 @@ use Rattle.party_tables.proofs.Keys.{test_idents}
 use Rattle.party_tables.proofs.Tables.{one_found}
 use Rattle.role_base.specs.Conditions.{body_issuer}
 use Rattle.bank_keys.specs.Ksm.{body_twin, body_value, key_names}
-use Rattle.bank_keys.specs.declared.waits.Waiting.{Waiting}
+use Rattle.bank_keys.specs.declared.waits.KeyAtCentre.{KeyAtCentre}
 use Rattle.bank_keys.specs.Waiting.{waiting_with}
 use Rattle.member.specs.Member.{Member}
 use Rattle.world_laws.specs.World.{Fact, own_of, member_at}
@@ -130,7 +130,7 @@ module _ (o : Option LinkKey) (v : Lists) (p : List ℕ) (x : Member) (space : S
       let l = h.2.goes.ready (sends centre centre_label) b.link b.found b.ready in
       (record { party = h.0; at = h.1; link = l.0; found = l.1; ready = l.2.ready b.ready; below = omega (arith, b.below, l.2.next); value_is = λ t j e. waits h.0.party h.2.waits t j e }, l.2.pair)
     where
-      waits : (t : Party) → WaitsMove b.party.party t → (a : Waiting) → waiting_with t centre ≡ Some a → a.cta ≡ cta → a.value ≡ value
+      waits : (t : Party) → WaitsMove b.party.party t → (a : KeyAtCentre) → waiting_with t centre ≡ Some a → a.cta ≡ cta → a.value ≡ value
       waits t w a j e = elim (w centre a j) [
         | inl old ↦ b.value_is a old e
         | inr n ↦ (let q : b.link.next ≡ n.0.next = ap (λ (y : LinkRec). y.next) (one_found b.link n.0 b.found n.1) in absurd (omega (arith, b.below, n.2, e, q)))

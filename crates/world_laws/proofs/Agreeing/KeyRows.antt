@@ -48,9 +48,9 @@ use Rattle.world_laws.proofs.Agreeing.Exchanges.{put_other, sent_keep}
 use Rattle.world_laws.proofs.Agreeing.Backs.{backed}
 use Rattle.world_laws.proofs.Agreeing.Steps.{other_of, after_is}
 use Rattle.std.proofs.lemmas.List.Elements.{Contains-push}
-use Rattle.party_state.specs.Verdicts.{passes}
+use Rattle.party_state.specs.Verdicts.{tests_pass}
 use Rattle.csm_grammar.specs.declared.arrival.Arrival.{Arrival}
-use Rattle.csm_grammar.specs.Arrivals.{authenticated}
+use Rattle.csm_grammar.specs.Arrivals.{authenticated_text}
 use Rattle.world_laws.proofs.Agreeing.AnswerRows.{HonestAs}
 use Rattle.bank_keys.specs.Ksm.{link_in_use, body_link, body_twin, body_next, body_name, body_front, body_record, second_record, second_value, body_second, body_tests, body_edits, taken_link, key_names, key_row, key_found, key_lead_with}
 use Rattle.world_laws.proofs.Sound.Keys.{taking_edits, with_second, key_held, key_at_key, key_up, taken_new, taken_keys}
@@ -102,7 +102,7 @@ module _ (v : Lists) (p : List ℕ) (x : Member) (space : Space) (at : member_at
   sent : AllSent x.party
   sent = i.sent p x at
 
-  module _ (a : Arrival) (m : Ksm) (b : KsmBody) (l : LinkRec) (said : Says (authenticated a) (message.Ksm m)) (is : m.body ≡ b) (found : body_link x.party m.originator b ≡ Some l) (honest : HonestAs v.facts a (key_lead_with x.party a m b (Some l))) (h : is_accept (key_row x.party a m b (Some l)).verdict ≡ true) (o : Option LinkKey) (sound : IsSound o x.party (authenticated a) (key_row x.party a m b (Some l)))
+  module _ (a : Arrival) (m : Ksm) (b : KsmBody) (l : LinkRec) (said : Says (authenticated_text a) (message.Ksm m)) (is : m.body ≡ b) (found : body_link x.party m.originator b ≡ Some l) (honest : HonestAs v.facts a (key_lead_with x.party a m b (Some l))) (h : is_accept (key_row x.party a m b (Some l)).verdict ≡ true) (o : Option LinkKey) (sound : IsSound o x.party (authenticated_text a) (key_row x.party a m b (Some l)))
       (not_before : (u : FullName) → Contains (key_names (body_name x.party m.originator b l) (body_twin b)) u → HasAccepted v.acceptances OfKsm x.party.own u → ⊥) where
     t : TestsHold (body_tests x.party a m b l)
     t = key_held x.party a m b l links is found h
@@ -131,10 +131,10 @@ module _ (v : Lists) (p : List ℕ) (x : Member) (space : Space) (at : member_at
     second_name : (kd : ℕ) → full_behind (body_name x.party m.originator b l) ≡ to_own (record_key (second_record x.party m b l kd)) x.party.own
     second_name kd j = record { name = name_behind (body_name x.party m.originator b l).name; recipient = to j }
 
-    front : passes (body_front x.party m b (Some l)) ≡ true
+    front : tests_pass (body_front x.party m b (Some l)) ≡ true
     front = rw (t.0, t.1.0) refl
 
-    fact : HasFact v.facts (body_name x.party m.originator b l) (authenticated a)
+    fact : HasFact v.facts (body_name x.party m.originator b l) (authenticated_text a)
     fact = honest (key_found x.party a m b l) (rw front refl) t.1.1.1.0
 
     grown : PartyGrows o x.party (apply (body_edits x.party m b l) x.party)
@@ -153,14 +153,14 @@ module _ (v : Lists) (p : List ℕ) (x : Member) (space : Space) (at : member_at
     differ : (kd : ℕ) → record_key (second_record x.party m b l kd) ≢ record_key (body_record x.party m b l)
     differ kd = behind_other (record_key (body_record x.party m b l)) (record_key (second_record x.party m b l kd)) refl
 
-    accepted : (u : FullName) → Contains (key_names (body_name x.party m.originator b l) (body_twin b)) u → HasAccepted (acceptances_after v.acceptances x (authenticated a) (key_row x.party a m b (Some l))) OfKsm x.party.own u
-    accepted u among = record { acceptance = record { party = x.party.own; text = authenticated a; class = OfKsm; names = key_names (body_name x.party m.originator b l) (body_twin b) }; stands = Contains-push v.acceptances _; class_is = refl; party_is = refl; among = among }
+    accepted : (u : FullName) → Contains (key_names (body_name x.party m.originator b l) (body_twin b)) u → HasAccepted (acceptances_after v.acceptances x (authenticated_text a) (key_row x.party a m b (Some l))) OfKsm x.party.own u
+    accepted u among = record { acceptance = record { party = x.party.own; text = authenticated_text a; class = OfKsm; names = key_names (body_name x.party m.originator b l) (body_twin b) }; stands = Contains-push v.acceptances _; class_is = refl; party_is = refl; among = among }
 
     head : (more : List FullName) × (key_names (body_name x.party m.originator b l) (body_twin b) ≡ body_name x.party m.originator b l ∷ more)
     head = head_names (body_name x.party m.originator b l) (body_twin b)
 
-    taken_now : HasTaken (acceptances_after v.acceptances x (authenticated a) (key_row x.party a m b (Some l))) x.party.own (body_name x.party m.originator b l)
-    taken_now = record { acceptance = record { party = x.party.own; text = authenticated a; class = OfKsm; names = key_names (body_name x.party m.originator b l) (body_twin b) }; stands = Contains-push v.acceptances _; class_is = refl; party_is = refl; more = head.0; names_are = head.1 }
+    taken_now : HasTaken (acceptances_after v.acceptances x (authenticated_text a) (key_row x.party a m b (Some l))) x.party.own (body_name x.party m.originator b l)
+    taken_now = record { acceptance = record { party = x.party.own; text = authenticated_text a; class = OfKsm; names = key_names (body_name x.party m.originator b l) (body_twin b) }; stands = Contains-push v.acceptances _; class_is = refl; party_is = refl; more = head.0; names_are = head.1 }
 
     in_first : Contains (key_names (body_name x.party m.originator b l) (body_twin b)) (body_name x.party m.originator b l)
     in_first = carries_among l.pair m.originator x.party.own b (body_name x.party m.originator b l) (body_name x.party m.originator b l) (body_value l.pair m.originator x.party.own b) (as_first refl refl)
@@ -203,7 +203,7 @@ module _ (v : Lists) (p : List ℕ) (x : Member) (space : Space) (at : member_at
         let key : record_key (second_record x.party m b l kd) ≡ record { peer = u.name.originator; name = u.name } = (let n = ap (λ (z : FullName). z.name) (sym e) in let g = sym org ∙ ap (λ (z : FullName). z.name.originator) (sym e) in λ j. record { peer = g j; name = n j }) in
         (second_record x.party m b l kd, subst (λ (q : RecordKey). record_with q (apply (body_edits x.party m b l) x.party) ≡ Some (second_record x.party m b l kd)) key (second_now kd k), tt, sym i)
 
-    holds : TakenKsm (lists_after v x space (authenticated a) (key_row x.party a m b (Some l))) (record { party = x.party.own; text = authenticated a; class = OfKsm; names = key_names (body_name x.party m.originator b l) (body_twin b) })
+    holds : TakenKsm (lists_after v x space (authenticated_text a) (key_row x.party a m b (Some l))) (record { party = x.party.own; text = authenticated_text a; class = OfKsm; names = key_names (body_name x.party m.originator b l) (body_twin b) })
     holds = record {
       party = after x space (key_row x.party a m b (Some l));
       at = after_is v p x space at i o (key_row x.party a m b (Some l)) grown;
@@ -213,7 +213,7 @@ module _ (v : Lists) (p : List ℕ) (x : Member) (space : Space) (at : member_at
       names = ap (λ (z : KsmBody). key_names (body_name x.party m.originator b l) (body_twin z)) (sym is);
       other = other_name;
       recipient = to;
-      fact = fact_more v.facts (facts_of x.party.own (key_row x.party a m b (Some l)).reply) (body_name x.party m.originator b l) (authenticated a) fact;
+      fact = fact_more v.facts (facts_of x.party.own (key_row x.party a m b (Some l)).reply) (body_name x.party m.originator b l) (authenticated_text a) fact;
       link = record l { next = body_next b };
       found = key_up x.party a m b l links is found h;
       label = subst (λ (z : KsmBody). IfSome (label_given z) (λ given. (body_name x.party m.originator b l).name.label ≡ given)) (sym is) (name_label x.party m.originator b l found);
@@ -221,19 +221,19 @@ module _ (v : Lists) (p : List ℕ) (x : Member) (space : Space) (at : member_at
       keeps = λ u value c. inl (keeps u value (subst (λ (z : KsmBody). Carries l.pair m.originator x.party.own z (body_name x.party m.originator b l) u value) is c));
     }
 
-    fine_of : (k : KeyRec) (u : FullName) → u ≡ to_own (record_key k) x.party.own → k.name.originator ≢ x.party.own → k.peer ≡ k.name.originator → k.status ≡ Held → Contains (key_names (body_name x.party m.originator b l) (body_twin b)) u → KeyFine v (lists_after v x space (authenticated a) (key_row x.party a m b (Some l))) x.party (apply (body_edits x.party m b l) x.party) k
+    fine_of : (k : KeyRec) (u : FullName) → u ≡ to_own (record_key k) x.party.own → k.name.originator ≢ x.party.own → k.peer ≡ k.name.originator → k.status ≡ Held → Contains (key_names (body_name x.party m.originator b l) (body_twin b)) u → KeyFine v (lists_after v x space (authenticated_text a) (key_row x.party a m b (Some l))) x.party (apply (body_edits x.party m b l) x.party) k
     fine_of k u name other peer status among = record {
       put = taken other (λ e. not_before u among (subst (λ (z : FullName). HasAccepted v.acceptances OfKsm x.party.own z) (sym name) e));
       live = λ no own. absurd (other own);
-      known = theirs (λ e. other (e ∙ parts.2)) peer (subst (λ (z : List ℕ). HasAccepted (acceptances_after v.acceptances x (authenticated a) (key_row x.party a m b (Some l))) OfKsm z (to_own (record_key k) z)) (sym parts.2) (subst (λ (z : FullName). HasAccepted (acceptances_after v.acceptances x (authenticated a) (key_row x.party a m b (Some l))) OfKsm x.party.own z) name (accepted u among)));
+      known = theirs (λ e. other (e ∙ parts.2)) peer (subst (λ (z : List ℕ). HasAccepted (acceptances_after v.acceptances x (authenticated_text a) (key_row x.party a m b (Some l))) OfKsm z (to_own (record_key k) z)) (sym parts.2) (subst (λ (z : FullName). HasAccepted (acceptances_after v.acceptances x (authenticated_text a) (key_row x.party a m b (Some l))) OfKsm x.party.own z) name (accepted u among)));
       gone = λ g j held. inl (subst IsHeld (sym status) tt);
     }
 
-    keys_move : (o : Option ℕ) → body_twin b ≡ o → KeysMove v (lists_after v x space (authenticated a) (key_row x.party a m b (Some l))) x.party (apply (body_edits x.party m b l) x.party)
+    keys_move : (o : Option ℕ) → body_twin b ≡ o → KeysMove v (lists_after v x space (authenticated_text a) (key_row x.party a m b (Some l))) x.party (apply (body_edits x.party m b l) x.party)
     keys_move None e = one (body_record x.party m b l) (keys_one e) (fine_of (body_record x.party m b l) (body_name x.party m.originator b l) first_name other_name (sym org) refl in_first)
     keys_move (Some kd) e = two (body_record x.party m b l) (second_record x.party m b l kd) (differ kd) (keys_two kd e) (fine_of (body_record x.party m b l) (body_name x.party m.originator b l) first_name other_name (sym org) refl in_first) (fine_of (second_record x.party m b l kd) (full_behind (body_name x.party m.originator b l)) (second_name kd) other_name (sym org) refl (in_second kd e))
 
-    pub taken_agreeing : Agreeing v x space (authenticated a) (key_row x.party a m b (Some l))
+    pub taken_agreeing : Agreeing v x space (authenticated_text a) (key_row x.party a m b (Some l))
     taken_agreeing = record {
       back = backed v.members x.party (body_edits x.party m b l) (taken_unreadied x.party m.originator l (body_count b) (body_next b) (body_new b) (body_record x.party m b l) (body_second x.party m b l) (key_at_key x.party a m b l links is found h));
       news = news_stay x.party (apply (body_edits x.party m b l) x.party) parts.1;

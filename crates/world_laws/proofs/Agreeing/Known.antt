@@ -14,7 +14,7 @@ use Rattle.party_state.specs.State.{Party, centre_label, link_with, record_with}
 use Rattle.party_state.specs.Rows.{Class, OfKsm}
 use Rattle.party_tables.proofs.Keys.{test_idents}
 use Rattle.party_tables.proofs.Tables.{one_found}
-use Rattle.bank_keys.specs.declared.waits.Waiting.{Waiting}
+use Rattle.bank_keys.specs.declared.waits.KeyAtCentre.{KeyAtCentre}
 use Rattle.bank_keys.specs.Waiting.{waiting_with}
 use Rattle.member.specs.Member.{Member}
 use Rattle.world_laws.specs.World.{Fact, Acceptance}
@@ -25,7 +25,7 @@ use Rattle.world_laws.proofs.Agreeing.Lists.{Lists, to_peer, to_own, full_at, Go
 -- a centre's answer was taken: its count is past, or nothing waits at its count any more
 abbrev pub IsUsed : Party → Rtr → FullName → Option (ℕ × ℕ) → Type 0
 IsUsed s m u (Some k) = (l : LinkRec) × (link_with (takes m.originator centre_label) s ≡ Some l) × (k.1 < l.next)
-IsUsed s m u None = (l : LinkRec) × (link_with (sends m.originator centre_label) s ≡ Some l) × (l.ready ≡ true) × (u.name.count < l.next) × ((v : Waiting) → waiting_with s m.originator ≡ Some v → v.cta ≢ u.name.count)
+IsUsed s m u None = (l : LinkRec) × (link_with (sends m.originator centre_label) s ≡ Some l) × (l.ready ≡ true) × (u.name.count < l.next) × ((v : KeyAtCentre) → waiting_with s m.originator ≡ Some v → v.cta ≢ u.name.count)
 
 pub record Issued (fs : List Fact) (s : Party) (k : RecordKey) : Type 0 where
   pub rtr : Rtr
@@ -60,7 +60,7 @@ pub used_on : (s t : Party) (m : Rtr) (u : FullName) (kd : Option (ℕ × ℕ)) 
 used_on s t m u (Some k) g w h = let n = g.taking (takes m.originator centre_label) h.0 refl h.1 in (n.0, n.1, omega (arith, h.2, n.2.next))
 used_on s t m u None g w h = let n = g.ready (sends m.originator centre_label) h.0 h.1 h.2 in (n.0, n.1, n.2.ready h.2, omega (arith, h.3, n.2.next), waits)
   where
-    waits : (v : Waiting) → waiting_with t m.originator ≡ Some v → v.cta ≢ u.name.count
+    waits : (v : KeyAtCentre) → waiting_with t m.originator ≡ Some v → v.cta ≢ u.name.count
     waits v i = elim (w m.originator v i) [
       | inl j ↦ h.4 v j
       | inr j ↦ (let e : h.0.next ≡ j.0.next = ap (λ (l : LinkRec). l.next) (one_found h.0 j.0 h.1 j.1) in λ q. omega (arith, h.3, j.2, e, q))

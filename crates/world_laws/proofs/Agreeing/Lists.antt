@@ -12,7 +12,7 @@ use Rattle.party_tables.specs.Tables.{put_row}
 use Rattle.party_tables.specs.Keys.{sends}
 use Rattle.party_state.specs.State.{Party, centre_label, link_with, apply}
 use Rattle.party_state.specs.Rows.{Row, Reply}
-use Rattle.bank_keys.specs.declared.waits.Waiting.{Waiting}
+use Rattle.bank_keys.specs.declared.waits.KeyAtCentre.{KeyAtCentre}
 use Rattle.bank_keys.specs.Waiting.{waiting_with}
 use Rattle.change_code.specs.declared.space.Space.{Space}
 use Rattle.member.specs.Member.{Member}
@@ -80,7 +80,7 @@ goes_stays s = record { own = refl; taking = λ k l e h. (l, h, link_stays l); r
 
 -- how the keys with translation centres move: what waits waited before, or at a count that its link had not reached
 abbrev pub WaitsMove : Party → Party → Type 0
-WaitsMove s t = (peer : List ℕ) (v : Waiting) → waiting_with t peer ≡ Some v → (waiting_with s peer ≡ Some v) ⊎ ((l : LinkRec) × (link_with (sends peer centre_label) s ≡ Some l) × (l.next ≤ v.cta))
+WaitsMove s t = (peer : List ℕ) (v : KeyAtCentre) → waiting_with t peer ≡ Some v → (waiting_with s peer ≡ Some v) ⊎ ((l : LinkRec) × (link_with (sends peer centre_label) s ≡ Some l) × (l.next ≤ v.cta))
 
 pub waits_stay : (s t : Party) → t.exchanges ≡ s.exchanges → WaitsMove s t
 waits_stay s t e peer v h = inl (subst (λ (es : List Exchange). waiting_with (record s { exchanges = es }) peer ≡ Some v) e h)

@@ -64,9 +64,9 @@ use Rattle.std.proofs.lemmas.List.Elements.{Contains-push, All-contains}
 use Rattle.party_tables.specs.Tables.{drop_row}
 use Rattle.party_state.specs.declared.edit.Edit.TheVariants.{DropExchange}
 use Rattle.party_tables.specs.declared.exchange.Via.{Via}
-use Rattle.party_state.specs.Verdicts.{passes}
+use Rattle.party_state.specs.Verdicts.{tests_pass}
 use Rattle.csm_grammar.specs.declared.arrival.Arrival.{Arrival}
-use Rattle.csm_grammar.specs.Arrivals.{authenticated}
+use Rattle.csm_grammar.specs.Arrivals.{authenticated_text}
 use Rattle.role_base.specs.Texts.{is_verified, lead_under}
 use Rattle.role_base.specs.Exchanges.{new_link, new_link_at, new_label, readied}
 use Rattle.world_laws.proofs.Agreeing.AnswerRows.{HonestAs}
@@ -118,8 +118,8 @@ module _ (v : Lists) (p : List ℕ) (x : Member) (space : Space) (at : member_at
       go true e h = inr (by ((test_links.decides (sends q label) (link_key l)).0 e) (cc))
       go false e h = inl (m, h, r, refl)
 
-  new_link_is : (peer : List ℕ) (way : Via) (l : LinkRec) → new_link x.party peer way ≡ Some l → (link_with (sends peer l.label) x.party ≡ Some l) × (new_label way ≡ Some l.label) × (l.peer ≡ peer)
-  new_link_is peer way l h = by (new_label way) h
+  new_link_is : (peer : List ℕ) (via : Via) (l : LinkRec) → new_link x.party peer via ≡ Some l → (link_with (sends peer l.label) x.party ≡ Some l) × (new_label via ≡ Some l.label) × (l.peer ≡ peer)
+  new_link_is peer via l h = by (new_label via) h
     where
       by : (o : Option (List ℕ)) → new_link_at x.party peer o ≡ Some l → (link_with (sends peer l.label) x.party ≡ Some l) × (o ≡ Some l.label) × (l.peer ≡ peer)
       by None h = absurd (cc)
@@ -129,27 +129,27 @@ module _ (v : Lists) (p : List ℕ) (x : Member) (space : Space) (at : member_at
           (subst (λ (z : List ℕ). link_with (sends peer z) x.party ≡ Some l) label_is h, ap (λ (z : List ℕ). let o : Option (List ℕ) = Some z in o) label_is, ap (λ (k : LinkKey). k.peer) la.key)
 
   -- the recipient took the text of a key that was sent
-  taken_there : (o : Option LinkKey) (a : Arrival) (m : Rsm) (k : KeyRec) → Says (authenticated a) (message.Rsm m) → m.idd ≡ None → k.peer ≡ m.originator → k.name.originator ≡ x.party.own → HasFact v.facts (full_name x.party.own k) (authenticated a) → HasTaken v.acceptances k.peer (to_peer (record_key k))
+  taken_there : (o : Option LinkKey) (a : Arrival) (m : Rsm) (k : KeyRec) → Says (authenticated_text a) (message.Rsm m) → m.idd ≡ None → k.peer ≡ m.originator → k.name.originator ≡ x.party.own → HasFact v.facts (full_name x.party.own k) (authenticated_text a) → HasTaken v.acceptances k.peer (to_peer (record_key k))
   taken_there o a m k said idd peer_is own fact =
-      let b : RsmOk v.acceptances fact.fact m m.idd = fact_says v p x space at i (full_name x.party.own k) (authenticated a) fact (message.Rsm m) said in
+      let b : RsmOk v.acceptances fact.fact m m.idd = fact_says v p x space at i (full_name x.party.own k) (authenticated_text a) fact (message.Rsm m) said in
       let d : HasTaken v.acceptances m.originator fact.fact.under = subst (RsmOk v.acceptances fact.fact m) idd b in
       let under : fact.fact.under ≡ to_peer (record_key k) = fact.under_is ∙ full_mine x.party.own (record_key k) own in
       record { acceptance = d.acceptance; stands = d.stands; class_is = d.class_is; party_is = d.party_is ∙ sym peer_is; more = d.more; names_are = d.names_are ∙ ap (λ (u : FullName). u ∷ d.more) under }
 
   -- the keys that were sent at once are live
 
-  twins_agreeing : (o : Option LinkKey) (a : Arrival) (m : Rsm) (y : Twins) → Says (authenticated a) (message.Rsm m) → m.idd ≡ None → twins_to x.party m.originator ≡ Some y → HonestAs v.facts a (rsm_lead_by x.party a m (Some y)) → is_accept (rsm_twins x.party a m y).verdict ≡ true → IsSound o x.party (authenticated a) (rsm_twins x.party a m y) → Agreeing v x space (authenticated a) (rsm_twins x.party a m y)
+  twins_agreeing : (o : Option LinkKey) (a : Arrival) (m : Rsm) (y : Twins) → Says (authenticated_text a) (message.Rsm m) → m.idd ≡ None → twins_to x.party m.originator ≡ Some y → HonestAs v.facts a (rsm_lead_by x.party a m (Some y)) → is_accept (rsm_twins x.party a m y).verdict ≡ true → IsSound o x.party (authenticated_text a) (rsm_twins x.party a m y) → Agreeing v x space (authenticated_text a) (rsm_twins x.party a m y)
   twins_agreeing o a m y said idd e honest h sound = record {
     back = backed v.members x.party (rsm_twins x.party a m y).edits (tt, (tt, (tt, tt)));
     news = news_drop x.party (apply (rsm_twins x.party a m y).edits x.party) m.originator refl;
     keys = two (with_status y.first Live) (with_status y.second Live) (twins_apart x.party m.originator y is) refl
-        (status_fine v p x space at i o (authenticated a) (rsm_twins x.party a m y) y.first Live grown moved is.first (pending_not_ended y.first.status Live own.1) (λ counts w. class_later v p x space at i (authenticated a) (rsm_twins x.party a m y) OfKsm y.first.peer (to_peer (record_key y.first)) accepted) (λ held. absurd (pending_not_held y.first.status own.1 held)))
-        (status_fine v p x space at i o (authenticated a) (rsm_twins x.party a m y) y.second Live grown moved is.second (pending_not_ended y.second.status Live own.3) (λ counts w. class_later v p x space at i (authenticated a) (rsm_twins x.party a m y) OfKsm y.second.peer (to_peer (record_key y.second)) accepted_second) (λ held. absurd (pending_not_held y.second.status own.3 held)));
+        (status_fine v p x space at i o (authenticated_text a) (rsm_twins x.party a m y) y.first Live grown moved is.first (pending_not_ended y.first.status Live own.1) (λ counts w. class_later v p x space at i (authenticated_text a) (rsm_twins x.party a m y) OfKsm y.first.peer (to_peer (record_key y.first)) accepted) (λ held. absurd (pending_not_held y.first.status own.1 held)))
+        (status_fine v p x space at i o (authenticated_text a) (rsm_twins x.party a m y) y.second Live grown moved is.second (pending_not_ended y.second.status Live own.3) (λ counts w. class_later v p x space at i (authenticated_text a) (rsm_twins x.party a m y) OfKsm y.second.peer (to_peer (record_key y.second)) accepted_second) (λ held. absurd (pending_not_held y.second.status own.3 held)));
     exchanges = sent_drop_two x.party (apply (rsm_twins x.party a m y).edits x.party) m.originator (with_status y.first Live) (with_status y.second Live) refl refl refl is.peer_is is.other_peer sent;
     waits = moved;
     replies = tt;
     new = tt;
-    accepts = plain (lists_after v x space (authenticated a) (rsm_twins x.party a m y)) x.party.own (authenticated a) OfRsm (full_name x.party.own y.first ∷ full_name x.party.own y.second ∷ []) (λ g. cc) (λ g. cc) (λ g. cc);
+    accepts = plain (lists_after v x space (authenticated_text a) (rsm_twins x.party a m y)) x.party.own (authenticated_text a) OfRsm (full_name x.party.own y.first ∷ full_name x.party.own y.second ∷ []) (λ g. cc) (λ g. cc) (λ g. cc);
   }
     where
       grown : PartyGrows o x.party (apply (rsm_twins x.party a m y).edits x.party)
@@ -167,10 +167,10 @@ module _ (v : Lists) (p : List ℕ) (x : Member) (space : Space) (at : member_at
       t : TestsHold (twins_front x.party m ++ (is_verified a (twins_value y), BadMac) ∷ [])
       t = held (twins_front x.party m ++ (is_verified a (twins_value y), BadMac) ∷ []) refl h
 
-      front : passes (twins_front x.party m) ≡ true
+      front : tests_pass (twins_front x.party m) ≡ true
       front = rw (t.0, t.1.0) refl
 
-      fact : HasFact v.facts (full_name x.party.own y.first) (authenticated a)
+      fact : HasFact v.facts (full_name x.party.own y.first) (authenticated_text a)
       fact = honest (lead_under a (full_name x.party.own y.first) (twins_value y)) (rw front refl) t.1.1.0
 
       first : HasTaken v.acceptances y.first.peer (to_peer (record_key y.first))
@@ -208,21 +208,21 @@ module _ (v : Lists) (p : List ℕ) (x : Member) (space : Space) (at : member_at
 
   -- the key that was sent is live
 
-  rsm_agreeing : (o : Option LinkKey) (a : Arrival) (m : Rsm) (found : Option Sent) → Says (authenticated a) (message.Rsm m) → m.idd ≡ None → sent_to x.party m.originator ≡ found → HonestAs v.facts a (rsm_lead_to x.party a m found) → is_accept (rsm_to x.party a m found).verdict ≡ true → IsSound o x.party (authenticated a) (rsm_to x.party a m found) → Agreeing v x space (authenticated a) (rsm_to x.party a m found)
-  rsm_agreeing o a m None said idd e honest h sound = refused_agreeing v p x space at i (authenticated a) (verdict_of (rsm_front x.party m None))
+  rsm_agreeing : (o : Option LinkKey) (a : Arrival) (m : Rsm) (found : Option Sent) → Says (authenticated_text a) (message.Rsm m) → m.idd ≡ None → sent_to x.party m.originator ≡ found → HonestAs v.facts a (rsm_lead_to x.party a m found) → is_accept (rsm_to x.party a m found).verdict ≡ true → IsSound o x.party (authenticated_text a) (rsm_to x.party a m found) → Agreeing v x space (authenticated_text a) (rsm_to x.party a m found)
+  rsm_agreeing o a m None said idd e honest h sound = refused_agreeing v p x space at i (authenticated_text a) (verdict_of (rsm_front x.party m None))
   rsm_agreeing o a m (Some y) said idd e honest h sound = record {
-    back = ready_back m.originator (new_link x.party m.originator y.way) (with_status y.key Live) end;
+    back = ready_back m.originator (new_link x.party m.originator y.via) (with_status y.key Live) end;
     news = news_drop x.party (apply (rsm_to x.party a m (Some y)).edits x.party) m.originator parts.2;
-    keys = one (with_status y.key Live) parts.1 (status_fine v p x space at i o (authenticated a) (rsm_to x.party a m (Some y)) y.key Live grown moved is.at (pending_not_ended y.key.status Live own.1) (λ counts w. class_later v p x space at i (authenticated a) (rsm_to x.party a m (Some y)) OfKsm y.key.peer (to_peer (record_key y.key)) accepted) (λ held. absurd (pending_not_held y.key.status own.1 held)));
+    keys = one (with_status y.key Live) parts.1 (status_fine v p x space at i o (authenticated_text a) (rsm_to x.party a m (Some y)) y.key Live grown moved is.at (pending_not_ended y.key.status Live own.1) (λ counts w. class_later v p x space at i (authenticated_text a) (rsm_to x.party a m (Some y)) OfKsm y.key.peer (to_peer (record_key y.key)) accepted) (λ held. absurd (pending_not_held y.key.status own.1 held)));
     exchanges = sent_drop x.party (apply (rsm_to x.party a m (Some y)).edits x.party) m.originator (with_status y.key Live) parts.0 parts.2 parts.1 is.peer_is sent;
     waits = moved;
     replies = tt;
     new = tt;
-    accepts = plain (lists_after v x space (authenticated a) (rsm_to x.party a m (Some y))) x.party.own (authenticated a) OfRsm (full_name x.party.own y.key ∷ []) (λ g. cc) (λ g. cc) (λ g. cc);
+    accepts = plain (lists_after v x space (authenticated_text a) (rsm_to x.party a m (Some y))) x.party.own (authenticated_text a) OfRsm (full_name x.party.own y.key ∷ []) (λ g. cc) (λ g. cc) (λ g. cc);
   }
     where
       parts : ((apply (rsm_to x.party a m (Some y)).edits x.party).own ≡ x.party.own) × ((apply (rsm_to x.party a m (Some y)).edits x.party).keys ≡ put_row record_key same_record (with_status y.key Live) x.party.keys) × ((apply (rsm_to x.party a m (Some y)).edits x.party).exchanges ≡ drop_row exchange_key bytes_eq m.originator x.party.exchanges)
-      parts = ready_parts x.party m.originator (new_link x.party m.originator y.way) (with_status y.key Live)
+      parts = ready_parts x.party m.originator (new_link x.party m.originator y.via) (with_status y.key Live)
 
       grown : PartyGrows o x.party (apply (rsm_to x.party a m (Some y)).edits x.party)
       grown = change_grows o (rsm_to x.party a m (Some y)).edits x.party sound.edits
@@ -239,10 +239,10 @@ module _ (v : Lists) (p : List ℕ) (x : Member) (space : Space) (at : member_at
       t : TestsHold (rsm_front x.party m (Some y) ++ (is_verified a y.key.value, BadMac) ∷ [])
       t = held (rsm_front x.party m (Some y) ++ (is_verified a y.key.value, BadMac) ∷ []) refl h
 
-      front : passes (rsm_front x.party m (Some y)) ≡ true
+      front : tests_pass (rsm_front x.party m (Some y)) ≡ true
       front = rw (t.0, t.1.0) refl
 
-      fact : HasFact v.facts (full_name x.party.own y.key) (authenticated a)
+      fact : HasFact v.facts (full_name x.party.own y.key) (authenticated_text a)
       fact = honest (lead_under a (full_name x.party.own y.key) y.key.value) (rw front refl) t.1.1.0
 
       first : HasTaken v.acceptances y.key.peer (to_peer (record_key y.key))
@@ -261,9 +261,9 @@ module _ (v : Lists) (p : List ℕ) (x : Member) (space : Space) (at : member_at
       key_is = first_key v accepted.acceptance tk mt.fact (record_key y.key) (taken_first v y.key.peer (to_peer (record_key y.key)) first tk)
 
       -- the new link has its other end, since the recipient accepted the text that carries its pair
-      end : (l : LinkRec) → new_link x.party m.originator y.way ≡ Some l → (l.peer ≡ m.originator) × HasOtherEnd v.members m.originator (takes x.party.own l.label) l
+      end : (l : LinkRec) → new_link x.party m.originator y.via ≡ Some l → (l.peer ≡ m.originator) × HasOtherEnd v.members m.originator (takes x.party.own l.label) l
       end l found =
-          let new = new_link_is m.originator y.way l found in
+          let new = new_link_is m.originator y.via l found in
           let receiver : tk.ksm.receiver ≡ m.originator = ap (λ (z : RecordKey). z.peer) key_is ∙ is.peer_is in
           let stands : exchange_with tk.ksm.receiver mt.fact.party.party ≡ Some is.exchange = rw (receiver, mt.party_is) is.stands in
           let names : sent_name_by is.exchange.kind ≡ Some (ksm_key tk.ksm mt.fact.label).name = ap sent_name_by is.kind_is ∙ (λ j. Some ((sym (ap (λ (z : RecordKey). z.name) key_is)) j)) in
@@ -287,17 +287,17 @@ module _ (v : Lists) (p : List ℕ) (x : Member) (space : Space) (at : member_at
 
   -- the end of a key is done
 
-  answer_agreeing : (o : Option LinkKey) (a : Arrival) (m : Rsm) (n : KeyName) (found : Option KeyRec) → Says (authenticated a) (message.Rsm m) → m.idd ≡ Some n → ending_with x.party m.originator ≡ found → HonestAs v.facts a (answer_lead_to x.party a m n found) → is_accept (answer_to x.party a m n found).verdict ≡ true → IsSound o x.party (authenticated a) (answer_to x.party a m n found) → Agreeing v x space (authenticated a) (answer_to x.party a m n found)
-  answer_agreeing o a m n None said idd e honest h sound = refused_agreeing v p x space at i (authenticated a) (verdict_of (end_front x.party m n None))
+  answer_agreeing : (o : Option LinkKey) (a : Arrival) (m : Rsm) (n : KeyName) (found : Option KeyRec) → Says (authenticated_text a) (message.Rsm m) → m.idd ≡ Some n → ending_with x.party m.originator ≡ found → HonestAs v.facts a (answer_lead_to x.party a m n found) → is_accept (answer_to x.party a m n found).verdict ≡ true → IsSound o x.party (authenticated_text a) (answer_to x.party a m n found) → Agreeing v x space (authenticated_text a) (answer_to x.party a m n found)
+  answer_agreeing o a m n None said idd e honest h sound = refused_agreeing v p x space at i (authenticated_text a) (verdict_of (end_front x.party m n None))
   answer_agreeing o a m n (Some k) said idd e honest h sound = record {
     back = backed v.members x.party (answer_to x.party a m n (Some k)).edits (tt, (tt, tt));
     news = news_drop x.party (apply (answer_to x.party a m n (Some k)).edits x.party) m.originator refl;
-    keys = one (with_status k Ended) refl (status_fine v p x space at i o (authenticated a) (answer_to x.party a m n (Some k)) k Ended grown moved is.0 (λ g. refl) (λ no own. absurd no) (λ held. inr (inr new)));
+    keys = one (with_status k Ended) refl (status_fine v p x space at i o (authenticated_text a) (answer_to x.party a m n (Some k)) k Ended grown moved is.0 (λ g. refl) (λ no own. absurd no) (λ held. inr (inr new)));
     exchanges = sent_drop x.party (apply (answer_to x.party a m n (Some k)).edits x.party) m.originator (with_status k Ended) refl refl refl is.1 sent;
     waits = moved;
     replies = tt;
     new = tt;
-    accepts = record { ksm = λ class. absurd (cc); dsm = λ class. absurd (cc); answer = λ class u among. subst (λ (z : FullName). HasAccepted (acceptances_after v.acceptances x (authenticated a) (answer_to x.party a m n (Some k))) OfDsm (partner_of x.party.own z) z) (of_one (full_name x.party.own k) u among) (class_later v p x space at i (authenticated a) (answer_to x.party a m n (Some k)) OfDsm (partner_of x.party.own (full_name x.party.own k)) (full_name x.party.own k) ended_there) };
+    accepts = record { ksm = λ class. absurd (cc); dsm = λ class. absurd (cc); answer = λ class u among. subst (λ (z : FullName). HasAccepted (acceptances_after v.acceptances x (authenticated_text a) (answer_to x.party a m n (Some k))) OfDsm (partner_of x.party.own z) z) (of_one (full_name x.party.own k) u among) (class_later v p x space at i (authenticated_text a) (answer_to x.party a m n (Some k)) OfDsm (partner_of x.party.own (full_name x.party.own k)) (full_name x.party.own k) ended_there) };
   }
     where
       grown : PartyGrows o x.party (apply (answer_to x.party a m n (Some k)).edits x.party)
@@ -309,29 +309,29 @@ module _ (v : Lists) (p : List ℕ) (x : Member) (space : Space) (at : member_at
       is : (record_with (record_key k) x.party ≡ Some k) × (k.peer ≡ m.originator)
       is = ending_is x.party m.originator k e
 
-      new : HasAccepted (acceptances_after v.acceptances x (authenticated a) (answer_to x.party a m n (Some k))) OfAnswer x.party.own (full_name x.party.own k)
-      new = record { acceptance = record { party = x.party.own; text = authenticated a; class = OfAnswer; names = full_name x.party.own k ∷ [] }; stands = Contains-push v.acceptances _; class_is = refl; party_is = refl; among = first_in (full_name x.party.own k) [] }
+      new : HasAccepted (acceptances_after v.acceptances x (authenticated_text a) (answer_to x.party a m n (Some k))) OfAnswer x.party.own (full_name x.party.own k)
+      new = record { acceptance = record { party = x.party.own; text = authenticated_text a; class = OfAnswer; names = full_name x.party.own k ∷ [] }; stands = Contains-push v.acceptances _; class_is = refl; party_is = refl; among = first_in (full_name x.party.own k) [] }
 
       t : TestsHold (end_front x.party m n (Some k) ++ (is_verified a k.value, BadMac) ∷ [])
       t = held (end_front x.party m n (Some k) ++ (is_verified a k.value, BadMac) ∷ []) refl h
 
-      front : passes (end_front x.party m n (Some k)) ≡ true
+      front : tests_pass (end_front x.party m n (Some k)) ≡ true
       front = rw (t.0, t.1.0) refl
 
-      fact : HasFact v.facts (full_name x.party.own k) (authenticated a)
+      fact : HasFact v.facts (full_name x.party.own k) (authenticated_text a)
       fact = honest (lead_under a (full_name x.party.own k) k.value) (rw front refl) t.1.1.0
 
       ended_there : HasAccepted v.acceptances OfDsm (partner_of x.party.own (full_name x.party.own k)) (full_name x.party.own k)
       ended_there =
-          let b : RsmOk v.acceptances fact.fact m m.idd = fact_says v p x space at i (full_name x.party.own k) (authenticated a) fact (message.Rsm m) said in
+          let b : RsmOk v.acceptances fact.fact m m.idd = fact_says v p x space at i (full_name x.party.own k) (authenticated_text a) fact (message.Rsm m) said in
           let d : HasAccepted v.acceptances OfDsm m.originator fact.fact.under = subst (RsmOk v.acceptances fact.fact m) idd b in
           let partner = partner_own k (i.known p x at (record_key k) k is.0) in
           record { acceptance = d.acceptance; stands = d.stands; class_is = d.class_is; party_is = d.party_is ∙ (sym is.1 ∙ sym partner); among = subst (Contains d.acceptance.names) fact.under_is d.among }
 
-  pub rsm_row_agreeing : (o : Option LinkKey) (a : Arrival) (m : Rsm) (idd : Option KeyName) → m.idd ≡ idd → Says (authenticated a) (message.Rsm m) → HonestAs v.facts a (rsm_lead_with x.party a m idd) → is_accept (rsm_with x.party a m idd).verdict ≡ true → IsSound o x.party (authenticated a) (rsm_with x.party a m idd) → Agreeing v x space (authenticated a) (rsm_with x.party a m idd)
+  pub rsm_row_agreeing : (o : Option LinkKey) (a : Arrival) (m : Rsm) (idd : Option KeyName) → m.idd ≡ idd → Says (authenticated_text a) (message.Rsm m) → HonestAs v.facts a (rsm_lead_with x.party a m idd) → is_accept (rsm_with x.party a m idd).verdict ≡ true → IsSound o x.party (authenticated_text a) (rsm_with x.party a m idd) → Agreeing v x space (authenticated_text a) (rsm_with x.party a m idd)
   rsm_row_agreeing o a m None e said honest h sound = by_twins (twins_to x.party m.originator) refl honest h sound
     where
-      by_twins : (t : Option Twins) → twins_to x.party m.originator ≡ t → HonestAs v.facts a (rsm_lead_by x.party a m t) → is_accept (rsm_by x.party a m t).verdict ≡ true → IsSound o x.party (authenticated a) (rsm_by x.party a m t) → Agreeing v x space (authenticated a) (rsm_by x.party a m t)
+      by_twins : (t : Option Twins) → twins_to x.party m.originator ≡ t → HonestAs v.facts a (rsm_lead_by x.party a m t) → is_accept (rsm_by x.party a m t).verdict ≡ true → IsSound o x.party (authenticated_text a) (rsm_by x.party a m t) → Agreeing v x space (authenticated_text a) (rsm_by x.party a m t)
       by_twins None f honest h sound = rsm_agreeing o a m (sent_to x.party m.originator) said e refl honest h sound
       by_twins (Some t) f honest h sound = twins_agreeing o a m t said e f honest h sound
   rsm_row_agreeing o a m (Some n) e said honest h sound = answer_agreeing o a m n (ending_with x.party m.originator) said e refl honest h sound

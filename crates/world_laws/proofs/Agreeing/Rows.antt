@@ -18,7 +18,7 @@ use Rattle.bank_arrivals.specs.Esm.{subject_with}
 use Rattle.role_base.specs.Exchanges.{record_of}
 use Rattle.role_base.specs.Sending.{sending_drawn}
 use Rattle.bank_orders.specs.Start.{start_tests, start_under}
-use Rattle.csm_grammar.specs.Arrivals.{authenticated}
+use Rattle.csm_grammar.specs.Arrivals.{authenticated_text}
 use Rattle.csm_grammar.specs.Spelling.{Says}
 use Rattle.csm_grammar.specs.declared.arrival.Arrival.{Arrival}
 use Rattle.csm_grammar.specs.declared.message.Ksm.{Ksm}
@@ -110,8 +110,8 @@ module _ (n : ℕ) (w : World) (p : List ℕ) (x : Member) (space : Space) (at :
       sent_sound : (o : Option LinkKey) (d : Option (ℕ × Gen)) → IsSound o x.party [] (sending_drawn x.party (start_tests x.party peer (Some l)) l d) → IsSound None x.party [] (sending_drawn x.party (start_tests x.party peer (Some l)) l d)
       sent_sound o d g = sending_sound x.party [] (start_tests x.party peer (Some l)) peer l d (sending_at x.party peer label l links s)
 
-  pub rsi_row : (a : Arrival) (m : Rsi) (found : Option LinkRec) (moment : ℕ) → first_link m.originator Sends x.party ≡ found → Agreeing (lists_of w) x space (authenticated a) (rsi_under x.party a m found moment)
-  rsi_row a m None moment s = refused_row (authenticated a) (verdict_of (bank_rsi_tests x.party a m None))
+  pub rsi_row : (a : Arrival) (m : Rsi) (found : Option LinkRec) (moment : ℕ) → first_link m.originator Sends x.party ≡ found → Agreeing (lists_of w) x space (authenticated_text a) (rsi_under x.party a m found moment)
+  rsi_row a m None moment s = refused_row (authenticated_text a) (verdict_of (bank_rsi_tests x.party a m None))
   rsi_row a m (Some l) moment s = by_service (is_two_keys m.service)
     where
       f : FirstAt x.party m.originator Sends l
@@ -120,9 +120,9 @@ module _ (n : ℕ) (w : World) (p : List ℕ) (x : Member) (space : Space) (at :
       st : SendingAt x.party m.originator l
       st = record { at = f.at; ready = f.ready }
 
-      by_service : (b : Bool) → Agreeing (lists_of w) x space (authenticated a) (bank_rsi_row x.party a m l moment b)
-      by_service true = twins_agreeing (lists_of w) p x space at i (authenticated a) (bank_rsi_tests x.party a m (Some l)) m.originator l (twins_drawn x.party.generator moment) (λ d e. twins_below x.party.generator moment d e) st (twins_sound x.party (authenticated a) (bank_rsi_tests x.party a m (Some l)) m.originator l (twins_drawn x.party.generator moment) st)
-      by_service false = sending_agreeing (lists_of w) p x space at i (authenticated a) (bank_rsi_tests x.party a m (Some l)) m.originator l moment (good_draw x.party.generator moment) refl st (sending_sound x.party (authenticated a) (bank_rsi_tests x.party a m (Some l)) m.originator l (good_draw x.party.generator moment) st)
+      by_service : (b : Bool) → Agreeing (lists_of w) x space (authenticated_text a) (bank_rsi_row x.party a m l moment b)
+      by_service true = twins_agreeing (lists_of w) p x space at i (authenticated_text a) (bank_rsi_tests x.party a m (Some l)) m.originator l (twins_drawn x.party.generator moment) (λ d e. twins_below x.party.generator moment d e) st (twins_sound x.party (authenticated_text a) (bank_rsi_tests x.party a m (Some l)) m.originator l (twins_drawn x.party.generator moment) st)
+      by_service false = sending_agreeing (lists_of w) p x space at i (authenticated_text a) (bank_rsi_tests x.party a m (Some l)) m.originator l moment (good_draw x.party.generator moment) refl st (sending_sound x.party (authenticated_text a) (bank_rsi_tests x.party a m (Some l)) m.originator l (good_draw x.party.generator moment) st)
 
   pub kk_row : (o : Option LinkKey) (peer new : List ℕ) (single : Bool) (label : Option (List ℕ)) (found : Option LinkRec) (moment : ℕ) → sending_link x.party peer label ≡ found → is_accept (start_kk_under x.party peer new single found moment).verdict ≡ true → IsSound o x.party [] (start_kk_under x.party peer new single found moment) → Agreeing (lists_of w) x space [] (start_kk_under x.party peer new single found moment)
   kk_row o peer new single label None moment s h sound = refused_row [] (verdict_of (start_tests x.party peer None))
@@ -143,49 +143,49 @@ module _ (n : ℕ) (w : World) (p : List ℕ) (x : Member) (space : Space) (at :
   command_agrees o (command.Drop peer) moment e h sound = drop_agreeing (lists_of w) p x space at i waits o [] peer sound
   command_agrees o command.Purge moment e h sound = purge_agreeing (lists_of w) p x space at i waits []
 
-  pub key_row_agrees : (o : Option LinkKey) (a : Arrival) (m : Ksm) (b : KsmBody) (found : Option LinkRec) → Says (authenticated a) (message.Ksm m) → m.body ≡ b → body_link x.party m.originator b ≡ found → HonestAs w.facts a (key_lead_with x.party a m b found) → is_accept (key_row x.party a m b found).verdict ≡ true → IsSound o x.party (authenticated a) (key_row x.party a m b found) → Agreeing (lists_of w) x space (authenticated a) (key_row x.party a m b found)
-  key_row_agrees o a m b None said is found honest h sound = refused_row (authenticated a) (verdict_of (body_front x.party m b None))
+  pub key_row_agrees : (o : Option LinkKey) (a : Arrival) (m : Ksm) (b : KsmBody) (found : Option LinkRec) → Says (authenticated_text a) (message.Ksm m) → m.body ≡ b → body_link x.party m.originator b ≡ found → HonestAs w.facts a (key_lead_with x.party a m b found) → is_accept (key_row x.party a m b found).verdict ≡ true → IsSound o x.party (authenticated_text a) (key_row x.party a m b found) → Agreeing (lists_of w) x space (authenticated_text a) (key_row x.party a m b found)
+  key_row_agrees o a m b None said is found honest h sound = refused_row (authenticated_text a) (verdict_of (body_front x.party m b None))
   key_row_agrees o a m b (Some l) said is found honest h sound = taken_agreeing (lists_of w) p x space at i links a m b l said is found honest h o sound not_before
     where
       y : Member
       y = record { party = apply (body_edits x.party m b l) x.party; space = space }
 
-      moved : Moves o x.party (apply (body_edits x.party m b l) x.party) (authenticated a) (key_row x.party a m b (Some l))
-      moved = moves o x.party (apply (body_edits x.party m b l) x.party) (authenticated a) (key_row x.party a m b (Some l)) refl sound
+      moved : Moves o x.party (apply (body_edits x.party m b l) x.party) (authenticated_text a) (key_row x.party a m b (Some l))
+      moved = moves o x.party (apply (body_edits x.party m b l) x.party) (authenticated_text a) (key_row x.party a m b (Some l)) refl sound
 
       not_before : (u : FullName) → Contains (key_names (body_name x.party m.originator b l) (body_twin b)) u → HasAccepted w.acceptances OfKsm x.party.own u → ⊥
-      not_before u in_row g = (ksm_apart w.members p x (record { party = apply (body_edits x.party m b l) x.party; space = space }) (authenticated a) at (grown_takes o x.party (apply (body_edits x.party m b l) x.party) moved.grown) c.links g.acceptance (record { class = OfKsm; names = key_names (body_name x.party m.originator b l) (body_twin b) })
+      not_before u in_row g = (ksm_apart w.members p x (record { party = apply (body_edits x.party m b l) x.party; space = space }) (authenticated_text a) at (grown_takes o x.party (apply (body_edits x.party m b l) x.party) moved.grown) c.links g.acceptance (record { class = OfKsm; names = key_names (body_name x.party m.originator b l) (body_twin b) })
           (All-contains (AcceptedBelow w.members) w.acceptances g.acceptance c.accepted g.stands) moved.accepts g.class_is refl g.party_is).0 u g.among in_row
 
-  pub message_agrees : (o : Option LinkKey) (a : Arrival) (m : Message) (moment : ℕ) → Says (authenticated a) m → HonestAs w.facts a (message_lead x.party a m) → is_accept (message_row x.party a m moment).verdict ≡ true → IsSound o x.party (authenticated a) (message_row x.party a m moment) → Agreeing (lists_of w) x space (authenticated a) (message_row x.party a m moment)
+  pub message_agrees : (o : Option LinkKey) (a : Arrival) (m : Message) (moment : ℕ) → Says (authenticated_text a) m → HonestAs w.facts a (message_lead x.party a m) → is_accept (message_row x.party a m moment).verdict ≡ true → IsSound o x.party (authenticated_text a) (message_row x.party a m moment) → Agreeing (lists_of w) x space (authenticated_text a) (message_row x.party a m moment)
   message_agrees o a (message.Rsi m) moment said honest h sound = rsi_row a m (first_link m.originator Sends x.party) moment refl
-  message_agrees o a (message.Rfs m) moment said honest h sound = still_agreeing (lists_of w) p x space at i (authenticated a) (message_row x.party a (message.Rfs m) moment) refl tt tt tt
+  message_agrees o a (message.Rfs m) moment said honest h sound = still_agreeing (lists_of w) p x space at i (authenticated_text a) (message_row x.party a (message.Rfs m) moment) refl tt tt tt
   message_agrees o a (message.Rtr m) moment said honest h sound = rtr_agreeing (lists_of w) p x space at i o a m m.kd refl said honest h sound
   message_agrees o a (message.Ksm m) moment said honest h sound = key_row_agrees o a m m.body (body_link x.party m.originator m.body) said refl refl honest h sound
   message_agrees o a (message.Rsm m) moment said honest h sound = rsm_row_agreeing (lists_of w) p x space at i links o a m m.idd refl said honest h sound
-  message_agrees o a (message.Ers m) moment said honest h sound = still_agreeing (lists_of w) p x space at i (authenticated a) (message_row x.party a (message.Ers m) moment) refl tt tt tt
+  message_agrees o a (message.Ers m) moment said honest h sound = still_agreeing (lists_of w) p x space at i (authenticated_text a) (message_row x.party a (message.Ers m) moment) refl tt tt tt
   message_agrees o a (message.Esm m) moment said honest h sound = error_row_agreeing (lists_of w) p x space at i waits o a m (is_plain a.parsed.shut) (retry_in x.party (subject_with x.party m.originator) m.ctr) (asks_for x.party (subject_with x.party m.originator) m.ctr) sound
   message_agrees o a (message.Dsm m) moment said honest h sound = dsm_agreeing (lists_of w) p x space at i waits o a m (named_by x.party m) refl sound
 
-  pub distribution_agrees : (o : Option LinkKey) (a : Arrival) (m : Message) (moment : ℕ) → is_accept (distribution_message x.party a m moment).verdict ≡ true → IsSound o x.party (authenticated a) (distribution_message x.party a m moment) → Agreeing (lists_of w) x space (authenticated a) (distribution_message x.party a m moment)
+  pub distribution_agrees : (o : Option LinkKey) (a : Arrival) (m : Message) (moment : ℕ) → is_accept (distribution_message x.party a m moment).verdict ≡ true → IsSound o x.party (authenticated_text a) (distribution_message x.party a m moment) → Agreeing (lists_of w) x space (authenticated_text a) (distribution_message x.party a m moment)
   distribution_agrees o a (message.Rsi m) moment h sound = rsi_row_agreeing (lists_of w) p x space at i o a m m.ultimate moment h sound
   distribution_agrees o a (message.Ers m) moment h sound = ers_agreeing (lists_of w) p x space at i o a m (answer_with (record { requester = m.originator; ultimate = m.ultimate }) x.party) (link_with (sends m.originator centre_label) x.party) (link_with (sends m.ultimate centre_label) x.party) moment refl refl h sound
-  distribution_agrees o a (message.Rfs m) moment h sound = still_agreeing (lists_of w) p x space at i (authenticated a) (distribution_message x.party a (message.Rfs m) moment) refl tt tt tt
-  distribution_agrees o a (message.Rtr m) moment h sound = still_agreeing (lists_of w) p x space at i (authenticated a) (distribution_message x.party a (message.Rtr m) moment) refl tt tt tt
-  distribution_agrees o a (message.Ksm m) moment h sound = still_agreeing (lists_of w) p x space at i (authenticated a) (distribution_message x.party a (message.Ksm m) moment) refl tt tt tt
-  distribution_agrees o a (message.Rsm m) moment h sound = still_agreeing (lists_of w) p x space at i (authenticated a) (distribution_message x.party a (message.Rsm m) moment) refl tt tt tt
-  distribution_agrees o a (message.Esm m) moment h sound = still_agreeing (lists_of w) p x space at i (authenticated a) (distribution_message x.party a (message.Esm m) moment) refl tt tt tt
-  distribution_agrees o a (message.Dsm m) moment h sound = still_agreeing (lists_of w) p x space at i (authenticated a) (distribution_message x.party a (message.Dsm m) moment) refl tt tt tt
+  distribution_agrees o a (message.Rfs m) moment h sound = still_agreeing (lists_of w) p x space at i (authenticated_text a) (distribution_message x.party a (message.Rfs m) moment) refl tt tt tt
+  distribution_agrees o a (message.Rtr m) moment h sound = still_agreeing (lists_of w) p x space at i (authenticated_text a) (distribution_message x.party a (message.Rtr m) moment) refl tt tt tt
+  distribution_agrees o a (message.Ksm m) moment h sound = still_agreeing (lists_of w) p x space at i (authenticated_text a) (distribution_message x.party a (message.Ksm m) moment) refl tt tt tt
+  distribution_agrees o a (message.Rsm m) moment h sound = still_agreeing (lists_of w) p x space at i (authenticated_text a) (distribution_message x.party a (message.Rsm m) moment) refl tt tt tt
+  distribution_agrees o a (message.Esm m) moment h sound = still_agreeing (lists_of w) p x space at i (authenticated_text a) (distribution_message x.party a (message.Esm m) moment) refl tt tt tt
+  distribution_agrees o a (message.Dsm m) moment h sound = still_agreeing (lists_of w) p x space at i (authenticated_text a) (distribution_message x.party a (message.Dsm m) moment) refl tt tt tt
 
-  pub translation_agrees : (o : Option LinkKey) (a : Arrival) (m : Message) → Says (authenticated a) m → HonestAs w.facts a (translation_lead x.party a m) → is_accept (translation_message x.party a m).verdict ≡ true → IsSound o x.party (authenticated a) (translation_message x.party a m) → Agreeing (lists_of w) x space (authenticated a) (translation_message x.party a m)
+  pub translation_agrees : (o : Option LinkKey) (a : Arrival) (m : Message) → Says (authenticated_text a) m → HonestAs w.facts a (translation_lead x.party a m) → is_accept (translation_message x.party a m).verdict ≡ true → IsSound o x.party (authenticated_text a) (translation_message x.party a m) → Agreeing (lists_of w) x space (authenticated_text a) (translation_message x.party a m)
   translation_agrees o a (message.Rfs m) said honest h sound = rfs_agreeing (lists_of w) p x space at i o a m (link_with (takes m.originator centre_label) x.party) (link_with (sends m.ultimate centre_label) x.party) said refl refl honest h sound
-  translation_agrees o a (message.Rsi m) said honest h sound = still_agreeing (lists_of w) p x space at i (authenticated a) (translation_message x.party a (message.Rsi m)) refl tt tt tt
-  translation_agrees o a (message.Rtr m) said honest h sound = still_agreeing (lists_of w) p x space at i (authenticated a) (translation_message x.party a (message.Rtr m)) refl tt tt tt
-  translation_agrees o a (message.Ksm m) said honest h sound = still_agreeing (lists_of w) p x space at i (authenticated a) (translation_message x.party a (message.Ksm m)) refl tt tt tt
-  translation_agrees o a (message.Rsm m) said honest h sound = still_agreeing (lists_of w) p x space at i (authenticated a) (translation_message x.party a (message.Rsm m)) refl tt tt tt
-  translation_agrees o a (message.Ers m) said honest h sound = still_agreeing (lists_of w) p x space at i (authenticated a) (translation_message x.party a (message.Ers m)) refl tt tt tt
-  translation_agrees o a (message.Esm m) said honest h sound = still_agreeing (lists_of w) p x space at i (authenticated a) (translation_message x.party a (message.Esm m)) refl tt tt tt
-  translation_agrees o a (message.Dsm m) said honest h sound = still_agreeing (lists_of w) p x space at i (authenticated a) (translation_message x.party a (message.Dsm m)) refl tt tt tt
+  translation_agrees o a (message.Rsi m) said honest h sound = still_agreeing (lists_of w) p x space at i (authenticated_text a) (translation_message x.party a (message.Rsi m)) refl tt tt tt
+  translation_agrees o a (message.Rtr m) said honest h sound = still_agreeing (lists_of w) p x space at i (authenticated_text a) (translation_message x.party a (message.Rtr m)) refl tt tt tt
+  translation_agrees o a (message.Ksm m) said honest h sound = still_agreeing (lists_of w) p x space at i (authenticated_text a) (translation_message x.party a (message.Ksm m)) refl tt tt tt
+  translation_agrees o a (message.Rsm m) said honest h sound = still_agreeing (lists_of w) p x space at i (authenticated_text a) (translation_message x.party a (message.Rsm m)) refl tt tt tt
+  translation_agrees o a (message.Ers m) said honest h sound = still_agreeing (lists_of w) p x space at i (authenticated_text a) (translation_message x.party a (message.Ers m)) refl tt tt tt
+  translation_agrees o a (message.Esm m) said honest h sound = still_agreeing (lists_of w) p x space at i (authenticated_text a) (translation_message x.party a (message.Esm m)) refl tt tt tt
+  translation_agrees o a (message.Dsm m) said honest h sound = still_agreeing (lists_of w) p x space at i (authenticated_text a) (translation_message x.party a (message.Dsm m)) refl tt tt tt
 
   pub centre_agrees : (k : Command) → IsCommand k → Agreeing (lists_of w) x space [] (centre_command x.party k)
   centre_agrees (command.Load peer label side pair) e = absurd e

@@ -32,10 +32,10 @@ use Rattle.world_laws.proofs.Agreeing.Moves.{Agreeing}
 use Rattle.world_laws.proofs.Agreeing.Agreed.{Agreed}
 use Rattle.x_gen.specs.declared.generator.Gen.{Gen}
 use Rattle.x_gen.specs.Gen.{good_draw}
-use Rattle.x_gen.specs.Parity.{odd_of}
+use Rattle.x_gen.specs.Parity.{odd_parity_of}
 use Rattle.x_seal.specs.Wrapped.{wrap_of, unwrap_of}
 use Rattle.csm_grammar.specs.declared.message.KsmBody.TheVariants as body
-use Rattle.party_tables.specs.declared.exchange.Via.TheVariants as via
+use Rattle.party_tables.specs.declared.exchange.Via.TheVariants as vias
 use Rattle.party_tables.specs.Keys.{link_key, same_link}
 use Rattle.party_state.specs.Verdicts.{Test, verdict_of, is_accept}
 use Rattle.role_base.specs.Texts.{text_of, no_extras}
@@ -67,13 +67,13 @@ abbrev pub sent_record : Party → LinkRec → ℕ → KeyRec
 sent_record p l key = record { peer = l.peer; name = next_name p l; value = key; status = Pending }
 
 abbrev sent_exchange : Party → LinkRec → ℕ → Exchange
-sent_exchange p l key = record { peer = l.peer; kind = kind.KeySent (next_name p l) (via.Direct l.label None); text = text_of (data_key_reply p l key) }
+sent_exchange p l key = record { peer = l.peer; kind = kind.KeySent (next_name p l) (vias.Direct l.label None); text = text_of (data_key_reply p l key) }
 
 abbrev sent_ksm : Party → LinkRec → ℕ → Ksm
 sent_ksm p l key = record { receiver = l.peer; originator = p.own; body = body.Direct (Some l.label) None (wrap_of l.pair l.next key) l.next; extras = no_extras }
 
 abbrev pub kk_exchange : Party → LinkRec → List ℕ → Bool → KkDrawn → Exchange
-kk_exchange p l new single d = record { peer = l.peer; kind = kind.KeySent (next_name p l) (via.Direct l.label (Some new)); text = text_of (kk_reply p l new single d) }
+kk_exchange p l new single d = record { peer = l.peer; kind = kind.KeySent (next_name p l) (vias.Direct l.label (Some new)); text = text_of (kk_reply p l new single d) }
 
 abbrev kk_ksm : Party → LinkRec → List ℕ → Bool → KkDrawn → Ksm
 kk_ksm p l new single d = record { receiver = l.peer; originator = p.own; body = body.Direct (Some l.label) (Some (new, sealed_kk l.pair l.next single d.pair)) (wrap_of d.pair 1 d.key) l.next; extras = no_extras }
@@ -81,7 +81,7 @@ kk_ksm p l new single d = record { receiver = l.peer; originator = p.own; body =
 -- a drawn new key-encrypting key
 
 pub record IsDrawn (key : ℕ) : Type 0 where
-  pub odd : odd_of key ≡ key
+  pub odd : odd_parity_of key ≡ key
   pub below : key < 2 ^ 64
 
 pub record KkSound (single : Bool) (d : KkDrawn) : Type 0 where
@@ -90,17 +90,17 @@ pub record KkSound (single : Bool) (d : KkDrawn) : Type 0 where
   pub key : d.key < 2 ^ 64
   pub halves : single ≡ true → d.pair.left ≡ d.pair.right
 
-half_is : (pair : Pair) (count key : ℕ) → IsDrawn key → odd_of (unwrap_of pair count (wrap_of pair count key)) ≡ key
-half_is pair count key d = ap odd_of (unwraps pair count key d.below) ∙ d.odd
+half_is : (pair : Pair) (count key : ℕ) → IsDrawn key → odd_parity_of (unwrap_of pair count (wrap_of pair count key)) ≡ key
+half_is pair count key d = ap odd_parity_of (unwraps pair count key d.below) ∙ d.odd
 
 -- what is sealed is opened
 pub opened_is : (pair : Pair) (count : ℕ) (single : Bool) (d : KkDrawn) → KkSound single d → opened_kk pair count (sealed_kk pair count single d.pair) ≡ d.pair
 opened_is pair count true d k =
-    let a : odd_of (unwrap_of pair count (wrap_of pair count d.pair.left)) ≡ d.pair.left = half_is pair count d.pair.left k.left in
+    let a : odd_parity_of (unwrap_of pair count (wrap_of pair count d.pair.left)) ≡ d.pair.left = half_is pair count d.pair.left k.left in
     λ i. record { left = a i; right = (a ∙ k.halves refl) i }
 opened_is pair count false d k =
-    let a : odd_of (unwrap_of pair count (wrap_of pair count d.pair.left)) ≡ d.pair.left = half_is pair count d.pair.left k.left in
-    let b : odd_of (unwrap_of pair count (wrap_of pair count d.pair.right)) ≡ d.pair.right = half_is pair count d.pair.right k.right in
+    let a : odd_parity_of (unwrap_of pair count (wrap_of pair count d.pair.left)) ≡ d.pair.left = half_is pair count d.pair.left k.left in
+    let b : odd_parity_of (unwrap_of pair count (wrap_of pair count d.pair.right)) ≡ d.pair.right = half_is pair count d.pair.right k.right in
     λ i. record { left = a i; right = b i }
 
 is_drawn : (g : Gen) (moment : ℕ) (d : ℕ × Gen) → good_draw g moment ≡ Some d → IsDrawn d.0

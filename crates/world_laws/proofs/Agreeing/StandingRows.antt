@@ -38,7 +38,7 @@ use Rattle.party_tables.specs.declared.exchange.Exchange.{Exchange}
 use Rattle.party_tables.specs.declared.exchange.Kind.{Kind}
 use Rattle.party_tables.specs.declared.exchange.Kind.TheVariants as kind
 use Rattle.party_tables.specs.declared.exchange.Via.{Via}
-use Rattle.party_tables.specs.declared.exchange.Via.TheVariants as via
+use Rattle.party_tables.specs.declared.exchange.Via.TheVariants as vias
 use Rattle.party_tables.specs.declared.key.KeyRec.{KeyRec}
 use Rattle.party_tables.specs.declared.key.KeyStatus.TheVariants.{Ended}
 use Rattle.party_tables.specs.declared.link.LinkKey.{LinkKey}
@@ -57,9 +57,9 @@ use Rattle.bank_orders.specs.Start.{sending_link, start_tests, start_under}
 use Rattle.bank_orders.specs.Resend.{resend_of}
 use Rattle.bank_orders.specs.GivingUp.{given_up, given_up_in}
 use Rattle.bank_orders.specs.Ending.{end_record}
-use Rattle.bank_arrivals.specs.declared.disconnection.Named.{Named}
-use Rattle.bank_arrivals.specs.declared.error_message.Subject.{Subject}
-use Rattle.bank_arrivals.specs.declared.error_message.Subject.TheVariants.{SentKey, SentTwins, Translated}
+use Rattle.bank_arrivals.specs.declared.disconnection.NamedKey.{NamedKey}
+use Rattle.bank_arrivals.specs.declared.error_message.ErrorSubject.{ErrorSubject}
+use Rattle.bank_arrivals.specs.declared.error_message.ErrorSubject.TheVariants.{SentKey, SentTwins, Translated}
 use Rattle.bank_arrivals.specs.Rsi.{rsi_tests, rsi_row, rsi_under}
 use Rattle.bank_arrivals.specs.Rsm.{rsm_to, answer_to, rsm_with}
 use Rattle.bank_arrivals.specs.Esm.{subject_with, subject_link, subject_value, raised, subject_ended, plain_esm}
@@ -73,7 +73,7 @@ use Rattle.bank_arrivals.specs.AskingAgain.{asked_again, retry_in}
 use Rattle.bank_arrivals.specs.Esm.{error_of}
 use Rattle.bank_keys.specs.Ksm.{body_link, body_count, body_new, body_record, taken_edits, key_row}
 use Rattle.bank_orders.specs.StartKk.{kk_sending, start_kk_under}
-use Rattle.bank_keys.specs.declared.waits.Waiting.{Waiting}
+use Rattle.bank_keys.specs.declared.waits.KeyAtCentre.{KeyAtCentre}
 use Rattle.bank_keys.specs.Waiting.{waiting_with}
 use Rattle.roles.specs.Rows.{row_by}
 use Rattle.bank_orders.specs.Orders.{command_row}
@@ -82,18 +82,18 @@ use Rattle.roles.specs.Rows.{row_at}
 use Rattle.world_laws.proofs.Agreeing.Standing.{Freed, TidyIn, Tidy, RowNews, tidy, starts, twice, tidy_join, freed_behind}
 use Rattle.world_laws.proofs.Agreeing.StandingCentres.{distribution_tidy, translation_tidy, centre_tidy}
 
-new_peer : (p : Party) (peer : List ℕ) (way : Via) (l : LinkRec) → new_link p peer way ≡ Some l → peer ≡ l.peer
-new_peer p peer (via.Direct label None) l h = absurd (cc)
-new_peer p peer (via.Direct label (Some new)) l h = ap (λ (k : LinkKey). k.peer) (find_key link_key same_link test_links (sends peer new) l p.links h)
-new_peer p peer (via.Distribution centre cta) l h = absurd (cc)
-new_peer p peer (via.Translation centre) l h = absurd (cc)
+new_peer : (p : Party) (peer : List ℕ) (via : Via) (l : LinkRec) → new_link p peer via ≡ Some l → peer ≡ l.peer
+new_peer p peer (vias.Direct label None) l h = absurd (cc)
+new_peer p peer (vias.Direct label (Some new)) l h = ap (λ (k : LinkKey). k.peer) (find_key link_key same_link test_links (sends peer new) l p.links h)
+new_peer p peer (vias.Distribution centre cta) l h = absurd (cc)
+new_peer p peer (vias.Translation centre) l h = absurd (cc)
 
-dropped_tidy : (all : List Edit) (p : Party) (peer : List ℕ) (way : Via) → Freed all peer → AllByRecursion (TidyIn all) (dropped (new_link p peer way))
-dropped_tidy all p peer way f = go (new_link p peer way) refl
+dropped_tidy : (all : List Edit) (p : Party) (peer : List ℕ) (via : Via) → Freed all peer → AllByRecursion (TidyIn all) (dropped (new_link p peer via))
+dropped_tidy all p peer via f = go (new_link p peer via) refl
   where
-    go : (o : Option LinkRec) → new_link p peer way ≡ o → AllByRecursion (TidyIn all) (dropped o)
+    go : (o : Option LinkRec) → new_link p peer via ≡ o → AllByRecursion (TidyIn all) (dropped o)
     go None e = tt
-    go (Some l) e = (subst (Freed all) (new_peer p peer way l e) f, tt)
+    go (Some l) e = (subst (Freed all) (new_peer p peer via l e) f, tt)
 
 readied_tidy : (all : List Edit) (o : Option LinkRec) → AllByRecursion (TidyIn all) (readied o)
 readied_tidy all None = tt
@@ -146,11 +146,11 @@ module _ (p : Party) where
   drop_tidy peer (Some e) = by_kind e.kind
     where
       by_kind : (k : Kind) → Tidy (given_up p peer k ++ DropExchange peer ∷ [])
-      by_kind (kind.KeySent name way) =
-          let all : List Edit = given_up p peer (kind.KeySent name way) ++ DropExchange peer ∷ [] in
-          let f : Freed all peer = freed_behind (given_up p peer (kind.KeySent name way)) (DropExchange peer ∷ []) peer (inl refl) in
-          tidy_join all (given_up p peer (kind.KeySent name way)) (DropExchange peer ∷ [])
-          (tidy_join all (dropped (new_link p peer way)) (ended (record_of p peer name)) (dropped_tidy all p peer way f) (ended_tidy all (record_of p peer name))) (tt, tt)
+      by_kind (kind.KeySent name via) =
+          let all : List Edit = given_up p peer (kind.KeySent name via) ++ DropExchange peer ∷ [] in
+          let f : Freed all peer = freed_behind (given_up p peer (kind.KeySent name via)) (DropExchange peer ∷ []) peer (inl refl) in
+          tidy_join all (given_up p peer (kind.KeySent name via)) (DropExchange peer ∷ [])
+          (tidy_join all (dropped (new_link p peer via)) (ended (record_of p peer name)) (dropped_tidy all p peer via f) (ended_tidy all (record_of p peer name))) (tt, tt)
       by_kind (kind.Asked ultimate) = (tt, tt)
       by_kind (kind.Translating ultimate value cta) = (tt, tt)
       by_kind (kind.Ending name) = (tt, tt)
@@ -203,7 +203,7 @@ module _ (p : Party) where
       go (Some l) = (tt, (tt, (tt, (refl, tt))))
   rtr_tidy a m None = go (waiting_with p m.originator)
     where
-      go : (o : Option Waiting) → Tidy (translated p a m o).edits
+      go : (o : Option KeyAtCentre) → Tidy (translated p a m o).edits
       go None = tt
       go (Some t) = (tt, (tt, (refl, tt)))
 
@@ -212,7 +212,7 @@ module _ (p : Party) where
     where
       go : (o : Option Sent) → Tidy (rsm_to p a m o).edits
       go None = tt
-      go (Some s) = tidy_join (rsm_to p a m (Some s)).edits (readied (new_link p m.originator s.way)) _ (readied_tidy (rsm_to p a m (Some s)).edits (new_link p m.originator s.way)) (tt, (tt, tt))
+      go (Some s) = tidy_join (rsm_to p a m (Some s)).edits (readied (new_link p m.originator s.via)) _ (readied_tidy (rsm_to p a m (Some s)).edits (new_link p m.originator s.via)) (tt, (tt, tt))
 
       by_twins : (t : Option Twins) → Tidy (rsm_by p a m t).edits
       by_twins None = go (sent_to p m.originator)
@@ -227,12 +227,12 @@ module _ (p : Party) where
   again_tidy all m value None = (tt, tt)
   again_tidy all m value (Some t) = (tt, (refl, tt))
 
-  subject_tidy : (all : List Edit) (peer : List ℕ) (s : Subject) → Freed all peer → AllByRecursion (TidyIn all) (subject_ended p peer s)
-  subject_tidy all peer (SentKey s) f = tidy_join all (dropped (new_link p peer s.way)) _ (dropped_tidy all p peer s.way f) (tt, tt)
+  subject_tidy : (all : List Edit) (peer : List ℕ) (s : ErrorSubject) → Freed all peer → AllByRecursion (TidyIn all) (subject_ended p peer s)
+  subject_tidy all peer (SentKey s) f = tidy_join all (dropped (new_link p peer s.via)) _ (dropped_tidy all p peer s.via f) (tt, tt)
   subject_tidy all peer (SentTwins t) f = (tt, (tt, tt))
   subject_tidy all peer (Translated value cta) f = tt
 
-  esm_tidy : (a : Arrival) (m : Esm) (b : Bool) (o : Option Subject) (again : Option Retry) → Tidy (cond b (plain_esm p a m) (error_of p a m o again)).edits
+  esm_tidy : (a : Arrival) (m : Esm) (b : Bool) (o : Option ErrorSubject) (again : Option Retry) → Tidy (cond b (plain_esm p a m) (error_of p a m o again)).edits
   esm_tidy a m true o again = tt
   esm_tidy a m false None again = tt
   esm_tidy a m false (Some s) again =
@@ -243,19 +243,19 @@ module _ (p : Party) where
       let f : Freed all m.originator = freed_behind up (gone ++ rest) m.originator (freed_behind gone rest m.originator (inl refl)) in
       tidy_join all up (gone ++ rest) (raised_tidy all (subject_link p m.originator s) m.ctr) (tidy_join all gone rest (subject_tidy all m.originator s f) (again_tidy all m (subject_value s) again))
 
-  dsm_tidy : (a : Arrival) (m : Dsm) (o : Option Named) → Tidy (dsm_on p a m o).edits
+  dsm_tidy : (a : Arrival) (m : Dsm) (o : Option NamedKey) → Tidy (dsm_on p a m o).edits
   dsm_tidy a m None = tt
   dsm_tidy a m (Some n) = by_status (is_ended n.key.status)
     where
       BothTidy : List Edit × List Edit → Type 0
       BothTidy gone = Tidy (gone.0 ++ (PutKey (record n.key { status = Ended }) ∷ gone.1))
 
-      by_sent : (way : Via) (b : Bool) → BothTidy (cond b (dropped (new_link p m.originator way), DropExchange m.originator ∷ []) ([], []))
-      by_sent way true =
-          let first : List Edit = dropped (new_link p m.originator way) in
+      by_sent : (via : Via) (b : Bool) → BothTidy (cond b (dropped (new_link p m.originator via), DropExchange m.originator ∷ []) ([], []))
+      by_sent via true =
+          let first : List Edit = dropped (new_link p m.originator via) in
           let rest : List Edit = PutKey (record n.key { status = Ended }) ∷ DropExchange m.originator ∷ [] in
-          tidy_join (first ++ rest) first rest (dropped_tidy (first ++ rest) p m.originator way (freed_behind first rest m.originator (inr (inl refl)))) (tt, (tt, tt))
-      by_sent way false = (tt, tt)
+          tidy_join (first ++ rest) first rest (dropped_tidy (first ++ rest) p m.originator via (freed_behind first rest m.originator (inr (inl refl)))) (tt, (tt, tt))
+      by_sent via false = (tt, tt)
 
       by_ending : (b : Bool) → BothTidy (cond b ([], DropExchange m.originator ∷ []) ([], []))
       by_ending true = (tt, (tt, tt))
@@ -269,7 +269,7 @@ module _ (p : Party) where
       by_pair j k false false = (tt, tt)
 
       by_kind : (k : Kind) → BothTidy (left_by p m.originator n.key.name k)
-      by_kind (kind.KeySent sent way) = by_sent way (same_name n.key.name sent)
+      by_kind (kind.KeySent sent via) = by_sent via (same_name n.key.name sent)
       by_kind (kind.Ending ending) = by_ending (same_name n.key.name ending)
       by_kind (kind.Asked ultimate) = (tt, tt)
       by_kind (kind.Translating ultimate value cta) = (tt, tt)

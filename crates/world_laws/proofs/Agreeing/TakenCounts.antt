@@ -22,12 +22,12 @@ use Rattle.party_tables.specs.declared.link.LinkRec.{LinkRec}
 use Rattle.party_tables.specs.Tables.{find_row, put_row}
 use Rattle.party_tables.specs.Keys.{same_link, link_key, sends, takes}
 use Rattle.party_state.specs.State.{Party, centre_label, link_with, apply}
-use Rattle.party_state.specs.Verdicts.{Held as TestsHold, is_accept, passes}
+use Rattle.party_state.specs.Verdicts.{Held as TestsHold, is_accept, tests_pass}
 use Rattle.party_tables.proofs.Keys.{test_idents}
 use Rattle.party_tables.proofs.Tables.{find_key}
 use Rattle.party_state.proofs.Verdicts.{held}
 use Rattle.role_base.specs.Conditions.{body_issuer}
-use Rattle.csm_grammar.specs.Arrivals.{authenticated}
+use Rattle.csm_grammar.specs.Arrivals.{authenticated_text}
 use Rattle.role_base.specs.Texts.{lead_under}
 use Rattle.bank_keys.specs.Ksm.{body_link, body_count, body_name, body_new, body_value, body_front, body_tests, body_record, taken_link, key_row, key_found, key_lead_with}
 use Rattle.bank_keys.specs.Rtr.{brought_front, brought_value, brought_tests, brought, brought_under, brought_lead}
@@ -84,21 +84,21 @@ module _ (v : Lists) (p : List ℕ) (x : Member) (space : Space) (at : member_at
   met_by : (peer label : List ℕ) (j : LinkKey) (m n : ℕ) → takes peer label ≡ j → m ≡ n → ReachedBy j n → IsMet v.members peer (sends x.party.own label) m
   met_by peer label j m n key count e = inl (subst (λ (k : LinkKey). ReachedBy k m) (sym key) (subst (ReachedBy j) (sym count) e))
 
-  module _ (links : HasLinks x.party) (a : Arrival) (m : Ksm) (b : KsmBody) (l : LinkRec) (said : Says (authenticated a) (message.Ksm m)) (is : m.body ≡ b) (found : body_link x.party m.originator b ≡ Some l) (honest : HonestAs v.facts a (key_lead_with x.party a m b (Some l))) (h : is_accept (key_row x.party a m b (Some l)).verdict ≡ true) where
+  module _ (links : HasLinks x.party) (a : Arrival) (m : Ksm) (b : KsmBody) (l : LinkRec) (said : Says (authenticated_text a) (message.Ksm m)) (is : m.body ≡ b) (found : body_link x.party m.originator b ≡ Some l) (honest : HonestAs v.facts a (key_lead_with x.party a m b (Some l))) (h : is_accept (key_row x.party a m b (Some l)).verdict ≡ true) where
     t : TestsHold (body_tests x.party a m b l)
     t = key_held x.party a m b l links is found h
 
     mine_is : (m.receiver ≡ x.party.own) × (m.originator ≢ x.party.own)
     mine_is = other_of x.party m.receiver m.originator t.0
 
-    front : passes (body_front x.party m b (Some l)) ≡ true
+    front : tests_pass (body_front x.party m b (Some l)) ≡ true
     front = rw (t.0, t.1.0) refl
 
-    fact : HasFact v.facts (body_name x.party m.originator b l) (authenticated a)
+    fact : HasFact v.facts (body_name x.party m.originator b l) (authenticated_text a)
     fact = honest (key_found x.party a m b l) (rw front refl) t.1.1.1.0
 
     f : KsmFact v fact.fact m
-    f = fact_says v p x space at i (body_name x.party m.originator b l) (authenticated a) fact (message.Ksm m) said
+    f = fact_says v p x space at i (body_name x.party m.originator b l) (authenticated_text a) fact (message.Ksm m) said
 
     name : body_name x.party m.originator b l ≡ to_peer (ksm_key m f.label)
     name = sym fact.under_is ∙ f.under
@@ -185,7 +185,7 @@ module _ (v : Lists) (p : List ℕ) (x : Member) (space : Space) (at : member_at
           ]
         ]
 
-  brought_counts : (a : Arrival) (m : Rtr) (k : ℕ × ℕ) (l : LinkRec) → Says (authenticated a) (message.Rtr m) → m.kd ≡ Some k → link_with (takes m.originator centre_label) x.party ≡ Some l → HonestAs v.facts a (brought_lead x.party a m k (Some l)) → is_accept (brought x.party a m k (Some l)).verdict ≡ true → CountsMove v.members x.party (brought x.party a m k (Some l))
+  brought_counts : (a : Arrival) (m : Rtr) (k : ℕ × ℕ) (l : LinkRec) → Says (authenticated_text a) (message.Rtr m) → m.kd ≡ Some k → link_with (takes m.originator centre_label) x.party ≡ Some l → HonestAs v.facts a (brought_lead x.party a m k (Some l)) → is_accept (brought x.party a m k (Some l)).verdict ≡ true → CountsMove v.members x.party (brought x.party a m k (Some l))
   brought_counts a m k l said kd_is e honest h = record { takes_on = moved; begun = λ mk e z g. absurd (cc) }
     where
       la : LinkAt x.party (takes m.originator centre_label) l
@@ -197,14 +197,14 @@ module _ (v : Lists) (p : List ℕ) (x : Member) (space : Space) (at : member_at
       mine_is : (m.receiver ≡ x.party.own) × (m.originator ≢ x.party.own)
       mine_is = other_of x.party m.receiver m.originator t.0
 
-      front : passes (brought_front x.party m (Some l)) ≡ true
+      front : tests_pass (brought_front x.party m (Some l)) ≡ true
       front = rw (t.0, t.1.0, t.1.1.0, t.1.1.1.0) refl
 
-      fact : HasFact v.facts (brought_under x.party m k.1) (authenticated a)
+      fact : HasFact v.facts (brought_under x.party m k.1) (authenticated_text a)
       fact = honest (lead_under a (brought_under x.party m k.1) (brought_value l k)) (rw front refl) t.1.1.1.1.1.0
 
       f : RtrFact v.members fact.fact m
-      f = fact_says v p x space at i (brought_under x.party m k.1) (authenticated a) fact (message.Rtr m) said
+      f = fact_says v p x space at i (brought_under x.party m k.1) (authenticated_text a) fact (message.Rtr m) said
 
       form : RtrForm v.members f.party.party fact.fact.under m (kdu_value f.link m) (Some k)
       form = subst (RtrForm v.members f.party.party fact.fact.under m (kdu_value f.link m)) kd_is f.form
@@ -218,11 +218,11 @@ module _ (v : Lists) (p : List ℕ) (x : Member) (space : Space) (at : member_at
         | inr old ↦ inl (z, old, refl)
       ]
 
-  pub rtr_brought_counts : (a : Arrival) (m : Rtr) (k : ℕ × ℕ) (o : Option LinkRec) → Says (authenticated a) (message.Rtr m) → m.kd ≡ Some k → link_with (takes m.originator centre_label) x.party ≡ o → HonestAs v.facts a (brought_lead x.party a m k o) → is_accept (brought x.party a m k o).verdict ≡ true → CountsMove v.members x.party (brought x.party a m k o)
+  pub rtr_brought_counts : (a : Arrival) (m : Rtr) (k : ℕ × ℕ) (o : Option LinkRec) → Says (authenticated_text a) (message.Rtr m) → m.kd ≡ Some k → link_with (takes m.originator centre_label) x.party ≡ o → HonestAs v.facts a (brought_lead x.party a m k o) → is_accept (brought x.party a m k o).verdict ≡ true → CountsMove v.members x.party (brought x.party a m k o)
   rtr_brought_counts a m k None said kd_is e honest h = sending_counts v.members x.party (brought x.party a m k None) tt refl
   rtr_brought_counts a m k (Some l) said kd_is e honest h = brought_counts a m k l said kd_is e honest h
 
-  pub rfs_counts : (a : Arrival) (m : Rfs) (fa fb : Option LinkRec) → Says (authenticated a) (message.Rfs m) → link_with (takes m.originator centre_label) x.party ≡ fa → link_with (sends m.ultimate centre_label) x.party ≡ fb → HonestAs v.facts a (rfs_lead_between x.party a m fa fb) → is_accept (rfs_between x.party a m fa fb).verdict ≡ true → CountsMove v.members x.party (rfs_between x.party a m fa fb)
+  pub rfs_counts : (a : Arrival) (m : Rfs) (fa fb : Option LinkRec) → Says (authenticated_text a) (message.Rfs m) → link_with (takes m.originator centre_label) x.party ≡ fa → link_with (sends m.ultimate centre_label) x.party ≡ fb → HonestAs v.facts a (rfs_lead_between x.party a m fa fb) → is_accept (rfs_between x.party a m fa fb).verdict ≡ true → CountsMove v.members x.party (rfs_between x.party a m fa fb)
   rfs_counts a m None fb said ea eb honest h = sending_counts v.members x.party (rfs_between x.party a m None fb) tt refl
   rfs_counts a m (Some l) None said ea eb honest h = sending_counts v.members x.party (rfs_between x.party a m (Some l) None) tt refl
   rfs_counts a m (Some l) (Some b) said ea eb honest h = record { takes_on = moved; begun = λ mk e z g. absurd (cc) }
@@ -239,14 +239,14 @@ module _ (v : Lists) (p : List ℕ) (x : Member) (space : Space) (at : member_at
       mine_is : (m.receiver ≡ x.party.own) × (m.originator ≢ x.party.own)
       mine_is = other_of x.party m.receiver m.originator t.0
 
-      front : passes (rfs_front x.party m true) ≡ true
+      front : tests_pass (rfs_front x.party m true) ≡ true
       front = rw (t.0, t.1.0, t.1.1.0) refl
 
-      fact : HasFact v.facts (rfs_under x.party m) (authenticated a)
+      fact : HasFact v.facts (rfs_under x.party m) (authenticated_text a)
       fact = honest (lead_under a (rfs_under x.party m) (rfs_value m l)) (rw front refl) t.1.1.1.1.0
 
       f : RfsFact v.members fact.fact m
-      f = fact_says v p x space at i (rfs_under x.party m) (authenticated a) fact (message.Rfs m) said
+      f = fact_says v p x space at i (rfs_under x.party m) (authenticated_text a) fact (message.Rfs m) said
 
       reached : ReachedBy (takes m.originator centre_label) (m.cta + 1)
       reached = record { member = f.waits.party; at = f.waits.at; link = f.waits.link; found = subst (λ (q : List ℕ). link_with (sends q centre_label) f.waits.party.party ≡ Some f.waits.link) mine_is.0 f.waits.found; ready = f.waits.ready; next = (let low = f.waits.below in omega (arith, low)) }

@@ -23,7 +23,7 @@ use Rattle.world_laws.proofs.Agreeing.Known.{Mine, counted, issued}
 
 -- the name that an exchange waits for, of two keys that of the first
 abbrev pub sent_name_by : Kind → Option KeyName
-sent_name_by (kind.KeySent name way) = Some name
+sent_name_by (kind.KeySent name via) = Some name
 sent_name_by (kind.Asked ultimate) = None
 sent_name_by (kind.Translating ultimate value cta) = None
 sent_name_by (kind.Ending name) = None
@@ -31,7 +31,7 @@ sent_name_by (kind.PairSent name) = Some name
 
 -- the name of the second of two keys
 abbrev pub second_name_by : Kind → Option KeyName
-second_name_by (kind.KeySent name way) = None
+second_name_by (kind.KeySent name via) = None
 second_name_by (kind.Asked ultimate) = None
 second_name_by (kind.Translating ultimate value cta) = None
 second_name_by (kind.Ending name) = None
@@ -43,14 +43,14 @@ SendsName k name = (sent_name_by k ≡ Some name) ⊎ (second_name_by k ≡ Some
 
 -- what an exchange tells beside its name: the label of a new key-encrypting key, or that two keys went
 abbrev pub mark_of : Kind → Option (List ℕ)
-mark_of (kind.KeySent name way) = new_label way
+mark_of (kind.KeySent name via) = new_label via
 mark_of (kind.Asked ultimate) = None
 mark_of (kind.Translating ultimate value cta) = None
 mark_of (kind.Ending name) = None
 mark_of (kind.PairSent name) = Some []
 
 pub marked : (k : Kind) (new : List ℕ) → new_of k ≡ Some new → mark_of k ≡ Some new
-marked (kind.KeySent name way) new h = h
+marked (kind.KeySent name via) new h = h
 marked (kind.Asked ultimate) new h = absurd (cc)
 marked (kind.Translating ultimate value cta) new h = absurd (cc)
 marked (kind.Ending name) new h = absurd (cc)
@@ -78,7 +78,7 @@ pub news_stay : (s t : Party) → t.exchanges ≡ s.exchanges → NewsMove s t
 news_stay s t e peer x name new h n w = inl (subst (λ (es : List Exchange). exchange_with peer (record s { exchanges = es }) ≡ Some x) e h)
 
 pub new_has_name : (k : Kind) (new : List ℕ) → new_of k ≡ Some new → (name : KeyName) × (sent_name_by k ≡ Some name)
-new_has_name (kind.KeySent name way) new h = (name, refl)
+new_has_name (kind.KeySent name via) new h = (name, refl)
 new_has_name (kind.Asked ultimate) new h = absurd (cc)
 new_has_name (kind.Translating ultimate value cta) new h = absurd (cc)
 new_has_name (kind.Ending name) new h = absurd (cc)

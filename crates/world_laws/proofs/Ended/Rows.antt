@@ -20,7 +20,7 @@ use Rattle.csm_grammar.specs.declared.message.Esm.{Esm}
 use Rattle.csm_grammar.specs.declared.message.Dsm.{Dsm}
 use Rattle.csm_grammar.specs.declared.message.Message.{Message}
 use Rattle.csm_grammar.specs.declared.message.Message.TheVariants as message
-use Rattle.csm_grammar.specs.Arrivals.{authenticated}
+use Rattle.csm_grammar.specs.Arrivals.{authenticated_text}
 use Rattle.party_tables.specs.declared.answer.Answer.{Answer}
 use Rattle.party_tables.specs.declared.exchange.Exchange.{Exchange}
 use Rattle.party_tables.specs.declared.exchange.Kind.{Kind}
@@ -56,14 +56,14 @@ use Rattle.bank_orders.specs.Resend.{resend_of}
 use Rattle.bank_orders.specs.Ending.{end_record}
 use Rattle.bank_orders.specs.Orders.{command_row}
 use Rattle.bank_keys.specs.Ksm.{body_link, key_row}
-use Rattle.bank_keys.specs.declared.waits.Waiting.{Waiting}
+use Rattle.bank_keys.specs.declared.waits.KeyAtCentre.{KeyAtCentre}
 use Rattle.bank_keys.specs.Waiting.{waiting_with}
 use Rattle.bank_keys.specs.Rtr.{brought, translated, rtr_with}
 use Rattle.bank_arrivals.specs.declared.asking_again.Retry.{Retry}
-use Rattle.bank_arrivals.specs.declared.disconnection.Named.{Named}
+use Rattle.bank_arrivals.specs.declared.disconnection.NamedKey.{NamedKey}
 use Rattle.bank_arrivals.specs.declared.draws.TwinsDrawn.{TwinsDrawn}
-use Rattle.bank_arrivals.specs.declared.error_message.Subject.{Subject}
-use Rattle.bank_arrivals.specs.declared.error_message.Subject.TheVariants.{SentKey, SentTwins, Translated}
+use Rattle.bank_arrivals.specs.declared.error_message.ErrorSubject.{ErrorSubject}
+use Rattle.bank_arrivals.specs.declared.error_message.ErrorSubject.TheVariants.{SentKey, SentTwins, Translated}
 use Rattle.bank_arrivals.specs.AskingAgain.{retry_in}
 use Rattle.bank_arrivals.specs.SendingTwins.{twins_drawn, twins_sending_drawn}
 use Rattle.bank_arrivals.specs.Rsi.{rsi_tests, rsi_row, rsi_under}
@@ -167,7 +167,7 @@ rtr_none p a m (Some k) = by_link (link_with (takes m.originator centre_label) p
     by_link (Some l) = tt
 rtr_none p a m None = by_waiting (waiting_with p m.originator)
   where
-    by_waiting : (o : Option Waiting) → NoAnswer (translated p a m o).accepts
+    by_waiting : (o : Option KeyAtCentre) → NoAnswer (translated p a m o).accepts
     by_waiting None = tt
     by_waiting (Some t) = tt
 
@@ -190,13 +190,13 @@ esm_none : (p : Party) (a : Arrival) (m : Esm) (b : Bool) (again : Option Retry)
 esm_none p a m true again = tt
 esm_none p a m false again = by_subject (subject_with p m.originator)
   where
-    by_subject : (o : Option Subject) → NoAnswer (error_of p a m o again).accepts
+    by_subject : (o : Option ErrorSubject) → NoAnswer (error_of p a m o again).accepts
     by_subject None = tt
     by_subject (Some (SentKey s)) = refl
     by_subject (Some (SentTwins t)) = refl
     by_subject (Some (Translated value cta)) = tt
 
-dsm_none : (p : Party) (a : Arrival) (m : Dsm) (o : Option Named) → NoAnswer (dsm_on p a m o).accepts
+dsm_none : (p : Party) (a : Arrival) (m : Dsm) (o : Option NamedKey) → NoAnswer (dsm_on p a m o).accepts
 dsm_none p a m None = tt
 dsm_none p a m (Some n) = refl
 
@@ -209,7 +209,7 @@ ending_record p peer k h = by_exchange (exchange_with peer p) h
     by_kind (kind.Ending name) h = (record_at p peer name k h).peer_is
     by_kind (kind.Asked ultimate) h = absurd (cc)
     by_kind (kind.Translating ultimate value cta) h = absurd (cc)
-    by_kind (kind.KeySent name way) h = absurd (cc)
+    by_kind (kind.KeySent name via) h = absurd (cc)
     by_kind (kind.PairSent name) h = absurd (cc)
 
     by_exchange : (o : Option Exchange) → ending_in p peer o ≡ Some k → k.peer ≡ peer
@@ -217,28 +217,28 @@ ending_record p peer k h = by_exchange (exchange_with peer p) h
     by_exchange (Some e) h = by_kind e.kind h
 
 answer_added : (p : Party) (a : Arrival) (m : Rsm) (name : KeyName) (o : Option KeyRec) → ending_with p m.originator ≡ o → is_accept (answer_to p a m name o).verdict ≡ true
-    → answers_in (acceptances_of p.own (authenticated a) (answer_to p a m name o).accepts) ≡ answer_of p a m.originator (Some name)
+    → answers_in (acceptances_of p.own (authenticated_text a) (answer_to p a m name o).accepts) ≡ answer_of p a m.originator (Some name)
 answer_added p a m name None e h = absurd (blocked ((is_for p m.receiver m.originator, NotForMe) ∷ []) NoExchange refl refl h)
 answer_added p a m name (Some k) e h =
     let t : Held (end_front p m name (Some k) ++ (is_verified a k.value, BadMac) ∷ []) = held (end_front p m name (Some k) ++ (is_verified a k.value, BadMac) ∷ []) refl h in
     let is : name ≡ k.name = (test_names.decides name k.name).0 t.1.0 in
     let peer : k.peer ≡ m.originator = ending_record p m.originator k e in
     let under : full_name p.own k ≡ record { name = name; recipient = cond (bytes_eq name.originator p.own) m.originator p.own } = (λ i. record { name = (sym is) i; recipient = cond (bytes_eq ((sym is) i).originator p.own) (peer i) p.own }) in
-    ap (λ (u : FullName). let r : List Acceptance = record { party = p.own; text = authenticated a; class = OfAnswer; names = u ∷ [] } ∷ [] in r) under
+    ap (λ (u : FullName). let r : List Acceptance = record { party = p.own; text = authenticated_text a; class = OfAnswer; names = u ∷ [] } ∷ [] in r) under
 
-bank_answers : (p : Party) (a : Arrival) (m : Message) (moment : ℕ) → is_accept (message_row p a m moment).verdict ≡ true → answers_in (acceptances_of p.own (authenticated a) (message_row p a m moment).accepts) ≡ message_answers p a m
-bank_answers p a (message.Rsi m) moment h = no_answers p.own (authenticated a) _ (request_none p a m moment (first_link m.originator Sends p))
+bank_answers : (p : Party) (a : Arrival) (m : Message) (moment : ℕ) → is_accept (message_row p a m moment).verdict ≡ true → answers_in (acceptances_of p.own (authenticated_text a) (message_row p a m moment).accepts) ≡ message_answers p a m
+bank_answers p a (message.Rsi m) moment h = no_answers p.own (authenticated_text a) _ (request_none p a m moment (first_link m.originator Sends p))
 bank_answers p a (message.Rfs m) moment h = refl
-bank_answers p a (message.Rtr m) moment h = no_answers p.own (authenticated a) _ (rtr_none p a m m.kd)
-bank_answers p a (message.Ksm m) moment h = no_answers p.own (authenticated a) _ (key_none p a m m.body (body_link p m.originator m.body))
+bank_answers p a (message.Rtr m) moment h = no_answers p.own (authenticated_text a) _ (rtr_none p a m m.kd)
+bank_answers p a (message.Ksm m) moment h = no_answers p.own (authenticated_text a) _ (key_none p a m m.body (body_link p m.originator m.body))
 bank_answers p a (message.Rsm m) moment h = by_name m.idd h
   where
-    by_name : (o : Option KeyName) → is_accept (rsm_with p a m o).verdict ≡ true → answers_in (acceptances_of p.own (authenticated a) (rsm_with p a m o).accepts) ≡ answer_of p a m.originator o
-    by_name None h = no_answers p.own (authenticated a) _ (plain_none p a m)
+    by_name : (o : Option KeyName) → is_accept (rsm_with p a m o).verdict ≡ true → answers_in (acceptances_of p.own (authenticated_text a) (rsm_with p a m o).accepts) ≡ answer_of p a m.originator o
+    by_name None h = no_answers p.own (authenticated_text a) _ (plain_none p a m)
     by_name (Some name) h = answer_added p a m name (ending_with p m.originator) refl h
 bank_answers p a (message.Ers m) moment h = refl
-bank_answers p a (message.Esm m) moment h = no_answers p.own (authenticated a) _ (esm_none p a m (is_plain a.parsed.shut) (retry_in p (subject_with p m.originator) m.ctr))
-bank_answers p a (message.Dsm m) moment h = no_answers p.own (authenticated a) _ (dsm_none p a m (named_by p m))
+bank_answers p a (message.Esm m) moment h = no_answers p.own (authenticated_text a) _ (esm_none p a m (is_plain a.parsed.shut) (retry_in p (subject_with p m.originator) m.ctr))
+bank_answers p a (message.Dsm m) moment h = no_answers p.own (authenticated_text a) _ (dsm_none p a m (named_by p m))
 
 -- at the centres
 
@@ -271,19 +271,19 @@ unserved_never : {A : Type 0} (b : Bool) → is_accept (cond b WrongClass NotFor
 unserved_never true h = absurd (cc)
 unserved_never false h = absurd (cc)
 
-distribution_answers : (p : Party) (a : Arrival) (m : Message) (moment : ℕ) → is_accept (distribution_message p a m moment).verdict ≡ true → answers_in (acceptances_of p.own (authenticated a) (distribution_message p a m moment).accepts) ≡ message_answers p a m
-distribution_answers p a (message.Rsi m) moment h = no_answers p.own (authenticated a) _ (centre_request_none p a m m.ultimate moment)
+distribution_answers : (p : Party) (a : Arrival) (m : Message) (moment : ℕ) → is_accept (distribution_message p a m moment).verdict ≡ true → answers_in (acceptances_of p.own (authenticated_text a) (distribution_message p a m moment).accepts) ≡ message_answers p a m
+distribution_answers p a (message.Rsi m) moment h = no_answers p.own (authenticated_text a) _ (centre_request_none p a m m.ultimate moment)
 distribution_answers p a (message.Rfs m) moment h = refl
 distribution_answers p a (message.Rtr m) moment h = refl
 distribution_answers p a (message.Ksm m) moment h = refl
 distribution_answers p a (message.Rsm m) moment h = unserved_never (is_for p m.receiver m.originator) h
-distribution_answers p a (message.Ers m) moment h = no_answers p.own (authenticated a) _ (ers_none p a m (answer_with (record { requester = m.originator; ultimate = m.ultimate }) p) (link_with (sends m.originator centre_label) p) (link_with (sends m.ultimate centre_label) p) (good_draw p.generator moment))
+distribution_answers p a (message.Ers m) moment h = no_answers p.own (authenticated_text a) _ (ers_none p a m (answer_with (record { requester = m.originator; ultimate = m.ultimate }) p) (link_with (sends m.originator centre_label) p) (link_with (sends m.ultimate centre_label) p) (good_draw p.generator moment))
 distribution_answers p a (message.Esm m) moment h = refl
 distribution_answers p a (message.Dsm m) moment h = refl
 
-translation_answers : (p : Party) (a : Arrival) (m : Message) → is_accept (translation_message p a m).verdict ≡ true → answers_in (acceptances_of p.own (authenticated a) (translation_message p a m).accepts) ≡ message_answers p a m
+translation_answers : (p : Party) (a : Arrival) (m : Message) → is_accept (translation_message p a m).verdict ≡ true → answers_in (acceptances_of p.own (authenticated_text a) (translation_message p a m).accepts) ≡ message_answers p a m
 translation_answers p a (message.Rsi m) h = refl
-translation_answers p a (message.Rfs m) h = no_answers p.own (authenticated a) _ (rfs_none p a m (link_with (takes m.originator centre_label) p) (link_with (sends m.ultimate centre_label) p))
+translation_answers p a (message.Rfs m) h = no_answers p.own (authenticated_text a) _ (rfs_none p a m (link_with (takes m.originator centre_label) p) (link_with (sends m.ultimate centre_label) p))
 translation_answers p a (message.Rtr m) h = refl
 translation_answers p a (message.Ksm m) h = refl
 translation_answers p a (message.Rsm m) h = unserved_never (is_for p m.receiver m.originator) h

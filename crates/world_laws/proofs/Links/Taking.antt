@@ -149,8 +149,8 @@ all_touch_keep [] s f = tt
 all_touch_keep (e ∷ es) s f = (touch_keeps s e f.0, all_touch_keep es (apply_edit e s) f.1)
 
 -- the link of a new key-encrypting key sends
-pub new_sends : (p : Party) (peer : List ℕ) (way : Via) (l : LinkRec) → new_link p peer way ≡ Some l → l.side ≡ Sends
-new_sends p peer way l h = by_label (new_label way) h
+pub new_sends : (p : Party) (peer : List ℕ) (via : Via) (l : LinkRec) → new_link p peer via ≡ Some l → l.side ≡ Sends
+new_sends p peer via l h = by_label (new_label via) h
   where
     by_label : (o : Option (List ℕ)) → new_link_at p peer o ≡ Some l → l.side ≡ Sends
     by_label None h = absurd (cc)

@@ -18,7 +18,7 @@ use Rattle.party_tables.proofs.Tables.{one_found, find_key, find_put, find_drop}
 use Rattle.role_base.specs.Exchanges.{new_label, new_link_at, new_link}
 
 abbrev pub new_of : Kind → Option (List ℕ)
-new_of (kind.KeySent name way) = new_label way
+new_of (kind.KeySent name via) = new_label via
 new_of (kind.Asked ultimate) = None
 new_of (kind.Translating ultimate value cta) = None
 new_of (kind.Ending name) = None
@@ -140,8 +140,8 @@ pub record MayGo (p : Party) (l : LinkRec) : Type 0 where
   pub unready : link.ready ≡ false
 
 -- the link that an exchange waits for may
-pub new_may_go : (p : Party) (peer : List ℕ) (e : Exchange) (name : KeyName) (way : Via) → Waits p → exchange_with peer p ≡ Some e → e.kind ≡ kind.KeySent name way → (l : LinkRec) → new_link p peer way ≡ Some l → (link_with (link_key l) p ≡ Some l) × MayGo p l
-new_may_go p peer e name way w at is l h = by_label (new_label way) (subst (λ (k : Kind). WaitsFor p peer (new_of k)) is (w peer e at)) h
+pub new_may_go : (p : Party) (peer : List ℕ) (e : Exchange) (name : KeyName) (via : Via) → Waits p → exchange_with peer p ≡ Some e → e.kind ≡ kind.KeySent name via → (l : LinkRec) → new_link p peer via ≡ Some l → (link_with (link_key l) p ≡ Some l) × MayGo p l
+new_may_go p peer e name via w at is l h = by_label (new_label via) (subst (λ (k : Kind). WaitsFor p peer (new_of k)) is (w peer e at)) h
   where
     by_label : (o : Option (List ℕ)) → WaitsFor p peer o → new_link_at p peer o ≡ Some l → (link_with (link_key l) p ≡ Some l) × MayGo p l
     by_label None w h = absurd (cc)

@@ -13,7 +13,7 @@ use Rattle.party_tables.specs.declared.link.LinkRec.{LinkRec}
 use Rattle.party_tables.specs.declared.exchange.Exchange.{Exchange}
 use Rattle.party_tables.specs.declared.key.KeyStatus.TheVariants.{Pending}
 use Rattle.party_tables.specs.declared.exchange.Kind.TheVariants as kind
-use Rattle.party_tables.specs.declared.exchange.Via.TheVariants as via
+use Rattle.party_tables.specs.declared.exchange.Via.TheVariants as vias
 use Rattle.party_state.specs.declared.command.Command.TheVariants as command
 use Rattle.party_state.specs.declared.command.Input.TheVariants as input
 use Rattle.party_state.specs.declared.edit.Edit.{Edit}
@@ -122,7 +122,7 @@ module _ (g h : Gen) (pair : Pair) (s t : Space) (moment : ℕ) (drawn : ℕ × 
   -- rooms
 
   abbrev sent_exchange : Exchange
-  sent_exchange = record { peer = receiver_name; kind = kind.KeySent (direct_name sender_name kk_label 1) (via.Direct kk_label None); text = text_of (data_key_reply first out key) }
+  sent_exchange = record { peer = receiver_name; kind = kind.KeySent (direct_name sender_name kk_label 1) (vias.Direct kk_label None); text = text_of (data_key_reply first out key) }
 
   text_short : length (text_of (data_key_reply first out key)) ≤ 1024
   unfolding text_of

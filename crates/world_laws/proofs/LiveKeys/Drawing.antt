@@ -10,7 +10,7 @@ use Rattle.x_des.proofs.Inverse.{enciphered-lt, enciphered-deciphered}
 use Rattle.x_mac.specs.declared.pair.Pair.{Pair}
 use Rattle.x_mac.specs.Pair.{ede_of}
 use Rattle.x_gen.specs.declared.generator.Gen.{Gen}
-use Rattle.x_gen.specs.Parity.{odd_of, is_weak_key}
+use Rattle.x_gen.specs.Parity.{odd_parity_of, is_weak_key}
 use Rattle.x_gen.specs.Gen.{drawn, gen_after, draws, good_draw}
 
 abbrev pub weak : ℕ
@@ -63,20 +63,20 @@ stays = ap (λ (v : ℕ). let g : Gen = record { key = both_weak; v = v } in g) 
         ap (λ (i : ℕ). ede_of both_weak (bit_xor (drawn generator moment) i)) moment_is
         ∙ (ap (ede_of both_weak) (xor_zero_r (drawn generator moment)) ∙ (ap (ede_of both_weak) drawn_is ∙ once key))
 
-pub odd_key : odd_of key ≡ key
-unfolding odd_of lib.Count.ones
+pub odd_key : odd_parity_of key ≡ key
+unfolding odd_parity_of lib.Count.ones
 odd_key = refl
 
 strong_key : is_weak_key key ≡ false
-unfolding odd_of lib.Count.ones
+unfolding odd_parity_of lib.Count.ones
 strong_key = refl
 
-pub first_draw : (g : Gen) (at d : ℕ) → odd_of (drawn g at) ≡ d → is_weak_key d ≡ false → good_draw g at ≡ Some (d, gen_after g at)
+pub first_draw : (g : Gen) (at d : ℕ) → odd_parity_of (drawn g at) ≡ d → is_weak_key d ≡ false → good_draw g at ≡ Some (d, gen_after g at)
 unfolding draws
-first_draw g at d e w = go (odd_of (drawn g at)) e
+first_draw g at d e w = go (odd_parity_of (drawn g at)) e
   where
     go : (x : ℕ) → x ≡ d → cond (not (is_weak_key x)) (Some (x, gen_after g at)) (find (λ (y : ℕ × Gen). not (is_weak_key y.0)) (draws 15 (gen_after g at) at)) ≡ Some (d, gen_after g at)
     go x q = rw (q, w) refl
 
 pub draws_key : good_draw generator moment ≡ Some (key, generator)
-draws_key = first_draw generator moment key (ap odd_of drawn_is ∙ odd_key) strong_key ∙ ap (λ (g : Gen). let o : Option (ℕ × Gen) = Some (key, g) in o) stays
+draws_key = first_draw generator moment key (ap odd_parity_of drawn_is ∙ odd_key) strong_key ∙ ap (λ (g : Gen). let o : Option (ℕ × Gen) = Some (key, g) in o) stays

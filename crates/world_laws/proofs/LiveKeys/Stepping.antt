@@ -11,7 +11,7 @@ use Rattle.party_state.specs.State.{Party, apply}
 use Rattle.party_state.specs.Verdicts.{is_accept}
 use Rattle.party_state.specs.Rows.{Row}
 use Rattle.role_base.specs.Differing.{differing}
-use Rattle.csm_grammar.specs.Arrivals.{authenticated}
+use Rattle.csm_grammar.specs.Arrivals.{authenticated_text}
 use Rattle.role_base.specs.Texts.{lead_under}
 use Rattle.member.specs.Member.{Member}
 use Rattle.world_laws.specs.World.{World, Fact, member_at}
@@ -97,7 +97,7 @@ run_on n w v u e es is rest = ap (λ (z : World). run (suc n) z es) is ∙ rest
 
 -- the lead of an arrival, whose code agrees, is that of a fact
 pub fact_at : {opened : Option Pair} (facts : List Fact) (p : Party) (a : Arrival) (under : FullName) (value : ℕ) (text maker : List ℕ) → lead_at p a ≡ Some (record (lead_under a under value) { opened = opened }) → Contains facts (record { under = under; text = text; maker = maker })
-    → authenticated a ≡ text → HonestArrival facts p a
+    → authenticated_text a ≡ text → HonestArrival facts p a
 fact_at {opened = opened} facts p a under value text maker lead stands is l e verified =
     let same : record (lead_under a under value) { opened = opened } ≡ l = some_same (record (lead_under a under value) { opened = opened }) l (sym lead ∙ e) in
     record { fact = record { under = under; text = text; maker = maker }; stands = stands; under_is = ap (λ (z : Lead). z.under) same; text_is = sym is }

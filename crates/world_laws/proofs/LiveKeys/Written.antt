@@ -24,7 +24,7 @@ use Rattle.csm_write.proofs.Reading.{reads_back}
 use Rattle.csm_write.proofs.Lengths.{canon_short}
 use Rattle.csm_feed.specs.Heard.{leading, first_other, refused_place, trailing, input_limit}
 use Rattle.x_mac.specs.Code.{mac_of, edc_of}
-use Rattle.csm_grammar.specs.Arrivals.{authenticated}
+use Rattle.csm_grammar.specs.Arrivals.{authenticated_text}
 use Rattle.role_base.specs.Texts.{is_verified, is_right}
 use Rattle.world_laws.specs.Hearing.{IsHeard}
 use Rattle.world_laws.proofs.Texts.Own.{IsOwn}
@@ -54,7 +54,7 @@ module _ (m : Message) (c : Closing) (typed : AreTyped m c) (writable : Writable
   pub heard_of : IsHeard (canon m c) (Some arrival_of)
   heard_of = ((read, ap (trailing (canon m c)) none_leads ∙ nothing_behind), sym (take_all (length (canon m c)) (canon m c) (omega arith)))
 
-  pub auth_of_is : authenticated arrival_of ≡ auth_of m
+  pub auth_of_is : authenticated_text arrival_of ≡ auth_of m
   auth_of_is = take-append_seam (auth_of m) (field_text (field_for (shut_field (shut_of m c))) ++ codes ")")
 
 -- under a key
@@ -71,13 +71,13 @@ module _ (m : Message) (k : ℕ) (o : IsOwn m) where
   pub heard : IsHeard (canon m (closing.Mac k)) (Some arrival)
   heard = heard_of m (closing.Mac k) typed_own writable_own
 
-  pub auth_is : authenticated arrival ≡ auth_of m
+  pub auth_is : authenticated_text arrival ≡ auth_of m
   auth_is = auth_of_is m (closing.Mac k) typed_own writable_own
 
   -- its code agrees with the key, also as another came by it
   pub verified_as : (v : ℕ) → v ≡ k → is_verified arrival v ≡ true
   unfolding is_verified
-  verified_as v same = go (authenticated arrival) auth_is
+  verified_as v same = go (authenticated_text arrival) auth_is
     where
       go : (t : List ℕ) → t ≡ auth_of m → (mac_of v t == mac_of k (auth_of m)) ≡ true
       go t e = rw (e, same) (eq-eqb (mac_of k (auth_of m)) (mac_of k (auth_of m)) refl)
@@ -104,7 +104,7 @@ module _ (m : Message) (r : IsRequest m) where
 
   pub request_right : is_right request ≡ true
   unfolding is_right
-  request_right = go (authenticated request) (auth_of_is m closing.Edc typed_request writable_request)
+  request_right = go (authenticated_text request) (auth_of_is m closing.Edc typed_request writable_request)
     where
       go : (t : List ℕ) → t ≡ auth_of m → (edc_of t == edc_of (auth_of m)) ≡ true
       go t e = rw e (eq-eqb (edc_of (auth_of m)) (edc_of (auth_of m)) refl)

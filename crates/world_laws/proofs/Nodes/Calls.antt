@@ -18,7 +18,7 @@ use Rattle.change_code.specs.Cost.{fits, can_compact}
 use Rattle.change_code.specs.declared.format.Format.{Format}
 use Rattle.change_code.specs.declared.space.Space.{Space}
 use Rattle.change_code.specs.Whole.{IsTooLarge}
-use Rattle.key_store.specs.Store.{Stands, StandsWith, IsFirstDamage, IsOldOrNew}
+use Rattle.key_store.specs.Store.{Stands, StandsWith, IsFirstDamage, StandsForOldOrNew}
 use Rattle.roles.specs.Deciding.{decision}
 use Rattle.roles.specs.Leads.{lead_in}
 use Rattle.roles.specs.Rows.{row_at}
@@ -136,7 +136,7 @@ module _ (p : Party) (left : Space) (i : Input) (moment : ℕ) (action : Action)
   ]
 
   -- a crash leaves the party after the event that is cut off
-  cut_turn : fits left (decision p i moment).change ≡ true → (image : List ℕ) → IsOldOrNew p left (decision p i moment).change image → IsCutCall here (event_at here moment action) image
+  cut_turn : fits left (decision p i moment).change ≡ true → (image : List ℕ) → StandsForOldOrNew p left (decision p i moment).change image → IsCutCall here (event_at here moment action) image
   cut_turn enough image leaves =
       cut_call here act moment action (input_event here i moment) (input_is here i moment) (λ n w c. gives n w here moment c) image
       (subst (λ (plan : Plan). IsOldOrNext here (after here plan.edits) image) (sym (plan_fits enough)) leaves)
@@ -145,8 +145,8 @@ module _ (p : Party) (left : Space) (i : Input) (moment : ℕ) (action : Action)
   turn_cut name image now stood safe = by_test (fits left (decision p i moment).change) refl
     where
       by_test : (b : Bool) → fits left (decision p i moment).change ≡ b → LeavesOnly old new (OrBefore old (IsCutCall here (event_at here moment action)))
-      by_test true enough = leaves_more old new (OrBefore old (IsOldOrNew p left (decision p i moment).change)) (OrBefore old (IsCutCall here (event_at here moment action)))
-          (or_before old (IsOldOrNew p left (decision p i moment).change) (IsCutCall here (event_at here moment action)) (cut_turn enough)) (safe.party image p left now stood)
+      by_test true enough = leaves_more old new (OrBefore old (StandsForOldOrNew p left (decision p i moment).change)) (OrBefore old (IsCutCall here (event_at here moment action)))
+          (or_before old (StandsForOldOrNew p left (decision p i moment).change) (IsCutCall here (event_at here moment action)) (cut_turn enough)) (safe.party image p left now stood)
       by_test false full = leaves_more old new old.may_leave (OrBefore old (IsCutCall here (event_at here moment action))) (λ c was. inr was)
           (safe.still image p left now stood (λ keeps. (let lie : false ≡ true = sym full ∙ keeps.fits in cc lie))).any_moment
 

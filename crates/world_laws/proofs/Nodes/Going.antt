@@ -8,7 +8,7 @@ use Rattle.bank_orders.specs.declared.draws.KkDrawn.{KkDrawn}
 use Rattle.bank_orders.specs.Draws.{kk_drawn}
 use Rattle.bank_orders.specs.StartKk.{kk_sending, start_kk_under}
 use Rattle.bank_keys.specs.Ksm.{body_link, body_count, body_new, body_record, body_second, second_edits, taken_edits, key_row}
-use Rattle.bank_keys.specs.declared.waits.Waiting.{Waiting}
+use Rattle.bank_keys.specs.declared.waits.KeyAtCentre.{KeyAtCentre}
 use Rattle.bank_keys.specs.Waiting.{waiting_with}
 use Rattle.bank_orders.specs.Translate.{translate_drawn, translate_under}
 use Rattle.bank_keys.specs.Rtr.{brought, translated, rtr_with}
@@ -54,9 +54,9 @@ use Rattle.role_base.specs.Conditions.{is_two_keys}
 use Rattle.party_tables.specs.Names.{name_behind}
 use Rattle.bank_arrivals.specs.declared.draws.TwinsDrawn.{TwinsDrawn}
 use Rattle.bank_arrivals.specs.SendingTwins.{twins_drawn, twins_sending_drawn}
-use Rattle.bank_arrivals.specs.declared.error_message.Subject.{Subject}
-use Rattle.bank_arrivals.specs.declared.error_message.Subject.TheVariants.{SentKey, SentTwins, Translated}
-use Rattle.bank_arrivals.specs.declared.disconnection.Named.{Named}
+use Rattle.bank_arrivals.specs.declared.error_message.ErrorSubject.{ErrorSubject}
+use Rattle.bank_arrivals.specs.declared.error_message.ErrorSubject.TheVariants.{SentKey, SentTwins, Translated}
+use Rattle.bank_arrivals.specs.declared.disconnection.NamedKey.{NamedKey}
 use Rattle.role_base.specs.Texts.{is_plain}
 use Rattle.role_base.specs.Exchanges.{ended, record_of, sent_to, twins_to, ending_with, new_link, readied, dropped}
 use Rattle.role_base.specs.Sending.{sending_drawn}
@@ -123,7 +123,7 @@ given_up_goes p peer None = tt
 given_up_goes p peer (Some e) = joined (given_up p peer e.kind) (DropExchange peer ∷ []) (by_kind e.kind) (ok, tt)
   where
     by_kind : (k : Kind) → GoesOn (given_up p peer k)
-    by_kind (kind.KeySent name way) = joined (dropped (new_link p peer way)) (ended (record_of p peer name)) (dropped_goes (new_link p peer way)) (ended_goes (record_of p peer name))
+    by_kind (kind.KeySent name via) = joined (dropped (new_link p peer via)) (ended (record_of p peer name)) (dropped_goes (new_link p peer via)) (ended_goes (record_of p peer name))
     by_kind (kind.Asked ultimate) = tt
     by_kind (kind.Translating ultimate value cta) = tt
     by_kind (kind.Ending name) = tt
@@ -201,7 +201,7 @@ rtr_goes p a m (Some k) = go (link_with (takes m.originator centre_label) p)
     go (Some l) = (ok, (ok, (ok, (ok, tt))))
 rtr_goes p a m None = go (waiting_with p m.originator)
   where
-    go : (o : Option Waiting) → GoesOn (translated p a m o).edits
+    go : (o : Option KeyAtCentre) → GoesOn (translated p a m o).edits
     go None = tt
     go (Some t) = (ok, (ok, (ok, tt)))
 
@@ -210,7 +210,7 @@ rsm_goes p a m None = by_twins (twins_to p m.originator)
   where
     go : (o : Option Sent) → GoesOn (rsm_to p a m o).edits
     go None = tt
-    go (Some s) = joined (readied (new_link p m.originator s.way)) _ (readied_goes (new_link p m.originator s.way)) (ok, (ok, tt))
+    go (Some s) = joined (readied (new_link p m.originator s.via)) _ (readied_goes (new_link p m.originator s.via)) (ok, (ok, tt))
 
     by_twins : (t : Option Twins) → GoesOn (rsm_by p a m t).edits
     by_twins None = go (sent_to p m.originator)
@@ -221,8 +221,8 @@ rsm_goes p a m (Some name) = go (ending_with p m.originator)
     go None = tt
     go (Some k) = (ok, (ok, tt))
 
-pub subject_goes : (p : Party) (peer : List ℕ) (s : Subject) → GoesOn (subject_ended p peer s)
-subject_goes p peer (SentKey s) = joined (dropped (new_link p peer s.way)) _ (dropped_goes (new_link p peer s.way)) (ok, tt)
+pub subject_goes : (p : Party) (peer : List ℕ) (s : ErrorSubject) → GoesOn (subject_ended p peer s)
+subject_goes p peer (SentKey s) = joined (dropped (new_link p peer s.via)) _ (dropped_goes (new_link p peer s.via)) (ok, tt)
 subject_goes p peer (SentTwins t) = (ok, (ok, tt))
 subject_goes p peer (Translated value cta) = tt
 
@@ -230,7 +230,7 @@ pub again_goes : (p : Party) (m : Esm) (value : ℕ) (t : Option Retry) → Goes
 again_goes p m value None = (ok, tt)
 again_goes p m value (Some t) = (ok, (ok, tt))
 
-pub esm_goes : (p : Party) (a : Arrival) (m : Esm) (b : Bool) (o : Option Subject) (again : Option Retry) → GoesOn (cond b (plain_esm p a m) (error_of p a m o again)).edits
+pub esm_goes : (p : Party) (a : Arrival) (m : Esm) (b : Bool) (o : Option ErrorSubject) (again : Option Retry) → GoesOn (cond b (plain_esm p a m) (error_of p a m o again)).edits
 esm_goes p a m true o again = tt
 esm_goes p a m false None again = tt
 esm_goes p a m false (Some s) again = joined (raised (subject_link p m.originator s) m.ctr) _ (raised_goes (subject_link p m.originator s) m.ctr) (joined (subject_ended p m.originator s) (DropExchange m.originator ∷ asked_again p m (subject_value s) again) (subject_goes p m.originator s) (again_goes p m (subject_value s) again))
@@ -239,7 +239,7 @@ esm_goes p a m false (Some s) again = joined (raised (subject_link p m.originato
 abbrev pub BothGo : List Edit × List Edit → Type 0
 BothGo gone = GoesOn gone.0 × GoesOn gone.1
 
-pub dsm_goes : (p : Party) (a : Arrival) (m : Dsm) (o : Option Named) → GoesOn (dsm_on p a m o).edits
+pub dsm_goes : (p : Party) (a : Arrival) (m : Dsm) (o : Option NamedKey) → GoesOn (dsm_on p a m o).edits
 dsm_goes p a m None = tt
 dsm_goes p a m (Some n) = by_status (is_ended n.key.status)
   where
@@ -257,7 +257,7 @@ dsm_goes p a m (Some n) = by_status (is_ended n.key.status)
     by_pair sent false false = (tt, tt)
 
     by_kind : (k : Kind) → BothGo (left_by p m.originator n.key.name k)
-    by_kind (kind.KeySent sent way) = by_sent (new_link p m.originator way) (same_name n.key.name sent)
+    by_kind (kind.KeySent sent via) = by_sent (new_link p m.originator via) (same_name n.key.name sent)
     by_kind (kind.Ending ending) = by_ending (same_name n.key.name ending)
     by_kind (kind.Asked ultimate) = (tt, tt)
     by_kind (kind.Translating ultimate value cta) = (tt, tt)

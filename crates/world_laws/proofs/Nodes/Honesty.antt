@@ -6,7 +6,7 @@ use Rattle.x_base.specs.declared.key_name.FullName.{FullName}
 use Rattle.party_state.specs.declared.decision.Lead.{Lead}
 use Rattle.party_state.specs.State.{Party}
 use Rattle.party_tables.proofs.Keys.{test_idents, test_names}
-use Rattle.csm_grammar.specs.Arrivals.{authenticated}
+use Rattle.csm_grammar.specs.Arrivals.{authenticated_text}
 use Rattle.member.specs.Member.{Member}
 use Rattle.world_laws.specs.World.{World, Fact, member_at}
 use Rattle.roles.specs.Leads.{lead_at}
@@ -70,7 +70,7 @@ lead_decides facts text (Some k) = (yes, back)
 
 deed_decides : (facts : List Fact) (p : Party) (d : Action) → Decides (is_honest_action facts p d) (HonestAction facts p d)
 deed_decides facts p (Orders c) = (λ h. tt, λ h. refl)
-deed_decides facts p (Hears bytes (Some a)) = lead_decides facts (authenticated a) (lead_at p a)
+deed_decides facts p (Hears bytes (Some a)) = lead_decides facts (authenticated_text a) (lead_at p a)
 deed_decides facts p (Hears bytes None) = (λ h. tt, λ h. refl)
 deed_decides facts p Compacts = (λ h. tt, λ h. refl)
 deed_decides facts p Migrates = (λ h. tt, λ h. refl)

@@ -7,7 +7,7 @@ use Rattle.csm_grammar.specs.declared.parsed.Parsed.{Parsed}
 use Rattle.csm_grammar.specs.Reading.{IsRead, IsArrival}
 use Rattle.csm_grammar.specs.Spelling.{Spells}
 use Rattle.csm_feed.specs.declared.unheard.Unheard.{Unheard}
-use Rattle.csm_feed.specs.Heard.{Heard, OneHeard, behind}
+use Rattle.csm_feed.specs.Heard.{Heard, OneHeard, after_leading}
 use Rattle.csm_feed.specs.Laws.{OneHearing}
 use Rattle.world_laws.specs.Hearing.{IsHeard, HeardOnce}
 
@@ -37,15 +37,15 @@ heard_once law bytes = by_hearing one.heard one.holds one.alone
     one = law bytes
 
     by_hearing : (r : Result Parsed Unheard) → Heard bytes r → ((other : Result Parsed Unheard) → Heard bytes other → other ≡ r) → HeardOnce bytes
-    by_hearing (Ok p) h alone = record { heard = Some (arrival_of (behind bytes) p h.0); holds = (h, refl); alone = only }
+    by_hearing (Ok p) h alone = record { heard = Some (arrival_of (after_leading bytes) p h.0); holds = (h, refl); alone = only }
       where
-        only : (other : Option Arrival) → IsHeard bytes other → other ≡ Some (arrival_of (behind bytes) p h.0)
+        only : (other : Option Arrival) → IsHeard bytes other → other ≡ Some (arrival_of (after_leading bytes) p h.0)
         only None k = absurd (let e : Err k.0 ≡ Ok p = alone (Err k.0) k.1 in cc)
         only (Some a) k =
             let e : Ok a.parsed ≡ Ok p = alone (Ok a.parsed) k.0 in
             let parsed : a.parsed ≡ p = cc in
-            let text : a.text ≡ take p.len (behind bytes) = k.1 ∙ ap (λ (q : Parsed). take q.len (behind bytes)) parsed in
-            ap (λ (x : Arrival). let o : Option Arrival = Some x in o) (same_arrival a (arrival_of (behind bytes) p h.0) text parsed)
+            let text : a.text ≡ take p.len (after_leading bytes) = k.1 ∙ ap (λ (q : Parsed). take q.len (after_leading bytes)) parsed in
+            ap (λ (x : Arrival). let o : Option Arrival = Some x in o) (same_arrival a (arrival_of (after_leading bytes) p h.0) text parsed)
     by_hearing (Err u) h alone = record { heard = None; holds = (u, h); alone = only }
       where
         only : (other : Option Arrival) → IsHeard bytes other → other ≡ None

@@ -38,12 +38,12 @@ use Rattle.bank_orders.specs.Resend.{resend_of}
 use Rattle.bank_orders.specs.Ending.{end_record}
 use Rattle.bank_orders.specs.Orders.{command_row}
 use Rattle.bank_keys.specs.Ksm.{body_link, key_row}
-use Rattle.bank_keys.specs.declared.waits.Waiting.{Waiting}
+use Rattle.bank_keys.specs.declared.waits.KeyAtCentre.{KeyAtCentre}
 use Rattle.bank_keys.specs.Waiting.{waiting_with}
 use Rattle.bank_keys.specs.Rtr.{brought, translated, rtr_with}
 use Rattle.bank_arrivals.specs.declared.asking_again.Retry.{Retry}
-use Rattle.bank_arrivals.specs.declared.disconnection.Named.{Named}
-use Rattle.bank_arrivals.specs.declared.error_message.Subject.{Subject}
+use Rattle.bank_arrivals.specs.declared.disconnection.NamedKey.{NamedKey}
+use Rattle.bank_arrivals.specs.declared.error_message.ErrorSubject.{ErrorSubject}
 use Rattle.bank_arrivals.specs.AskingAgain.{retry_in}
 use Rattle.bank_arrivals.specs.SendingTwins.{twins_drawn}
 use Rattle.bank_arrivals.specs.Rsi.{rsi_tests, rsi_row, rsi_under}
@@ -103,7 +103,7 @@ rtr_shows p a m (Some k) = by_link (link_with (takes m.originator centre_label) 
     by_link (Some l) = record { uses = refl; birth = refl }
 rtr_shows p a m None = by_waiting (waiting_with p m.originator)
   where
-    by_waiting : (o : Option Waiting) → RowShows p (translated p a m o)
+    by_waiting : (o : Option KeyAtCentre) → RowShows p (translated p a m o)
     by_waiting None = record { uses = refl; birth = refl }
     by_waiting (Some t) = record { uses = refl; birth = refl }
 
@@ -131,12 +131,12 @@ esm_shows : (p : Party) (a : Arrival) (m : Esm) (b : Bool) (again : Option Retry
 esm_shows p a m true again = record { uses = refl; birth = refl }
 esm_shows p a m false again = by_subject (subject_with p m.originator) again
   where
-    by_subject : (o : Option Subject) (again : Option Retry) → RowShows p (error_of p a m o again)
+    by_subject : (o : Option ErrorSubject) (again : Option Retry) → RowShows p (error_of p a m o again)
     by_subject None again = record { uses = refl; birth = refl }
     by_subject (Some s) None = record { uses = refl; birth = refl }
     by_subject (Some s) (Some t) = record { uses = refl; birth = refl }
 
-dsm_shows : (p : Party) (a : Arrival) (m : Dsm) (o : Option Named) → RowShows p (dsm_on p a m o)
+dsm_shows : (p : Party) (a : Arrival) (m : Dsm) (o : Option NamedKey) → RowShows p (dsm_on p a m o)
 dsm_shows p a m None = record { uses = refl; birth = refl }
 dsm_shows p a m (Some n) = record { uses = refl; birth = refl }
 

@@ -32,10 +32,10 @@ use Rattle.party_tables.specs.Statuses.{is_ended}
 use Rattle.party_state.specs.State.{Party, link_with, first_link, apply, apply_edit, exchange_with}
 use Rattle.party_state.specs.Verdicts.{verdict_of, is_accept}
 use Rattle.role_base.specs.declared.exchanges.Sent.{Sent}
-use Rattle.bank_arrivals.specs.declared.error_message.Subject.{Subject}
-use Rattle.bank_arrivals.specs.declared.error_message.Subject.TheVariants.{SentKey, SentTwins, Translated}
-use Rattle.bank_arrivals.specs.declared.disconnection.Named.{Named}
-use Rattle.csm_grammar.specs.Arrivals.{authenticated}
+use Rattle.bank_arrivals.specs.declared.error_message.ErrorSubject.{ErrorSubject}
+use Rattle.bank_arrivals.specs.declared.error_message.ErrorSubject.TheVariants.{SentKey, SentTwins, Translated}
+use Rattle.bank_arrivals.specs.declared.disconnection.NamedKey.{NamedKey}
+use Rattle.csm_grammar.specs.Arrivals.{authenticated_text}
 use Rattle.role_base.specs.Texts.{is_plain}
 use Rattle.role_base.specs.declared.exchanges.Twins.{Twins}
 use Rattle.party_tables.specs.Names.{name_behind}
@@ -59,26 +59,26 @@ use Rattle.party_tables.specs.declared.exchange.Via.{Via}
 use Rattle.party_tables.specs.declared.exchange.Kind.{Kind}
 use Rattle.party_tables.specs.declared.exchange.Kind.TheVariants as kind
 
-pub rsi_sound : (p : Party) (a : Arrival) (m : Rsi) (moment : ℕ) (o : Option LinkRec) → HasLinks p → first_link m.originator Sends p ≡ o → IsSound None p (authenticated a) (rsi_under p a m o moment)
-rsi_sound p a m moment None d h = refused_sound p (authenticated a) (verdict_of (rsi_tests p a m None))
+pub rsi_sound : (p : Party) (a : Arrival) (m : Rsi) (moment : ℕ) (o : Option LinkRec) → HasLinks p → first_link m.originator Sends p ≡ o → IsSound None p (authenticated_text a) (rsi_under p a m o moment)
+rsi_sound p a m moment None d h = refused_sound p (authenticated_text a) (verdict_of (rsi_tests p a m None))
 rsi_sound p a m moment (Some l) d h = by_service (is_two_keys m.service)
   where
     f : FirstAt p m.originator Sends l
     f = first_at p m.originator Sends l d h
 
-    by_service : (b : Bool) → IsSound None p (authenticated a) (rsi_row p a m l moment b)
-    by_service true = twins_sound p (authenticated a) (rsi_tests p a m (Some l)) m.originator l (twins_drawn p.generator moment) (record { at = f.at; ready = f.ready })
-    by_service false = sending_sound p (authenticated a) (rsi_tests p a m (Some l)) m.originator l (good_draw p.generator moment) (record { at = f.at; ready = f.ready })
+    by_service : (b : Bool) → IsSound None p (authenticated_text a) (rsi_row p a m l moment b)
+    by_service true = twins_sound p (authenticated_text a) (rsi_tests p a m (Some l)) m.originator l (twins_drawn p.generator moment) (record { at = f.at; ready = f.ready })
+    by_service false = sending_sound p (authenticated_text a) (rsi_tests p a m (Some l)) m.originator l (good_draw p.generator moment) (record { at = f.at; ready = f.ready })
 
 -- its answers
 
-rsm_sound : (p : Party) (a : Arrival) (m : Rsm) (o : Option Sent) → Waits p → sent_to p m.originator ≡ o → IsSound None p (authenticated a) (rsm_to p a m o)
-rsm_sound p a m None w h = refused_sound p (authenticated a) (verdict_of (rsm_front p m None))
+rsm_sound : (p : Party) (a : Arrival) (m : Rsm) (o : Option Sent) → Waits p → sent_to p m.originator ≡ o → IsSound None p (authenticated_text a) (rsm_to p a m o)
+rsm_sound p a m None w h = refused_sound p (authenticated_text a) (verdict_of (rsm_front p m None))
 rsm_sound p a m (Some s) w h = record {
   made = no_new None;
   free = no_free p;
-  edits = (by_link (new_link p m.originator s.way) refl).0;
-  waits = (by_link (new_link p m.originator s.way) refl).1;
+  edits = (by_link (new_link p m.originator s.via) refl).0;
+  waits = (by_link (new_link p m.originator s.via) refl).1;
   uses = tt;
   apart = pairs_none;
   accepts = λ class. absurd (cc);
@@ -87,27 +87,27 @@ rsm_sound p a m (Some s) w h = record {
     at : SentAt p m.originator s
     at = sent_at p m.originator s h
 
-    by_link : (o : Option LinkRec) → new_link p m.originator s.way ≡ o → AllFine None p (readied o ++ PutKey (record s.key { status = Live }) ∷ DropExchange m.originator ∷ []) × (Waits p → Waits (apply (readied o ++ PutKey (record s.key { status = Live }) ∷ DropExchange m.originator ∷ []) p))
+    by_link : (o : Option LinkRec) → new_link p m.originator s.via ≡ o → AllFine None p (readied o ++ PutKey (record s.key { status = Live }) ∷ DropExchange m.originator ∷ []) × (Waits p → Waits (apply (readied o ++ PutKey (record s.key { status = Live }) ∷ DropExchange m.originator ∷ []) p))
     by_link None e = ((tt, (tt, tt)), change_waits (PutKey (record s.key { status = Live }) ∷ DropExchange m.originator ∷ []) p (tt, (tt, tt)))
     by_link (Some l) e =
-        let g = new_may_go p m.originator at.exchange at.name s.way w at.at at.kind_is l e in (
+        let g = new_may_go p m.originator at.exchange at.name s.via w at.at at.kind_is l e in (
           (inl (l, g.0, record { peer = refl; label = refl; side = refl; pair = refl; next = omega arith; ready = λ r. refl; ready_takes = λ t. absurd (let side = g.1.side in cc) }), (tt, (tt, tt))),
-          readied_waits p m.originator (record l { ready = true }) (record s.key { status = Live }) (way_peer l e),
+          readied_waits p m.originator (record l { ready = true }) (record s.key { status = Live }) (via_peer l e),
         )
       where
-        way_peer : (l : LinkRec) → new_link p m.originator s.way ≡ Some l → l.peer ≡ m.originator
-        way_peer l e = new_peer p m.originator s.way l e
+        via_peer : (l : LinkRec) → new_link p m.originator s.via ≡ Some l → l.peer ≡ m.originator
+        via_peer l e = new_peer p m.originator s.via l e
 
-pub answer_sound : (p : Party) (a : Arrival) (m : Rsm) (name : KeyName) (o : Option KeyRec) → IsSound None p (authenticated a) (answer_to p a m name o)
-answer_sound p a m name None = refused_sound p (authenticated a) (verdict_of (end_front p m name None))
-answer_sound p a m name (Some k) = quiet_sound p (authenticated a) (answer_to p a m name (Some k)) (tt, (tt, tt)) refl (λ k e class. absurd (cc))
+pub answer_sound : (p : Party) (a : Arrival) (m : Rsm) (name : KeyName) (o : Option KeyRec) → IsSound None p (authenticated_text a) (answer_to p a m name o)
+answer_sound p a m name None = refused_sound p (authenticated_text a) (verdict_of (end_front p m name None))
+answer_sound p a m name (Some k) = quiet_sound p (authenticated_text a) (answer_to p a m name (Some k)) (tt, (tt, tt)) refl (λ k e class. absurd (cc))
 
-rsm_row_sound : (p : Party) (a : Arrival) (m : Rsm) (o : Option KeyName) → Waits p → IsSound None p (authenticated a) (rsm_with p a m o)
+rsm_row_sound : (p : Party) (a : Arrival) (m : Rsm) (o : Option KeyName) → Waits p → IsSound None p (authenticated_text a) (rsm_with p a m o)
 rsm_row_sound p a m None n = by_twins (twins_to p m.originator)
   where
-    by_twins : (t : Option Twins) → IsSound None p (authenticated a) (rsm_by p a m t)
+    by_twins : (t : Option Twins) → IsSound None p (authenticated_text a) (rsm_by p a m t)
     by_twins None = rsm_sound p a m (sent_to p m.originator) n refl
-    by_twins (Some t) = quiet_sound p (authenticated a) (rsm_twins p a m t) (tt, (tt, (tt, tt))) refl (λ k e class. absurd (cc))
+    by_twins (Some t) = quiet_sound p (authenticated_text a) (rsm_twins p a m t) (tt, (tt, (tt, tt))) refl (λ k e class. absurd (cc))
 rsm_row_sound p a m (Some name) n = answer_sound p a m name (ending_with p m.originator)
 
 -- an error message
@@ -143,7 +143,7 @@ raised_twice p peer None ctr j k more q f = ((tt, (tt, (tt, all_fine more _ q)))
 raised_twice p peer (Some l) None j k more q f = ((tt, (tt, (tt, all_fine more _ q))), (tt, (tt, (tt, all_calm more _ q))))
 raised_twice p peer (Some l) (Some n) j k more q f = ((inl (l, f l refl, next_up l (max l.next n) (omega arith)), (tt, (tt, (tt, all_fine more _ q)))), ((l, f l refl, refl), (tt, (tt, (tt, all_calm more _ q)))))
 
-pub esm_no_ksm : (p : Party) (s : Subject) → NoKsm (subject_accepted p s)
+pub esm_no_ksm : (p : Party) (s : ErrorSubject) → NoKsm (subject_accepted p s)
 esm_no_ksm p (SentKey s) a e class = absurd (cc)
 esm_no_ksm p (SentTwins t) a e class = absurd (cc)
 esm_no_ksm p (Translated value cta) a e class = absurd (cc)
@@ -153,19 +153,19 @@ again_quiet p m value None = tt
 again_quiet p m value (Some t) = (refl, tt)
 
 -- the edits of an error message that is taken, whether a centre is asked again or not
-pub error_passes : (p : Party) (a : Arrival) (m : Esm) (s : Subject) (again : Option Retry) → Waits p → subject_with p m.originator ≡ Some s → Passes p (error_row p a m s again).edits
+pub error_passes : (p : Party) (a : Arrival) (m : Esm) (s : ErrorSubject) (again : Option Retry) → Waits p → subject_with p m.originator ≡ Some s → Passes p (error_row p a m s again).edits
 error_passes p a m (SentKey s) again w h =
     let at : SentAt p m.originator s = sent_at p m.originator s (subject_sent p m.originator s h) in
-    raised_passes p m.originator (subject_link p m.originator (SentKey s)) m.ctr (new_link p m.originator s.way) (record s.key { status = Ended }) (asked_again p m s.key.value again) (again_quiet p m s.key.value again) (λ l e. subject_link_at p m.originator (SentKey s) l e) (λ l e. (new_may_go p m.originator at.exchange at.name s.way w at.at at.kind_is l e).1)
+    raised_passes p m.originator (subject_link p m.originator (SentKey s)) m.ctr (new_link p m.originator s.via) (record s.key { status = Ended }) (asked_again p m s.key.value again) (again_quiet p m s.key.value again) (λ l e. subject_link_at p m.originator (SentKey s) l e) (λ l e. (new_may_go p m.originator at.exchange at.name s.via w at.at at.kind_is l e).1)
 error_passes p a m (SentTwins t) again w h = raised_twice p m.originator (subject_link p m.originator (SentTwins t)) m.ctr (record t.first { status = Ended }) (record t.second { status = Ended }) (asked_again p m (twins_value t) again) (again_quiet p m (twins_value t) again) (λ l e. subject_link_at p m.originator (SentTwins t) l e)
 error_passes p a m (Translated value cta) again w h = raised_alone p m.originator (subject_link p m.originator (Translated value cta)) m.ctr (asked_again p m value again) (again_quiet p m value again) (λ l e. subject_link_at p m.originator (Translated value cta) l e)
 
-esm_sound : (p : Party) (a : Arrival) (m : Esm) (o : Option Subject) (again : Option Retry) → Waits p → subject_with p m.originator ≡ o → IsSound None p (authenticated a) (error_of p a m o again)
-esm_sound p a m None again w h = refused_sound p (authenticated a) (verdict_of (esm_front p m None))
-esm_sound p a m (Some s) again w h = passes_sound p (authenticated a) (error_row p a m s again) (error_passes p a m s again w h) refl (esm_no_ksm p s)
+esm_sound : (p : Party) (a : Arrival) (m : Esm) (o : Option ErrorSubject) (again : Option Retry) → Waits p → subject_with p m.originator ≡ o → IsSound None p (authenticated_text a) (error_of p a m o again)
+esm_sound p a m None again w h = refused_sound p (authenticated_text a) (verdict_of (esm_front p m None))
+esm_sound p a m (Some s) again w h = passes_sound p (authenticated_text a) (error_row p a m s again) (error_passes p a m s again w h) refl (esm_no_ksm p s)
 
-pub error_sound : (p : Party) (a : Arrival) (m : Esm) (b : Bool) (again : Option Retry) → Waits p → IsSound None p (authenticated a) (error_with p a m b again)
-error_sound p a m true again n = quiet_sound p (authenticated a) (plain_esm p a m) tt refl (λ k e. absurd (cc))
+pub error_sound : (p : Party) (a : Arrival) (m : Esm) (b : Bool) (again : Option Retry) → Waits p → IsSound None p (authenticated_text a) (error_with p a m b again)
+error_sound p a m true again n = quiet_sound p (authenticated_text a) (plain_esm p a m) tt refl (λ k e. absurd (cc))
 error_sound p a m false again n = esm_sound p a m (subject_with p m.originator) again n refl
 
 -- the end of a key
@@ -174,13 +174,13 @@ error_sound p a m false again n = esm_sound p a m (subject_with p m.originator) 
 abbrev around : KeyRec → List Edit × List Edit → List Edit
 around k gone = gone.0 ++ (PutKey k ∷ gone.1)
 
-pub dsm_passes : (p : Party) (a : Arrival) (m : Dsm) (n : Named) → Waits p → Passes p (dsm_on p a m (Some n)).edits
+pub dsm_passes : (p : Party) (a : Arrival) (m : Dsm) (n : NamedKey) → Waits p → Passes p (dsm_on p a m (Some n)).edits
 dsm_passes p a m n w = by_status (is_ended n.key.status)
   where
-    by_sent : (e : Exchange) (name : KeyName) (way : Via) → exchange_with m.originator p ≡ Some e → e.kind ≡ kind.KeySent name way → (o : Option LinkRec) → new_link p m.originator way ≡ o → (b : Bool) → Passes p (around (record n.key { status = Ended }) (cond b (dropped o, DropExchange m.originator ∷ []) ([], [])))
-    by_sent e name way at is None l true = ((tt, (tt, tt)), (tt, (tt, tt)))
-    by_sent e name way at is (Some j) l true = let g = (new_may_go p m.originator e name way w at is j l).1 in (((g.side, (g.link, g.found, g.unready)), (tt, (tt, tt))), (tt, (tt, (tt, tt))))
-    by_sent e name way at is o l false = ((tt, tt), (tt, tt))
+    by_sent : (e : Exchange) (name : KeyName) (via : Via) → exchange_with m.originator p ≡ Some e → e.kind ≡ kind.KeySent name via → (o : Option LinkRec) → new_link p m.originator via ≡ o → (b : Bool) → Passes p (around (record n.key { status = Ended }) (cond b (dropped o, DropExchange m.originator ∷ []) ([], [])))
+    by_sent e name via at is None l true = ((tt, (tt, tt)), (tt, (tt, tt)))
+    by_sent e name via at is (Some j) l true = let g = (new_may_go p m.originator e name via w at is j l).1 in (((g.side, (g.link, g.found, g.unready)), (tt, (tt, tt))), (tt, (tt, (tt, tt))))
+    by_sent e name via at is o l false = ((tt, tt), (tt, tt))
 
     by_ending : (b : Bool) → Passes p (around (record n.key { status = Ended }) (cond b ([], DropExchange m.originator ∷ []) ([], [])))
     by_ending true = ((tt, (tt, tt)), (tt, (tt, tt)))
@@ -195,7 +195,7 @@ dsm_passes p a m n w = by_status (is_ended n.key.status)
     by_pair first second false false = ((tt, tt), (tt, tt))
 
     by_kind : (e : Exchange) → exchange_with m.originator p ≡ Some e → (k : Kind) → e.kind ≡ k → Passes p (around (record n.key { status = Ended }) (left_by p m.originator n.key.name k))
-    by_kind e at (kind.KeySent name way) is = by_sent e name way at is (new_link p m.originator way) refl (same_name n.key.name name)
+    by_kind e at (kind.KeySent name via) is = by_sent e name via at is (new_link p m.originator via) refl (same_name n.key.name name)
     by_kind e at (kind.Ending name) is = by_ending (same_name n.key.name name)
     by_kind e at (kind.Asked ultimate) is = ((tt, tt), (tt, tt))
     by_kind e at (kind.Translating ultimate value cta) is = ((tt, tt), (tt, tt))
@@ -209,19 +209,19 @@ dsm_passes p a m n w = by_status (is_ended n.key.status)
     by_status true = (tt, tt)
     by_status false = by_exchange (exchange_with m.originator p) refl
 
-dsm_sound : (p : Party) (a : Arrival) (m : Dsm) (o : Option Named) → Waits p → IsSound None p (authenticated a) (dsm_on p a m o)
-dsm_sound p a m None w = refused_sound p (authenticated a) (verdict_of (dsm_front p m false))
-dsm_sound p a m (Some n) w = passes_sound p (authenticated a) (dsm_on p a m (Some n)) (dsm_passes p a m n w) refl (λ k e class. absurd (cc))
+dsm_sound : (p : Party) (a : Arrival) (m : Dsm) (o : Option NamedKey) → Waits p → IsSound None p (authenticated_text a) (dsm_on p a m o)
+dsm_sound p a m None w = refused_sound p (authenticated_text a) (verdict_of (dsm_front p m false))
+dsm_sound p a m (Some n) w = passes_sound p (authenticated_text a) (dsm_on p a m (Some n)) (dsm_passes p a m n w) refl (λ k e class. absurd (cc))
 
 abbrev plain_sound : {p : Party} {text : List ℕ} {r : Row} → IsSound None p text r → SoundRow p text r
 plain_sound {p} {text} {r} g = record { new = None; sound = g }
 
-pub message_sound : (p : Party) (a : Arrival) (m : Message) (moment : ℕ) → HasLinks p → Waits p → Says (authenticated a) m → is_accept (message_row p a m moment).verdict ≡ true → SoundRow p (authenticated a) (message_row p a m moment)
+pub message_sound : (p : Party) (a : Arrival) (m : Message) (moment : ℕ) → HasLinks p → Waits p → Says (authenticated_text a) m → is_accept (message_row p a m moment).verdict ≡ true → SoundRow p (authenticated_text a) (message_row p a m moment)
 message_sound p a (message.Rsi m) moment d n said h = plain_sound (rsi_sound p a m moment (first_link m.originator Sends p) d refl)
-message_sound p a (message.Rfs m) moment d n said h = plain_sound (refused_sound p (authenticated a) _)
+message_sound p a (message.Rfs m) moment d n said h = plain_sound (refused_sound p (authenticated_text a) _)
 message_sound p a (message.Rtr m) moment d n said h = plain_sound (rtr_sound p a m m.kd h)
 message_sound p a (message.Ksm m) moment d n said h = key_row_sound p a m m.body (body_link p m.originator m.body) d said refl refl h
 message_sound p a (message.Rsm m) moment d n said h = plain_sound (rsm_row_sound p a m m.idd n)
-message_sound p a (message.Ers m) moment d n said h = plain_sound (refused_sound p (authenticated a) _)
+message_sound p a (message.Ers m) moment d n said h = plain_sound (refused_sound p (authenticated_text a) _)
 message_sound p a (message.Esm m) moment d n said h = plain_sound (error_sound p a m (is_plain a.parsed.shut) (retry_in p (subject_with p m.originator) m.ctr) n)
 message_sound p a (message.Dsm m) moment d n said h = plain_sound (dsm_sound p a m (named_by p m) n)

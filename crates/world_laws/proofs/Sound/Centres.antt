@@ -13,7 +13,7 @@ use Rattle.party_tables.specs.Keys.{same_link, link_key, sends, takes}
 use Rattle.party_state.specs.State.{Party, centre_label, link_with}
 use Rattle.party_state.specs.Verdicts.{Held, is_accept}
 use Rattle.party_state.proofs.Verdicts.{held}
-use Rattle.csm_grammar.specs.Arrivals.{authenticated}
+use Rattle.csm_grammar.specs.Arrivals.{authenticated_text}
 use Rattle.world_laws.proofs.Links.Growth.{LinkGrows, next_up}
 use Rattle.world_laws.proofs.Links.Found.{LinkAt}
 use Rattle.world_laws.proofs.Links.Waiting.{change_waits}
@@ -96,20 +96,20 @@ rsi_apart p a m u l b drawn h =
 pub ers_apart : (p : Party) (a : Arrival) (m : Ers) (t : Answer) (l b up : LinkRec) (drawn : Option (ℕ × Gen)) → is_accept (answering p m.originator m.ultimate (ers_tests p a m t l b) l up drawn).verdict ≡ true → m.ultimate ≢ m.originator
 ers_apart p a m t l b up drawn h = let g : Held (ers_tests p a m t l b) = answering_held p m.originator m.ultimate (ers_tests p a m t l b) l up drawn refl refl h in not_eq m.ultimate m.originator g.1.1.0
 
-rsi_sound : (p : Party) (a : Arrival) (m : Rsi) (u : List ℕ) (fa fb : Option LinkRec) (drawn : Option (ℕ × Gen)) → link_with (sends m.originator centre_label) p ≡ fa → link_with (sends u centre_label) p ≡ fb → is_accept (rsi_between p a m u fa fb drawn).verdict ≡ true → IsSound None p (authenticated a) (rsi_between p a m u fa fb drawn)
-rsi_sound p a m u None fb drawn ea eb h = refused_sound p (authenticated a) (verdict_of (rsi_front p m u false))
-rsi_sound p a m u (Some l) None drawn ea eb h = refused_sound p (authenticated a) (verdict_of (rsi_front p m u false))
-rsi_sound p a m u (Some l) (Some b) drawn ea eb h = answering_sound p (authenticated a) m.originator u (rsi_tests p a m u l b) l b b drawn ea eb (link_stays b) refl (rsi_apart p a m u l b drawn h)
+rsi_sound : (p : Party) (a : Arrival) (m : Rsi) (u : List ℕ) (fa fb : Option LinkRec) (drawn : Option (ℕ × Gen)) → link_with (sends m.originator centre_label) p ≡ fa → link_with (sends u centre_label) p ≡ fb → is_accept (rsi_between p a m u fa fb drawn).verdict ≡ true → IsSound None p (authenticated_text a) (rsi_between p a m u fa fb drawn)
+rsi_sound p a m u None fb drawn ea eb h = refused_sound p (authenticated_text a) (verdict_of (rsi_front p m u false))
+rsi_sound p a m u (Some l) None drawn ea eb h = refused_sound p (authenticated_text a) (verdict_of (rsi_front p m u false))
+rsi_sound p a m u (Some l) (Some b) drawn ea eb h = answering_sound p (authenticated_text a) m.originator u (rsi_tests p a m u l b) l b b drawn ea eb (link_stays b) refl (rsi_apart p a m u l b drawn h)
 
-rsi_row_sound : (p : Party) (a : Arrival) (m : Rsi) (o : Option (List ℕ)) (moment : ℕ) → is_accept (rsi_for p a m o moment).verdict ≡ true → IsSound None p (authenticated a) (rsi_for p a m o moment)
-rsi_row_sound p a m None moment h = refused_sound p (authenticated a) (verdict_of (request_front p m.receiver m.originator false))
+rsi_row_sound : (p : Party) (a : Arrival) (m : Rsi) (o : Option (List ℕ)) (moment : ℕ) → is_accept (rsi_for p a m o moment).verdict ≡ true → IsSound None p (authenticated_text a) (rsi_for p a m o moment)
+rsi_row_sound p a m None moment h = refused_sound p (authenticated_text a) (verdict_of (request_front p m.receiver m.originator false))
 rsi_row_sound p a m (Some u) moment h = rsi_sound p a m u (link_with (sends m.originator centre_label) p) (link_with (sends u centre_label) p) (good_draw p.generator moment) refl refl h
 
-ers_sound : (p : Party) (a : Arrival) (m : Ers) (o : Option Answer) (fa fb : Option LinkRec) (drawn : Option (ℕ × Gen)) → link_with (sends m.originator centre_label) p ≡ fa → link_with (sends m.ultimate centre_label) p ≡ fb → is_accept (ers_between p a m o fa fb drawn).verdict ≡ true → IsSound None p (authenticated a) (ers_between p a m o fa fb drawn)
-ers_sound p a m None fa fb drawn ea eb h = refused_sound p (authenticated a) (verdict_of (ers_front p m false false))
-ers_sound p a m (Some t) None fb drawn ea eb h = refused_sound p (authenticated a) (verdict_of (ers_front p m true false))
-ers_sound p a m (Some t) (Some l) None drawn ea eb h = refused_sound p (authenticated a) (verdict_of (ers_front p m true false))
-ers_sound p a m (Some t) (Some l) (Some b) drawn ea eb h = answering_sound p (authenticated a) m.originator m.ultimate (ers_tests p a m t l b) l (record b { next = max b.next m.ctr }) b drawn ea eb (next_up b (max b.next m.ctr) (omega arith)) refl (ers_apart p a m t l b (record b { next = max b.next m.ctr }) drawn h)
+ers_sound : (p : Party) (a : Arrival) (m : Ers) (o : Option Answer) (fa fb : Option LinkRec) (drawn : Option (ℕ × Gen)) → link_with (sends m.originator centre_label) p ≡ fa → link_with (sends m.ultimate centre_label) p ≡ fb → is_accept (ers_between p a m o fa fb drawn).verdict ≡ true → IsSound None p (authenticated_text a) (ers_between p a m o fa fb drawn)
+ers_sound p a m None fa fb drawn ea eb h = refused_sound p (authenticated_text a) (verdict_of (ers_front p m false false))
+ers_sound p a m (Some t) None fb drawn ea eb h = refused_sound p (authenticated_text a) (verdict_of (ers_front p m true false))
+ers_sound p a m (Some t) (Some l) None drawn ea eb h = refused_sound p (authenticated_text a) (verdict_of (ers_front p m true false))
+ers_sound p a m (Some t) (Some l) (Some b) drawn ea eb h = answering_sound p (authenticated_text a) m.originator m.ultimate (ers_tests p a m t l b) l (record b { next = max b.next m.ctr }) b drawn ea eb (next_up b (max b.next m.ctr) (omega arith)) refl (ers_apart p a m t l b (record b { next = max b.next m.ctr }) drawn h)
 
 -- translation
 
@@ -124,9 +124,9 @@ rfs_fine p m l b ea eb =
     let kb : LinkAt p (sends m.ultimate centre_label) b = link_at p (sends m.ultimate centre_label) b eb in
     subst (λ (k : LinkKey). find_row link_key same_link k (put_row link_key same_link (record l { next = m.cta + 1 }) p.links) ≡ Some b) (sym kb.key) (put_past (sends m.ultimate centre_label) (takes m.originator centre_label) (record l { next = m.cta + 1 }) p.links ka.key (λ h. (let e : Sends ≡ Takes = ap (λ (k : LinkKey). k.side) h in cc)) ∙ eb)
 
-rfs_sound : (p : Party) (a : Arrival) (m : Rfs) (fa fb : Option LinkRec) → link_with (takes m.originator centre_label) p ≡ fa → link_with (sends m.ultimate centre_label) p ≡ fb → is_accept (rfs_between p a m fa fb).verdict ≡ true → IsSound None p (authenticated a) (rfs_between p a m fa fb)
-rfs_sound p a m None fb ea eb h = refused_sound p (authenticated a) (verdict_of (rfs_front p m false))
-rfs_sound p a m (Some l) None ea eb h = refused_sound p (authenticated a) (verdict_of (rfs_front p m false))
+rfs_sound : (p : Party) (a : Arrival) (m : Rfs) (fa fb : Option LinkRec) → link_with (takes m.originator centre_label) p ≡ fa → link_with (sends m.ultimate centre_label) p ≡ fb → is_accept (rfs_between p a m fa fb).verdict ≡ true → IsSound None p (authenticated_text a) (rfs_between p a m fa fb)
+rfs_sound p a m None fb ea eb h = refused_sound p (authenticated_text a) (verdict_of (rfs_front p m false))
+rfs_sound p a m (Some l) None ea eb h = refused_sound p (authenticated_text a) (verdict_of (rfs_front p m false))
 rfs_sound p a m (Some l) (Some b) ea eb h =
     let ka : LinkAt p (takes m.originator centre_label) l = link_at p (takes m.originator centre_label) l ea in
     let kb : LinkAt p (sends m.ultimate centre_label) b = link_at p (sends m.ultimate centre_label) b eb in
@@ -153,22 +153,22 @@ centre_command_sound p (command.End peer name) i = refused_sound p [] _
 centre_command_sound p (command.Drop peer) i = refused_sound p [] _
 centre_command_sound p command.Purge i = refused_sound p [] _
 
-pub distribution_sound : (p : Party) (a : Arrival) (m : Message) (moment : ℕ) → is_accept (distribution_message p a m moment).verdict ≡ true → IsSound None p (authenticated a) (distribution_message p a m moment)
+pub distribution_sound : (p : Party) (a : Arrival) (m : Message) (moment : ℕ) → is_accept (distribution_message p a m moment).verdict ≡ true → IsSound None p (authenticated_text a) (distribution_message p a m moment)
 distribution_sound p a (message.Rsi m) moment h = rsi_row_sound p a m m.ultimate moment h
-distribution_sound p a (message.Rfs m) moment h = refused_sound p (authenticated a) _
-distribution_sound p a (message.Rtr m) moment h = refused_sound p (authenticated a) _
-distribution_sound p a (message.Ksm m) moment h = refused_sound p (authenticated a) _
-distribution_sound p a (message.Rsm m) moment h = refused_sound p (authenticated a) _
+distribution_sound p a (message.Rfs m) moment h = refused_sound p (authenticated_text a) _
+distribution_sound p a (message.Rtr m) moment h = refused_sound p (authenticated_text a) _
+distribution_sound p a (message.Ksm m) moment h = refused_sound p (authenticated_text a) _
+distribution_sound p a (message.Rsm m) moment h = refused_sound p (authenticated_text a) _
 distribution_sound p a (message.Ers m) moment h = ers_sound p a m (answer_with (record { requester = m.originator; ultimate = m.ultimate }) p) (link_with (sends m.originator centre_label) p) (link_with (sends m.ultimate centre_label) p) (good_draw p.generator moment) refl refl h
-distribution_sound p a (message.Esm m) moment h = refused_sound p (authenticated a) _
-distribution_sound p a (message.Dsm m) moment h = refused_sound p (authenticated a) _
+distribution_sound p a (message.Esm m) moment h = refused_sound p (authenticated_text a) _
+distribution_sound p a (message.Dsm m) moment h = refused_sound p (authenticated_text a) _
 
-pub translation_sound : (p : Party) (a : Arrival) (m : Message) → is_accept (translation_message p a m).verdict ≡ true → IsSound None p (authenticated a) (translation_message p a m)
-translation_sound p a (message.Rsi m) h = refused_sound p (authenticated a) _
+pub translation_sound : (p : Party) (a : Arrival) (m : Message) → is_accept (translation_message p a m).verdict ≡ true → IsSound None p (authenticated_text a) (translation_message p a m)
+translation_sound p a (message.Rsi m) h = refused_sound p (authenticated_text a) _
 translation_sound p a (message.Rfs m) h = rfs_sound p a m (link_with (takes m.originator centre_label) p) (link_with (sends m.ultimate centre_label) p) refl refl h
-translation_sound p a (message.Rtr m) h = refused_sound p (authenticated a) _
-translation_sound p a (message.Ksm m) h = refused_sound p (authenticated a) _
-translation_sound p a (message.Rsm m) h = refused_sound p (authenticated a) _
-translation_sound p a (message.Ers m) h = refused_sound p (authenticated a) _
-translation_sound p a (message.Esm m) h = refused_sound p (authenticated a) _
-translation_sound p a (message.Dsm m) h = refused_sound p (authenticated a) _
+translation_sound p a (message.Rtr m) h = refused_sound p (authenticated_text a) _
+translation_sound p a (message.Ksm m) h = refused_sound p (authenticated_text a) _
+translation_sound p a (message.Rsm m) h = refused_sound p (authenticated_text a) _
+translation_sound p a (message.Ers m) h = refused_sound p (authenticated_text a) _
+translation_sound p a (message.Esm m) h = refused_sound p (authenticated_text a) _
+translation_sound p a (message.Dsm m) h = refused_sound p (authenticated_text a) _

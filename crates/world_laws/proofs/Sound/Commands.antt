@@ -95,7 +95,7 @@ given_up_passes p peer None at w = (tt, tt)
 given_up_passes p peer (Some e) at w = by_kind e.kind refl
   where
     by_kind : (k : Kind) → e.kind ≡ k → Passes p (given_up p peer k ++ DropExchange peer ∷ [])
-    by_kind (kind.KeySent name way) is = gone_passes p peer (new_link p peer way) (record_of p peer name) (λ l h. (new_may_go p peer e name way w at is l h).1)
+    by_kind (kind.KeySent name via) is = gone_passes p peer (new_link p peer via) (record_of p peer name) (λ l h. (new_may_go p peer e name via w at is l h).1)
     by_kind (kind.Asked ultimate) is = ((tt, tt), (tt, tt))
     by_kind (kind.Translating ultimate value cta) is = ((tt, tt), (tt, tt))
     by_kind (kind.Ending name) is = ((tt, tt), (tt, tt))

@@ -6,7 +6,7 @@ use Rattle.party_tables.specs.declared.link.LinkRec.{LinkRec}
 use Rattle.party_tables.specs.declared.key.RecordKey.{RecordKey}
 use Rattle.party_tables.specs.declared.key.KeyRec.{KeyRec}
 use Rattle.party_tables.specs.declared.exchange.Via.{Via}
-use Rattle.party_tables.specs.declared.exchange.Via.TheVariants as via
+use Rattle.party_tables.specs.declared.exchange.Via.TheVariants as vias
 use Rattle.party_tables.specs.declared.exchange.Kind.{Kind}
 use Rattle.party_tables.specs.declared.exchange.Kind.TheVariants as kind
 use Rattle.party_tables.specs.declared.exchange.Exchange.{Exchange}
@@ -15,12 +15,12 @@ use Rattle.party_state.specs.State.{Party, centre_label, link_with, record_with,
 use Rattle.party_tables.proofs.Keys.{test_records}
 use Rattle.party_tables.proofs.Tables.{find_key}
 use Rattle.role_base.specs.declared.exchanges.Sent.{Sent}
-use Rattle.bank_arrivals.specs.declared.error_message.Subject.{Subject}
-use Rattle.bank_arrivals.specs.declared.error_message.Subject.TheVariants.{SentKey, SentTwins, Translated}
+use Rattle.bank_arrivals.specs.declared.error_message.ErrorSubject.{ErrorSubject}
+use Rattle.bank_arrivals.specs.declared.error_message.ErrorSubject.TheVariants.{SentKey, SentTwins, Translated}
 use Rattle.role_base.specs.declared.exchanges.Twins.{Twins}
 use Rattle.party_tables.specs.Names.{name_behind}
 use Rattle.role_base.specs.Exchanges.{record_of, both_of, sent_by, sent_in, sent_to, new_link, new_label, new_link_at}
-use Rattle.bank_arrivals.specs.Esm.{subject_by, subject_in, subject_with, way_link, subject_link, is_renewed}
+use Rattle.bank_arrivals.specs.Esm.{subject_by, subject_in, subject_with, via_link, subject_link, is_renewed}
 use Rattle.world_laws.proofs.Links.Found.{LinkAt, link_at}
 
 -- a record stands under its key
@@ -39,21 +39,21 @@ pub record SentAt (p : Party) (peer : List ℕ) (s : Sent) : Type 0 where
   pub exchange : Exchange
   pub at : exchange_with peer p ≡ Some exchange
   pub name : KeyName
-  pub kind_is : exchange.kind ≡ kind.KeySent name s.way
+  pub kind_is : exchange.kind ≡ kind.KeySent name s.via
   pub key : RecordAt p peer name s.key
 
 pub sent_at : (p : Party) (peer : List ℕ) (s : Sent) → sent_to p peer ≡ Some s → SentAt p peer s
 sent_at p peer s h = by_exchange (exchange_with peer p) refl h
   where
-    by_record : (e : Exchange) (name : KeyName) (way : Via) → exchange_with peer p ≡ Some e → e.kind ≡ kind.KeySent name way → (o : Option KeyRec) → record_of p peer name ≡ o → option_map (λ (k : KeyRec). let t : Sent = record { key = k; way = way } in t) o ≡ Some s → SentAt p peer s
-    by_record e name way at k None f h = absurd (cc)
-    by_record e name way at k (Some r) f h =
-        let t : Sent = record { key = r; way = way } in
+    by_record : (e : Exchange) (name : KeyName) (via : Via) → exchange_with peer p ≡ Some e → e.kind ≡ kind.KeySent name via → (o : Option KeyRec) → record_of p peer name ≡ o → option_map (λ (k : KeyRec). let t : Sent = record { key = k; via = via } in t) o ≡ Some s → SentAt p peer s
+    by_record e name via at k None f h = absurd (cc)
+    by_record e name via at k (Some r) f h =
+        let t : Sent = record { key = r; via = via } in
         let is : t ≡ s = cc in
         subst (SentAt p peer) is (record { exchange = e; at = at; name = name; kind_is = k; key = record_at p peer name r f })
 
     by_kind : (e : Exchange) → exchange_with peer p ≡ Some e → (k : Kind) → e.kind ≡ k → sent_by p peer k ≡ Some s → SentAt p peer s
-    by_kind e at (kind.KeySent name way) k h = by_record e name way at k (record_of p peer name) refl h
+    by_kind e at (kind.KeySent name via) k h = by_record e name via at k (record_of p peer name) refl h
     by_kind e at (kind.Asked ultimate) k h = absurd (cc)
     by_kind e at (kind.Translating ultimate value cta) k h = absurd (cc)
     by_kind e at (kind.Ending name) k h = absurd (cc)
@@ -76,7 +76,7 @@ subject_sent p peer s h = by_exchange (exchange_with peer p) h
     by_twins (Some t) h = absurd (cc)
 
     by_kind : (k : Kind) → subject_by p peer k ≡ Some (SentKey s) → sent_by p peer k ≡ Some s
-    by_kind (kind.KeySent name way) h = by_option (sent_by p peer (kind.KeySent name way)) h
+    by_kind (kind.KeySent name via) h = by_option (sent_by p peer (kind.KeySent name via)) h
     by_kind (kind.Asked ultimate) h = absurd (cc)
     by_kind (kind.Translating ultimate value cta) h = absurd (cc)
     by_kind (kind.Ending name) h = absurd (cc)
@@ -87,24 +87,24 @@ subject_sent p peer s h = by_exchange (exchange_with peer p) h
     by_exchange (Some e) h = by_kind e.kind h
 
 -- the link of a new key-encrypting key is one with the peer
-pub new_peer : (p : Party) (peer : List ℕ) (way : Via) (l : LinkRec) → new_link p peer way ≡ Some l → l.peer ≡ peer
-new_peer p peer way l h = by_label (new_label way) h
+pub new_peer : (p : Party) (peer : List ℕ) (via : Via) (l : LinkRec) → new_link p peer via ≡ Some l → l.peer ≡ peer
+new_peer p peer via l h = by_label (new_label via) h
   where
     by_label : (o : Option (List ℕ)) → new_link_at p peer o ≡ Some l → l.peer ≡ peer
     by_label None h = absurd (cc)
     by_label (Some label) h = (let at : LinkAt p (sends peer label) l = link_at p (sends peer label) l h in ap (λ (k : LinkKey). k.peer) at.key)
 
 -- the link whose count an error message tells
-pub subject_link_at : (p : Party) (peer : List ℕ) (s : Subject) (l : LinkRec) → subject_link p peer s ≡ Some l → link_with (link_key l) p ≡ Some l
-subject_link_at p peer (SentKey s) l h = by_way s.way h
+pub subject_link_at : (p : Party) (peer : List ℕ) (s : ErrorSubject) (l : LinkRec) → subject_link p peer s ≡ Some l → link_with (link_key l) p ≡ Some l
+subject_link_at p peer (SentKey s) l h = by_via s.via h
   where
     by_new : (label : List ℕ) (b : Bool) → cond b None (link_with (sends peer label) p) ≡ Some l → link_with (link_key l) p ≡ Some l
     by_new label true h = absurd (cc)
     by_new label false h = (let at : LinkAt p (sends peer label) l = link_at p (sends peer label) l h in rw at.key h)
 
-    by_way : (w : Via) → way_link p peer w ≡ Some l → link_with (link_key l) p ≡ Some l
-    by_way (via.Direct label new) h = by_new label (is_renewed label new) h
-    by_way (via.Distribution centre cta) h = absurd (cc)
-    by_way (via.Translation centre) h = absurd (cc)
+    by_via : (w : Via) → via_link p peer w ≡ Some l → link_with (link_key l) p ≡ Some l
+    by_via (vias.Direct label new) h = by_new label (is_renewed label new) h
+    by_via (vias.Distribution centre cta) h = absurd (cc)
+    by_via (vias.Translation centre) h = absurd (cc)
 subject_link_at p peer (SentTwins t) l h = (let at : LinkAt p (sends peer t.first.name.label) l = link_at p (sends peer t.first.name.label) l h in rw at.key h)
 subject_link_at p peer (Translated value cta) l h = (let at : LinkAt p (sends peer centre_label) l = link_at p (sends peer centre_label) l h in rw at.key h)

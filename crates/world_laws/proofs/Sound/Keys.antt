@@ -28,7 +28,7 @@ use Rattle.party_state.specs.Rows.{OfKsm}
 use Rattle.party_tables.proofs.Keys.{test_links}
 use Rattle.party_tables.proofs.Tables.{one_found, find_put_same, absent_put, found_put}
 use Rattle.party_state.proofs.Verdicts.{held}
-use Rattle.csm_grammar.specs.Arrivals.{authenticated}
+use Rattle.csm_grammar.specs.Arrivals.{authenticated_text}
 use Rattle.world_laws.proofs.Links.Growth.{LinkGrows, PartyGrows, AllFine, next_up, change_grows}
 use Rattle.world_laws.proofs.Links.Taking.{grown_takes}
 use Rattle.world_laws.proofs.Links.Found.{HasLinks, LinkAt}
@@ -141,7 +141,7 @@ module _ (p : Party) (a : Arrival) (m : Ksm) (b : KsmBody) (l : LinkRec) (d : Ha
   pub key_up : link_with (takes (body_name p m.originator b l).name.issuer (body_name p m.originator b l).name.label) (apply (body_edits p m b l) p) ≡ Some (record l { next = body_next b })
   key_up = subst (λ (k : LinkKey). link_with k (apply (body_edits p m b l) p) ≡ Some (record l { next = body_next b })) at.key (taken_up p m.originator l (body_count b) (body_next b) (body_new b) (body_record p m b l) (body_second p m b l) key_at_key key_absent)
 
-  module _ (said : Says (authenticated a) (message.Ksm m)) where
+  module _ (said : Says (authenticated_text a) (message.Ksm m)) where
     goes_on : (k : LinkRec) × (body_link (apply (body_edits p m b l) p) m.originator b ≡ Some k) × LinkGrows l k
     goes_on = ksm_link_grows p (apply (body_edits p m b l) p) m.originator b l (grown_takes (new_key m.originator (body_new b)) p (apply (body_edits p m b l) p) grown) found
 
@@ -152,7 +152,7 @@ module _ (p : Party) (a : Arrival) (m : Ksm) (b : KsmBody) (l : LinkRec) (d : Ha
         let same : link_with (takes (body_name p m.originator b l).name.issuer (body_name p m.originator b l).name.label) (apply (body_edits p m b l) p) ≡ Some goes_on.0 = subst (λ (z : FullName). link_with (takes z.name.issuer z.name.label) (apply (body_edits p m b l) p) ≡ Some goes_on.0) (sym name) again in
         ap (λ (k : LinkRec). k.next) (one_found (record l { next = body_next b }) goes_on.0 key_up same)
 
-    fine : KsmFine p (apply (body_edits p m b l) p) (authenticated a) (record { class = OfKsm; names = key_names (body_name p m.originator b l) (body_twin b) })
+    fine : KsmFine p (apply (body_edits p m b l) p) (authenticated_text a) (record { class = OfKsm; names = key_names (body_name p m.originator b l) (body_twin b) })
     fine =
         let count : ksm_count m ≡ body_count b = ap body_count is in
         let next : ksm_next m ≡ body_next b = ap body_next is in
@@ -168,7 +168,7 @@ module _ (p : Party) (a : Arrival) (m : Ksm) (b : KsmBody) (l : LinkRec) (d : Ha
           past = omega (arith, next_is, next);
         }
 
-    pub key_sound : IsSound (new_key m.originator (body_new b)) p (authenticated a) (key_row p a m b (Some l))
+    pub key_sound : IsSound (new_key m.originator (body_new b)) p (authenticated_text a) (key_row p a m b (Some l))
     key_sound = record {
       made = λ k e side. absurd (new_takes m.originator (body_new b) k e side);
       free = λ k e side. absurd (new_takes m.originator (body_new b) k e side);
@@ -179,6 +179,6 @@ module _ (p : Party) (a : Arrival) (m : Ksm) (b : KsmBody) (l : LinkRec) (d : Ha
       accepts = λ class. fine;
     }
 
-pub key_row_sound : (p : Party) (a : Arrival) (m : Ksm) (b : KsmBody) (o : Option LinkRec) → HasLinks p → Says (authenticated a) (message.Ksm m) → m.body ≡ b → body_link p m.originator b ≡ o → is_accept (key_row p a m b o).verdict ≡ true → SoundRow p (authenticated a) (key_row p a m b o)
-key_row_sound p a m b None d said is found h = record { new = None; sound = refused_sound p (authenticated a) (verdict_of (body_front p m b None)) }
+pub key_row_sound : (p : Party) (a : Arrival) (m : Ksm) (b : KsmBody) (o : Option LinkRec) → HasLinks p → Says (authenticated_text a) (message.Ksm m) → m.body ≡ b → body_link p m.originator b ≡ o → is_accept (key_row p a m b o).verdict ≡ true → SoundRow p (authenticated_text a) (key_row p a m b o)
+key_row_sound p a m b None d said is found h = record { new = None; sound = refused_sound p (authenticated_text a) (verdict_of (body_front p m b None)) }
 key_row_sound p a m b (Some l) d said is found h = record { new = new_key m.originator (body_new b); sound = key_sound p a m b l d is found h said }

@@ -12,7 +12,7 @@ use Rattle.csm_grammar.specs.declared.message.Esm.{Esm}
 use Rattle.csm_grammar.specs.declared.message.Dsm.{Dsm}
 use Rattle.csm_grammar.specs.declared.message.Message.{Message}
 use Rattle.csm_grammar.specs.declared.message.Message.TheVariants as message
-use Rattle.csm_grammar.specs.Arrivals.{authenticated}
+use Rattle.csm_grammar.specs.Arrivals.{authenticated_text}
 use Rattle.csm_grammar.specs.Spelling.{Says}
 use Rattle.csm_read.proofs.Arrived.{arrival_says}
 use Rattle.party_tables.specs.declared.link.LinkKey.{LinkKey}
@@ -44,9 +44,9 @@ use Rattle.bank_orders.specs.GivingUp.{given_up, given_up_in, drop}
 use Rattle.bank_orders.specs.Orders.{command_row}
 use Rattle.bank_keys.specs.Ksm.{body_link}
 use Rattle.bank_arrivals.specs.declared.asking_again.Retry.{Retry}
-use Rattle.bank_arrivals.specs.declared.disconnection.Named.{Named}
-use Rattle.bank_arrivals.specs.declared.error_message.Subject.{Subject}
-use Rattle.bank_arrivals.specs.declared.error_message.Subject.TheVariants.{SentKey, SentTwins, Translated}
+use Rattle.bank_arrivals.specs.declared.disconnection.NamedKey.{NamedKey}
+use Rattle.bank_arrivals.specs.declared.error_message.ErrorSubject.{ErrorSubject}
+use Rattle.bank_arrivals.specs.declared.error_message.ErrorSubject.TheVariants.{SentKey, SentTwins, Translated}
 use Rattle.bank_arrivals.specs.AskingAgain.{asked_again, retry_in}
 use Rattle.bank_arrivals.specs.Rsm.{rsm_front, rsm_to, rsm_twins, rsm_by, rsm_with}
 use Rattle.bank_arrivals.specs.Esm.{subject_with, subject_link, subject_ended, raised, esm_front, plain_esm, error_row, error_of, error_with}
@@ -101,7 +101,7 @@ ended_touch None = tt
 ended_touch (Some k) = (tt, tt)
 
 given_up_touch : (p : Party) (peer : List ℕ) (k : Kind) → AllByRecursion TouchesSends (given_up p peer k)
-given_up_touch p peer (kind.KeySent name way) = touch_both (dropped (new_link p peer way)) (ended (record_of p peer name)) (dropped_touch (new_link p peer way) (new_sends p peer way)) (ended_touch (record_of p peer name))
+given_up_touch p peer (kind.KeySent name via) = touch_both (dropped (new_link p peer via)) (ended (record_of p peer name)) (dropped_touch (new_link p peer via) (new_sends p peer via)) (ended_touch (record_of p peer name))
 given_up_touch p peer (kind.Asked ultimate) = tt
 given_up_touch p peer (kind.Translating ultimate value cta) = tt
 given_up_touch p peer (kind.Ending name) = tt
@@ -124,21 +124,21 @@ command_takes p command.Purge moment i d h = sound_takes None p [] _ (purge_soun
 
 -- a response
 
-rsm_takes : (p : Party) (a : Arrival) (m : Rsm) (o : Option Sent) → TakesRow p (authenticated a) (rsm_to p a m o)
-rsm_takes p a m None = sound_takes None p (authenticated a) _ (refused_sound p (authenticated a) (verdict_of (rsm_front p m None)))
-rsm_takes p a m (Some s) = touching_takes p (authenticated a) (rsm_to p a m (Some s)) (by_link (new_link p m.originator s.way) (new_sends p m.originator s.way)) (λ k e class. absurd (cc))
+rsm_takes : (p : Party) (a : Arrival) (m : Rsm) (o : Option Sent) → TakesRow p (authenticated_text a) (rsm_to p a m o)
+rsm_takes p a m None = sound_takes None p (authenticated_text a) _ (refused_sound p (authenticated_text a) (verdict_of (rsm_front p m None)))
+rsm_takes p a m (Some s) = touching_takes p (authenticated_text a) (rsm_to p a m (Some s)) (by_link (new_link p m.originator s.via) (new_sends p m.originator s.via)) (λ k e class. absurd (cc))
   where
     by_link : (o : Option LinkRec) → ((l : LinkRec) → o ≡ Some l → l.side ≡ Sends) → AllByRecursion TouchesSends (readied o ++ PutKey (record s.key { status = Live }) ∷ DropExchange m.originator ∷ [])
     by_link None f = (tt, (tt, tt))
     by_link (Some l) f = (f l refl, (tt, (tt, tt)))
 
-rsm_row_takes : (p : Party) (a : Arrival) (m : Rsm) (o : Option KeyName) → TakesRow p (authenticated a) (rsm_with p a m o)
+rsm_row_takes : (p : Party) (a : Arrival) (m : Rsm) (o : Option KeyName) → TakesRow p (authenticated_text a) (rsm_with p a m o)
 rsm_row_takes p a m None = by_twins (twins_to p m.originator)
   where
-    by_twins : (t : Option Twins) → TakesRow p (authenticated a) (rsm_by p a m t)
+    by_twins : (t : Option Twins) → TakesRow p (authenticated_text a) (rsm_by p a m t)
     by_twins None = rsm_takes p a m (sent_to p m.originator)
-    by_twins (Some t) = touching_takes p (authenticated a) (rsm_twins p a m t) (tt, (tt, (tt, tt))) (λ k e class. absurd (cc))
-rsm_row_takes p a m (Some name) = sound_takes None p (authenticated a) _ (answer_sound p a m name (ending_with p m.originator))
+    by_twins (Some t) = touching_takes p (authenticated_text a) (rsm_twins p a m t) (tt, (tt, (tt, tt))) (λ k e class. absurd (cc))
+rsm_row_takes p a m (Some name) = sound_takes None p (authenticated_text a) _ (answer_sound p a m name (ending_with p m.originator))
 
 -- an error message
 
@@ -151,22 +151,22 @@ again_touch : (p : Party) (m : Esm) (value : ℕ) (t : Option Retry) → AllByRe
 again_touch p m value None = tt
 again_touch p m value (Some t) = (tt, tt)
 
-subject_touch : (p : Party) (peer : List ℕ) (s : Subject) → AllByRecursion TouchesSends (subject_ended p peer s)
-subject_touch p peer (SentKey s) = touch_both (dropped (new_link p peer s.way)) (PutKey (record s.key { status = Ended }) ∷ []) (dropped_touch (new_link p peer s.way) (new_sends p peer s.way)) (tt, tt)
+subject_touch : (p : Party) (peer : List ℕ) (s : ErrorSubject) → AllByRecursion TouchesSends (subject_ended p peer s)
+subject_touch p peer (SentKey s) = touch_both (dropped (new_link p peer s.via)) (PutKey (record s.key { status = Ended }) ∷ []) (dropped_touch (new_link p peer s.via) (new_sends p peer s.via)) (tt, tt)
 subject_touch p peer (SentTwins t) = (tt, (tt, tt))
 subject_touch p peer (Translated value cta) = tt
 
-gone_touch : (p : Party) (m : Esm) (s : Subject) (more : List Edit) → AllByRecursion TouchesSends more → AllByRecursion TouchesSends (subject_ended p m.originator s ++ DropExchange m.originator ∷ more)
+gone_touch : (p : Party) (m : Esm) (s : ErrorSubject) (more : List Edit) → AllByRecursion TouchesSends more → AllByRecursion TouchesSends (subject_ended p m.originator s ++ DropExchange m.originator ∷ more)
 gone_touch p m s more q = touch_both (subject_ended p m.originator s) (DropExchange m.originator ∷ more) (subject_touch p m.originator s) (tt, q)
 
-esm_takes : (p : Party) (a : Arrival) (m : Esm) (o : Option Subject) (again : Option Retry) → TakesRow p (authenticated a) (error_of p a m o again)
-esm_takes p a m None again = sound_takes None p (authenticated a) _ (refused_sound p (authenticated a) (verdict_of (esm_front p m None)))
-esm_takes p a m (Some s) again = keeping_takes p (authenticated a) (error_row p a m s again)
+esm_takes : (p : Party) (a : Arrival) (m : Esm) (o : Option ErrorSubject) (again : Option Retry) → TakesRow p (authenticated_text a) (error_of p a m o again)
+esm_takes p a m None again = sound_takes None p (authenticated_text a) _ (refused_sound p (authenticated_text a) (verdict_of (esm_front p m None)))
+esm_takes p a m (Some s) again = keeping_takes p (authenticated_text a) (error_row p a m s again)
     (raised_keep p (subject_link p m.originator s) m.ctr _ (gone_touch p m s _ (again_touch p m _ again)) (λ l e. subject_link_at p m.originator s l e))
     (esm_no_ksm p s)
 
-error_takes : (p : Party) (a : Arrival) (m : Esm) (b : Bool) (again : Option Retry) → TakesRow p (authenticated a) (error_with p a m b again)
-error_takes p a m true again = sound_takes None p (authenticated a) _ (quiet_sound p (authenticated a) (plain_esm p a m) tt refl (λ k e. absurd (cc)))
+error_takes : (p : Party) (a : Arrival) (m : Esm) (b : Bool) (again : Option Retry) → TakesRow p (authenticated_text a) (error_with p a m b again)
+error_takes p a m true again = sound_takes None p (authenticated_text a) _ (quiet_sound p (authenticated_text a) (plain_esm p a m) tt refl (λ k e. absurd (cc)))
 error_takes p a m false again = esm_takes p a m (subject_with p m.originator) again
 
 -- the end of a key
@@ -176,10 +176,10 @@ abbrev PartsTouch : List Edit × List Edit → Type 0
 PartsTouch gone = AllByRecursion TouchesSends gone.0 × AllByRecursion TouchesSends gone.1
 
 left_touch : (p : Party) (peer : List ℕ) (name : KeyName) (k : Kind) → PartsTouch (left_by p peer name k)
-left_touch p peer name (kind.KeySent sent way) = by_name (same_name name sent)
+left_touch p peer name (kind.KeySent sent via) = by_name (same_name name sent)
   where
-    by_name : (b : Bool) → PartsTouch (cond b (dropped (new_link p peer way), DropExchange peer ∷ []) ([], []))
-    by_name true = (dropped_touch (new_link p peer way) (new_sends p peer way), (tt, tt))
+    by_name : (b : Bool) → PartsTouch (cond b (dropped (new_link p peer via), DropExchange peer ∷ []) ([], []))
+    by_name true = (dropped_touch (new_link p peer via) (new_sends p peer via), (tt, tt))
     by_name false = (tt, tt)
 left_touch p peer name (kind.Ending ending) = by_name (same_name name ending)
   where
@@ -199,9 +199,9 @@ left_in_touch : (p : Party) (peer : List ℕ) (name : KeyName) (o : Option Excha
 left_in_touch p peer name None = (tt, tt)
 left_in_touch p peer name (Some e) = left_touch p peer name e.kind
 
-dsm_takes : (p : Party) (a : Arrival) (m : Dsm) (o : Option Named) → TakesRow p (authenticated a) (dsm_on p a m o)
-dsm_takes p a m None = sound_takes None p (authenticated a) _ (refused_sound p (authenticated a) (verdict_of (dsm_front p m false)))
-dsm_takes p a m (Some n) = touching_takes p (authenticated a) (dsm_on p a m (Some n)) (by_status (is_ended n.key.status)) (λ k e class. absurd (cc))
+dsm_takes : (p : Party) (a : Arrival) (m : Dsm) (o : Option NamedKey) → TakesRow p (authenticated_text a) (dsm_on p a m o)
+dsm_takes p a m None = sound_takes None p (authenticated_text a) _ (refused_sound p (authenticated_text a) (verdict_of (dsm_front p m false)))
+dsm_takes p a m (Some n) = touching_takes p (authenticated_text a) (dsm_on p a m (Some n)) (by_status (is_ended n.key.status)) (λ k e class. absurd (cc))
   where
     by_status : (b : Bool) → AllByRecursion TouchesSends (cond b [] ((left_in p m.originator n.key.name (exchange_with m.originator p)).0 ++ (PutKey (record n.key { status = Ended }) ∷ (left_in p m.originator n.key.name (exchange_with m.originator p)).1)))
     by_status true = tt
@@ -209,13 +209,13 @@ dsm_takes p a m (Some n) = touching_takes p (authenticated a) (dsm_on p a m (Som
         let t = left_in_touch p m.originator n.key.name (exchange_with m.originator p) in
         touch_both (left_in p m.originator n.key.name (exchange_with m.originator p)).0 (PutKey (record n.key { status = Ended }) ∷ (left_in p m.originator n.key.name (exchange_with m.originator p)).1) t.0 (tt, t.1)
 
-message_takes : (p : Party) (a : Arrival) (m : Message) (moment : ℕ) → HasLinks p → Says (authenticated a) m → is_accept (message_row p a m moment).verdict ≡ true → TakesRow p (authenticated a) (message_row p a m moment)
-message_takes p a (message.Rsi m) moment d said h = sound_takes None p (authenticated a) _ (rsi_sound p a m moment (first_link m.originator Sends p) d refl)
-message_takes p a (message.Rfs m) moment d said h = sound_takes None p (authenticated a) _ (refused_sound p (authenticated a) _)
-message_takes p a (message.Rtr m) moment d said h = sound_takes None p (authenticated a) _ (rtr_sound p a m m.kd h)
-message_takes p a (message.Ksm m) moment d said h = some_takes p (authenticated a) _ (key_row_sound p a m m.body (body_link p m.originator m.body) d said refl refl h)
+message_takes : (p : Party) (a : Arrival) (m : Message) (moment : ℕ) → HasLinks p → Says (authenticated_text a) m → is_accept (message_row p a m moment).verdict ≡ true → TakesRow p (authenticated_text a) (message_row p a m moment)
+message_takes p a (message.Rsi m) moment d said h = sound_takes None p (authenticated_text a) _ (rsi_sound p a m moment (first_link m.originator Sends p) d refl)
+message_takes p a (message.Rfs m) moment d said h = sound_takes None p (authenticated_text a) _ (refused_sound p (authenticated_text a) _)
+message_takes p a (message.Rtr m) moment d said h = sound_takes None p (authenticated_text a) _ (rtr_sound p a m m.kd h)
+message_takes p a (message.Ksm m) moment d said h = some_takes p (authenticated_text a) _ (key_row_sound p a m m.body (body_link p m.originator m.body) d said refl refl h)
 message_takes p a (message.Rsm m) moment d said h = rsm_row_takes p a m m.idd
-message_takes p a (message.Ers m) moment d said h = sound_takes None p (authenticated a) _ (refused_sound p (authenticated a) _)
+message_takes p a (message.Ers m) moment d said h = sound_takes None p (authenticated_text a) _ (refused_sound p (authenticated_text a) _)
 message_takes p a (message.Esm m) moment d said h = error_takes p a m (is_plain a.parsed.shut) (retry_in p (subject_with p m.originator) m.ctr)
 message_takes p a (message.Dsm m) moment d said h = dsm_takes p a m (named_by p m)
 
@@ -223,9 +223,9 @@ role_takes : (r : Role) (p : Party) (i : Input) (moment : ℕ) → IsInput i →
 role_takes Bank p (input.Ordered c) moment e d h = command_takes p c moment e d h
 role_takes Bank p (input.Arrived a) moment e d h = message_takes p a a.parsed.message moment d (arrival_says a) h
 role_takes Distribution p (input.Ordered c) moment e d h = sound_takes None p [] _ (centre_command_sound p c e)
-role_takes Distribution p (input.Arrived a) moment e d h = sound_takes None p (authenticated a) _ (distribution_sound p a a.parsed.message moment h)
+role_takes Distribution p (input.Arrived a) moment e d h = sound_takes None p (authenticated_text a) _ (distribution_sound p a a.parsed.message moment h)
 role_takes Translation p (input.Ordered c) moment e d h = sound_takes None p [] _ (centre_command_sound p c e)
-role_takes Translation p (input.Arrived a) moment e d h = sound_takes None p (authenticated a) _ (translation_sound p a a.parsed.message h)
+role_takes Translation p (input.Arrived a) moment e d h = sound_takes None p (authenticated_text a) _ (translation_sound p a a.parsed.message h)
 
 -- of the party that the edits that differ give
 pub record TakesMove (s t : Party) (text : List ℕ) (r : Row) : Type 0 where

@@ -21,7 +21,7 @@ use Rattle.bank_arrivals.specs.AskingAgain.{retry_in}
 use Rattle.bank_arrivals.specs.declared.asking_again.Retry.{Retry}
 use Rattle.bank_keys.specs.Ksm.{body_link}
 use Rattle.bank_orders.specs.StartKk.{kk_sending, start_kk_under}
-use Rattle.bank_keys.specs.declared.waits.Waiting.{Waiting}
+use Rattle.bank_keys.specs.declared.waits.KeyAtCentre.{KeyAtCentre}
 use Rattle.bank_keys.specs.Waiting.{waiting_with}
 use Rattle.bank_arrivals.specs.Dsm.{named_by, dsm_on}
 use Rattle.bank_orders.specs.Ending.{end_record}
@@ -30,9 +30,9 @@ use Rattle.role_base.specs.Exchanges.{record_of, sent_to, ending_with}
 use Rattle.bank_arrivals.specs.Rsm.{rsm_to, answer_to, rsm_with}
 use Rattle.role_base.specs.Sending.{sending_drawn}
 use Rattle.bank_orders.specs.Start.{start_tests, start_under}
-use Rattle.csm_grammar.specs.Arrivals.{authenticated}
-use Rattle.bank_arrivals.specs.declared.disconnection.Named.{Named}
-use Rattle.bank_arrivals.specs.declared.error_message.Subject.{Subject}
+use Rattle.csm_grammar.specs.Arrivals.{authenticated_text}
+use Rattle.bank_arrivals.specs.declared.disconnection.NamedKey.{NamedKey}
+use Rattle.bank_arrivals.specs.declared.error_message.ErrorSubject.{ErrorSubject}
 use Rattle.role_base.specs.declared.exchanges.Sent.{Sent}
 use Rattle.csm_grammar.specs.Spelling.{Says}
 use Rattle.csm_grammar.specs.declared.arrival.Arrival.{Arrival}
@@ -148,7 +148,7 @@ module _ (p : Party) (i : IsNamed p) where
       go (Some l) = refl
   rtr_none a m None = go (waiting_with p m.originator)
     where
-      go : (o : Option Waiting) → (translated p a m o).answer ≡ None
+      go : (o : Option KeyAtCentre) → (translated p a m o).answer ≡ None
       go None = refl
       go (Some t) = refl
 
@@ -172,15 +172,15 @@ module _ (p : Party) (i : IsNamed p) where
   esm_none a m true again = refl
   esm_none a m false again = go (subject_with p m.originator)
     where
-      go : (o : Option Subject) → (error_of p a m o again).answer ≡ None
+      go : (o : Option ErrorSubject) → (error_of p a m o again).answer ≡ None
       go None = refl
       go (Some s) = refl
 
-  dsm_none : (a : Arrival) (m : Dsm) (o : Option Named) → (dsm_on p a m o).answer ≡ None
+  dsm_none : (a : Arrival) (m : Dsm) (o : Option NamedKey) → (dsm_on p a m o).answer ≡ None
   dsm_none a m None = refl
   dsm_none a m (Some n) = refl
 
-  bank_tells : (a : Arrival) (m : Message) (moment : ℕ) → HasLinks p → Says (authenticated a) m → TellsEsm (message_row p a m moment).answer
+  bank_tells : (a : Arrival) (m : Message) (moment : ℕ) → HasLinks p → Says (authenticated_text a) m → TellsEsm (message_row p a m moment).answer
   bank_tells a (message.Rsi m) moment d said = none_tells (message_row p a (message.Rsi m) moment).answer (rsi_none a m moment (first_link m.originator Sends p))
   bank_tells a (message.Rfs m) moment d said = tt
   bank_tells a (message.Rtr m) moment d said = none_tells (message_row p a (message.Rtr m) moment).answer (rtr_none a m m.kd)
@@ -219,7 +219,7 @@ module _ (p : Party) (i : IsNamed p) where
   distribution_tells a (message.Esm m) moment = tt
   distribution_tells a (message.Dsm m) moment = tt
 
-  translation_tells : (a : Arrival) (m : Message) → Says (authenticated a) m → TellsEsm (translation_message p a m).answer
+  translation_tells : (a : Arrival) (m : Message) → Says (authenticated_text a) m → TellsEsm (translation_message p a m).answer
   translation_tells a (message.Rsi m) said = tt
   translation_tells a (message.Rfs m) said = rfs_tells p i a m (link_with (takes m.originator centre_label) p) (link_with (sends m.ultimate centre_label) p) said refl
   translation_tells a (message.Rtr m) said = tt

@@ -8,7 +8,7 @@ use Rattle.distribution_role.specs.Requests.{rsi_tests as centre_tests, rsi_betw
 use Rattle.distribution_role.specs.Recovery.{ers_tests, ers_between}
 use Rattle.distribution_role.specs.Answering.{answering}
 use Rattle.translation_role.specs.Service.{rfs_tests, rfs_between}
-use Rattle.csm_grammar.specs.Arrivals.{authenticated}
+use Rattle.csm_grammar.specs.Arrivals.{authenticated_text}
 use Rattle.csm_grammar.specs.Spelling.{Says}
 use Rattle.csm_grammar.specs.declared.arrival.Arrival.{Arrival}
 use Rattle.csm_grammar.specs.declared.message.Ers.{Ers}
@@ -72,7 +72,7 @@ module _ (p : Party) (i : IsNamed p) where
           let nb : LinkNamed b = linked p i (sends u centre_label) b eb in
           answering_speaks m.originator u (centre_tests p a m u l b) l b d (peer_named (sends m.originator centre_label) l ea) (peer_named (sends u centre_label) b eb) na nb (count_of l na.next both.0) (count_of b nb.next both.1)
 
-  pub ers_speaks : (a : Arrival) (m : Ers) (o : Option Answer) (fa fb : Option LinkRec) (d : Option (ℕ × Gen)) → Says (authenticated a) (message.Ers m) → link_with (sends m.originator centre_label) p ≡ fa → link_with (sends m.ultimate centre_label) p ≡ fb → is_accept (ers_between p a m o fa fb d).verdict ≡ true → Speaks (ers_between p a m o fa fb d)
+  pub ers_speaks : (a : Arrival) (m : Ers) (o : Option Answer) (fa fb : Option LinkRec) (d : Option (ℕ × Gen)) → Says (authenticated_text a) (message.Ers m) → link_with (sends m.originator centre_label) p ≡ fa → link_with (sends m.ultimate centre_label) p ≡ fb → is_accept (ers_between p a m o fa fb d).verdict ≡ true → Speaks (ers_between p a m o fa fb d)
   ers_speaks a m None fa fb d said ea eb h = record { names = tt; reply = tt }
   ers_speaks a m (Some t) None fb d said ea eb h = record { names = tt; reply = tt }
   ers_speaks a m (Some t) (Some l) None d said ea eb h = record { names = tt; reply = tt }
@@ -82,11 +82,11 @@ module _ (p : Party) (i : IsNamed p) where
       let na : LinkNamed l = linked p i (sends m.originator centre_label) l ea in
       let nb : LinkNamed b = linked p i (sends m.ultimate centre_label) b eb in
       let cb : IsCount b.next = count_of b nb.next both.1 in
-      let ctr : IsCount m.ctr = ers_ctr (authenticated a) m said in
+      let ctr : IsCount m.ctr = ers_ctr (authenticated_text a) m said in
       let cm : IsCount (max b.next m.ctr) = record { low = omega (arith, cb.low); high = omega (arith, cb.high, ctr.high) } in
       answering_speaks m.originator m.ultimate (ers_tests p a m t l b) l (record b { next = max b.next m.ctr }) d (peer_named (sends m.originator centre_label) l ea) (peer_named (sends m.ultimate centre_label) b eb) na (up_named p i b (max b.next m.ctr) nb (record { low = omega (arith, cm.low); high = omega (arith, cm.high) })) (count_of l na.next both.0) cm
 
-  pub rfs_speaks : (a : Arrival) (m : Rfs) (fa fb : Option LinkRec) → Says (authenticated a) (message.Rfs m) → link_with (takes m.originator centre_label) p ≡ fa → link_with (sends m.ultimate centre_label) p ≡ fb → is_accept (rfs_between p a m fa fb).verdict ≡ true → Speaks (rfs_between p a m fa fb)
+  pub rfs_speaks : (a : Arrival) (m : Rfs) (fa fb : Option LinkRec) → Says (authenticated_text a) (message.Rfs m) → link_with (takes m.originator centre_label) p ≡ fa → link_with (sends m.ultimate centre_label) p ≡ fb → is_accept (rfs_between p a m fa fb).verdict ≡ true → Speaks (rfs_between p a m fa fb)
   rfs_speaks a m None fb said ea eb h = record { names = tt; reply = tt }
   rfs_speaks a m (Some l) None said ea eb h = record { names = tt; reply = tt }
   rfs_speaks a m (Some l) (Some b) said ea eb h =
@@ -94,9 +94,9 @@ module _ (p : Party) (i : IsNamed p) where
       let na : LinkNamed l = linked p i (takes m.originator centre_label) l ea in
       let nb : LinkNamed b = linked p i (sends m.ultimate centre_label) b eb in
       let cb : IsCount b.next = count_of b nb.next t.1.1.1.1.1.1.1.0 in
-      record { names = (up_named p i l (m.cta + 1) na (next_after m.cta (rfs_cta (authenticated a) m said)), (up_named p i b (b.next + 1) nb (next_after b.next cb), tt)); reply = translated_own p m l b i.own (peer_named (takes m.originator centre_label) l ea) (peer_named (sends m.ultimate centre_label) b eb) cb }
+      record { names = (up_named p i l (m.cta + 1) na (next_after m.cta (rfs_cta (authenticated_text a) m said)), (up_named p i b (b.next + 1) nb (next_after b.next cb), tt)); reply = translated_own p m l b i.own (peer_named (takes m.originator centre_label) l ea) (peer_named (sends m.ultimate centre_label) b eb) cb }
 
-  pub distribution_speaks : (a : Arrival) (m : Message) (moment : ℕ) → Says (authenticated a) m → is_accept (distribution_message p a m moment).verdict ≡ true → Speaks (distribution_message p a m moment)
+  pub distribution_speaks : (a : Arrival) (m : Message) (moment : ℕ) → Says (authenticated_text a) m → is_accept (distribution_message p a m moment).verdict ≡ true → Speaks (distribution_message p a m moment)
   distribution_speaks a (message.Rsi m) moment said h = centre_rsi_speaks a m m.ultimate moment h
   distribution_speaks a (message.Rfs m) moment said h = record { names = tt; reply = tt }
   distribution_speaks a (message.Rtr m) moment said h = record { names = tt; reply = tt }
@@ -106,7 +106,7 @@ module _ (p : Party) (i : IsNamed p) where
   distribution_speaks a (message.Esm m) moment said h = record { names = tt; reply = tt }
   distribution_speaks a (message.Dsm m) moment said h = record { names = tt; reply = tt }
 
-  pub translation_speaks : (a : Arrival) (m : Message) → Says (authenticated a) m → is_accept (translation_message p a m).verdict ≡ true → Speaks (translation_message p a m)
+  pub translation_speaks : (a : Arrival) (m : Message) → Says (authenticated_text a) m → is_accept (translation_message p a m).verdict ≡ true → Speaks (translation_message p a m)
   translation_speaks a (message.Rsi m) said h = record { names = tt; reply = tt }
   translation_speaks a (message.Rfs m) said h = rfs_speaks a m (link_with (takes m.originator centre_label) p) (link_with (sends m.ultimate centre_label) p) said refl refl h
   translation_speaks a (message.Rtr m) said h = record { names = tt; reply = tt }

@@ -154,7 +154,7 @@ module _ (p : Party) (i : IsNamed p) where
       by_records name (Some j) (Some k) e f = (again_named j Ended (at_record peer name j e), (again_named k Ended (at_record peer (name_behind name) k f), (tt, tt)))
 
       by_kind : (k : Kind) → AllByRecursion NamesFine (given_up p peer k ++ DropExchange peer ∷ [])
-      by_kind (kind.KeySent name way) = by_record (new_link p peer way) name (record_of p peer name) refl
+      by_kind (kind.KeySent name via) = by_record (new_link p peer via) name (record_of p peer name) refl
       by_kind (kind.Asked ultimate) = (tt, tt)
       by_kind (kind.Translating ultimate value cta) = (tt, tt)
       by_kind (kind.Ending name) = (tt, tt)

@@ -7,7 +7,7 @@ use Rattle.csm_grammar.specs.declared.message.KsmBody.TheVariants as body
 use Rattle.csm_grammar.specs.declared.message.Message.TheVariants as message
 use Rattle.bank_keys.specs.Ksm.{body_count, body_new, body_link, body_name, body_tests, key_row}
 use Rattle.translation_role.specs.Service.{rfs_value, rfs_under, rfs_tests, rfs_between}
-use Rattle.csm_grammar.specs.Arrivals.{authenticated}
+use Rattle.csm_grammar.specs.Arrivals.{authenticated_text}
 use Rattle.csm_grammar.specs.Spelling.{Says}
 use Rattle.csm_grammar.specs.declared.arrival.Arrival.{Arrival}
 use Rattle.csm_grammar.specs.declared.message.Esm.{Esm}
@@ -47,22 +47,22 @@ module _ (p : Party) (i : IsNamed p) where
       is_esm (body.Centre centre kdu ctb) = (_, refl)
       is_esm (body.Twin idk2 first second ctp) = (_, refl)
 
-  pub key_tells : (a : Arrival) (m : Ksm) (b : KsmBody) (o : Option LinkRec) → HasLinks p → m.body ≡ b → body_link p m.originator b ≡ o → Says (authenticated a) (message.Ksm m) → TellsEsm (key_row p a m b o).answer
+  pub key_tells : (a : Arrival) (m : Ksm) (b : KsmBody) (o : Option LinkRec) → HasLinks p → m.body ≡ b → body_link p m.originator b ≡ o → Says (authenticated_text a) (message.Ksm m) → TellsEsm (key_row p a m b o).answer
   key_tells a m b None d is found said = tt
   key_tells a m b (Some l) d is found said =
       let at : link_with (takes (body_name p m.originator b l).name.issuer (body_name p m.originator b l).name.label) p ≡ Some l = name_link p m.originator b l d found in
       let named : LinkNamed l = linked p i (takes (body_name p m.originator b l).name.issuer (body_name p m.originator b l).name.label) l at in
       let told : TellsCount (verdict_of (body_tests p a m b l)) = told_by (body_tests p a m b l) (λ e. tt, (λ e. tt, (λ e. tt, (λ e. tt, tells_after (count_tests l (body_count b)) (new_tests p m.originator l (body_count b) (body_new b) ++ (have_room p (record_key (body_record p m b l)) (body_second p m b l), verdict.KeysFull) ∷ []) (counts_told l (body_count b) named.next) (tells_after (new_tests p m.originator l (body_count b) (body_new b)) ((have_room p (record_key (body_record p m b l)) (body_second p m b l), verdict.KeysFull) ∷ []) (new_told p m.originator l (body_count b) (body_new b)) (λ e. tt, tt)))))) in
-      error_tells m.originator b (body_name p m.originator b l) (body_code l.pair m.originator p.own b) (expected_count (verdict_of (body_tests p a m b l))) (error_letter (verdict_of (body_tests p a m b l))) (ksm_org (authenticated a) m said) (body_counts (authenticated a) m b is said) (told_count (verdict_of (body_tests p a m b l)) told) (letter_is (verdict_of (body_tests p a m b l)))
+      error_tells m.originator b (body_name p m.originator b l) (body_code l.pair m.originator p.own b) (expected_count (verdict_of (body_tests p a m b l))) (error_letter (verdict_of (body_tests p a m b l))) (ksm_org (authenticated_text a) m said) (body_counts (authenticated_text a) m b is said) (told_count (verdict_of (body_tests p a m b l)) told) (letter_is (verdict_of (body_tests p a m b l)))
 
   rfs_error_tells : (m : Rfs) (under : FullName) (value : ℕ) (ctr : Option ℕ) (o : Option (List ℕ)) → IsIdent m.originator → IsCount m.cta → IfSome ctr IsCount → IfSome o IsLetter → TellsEsm (coded_under under value (option_map (λ erf. rfs_message p m erf ctr) o))
   rfs_error_tells m under value ctr None peer count told letter = tt
   rfs_error_tells m under value ctr (Some erf) peer count told letter = (_, refl, rfs_error_own p m erf ctr i.own peer count letter told)
 
-  pub rfs_tells : (a : Arrival) (m : Rfs) (fa fb : Option LinkRec) → Says (authenticated a) (message.Rfs m) → link_with (takes m.originator centre_label) p ≡ fa → TellsEsm (rfs_between p a m fa fb).answer
+  pub rfs_tells : (a : Arrival) (m : Rfs) (fa fb : Option LinkRec) → Says (authenticated_text a) (message.Rfs m) → link_with (takes m.originator centre_label) p ≡ fa → TellsEsm (rfs_between p a m fa fb).answer
   rfs_tells a m None fb said ea = tt
   rfs_tells a m (Some l) None said ea = tt
   rfs_tells a m (Some l) (Some b) said ea =
       let named : LinkNamed l = linked p i (takes m.originator centre_label) l ea in
       let told : TellsCount (verdict_of (rfs_tests p a m l b)) = told_by (rfs_tests p a m l b) (λ e. tt, (λ e. tt, (λ e. tt, (λ e. tt, (λ e. tt, tells_after (count_tests l m.cta) ((has_count b, verdict.CountSpent) ∷ []) (counts_told l m.cta named.next) (λ e. tt, tt)))))) in
-      rfs_error_tells m (rfs_under p m) (rfs_value m l) (expected_count (verdict_of (rfs_tests p a m l b))) (error_letter (verdict_of (rfs_tests p a m l b))) (rfs_org (authenticated a) m said) (rfs_cta (authenticated a) m said) (told_count (verdict_of (rfs_tests p a m l b)) told) (letter_is (verdict_of (rfs_tests p a m l b)))
+      rfs_error_tells m (rfs_under p m) (rfs_value m l) (expected_count (verdict_of (rfs_tests p a m l b))) (error_letter (verdict_of (rfs_tests p a m l b))) (rfs_org (authenticated_text a) m said) (rfs_cta (authenticated_text a) m said) (told_count (verdict_of (rfs_tests p a m l b)) told) (letter_is (verdict_of (rfs_tests p a m l b)))

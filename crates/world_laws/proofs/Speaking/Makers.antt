@@ -53,8 +53,8 @@ use Rattle.bank_arrivals.specs.Rsi.{rsi_tests as bank_rsi_tests, rsi_row as bank
 use Rattle.bank_arrivals.specs.Rsm.{rsm_to, answer_to, rsm_with}
 use Rattle.bank_arrivals.specs.Esm.{subject_with}
 use Rattle.bank_arrivals.specs.Dsm.{named_by, dsm_on}
-use Rattle.bank_arrivals.specs.declared.disconnection.Named.{Named}
-use Rattle.bank_arrivals.specs.declared.error_message.Subject.{Subject}
+use Rattle.bank_arrivals.specs.declared.disconnection.NamedKey.{NamedKey}
+use Rattle.bank_arrivals.specs.declared.error_message.ErrorSubject.{ErrorSubject}
 use Rattle.bank_keys.specs.Rtr.{brought, translated, rtr_with}
 use Rattle.bank_orders.specs.Translate.{translate_drawn, translate_under}
 use Rattle.distribution_role.specs.Requests.{rsi_tests as centre_tests, rsi_between, rsi_for}
@@ -68,7 +68,7 @@ use Rattle.bank_arrivals.specs.declared.asking_again.Retry.{Retry}
 use Rattle.bank_keys.specs.Ksm.{body_link, body_name, body_tests, body_message, key_row}
 use Rattle.bank_orders.specs.StartKk.{kk_sending, start_kk_under}
 use Rattle.translation_role.specs.Service.{rfs_between, rfs_tests, rfs_under, rfs_value, rfs_message}
-use Rattle.bank_keys.specs.declared.waits.Waiting.{Waiting}
+use Rattle.bank_keys.specs.declared.waits.KeyAtCentre.{KeyAtCentre}
 use Rattle.bank_keys.specs.Waiting.{waiting_with}
 use Rattle.roles.specs.Rows.{row_by}
 use Rattle.bank_orders.specs.Orders.{command_row}
@@ -155,7 +155,7 @@ module _ (p : Party) where
       go (Some l) = record { reply = refl; answer = tt }
   rtr_self a m None = go (waiting_with p m.originator)
     where
-      go : (o : Option Waiting) → BySelf p.own (translated p a m o)
+      go : (o : Option KeyAtCentre) → BySelf p.own (translated p a m o)
       go None = record { reply = tt; answer = tt }
       go (Some t) = record { reply = refl; answer = tt }
 
@@ -193,12 +193,12 @@ module _ (p : Party) where
   esm_self a m true again = record { reply = tt; answer = tt }
   esm_self a m false again = go (subject_with p m.originator) again
     where
-      go : (o : Option Subject) (t : Option Retry) → BySelf p.own (error_of p a m o t)
+      go : (o : Option ErrorSubject) (t : Option Retry) → BySelf p.own (error_of p a m o t)
       go None t = record { reply = tt; answer = tt }
       go (Some s) None = record { reply = tt; answer = tt }
       go (Some s) (Some t) = record { reply = refl; answer = tt }
 
-  dsm_self : (a : Arrival) (m : Dsm) (o : Option Named) → BySelf p.own (dsm_on p a m o)
+  dsm_self : (a : Arrival) (m : Dsm) (o : Option NamedKey) → BySelf p.own (dsm_on p a m o)
   dsm_self a m None = record { reply = tt; answer = tt }
   dsm_self a m (Some n) = record { reply = refl; answer = tt }
 

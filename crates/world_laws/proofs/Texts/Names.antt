@@ -1,7 +1,7 @@
 -- What the names, labels and counts of a party's links and records are.
 use Rattle.std.proofs.Common.{ℕ, bytes_eq}
 use Rattle.party_tables.specs.declared.exchange.Via.{Via}
-use Rattle.party_tables.specs.declared.exchange.Via.TheVariants as via
+use Rattle.party_tables.specs.declared.exchange.Via.TheVariants as vias
 use Rattle.party_tables.specs.declared.exchange.Kind.{Kind}
 use Rattle.party_tables.specs.declared.exchange.Kind.TheVariants as kind
 use Rattle.party_tables.specs.declared.exchange.Exchange.{Exchange}
@@ -35,15 +35,15 @@ pub record RecordNamed (k : KeyRec) : Type 0 where
   pub name : IsKeyName k.name
 
 -- the centre of an exchange whose key came from one
-abbrev pub WayNamed : Via → Type 0
-WayNamed (via.Direct label new) = Unit {0}
-WayNamed (via.Distribution centre cta) = IsIdent centre
-WayNamed (via.Translation centre) = Unit {0}
+abbrev pub ViaNamed : Via → Type 0
+ViaNamed (vias.Direct label new) = Unit {0}
+ViaNamed (vias.Distribution centre cta) = IsIdent centre
+ViaNamed (vias.Translation centre) = Unit {0}
 
 abbrev pub KindNamed : Kind → Type 0
 KindNamed (kind.Asked ultimate) = Unit {0}
 KindNamed (kind.Translating ultimate value cta) = Unit {0}
-KindNamed (kind.KeySent name way) = WayNamed way
+KindNamed (kind.KeySent name via) = ViaNamed via
 KindNamed (kind.Ending name) = Unit {0}
 KindNamed (kind.PairSent name) = Unit {0}
 

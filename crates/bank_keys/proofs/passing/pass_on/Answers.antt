@@ -11,8 +11,8 @@ pub returns : goal.returns
 returns c =
     let p = c.args.state.now in
     let m = c.args.message.now in
-    let e : c.in_ok-edits.edits.items ≡ used_edits c.args.used ++ passed_on p m c.args.value c.args.way =
+    let e : c.in_ok-edits.edits.items ≡ used_edits c.args.used ++ passed_on p m c.args.value c.args.via =
     c.in_ok-edits.ensures ∙ (ap (λ (xs : List Edit). xs ++ c.in_ok-passed_on.field-0.items) c.in_ok-links.ensures ∙ ap (λ (xs : List Edit). used_edits c.args.used ++ xs) c.in_ok-passed_on.ensures) in
     let short : length (text_of (passed_reply p m c.args.value)) ≤ longest_text = rw (← c.in_ok-written.ensures.written.text) c.in_ok-written.ensures.short in
     accepts_with c.accept.result p c.in_ok-edits.edits.items _ (Some c.in_ok-written.written) (Some (passed_reply p m c.args.value))
-    c.accept.ensures e c.in_ok-written.ensures.written (passed_keepable p m c.args.used c.args.value c.args.way c.requires.used c.requires.room short) (passed_few p m c.args.used c.args.value c.args.way)
+    c.accept.ensures e c.in_ok-written.ensures.written (passed_keepable p m c.args.used c.args.value c.args.via c.requires.used c.requires.room short) (passed_few p m c.args.used c.args.value c.args.via)

@@ -1,5 +1,5 @@
-use Rattle.bank_role.proofs.Taking.{passes}
+use Rattle.bank_role.proofs.Taking.{keys_pass}
 use Rattle.bank_role.proofs.laws.law_passing.Goals as goal
 
 pub returns : goal.returns
-returns c = passes c.law_passing.ensures
+returns c = keys_pass c.law_passing.ensures

@@ -1,5 +1,5 @@
 use Rattle.std.proofs.Common.{arith}
-use Rattle.x_gen.specs.Parity.{odd_of}
+use Rattle.x_gen.specs.Parity.{odd_parity_of}
 use Rattle.world_laws.specs.Exchanged.{weak_generator}
 use Rattle.course.specs.Live.{live_lines, live_moment}
 use Rattle.course.proofs.LiveText.{live_scenario, live_in_range, live_rules}
@@ -15,4 +15,4 @@ returns-clause-start c = c.law_starts.ensures.start live_lines live_in_range liv
 pub returns-clause-live : goal.returns-clause-live
 returns-clause-live c =
     let draws = c.law_exchanged.ensures.draws live_moment (omega arith) strong in
-    live_course c.law_hearing.ensures (λ h pair s t roomy roomy'. c.law_exchanged.ensures.live weak_generator h pair s t live_moment (odd_of live_moment, draws.after) draws.draws roomy roomy')
+    live_course c.law_hearing.ensures (λ h pair s t roomy roomy'. c.law_exchanged.ensures.live weak_generator h pair s t live_moment (odd_parity_of live_moment, draws.after) draws.draws roomy roomy')

@@ -4,12 +4,12 @@ use Rattle.x_base.specs.declared.verdict.Verdict.TheVariants.{WeakDraws}
 use Rattle.x_gen.specs.declared.generator.Gen.{Gen}
 use Rattle.x_gen.specs.Gen.{good_draw}
 use Rattle.party_state.specs.declared.decision.Decision.{Decision}
-use Rattle.party_state.specs.Verdicts.{passes}
+use Rattle.party_state.specs.Verdicts.{tests_pass}
 use Rattle.party_state.specs.Rows.{Row}
 use Rattle.role_base.specs.Conditions.{has_count}
 use Rattle.role_base.specs.Deciding.{decision_of, IsDecision}
 use Rattle.role_base.proofs.Given.{given_is, given_none}
-use Rattle.distribution_role.specs.declared.answering.Links.{Links}
+use Rattle.distribution_role.specs.declared.answering.RecipientLinks.{RecipientLinks}
 use Rattle.distribution_role.specs.Answering.{links_of, answering}
 use Rattle.distribution_role.proofs.Answered.{sent_tests, not_answered}
 use Rattle.distribution_role.proofs.answering.answer.Goals as goal
@@ -32,7 +32,7 @@ returns-in-Some c =
     let b = c.args.ultimate.now in
     let i : c.in-Some.links ≡ links_of a b = given_is _ (links_of a b) c.in-Some.links c.counted-found.result c.counted-found.ensures c.in-Some.is in
     let row : answering p asked.requester asked.ultimate c.args.tests.now c.in-Some.links.requester c.in-Some.links.ultimate c.draw-drawn.result ≡ answering p asked.requester asked.ultimate c.args.tests.now a b (good_draw p.generator c.args.moment) =
-    ap (λ (x : Links). answering p asked.requester asked.ultimate c.args.tests.now x.requester x.ultimate c.draw-drawn.result) i
+    ap (λ (x : RecipientLinks). answering p asked.requester asked.ultimate c.args.tests.now x.requester x.ultimate c.draw-drawn.result) i
     ∙ ap (λ (o : Option (ℕ × Gen)). answering p asked.requester asked.ultimate c.args.tests.now a b o) c.draw-drawn.ensures in
     subst (λ (r : Row). IfOk c.answer_drawn.result (λ (d : Decision). d ≡ decision_of p r)) row c.answer_drawn.ensures
 
@@ -45,7 +45,7 @@ returns-in-None c =
     let drawn : Option (ℕ × Gen) = good_draw p.generator c.args.moment in
     let row = answering p asked.requester asked.ultimate c.args.tests.now a b drawn in
     let spent : (has_count a && has_count b) ≡ false = given_none _ (links_of a b) c.counted-found.result c.counted-found.ensures c.in-None.is in
-    let fails : passes c.args.tests.now ≡ false = false_from_ne_true (passes c.args.tests.now) (λ h. both_ways (has_count a && has_count b) spent (c.requires.counted h)) in
+    let fails : tests_pass c.args.tests.now ≡ false = false_from_ne_true (tests_pass c.args.tests.now) (λ h. both_ways (has_count a && has_count b) spent (c.requires.counted h)) in
     let d : IsDecision p row c.early_refusal.result = c.early_refusal.ensures p row ((is_some drawn, WeakDraws) ∷ []) c.requires.refuse fails
     (sent_tests p asked.requester asked.ultimate c.args.tests.now a b drawn) (not_answered p asked.requester asked.ultimate c.args.tests.now a b drawn) in
     d.is

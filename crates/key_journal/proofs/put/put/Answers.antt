@@ -15,11 +15,11 @@ returns-in_err-write_at g c = record {
   tells = search rules;
   stable = search rules;
   cause = search rules;
-  passes = search rules;
+  calls_left = search rules;
   left = search rules;
   blows = search rules;
   pending = λ one fault blown.
-      let some : Some 0 ≡ None = sym (ap one_less one) ∙ sym c.write_at.ensures.counted.passes ∙ blown in
+      let some : Some 0 ≡ None = sym (ap one_less one) ∙ sym c.write_at.ensures.counted.calls_left ∙ blown in
       absurd (cc some);
   covered = λ end n calls covers le small none.
       c.in_err-write_at.ensures.covered.answers end n (suc calls) covers le small (search rules);
@@ -39,7 +39,7 @@ returns g c = record {
   tells = search rules;
   stable = search rules;
   cause = search rules;
-  passes = search rules;
+  calls_left = search rules;
   left = search rules;
   blows = search rules;
   pending = λ one fault blown image is. c.sync.ensures.now ∙ c.in_ok-write_at.ensures.written image is;

@@ -13,8 +13,8 @@ returns c =
     let p = c.args.state.now in
     let l = c.args.link.now in
     let e : c.in_ok-list_of.field-0.items ≡ sent_edits p l c.args.key c.args.after.now.v =
-    c.in_ok-list_of.ensures ∙ sent_same p l c.used.result c.args.key c.args.after.now.v c.pending.result c.next_name-name.result c.in_ok-copy.field-0 c.used.ensures.used c.pending.ensures c.next_name-name.ensures (c.in_ok-copy.ensures ∙ c.in_ok-written.ensures.written.text) in
+    c.in_ok-list_of.ensures ∙ sent_same p l c.link_after_use.result c.args.key c.args.after.now.v c.pending.result c.next_name-name.result c.in_ok-copy.field-0 c.link_after_use.ensures.used c.pending.ensures c.next_name-name.ensures (c.in_ok-copy.ensures ∙ c.in_ok-written.ensures.written.text) in
     let short : length (text_of (data_key_reply p l c.args.key)) ≤ longest_text = rw (← c.in_ok-written.ensures.written.text) c.in_ok-written.ensures.short in
-    let count : IsCount l.next = c.used.ensures.count in
+    let count : IsCount l.next = c.link_after_use.ensures.count in
     accepts_with c.accept.result p c.in_ok-list_of.field-0.items (sent_edits p l c.args.key c.args.after.now.v) (Some c.in_ok-written.written) (Some (data_key_reply p l c.args.key))
     c.accept.ensures e c.in_ok-written.ensures.written (sent_keepable p l _ _ _ l.next c.requires.stands count refl c.requires.room (record { kind = tt; text = short })) (lit≤ tt)

@@ -4,8 +4,8 @@ use Rattle.party_tables.specs.declared.link.LinkRec.{LinkRec}
 use Rattle.party_tables.specs.Keys.{sends, takes}
 use Rattle.party_state.specs.Rows.{Row}
 use Rattle.party_state.specs.State.{centre_label, link_with}
-use Rattle.party_state.specs.Verdicts.{passes}
-use Rattle.role_base.specs.declared.errors.Counts.{Counts}
+use Rattle.party_state.specs.Verdicts.{tests_pass}
+use Rattle.role_base.specs.declared.errors.ErrorCounts.{ErrorCounts}
 use Rattle.role_base.specs.Deciding.{IsDecision, Decides}
 use Rattle.role_base.specs.Errors.{answering, coded_under, error_for}
 use Rattle.role_base.specs.Standing.{LinkStands}
@@ -28,7 +28,7 @@ returns-in_default-lead c =
     let g : link_with (sends m.ultimate centre_label) p ≡ Some b = ap (λ x. link_with (sends m.ultimate x) p) (sym c.centre_label-label.ensures) ∙ (sym c.link_with-2.ensures.link ∙ c.in-Some-link_with.is) in
     let key = lead_under a (rfs_under p m) (rfs_value m l) in
     let h : c.args.lead.now ≡ _ = c.requires ∙ rfs_lead_is p a m l b f g in
-    let fails : passes (rfs_front p m true) ≡ false = given_none _ key c.args.lead.now h c.in_default-lead.is in
+    let fails : tests_pass (rfs_front p m true) ≡ false = given_none _ key c.args.lead.now h c.in_default-lead.is in
     subst (λ (r : Row). IsDecision p r c.early_refusal.result) (rfs_is p a m l b f g)
     (decided_early p (rfs_front p m true) c.rfs_front-in_default-lead.result ((is_verified a (rfs_value m l), BadMac) ∷ rfs_rest m l b) c.early_refusal.result (rfs_between p a m (Some l) (Some b)) key c.args.lead.now
     c.early_refusal.ensures c.rfs_front-in_default-lead.ensures refl h c.in_default-lead.is refl (rfs_unanswered p a m l b fails))
@@ -50,7 +50,7 @@ returns-then-not-is_accept c =
     subst (λ (r : Row). Decides p r c.error_answer.result) (rfs_is p a m l b f g)
     (rfs_kept c.law_accept.ensures.tested p a m l b c.error_answer.result from to c.value.ensures.count
     (rfs_refuses p a m l b x v c.error_answer.result c.rfs_verdict-verdict.ensures y (sym c.is_accept.ensures ∙ c.if-not-is_accept.true)
-    (subst (λ (k : Counts). IfOk c.error_answer.result (λ d. d ≡ answering v (coded_under x.under x.value (error_for p m.originator k v)))) c.rfs_counts-counts.ensures c.error_answer.ensures)))
+    (subst (λ (k : ErrorCounts). IfOk c.error_answer.result (λ d. d ≡ answering v (coded_under x.under x.value (error_for p m.originator k v)))) c.rfs_counts-counts.ensures c.error_answer.ensures)))
 
 pub returns : goal.returns
 returns c =

@@ -1,6 +1,6 @@
 use Rattle.std.proofs.Common.{rules, ◌+◌, ◌≤◌, List, ℕ, length, ap, subst, sym, arith}
 use Rattle.x_disk.specs.Disk.{LeavesOnly}
-use Rattle.key_journal.specs.Journal.{Holds}
+use Rattle.key_journal.specs.Journal.{HoldsBodies}
 use Rattle.key_journal.specs.States.{HasBodies}
 use Rattle.key_journal.proofs.StepLemmas.{stage_moment, stage_done, stage_ready}
 use Rattle.key_journal.proofs.ready.Ready.stage.Goals as goal
@@ -20,14 +20,14 @@ returns-in-Ok g c = record {
       (subst (λ d. HasBodies (told d) bodies) (sym (ap (λ s. s.disk) c.self.view_is)) has);
   durable = search rules;
   any_moment = let told = g.D.Disk.told in
-      subst (λ d. (bodies : List (List ℕ)) → HasBodies (told d) bodies → LeavesOnly (told d) (told c.put.new.disk) (λ f. Holds f bodies)) (ap (λ s. s.disk) c.self.view_is)
+      subst (λ d. (bodies : List (List ℕ)) → HasBodies (told d) bodies → LeavesOnly (told d) (told c.put.new.disk) (λ f. HoldsBodies f bodies)) (ap (λ s. s.disk) c.self.view_is)
       (stage_moment (told c.self.inside.disk) (told c.put.new.disk) c.self.inside.gate c.self.inside.end (length c.args.frame.now) c.self.invariant c.put.ensures.any_moment);
   place = search rules;
   stable = search rules;
   cause = search rules;
   faults = search rules;
   tells = search rules;
-  passes = search rules;
+  calls_left = search rules;
   left = search rules;
   blows = search rules;
   covered = search rules;
@@ -39,14 +39,14 @@ returns-in-Err g c = record {
   staged = search rules;
   durable = search rules;
   any_moment = let told = g.D.Disk.told in
-      subst (λ d. (bodies : List (List ℕ)) → HasBodies (told d) bodies → LeavesOnly (told d) (told c.put.new.disk) (λ f. Holds f bodies)) (ap (λ s. s.disk) c.self.view_is)
+      subst (λ d. (bodies : List (List ℕ)) → HasBodies (told d) bodies → LeavesOnly (told d) (told c.put.new.disk) (λ f. HoldsBodies f bodies)) (ap (λ s. s.disk) c.self.view_is)
       (stage_moment (told c.self.inside.disk) (told c.put.new.disk) c.self.inside.gate c.self.inside.end (length c.args.frame.now) c.self.invariant c.put.ensures.any_moment);
   place = search rules;
   stable = search rules;
   cause = search rules;
   faults = search rules;
   tells = search rules;
-  passes = search rules;
+  calls_left = search rules;
   left = search rules;
   blows = search rules;
   covered = search rules;

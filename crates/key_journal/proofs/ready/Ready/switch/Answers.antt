@@ -5,7 +5,7 @@ use Rattle.x_disk.proofs.Runs.{weaker}
 use Rattle.key_journal.proofs.StepLemmas.{room_is}
 use Rattle.key_journal.proofs.SwitchLemmas.{stable_has, beside_moment, switch_moment, switched, switch_ready}
 use Rattle.std.proofs.Common.{inl}
-use Rattle.key_journal.specs.Journal.{Holds}
+use Rattle.key_journal.specs.Journal.{HoldsBodies}
 use Rattle.key_journal.proofs.ready.Ready.switch.Goals as goal
 
 pub returns-in-Err : goal.returns-in-Err
@@ -19,13 +19,13 @@ returns-in-Err g c = record {
       let i = c.self.inside in
       let same = ap (λ s. s.disk) c.self.view_is in
       subst (λ d. LeavesOnly (told d) (told c.lay_alone.new.disk) (IsOldOrAlone bodies body)) same
-      (weaker (told i.disk) (told c.lay_alone.new.disk) (λ image. Holds image bodies) (IsOldOrAlone bodies body)
+      (weaker (told i.disk) (told c.lay_alone.new.disk) (λ image. HoldsBodies image bodies) (IsOldOrAlone bodies body)
       (beside_moment (told i.disk) (told c.lay_alone.new.disk) (told c.lay_alone.new.disk) i.gate i.end c.other_start-start.result c.other_start-start.ensures c.args.frame.now body c.self.invariant is_body is c.lay_alone.ensures.any_moment bodies
       (subst (λ d. HasBodies (told d) bodies) (sym same) has)) (λ image holds. inl holds));
   cause = search rules;
   faults = search rules;
   tells = search rules;
-  passes = search rules;
+  calls_left = search rules;
   blows = search rules;
   covered = search rules;
   covered_then = search rules;
@@ -33,7 +33,7 @@ returns-in-Err g c = record {
       let told = g.D.Disk.told in
       let i = c.self.inside in
       let mid = told c.lay_alone.new.disk in
-      stable_has (told i.disk) mid (λ image. Holds image bodies) (g.met.D.Disk.sound c.lay_alone.new.disk)
+      stable_has (told i.disk) mid (λ image. HoldsBodies image bodies) (g.met.D.Disk.sound c.lay_alone.new.disk)
       (beside_moment (told i.disk) mid mid i.gate i.end c.other_start-start.result c.other_start-start.ensures c.args.frame.now c.requires.body c.self.invariant c.requires.is_body c.requires.is c.lay_alone.ensures.any_moment bodies
       (subst (λ d. HasBodies (told d) bodies) (sym (ap (λ s. s.disk) c.self.view_is)) has)) image is;
 }
@@ -69,7 +69,7 @@ returns-in-Ok-put g c = record {
   cause = search rules;
   faults = search rules;
   tells = search rules;
-  passes = search rules;
+  calls_left = search rules;
   blows = search rules;
   covered = search rules;
   covered_then = search rules;
@@ -92,7 +92,7 @@ returns-in-Err-put g c = record {
   cause = search rules;
   faults = search rules;
   tells = search rules;
-  passes = search rules;
+  calls_left = search rules;
   blows = search rules;
   covered = search rules;
   covered_then = search rules;
@@ -100,7 +100,7 @@ returns-in-Err-put g c = record {
       let told = g.D.Disk.told in
       let i = c.self.inside in
       let mid = told c.lay_alone.new.disk in
-      stable_has (told i.disk) mid (λ image. Holds image bodies) (g.met.D.Disk.sound c.lay_alone.new.disk)
+      stable_has (told i.disk) mid (λ image. HoldsBodies image bodies) (g.met.D.Disk.sound c.lay_alone.new.disk)
       (beside_moment (told i.disk) mid mid i.gate i.end c.other_start-start.result c.other_start-start.ensures c.args.frame.now c.requires.body c.self.invariant c.requires.is_body c.requires.is c.lay_alone.ensures.any_moment bodies
       (subst (λ d. HasBodies (told d) bodies) (sym (ap (λ s. s.disk) c.self.view_is)) has)) image (sym c.in-Err-put.ensures.stable ∙ is);
 }

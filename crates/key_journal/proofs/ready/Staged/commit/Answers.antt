@@ -1,6 +1,6 @@
 use Rattle.std.proofs.Common.{rules, List, ℕ, ap, subst, sym}
 use Rattle.x_disk.specs.Disk.{LeavesOnly}
-use Rattle.key_journal.specs.States.{HasStaged, IsOldOrNew}
+use Rattle.key_journal.specs.States.{HasStaged, HoldsOldOrNew}
 use Rattle.key_journal.proofs.StepLemmas.{commit_moment, commit_done, commit_ready, room_is}
 use Rattle.std.proofs.Common.{◌≡◌, Some, Result, Err}
 use Rattle.x_disk.specs.declared.disk.DiskErr.{DiskErr}
@@ -20,14 +20,14 @@ returns-in-Ok g c = record {
       (subst (λ d. HasStaged (told d) bodies body) (sym (ap (λ s. s.disk) c.self.view_is)) has);
   durable = search rules;
   any_moment = let told = g.D.Disk.told in
-      subst (λ d. (bodies : List (List ℕ)) (body : List ℕ) → HasStaged (told d) bodies body → LeavesOnly (told d) (told c.put.new.disk) (IsOldOrNew bodies body)) (ap (λ s. s.disk) c.self.view_is)
+      subst (λ d. (bodies : List (List ℕ)) (body : List ℕ) → HasStaged (told d) bodies body → LeavesOnly (told d) (told c.put.new.disk) (HoldsOldOrNew bodies body)) (ap (λ s. s.disk) c.self.view_is)
       (commit_moment (told c.self.inside.disk) (told c.put.new.disk) c.self.inside.gate c.self.inside.next c.self.inside.end c.self.invariant c.put.ensures.any_moment);
   place = search rules;
   stable = search rules;
   cause = search rules;
   faults = search rules;
   tells = search rules;
-  passes = search rules;
+  calls_left = search rules;
   blows = search rules;
   pending = search rules;
   covered = search rules;
@@ -40,19 +40,19 @@ returns-in-Err g c = record {
   committed = search rules;
   durable = search rules;
   any_moment = let told = g.D.Disk.told in
-      subst (λ d. (bodies : List (List ℕ)) (body : List ℕ) → HasStaged (told d) bodies body → LeavesOnly (told d) (told c.put.new.disk) (IsOldOrNew bodies body)) (ap (λ s. s.disk) c.self.view_is)
+      subst (λ d. (bodies : List (List ℕ)) (body : List ℕ) → HasStaged (told d) bodies body → LeavesOnly (told d) (told c.put.new.disk) (HoldsOldOrNew bodies body)) (ap (λ s. s.disk) c.self.view_is)
       (commit_moment (told c.self.inside.disk) (told c.put.new.disk) c.self.inside.gate c.self.inside.next c.self.inside.end c.self.invariant c.put.ensures.any_moment);
   place = search rules;
   stable = search rules;
   cause = search rules;
   faults = search rules;
   tells = search rules;
-  passes = search rules;
+  calls_left = search rules;
   blows = search rules;
   pending = λ bodies body has one fault blown.
       let told = g.D.Disk.told in
       let same = ap (λ s. s.disk) c.self.view_is in
-      let written = c.in-Err.ensures.pending (subst (λ d. (told d).passes ≡ Some 1) (sym same) one) (ap (λ (e : DiskErr). let r : Result (Unit {0}) DiskErr = Err e in r) fault) blown in
+      let written = c.in-Err.ensures.pending (subst (λ d. (told d).calls_left ≡ Some 1) (sym same) one) (ap (λ (e : DiskErr). let r : Result (Unit {0}) DiskErr = Err e in r) fault) blown in
       commit_done (told c.self.inside.disk) (told c.put.new.disk) c.self.inside.gate c.self.inside.next c.self.inside.end c.self.invariant written bodies body
       (subst (λ d. HasStaged (told d) bodies body) (sym same) has);
   covered = search rules;

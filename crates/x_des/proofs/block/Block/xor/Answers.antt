@@ -1,14 +1,14 @@
 use Rattle.std.proofs.Common.{ap, ◌∙◌}
 use Rattle.std.specs.Prelude.{bit_xor}
-use Rattle.x_des.proofs.Blocks.{behind, behind-xor, doubled-xor}
+use Rattle.x_des.proofs.Blocks.{permuted_back, permuted_back-xor, doubled-xor}
 use Rattle.x_des.proofs.block.Block.xor.Goals as goal
 
 pub returns : goal.returns
 returns c =
     let s = c.self.inside in
     let o = c.other.inside in
-    behind-xor s.left s.right o.left o.right
-    ∙ ap (λ x. bit_xor x (behind o.left o.right)) c.self.view_is
+    permuted_back-xor s.left s.right o.left o.right
+    ∙ ap (λ x. bit_xor x (permuted_back o.left o.right)) c.self.view_is
     ∙ ap (λ x. bit_xor c.args.self.now x) c.other.view_is
 
 pub invariant_of-result : goal.invariant_of-result

@@ -4,7 +4,7 @@ use Rattle.x_des.specs.Bits.{bits_of, exclusive_or}
 use Rattle.x_des.specs.Block.{half}
 use Rattle.x_des.specs.Des.{cipher, enciphered, deciphered}
 use Rattle.x_des.specs.RoundKey.{gathered}
-use Rattle.x_des.proofs.Blocks.{behind, behind-lt, doubled-xor, decrypted-behind, half-cipher, half-xor, is_doubled_cipher}
+use Rattle.x_des.proofs.Blocks.{permuted_back, permuted_back-lt, doubled-xor, decrypted-permuted_back, half-cipher, half-xor, is_doubled_cipher}
 use Rattle.x_des.proofs.Inverse.{enciphered-deciphered}
 use Rattle.x_des.proofs.Steps.{round_step, rounds_end}
 use Rattle.x_des.proofs.schedule.Schedule.decrypt_block.Goals as goal
@@ -31,10 +31,10 @@ returns c =
     let s = c.self.inside in
     let b = c.block.inside in
     let size : length (reverse s.round_keys) ≡ 16 = length-reverse s.round_keys ∙ c.self.told in
-    let block : behind l.right l.left ≡ deciphered c.args.self.now c.args.block.now
-    = decrypted-behind (λ word. gathered (bits_of 64 word)) s.round_keys s.key b.left b.right l.left l.right c.self.invariant
+    let block : permuted_back l.right l.left ≡ deciphered c.args.self.now c.args.block.now
+    = decrypted-permuted_back (λ word. gathered (bits_of 64 word)) s.round_keys s.key b.left b.right l.left l.right c.self.invariant
     (rounds_end (λ word. gathered (bits_of 64 word)) (reverse s.round_keys) l.i _ _ (omega (arith, size)) l.invariant.ahead)
-    ∙ ap (λ k. deciphered k (behind b.left b.right)) c.self.view_is
+    ∙ ap (λ k. deciphered k (permuted_back b.left b.right)) c.self.view_is
     ∙ ap (deciphered c.args.self.now) c.block.view_is in
-    let small : c.args.block.now < 2 ^ 64 = subst (λ x. x < 2 ^ 64) c.block.view_is (behind-lt b.left b.right) in
+    let small : c.args.block.now < 2 ^ 64 = subst (λ x. x < 2 ^ 64) c.block.view_is (permuted_back-lt b.left b.right) in
     record { deciphered = block; undone = ap (enciphered c.args.self.now) block ∙ enciphered-deciphered c.args.self.now c.args.block.now small }

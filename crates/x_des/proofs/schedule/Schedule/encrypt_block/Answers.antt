@@ -3,7 +3,7 @@ use Rattle.x_des.specs.Bits.{bits_of, exclusive_or}
 use Rattle.x_des.specs.Block.{half}
 use Rattle.x_des.specs.Des.{enciphered, deciphered}
 use Rattle.x_des.specs.RoundKey.{gathered}
-use Rattle.x_des.proofs.Blocks.{behind, behind-lt, doubled-xor, encrypted-behind, half-cipher, half-xor, is_doubled_cipher}
+use Rattle.x_des.proofs.Blocks.{permuted_back, permuted_back-lt, doubled-xor, encrypted-permuted_back, half-cipher, half-xor, is_doubled_cipher}
 use Rattle.x_des.proofs.Inverse.{deciphered-enciphered}
 use Rattle.x_des.proofs.Steps.{round_step, rounds_end}
 use Rattle.x_des.proofs.schedule.Schedule.encrypt_block.Goals as goal
@@ -24,10 +24,10 @@ returns c =
     let l = c.loop-round_key in
     let s = c.self.inside in
     let b = c.block.inside in
-    let block : behind l.right l.left ≡ enciphered c.args.self.now c.args.block.now
-    = encrypted-behind (λ word. gathered (bits_of 64 word)) s.round_keys s.key b.left b.right l.left l.right c.self.invariant
+    let block : permuted_back l.right l.left ≡ enciphered c.args.self.now c.args.block.now
+    = encrypted-permuted_back (λ word. gathered (bits_of 64 word)) s.round_keys s.key b.left b.right l.left l.right c.self.invariant
     (rounds_end (λ word. gathered (bits_of 64 word)) s.round_keys l.round_key-index _ _ (omega (arith, c.self.told)) l.invariant.ahead)
-    ∙ ap (λ k. enciphered k (behind b.left b.right)) c.self.view_is
+    ∙ ap (λ k. enciphered k (permuted_back b.left b.right)) c.self.view_is
     ∙ ap (enciphered c.args.self.now) c.block.view_is in
-    let small : c.args.block.now < 2 ^ 64 = subst (λ x. x < 2 ^ 64) c.block.view_is (behind-lt b.left b.right) in
+    let small : c.args.block.now < 2 ^ 64 = subst (λ x. x < 2 ^ 64) c.block.view_is (permuted_back-lt b.left b.right) in
     record { enciphered = block; undone = ap (deciphered c.args.self.now) block ∙ deciphered-enciphered c.args.self.now c.args.block.now small }

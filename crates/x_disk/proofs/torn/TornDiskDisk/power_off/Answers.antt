@@ -15,6 +15,6 @@ returns-clause-call c = record {
   as_before = search rules;
   time = subst (λ h. Elapses (view_of c.args.self.now) (view_of h)) (sym c.in_ok-add_power_off.ensures.ok) (step_elapses c.args.self.now (PowerOff c.args.choice));
   clock = subst (λ h. Ticks (view_of c.args.self.now) (view_of h)) (sym c.in_ok-add_power_off.ensures.ok) (step_ticks c.args.self.now (PowerOff c.args.choice));
-  passes = search rules;
+  calls_left = search rules;
   cause = search rules;
 }

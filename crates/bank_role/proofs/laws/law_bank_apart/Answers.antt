@@ -1,16 +1,16 @@
 use Rattle.bank_role.proofs.Apart.{RowsApart, RowsBegin, row_apart, row_begins}
-use Rattle.bank_role.proofs.laws.law_apart.Goals as goal
+use Rattle.bank_role.proofs.laws.law_bank_apart.Goals as goal
 
 pub returns-clause-apart : goal.returns-clause-apart
 returns-clause-apart c =
     let rows : RowsApart = record {
-      command = c.law_apart.ensures;
-      rsi = c.law_apart-2.ensures.rsi;
-      rtr = c.law_apart-3.ensures.rtr;
-      ksm = c.law_apart-3.ensures.ksm;
-      rsm = c.law_apart-2.ensures.rsm;
-      esm = c.law_apart-2.ensures.esm;
-      dsm = c.law_apart-2.ensures.dsm;
+      command = c.law_orders_apart.ensures;
+      rsi = c.law_arrivals_apart.ensures.rsi;
+      rtr = c.law_keys_apart.ensures.rtr;
+      ksm = c.law_keys_apart.ensures.ksm;
+      rsm = c.law_arrivals_apart.ensures.rsm;
+      esm = c.law_arrivals_apart.ensures.esm;
+      dsm = c.law_arrivals_apart.ensures.dsm;
     } in
     row_apart rows
 

@@ -1,5 +1,5 @@
 use Rattle.bank_arrivals.proofs.ArrivalsApart.{rsi_apart, rsm_apart, esm_apart, dsm_apart}
-use Rattle.bank_arrivals.proofs.laws.law_apart.Goals as goal
+use Rattle.bank_arrivals.proofs.laws.law_arrivals_apart.Goals as goal
 
 pub returns-clause-rsi : goal.returns-clause-rsi
 returns-clause-rsi c = rsi_apart (record { same = c.law_same.ensures.key; found = c.law_found.ensures.key; put = c.law_put.ensures.key })

@@ -1,5 +1,5 @@
 use Rattle.distribution_role.proofs.AnswersApart.{row_apart, row_begins}
-use Rattle.distribution_role.proofs.laws.law_apart.Goals as goal
+use Rattle.distribution_role.proofs.laws.law_distribution_apart.Goals as goal
 
 pub returns-clause-apart : goal.returns-clause-apart
 returns-clause-apart c = row_apart c.law_accept.ensures.tested (record { same = c.law_same.ensures.link; found = c.law_found.ensures.link; put = c.law_put.ensures.link }) c.law_commands.ensures.apart

@@ -1,9 +1,9 @@
 use Rattle.std.proofs.Common.{arith, refl, sym, ap, subst, ◌∙◌, ◌<◌, length, List, ℕ}
 use Rattle.std.proofs.lemmas.List.{length-set}
 use Rattle.std.specs.Int.{w64, to_be_bytes, from_be_bytes}
-use Rattle.x_gen.specs.Parity.{odd_byte, odd_of}
+use Rattle.x_gen.specs.Parity.{odd_byte, odd_parity_of}
 use Rattle.x_gen.proofs.OddLemmas.{MappedTo, mapped_more, mapped_all}
-use Rattle.x_gen.proofs.parity.odd.Goals as goal
+use Rattle.x_gen.proofs.parity.with_odd_parity.Goals as goal
 
 pub loop-byte-init : goal.loop-byte-init
 loop-byte-init c = subst (λ (xs : List ℕ). MappedTo odd_byte 0 xs (to_be_bytes w64 c.args.key)) (sym c.to_be_bytes-bytes.ensures) (record { size = refl; front = refl; rest = refl })
@@ -17,5 +17,5 @@ loop-byte-preserved c =
     record { size = length-set xs i (odd_byte _) ∙ c.loop-byte.invariant.size; front = more.0; rest = more.1 }
 
 pub returns : goal.returns
-unfolding odd_of
+unfolding odd_parity_of
 returns c = c.from_be_bytes.ensures ∙ ap (from_be_bytes w64) (mapped_all odd_byte c.loop-byte.byte-index c.loop-byte.byte-items (to_be_bytes w64 c.args.key) (omega (arith, c.loop-byte.invariant.size)) c.loop-byte.invariant)

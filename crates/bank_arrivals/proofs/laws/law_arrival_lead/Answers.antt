@@ -1,5 +1,5 @@
 use Rattle.bank_arrivals.proofs.Early.{rsi_closed, rsm_missing, esm_missing, dsm_missing}
-use Rattle.bank_arrivals.proofs.laws.law_lead.Goals as goal
+use Rattle.bank_arrivals.proofs.laws.law_arrival_lead.Goals as goal
 
 pub returns-clause-rsi : goal.returns-clause-rsi
 returns-clause-rsi c = rsi_closed c.law_arrived.ensures
