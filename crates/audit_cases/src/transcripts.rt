@@ -3,7 +3,7 @@ use std::alloc::Global;
 use x_base::{NoMemory, Text};
 
 /// A change of a line of a transcript.
-#[derive(Clone, Copy, PartialEq, Eq)]
+#[derive(Clone, Copy)]
 pub(crate) enum Change {
     /// Its first byte is another one.
     Changed,

@@ -3,7 +3,7 @@ use crate::fault::AuditFault;
 use x_base::NoMemory;
 
 /// What was found wrong, or want of memory.
-#[derive(Clone, Copy, Debug, PartialEq, Eq)]
+#[derive(Clone, Copy)]
 pub(crate) enum Failure {
     Wrong(AuditFault),
     NoMemory,

@@ -4,7 +4,7 @@ ghost use Rattle.audit_check.specs.Faults.{fault_number, fault_place};
 
 /// Why a transcript isn't that of a scenario. An event is told by its number, and a line by its number in the transcript,
 /// each from 1.
-#[derive(Clone, Copy, Debug, PartialEq, Eq)]
+#[derive(Clone, Copy)]
 pub enum AuditFault {
     /// At this event a code agrees that nobody made who holds its key.
     Forged(u32),

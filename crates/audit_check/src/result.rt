@@ -6,7 +6,7 @@ use course::Tally;
 pub use course::Tally as AuditTally;
 
 /// The answer to an audit.
-#[derive(Clone, Copy, Debug, PartialEq, Eq)]
+#[derive(Clone, Copy)]
 pub enum AuditResult {
     /// The scenario has an honest run with these outcomes and this transcript.
     Yes(Tally),

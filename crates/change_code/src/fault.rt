@@ -3,7 +3,7 @@ use thiserror::Error;
 use x_base::NoMemory;
 
 /// Why bytes weren't decoded.
-#[derive(Clone, Copy, Debug, PartialEq, Eq, Error)]
+#[derive(Clone, Copy, Debug, Error)]
 pub enum CodeFault {
     /// The bytes are a code in neither format.
     #[error("no code")]
@@ -36,7 +36,7 @@ impl From<AllocError> for CodeFault {
 }
 
 /// Why there is no body of a compaction.
-#[derive(Clone, Copy, Debug, PartialEq, Eq, Error)]
+#[derive(Clone, Copy, Debug, Error)]
 pub enum WholeFault {
     /// The change has more than 65,535 edits, or its code more than 4,194,304 bytes.
     #[error("too large")]

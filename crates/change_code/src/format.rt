@@ -4,7 +4,7 @@ ghost use Rattle.change_code.specs.declared.format.Format.{Format};
 ghost use Rattle.change_code.specs.Code.{number_of};
 
 /// How a change is coded.
-#[derive(Clone, Copy, Debug, PartialEq, Eq)]
+#[derive(Clone, Copy, PartialEq, Eq)]
 pub enum Format {
     /// The edits alone.
     One,

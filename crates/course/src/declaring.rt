@@ -12,7 +12,7 @@ use x_gen::Gen;
 use x_mac::Pair;
 
 /// A party that a line declares.
-#[derive(Clone, Copy, Debug, PartialEq, Eq)]
+#[derive(Clone, Copy)]
 pub struct NewParty {
     pub own: Ident,
     pub role: Role,

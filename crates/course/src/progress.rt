@@ -8,14 +8,14 @@ use scenario::Line;
 use x_base::Verdict;
 
 /// The call at which the next event is stopped, from 1, and the choice with which the power goes.
-#[derive(Clone, Copy, Debug, PartialEq, Eq)]
+#[derive(Clone, Copy)]
 pub struct Stop {
     pub n: u64,
     pub choice: u64,
 }
 
 /// What became of an event.
-#[derive(Clone, Copy, Debug, PartialEq, Eq)]
+#[derive(Clone, Copy)]
 pub enum EventOutcome {
     Done,
     /// Refused, with the number of why.
@@ -27,7 +27,7 @@ pub enum EventOutcome {
 }
 
 /// How many events had each outcome.
-#[derive(Clone, Copy, Debug, PartialEq, Eq)]
+#[derive(Clone, Copy)]
 pub struct OutcomeCounts {
     pub done: u32,
     pub refused: u32,
@@ -38,7 +38,7 @@ pub struct OutcomeCounts {
 }
 
 /// The moment, the stop that waits, the number of the next event, from 1, and the outcomes so far.
-#[derive(Clone, Copy, Debug, PartialEq, Eq)]
+#[derive(Clone, Copy)]
 pub struct Progress {
     pub moment: u64,
     pub stop: Option<Stop>,

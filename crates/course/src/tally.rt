@@ -1,7 +1,7 @@
 // The events of a scenario, and what its parties hold at its end.
 /// How many events there were and how many had each outcome, how many texts were written, and how many
 /// key records of all parties have each status at the end.
-#[derive(Clone, Copy, Debug, PartialEq, Eq)]
+#[derive(Clone, Copy)]
 pub struct Tally {
     pub events: u32,
     pub done: u32,

@@ -8,7 +8,7 @@ use std::marker::Model;
 use x_base::Text;
 
 /// A batch: the text from which it was read, and its entries.
-#[derive(Debug, Drop)]
+#[derive(Drop)]
 pub struct Batch {
     text: Text,
     entries: Vec<Entry>,

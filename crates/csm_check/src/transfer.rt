@@ -7,7 +7,7 @@ use std::alloc::Global;
 use x_base::{Source, Text};
 
 /// Why no text was taken.
-#[derive(Clone, Copy, Debug, PartialEq, Eq)]
+#[derive(Clone, Copy)]
 pub enum GatherError {
     Fault,
     NoMemory,

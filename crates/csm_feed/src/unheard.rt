@@ -4,7 +4,7 @@ ghost use Rattle.csm_feed.specs.Numbers.{unheard_number};
 use csm_grammar::ReadRefusal;
 
 /// Why no message is heard of the bytes of an input. Places count from the first byte.
-#[derive(Clone, Copy, Debug, PartialEq, Eq)]
+#[derive(Clone, Copy)]
 pub enum Unheard {
     /// They were not read as a message. Never with the `NoMemory` of `ReadRefusal`.
     Text(ReadRefusal),

@@ -5,7 +5,7 @@ use crate::tag::Tag;
 
 /// A form of a class: the tags that a message of the class may have. The variants stand in the
 /// order in which forms are tried.
-#[derive(Clone, Copy, Debug, PartialEq, Eq)]
+#[derive(Clone, Copy)]
 pub enum Form {
     /// Request for service initiation (RSI).
     F1,
@@ -55,7 +55,7 @@ impl Form {
 }
 
 /// Whether a form has a tag.
-#[derive(Clone, Copy, Debug, PartialEq, Eq)]
+#[derive(Clone, Copy, PartialEq, Eq)]
 pub enum Need {
     Required,
     Optional,

@@ -2,7 +2,7 @@ use x_base::{Count, Ident, KeyName, Label, Text};
 
 /// The keys that a request asks for: a data key, two of them, a single or a double-length
 /// key-encrypting key, alone or with a data key.
-#[derive(Clone, Copy, Debug, PartialEq, Eq)]
+#[derive(Clone, Copy, PartialEq, Eq)]
 pub enum Service {
     Kd,
     KdKd,
@@ -21,7 +21,7 @@ pub struct Extras {
 }
 
 /// An encrypted key-encrypting key, the left half of a double-length one first.
-#[derive(Clone, Copy, Debug, PartialEq, Eq)]
+#[derive(Clone, Copy)]
 pub enum NewKk {
     Double(u64, u64),
     Single(u64),

@@ -1,7 +1,7 @@
 use crate::message::Message;
 
 /// The code that closes a message: an authentication code or an error detection code.
-#[derive(Clone, Copy, Debug, PartialEq, Eq)]
+#[derive(Clone, Copy, PartialEq, Eq)]
 pub enum Shut {
     Mac(u32),
     Edc(u32),

@@ -5,7 +5,7 @@ use crate::tag::Tag;
 
 /// Why no message begins at byte 0. A number is the place of the fault: how many bytes stand
 /// before it.
-#[derive(Clone, Copy, Debug, PartialEq, Eq)]
+#[derive(Clone, Copy, PartialEq, Eq)]
 pub enum ReadRefusal {
     /// The bytes don't begin with `CSM(`.
     NotCsm(u64),

@@ -3,7 +3,7 @@ ghost use Rattle.csm_grammar.specs.Tags.{tag_name, tag_of, tag_place, same_tag, 
 
 /// The tag of a field (ANSI X9.17; `P` is this project's own), in the writer's order. `DoubleKk`
 /// is `*KK` and `DoubleKku` is `*KKU`.
-#[derive(Clone, Copy, Debug, PartialEq, Eq)]
+#[derive(Clone, Copy, PartialEq, Eq)]
 pub enum Tag {
     Mcl,
     Rcv,

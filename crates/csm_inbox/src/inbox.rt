@@ -11,7 +11,7 @@ use std::alloc::Global;
 use x_base::{NoMemory, Text};
 
 /// Why a stream isn't written as a batch.
-#[derive(Clone, Copy, Debug, PartialEq, Eq)]
+#[derive(Clone, Copy)]
 pub enum InboxFault {
     /// Behind its messages stands what isn't one. The place counts from the first byte.
     Refused(ReadRefusal),

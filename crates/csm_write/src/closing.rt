@@ -1,7 +1,7 @@
 use csm_grammar::Shut;
 
 /// What closes a text that is written.
-#[derive(Clone, Copy, Debug, PartialEq, Eq)]
+#[derive(Clone, Copy)]
 pub enum Closing {
     /// The authentication code of the text under this key.
     Mac(u64),

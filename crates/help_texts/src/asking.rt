@@ -7,7 +7,7 @@ use x_line::OrderKind;
 use x_values::read_plain_number_within;
 
 /// What help is asked about.
-#[derive(Clone, Copy, Debug, PartialEq, Eq)]
+#[derive(Clone, Copy)]
 pub enum Topic {
     /// All commands.
     All,

@@ -3,7 +3,7 @@ use thiserror::Error;
 use x_disk::{Disk, DiskErr};
 
 /// Why a journal wasn't made or opened.
-#[derive(Clone, Copy, Debug, PartialEq, Eq, Error)]
+#[derive(Clone, Copy, Debug, Error)]
 pub enum Cause {
     /// The image is blank: no journal stands on it.
     #[error("blank")]

@@ -7,7 +7,7 @@ ghost use Rattle.key_journal.specs.Judged.{judged, IfBody, IsSized};
 use crate::layout::LARGEST_BODY;
 
 /// What lies at a gate within the file.
-#[derive(Clone, Copy, Debug, PartialEq, Eq)]
+#[derive(Clone, Copy)]
 pub(crate) enum Judged {
     /// The gate isn't open.
     Closed,

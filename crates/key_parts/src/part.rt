@@ -7,7 +7,7 @@ use x_mac::Pair;
 use x_values::{read_key, read_pair};
 
 /// What each line of an input spells.
-#[derive(Clone, Copy, Debug, PartialEq, Eq)]
+#[derive(Clone, Copy)]
 pub enum Form {
     /// A key-encrypting key: 32 hexadecimal digits, or 16 for a pair of equal halves.
     Key,
@@ -16,7 +16,7 @@ pub enum Form {
 }
 
 /// A component of a key, or the whole: a pair and, of a generator, the seed V; of a key-encrypting key that is 0.
-#[derive(Clone, Copy, Debug, PartialEq, Eq)]
+#[derive(Clone, Copy)]
 pub struct Part {
     pub pair: Pair,
     pub seed: u64,

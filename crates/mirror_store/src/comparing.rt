@@ -5,7 +5,7 @@ ghost use Rattle.mirror_store.specs.Comparing.{IsComparison, is_below, is_lackin
 use party_state::{LinkRec, State};
 
 /// What two states are to one another.
-#[derive(Clone, Copy, Debug, PartialEq, Eq)]
+#[derive(Clone, Copy)]
 pub enum Comparison {
     /// They are equal.
     Same,

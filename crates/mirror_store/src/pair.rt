@@ -5,7 +5,7 @@ use x_base::Ident;
 use x_disk::Disk;
 
 /// Why a pair of disks wasn't made or opened, or failed.
-#[derive(Clone, Copy, Debug, PartialEq, Eq)]
+#[derive(Clone, Copy)]
 pub enum PairCause {
     /// It is the first disk's.
     First(Cause),

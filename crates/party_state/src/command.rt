@@ -3,7 +3,7 @@ use x_base::{Ident, KeyName, Label, Side};
 use x_mac::Pair;
 
 /// What an operator asks of a party.
-#[derive(Clone, Copy, Debug, PartialEq, Eq)]
+#[derive(Clone, Copy)]
 pub enum Command {
     /// Loads a key-encrypting key that both ends were given.
     Load {

@@ -74,7 +74,7 @@ pub struct Decision {
 /// The key under which the code of an arrival is tested, and whether it is the one carried.
 ///
 /// `opened` is the new key-encrypting key that the arrival brings, decrypted; none where it brings none.
-#[derive(Clone, Copy, Debug, PartialEq, Eq)]
+#[derive(Clone, Copy)]
 pub struct Lead {
     pub under: FullName,
     pub value: u64,

@@ -3,14 +3,14 @@ use std::alloc::Global;
 use x_base::{Count, Ident, NoMemory};
 
 /// What an answer is found by.
-#[derive(Clone, Copy, Debug, PartialEq, Eq, Hash)]
+#[derive(Clone, Copy, PartialEq, Eq, Hash)]
 pub struct AnswerKey {
     pub requester: Ident,
     pub ultimate: Ident,
 }
 
 /// The last key that a distribution centre sent to a requester for an ultimate recipient.
-#[derive(Clone, Copy, Debug, PartialEq, Eq)]
+#[derive(Clone, Copy, PartialEq, Eq)]
 pub struct Answer {
     pub requester: Ident,
     pub ultimate: Ident,

@@ -6,7 +6,7 @@ use std::mem::replace;
 use x_base::{Count, Ident, KeyName, Label, NoMemory, Text};
 
 /// The way a key was sent.
-#[derive(Clone, Copy, Debug, PartialEq, Eq)]
+#[derive(Clone, Copy, PartialEq, Eq)]
 pub enum Via {
     /// Under the link with this label, with a new key-encrypting key where a new label is given.
     Direct { label: Label, new: Option<Label> },
@@ -17,7 +17,7 @@ pub enum Via {
 }
 
 /// What a party waits for.
-#[derive(Clone, Copy, Debug, PartialEq, Eq)]
+#[derive(Clone, Copy, PartialEq, Eq)]
 pub enum Kind {
     /// A key for this ultimate recipient was asked for.
     Asked {

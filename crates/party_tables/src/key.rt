@@ -3,7 +3,7 @@ use std::alloc::Global;
 use x_base::{Ident, KeyName, NoMemory};
 
 /// How far a data key has come.
-#[derive(Clone, Copy, Debug, PartialEq, Eq)]
+#[derive(Clone, Copy, PartialEq, Eq)]
 pub enum KeyStatus {
     /// Sent, and not yet answered.
     Pending,
@@ -18,14 +18,14 @@ pub enum KeyStatus {
 }
 
 /// What a key record is found by.
-#[derive(Clone, Copy, Debug, PartialEq, Eq, Hash)]
+#[derive(Clone, Copy, PartialEq, Eq, Hash)]
 pub struct RecordKey {
     pub peer: Ident,
     pub name: KeyName,
 }
 
 /// A data key shared with a peer (ANSI X9.17).
-#[derive(Clone, Copy, Debug, PartialEq, Eq)]
+#[derive(Clone, Copy, PartialEq, Eq)]
 pub struct KeyRec {
     pub peer: Ident,
     pub name: KeyName,

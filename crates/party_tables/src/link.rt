@@ -4,7 +4,7 @@ use x_base::{Ident, Label, NoMemory, Side};
 use x_mac::Pair;
 
 /// What a link is found by.
-#[derive(Clone, Copy, Debug, PartialEq, Eq, Hash)]
+#[derive(Clone, Copy, PartialEq, Eq, Hash)]
 pub struct LinkKey {
     pub peer: Ident,
     pub label: Label,
@@ -15,7 +15,7 @@ pub struct LinkKey {
 ///
 /// `next` is the next count at which the sending side encrypts, and the expected count at the
 /// receiving side: a count, or one past the last.
-#[derive(Clone, Copy, Debug, PartialEq, Eq)]
+#[derive(Clone, Copy, PartialEq, Eq)]
 pub struct LinkRec {
     pub peer: Ident,
     pub label: Label,

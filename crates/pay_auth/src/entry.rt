@@ -5,7 +5,7 @@ use std::alloc::Global;
 use x_base::{Count, Ident, KeyName, NoMemory, Side};
 
 /// What an entry is found by.
-#[derive(Clone, Copy, Debug, PartialEq, Eq, Hash)]
+#[derive(Clone, Copy, PartialEq, Eq, Hash)]
 pub struct EntryKey {
     pub peer: Ident,
     pub name: KeyName,
@@ -13,7 +13,7 @@ pub struct EntryKey {
 }
 
 /// The last number under a key, of the payments that were paid out (`Sends`) or taken in (`Takes`).
-#[derive(Clone, Copy, Debug, PartialEq, Eq)]
+#[derive(Clone, Copy)]
 pub struct Entry {
     pub peer: Ident,
     pub name: KeyName,

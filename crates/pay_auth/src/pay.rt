@@ -1,7 +1,7 @@
 use x_base::{Count, Ident, KeyName};
 
 /// A payment under a key that two parties share (this project's profile).
-#[derive(Clone, Copy, Debug, PartialEq, Eq)]
+#[derive(Clone, Copy)]
 pub struct Pay {
     /// Who pays.
     pub from: Ident,
@@ -16,7 +16,7 @@ pub struct Pay {
 }
 
 /// A payment as it was read.
-#[derive(Clone, Copy, Debug, PartialEq, Eq)]
+#[derive(Clone, Copy)]
 pub struct PayParsed {
     pub pay: Pay,
     /// The code that the text carries.

@@ -3,12 +3,12 @@ ghost use Rattle.std.specs.Prelude.{◌≡◌};
 use thiserror::Error;
 
 /// These bytes are no payment; the place is the length of their longest prefix that is a prefix of a payment.
-#[derive(Clone, Copy, Debug, PartialEq, Eq, Error)]
+#[derive(Clone, Copy, Debug, Error)]
 #[error("bad payment at {0}")]
 pub struct BadPay(pub u64);
 
 /// Why nothing is paid out or taken in.
-#[derive(Clone, Copy, Debug, PartialEq, Eq, Error)]
+#[derive(Clone, Copy, Debug, Error)]
 pub enum PayRefusal {
     /// The bytes are no payment; the place is the length of their longest prefix that is a prefix of a payment.
     #[error("bad payment at {0}")]

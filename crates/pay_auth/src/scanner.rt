@@ -8,7 +8,7 @@ use std::marker::Model;
 use x_base::{Count, Ident, Label};
 
 /// What a run of bytes stands for.
-#[derive(Clone, Copy, Debug, PartialEq, Eq)]
+#[derive(Clone, Copy)]
 pub(crate) enum Run {
     /// An identity.
     Ident,

@@ -2,7 +2,7 @@
 use x_base::NoMemory;
 
 /// Why a party's event doesn't end.
-#[derive(Clone, Copy, Debug, PartialEq, Eq)]
+#[derive(Clone, Copy)]
 pub(crate) enum Failure {
     /// A disk or the shelf failed.
     Fault,
@@ -24,7 +24,7 @@ impl From<NoMemory> for Failure {
 }
 
 /// Why a play ends before its scenario does.
-#[derive(Clone, Copy, Debug, PartialEq, Eq)]
+#[derive(Clone, Copy)]
 pub(crate) enum Ending {
     /// A code was made by nobody who holds its key, at the event of this number.
     Forged(u32),

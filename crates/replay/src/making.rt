@@ -24,7 +24,7 @@ use x_base::Ident;
 use x_disk::Disk;
 
 /// Why a set-up ends early.
-#[derive(Clone, Copy, Debug, PartialEq, Eq)]
+#[derive(Clone, Copy)]
 pub(crate) enum SetUpEnd {
     /// A disk isn't blank.
     NotEmpty,

@@ -3,7 +3,7 @@ use course::Tally;
 use x_base::Verdict;
 
 /// What became of a scenario.
-#[derive(Clone, Copy, Debug, PartialEq, Eq)]
+#[derive(Clone, Copy)]
 pub enum PlayResult {
     /// Each event was played.
     Done(Tally),

@@ -2,7 +2,7 @@ use thiserror::Error;
 use x_base::NoMemory;
 
 /// Why a text was not read.
-#[derive(Clone, Copy, Debug, PartialEq, Eq, Error)]
+#[derive(Clone, Copy, Debug, Error)]
 pub enum ScenarioFault {
     /// This line, counted from 1, is the first outside the grammar.
     #[error("bad line {0}")]

@@ -3,7 +3,7 @@ use x_mac::Pair;
 
 /// A line of a scenario, with its values in the order in which they are written. Pairs are as they
 /// were written, without a change of parity.
-#[derive(Debug, PartialEq, Eq, Drop)]
+#[derive(Drop)]
 pub enum Line {
     /// A party, with its generator's pair of keys and seed V.
     Party {

@@ -7,7 +7,7 @@ use crate::line::Line;
 use std::marker::Model;
 
 /// The lines of a text that is a scenario, without those that are skipped.
-#[derive(Debug, Drop)]
+#[derive(Drop)]
 pub struct Scenario {
     lines: Vec<Line>,
 }

@@ -4,7 +4,7 @@ use thiserror::Error;
 use x_disk::Disk;
 
 /// Why a spool wasn't begun.
-#[derive(Clone, Copy, Debug, PartialEq, Eq, Error)]
+#[derive(Clone, Copy, Debug, Error)]
 pub enum SpoolCause {
     /// Its journal can't be made or read.
     #[error("{0}")]

@@ -7,7 +7,7 @@ use x_base::Ident;
 use x_line::Order;
 
 /// A command, and the party that is to obey it.
-#[derive(Clone, Copy, Debug, PartialEq, Eq)]
+#[derive(Clone, Copy)]
 pub struct PartyCommand {
     pub party: Ident,
     pub command: Command,

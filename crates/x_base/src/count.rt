@@ -10,7 +10,7 @@ use std::marker::Model;
 use thiserror::Error;
 
 /// These bytes are no count.
-#[derive(Clone, Copy, Debug, PartialEq, Eq, Error)]
+#[derive(Clone, Copy, Debug, Error)]
 #[error("bad count")]
 pub struct BadCount;
 
@@ -22,7 +22,7 @@ const DIGITS: usize = 14;
 
 /// A count under a key-encrypting key: a number from 1 to `LIMIT` (ANSI X9.17; the limit is this
 /// project's profile).
-#[derive(Clone, Copy, Debug, PartialEq, Eq, PartialOrd, Ord, Hash)]
+#[derive(Clone, Copy, Debug, PartialEq, Eq, Hash)]
 pub struct Count {
     value: u64,
 }

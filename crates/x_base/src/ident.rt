@@ -9,7 +9,7 @@ use std::marker::Model;
 use thiserror::Error;
 
 /// These bytes are no identity.
-#[derive(Clone, Copy, Debug, PartialEq, Eq, Error)]
+#[derive(Clone, Copy, Debug, Error)]
 #[error("bad identity")]
 pub struct BadIdent;
 

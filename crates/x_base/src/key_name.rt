@@ -13,7 +13,7 @@ use itoa::Buffer;
 use thiserror::Error;
 
 /// What is wrong with the first bad part of a key name.
-#[derive(Clone, Copy, Debug, PartialEq, Eq, Error)]
+#[derive(Clone, Copy, Debug, Error)]
 pub enum NameFault {
     /// The issuer or the originator is no identity, or there aren't four parts.
     #[error("bad identity")]
@@ -71,7 +71,7 @@ pub struct KeyName {
 }
 
 /// The name of a key, and to whom it came.
-#[derive(Clone, Copy, Debug, PartialEq, Eq, Hash)]
+#[derive(Clone, Copy, PartialEq, Eq, Hash)]
 pub struct FullName {
     pub name: KeyName,
     pub recipient: Ident,

@@ -7,7 +7,7 @@ use std::marker::Model;
 use thiserror::Error;
 
 /// These bytes are no label.
-#[derive(Clone, Copy, Debug, PartialEq, Eq, Error)]
+#[derive(Clone, Copy, Debug, Error)]
 #[error("bad label")]
 pub struct BadLabel;
 

@@ -1,6 +1,6 @@
 /// What a party is (ANSI X9.17's environments: point to point, distribution centre, translation
 /// centre).
-#[derive(Clone, Copy, Debug, PartialEq, Eq, Hash)]
+#[derive(Clone, Copy, Debug, PartialEq, Eq)]
 pub enum Role {
     /// A bank: it shares keys with its partners, by itself or through centres.
     Bank,

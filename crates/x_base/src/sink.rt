@@ -10,7 +10,7 @@ use std::marker::Model;
 use thiserror::Error;
 
 /// A sink failed, and its count of faults rose.
-#[derive(Clone, Copy, Debug, PartialEq, Eq, Error)]
+#[derive(Clone, Copy, Debug, Error)]
 #[error("write fault")]
 pub struct SinkFault;
 

@@ -9,7 +9,7 @@ use std::marker::Model;
 use thiserror::Error;
 
 /// A source failed, and its count of faults rose.
-#[derive(Clone, Copy, Debug, PartialEq, Eq, Error)]
+#[derive(Clone, Copy, Debug, Error)]
 #[error("read fault")]
 pub struct SourceFault;
 

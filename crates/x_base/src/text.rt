@@ -7,7 +7,7 @@ use std::marker::Model;
 use thiserror::Error;
 
 /// No memory was left.
-#[derive(Clone, Copy, Debug, PartialEq, Eq, Error)]
+#[derive(Clone, Copy, Debug, Error)]
 #[error("no memory")]
 pub struct NoMemory;
 
@@ -20,7 +20,7 @@ impl From<AllocError> for NoMemory {
 }
 
 /// A growing list of bytes.
-#[derive(Debug, Drop)]
+#[derive(Drop)]
 pub struct Text {
     bytes: Vec<u8>,
 }

@@ -9,7 +9,7 @@ use thiserror::Error;
 use x_base::NoMemory;
 
 /// Why a call on a disk or a shelf failed.
-#[derive(Clone, Copy, Debug, PartialEq, Eq, Error)]
+#[derive(Clone, Copy, Debug, Error)]
 pub enum DiskErr {
     /// The disk failed, and its count of faults rose.
     #[error("disk fault")]

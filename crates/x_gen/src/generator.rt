@@ -5,14 +5,14 @@ use thiserror::Error;
 use x_mac::{Pair, PairSchedule};
 
 /// The generator of ANSI X9.17: its pair of keys and its seed value V.
-#[derive(Clone, Copy, Debug, PartialEq, Eq)]
+#[derive(Clone, Copy, PartialEq, Eq)]
 pub struct Gen {
     pub key: Pair,
     pub v: u64,
 }
 
 /// All sixteen draws gave weak keys.
-#[derive(Clone, Copy, Debug, PartialEq, Eq, Error)]
+#[derive(Clone, Copy, Debug, Error)]
 #[error("weak draws")]
 pub struct WeakDraws;
 

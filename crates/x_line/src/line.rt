@@ -13,7 +13,7 @@ use std::marker::Model;
 use x_base::Words;
 
 /// Why clap gives nothing.
-#[derive(Clone, Copy, Debug, PartialEq, Eq)]
+#[derive(Clone, Copy)]
 pub(crate) enum Unread {
     /// The words are no command line.
     Refused,

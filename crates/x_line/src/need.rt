@@ -5,7 +5,7 @@ use crate::opt::Opt;
 use crate::order_kind::OrderKind;
 
 /// What a kind of order makes of an option.
-#[derive(Clone, Copy, Debug, PartialEq, Eq)]
+#[derive(Clone, Copy)]
 pub(crate) enum Need {
     Required,
     Optional,

@@ -2,7 +2,7 @@ ghost use Rattle.std.specs.Prelude.{◌≡◌, option_and_then, option_map};
 ghost use Rattle.x_line.specs.OrderKinds.{name_of_kind, named};
 
 /// A kind of order, named by the word in the place of the command.
-#[derive(Clone, Copy, Debug, PartialEq, Eq)]
+#[derive(Clone, Copy)]
 pub enum OrderKind {
     Check,
     Replay,

@@ -1,5 +1,5 @@
 /// What the two disks of a party are to one another.
-#[derive(Clone, Copy, Debug, PartialEq, Eq)]
+#[derive(Clone, Copy)]
 pub enum Likeness {
     /// They stand for one party in one state.
     Same,
@@ -24,7 +24,7 @@ pub enum Likeness {
 }
 
 /// What became of a comparison.
-#[derive(Clone, Copy, Debug, PartialEq, Eq)]
+#[derive(Clone, Copy)]
 pub enum Compared {
     Done(Likeness),
     /// The shelf or a disk failed.

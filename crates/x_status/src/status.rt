@@ -10,7 +10,7 @@ use x_base::{Ident, NoMemory, Text, Verdict};
 use x_line::UsageKind;
 
 /// Why an input or a command was refused.
-#[derive(Clone, Copy, Debug, PartialEq, Eq)]
+#[derive(Clone, Copy)]
 pub enum Refusal {
     /// It was not read as a message. Never with the `NoMemory` of `ReadRefusal`.
     Text(ReadRefusal),
@@ -37,7 +37,7 @@ pub enum Refusal {
 }
 
 /// How a run ended.
-#[derive(Clone, Copy, Debug, PartialEq, Eq)]
+#[derive(Clone, Copy)]
 pub enum Status {
     Done,
     Refused(Refusal),
