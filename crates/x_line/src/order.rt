@@ -14,7 +14,7 @@ use x_base::{Count, Ident, KeyName, Label, Role, Side, Words};
 use x_mac::Pair;
 
 /// What the program is to do. Keys are as they were written, without a change of parity.
-#[derive(Clone, Copy, Debug, PartialEq, Eq)]
+#[derive(Clone, Copy, Debug)]
 pub enum Order {
     /// Read a message and write its canonical text.
     Check,
@@ -159,7 +159,7 @@ pub enum Order {
 }
 
 /// What a command line gives.
-#[derive(Clone, Copy, Debug, PartialEq, Eq)]
+#[derive(Clone, Copy, Debug)]
 pub struct Given {
     pub order: Order,
     /// The identity under which the second disk of the order's party lies, where it is kept on two. It isn't the party's.

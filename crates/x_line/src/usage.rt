@@ -7,7 +7,7 @@ use crate::order_kind::OrderKind;
 use thiserror::Error;
 
 /// What is wrong with the words; the first in this order is given.
-#[derive(Clone, Copy, Debug, PartialEq, Eq)]
+#[derive(Clone, Copy, Debug)]
 pub enum UsageKind {
     /// The words are no command line; asking for help or a version is none either.
     Line,
@@ -37,7 +37,7 @@ impl UsageKind {
 }
 
 /// Why the words give no order.
-#[derive(Clone, Copy, Debug, PartialEq, Eq, Error)]
+#[derive(Clone, Copy, Debug, Error)]
 pub enum LineFault {
     /// They are wrong.
     #[error("usage")]
