@@ -17,18 +17,18 @@ use crate::letters::Letters;
 use crate::state::AuditState;
 use course::{EventOutcome, LineAct, is_honest, note, note_if, outcome_of};
 use fact_book::{FactBook, Texts};
-use member::{Answer, Held, Holder, PlannedHeld};
+use member::{Answer, Holder, PartyInMemory, PlannedInMemory};
 use party_state::Input;
 use std::alloc::Global;
 use world_laws::law_inputs;
 use x_base::NoMemory;
 
 /// What is planned at a party is carried out. The party, and its answer.
-fn carry_out(planned: PlannedHeld) -> (Held, Answer)
+fn carry_out(planned: PlannedInMemory) -> (PartyInMemory, Answer)
     ensures next { result.0 ≡ after planned.member planned.plan.edits }
     ensures answer { result.1 ≡ answer_of planned.plan }
 {
-    match Held::carry_out(planned) {
+    match PartyInMemory::carry_out(planned) {
         Ok(done) => done,
         Err(never) => match never {},
     }
@@ -36,10 +36,10 @@ fn carry_out(planned: PlannedHeld) -> (Held, Answer)
 
 /// What is planned at a party is carried out whole. What is written is put behind the texts, and its fact is noted.
 fn act_whole(
-    planned: PlannedHeld,
+    planned: PlannedInMemory,
     texts: &mut Texts,
     facts: &mut FactBook,
-) -> Result<(Held, EventOutcome), NoMemory>
+) -> Result<(PartyInMemory, EventOutcome), NoMemory>
     ensures next { IfOk result (λ done. done.0 ≡ after planned.member planned.plan.edits) }
     ensures outcome { IfOk result (λ done. done.1 ≡ outcome_of planned.plan.verdict) }
     ensures texts { IfOk result (λ done. texts.new ≡ texts.old ++ option_to_list planned.plan.reply) }
@@ -53,12 +53,12 @@ fn act_whole(
 /// What is planned at a party with so much room is stopped, and cut as the next letter says. Where the new state stands, the
 /// fact of what isn't written is noted. A change takes room.
 fn act_cut(
-    planned: PlannedHeld,
+    planned: PlannedInMemory,
     room: u64,
     letters: &mut Letters,
     facts: &mut FactBook,
     number: u32,
-) -> Result<Held, Failure>
+) -> Result<PartyInMemory, Failure>
     requires room { room ≡ planned.member.space.room }
     requires fits { fits planned.member.space planned.plan.edits ≡ true }
     ensures cut { IfOk result (λ held. IsCutBy planned held letters.old letters.new facts.old facts.new) }
@@ -68,7 +68,7 @@ fn act_cut(
         return Err(Failure::Wrong(AuditFault::Letters(number)));
     };
     if !next {
-        return Ok(Held::cancel(planned));
+        return Ok(PartyInMemory::cancel(planned));
     }
     let (held, answer) = carry_out(planned);
     if held.space().room == room {
@@ -83,10 +83,10 @@ fn act_cut(
 /// A party has an input. It was taken out of its place.
 fn input_held(
     state: &mut AuditState,
-    held: Held,
+    held: PartyInMemory,
     alloc: Global,
     input: &Input,
-) -> Result<(Held, EventOutcome), Failure>
+) -> Result<(PartyInMemory, EventOutcome), Failure>
     ensures acted { IfOk result (λ done. IsActedHeld held input.now state.old state.new done.0 done.1) }
     ensures wrong { (f : TheFault) → result ≡ Err (Failure.Wrong f) → (known : List Fact) → state.old.facts ≡ map named_text known → IsWrongInput state.old.now known state.old.letters held (Some input.now) f }
     ensures now { state.new.now ≡ state.old.now }
@@ -97,7 +97,7 @@ fn input_held(
         return Err(Failure::NoMemory);
     };
     let number = state.now.number;
-    if !is_honest(&state.facts, input, &Held::answer(&planned).lead) {
+    if !is_honest(&state.facts, input, &PartyInMemory::answer(&planned).lead) {
         return Err(Failure::Wrong(AuditFault::Forged(number)));
     }
     match state.now.stop {

@@ -5,7 +5,7 @@ ghost use Rattle.world_laws.specs.World.{member_at};
 ghost use Rattle.audit_check.specs.States.{Adds, HoldsEach, IsPlaced, HoldsMembers};
 
 use indexmap::IndexSet;
-use member::{Held, Holder};
+use member::{Holder, PartyInMemory};
 use party_state::State;
 use std::alloc::Global;
 use x_base::{Ident, NoMemory};
@@ -14,7 +14,7 @@ use x_base::{Ident, NoMemory};
 #[derive(Drop)]
 pub(crate) struct Parties {
     pub(crate) names: IndexSet<Ident>,
-    pub(crate) members_held: Vec<Option<Held>>,
+    pub(crate) members_held: Vec<Option<PartyInMemory>>,
 }
 
 /// The place of an identity among others.
@@ -36,7 +36,7 @@ impl Parties {
     }
 
     /// One more party behind the others.
-    pub(crate) fn add(&mut self, held: Held) -> Result<(), NoMemory>
+    pub(crate) fn add(&mut self, held: PartyInMemory) -> Result<(), NoMemory>
         ensures { OnOk result (Adds self.old self.new held) }
     {
         let own = held.view().own();

@@ -10,7 +10,7 @@ ghost use Rattle.audit_check.specs.States.{HoldsMembers};
 use crate::parties::Parties;
 use change_code::{Format, Framed, Space, law_short_code};
 use course::{NewParty, law_scenario_starts, load_at, new_party};
-use member::Held;
+use member::PartyInMemory;
 use party_state::{Change, Edit, LinkRec, State, first_state};
 use scenario::{Line, Scenario};
 use std::alloc::Global;
@@ -47,7 +47,7 @@ fn load(state: &mut State, space: Space, alloc: Global, link: &LinkRec) -> Resul
 }
 
 /// A party with all links that the lines load at it.
-fn new_held(alloc: Global, lines: &[Line], party: &NewParty) -> Result<Held, NoMemory>
+fn new_held(alloc: Global, lines: &[Line], party: &NewParty) -> Result<PartyInMemory, NoMemory>
     ensures { IfOk result (λ held. held ≡ full_member lines.now party.now) }
 {
     let NewParty {
@@ -71,7 +71,7 @@ fn new_held(alloc: Global, lines: &[Line], party: &NewParty) -> Result<Held, NoM
             space = load(&mut state, space, alloc, &link)?;
         }
     }
-    Ok(Held::of(state, space))
+    Ok(PartyInMemory::of(state, space))
 }
 
 /// The parties of a scenario, with the links that its lines load.

@@ -16,7 +16,7 @@ use Rattle.party_tables.specs.declared.exchange.Exchange.{Exchange}
 use Rattle.party_tables.specs.Keys.{same_name}
 use Rattle.party_tables.specs.Names.{name_behind}
 use Rattle.party_state.specs.State.{Party, exchange_with}
-use Rattle.party_state.specs.Verdicts.{Held}
+use Rattle.party_state.specs.Verdicts.{TestsHold}
 use Rattle.role_base.specs.declared.exchanges.Sent.{Sent}
 use Rattle.role_base.specs.declared.exchanges.Twins.{Twins}
 use Rattle.role_base.specs.Conditions.{is_for}
@@ -206,7 +206,7 @@ module _ (held : HeldAtAccept) (accepted : AcceptedIfHeld) (of_links : LinkLaws)
 
       there_is : (error p a m).verdict ≡ Accept → ComplainsPlainly p a m
       there_is e =
-          let h : Held (plain_tests p a m) = held (plain_tests p a m) refl (sym row ∙ e) in
+          let h : TestsHold (plain_tests p a m) = held (plain_tests p a m) refl (sym row ∙ e) in
           let w = waits_for p m.originator h.1.0 in
           record { to = is_to p m.receiver m.originator h.0; about = w.0; waits = w.1.0; stands = w.1.1; code = h.1.1.0 }
 

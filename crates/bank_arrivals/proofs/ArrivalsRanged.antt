@@ -36,7 +36,7 @@ use Rattle.party_state.specs.declared.edit.Edit.{Edit}
 use Rattle.party_state.specs.declared.edit.Edit.TheVariants.{PutKey, DropExchange}
 use Rattle.party_state.specs.Ranges.{IsParty}
 use Rattle.party_state.specs.State.{Party, first_link, exchange_with}
-use Rattle.party_state.specs.Verdicts.{Held, is_accept}
+use Rattle.party_state.specs.Verdicts.{TestsHold, is_accept}
 use Rattle.role_base.specs.declared.exchanges.Sent.{Sent}
 use Rattle.role_base.specs.declared.exchanges.Twins.{Twins}
 use Rattle.role_base.specs.Conditions.{is_two_keys, has_key_room}
@@ -123,7 +123,7 @@ module _ (short : CanonShort) (below : WrapsBelow) (odd : DrawsOdd) (held : Held
   -- a key that is sent is accepted at a count, with room
   sends_one : (d : ℕ × Gen) → is_accept (sending_drawn p (rsi_tests p a m (Some l)) l (Some d)).verdict ≡ true → IsCount l.next × (has_key_room p (record { peer = l.peer; name = next_name p l }) ≡ true)
   sends_one d h =
-      let t : Held (rsi_tests p a m (Some l) ++ sending_tests p l (Some d)) = held (rsi_tests p a m (Some l) ++ sending_tests p l (Some d)) refl h in
+      let t : TestsHold (rsi_tests p a m (Some l) ++ sending_tests p l (Some d)) = held (rsi_tests p a m (Some l) ++ sending_tests p l (Some d)) refl h in
       (left_is_count l st.range.next t.1.1.1.1.1.1.0, t.1.1.1.1.1.1.1.0)
 
   one_ranged : IsRanged p (decision_of p (sending_drawn p (rsi_tests p a m (Some l)) l (good_draw p.generator moment)))
@@ -162,7 +162,7 @@ module _ (short : CanonShort) (below : WrapsBelow) (odd : DrawsOdd) (held : Held
         answer = tt;
       })
     where
-      tests : is_accept (twins_sending_drawn p (rsi_tests p a m (Some l)) l (Some d)).verdict ≡ true → Held (rsi_tests p a m (Some l) ++ twins_tests p l (Some d))
+      tests : is_accept (twins_sending_drawn p (rsi_tests p a m (Some l)) l (Some d)).verdict ≡ true → TestsHold (rsi_tests p a m (Some l) ++ twins_tests p l (Some d))
       tests h = held (rsi_tests p a m (Some l) ++ twins_tests p l (Some d)) refl h
 
       counts : is_accept (twins_sending_drawn p (rsi_tests p a m (Some l)) l (Some d)).verdict ≡ true → IsCount l.next × IsCount (l.next + 1)

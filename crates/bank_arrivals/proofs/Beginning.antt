@@ -21,7 +21,7 @@ use Rattle.party_tables.specs.Keys.{same_name}
 use Rattle.party_tables.specs.Names.{name_behind}
 use Rattle.party_tables.specs.Statuses.{is_ended}
 use Rattle.party_state.specs.State.{Party, first_link, exchange_with}
-use Rattle.party_state.specs.Verdicts.{Test, Held, is_accept}
+use Rattle.party_state.specs.Verdicts.{Test, TestsHold, is_accept}
 use Rattle.role_base.specs.declared.exchanges.Sent.{Sent}
 use Rattle.role_base.specs.declared.exchanges.Twins.{Twins}
 use Rattle.role_base.specs.Beginning.{AllBeginFree}
@@ -53,13 +53,13 @@ rsi_begins held p a m moment e = by_link (first_link m.originator Sends p) refl 
     by_draw : (l : LinkRec) → first_link m.originator Sends p ≡ Some l → (d : Option (ℕ × Gen)) → is_accept (sending_drawn p (rsi_tests p a m (Some l)) l d).verdict ≡ true → AllBeginFree p (sending_drawn p (rsi_tests p a m (Some l)) l d).edits
     by_draw l f None e = tt
     by_draw l f (Some d) e =
-        let h : Held (rsi_tests p a m (Some l) ++ sending_tests p l (Some d)) = held (rsi_tests p a m (Some l) ++ sending_tests p l (Some d)) refl e in
+        let h : TestsHold (rsi_tests p a m (Some l) ++ sending_tests p l (Some d)) = held (rsi_tests p a m (Some l) ++ sending_tests p l (Some d)) refl e in
         sending_begins p (rsi_tests p a m (Some l)) l (Some d) (free_with p m.originator l.peer (first_peer p m.originator Sends l f) h.1.1.1.0)
 
     by_two : (l : LinkRec) → first_link m.originator Sends p ≡ Some l → (d : Option TwinsDrawn) → is_accept (twins_sending_drawn p (rsi_tests p a m (Some l)) l d).verdict ≡ true → AllBeginFree p (twins_sending_drawn p (rsi_tests p a m (Some l)) l d).edits
     by_two l f None e = tt
     by_two l f (Some d) e =
-        let h : Held (rsi_tests p a m (Some l) ++ twins_tests p l (Some d)) = held (rsi_tests p a m (Some l) ++ twins_tests p l (Some d)) refl e in
+        let h : TestsHold (rsi_tests p a m (Some l) ++ twins_tests p l (Some d)) = held (rsi_tests p a m (Some l) ++ twins_tests p l (Some d)) refl e in
         twins_begin p (rsi_tests p a m (Some l)) l d (free_with p m.originator l.peer (first_peer p m.originator Sends l f) h.1.1.1.0)
 
     by_keys : (l : LinkRec) → first_link m.originator Sends p ≡ Some l → (two : Bool) → is_accept (rsi_row p a m l moment two).verdict ≡ true → AllBeginFree p (rsi_row p a m l moment two).edits

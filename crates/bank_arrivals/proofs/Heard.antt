@@ -23,7 +23,7 @@ use Rattle.party_tables.specs.Statuses.{is_ended}
 use Rattle.party_state.specs.State.{Party, exchange_with, apply_edit, apply}
 use Rattle.party_tables.specs.Names.{full_name}
 use Rattle.party_state.specs.Rows.{Reply, Coded}
-use Rattle.party_state.specs.Verdicts.{Held}
+use Rattle.party_state.specs.Verdicts.{TestsHold}
 use Rattle.party_tables.specs.Names.{name_behind}
 use Rattle.role_base.proofs.TwinKeys.{records_apart}
 use Rattle.role_base.specs.declared.exchanges.Sent.{Sent}
@@ -41,9 +41,9 @@ module _ (held : HeldAtAccept) (of_links : LinkLaws) (of_keys : KeyLaws) (of_exc
   -- responses
 
   heard_sent : (p : Party) (a : Arrival) (m : Rsm) (o : Option Sent) → sent_to p m.originator ≡ o → (rsm_to p a m o).verdict ≡ Accept → HeardResponse p (apply (rsm_to p a m o).edits p) a m
-  heard_sent p a m None f e = let h : Held (rsm_front p m None) = held (rsm_front p m None) refl e in absurd (both_ways false refl h.1.0)
+  heard_sent p a m None f e = let h : TestsHold (rsm_front p m None) = held (rsm_front p m None) refl e in absurd (both_ways false refl h.1.0)
   heard_sent p a m (Some s) f e =
-      let h : Held (rsm_front p m (Some s) ++ (is_verified a s.key.value, BadMac) ∷ []) = held (rsm_front p m (Some s) ++ (is_verified a s.key.value, BadMac) ∷ []) refl e in
+      let h : TestsHold (rsm_front p m (Some s) ++ (is_verified a s.key.value, BadMac) ∷ []) = held (rsm_front p m (Some s) ++ (is_verified a s.key.value, BadMac) ∷ []) refl e in
       let d : FoundSent p m.originator s = found_sent p m.originator s f in
       record {
         to = is_to p m.receiver m.originator h.0;
@@ -76,7 +76,7 @@ module _ (held : HeldAtAccept) (of_links : LinkLaws) (of_keys : KeyLaws) (of_exc
 
   heard_twins : (p : Party) (a : Arrival) (m : Rsm) (t : Twins) → twins_to p m.originator ≡ Some t → (rsm_twins p a m t).verdict ≡ Accept → HeardResponseToTwo p (apply (rsm_twins p a m t).edits p) a m
   heard_twins p a m t f e =
-      let h : Held (twins_front p m ++ (is_verified a (twins_value t), BadMac) ∷ []) = held (twins_front p m ++ (is_verified a (twins_value t), BadMac) ∷ []) refl e in
+      let h : TestsHold (twins_front p m ++ (is_verified a (twins_value t), BadMac) ∷ []) = held (twins_front p m ++ (is_verified a (twins_value t), BadMac) ∷ []) refl e in
       let d : FoundTwins p m.originator t = found_twins p m.originator t f in
       let ne : record_key t.second ≢ record_key t.first = records_apart of_keys.found p m.originator d.name t.first t.second d.first d.second in
       let first : KeyRec = record t.first { status = Live } in
@@ -102,9 +102,9 @@ module _ (held : HeldAtAccept) (of_links : LinkLaws) (of_keys : KeyLaws) (of_exc
       rw r (heard_by p a m (twins_to p m.originator) refl (rw r at e))
 
   heard_ending : (p : Party) (a : Arrival) (m : Rsm) (idd : KeyName) (o : Option KeyRec) → ending_with p m.originator ≡ o → (answer_to p a m idd o).verdict ≡ Accept → HeardEnd p (apply (answer_to p a m idd o).edits p) a m idd
-  heard_ending p a m idd None f e = let h : Held (end_front p m idd None) = held (end_front p m idd None) refl e in absurd (both_ways false refl h.1.0)
+  heard_ending p a m idd None f e = let h : TestsHold (end_front p m idd None) = held (end_front p m idd None) refl e in absurd (both_ways false refl h.1.0)
   heard_ending p a m idd (Some k) f e =
-      let h : Held (end_front p m idd (Some k) ++ (is_verified a k.value, BadMac) ∷ []) = held (end_front p m idd (Some k) ++ (is_verified a k.value, BadMac) ∷ []) refl e in
+      let h : TestsHold (end_front p m idd (Some k) ++ (is_verified a k.value, BadMac) ∷ []) = held (end_front p m idd (Some k) ++ (is_verified a k.value, BadMac) ∷ []) refl e in
       let d : FoundEnding p m.originator k = found_ending p m.originator k f in
       let named : idd ≡ k.name = ap (λ (x : RecordKey). x.name) ((of_keys.same (record { peer = []; name = idd }) (record { peer = []; name = k.name })).0 h.1.0) in
       let key : RecordKey = record { peer = m.originator; name = d.name } in
@@ -173,10 +173,10 @@ module _ (held : HeldAtAccept) (of_links : LinkLaws) (of_keys : KeyLaws) (of_exc
       ap (λ (s : KeyStatus). apply (cond (is_ended s) [] (g.0 ++ (PutKey (record k { status = Ended }) ∷ g.1))) p) e
 
   heard_named : (p : Party) (a : Arrival) (m : Dsm) (o b : Option KeyRec) → record_of p m.originator m.idd ≡ o → record_of p m.originator (code_name m.idd m.ida) ≡ b → (dsm_on p a m (paired o b)).verdict ≡ Accept → HeardDisconnection p (apply (dsm_on p a m (paired o b)).edits p) a m (dsm_on p a m (paired o b))
-  heard_named p a m None b f g e = let h : Held (dsm_front p m false) = held (dsm_front p m false) refl e in absurd (both_ways false refl h.1.0)
-  heard_named p a m (Some k) None f g e = let h : Held (dsm_front p m false) = held (dsm_front p m false) refl e in absurd (both_ways false refl h.1.0)
+  heard_named p a m None b f g e = let h : TestsHold (dsm_front p m false) = held (dsm_front p m false) refl e in absurd (both_ways false refl h.1.0)
+  heard_named p a m (Some k) None f g e = let h : TestsHold (dsm_front p m false) = held (dsm_front p m false) refl e in absurd (both_ways false refl h.1.0)
   heard_named p a m (Some k) (Some b) f g e =
-      let h : Held (dsm_front p m true ++ (is_verified a b.value, BadMac) ∷ []) = held (dsm_front p m true ++ (is_verified a b.value, BadMac) ∷ []) refl e in
+      let h : TestsHold (dsm_front p m true ++ (is_verified a b.value, BadMac) ∷ []) = held (dsm_front p m true ++ (is_verified a b.value, BadMac) ∷ []) refl e in
       let key : RecordKey = record { peer = m.originator; name = m.idd } in
       let kept : key ≡ record_key k = of_keys.found key k p f in
       record {

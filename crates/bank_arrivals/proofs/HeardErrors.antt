@@ -20,7 +20,7 @@ use Rattle.party_state.specs.declared.edit.Edit.TheVariants.{PutLink, PutKey, Dr
 use Rattle.party_tables.specs.Tables.{find_row, put_row}
 use Rattle.party_tables.specs.Keys.{record_key, same_record, link_key, same_link, exchange_key, sends}
 use Rattle.party_state.specs.State.{Party, centre_label, exchange_with, link_with, record_with, apply_edit, apply}
-use Rattle.party_state.specs.Verdicts.{Held}
+use Rattle.party_state.specs.Verdicts.{TestsHold}
 use Rattle.x_base.specs.declared.key_name.KeyName.{KeyName}
 use Rattle.party_tables.specs.declared.key.RecordKey.{RecordKey}
 use Rattle.party_tables.specs.Names.{name_behind}
@@ -167,7 +167,7 @@ module _ (held : HeldAtAccept) (of_links : LinkLaws) (of_keys : KeyLaws) (of_exc
 
   heard_translated : (p : Party) (a : Arrival) (m : Esm) (value cta : ℕ) → subject_with p m.originator ≡ Some (Translated value cta) → (error_row p a m (Translated value cta) None).verdict ≡ Accept → HeardCentre p (apply (error_row p a m (Translated value cta) None).edits p) a m (error_row p a m (Translated value cta) None)
   heard_translated p a m value cta f e =
-      let h : Held (esm_front p m (Some (Translated value cta)) ++ (is_verified a value, BadMac) ∷ []) = held (esm_front p m (Some (Translated value cta)) ++ (is_verified a value, BadMac) ∷ []) refl e in
+      let h : TestsHold (esm_front p m (Some (Translated value cta)) ++ (is_verified a value, BadMac) ∷ []) = held (esm_front p m (Some (Translated value cta)) ++ (is_verified a value, BadMac) ∷ []) refl e in
       let d = found_subject p m.originator (Translated value cta) f in
       record {
         to = is_to p m.receiver m.originator h.0;
@@ -193,7 +193,7 @@ module _ (held : HeldAtAccept) (of_links : LinkLaws) (of_keys : KeyLaws) (of_exc
 
   heard_sent : (p : Party) (a : Arrival) (m : Esm) (s : Sent) → subject_with p m.originator ≡ Some (SentKey s) → (error_row p a m (SentKey s) (retry_by p s.via m.ctr)).verdict ≡ Accept → HeardError p (apply (error_row p a m (SentKey s) (retry_by p s.via m.ctr)).edits p) a m (error_row p a m (SentKey s) (retry_by p s.via m.ctr))
   heard_sent p a m s f e =
-      let h : Held (esm_front p m (Some (SentKey s)) ++ (is_verified a s.key.value, BadMac) ∷ []) = held (esm_front p m (Some (SentKey s)) ++ (is_verified a s.key.value, BadMac) ∷ []) refl e in
+      let h : TestsHold (esm_front p m (Some (SentKey s)) ++ (is_verified a s.key.value, BadMac) ∷ []) = held (esm_front p m (Some (SentKey s)) ++ (is_verified a s.key.value, BadMac) ∷ []) refl e in
       let d : FoundSent p m.originator s = found_subject p m.originator (SentKey s) f in
       record {
         to = is_to p m.receiver m.originator h.0;
@@ -282,7 +282,7 @@ module _ (held : HeldAtAccept) (of_links : LinkLaws) (of_keys : KeyLaws) (of_exc
 
   heard_two : (p : Party) (a : Arrival) (m : Esm) (t : Twins) → subject_with p m.originator ≡ Some (SentTwins t) → (error_row p a m (SentTwins t) None).verdict ≡ Accept → HeardErrorOfTwo p (apply (error_row p a m (SentTwins t) None).edits p) a m (error_row p a m (SentTwins t) None)
   heard_two p a m t f e =
-      let h : Held (esm_front p m (Some (SentTwins t)) ++ (is_verified a (twins_value t), BadMac) ∷ []) = held (esm_front p m (Some (SentTwins t)) ++ (is_verified a (twins_value t), BadMac) ∷ []) refl e in
+      let h : TestsHold (esm_front p m (Some (SentTwins t)) ++ (is_verified a (twins_value t), BadMac) ∷ []) = held (esm_front p m (Some (SentTwins t)) ++ (is_verified a (twins_value t), BadMac) ∷ []) refl e in
       let d : FoundTwins p m.originator t = found_subject p m.originator (SentTwins t) f in
       let ne : record_key t.second ≢ record_key t.first = records_apart of_keys.found p m.originator d.name t.first t.second d.first d.second in
       let key : record { peer = m.originator; name = d.name } ≡ record_key t.first = of_keys.found (record { peer = m.originator; name = d.name }) t.first p d.first in
@@ -329,7 +329,7 @@ module _ (held : HeldAtAccept) (of_links : LinkLaws) (of_keys : KeyLaws) (of_exc
 
   heard_subject : (p : Party) (a : Arrival) (m : Esm) (o : Option ErrorSubject) → subject_with p m.originator ≡ o → (error_of p a m o (retry_in p o m.ctr)).verdict ≡ Accept
       → HeardError p (apply (error_of p a m o (retry_in p o m.ctr)).edits p) a m (error_of p a m o (retry_in p o m.ctr)) ⊎ (HeardErrorOfTwo p (apply (error_of p a m o (retry_in p o m.ctr)).edits p) a m (error_of p a m o (retry_in p o m.ctr)) ⊎ HeardCentre p (apply (error_of p a m o (retry_in p o m.ctr)).edits p) a m (error_of p a m o (retry_in p o m.ctr)))
-  heard_subject p a m None f e = let h : Held (esm_front p m None) = held (esm_front p m None) refl e in absurd (both_ways false refl h.1.0)
+  heard_subject p a m None f e = let h : TestsHold (esm_front p m None) = held (esm_front p m None) refl e in absurd (both_ways false refl h.1.0)
   heard_subject p a m (Some (Translated value cta)) f e = inr (inr (heard_translated p a m value cta f e))
   heard_subject p a m (Some (SentTwins t)) f e = inr (inl (heard_two p a m t f e))
   heard_subject p a m (Some (SentKey s)) f e = inl (heard_sent p a m s f e)

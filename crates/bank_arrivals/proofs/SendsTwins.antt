@@ -21,7 +21,7 @@ use Rattle.party_tables.specs.Keys.{record_key}
 use Rattle.party_tables.specs.Names.{name_behind}
 use Rattle.party_state.specs.State.{Party, first_link, apply, apply_edit}
 use Rattle.party_state.specs.Rows.{Row}
-use Rattle.party_state.specs.Verdicts.{Test, Held}
+use Rattle.party_state.specs.Verdicts.{Test, TestsHold}
 use Rattle.role_base.specs.Conditions.{is_two_keys}
 use Rattle.role_base.specs.Sending.{next_name}
 use Rattle.role_base.specs.Texts.{text_of, no_extras}
@@ -105,7 +105,7 @@ module _ (unwraps : Unwraps) (odd : DrawsOdd) (links : LinkLaws) (keys : KeyLaws
   sends_by : HeldAtAccept → (p : Party) (a : Arrival) (m : Rsi) (moment : ℕ) (l : LinkRec) (o : Option TwinsDrawn) → twins_drawn p.generator moment ≡ o → (twins_sending_drawn p (rsi_tests p a m (Some l)) l o).verdict ≡ Accept
       → SendsTwins p (apply (twins_sending_drawn p (rsi_tests p a m (Some l)) l o).edits p) (twins_sending_drawn p (rsi_tests p a m (Some l)) l o) l moment
   sends_by held p a m moment l None drawn e =
-      let h : Held (rsi_tests p a m (Some l) ++ twins_tests p l None) = held (rsi_tests p a m (Some l) ++ twins_tests p l None) refl e in
+      let h : TestsHold (rsi_tests p a m (Some l) ++ twins_tests p l None) = held (rsi_tests p a m (Some l) ++ twins_tests p l None) refl e in
       absurd (both_ways false refl h.1.1.1.1.1.1.1.1.0)
   sends_by held p a m moment l (Some d) drawn e = sends_both p (rsi_tests p a m (Some l)) l moment d (two_drawn p.generator moment d drawn)
 

@@ -16,7 +16,7 @@ use Rattle.party_tables.specs.declared.link.LinkRec.{LinkRec}
 use Rattle.party_state.specs.Limits.{most_keys}
 use Rattle.party_state.specs.State.{Party, first_link, record_with, exchange_with, apply}
 use Rattle.party_state.specs.Rows.{Row}
-use Rattle.party_state.specs.Verdicts.{Test, Held}
+use Rattle.party_state.specs.Verdicts.{Test, TestsHold}
 use Rattle.role_base.specs.Conditions.{is_data_key, is_two_keys, count_after, one_more, has_room_for_two}
 use Rattle.role_base.specs.Sending.{sending_tests, sending_drawn, sending}
 use Rattle.role_base.specs.Sends.{SendsKey}
@@ -88,7 +88,7 @@ module _ (held : HeldAtAccept) (accepted : AcceptedIfHeld) where
   abbrev all_tests : Party → Arrival → Rsi → LinkRec → Option (ℕ × Gen) → List Test
   all_tests p a m l o = rsi_tests p a m (Some l) ++ sending_tests p l o
 
-  serves : (p : Party) (a : Arrival) (m : Rsi) (moment : ℕ) (l : LinkRec) (d : ℕ × Gen) → first_link m.originator Sends p ≡ Some l → is_two_keys m.service ≡ false → good_draw p.generator moment ≡ Some d → Held (all_tests p a m l (Some d)) → CanServe p a m moment
+  serves : (p : Party) (a : Arrival) (m : Rsi) (moment : ℕ) (l : LinkRec) (d : ℕ × Gen) → first_link m.originator Sends p ≡ Some l → is_two_keys m.service ≡ false → good_draw p.generator moment ≡ Some d → TestsHold (all_tests p a m l (Some d)) → CanServe p a m moment
   serves p a m moment l d f one g h =
       let both : ((is_data_key m.service || is_two_keys m.service) ≡ true) × (is_none m.ultimate ≡ true) = and_parts (is_data_key m.service || is_two_keys m.service) (is_none m.ultimate) h.1.1.0 in
       let key : RecordKey = key_at p l l.next in
@@ -108,7 +108,7 @@ module _ (held : HeldAtAccept) (accepted : AcceptedIfHeld) where
       }
 
   one_asked : (p : Party) (a : Arrival) (m : Rsi) (moment : ℕ) (l : LinkRec) (o : Option (ℕ × Gen)) → first_link m.originator Sends p ≡ Some l → is_two_keys m.service ≡ false → good_draw p.generator moment ≡ o → (sending_drawn p (rsi_tests p a m (Some l)) l o).verdict ≡ Accept → CanServe p a m moment
-  one_asked p a m moment l None f one g e = let h : Held (all_tests p a m l None) = held (all_tests p a m l None) refl e in absurd (both_ways false refl h.1.1.1.1.1.1.1.1.0)
+  one_asked p a m moment l None f one g e = let h : TestsHold (all_tests p a m l None) = held (all_tests p a m l None) refl e in absurd (both_ways false refl h.1.1.1.1.1.1.1.1.0)
   one_asked p a m moment l (Some d) f one g e = serves p a m moment l d f one g (held (all_tests p a m l (Some d)) refl e)
 
   -- the same for two data keys
@@ -116,7 +116,7 @@ module _ (held : HeldAtAccept) (accepted : AcceptedIfHeld) where
   abbrev two_tests : Party → Arrival → Rsi → LinkRec → Option TwinsDrawn → List Test
   two_tests p a m l o = rsi_tests p a m (Some l) ++ twins_tests p l o
 
-  serves_two : (p : Party) (a : Arrival) (m : Rsi) (moment : ℕ) (l : LinkRec) (t : TwinsDrawn) → first_link m.originator Sends p ≡ Some l → is_two_keys m.service ≡ true → twins_drawn p.generator moment ≡ Some t → Held (two_tests p a m l (Some t)) → CanServeTwo p a m moment
+  serves_two : (p : Party) (a : Arrival) (m : Rsi) (moment : ℕ) (l : LinkRec) (t : TwinsDrawn) → first_link m.originator Sends p ≡ Some l → is_two_keys m.service ≡ true → twins_drawn p.generator moment ≡ Some t → TestsHold (two_tests p a m l (Some t)) → CanServeTwo p a m moment
   serves_two p a m moment l t f two g h =
       let both : ((is_data_key m.service || is_two_keys m.service) ≡ true) × (is_none m.ultimate ≡ true) = and_parts (is_data_key m.service || is_two_keys m.service) (is_none m.ultimate) h.1.1.0 in
       let one : RecordKey = key_at p l l.next in
@@ -140,7 +140,7 @@ module _ (held : HeldAtAccept) (accepted : AcceptedIfHeld) where
       }
 
   two_asked : (p : Party) (a : Arrival) (m : Rsi) (moment : ℕ) (l : LinkRec) (o : Option TwinsDrawn) → first_link m.originator Sends p ≡ Some l → is_two_keys m.service ≡ true → twins_drawn p.generator moment ≡ o → (twins_sending_drawn p (rsi_tests p a m (Some l)) l o).verdict ≡ Accept → CanServeTwo p a m moment
-  two_asked p a m moment l None f two g e = let h : Held (two_tests p a m l None) = held (two_tests p a m l None) refl e in absurd (both_ways false refl h.1.1.1.1.1.1.1.1.0)
+  two_asked p a m moment l None f two g e = let h : TestsHold (two_tests p a m l None) = held (two_tests p a m l None) refl e in absurd (both_ways false refl h.1.1.1.1.1.1.1.1.0)
   two_asked p a m moment l (Some t) f two g e = serves_two p a m moment l t f two g (held (two_tests p a m l (Some t)) refl e)
 
   -- by what is asked for
@@ -150,7 +150,7 @@ module _ (held : HeldAtAccept) (accepted : AcceptedIfHeld) where
   by_keys p a m moment l false f one e = inl (one_asked p a m moment l (good_draw p.generator moment) f one refl e)
 
   can_serve : (p : Party) (a : Arrival) (m : Rsi) (moment : ℕ) (o : Option LinkRec) → first_link m.originator Sends p ≡ o → (rsi_under p a m o moment).verdict ≡ Accept → CanServe p a m moment ⊎ CanServeTwo p a m moment
-  can_serve p a m moment None f e = let h : Held (rsi_tests p a m None) = held (rsi_tests p a m None) refl e in absurd (both_ways false refl h.1.1.1.1.0)
+  can_serve p a m moment None f e = let h : TestsHold (rsi_tests p a m None) = held (rsi_tests p a m None) refl e in absurd (both_ways false refl h.1.1.1.1.0)
   can_serve p a m moment (Some l) f e = by_keys p a m moment l (is_two_keys m.service) f refl e
 
   -- the row of a request by its link and by what it asks for

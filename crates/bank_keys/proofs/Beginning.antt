@@ -10,7 +10,7 @@ use Rattle.party_tables.specs.declared.link.LinkRec.{LinkRec}
 use Rattle.party_state.specs.declared.edit.Edit.TheVariants.{PutKey}
 use Rattle.party_tables.specs.Keys.{takes}
 use Rattle.party_state.specs.State.{Party, centre_label, link_with, exchange_with}
-use Rattle.party_state.specs.Verdicts.{Held, is_accept}
+use Rattle.party_state.specs.Verdicts.{TestsHold, is_accept}
 use Rattle.role_base.specs.Beginning.{AllBeginFree}
 use Rattle.role_base.proofs.PartyLaws.{HeldIfAccepted}
 use Rattle.role_base.proofs.Beginning.{none_stands, begin_append}
@@ -42,12 +42,12 @@ with_begins held p a m (Some k) e = by_link (link_with (takes m.originator centr
   where
     by_link : (o : Option LinkRec) → is_accept (brought p a m k o).verdict ≡ true → AllBeginFree p (brought p a m k o).edits
     by_link None e = tt
-    by_link (Some l) e = let h : Held (brought_tests p a m k l) = held (brought_tests p a m k l) refl e in (tt, (tt, (tt, (none_stands (exchange_with m.ultimate p) h.1.1.1.0, tt))))
+    by_link (Some l) e = let h : TestsHold (brought_tests p a m k l) = held (brought_tests p a m k l) refl e in (tt, (tt, (tt, (none_stands (exchange_with m.ultimate p) h.1.1.1.0, tt))))
 with_begins held p a m None e = by_waiting (waiting_with p m.originator) e
   where
     by_waiting : (o : Option KeyAtCentre) → is_accept (translated p a m o).verdict ≡ true → AllBeginFree p (translated p a m o).edits
     by_waiting None e = tt
-    by_waiting (Some t) e = let h : Held (translated_tests p a m t) = held (translated_tests p a m t) refl e in (tt, (tt, (none_stands (exchange_with m.ultimate p) h.1.1.1.0, tt)))
+    by_waiting (Some t) e = let h : TestsHold (translated_tests p a m t) = held (translated_tests p a m t) refl e in (tt, (tt, (none_stands (exchange_with m.ultimate p) h.1.1.1.0, tt)))
 
 pub rtr_begins : HeldIfAccepted → (p : Party) (a : Arrival) (m : Rtr) → is_accept (rtr p a m).verdict ≡ true → AllBeginFree p (rtr p a m).edits
 rtr_begins held p a m e = with_begins held p a m m.kd e

@@ -15,7 +15,7 @@ use Rattle.party_state.specs.declared.decision.Decision.{Decision}
 use Rattle.party_state.specs.declared.decision.Lead.{Lead}
 use Rattle.party_tables.specs.Ranges.{longest_text}
 use Rattle.party_state.specs.State.{Party, exchange_with, knows}
-use Rattle.party_state.specs.Verdicts.{Test, Held, verdict_of, is_accept}
+use Rattle.party_state.specs.Verdicts.{Test, TestsHold, verdict_of, is_accept}
 use Rattle.role_base.specs.Texts.{text_of, is_verified, lead_under}
 use Rattle.role_base.specs.Conditions.{is_for, count_tests, has_key_room}
 use Rattle.role_base.specs.Deciding.{decision_of, refusal_of, IsDecision, Decides, AcceptsWith, RefusesEarly}
@@ -48,12 +48,12 @@ used_keepable p l used cta st i e = rw e (next_on cta (cta + 1) i refl, link_roo
 -- an accepted answer has room for its key
 pub brought_room : HeldIfAccepted → (p : Party) (m : Rtr) (k : ℕ × ℕ) (l : LinkRec) (code : Bool) (v : Verdict) → v ≡ verdict_of (brought_front p m (Some l) ++ (code, BadMac) ∷ (count_tests l k.1 ++ rtr_rest p m)) → is_accept v ≡ true → has_key_room p (centre_key p m) ≡ true
 brought_room held p m k l code v e t =
-    let h : Held (brought_front p m (Some l) ++ (code, BadMac) ∷ (count_tests l k.1 ++ rtr_rest p m)) = held (brought_front p m (Some l) ++ (code, BadMac) ∷ (count_tests l k.1 ++ rtr_rest p m)) refl (rw (← e) t) in
+    let h : TestsHold (brought_front p m (Some l) ++ (code, BadMac) ∷ (count_tests l k.1 ++ rtr_rest p m)) = held (brought_front p m (Some l) ++ (code, BadMac) ∷ (count_tests l k.1 ++ rtr_rest p m)) refl (rw (← e) t) in
     h.1.1.1.1.1.1.1.1.1.0
 
 pub translated_room : HeldIfAccepted → (p : Party) (m : Rtr) (t : KeyAtCentre) (code : Bool) (v : Verdict) → v ≡ verdict_of (translated_front p m (Some t) ++ (code, BadMac) ∷ rtr_rest p m) → is_accept v ≡ true → has_key_room p (centre_key p m) ≡ true
 translated_room held p m t code v e x =
-    let h : Held (translated_front p m (Some t) ++ (code, BadMac) ∷ rtr_rest p m) = held (translated_front p m (Some t) ++ (code, BadMac) ∷ rtr_rest p m) refl (rw (← e) x) in
+    let h : TestsHold (translated_front p m (Some t) ++ (code, BadMac) ∷ rtr_rest p m) = held (translated_front p m (Some t) ++ (code, BadMac) ∷ rtr_rest p m) refl (rw (← e) x) in
     h.1.1.1.1.1.1.0
 
 -- one for which no link or no key to test the code under is there

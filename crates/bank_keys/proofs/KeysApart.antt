@@ -19,7 +19,7 @@ use Rattle.party_state.specs.declared.edit.Edit.TheVariants.{PutLink, PutKey}
 use Rattle.party_tables.specs.Keys.{same_link, link_key, record_key, takes}
 use Rattle.party_state.specs.State.{Party, centre_label, link_with, exchange_with, is_usable}
 use Rattle.party_tables.specs.Tables.{Distinct}
-use Rattle.party_state.specs.Verdicts.{Held, is_accept}
+use Rattle.party_state.specs.Verdicts.{TestsHold, is_accept}
 use Rattle.party_tables.proofs.Distinct.{first_found}
 use Rattle.party_tables.proofs.Keys.{test_links}
 use Rattle.role_base.specs.Apart.{AreApart}
@@ -67,7 +67,7 @@ is_free : (label : Bool) (o : Option LinkRec) → (not label && is_none o) ≡ t
 is_free label None h = refl
 is_free label (Some l) h = absurd (let t : false ≡ true = (and_parts (not label) false h).1 in cc)
 
-taken_apart : LinkLaws → KeyLaws → (p : Party) (originator : List ℕ) (l : LinkRec) (count up : ℕ) (n : Option (List ℕ × NewKk)) (k : KeyRec) (o : Option KeyRec) → OtherKey k o → link_with (link_key l) p ≡ Some l → Held (new_tests p originator l count n) → AreApart (PutLink (record l { next = up }) ∷ (taken_edits originator l count n ++ PutKey k ∷ second_edits o))
+taken_apart : LinkLaws → KeyLaws → (p : Party) (originator : List ℕ) (l : LinkRec) (count up : ℕ) (n : Option (List ℕ × NewKk)) (k : KeyRec) (o : Option KeyRec) → OtherKey k o → link_with (link_key l) p ≡ Some l → TestsHold (new_tests p originator l count n) → AreApart (PutLink (record l { next = up }) ∷ (taken_edits originator l count n ++ PutKey k ∷ second_edits o))
 taken_apart links keys p originator l count up None k None ne at t = ((refl, tt), (tt, tt))
 taken_apart links keys p originator l count up None k (Some j) ne at t = ((refl, (refl, tt)), ((other_record keys (record_key k) (record_key j) ne, tt), (tt, tt)))
 taken_apart links keys p originator l count up (Some n) k None ne at t =
@@ -80,7 +80,7 @@ taken_apart links keys p originator l count up (Some n) k (Some j) ne at t =
 key_apart : HeldIfAccepted → LinkLaws → KeyLaws → (p : Party) (a : Arrival) (m : Ksm) (b : KsmBody) (o : Option LinkRec) → Distinct link_key same_link p.links → body_link p m.originator b ≡ o → is_accept (key_row p a m b o).verdict ≡ true → AreApart (key_row p a m b o).edits
 key_apart held links keys p a m b None d found t = tt
 key_apart held links keys p a m b (Some l) d found t =
-    let h : Held (body_tests p a m b l) = held (body_tests p a m b l) (all_refusing p a m b l) t in
+    let h : TestsHold (body_tests p a m b l) = held (body_tests p a m b l) (all_refusing p a m b l) t in
     taken_apart links keys p m.originator l (body_count b) (body_next b) (body_new b) (body_record p m b l) (body_second p m b l) (others_apart p m b l) (body_stands links p m.originator b l d found) (new_held p a m b l h).0
 
 pub ksm_apart : HeldIfAccepted → LinkLaws → KeyLaws → (p : Party) (a : Arrival) (m : Ksm) → Distinct link_key same_link p.links → is_accept (key_arrives p a m).verdict ≡ true → AreApart (key_arrives p a m).edits
@@ -106,14 +106,14 @@ with_apart held p a m (Some k) t = by_link (link_with (takes m.originator centre
     by_link : (o : Option LinkRec) → is_accept (brought p a m k o).verdict ≡ true → AreApart (brought p a m k o).edits
     by_link None t = tt
     by_link (Some l) t =
-        let h : Held (brought_tests p a m k l) = held (brought_tests p a m k l) refl t in
+        let h : TestsHold (brought_tests p a m k l) = held (brought_tests p a m k l) refl t in
         passed_apart p m (Some (record l { next = k.1 + 1 })) (brought_value l k) (vias.Distribution m.originator k.1) (asked_there (exchange_with m.originator p) m.ultimate h.1.1.0) h.1.1.1.0
 with_apart held p a m None t = by_waiting (waiting_with p m.originator) refl t
   where
     by_waiting : (o : Option KeyAtCentre) → waiting_with p m.originator ≡ o → is_accept (translated p a m o).verdict ≡ true → AreApart (translated p a m o).edits
     by_waiting None e t = tt
     by_waiting (Some w) e t =
-        let h : Held (translated_tests p a m w) = held (translated_tests p a m w) refl t in
+        let h : TestsHold (translated_tests p a m w) = held (translated_tests p a m w) refl t in
         passed_apart p m None w.value (vias.Translation m.originator) (waiting_there (exchange_with m.originator p) w e) h.1.1.1.0
 
 pub rtr_apart : HeldIfAccepted → (p : Party) (a : Arrival) (m : Rtr) → is_accept (rtr p a m).verdict ≡ true → AreApart (rtr p a m).edits

@@ -14,7 +14,7 @@ use Rattle.party_tables.specs.declared.key.KeyRec.{KeyRec}
 use Rattle.party_tables.specs.Keys.{record_key, takes}
 use Rattle.party_tables.specs.Ranges.{IsNextCount}
 use Rattle.party_state.specs.State.{Party, record_with}
-use Rattle.party_state.specs.Verdicts.{Held, is_accept}
+use Rattle.party_state.specs.Verdicts.{TestsHold, is_accept}
 use Rattle.role_base.specs.Conditions.{one_more}
 use Rattle.role_base.specs.Deciding.{decision_of, Decides}
 use Rattle.role_base.specs.Storable.{can_put_key_behind, can_put_key, AreKeepable}
@@ -43,7 +43,7 @@ unfolding AreKeysKept
 keys_kept p k None room = key_fits p (record_key k) room
 keys_kept p k (Some j) room = keys_fit p (record_key k) (record_key j) room
 
-taken_keepable : (p : Party) (originator : List ℕ) (l : LinkRec) (count up : ℕ) (n : Option (List ℕ × NewKk)) (k : KeyRec) (o : Option KeyRec) → LinkStands p l → IsNextCount up → Held (new_tests p originator l count n) → AreKeysKept p k o → AreKeepable p (PutLink (record l { next = up }) ∷ (taken_edits originator l count n ++ PutKey k ∷ second_edits o))
+taken_keepable : (p : Party) (originator : List ℕ) (l : LinkRec) (count up : ℕ) (n : Option (List ℕ × NewKk)) (k : KeyRec) (o : Option KeyRec) → LinkStands p l → IsNextCount up → TestsHold (new_tests p originator l count n) → AreKeysKept p k o → AreKeepable p (PutLink (record l { next = up }) ∷ (taken_edits originator l count n ++ PutKey k ∷ second_edits o))
 unfolding AreKeysKept
 taken_keepable p originator l count up None k None st i t room = record { each = ((i, link_room p l st), (room, tt)); order = refl }
 taken_keepable p originator l count up None k (Some j) st i t room = record { each = ((i, link_room p l st), (room.0, (room.1, tt))); order = refl }
@@ -67,6 +67,6 @@ key_kept held p a m b l made st i c e = made_kept p (key_row p a m b (Some l)) m
   where
     keepable : is_accept (key_row p a m b (Some l)).verdict ≡ true → AreKeepable p (key_row p a m b (Some l)).edits
     keepable t =
-        let h : Held (body_tests p a m b l) = held (body_tests p a m b l) (all_refusing p a m b l) t in
-        let g : Held (new_tests p m.originator l (body_count b) (body_new b)) × (has_room p m b l ≡ true) = new_held p a m b l h in
+        let h : TestsHold (body_tests p a m b l) = held (body_tests p a m b l) (all_refusing p a m b l) t in
+        let g : TestsHold (new_tests p m.originator l (body_count b) (body_new b)) × (has_room p m b l ≡ true) = new_held p a m b l h in
         taken_keepable p m.originator l (body_count b) (body_next b) (body_new b) (body_record p m b l) (body_second p m b l) st (next_counts b i c) g.0 (keys_kept p (body_record p m b l) (body_second p m b l) g.1)

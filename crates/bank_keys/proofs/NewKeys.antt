@@ -8,7 +8,7 @@ use Rattle.csm_grammar.specs.declared.message.NewKk.{NewKk}
 use Rattle.csm_grammar.specs.declared.arrival.Arrival.{Arrival}
 use Rattle.party_tables.specs.declared.link.LinkRec.{LinkRec}
 use Rattle.party_state.specs.State.{Party}
-use Rattle.party_state.specs.Verdicts.{Held, all_refuse}
+use Rattle.party_state.specs.Verdicts.{TestsHold, all_refuse}
 use Rattle.role_base.specs.Conditions.{count_tests}
 use Rattle.role_base.proofs.Early.{none_early}
 use Rattle.party_tables.specs.Keys.{record_key}
@@ -36,14 +36,14 @@ pub all_refusing : (p : Party) (a : Arrival) (m : Ksm) (b : KsmBody) (l : LinkRe
 all_refusing p a m b l = refuses p m.originator l (body_count b) (body_new b) (has_room p m b l)
 
 -- the tests for a new key-encrypting key, and for the room behind them
-apart_held : (p : Party) (originator : List ℕ) (l : LinkRec) (count : ℕ) (n : Option (List ℕ × NewKk)) (room : Bool) → Held (new_tests p originator l count n ++ (room, KeysFull) ∷ []) → Held (new_tests p originator l count n) × (room ≡ true)
+apart_held : (p : Party) (originator : List ℕ) (l : LinkRec) (count : ℕ) (n : Option (List ℕ × NewKk)) (room : Bool) → TestsHold (new_tests p originator l count n ++ (room, KeysFull) ∷ []) → TestsHold (new_tests p originator l count n) × (room ≡ true)
 apart_held p originator l count None room h = (tt, h.0)
 apart_held p originator l count (Some n) room h = ((h.0, (h.1.0, (h.1.1.0, tt))), h.1.1.1.0)
 
-pub both_held : (p : Party) (originator : List ℕ) (l : LinkRec) (count : ℕ) (n : Option (List ℕ × NewKk)) (room : Bool) → Held (new_tests p originator l count n) → room ≡ true → Held (new_tests p originator l count n ++ (room, KeysFull) ∷ [])
+pub both_held : (p : Party) (originator : List ℕ) (l : LinkRec) (count : ℕ) (n : Option (List ℕ × NewKk)) (room : Bool) → TestsHold (new_tests p originator l count n) → room ≡ true → TestsHold (new_tests p originator l count n ++ (room, KeysFull) ∷ [])
 both_held p originator l count None room h r = (r, tt)
 both_held p originator l count (Some n) room h r = (h.0, (h.1.0, (h.1.1.0, (r, tt))))
 
 -- where all held, those for a new key-encrypting key did, and the key has room
-pub new_held : (p : Party) (a : Arrival) (m : Ksm) (b : KsmBody) (l : LinkRec) → Held (body_tests p a m b l) → Held (new_tests p m.originator l (body_count b) (body_new b)) × (has_room p m b l ≡ true)
+pub new_held : (p : Party) (a : Arrival) (m : Ksm) (b : KsmBody) (l : LinkRec) → TestsHold (body_tests p a m b l) → TestsHold (new_tests p m.originator l (body_count b) (body_new b)) × (has_room p m b l ≡ true)
 new_held p a m b l h = apart_held p m.originator l (body_count b) (body_new b) (has_room p m b l) h.1.1.1.1.1.1

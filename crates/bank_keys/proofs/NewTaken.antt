@@ -10,7 +10,7 @@ use Rattle.party_tables.specs.declared.key.KeyRec.{KeyRec}
 use Rattle.party_state.specs.declared.edit.Edit.TheVariants.{PutLink, PutKey}
 use Rattle.party_tables.specs.Keys.{takes}
 use Rattle.party_state.specs.State.{Party, link_with, apply, apply_edit}
-use Rattle.party_state.specs.Verdicts.{Held}
+use Rattle.party_state.specs.Verdicts.{TestsHold}
 use Rattle.role_base.proofs.PartyLaws.{HeldAtAccept, LinkLaws, put_same}
 use Rattle.bank_keys.specs.Ksm.{body_link, body_count, body_next, body_new, body_record, second_edits, body_second, body_front, taken_link, taken_edits, key_row, key_arrives}
 use Rattle.bank_keys.specs.Taking.{TakesNew}
@@ -27,5 +27,5 @@ pub takes_new : HeldAtAccept → LinkLaws → (p : Party) (a : Arrival) (m : Ksm
 takes_new held links p a m new e v = by_link (body_link p m.originator m.body) refl v
   where
     by_link : (o : Option LinkRec) → body_link p m.originator m.body ≡ o → (key_row p a m m.body o).verdict ≡ Accept → TakesNew p (apply (key_row p a m m.body o).edits p) m new
-    by_link None f v = let h : Held (body_front p m m.body None) = held (body_front p m m.body None) refl v in absurd (both_ways false refl h.1.1.0)
+    by_link None f v = let h : TestsHold (body_front p m m.body None) = held (body_front p m m.body None) refl v in absurd (both_ways false refl h.1.1.0)
     by_link (Some l) f v = record { link = l; in_use = f; taken = taken_at links p m.originator l (body_count m.body) (body_next m.body) (body_new m.body) (body_record p m m.body l) (body_second p m m.body l) new e }

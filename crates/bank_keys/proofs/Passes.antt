@@ -16,7 +16,7 @@ use Rattle.party_tables.specs.declared.exchange.Kind.TheVariants as kind
 use Rattle.party_tables.specs.declared.exchange.Exchange.{Exchange}
 use Rattle.party_tables.specs.Keys.{takes}
 use Rattle.party_state.specs.State.{Party, centre_label, link_with, record_with, exchange_with}
-use Rattle.party_state.specs.Verdicts.{Held, verdict_of}
+use Rattle.party_state.specs.Verdicts.{TestsHold, verdict_of}
 use Rattle.role_base.specs.Conditions.{has_count}
 use Rattle.role_base.specs.Deciding.{decision_of}
 use Rattle.role_base.proofs.Addressed.{for_me, mine}
@@ -60,7 +60,7 @@ module _ (held : HeldAtAccept) (accepted : AcceptedIfHeld) (keys : KeysCounted) 
 
   passes_brought : (p : Party) (a : Arrival) (m : Rtr) (k : ℕ × ℕ) (l : LinkRec) → link_with (takes m.originator centre_label) p ≡ Some l → m.kd ≡ Some k → verdict_of (brought_tests p a m k l) ≡ Accept → CanPassOn p a m
   passes_brought p a m k l f is e =
-      let h : Held (brought_tests p a m k l) = held (brought_tests p a m k l) refl e in
+      let h : TestsHold (brought_tests p a m k l) = held (brought_tests p a m k l) refl e in
       let who = for_me p m.receiver m.originator h.0 in
       let asked = asked_for (exchange_with m.originator p) m.ultimate h.1.1.0 in
       let key : Brought p m (brought_value l k) k = record {
@@ -113,7 +113,7 @@ module _ (held : HeldAtAccept) (accepted : AcceptedIfHeld) (keys : KeysCounted) 
 
   passes_translated : (p : Party) (a : Arrival) (m : Rtr) (t : KeyAtCentre) → waiting_with p m.originator ≡ Some t → m.kd ≡ None → verdict_of (translated_tests p a m t) ≡ Accept → CanPassOn p a m
   passes_translated p a m t f is e =
-      let h : Held (translated_tests p a m t) = held (translated_tests p a m t) refl e in
+      let h : TestsHold (translated_tests p a m t) = held (translated_tests p a m t) refl e in
       let who = for_me p m.receiver m.originator h.0 in
       let waits = waits_for (exchange_with m.originator p) t f in
       let named : t.ultimate ≡ m.ultimate = (bytes_eq-Decides t.ultimate m.ultimate).0 h.1.1.0 in
@@ -148,12 +148,12 @@ module _ (held : HeldAtAccept) (accepted : AcceptedIfHeld) (keys : KeysCounted) 
   accepts p a m (Some k) is e = by_link (link_with (takes m.originator centre_label) p) refl e
     where
       by_link : (o : Option LinkRec) → link_with (takes m.originator centre_label) p ≡ o → (brought p a m k o).verdict ≡ Accept → CanPassOn p a m
-      by_link None f e = let h : Held (brought_front p m None) = held (brought_front p m None) refl e in absurd (both_ways false refl h.1.1.1.1.0)
+      by_link None f e = let h : TestsHold (brought_front p m None) = held (brought_front p m None) refl e in absurd (both_ways false refl h.1.1.1.1.0)
       by_link (Some l) f e = passes_brought p a m k l f is e
   accepts p a m None is e = by_waiting (waiting_with p m.originator) refl e
     where
       by_waiting : (o : Option KeyAtCentre) → waiting_with p m.originator ≡ o → (translated p a m o).verdict ≡ Accept → CanPassOn p a m
-      by_waiting None f e = let h : Held (translated_front p m None) = held (translated_front p m None) refl e in absurd (both_ways false refl h.1.1.0)
+      by_waiting None f e = let h : TestsHold (translated_front p m None) = held (translated_front p m None) refl e in absurd (both_ways false refl h.1.1.0)
       by_waiting (Some t) f e = passes_translated p a m t f is e
 
   accepted_with : (p : Party) (a : Arrival) (m : Rtr) (o : Option (ℕ × ℕ)) → m.kd ≡ o → CanPassOn p a m → (rtr_with p a m o).verdict ≡ Accept

@@ -16,7 +16,7 @@ use Rattle.party_state.specs.declared.command.Input.TheVariants as input
 use Rattle.party_tables.specs.declared.link.LinkRec.{LinkRec}
 use Rattle.party_tables.specs.Keys.{takes}
 use Rattle.party_state.specs.State.{Party, centre_label, link_with, has_pair}
-use Rattle.party_state.specs.Verdicts.{Held, verdict_of}
+use Rattle.party_state.specs.Verdicts.{TestsHold, verdict_of}
 use Rattle.party_state.specs.Limits.{most_links}
 use Rattle.role_base.specs.Conditions.{has_count, has_link_room}
 use Rattle.role_base.specs.Deciding.{decision_of}
@@ -45,7 +45,7 @@ absent None h = refl
 absent (Some l) h = absurd (cc)
 
 module _ (held : HeldAtAccept) (accepted : AcceptedIfHeld) (links : LinksCounted) (keys : KeysCounted) (laws : KeyLaws) where
-  adds : (p : Party) (originator : List ℕ) (l : LinkRec) (count : ℕ) (n : List ℕ × NewKk) → Held (new_tests p originator l count (Some n)) → CanAdd p originator l count n
+  adds : (p : Party) (originator : List ℕ) (l : LinkRec) (count : ℕ) (n : List ℕ × NewKk) → TestsHold (new_tests p originator l count (Some n)) → CanAdd p originator l count n
   adds p originator l count n h =
       let both : (not (bytes_eq n.0 centre_label) ≡ true) × (is_none (link_with (takes originator n.0) p) ≡ true) = and_parts (not (bytes_eq n.0 centre_label)) (is_none (link_with (takes originator n.0) p)) h.0 in
       let free : link_with (takes originator n.0) p ≡ None = absent (link_with (takes originator n.0) p) both.1 in
@@ -57,18 +57,18 @@ module _ (held : HeldAtAccept) (accepted : AcceptedIfHeld) (links : LinksCounted
         room = rw (one_link_more links p (taken_link originator l count n) free) (leb-true (length p.links + 1) most_links room);
       }
 
-  added : (p : Party) (originator : List ℕ) (l : LinkRec) (count : ℕ) (n : List ℕ × NewKk) → CanAdd p originator l count n → Held (new_tests p originator l count (Some n))
+  added : (p : Party) (originator : List ℕ) (l : LinkRec) (count : ℕ) (n : List ℕ × NewKk) → CanAdd p originator l count n → TestsHold (new_tests p originator l count (Some n))
   added p originator l count n c =
       let free : is_none (link_with (takes originator n.0) p) ≡ true = rw c.free refl in
       let room : nat_le (length p.links + 1) most_links ≡ true = le-leb (length p.links + 1) most_links (rw (one_link_more links p (taken_link originator l count n) c.free) at c.room) in
       let place : has_link_room p (takes originator n.0) ≡ true = rw c.free room in
       (and_from (not (bytes_eq n.0 centre_label)) (is_none (link_with (takes originator n.0) p)) (apart n.0 centre_label c.label) free, (not_from_false (has_pair (opened_kk l.pair count n.1) p) c.other, (place, tt)))
 
-  adds_new : (p : Party) (originator : List ℕ) (l : LinkRec) (count : ℕ) (n : Option (List ℕ × NewKk)) → Held (new_tests p originator l count n) → IfSome n (CanAdd p originator l count)
+  adds_new : (p : Party) (originator : List ℕ) (l : LinkRec) (count : ℕ) (n : Option (List ℕ × NewKk)) → TestsHold (new_tests p originator l count n) → IfSome n (CanAdd p originator l count)
   adds_new p originator l count None h = tt
   adds_new p originator l count (Some n) h = adds p originator l count n h
 
-  added_new : (p : Party) (originator : List ℕ) (l : LinkRec) (count : ℕ) (n : Option (List ℕ × NewKk)) → IfSome n (CanAdd p originator l count) → Held (new_tests p originator l count n)
+  added_new : (p : Party) (originator : List ℕ) (l : LinkRec) (count : ℕ) (n : Option (List ℕ × NewKk)) → IfSome n (CanAdd p originator l count) → TestsHold (new_tests p originator l count n)
   added_new p originator l count None c = tt
   added_new p originator l count (Some n) c = added p originator l count n c
 
@@ -76,9 +76,9 @@ module _ (held : HeldAtAccept) (accepted : AcceptedIfHeld) (links : LinksCounted
 
   accepts_under : (p : Party) (a : Arrival) (m : Ksm) (l : LinkRec) → body_link p m.originator m.body ≡ Some l → verdict_of (body_tests p a m m.body l) ≡ Accept → CanTake p a m
   accepts_under p a m l f e =
-      let h : Held (body_tests p a m m.body l) = held (body_tests p a m m.body l) (all_refusing p a m m.body l) e in
+      let h : TestsHold (body_tests p a m m.body l) = held (body_tests p a m m.body l) (all_refusing p a m m.body l) e in
       let who = for_me p m.receiver m.originator h.0 in
-      let last : Held (new_tests p m.originator l (body_count m.body) (body_new m.body)) × (has_room p m m.body l ≡ true) = new_held p a m m.body l h in
+      let last : TestsHold (new_tests p m.originator l (body_count m.body) (body_new m.body)) × (has_room p m m.body l ≡ true) = new_held p a m m.body l h in
       record {
         receiver = who.0;
         originator = who.1;
@@ -118,7 +118,7 @@ module _ (held : HeldAtAccept) (accepted : AcceptedIfHeld) (links : LinksCounted
   accepts_exactly p a m = (accepts (body_link p m.originator m.body) refl, takes_it)
     where
       accepts : (o : Option LinkRec) → body_link p m.originator m.body ≡ o → (key_row p a m m.body o).verdict ≡ Accept → CanTake p a m
-      accepts None f e = let h : Held (body_front p m m.body None) = held (body_front p m m.body None) refl e in absurd (both_ways false refl h.1.1.0)
+      accepts None f e = let h : TestsHold (body_front p m m.body None) = held (body_front p m m.body None) refl e in absurd (both_ways false refl h.1.1.0)
       accepts (Some l) f e = accepts_under p a m l f e
 
       takes_it : CanTake p a m → (key_arrives p a m).verdict ≡ Accept

@@ -18,7 +18,7 @@ use Rattle.party_tables.specs.declared.exchange.Kind.TheVariants as kind
 use Rattle.party_tables.specs.Keys.{same_link, link_key, sends, takes}
 use Rattle.party_state.specs.State.{Party, apply, centre_label, link_with, exchange_with, knows}
 use Rattle.party_state.specs.Rows.{Row, Plain}
-use Rattle.party_state.specs.Verdicts.{Test, Held}
+use Rattle.party_state.specs.Verdicts.{Test, TestsHold}
 use Rattle.role_base.specs.Texts.{text_of}
 use Rattle.role_base.proofs.Addressed.{others, apart}
 use Rattle.role_base.proofs.PartyLaws.{HeldAtAccept, AcceptedIfHeld, LinkLaws, ExchangeLaws, put_over, put_other, exchange_put, exchange_put_other}
@@ -42,7 +42,7 @@ asks_peer p peer = record {
 
 -- the tests of a centre and of an ultimate recipient, and those behind them
 
-turns : (p : Party) (centre u : List ℕ) (ts : List Test) → Held (centre_front p centre u ++ ts) → CanTurnTo p centre u
+turns : (p : Party) (centre u : List ℕ) (ts : List Test) → TestsHold (centre_front p centre u ++ ts) → CanTurnTo p centre u
 turns p centre u ts h =
     let apart : (not (bytes_eq u p.own) ≡ true) × (not (bytes_eq u centre) ≡ true) = and_parts (not (bytes_eq u p.own)) (not (bytes_eq u centre)) h.1.0 in
     let free : (is_none (exchange_with centre p) ≡ true) × (is_none (exchange_with u p) ≡ true) = and_parts (is_none (exchange_with centre p)) (is_none (exchange_with u p)) h.1.1.0 in
@@ -54,7 +54,7 @@ turns p centre u ts h =
       unbound = none_stands (exchange_with u p) free.1;
     }
 
-turned : (p : Party) (centre u : List ℕ) (ts : List Test) → CanTurnTo p centre u → Held ts → Held (centre_front p centre u ++ ts)
+turned : (p : Party) (centre u : List ℕ) (ts : List Test) → CanTurnTo p centre u → TestsHold ts → TestsHold (centre_front p centre u ++ ts)
 turned p centre u ts c h = (
   c.known,
   (
@@ -69,7 +69,7 @@ module _ (held : HeldAtAccept) (accepted : AcceptedIfHeld) where
 
   can_ask : (p : Party) (centre u : List ℕ) → (ask_centre p centre u).verdict ≡ Accept → CanAskCentre p centre u
   can_ask p centre u e =
-      let h : Held (ask_tests p centre u) = held (ask_tests p centre u) refl e in
+      let h : TestsHold (ask_tests p centre u) = held (ask_tests p centre u) refl e in
       let link : (l : LinkRec) × (link_with (takes centre centre_label) p ≡ Some l) = present (link_with (takes centre centre_label) p) h.1.1.1.0 in
       record { turns = turns p centre u ((is_some (link_with (takes centre centre_label) p), UnknownKk) ∷ []) h; link = link.0; in_use = link.1 }
 
@@ -81,15 +81,15 @@ module _ (held : HeldAtAccept) (accepted : AcceptedIfHeld) where
 
   can_translate : (p : Party) (centre u : List ℕ) (moment : ℕ) (o : Option LinkRec) (x : Option (ℕ × Gen)) → link_with (sends centre centre_label) p ≡ o → good_draw p.generator moment ≡ x → (translate_under p centre u o moment).verdict ≡ Accept → CanAskToTranslate p centre u moment
   can_translate p centre u moment None x f g e =
-      let h : Held (centre_front p centre u ++ (false, UnknownKk) ∷ []) = held (centre_front p centre u ++ (false, UnknownKk) ∷ []) refl e in
+      let h : TestsHold (centre_front p centre u ++ (false, UnknownKk) ∷ []) = held (centre_front p centre u ++ (false, UnknownKk) ∷ []) refl e in
       absurd (both_ways false refl h.1.1.1.0)
   can_translate p centre u moment (Some l) None f g e =
       let r : (translate_drawn p centre u l None).verdict ≡ Accept = ap (λ (y : Option (ℕ × Gen)). (translate_drawn p centre u l y).verdict) (sym g) ∙ e in
-      let h : Held (centre_front p centre u ++ translate_tests p l None) = held (centre_front p centre u ++ translate_tests p l None) refl r in
+      let h : TestsHold (centre_front p centre u ++ translate_tests p l None) = held (centre_front p centre u ++ translate_tests p l None) refl r in
       absurd (both_ways false refl h.1.1.1.1.1.0)
   can_translate p centre u moment (Some l) (Some d) f g e =
       let r : (translate_drawn p centre u l (Some d)).verdict ≡ Accept = ap (λ (y : Option (ℕ × Gen)). (translate_drawn p centre u l y).verdict) (sym g) ∙ e in
-      let h : Held (centre_front p centre u ++ translate_tests p l (Some d)) = held (centre_front p centre u ++ translate_tests p l (Some d)) refl r in
+      let h : TestsHold (centre_front p centre u ++ translate_tests p l (Some d)) = held (centre_front p centre u ++ translate_tests p l (Some d)) refl r in
       record { turns = turns p centre u (translate_tests p l (Some d)) h; link = l; in_use = f; left = leb-true l.next 99999999999999 h.1.1.1.1.0; drawn = d; draws = g }
 
   translated : (p : Party) (centre u : List ℕ) (moment : ℕ) → CanAskToTranslate p centre u moment → (translate p centre u moment).verdict ≡ Accept

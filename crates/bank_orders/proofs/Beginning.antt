@@ -17,7 +17,7 @@ use Rattle.party_state.specs.declared.edit.Edit.TheVariants.{DropExchange}
 use Rattle.party_tables.specs.Keys.{sends}
 use Rattle.party_tables.specs.Names.{name_behind}
 use Rattle.party_state.specs.State.{Party, centre_label, link_with, exchange_with}
-use Rattle.party_state.specs.Verdicts.{Held, is_accept}
+use Rattle.party_state.specs.Verdicts.{TestsHold, is_accept}
 use Rattle.role_base.specs.Beginning.{AllBeginFree}
 use Rattle.role_base.specs.Exchanges.{record_of, new_link, dropped, ended}
 use Rattle.role_base.specs.Sending.{sending_tests, sending_drawn}
@@ -47,7 +47,7 @@ module _ (held : HeldIfAccepted) (links : LinksFound) (keys : KeysFound) where
       go : (d : Option (ℕ × Gen)) → is_accept (sending_drawn p (start_tests p peer (Some l)) l d).verdict ≡ true → AllBeginFree p (sending_drawn p (start_tests p peer (Some l)) l d).edits
       go None e = tt
       go (Some d) e =
-          let h : Held (start_tests p peer (Some l) ++ sending_tests p l (Some d)) = held (start_tests p peer (Some l) ++ sending_tests p l (Some d)) refl e in
+          let h : TestsHold (start_tests p peer (Some l) ++ sending_tests p l (Some d)) = held (start_tests p peer (Some l) ++ sending_tests p l (Some d)) refl e in
           sending_begins p (start_tests p peer (Some l)) l (Some d) (free_with p peer l.peer (peer_of links p peer label l f) h.1.0)
 
   starts_kk : (p : Party) (peer : List ℕ) (label : Option (List ℕ)) (new : List ℕ) (single : Bool) (moment : ℕ) (o : Option LinkRec) → sending_link p peer label ≡ o → is_accept (start_kk_under p peer new single o moment).verdict ≡ true → AllBeginFree p (start_kk_under p peer new single o moment).edits
@@ -57,13 +57,13 @@ module _ (held : HeldIfAccepted) (links : LinksFound) (keys : KeysFound) where
       go : (d : Option KkDrawn) → is_accept (kk_sending p (start_tests p peer (Some l)) l new single d).verdict ≡ true → AllBeginFree p (kk_sending p (start_tests p peer (Some l)) l new single d).edits
       go None e = tt
       go (Some d) e =
-          let h : Held (start_tests p peer (Some l) ++ kk_tests p l new (Some d)) = held (start_tests p peer (Some l) ++ kk_tests p l new (Some d)) refl e in
+          let h : TestsHold (start_tests p peer (Some l) ++ kk_tests p l new (Some d)) = held (start_tests p peer (Some l) ++ kk_tests p l new (Some d)) refl e in
           (tt, (tt, (tt, (tt, (free_with p peer l.peer (peer_of links p peer label l f) h.1.0, tt)))))
 
   asks : (p : Party) (peer : List ℕ) (u : Option (List ℕ)) → is_accept (ask_of p peer u).verdict ≡ true → AllBeginFree p (ask_of p peer u).edits
   asks p peer None e = tt
   asks p peer (Some u) e =
-      let h : Held (ask_tests p peer u) = held (ask_tests p peer u) refl e in
+      let h : TestsHold (ask_tests p peer u) = held (ask_tests p peer u) refl e in
       (none_stands (exchange_with peer p) (and_parts (is_none (exchange_with peer p)) (is_none (exchange_with u p)) h.1.1.0).0, tt)
 
   translates : (p : Party) (centre u : List ℕ) (moment : ℕ) (o : Option LinkRec) → is_accept (translate_under p centre u o moment).verdict ≡ true → AllBeginFree p (translate_under p centre u o moment).edits
@@ -73,7 +73,7 @@ module _ (held : HeldIfAccepted) (links : LinksFound) (keys : KeysFound) where
       go : (d : Option (ℕ × Gen)) → is_accept (translate_drawn p centre u l d).verdict ≡ true → AllBeginFree p (translate_drawn p centre u l d).edits
       go None e = tt
       go (Some d) e =
-          let h : Held (centre_front p centre u ++ translate_tests p l (Some d)) = held (centre_front p centre u ++ translate_tests p l (Some d)) refl e in
+          let h : TestsHold (centre_front p centre u ++ translate_tests p l (Some d)) = held (centre_front p centre u ++ translate_tests p l (Some d)) refl e in
           (tt, (tt, (none_stands (exchange_with centre p) (and_parts (is_none (exchange_with centre p)) (is_none (exchange_with u p)) h.1.1.0).0, tt)))
 
   resends : (p : Party) (o : Option Exchange) → AllBeginFree p (resend_of o).edits
@@ -83,7 +83,7 @@ module _ (held : HeldIfAccepted) (links : LinksFound) (keys : KeysFound) where
   ends : (p : Party) (peer : List ℕ) (name : KeyName) (o : Option KeyRec) → record_of p peer name ≡ o → is_accept (end_record p peer o).verdict ≡ true → AllBeginFree p (end_record p peer o).edits
   ends p peer name None f e = tt
   ends p peer name (Some k) f e =
-      let h : Held (end_tests p peer (can_end k.status)) = held (end_tests p peer (can_end k.status)) refl e in
+      let h : TestsHold (end_tests p peer (can_end k.status)) = held (end_tests p peer (can_end k.status)) refl e in
       let key : RecordKey = record { peer = peer; name = name } in
       (tt, (free_with p peer k.peer (sym (ap (λ (x : RecordKey). x.peer) (keys key k p f))) h.0, tt))
 

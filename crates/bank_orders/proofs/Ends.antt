@@ -8,7 +8,7 @@ use Rattle.csm_grammar.specs.declared.message.Dsm.{Dsm}
 use Rattle.party_tables.specs.declared.key.KeyRec.{KeyRec}
 use Rattle.party_tables.specs.declared.key.RecordKey.{RecordKey}
 use Rattle.party_tables.specs.declared.key.KeyStatus.{KeyStatus}
-use Rattle.party_tables.specs.declared.key.KeyStatus.TheVariants.{Pending, Live, Held as IsHeld, Closing, Ended}
+use Rattle.party_tables.specs.declared.key.KeyStatus.TheVariants.{Pending, Live, Held, Closing, Ended}
 use Rattle.party_tables.specs.declared.exchange.Exchange.{Exchange}
 use Rattle.party_tables.specs.declared.exchange.Kind.TheVariants as kind
 use Rattle.party_state.specs.declared.edit.Edit.TheVariants.{DropEnded}
@@ -17,7 +17,7 @@ use Rattle.party_state.specs.Ranges.{IsParty}
 use Rattle.party_tables.specs.Statuses.{is_ended}
 use Rattle.party_state.specs.State.{Party, apply, apply_edit, record_with, exchange_with}
 use Rattle.party_state.specs.Rows.{Row}
-use Rattle.party_state.specs.Verdicts.{Held}
+use Rattle.party_state.specs.Verdicts.{TestsHold}
 use Rattle.role_base.specs.Texts.{text_of}
 use Rattle.role_base.specs.Exchanges.{record_of}
 use Rattle.role_base.proofs.PartyLaws.{HeldAtAccept, AcceptedIfHeld, KeyLaws, ExchangeLaws, key_put_same, exchange_put, exchange_put_other}
@@ -32,29 +32,29 @@ use Rattle.bank_orders.specs.Ends.{CanEnd, EndsKey, WritesAgain, Purges}
 not_pending : (s : KeyStatus) → can_end s ≡ true → s ≢ Pending
 not_pending Pending h = absurd (cc)
 not_pending Live h = λ e. cc
-not_pending IsHeld h = λ e. cc
+not_pending Held h = λ e. cc
 not_pending Closing h = λ e. cc
 not_pending Ended h = absurd (cc)
 
 not_ended : (s : KeyStatus) → can_end s ≡ true → s ≢ Ended
 not_ended Pending h = absurd (cc)
 not_ended Live h = λ e. cc
-not_ended IsHeld h = λ e. cc
+not_ended Held h = λ e. cc
 not_ended Closing h = λ e. cc
 not_ended Ended h = absurd (cc)
 
 can_be_ended : (s : KeyStatus) → s ≢ Pending → s ≢ Ended → can_end s ≡ true
 can_be_ended Pending n m = absurd (n refl)
 can_be_ended Live n m = refl
-can_be_ended IsHeld n m = refl
+can_be_ended Held n m = refl
 can_be_ended Closing n m = refl
 can_be_ended Ended n m = absurd (m refl)
 
 module _ (held : HeldAtAccept) (accepted : AcceptedIfHeld) where
   can_end_key : (p : Party) (peer : List ℕ) (name : KeyName) (o : Option KeyRec) → record_of p peer name ≡ o → (end_record p peer o).verdict ≡ Accept → CanEnd p peer name
-  can_end_key p peer name None f e = let h : Held (end_tests p peer false) = held (end_tests p peer false) refl e in absurd (both_ways false refl h.1.0)
+  can_end_key p peer name None f e = let h : TestsHold (end_tests p peer false) = held (end_tests p peer false) refl e in absurd (both_ways false refl h.1.0)
   can_end_key p peer name (Some k) f e =
-      let h : Held (end_tests p peer (can_end k.status)) = held (end_tests p peer (can_end k.status)) refl e in
+      let h : TestsHold (end_tests p peer (can_end k.status)) = held (end_tests p peer (can_end k.status)) refl e in
       record { free = none_stands (exchange_with peer p) h.0; key = k; stands = f; confirmed = not_pending k.status h.1.0; in_use = not_ended k.status h.1.0 }
 
   ended_key : (p : Party) (peer : List ℕ) (name : KeyName) → CanEnd p peer name → (end p peer name).verdict ≡ Accept
@@ -127,7 +127,7 @@ EndedDropped = (k : RecordKey) (r : KeyRec) (p : Party) → IsParty p → (recor
 stays_so : (s : KeyStatus) → s ≢ Ended → is_ended s ≡ false
 stays_so Pending n = refl
 stays_so Live n = refl
-stays_so IsHeld n = refl
+stays_so Held n = refl
 stays_so Closing n = refl
 stays_so Ended n = absurd (n refl)
 
@@ -135,7 +135,7 @@ stays : (s : KeyStatus) → is_ended s ≡ false → s ≢ Ended
 stays Ended h = absurd (cc)
 stays Pending h = λ e. cc
 stays Live h = λ e. cc
-stays IsHeld h = λ e. cc
+stays Held h = λ e. cc
 stays Closing h = λ e. cc
 
 pub purges : EndedDropped → (p : Party) → IsParty p → Purges p (apply purge.edits p) purge

@@ -17,7 +17,7 @@ use Rattle.party_state.specs.declared.edit.Edit.TheVariants.{SetGen, PutLink, Pu
 use Rattle.party_tables.specs.Keys.{link_key, record_key}
 use Rattle.party_tables.specs.Ranges.{IsFittingExchange}
 use Rattle.party_state.specs.State.{Party}
-use Rattle.party_state.specs.Verdicts.{Test, verdict_of, Held, is_accept, all_refuse}
+use Rattle.party_state.specs.Verdicts.{Test, verdict_of, TestsHold, is_accept, all_refuse}
 use Rattle.party_state.proofs.Verdicts.{held_after}
 use Rattle.role_base.specs.Conditions.{has_count, has_key_room, has_link_room}
 use Rattle.role_base.specs.Deciding.{decision_of, refusal_of, Decides, AcceptsWith}
@@ -49,7 +49,7 @@ refuse_both (t ∷ ts) us r s = go (is_accept t.1) r (refuse_both ts us)
     go false r ih = ih r s
 
 -- behind tests that refuse, what is accepted held each of its own
-pub kk_held : HeldIfAccepted → (p : Party) (front : List Test) (l : LinkRec) (new : List ℕ) (o : Option KkDrawn) (v : Verdict) → all_refuse front ≡ true → v ≡ verdict_of (front ++ kk_tests p l new o) → is_accept v ≡ true → Held (kk_tests p l new o)
+pub kk_held : HeldIfAccepted → (p : Party) (front : List Test) (l : LinkRec) (new : List ℕ) (o : Option KkDrawn) (v : Verdict) → all_refuse front ≡ true → v ≡ verdict_of (front ++ kk_tests p l new o) → is_accept v ≡ true → TestsHold (kk_tests p l new o)
 kk_held held p front l new o v r e t = (held_after front (kk_tests p l new o) (held (front ++ kk_tests p l new o) (refuse_both front (kk_tests p l new o) r refl) (rw (← e) t))).1
 
 -- under a link whose counts are spent nothing is sent

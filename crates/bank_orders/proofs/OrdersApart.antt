@@ -16,7 +16,7 @@ use Rattle.party_tables.specs.declared.exchange.Exchange.{Exchange}
 use Rattle.party_state.specs.declared.edit.Edit.TheVariants.{DropExchange}
 use Rattle.party_tables.specs.Tables.{find_row}
 use Rattle.party_tables.specs.Keys.{same_link, link_key, record_key, sends}
-use Rattle.party_state.specs.Verdicts.{Held, is_accept}
+use Rattle.party_state.specs.Verdicts.{TestsHold, is_accept}
 use Rattle.role_base.specs.Apart.{AreApart}
 use Rattle.role_base.proofs.PartyLaws.{HeldIfAccepted, LinkLaws, KeyLaws}
 use Rattle.role_base.proofs.TwinKeys.{other_record, records_apart}
@@ -102,7 +102,7 @@ kk_apart held links p peer new single (Some l) moment f h = by_draw (kk_drawn p.
     by_draw : (d : Option KkDrawn) → is_accept (kk_sending p (start_tests p peer (Some l)) l new single d).verdict ≡ true → AreApart (kk_sending p (start_tests p peer (Some l)) l new single d).edits
     by_draw None h = tt
     by_draw (Some d) h =
-        let all : Held (start_tests p peer (Some l) ++ kk_tests p l new (Some d)) = held (start_tests p peer (Some l) ++ kk_tests p l new (Some d)) refl h in
+        let all : TestsHold (start_tests p peer (Some l) ++ kk_tests p l new (Some d)) = held (start_tests p peer (Some l) ++ kk_tests p l new (Some d)) refl h in
         let none : link_with (sends l.peer new) p ≡ None = absent (not (bytes_eq new centre_label)) (link_with (sends l.peer new) p) all.1.1.1.1.0 in
         let other : same_link (sends l.peer new) (link_key l) ≡ false = false_from_ne_true (same_link (sends l.peer new) (link_key l)) (λ e. f l refl (subst (λ (k : LinkKey). link_with k p ≡ None) ((links.same (sends l.peer new) (link_key l)).0 e) none)) in
         ((refl, (refl, (refl, (refl, tt)))), ((other, (refl, (refl, tt))), ((refl, (refl, tt)), ((refl, tt), (tt, tt)))))

@@ -27,7 +27,7 @@ use Rattle.party_state.specs.declared.command.Command.TheVariants as command
 use Rattle.party_state.specs.declared.edit.Edit.TheVariants.{DropExchange}
 use Rattle.party_state.specs.Ranges.{IsParty}
 use Rattle.party_state.specs.State.{Party, centre_label, link_with, exchange_with}
-use Rattle.party_state.specs.Verdicts.{Held, is_accept}
+use Rattle.party_state.specs.Verdicts.{TestsHold, is_accept}
 use Rattle.party_state.specs.Rows.{Plain}
 use Rattle.role_base.specs.Conditions.{has_key_room}
 use Rattle.role_base.specs.Deciding.{decision_of}
@@ -118,7 +118,7 @@ module _ (short : CanonShort) (below : WrapsBelow) (odd : DrawsOdd) (held : Held
     where
       facts : (d : ℕ × Gen) → is_accept (sending_drawn p (start_tests p peer (Some l)) l (Some d)).verdict ≡ true → IsCount l.next × (has_key_room p (record { peer = l.peer; name = next_name p l }) ≡ true)
       facts d h =
-          let t : Held (start_tests p peer (Some l) ++ sending_tests p l (Some d)) = held (start_tests p peer (Some l) ++ sending_tests p l (Some d)) refl h in
+          let t : TestsHold (start_tests p peer (Some l) ++ sending_tests p l (Some d)) = held (start_tests p peer (Some l) ++ sending_tests p l (Some d)) refl h in
           (left_is_count l st.range.next t.1.1.1.0, t.1.1.1.1.0)
 
   kk_ranged : (peer new : List ℕ) (single : Bool) (o : Option LinkRec) → IsLabel new → IfSome o (LinkStands p) → IsRanged p (decision_of p (start_kk_under p peer new single o moment))
@@ -153,7 +153,7 @@ module _ (short : CanonShort) (below : WrapsBelow) (odd : DrawsOdd) (held : Held
             answer = tt;
           })
         where
-          tests : is_accept (kk_sending p (start_tests p peer (Some l)) l new single (Some d)).verdict ≡ true → Held (start_tests p peer (Some l) ++ kk_tests p l new (Some d))
+          tests : is_accept (kk_sending p (start_tests p peer (Some l)) l new single (Some d)).verdict ≡ true → TestsHold (start_tests p peer (Some l) ++ kk_tests p l new (Some d))
           tests h = held (start_tests p peer (Some l) ++ kk_tests p l new (Some d)) refl h
 
           count : is_accept (kk_sending p (start_tests p peer (Some l)) l new single (Some d)).verdict ≡ true → IsCount l.next
@@ -195,7 +195,7 @@ module _ (short : CanonShort) (below : WrapsBelow) (odd : DrawsOdd) (held : Held
           })
         where
           count : is_accept (translate_drawn p centre u l (Some d)).verdict ≡ true → IsCount l.next
-          count h = let t : Held (centre_front p centre u ++ translate_tests p l (Some d)) = held (centre_front p centre u ++ translate_tests p l (Some d)) refl h in left_is_count l st.range.next t.1.1.1.1.0
+          count h = let t : TestsHold (centre_front p centre u ++ translate_tests p l (Some d)) = held (centre_front p centre u ++ translate_tests p l (Some d)) refl h in left_is_count l st.range.next t.1.1.1.1.0
 
 resend_ranged : ExchangesInRange → (p : Party) (peer : List ℕ) → IsParty p → IsRanged p (decision_of p (resend p peer))
 resend_ranged in_range p peer w = go (exchange_with peer p) refl

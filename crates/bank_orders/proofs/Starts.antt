@@ -12,7 +12,7 @@ use Rattle.party_state.specs.Limits.{most_keys}
 use Rattle.party_tables.specs.Keys.{sends}
 use Rattle.party_state.specs.State.{Party, apply, centre_label, link_with, record_with, exchange_with}
 use Rattle.party_state.specs.Rows.{Row}
-use Rattle.party_state.specs.Verdicts.{Test, Held}
+use Rattle.party_state.specs.Verdicts.{Test, TestsHold}
 use Rattle.role_base.specs.Conditions.{count_after}
 use Rattle.role_base.specs.Sending.{sending_tests, sending_drawn, sending}
 use Rattle.role_base.specs.Sends.{SendsKey}
@@ -57,14 +57,14 @@ module _ (held : HeldAtAccept) (accepted : AcceptedIfHeld) where
   start_all p peer l o = start_tests p peer (Some l) ++ sending_tests p l o
 
   can_start : (p : Party) (peer : List ℕ) (label : Option (List ℕ)) (moment : ℕ) (o : Option LinkRec) (x : Option (ℕ × Gen)) → sending_link p peer label ≡ o → good_draw p.generator moment ≡ x → (start_under p peer o moment).verdict ≡ Accept → CanStart p peer label moment
-  can_start p peer label moment None x f g e = let h : Held (start_tests p peer None) = held (start_tests p peer None) refl e in absurd (both_ways false refl h.1.1.0)
+  can_start p peer label moment None x f g e = let h : TestsHold (start_tests p peer None) = held (start_tests p peer None) refl e in absurd (both_ways false refl h.1.1.0)
   can_start p peer label moment (Some l) None f g e =
       let r : (sending_drawn p (start_tests p peer (Some l)) l None).verdict ≡ Accept = ap (λ (y : Option (ℕ × Gen)). (sending_drawn p (start_tests p peer (Some l)) l y).verdict) (sym g) ∙ e in
-      let h : Held (start_all p peer l None) = held (start_all p peer l None) refl r in
+      let h : TestsHold (start_all p peer l None) = held (start_all p peer l None) refl r in
       absurd (both_ways false refl h.1.1.1.1.1.0)
   can_start p peer label moment (Some l) (Some d) f g e =
       let r : (sending_drawn p (start_tests p peer (Some l)) l (Some d)).verdict ≡ Accept = ap (λ (y : Option (ℕ × Gen)). (sending_drawn p (start_tests p peer (Some l)) l y).verdict) (sym g) ∙ e in
-      let h : Held (start_all p peer l (Some d)) = held (start_all p peer l (Some d)) refl r in
+      let h : TestsHold (start_all p peer l (Some d)) = held (start_all p peer l (Some d)) refl r in
       record {
         known = h.0;
         free = none_stands (exchange_with peer p) h.1.0;

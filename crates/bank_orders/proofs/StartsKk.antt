@@ -23,7 +23,7 @@ use Rattle.party_state.specs.Limits.{most_links, most_keys}
 use Rattle.party_tables.specs.Keys.{same_link, link_key, sends}
 use Rattle.party_state.specs.State.{Party, apply, apply_edit, centre_label, link_with, record_with, exchange_with}
 use Rattle.party_state.specs.Rows.{Row}
-use Rattle.party_state.specs.Verdicts.{Test, Held}
+use Rattle.party_state.specs.Verdicts.{Test, TestsHold}
 use Rattle.role_base.specs.Conditions.{count_after, has_link_room}
 use Rattle.role_base.specs.Sending.{next_name}
 use Rattle.role_base.specs.Texts.{text_of, no_extras}
@@ -95,25 +95,25 @@ module _ (held : HeldAtAccept) (accepted : AcceptedIfHeld) (links : LinkLaws) wh
     found : sending_link p peer label ≡ Some link
     drawn : KkDrawn
     draws : kk_drawn p.generator moment single ≡ Some drawn
-    tests : Held (kk_all p peer link new (Some drawn))
+    tests : TestsHold (kk_all p peer link new (Some drawn))
 
   kk_held : (p : Party) (peer : List ℕ) (label : Option (List ℕ)) (new : List ℕ) (single : Bool) (moment : ℕ) (o : Option LinkRec) (x : Option KkDrawn) → sending_link p peer label ≡ o → kk_drawn p.generator moment single ≡ x → (start_kk_under p peer new single o moment).verdict ≡ Accept → KkHeld p peer label new single moment
-  kk_held p peer label new single moment None x f g e = let h : Held (start_tests p peer None) = held (start_tests p peer None) refl e in absurd (both_ways false refl h.1.1.0)
+  kk_held p peer label new single moment None x f g e = let h : TestsHold (start_tests p peer None) = held (start_tests p peer None) refl e in absurd (both_ways false refl h.1.1.0)
   kk_held p peer label new single moment (Some l) None f g e =
       let r : (kk_sending p (start_tests p peer (Some l)) l new single None).verdict ≡ Accept = ap (λ (y : Option KkDrawn). (kk_sending p (start_tests p peer (Some l)) l new single y).verdict) (sym g) ∙ e in
-      let h : Held (kk_all p peer l new None) = held (kk_all p peer l new None) refl r in
+      let h : TestsHold (kk_all p peer l new None) = held (kk_all p peer l new None) refl r in
       absurd (both_ways false refl h.1.1.1.1.1.1.1.0)
   kk_held p peer label new single moment (Some l) (Some d) f g e =
       let r : (kk_sending p (start_tests p peer (Some l)) l new single (Some d)).verdict ≡ Accept = ap (λ (y : Option KkDrawn). (kk_sending p (start_tests p peer (Some l)) l new single y).verdict) (sym g) ∙ e in
       record { link = l; found = f; drawn = d; draws = g; tests = held (kk_all p peer l new (Some d)) refl r }
 
-  new_absent : (p : Party) (peer new : List ℕ) (l : LinkRec) (d : KkDrawn) → Held (kk_all p peer l new (Some d)) → link_with (sends l.peer new) p ≡ None
+  new_absent : (p : Party) (peer new : List ℕ) (l : LinkRec) (d : KkDrawn) → TestsHold (kk_all p peer l new (Some d)) → link_with (sends l.peer new) p ≡ None
   new_absent p peer new l d h = none_stands (link_with (sends l.peer new) p) (and_parts (not (bytes_eq new centre_label)) (is_none (link_with (sends l.peer new) p)) h.1.1.1.1.0).1
 
   can_start_kk : (p : Party) (peer : List ℕ) (label : Option (List ℕ)) (new : List ℕ) (single : Bool) (moment : ℕ) → KkHeld p peer label new single moment → CanStartKk p peer label new single moment
   can_start_kk p peer label new single moment k =
       let l : LinkRec = k.link in
-      let h : Held (kk_all p peer k.link new (Some k.drawn)) = k.tests in
+      let h : TestsHold (kk_all p peer k.link new (Some k.drawn)) = k.tests in
       let held_under : SendsUnder p peer label k.link = under p peer label k.link k.found in
       let none : link_with (sends k.link.peer new) p ≡ None = new_absent p peer new k.link k.drawn h in
       let place : nat_le (length p.links + 1) most_links ≡ true = rw none at h.1.1.1.1.1.0 in

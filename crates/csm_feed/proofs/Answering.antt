@@ -14,7 +14,7 @@ use Rattle.csm_feed.specs.declared.next.Next.{Next}
 use Rattle.csm_feed.specs.declared.next.Next.TheVariants.{Message, NotYet, Refused, NoMemory}
 use Rattle.csm_grammar.specs.Places.{moved}
 use Rattle.csm_feed.specs.Streams.{Leads, IsWaiting, IsRefusedAfter, EndsWith, HoldsArrivals}
-use Rattle.csm_feed.specs.Held.{Feeding, IsKept}
+use Rattle.csm_feed.specs.HeldBytes.{Feeding, IsKept}
 use Rattle.csm_feed.specs.Feeding.{with_refusal, Hands, Answers, ComesAs, Fed, HandsOut, Exhausts}
 use Rattle.csm_feed.proofs.Fronts.{one_parsed}
 use Rattle.csm_feed.proofs.Cutting.{ends_unread, one_end, messages_next}

@@ -7,7 +7,7 @@ use Rattle.csm_grammar.specs.declared.refusal.ReadRefusal.{ReadRefusal}
 use Rattle.csm_grammar.specs.Spelling.{is_separator, AreSeparators}
 use Rattle.csm_read.specs.Laws.{FaultStays}
 use Rattle.csm_feed.specs.Streams.{IsBegun, IsRefusedAfter}
-use Rattle.csm_feed.specs.Held.{Feeding, IsKept}
+use Rattle.csm_feed.specs.HeldBytes.{Feeding, IsKept}
 use Rattle.csm_feed.specs.Feeding.{gap_before, with_bytes, Feeds}
 use Rattle.csm_feed.proofs.Cutting.{messages_gap, refused_more}
 use Rattle.csm_feed.proofs.Spans.{span_separators, span_begun, span_take}

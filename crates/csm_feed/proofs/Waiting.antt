@@ -7,7 +7,7 @@ use Rattle.csm_read.specs.Faults.{IsFault}
 use Rattle.csm_read.specs.Judging.{is_plain}
 use Rattle.csm_read.specs.Laws.{UnendedStays}
 use Rattle.csm_feed.specs.Streams.{IsWaiting}
-use Rattle.csm_feed.specs.Held.{IsKnown}
+use Rattle.csm_feed.specs.HeldBytes.{IsKnown}
 
 pub known_none : (held : List ℕ) → IsKnown 0 held
 known_none held = record { within = omega arith; waiting = inl refl }

@@ -9,7 +9,7 @@ use Rattle.csm_grammar.specs.Reading.{IsRead}
 use Rattle.csm_feed.specs.declared.next.Next.{Next}
 use Rattle.csm_feed.specs.declared.next.Next.TheVariants.{Message, NotYet, Refused, NoMemory}
 use Rattle.csm_feed.specs.Streams.{AreMessages, HoldsArrivals, IsWaiting, IsRefusedAfter}
-use Rattle.csm_feed.specs.Held.{Feeding, held_limit}
+use Rattle.csm_feed.specs.HeldBytes.{Feeding, held_limit}
 
 -- how many bytes were pushed
 abbrev pub pushed : Feeding → ℕ

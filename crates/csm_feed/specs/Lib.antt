@@ -1,5 +1,5 @@
 pub mod Streams
-pub mod Held
+pub mod HeldBytes
 pub mod Feeding
 pub mod Heard
 pub mod Laws

@@ -4,7 +4,7 @@ ghost use Rattle.csm_grammar.specs.declared.refusal.ReadRefusal.{ReadRefusal};
 ghost use Rattle.csm_read.specs.Faults.{IsFault};
 ghost use Rattle.csm_feed.specs.declared.next.Next.{Next};
 ghost use Rattle.csm_feed.specs.Streams.{AreMessages, IsWaiting};
-ghost use Rattle.csm_feed.specs.Held.{Feeding, IsKept};
+ghost use Rattle.csm_feed.specs.HeldBytes.{Feeding, IsKept};
 ghost use Rattle.csm_feed.specs.Feeding.{pushed, IsFull, gap_before, with_bytes, without, with_refusal, Answers, ComesAs, Fed, Feeds, HandsOut, Exhausts};
 
 use crate::next::Next;
@@ -37,7 +37,7 @@ pub struct Feed {
 impl Model for Feed {
     ghost use Rattle.std.specs.Prelude.{◌≤◌};
     ghost use Rattle.std.specs.Vec.{vec_capacity};
-    ghost use Rattle.csm_feed.specs.Held.{Feeding, IsKept, IsKnown, held_limit};
+    ghost use Rattle.csm_feed.specs.HeldBytes.{Feeding, IsKept, IsKnown, held_limit};
 
     ghost Value = { Feeding };
 

@@ -12,7 +12,7 @@ use Rattle.csm_grammar.specs.Spelling.{is_separator}
 use Rattle.csm_read.specs.Laws.{FaultEnds, FaultStays}
 use Rattle.csm_feed.specs.declared.next.Next.TheVariants as next
 use Rattle.csm_feed.specs.Streams.{AreMessages, IsBegun, IsRefusedAfter, IsWaiting}
-use Rattle.csm_feed.specs.Held.{Feeding}
+use Rattle.csm_feed.specs.HeldBytes.{Feeding}
 use Rattle.csm_feed.specs.Feeding.{Fed, Feeds, Hands, HandsOut, IsFull, gap_before, pushed, with_bytes, without}
 use Rattle.csm_feed.proofs.Cutting.{begun_more, refused_more}
 use Rattle.csm_feed.proofs.Spans.{span_begun}

@@ -17,7 +17,7 @@ use Rattle.party_tables.specs.declared.link.LinkKey.{LinkKey}
 use Rattle.party_tables.specs.declared.link.LinkRec.{LinkRec}
 use Rattle.party_tables.specs.Keys.{same_link, link_key, sends}
 use Rattle.party_state.specs.State.{Party, centre_label, link_with, answer_with}
-use Rattle.party_state.specs.Verdicts.{Test, is_accept, all_refuse, Held}
+use Rattle.party_state.specs.Verdicts.{Test, is_accept, all_refuse, TestsHold}
 use Rattle.role_base.specs.Conditions.{is_data_key}
 use Rattle.role_base.specs.Beginning.{AllBeginFree}
 use Rattle.role_base.specs.Apart.{AreApart}
@@ -39,7 +39,7 @@ links_apart links p r u a b f g n =
     let j : sends u centre_label ≡ link_key b = links.found (sends u centre_label) b p g in
     ap (λ (k : LinkKey). same_link k (link_key a)) (sym j) ∙ (ap (λ (k : LinkKey). same_link (sends u centre_label) k) (sym i) ∙ other_bank links r u (others u r n))
 
-answering_apart : HeldIfAccepted → LinkLaws → (p : Party) (r u : List ℕ) (ts : List Test) (a b : LinkRec) (o : Option (ℕ × Gen)) → all_refuse (ts ++ (true, WeakDraws) ∷ []) ≡ true → (Held (ts ++ (true, WeakDraws) ∷ []) → same_link (link_key b) (link_key a) ≡ false)
+answering_apart : HeldIfAccepted → LinkLaws → (p : Party) (r u : List ℕ) (ts : List Test) (a b : LinkRec) (o : Option (ℕ × Gen)) → all_refuse (ts ++ (true, WeakDraws) ∷ []) ≡ true → (TestsHold (ts ++ (true, WeakDraws) ∷ []) → same_link (link_key b) (link_key a) ≡ false)
     → is_accept (answering p r u ts a b o).verdict ≡ true → AreApart (answering p r u ts a b o).edits
 answering_apart held links p r u ts a b None f n e = tt
 answering_apart held links p r u ts a b (Some d) f n e =

@@ -14,7 +14,7 @@ use Rattle.party_tables.specs.declared.link.LinkRec.{LinkRec}
 use Rattle.party_tables.specs.Keys.{link_key}
 use Rattle.party_tables.specs.Ranges.{IsNextCount}
 use Rattle.party_state.specs.State.{Party, link_with}
-use Rattle.party_state.specs.Verdicts.{Test, verdict_of, is_accept, all_refuse, Held}
+use Rattle.party_state.specs.Verdicts.{Test, verdict_of, is_accept, all_refuse, TestsHold}
 use Rattle.party_state.specs.Rows.{refused}
 use Rattle.role_base.specs.Conditions.{has_count}
 use Rattle.role_base.specs.Deciding.{change_of, decision_of, Decides}
@@ -28,7 +28,7 @@ use Rattle.distribution_role.specs.Requests.{rsi_tests, rsi_between}
 use Rattle.distribution_role.specs.Recovery.{at_least, ers_tests, ers_between}
 
 -- behind tests that say that both next counts can go on, under links that stand
-answering_kept : HeldIfAccepted → (p : Party) (r u : List ℕ) (ts : List Test) (a b x y : LinkRec) (o : Option (ℕ × Gen)) → all_refuse (ts ++ (true, WeakDraws) ∷ []) ≡ true → (Held (ts ++ (true, WeakDraws) ∷ []) → IsNextCount (a.next + 1) × IsNextCount (b.next + 1))
+answering_kept : HeldIfAccepted → (p : Party) (r u : List ℕ) (ts : List Test) (a b x y : LinkRec) (o : Option (ℕ × Gen)) → all_refuse (ts ++ (true, WeakDraws) ∷ []) ≡ true → (TestsHold (ts ++ (true, WeakDraws) ∷ []) → IsNextCount (a.next + 1) × IsNextCount (b.next + 1))
     → link_with (link_key a) p ≡ Some x → link_with (link_key b) p ≡ Some y → IsStorable p (change_of p (answering p r u ts a b o))
 answering_kept held p r u ts a b x y None f n s t = row_kept p (refused (verdict_of (ts ++ (false, WeakDraws) ∷ []))) (λ _. record { each = tt; order = refl }) (lit≤ tt)
 answering_kept held p r u ts a b x y (Some d) f n s t = row_kept p (answering p r u ts a b (Some d)) keepable (lit≤ tt)

@@ -28,7 +28,7 @@ use Rattle.party_state.specs.declared.command.Input.{Input}
 use Rattle.party_state.specs.declared.command.Input.TheVariants as input
 use Rattle.party_state.specs.Ranges.{IsParty}
 use Rattle.party_state.specs.State.{Party, centre_label, link_with, answer_with}
-use Rattle.party_state.specs.Verdicts.{Test, Held, all_refuse, is_accept}
+use Rattle.party_state.specs.Verdicts.{Test, TestsHold, all_refuse, is_accept}
 use Rattle.party_state.specs.Rows.{refused}
 use Rattle.role_base.specs.Conditions.{has_count}
 use Rattle.role_base.specs.Deciding.{decision_of}
@@ -54,7 +54,7 @@ module _ (short : CanonShort) (wraps : WrapsBelow) (seals : SealsBelow) (odd : D
       coded_short short (message.Rtr (rtr_of p r u a b key)) (answer_under p r a.next) key (i, (w.own, (j, (wraps a.pair a.next key, (seals b.pair r u b.next key, (c, (d, tt))))))) (lit≤ tt)
 
   -- the answer behind tests that say that both counts are left
-  answering_ranged : (r u : List ℕ) (ts : List Test) (a b : LinkRec) → IsIdent r → IsIdent u → IsLink a → IsLink b → all_refuse (ts ++ (true, WeakDraws) ∷ []) ≡ true → (Held (ts ++ (true, WeakDraws) ∷ []) → IsCount a.next × IsCount b.next)
+  answering_ranged : (r u : List ℕ) (ts : List Test) (a b : LinkRec) → IsIdent r → IsIdent u → IsLink a → IsLink b → all_refuse (ts ++ (true, WeakDraws) ∷ []) ≡ true → (TestsHold (ts ++ (true, WeakDraws) ∷ []) → IsCount a.next × IsCount b.next)
       → AreRanged (answering p r u ts a b (good_draw p.generator moment))
   answering_ranged r u ts a b i j x y f n = by_draw (good_draw p.generator moment) refl
     where

@@ -17,7 +17,7 @@ use Rattle.party_tables.specs.declared.link.LinkKey.{LinkKey}
 use Rattle.party_tables.specs.declared.link.LinkRec.{LinkRec}
 use Rattle.party_tables.specs.Keys.{same_link, link_key, sends}
 use Rattle.party_state.specs.State.{Party, apply, apply_edit, centre_label, link_with, answer_with}
-use Rattle.party_state.specs.Verdicts.{Test, Held}
+use Rattle.party_state.specs.Verdicts.{Test, TestsHold}
 use Rattle.party_state.specs.Rows.{Row}
 use Rattle.role_base.specs.Conditions.{is_data_key}
 use Rattle.role_base.proofs.Addressed.{others}
@@ -72,10 +72,10 @@ gives laws links answers p r u ts l b n moment d drawn below ne f g =
 asked : Undone → HeldAtAccept → LinkLaws → AnswerLaws → (p : Party) (a : Arrival) (m : Rsi) (u : List ℕ) (moment : ℕ) (l b : LinkRec) (o : Option (ℕ × Gen)) → link_with (sends m.originator centre_label) p ≡ Some l → link_with (sends u centre_label) p ≡ Some b → good_draw p.generator moment ≡ o
     → (rsi_between p a m u (Some l) (Some b) o).verdict ≡ Accept → GivesKey p (rsi_between p a m u (Some l) (Some b) o) moment m.originator u l b b.next
 asked laws held links answers p a m u moment l b None f g d e =
-    let h : Held (rsi_tests p a m u l b ++ (false, WeakDraws) ∷ []) = held (rsi_tests p a m u l b ++ (false, WeakDraws) ∷ []) refl e in
+    let h : TestsHold (rsi_tests p a m u l b ++ (false, WeakDraws) ∷ []) = held (rsi_tests p a m u l b ++ (false, WeakDraws) ∷ []) refl e in
     absurd (both_ways false refl h.1.1.1.1.1.1.0)
 asked laws held links answers p a m u moment l b (Some x) f g d e =
-    let h : Held (rsi_tests p a m u l b ++ (true, WeakDraws) ∷ []) = held (rsi_tests p a m u l b ++ (true, WeakDraws) ∷ []) refl e in
+    let h : TestsHold (rsi_tests p a m u l b ++ (true, WeakDraws) ∷ []) = held (rsi_tests p a m u l b ++ (true, WeakDraws) ∷ []) refl e in
     gives laws links answers p m.originator u (rsi_tests p a m u l b) l b b.next moment x d (laws.odd p.generator moment x d).below (others u m.originator (and_parts (is_data_key m.service) (not (bytes_eq u m.originator)) h.1.1.0).1) f g
 
 pub gives_asked : Undone → HeldAtAccept → LinkLaws → AnswerLaws → GivesAsked
@@ -93,10 +93,10 @@ gives_asked laws held links answers p a m u moment l b said asks f g e =
 again : Undone → HeldAtAccept → LinkLaws → AnswerLaws → (p : Party) (a : Arrival) (m : Ers) (moment : ℕ) (t : Answer) (l b : LinkRec) (o : Option (ℕ × Gen)) → link_with (sends m.originator centre_label) p ≡ Some l → link_with (sends m.ultimate centre_label) p ≡ Some b → good_draw p.generator moment ≡ o
     → (ers_between p a m (Some t) (Some l) (Some b) o).verdict ≡ Accept → GivesKey p (ers_between p a m (Some t) (Some l) (Some b) o) moment m.originator m.ultimate l b (max b.next m.ctr)
 again laws held links answers p a m moment t l b None f g d e =
-    let h : Held (ers_tests p a m t l b ++ (false, WeakDraws) ∷ []) = held (ers_tests p a m t l b ++ (false, WeakDraws) ∷ []) refl e in
+    let h : TestsHold (ers_tests p a m t l b ++ (false, WeakDraws) ∷ []) = held (ers_tests p a m t l b ++ (false, WeakDraws) ∷ []) refl e in
     absurd (both_ways false refl h.1.1.1.1.1.1.1.0)
 again laws held links answers p a m moment t l b (Some x) f g d e =
-    let h : Held (ers_tests p a m t l b ++ (true, WeakDraws) ∷ []) = held (ers_tests p a m t l b ++ (true, WeakDraws) ∷ []) refl e in
+    let h : TestsHold (ers_tests p a m t l b ++ (true, WeakDraws) ∷ []) = held (ers_tests p a m t l b ++ (true, WeakDraws) ∷ []) refl e in
     gives laws links answers p m.originator m.ultimate (ers_tests p a m t l b) l b (max b.next m.ctr) moment x d (laws.odd p.generator moment x d).below (others m.ultimate m.originator h.1.1.0) f g
 
 pub gives_again : Undone → HeldAtAccept → LinkLaws → AnswerLaws → GivesAgain
@@ -114,7 +114,7 @@ gives_again laws held links answers p a m moment l b said f g e = by_answer (ans
     by_answer : (t : Option Answer) → distribution_message p a a.parsed.message moment ≡ ers_between p a m t (Some l) (Some b) drawn → GivesKey p (distribution_message p a a.parsed.message moment) moment m.originator m.ultimate l b (max b.next m.ctr)
     by_answer None i =
         let refused : (ers_between p a m None (Some l) (Some b) drawn).verdict ≡ Accept = sym (ap (λ (r : Row). r.verdict) i) ∙ e in
-        let h : Held (ers_front p m false false) = held (ers_front p m false false) refl refused in
+        let h : TestsHold (ers_front p m false false) = held (ers_front p m false false) refl refused in
         absurd (both_ways false refl h.1.1.1.0)
     by_answer (Some t) i =
         let accepted : (ers_between p a m (Some t) (Some l) (Some b) drawn).verdict ≡ Accept = sym (ap (λ (r : Row). r.verdict) i) ∙ e in

@@ -15,7 +15,7 @@ use Rattle.party_tables.specs.declared.answer.Answer.{Answer}
 use Rattle.party_tables.specs.declared.link.LinkRec.{LinkRec}
 use Rattle.party_tables.specs.Keys.{sends}
 use Rattle.party_state.specs.State.{Party, centre_label, link_with, answer_with}
-use Rattle.party_state.specs.Verdicts.{Test, Held}
+use Rattle.party_state.specs.Verdicts.{Test, TestsHold}
 use Rattle.role_base.specs.Conditions.{has_count, is_data_key}
 use Rattle.role_base.proofs.Addressed.{others, apart, for_me, mine}
 use Rattle.role_base.proofs.PartyLaws.{HeldAtAccept, AcceptedIfHeld}
@@ -60,11 +60,11 @@ counts_left p r u moment s = and_from (has_count s.from) (has_count s.to) (le-le
 -- a request
 
 rsi_accepts : HeldAtAccept → (p : Party) (a : Arrival) (m : Rsi) (u : List ℕ) (moment : ℕ) (o q : Option LinkRec) → m.ultimate ≡ Some u → link_with (sends m.originator centre_label) p ≡ o → link_with (sends u centre_label) p ≡ q → (rsi_between p a m u o q (good_draw p.generator moment)).verdict ≡ Accept → CanAnswer p a m moment
-rsi_accepts held p a m u moment None q k f g e = let h : Held (rsi_front p m u false) = held (rsi_front p m u false) refl e in absurd (both_ways false refl h.1.1.1.0)
-rsi_accepts held p a m u moment (Some l) None k f g e = let h : Held (rsi_front p m u false) = held (rsi_front p m u false) refl e in absurd (both_ways false refl h.1.1.1.0)
+rsi_accepts held p a m u moment None q k f g e = let h : TestsHold (rsi_front p m u false) = held (rsi_front p m u false) refl e in absurd (both_ways false refl h.1.1.1.0)
+rsi_accepts held p a m u moment (Some l) None k f g e = let h : TestsHold (rsi_front p m u false) = held (rsi_front p m u false) refl e in absurd (both_ways false refl h.1.1.1.0)
 rsi_accepts held p a m u moment (Some l) (Some b) k f g e =
     let ts : List Test = rsi_tests p a m u l b ++ (is_some (good_draw p.generator moment), WeakDraws) ∷ [] in
-    let h : Held ts = held ts refl (sym (sent_tests p m.originator u (rsi_tests p a m u l b) l b (good_draw p.generator moment)) ∙ e) in
+    let h : TestsHold ts = held ts refl (sym (sent_tests p m.originator u (rsi_tests p a m u l b) l b (good_draw p.generator moment)) ∙ e) in
     let who : (m.receiver ≡ p.own) × (m.originator ≢ p.own) = for_me p m.receiver m.originator h.0 in
     let served : (is_data_key m.service ≡ true) × (not (bytes_eq u m.originator) ≡ true) = and_parts (is_data_key m.service) (not (bytes_eq u m.originator)) h.1.1.0 in
     record {
@@ -81,7 +81,7 @@ rsi_accepts held p a m u moment (Some l) (Some b) k f g e =
 -- without an ultimate recipient it is of no class that is served
 asked : HeldAtAccept → (p : Party) (a : Arrival) (m : Rsi) (moment : ℕ) (o : Option (List ℕ)) → m.ultimate ≡ o → (rsi_for p a m o moment).verdict ≡ Accept → CanAnswer p a m moment
 asked held p a m moment None k e =
-    let h : Held (request_front p m.receiver m.originator false) = held (request_front p m.receiver m.originator false) refl e in absurd (both_ways false refl h.1.1.0)
+    let h : TestsHold (request_front p m.receiver m.originator false) = held (request_front p m.receiver m.originator false) refl e in absurd (both_ways false refl h.1.1.0)
 asked held p a m moment (Some u) k e = rsi_accepts held p a m u moment (link_with (sends m.originator centre_label) p) (link_with (sends u centre_label) p) k refl refl e
 
 rsi_answers : AcceptedIfHeld → (p : Party) (a : Arrival) (m : Rsi) (moment : ℕ) (t : CanAnswer p a m moment) → (rsi_between p a m t.ultimate (Some t.sends.from) (Some t.sends.to) (Some t.sends.drawn)).verdict ≡ Accept
@@ -106,12 +106,12 @@ answers_requests held accepted p a m moment said =
 
 ers_accepts : HeldAtAccept → (p : Party) (a : Arrival) (m : Ers) (moment : ℕ) (t : Option Answer) (o q : Option LinkRec) → answer_with (record { requester = m.originator; ultimate = m.ultimate }) p ≡ t → link_with (sends m.originator centre_label) p ≡ o → link_with (sends m.ultimate centre_label) p ≡ q
     → (ers_between p a m t o q (good_draw p.generator moment)).verdict ≡ Accept → CanRecover p a m moment
-ers_accepts held p a m moment None o q k f g e = let h : Held (ers_front p m false false) = held (ers_front p m false false) refl e in absurd (both_ways false refl h.1.1.1.0)
-ers_accepts held p a m moment (Some t) None q k f g e = let h : Held (ers_front p m true false) = held (ers_front p m true false) refl e in absurd (both_ways false refl h.1.1.1.1.0)
-ers_accepts held p a m moment (Some t) (Some l) None k f g e = let h : Held (ers_front p m true false) = held (ers_front p m true false) refl e in absurd (both_ways false refl h.1.1.1.1.0)
+ers_accepts held p a m moment None o q k f g e = let h : TestsHold (ers_front p m false false) = held (ers_front p m false false) refl e in absurd (both_ways false refl h.1.1.1.0)
+ers_accepts held p a m moment (Some t) None q k f g e = let h : TestsHold (ers_front p m true false) = held (ers_front p m true false) refl e in absurd (both_ways false refl h.1.1.1.1.0)
+ers_accepts held p a m moment (Some t) (Some l) None k f g e = let h : TestsHold (ers_front p m true false) = held (ers_front p m true false) refl e in absurd (both_ways false refl h.1.1.1.1.0)
 ers_accepts held p a m moment (Some t) (Some l) (Some b) k f g e =
     let ts : List Test = ers_tests p a m t l b ++ (is_some (good_draw p.generator moment), WeakDraws) ∷ [] in
-    let h : Held ts = held ts refl (sym (sent_tests p m.originator m.ultimate (ers_tests p a m t l b) l (at_least b m.ctr) (good_draw p.generator moment)) ∙ e) in
+    let h : TestsHold ts = held ts refl (sym (sent_tests p m.originator m.ultimate (ers_tests p a m t l b) l (at_least b m.ctr) (good_draw p.generator moment)) ∙ e) in
     let who : (m.receiver ≡ p.own) × (m.originator ≢ p.own) = for_me p m.receiver m.originator h.0 in
     record {
       receiver = who.0;

@@ -2,13 +2,13 @@
 #![tactic(auto)]
 
 mod answer;
-mod held;
 mod holder;
+mod in_memory;
 mod laws;
 mod plan;
 
 pub use answer::Answer;
-pub use held::{Held, PlannedHeld};
 pub use holder::Holder;
+pub use in_memory::{PartyInMemory, PlannedInMemory};
 pub use laws::law_refusal;
 pub use plan::Plan;

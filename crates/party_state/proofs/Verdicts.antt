@@ -2,23 +2,23 @@
 use Rattle.std.proofs.Common.{◌≡◌, Bool, true, false, cond, not, ◌&&◌, List, [], ◌∷◌, ◌++◌, refl, ap}
 use Rattle.x_base.specs.declared.verdict.Verdict.{Verdict}
 use Rattle.x_base.specs.declared.verdict.Verdict.TheVariants.{Accept}
-use Rattle.party_state.specs.Verdicts.{Test, verdict_of, tests_pass, Held, is_accept, all_refuse}
+use Rattle.party_state.specs.Verdicts.{Test, verdict_of, tests_pass, TestsHold, is_accept, all_refuse}
 
 -- where the verdict is Accept, each test held
-pub held : (ts : List Test) → all_refuse ts ≡ true → is_accept (verdict_of ts) ≡ true → Held ts
+pub held : (ts : List Test) → all_refuse ts ≡ true → is_accept (verdict_of ts) ≡ true → TestsHold ts
 held [] r h = tt
 held (t ∷ ts) r h = go t.0 refl (is_accept t.1) refl r h (held ts)
   where
-    go : (b : Bool) → t.0 ≡ b → (a : Bool) → is_accept t.1 ≡ a → (not a && all_refuse ts) ≡ true → is_accept (cond b (verdict_of ts) t.1) ≡ true → (all_refuse ts ≡ true → is_accept (verdict_of ts) ≡ true → Held ts) → (t.0 ≡ true) × Held ts
+    go : (b : Bool) → t.0 ≡ b → (a : Bool) → is_accept t.1 ≡ a → (not a && all_refuse ts) ≡ true → is_accept (cond b (verdict_of ts) t.1) ≡ true → (all_refuse ts ≡ true → is_accept (verdict_of ts) ≡ true → TestsHold ts) → (t.0 ≡ true) × TestsHold ts
     go b b= true a= r h ih = absurd (cc)
     go true b= false a= r h ih = (b=, ih r h)
     go false b= false a= r h ih = absurd (cc)
 
-pub held_at_accept : (ts : List Test) → all_refuse ts ≡ true → verdict_of ts ≡ Accept → Held ts
+pub held_at_accept : (ts : List Test) → all_refuse ts ≡ true → verdict_of ts ≡ Accept → TestsHold ts
 held_at_accept ts r h = held ts r (ap is_accept h)
 
 -- where each test held, the verdict is Accept
-pub accepted : (ts : List Test) → Held ts → verdict_of ts ≡ Accept
+pub accepted : (ts : List Test) → TestsHold ts → verdict_of ts ≡ Accept
 accepted [] h = refl
 accepted (t ∷ ts) h = rw h.0 (accepted ts h.1)
 
@@ -33,27 +33,27 @@ blocked (t ∷ ts) v r f h = go t.0 (is_accept t.1) refl r h (blocked ts v)
     go false false a= r h ih = cc
 
 -- the tests of a list that is two lists one after another
-pub held_after : (ts us : List Test) → Held (ts ++ us) → Held ts × Held us
+pub held_after : (ts us : List Test) → TestsHold (ts ++ us) → TestsHold ts × TestsHold us
 held_after [] us h = (tt, h)
-held_after (t ∷ ts) us h = let later : Held ts × Held us = held_after ts us h.1 in ((h.0, later.0), later.1)
+held_after (t ∷ ts) us h = let later : TestsHold ts × TestsHold us = held_after ts us h.1 in ((h.0, later.0), later.1)
 
-pub held_before : (ts us : List Test) → Held ts → Held us → Held (ts ++ us)
+pub held_before : (ts us : List Test) → TestsHold ts → TestsHold us → TestsHold (ts ++ us)
 held_before [] us h k = k
 held_before (t ∷ ts) us h k = (h.0, held_before ts us h.1 k)
 
 -- the verdict of two lists one after another, where the first one held
-pub verdict_after : (ts us : List Test) → Held ts → verdict_of (ts ++ us) ≡ verdict_of us
+pub verdict_after : (ts us : List Test) → TestsHold ts → verdict_of (ts ++ us) ≡ verdict_of us
 verdict_after [] us h = refl
 verdict_after (t ∷ ts) us h = rw h.0 (verdict_after ts us h.1)
 
-pub passes_held : (ts : List Test) → Held ts → tests_pass ts ≡ true
+pub passes_held : (ts : List Test) → TestsHold ts → tests_pass ts ≡ true
 passes_held [] h = refl
 passes_held (t ∷ ts) h = rw h.0 (passes_held ts h.1)
 
-pub held_passes : (ts : List Test) → tests_pass ts ≡ true → Held ts
+pub held_passes : (ts : List Test) → tests_pass ts ≡ true → TestsHold ts
 held_passes [] h = tt
 held_passes (t ∷ ts) h = go t.0 refl h (held_passes ts)
   where
-    go : (b : Bool) → t.0 ≡ b → (b && tests_pass ts) ≡ true → (tests_pass ts ≡ true → Held ts) → (t.0 ≡ true) × Held ts
+    go : (b : Bool) → t.0 ≡ b → (b && tests_pass ts) ≡ true → (tests_pass ts ≡ true → TestsHold ts) → (t.0 ≡ true) × TestsHold ts
     go true b= h ih = (b=, ih h)
     go false b= h ih = absurd (cc)

@@ -17,9 +17,9 @@ abbrev pub tests_pass : List Test → Bool
 tests_pass [] = true
 tests_pass (t ∷ ts) = t.0 && tests_pass ts
 
-abbrev pub Held : List Test → Type 0
-Held [] = Unit {0}
-Held (t ∷ ts) = (t.0 ≡ true) × Held ts
+abbrev pub TestsHold : List Test → Type 0
+TestsHold [] = Unit {0}
+TestsHold (t ∷ ts) = (t.0 ≡ true) × TestsHold ts
 
 abbrev pub is_accept : Verdict → Bool
 is_accept Accept = true

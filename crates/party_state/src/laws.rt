@@ -17,14 +17,14 @@ ghost use Rattle.party_tables.specs.Keys.{same_link, same_record, same_answer, l
 ghost use Rattle.party_state.specs.Ranges.{IsGen, AreInRange, IsParty};
 ghost use Rattle.party_tables.specs.Statuses.{is_ended};
 ghost use Rattle.party_state.specs.State.{Party, begun, apply, apply_edit, link_with, record_with, exchange_with, answer_with};
-ghost use Rattle.party_state.specs.Verdicts.{Test, verdict_of, Held, is_accept, all_refuse};
+ghost use Rattle.party_state.specs.Verdicts.{Test, verdict_of, TestsHold, is_accept, all_refuse};
 
 /// A verdict is Accept exactly where each test held.
 #[tactic(auto, using(crate::proofs::Verdicts::held, crate::proofs::Verdicts::held_at_accept, crate::proofs::Verdicts::accepted))]
 pub fn law_accept()
-    ensures held { (ts : List Test) → all_refuse ts ≡ true → verdict_of ts ≡ Accept → Held ts }
-    ensures accepted { (ts : List Test) → Held ts → verdict_of ts ≡ Accept }
-    ensures tested { (ts : List Test) → all_refuse ts ≡ true → is_accept (verdict_of ts) ≡ true → Held ts }
+    ensures held { (ts : List Test) → all_refuse ts ≡ true → verdict_of ts ≡ Accept → TestsHold ts }
+    ensures accepted { (ts : List Test) → TestsHold ts → verdict_of ts ≡ Accept }
+    ensures tested { (ts : List Test) → all_refuse ts ≡ true → is_accept (verdict_of ts) ≡ true → TestsHold ts }
 {}
 
 /// A party that begins is in range, and stays so after edits that are.

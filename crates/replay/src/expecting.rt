@@ -4,7 +4,7 @@ ghost use Rattle.key_store.specs.Store.{space};
 ghost use Rattle.node_core.specs.Turns.{member_of};
 ghost use Rattle.replay.specs.Events.{AreExpected};
 
-use member::{Held, Holder};
+use member::{Holder, PartyInMemory};
 use node_core::Node;
 use party_state::Input;
 use std::alloc::Global;
@@ -14,19 +14,19 @@ use x_disk::Disk;
 /// The members of which one stands after a stopped event: the one before it, and the one after it.
 #[derive(Drop)]
 pub(crate) struct Expected {
-    pub(crate) before: Held,
-    pub(crate) after: Held,
+    pub(crate) before: PartyInMemory,
+    pub(crate) after: PartyInMemory,
 }
 
 /// The member of a node, in memory.
-fn copied<D: Disk>(alloc: Global, node: &Node<D>) -> Result<Held, NoMemory>
+fn copied<D: Disk>(alloc: Global, node: &Node<D>) -> Result<PartyInMemory, NoMemory>
     ensures { IfOk result (λ held. held ≡ member_of node.now) }
 {
-    Ok(Held::of(node.view().copy(alloc)?, node.space()))
+    Ok(PartyInMemory::of(node.view().copy(alloc)?, node.space()))
 }
 
 /// Whether a node stands for a member.
-fn stands_for<D: Disk>(node: &Node<D>, held: &Held) -> bool
+fn stands_for<D: Disk>(node: &Node<D>, held: &PartyInMemory) -> bool
     ensures { IsTrue result ↔ (member_of node.now ≡ held.now) }
 {
     node.view().same(held.view()) && node.space() == held.space()
@@ -46,7 +46,7 @@ impl Expected {
         let Ok(planned) = copied(alloc, node)?.plan(alloc, input, moment) else {
             return Err(NoMemory);
         };
-        match Held::carry_out(planned) {
+        match PartyInMemory::carry_out(planned) {
             Ok((after, _)) => Ok(Expected { before, after }),
             Err(never) => match never {},
         }

@@ -7,7 +7,7 @@ use Rattle.party_tables.specs.declared.link.LinkRec.{LinkRec}
 use Rattle.party_state.specs.declared.edit.Edit.TheVariants.{PutLink}
 use Rattle.party_tables.specs.Keys.{link_key}
 use Rattle.party_state.specs.State.{Party}
-use Rattle.party_state.specs.Verdicts.{verdict_of, is_accept, Held}
+use Rattle.party_state.specs.Verdicts.{verdict_of, is_accept, TestsHold}
 use Rattle.role_base.specs.Conditions.{has_link_room}
 use Rattle.role_base.specs.Load.{load_tests}
 use Rattle.role_base.specs.Storable.{AreKeepable}
@@ -21,4 +21,4 @@ loaded_keepable p l n room = record {
 }
 
 pub load_room : HeldIfAccepted → (p : Party) (key : LinkKey) (pair : Pair) (v : Verdict) → v ≡ verdict_of (load_tests p key pair) → is_accept v ≡ true → has_link_room p key ≡ true
-load_room held p key pair v e t = let h : Held (load_tests p key pair) = held (load_tests p key pair) refl (rw (← e) t) in h.1.1.1.0
+load_room held p key pair v e t = let h : TestsHold (load_tests p key pair) = held (load_tests p key pair) refl (rw (← e) t) in h.1.1.1.0

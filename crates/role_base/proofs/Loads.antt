@@ -9,7 +9,7 @@ use Rattle.party_tables.specs.declared.link.LinkRec.{LinkRec}
 use Rattle.party_state.specs.Limits.{most_links}
 use Rattle.party_tables.specs.Keys.{same_link, link_key}
 use Rattle.party_state.specs.State.{Party, apply, link_with, has_pair, aliases}
-use Rattle.party_state.specs.Verdicts.{Held}
+use Rattle.party_state.specs.Verdicts.{TestsHold}
 use Rattle.role_base.specs.Conditions.{has_link_room}
 use Rattle.role_base.specs.Load.{odd_pair, load_tests, load}
 use Rattle.role_base.specs.Loading.{CanLoad, Loads}
@@ -25,7 +25,7 @@ module _ (held : HeldAtAccept) (accepted : AcceptedIfHeld) (p : Party) (peer lab
 
   loads : (load p peer label side pair).verdict ≡ Accept → CanLoad p peer label side pair
   loads e =
-      let h : Held (load_tests p key pair) = held (load_tests p key pair) refl e in
+      let h : TestsHold (load_tests p key pair) = held (load_tests p key pair) refl e in
       let free : link_with key p ≡ None = absent (link_with key p) h.0 in
       let room : nat_le (length p.links + 1) most_links ≡ true = rw free at h.1.1.1.0 in
       record {

@@ -15,18 +15,18 @@ use Rattle.party_tables.specs.Keys.{same_link, same_record, same_answer, link_ke
 use Rattle.party_tables.specs.Ranges.{IsLink, IsRecord, IsExchange}
 use Rattle.party_state.specs.Ranges.{IsParty}
 use Rattle.party_state.specs.State.{Party, apply_edit, link_with, first_link, record_with, exchange_with, answer_with}
-use Rattle.party_state.specs.Verdicts.{Test, verdict_of, Held, is_accept, all_refuse}
+use Rattle.party_state.specs.Verdicts.{Test, verdict_of, TestsHold, is_accept, all_refuse}
 
 -- verdicts
 
 abbrev pub HeldAtAccept : Type 0
-HeldAtAccept = (ts : List Test) → all_refuse ts ≡ true → verdict_of ts ≡ Accept → Held ts
+HeldAtAccept = (ts : List Test) → all_refuse ts ≡ true → verdict_of ts ≡ Accept → TestsHold ts
 
 abbrev pub HeldIfAccepted : Type 0
-HeldIfAccepted = (ts : List Test) → all_refuse ts ≡ true → is_accept (verdict_of ts) ≡ true → Held ts
+HeldIfAccepted = (ts : List Test) → all_refuse ts ≡ true → is_accept (verdict_of ts) ≡ true → TestsHold ts
 
 abbrev pub AcceptedIfHeld : Type 0
-AcceptedIfHeld = (ts : List Test) → Held ts → verdict_of ts ≡ Accept
+AcceptedIfHeld = (ts : List Test) → TestsHold ts → verdict_of ts ≡ Accept
 
 -- what is found has the key under which it was looked for
 

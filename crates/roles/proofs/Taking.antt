@@ -13,7 +13,7 @@ use Rattle.party_state.specs.declared.command.Input.{Input}
 use Rattle.party_state.specs.declared.command.Input.TheVariants as input
 use Rattle.party_state.specs.declared.decision.Decision.{Decision}
 use Rattle.party_state.specs.State.{Party, knows}
-use Rattle.party_state.specs.Verdicts.{Test, Held}
+use Rattle.party_state.specs.Verdicts.{Test, TestsHold}
 use Rattle.party_state.specs.Rows.{Row}
 use Rattle.role_base.specs.Conditions.{is_for, other_class, body_issuer}
 use Rattle.role_base.specs.Deciding.{decision_of, Decides}
@@ -33,7 +33,7 @@ use Rattle.roles.specs.Taking.{TakesAsBank, PassesAsBank}
 not_served : HeldAtAccept → (p : Party) (receiver originator known : List ℕ) (r : Row) → r ≡ other_class p receiver originator known → r.verdict ≡ Accept → ⊥
 not_served held p receiver originator known r is e =
     let ts : List Test = (is_for p receiver originator, NotForMe) ∷ (knows known p, UnknownPeer) ∷ (false, WrongClass) ∷ [] in
-    let h : Held ts = held ts refl (sym (ap (λ (x : Row). x.verdict) is) ∙ e) in
+    let h : TestsHold ts = held ts refl (sym (ap (λ (x : Row). x.verdict) is) ∙ e) in
     both_ways false refl h.1.1.0
 
 pub takes : HeldAtAccept → ((p : Party) (i : Input) (moment : ℕ) → TakesKeys p i (decided p i moment)) → (p : Party) (i : Input) (moment : ℕ) → TakesAsBank p i (decision p i moment)

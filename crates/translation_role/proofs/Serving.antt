@@ -14,7 +14,7 @@ use Rattle.party_tables.specs.declared.link.LinkKey.{LinkKey}
 use Rattle.party_tables.specs.declared.link.LinkRec.{LinkRec}
 use Rattle.party_tables.specs.Keys.{same_link, link_key, sends, takes}
 use Rattle.party_state.specs.State.{Party, apply, apply_edit, centre_label, link_with, knows}
-use Rattle.party_state.specs.Verdicts.{verdict_of, Held}
+use Rattle.party_state.specs.Verdicts.{verdict_of, TestsHold}
 use Rattle.party_state.specs.Rows.{Row, Coded}
 use Rattle.role_base.specs.Conditions.{is_for, has_count}
 use Rattle.role_base.specs.Texts.{is_verified}
@@ -33,10 +33,10 @@ not_low false b h t = absurd (cc)
 -- which are accepted
 
 translates : HeldAtAccept → (p : Party) (a : Arrival) (m : Rfs) (o q : Option LinkRec) → link_with (takes m.originator centre_label) p ≡ o → link_with (sends m.ultimate centre_label) p ≡ q → (rfs_between p a m o q).verdict ≡ Accept → CanTranslate p a m
-translates held p a m None q f g e = let h : Held (rfs_front p m false) = held (rfs_front p m false) refl e in absurd (both_ways false refl h.1.1.1.0)
-translates held p a m (Some l) None f g e = let h : Held (rfs_front p m false) = held (rfs_front p m false) refl e in absurd (both_ways false refl h.1.1.1.0)
+translates held p a m None q f g e = let h : TestsHold (rfs_front p m false) = held (rfs_front p m false) refl e in absurd (both_ways false refl h.1.1.1.0)
+translates held p a m (Some l) None f g e = let h : TestsHold (rfs_front p m false) = held (rfs_front p m false) refl e in absurd (both_ways false refl h.1.1.1.0)
 translates held p a m (Some l) (Some b) f g e =
-    let h : Held (rfs_tests p a m l b) = held (rfs_tests p a m l b) refl e in
+    let h : TestsHold (rfs_tests p a m l b) = held (rfs_tests p a m l b) refl e in
     let who : (m.receiver ≡ p.own) × (m.originator ≢ p.own) = for_me p m.receiver m.originator h.0 in
     record {
       receiver = who.0;

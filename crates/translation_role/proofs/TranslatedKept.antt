@@ -7,7 +7,7 @@ use Rattle.csm_grammar.specs.declared.message.Rfs.{Rfs}
 use Rattle.party_state.specs.declared.decision.Decision.{Decision}
 use Rattle.party_tables.specs.declared.link.LinkRec.{LinkRec}
 use Rattle.party_state.specs.State.{Party}
-use Rattle.party_state.specs.Verdicts.{Held}
+use Rattle.party_state.specs.Verdicts.{TestsHold}
 use Rattle.role_base.specs.Deciding.{decision_of, Decides}
 use Rattle.role_base.specs.Standing.{LinkStands}
 use Rattle.role_base.proofs.Counted.{left_is_count, next_on}
@@ -20,7 +20,7 @@ pub rfs_kept : HeldIfAccepted → (p : Party) (a : Arrival) (m : Rfs) (l b : Lin
 rfs_kept held p a m l b made s t i e =
     let there = s.found in
     made_kept p (rfs_between p a m (Some l) (Some b)) made (row_kept p (rfs_between p a m (Some l) (Some b))
-    (λ v. let h : Held (rfs_tests p a m l b) = held (rfs_tests p a m l b) refl v in
+    (λ v. let h : TestsHold (rfs_tests p a m l b) = held (rfs_tests p a m l b) refl v in
     record {
       each = ((next_on m.cta _ i refl, link_room p l s), ((next_on b.next _ (left_is_count b t.range.next h.1.1.1.1.1.1.1.0) refl, link_room p b t), tt));
       order = rw there refl;

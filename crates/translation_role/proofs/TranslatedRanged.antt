@@ -20,7 +20,7 @@ use Rattle.party_state.specs.declared.command.Input.{Input}
 use Rattle.party_state.specs.declared.command.Input.TheVariants as input
 use Rattle.party_state.specs.Ranges.{IsParty}
 use Rattle.party_state.specs.State.{Party, centre_label, link_with}
-use Rattle.party_state.specs.Verdicts.{Held, is_accept}
+use Rattle.party_state.specs.Verdicts.{TestsHold, is_accept}
 use Rattle.party_state.specs.Rows.{refused}
 use Rattle.role_base.specs.Deciding.{decision_of}
 use Rattle.role_base.specs.Ranged.{IsInput, IsRanged}
@@ -58,7 +58,7 @@ rfs_ranged short seals held links in_range p a m h w = by_links (link_with (take
         })
       where
         left : LinkStands p b → is_accept (rfs_between p a m (Some l) (Some b)).verdict ≡ true → IsCount b.next
-        left t v = let x : Held (rfs_tests p a m l b) = held (rfs_tests p a m l b) refl v in left_is_count b t.range.next x.1.1.1.1.1.1.1.0
+        left t v = let x : TestsHold (rfs_tests p a m l b) = held (rfs_tests p a m l b) refl v in left_is_count b t.range.next x.1.1.1.1.1.1.1.0
 
 arrival_in_range : CanonShort → SealsBelow → HeldIfAccepted → LinksFound → LinksInRange → (p : Party) (a : Arrival) → IsArrived a → IsParty p → IsRanged p (decision_of p (translation_row p (input.Arrived a)))
 arrival_in_range short seals held links in_range p a arrived w = by_message a.parsed.message arrived.typed

@@ -43,7 +43,7 @@ use Rattle.world_laws.proofs.Agreeing.Agreed.{Agreed}
 use Rattle.x_seal.specs.Wrapped.{unwrap_of}
 use Rattle.party_tables.specs.declared.exchange.Via.TheVariants as vias
 use Rattle.party_tables.specs.Keys.{link_key, same_link}
-use Rattle.party_state.specs.Verdicts.{Held as TestsHold, verdict_of, is_accept}
+use Rattle.party_state.specs.Verdicts.{TestsHold as TestsHold, verdict_of, is_accept}
 use Rattle.party_state.proofs.Verdicts.{held}
 use Rattle.role_base.specs.Texts.{text_of}
 use Rattle.world_laws.proofs.Links.Growth.{change_grows}

@@ -28,7 +28,7 @@ use Rattle.x_gen.specs.declared.generator.Gen.{Gen}
 use Rattle.x_gen.specs.Gen.{good_draw}
 use Rattle.x_seal.specs.Wrapped.{unwrap_of}
 use Rattle.party_tables.specs.Keys.{link_key, same_link}
-use Rattle.party_state.specs.Verdicts.{Test, Held as TestsHold, verdict_of, is_accept}
+use Rattle.party_state.specs.Verdicts.{Test, TestsHold as TestsHold, verdict_of, is_accept}
 use Rattle.party_state.proofs.Verdicts.{held}
 use Rattle.world_laws.proofs.Links.Growth.{change_grows, next_up}
 use Rattle.world_laws.proofs.Links.Found.{LinkAt, link_at}

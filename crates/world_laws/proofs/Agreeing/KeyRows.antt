@@ -36,7 +36,7 @@ use Rattle.world_laws.proofs.Agreeing.Moves.{Agreeing}
 use Rattle.world_laws.proofs.Agreeing.Agreed.{Agreed}
 use Rattle.csm_grammar.specs.declared.message.KsmBody.TheVariants as body
 use Rattle.party_tables.specs.Keys.{link_key}
-use Rattle.party_state.specs.Verdicts.{Held as TestsHold, is_accept}
+use Rattle.party_state.specs.Verdicts.{TestsHold, is_accept}
 use Rattle.world_laws.proofs.Links.Growth.{change_grows}
 use Rattle.world_laws.proofs.Links.Found.{HasLinks}
 use Rattle.world_laws.proofs.Counting.Sound.{IsSound}

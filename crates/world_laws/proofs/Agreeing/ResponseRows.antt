@@ -46,7 +46,7 @@ use Rattle.world_laws.proofs.Agreeing.Exchanges.{SentIs, sent_own}
 use Rattle.world_laws.proofs.Agreeing.Agreed.{Agreed}
 use Rattle.party_state.specs.declared.edit.Edit.TheVariants.{PutKey}
 use Rattle.party_tables.specs.Keys.{link_key, same_link}
-use Rattle.party_state.specs.Verdicts.{Held as TestsHold, verdict_of, is_accept}
+use Rattle.party_state.specs.Verdicts.{TestsHold as TestsHold, verdict_of, is_accept}
 use Rattle.party_tables.proofs.Keys.{test_links}
 use Rattle.party_state.proofs.Verdicts.{held}
 use Rattle.world_laws.proofs.Links.Growth.{change_grows}

@@ -22,7 +22,7 @@ use Rattle.party_tables.specs.declared.link.LinkRec.{LinkRec}
 use Rattle.party_tables.specs.Tables.{find_row, put_row}
 use Rattle.party_tables.specs.Keys.{same_link, link_key, sends, takes}
 use Rattle.party_state.specs.State.{Party, centre_label, link_with, apply}
-use Rattle.party_state.specs.Verdicts.{Held as TestsHold, is_accept, tests_pass}
+use Rattle.party_state.specs.Verdicts.{TestsHold as TestsHold, is_accept, tests_pass}
 use Rattle.party_tables.proofs.Keys.{test_idents}
 use Rattle.party_tables.proofs.Tables.{find_key}
 use Rattle.party_state.proofs.Verdicts.{held}

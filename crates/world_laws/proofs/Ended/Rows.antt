@@ -36,7 +36,7 @@ use Rattle.party_state.specs.declared.command.Input.{Input}
 use Rattle.party_state.specs.declared.command.Input.TheVariants as input
 use Rattle.party_state.specs.Rows.{Accepted, OfAnswer, refused}
 use Rattle.party_state.specs.State.{Party, centre_label, link_with, first_link, exchange_with, answer_with}
-use Rattle.party_state.specs.Verdicts.{Test, Held, is_accept}
+use Rattle.party_state.specs.Verdicts.{Test, TestsHold, is_accept}
 use Rattle.party_state.proofs.Verdicts.{held, blocked}
 use Rattle.role_base.specs.declared.exchanges.Sent.{Sent}
 use Rattle.role_base.specs.declared.exchanges.Twins.{Twins}
@@ -220,7 +220,7 @@ answer_added : (p : Party) (a : Arrival) (m : Rsm) (name : KeyName) (o : Option 
     → answers_in (acceptances_of p.own (authenticated_text a) (answer_to p a m name o).accepts) ≡ answer_of p a m.originator (Some name)
 answer_added p a m name None e h = absurd (blocked ((is_for p m.receiver m.originator, NotForMe) ∷ []) NoExchange refl refl h)
 answer_added p a m name (Some k) e h =
-    let t : Held (end_front p m name (Some k) ++ (is_verified a k.value, BadMac) ∷ []) = held (end_front p m name (Some k) ++ (is_verified a k.value, BadMac) ∷ []) refl h in
+    let t : TestsHold (end_front p m name (Some k) ++ (is_verified a k.value, BadMac) ∷ []) = held (end_front p m name (Some k) ++ (is_verified a k.value, BadMac) ∷ []) refl h in
     let is : name ≡ k.name = (test_names.decides name k.name).0 t.1.0 in
     let peer : k.peer ≡ m.originator = ending_record p m.originator k e in
     let under : full_name p.own k ≡ record { name = name; recipient = cond (bytes_eq name.originator p.own) m.originator p.own } = (λ i. record { name = (sym is) i; recipient = cond (bytes_eq ((sym is) i).originator p.own) (peer i) p.own }) in

@@ -4,7 +4,7 @@ use Rattle.csm_grammar.specs.declared.arrival.Arrival.{Arrival}
 use Rattle.party_tables.specs.declared.link.LinkRec.{LinkRec}
 use Rattle.party_tables.specs.Keys.{link_key, takes}
 use Rattle.party_state.specs.State.{Party, centre_label, link_with}
-use Rattle.party_state.specs.Verdicts.{Held, is_accept}
+use Rattle.party_state.specs.Verdicts.{TestsHold, is_accept}
 use Rattle.party_state.proofs.Verdicts.{held}
 use Rattle.csm_grammar.specs.Arrivals.{authenticated_text}
 use Rattle.world_laws.proofs.Links.Growth.{next_up}
@@ -21,7 +21,7 @@ use Rattle.world_laws.proofs.Sound.Keys.{count_low}
 
 pub brought_low : (p : Party) (a : Arrival) (m : Rtr) (k : ℕ × ℕ) (l : LinkRec) → is_accept (brought p a m k (Some l)).verdict ≡ true → l.next ≤ k.1
 brought_low p a m k l h =
-    let t : Held (brought_tests p a m k l) = held (brought_tests p a m k l) refl h in
+    let t : TestsHold (brought_tests p a m k l) = held (brought_tests p a m k l) refl h in
     count_low l.next k.1 t.1.1.1.1.1.1.0 t.1.1.1.1.1.1.1.0
 
 brought_sound : (p : Party) (a : Arrival) (m : Rtr) (k : ℕ × ℕ) (o : Option LinkRec) → link_with (takes m.originator centre_label) p ≡ o → is_accept (brought p a m k o).verdict ≡ true → IsSound None p (authenticated_text a) (brought p a m k o)

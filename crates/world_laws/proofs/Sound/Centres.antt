@@ -11,7 +11,7 @@ use Rattle.party_tables.specs.declared.link.LinkRec.{LinkRec}
 use Rattle.party_tables.specs.Tables.{find_row, put_row}
 use Rattle.party_tables.specs.Keys.{same_link, link_key, sends, takes}
 use Rattle.party_state.specs.State.{Party, centre_label, link_with}
-use Rattle.party_state.specs.Verdicts.{Held, is_accept}
+use Rattle.party_state.specs.Verdicts.{TestsHold, is_accept}
 use Rattle.party_state.proofs.Verdicts.{held}
 use Rattle.csm_grammar.specs.Arrivals.{authenticated_text}
 use Rattle.world_laws.proofs.Links.Growth.{LinkGrows, next_up}
@@ -84,17 +84,17 @@ answering_sound p text requester u tests a b b0 (Some d) at_a at_b g same ne =
     }
 
 -- an answer that is accepted was drawn, and its tests held
-pub answering_held : (p : Party) (requester u : List ℕ) (tests : List Test) (a b : LinkRec) (drawn : Option (ℕ × Gen)) → all_refuse (tests ++ (true, WeakDraws) ∷ []) ≡ true → all_refuse tests ≡ true → is_accept (answering p requester u tests a b drawn).verdict ≡ true → Held tests
+pub answering_held : (p : Party) (requester u : List ℕ) (tests : List Test) (a b : LinkRec) (drawn : Option (ℕ × Gen)) → all_refuse (tests ++ (true, WeakDraws) ∷ []) ≡ true → all_refuse tests ≡ true → is_accept (answering p requester u tests a b drawn).verdict ≡ true → TestsHold tests
 answering_held p requester u tests a b None r q h = absurd (blocked tests WeakDraws q refl h)
 answering_held p requester u tests a b (Some d) r q h = (held_after tests ((true, WeakDraws) ∷ []) (held (tests ++ (true, WeakDraws) ∷ []) r h)).0
 
 pub rsi_apart : (p : Party) (a : Arrival) (m : Rsi) (u : List ℕ) (l b : LinkRec) (drawn : Option (ℕ × Gen)) → is_accept (answering p m.originator u (rsi_tests p a m u l b) l b drawn).verdict ≡ true → u ≢ m.originator
 rsi_apart p a m u l b drawn h =
-    let t : Held (rsi_tests p a m u l b) = answering_held p m.originator u (rsi_tests p a m u l b) l b drawn refl refl h in
+    let t : TestsHold (rsi_tests p a m u l b) = answering_held p m.originator u (rsi_tests p a m u l b) l b drawn refl refl h in
     not_eq u m.originator (and_parts (is_data_key m.service) (not (bytes_eq u m.originator)) t.1.1.0).1
 
 pub ers_apart : (p : Party) (a : Arrival) (m : Ers) (t : Answer) (l b up : LinkRec) (drawn : Option (ℕ × Gen)) → is_accept (answering p m.originator m.ultimate (ers_tests p a m t l b) l up drawn).verdict ≡ true → m.ultimate ≢ m.originator
-ers_apart p a m t l b up drawn h = let g : Held (ers_tests p a m t l b) = answering_held p m.originator m.ultimate (ers_tests p a m t l b) l up drawn refl refl h in not_eq m.ultimate m.originator g.1.1.0
+ers_apart p a m t l b up drawn h = let g : TestsHold (ers_tests p a m t l b) = answering_held p m.originator m.ultimate (ers_tests p a m t l b) l up drawn refl refl h in not_eq m.ultimate m.originator g.1.1.0
 
 rsi_sound : (p : Party) (a : Arrival) (m : Rsi) (u : List ℕ) (fa fb : Option LinkRec) (drawn : Option (ℕ × Gen)) → link_with (sends m.originator centre_label) p ≡ fa → link_with (sends u centre_label) p ≡ fb → is_accept (rsi_between p a m u fa fb drawn).verdict ≡ true → IsSound None p (authenticated_text a) (rsi_between p a m u fa fb drawn)
 rsi_sound p a m u None fb drawn ea eb h = refused_sound p (authenticated_text a) (verdict_of (rsi_front p m u false))
@@ -115,7 +115,7 @@ ers_sound p a m (Some t) (Some l) (Some b) drawn ea eb h = answering_sound p (au
 
 pub rfs_low : (p : Party) (a : Arrival) (m : Rfs) (l b : LinkRec) → is_accept (rfs_between p a m (Some l) (Some b)).verdict ≡ true → l.next ≤ m.cta
 rfs_low p a m l b h =
-    let t : Held (rfs_tests p a m l b) = held (rfs_tests p a m l b) refl h in
+    let t : TestsHold (rfs_tests p a m l b) = held (rfs_tests p a m l b) refl h in
     count_low l.next m.cta t.1.1.1.1.1.0 t.1.1.1.1.1.1.0
 
 pub rfs_fine : (p : Party) (m : Rfs) (l b : LinkRec) → link_with (takes m.originator centre_label) p ≡ Some l → link_with (sends m.ultimate centre_label) p ≡ Some b → find_row link_key same_link (link_key b) (put_row link_key same_link (record l { next = m.cta + 1 }) p.links) ≡ Some b

@@ -23,7 +23,7 @@ use Rattle.party_state.specs.declared.edit.Edit.TheVariants.{PutLink, PutKey}
 use Rattle.party_tables.specs.Tables.{put_row}
 use Rattle.party_tables.specs.Keys.{same_link, link_key, takes}
 use Rattle.party_state.specs.State.{Party, centre_label, link_with, apply}
-use Rattle.party_state.specs.Verdicts.{Held, is_accept}
+use Rattle.party_state.specs.Verdicts.{TestsHold, is_accept}
 use Rattle.party_state.specs.Rows.{OfKsm}
 use Rattle.party_tables.proofs.Keys.{test_links}
 use Rattle.party_tables.proofs.Tables.{one_found, find_put_same, absent_put, found_put}
@@ -64,7 +64,7 @@ refuses : (p : Party) (originator : List ℕ) (l : LinkRec) (count : ℕ) (n : O
 refuses p originator l count None t = refl
 refuses p originator l count (Some n) t = refl
 
-pub new_absent : (p : Party) (originator : List ℕ) (l : LinkRec) (count : ℕ) (n : Option (List ℕ × NewKk)) → Held (new_tests p originator l count n) → (kk : List ℕ × NewKk) → n ≡ Some kk → link_with (takes originator kk.0) p ≡ None
+pub new_absent : (p : Party) (originator : List ℕ) (l : LinkRec) (count : ℕ) (n : Option (List ℕ × NewKk)) → TestsHold (new_tests p originator l count n) → (kk : List ℕ × NewKk) → n ≡ Some kk → link_with (takes originator kk.0) p ≡ None
 new_absent p originator l count None t kk e = absurd (cc)
 new_absent p originator l count (Some n) t kk e = let is : n ≡ kk = cc in subst (λ (z : List ℕ × NewKk). link_with (takes originator z.0) p ≡ None) is (free_parts n.0 centre_label (link_with (takes originator n.0) p) t.0).1
 
@@ -108,7 +108,7 @@ taken_keys p originator l count up (Some n) k None = (refl, refl, refl)
 taken_keys p originator l count up (Some n) k (Some m) = (refl, refl, refl)
 
 module _ (p : Party) (a : Arrival) (m : Ksm) (b : KsmBody) (l : LinkRec) (d : HasLinks p) (is : m.body ≡ b) (found : body_link p m.originator b ≡ Some l) (h : is_accept (key_row p a m b (Some l)).verdict ≡ true) where
-  pub key_held : Held (body_tests p a m b l)
+  pub key_held : TestsHold (body_tests p a m b l)
   key_held = held (body_tests p a m b l) (refuses p m.originator l (body_count b) (body_new b) _) h
 
   pub key_low : l.next ≤ body_count b

@@ -10,7 +10,7 @@ use Rattle.party_state.specs.declared.edit.Edit.TheVariants.{PutLink, PutKey, Pu
 use Rattle.party_tables.specs.Tables.{find_row, put_row}
 use Rattle.party_tables.specs.Keys.{same_link, link_key, exchange_key, sends}
 use Rattle.party_state.specs.State.{Party, centre_label, link_with, exchange_with, apply_edit, apply}
-use Rattle.party_state.specs.Verdicts.{Held, is_accept}
+use Rattle.party_state.specs.Verdicts.{TestsHold, is_accept}
 use Rattle.party_state.specs.Rows.{Row, Made}
 use Rattle.party_tables.proofs.Keys.{test_idents, test_links}
 use Rattle.party_tables.proofs.Tables.{find_put, find_put_same, absent_put, found_put}
@@ -71,7 +71,7 @@ module _ (p : Party) (text : List ℕ) (peer new : List ℕ) (single : Bool) (l 
   abbrev row : Row
   row = kk_sending p (start_tests p peer (Some l)) l new single (Some d)
 
-  pub kk_held : Held (start_tests p peer (Some l) ++ kk_tests p l new (Some d))
+  pub kk_held : TestsHold (start_tests p peer (Some l) ++ kk_tests p l new (Some d))
   kk_held = held (start_tests p peer (Some l) ++ kk_tests p l new (Some d)) refl h
 
   abbrev up : LinkRec

@@ -1,7 +1,7 @@
 -- What the rows of centres write and put is well formed; and so is each standard row.
 use Rattle.world_laws.proofs.Roles.Inputs.{IsInput}
 use Rattle.world_laws.proofs.Sound.Centres.{answering_held}
-use Rattle.party_state.specs.Verdicts.{Held as TestsHold}
+use Rattle.party_state.specs.Verdicts.{TestsHold as TestsHold}
 use Rattle.csm_read.proofs.Arrived.{arrival_says}
 use Rattle.csm_grammar.specs.declared.message.Message.TheVariants as message
 use Rattle.distribution_role.specs.Requests.{rsi_tests as centre_tests, rsi_between, rsi_for}

@@ -6,7 +6,7 @@ use Rattle.role_base.specs.Conditions.{is_two_keys}
 use Rattle.bank_arrivals.specs.declared.draws.TwinsDrawn.{TwinsDrawn}
 use Rattle.bank_arrivals.specs.SendingTwins.{twins_drawn, twins_tests, twins_sending_drawn}
 use Rattle.world_laws.proofs.Texts.OwnMessages.{twins_own}
-use Rattle.party_state.specs.Verdicts.{Held as TestsHold}
+use Rattle.party_state.specs.Verdicts.{TestsHold as TestsHold}
 use Rattle.party_tables.specs.declared.exchange.Kind.TheVariants as kind
 use Rattle.bank_orders.specs.Ask.{centre_front, ask_of}
 use Rattle.bank_orders.specs.Translate.{translate_tests, translate_drawn, translate_under}

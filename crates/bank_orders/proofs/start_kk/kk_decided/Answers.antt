@@ -1,5 +1,5 @@
 use Rattle.std.proofs.Common.{◌≡◌, Some, List, ◌++◌, sym, ap, ◌∙◌}
-use Rattle.party_state.specs.Verdicts.{Test, verdict_of, Held}
+use Rattle.party_state.specs.Verdicts.{Test, verdict_of, TestsHold}
 use Rattle.bank_orders.specs.StartKk.{kk_tests}
 use Rattle.role_base.proofs.Kept.{refuses_row}
 use Rattle.bank_orders.proofs.KkSent.{kk_held, kk_undrawn, kk_sent, kk_refused}
@@ -7,13 +7,13 @@ use Rattle.bank_orders.proofs.start_kk.kk_decided.Goals as goal
 
 pub send_kk-requires-clause-place : goal.send_kk-requires-clause-place
 send_kk-requires-clause-place c =
-    let h : Held (kk_tests c.args.state.now c.args.link.now c.args.wanted.now.label c.args.drawn) = kk_held c.law_accept.ensures.tested c.args.state.now c.args.front.now c.args.link.now c.args.wanted.now.label c.args.drawn c.verdict_after-verdict.result c.requires.refuse
+    let h : TestsHold (kk_tests c.args.state.now c.args.link.now c.args.wanted.now.label c.args.drawn) = kk_held c.law_accept.ensures.tested c.args.state.now c.args.front.now c.args.link.now c.args.wanted.now.label c.args.drawn c.verdict_after-verdict.result c.requires.refuse
     (c.verdict_after-verdict.ensures ∙ ap (λ (ts : List Test). verdict_of (c.args.front.now ++ ts)) c.kk_tests.ensures) (sym c.is_accept.ensures ∙ c.if-is_accept.true) in
     h.1.1.0
 
 pub send_kk-requires-clause-room : goal.send_kk-requires-clause-room
 send_kk-requires-clause-room c =
-    let h : Held (kk_tests c.args.state.now c.args.link.now c.args.wanted.now.label c.args.drawn) = kk_held c.law_accept.ensures.tested c.args.state.now c.args.front.now c.args.link.now c.args.wanted.now.label c.args.drawn c.verdict_after-verdict.result c.requires.refuse
+    let h : TestsHold (kk_tests c.args.state.now c.args.link.now c.args.wanted.now.label c.args.drawn) = kk_held c.law_accept.ensures.tested c.args.state.now c.args.front.now c.args.link.now c.args.wanted.now.label c.args.drawn c.verdict_after-verdict.result c.requires.refuse
     (c.verdict_after-verdict.ensures ∙ ap (λ (ts : List Test). verdict_of (c.args.front.now ++ ts)) c.kk_tests.ensures) (sym c.is_accept.ensures ∙ c.if-is_accept.true) in
     h.1.1.1.0
 

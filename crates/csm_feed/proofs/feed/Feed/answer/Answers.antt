@@ -1,6 +1,6 @@
 use Rattle.std.proofs.Common.{rules, ◌≡◌, subst}
 use Rattle.csm_feed.specs.declared.next.Next.TheVariants.{Refused}
-use Rattle.csm_feed.specs.Held.{Feeding}
+use Rattle.csm_feed.specs.HeldBytes.{Feeding}
 use Rattle.csm_feed.specs.Feeding.{Answers}
 use Rattle.csm_feed.proofs.Answering.{given_again}
 use Rattle.csm_feed.proofs.feed.Feed.answer.Goals as goal

@@ -1,5 +1,5 @@
 use Rattle.std.proofs.Common.{rules, ◌≡◌, ◌^◌, ◌-◌, ◌+◌, ℕ, List, length, take, ◌++◌, sym, subst}
-use Rattle.csm_feed.specs.Held.{Feeding, IsKnown}
+use Rattle.csm_feed.specs.HeldBytes.{Feeding, IsKnown}
 use Rattle.csm_feed.specs.Feeding.{with_bytes, Feeds}
 use Rattle.csm_feed.proofs.Waiting.{known_more}
 use Rattle.csm_feed.proofs.Pushing.{added, kept_as, feeds_as}

@@ -12,12 +12,12 @@ use std::marker::Model;
 
 /// A party and the space that is left for it, on no disk.
 #[derive(Drop)]
-pub struct Held {
+pub struct PartyInMemory {
     state: State,
     space: Space,
 }
 
-impl Model for Held {
+impl Model for PartyInMemory {
     ghost use Rattle.member.specs.Member.{Member};
 
     ghost Value = { Member };
@@ -27,14 +27,14 @@ impl Model for Held {
 
 /// A member in memory and what it will do, with all memory taken.
 #[derive(Drop)]
-pub struct PlannedHeld {
+pub struct PlannedInMemory {
     prepared: Prepared,
     space: Space,
     left: Space,
     answer: Answer,
 }
 
-impl Model for PlannedHeld {
+impl Model for PlannedInMemory {
     ghost use Rattle.std.specs.Prelude.{◌≡◌};
     ghost use Rattle.change_code.specs.Cost.{space_after};
     ghost use Rattle.member.specs.Answers.{PlannedMember, plan_with};
@@ -46,17 +46,17 @@ impl Model for PlannedHeld {
     ghost invariant = { λ p. p.left ≡ space_after p.space p.prepared.edits };
 }
 
-impl Held {
+impl PartyInMemory {
     /// A party with this space.
-    pub fn of(state: State, space: Space) -> Held
+    pub fn of(state: State, space: Space) -> PartyInMemory
         ensures { result ≡ record { party = state; space = space } }
     {
-        Held { state, space }
+        PartyInMemory { state, space }
     }
 }
 
-impl Holder for Held {
-    type Planned = PlannedHeld;
+impl Holder for PartyInMemory {
+    type Planned = PlannedInMemory;
 
     type Failed = Infallible;
 
@@ -72,44 +72,49 @@ impl Holder for Held {
         self.space
     }
 
-    fn plan(self, alloc: Global, input: &Input, moment: u64) -> Result<PlannedHeld, Held> {
-        let Held { state, space } = self;
+    fn plan(
+        self,
+        alloc: Global,
+        input: &Input,
+        moment: u64,
+    ) -> Result<PlannedInMemory, PartyInMemory> {
+        let PartyInMemory { state, space } = self;
         let Ok(plan) = Plan::of(alloc, &state, space, input, moment) else {
-            return Err(Held { state, space });
+            return Err(PartyInMemory { state, space });
         };
         let (answer, framed) = plan.into_parts();
         let left = framed.space_after(space.room);
         let (change, _) = framed.into_parts();
         match state.prepare(change) {
-            Ok(prepared) => Ok(PlannedHeld {
+            Ok(prepared) => Ok(PlannedInMemory {
                 prepared,
                 space,
                 left,
                 answer,
             }),
-            Err(state) => Err(Held { state, space }),
+            Err(state) => Err(PartyInMemory { state, space }),
         }
     }
 
-    fn answer(planned: &PlannedHeld) -> &Answer {
+    fn answer(planned: &PlannedInMemory) -> &Answer {
         &planned.answer
     }
 
-    fn cancel(planned: PlannedHeld) -> Held {
-        Held {
+    fn cancel(planned: PlannedInMemory) -> PartyInMemory {
+        PartyInMemory {
             state: planned.prepared.cancel(),
             space: planned.space,
         }
     }
 
-    fn carry_out(planned: PlannedHeld) -> Result<(Held, Answer), Infallible> {
-        let PlannedHeld {
+    fn carry_out(planned: PlannedInMemory) -> Result<(PartyInMemory, Answer), Infallible> {
+        let PlannedInMemory {
             prepared,
             left,
             answer,
             ..
         } = planned;
         let state = prepared.finish();
-        Ok((Held { state, space: left }, answer))
+        Ok((PartyInMemory { state, space: left }, answer))
     }
 }
