@@ -167,7 +167,8 @@ pub fn run<S: Source, K: Sink, H: Shelf>(
     // The words are looked at first: where something is wrong with them, and they don't ask for help, that is the status and
     // nothing is touched.
     ensures usage { JudgesWords words.now result ((source.new ≡ source.old) × (sink.new ≡ sink.old) × (shelf.new ≡ shelf.old)) }
-    // Where they ask for help it is written, and the source and the shelf stay as they are.
+    // Where they stand for no order and ask for help, the text that begins with the lines of their topic is written, and the
+    // source and the shelf stay as they are.
     ensures helps { Helps words.now result (K.written sink.old) (K.written sink.new) ((source.new ≡ source.old) × (shelf.new ≡ shelf.old)) }
     // Otherwise they stand for an order, and it is done as it says. Of a batch: where party and spool were in step they are so
     // afterwards at every pair of images that a crash may leave, whatever came; done, it has all plans, the party stands for its
@@ -213,8 +214,9 @@ pub fn run<S: Source, K: Sink, H: Shelf>(
     ensures silent { (order : Order) (mirror : Option (List ℕ)) → IsGiven words.now order mirror → IsSilentOf order result → sink.new ≡ sink.old }
     ensures most { (order : Order) (mirror : Option (List ℕ)) → IsGiven words.now order mirror → TookAtMost (most_of order) (S.left source.old) (S.left source.new) }
 
-    // The notice that is handed out for standard error: of a message that is taken with `--tell`, where it is done, its class, and
-    // the name and the status of each data key whose record the party put. Otherwise there is none.
+    // The notice that is handed out for standard error: of a message that is taken with `--tell` over one disk, where it is done,
+    // its class, and the name and the status of each data key whose record the party put. Every other order has none; of words
+    // that stand for no order nothing is said.
     ensures notice { (order : Order) → IsOrder words.now order → LeavesNotice (is_telling words.now) order moment result (S.left source.old) (H.entry shelf.old) notice.new }
     ensures no_notice { (order : Order) (mirror : List ℕ) → IsMirrored words.now order mirror → notice.new ≡ None }
 {
