@@ -3,7 +3,9 @@
 #![tactic(auto)]
 
 mod call;
+mod rows;
 mod table;
 
 pub use call::Call;
+pub use rows::{Answers, rows_told};
 pub use table::Table;

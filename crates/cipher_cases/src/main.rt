@@ -1,42 +1,69 @@
 //! Goes through tables of outside values of ciphers, codes, the key generator and keys under keys, and
-//! tells of each table how many rows hold, and of a row that doesn't what it gives and what was wanted. The last table has a wrong row on purpose.
+//! tells of each table how many rows hold, and of a row that doesn't what it gives and what was wanted. The last
+//! table has a wrong row on purpose.
+//!
+//! A row of blocks, codes or keys has a key or a pair of keys first. It is answered by a number for each call that is
+//! tried with it, in their order in the code.
 #![tactic(auto)]
 
-mod blocks;
-mod codes;
-mod draws;
+mod calls;
 mod keys;
-mod pairs;
 mod plain;
-mod wrong;
+mod words;
 
+use case_table::{Answers, rows_told};
 use std::alloc::Global;
 use std::io::{self, Write};
-use x_base::{NoMemory, Text};
+use words::{numbers, told};
+use x_base::NoMemory;
+use x_des::Block;
+use x_gen::{Gen, is_weak, with_odd_parity};
+use x_mac::{Pair, edc};
 
-/// What is told of each table.
-fn told(alloc: Global) -> Result<Text, NoMemory> {
-    let mut text = Text::new(alloc);
-    for told in [
-        blocks::blocks(alloc)?,
-        blocks::parts(alloc)?,
-        pairs::pairs(alloc)?,
-        codes::codes(alloc)?,
-        codes::detecting(alloc)?,
-        draws::draws(alloc)?,
-        draws::steps(alloc)?,
-        draws::parity(alloc)?,
-        keys::keys(alloc)?,
-        wrong::wrong(alloc)?,
-    ] {
-        text.push(told.bytes())?;
+/// Answers by the calls of the ciphers.
+#[derive(Drop)]
+struct Ciphers {
+    alloc: Global,
+}
+
+impl Answers for Ciphers {
+    fn answer(&mut self, table: &str, asked: &str) -> Result<String, NoMemory> {
+        let alloc = self.alloc;
+        let [left, right, third, fourth] = numbers(asked);
+        let key = Pair { left, right };
+        match table {
+            "blocks made by another program" => told(alloc, &calls::blocks(left, right, third)),
+            "blocks under pairs of keys, made by another program" => {
+                told(alloc, &calls::pairs(key, third, fourth))
+            }
+            "codes made by another program, of texts whole and cut" => calls::codes(
+                alloc, left, asked,
+            ),
+            "draws made by another program" => told(
+                alloc,
+                &calls::draws(Gen { key, v: third }, fourth),
+            ),
+            "draws and what stands behind them" => {
+                told(alloc, &calls::steps(Gen { key, v: third }, fourth))
+            }
+            "keys under keys, made by two models" => keys::keys(alloc, key, third, asked),
+            "S-boxes with P" => told(alloc, &[calls::entry(left, right)]),
+            "blocks, exclusive or" => {
+                told(alloc, &[Block::new(left).xor(&Block::new(right)).word()])
+            }
+            "error detection codes" => told(alloc, &[edc(asked.as_bytes()).into()]),
+            "odd parity" => told(alloc, &[with_odd_parity(left)]),
+            "weak keys" => told(alloc, &[is_weak(left).into()]),
+            _ => Ok(String::from_str(alloc, asked)?),
+        }
     }
-    Ok(text)
 }
 
 fn main(rt: HostRuntime) -> io::Result<()> {
-    let Ok(text) = told(rt.alloc()) else {
+    let alloc = rt.alloc();
+    let tables = io::read_to_string(alloc, rt.stdin())?;
+    let Ok(told) = rows_told(alloc, &mut Ciphers { alloc }, tables.as_str()) else {
         return Err(io::ErrorKind::OutOfMemory.into());
     };
-    rt.stdout().write_all(text.bytes())
+    rt.stdout().write_all(told.bytes())
 }

@@ -1,66 +1,59 @@
 // Facts that are found by their names and texts.
-use crate::rows::add_row;
-use case_table::{Call, Table};
 use fact_book::{FactBook, Texts};
 use std::alloc::Global;
-use x_base::{FullName, Ident, KeyName, NoMemory, Text};
+use x_base::{FullName, Ident, KeyName, NoMemory};
 
-const FIRST: &[u8] = b"BANKA.BANKA.K1.1";
-
-const SECOND: &[u8] = b"BANKA.BANKA.K1.2";
-
-/// The facts that the book has, of keys whose recipient is BANKB.
-const FACTS: [(&[u8], &[u8]); 3] = [(FIRST, b"ONE"), (SECOND, b"TWO"), (FIRST, b"SIX")];
-
-/// A key's name, its recipient, a text, and whether the book has that fact.
-const ROWS: [(&[u8], &[u8], &[u8], bool); 6] = [
-    (FIRST, b"BANKB", b"ONE", true),
-    (FIRST, b"BANKB", b"SIX", true),
-    (SECOND, b"BANKB", b"TWO", true),
-    (SECOND, b"BANKB", b"ONE", false),
-    (FIRST, b"BANKB", b"ON", false),
-    (FIRST, b"BANKC", b"ONE", false),
-];
-
-fn full_name(name: &[u8], recipient: &[u8]) -> Option<FullName> {
+/// The name of a key, and its recipient.
+fn full_name(name: &str, recipient: &str) -> Option<FullName> {
     Some(FullName {
-        name: KeyName::read(name).ok()?,
-        recipient: Ident::read(recipient).ok()?,
+        name: KeyName::read(name.as_bytes()).ok()?,
+        recipient: Ident::read(recipient.as_bytes()).ok()?,
     })
 }
 
-fn book(alloc: Global) -> Result<FactBook, NoMemory> {
+/// The name of a fact, which has a text behind the names.
+fn name_of(words: &str) -> Option<FullName> {
+    let (name, words) = words.split_once(' ')?;
+    let (recipient, _) = words.split_once(' ')?;
+    full_name(name, recipient)
+}
+
+/// The text of a fact.
+fn text_of(words: &str) -> &[u8] {
+    let (_, words) = words.split_once(' ').unwrap_or(("", ""));
+    let (_, text) = words.split_once(' ').unwrap_or(("", ""));
+    text.as_bytes()
+}
+
+/// Whether a book with facts has one more.
+pub(crate) fn has(alloc: Global, asked: &str) -> Result<String, NoMemory> {
+    let (facts, wanted) = asked.split_once(" ? ").unwrap_or((asked, ""));
     let mut book = FactBook::new(alloc);
-    for (name, text) in FACTS {
-        if let Some(under) = full_name(name, b"BANKB") {
-            book.add(under, text)?;
+    for fact in facts.split(", ") {
+        if let Some(under) = name_of(fact) {
+            book.add(under, text_of(fact))?;
         }
     }
-    Ok(book)
+    let has = match name_of(wanted) {
+        Some(under) => book.has(&under, text_of(wanted)),
+        None => return Ok(format!(in alloc; "no name")?),
+    };
+    Ok(format!(in alloc; "{has}")?)
 }
 
-/// What is told of facts.
-pub(crate) fn facts(alloc: Global) -> Result<Text, NoMemory> {
-    let mut table = Table::new(alloc, "facts");
-    let book = book(alloc)?;
-    for (name, recipient, text, stands) in ROWS {
-        let has = full_name(name, recipient).map(|under| u64::from(book.has(&under, text)));
-        table.row(&[Call::option("has", has, Some(stands.into()))])?;
-    }
-    table.told()
-}
-
-/// What is told of texts that are got back.
-pub(crate) fn texts(alloc: Global) -> Result<Text, NoMemory> {
-    let mut table = Table::new(alloc, "texts of facts");
+/// The text at a place among others, or how many there are.
+pub(crate) fn text_at(alloc: Global, asked: &str) -> Result<String, NoMemory> {
+    let (words, place) = asked.split_once(" ? ").unwrap_or((asked, ""));
     let mut texts = Texts::new(alloc);
-    for text in [b"ONE".as_slice(), b"".as_slice(), b"THREE".as_slice()] {
-        texts.push(text)?;
+    for text in words.split(", ") {
+        texts.push(text.as_bytes())?;
     }
-    let wanted: [Option<&[u8]>; 4] = [Some(b"ONE"), Some(b""), Some(b"THREE"), None];
-    for (place, text) in wanted.iter().enumerate() {
-        add_row(alloc, &mut table, "get", &texts.get(place), text)?;
+    let Ok(place) = place.parse::<u32>() else {
+        let count = texts.len();
+        return Ok(format!(in alloc; "{count}")?);
+    };
+    match texts.get(place as usize) {
+        Some(text) => Ok(format!(in alloc; "{text:?}")?),
+        None => Ok(format!(in alloc; "none")?),
     }
-    table.row(&[Call::number("len", texts.len() as u64, 3)])?;
-    table.told()
 }

@@ -25,6 +25,7 @@ mod states;
 mod streams;
 mod texts;
 mod writing;
+mod wrong;
 
 use std::alloc::Global;
 use std::io::{self, Write};
@@ -62,6 +63,7 @@ fn parties_told(alloc: Global) -> Result<Text, NoMemory> {
         edits::centres(alloc)?,
         lookups::lookups(alloc)?,
         changes::changes(alloc)?,
+        wrong::wrong(alloc)?,
     ] {
         text.push(told.bytes())?;
     }

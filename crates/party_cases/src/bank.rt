@@ -2,8 +2,8 @@
 use csm_feed::{INPUT_LIMIT, hear};
 use party_state::{Command, Input, Role};
 use std::alloc::Global;
-use x_base::{Ident, KeyName, Label, Side};
-use x_disk::{DiskErr, MemoryShelf, Shelf};
+use x_base::{Ident, KeyName, Label, NoMemory, Side, Text};
+use x_disk::Shelf;
 use x_gen::Gen;
 use x_mac::Pair;
 use x_party::{Outcome, create, show, turn};
@@ -21,44 +21,6 @@ const LOADED: Pair = Pair {
     right: 0xFEDCBA9876543212,
 };
 
-/// The party of a row: BANKA sends to BANKB, which has the other end of their key-encrypting key.
-#[derive(Clone, Copy, PartialEq, Eq)]
-pub(crate) enum Party {
-    A,
-    B,
-}
-
-/// What a party is asked.
-#[derive(Clone, Copy, PartialEq, Eq)]
-pub(crate) enum Step {
-    Create,
-    Load,
-    Ask,
-    Start,
-    Resend,
-    Drop,
-    End,
-    Purge,
-    /// This message arrives.
-    Take(&'static str),
-    Show,
-}
-
-/// The answer to the key of BANKA, and to its end.
-pub(crate) const RSM: &str = "CSM(MCL/RSM RCV/BANKA ORG/BANKB MAC/BB510339)";
-
-const ANSWERED: &str = "CSM(MCL/RSM RCV/BANKA ORG/BANKB IDD/BANKA.BANKA.K1.1 MAC/CB38EA3E)";
-
-/// What BANKA was asked from its beginning on.
-const HISTORY: [Step; 6] = [
-    Step::Create,
-    Step::Load,
-    Step::Start,
-    Step::Take(RSM),
-    Step::End,
-    Step::Take(ANSWERED),
-];
-
 /// The names that a party and its commands have.
 #[derive(Clone, Copy)]
 pub(crate) struct Names {
@@ -69,95 +31,117 @@ pub(crate) struct Names {
     side: Side,
 }
 
-/// The names of this party.
-pub(crate) fn names_of(party: Party) -> Result<Names, DiskErr> {
-    let (Ok(a), Ok(b), Ok(label), Ok(key)) = (
-        Ident::read(b"BANKA"),
-        Ident::read(b"BANKB"),
-        Label::read(b"K1"),
-        KeyName::read(b"BANKA.BANKA.K1.1"),
-    ) else {
-        return Err(DiskErr::Fault);
+/// The names of BANKA, which sends to BANKB, or of BANKB, which has the other end of their key-encrypting key.
+pub(crate) fn names_of(own: &str) -> Option<Names> {
+    let (peer, side) = if own == "BANKA" {
+        ("BANKB", Side::Sends)
+    } else {
+        ("BANKA", Side::Takes)
     };
-    let (own, peer, side) = match party {
-        Party::A => (a, b, Side::Sends),
-        Party::B => (b, a, Side::Takes),
-    };
-    Ok(Names {
-        own,
-        peer,
-        label,
-        key,
+    Some(Names {
+        own: Ident::read(own.as_bytes()).ok()?,
+        peer: Ident::read(peer.as_bytes()).ok()?,
+        label: Label::read(b"K1").ok()?,
+        key: KeyName::read(b"BANKA.BANKA.K1.1").ok()?,
         side,
     })
 }
 
 /// The message as what arrives.
-fn arrived(alloc: Global, text: &str) -> Result<Input, DiskErr> {
+fn arrived(alloc: Global, text: &str) -> Result<Option<Input>, NoMemory> {
     let bytes = text.as_bytes();
     if bytes.len() > INPUT_LIMIT {
-        return Err(DiskErr::Fault);
+        return Ok(None);
     }
-    match hear(alloc, bytes) {
-        Ok(Ok(arrival)) => Ok(Input::Arrived(arrival)),
-        Ok(Err(_)) => Err(DiskErr::Fault),
-        Err(_) => Err(DiskErr::NoMemory),
-    }
+    Ok(match hear(alloc, bytes)? {
+        Ok(arrival) => Some(Input::Arrived(arrival)),
+        Err(_) => None,
+    })
 }
 
-/// The command or the message of a step that is one.
-fn input_of(alloc: Global, names: &Names, step: Step) -> Result<Input, DiskErr> {
+/// The command of a step that is one.
+fn command_of(names: &Names, step: &str) -> Option<Command> {
     let peer = names.peer;
-    let command = match step {
-        Step::Take(text) => return arrived(alloc, text),
-        Step::Load => Command::Load {
+    Some(match step {
+        "load" => Command::Load {
             peer,
             label: names.label,
             side: names.side,
             pair: LOADED,
         },
-        Step::Ask => Command::Ask {
+        "ask" => Command::Ask {
             peer,
             ultimate: None,
         },
-        Step::Start => Command::Start { peer, label: None },
-        Step::Resend => Command::Resend { peer },
-        Step::Drop => Command::Drop { peer },
-        Step::End => Command::End {
+        "start" => Command::Start { peer, label: None },
+        "resend" => Command::Resend { peer },
+        "drop" => Command::Drop { peer },
+        "end" => Command::End {
             peer,
             name: names.key,
         },
-        _ => Command::Purge,
-    };
-    Ok(Input::Ordered(command))
+        "purge" => Command::Purge,
+        _ => return None,
+    })
 }
 
-/// What becomes of it.
+/// The command of a step, or the message that it is.
+pub(crate) fn input_of(
+    alloc: Global,
+    names: &Names,
+    step: &str,
+) -> Result<Option<Input>, NoMemory> {
+    match command_of(names, step) {
+        Some(command) => Ok(Some(Input::Ordered(command))),
+        None => arrived(alloc, step),
+    }
+}
+
+/// Appends the text, with a semicolon for each end of a line.
+fn tell(told: &mut String, text: &Text) -> Result<(), NoMemory> {
+    for byte in text.bytes() {
+        told.push(if *byte == b'\n' { ';' } else { *byte as char })?;
+    }
+    Ok(())
+}
+
+/// What is told of an outcome: the text, if there is one, behind a refusal's number.
+pub(crate) fn told_of(alloc: Global, outcome: Outcome) -> Result<String, NoMemory> {
+    let mut told = String::new(alloc);
+    match outcome {
+        Outcome::Done { reply: None } => told.push_str("done")?,
+        Outcome::Done { reply: Some(text) } => tell(&mut told, &text)?,
+        Outcome::Refused { verdict, reply } => {
+            let number = verdict.number();
+            told = format!(in alloc; "refused {number}")?;
+            if let Some(text) = reply {
+                told.push(' ')?;
+                tell(&mut told, &text)?;
+            }
+        }
+        Outcome::Fault => told.push_str("disk fault")?,
+        Outcome::NoMemory => return Err(NoMemory),
+        _ => told.push_str("otherwise")?,
+    }
+    Ok(told)
+}
+
+/// What becomes of a step.
 pub(crate) fn asked<H: Shelf>(
     alloc: Global,
     shelf: &mut H,
     names: &Names,
-    step: Step,
-) -> Result<Outcome, DiskErr> {
-    Ok(match step {
-        Step::Create => create(alloc, shelf, names.own, Role::Bank, GENERATOR),
-        Step::Show => show(alloc, shelf, &names.own),
-        _ => {
-            let input = input_of(alloc, names, step)?;
-            turn(alloc, shelf, &names.own, &input, 0)
+    step: &str,
+) -> Result<String, NoMemory> {
+    let outcome = if step == "create" {
+        create(alloc, shelf, names.own, Role::Bank, GENERATOR)
+    } else if step == "show" {
+        show(alloc, shelf, &names.own)
+    } else {
+        match input_of(alloc, names, step)? {
+            Some(input) => turn(alloc, shelf, &names.own, &input, 0),
+            None => Outcome::Done { reply: None },
         }
-    })
-}
-
-/// A shelf on which the party was asked the first so many steps.
-pub(crate) fn standing(alloc: Global, names: &Names, steps: usize) -> Result<MemoryShelf, DiskErr> {
-    let mut shelf = MemoryShelf::new(alloc);
-    for step in HISTORY.iter().take(steps) {
-        match asked(alloc, &mut shelf, names, *step)? {
-            Outcome::Done { .. } => {}
-            Outcome::NoMemory => return Err(DiskErr::NoMemory),
-            _ => return Err(DiskErr::Fault),
-        }
-    }
-    Ok(shelf)
+    };
+    told_of(alloc, outcome)
 }

@@ -8,7 +8,7 @@ use party_state::{
     Answer, Edit, Exchange, KeyRec, KeyStatus, Kind, LinkRec, Role, Side, Via, name_behind,
 };
 use std::alloc::Global;
-use x_base::{Ident, KeyName, Label, NoMemory, Text};
+use x_base::{Ident, KeyName, Label, Text};
 use x_disk::DiskErr;
 use x_gen::Gen;
 use x_mac::Pair;
@@ -131,15 +131,4 @@ pub(crate) fn exchange_of(alloc: Global, row: usize) -> Result<Edit, DiskErr>
     text.push(b"CS")?;
     let kind = kind_of(row, &name);
     Ok(Edit::PutExchange(Exchange { peer, kind, text }))
-}
-
-/// The code of a link with this side, next count and readiness.
-pub(crate) fn link_code(alloc: Global, side: u8, next: u64, ready: u8) -> Result<Text, NoMemory> {
-    let mut text = Text::new(alloc);
-    text.push(b"\x01\0\x01\x02\x04BANK\x01K")?;
-    text.push(&[side])?;
-    text.push(&[0; 16])?;
-    text.push(&next.to_be_bytes())?;
-    text.push(&[ready])?;
-    Ok(text)
 }

@@ -5,35 +5,38 @@
 mod bank;
 mod changes;
 mod codes;
-mod commands;
-mod rows;
-mod shelves;
 mod stops;
 
+use case_table::{Answers, rows_told};
 use std::alloc::Global;
 use std::io::{self, Write};
-use x_base::Text;
-use x_disk::DiskErr;
+use x_base::NoMemory;
 
-/// What is told of all tables.
-fn told(alloc: Global) -> Result<Text, DiskErr> {
-    let mut text = Text::new(alloc);
-    for told in [
-        codes::edits(alloc)?,
-        codes::exchanges(alloc)?,
-        codes::others(alloc)?,
-        codes::links(alloc)?,
-        rows::stops_told(alloc)?,
-        rows::shelves_told(alloc)?,
-    ] {
-        text.push(told.bytes())?;
+/// Answers over shelves in memory.
+#[derive(Drop)]
+struct Program {
+    alloc: Global,
+}
+
+impl Answers for Program {
+    fn answer(&mut self, table: &str, asked: &str) -> Result<String, NoMemory> {
+        let alloc = self.alloc;
+        match table {
+            "codes of edits" => codes::told_code(alloc, codes::edit_code(alloc, asked)),
+            "codes of exchanges" => codes::told_code(alloc, codes::exchange_code(alloc, asked)),
+            "commands whose disk fails" => stops::failing_disk(alloc, asked),
+            "commands whose shelf fails" => stops::failing_shelf(alloc, asked),
+            _ => codes::is_code(alloc, asked),
+        }
     }
-    Ok(text)
 }
 
 fn main(rt: HostRuntime) -> io::Result<()> {
-    let Ok(text) = told(rt.alloc()) else {
-        return Err(io::ErrorKind::Other.into());
+    let alloc = rt.alloc();
+    let tables = io::read_to_string(alloc, rt.stdin())?;
+    let mut program = Program { alloc };
+    let Ok(told) = rows_told(alloc, &mut program, tables.as_str()) else {
+        return Err(io::ErrorKind::OutOfMemory.into());
     };
-    rt.stdout().write_all(text.bytes())
+    rt.stdout().write_all(told.bytes())
 }

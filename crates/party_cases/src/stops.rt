@@ -1,73 +1,61 @@
-// A party whose disk fails, and the power that goes then.
-use crate::bank::{Names, Step, asked, names_of, standing};
-use crate::commands::Case;
+// A party whose disk or shelf fails.
+use crate::bank::{Names, asked, names_of};
 use std::alloc::Global;
-use x_base::{Ident, Text};
+use x_base::NoMemory;
 use x_disk::{Disk, DiskErr, FusedShelf, MemoryShelf, Shelf};
-use x_party::Outcome;
 
-/// How a call ended.
-#[derive(Clone, Copy, PartialEq, Eq)]
-pub(crate) enum End {
-    Done,
-    Stopped,
-    Otherwise,
+/// What a party was asked from its beginning on, with ` > ` between two steps, what it is asked now, what this gives, what is
+/// shown before and after it, and what the same step gives once more.
+#[derive(Drop)]
+struct Case<'a> {
+    history: &'a str,
+    step: &'a str,
+    given: &'a str,
+    before: &'a str,
+    after: &'a str,
+    again: &'a str,
 }
 
-/// Whether the reply is this text, or none where it is empty.
-fn is_reply(reply: Option<Text>, text: &str) -> bool {
-    match reply {
-        Some(reply) => reply.bytes() == text.as_bytes(),
-        None => text.is_empty(),
+/// What the step gives, and what is shown then, where the shelf gives no disk, and where it keeps it and says that it failed.
+pub(crate) fn failing_shelf(alloc: Global, row: &str) -> Result<String, NoMemory> {
+    let mut told = String::new(alloc);
+    let (own, row) = row.split_once(" | ").unwrap_or((row, ""));
+    let (history, step) = row.split_once(" | ").unwrap_or((row, ""));
+    let Some(names) = names_of(own) else {
+        return Ok(told);
+    };
+    for calls in 0..2 {
+        let shelf = standing(alloc, &names, history)?;
+        let mut fused = FusedShelf::new(shelf, calls, u64::MAX);
+        let given = asked(alloc, &mut fused, &names, step)?;
+        let shown = asked(alloc, &mut fused.into_inner(), &names, "show")?;
+        let line = format!(in alloc; "| {given} | {shown} |")?;
+        told.push_str(line.as_str())?;
     }
+    Ok(told)
 }
 
-/// Whether the outcome has this verdict's number, 0 where it is done, and this reply.
-pub(crate) fn is_answer(outcome: Outcome, number: u32, text: &str) -> bool {
-    match outcome {
-        Outcome::Done { reply } => number == 0 && is_reply(reply, text),
-        Outcome::Refused { verdict, reply } => {
-            number == verdict.number() && is_reply(reply, text)
-        }
-        _ => false,
-    }
-}
-
-/// How the call of a case ends.
-pub(crate) fn end_of<H: Shelf>(
+/// The shelf on which the party was asked all of its history.
+pub(crate) fn standing(
     alloc: Global,
-    shelf: &mut H,
     names: &Names,
-    case: &Case,
-) -> Result<End, DiskErr> {
-    let outcome = asked(alloc, shelf, names, case.step)?;
-    if let Outcome::Fault = outcome {
-        return Ok(End::Stopped);
+    history: &str,
+) -> Result<MemoryShelf, NoMemory> {
+    let mut shelf = MemoryShelf::new(alloc);
+    if history.is_empty() {
+        return Ok(shelf);
     }
-    Ok(if is_answer(outcome, 0, case.reply) {
-        End::Done
-    } else {
-        End::Otherwise
-    })
+    for step in history.split(" > ") {
+        let _ = asked(alloc, &mut shelf, names, step)?;
+    }
+    Ok(shelf)
 }
 
-/// Whether the party is shown so; with no text, whether none stands.
-pub(crate) fn shows(
-    alloc: Global,
-    shelf: &mut MemoryShelf,
-    names: &Names,
-    text: &str,
-) -> Result<bool, DiskErr> {
-    let outcome = asked(alloc, shelf, names, Step::Show)?;
-    let number = if text.is_empty() { 37 } else { 0 };
-    Ok(is_answer(outcome, number, text))
-}
-
-/// The power of a party's disk goes.
-fn power_goes(shelf: &mut MemoryShelf, name: &Ident, choice: u64) -> Result<(), DiskErr> {
-    let mut disk = shelf.fetch(name)?;
+/// The power of the party's disk goes.
+fn power_goes(shelf: &mut MemoryShelf, names: &Names, choice: u64) -> Result<(), DiskErr> {
+    let mut disk = shelf.fetch(&names.own)?;
     disk.power_off(choice)?;
-    shelf.put_back(name, disk)
+    shelf.put_back(&names.own, disk)
 }
 
 /// Whether the party is as it is to be, and the same step once more is answered as it then is; or is as it was, and the step is
@@ -77,37 +65,68 @@ fn state_of(
     shelf: &mut MemoryShelf,
     names: &Names,
     case: &Case,
-) -> Result<Option<bool>, DiskErr> {
-    let is_after = shows(alloc, shelf, names, case.after)?;
-    if !is_after && !shows(alloc, shelf, names, case.before)? {
+) -> Result<Option<bool>, NoMemory> {
+    let shown = asked(alloc, shelf, names, "show")?;
+    let is_after = shown.as_str() == case.after;
+    if !is_after && shown.as_str() != case.before {
         return Ok(None);
     }
-    let (number, reply) = if is_after {
-        case.again
-    } else {
-        (0, case.reply)
-    };
-    let outcome = asked(alloc, shelf, names, case.step)?;
-    Ok(is_answer(outcome, number, reply).then_some(is_after))
+    let wanted = if is_after { case.again } else { case.given };
+    let again = asked(alloc, shelf, names, case.step)?;
+    Ok((again.as_str() == wanted).then_some(is_after))
 }
 
 /// How many stops leave the party as it is to be, where its disk fails after more and more calls, fewer than 20, until the call is
 /// done, and the power goes each time with this choice. None where something else comes.
-pub(crate) fn stops(alloc: Global, case: &Case, choice: u64) -> Result<Option<u64>, DiskErr> {
-    let names = names_of(case.party)?;
+fn stops(alloc: Global, names: &Names, case: &Case, choice: u64) -> Result<Option<u64>, DiskErr> {
     let mut after: u64 = 0;
     for calls in 0..20 {
-        let shelf = standing(alloc, &names, case.steps)?;
+        let shelf = standing(alloc, names, case.history)?;
         let mut fused = FusedShelf::new(shelf, u64::MAX, calls);
-        let end = end_of(alloc, &mut fused, &names, case)?;
+        let given = asked(alloc, &mut fused, names, case.step)?;
         let mut shelf = fused.into_inner();
-        power_goes(&mut shelf, &names.own, choice)?;
-        match (end, state_of(alloc, &mut shelf, &names, case)?) {
-            (End::Done, Some(true)) if calls > 0 => return Ok(Some(after)),
-            (End::Stopped, Some(true)) => after = after.saturating_add(1),
-            (End::Stopped, Some(false)) => {}
+        power_goes(&mut shelf, names, choice)?;
+        let is_done = given.as_str() == case.given;
+        if !is_done && given.as_str() != "disk fault" {
+            return Ok(None);
+        }
+        match state_of(alloc, &mut shelf, names, case)? {
+            Some(true) if is_done && calls > 0 => return Ok(Some(after)),
+            Some(true) if !is_done => after = after.saturating_add(1),
+            Some(false) if !is_done => {}
             _ => return Ok(None),
         }
     }
     Ok(None)
+}
+
+/// How many stops leave the party as it is to be; where the choice is neither 0 nor 1, or nothing changes, only whether they are
+/// as few or as many as they may be.
+pub(crate) fn failing_disk(alloc: Global, row: &str) -> Result<String, NoMemory> {
+    let fields: Vec<&str> = row.split(" | ").collect(alloc)?;
+    let [own, history, step, given, before, after, again, choice] = fields.as_slice() else {
+        return Ok(String::from_str(alloc, "no row")?);
+    };
+    let case = Case {
+        history: *history,
+        step: *step,
+        given: *given,
+        before: *before,
+        after: *after,
+        again: *again,
+    };
+    let choice = choice.parse::<u64>().unwrap_or(0);
+    let Some(names) = names_of(own) else {
+        return Ok(String::from_str(alloc, "no party")?);
+    };
+    let Ok(Some(stops)) = stops(alloc, &names, &case, choice) else {
+        return Ok(String::from_str(alloc, "none")?);
+    };
+    if before == after && stops > 0 {
+        return Ok(String::from_str(alloc, "some")?);
+    }
+    if choice > 1 && stops <= 2 {
+        return Ok(String::from_str(alloc, "two at most")?);
+    }
+    Ok(format!(in alloc; "{stops}")?)
 }

@@ -1,5 +1,7 @@
 // Parties that are set up for a table.
 use crate::words::{ident_of, label_of, number_of, pair_of, role_of, side_of, words_of};
+use change_code::{Format, Space};
+use member::{Holder, PartyInMemory};
 use party_state::{Edit, KeyRec, KeyStatus, LARGEST_NEXT, LinkRec, State, first_state};
 use std::alloc::Global;
 use x_base::{Count, KeyName};
@@ -15,10 +17,16 @@ const GENERATOR: Gen = Gen {
     v: 1,
 };
 
+/// The space of each party, which is never filled.
+const SPACE: Space = Space {
+    format: Format::One,
+    room: u64::MAX,
+};
+
 /// The words behind the kind of a line.
 type Words<'a> = [Option<&'a str>; 5];
 
-fn with_link(state: State, words: Words<'_>) -> Option<State> {
+fn put_link(state: &mut State, words: Words<'_>) -> Option<()> {
     let [peer, label, side, next, pair] = words;
     let next = number_of(next)?;
     if next < 1 || LARGEST_NEXT < next {
@@ -32,21 +40,17 @@ fn with_link(state: State, words: Words<'_>) -> Option<State> {
         next,
         ready: true,
     };
-    let mut state = state;
-    state.edit(Edit::PutLink(link)).ok()?;
-    Some(state)
+    state.edit(Edit::PutLink(link)).ok()
 }
 
-fn without_link(state: State, words: Words<'_>) -> Option<State> {
+fn drop_link(state: &mut State, words: Words<'_>) -> Option<()> {
     let [peer, label, side, _, _] = words;
     let drop = Edit::DropLink {
         peer: ident_of(peer)?,
         label: label_of(label)?,
         side: side_of(side)?,
     };
-    let mut state = state;
-    state.edit(drop).ok()?;
-    Some(state)
+    state.edit(drop).ok()
 }
 
 /// The record of a key that has ended, at a count.
@@ -66,26 +70,38 @@ fn ended_key(words: Words<'_>, count: u64) -> Option<KeyRec> {
     })
 }
 
-fn with_ended(state: State, words: Words<'_>) -> Option<State> {
+fn put_ended(state: &mut State, words: Words<'_>) -> Option<()> {
     let [_, _, _, first, number] = words;
     let first = number_of(first)?;
-    let mut state = state;
     for more in 0..number_of(number)? {
         let key = ended_key(words, first.checked_add(more)?)?;
         state.edit(Edit::PutKey(key)).ok()?;
     }
+    Some(())
+}
+
+/// The state behind an order that sets a party up; none where it doesn't.
+fn state_behind(alloc: Global, party: Option<&PartyInMemory>, line: &str) -> Option<State> {
+    let [kind, first, second, third, fourth, fifth] = words_of(line);
+    if kind? == "party" {
+        return first_state(alloc, ident_of(first)?, role_of(second)?, GENERATOR).ok();
+    }
+    let words = [first, second, third, fourth, fifth];
+    let mut state = party?.view().copy(alloc).ok()?;
+    match kind? {
+        "link" => put_link(&mut state, words)?,
+        "unlink" => drop_link(&mut state, words)?,
+        "ended" => put_ended(&mut state, words)?,
+        _ => return None,
+    }
     Some(state)
 }
 
-/// The party behind a line that sets it up; none where it doesn't.
-pub(crate) fn set_up(alloc: Global, state: Option<State>, line: &str) -> Option<State> {
-    let [kind, first, second, third, fourth, fifth] = words_of(line);
-    let words = [first, second, third, fourth, fifth];
-    match kind? {
-        "party" => first_state(alloc, ident_of(first)?, role_of(second)?, GENERATOR).ok(),
-        "link" => with_link(state?, words),
-        "unlink" => without_link(state?, words),
-        "ended" => with_ended(state?, words),
-        _ => None,
-    }
+/// The party behind an order that sets it up; none where it doesn't.
+pub(crate) fn set_up(
+    alloc: Global,
+    party: Option<&PartyInMemory>,
+    line: &str,
+) -> Option<PartyInMemory> {
+    Some(PartyInMemory::of(state_behind(alloc, party, line)?, SPACE))
 }

@@ -2,7 +2,7 @@
 use party_state::{Role, Side};
 use x_base::{Ident, KeyName, Label};
 use x_mac::Pair;
-use x_values::{read_decimal_number, read_ident, read_key_name, read_label, read_pair};
+use x_values::{read_ident, read_key_name, read_label, read_pair, read_plain_number};
 
 /// The first words of a line, which blanks part.
 pub(crate) fn words_of(line: &str) -> [Option<&str>; 6] {
@@ -34,7 +34,7 @@ pub(crate) fn pair_of(word: Option<&str>) -> Option<Pair> {
 }
 
 pub(crate) fn number_of(word: Option<&str>) -> Option<u64> {
-    read_decimal_number(word?.as_bytes())
+    read_plain_number(word?.as_bytes())
 }
 
 pub(crate) fn side_of(word: Option<&str>) -> Option<Side> {

@@ -1,0 +1,55 @@
+// Orders, of which a row has some.
+use key_journal::Cause;
+use std::alloc::{AllocError, Global};
+use x_base::NoMemory;
+
+/// What takes orders.
+pub(crate) trait Ordered {
+    /// What is told of the order; nothing where it gives nothing.
+    fn order(&mut self, order: &str) -> Result<String, Cause>;
+}
+
+/// What is told, where there was memory for it.
+pub(crate) fn told(text: Result<String, AllocError>) -> Result<String, Cause> {
+    match text {
+        Ok(told) => Ok(told),
+        Err(_) => Err(Cause::NoMemory),
+    }
+}
+
+/// Appends a word.
+fn say(said: &mut String, word: &str) -> Result<(), NoMemory> {
+    if !said.is_empty() && !word.is_empty() {
+        said.push(' ')?;
+    }
+    said.push_str(word)?;
+    Ok(())
+}
+
+/// Follows the orders up to the first that fails and isn't only tried.
+pub(crate) fn follow<O: Ordered>(
+    alloc: Global,
+    ordered: &mut O,
+    orders: &str,
+    said: &mut String,
+) -> Result<(), NoMemory> {
+    if orders.is_empty() {
+        return Ok(());
+    }
+    for order in orders.split(", ") {
+        let tried = order.strip_prefix("try ");
+        match ordered.order(tried.unwrap_or(order)) {
+            Ok(told) if tried.is_some() && told.is_empty() => say(said, "done")?,
+            Ok(told) => say(said, told.as_str())?,
+            Err(Cause::NoMemory) => return Err(NoMemory),
+            Err(cause) => {
+                let told = format!(in alloc; "{cause}")?;
+                say(said, told.as_str())?;
+                if tried.is_none() {
+                    return Ok(());
+                }
+            }
+        }
+    }
+    Ok(())
+}
