@@ -1,5 +1,6 @@
 ghost use Rattle.std.specs.Prelude.{◌≡◌, ℕ};
 ghost use Rattle.x_des.specs.Des.{SameButParity, deciphered, enciphered};
+ghost use Rattle.x_des.specs.Schedule.{KeepRoundKeys};
 
 use crate::block::Block;
 use crate::boxes::mixed;
@@ -33,6 +34,14 @@ impl Schedule {
             round_keys: round_keys(key),
             key,
         }
+    }
+
+    /// The schedule of a key whose round keys are known, each in the bytes of a word.
+    pub fn of_round_keys(round_keys: [u64; 16], key: u64) -> Schedule
+        requires { KeepRoundKeys round_keys key }
+        ensures { result ≡ key }
+    {
+        Schedule { round_keys, key }
     }
 
     /// The encryption of a block under the key.

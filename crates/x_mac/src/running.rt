@@ -6,6 +6,26 @@ use x_des::{Block, Schedule};
 /// The key of `edc`.
 const EDC_KEY: u64 = 0x0123_4567_89AB_CDEF;
 
+/// The round keys of `EDC_KEY`, as a schedule keeps them.
+const EDC_ROUND_KEYS: [u64; 16] = [
+    0x0209_2626_3027_3425,
+    0x1a19_0928_1a19_1626,
+    0x1112_2d23_1d0a_0212,
+    0x1c27_2909_2812_1817,
+    0x0f20_051b_0e03_3a02,
+    0x0814_0f15_321e_0805,
+    0x1b12_0213_0015_2e06,
+    0x1520_1b16_3838_0e01,
+    0x3027_0920_0c29_2b39,
+    0x240c_1835_1e07_3132,
+    0x083e_0324_1103_183a,
+    0x1c03_1131_1325_1514,
+    0x2413_1203_1c10_183c,
+    0x150e_2032_0436_1d0d,
+    0x2d04_021a_2905_2135,
+    0x3234_2e00_2303_0732,
+];
+
 /// The authentication code of a text that comes in pieces.
 #[derive(Drop)]
 pub struct Running {
@@ -23,8 +43,15 @@ impl Running {
     pub fn new(key: u64) -> Running
         ensures { Holds result key [] }
     {
+        Running::under(Schedule::new(key))
+    }
+
+    /// No text so far, under the key of a schedule.
+    fn under(schedule: Schedule) -> Running
+        ensures { Holds result schedule [] }
+    {
         Running {
-            schedule: Schedule::new(key),
+            schedule,
             last: Block::new(0),
             held: [0; 8],
             count: 0,
@@ -128,9 +155,18 @@ pub fn mac(key: u64, text: &[u8]) -> u32
     leftmost(code(key, text))
 }
 
+/// The schedule of the key of `edc`, whose round keys aren't made again.
+fn edc_schedule() -> Schedule
+    ensures { result ≡ 0x0123456789ABCDEF }
+{
+    Schedule::of_round_keys(EDC_ROUND_KEYS, EDC_KEY)
+}
+
 /// The error detection code of a text: its `mac` under the key 0123456789ABCDEF.
 pub fn edc(text: &[u8]) -> u32
     ensures { result ≡ edc_of text.now }
 {
-    mac(EDC_KEY, text)
+    let mut running = Running::under(edc_schedule());
+    running.push(text);
+    running.finish()
 }
