@@ -3,9 +3,9 @@ use std::alloc::{AllocError, Global};
 /// What a call gives, and what was wanted; none where a call gives no value.
 #[derive(Clone, Copy)]
 pub struct Call {
-    name: &'static str,
-    given: Option<u64>,
-    wanted: Option<u64>,
+    pub(crate) name: &'static str,
+    pub(crate) given: Option<u64>,
+    pub(crate) wanted: Option<u64>,
 }
 
 impl Call {
@@ -27,23 +27,12 @@ impl Call {
     pub fn answer(name: &'static str, given: bool, wanted: bool) -> Call {
         Call::number(name, given.into(), wanted.into())
     }
-
-    pub(crate) fn is_wanted(&self) -> bool {
-        self.given == self.wanted
-    }
-
-    /// The name and both values.
-    pub(crate) fn told(&self, alloc: Global) -> Result<String, AllocError> {
-        let given = value(alloc, self.given)?;
-        let wanted = value(alloc, self.wanted)?;
-        format!(in alloc; "{} gives {given}, wanted {wanted}", self.name)
-    }
 }
 
 /// The value in hexadecimal digits.
-fn value(alloc: Global, value: Option<u64>) -> Result<String, AllocError> {
+pub(crate) fn value_told(alloc: Global, value: Option<u64>) -> Result<String, AllocError> {
     match value {
         Some(number) => format!(in alloc; "{number:x}"),
-        None => format!(in alloc; "none"),
+        None => "none".to_string(alloc),
     }
 }

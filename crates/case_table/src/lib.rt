@@ -2,10 +2,11 @@
 //! wanted.
 #![tactic(auto)]
 
+mod answers;
 mod call;
 mod rows;
 mod table;
 
+pub use answers::{Answers, rows_told};
 pub use call::Call;
-pub use rows::{Answers, rows_told};
 pub use table::Table;

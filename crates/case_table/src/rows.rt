@@ -1,61 +1,70 @@
-// Tables that a program reads.
-use std::alloc::{AllocError, Global};
+use std::alloc::Global;
 use x_base::{NoMemory, Text};
 
-/// What the rows of tables ask.
-pub trait Answers {
-    /// What is given at what a row of the table asks.
-    fn answer(&mut self, table: &str, asked: &str) -> Result<String, NoMemory>;
+/// The rows of a table that were gone through.
+#[derive(Drop)]
+pub(crate) struct Rows {
+    alloc: Global,
+    count: u64,
+    holding: u64,
+    /// A line for each value that another one was wanted for.
+    differing: Text,
 }
 
-/// The line of a row that gives something else than is wanted.
-fn differing(
-    alloc: Global,
-    name: &str,
-    row: u64,
-    asked: &str,
-    given: &str,
-    wanted: &str,
-) -> Result<String, AllocError> {
-    let told = format!(in alloc; "{asked} gives {given}, wanted {wanted}")?;
-    format!(in alloc; "{name}, row {row}: {told}\n")
-}
-
-/// Appends what is told of a table, whose first line is its name.
-fn tell<A: Answers>(
-    alloc: Global,
-    answers: &mut A,
-    table: &str,
-    told: &mut Text,
-) -> Result<(), NoMemory> {
-    let (name, lines) = table.split_once("\n").unwrap_or((table, ""));
-    let mut rows: u64 = 0;
-    let mut holding: u64 = 0;
-    for line in lines.lines() {
-        let (asked, wanted) = line.split_once(" = ").unwrap_or((line, ""));
-        let given = answers.answer(name, asked)?;
-        rows = rows.saturating_add(1);
-        if given.as_str() == wanted {
-            holding = holding.saturating_add(1);
-        } else {
-            let line = differing(alloc, name, rows, asked, given.as_str(), wanted)?;
-            told.push(line.as_bytes())?;
+impl Rows {
+    pub(crate) fn new(alloc: Global) -> Rows {
+        Rows {
+            alloc,
+            count: 0,
+            holding: 0,
+            differing: Text::new(alloc),
         }
     }
-    let line = format!(in alloc; "{name}: {holding} of {rows} rows hold\n")?;
-    told.push(line.as_bytes())
-}
 
-/// What is told of tables. An empty line stands between two of them; a table has a line with its name and a line for each
-/// row, in which ` = ` parts what is asked and what is wanted.
-pub fn rows_told<A: Answers>(
-    alloc: Global,
-    answers: &mut A,
-    tables: &str,
-) -> Result<Text, NoMemory> {
-    let mut told = Text::new(alloc);
-    for table in tables.trim().split("\n\n") {
-        tell(alloc, answers, table, &mut told)?;
+    /// Tells what the present row gives that isn't wanted.
+    pub(crate) fn tell(
+        &mut self,
+        table: &str,
+        name: &str,
+        given: &str,
+        wanted: &str,
+    ) -> Result<(), NoMemory> {
+        let row = self.count.saturating_add(1);
+        let line = format!(in self.alloc;
+            "{table}, row {row}: {name} gives {given}, wanted {wanted}\n"
+        )?;
+        self.differing.push(line.as_bytes())
     }
-    Ok(told)
+
+    pub(crate) fn end_row(&mut self, is_holding: bool) {
+        self.count = self.count.saturating_add(1);
+        self.holding = self.holding.saturating_add(is_holding.into());
+    }
+
+    /// The next row, which gives and wants what is told; it holds where that is the same.
+    pub(crate) fn add(
+        &mut self,
+        table: &str,
+        name: &str,
+        given: &str,
+        wanted: &str,
+    ) -> Result<(), NoMemory> {
+        let is_holding = given == wanted;
+        if !is_holding {
+            self.tell(table, name, given, wanted)?;
+        }
+        self.end_row(is_holding);
+        Ok(())
+    }
+
+    /// What is told: how many of the rows hold, behind the lines of those that don't.
+    pub(crate) fn told(self, table: &str) -> Result<Text, NoMemory> {
+        let line = format!(in self.alloc;
+            "{table}: {} of {} rows hold\n",
+            self.holding, self.count
+        )?;
+        let mut text = self.differing;
+        text.push(line.as_bytes())?;
+        Ok(text)
+    }
 }

@@ -1,4 +1,5 @@
-use crate::call::Call;
+use crate::call::{Call, value_told};
+use crate::rows::Rows;
 use std::alloc::Global;
 use x_base::{NoMemory, Text};
 
@@ -7,10 +8,7 @@ use x_base::{NoMemory, Text};
 pub struct Table {
     alloc: Global,
     name: &'static str,
-    /// Whether each row that was gone through holds.
-    rows: Vec<bool>,
-    /// A line for each value that another one was wanted for.
-    differing: Text,
+    rows: Rows,
 }
 
 impl Table {
@@ -19,49 +17,38 @@ impl Table {
         Table {
             alloc,
             name,
-            rows: Vec::new(alloc),
-            differing: Text::new(alloc),
+            rows: Rows::new(alloc),
         }
+    }
+
+    /// Tells the name and both values of a call.
+    fn tell(&mut self, call: &Call) -> Result<(), NoMemory> {
+        let given = value_told(self.alloc, call.given)?;
+        let wanted = value_told(self.alloc, call.wanted)?;
+        self.rows
+            .tell(self.name, call.name, given.as_str(), wanted.as_str())
     }
 
     /// The next row, which holds where each of its calls gives what is wanted.
     pub fn row(&mut self, calls: &[Call]) -> Result<(), NoMemory> {
+        let mut is_holding = true;
         for call in calls {
-            if !call.is_wanted() {
-                let told = call.told(self.alloc)?;
-                self.tell(told.as_str())?;
+            if call.given != call.wanted {
+                self.tell(call)?;
+                is_holding = false;
             }
         }
-        self.end_row(calls.iter().all(|call| call.is_wanted()))
+        self.rows.end_row(is_holding);
+        Ok(())
     }
 
     /// The next row, which gives and wants what is told; it holds where that is the same.
     pub fn text_row(&mut self, name: &str, given: &str, wanted: &str) -> Result<(), NoMemory> {
-        if given != wanted {
-            let told = format!(in self.alloc; "{name} gives {given}, wanted {wanted}")?;
-            self.tell(told.as_str())?;
-        }
-        self.end_row(given == wanted)
-    }
-
-    /// Tells what the present row gives that isn't wanted.
-    fn tell(&mut self, told: &str) -> Result<(), NoMemory> {
-        let row = self.rows.len().saturating_add(1);
-        let line = format!(in self.alloc; "{}, row {row}: {told}\n", self.name)?;
-        self.differing.push(line.as_bytes())
-    }
-
-    fn end_row(&mut self, is_holding: bool) -> Result<(), NoMemory> {
-        self.rows.push(is_holding).map_err(|_| NoMemory)
+        self.rows.add(self.name, name, given, wanted)
     }
 
     /// What is told: how many of the rows hold, behind the lines of those that don't.
     pub fn told(self) -> Result<Text, NoMemory> {
-        let rows = self.rows.len();
-        let holding = self.rows.iter().filter(|holds| **holds).count();
-        let line = format!(in self.alloc; "{}: {holding} of {rows} rows hold\n", self.name)?;
-        let mut text = self.differing;
-        text.push(line.as_bytes())?;
-        Ok(text)
+        self.rows.told(self.name)
     }
 }
