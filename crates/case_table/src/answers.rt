@@ -9,14 +9,16 @@ pub trait Answers {
     fn answer(&mut self, table: &str, asked: &str) -> Result<String, NoMemory>;
 }
 
-/// The row of a line.
+/// The row of a line. A line that asks nothing is a row that doesn't hold.
 fn add_row<A: Answers>(
     answers: &mut A,
     table: &str,
     line: &str,
     rows: &mut Rows,
 ) -> Result<(), NoMemory> {
-    let (asked, wanted) = line.split_once(" = ").unwrap_or((line, ""));
+    let Some((asked, wanted)) = line.split_once(" = ") else {
+        return rows.add(table, line, "no row", "a row");
+    };
     let given = answers.answer(table, asked)?;
     rows.add(table, asked, given.as_str(), wanted)
 }
