@@ -131,6 +131,7 @@ impl Change {
     }
 
     /// Appends an edit.
+    #[tactic(auto, using(crate::proofs::Forms::formed_more))]
     pub fn push(&mut self, edit: Edit) -> Result<(), NoMemory>
         ensures appends { OnOk result (self.new ≡ self.old ++ edit ∷ []) }
         ensures kept { OnErr result (self.new ≡ self.old) }

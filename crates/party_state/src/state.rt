@@ -5,7 +5,7 @@ ghost use Rattle.party_state.specs.State as party;
 
 use crate::edit::{Change, Edit};
 use crate::parts::Parts;
-use std::alloc::Global;
+use std::alloc::{AllocError, Global};
 use std::marker::Model;
 use x_base::{Ident, NoMemory, Role};
 use x_gen::Gen;
@@ -28,10 +28,8 @@ impl Model for State {
 pub(crate) fn boxed(alloc: Global, parts: Parts) -> Result<State, NoMemory>
     ensures { IfOk result (λ s. s ≡ parts.0) }
 {
-    match Box::new(alloc, parts) {
-        Ok(parts) => Ok(State { parts }),
-        Err(_) => Err(NoMemory),
-    }
+    let parts = Box::new(alloc, parts).map_err(AllocError::from)?;
+    Ok(State { parts })
 }
 
 /// The state of a party that begins.
