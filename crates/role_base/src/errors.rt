@@ -1,7 +1,9 @@
 // The error service message that answers a refused message with a key.
 ghost use Rattle.std.specs.Prelude.{◌≡◌, IfOk, option_map};
-ghost use Rattle.role_base.specs.Errors.{error_letter, expected_count, error_for, coded_under};
+ghost use Rattle.party_state.specs.Rows.Reply.{Coded};
+ghost use Rattle.role_base.specs.Errors.{error_letter, expected_count, error_message, error_for, coded_under};
 ghost use Rattle.role_base.specs.Errors.{TellsCount, answering};
+ghost use Rattle.role_base.specs.Replies.{IsWritten};
 
 use crate::decisions::refusal;
 use crate::texts::Written;
@@ -44,22 +46,22 @@ fn expected_count(verdict: &Verdict) -> Option<Count>
     }
 }
 
-fn error_for(
+/// The error message with this letter, closed under the key that came.
+fn error_text(
     alloc: Global,
     state: &State,
     originator: Ident,
     counts: ErrorCounts,
     verdict: &Verdict,
-) -> Result<Option<Message>, NoMemory>
+    letter: &[u8],
+    lead: &Lead,
+) -> Result<Written, NoMemory>
     requires { TellsCount verdict.now }
-    ensures { IfOk result (λ m. m ≡ error_for state.now originator counts verdict.now) }
+    ensures { IfOk result (λ w. IsWritten w (Coded (error_message state.now originator counts letter.now (expected_count verdict.now)) lead.now.under lead.now.value)) }
 {
-    let Some(letter) = error_letter(verdict) else {
-        return Ok(None);
-    };
     let mut erf = Text::new(alloc);
     erf.push(letter)?;
-    Ok(Some(Message::Esm(Esm {
+    let message = Message::Esm(Esm {
         receiver: originator,
         originator: state.own(),
         erf,
@@ -67,7 +69,8 @@ fn error_for(
         cta: counts.cta,
         ctb: counts.ctb,
         ctr: expected_count(verdict),
-    })))
+    });
+    Written::coded(alloc, &message, lead.under, lead.value)
 }
 
 /// Refused, and answered under the key that came where the verdict is one that is answered.
@@ -82,10 +85,10 @@ pub fn error_answer(
     requires { TellsCount verdict }
     ensures { IfOk result (λ d. d ≡ answering verdict (coded_under lead.now.under lead.now.value (error_for state.now originator counts verdict))) }
 {
-    let Some(message) = error_for(alloc, state, originator, counts, &verdict)? else {
+    let Some(letter) = error_letter(&verdict) else {
         return Ok(refusal(verdict));
     };
-    let written = Written::coded(alloc, &message, lead.under, lead.value)?;
+    let written = error_text(alloc, state, originator, counts, &verdict, letter, lead)?;
     Ok(Decision {
         change: Edits::none(),
         reply: Some(written.text),
