@@ -194,7 +194,7 @@ pub(crate) fn first_count() -> Count
 
 /// What a key service message brings: the link of a new key-encrypting key, whose first count is
 /// used, the key that is held, of two keys the first, and the second.
-#[derive(Drop)]
+#[derive(Clone, Copy)]
 pub(crate) struct Keys {
     pub taken: Option<LinkRec>,
     pub first: KeyRec,

@@ -4,10 +4,12 @@ ghost use Rattle.std.specs.Prelude.{◌≡◌, ◌+◌, ◌++◌, ◌∷◌, [],
 ghost use Rattle.x_base.specs.declared.verdict.Verdict.TheVariants.{BadMac, KeysFull};
 ghost use Rattle.party_state.specs.declared.edit.Edit.TheVariants.{PutLink, PutKey};
 ghost use Rattle.party_tables.specs.Keys.{record_key};
+ghost use Rattle.party_state.specs.Rows.Reply.{Coded};
 ghost use Rattle.party_state.specs.Verdicts.{verdict_of};
 ghost use Rattle.role_base.specs.Conditions.{count_tests};
 ghost use Rattle.role_base.specs.Deciding.{Decides};
-ghost use Rattle.bank_keys.specs.Ksm.{body_count, body_next, second_edits, have_room, body_front, link_edits, link_tests, key_arrives, key_lead};
+ghost use Rattle.role_base.specs.Replies.{IsWritten};
+ghost use Rattle.bank_keys.specs.Ksm.{body_count, body_next, second_edits, have_room, body_front, response, link_edits, link_tests, key_arrives, key_lead};
 
 use crate::bodies::{
     Keys, body_count, body_counts, body_link, body_name, body_next, body_opened, first_count,
@@ -80,6 +82,24 @@ fn held(alloc: Global, message: &Ksm, link: &LinkRec, keys: Keys) -> Result<Vec<
     }
 }
 
+/// The response, closed under the key that came.
+fn response_text(
+    alloc: Global,
+    state: &State,
+    message: &Ksm,
+    lead: &Lead,
+) -> Result<Written, NoMemory>
+    ensures { IfOk result (λ w. IsWritten w (Coded (response state.now message.now.originator) lead.now.under lead.now.value)) }
+{
+    let response = Message::Rsm(Rsm {
+        receiver: message.originator,
+        originator: state.own(),
+        idd: None,
+        extras: no_extras(),
+    });
+    Written::coded(alloc, &response, lead.under, lead.value)
+}
+
 /// Decides of a key service message, with the key under which its code is tested.
 ///
 /// The change has the edits that make a difference. The only error is want of memory.
@@ -118,13 +138,7 @@ pub fn ksm(
         return error_answer(alloc, state, message.originator, counts, verdict, lead);
     }
     let edits = held(alloc, message, link, keys)?;
-    let reply = Message::Rsm(Rsm {
-        receiver: message.originator,
-        originator: state.own(),
-        idd: None,
-        extras: no_extras(),
-    });
-    let written = Written::coded(alloc, &reply, lead.under, lead.value)?;
+    let written = response_text(alloc, state, message, lead)?;
     accept(alloc, state, edits, Some(written))
 }
 

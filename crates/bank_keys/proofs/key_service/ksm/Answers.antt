@@ -1,17 +1,12 @@
-use Rattle.std.proofs.Common.{◌≡◌, ◌⊎◌, ℕ, inl, inr, Option, Some, None, IfSome, List, [], ◌∷◌, ◌++◌, sym, ap, subst, ◌∙◌, rules, tests}
+use Rattle.std.proofs.Common.{◌≡◌, ◌⊎◌, ℕ, inl, inr, Option, Some, None, IfSome, [], ◌∷◌, ◌++◌, sym, ap, subst, ◌∙◌, rules, tests}
 use Rattle.x_base.specs.declared.verdict.Verdict.TheVariants.{BadMac, KeysFull}
-use Rattle.csm_grammar.specs.declared.message.Message.{Message}
-use Rattle.csm_grammar.specs.declared.message.Message.TheVariants as message
-use Rattle.csm_grammar.specs.declared.message.Extras.{Extras}
 use Rattle.party_tables.specs.declared.link.LinkRec.{LinkRec}
-use Rattle.party_state.specs.Rows.{Coded}
 use Rattle.party_state.specs.Verdicts.{verdict_of}
 use Rattle.role_base.specs.Conditions.{count_tests}
 use Rattle.role_base.specs.Deciding.{Decides}
 use Rattle.role_base.specs.Errors.{TellsCount}
-use Rattle.role_base.specs.Replies.{IsWritten}
 use Rattle.role_base.specs.Standing.{LinkStands}
-use Rattle.bank_keys.specs.Ksm.{IsCounted, response, body_link, body_count, link_tests, body_front, body_rest, key_row, key_found}
+use Rattle.bank_keys.specs.Ksm.{IsCounted, body_link, body_count, link_tests, body_front, body_rest, key_row, key_found}
 use Rattle.bank_keys.proofs.Counts.{key_tells_count}
 use Rattle.bank_keys.proofs.KeysKept.{key_kept}
 use Rattle.bank_keys.proofs.KeyService.{key_led, key_passed, key_verdict, key_edits, key_refuses, key_accepts}
@@ -89,9 +84,7 @@ returns c =
     let v = found_verdict (goal.at.returns c).After-is_accept in
     let y : x ≡ key_found p a m b l = key_led p a m b l _ c.args.lead.now x f c.requires c.in-Some-Some.is-1 in
     let counted : IsCounted b = subst (λ (o : Option LinkRec). IfSome o (λ _. IsCounted b)) c.in-Some-Some.is-0 c.body_link-found.ensures.counted in
-    let reply : List ℕ → Extras → Message = λ own extras. message.Rsm (record { receiver = m.originator; originator = own; idd = None; extras = extras }) in
-    let made : reply c.own.result c.no_extras.result ≡ response p m.originator = ap (λ (own : List ℕ). reply own c.no_extras.result) c.own.ensures.own ∙ ap (λ (extras : Extras). reply p.own extras) c.no_extras.ensures in
     subst (λ (o : Option LinkRec). Decides p (key_row p a m b o) c.accept.result) (sym f) (key_kept c.law_accept.ensures.tested p a m b l c.accept.result st c.keys_of-keys.ensures.range counted
     (key_accepts p a m b l x c.match-keys.verdict c.in_ok-edits.edits.items c.in_ok-written.written c.accept.result v y (sym c.is_accept.ensures ∙ c.if-not-is_accept.false)
     (key_edits p m b l c.keys_of-keys.result.taken c.keys_of-keys.result.first c.keys_of-keys.result.second c.in_ok-edits.edits.items c.keys_of-keys.ensures.taken c.keys_of-keys.ensures.first c.keys_of-keys.ensures.second c.in_ok-edits.ensures)
-    (subst (λ (r : Message). IsWritten c.in_ok-written.written (Coded r x.under x.value)) made c.in_ok-written.ensures.written) c.accept.ensures))
+    c.in_ok-written.ensures c.accept.ensures))
