@@ -9,24 +9,24 @@ use csm_grammar::contents::{
     class, code, count, ident, key, label, name, pair, reason, service, text,
 };
 
-macro_rules! reads {
-    ($tag:expr, $contents:expr; $($name:ident by $reader:ident),*) => {
-        match $tag {
-            $(Tag::$name => $reader($contents).is_some(),)*
-            Tag::Kku | Tag::DoubleKku | Tag::Nos => false,
-        }
-    };
-}
-
 /// Whether the contents of the tag stand for something.
 fn is_contents(tag: Tag, contents: &[u8]) -> bool
     ensures { result ≡ is_some (value_of (kind_of tag) contents.now) }
 {
-    reads!(tag, contents;
-        Mcl by class, Rcv by ident, Org by ident, Svr by service, Idu by ident, Idc by ident,
-        Idd by name, Ida by name, Idk1 by label, Idk2 by label, DoubleKk by pair, Kk by key,
-        Kd by key, Kdu by key, Ctp by count, Cta by count, Ctb by count, Ctr by count,
-        Erf by reason, Iv by text, Edk by text, P by text, Mac by code, Edc by code)
+    match tag {
+        Tag::Mcl => class(contents).is_some(),
+        Tag::Rcv | Tag::Org | Tag::Idu | Tag::Idc => ident(contents).is_some(),
+        Tag::Svr => service(contents).is_some(),
+        Tag::Idd | Tag::Ida => name(contents).is_some(),
+        Tag::Idk1 | Tag::Idk2 => label(contents).is_some(),
+        Tag::DoubleKk => pair(contents).is_some(),
+        Tag::Kk | Tag::Kd | Tag::Kdu => key(contents).is_some(),
+        Tag::Ctp | Tag::Cta | Tag::Ctb | Tag::Ctr => count(contents).is_some(),
+        Tag::Erf => reason(contents).is_some(),
+        Tag::Iv | Tag::Edk | Tag::P => text(contents).is_some(),
+        Tag::Mac | Tag::Edc => code(contents).is_some(),
+        Tag::Kku | Tag::DoubleKku | Tag::Nos => false,
+    }
 }
 
 fn key_denoted(contents: &[u8]) -> Option<u64>
