@@ -1,4 +1,5 @@
 mod Clauses
+mod FusedCalls
 mod ImageLemmas
 mod RecordLemmas
 pub mod Runs

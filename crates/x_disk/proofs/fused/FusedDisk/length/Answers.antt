@@ -1,17 +1,18 @@
-use Rattle.std.proofs.Common.{rules, ◌≡◌, List, ℕ, length, Some, IfOk, ap, subst, sym, arith}
-use Rattle.std.proofs.lemmas.Result.{on_ok_weaker}
+use Rattle.std.proofs.Common.{◌≡◌, Err, rules, sym, subst}
+use Rattle.x_disk.specs.Calls.{IsMeasured}
+use Rattle.x_disk.specs.Fuse.{with_fuse}
+use Rattle.x_disk.proofs.FusedCalls.{passed_measured, refused_measured}
 use Rattle.x_disk.proofs.fused.FusedDisk.length.Goals as goal
 
+pub returns-in_err-burn-clause-call : goal.returns-in_err-burn-clause-call
+returns-in_err-burn-clause-call g c =
+    let e = c.in_err-burn.field-0.0 in
+    let i : c.from_residual.result ≡ Err e = search rules in
+    subst (λ f. IsMeasured (with_fuse f.fuse (g.D.Disk.told f.disk)) (with_fuse c.burn.new.self (g.D.Disk.told c.self.inside.disk)) c.from_residual.result) c.self.view_is
+    (subst (λ r. IsMeasured (with_fuse c.self.inside.fuse (g.D.Disk.told c.self.inside.disk)) (with_fuse c.burn.new.self (g.D.Disk.told c.self.inside.disk)) r) (sym i)
+    (refused_measured c.self.inside.fuse c.burn.new.self (g.D.Disk.told c.self.inside.disk) e c.in_err-burn.ensures))
+
 pub returns-clause-call : goal.returns-clause-call
-returns-clause-call g c = record {
-  value = subst (λ d. IfOk c.length.result (λ n. (b : List ℕ) → (g.D.Disk.told d).now ≡ Some b → n ≡ length b)) (ap (λ f. f.disk) c.self.view_is) c.length.ensures.value;
-  still = search rules;
-  covered = on_ok_weaker c.length.result
-      (λ keeps end bytes calls covers. (
-        keeps end bytes calls (subst (λ d. (g.D.Disk.told d).covers end bytes calls) (sym (ap (λ f. f.disk) c.self.view_is)) covers.0),
-        omega (arith, covers.1, c.in_ok-burn.ensures.unblown),
-      ))
-      c.length.ensures.covered;
-  cause = search rules;
-  counted = search rules;
-}
+returns-clause-call g c =
+    subst (λ f. IsMeasured (with_fuse f.fuse (g.D.Disk.told f.disk)) (with_fuse c.burn.new.self (g.D.Disk.told c.length.new.self)) c.length.result) c.self.view_is
+    (passed_measured c.self.inside.fuse c.burn.new.self (g.D.Disk.told c.self.inside.disk) (g.D.Disk.told c.length.new.self) c.length.result c.in_ok-burn.ensures c.length.ensures)

@@ -1,17 +1,18 @@
-use Rattle.std.proofs.Common.{rules, ◌≡◌, List, ℕ, length, take, drop, Some, OnOk, ap, subst, sym, arith}
-use Rattle.std.proofs.lemmas.Result.{on_ok_weaker}
+use Rattle.std.proofs.Common.{◌≡◌, Err, rules, sym, subst}
+use Rattle.x_disk.specs.Calls.{IsFilled}
+use Rattle.x_disk.specs.Fuse.{with_fuse}
+use Rattle.x_disk.proofs.FusedCalls.{passed_filled, refused_filled}
 use Rattle.x_disk.proofs.fused.FusedDisk.read.Goals as goal
 
+pub returns-in_err-burn-clause-call : goal.returns-in_err-burn-clause-call
+returns-in_err-burn-clause-call g c =
+    let e = c.in_err-burn.field-0.0 in
+    let i : c.from_residual.result ≡ Err e = search rules in
+    subst (λ f. IsFilled c.args.at c.args.buf.now c.args.buf.now (with_fuse f.fuse (g.D.Disk.told f.disk)) (with_fuse c.burn.new.self (g.D.Disk.told c.self.inside.disk)) c.from_residual.result) c.self.view_is
+    (subst (λ r. IsFilled c.args.at c.args.buf.now c.args.buf.now (with_fuse c.self.inside.fuse (g.D.Disk.told c.self.inside.disk)) (with_fuse c.burn.new.self (g.D.Disk.told c.self.inside.disk)) r) (sym i)
+    (refused_filled c.args.at c.args.buf.now c.args.buf.now c.self.inside.fuse c.burn.new.self (g.D.Disk.told c.self.inside.disk) e c.in_err-burn.ensures))
+
 pub returns-clause-call : goal.returns-clause-call
-returns-clause-call g c = record {
-  value = subst (λ d. OnOk c.read.result ((b : List ℕ) → (g.D.Disk.told d).now ≡ Some b → c.read.new.buf ≡ take (length c.args.buf.now) (drop c.args.at b))) (ap (λ f. f.disk) c.self.view_is) c.read.ensures.value;
-  still = search rules;
-  covered = on_ok_weaker c.read.result
-      (λ keeps end bytes calls covers. (
-        keeps end bytes calls (subst (λ d. (g.D.Disk.told d).covers end bytes calls) (sym (ap (λ f. f.disk) c.self.view_is)) covers.0),
-        omega (arith, covers.1, c.in_ok-burn.ensures.unblown),
-      ))
-      c.read.ensures.covered;
-  cause = search rules;
-  counted = search rules;
-}
+returns-clause-call g c =
+    subst (λ f. IsFilled c.args.at c.args.buf.now c.read.new.buf (with_fuse f.fuse (g.D.Disk.told f.disk)) (with_fuse c.burn.new.self (g.D.Disk.told c.read.new.self)) c.read.result) c.self.view_is
+    (passed_filled c.args.at c.args.buf.now c.read.new.buf c.self.inside.fuse c.burn.new.self (g.D.Disk.told c.self.inside.disk) (g.D.Disk.told c.read.new.self) c.read.result c.in_ok-burn.ensures c.read.ensures)
