@@ -18,14 +18,16 @@ use x_base::{NoMemory, Text};
 /// The byte with which each body begins.
 const LEDGER: u8 = b'L';
 
-/// The kind of a body, and how many entries come.
-fn put_head(out: &mut Text, entries: u16) -> Result<(), NoMemory>
-    ensures { OnOk result (out.new ≡ out.old ++ 76 ∷ two entries) }
+/// Four bytes for a length, the kind of a body, and how many entries come.
+fn head_behind(alloc: Global, entries: u16) -> Result<Text, NoMemory>
+    ensures { IfOk result (λ t. t ≡ 0 ∷ 0 ∷ 0 ∷ 0 ∷ 76 ∷ two entries) }
 {
     let mut code = EditCode::new();
-    code.put(&[LEDGER]);
+    code.put(&[0, 0, 0, 0, LEDGER]);
     put_half_word(&mut code, entries);
-    out.push(code.bytes())
+    let mut out = Text::new(alloc);
+    out.push(code.bytes())?;
+    Ok(out)
 }
 
 fn put_entry(out: &mut Text, entry: &Entry) -> Result<(), NoMemory>
@@ -43,13 +45,11 @@ fn put_entry(out: &mut Text, entry: &Entry) -> Result<(), NoMemory>
 #[tactic(auto, using(crate::proofs::Sizing::one_small))]
 pub(crate) fn entry_behind(alloc: Global, entry: &Entry) -> Result<Text, NoMemory>
     ensures text { IfOk result (λ t. t ≡ 0 ∷ 0 ∷ 0 ∷ 0 ∷ body_of (entry.now ∷ [])) }
-    ensures body { IsLedgerBody (body_of (entry.now ∷ [])) (entry.now ∷ []) }
-    ensures small { IsBody (body_of (entry.now ∷ [])) }
+    ensures body { IfOk result (λ _. IsLedgerBody (body_of (entry.now ∷ [])) (entry.now ∷ [])) }
+    ensures small { IfOk result (λ _. IsBody (body_of (entry.now ∷ []))) }
 {
     law_entry(entry);
-    let mut out = Text::new(alloc);
-    out.push(&[0; 4])?;
-    put_head(&mut out, 1)?;
+    let mut out = head_behind(alloc, 1)?;
     put_entry(&mut out, entry)?;
     Ok(out)
 }
@@ -70,13 +70,11 @@ fn put_entries(out: &mut Text, entries: &Entries) -> Result<(), NoMemory>
 #[tactic(auto, using(crate::proofs::Sizing::body_small))]
 pub(crate) fn entries_behind(alloc: Global, entries: &Entries) -> Result<Text, NoMemory>
     ensures text { IfOk result (λ t. t ≡ 0 ∷ 0 ∷ 0 ∷ 0 ∷ body_of entries.now) }
-    ensures body { IsLedgerBody (body_of entries.now) entries.now }
-    ensures small { IsBody (body_of entries.now) }
+    ensures body { IfOk result (λ _. IsLedgerBody (body_of entries.now) entries.now) }
+    ensures small { IfOk result (λ _. IsBody (body_of entries.now)) }
 {
     entries.law_entries();
-    let mut out = Text::new(alloc);
-    out.push(&[0; 4])?;
-    put_head(&mut out, entries.len() as u16)?;
+    let mut out = head_behind(alloc, entries.len() as u16)?;
     put_entries(&mut out, entries)?;
     Ok(out)
 }

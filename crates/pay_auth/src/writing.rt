@@ -2,6 +2,7 @@
 ghost use Rattle.std.specs.Prelude.{◌≡◌, ◌++◌, codes, IfOk, OnOk};
 ghost use Rattle.std.specs.Fmt.{decimal};
 ghost use Rattle.x_mac.specs.Code.{mac_of};
+ghost use Rattle.csm_write.specs.Canon.{code_digits};
 ghost use Rattle.pay_auth.specs.Texts.{pay_auth_text, pay_text};
 ghost use Rattle.pay_auth.specs.Decisions.{receipt};
 
@@ -15,41 +16,51 @@ use x_mac::mac;
 /// As many bytes as a payment has at most, and more.
 const ROOM: usize = 192;
 
-fn put_count(out: &mut Text, count: &Count) -> Result<(), NoMemory>
-    ensures { OnOk result (out.new ≡ out.old ++ decimal count.now) }
+/// A value behind its tag.
+fn put_field(out: &mut Text, tag: &[u8], value: &[u8]) -> Result<(), NoMemory>
+    ensures { OnOk result (out.new ≡ out.old ++ (tag.now ++ value.now)) }
+{
+    out.push(tag)?;
+    out.push(value)
+}
+
+/// A count in decimal digits behind its tag.
+fn put_count(out: &mut Text, tag: &[u8], count: &Count) -> Result<(), NoMemory>
+    ensures { OnOk result (out.new ≡ out.old ++ (tag.now ++ decimal count.now)) }
 {
     let mut digits = Buffer::new();
-    out.push(digits.format(count.value()).as_bytes())
+    put_field(out, tag, digits.format(count.value()).as_bytes())
 }
 
 /// The authenticated text of a payment.
-fn write_auth(alloc: Global, pay: &Pay) -> Result<Text, NoMemory>
-    ensures { IfOk result (λ text. text ≡ pay_auth_text pay.now) }
+fn put_auth(out: &mut Text, pay: &Pay) -> Result<(), NoMemory>
+    ensures { OnOk result (out.new ≡ out.old ++ pay_auth_text pay.now) }
 {
-    let mut out = Text::with_capacity(alloc, ROOM)?;
-    out.push(b"PAY(FROM/")?;
-    out.push(pay.from.bytes())?;
-    out.push(b" TO/")?;
-    out.push(pay.to.bytes())?;
+    put_field(out, b"PAY(FROM/", pay.from.bytes())?;
+    put_field(out, b" TO/", pay.to.bytes())?;
     out.push(b" KEY/")?;
-    pay.key.write(&mut out)?;
-    out.push(b" NUM/")?;
-    put_count(&mut out, &pay.number)?;
-    out.push(b" AMT/")?;
-    put_count(&mut out, &pay.amount)?;
-    out.push(b" ")?;
-    Ok(out)
+    pay.key.write(out)?;
+    put_count(out, b" NUM/", &pay.number)?;
+    put_count(out, b" AMT/", &pay.amount)?;
+    out.push(b" ")
+}
+
+/// The code of a payment, and its end.
+fn put_code(out: &mut Text, code: u32) -> Result<(), NoMemory>
+    ensures { OnOk result (out.new ≡ out.old ++ (codes "MAC/" ++ (code_digits code ++ codes ")"))) }
+{
+    put_field(out, b"MAC/", &code_digits(code))?;
+    out.push(b")")
 }
 
 /// The text of a payment, with its code under a key of 64 bits, without LF.
 pub fn write_pay(alloc: Global, pay: &Pay, key: u64) -> Result<Text, NoMemory>
     ensures { IfOk result (λ text. text ≡ pay_text pay.now (mac_of key (pay_auth_text pay.now))) }
 {
-    let mut out = write_auth(alloc, pay)?;
+    let mut out = Text::with_capacity(alloc, ROOM)?;
+    put_auth(&mut out, pay)?;
     let code = mac(key, out.bytes());
-    out.push(b"MAC/")?;
-    out.push(&code_digits(code))?;
-    out.push(b")")?;
+    put_code(&mut out, code)?;
     Ok(out)
 }
 
@@ -58,11 +69,8 @@ pub(crate) fn write_receipt(alloc: Global, pay: &Pay) -> Result<Text, NoMemory>
     ensures { IfOk result (λ text. text ≡ receipt pay.now) }
 {
     let mut out = Text::new(alloc);
-    out.push(b"PAID ")?;
-    out.push(pay.from.bytes())?;
-    out.push(b" ")?;
-    put_count(&mut out, &pay.number)?;
-    out.push(b" ")?;
-    put_count(&mut out, &pay.amount)?;
+    put_field(&mut out, b"PAID ", pay.from.bytes())?;
+    put_count(&mut out, b" ", &pay.number)?;
+    put_count(&mut out, b" ", &pay.amount)?;
     Ok(out)
 }
