@@ -45,7 +45,8 @@ fn foresee_message<D: Disk>(
 {
     node.view().law_party();
     law_ranged();
-    match node.plan(alloc, &Input::Arrived(arrival), entry.moment) {
+    let planning = node.plan(alloc, &Input::Arrived(arrival), entry.moment);
+    match planning {
         Err(node) => Foreseen::NoMemory(node),
         Ok(planned) => match plan_of(alloc, &planned) {
             Err(NoMemory) => Foreseen::NoMemory(planned.cancel()),
