@@ -10,7 +10,7 @@ use Rattle.key_journal.specs.declared.cause.Cause.{Cause}
 use Rattle.key_journal.specs.declared.cause.Cause.TheVariants as cause
 use Rattle.key_journal.specs.declared.cause.Unmade.{Unmade}
 use Rattle.journal_state.specs.States as journal
-use Rattle.journal_state.specs.States.{Stood, Lead, IsBlankOrFor}
+use Rattle.journal_state.specs.States.{Stood, Lead}
 use Rattle.journal_state.specs.Loading.{IsLoaded}
 use Rattle.journal_state.specs.Loading as loading
 use Rattle.scenario.specs.Rows.{rows_of}

@@ -3,7 +3,6 @@ use Rattle.std.proofs.Common.{◌≡◌, ℕ, ◌+◌, ◌≤◌, ◌<◌, ◌^�
 use Rattle.std.proofs.lemmas.List.{take-append-drop}
 use Rattle.std.specs.Prelude.{Result, Ok, Err, OnOk, OnErr}
 use Rattle.std.specs.List.{All}
-use Rattle.std.specs.Int.{w16, to_be_bytes}
 use Rattle.std.proofs.lemmas.List.Elements.{All-push}
 use Rattle.change_code.specs.Code.{two}
 use Rattle.spool_store.specs.Contents.{Progress, IsProgress}
@@ -76,12 +75,3 @@ pushed p plan plans (Ok x) is kept next done same = record {
   few = omega (arith, next, ap length done, length-append p.plans (plan ∷ []));
 }
 pushed p plan plans (Err x) is kept next done same = record { batch = is.batch; sized = is.sized; each = subst (All IsEntryPlan) (sym same) is.each; few = omega (arith, is.few, ap length same) }
-
--- the pieces of a plan behind four bytes, one behind the other
-pub joined : (p : EntryPlan) (a b t1 t2 t3 t4 t5 : List ℕ) → t1 ≡ [] ++ 0 ∷ 0 ∷ 0 ∷ 0 ∷ 80 ∷ [] → a ≡ two p.number → b ≡ two (length p.reply) → t2 ≡ t1 ++ a → t3 ≡ t2 ++ b → t4 ≡ t3 ++ p.reply → t5 ≡ t4 ++ p.change → t5 ≡ 0 ∷ 0 ∷ 0 ∷ 0 ∷ plan_body p
-joined p a b t1 t2 t3 t4 t5 i1 ia ib i2 i3 i4 i5 =
-    rw (i5, i4, i3, i2, i1, ia, ib) (append_assoc (([] ++ 0 ∷ 0 ∷ 0 ∷ 0 ∷ 80 ∷ []) ++ two p.number ++ two (length p.reply)) p.reply p.change ∙ (append_assoc (([] ++ 0 ∷ 0 ∷ 0 ∷ 0 ∷ 80 ∷ []) ++ two p.number) (two (length p.reply)) (p.reply ++ p.change) ∙ append_assoc ([] ++ 0 ∷ 0 ∷ 0 ∷ 0 ∷ 80 ∷ []) (two p.number) (two (length p.reply) ++ (p.reply ++ p.change))))
-
-pub of_two : (n : ℕ) (bytes : List ℕ) → bytes ≡ to_be_bytes w16 n → bytes ≡ two n
-unfolding two
-of_two n bytes is = is

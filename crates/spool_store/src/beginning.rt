@@ -1,5 +1,5 @@
 // A spool is begun.
-ghost use Rattle.std.specs.Prelude.{◌≡◌, Some, None, IfOk};
+ghost use Rattle.std.specs.Prelude.{◌≡◌, ◌∷◌, Some, None, IfOk};
 ghost use Rattle.journal_state.specs.Keeping.{IsFrameOf};
 ghost use Rattle.spool_store.specs.Contents.{Goes, no_plans};
 ghost use Rattle.x_disk.specs.Disk.{IsDurable};
@@ -16,15 +16,23 @@ use std::alloc::Global;
 use x_base::{NoMemory, Text};
 use x_disk::Disk;
 
+/// Four bytes for a length, and the body with a batch.
+fn batch_behind(alloc: Global, batch: &[u8]) -> Result<Text, NoMemory>
+    ensures { IfOk result (λ text. text ≡ 0 ∷ 0 ∷ 0 ∷ 0 ∷ 83 ∷ batch.now) }
+{
+    let mut text = Text::with_capacity(alloc, batch.len().saturating_add(6))?;
+    text.push(&[0, 0, 0, 0, BATCH])?;
+    text.push(batch)?;
+    Ok(text)
+}
+
 /// The frame of the body with a batch, and what it makes.
 fn first_frame(alloc: Global, batch: &Batch) -> Result<(Text, Contents), NoMemory>
     ensures contents { IfOk result (λ f. f.1 ≡ Some (no_plans batch.now.0 batch.now.1)) }
     ensures frame { IfOk result (λ f. IsFrameOf Goes f.0 None f.1) }
 {
     let bytes = batch.bytes();
-    let mut frame = Text::with_capacity(alloc, bytes.len() + 6)?;
-    frame.push(&[0, 0, 0, 0, BATCH])?;
-    frame.push(bytes)?;
+    let mut frame = batch_behind(alloc, bytes)?;
     let mut contents = Contents::start(alloc);
     if !contents.follow(alloc, &frame.bytes()[4..])? {
         unreachable!();

@@ -1,10 +1,11 @@
 // The bytes of a plan are written.
-ghost use Rattle.std.specs.Prelude.{◌≡◌, ◌≤◌, ◌<◌, ◌^◌, ◌∷◌, ◌↔◌, length, IfOk, IsTrue};
+ghost use Rattle.std.specs.Prelude.{◌≡◌, ◌≤◌, ◌<◌, ◌^◌, ◌∷◌, ◌++◌, ◌↔◌, length, IfOk, OnOk, IsTrue};
 ghost use Rattle.key_journal.specs.Journal.{frame_of};
 ghost use Rattle.spool_store.specs.Plans.{IsEntryPlan, longest_plan, plan_body};
 
 use crate::entry_plan::EntryPlan;
 use crate::parsing::{LONGEST_PLAN, PLAN};
+use change_code::{EditCode, put_half_word};
 use key_journal::close_frame;
 use std::alloc::Global;
 use x_base::{NoMemory, Text};
@@ -22,18 +23,18 @@ pub fn is_short(plan: &EntryPlan) -> bool
 }
 
 /// Four bytes for a length, and the bytes of a plan.
-fn plan_behind(alloc: Global, plan: &EntryPlan) -> Result<Text, NoMemory>
+fn put_plan(out: &mut Text, plan: &EntryPlan) -> Result<(), NoMemory>
     requires { length plan.now.reply < 2 ^ 16 }
-    ensures { IfOk result (λ text. text ≡ 0 ∷ 0 ∷ 0 ∷ 0 ∷ plan_body plan.now) }
+    ensures { OnOk result (out.new ≡ out.old ++ (0 ∷ 0 ∷ 0 ∷ 0 ∷ plan_body plan.now)) }
 {
     let reply = plan.reply.bytes();
-    let mut text = Text::with_capacity(alloc, LONGEST_PLAN + 5)?;
-    text.push(&[0, 0, 0, 0, PLAN])?;
-    text.push(&plan.number.to_be_bytes())?;
-    text.push(&(reply.len() as u16).to_be_bytes())?;
-    text.push(reply)?;
-    text.push(plan.change.bytes())?;
-    Ok(text)
+    let mut head = EditCode::new();
+    head.put(&[0, 0, 0, 0, PLAN]);
+    put_half_word(&mut head, plan.number);
+    put_half_word(&mut head, reply.len() as u16);
+    out.push(head.bytes())?;
+    out.push(reply)?;
+    out.push(plan.change.bytes())
 }
 
 /// The frame of a plan.
@@ -41,7 +42,8 @@ pub(crate) fn plan_frame(alloc: Global, plan: &EntryPlan) -> Result<Text, NoMemo
     requires { IsEntryPlan plan.now }
     ensures { IfOk result (λ frame. frame ≡ frame_of (plan_body plan.now)) }
 {
-    let mut text = plan_behind(alloc, plan)?;
+    let mut text = Text::with_capacity(alloc, LONGEST_PLAN + 5)?;
+    put_plan(&mut text, plan)?;
     close_frame(&mut text)?;
     Ok(text)
 }
