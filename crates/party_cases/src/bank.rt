@@ -1,8 +1,9 @@
 // Parties, and what they are asked.
+use crate::names::{Names, ident_of, names_of};
 use csm_feed::{INPUT_LIMIT, hear};
 use party_state::{Command, Input, Role};
 use std::alloc::Global;
-use x_base::{Ident, KeyName, Label, NoMemory, Side, Text};
+use x_base::{Ident, NoMemory, Side, Text};
 use x_disk::Shelf;
 use x_gen::Gen;
 use x_mac::Pair;
@@ -21,29 +22,25 @@ const LOADED: Pair = Pair {
     right: 0xFEDCBA9876543212,
 };
 
-/// The names that a party and its commands have.
+/// A party, and the names that its commands have.
 #[derive(Clone, Copy)]
-pub(crate) struct Names {
+pub(crate) struct Party {
     pub(crate) own: Ident,
-    peer: Ident,
-    label: Label,
-    key: KeyName,
     side: Side,
+    names: Names,
 }
 
-/// The names of BANKA, which sends to BANKB, or of BANKB, which has the other end of their key-encrypting key.
-pub(crate) fn names_of(own: &str) -> Option<Names> {
+/// BANKA, which sends to BANKB, or BANKB, which has the other end of their key-encrypting key.
+pub(crate) fn party_of(own: &str) -> Option<Party> {
     let (peer, side) = if own == "BANKA" {
         ("BANKB", Side::Sends)
     } else {
         ("BANKA", Side::Takes)
     };
-    Some(Names {
-        own: Ident::read(own.as_bytes()).ok()?,
-        peer: Ident::read(peer.as_bytes()).ok()?,
-        label: Label::read(b"K1").ok()?,
-        key: KeyName::read(b"BANKA.BANKA.K1.1").ok()?,
+    Some(Party {
+        own: ident_of(own)?,
         side,
+        names: names_of(peer, "K1", "BANKA.BANKA.K1.1")?,
     })
 }
 
@@ -60,38 +57,35 @@ fn arrived(alloc: Global, text: &str) -> Result<Option<Input>, NoMemory> {
 }
 
 /// The command of a step that is one.
-fn command_of(names: &Names, step: &str) -> Option<Command> {
-    let peer = names.peer;
-    Some(match step {
-        "load" => Command::Load {
+fn command_of(party: &Party, step: &str) -> Option<Command> {
+    let Names { peer, label, name } = party.names;
+    match step {
+        "load" => Some(Command::Load {
             peer,
-            label: names.label,
-            side: names.side,
+            label,
+            side: party.side,
             pair: LOADED,
-        },
-        "ask" => Command::Ask {
+        }),
+        "ask" => Some(Command::Ask {
             peer,
             ultimate: None,
-        },
-        "start" => Command::Start { peer, label: None },
-        "resend" => Command::Resend { peer },
-        "drop" => Command::Drop { peer },
-        "end" => Command::End {
-            peer,
-            name: names.key,
-        },
-        "purge" => Command::Purge,
-        _ => return None,
-    })
+        }),
+        "start" => Some(Command::Start { peer, label: None }),
+        "resend" => Some(Command::Resend { peer }),
+        "drop" => Some(Command::Drop { peer }),
+        "end" => Some(Command::End { peer, name }),
+        "purge" => Some(Command::Purge),
+        _ => None,
+    }
 }
 
 /// The command of a step, or the message that it is.
 pub(crate) fn input_of(
     alloc: Global,
-    names: &Names,
+    party: &Party,
     step: &str,
 ) -> Result<Option<Input>, NoMemory> {
-    match command_of(names, step) {
+    match command_of(party, step) {
         Some(command) => Ok(Some(Input::Ordered(command))),
         None => arrived(alloc, step),
     }
@@ -130,16 +124,16 @@ pub(crate) fn told_of(alloc: Global, outcome: Outcome) -> Result<String, NoMemor
 pub(crate) fn asked<H: Shelf>(
     alloc: Global,
     shelf: &mut H,
-    names: &Names,
+    party: &Party,
     step: &str,
 ) -> Result<String, NoMemory> {
     let outcome = if step == "create" {
-        create(alloc, shelf, names.own, Role::Bank, GENERATOR)
+        create(alloc, shelf, party.own, Role::Bank, GENERATOR)
     } else if step == "show" {
-        show(alloc, shelf, &names.own)
+        show(alloc, shelf, &party.own)
     } else {
-        match input_of(alloc, names, step)? {
-            Some(input) => turn(alloc, shelf, &names.own, &input, 0),
+        match input_of(alloc, party, step)? {
+            Some(input) => turn(alloc, shelf, &party.own, &input, 0),
             None => Outcome::Done { reply: None },
         }
     };

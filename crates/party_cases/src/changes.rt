@@ -4,11 +4,12 @@ ghost use Rattle.x_base.specs.Count.{IsCount};
 ghost use Rattle.party_tables.specs.Ranges.{IsFittingKind};
 ghost use Rattle.party_state.specs.Ranges.{IsFitting};
 
+use crate::names::{Names, names_of};
 use party_state::{
     Answer, Edit, Exchange, KeyRec, KeyStatus, Kind, LinkRec, Role, Side, Via, name_behind,
 };
 use std::alloc::Global;
-use x_base::{Ident, KeyName, Label, Text};
+use x_base::{KeyName, Text};
 use x_disk::DiskErr;
 use x_gen::Gen;
 use x_mac::Pair;
@@ -18,24 +19,9 @@ const PAIR: Pair = Pair {
     right: 0xFEDCBA9876543213,
 };
 
-/// The names in the edits.
-#[derive(Clone, Copy)]
-pub(crate) struct Names {
-    pub(crate) peer: Ident,
-    pub(crate) label: Label,
-    pub(crate) name: KeyName,
-}
-
 /// The names of the table of edits.
-pub(crate) fn names_of_edits() -> Result<Names, DiskErr> {
-    let (Ok(peer), Ok(label), Ok(name)) = (
-        Ident::read(b"BANKB"),
-        Label::read(b"K-2"),
-        KeyName::read(b"BANKA.BANKA.K1.7"),
-    ) else {
-        return Err(DiskErr::Fault);
-    };
-    Ok(Names { peer, label, name })
+pub(crate) fn names_of_edits() -> Option<Names> {
+    names_of("BANKB", "K-2", "BANKA.BANKA.K1.7")
 }
 
 /// The edit of that row.
@@ -121,7 +107,7 @@ fn kind_of(row: usize, name: &KeyName) -> Kind
 pub(crate) fn exchange_of(alloc: Global, row: usize) -> Result<Edit, DiskErr>
     ensures { IfOk result IsFitting }
 {
-    let (Ok(peer), Ok(name)) = (Ident::read(b"BANK"), KeyName::read(b"INST.ORIG.K.9")) else {
+    let Some(Names { peer, name, .. }) = names_of("BANK", "K", "INST.ORIG.K.9") else {
         return Err(DiskErr::Fault);
     };
     if name_behind(&name).is_none() {

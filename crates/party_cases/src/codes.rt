@@ -33,7 +33,7 @@ pub(crate) fn edit_code(alloc: Global, asked: &str) -> Result<String, CodeFault>
     } else {
         Format::One
     };
-    let Ok(names) = names_of_edits() else {
+    let Some(names) = names_of_edits() else {
         return Err(CodeFault::Bad);
     };
     code_of(

@@ -5,6 +5,7 @@
 mod bank;
 mod changes;
 mod codes;
+mod names;
 mod stops;
 
 use case_table::{Answers, rows_told};

@@ -1,5 +1,5 @@
 // A party whose disk or shelf fails.
-use crate::bank::{Names, asked, names_of};
+use crate::bank::{Party, asked, party_of};
 use std::alloc::Global;
 use x_base::NoMemory;
 use x_disk::{Disk, DiskErr, FusedShelf, MemoryShelf, Shelf};
@@ -21,14 +21,14 @@ pub(crate) fn failing_shelf(alloc: Global, row: &str) -> Result<String, NoMemory
     let mut told = String::new(alloc);
     let (own, row) = row.split_once(" | ").unwrap_or((row, ""));
     let (history, step) = row.split_once(" | ").unwrap_or((row, ""));
-    let Some(names) = names_of(own) else {
+    let Some(party) = party_of(own) else {
         return Ok(told);
     };
     for calls in 0..2 {
-        let shelf = standing(alloc, &names, history)?;
+        let shelf = standing(alloc, &party, history)?;
         let mut fused = FusedShelf::new(shelf, calls, u64::MAX);
-        let given = asked(alloc, &mut fused, &names, step)?;
-        let shown = asked(alloc, &mut fused.into_inner(), &names, "show")?;
+        let given = asked(alloc, &mut fused, &party, step)?;
+        let shown = asked(alloc, &mut fused.into_inner(), &party, "show")?;
         let line = format!(in alloc; "| {given} | {shown} |")?;
         told.push_str(line.as_str())?;
     }
@@ -38,7 +38,7 @@ pub(crate) fn failing_shelf(alloc: Global, row: &str) -> Result<String, NoMemory
 /// The shelf on which the party was asked all of its history.
 pub(crate) fn standing(
     alloc: Global,
-    names: &Names,
+    party: &Party,
     history: &str,
 ) -> Result<MemoryShelf, NoMemory> {
     let mut shelf = MemoryShelf::new(alloc);
@@ -46,16 +46,16 @@ pub(crate) fn standing(
         return Ok(shelf);
     }
     for step in history.split(" > ") {
-        let _ = asked(alloc, &mut shelf, names, step)?;
+        let _ = asked(alloc, &mut shelf, party, step)?;
     }
     Ok(shelf)
 }
 
 /// The power of the party's disk goes.
-fn power_goes(shelf: &mut MemoryShelf, names: &Names, choice: u64) -> Result<(), DiskErr> {
-    let mut disk = shelf.fetch(&names.own)?;
+fn power_goes(shelf: &mut MemoryShelf, party: &Party, choice: u64) -> Result<(), DiskErr> {
+    let mut disk = shelf.fetch(&party.own)?;
     disk.power_off(choice)?;
-    shelf.put_back(&names.own, disk)
+    shelf.put_back(&party.own, disk)
 }
 
 /// Whether the party is as it is to be, and the same step once more is answered as it then is; or is as it was, and the step is
@@ -63,34 +63,34 @@ fn power_goes(shelf: &mut MemoryShelf, names: &Names, choice: u64) -> Result<(),
 fn state_of(
     alloc: Global,
     shelf: &mut MemoryShelf,
-    names: &Names,
+    party: &Party,
     case: &Case,
 ) -> Result<Option<bool>, NoMemory> {
-    let shown = asked(alloc, shelf, names, "show")?;
+    let shown = asked(alloc, shelf, party, "show")?;
     let is_after = shown.as_str() == case.after;
     if !is_after && shown.as_str() != case.before {
         return Ok(None);
     }
     let wanted = if is_after { case.again } else { case.given };
-    let again = asked(alloc, shelf, names, case.step)?;
+    let again = asked(alloc, shelf, party, case.step)?;
     Ok((again.as_str() == wanted).then_some(is_after))
 }
 
 /// How many stops leave the party as it is to be, where its disk fails after more and more calls, fewer than 20, until the call is
 /// done, and the power goes each time with this choice. None where something else comes.
-fn stops(alloc: Global, names: &Names, case: &Case, choice: u64) -> Result<Option<u64>, DiskErr> {
+fn stops(alloc: Global, party: &Party, case: &Case, choice: u64) -> Result<Option<u64>, DiskErr> {
     let mut after: u64 = 0;
     for calls in 0..20 {
-        let shelf = standing(alloc, names, case.history)?;
+        let shelf = standing(alloc, party, case.history)?;
         let mut fused = FusedShelf::new(shelf, u64::MAX, calls);
-        let given = asked(alloc, &mut fused, names, case.step)?;
+        let given = asked(alloc, &mut fused, party, case.step)?;
         let mut shelf = fused.into_inner();
-        power_goes(&mut shelf, names, choice)?;
+        power_goes(&mut shelf, party, choice)?;
         let is_done = given.as_str() == case.given;
         if !is_done && given.as_str() != "disk fault" {
             return Ok(None);
         }
-        match state_of(alloc, &mut shelf, names, case)? {
+        match state_of(alloc, &mut shelf, party, case)? {
             Some(true) if is_done && calls > 0 => return Ok(Some(after)),
             Some(true) if !is_done => after = after.saturating_add(1),
             Some(false) if !is_done => {}
@@ -116,10 +116,10 @@ pub(crate) fn failing_disk(alloc: Global, row: &str) -> Result<String, NoMemory>
         again: *again,
     };
     let choice = choice.parse::<u64>().unwrap_or(0);
-    let Some(names) = names_of(own) else {
+    let Some(party) = party_of(own) else {
         return Ok(String::from_str(alloc, "no party")?);
     };
-    let Ok(Some(stops)) = stops(alloc, &names, &case, choice) else {
+    let Ok(Some(stops)) = stops(alloc, &party, &case, choice) else {
         return Ok(String::from_str(alloc, "none")?);
     };
     if before == after && stops > 0 {
