@@ -5,41 +5,70 @@ use party_state::{Command, Input};
 use std::alloc::Global;
 use x_base::Ident;
 
+/// The commands to a peer.
+#[derive(Clone, Copy)]
+enum Kind {
+    Load,
+    Start,
+    StartKk,
+    Ask,
+    Translate,
+    Resend,
+    Drop,
+    End,
+}
+
+fn kind_of(name: &str) -> Option<Kind> {
+    let kinds = [
+        ("load", Kind::Load),
+        ("start", Kind::Start),
+        ("startkk", Kind::StartKk),
+        ("ask", Kind::Ask),
+        ("translate", Kind::Translate),
+        ("resend", Kind::Resend),
+        ("drop", Kind::Drop),
+        ("end", Kind::End),
+    ];
+    kinds
+        .iter()
+        .find(|entry| entry.0 == name)
+        .map(|entry| entry.1)
+}
+
 /// A command to a peer, by its name and up to three words more.
-fn command_to(peer: Ident, name: &str, words: [Option<&str>; 3]) -> Option<Command> {
+fn command_to(peer: Ident, name: &str, words: [&str; 3]) -> Option<Command> {
     let [first, second, third] = words;
-    match name {
-        "load" => Some(Command::Load {
+    match kind_of(name)? {
+        Kind::Load => Some(Command::Load {
             peer,
             label: label_of(first)?,
             side: side_of(second)?,
             pair: pair_of(third)?,
         }),
-        "start" => Some(Command::Start {
+        Kind::Start => Some(Command::Start {
             peer,
             label: label_of(first),
         }),
-        "startkk" => Some(Command::StartKk {
+        Kind::StartKk => Some(Command::StartKk {
             peer,
             new: label_of(first)?,
             label: label_of(second),
-            single: third == Some("single"),
+            single: third == "single",
         }),
-        "ask" => Some(Command::Ask {
+        Kind::Ask => Some(Command::Ask {
             peer,
             ultimate: ident_of(first),
         }),
-        "translate" => Some(Command::Translate {
+        Kind::Translate => Some(Command::Translate {
             centre: peer,
             ultimate: ident_of(first)?,
         }),
-        "resend" => Some(Command::Resend { peer }),
-        "drop" => Some(Command::Drop { peer }),
-        "end" => Some(Command::End {
+        Kind::Resend => Some(Command::Resend { peer }),
+        Kind::Drop => Some(Command::Drop { peer }),
+        Kind::End => Some(Command::End {
             peer,
             name: name_of(first)?,
         }),
-        _ => None,
     }
 }
 
@@ -53,6 +82,6 @@ pub(crate) fn input_of(alloc: Global, act: &str) -> Option<Input> {
         return Some(Input::Ordered(Command::Purge));
     }
     let [name, peer, first, second, third, _] = words_of(act);
-    let command = command_to(ident_of(peer)?, name?, [first, second, third])?;
+    let command = command_to(ident_of(peer)?, name, [first, second, third])?;
     Some(Input::Ordered(command))
 }

@@ -93,7 +93,7 @@ pub(crate) fn played(
 ) -> Option<(PartyInMemory, Text)> {
     let (asked, line) = asked_of(line);
     let (moment, act) = line.split_once(" ")?;
-    let moment = number_of(Some(moment))?;
+    let moment = number_of(moment)?;
     let input = input_of(alloc, act)?;
     let planned = party.plan(alloc, &input, moment).ok()?;
     let told = told_of(alloc, asked, PartyInMemory::answer(&planned))?;

@@ -24,7 +24,7 @@ const SPACE: Space = Space {
 };
 
 /// The words behind the kind of a line.
-type Words<'a> = [Option<&'a str>; 5];
+type Words<'a> = [&'a str; 5];
 
 fn put_link(state: &mut State, words: Words<'_>) -> Option<()> {
     let [peer, label, side, next, pair] = words;
@@ -83,12 +83,12 @@ fn put_ended(state: &mut State, words: Words<'_>) -> Option<()> {
 /// The state behind an order that sets a party up; none where it doesn't.
 fn state_behind(alloc: Global, party: Option<&PartyInMemory>, line: &str) -> Option<State> {
     let [kind, first, second, third, fourth, fifth] = words_of(line);
-    if kind? == "party" {
+    if kind == "party" {
         return first_state(alloc, ident_of(first)?, role_of(second)?, GENERATOR).ok();
     }
     let words = [first, second, third, fourth, fifth];
     let mut state = party?.view().copy(alloc).ok()?;
-    match kind? {
+    match kind {
         "link" => put_link(&mut state, words)?,
         "unlink" => drop_link(&mut state, words)?,
         "ended" => put_ended(&mut state, words)?,

@@ -4,49 +4,52 @@ use x_base::{Ident, KeyName, Label};
 use x_mac::Pair;
 use x_values::{read_ident, read_key_name, read_label, read_pair, read_plain_number};
 
-/// The first words of a line, which blanks part.
-pub(crate) fn words_of(line: &str) -> [Option<&str>; 6] {
-    let mut words = line.split(' ');
-    [
-        words.next(),
-        words.next(),
-        words.next(),
-        words.next(),
-        words.next(),
-        words.next(),
-    ]
+/// The first word of a line, which blanks part, and the words behind it.
+fn cut(line: &str) -> (&str, &str) {
+    line.split_once(" ").unwrap_or((line, ""))
 }
 
-pub(crate) fn ident_of(word: Option<&str>) -> Option<Ident> {
-    read_ident(word?.as_bytes())
+/// The first words of a line; empty ones behind the last.
+pub(crate) fn words_of(line: &str) -> [&str; 6] {
+    let (first, rest) = cut(line);
+    let (second, rest) = cut(rest);
+    let (third, rest) = cut(rest);
+    let (fourth, rest) = cut(rest);
+    let (fifth, rest) = cut(rest);
+    let (sixth, _) = cut(rest);
+    [first, second, third, fourth, fifth, sixth]
 }
 
-pub(crate) fn label_of(word: Option<&str>) -> Option<Label> {
-    read_label(word?.as_bytes())
+pub(crate) fn ident_of(word: &str) -> Option<Ident> {
+    read_ident(word.as_bytes())
 }
 
-pub(crate) fn name_of(word: Option<&str>) -> Option<KeyName> {
-    read_key_name(word?.as_bytes())
+pub(crate) fn label_of(word: &str) -> Option<Label> {
+    read_label(word.as_bytes())
 }
 
-pub(crate) fn pair_of(word: Option<&str>) -> Option<Pair> {
-    read_pair(word?.as_bytes())
+pub(crate) fn name_of(word: &str) -> Option<KeyName> {
+    read_key_name(word.as_bytes())
 }
 
-pub(crate) fn number_of(word: Option<&str>) -> Option<u64> {
-    read_plain_number(word?.as_bytes())
+pub(crate) fn pair_of(word: &str) -> Option<Pair> {
+    read_pair(word.as_bytes())
 }
 
-pub(crate) fn side_of(word: Option<&str>) -> Option<Side> {
-    match word? {
+pub(crate) fn number_of(word: &str) -> Option<u64> {
+    read_plain_number(word.as_bytes())
+}
+
+pub(crate) fn side_of(word: &str) -> Option<Side> {
+    match word {
         "in" => Some(Side::Takes),
         "out" => Some(Side::Sends),
         _ => None,
     }
 }
 
-pub(crate) fn role_of(word: Option<&str>) -> Option<Role> {
-    match word? {
+pub(crate) fn role_of(word: &str) -> Option<Role> {
+    match word {
         "bank" => Some(Role::Bank),
         "distribution" => Some(Role::Distribution),
         "translation" => Some(Role::Translation),
