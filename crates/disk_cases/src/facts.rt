@@ -1,28 +1,16 @@
 // Facts that are found by their names and texts.
+use crate::orders::number;
 use fact_book::{FactBook, Texts};
-use std::alloc::Global;
+use std::alloc::{AllocError, Global};
 use x_base::{FullName, Ident, KeyName, NoMemory};
 
-/// The name of a key, and its recipient.
-fn full_name(name: &str, recipient: &str) -> Option<FullName> {
-    Some(FullName {
-        name: KeyName::read(name.as_bytes()).ok()?,
-        recipient: Ident::read(recipient.as_bytes()).ok()?,
-    })
-}
-
-/// The name of a fact, which has a text behind the names.
-fn name_of(words: &str) -> Option<FullName> {
+/// The name of a fact, a key and its recipient, and the text behind it.
+fn fact_of(words: &str) -> Option<(FullName, &[u8])> {
     let (name, words) = words.split_once(' ')?;
-    let (recipient, _) = words.split_once(' ')?;
-    full_name(name, recipient)
-}
-
-/// The text of a fact.
-fn text_of(words: &str) -> &[u8] {
-    let (_, words) = words.split_once(' ').unwrap_or(("", ""));
-    let (_, text) = words.split_once(' ').unwrap_or(("", ""));
-    text.as_bytes()
+    let (recipient, text) = words.split_once(' ')?;
+    let name = KeyName::read(name.as_bytes()).ok()?;
+    let recipient = Ident::read(recipient.as_bytes()).ok()?;
+    Some((FullName { name, recipient }, text.as_bytes()))
 }
 
 /// Whether a book with facts has one more.
@@ -30,15 +18,24 @@ pub(crate) fn has(alloc: Global, asked: &str) -> Result<String, NoMemory> {
     let (facts, wanted) = asked.split_once(" ? ").unwrap_or((asked, ""));
     let mut book = FactBook::new(alloc);
     for fact in facts.split(", ") {
-        if let Some(under) = name_of(fact) {
-            book.add(under, text_of(fact))?;
+        if let Some((under, text)) = fact_of(fact) {
+            book.add(under, text)?;
         }
     }
-    let has = match name_of(wanted) {
-        Some(under) => book.has(&under, text_of(wanted)),
-        None => return Ok(format!(in alloc; "no name")?),
+    let told = match fact_of(wanted) {
+        Some((under, text)) if book.has(&under, text) => "true",
+        Some(_) => "false",
+        None => "no name",
     };
-    Ok(format!(in alloc; "{has}")?)
+    Ok(told.to_string(alloc)?)
+}
+
+/// The text at this place.
+fn told_at(alloc: Global, texts: &Texts, place: usize) -> Result<String, AllocError> {
+    match texts.get(place) {
+        Some(text) => format!(in alloc; "{text:?}"),
+        None => "none".to_string(alloc),
+    }
 }
 
 /// The text at a place among others, or how many there are.
@@ -48,12 +45,9 @@ pub(crate) fn text_at(alloc: Global, asked: &str) -> Result<String, NoMemory> {
     for text in words.split(", ") {
         texts.push(text.as_bytes())?;
     }
-    let Ok(place) = place.parse::<u32>() else {
-        let count = texts.len();
-        return Ok(format!(in alloc; "{count}")?);
+    let told = match number(place) {
+        Some(place) => told_at(alloc, &texts, place as usize),
+        None => texts.len().to_string(alloc),
     };
-    match texts.get(place as usize) {
-        Some(text) => Ok(format!(in alloc; "{text:?}")?),
-        None => Ok(format!(in alloc; "none")?),
-    }
+    Ok(told?)
 }

@@ -1,6 +1,6 @@
 // Two shelves over the current folder, in which a file is.
 use crate::hand::Hand;
-use crate::orders::{Ordered, told};
+use crate::orders::{Ordered, split, told};
 use key_journal::Cause;
 use std::fs::{self, Permissions};
 use std::io;
@@ -19,11 +19,7 @@ pub(crate) struct Files {
 
 fn hand_of(rt: &HostRuntime) -> Option<Hand<FolderShelf<HostRuntime>>> {
     let alloc = rt.alloc();
-    Some(Hand {
-        alloc,
-        shelf: FolderShelf::new(rt.clone().ok()?, alloc),
-        disk: None,
-    })
+    Some(Hand::new(alloc, FolderShelf::new(rt.clone().ok()?, alloc)))
 }
 
 /// The shelves, without a file in their folder.
@@ -47,33 +43,42 @@ fn make(rt: &HostRuntime, mode: &str) -> io::Result<()> {
 fn told_of_file(rt: &HostRuntime, word: &str) -> Result<String, Cause> {
     let alloc = rt.alloc();
     let Ok(made) = fs::metadata(rt, FILE) else {
-        return told(format!(in alloc; "none"));
+        return told("none".to_string(alloc));
     };
     if word == "long" {
-        let length = made.len();
-        return told(format!(in alloc; "{length}"));
+        return told(made.len().to_string(alloc));
     }
     let mode = made.mode() & 0o777;
     told(format!(in alloc; "{mode:o}"))
 }
 
+impl Files {
+    /// Makes the file.
+    fn made(&self, mode: &str) -> Result<String, Cause> {
+        match make(&self.rt, mode) {
+            Ok(()) => Ok(String::new(self.rt.alloc())),
+            Err(_) => Err(Cause::Fault),
+        }
+    }
+
+    /// Reads bytes behind those of the file.
+    fn read_on(&mut self) -> Result<String, Cause> {
+        let Some(disk) = &mut self.own.disk else {
+            return Err(Cause::NotEmpty);
+        };
+        disk.read(4, &mut [9; 5])?;
+        Ok(String::new(self.rt.alloc()))
+    }
+}
+
 impl Ordered for Files {
     fn order(&mut self, order: &str) -> Result<String, Cause> {
-        if let Some(order) = order.strip_prefix("other ") {
-            return self.other.order(order);
-        }
-        if let Some(mode) = order.strip_prefix("make ") {
-            make(&self.rt, mode).map_err(|_| Cause::Fault)?;
-            return Ok(String::new(self.rt.alloc()));
-        }
-        if order == "read on"
-            && let Some(disk) = &mut self.own.disk
-        {
-            disk.read(4, &mut [9; 5])?;
-            return Ok(String::new(self.rt.alloc()));
-        }
-        match order {
-            "long" | "mode" => told_of_file(&self.rt, order),
+        let (word, words) = split(order);
+        match word {
+            "other" => self.other.order(words),
+            "make" => self.made(words),
+            "long" | "mode" => told_of_file(&self.rt, word),
+            "read" if words == "on" => self.read_on(),
             _ => self.own.order(order),
         }
     }

@@ -1,5 +1,5 @@
 // A shelf, and the disk that was fetched from it.
-use crate::orders::Ordered;
+use crate::orders::{Ordered, number, number_and_bytes, split};
 use key_journal::Cause;
 use std::alloc::Global;
 use x_base::Ident;
@@ -8,9 +8,31 @@ use x_disk::{Disk, DiskErr, Shelf};
 /// A shelf, and the disk that was fetched last, until it is put back.
 #[derive(Drop)]
 pub(crate) struct Hand<H: Shelf> {
-    pub(crate) alloc: Global,
+    alloc: Global,
     pub(crate) shelf: H,
     pub(crate) disk: Option<H::Disk>,
+}
+
+impl<H: Shelf> Hand<H> {
+    /// The shelf, before a disk is fetched.
+    pub(crate) fn new(alloc: Global, shelf: H) -> Hand<H> {
+        Hand {
+            alloc,
+            shelf,
+            disk: None,
+        }
+    }
+
+    /// Puts the fetched disk back under this name, or fetches the one of this name.
+    fn exchange(&mut self, name: &Ident) -> Result<(), DiskErr> {
+        match self.disk.take() {
+            Some(disk) => self.shelf.put_back(name, disk),
+            None => {
+                self.disk = Some(self.shelf.fetch(name)?);
+                Ok(())
+            }
+        }
+    }
 }
 
 /// The bytes of a disk that has few, in hexadecimal digits.
@@ -26,9 +48,7 @@ fn read<D: Disk>(alloc: Global, disk: &mut D) -> Result<String, DiskErr> {
 
 /// Writes bytes of hexadecimal digits at a place.
 fn write<D: Disk>(alloc: Global, disk: &mut D, words: &str) -> Result<(), DiskErr> {
-    let (place, digits) = words.split_once(' ').unwrap_or((words, ""));
-    let (Ok(place), Ok(bytes)) = (place.parse::<u64>(), hex::decode(alloc, digits.as_bytes()))
-    else {
+    let Some((place, bytes)) = number_and_bytes(alloc, words) else {
         return Err(DiskErr::NoMemory);
     };
     if place > 1000 || bytes.len() > 1000 {
@@ -47,11 +67,8 @@ pub(crate) fn disk_order<D: Disk>(
     match word {
         "write" => write(alloc, disk, words)?,
         "sync" => disk.sync()?,
-        "off" => disk.power_off(words.parse::<u64>().unwrap_or(0))?,
-        "length" => {
-            let length = disk.length()?;
-            return Ok(format!(in alloc; "{length}")?);
-        }
+        "off" => disk.power_off(number(words).unwrap_or(0))?,
+        "length" => return Ok(disk.length()?.to_string(alloc)?),
         _ => return read(alloc, disk),
     }
     Ok(String::new(alloc))
@@ -59,7 +76,7 @@ pub(crate) fn disk_order<D: Disk>(
 
 impl<H: Shelf> Ordered for Hand<H> {
     fn order(&mut self, order: &str) -> Result<String, Cause> {
-        let (word, words) = order.split_once(' ').unwrap_or((order, ""));
+        let (word, words) = split(order);
         if let Some(disk) = &mut self.disk
             && word != "back"
         {
@@ -68,10 +85,7 @@ impl<H: Shelf> Ordered for Hand<H> {
         let Ok(name) = Ident::read(words.as_bytes()) else {
             return Err(Cause::NotEmpty);
         };
-        match self.disk.take() {
-            Some(disk) => self.shelf.put_back(&name, disk)?,
-            None => self.disk = Some(self.shelf.fetch(&name)?),
-        }
+        self.exchange(&name)?;
         Ok(String::new(self.alloc))
     }
 }

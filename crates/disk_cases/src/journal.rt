@@ -3,17 +3,17 @@ ghost use Rattle.std.specs.Prelude.{◌≡◌, IfOk};
 ghost use Rattle.key_journal.specs.States.{IsFrame};
 
 use crate::hand::disk_order;
-use crate::orders::{Ordered, told};
-use key_journal::{Cause, Ready, frame, open_disk, prepare};
+use crate::orders::{Ordered, number, number_and_bytes, split, told};
+use key_journal::{Broken, Cause, Ready, frame, open_disk, prepare};
 use std::alloc::Global;
 use x_base::Text;
-use x_disk::TornDisk;
+use x_disk::{Fused, TornDisk};
 
 /// A disk on which a journal stands or is begun.
 #[derive(Drop)]
 pub(crate) struct Journal {
-    pub(crate) alloc: Global,
-    pub(crate) disk: Option<TornDisk>,
+    alloc: Global,
+    disk: Option<TornDisk>,
 }
 
 /// The frame of the body, which has 1 to 4,194,304 bytes.
@@ -31,14 +31,17 @@ fn framed(alloc: Global, body: &[u8]) -> Result<Text, Cause>
 
 /// A body of so many bytes, all alike: their number, and the byte.
 fn body_of(alloc: Global, words: &str) -> Result<Vec<u8>, Cause> {
-    let (length, byte) = words.split_once(' ').unwrap_or((words, ""));
-    let (Ok(length), Ok(byte)) = (length.parse::<u32>(), byte.parse::<u8>()) else {
+    let (length, byte) = split(words);
+    let (Some(length), Some(byte)) = (number(length), number(byte)) else {
         return Err(Cause::NotEmpty);
     };
-    let Ok(body) = vec![in alloc; byte; length as usize] else {
-        return Err(Cause::NoMemory);
-    };
-    Ok(body)
+    if length > 4_194_304 || byte > 255 {
+        return Err(Cause::NotEmpty);
+    }
+    match vec![in alloc; byte as u8; length as usize] {
+        Ok(body) => Ok(body),
+        Err(_) => Err(Cause::NoMemory),
+    }
 }
 
 /// The disk with a new journal of this body.
@@ -56,7 +59,7 @@ fn begun(alloc: Global, disk: TornDisk, words: &str) -> Result<TornDisk, Cause> 
 }
 
 /// The journal at rest and the number of its bodies, of which it has at most four.
-fn at_rest(alloc: Global, disk: TornDisk) -> Result<(Ready<TornDisk>, usize), Cause> {
+fn at_rest(alloc: Global, disk: TornDisk) -> Result<(Ready<TornDisk>, u64), Cause> {
     let mut opened = match open_disk(disk) {
         Ok(opened) => opened,
         Err(unmade) => return Err(unmade.cause),
@@ -73,12 +76,19 @@ fn at_rest(alloc: Global, disk: TornDisk) -> Result<(Ready<TornDisk>, usize), Ca
 fn calls_and_frame(alloc: Global, words: &str) -> Result<(u64, Text), Cause>
     ensures { IfOk result (λ r. IsFrame r.1) }
 {
-    let (calls, digits) = words.split_once(' ').unwrap_or((words, ""));
-    let (Ok(calls), Ok(body)) = (calls.parse::<u64>(), hex::decode(alloc, digits.as_bytes())) else {
+    let Some((calls, body)) = number_and_bytes(alloc, words) else {
         return Err(Cause::NotEmpty);
     };
     let text = framed(alloc, &body)?;
     Ok((calls, text))
+}
+
+/// The disk of the journal that is opened once more behind a failure.
+fn reopened(broken: Broken<Fused<TornDisk>>) -> TornDisk {
+    match broken.reopen() {
+        Ok(opened) => opened.into_disk().into_inner(),
+        Err(unmade) => unmade.disk.into_inner(),
+    }
 }
 
 /// The disk of the journal to which a body more is added, while so many calls pass.
@@ -89,16 +99,13 @@ fn longer(alloc: Global, disk: TornDisk, words: &str) -> Result<TornDisk, Cause>
     if !ready.fits(text.bytes().len()) {
         return Err(Cause::NotEmpty);
     }
-    let broken = match ready.stage(text.bytes()) {
-        Ok(staged) => match staged.commit() {
-            Ok(ready) => return Ok(ready.into_disk().into_inner()),
-            Err(broken) => broken,
-        },
-        Err(broken) => broken,
+    let staged = match ready.stage(text.bytes()) {
+        Ok(staged) => staged,
+        Err(broken) => return Ok(reopened(broken)),
     };
-    match broken.reopen() {
-        Ok(opened) => Ok(opened.into_disk().into_inner()),
-        Err(unmade) => Ok(unmade.disk.into_inner()),
+    match staged.commit() {
+        Ok(ready) => Ok(ready.into_disk().into_inner()),
+        Err(broken) => Ok(reopened(broken)),
     }
 }
 
@@ -132,51 +139,54 @@ fn is_first(alloc: Global, disk: TornDisk, words: &str) -> Result<bool, Cause> {
     Ok(matches!(&first, Some(text) if text.bytes() == body.as_slice()))
 }
 
-/// The disk of the journal when the order is followed.
-fn changed(alloc: Global, disk: TornDisk, word: &str, words: &str) -> Result<TornDisk, Cause> {
-    match word {
-        "begin" => begun(alloc, disk, words),
-        "add" => longer(alloc, disk, words),
-        "switch" => switched(alloc, disk, words),
-        _ => wiped(alloc, disk),
-    }
-}
-
 impl Journal {
+    /// A disk before its first order.
+    pub(crate) fn new(alloc: Global, disk: TornDisk) -> Journal {
+        Journal {
+            alloc,
+            disk: Some(disk),
+        }
+    }
+
     /// How many bodies the journal has, or how much room they leave.
-    fn counted(&mut self, disk: TornDisk, word: &str) -> Result<u64, Cause> {
+    fn counted(&mut self, disk: TornDisk, word: &str) -> Result<String, Cause> {
         let (ready, bodies) = at_rest(self.alloc, disk)?;
-        let room = ready.room();
+        let number = if word == "room" { ready.room() } else { bodies };
         self.disk = Some(ready.into_disk());
-        Ok(if word == "room" { room } else { bodies as u64 })
+        told(number.to_string(self.alloc))
+    }
+
+    /// Follows an order that changes the journal.
+    fn changed(&mut self, disk: TornDisk, word: &str, words: &str) -> Result<String, Cause> {
+        let changed = match word {
+            "begin" => begun(self.alloc, disk, words),
+            "add" => longer(self.alloc, disk, words),
+            "switch" => switched(self.alloc, disk, words),
+            _ => wiped(self.alloc, disk),
+        };
+        self.disk = Some(changed?);
+        Ok(String::new(self.alloc))
+    }
+
+    /// Follows an order to the disk.
+    fn asked(&mut self, mut disk: TornDisk, word: &str, words: &str) -> Result<String, Cause> {
+        let told = disk_order(self.alloc, &mut disk, word, words)?;
+        self.disk = Some(disk);
+        Ok(told)
     }
 }
 
 impl Ordered for Journal {
     fn order(&mut self, order: &str) -> Result<String, Cause> {
-        let alloc = self.alloc;
-        let (word, words) = order.split_once(' ').unwrap_or((order, ""));
-        let Some(mut disk) = self.disk.take() else {
+        let (word, words) = split(order);
+        let Some(disk) = self.disk.take() else {
             return Err(Cause::NotEmpty);
         };
         match word {
-            "bodies" | "room" => {
-                let number = self.counted(disk, word)?;
-                told(format!(in alloc; "{number}"))
-            }
-            "first" => {
-                let is_first = is_first(alloc, disk, words)?;
-                told(format!(in alloc; "{is_first}"))
-            }
-            "begin" | "add" | "switch" | "wipe" => {
-                self.disk = Some(changed(alloc, disk, word, words)?);
-                Ok(String::new(alloc))
-            }
-            _ => {
-                let told = disk_order(alloc, &mut disk, word, words)?;
-                self.disk = Some(disk);
-                Ok(told)
-            }
+            "bodies" | "room" => self.counted(disk, word),
+            "first" => told(is_first(self.alloc, disk, words)?.to_string(self.alloc)),
+            "begin" | "add" | "switch" | "wipe" => self.changed(disk, word, words),
+            _ => self.asked(disk, word, words),
         }
     }
 }

@@ -12,11 +12,26 @@ mod orders;
 use case_table::{Answers, rows_told};
 use hand::Hand;
 use journal::Journal;
-use orders::{Ordered, follow};
+use orders::{Ordered, follow, number, split};
 use std::alloc::Global;
 use std::io::{self, Write};
 use x_base::NoMemory;
 use x_disk::{FusedShelf, MemoryShelf, TornDisk};
+
+/// The tables of a disk on which a journal is.
+const JOURNALS: [&str; 4] = [
+    "journals laid out",
+    "cuts of a journal",
+    "bodies of any length",
+    "switches",
+];
+
+/// The tables of a file in the current folder.
+const FILES: [&str; 3] = [
+    "files of a folder",
+    "new files",
+    "files that others may use",
+];
 
 /// Answers over the files of the current folder, and over disks in memory.
 #[derive(Drop)]
@@ -33,33 +48,42 @@ fn said<O: Ordered>(alloc: Global, ordered: &mut O, asked: &str) -> Result<Strin
     Ok(said)
 }
 
+/// What orders to a disk with a journal give.
+fn said_of_journal(alloc: Global, asked: &str) -> Result<String, NoMemory> {
+    let disk = TornDisk::new(alloc, 0)?;
+    said(alloc, &mut Journal::new(alloc, disk), asked)
+}
+
+/// What orders to the files give.
+fn said_of_files(rt: &HostRuntime, asked: &str) -> Result<String, NoMemory> {
+    match files::files_of(rt) {
+        Some(mut files) => said(rt.alloc(), &mut files, asked),
+        None => Err(NoMemory),
+    }
+}
+
+/// A shelf in memory of which so many calls pass, and so many of its disks.
+fn fused(alloc: Global, calls: &str) -> FusedShelf<MemoryShelf> {
+    let (shelf_calls, disk_calls) = split(calls);
+    FusedShelf::new(
+        MemoryShelf::new(alloc),
+        number(shelf_calls).unwrap_or(0),
+        number(disk_calls).unwrap_or(0),
+    )
+}
+
 /// What orders to a shelf in memory give. Where numbers stand in front, so many calls of the shelf pass, and so many of its
 /// disks, up to ` / `.
 fn said_of_shelf(alloc: Global, asked: &str) -> Result<String, NoMemory> {
-    let shelf = MemoryShelf::new(alloc);
-    let disk = None;
     let Some((calls, orders)) = asked.split_once(": ") else {
-        return said(alloc, &mut Hand { alloc, shelf, disk }, asked);
+        let mut hand = Hand::new(alloc, MemoryShelf::new(alloc));
+        return said(alloc, &mut hand, asked);
     };
-    let (shelf_calls, disk_calls) = calls.split_once(" ").unwrap_or((calls, ""));
-    let shelf = FusedShelf::new(
-        shelf,
-        shelf_calls.parse::<u64>().unwrap_or(0),
-        disk_calls.parse::<u64>().unwrap_or(0),
-    );
     let (orders, behind) = orders.split_once(" / ").unwrap_or((orders, ""));
-    let mut hand = Hand {
-        alloc,
-        shelf,
-        disk: None,
-    };
     let mut said = String::new(alloc);
+    let mut hand = Hand::new(alloc, fused(alloc, calls));
     follow(alloc, &mut hand, orders, &mut said)?;
-    let mut hand = Hand {
-        alloc,
-        shelf: hand.shelf.into_inner(),
-        disk,
-    };
+    let mut hand = Hand::new(alloc, hand.shelf.into_inner());
     follow(alloc, &mut hand, behind, &mut said)?;
     Ok(said)
 }
@@ -67,22 +91,15 @@ fn said_of_shelf(alloc: Global, asked: &str) -> Result<String, NoMemory> {
 impl Answers for Program<'_> {
     fn answer(&mut self, table: &str, asked: &str) -> Result<String, NoMemory> {
         let alloc = self.rt.alloc();
+        if JOURNALS.contains(&table) {
+            return said_of_journal(alloc, asked);
+        }
+        if FILES.contains(&table) {
+            return said_of_files(self.rt, asked);
+        }
         match table {
             "facts" => facts::has(alloc, asked),
             "texts of facts" => facts::text_at(alloc, asked),
-            "journals laid out" | "cuts of a journal" | "bodies of any length" | "switches" => {
-                let mut journal = Journal {
-                    alloc,
-                    disk: Some(TornDisk::new(alloc, 0)?),
-                };
-                said(alloc, &mut journal, asked)
-            }
-            "files of a folder" | "new files" | "files that others may use" => {
-                match files::files_of(self.rt) {
-                    Some(mut files) => said(alloc, &mut files, asked),
-                    None => Err(NoMemory),
-                }
-            }
             _ => said_of_shelf(alloc, asked),
         }
     }

@@ -17,13 +17,31 @@ pub(crate) fn told(text: Result<String, AllocError>) -> Result<String, Cause> {
     }
 }
 
+/// The first word, and those behind it.
+pub(crate) fn split(words: &str) -> (&str, &str) {
+    words.split_once(' ').unwrap_or((words, ""))
+}
+
+pub(crate) fn number(digits: &str) -> Option<u64> {
+    digits.parse::<u64>().ok()
+}
+
+/// A number, and bytes of hexadecimal digits behind it.
+pub(crate) fn number_and_bytes(alloc: Global, words: &str) -> Option<(u64, Vec<u8>)> {
+    let (first, digits) = split(words);
+    Some((number(first)?, hex::decode(alloc, digits.as_bytes()).ok()?))
+}
+
+fn append(said: &mut String, word: &str) -> Result<(), NoMemory> {
+    Ok(said.push_str(word)?)
+}
+
 /// Appends a word.
 fn say(said: &mut String, word: &str) -> Result<(), NoMemory> {
     if !said.is_empty() && !word.is_empty() {
-        said.push(' ')?;
+        append(said, " ")?;
     }
-    said.push_str(word)?;
-    Ok(())
+    append(said, word)
 }
 
 /// Follows the orders up to the first that fails and isn't only tried.
