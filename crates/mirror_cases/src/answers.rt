@@ -13,7 +13,7 @@ pub(crate) enum Which {
 }
 
 /// What became of the turn.
-#[derive(Clone, Copy, PartialEq, Eq)]
+#[derive(Clone, Copy)]
 pub(crate) enum Answer {
     /// The reply was handed out.
     Replied,
@@ -33,8 +33,7 @@ pub(crate) fn replied(reply: Option<Text>) -> Answer {
 /// The answer where the pair isn't opened, or fails.
 pub(crate) fn stopped(cause: PairCause) -> Answer {
     match cause {
-        PairCause::First(Cause::Fault) => Answer::Stopped,
-        PairCause::Second(Cause::Fault) => Answer::Stopped,
+        PairCause::First(Cause::Fault) | PairCause::Second(Cause::Fault) => Answer::Stopped,
         _ => Answer::Otherwise,
     }
 }
@@ -49,18 +48,21 @@ pub(crate) enum Shown {
     Otherwise,
 }
 
+/// The party of which this is shown.
+fn party_of(shown: &Text) -> Shown {
+    if shown.bytes() == OLD.as_bytes() {
+        Shown::Old
+    } else if shown.bytes() == NEW.as_bytes() {
+        Shown::New
+    } else {
+        Shown::Otherwise
+    }
+}
+
 /// What is shown.
 pub(crate) fn seen(outcome: Outcome) -> Shown {
     match outcome {
-        Outcome::Done { reply: Some(text) } => {
-            if text.bytes() == OLD.as_bytes() {
-                Shown::Old
-            } else if text.bytes() == NEW.as_bytes() {
-                Shown::New
-            } else {
-                Shown::Otherwise
-            }
-        }
+        Outcome::Done { reply: Some(text) } => party_of(&text),
         _ => Shown::Otherwise,
     }
 }

@@ -42,20 +42,22 @@ pub(crate) struct Names {
     pub(crate) label: Label,
 }
 
+fn ident(text: &[u8]) -> Result<Ident, DiskErr> {
+    match Ident::read(text) {
+        Ok(ident) => Ok(ident),
+        Err(_) => Err(DiskErr::Fault),
+    }
+}
+
 /// Those of BANKB.
 pub(crate) fn read_names() -> Result<Names, DiskErr> {
-    let (Ok(own), Ok(mirror), Ok(peer), Ok(label)) = (
-        Ident::read(b"BANKB"),
-        Ident::read(b"MIRB"),
-        Ident::read(b"BANKA"),
-        Label::read(b"K1"),
-    ) else {
+    let Ok(label) = Label::read(b"K1") else {
         return Err(DiskErr::Fault);
     };
     Ok(Names {
-        own,
-        mirror,
-        peer,
+        own: ident(b"BANKB")?,
+        mirror: ident(b"MIRB")?,
+        peer: ident(b"BANKA")?,
         label,
     })
 }
@@ -89,17 +91,26 @@ pub(crate) fn show(alloc: Global, shelf: &mut MemoryShelf, names: &Names) -> Out
     show_pair(alloc, shelf, &names.own, &names.mirror)
 }
 
-/// A shelf with BANKB on two disks, before it takes the key.
-pub(crate) fn shelf_of(alloc: Global, names: &Names) -> Result<MemoryShelf, DiskErr> {
+fn created(alloc: Global, shelf: &mut MemoryShelf, names: &Names) -> Result<(), DiskErr> {
+    done(create(alloc, shelf, names.own, Role::Bank, GENERATOR))
+}
+
+/// BANKB loads its key-encrypting key.
+fn loaded(alloc: Global, shelf: &mut MemoryShelf, names: &Names) -> Result<(), DiskErr> {
     let load = Input::Ordered(Command::Load {
         peer: names.peer,
         label: names.label,
         side: Side::Takes,
         pair: LOADED,
     });
+    done(turn(alloc, shelf, &names.own, &load, 0))
+}
+
+/// A shelf with BANKB on two disks, before it takes the key.
+pub(crate) fn shelf_of(alloc: Global, names: &Names) -> Result<MemoryShelf, DiskErr> {
     let mut shelf = MemoryShelf::new(alloc);
-    done(create(alloc, &mut shelf, names.own, Role::Bank, GENERATOR))?;
-    done(turn(alloc, &mut shelf, &names.own, &load, 0))?;
+    created(alloc, &mut shelf, names)?;
+    loaded(alloc, &mut shelf, names)?;
     done(show(alloc, &mut shelf, names))?;
     Ok(shelf)
 }

@@ -2,6 +2,7 @@
 use crate::answers::{Shown, Which, seen};
 use crate::bank::{Names, arrived, shelf_of, show};
 use std::alloc::Global;
+use x_base::Ident;
 use x_disk::{DiskErr, MemoryShelf, Shelf, TornDisk};
 use x_pair::turn_pair;
 use x_party::Outcome;
@@ -26,21 +27,29 @@ fn taken(alloc: Global, shelf: &mut MemoryShelf, names: &Names) -> Result<(), Di
     }
 }
 
+/// An empty disk stands in place of the one that is lost.
+fn lose(alloc: Global, shelf: &mut MemoryShelf, lost: &Ident) -> Result<(), DiskErr> {
+    let empty = TornDisk::new(alloc, 0)?;
+    shelf.put_back(lost, empty)
+}
+
+/// What is shown of one disk alone.
+fn alone(alloc: Global, shelf: &mut MemoryShelf, name: &Ident) -> Shown {
+    seen(x_party::show(alloc, shelf, name))
+}
+
 /// What is shown where this disk is lost behind a turn, or none.
 pub(crate) fn look(alloc: Global, names: &Names, lost: Option<Which>) -> Result<Views, DiskErr> {
     let mut shelf = shelf_of(alloc, names)?;
     taken(alloc, &mut shelf, names)?;
     match lost {
-        Some(Which::First) => shelf.put_back(&names.own, TornDisk::new(alloc, 0)?)?,
-        Some(Which::Second) => shelf.put_back(&names.mirror, TornDisk::new(alloc, 0)?)?,
+        Some(Which::First) => lose(alloc, &mut shelf, &names.own)?,
+        Some(Which::Second) => lose(alloc, &mut shelf, &names.mirror)?,
         None => {}
     }
-    let pair = seen(show(alloc, &mut shelf, names));
-    let first = seen(x_party::show(alloc, &mut shelf, &names.own));
-    let second = seen(x_party::show(alloc, &mut shelf, &names.mirror));
     Ok(Views {
-        pair,
-        first,
-        second,
+        pair: seen(show(alloc, &mut shelf, names)),
+        first: alone(alloc, &mut shelf, &names.own),
+        second: alone(alloc, &mut shelf, &names.mirror),
     })
 }

@@ -25,21 +25,6 @@ fn turned<D: Disk>(alloc: Global, disks: Disks<D>, input: &Input) -> (Disks<D>, 
     }
 }
 
-/// The disk, which fails after so many calls, where it is to fail.
-fn fused(disk: TornDisk, fails: bool, calls: u64) -> Fused<TornDisk> {
-    Fused::new(disk, if fails { calls } else { u64::MAX })
-}
-
-/// The disk behind the failure of its power, or an empty one, where it is lost.
-fn left(alloc: Global, disk: TornDisk, lost: bool, choice: u64) -> Result<TornDisk, DiskErr> {
-    if lost {
-        return Ok(TornDisk::new(alloc, 0)?);
-    }
-    let mut disk = disk;
-    disk.power_off(choice)?;
-    Ok(disk)
-}
-
 /// A row: the disk that fails, the one that is lost then, and the choice of the power-off.
 #[derive(Clone, Copy)]
 pub(crate) struct Stop {
@@ -48,38 +33,67 @@ pub(crate) struct Stop {
     pub(crate) choice: u64,
 }
 
-/// What became of the turn where that disk fails after so many calls, and of which party the pair is shown when the disk is lost.
-fn stop_at(
+/// The disks, of which one fails after so many calls.
+fn fused(disks: Disks<TornDisk>, fails: Which, calls: u64) -> Disks<Fused<TornDisk>> {
+    let (first, second) = match fails {
+        Which::First => (calls, u64::MAX),
+        Which::Second => (u64::MAX, calls),
+    };
+    Disks {
+        first: Fused::new(disks.first, first),
+        second: Fused::new(disks.second, second),
+    }
+}
+
+/// The disk behind the failure of its power, or an empty one, where it is lost.
+fn left(
+    alloc: Global,
+    fused: Fused<TornDisk>,
+    is_lost: bool,
+    choice: u64,
+) -> Result<TornDisk, DiskErr> {
+    if is_lost {
+        return Ok(TornDisk::new(alloc, 0)?);
+    }
+    let mut disk = fused.into_inner();
+    disk.power_off(choice)?;
+    Ok(disk)
+}
+
+fn fetch(shelf: &mut MemoryShelf, names: &Names) -> Result<Disks<TornDisk>, DiskErr> {
+    let first = shelf.fetch(&names.own)?;
+    let second = shelf.fetch(&names.mirror)?;
+    Ok(Disks { first, second })
+}
+
+/// Puts the disks back behind the failure of their power, and an empty one in place of the one that is lost.
+fn put_back(
     alloc: Global,
     shelf: &mut MemoryShelf,
     names: &Names,
     stop: Stop,
+    disks: Disks<Fused<TornDisk>>,
+) -> Result<(), DiskErr> {
+    let is_first = stop.lost == Which::First;
+    let first = left(alloc, disks.first, is_first, stop.choice)?;
+    let second = left(alloc, disks.second, !is_first, stop.choice)?;
+    shelf.put_back(&names.own, first)?;
+    shelf.put_back(&names.mirror, second)
+}
+
+/// What became of the turn where that disk fails after so many calls, and of which party the pair is shown when the disk is lost.
+fn stop_at(
+    alloc: Global,
+    names: &Names,
+    stop: Stop,
     calls: u64,
 ) -> Result<(Answer, Shown), DiskErr> {
+    let mut shelf = shelf_of(alloc, names)?;
     let input = arrived(alloc)?;
-    let first = shelf.fetch(&names.own)?;
-    let second = shelf.fetch(&names.mirror)?;
-    let disks = Disks {
-        first: fused(first, stop.fails == Which::First, calls),
-        second: fused(second, stop.fails == Which::Second, calls),
-    };
+    let disks = fused(fetch(&mut shelf, names)?, stop.fails, calls);
     let (disks, answer) = turned(alloc, disks, &input);
-    let Disks { first, second } = disks;
-    let first = left(
-        alloc,
-        first.into_inner(),
-        stop.lost == Which::First,
-        stop.choice,
-    )?;
-    let second = left(
-        alloc,
-        second.into_inner(),
-        stop.lost == Which::Second,
-        stop.choice,
-    )?;
-    shelf.put_back(&names.own, first)?;
-    shelf.put_back(&names.mirror, second)?;
-    Ok((answer, seen(show(alloc, shelf, names))))
+    put_back(alloc, &mut shelf, names, stop, disks)?;
+    Ok((answer, seen(show(alloc, &mut shelf, names))))
 }
 
 /// How many stops leave the party as it is to be, where the disk fails after more and more calls, fewer than 60, until the turn is
@@ -87,8 +101,7 @@ fn stop_at(
 pub(crate) fn stops(alloc: Global, names: &Names, stop: Stop) -> Result<Option<u64>, DiskErr> {
     let mut after: u64 = 0;
     for calls in 0..60 {
-        let mut shelf = shelf_of(alloc, names)?;
-        match stop_at(alloc, &mut shelf, names, stop, calls)? {
+        match stop_at(alloc, names, stop, calls)? {
             (Answer::Replied, Shown::New) => return Ok(Some(after)),
             (Answer::Stopped, Shown::New) => after = after.saturating_add(1),
             (Answer::Stopped, Shown::Old) => {}
