@@ -1,6 +1,7 @@
 // Changes that are copied and prepared, and full names.
 ghost use Rattle.party_state.specs.Ranges.{AreFitting, HasNoBegin};
 
+use crate::rows::add_rows;
 use crate::states::{begun, ident, name};
 use case_table::{Call, Table};
 use party_state::{Change, Edit, Exchange, KeyRec, KeyStatus, Kind, Role};
@@ -18,18 +19,33 @@ fn two_edits(alloc: Global, peer: Ident) -> Result<Change, NoMemory> {
     Ok(change)
 }
 
+fn is_drop_ended(edit: Option<&Edit>) -> bool {
+    matches!(edit, Some(Edit::DropEnded))
+}
+
+/// Whether it is an edit that puts an exchange with this text.
+fn puts_text(edit: Option<&Edit>, text: &[u8]) -> bool {
+    match edit {
+        Some(Edit::PutExchange(exchange)) => exchange.text.bytes() == text,
+        _ => false,
+    }
+}
+
 fn copy_rows(alloc: Global, table: &mut Table, peer: Ident) -> Result<(), NoMemory> {
     let empty = Change::new(alloc).is_empty();
-    table.row(&[Call::answer("is_empty", empty, true)])?;
     let copy = two_edits(alloc, peer)?.copy(alloc)?;
-    table.row(&[Call::number("len", copy.len() as u64, 2)])?;
-    let first = matches!(copy.edit_at(0), Some(Edit::DropEnded));
-    table.row(&[Call::answer("edit_at 0", first, true)])?;
-    let second =
-        matches!(copy.edit_at(1), Some(Edit::PutExchange(exchange)) if exchange.text.bytes() == b"CSM(".as_slice());
-    table.row(&[Call::answer("edit_at 1", second, true)])?;
+    let length = copy.len();
+    let first = is_drop_ended(copy.edit_at(0));
+    let second = puts_text(copy.edit_at(1), b"CSM(");
     let edits = copy.into_edits().len();
-    table.row(&[Call::number("into_edits", edits as u64, 2)])
+    let calls = [
+        Call::answer("is_empty", empty, true),
+        Call::number("len", length as u64, 2),
+        Call::answer("edit_at 0", first, true),
+        Call::answer("edit_at 1", second, true),
+        Call::number("into_edits", edits as u64, 2),
+    ];
+    add_rows(table, &calls)
 }
 
 /// The recipient in the full name of a key that a party shares with a peer.
@@ -43,19 +59,22 @@ fn recipient(peer: &Ident, name: &KeyName, own: &Ident) -> Ident {
     key.full_name(own).recipient
 }
 
-/// Rows of a name that an identity gave which, doubled, expands as before.
-fn name_rows(
-    table: &mut Table,
-    name: &KeyName,
-    once: &Ident,
-    twice: &Ident,
-) -> Result<(), NoMemory> {
+/// Calls with a name that an identity gave which, doubled, expands as before.
+fn name_calls(name: &KeyName, once: &Ident, twice: &Ident) -> [Call; 2] {
     let at_originator = recipient(twice, name, once);
-    let is_twice = at_originator.bytes() == twice.bytes();
-    table.row(&[Call::answer("recipient at the originator", is_twice, true)])?;
     let at_recipient = recipient(once, name, twice);
-    let is_twice = at_recipient.bytes() == twice.bytes();
-    table.row(&[Call::answer("recipient at itself", is_twice, true)])
+    [
+        Call::answer(
+            "recipient at the originator",
+            at_originator.bytes() == twice.bytes(),
+            true,
+        ),
+        Call::answer(
+            "recipient at itself",
+            at_recipient.bytes() == twice.bytes(),
+            true,
+        ),
+    ]
 }
 
 /// The seed behind a change that is done, or given up.
@@ -77,8 +96,11 @@ fn seed_rows(alloc: Global, table: &mut Table) -> Result<(), NoMemory> {
     change.push(Edit::SetGen(5))?;
     change.push(Edit::SetGen(6))?;
     let copy = change.copy(alloc)?;
-    table.row(&[Call::option("cancel", seed(alloc, copy, false), Some(1))])?;
-    table.row(&[Call::option("finish", seed(alloc, change, true), Some(6))])
+    let calls = [
+        Call::option("cancel", seed(alloc, copy, false), Some(1)),
+        Call::option("finish", seed(alloc, change, true), Some(6)),
+    ];
+    add_rows(table, &calls)
 }
 
 /// What is told of changes.
@@ -92,7 +114,7 @@ pub(crate) fn changes(alloc: Global) -> Result<Text, NoMemory> {
         ident(b"ABAB"),
         ident(b"ABABABAB"),
     ) {
-        name_rows(&mut table, &name, &once, &twice)?;
+        add_rows(&mut table, &name_calls(&name, &once, &twice))?;
     }
     seed_rows(alloc, &mut table)?;
     table.told()

@@ -2,7 +2,9 @@
 ghost use Rattle.std.specs.Prelude.{IfSome};
 ghost use Rattle.party_state.specs.Ranges.{IsFitting, IsNoBegin};
 
-use crate::states::{answer, begun, exchange, ident, key, label, link, name, whole};
+use crate::states::{
+    begun, ident, label, put_answer, put_ending, put_exchange, put_key, put_link, whole,
+};
 use case_table::Table;
 use party_show::show_text;
 use party_state::{Change, Edit, KeyStatus, Kind, Role, Side, State, apply};
@@ -119,35 +121,49 @@ ANSWER BANK-C BANKB 4
     [LINKS, KEYS, EXCHANGES, ANSWERS],
 ];
 
+fn drop_link() -> Option<Edit>
+    ensures fitting { IfSome result IsFitting }
+    ensures goes_on { IfSome result IsNoBegin }
+{
+    let peer = ident(b"BANKB")?;
+    let label = label(b"K1")?;
+    let side = Side::Sends;
+    Some(Edit::DropLink { peer, label, side })
+}
+
+fn drop_exchange() -> Option<Edit>
+    ensures fitting { IfSome result IsFitting }
+    ensures goes_on { IfSome result IsNoBegin }
+{
+    let peer = ident(b"CKTX")?;
+    Some(Edit::DropExchange { peer })
+}
+
+fn put_asked(alloc: Global) -> Option<Edit>
+    ensures fitting { IfSome result IsFitting }
+    ensures goes_on { IfSome result IsNoBegin }
+{
+    let ultimate = ident(b"BANKD")?;
+    put_exchange(alloc, b"BANK-C", Kind::Asked { ultimate })
+}
+
 /// The edit of a row.
 fn edit_of(alloc: Global, row: usize) -> Option<Edit>
     ensures fitting { IfSome result IsFitting }
     ensures goes_on { IfSome result IsNoBegin }
 {
-    Some(match row {
-        0 => Edit::PutLink(link(b"K1", Side::Sends, 8, false)?),
-        1 => Edit::PutLink(link(b"K1", Side::Takes, 1, true)?),
-        2 => Edit::DropLink {
-            peer: ident(b"BANKB")?,
-            label: label(b"K1")?,
-            side: Side::Sends,
-        },
-        3 => Edit::PutKey(key(b"BANKA.BANKA.K1.8", KeyStatus::Closing)?),
-        4 => Edit::DropEnded,
-        5 => {
-            let name = name(b"BANKA.BANKA.K1.8")?;
-            Edit::PutExchange(exchange(alloc, b"CKTX", Kind::Ending { name })?)
-        }
-        6 => {
-            let ultimate = ident(b"BANKD")?;
-            Edit::PutExchange(exchange(alloc, b"BANK-C", Kind::Asked { ultimate })?)
-        }
-        7 => Edit::DropExchange {
-            peer: ident(b"CKTX")?,
-        },
-        8 => Edit::PutAnswer(answer(b"BANKB", b"BANK-C", 5)?),
-        _ => Edit::SetGen(6),
-    })
+    match row {
+        0 => put_link(b"K1", Side::Sends, 8, false),
+        1 => put_link(b"K1", Side::Takes, 1, true),
+        2 => drop_link(),
+        3 => put_key(b"BANKA.BANKA.K1.8", KeyStatus::Closing),
+        4 => Some(Edit::DropEnded),
+        5 => put_ending(alloc, b"CKTX", b"BANKA.BANKA.K1.8"),
+        6 => put_asked(alloc),
+        7 => drop_exchange(),
+        8 => put_answer(b"BANKB", b"BANK-C", 5),
+        _ => Some(Edit::SetGen(6)),
+    }
 }
 
 /// The state behind a change of one edit.

@@ -1,10 +1,9 @@
 // Inputs of which a message is heard.
-use crate::texts::{meant, refusal_told, row_of};
-use case_table::Table;
+use crate::texts::refusal_told;
 use csm_feed::{INPUT_LIMIT, Unheard, hear};
 use std::alloc::{AllocError, Global};
 use std::str::from_utf8;
-use x_base::{NoMemory, Text};
+use x_base::NoMemory;
 
 fn unheard_told(alloc: Global, unheard: Unheard) -> Result<String, AllocError> {
     match unheard {
@@ -28,18 +27,4 @@ pub(crate) fn heard_told(alloc: Global, bytes: &[u8]) -> Result<String, NoMemory
         }
         Err(unheard) => Ok(unheard_told(alloc, unheard)?),
     }
-}
-
-/// What is told of a table of inputs.
-pub(crate) fn told_of(alloc: Global, name: &'static str, text: &str) -> Result<Text, NoMemory> {
-    let mut table = Table::new(alloc, name);
-    for line in text.trim().lines() {
-        let Some((written, wanted)) = row_of(line) else {
-            table.text_row(line, "nothing", "a row")?;
-            continue;
-        };
-        let given = heard_told(alloc, meant(alloc, written)?.bytes())?;
-        table.text_row(written, given.as_str(), wanted)?;
-    }
-    table.told()
 }

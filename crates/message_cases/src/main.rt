@@ -2,7 +2,7 @@
 //! shown, and tells of each table how many rows hold, and of a row that doesn't what it gives and what was
 //! wanted.
 //!
-//! A row of a text is `<TEXT> ANSWER`, where `\r` and `\n` stand for those two separators. The answer is
+//! A row of a text is `<TEXT> = ANSWER`, where `\r` and `\n` stand for those two separators. The answer is
 //! `read LENGTH`, or `heard` and the message, or the number of the refusal, its tag where it has one, and
 //! `at` with its place.
 #![tactic(auto)]
@@ -20,9 +20,11 @@ mod parts;
 mod read_texts;
 mod reading;
 mod refused_texts;
+mod rows;
 mod sources;
 mod states;
 mod streams;
+mod tables;
 mod texts;
 mod writing;
 mod wrong;
@@ -35,22 +37,22 @@ use x_base::{NoMemory, Text};
 fn messages_told(alloc: Global) -> Result<Text, NoMemory> {
     let mut text = Text::new(alloc);
     for told in [
-        names::identities(alloc)?,
-        names::names(alloc)?,
-        sources::memory(alloc)?,
-        sources::readers_and_writers(alloc)?,
-        reading::told_of(alloc, "texts that are read", read_texts::TABLE)?,
-        reading::told_of(alloc, "texts that are refused", refused_texts::TABLE)?,
-        reading::told_of(alloc, "fields that are missing", fields::TABLE)?,
-        lengths::messages(alloc)?,
-        parts::parts(alloc)?,
-        writing::written(alloc)?,
-        hearing::told_of(alloc, "inputs that are heard", heard_texts::TABLE)?,
-        lengths::inputs(alloc)?,
-        streams::cuts(alloc)?,
-        streams::pieces(alloc)?,
+        names::identities(alloc),
+        names::names(alloc),
+        sources::memory(alloc),
+        sources::readers_and_writers(alloc),
+        tables::told_of(alloc, read_texts::TABLE),
+        tables::told_of(alloc, refused_texts::TABLE),
+        tables::told_of(alloc, fields::TABLE),
+        lengths::messages(alloc),
+        parts::parts(alloc),
+        writing::written(alloc),
+        tables::told_of(alloc, heard_texts::TABLE),
+        lengths::inputs(alloc),
+        streams::cuts(alloc),
+        streams::pieces(alloc),
     ] {
-        text.push(told.bytes())?;
+        text.push(told?.bytes())?;
     }
     Ok(text)
 }
@@ -59,13 +61,13 @@ fn messages_told(alloc: Global) -> Result<Text, NoMemory> {
 fn parties_told(alloc: Global) -> Result<Text, NoMemory> {
     let mut text = Text::new(alloc);
     for told in [
-        edits::edits(alloc)?,
-        edits::centres(alloc)?,
-        lookups::lookups(alloc)?,
-        changes::changes(alloc)?,
-        wrong::wrong(alloc)?,
+        edits::edits(alloc),
+        edits::centres(alloc),
+        lookups::lookups(alloc),
+        changes::changes(alloc),
+        wrong::wrong(alloc),
     ] {
-        text.push(told.bytes())?;
+        text.push(told?.bytes())?;
     }
     Ok(text)
 }

@@ -3,7 +3,30 @@ use csm_grammar::{
     Dsm, Ers, Esm, Extras, Ksm, KsmBody, Message, NewKk, Rfs, Rsi, Rsm, Rtr, Service,
 };
 use std::alloc::Global;
-use x_base::{Count, Ident, KeyName, Label, Text};
+use x_base::{Count, Ident, KeyName, Label, NoMemory, Text};
+
+/// The counts that the messages have.
+#[derive(Clone, Copy)]
+struct Counts {
+    one: Count,
+    two: Count,
+    three: Count,
+    last: Count,
+}
+
+/// The names and counts that the messages have.
+#[derive(Clone, Copy)]
+pub(crate) struct Names {
+    banka: Ident,
+    pub(crate) bankb: Ident,
+    pub(crate) ckdx: Ident,
+    pub(crate) cktx: Ident,
+    k1: Label,
+    k2: Label,
+    key_of_bank: KeyName,
+    key_of_centre: KeyName,
+    counts: Counts,
+}
 
 fn ident(name: &str) -> Option<Ident> {
     Ident::read(name.as_bytes()).ok()
@@ -17,10 +40,33 @@ fn key_name(name: &str) -> Option<KeyName> {
     KeyName::read(name.as_bytes()).ok()
 }
 
-fn text(alloc: Global, bytes: &str) -> Option<Text> {
+fn read_counts() -> Option<Counts> {
+    Some(Counts {
+        one: Count::of(1)?,
+        two: Count::of(2)?,
+        three: Count::of(3)?,
+        last: Count::of(99_999_999_999_999)?,
+    })
+}
+
+pub(crate) fn read_names() -> Option<Names> {
+    Some(Names {
+        banka: ident("BANKA")?,
+        bankb: ident("BANKB")?,
+        ckdx: ident("CKDX")?,
+        cktx: ident("CKTX")?,
+        k1: label("K1")?,
+        k2: label("K2")?,
+        key_of_bank: key_name("BANKA.BANKA.K1.1")?,
+        key_of_centre: key_name("CKDX.BANKB.K2.40")?,
+        counts: read_counts()?,
+    })
+}
+
+fn text(alloc: Global, bytes: &str) -> Result<Text, NoMemory> {
     let mut text = Text::new(alloc);
-    text.push(bytes.as_bytes()).ok()?;
-    Some(text)
+    text.push(bytes.as_bytes())?;
+    Ok(text)
 }
 
 fn no_extras() -> Extras {
@@ -31,8 +77,8 @@ fn no_extras() -> Extras {
     }
 }
 
-fn extras(alloc: Global, p: &str) -> Option<Extras> {
-    Some(Extras {
+fn extras(alloc: Global, p: &str) -> Result<Extras, NoMemory> {
+    Ok(Extras {
         iv: Some(text(alloc, "x")?),
         edk: Some(text(alloc, "y")?),
         p: Some(text(alloc, p)?),
@@ -40,138 +86,140 @@ fn extras(alloc: Global, p: &str) -> Option<Extras> {
 }
 
 /// A request to a bank, or to a centre for an ultimate recipient.
-pub(crate) fn rsi(receiver: &str, ultimate: Option<&str>) -> Option<Message> {
-    let ultimate = match ultimate {
-        Some(name) => Some(ident(name)?),
-        None => None,
-    };
-    Some(Message::Rsi(Rsi {
-        receiver: ident(receiver)?,
-        originator: ident("BANKA")?,
+pub(crate) fn rsi(names: &Names, receiver: Ident, ultimate: Option<Ident>) -> Message {
+    Message::Rsi(Rsi {
+        receiver,
+        originator: names.banka,
         service: Service::Kd,
         ultimate,
-    }))
+    })
 }
 
-pub(crate) fn rfs() -> Option<Message> {
-    Some(Message::Rfs(Rfs {
-        receiver: ident("CKTX")?,
-        originator: ident("BANKA")?,
-        ultimate: ident("BANKB")?,
+pub(crate) fn rfs(names: &Names) -> Message {
+    Message::Rfs(Rfs {
+        receiver: names.cktx,
+        originator: names.banka,
+        ultimate: names.bankb,
         kd: 0xC2A5290756D949F4,
-        cta: Count::of(1)?,
-    }))
+        cta: names.counts.one,
+    })
 }
 
-/// An answer of a centre, with the requester's key or without it.
-pub(crate) fn rtr(originator: &str, kd: Option<(u64, u64)>) -> Option<Message> {
-    let kd = match kd {
-        Some((kd, cta)) => Some((kd, Count::of(cta)?)),
-        None => None,
-    };
-    Some(Message::Rtr(Rtr {
-        receiver: ident("BANKA")?,
-        originator: ident(originator)?,
-        ultimate: ident("BANKB")?,
+fn rtr(names: &Names, originator: Ident, kd: Option<(u64, Count)>) -> Message {
+    Message::Rtr(Rtr {
+        receiver: names.banka,
+        originator,
+        ultimate: names.bankb,
         kd,
         kdu: 0x5A30EC553E7570DE,
-        ctb: Count::of(1)?,
+        ctb: names.counts.one,
         extras: no_extras(),
-    }))
+    })
 }
 
-fn ksm(body: KsmBody, extras: Extras) -> Option<Message> {
-    Some(Message::Ksm(Ksm {
-        receiver: ident("BANKB")?,
-        originator: ident("BANKA")?,
+/// An answer of a centre without the requester's key.
+pub(crate) fn translated(names: &Names) -> Message {
+    rtr(names, names.cktx, None)
+}
+
+/// An answer of a centre with the requester's key.
+pub(crate) fn distributed(names: &Names) -> Message {
+    let kd = Some((0xC2A5290756D949F4, names.counts.one));
+    rtr(names, names.ckdx, kd)
+}
+
+fn ksm(names: &Names, body: KsmBody, extras: Extras) -> Message {
+    Message::Ksm(Ksm {
+        receiver: names.bankb,
+        originator: names.banka,
         body,
         extras,
-    }))
+    })
 }
 
-pub(crate) fn one_key() -> Option<Message> {
+pub(crate) fn one_key(names: &Names) -> Message {
     let body = KsmBody::Direct {
-        idk2: label("K1"),
+        idk2: Some(names.k1),
         new: None,
         kd: 0xC2A5290756D949F4,
-        ctp: Count::of(1)?,
+        ctp: names.counts.one,
     };
-    ksm(body, no_extras())
+    ksm(names, body, no_extras())
 }
 
-pub(crate) fn with_double_key() -> Option<Message> {
+pub(crate) fn with_double_key(names: &Names) -> Message {
     let pair = NewKk::Double(0x20E2F5F31394D5D9, 0xD8B9C215F0EE3FD9);
     let body = KsmBody::Direct {
-        idk2: label("K1"),
-        new: Some((label("K2")?, pair)),
+        idk2: Some(names.k1),
+        new: Some((names.k2, pair)),
         kd: 0x4D679520638F1F1A,
-        ctp: Count::of(2)?,
+        ctp: names.counts.two,
     };
-    ksm(body, no_extras())
+    ksm(names, body, no_extras())
 }
 
-pub(crate) fn with_single_key(alloc: Global) -> Option<Message> {
+pub(crate) fn with_single_key(alloc: Global, names: &Names) -> Result<Message, NoMemory> {
     let key = NewKk::Single(0x20E2F5F31394D5D9);
     let body = KsmBody::Direct {
         idk2: None,
-        new: Some((label("K2")?, key)),
+        new: Some((names.k2, key)),
         kd: 0x4D679520638F1F1A,
-        ctp: Count::of(99_999_999_999_999)?,
+        ctp: names.counts.last,
     };
-    ksm(body, extras(alloc, "a.b-c*")?)
+    Ok(ksm(names, body, extras(alloc, "a.b-c*")?))
 }
 
-pub(crate) fn of_centre() -> Option<Message> {
+pub(crate) fn of_centre(names: &Names) -> Message {
     let body = KsmBody::Centre {
-        centre: ident("CKDX")?,
+        centre: names.ckdx,
         kdu: 0x5A30EC553E7570DE,
-        ctb: Count::of(1)?,
+        ctb: names.counts.one,
     };
-    ksm(body, no_extras())
+    ksm(names, body, no_extras())
 }
 
-pub(crate) fn two_keys() -> Option<Message> {
+pub(crate) fn two_keys(names: &Names) -> Message {
     let body = KsmBody::Twin {
-        idk2: label("K1"),
+        idk2: Some(names.k1),
         first: 0x95109DA43EB39D13,
         second: 0xB31CCC37FC41E528,
-        ctp: Count::of(3)?,
+        ctp: names.counts.three,
     };
-    ksm(body, no_extras())
+    ksm(names, body, no_extras())
 }
 
-fn response(idd: Option<KeyName>, extras: Extras) -> Option<Message> {
-    Some(Message::Rsm(Rsm {
-        receiver: ident("BANKA")?,
-        originator: ident("BANKB")?,
+fn response(names: &Names, idd: Option<KeyName>, extras: Extras) -> Message {
+    Message::Rsm(Rsm {
+        receiver: names.banka,
+        originator: names.bankb,
         idd,
         extras,
-    }))
+    })
 }
 
-pub(crate) fn rsm() -> Option<Message> {
-    response(None, no_extras())
+pub(crate) fn rsm(names: &Names) -> Message {
+    response(names, None, no_extras())
 }
 
-pub(crate) fn rsm_of_end(alloc: Global) -> Option<Message> {
-    let name = key_name("BANKA.BANKA.K1.1")?;
-    response(Some(name), extras(alloc, "z")?)
+pub(crate) fn rsm_of_end(alloc: Global, names: &Names) -> Result<Message, NoMemory> {
+    let extras = extras(alloc, "z")?;
+    Ok(response(names, Some(names.key_of_bank), extras))
 }
 
-pub(crate) fn ers(alloc: Global) -> Option<Message> {
-    Some(Message::Ers(Ers {
-        receiver: ident("CKDX")?,
-        originator: ident("BANKA")?,
-        ultimate: ident("BANKB")?,
-        ctr: Count::of(3)?,
+pub(crate) fn ers(alloc: Global, names: &Names) -> Result<Message, NoMemory> {
+    Ok(Message::Ers(Ers {
+        receiver: names.ckdx,
+        originator: names.banka,
+        ultimate: names.bankb,
+        ctr: names.counts.three,
         erf: text(alloc, "C")?,
     }))
 }
 
-pub(crate) fn esm(alloc: Global) -> Option<Message> {
-    Some(Message::Esm(Esm {
-        receiver: ident("BANKA")?,
-        originator: ident("BANKB")?,
+pub(crate) fn esm(alloc: Global, names: &Names) -> Result<Message, NoMemory> {
+    Ok(Message::Esm(Esm {
+        receiver: names.banka,
+        originator: names.bankb,
         erf: text(alloc, "C.F")?,
         ctp: Count::of(1),
         cta: Count::of(20),
@@ -180,11 +228,11 @@ pub(crate) fn esm(alloc: Global) -> Option<Message> {
     }))
 }
 
-pub(crate) fn dsm() -> Option<Message> {
-    Some(Message::Dsm(Dsm {
-        receiver: ident("BANKB")?,
-        originator: ident("BANKA")?,
-        idd: key_name("BANKA.BANKA.K1.1")?,
-        ida: key_name("CKDX.BANKB.K2.40"),
-    }))
+pub(crate) fn dsm(names: &Names) -> Message {
+    Message::Dsm(Dsm {
+        receiver: names.bankb,
+        originator: names.banka,
+        idd: names.key_of_bank,
+        ida: Some(names.key_of_centre),
+    })
 }

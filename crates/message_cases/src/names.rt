@@ -1,4 +1,5 @@
 // Identities, names of keys, counts and words.
+use crate::rows::add_rows;
 use case_table::{Call, Table};
 use std::alloc::Global;
 use x_base::{Count, Ident, KeyName, LIMIT, Label, NoMemory, Text, Verdict, Words};
@@ -16,30 +17,54 @@ const IDENTITIES: [(&[u8], u64, u64); 9] = [
     (b"----", 0x2D2D2D2D2D2D2D2D, 0x2D2D2D2D2D2D2D2D),
 ];
 
+fn identity_row(table: &mut Table, bytes: &[u8], left: u64, right: u64) -> Result<(), NoMemory> {
+    let Ok(ident) = Ident::read(bytes) else {
+        return table.row(&[Call::answer("an identity", false, true)]);
+    };
+    let halves = ident.expand();
+    table.row(&[
+        Call::number("left half", halves.0, left),
+        Call::number("right half", halves.1, right),
+    ])
+}
+
 /// What is told of the expansion of identities.
 pub(crate) fn identities(alloc: Global) -> Result<Text, NoMemory> {
     let mut table = Table::new(alloc, "identities expanded");
     for (bytes, left, right) in IDENTITIES {
-        let halves = Ident::read(bytes).ok().map(|ident| ident.expand());
-        table.row(&[
-            Call::option("left half", halves.map(|halves| halves.0), Some(left)),
-            Call::option("right half", halves.map(|halves| halves.1), Some(right)),
-        ])?;
+        identity_row(&mut table, bytes, left, right)?;
     }
     table.told()
 }
 
 fn name_rows(alloc: Global, table: &mut Table, name: &KeyName) -> Result<(), NoMemory> {
     let label = Label::read(b"C").ok() == Some(name.label);
-    table.row(&[Call::answer("label of the name", label, true)])?;
-    table.row(&[Call::number("count of the name", name.count.value(), 12)])?;
     let mut text = Text::new(alloc);
     text.push(b"IDD/")?;
     name.write(&mut text)?;
     let written = text.bytes() == b"IDD/CKDX.BANKA.C.12".as_slice();
-    table.row(&[Call::answer("write", written, true)])?;
     let copied = text.copy(alloc)? == text;
-    table.row(&[Call::answer("copy", copied, true)])
+    let calls = [
+        Call::answer("label of the name", label, true),
+        Call::number("count of the name", name.count.value(), 12),
+        Call::answer("write", written, true),
+        Call::answer("copy", copied, true),
+    ];
+    add_rows(table, &calls)
+}
+
+fn value(count: Option<Count>) -> Option<u64> {
+    Some(count?.value())
+}
+
+fn number_calls() -> [Call; 3] {
+    let last = Count::read(b"99999999999999").ok();
+    let number = Verdict::CountLow(2).number();
+    [
+        Call::option("the last count", value(last), Some(LIMIT)),
+        Call::option("Count::of", value(Count::of(12)), Some(12)),
+        Call::number("number of a verdict", number.into(), 30),
+    ]
 }
 
 fn word_rows(alloc: Global, table: &mut Table) -> Result<(), NoMemory> {
@@ -47,8 +72,11 @@ fn word_rows(alloc: Global, table: &mut Table) -> Result<(), NoMemory> {
     words.push("load")?;
     words.push("--peer")?;
     let second = words.word(1) == Some("--peer");
-    table.row(&[Call::answer("word 1", second, true)])?;
-    table.row(&[Call::number("words", words.texts().len() as u64, 2)])
+    let calls = [
+        Call::answer("word 1", second, true),
+        Call::number("words", words.texts().len() as u64, 2),
+    ];
+    add_rows(table, &calls)
 }
 
 /// What is told of the name of a key, a count, a verdict and words.
@@ -58,16 +86,7 @@ pub(crate) fn names(alloc: Global) -> Result<Text, NoMemory> {
         Ok(name) => name_rows(alloc, &mut table, &name)?,
         Err(_) => table.row(&[Call::answer("the name is read", false, true)])?,
     }
-    let last = Count::read(b"99999999999999").ok();
-    let last = last.map(|count| count.value());
-    table.row(&[Call::option("the last count", last, Some(LIMIT))])?;
-    table.row(&[Call::option(
-        "Count::of",
-        Count::of(12).map(|count| count.value()),
-        Some(12),
-    )])?;
-    let number = Verdict::CountLow(2).number();
-    table.row(&[Call::number("number of a verdict", number.into(), 30)])?;
+    add_rows(&mut table, &number_calls())?;
     word_rows(alloc, &mut table)?;
     table.told()
 }

@@ -1,4 +1,5 @@
 // Parts of messages that are read, and entries of the class table.
+use crate::rows::add_rows;
 use case_table::{Call, Table};
 use csm_grammar::{
     Arrival, Form, KsmBody, Message, Need, ReadRefusal, Rsi, Service, Shut, Tag, class_table,
@@ -18,63 +19,92 @@ fn is_name(ident: &Ident, name: &[u8]) -> bool {
     ident.bytes() == name
 }
 
-fn request_rows(table: &mut Table, rsi: &Rsi) -> Result<(), NoMemory> {
-    let receiver = is_name(&rsi.receiver, b"BANKB");
-    table.row(&[Call::answer("receiver", receiver, true)])?;
-    let originator = is_name(&rsi.originator, b"BANKA");
-    table.row(&[Call::answer("originator", originator, true)])?;
-    let service = rsi.service == Service::Kd;
-    table.row(&[Call::answer("service", service, true)])?;
-    table.row(&[Call::answer("ultimate", rsi.ultimate.is_some(), false)])
-}
-
-fn arrival_rows(table: &mut Table, arrival: &Arrival) -> Result<(), NoMemory> {
-    let shut = arrival.parsed.shut == Shut::Edc(0x6C5A8EFC);
-    table.row(&[Call::answer("shut", shut, true)])?;
-    let auth = arrival.auth() == b"CSM(MCL/RSI RCV/BANKB ORG/BANKA SVR/KD ".as_slice();
-    table.row(&[Call::answer("auth", auth, true)])?;
-    let length = arrival.text.bytes().len();
-    table.row(&[Call::number("text", length as u64, 54)])?;
-    match &arrival.parsed.message {
-        Message::Rsi(rsi) => request_rows(table, rsi),
-        _ => table.row(&[Call::answer("a request", false, true)]),
+/// The message, where it is a request.
+fn request_of(message: &Message) -> Option<&Rsi> {
+    match message {
+        Message::Rsi(rsi) => Some(rsi),
+        _ => None,
     }
 }
 
-fn two_key_rows(table: &mut Table, message: &Message) -> Result<(), NoMemory> {
-    let Message::Ksm(ksm) = message else {
-        return table.row(&[Call::answer("a key service message", false, true)]);
-    };
-    match &ksm.body {
+fn request_calls(rsi: &Rsi) -> [Call; 4] {
+    [
+        Call::answer("receiver", is_name(&rsi.receiver, b"BANKB"), true),
+        Call::answer("originator", is_name(&rsi.originator, b"BANKA"), true),
+        Call::answer("service", rsi.service == Service::Kd, true),
+        Call::answer("ultimate", rsi.ultimate.is_some(), false),
+    ]
+}
+
+fn arrival_calls(arrival: &Arrival) -> [Call; 3] {
+    let shut = arrival.parsed.shut == Shut::Edc(0x6C5A8EFC);
+    let auth = arrival.auth() == b"CSM(MCL/RSI RCV/BANKB ORG/BANKA SVR/KD ".as_slice();
+    let length = arrival.text.bytes().len();
+    [
+        Call::answer("shut", shut, true),
+        Call::answer("auth", auth, true),
+        Call::number("text", length as u64, 54),
+    ]
+}
+
+fn arrival_rows(table: &mut Table, arrival: &Arrival) -> Result<(), NoMemory> {
+    add_rows(table, &arrival_calls(arrival))?;
+    match request_of(&arrival.parsed.message) {
+        Some(rsi) => add_rows(table, &request_calls(rsi)),
+        None => table.row(&[Call::answer("a request", false, true)]),
+    }
+}
+
+/// What the message carries, where it is a key service message.
+fn body_of(message: &Message) -> Option<&KsmBody> {
+    match message {
+        Message::Ksm(ksm) => Some(&ksm.body),
+        _ => None,
+    }
+}
+
+/// Two keys and the count of the first.
+fn keys_of(body: &KsmBody) -> Option<(u64, u64, u64)> {
+    match body {
         KsmBody::Twin {
             first,
             second,
             ctp,
             ..
-        } => {
-            table.row(&[Call::number("first", *first, 0x0123456789ABCDEE)])?;
-            table.row(&[Call::number("second", *second, 0x0123456789ABCDEF)])?;
-            table.row(&[Call::number("ctp", ctp.value(), 7)])
-        }
-        _ => table.row(&[Call::answer("two keys", false, true)]),
+        } => Some((*first, *second, ctp.value())),
+        _ => None,
     }
 }
 
-fn class_rows(table: &mut Table) -> Result<(), NoMemory> {
+fn two_key_rows(table: &mut Table, message: &Message) -> Result<(), NoMemory> {
+    let Some(body) = body_of(message) else {
+        return table.row(&[Call::answer("a key service message", false, true)]);
+    };
+    let Some((first, second, ctp)) = keys_of(body) else {
+        return table.row(&[Call::answer("two keys", false, true)]);
+    };
+    let calls = [
+        Call::number("first", first, 0x0123456789ABCDEE),
+        Call::number("second", second, 0x0123456789ABCDEF),
+        Call::number("ctp", ctp, 7),
+    ];
+    add_rows(table, &calls)
+}
+
+fn class_calls() -> [Call; 5] {
     let classes = class_table();
     let edc = classes.need(Form::F11, Tag::Edc) == Need::Optional;
-    table.row(&[Call::answer("EDC in form 11 is optional", edc, true)])?;
     let key = classes.need(Form::F13, Tag::Kd) == Need::Required;
-    table.row(&[Call::answer("KD in form 13 is required", key, true)])?;
-    for (name, form, tag, times) in [
-        ("KD in form 13", Form::F13, Tag::Kd, 2),
-        ("KD in form 5", Form::F5, Tag::Kd, 1),
-        ("IDK1 in form 13", Form::F13, Tag::Idk1, 0),
-    ] {
-        let given = classes.times(form, tag);
-        table.row(&[Call::number(name, given.into(), times)])?;
-    }
-    Ok(())
+    let of_two = classes.times(Form::F13, Tag::Kd);
+    let of_one = classes.times(Form::F5, Tag::Kd);
+    let label = classes.times(Form::F13, Tag::Idk1);
+    [
+        Call::answer("EDC in form 11 is optional", edc, true),
+        Call::answer("KD in form 13 is required", key, true),
+        Call::number("KD in form 13", of_two.into(), 2),
+        Call::number("KD in form 5", of_one.into(), 1),
+        Call::number("IDK1 in form 13", label.into(), 0),
+    ]
 }
 
 /// What is told of the parts of messages.
@@ -90,6 +120,6 @@ pub(crate) fn parts(alloc: Global) -> Result<Text, NoMemory> {
         Err(ReadRefusal::NoMemory) => return Err(NoMemory),
         Err(_) => table.row(&[Call::answer("two keys are read", false, true)])?,
     }
-    class_rows(&mut table)?;
+    add_rows(&mut table, &class_calls())?;
     table.told()
 }

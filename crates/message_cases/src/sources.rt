@@ -20,12 +20,12 @@ impl Read for Unreadable {
 fn taken<S: Source>(source: &mut S, buf: &mut [u8]) -> Option<u64>
     requires { 0 < length buf.old }
 {
-    source.take(buf).ok().map(|count| count as u64)
+    Some(source.take(buf).ok()? as u64)
 }
 
 /// How many bytes a call puts; none at a fault.
 fn put<K: Sink>(sink: &mut K, bytes: &[u8]) -> Option<u64> {
-    sink.put(bytes).ok().map(|count| count as u64)
+    Some(sink.put(bytes).ok()? as u64)
 }
 
 /// The one number of the call that fails.

@@ -1,6 +1,6 @@
 // A bank with rows of every kind, and what it is made of.
-ghost use Rattle.std.specs.Prelude.{◌≡◌, IfSome};
-ghost use Rattle.party_tables.specs.Ranges.{IsFittingKind, IsFittingExchange};
+ghost use Rattle.std.specs.Prelude.{IfSome};
+ghost use Rattle.party_tables.specs.Ranges.{IsFittingKind, IsNextCount};
 ghost use Rattle.party_state.specs.Ranges.{IsFitting, IsNoBegin};
 
 use party_state::{
@@ -29,48 +29,76 @@ pub(crate) fn name(bytes: &[u8]) -> Option<KeyName> {
     KeyName::read(bytes).ok()
 }
 
-/// A link with BANKB.
-pub(crate) fn link(name: &[u8], side: Side, next: u64, ready: bool) -> Option<LinkRec>
-    ensures { IfSome result (λ link. link.next ≡ next) }
+/// The edit that puts a link with BANKB.
+pub(crate) fn put_link(name: &[u8], side: Side, next: u64, ready: bool) -> Option<Edit>
+    requires { IsNextCount next }
+    ensures fitting { IfSome result IsFitting }
+    ensures goes_on { IfSome result IsNoBegin }
 {
-    Some(LinkRec {
-        peer: ident(b"BANKB")?,
-        label: label(name)?,
+    let peer = ident(b"BANKB")?;
+    let label = label(name)?;
+    Some(Edit::PutLink(LinkRec {
+        peer,
+        label,
         side,
         pair: PAIR,
         next,
         ready,
-    })
+    }))
 }
 
-/// The record of a key that is shared with BANKB.
-pub(crate) fn key(bytes: &[u8], status: KeyStatus) -> Option<KeyRec> {
-    Some(KeyRec {
-        peer: ident(b"BANKB")?,
-        name: name(bytes)?,
+/// The edit that puts the record of a key that is shared with BANKB.
+pub(crate) fn put_key(bytes: &[u8], status: KeyStatus) -> Option<Edit>
+    ensures fitting { IfSome result IsFitting }
+    ensures goes_on { IfSome result IsNoBegin }
+{
+    let peer = ident(b"BANKB")?;
+    let name = name(bytes)?;
+    Some(Edit::PutKey(KeyRec {
+        peer,
+        name,
         value: 0x0123456789ABCDEF,
         status,
-    })
+    }))
 }
 
-pub(crate) fn exchange(alloc: Global, peer: &[u8], kind: Kind) -> Option<Exchange>
+/// The edit that puts an exchange without a text.
+pub(crate) fn put_exchange(alloc: Global, peer: &[u8], kind: Kind) -> Option<Edit>
     requires { IsFittingKind kind }
-    ensures { IfSome result IsFittingExchange }
+    ensures fitting { IfSome result IsFitting }
+    ensures goes_on { IfSome result IsNoBegin }
 {
-    Some(Exchange {
-        peer: ident(peer)?,
+    let peer = ident(peer)?;
+    Some(Edit::PutExchange(Exchange {
+        peer,
         kind,
         text: Text::new(alloc),
-    })
+    }))
 }
 
-pub(crate) fn answer(requester: &[u8], ultimate: &[u8], cta: u64) -> Option<Answer> {
-    Some(Answer {
-        requester: ident(requester)?,
-        ultimate: ident(ultimate)?,
-        cta: Count::of(cta)?,
+/// The edit that puts an exchange in which the key with this name ends.
+pub(crate) fn put_ending(alloc: Global, peer: &[u8], bytes: &[u8]) -> Option<Edit>
+    ensures fitting { IfSome result IsFitting }
+    ensures goes_on { IfSome result IsNoBegin }
+{
+    let name = name(bytes)?;
+    put_exchange(alloc, peer, Kind::Ending { name })
+}
+
+/// The edit that puts an answer.
+pub(crate) fn put_answer(requester: &[u8], ultimate: &[u8], cta: u64) -> Option<Edit>
+    ensures fitting { IfSome result IsFitting }
+    ensures goes_on { IfSome result IsNoBegin }
+{
+    let requester = ident(requester)?;
+    let ultimate = ident(ultimate)?;
+    let cta = Count::of(cta)?;
+    Some(Edit::PutAnswer(Answer {
+        requester,
+        ultimate,
+        cta,
         value: 5,
-    })
+    }))
 }
 
 pub(crate) fn begun(alloc: Global, own: &[u8], role: Role) -> Option<State> {
@@ -84,15 +112,16 @@ pub(crate) fn with(state: State, edit: Edit) -> Option<State>
     requires goes_on { IsNoBegin edit }
 {
     let mut state = state;
-    state.edit(edit).ok()?;
-    Some(state)
+    match state.edit(edit) {
+        Ok(()) => Some(state),
+        Err(_) => None,
+    }
 }
 
 fn with_links(state: State) -> Option<State> {
-    let sends = link(b"K1", Side::Sends, 100_000_000_000_000, true)?;
-    let state = with(state, Edit::PutLink(sends))?;
-    let takes = link(b"K-2", Side::Takes, 7, false)?;
-    with(state, Edit::PutLink(takes))
+    let sends = put_link(b"K1", Side::Sends, 100_000_000_000_000, true)?;
+    let takes = put_link(b"K-2", Side::Takes, 7, false)?;
+    with(with(state, sends)?, takes)
 }
 
 const KEYS: [(&[u8], KeyStatus); 5] = [
@@ -106,26 +135,21 @@ const KEYS: [(&[u8], KeyStatus); 5] = [
 fn with_keys(state: State) -> Option<State> {
     let mut state = state;
     for (bytes, status) in KEYS {
-        state = with(state, Edit::PutKey(key(bytes, status)?))?;
+        state = with(state, put_key(bytes, status)?)?;
     }
     Some(state)
 }
 
-fn with_exchange(alloc: Global, state: State, peer: &[u8], kind: Kind) -> Option<State>
-    requires { IsFittingKind kind }
-{
-    with(state, Edit::PutExchange(exchange(alloc, peer, kind)?))
-}
-
 fn with_requests(alloc: Global, state: State) -> Option<State> {
     let ultimate = ident(b"BANK-C")?;
+    let asked = put_exchange(alloc, b"CKDX", Kind::Asked { ultimate })?;
     let translating = Kind::Translating {
         ultimate,
         value: 5,
         cta: Count::of(12)?,
     };
-    let state = with_exchange(alloc, state, b"CKDX", Kind::Asked { ultimate })?;
-    with_exchange(alloc, state, b"CKTX", translating)
+    let translating = put_exchange(alloc, b"CKTX", translating)?;
+    with(with(state, asked)?, translating)
 }
 
 fn with_sent(alloc: Global, state: State) -> Option<State> {
@@ -135,26 +159,30 @@ fn with_sent(alloc: Global, state: State) -> Option<State> {
             centre: ident(b"CKTX")?,
         },
     };
-    let ending = Kind::Ending {
-        name: name(b"BANKA.BANKA.K1.9")?,
-    };
-    let first = name(b"BANKA.BANKA.K1.10")?;
-    name_behind(&first)?;
-    let state = with_exchange(alloc, state, b"BANKB", one)?;
-    let state = with_exchange(alloc, state, b"BANKD", ending)?;
-    with_exchange(alloc, state, b"BANKE", Kind::PairSent { name: first })
+    let one = put_exchange(alloc, b"BANKB", one)?;
+    let ending = put_ending(alloc, b"BANKD", b"BANKA.BANKA.K1.9")?;
+    with(with(state, one)?, ending)
+}
+
+fn with_pair(alloc: Global, state: State) -> Option<State> {
+    let name = name(b"BANKA.BANKA.K1.10")?;
+    name_behind(&name)?;
+    with(
+        state,
+        put_exchange(alloc, b"BANKE", Kind::PairSent { name })?,
+    )
 }
 
 fn with_answers(state: State) -> Option<State> {
-    let first = answer(b"BANKB", b"BANK-C", 3)?;
-    let state = with(state, Edit::PutAnswer(first))?;
-    let second = answer(b"BANK-C", b"BANKB", 4)?;
-    with(state, Edit::PutAnswer(second))
+    let first = put_answer(b"BANKB", b"BANK-C", 3)?;
+    let second = put_answer(b"BANK-C", b"BANKB", 4)?;
+    with(with(state, first)?, second)
 }
 
 /// The bank with rows of every kind.
 pub(crate) fn whole(alloc: Global) -> Option<State> {
     let state = with_links(begun(alloc, b"BANKA", Role::Bank)?)?;
     let state = with_requests(alloc, with_keys(state)?)?;
-    with_answers(with_sent(alloc, state)?)
+    let state = with_pair(alloc, with_sent(alloc, state)?)?;
+    with_answers(state)
 }

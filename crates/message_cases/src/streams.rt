@@ -27,12 +27,17 @@ fn hands_out(alloc: Global, feed: &mut Feed, message: &[u8]) -> bool {
     }
 }
 
+/// Whether the feed waits for more.
+fn waits(alloc: Global, feed: &mut Feed) -> bool {
+    matches!(feed.next(alloc), Next::NotYet)
+}
+
 /// What comes of a message that is cut at a place.
 fn cut_row(alloc: Global, table: &mut Table, message: &[u8], cut: usize) -> Result<(), NoMemory> {
     let (first, second) = message.split_at(cut.min(message.len()));
     let mut feed = Feed::new(alloc)?;
     feed.push(first);
-    let waits = matches!(feed.next(alloc), Next::NotYet);
+    let waits = waits(alloc, &mut feed);
     feed.push(second);
     let comes = hands_out(alloc, &mut feed, message);
     table.row(&[
@@ -64,18 +69,31 @@ fn come(alloc: Global, feed: &mut Feed, from: usize) -> usize {
     came
 }
 
-/// What comes of the stream in pieces of this size.
-fn piece_row(alloc: Global, table: &mut Table, size: usize) -> Result<(), NoMemory> {
-    let mut feed = Feed::new(alloc)?;
+/// How many messages come of the stream in pieces of this size.
+fn come_in_pieces(alloc: Global, feed: &mut Feed, size: usize) -> usize {
     let mut came = 0;
     let mut stream = STREAM;
     for _ in 0..STREAM.len() {
         let (piece, behind) = stream.split_at(size.min(stream.len()));
         feed.push(piece);
-        came = come(alloc, &mut feed, came);
+        came = come(alloc, feed, came);
         stream = behind;
     }
-    let refused = matches!(feed.next(alloc), Next::Refused(FAULT));
+    came
+}
+
+/// Whether the feed refuses what it holds for the fault.
+fn refuses(alloc: Global, feed: &mut Feed) -> bool {
+    match feed.next(alloc) {
+        Next::Refused(refusal) => refusal == FAULT,
+        _ => false,
+    }
+}
+
+fn piece_row(alloc: Global, table: &mut Table, size: usize) -> Result<(), NoMemory> {
+    let mut feed = Feed::new(alloc)?;
+    let came = come_in_pieces(alloc, &mut feed, size);
+    let refused = refuses(alloc, &mut feed);
     table.row(&[
         Call::number("messages", came as u64, 3),
         Call::answer("next refuses the fourth", refused, true),

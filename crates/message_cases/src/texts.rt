@@ -1,14 +1,8 @@
-// Rows of texts, and how a refusal is told.
+// The text that a row means, and how a refusal is told.
 use csm_grammar::{ReadRefusal, Tag};
 use std::alloc::{AllocError, Global};
 use std::str::from_utf8;
 use x_base::{NoMemory, Text};
-
-/// The text of a row, as it is written there, and the answer; none where the line is no row.
-pub(crate) fn row_of(line: &str) -> Option<(&str, &str)> {
-    let mut parts = line.strip_prefix("<")?.splitn(2, "> ");
-    Some((parts.next()?, parts.next()?))
-}
 
 /// The text that a row means.
 pub(crate) fn meant(alloc: Global, written: &str) -> Result<Text, NoMemory> {
@@ -31,11 +25,11 @@ pub(crate) fn meant(alloc: Global, written: &str) -> Result<Text, NoMemory> {
 
 fn tag_of(refusal: ReadRefusal) -> Option<Tag> {
     match refusal {
-        ReadRefusal::Repeated(tag, _)
-        | ReadRefusal::Missing(tag, _)
-        | ReadRefusal::Unwanted(tag, _)
-        | ReadRefusal::BadContents(tag, _)
-        | ReadRefusal::Unsupported(tag, _) => Some(tag),
+        ReadRefusal::Repeated(tag, _) => Some(tag),
+        ReadRefusal::Missing(tag, _) => Some(tag),
+        ReadRefusal::Unwanted(tag, _) => Some(tag),
+        ReadRefusal::BadContents(tag, _) => Some(tag),
+        ReadRefusal::Unsupported(tag, _) => Some(tag),
         _ => None,
     }
 }

@@ -1,7 +1,7 @@
 // Messages that are written, of each form and with each closing. The codes were made by another program.
 use crate::messages::{
-    dsm, ers, esm, of_centre, one_key, rfs, rsi, rsm, rsm_of_end, rtr, two_keys, with_double_key,
-    with_single_key,
+    Names, distributed, dsm, ers, esm, of_centre, one_key, read_names, rfs, rsi, rsm, rsm_of_end,
+    translated, two_keys, with_double_key, with_single_key,
 };
 use case_table::Table;
 use csm_grammar::{Message, Shut};
@@ -24,13 +24,10 @@ const NO_CODE: Closing = Closing::Stated(Shut::Edc(0));
 fn add_row(
     alloc: Global,
     table: &mut Table,
-    message: Option<Message>,
+    message: Message,
     closing: Closing,
     wanted: &str,
 ) -> Result<(), NoMemory> {
-    let Some(message) = message else {
-        return table.text_row("write", "no message", wanted);
-    };
     let text = write(alloc, &message, &closing)?;
     table.text_row(
         "write",
@@ -39,67 +36,71 @@ fn add_row(
     )
 }
 
-fn requests(alloc: Global, table: &mut Table) -> Result<(), NoMemory> {
+fn requests(alloc: Global, table: &mut Table, names: &Names) -> Result<(), NoMemory> {
     let text = "CSM(MCL/RSI RCV/BANKB ORG/BANKA SVR/KD EDC/6C5A8EFC)";
-    add_row(alloc, table, rsi("BANKB", None), Closing::Edc, text)?;
+    let asked = rsi(names, names.bankb, None);
+    add_row(alloc, table, asked, Closing::Edc, text)?;
     let text = "CSM(MCL/RSI RCV/CKDX ORG/BANKA SVR/KD IDU/BANKB EDC/EB2F5E53)";
-    add_row(alloc, table, rsi("CKDX", Some("BANKB")), Closing::Edc, text)?;
+    let asked = rsi(names, names.ckdx, Some(names.bankb));
+    add_row(alloc, table, asked, Closing::Edc, text)?;
     let text = "CSM(MCL/RFS RCV/CKTX ORG/BANKA IDU/BANKB KD/C2A5290756D949F4 CTA/1 MAC/7BC5794E)";
-    add_row(alloc, table, rfs(), MAC, text)?;
+    add_row(alloc, table, rfs(names), MAC, text)?;
     let text = "CSM(MCL/RTR RCV/BANKA ORG/CKTX IDU/BANKB KDU/5A30EC553E7570DE CTB/1 MAC/5A1E9BEC)";
-    add_row(alloc, table, rtr("CKTX", None), MAC, text)?;
+    add_row(alloc, table, translated(names), MAC, text)?;
     let text =
         "CSM(MCL/RTR RCV/BANKA ORG/CKDX IDU/BANKB KD/C2A5290756D949F4 KDU/5A30EC553E7570DE CTA/1 CTB/1 MAC/389355D2)";
-    let answer = rtr("CKDX", Some((0xC2A5290756D949F4, 1)));
-    add_row(alloc, table, answer, MAC, text)
+    add_row(alloc, table, distributed(names), MAC, text)
 }
 
-fn keys(alloc: Global, table: &mut Table) -> Result<(), NoMemory> {
+fn keys(alloc: Global, table: &mut Table, names: &Names) -> Result<(), NoMemory> {
     let text = "CSM(MCL/KSM RCV/BANKB ORG/BANKA IDK2/K1 KD/C2A5290756D949F4 CTP/1 MAC/8F270CC6)";
-    add_row(alloc, table, one_key(), MAC, text)?;
+    add_row(alloc, table, one_key(names), MAC, text)?;
     let text =
         "CSM(MCL/KSM RCV/BANKB ORG/BANKA IDK1/K2 IDK2/K1 *KK/20E2F5F31394D5D9D8B9C215F0EE3FD9 KD/4D679520638F1F1A CTP/2 MAC/1B5F45AC)";
-    add_row(alloc, table, with_double_key(), MAC, text)?;
+    add_row(alloc, table, with_double_key(names), MAC, text)?;
     let text =
         "CSM(MCL/KSM RCV/BANKB ORG/BANKA IDK1/K2 KK/20E2F5F31394D5D9 KD/4D679520638F1F1A CTP/99999999999999 IV/x EDK/y P/a.b-c* MAC/6ADD3A2A)";
-    add_row(alloc, table, with_single_key(alloc), MAC, text)?;
+    add_row(alloc, table, with_single_key(alloc, names)?, MAC, text)?;
     let text = "CSM(MCL/KSM RCV/BANKB ORG/BANKA IDC/CKDX KDU/5A30EC553E7570DE CTB/1 MAC/583244FE)";
-    add_row(alloc, table, of_centre(), MAC, text)?;
+    add_row(alloc, table, of_centre(names), MAC, text)?;
     let text =
         "CSM(MCL/KSM RCV/BANKB ORG/BANKA IDK2/K1 KD/95109DA43EB39D13 KD/B31CCC37FC41E528 CTP/3 MAC/C29E05B6)";
-    add_row(alloc, table, two_keys(), UNDER_BOTH, text)
+    add_row(alloc, table, two_keys(names), UNDER_BOTH, text)
 }
 
-fn answers(alloc: Global, table: &mut Table) -> Result<(), NoMemory> {
+fn answers(alloc: Global, table: &mut Table, names: &Names) -> Result<(), NoMemory> {
     let text = "CSM(MCL/RSM RCV/BANKA ORG/BANKB MAC/1A2B3C4D)";
-    add_row(alloc, table, rsm(), STATED, text)?;
+    add_row(alloc, table, rsm(names), STATED, text)?;
     let text = "CSM(MCL/RSM RCV/BANKA ORG/BANKB IDD/BANKA.BANKA.K1.1 IV/x EDK/y P/z MAC/DAE91B47)";
-    add_row(alloc, table, rsm_of_end(alloc), MAC, text)?;
+    add_row(alloc, table, rsm_of_end(alloc, names)?, MAC, text)?;
     let text =
         "CSM(MCL/DSM RCV/BANKB ORG/BANKA IDD/BANKA.BANKA.K1.1 IDA/CKDX.BANKB.K2.40 MAC/0BC9B6D6)";
-    add_row(alloc, table, dsm(), MAC, text)
+    add_row(alloc, table, dsm(names), MAC, text)
 }
 
-fn errors(alloc: Global, table: &mut Table) -> Result<(), NoMemory> {
+fn errors(alloc: Global, table: &mut Table, names: &Names) -> Result<(), NoMemory> {
     let text = "CSM(MCL/ERS RCV/CKDX ORG/BANKA IDU/BANKB CTR/3 ERF/C MAC/6BB95327)";
-    add_row(alloc, table, ers(alloc), MAC, text)?;
+    add_row(alloc, table, ers(alloc, names)?, MAC, text)?;
     let text =
         "CSM(MCL/ESM RCV/BANKA ORG/BANKB CTP/1 CTA/20 CTB/300 CTR/4000 ERF/C.F MAC/34E585FC)";
-    add_row(alloc, table, esm(alloc), MAC, text)?;
+    add_row(alloc, table, esm(alloc, names)?, MAC, text)?;
     let text =
         "CSM(MCL/ESM RCV/BANKA ORG/BANKB CTP/1 CTA/20 CTB/300 CTR/4000 ERF/C.F EDC/AC7DE21B)";
-    add_row(alloc, table, esm(alloc), Closing::Edc, text)?;
+    add_row(alloc, table, esm(alloc, names)?, Closing::Edc, text)?;
     let text =
         "CSM(MCL/ESM RCV/BANKA ORG/BANKB CTP/1 CTA/20 CTB/300 CTR/4000 ERF/C.F EDC/00000000)";
-    add_row(alloc, table, esm(alloc), NO_CODE, text)
+    add_row(alloc, table, esm(alloc, names)?, NO_CODE, text)
 }
 
 /// What is told of messages that are written.
 pub(crate) fn written(alloc: Global) -> Result<Text, NoMemory> {
     let mut table = Table::new(alloc, "messages that are written");
-    requests(alloc, &mut table)?;
-    keys(alloc, &mut table)?;
-    answers(alloc, &mut table)?;
-    errors(alloc, &mut table)?;
+    let Some(names) = read_names() else {
+        return table.told();
+    };
+    requests(alloc, &mut table, &names)?;
+    keys(alloc, &mut table, &names)?;
+    answers(alloc, &mut table, &names)?;
+    errors(alloc, &mut table, &names)?;
     table.told()
 }

@@ -1,0 +1,10 @@
+use case_table::{Call, Table};
+use x_base::NoMemory;
+
+/// A row of the table for each of the calls.
+pub(crate) fn add_rows(table: &mut Table, calls: &[Call]) -> Result<(), NoMemory> {
+    for call in calls {
+        table.row(&[*call])?;
+    }
+    Ok(())
+}
