@@ -1,25 +1,35 @@
 ghost use Rattle.std.specs.Prelude.{◌≡◌};
 
+use thiserror::Error;
+
 /// These bytes are no payment; the place is the length of their longest prefix that is a prefix of a payment.
-#[derive(Clone, Copy)]
+#[derive(Clone, Copy, Debug, Error)]
+#[error("bad payment at {0}")]
 pub struct BadPay(pub u64);
 
 /// Why nothing is paid out or taken in.
-#[derive(Clone, Copy)]
+#[derive(Clone, Copy, Debug, Error)]
 pub enum PayRefusal {
     /// The bytes are no payment; the place is the length of their longest prefix that is a prefix of a payment.
+    #[error("bad payment at {0}")]
     BadPay(u64),
     /// The payment is for another party, or from this one.
+    #[error("not for this party")]
     NotForMe,
     /// The key isn't live here.
+    #[error("unknown key")]
     UnknownKey,
     /// The authentication code differs.
+    #[error("bad code")]
     BadMac,
     /// No number is left under the key.
+    #[error("numbers spent")]
     CountSpent,
     /// The number isn't above the last one that was taken; this one, or a higher one, is expected.
+    #[error("number below {0}")]
     PayLow(u64),
     /// The ledger has as many entries as it can have.
+    #[error("ledger full")]
     LedgerFull,
 }
 
