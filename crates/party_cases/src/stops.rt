@@ -115,7 +115,9 @@ pub(crate) fn failing_disk(alloc: Global, row: &str) -> Result<String, NoMemory>
         after: *after,
         again: *again,
     };
-    let choice = choice.parse::<u64>().unwrap_or(0);
+    let Ok(choice) = choice.parse::<u64>() else {
+        return Ok(String::from_str(alloc, "no choice")?);
+    };
     let Some(party) = party_of(own) else {
         return Ok(String::from_str(alloc, "no party")?);
     };

@@ -28,7 +28,9 @@ struct Program {
 impl Answers for Program {
     fn answer(&mut self, table: &str, asked: &str) -> Result<String, NoMemory> {
         let (what, choice) = asked.split_once(" ").unwrap_or((asked, ""));
-        let choice = choice.parse::<u64>().unwrap_or(0);
+        let Ok(choice) = choice.parse::<u64>() else {
+            return Ok(String::from_str(self.alloc, "no choice")?);
+        };
         if table == "batches whose disk fails" {
             return batches::told(self.alloc, what, choice);
         }
