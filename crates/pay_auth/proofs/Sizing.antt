@@ -130,11 +130,6 @@ puts_beyond all es now i e key full whole few is key_is test set =
     subst (λ (l : List Entry). most_entries < length l) (ap (λ (l : List Entry). put_entries l now) (sym at) ∙ whole) beyond
 
 -- what became of the entries of a body that were put
-pub goes_yes : {E : Type 0} (body : List ℕ) (entries items old new : List Entry) (result : Result Bool E) → IsLedgerBody body items → entries ≡ items → IfOk result (λ goes. goes ≡ true → new ≡ put_entries entries old) → length new ≤ most_entries
-    → IfOk result (λ goes. goes ≡ true → PutsBody body old new)
-goes_yes body entries items old new (Ok goes) is same put few = λ set. record { entries = items; body = is; after = put set ∙ ap (λ (l : List Entry). put_entries l old) same; within = few }
-goes_yes body entries items old new (Err e) is same put few = tt
-
 pub goes_no : {E : Type 0} (body : List ℕ) (entries items old : List Entry) (result : Result Bool E) → IsLedgerBody body items → entries ≡ items → IfOk result (λ goes. goes ≡ false → most_entries < length (put_entries entries old))
     → IfOk result (λ goes. goes ≡ false → (next : List Entry) → PutsBody body old next → ⊥)
 goes_no body entries items old (Ok goes) is same put = λ stops next puts.

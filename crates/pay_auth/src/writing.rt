@@ -1,6 +1,7 @@
 // Writing payments and receipts.
 ghost use Rattle.std.specs.Prelude.{◌≡◌, ◌++◌, codes, IfOk, OnOk};
 ghost use Rattle.std.specs.Fmt.{decimal};
+ghost use Rattle.x_base.specs.KeyName.{written};
 ghost use Rattle.x_mac.specs.Code.{mac_of};
 ghost use Rattle.csm_write.specs.Canon.{code_digits};
 ghost use Rattle.pay_auth.specs.Texts.{pay_auth_text, pay_text};
@@ -32,14 +33,21 @@ fn put_count(out: &mut Text, tag: &[u8], count: &Count) -> Result<(), NoMemory>
     put_field(out, tag, digits.format(count.value()).as_bytes())
 }
 
-/// The authenticated text of a payment.
-fn put_auth(out: &mut Text, pay: &Pay) -> Result<(), NoMemory>
-    ensures { OnOk result (out.new ≡ out.old ++ pay_auth_text pay.now) }
+/// The parties of a payment and its key, each behind its tag.
+fn put_parties(out: &mut Text, pay: &Pay) -> Result<(), NoMemory>
+    ensures { OnOk result (out.new ≡ out.old ++ (codes "PAY(FROM/" ++ (pay.now.from ++ (codes " TO/" ++ (pay.now.to ++ (codes " KEY/" ++ written pay.now.key)))))) }
 {
     put_field(out, b"PAY(FROM/", pay.from.bytes())?;
     put_field(out, b" TO/", pay.to.bytes())?;
     out.push(b" KEY/")?;
-    pay.key.write(out)?;
+    pay.key.write(out)
+}
+
+/// The authenticated text of a payment.
+fn put_auth(out: &mut Text, pay: &Pay) -> Result<(), NoMemory>
+    ensures { OnOk result (out.new ≡ out.old ++ pay_auth_text pay.now) }
+{
+    put_parties(out, pay)?;
     put_count(out, b" NUM/", &pay.number)?;
     put_count(out, b" AMT/", &pay.amount)?;
     out.push(b" ")
