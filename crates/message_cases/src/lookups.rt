@@ -48,8 +48,8 @@ fn link_calls(state: &State, wanted: &Wanted) -> [Call; 8] {
     ]
 }
 
-/// Whether there is a key, and it is so.
-fn is(key: Option<&KeyRec>, status: KeyStatus) -> bool {
+/// Whether there is a key, and it has this status.
+fn has_status(key: Option<&KeyRec>, status: KeyStatus) -> bool {
     match key {
         Some(key) => key.status == status,
         None => false,
@@ -59,9 +59,13 @@ fn is(key: Option<&KeyRec>, status: KeyStatus) -> bool {
 fn key_calls(state: &State, wanted: &Wanted) -> [Call; 4] {
     let live = state.key(&wanted.peer, &wanted.live);
     [
-        Call::answer("key", is(live, KeyStatus::Live), true),
+        Call::answer("key", has_status(live, KeyStatus::Live), true),
         Call::number("key_count", state.key_count() as u64, 5),
-        Call::answer("key_at 2", is(state.key_at(2), KeyStatus::Held), true),
+        Call::answer(
+            "key_at 2",
+            has_status(state.key_at(2), KeyStatus::Held),
+            true,
+        ),
         Call::answer("role", state.role() == Role::Bank, true),
     ]
 }
@@ -98,7 +102,7 @@ fn three_links(alloc: Global) -> Option<State> {
     with(state, put_link(b"K2", Side::Sends, 3, true)?)
 }
 
-/// Whether the name is an alias of a peer's.
+/// Whether the name expands as the party's own does, or as another one of a peer; none where it is no identity.
 fn aliases(state: &State, name: &[u8]) -> Option<u64> {
     Some(state.aliases(&ident(name)?).into())
 }

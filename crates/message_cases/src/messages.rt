@@ -5,7 +5,7 @@ use csm_grammar::{
 use std::alloc::Global;
 use x_base::{Count, Ident, KeyName, Label, NoMemory, Text};
 
-/// The counts that the messages have.
+/// The counts that most messages have.
 #[derive(Clone, Copy)]
 struct Counts {
     one: Count,
@@ -20,7 +20,7 @@ pub(crate) struct Names {
     banka: Ident,
     pub(crate) bankb: Ident,
     pub(crate) ckdx: Ident,
-    pub(crate) cktx: Ident,
+    cktx: Ident,
     k1: Label,
     k2: Label,
     key_of_bank: KeyName,

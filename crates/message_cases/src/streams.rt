@@ -90,6 +90,7 @@ fn refuses(alloc: Global, feed: &mut Feed) -> bool {
     }
 }
 
+/// The row of a stream that comes in pieces of this size.
 fn piece_row(alloc: Global, table: &mut Table, size: usize) -> Result<(), NoMemory> {
     let mut feed = Feed::new(alloc)?;
     let came = come_in_pieces(alloc, &mut feed, size);

@@ -3,7 +3,7 @@ use crate::messages::{
     Names, distributed, dsm, ers, esm, of_centre, one_key, read_names, rfs, rsi, rsm, rsm_of_end,
     translated, two_keys, with_double_key, with_single_key,
 };
-use case_table::Table;
+use case_table::{Call, Table};
 use csm_grammar::{Message, Shut};
 use csm_write::{Closing, write};
 use std::alloc::Global;
@@ -96,6 +96,7 @@ fn errors(alloc: Global, table: &mut Table, names: &Names) -> Result<(), NoMemor
 pub(crate) fn written(alloc: Global) -> Result<Text, NoMemory> {
     let mut table = Table::new(alloc, "messages that are written");
     let Some(names) = read_names() else {
+        table.row(&[Call::answer("the names are read", false, true)])?;
         return table.told();
     };
     requests(alloc, &mut table, &names)?;
