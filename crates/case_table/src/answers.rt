@@ -9,7 +9,7 @@ pub trait Answers {
     fn answer(&mut self, table: &str, asked: &str) -> Result<String, NoMemory>;
 }
 
-/// The row of a line. A line that asks nothing is a row that doesn't hold.
+/// The row of a line; a line without ` = ` is one that doesn't hold.
 fn add_row<A: Answers>(
     answers: &mut A,
     table: &str,

@@ -134,7 +134,7 @@ pub(crate) fn asked<H: Shelf>(
     } else {
         match input_of(alloc, party, step)? {
             Some(input) => turn(alloc, shelf, &party.own, &input, 0),
-            None => Outcome::Done { reply: None },
+            None => return Ok(String::from_str(alloc, "no step")?),
         }
     };
     told_of(alloc, outcome)

@@ -27,25 +27,26 @@ fn code_of(alloc: Global, format: Format, edit: Edit) -> Result<String, CodeFaul
 
 /// The code of an edit of `edit_of`, by its row and the number of the format.
 pub(crate) fn edit_code(alloc: Global, asked: &str) -> Result<String, CodeFault> {
-    let (row, format) = asked.split_once(" in format ").unwrap_or((asked, ""));
-    let format = if format == "2" {
-        Format::Two
-    } else {
-        Format::One
-    };
-    let Some(names) = names_of_edits() else {
+    let Some((row, format)) = asked.split_once(" in format ") else {
         return Err(CodeFault::Bad);
     };
-    code_of(
-        alloc,
-        format,
-        edit_of(row.parse::<usize>().unwrap_or(9), &names),
-    )
+    let format = match format {
+        "1" => Format::One,
+        "2" => Format::Two,
+        _ => return Err(CodeFault::Bad),
+    };
+    let (Ok(row), Some(names)) = (row.parse::<usize>(), names_of_edits()) else {
+        return Err(CodeFault::Bad);
+    };
+    code_of(alloc, format, edit_of(row, &names))
 }
 
 /// The code in format 1 of an exchange of `exchange_of`, by its row.
 pub(crate) fn exchange_code(alloc: Global, asked: &str) -> Result<String, CodeFault> {
-    match exchange_of(alloc, asked.parse::<usize>().unwrap_or(9)) {
+    let Ok(row) = asked.parse::<usize>() else {
+        return Err(CodeFault::Bad);
+    };
+    match exchange_of(alloc, row) {
         Ok(edit) => code_of(alloc, Format::One, edit),
         Err(_) => Err(CodeFault::Bad),
     }

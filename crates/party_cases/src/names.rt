@@ -12,11 +12,11 @@ pub(crate) fn ident_of(text: &str) -> Option<Ident> {
     Ident::read(text.as_bytes()).ok()
 }
 
-pub(crate) fn label_of(text: &str) -> Option<Label> {
+fn label_of(text: &str) -> Option<Label> {
     Label::read(text.as_bytes()).ok()
 }
 
-pub(crate) fn key_name_of(text: &str) -> Option<KeyName> {
+fn key_name_of(text: &str) -> Option<KeyName> {
     KeyName::read(text.as_bytes()).ok()
 }
 

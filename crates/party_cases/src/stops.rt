@@ -22,7 +22,7 @@ pub(crate) fn failing_shelf(alloc: Global, row: &str) -> Result<String, NoMemory
     let (own, row) = row.split_once(" | ").unwrap_or((row, ""));
     let (history, step) = row.split_once(" | ").unwrap_or((row, ""));
     let Some(party) = party_of(own) else {
-        return Ok(told);
+        return Ok(String::from_str(alloc, "no party")?);
     };
     for calls in 0..2 {
         let shelf = standing(alloc, &party, history)?;

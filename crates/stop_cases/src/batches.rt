@@ -124,9 +124,14 @@ fn holds(alloc: Global, is_party: bool, choice: u64) -> Option<bool> {
 
 /// What is told of a batch.
 pub(crate) fn told(alloc: Global, failing: &str, choice: u64) -> Result<String, NoMemory> {
-    let told = match holds(alloc, failing == "party", choice) {
+    let holding = match failing {
+        "party" => holds(alloc, true, choice),
+        "spool" => holds(alloc, false, choice),
+        _ => None,
+    };
+    let told = match holding {
         Some(true) => "the same outbox",
         _ => "something else",
     };
-    Ok(format!(in alloc; "{told}")?)
+    Ok(String::from_str(alloc, told)?)
 }

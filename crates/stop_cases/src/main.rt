@@ -31,10 +31,14 @@ impl Answers for Program {
         let Ok(choice) = choice.parse::<u64>() else {
             return Ok(String::from_str(self.alloc, "no choice")?);
         };
-        if table == "batches whose disk fails" {
-            return batches::told(self.alloc, what, choice);
+        match table {
+            "payments whose disks fail" => stopping::told(self.alloc, true, what, choice),
+            "payments whose ledger's disk fails" => {
+                stopping::told(self.alloc, false, what, choice)
+            }
+            "batches whose disk fails" => batches::told(self.alloc, what, choice),
+            _ => Ok(String::from_str(self.alloc, "no table")?),
         }
-        stopping::told(self.alloc, table, what, choice)
     }
 }
 

@@ -43,19 +43,18 @@ fn stops(
 /// What is told of a payment over a shelf or over a ledger alone.
 pub(crate) fn told(
     alloc: Global,
-    table: &str,
+    is_shelf: bool,
     payment: &str,
     choice: u64,
 ) -> Result<String, NoMemory> {
     let Some(names) = read_names() else {
         return Err(NoMemory);
     };
-    let payment = if payment == "in" {
-        Payment::In
-    } else {
-        Payment::Out
+    let payment = match payment {
+        "in" => Payment::In,
+        "out" => Payment::Out,
+        _ => return Ok(String::from_str(alloc, "no payment")?),
     };
-    let is_shelf = table == "payments whose disks fail";
     match stops(alloc, &names, is_shelf, payment, choice) {
         Some(0..=2) if choice > 1 => Ok(format!(in alloc; "at most 2")?),
         Some(stops) => Ok(format!(in alloc; "{stops}")?),
