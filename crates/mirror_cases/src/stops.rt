@@ -48,14 +48,14 @@ fn fused(disks: Disks<TornDisk>, fails: Which, calls: u64) -> Disks<Fused<TornDi
 /// The disk behind the failure of its power, or an empty one, where it is lost.
 fn left(
     alloc: Global,
-    fused: Fused<TornDisk>,
+    failing: Fused<TornDisk>,
     is_lost: bool,
     choice: u64,
 ) -> Result<TornDisk, DiskErr> {
     if is_lost {
         return Ok(TornDisk::new(alloc, 0)?);
     }
-    let mut disk = fused.into_inner();
+    let mut disk = failing.into_inner();
     disk.power_off(choice)?;
     Ok(disk)
 }

@@ -17,20 +17,20 @@ use x_mac::mac;
 /// As many bytes as a payment has at most, and more.
 const ROOM: usize = 192;
 
-/// A value behind its tag.
-fn put_field(out: &mut Text, tag: &[u8], value: &[u8]) -> Result<(), NoMemory>
-    ensures { OnOk result (out.new ≡ out.old ++ (tag.now ++ value.now)) }
+/// A value behind the bytes in front of it.
+fn put_field(out: &mut Text, front: &[u8], value: &[u8]) -> Result<(), NoMemory>
+    ensures { OnOk result (out.new ≡ out.old ++ (front.now ++ value.now)) }
 {
-    out.push(tag)?;
+    out.push(front)?;
     out.push(value)
 }
 
-/// A count in decimal digits behind its tag.
-fn put_count(out: &mut Text, tag: &[u8], count: &Count) -> Result<(), NoMemory>
-    ensures { OnOk result (out.new ≡ out.old ++ (tag.now ++ decimal count.now)) }
+/// A count in decimal digits behind the bytes in front of it.
+fn put_count(out: &mut Text, front: &[u8], count: &Count) -> Result<(), NoMemory>
+    ensures { OnOk result (out.new ≡ out.old ++ (front.now ++ decimal count.now)) }
 {
     let mut digits = Buffer::new();
-    put_field(out, tag, digits.format(count.value()).as_bytes())
+    put_field(out, front, digits.format(count.value()).as_bytes())
 }
 
 /// The parties of a payment and its key, each behind its tag.
