@@ -1,15 +1,15 @@
 -- The formats of codes: their numbers, and what closes a text.
-use Rattle.std.proofs.Common.{◌≡◌, ℕ, ◌-◌, ◌≤◌, ◌<◌, ◌^◌, List, ◌∷◌, ◌++◌, length, take, drop, Some, Err, refl, subst, sym, ap, ◌∙◌, arith, append-nil, length-append, lit≤}
+use Rattle.std.proofs.Common.{◌≡◌, ℕ, ◌-◌, ◌≤◌, ◌<◌, ◌^◌, List, ◌∷◌, ◌++◌, length, take, drop, Result, Ok, Err, IfErr, refl, sym, ap, ◌∙◌, arith, append-nil, length-append, lit≤}
 use Rattle.std.specs.Int.{w32, from_be_bytes}
-use Rattle.std.specs.List.{slice_get}
 use Rattle.std.proofs.lemmas.List.{take-append-drop}
 use Rattle.std.proofs.lemmas.Nat.{from_be_bytes-to_be_bytes_4}
 use Rattle.x_mac.specs.Code.{edc_of}
+use Rattle.party_state.specs.declared.edit.Edit.{Edit}
 use Rattle.change_code.specs.declared.format.Format.{Format}
 use Rattle.change_code.specs.declared.format.Format.TheVariants.{One, Two}
 use Rattle.change_code.specs.declared.fault.CodeFault.{CodeFault}
 use Rattle.change_code.specs.declared.fault.CodeFault.TheVariants.{Bad, NoMemory}
-use Rattle.change_code.specs.Code.{four, number_of, closing, closed, change_text, IsNoCode, end_length, longest_end}
+use Rattle.change_code.specs.Code.{four, number_of, closing, closed, change_text, IsCode, end_length, longest_end}
 use Rattle.change_code.specs.Reading.{IsAllRead, change_form}
 use Rattle.change_code.proofs.Numbers.{same_fronts}
 
@@ -62,24 +62,17 @@ not_closed bytes text given code small small' gives is differs other closes =
 pub too_short : (bytes : List ℕ) → length bytes < 4 → (other : List ℕ) → bytes ≡ closed Two other → ⊥
 too_short bytes few other closes = omega (arith, few, ap length closes, length-append other (closing Two other), four_long (edc_of other))
 
--- the format of a code is that of its first byte
-pub same_format : (f g : Format) (first : ℕ) (bytes text : List ℕ) → first ≡ number_of f → slice_get bytes 0 ≡ Some first → bytes ≡ closed g (number_of g ∷ text) → f ≡ g
-same_format f g first bytes text is head closes = number_apart f g (cc (is, head, ap (λ (l : List ℕ). slice_get l 0) closes))
-
--- and a text of no bytes begins with no number
-pub not_empty : (f g : Format) (first : ℕ) (bytes text other : List ℕ) → first ≡ number_of f → slice_get bytes 0 ≡ Some first → bytes ≡ closed f text → length text ≡ 0 → bytes ≡ closed g (number_of g ∷ other) → ⊥
-not_empty f g first bytes text other is head closes none code =
-    let same = same_format f g first bytes other is head code in
-    let there : bytes ≡ closed f (number_of f ∷ other) = subst (λ (h : Format). bytes ≡ closed h (number_of h ∷ other)) (sym same) code in
-    let one = same_text f text (number_of f ∷ other) (sym closes ∙ there) in
+-- nor is the end of no text, which begins with no number
+pub not_empty : (format : Format) (bytes text other : List ℕ) → bytes ≡ closed format text → length text ≡ 0 → bytes ≡ closed format (number_of format ∷ other) → ⊥
+not_empty format bytes text other closes none code =
+    let one = same_text format text (number_of format ∷ other) (sym closes ∙ code) in
     omega (arith, none, ap length one)
 
--- bytes that hold no change in their own format hold none
-pub never_code : (fault : CodeFault) (f : Format) (bytes text : List ℕ) → bytes ≡ closed f (number_of f ∷ text) → IsAllRead change_form text (Err fault) → fault ≡ Bad → IsNoCode bytes
-never_code NoMemory f bytes text closes none bad = absurd (cc bad)
-never_code Bad f bytes text closes none bad = λ g edits code.
-    let whole : closed f (number_of f ∷ text) ≡ closed g (number_of g ∷ change_text edits) = sym closes ∙ code.is in
-    let numbers : number_of f ≡ number_of g = cc whole in
-    let there : bytes ≡ closed f (number_of f ∷ change_text edits) = subst (λ (h : Format). bytes ≡ closed h (number_of h ∷ change_text edits)) (sym (number_apart f g numbers)) code.is in
-    let one : number_of f ∷ text ≡ number_of f ∷ change_text edits = same_text f (number_of f ∷ text) (number_of f ∷ change_text edits) (sym closes ∙ there) in
+-- bytes whose text holds no change are the code of none
+pub never_code : (result : Result (List Edit) CodeFault) (format : Format) (bytes text : List ℕ) → bytes ≡ closed format (number_of format ∷ text) → IsAllRead change_form text result
+    → IfErr result (λ fault. fault ≡ Bad → (edits : List Edit) → IsCode format bytes edits → ⊥)
+never_code (Ok edits) format bytes text closes read = tt
+never_code (Err NoMemory) format bytes text closes read = λ bad. absurd (cc bad)
+never_code (Err Bad) format bytes text closes none = λ bad edits code.
+    let one : number_of format ∷ text ≡ number_of format ∷ change_text edits = same_text format (number_of format ∷ text) (number_of format ∷ change_text edits) (sym closes ∙ code.is) in
     none edits (code.few, code.in_range) (cc one)

@@ -1,5 +1,5 @@
 -- The code of a change (this project's profile). Numbers are most significant byte first.
-use Rattle.std.specs.Prelude.{◌≡◌, ◌≤◌, ℕ, Bool, true, false, Option, Some, None, List, [], ◌∷◌, ◌++◌, length}
+use Rattle.std.specs.Prelude.{◌≡◌, ◌≤◌, ◌-◌, ℕ, Bool, true, false, Option, Some, None, List, [], ◌∷◌, ◌++◌, length, take}
 use Rattle.std.specs.Int.{w16, w32, w64, to_be_bytes}
 use Rattle.std.specs.List.{flat_map}
 use Rattle.x_base.specs.declared.key_name.KeyName.{KeyName}
@@ -146,6 +146,10 @@ closing Two text = four (edc_of text)
 -- a text, and what stands behind it
 abbrev pub closed : Format → List ℕ → List ℕ
 closed format text = text ++ closing format text
+
+-- the number is the code that would close the bytes: in format 2, the error detection code of all of them but the last four
+abbrev pub IsClosingCode : Format → List ℕ → ℕ → Type 0
+IsClosingCode format bytes code = format ≡ Two → code ≡ edc_of (take (length bytes - 4) bytes)
 
 -- a change in a format
 abbrev pub code_of_change : Format → List Edit → List ℕ

@@ -1,7 +1,8 @@
 // Reading the code of a change.
 ghost use Rattle.std.specs.Prelude.{◌≡◌, ◌∷◌, ℕ, List, None, IfOk, IfErr, IfSome};
 ghost use Rattle.change_code.specs.declared.format.Format.{Format};
-ghost use Rattle.change_code.specs.Code.{number_of, closed, IsCode, IsNoCode};
+ghost use Rattle.party_state.specs.declared.edit.Edit.{Edit};
+ghost use Rattle.change_code.specs.Code.{number_of, closed, IsClosingCode, IsCode, IsNoCode};
 ghost use Rattle.change_code.specs.Reading.{IsDecoded, IsAllRead, edits_form, change_form};
 
 use crate::fault::CodeFault;
@@ -41,8 +42,9 @@ impl<'a> Reader<'a> {
     }
 }
 
-/// The text that is closed in this format, if the bytes are one.
-fn closed_text(format: Format, bytes: &[u8]) -> Option<&[u8]>
+/// The text that is closed in this format, if the bytes are one. The number is the code that would close it.
+fn closed_text(format: Format, bytes: &[u8], code: u32) -> Option<&[u8]>
+    requires { IsClosingCode format bytes.now code }
     ensures text { IfSome result (λ text. bytes.now ≡ closed format text.now) }
     ensures none { result ≡ None → (text : List ℕ) → bytes.now ≡ closed format text → ⊥ }
 {
@@ -50,7 +52,7 @@ fn closed_text(format: Format, bytes: &[u8]) -> Option<&[u8]>
         Format::One => Some(bytes),
         Format::Two => {
             let (text, end) = bytes.split_last_chunk::<4>()?;
-            if edc(text) == code_of(end) {
+            if code == code_of(end) {
                 Some(text)
             } else {
                 None
@@ -59,14 +61,54 @@ fn closed_text(format: Format, bytes: &[u8]) -> Option<&[u8]>
     }
 }
 
-/// The format of a code, and its text behind the number of the format.
-fn opened(bytes: &[u8]) -> Option<(Format, &[u8])>
-    ensures code { IfSome result (λ found. bytes.now ≡ closed found.0 (number_of found.0 ∷ found.1.now)) }
-    ensures none { result ≡ None → (format : Format) (text : List ℕ) → bytes.now ≡ closed format (number_of format ∷ text) → ⊥ }
+/// The text behind the number of the format, if the bytes are one that is closed in it.
+fn opened(format: Format, bytes: &[u8], code: u32) -> Option<&[u8]>
+    requires { IsClosingCode format bytes.now code }
+    ensures text { IfSome result (λ text. bytes.now ≡ closed format (number_of format ∷ text.now)) }
+    ensures none { result ≡ None → (text : List ℕ) → bytes.now ≡ closed format (number_of format ∷ text) → ⊥ }
 {
-    let format = Format::of(*bytes.first()?)?;
-    let (_, text) = closed_text(format, bytes)?.split_first()?;
-    Some((format, text))
+    let (number, text) = closed_text(format, bytes, code)?.split_first()?;
+    if *number == format.number() {
+        Some(text)
+    } else {
+        None
+    }
+}
+
+/// The change whose code in this format the bytes are. The number is, in format 2, the error detection code of all bytes but the
+/// last four. Comes with `Bad` exactly where they are no code in this format.
+pub fn decode_as(
+    alloc: Global,
+    format: Format,
+    bytes: &[u8],
+    code: u32,
+) -> Result<Change, CodeFault>
+    requires { IsClosingCode format bytes.now code }
+    ensures code { IfOk result (λ change. IsCode format bytes.now change) }
+    ensures bad { IfErr result (λ fault. fault ≡ CodeFault.Bad → (change : List Edit) → IsCode format bytes.now change → ⊥) }
+{
+    let Some(text) = opened(format, bytes, code) else {
+        return Err(CodeFault::Bad);
+    };
+    Reader::new(text).change(alloc)
+}
+
+/// The format with whose number the bytes begin.
+fn format_of(bytes: &[u8]) -> Option<Format>
+    ensures is { IfSome result (λ format. (other : Format) (change : List Edit) → IsCode other bytes.now change → format ≡ other) }
+    ensures none { result ≡ None → IsNoCode bytes.now }
+{
+    Format::of(*bytes.first()?)
+}
+
+/// The code that would close the bytes in this format.
+fn closing_code(format: Format, bytes: &[u8]) -> u32
+    ensures { IsClosingCode format bytes.now result }
+{
+    match format {
+        Format::One => 0,
+        Format::Two => edc(&bytes[..bytes.len().saturating_sub(4)]),
+    }
 }
 
 /// A change, and the format of its code.
@@ -81,9 +123,10 @@ pub fn decode(alloc: Global, bytes: &[u8]) -> Result<Coded, CodeFault>
     ensures code { IfOk result (λ coded. IsCode coded.format bytes.now coded.change) }
     ensures bad { IfErr result (λ fault. fault ≡ CodeFault.Bad → IsNoCode bytes.now) }
 {
-    let Some((format, text)) = opened(bytes) else {
+    let Some(format) = format_of(bytes) else {
         return Err(CodeFault::Bad);
     };
-    let change = Reader::new(text).change(alloc)?;
+    let code = closing_code(format, bytes);
+    let change = decode_as(alloc, format, bytes, code)?;
     Ok(Coded { format, change })
 }

@@ -19,7 +19,7 @@ mod space;
 mod writing;
 
 pub use compaction::whole_behind;
-pub use decoding::{Coded, decode};
+pub use decoding::{Coded, decode, decode_as};
 pub use edit_code::EditCode;
 pub use encoding::{MOST_EDITS, encode_behind};
 pub use fault::{CodeFault, WholeFault};

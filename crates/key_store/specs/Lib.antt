@@ -1,3 +1,4 @@
+pub mod Ahead
 pub mod Changing
 pub mod Creating
 pub mod Keeping

@@ -1,6 +1,7 @@
 //! The store of a party's state on a journal.
 #![tactic(auto)]
 
+mod batch;
 mod bodies;
 mod changing;
 mod compact;

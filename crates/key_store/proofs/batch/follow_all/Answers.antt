@@ -1,0 +1,29 @@
+use Rattle.std.proofs.Common.{List, ℕ, inr, length, arith, ap, sym, subst}
+use Rattle.key_store.specs.Store.{IsStep}
+use Rattle.key_store.proofs.Batches.{lead_more, place_more, place_within, broken}
+use Rattle.key_store.proofs.batch.follow_all.Goals as goal
+
+pub overflow_add-place-in-Ok-true : goal.overflow_add-place-in-Ok-true
+overflow_add-place-in-Ok-true c =
+    omega (
+      arith,
+      c.requires.fits,
+      ap length c.bytes-in-Ok-true.ensures,
+      place_within c.args.bodies.now c.loop-i.i c.index-bodies-i.result (omega arith) c.index-bodies-i.is c.args.gate c.loop-i.place c.loop-i.invariant.place,
+    )
+
+pub returns-in-Ok-false-clause-breaks : goal.returns-in-Ok-false-clause-breaks
+returns-in-Ok-false-clause-breaks c = inr (broken c.args.bodies.now c.loop-i.i c.index-bodies-i.result (omega arith) c.index-bodies-i.is c.args.format c.args.state.now c.loop-i.state c.args.gate c.loop-i.place
+    c.loop-i.invariant.lead c.loop-i.invariant.place
+    (λ p is. c.in-Ok-false.ensures.no c.in-Ok-false.field-0-test p (subst (λ (b : List ℕ). IsStep c.args.format b c.loop-i.state p) (sym c.bytes.ensures) is)))
+
+pub loop-i-preserved : goal.loop-i-preserved
+loop-i-preserved c = record {
+  lead = lead_more c.args.bodies.now c.loop-i.i c.index-bodies-i.result (omega arith) c.index-bodies-i.is c.args.format c.args.state.now c.loop-i.state c.next_party.new.state c.loop-i.invariant.lead
+      (subst (λ (b : List ℕ). IsStep c.args.format b c.loop-i.state c.next_party.new.state) c.bytes.ensures (c.in-Ok-true.ensures.yes c.in-Ok-true.field-0-test));
+  place = omega (
+    arith,
+    ap length c.bytes-in-Ok-true.ensures,
+    place_more c.args.bodies.now c.loop-i.i c.index-bodies-i.result (omega arith) c.index-bodies-i.is c.args.gate c.loop-i.place c.loop-i.invariant.place,
+  );
+}

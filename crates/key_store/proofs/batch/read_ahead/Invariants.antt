@@ -1,0 +1,9 @@
+use Rattle.std.proofs.Common.{◌-◌, length}
+use Rattle.key_store.proofs.Ahead.{IsUnderWay}
+use Rattle.key_store.proofs.batch.read_ahead.Given as goal
+
+abbrev pub invariant-reading : goal.invariant-reading
+invariant-reading g l = IsUnderWay g.D.Disk.told l.fn.opened l.opened l.bodies.items
+
+abbrev pub decreases-reading : goal.decreases-reading
+decreases-reading g l = 128 - length l.bodies.items
