@@ -1,0 +1,30 @@
+ghost use Rattle.std.specs.Prelude.{◌≡◌, ℕ, ◌<◌, ◌≤◌, [], length, slice_index_or};
+ghost use Rattle.x_mac.specs.Code.{edc_of};
+ghost use Rattle.edc_slices.specs.Ends.{text_before_end};
+
+use x_base::Text;
+use x_mac::edc;
+
+/// How many codes are made at once.
+pub const MOST: usize = 128;
+
+/// The error detection code of each of these bodies but for its last four bytes (of a body of less
+/// than four bytes: of no text, 0). What stands behind the codes of the bodies means nothing.
+pub fn codes_before_ends(bodies: &[Text]) -> [u32; MOST]
+    requires { length bodies.now ≤ 128 }
+    ensures { (i : ℕ) → i < length bodies.now → slice_index_or result i 0 ≡ edc_of (text_before_end (slice_index_or bodies.now i [])) }
+{
+    let mut codes = [0; MOST];
+    for (lane, body) in bodies.iter().enumerate() {
+        codes[lane] = edc(before_end(body));
+    }
+    codes
+}
+
+/// The bytes of a body but for the last four.
+fn before_end(body: &Text) -> &[u8]
+    ensures { result.now ≡ text_before_end body.now }
+{
+    let bytes = body.bytes();
+    &bytes[..bytes.len().saturating_sub(4)]
+}
