@@ -1,7 +1,7 @@
 use Rattle.std.proofs.Common.{◌≡◌, ℕ, ◌<◌, [], length, slice_index_or}
 use Rattle.x_mac.specs.Code.{edc_of}
 use Rattle.edc_slices.specs.Ends.{text_before_end}
-use Rattle.edc_slices.proofs.codes.codes_before_ends.Given as goal
+use Rattle.edc_slices.proofs.one_by_one.Given as goal
 
 abbrev pub invariant-loop-lane : goal.invariant-loop-lane
 invariant-loop-lane l = record {

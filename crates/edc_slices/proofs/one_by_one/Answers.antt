@@ -3,7 +3,7 @@ use Rattle.std.proofs.lemmas.List.{length-set}
 use Rattle.x_mac.specs.Code.{edc_of}
 use Rattle.edc_slices.specs.Ends.{text_before_end}
 use Rattle.edc_slices.proofs.Steps.{one_more}
-use Rattle.edc_slices.proofs.codes.codes_before_ends.Goals as goal
+use Rattle.edc_slices.proofs.one_by_one.Goals as goal
 
 pub loop-lane-preserved : goal.loop-lane-preserved
 loop-lane-preserved c = record {
