@@ -1,7 +1,7 @@
 -- Bits of bytes, in vectors.
 use Rattle.std.proofs.Common.{◌≡◌, ◌∙◌, inl, inr, ℕ, zero, suc, ◌+◌, ◌-◌, ◌*◌, ◌/◌, ◌%◌, ◌^◌, ◌<◌, ◌≤◌, Bool, true, false, not, cond, eqb, List, [], ◌∷◌, ◌++◌, length, map, get_or, take, drop, replicate, w8, refl, sym, ap, arith, append_assoc}
 use Rattle.std.specs.Prelude.{bit_and}
-use Rattle.std.specs.Int.{bit_at, w64, from_be_bytes}
+use Rattle.std.specs.Int.{bit_at}
 use Rattle.std.specs.List.{range_with_len, flat_map}
 use lib.Lanes.{zip2, mask_l, top}
 use Rattle.std.proofs.lemmas.Bool.{cases_order, ne_eqb}
@@ -16,7 +16,7 @@ use Rattle.std.proofs.lemmas.Nat.Bits.{and_pow, bit_at-lt}
 use Rattle.x_des.specs.Bits.{bit, bits_of, number}
 use Rattle.x_des.proofs.BitsLemmas.{bits_cat, number-bits}
 use Rattle.x_mac.specs.Code.{word_of}
-use Rattle.des_slices.specs.Slices.{lane, lane_bit}
+use Rattle.des_slices.specs.Vectors.{lane, lane_bit}
 use Rattle.edc_slices.specs.Rows.{column, entry}
 
 told : (b : Bool) → eqb (cond b 1 0) 1 ≡ b
@@ -142,11 +142,11 @@ word_of_lane rows l small =
     ∙ number_of_bytes b0 b1 b2 b3 b4 b5 b6 b7 h0 h1 h2 h3 h4 h5 h6 h7
 
 -- one row more
-pub lane_more : (rows vectors eight : List (List ℕ)) (b count k : ℕ) → b < 8 → length vectors ≡ 64 → length eight ≡ 8 → lane k eight ≡ bits_of 8 (entry rows b k)
+pub row_more : (rows vectors eight : List (List ℕ)) (b count k : ℕ) → b < 8 → length vectors ≡ 64 → length eight ≡ 8 → lane k eight ≡ bits_of 8 (entry rows b k)
     → lane k (take (8 * b) vectors) ≡ flat_map (bits_of 8) (map (λ i. entry rows i k) (range_with_len 0 b))
     → lane k (take (8 * (b + 1)) (put_mid (8 * b) count vectors eight)) ≡ flat_map (bits_of 8) (map (λ i. entry rows i k) (range_with_len 0 (b + 1)))
 unfolding lane
-lane_more rows vectors eight b count k within size long new before =
+row_more rows vectors eight b count k within size long new before =
     let e = λ (i : ℕ). entry rows i k in
     ap (map (lane_bit k)) (take-put_mid (8 * b) count vectors eight (8 * (b + 1)) (omega (arith, long)) (omega (arith, size)))
     ∙ map-append (lane_bit k) (take (8 * b) vectors) eight

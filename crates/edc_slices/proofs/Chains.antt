@@ -1,5 +1,5 @@
 -- Chains side by side, a block a step.
-use Rattle.std.proofs.Common.{◌≡◌, ◌≢◌, ◌∙◌, ℕ, ◌+◌, ◌*◌, ◌/◌, ◌^◌, ◌<◌, ◌≤◌, List, [], length, map, get_or, set, replicate, refl, sym, ap, subst, add-one, arith, inl, inr}
+use Rattle.std.proofs.Common.{◌≡◌, ◌≢◌, ◌∙◌, ℕ, ◌+◌, ◌/◌, ◌^◌, ◌<◌, ◌≤◌, List, [], length, map, get_or, set, replicate, refl, sym, ap, subst, add-one, arith, inl, inr}
 use Rattle.std.specs.Prelude.{bit_xor}
 use lib.Lanes.{zip2}
 use Rattle.std.proofs.lemmas.Simd.{get_or-zip2, length-zip2}
@@ -10,7 +10,8 @@ use borrow.Author.Count.{below_more}
 use Rattle.x_des.specs.Bits.{number}
 use Rattle.x_des.specs.Des.{enciphered}
 use Rattle.x_mac.specs.Code.{chained, edc_of, word_of}
-use Rattle.des_slices.specs.Slices.{in_lanes, lane, numbers}
+use Rattle.des_slices.specs.Slices.{in_lanes, numbers}
+use Rattle.des_slices.specs.Vectors.{lane}
 use Rattle.edc_slices.specs.Ends.{text_before_end}
 use Rattle.edc_slices.specs.Rows.{HaveChains, HaveCodes, block_at_step, block_count, chain_after, column, edc_key}
 use Rattle.edc_slices.proofs.Blocks.{code_is}

@@ -38,16 +38,6 @@ put_elsewhere rows b k lane l byte within other =
       | inr n ↦ ap (λ r. get_or r l 0) (get_or-set_other rows b k row [] n.1)
     ]
 
--- one lane more
-pub lane_more : (block_of : ℕ → List ℕ) (rows rows' : List (List ℕ)) (lane : ℕ) (bytes : List ℕ) → bytes ≡ block_of lane
-    → ((b : ℕ) → b < 8 → entry rows' b lane ≡ get_or bytes b 0) → ((b l : ℕ) → l ≢ lane → entry rows' b l ≡ entry rows b l)
-    → ((l : ℕ) → l < lane → (b : ℕ) → b < 8 → entry rows b l ≡ get_or (block_of l) b 0)
-    → (l : ℕ) → l < lane + 1 → (b : ℕ) → b < 8 → entry rows' b l ≡ get_or (block_of l) b 0
-lane_more block_of rows rows' lane bytes e put others before =
-    below_more (λ l. (b : ℕ) → b < 8 → entry rows' b l ≡ get_or (block_of l) b 0) lane
-    (λ l h b k. others b l (omega arith) ∙ before l h b k)
-    (λ b k. put b k ∙ ap (λ xs. get_or xs b 0) e)
-
 map_range : (f g : ℕ → ℕ) (a n : ℕ) → ((b : ℕ) → b < a + n → f b ≡ g b) → map f (range_with_len a n) ≡ map g (range_with_len a n)
 map_range f g a zero h = refl
 map_range f g a (suc n) h =

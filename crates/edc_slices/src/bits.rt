@@ -2,7 +2,7 @@
 ghost use Rattle.std.specs.Prelude.{◌≡◌, ℕ, ◌<◌, length, slice_index_or};
 ghost use Rattle.x_des.specs.Bits.{bit, bits_of, number};
 ghost use Rattle.x_mac.specs.Code.{word_of};
-ghost use Rattle.des_slices.specs.Slices.{lane, lane_bit};
+ghost use Rattle.des_slices.specs.Vectors.{lane, lane_bit};
 ghost use Rattle.edc_slices.specs.Rows.{column};
 
 use des_slices::LANES;

@@ -19,7 +19,7 @@ use x_mac::edc;
 pub const MOST: usize = LANES;
 
 /// From so many bodies on, 128 chains side by side take less time than theirs one by one.
-const FEWEST_SIDE_BY_SIDE: usize = 24;
+const FEWEST_SIDE_BY_SIDE: usize = 40;
 
 /// The error detection code of each of these bodies but for its last four bytes (of a body of less
 /// than four bytes: of no text, 0). What stands behind the codes of the bodies means nothing.

@@ -3,9 +3,9 @@ use Rattle.std.specs.List.{flat_map, range_with_len}
 use Rattle.std.proofs.lemmas.List.{take_all, length-take, length-drop}
 use borrow.Author.Count.{below_more}
 use Rattle.x_des.specs.Bits.{bits_of, number}
-use Rattle.des_slices.specs.Slices.{lane}
+use Rattle.des_slices.specs.Vectors.{lane}
 use Rattle.edc_slices.specs.Rows.{entry}
-use Rattle.edc_slices.proofs.BitVectors.{lane_more, length-put, word_of_lane}
+use Rattle.edc_slices.proofs.BitVectors.{row_more, length-put, word_of_lane}
 use Rattle.edc_slices.proofs.bits.sliced.Goals as goal
 
 pub loop-b-init : goal.loop-b-init
@@ -24,7 +24,7 @@ loop-b-preserved c =
     let long : length c.copy_from_slice.new.self ≡ 8 = c.copy_from_slice.ensures.len ∙ simp (length-take, length-drop) (omega (arith, size)) in record {
       size = length-put c.loop-b.vectors c.copy_from_slice.new.self (8 * c.loop-b.b) _ (omega (arith, size)) (omega arith) long ∙ size;
       bytes = λ b k h. below_more (λ i. entry rows i k < 256) c.loop-b.b (λ i j. before.bytes i k j) (c.sliced_row.ensures.bytes k) b h;
-      done = λ k h. lane_more rows c.loop-b.vectors c.copy_from_slice.new.self c.loop-b.b _ k (omega arith) size long
+      done = λ k h. row_more rows c.loop-b.vectors c.copy_from_slice.new.self c.loop-b.b _ k (omega arith) size long
           (ap (lane k) c.copy_from_slice.ensures.after ∙ c.sliced_row.ensures.bits k h) (before.done k h);
     }
 

@@ -1,7 +1,7 @@
 use Rattle.std.proofs.Common.{◌≡◌, ◌<◌, ◌*◌, ℕ, length, map, take}
 use Rattle.std.specs.List.{flat_map, range_with_len}
 use Rattle.x_des.specs.Bits.{bits_of}
-use Rattle.des_slices.specs.Slices.{lane}
+use Rattle.des_slices.specs.Vectors.{lane}
 use Rattle.edc_slices.specs.Rows.{entry}
 use Rattle.edc_slices.proofs.bits.sliced.Given as goal
 

@@ -1,11 +1,11 @@
-use Rattle.std.proofs.Common.{◌≡◌, ◌≤◌, refl, sym, ap, subst, ◌∙◌, ◌+◌, arith, ℕ, List, length, map}
+use Rattle.std.proofs.Common.{◌≡◌, refl, sym, ap, subst, ◌∙◌, ◌+◌, arith, ℕ, List, length, map}
 use Rattle.std.specs.Prelude.{bit_xor}
 use lib.Lanes.{zip2}
 use Rattle.std.proofs.lemmas.List.{length-replicate}
 use Rattle.x_des.specs.Bits.{bits_of, number, pick}
 use Rattle.x_des.specs.Des.{enciphered, keys_from, round_keys}
 use Rattle.des_slices.specs.Slices.{numbers}
-use Rattle.edc_slices.specs.Rows.{HaveChains, HaveCodes, edc_key}
+use Rattle.edc_slices.specs.Rows.{HaveChains, edc_key}
 use Rattle.edc_slices.proofs.Chains.{chains_begin, chains_more, codes_begin, length-stepped, stepped}
 use Rattle.edc_slices.proofs.chain.side_by_side.Goals as goal
 
