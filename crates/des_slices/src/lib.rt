@@ -1,0 +1,10 @@
+//! DES of 128 blocks at once, in the bits of vectors.
+#![tactic(auto)]
+
+mod boxes;
+mod key;
+mod round;
+mod slices;
+
+pub use key::SlicedKey;
+pub use slices::{LANES, Slices};
