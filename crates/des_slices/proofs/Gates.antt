@@ -11,13 +11,8 @@ use Rattle.std.proofs.lemmas.Bool.{eqb-true, agree_below, agree_below_at}
 use Rattle.x_des.specs.Bits.{bit, bits_of, number, pick}
 use Rattle.x_des.specs.Des.{substituted}
 use Rattle.x_des.proofs.BitsLemmas.{bits-number_at, number-lt}
-use Rattle.des_slices.specs.Slices.{lane, lane_bit}
+use Rattle.des_slices.specs.Vectors.{IsVector, lane, lane_bit}
 use Rattle.std.proofs.Math.Facts.{Fits-xor, Fits-and, Fits-or}
-
--- a vector of two words
-pub record IsVector (v : List ℕ) : Type 0 where
-  pub two : length v ≡ 2
-  pub fits : Each1 (Fits w64) v
 
 -- lane l shows bit s of the table t
 pub record Shows (l s t : ℕ) (v : List ℕ) : Type 0 where
@@ -154,12 +149,12 @@ length-substituted box bs = refl
 shown_bit : {l s t : ℕ} {v : List ℕ} → Shows l s t v → lane_bit l v ≡ bit t s
 shown_bit p = ap (λ n. eqb n 1) p.shown
 
-pub outputs : (box : List ℕ) (t u v w l : ℕ) (a b c d e f g h i j : List ℕ) → tables_agree box t u v w ≡ true → Inputs l a b c d e f
+four_shown : (box : List ℕ) (t u v w l : ℕ) (a b c d e f g h i j : List ℕ) → tables_agree box t u v w ≡ true
     → Shows l (six_of l (a ∷ b ∷ c ∷ d ∷ e ∷ f ∷ [])) t g → Shows l (six_of l (a ∷ b ∷ c ∷ d ∷ e ∷ f ∷ [])) u h
     → Shows l (six_of l (a ∷ b ∷ c ∷ d ∷ e ∷ f ∷ [])) v i → Shows l (six_of l (a ∷ b ∷ c ∷ d ∷ e ∷ f ∷ [])) w j
     → lane l (g ∷ h ∷ i ∷ j ∷ []) ≡ substituted box (lane l (a ∷ b ∷ c ∷ d ∷ e ∷ f ∷ []))
 unfolding lane
-outputs box t u v w l a b c d e f g h i j test given p q r x =
+four_shown box t u v w l a b c d e f g h i j test p q r x =
     let s = six_of l (a ∷ b ∷ c ∷ d ∷ e ∷ f ∷ []) in
     ap (λ y. y ∷ lane_bit l h ∷ lane_bit l i ∷ lane_bit l j ∷ []) (shown_bit p)
     ∙ ap (λ y. bit t s ∷ y ∷ lane_bit l i ∷ lane_bit l j ∷ []) (shown_bit q)
@@ -168,3 +163,12 @@ outputs box t u v w l a b c d e f g h i j test given p q r x =
     ∙ four_bits (bit t s) (bit u s) (bit v s) (bit w s) (substituted box (bits_of 6 s)) (length-substituted box (bits_of 6 s))
     (eqb-true _ _ (agree_below_at (λ s. eqb (number (bit t s ∷ bit u s ∷ bit v s ∷ bit w s ∷ [])) (number (substituted box (bits_of 6 s)))) (λ n. true) 64 s test p.six))
     ∙ ap (substituted box) (bits_of_six l a b c d e f)
+
+pub outputs : (box : List ℕ) (t u v w : ℕ) (a b c d e f g h i j : List ℕ) → tables_agree box t u v w ≡ true
+    → ((l : ℕ) → l < 128 → Shows l (six_of l (a ∷ b ∷ c ∷ d ∷ e ∷ f ∷ [])) t g × Shows l (six_of l (a ∷ b ∷ c ∷ d ∷ e ∷ f ∷ [])) u h
+        × Shows l (six_of l (a ∷ b ∷ c ∷ d ∷ e ∷ f ∷ [])) v i × Shows l (six_of l (a ∷ b ∷ c ∷ d ∷ e ∷ f ∷ [])) w j)
+    → ((l : ℕ) → l < 128 → lane l (g ∷ h ∷ i ∷ j ∷ []) ≡ substituted box (lane l (a ∷ b ∷ c ∷ d ∷ e ∷ f ∷ []))) × Each1 IsVector (g ∷ h ∷ i ∷ j ∷ [])
+outputs box t u v w a b c d e f g h i j test shown =
+    let first = shown 0 (omega arith) in
+    (λ l p. let s = shown l p in four_shown box t u v w l a b c d e f g h i j test s.0 s.1 s.2 s.3,
+    (first.0.vector, (first.1.vector, (first.2.vector, (first.3.vector, tt)))))

@@ -3,14 +3,16 @@
 ghost use Rattle.std.specs.Prelude.{◌≡◌, ◌<◌, ℕ, [], ◌∷◌};
 ghost use Rattle.x_des.specs.Des.{substituted};
 ghost use Rattle.x_des.specs.Tables.{s1, s2, s3, s4, s5, s6, s7, s8};
-ghost use Rattle.des_slices.specs.Slices.{lane};
+ghost use Rattle.des_slices.specs.Vectors.{AreVectors, lane, words_of};
 
+use crate::vector::Vector;
 use std::simd::u64x2;
 
 /// S1.
 #[inline(always)]
-pub fn box_1(a: u64x2, b: u64x2, c: u64x2, d: u64x2, e: u64x2, f: u64x2) -> [u64x2; 4]
-    ensures { (l : ℕ) → l < 128 → lane l result ≡ substituted s1 (lane l (a ∷ b ∷ c ∷ d ∷ e ∷ f ∷ [])) }
+pub fn box_1(a: u64x2, b: u64x2, c: u64x2, d: u64x2, e: u64x2, f: u64x2) -> [Vector; 4]
+    ensures lanes { (l : ℕ) → l < 128 → lane l (words_of result) ≡ substituted s1 (lane l (a ∷ b ∷ c ∷ d ∷ e ∷ f ∷ [])) }
+    ensures vectors { AreVectors result }
 {
     let g1 = c | a;
     let g2 = g1 & d;
@@ -69,13 +71,19 @@ pub fn box_1(a: u64x2, b: u64x2, c: u64x2, d: u64x2, e: u64x2, f: u64x2) -> [u64
     let g55 = g54 | g32;
     let g56 = g55 & !b;
     let g57 = g39 ^ g56;
-    [!g30, !g57, !g47, g53]
+    [
+        Vector { words: !g30 },
+        Vector { words: !g57 },
+        Vector { words: !g47 },
+        Vector { words: g53 },
+    ]
 }
 
 /// S2.
 #[inline(always)]
-pub fn box_2(a: u64x2, b: u64x2, c: u64x2, d: u64x2, e: u64x2, f: u64x2) -> [u64x2; 4]
-    ensures { (l : ℕ) → l < 128 → lane l result ≡ substituted s2 (lane l (a ∷ b ∷ c ∷ d ∷ e ∷ f ∷ [])) }
+pub fn box_2(a: u64x2, b: u64x2, c: u64x2, d: u64x2, e: u64x2, f: u64x2) -> [Vector; 4]
+    ensures lanes { (l : ℕ) → l < 128 → lane l (words_of result) ≡ substituted s2 (lane l (a ∷ b ∷ c ∷ d ∷ e ∷ f ∷ [])) }
+    ensures vectors { AreVectors result }
 {
     let g1 = e | a;
     let g2 = b ^ a;
@@ -128,13 +136,19 @@ pub fn box_2(a: u64x2, b: u64x2, c: u64x2, d: u64x2, e: u64x2, f: u64x2) -> [u64
     let g49 = g47 | g48;
     let g50 = g49 & !c;
     let g51 = g46 ^ g50;
-    [!g27, !g44, !g51, !g37]
+    [
+        Vector { words: !g27 },
+        Vector { words: !g44 },
+        Vector { words: !g51 },
+        Vector { words: !g37 },
+    ]
 }
 
 /// S3.
 #[inline(always)]
-pub fn box_3(a: u64x2, b: u64x2, c: u64x2, d: u64x2, e: u64x2, f: u64x2) -> [u64x2; 4]
-    ensures { (l : ℕ) → l < 128 → lane l result ≡ substituted s3 (lane l (a ∷ b ∷ c ∷ d ∷ e ∷ f ∷ [])) }
+pub fn box_3(a: u64x2, b: u64x2, c: u64x2, d: u64x2, e: u64x2, f: u64x2) -> [Vector; 4]
+    ensures lanes { (l : ℕ) → l < 128 → lane l (words_of result) ≡ substituted s3 (lane l (a ∷ b ∷ c ∷ d ∷ e ∷ f ∷ [])) }
+    ensures vectors { AreVectors result }
 {
     let g1 = d & a;
     let g2 = f ^ d;
@@ -192,13 +206,19 @@ pub fn box_3(a: u64x2, b: u64x2, c: u64x2, d: u64x2, e: u64x2, f: u64x2) -> [u64
     let g54 = g50 ^ g53;
     let g55 = e | g54;
     let g56 = g48 ^ g55;
-    [!g37, g45, !g56, g16]
+    [
+        Vector { words: !g37 },
+        Vector { words: g45 },
+        Vector { words: !g56 },
+        Vector { words: g16 },
+    ]
 }
 
 /// S4.
 #[inline(always)]
-pub fn box_4(a: u64x2, b: u64x2, c: u64x2, d: u64x2, e: u64x2, f: u64x2) -> [u64x2; 4]
-    ensures { (l : ℕ) → l < 128 → lane l result ≡ substituted s4 (lane l (a ∷ b ∷ c ∷ d ∷ e ∷ f ∷ [])) }
+pub fn box_4(a: u64x2, b: u64x2, c: u64x2, d: u64x2, e: u64x2, f: u64x2) -> [Vector; 4]
+    ensures lanes { (l : ℕ) → l < 128 → lane l (words_of result) ≡ substituted s4 (lane l (a ∷ b ∷ c ∷ d ∷ e ∷ f ∷ [])) }
+    ensures vectors { AreVectors result }
 {
     let g1 = d ^ c;
     let g2 = g1 ^ a;
@@ -242,13 +262,19 @@ pub fn box_4(a: u64x2, b: u64x2, c: u64x2, d: u64x2, e: u64x2, f: u64x2) -> [u64
     let g40 = g32 ^ g39;
     let g41 = g40 ^ g38;
     let g42 = g41 ^ f;
-    [g40, !g42, !g24, !g25]
+    [
+        Vector { words: g40 },
+        Vector { words: !g42 },
+        Vector { words: !g24 },
+        Vector { words: !g25 },
+    ]
 }
 
 /// S5.
 #[inline(always)]
-pub fn box_5(a: u64x2, b: u64x2, c: u64x2, d: u64x2, e: u64x2, f: u64x2) -> [u64x2; 4]
-    ensures { (l : ℕ) → l < 128 → lane l result ≡ substituted s5 (lane l (a ∷ b ∷ c ∷ d ∷ e ∷ f ∷ [])) }
+pub fn box_5(a: u64x2, b: u64x2, c: u64x2, d: u64x2, e: u64x2, f: u64x2) -> [Vector; 4]
+    ensures lanes { (l : ℕ) → l < 128 → lane l (words_of result) ≡ substituted s5 (lane l (a ∷ b ∷ c ∷ d ∷ e ∷ f ∷ [])) }
+    ensures vectors { AreVectors result }
 {
     let g1 = f ^ a;
     let g2 = c ^ b;
@@ -304,13 +330,19 @@ pub fn box_5(a: u64x2, b: u64x2, c: u64x2, d: u64x2, e: u64x2, f: u64x2) -> [u64
     let g52 = g49 ^ g51;
     let g53 = d | g52;
     let g54 = g35 ^ g53;
-    [g36, g17, !g54, g47]
+    [
+        Vector { words: g36 },
+        Vector { words: g17 },
+        Vector { words: !g54 },
+        Vector { words: g47 },
+    ]
 }
 
 /// S6.
 #[inline(always)]
-pub fn box_6(a: u64x2, b: u64x2, c: u64x2, d: u64x2, e: u64x2, f: u64x2) -> [u64x2; 4]
-    ensures { (l : ℕ) → l < 128 → lane l result ≡ substituted s6 (lane l (a ∷ b ∷ c ∷ d ∷ e ∷ f ∷ [])) }
+pub fn box_6(a: u64x2, b: u64x2, c: u64x2, d: u64x2, e: u64x2, f: u64x2) -> [Vector; 4]
+    ensures lanes { (l : ℕ) → l < 128 → lane l (words_of result) ≡ substituted s6 (lane l (a ∷ b ∷ c ∷ d ∷ e ∷ f ∷ [])) }
+    ensures vectors { AreVectors result }
 {
     let g1 = f ^ a;
     let g2 = b ^ a;
@@ -370,13 +402,19 @@ pub fn box_6(a: u64x2, b: u64x2, c: u64x2, d: u64x2, e: u64x2, f: u64x2) -> [u64
     let g56 = g52 ^ g55;
     let g57 = g56 & !d;
     let g58 = g28 ^ g57;
-    [!g58, !g51, g45, g49]
+    [
+        Vector { words: !g58 },
+        Vector { words: !g51 },
+        Vector { words: g45 },
+        Vector { words: g49 },
+    ]
 }
 
 /// S7.
 #[inline(always)]
-pub fn box_7(a: u64x2, b: u64x2, c: u64x2, d: u64x2, e: u64x2, f: u64x2) -> [u64x2; 4]
-    ensures { (l : ℕ) → l < 128 → lane l result ≡ substituted s7 (lane l (a ∷ b ∷ c ∷ d ∷ e ∷ f ∷ [])) }
+pub fn box_7(a: u64x2, b: u64x2, c: u64x2, d: u64x2, e: u64x2, f: u64x2) -> [Vector; 4]
+    ensures lanes { (l : ℕ) → l < 128 → lane l (words_of result) ≡ substituted s7 (lane l (a ∷ b ∷ c ∷ d ∷ e ∷ f ∷ [])) }
+    ensures vectors { AreVectors result }
 {
     let g1 = c | b;
     let g2 = d ^ a;
@@ -432,13 +470,19 @@ pub fn box_7(a: u64x2, b: u64x2, c: u64x2, d: u64x2, e: u64x2, f: u64x2) -> [u64
     let g52 = g49 ^ g51;
     let g53 = !f & g52;
     let g54 = g48 ^ g53;
-    [g45, !g33, g54, g18]
+    [
+        Vector { words: g45 },
+        Vector { words: !g33 },
+        Vector { words: g54 },
+        Vector { words: g18 },
+    ]
 }
 
 /// S8.
 #[inline(always)]
-pub fn box_8(a: u64x2, b: u64x2, c: u64x2, d: u64x2, e: u64x2, f: u64x2) -> [u64x2; 4]
-    ensures { (l : ℕ) → l < 128 → lane l result ≡ substituted s8 (lane l (a ∷ b ∷ c ∷ d ∷ e ∷ f ∷ [])) }
+pub fn box_8(a: u64x2, b: u64x2, c: u64x2, d: u64x2, e: u64x2, f: u64x2) -> [Vector; 4]
+    ensures lanes { (l : ℕ) → l < 128 → lane l (words_of result) ≡ substituted s8 (lane l (a ∷ b ∷ c ∷ d ∷ e ∷ f ∷ [])) }
+    ensures vectors { AreVectors result }
 {
     let g1 = e ^ b;
     let g2 = d & !b;
@@ -494,5 +538,10 @@ pub fn box_8(a: u64x2, b: u64x2, c: u64x2, d: u64x2, e: u64x2, f: u64x2) -> [u64
     let g52 = g48 ^ g51;
     let g53 = !b & g52;
     let g54 = g47 ^ g53;
-    [!g32, !g17, g54, !g44]
+    [
+        Vector { words: !g32 },
+        Vector { words: !g17 },
+        Vector { words: g54 },
+        Vector { words: !g44 },
+    ]
 }

@@ -5,6 +5,7 @@ mod boxes;
 mod key;
 mod round;
 mod slices;
+mod vector;
 
 pub use key::SlicedKey;
 pub use slices::{LANES, Slices};

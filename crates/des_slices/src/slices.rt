@@ -1,10 +1,14 @@
-ghost use Rattle.std.specs.Prelude.{◌≡◌, ◌<◌, ◌/◌, ◌^◌, bit_xor, map, replicate, slice_index_or};
+ghost use Rattle.std.specs.Prelude.{◌≡◌, ◌<◌, ◌/◌, ◌^◌, ℕ, bit_xor, drop, take, map, replicate, slice_index_or};
 ghost use Rattle.std.specs.Simd.Lanes.{zip2};
+ghost use Rattle.x_des.specs.Bits.{exclusive_or, pick};
 ghost use Rattle.x_des.specs.Des.{enciphered};
+ghost use Rattle.x_des.specs.Tables.{ip};
 ghost use Rattle.des_slices.specs.Slices.{numbers};
+ghost use Rattle.des_slices.specs.Vectors.{AreVectors, lane, words_of};
 
 use crate::key::SlicedKey;
 use crate::round::round;
+use crate::vector::{Vector, all_checked};
 use std::marker::Model;
 use std::simd::u64x2;
 
@@ -20,17 +24,19 @@ const LEFT_PLACES: [usize; 32] = [
 /// behind IP of FIPS 46. Contracts see them as the list of the blocks.
 #[derive(Drop)]
 pub struct Slices {
-    left: [u64x2; 32],
-    right: [u64x2; 32],
+    left: [Vector; 32],
+    right: [Vector; 32],
 }
 
 impl Model for Slices {
     ghost use Rattle.std.specs.Prelude.{ℕ, List};
-    ghost use Rattle.des_slices.specs.Slices.{blocks_of};
+    ghost use Rattle.des_slices.specs.Slices.{HasVectors, blocks_of};
 
     ghost Value = { List ℕ };
 
     ghost view = { blocks_of };
+
+    ghost invariant = { HasVectors };
 }
 
 impl Slices {
@@ -38,9 +44,10 @@ impl Slices {
     pub fn zeros() -> Slices
         ensures { result ≡ replicate 128 0 }
     {
+        let zero = Vector { words: u64x2::splat(0) };
         Slices {
-            left: [u64x2::splat(0); 32],
-            right: [u64x2::splat(0); 32],
+            left: [zero; 32],
+            right: [zero; 32],
         }
     }
 
@@ -49,74 +56,9 @@ impl Slices {
     pub fn xor(&mut self, bits: &[u64x2; 64])
         ensures { self.new ≡ zip2 bit_xor self.old (numbers bits.now) }
     {
-        self.left = [
-            self.left[0] ^ bits[57],
-            self.left[1] ^ bits[49],
-            self.left[2] ^ bits[41],
-            self.left[3] ^ bits[33],
-            self.left[4] ^ bits[25],
-            self.left[5] ^ bits[17],
-            self.left[6] ^ bits[9],
-            self.left[7] ^ bits[1],
-            self.left[8] ^ bits[59],
-            self.left[9] ^ bits[51],
-            self.left[10] ^ bits[43],
-            self.left[11] ^ bits[35],
-            self.left[12] ^ bits[27],
-            self.left[13] ^ bits[19],
-            self.left[14] ^ bits[11],
-            self.left[15] ^ bits[3],
-            self.left[16] ^ bits[61],
-            self.left[17] ^ bits[53],
-            self.left[18] ^ bits[45],
-            self.left[19] ^ bits[37],
-            self.left[20] ^ bits[29],
-            self.left[21] ^ bits[21],
-            self.left[22] ^ bits[13],
-            self.left[23] ^ bits[5],
-            self.left[24] ^ bits[63],
-            self.left[25] ^ bits[55],
-            self.left[26] ^ bits[47],
-            self.left[27] ^ bits[39],
-            self.left[28] ^ bits[31],
-            self.left[29] ^ bits[23],
-            self.left[30] ^ bits[15],
-            self.left[31] ^ bits[7],
-        ];
-        self.right = [
-            self.right[0] ^ bits[56],
-            self.right[1] ^ bits[48],
-            self.right[2] ^ bits[40],
-            self.right[3] ^ bits[32],
-            self.right[4] ^ bits[24],
-            self.right[5] ^ bits[16],
-            self.right[6] ^ bits[8],
-            self.right[7] ^ bits[0],
-            self.right[8] ^ bits[58],
-            self.right[9] ^ bits[50],
-            self.right[10] ^ bits[42],
-            self.right[11] ^ bits[34],
-            self.right[12] ^ bits[26],
-            self.right[13] ^ bits[18],
-            self.right[14] ^ bits[10],
-            self.right[15] ^ bits[2],
-            self.right[16] ^ bits[60],
-            self.right[17] ^ bits[52],
-            self.right[18] ^ bits[44],
-            self.right[19] ^ bits[36],
-            self.right[20] ^ bits[28],
-            self.right[21] ^ bits[20],
-            self.right[22] ^ bits[12],
-            self.right[23] ^ bits[4],
-            self.right[24] ^ bits[62],
-            self.right[25] ^ bits[54],
-            self.right[26] ^ bits[46],
-            self.right[27] ^ bits[38],
-            self.right[28] ^ bits[30],
-            self.right[29] ^ bits[22],
-            self.right[30] ^ bits[14],
-            self.right[31] ^ bits[6],
-        ];
+        let bits = all_checked(bits);
+        self.left = xor_left(&self.left, &bits);
+        self.right = xor_right(&self.right, &bits);
     }
 
     /// Encrypts each block under the key.
@@ -126,8 +68,8 @@ impl Slices {
         let mut left = self.left;
         let mut right = self.right;
         for i in 0..8 {
-            left = round(&left, &right, &key.masks[2 * i]);
-            right = round(&right, &left, &key.masks[2 * i + 1]);
+            round(&mut left, &right, &key.rounds[2 * i].bits);
+            round(&mut right, &left, &key.rounds[2 * i + 1].bits);
         }
         self.left = right;
         self.right = left;
@@ -141,8 +83,94 @@ impl Slices {
         let mut half = 0;
         for place in LEFT_PLACES {
             let vector = if place <= 32 { self.left[place - 1] } else { self.right[place - 33] };
-            half = half << 1 | (vector.to_array()[lane / 64] >> (lane % 64) & 1) as u32;
+            half = half << 1 | (vector.words.to_array()[lane / 64] >> (lane % 64) & 1) as u32;
         }
         half
     }
+}
+
+/// The exclusive or of a left half with that which IP makes of 64 bits.
+fn xor_left(half: &[Vector; 32], bits: &[Vector; 64]) -> [Vector; 32]
+    requires half { AreVectors half.now }
+    requires bits { AreVectors bits.now }
+    ensures lanes { (l : ℕ) → l < 128 → lane l (words_of result) ≡ exclusive_or (lane l (words_of half.now)) (take 32 (pick ip (lane l (words_of bits.now)))) }
+    ensures vectors { AreVectors result }
+{
+    [
+        Vector { words: half[0].words ^ bits[57].words },
+        Vector { words: half[1].words ^ bits[49].words },
+        Vector { words: half[2].words ^ bits[41].words },
+        Vector { words: half[3].words ^ bits[33].words },
+        Vector { words: half[4].words ^ bits[25].words },
+        Vector { words: half[5].words ^ bits[17].words },
+        Vector { words: half[6].words ^ bits[9].words },
+        Vector { words: half[7].words ^ bits[1].words },
+        Vector { words: half[8].words ^ bits[59].words },
+        Vector { words: half[9].words ^ bits[51].words },
+        Vector { words: half[10].words ^ bits[43].words },
+        Vector { words: half[11].words ^ bits[35].words },
+        Vector { words: half[12].words ^ bits[27].words },
+        Vector { words: half[13].words ^ bits[19].words },
+        Vector { words: half[14].words ^ bits[11].words },
+        Vector { words: half[15].words ^ bits[3].words },
+        Vector { words: half[16].words ^ bits[61].words },
+        Vector { words: half[17].words ^ bits[53].words },
+        Vector { words: half[18].words ^ bits[45].words },
+        Vector { words: half[19].words ^ bits[37].words },
+        Vector { words: half[20].words ^ bits[29].words },
+        Vector { words: half[21].words ^ bits[21].words },
+        Vector { words: half[22].words ^ bits[13].words },
+        Vector { words: half[23].words ^ bits[5].words },
+        Vector { words: half[24].words ^ bits[63].words },
+        Vector { words: half[25].words ^ bits[55].words },
+        Vector { words: half[26].words ^ bits[47].words },
+        Vector { words: half[27].words ^ bits[39].words },
+        Vector { words: half[28].words ^ bits[31].words },
+        Vector { words: half[29].words ^ bits[23].words },
+        Vector { words: half[30].words ^ bits[15].words },
+        Vector { words: half[31].words ^ bits[7].words },
+    ]
+}
+
+/// The exclusive or of a right half with that which IP makes of 64 bits.
+fn xor_right(half: &[Vector; 32], bits: &[Vector; 64]) -> [Vector; 32]
+    requires half { AreVectors half.now }
+    requires bits { AreVectors bits.now }
+    ensures lanes { (l : ℕ) → l < 128 → lane l (words_of result) ≡ exclusive_or (lane l (words_of half.now)) (drop 32 (pick ip (lane l (words_of bits.now)))) }
+    ensures vectors { AreVectors result }
+{
+    [
+        Vector { words: half[0].words ^ bits[56].words },
+        Vector { words: half[1].words ^ bits[48].words },
+        Vector { words: half[2].words ^ bits[40].words },
+        Vector { words: half[3].words ^ bits[32].words },
+        Vector { words: half[4].words ^ bits[24].words },
+        Vector { words: half[5].words ^ bits[16].words },
+        Vector { words: half[6].words ^ bits[8].words },
+        Vector { words: half[7].words ^ bits[0].words },
+        Vector { words: half[8].words ^ bits[58].words },
+        Vector { words: half[9].words ^ bits[50].words },
+        Vector { words: half[10].words ^ bits[42].words },
+        Vector { words: half[11].words ^ bits[34].words },
+        Vector { words: half[12].words ^ bits[26].words },
+        Vector { words: half[13].words ^ bits[18].words },
+        Vector { words: half[14].words ^ bits[10].words },
+        Vector { words: half[15].words ^ bits[2].words },
+        Vector { words: half[16].words ^ bits[60].words },
+        Vector { words: half[17].words ^ bits[52].words },
+        Vector { words: half[18].words ^ bits[44].words },
+        Vector { words: half[19].words ^ bits[36].words },
+        Vector { words: half[20].words ^ bits[28].words },
+        Vector { words: half[21].words ^ bits[20].words },
+        Vector { words: half[22].words ^ bits[12].words },
+        Vector { words: half[23].words ^ bits[4].words },
+        Vector { words: half[24].words ^ bits[62].words },
+        Vector { words: half[25].words ^ bits[54].words },
+        Vector { words: half[26].words ^ bits[46].words },
+        Vector { words: half[27].words ^ bits[38].words },
+        Vector { words: half[28].words ^ bits[30].words },
+        Vector { words: half[29].words ^ bits[22].words },
+        Vector { words: half[30].words ^ bits[14].words },
+        Vector { words: half[31].words ^ bits[6].words },
+    ]
 }

@@ -10,7 +10,10 @@ unfolding substituted bits_of number pick
 tables = refl
 
 pub returns : goal.returns
-returns c l h =
+returns c =
+    let shown =
+    outputs s1 0x869d497a86e67619 0xb0c7871b497826bd 0x27e9d492609f1f29 0x917be9066f81b478 c.args.a c.args.b c.args.c c.args.d c.args.e c.args.f _ _ _ _ tables
+    (λ l h.
     let i : Inputs l c.args.a c.args.b c.args.c c.args.d c.args.e c.args.f
     = inputs l c.args.a c.args.b c.args.c c.args.d c.args.e c.args.f h
     (record { two = c.fits-a.0; fits = c.fits-a.1 }) (record { two = c.fits-b.0; fits = c.fits-b.1 }) (record { two = c.fits-c.0; fits = c.fits-c.1 }) (record { two = c.fits-d.0; fits = c.fits-d.1 }) (record { two = c.fits-e.0; fits = c.fits-e.1 }) (record { two = c.fits-f.0; fits = c.fits-f.1 }) in
@@ -71,4 +74,5 @@ returns c l h =
     let g55 = or g54 g32 in
     let g56 = and g55 (not i.b) in
     let g57 = xor g39 g56 in
-    outputs s1 0x869d497a86e67619 0xb0c7871b497826bd 0x27e9d492609f1f29 0x917be9066f81b478 l c.args.a c.args.b c.args.c c.args.d c.args.e c.args.f _ _ _ _ tables i (not g30) (not g57) (not g47) g53
+    (not g30, not g57, not g47, g53)) in
+    record { lanes = shown.0; vectors = shown.1 }

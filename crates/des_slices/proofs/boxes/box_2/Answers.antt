@@ -10,7 +10,10 @@ unfolding substituted bits_of number pick
 tables = refl
 
 pub returns : goal.returns
-returns c l h =
+returns c =
+    let shown =
+    outputs s2 0xe196196e69c3a659 0x68f93c169346c3e9 0x746a8b7462949fc3 0xcd235ad2b865168f c.args.a c.args.b c.args.c c.args.d c.args.e c.args.f _ _ _ _ tables
+    (λ l h.
     let i : Inputs l c.args.a c.args.b c.args.c c.args.d c.args.e c.args.f
     = inputs l c.args.a c.args.b c.args.c c.args.d c.args.e c.args.f h
     (record { two = c.fits-a.0; fits = c.fits-a.1 }) (record { two = c.fits-b.0; fits = c.fits-b.1 }) (record { two = c.fits-c.0; fits = c.fits-c.1 }) (record { two = c.fits-d.0; fits = c.fits-d.1 }) (record { two = c.fits-e.0; fits = c.fits-e.1 }) (record { two = c.fits-f.0; fits = c.fits-f.1 }) in
@@ -65,4 +68,5 @@ returns c l h =
     let g49 = or g47 g48 in
     let g50 = and g49 (not i.c) in
     let g51 = xor g46 g50 in
-    outputs s2 0xe196196e69c3a659 0x68f93c169346c3e9 0x746a8b7462949fc3 0xcd235ad2b865168f l c.args.a c.args.b c.args.c c.args.d c.args.e c.args.f _ _ _ _ tables i (not g27) (not g44) (not g51) (not g37)
+    (not g27, not g44, not g51, not g37)) in
+    record { lanes = shown.0; vectors = shown.1 }

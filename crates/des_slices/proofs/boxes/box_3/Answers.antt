@@ -10,7 +10,10 @@ unfolding substituted bits_of number pick
 tables = refl
 
 pub returns : goal.returns
-returns c l h =
+returns c =
+    let shown =
+    outputs s3 0x96692d696b9c90d3 0xd96a863526f4794a 0x76b9960c39c2b749 0x4b8d9c63a965569a c.args.a c.args.b c.args.c c.args.d c.args.e c.args.f _ _ _ _ tables
+    (λ l h.
     let i : Inputs l c.args.a c.args.b c.args.c c.args.d c.args.e c.args.f
     = inputs l c.args.a c.args.b c.args.c c.args.d c.args.e c.args.f h
     (record { two = c.fits-a.0; fits = c.fits-a.1 }) (record { two = c.fits-b.0; fits = c.fits-b.1 }) (record { two = c.fits-c.0; fits = c.fits-c.1 }) (record { two = c.fits-d.0; fits = c.fits-d.1 }) (record { two = c.fits-e.0; fits = c.fits-e.1 }) (record { two = c.fits-f.0; fits = c.fits-f.1 }) in
@@ -70,4 +73,5 @@ returns c l h =
     let g54 = xor g50 g53 in
     let g55 = or i.e g54 in
     let g56 = xor g48 g55 in
-    outputs s3 0x96692d696b9c90d3 0xd96a863526f4794a 0x76b9960c39c2b749 0x4b8d9c63a965569a l c.args.a c.args.b c.args.c c.args.d c.args.e c.args.f _ _ _ _ tables i (not g37) g45 (not g56) g16
+    (not g37, g45, not g56, g16)) in
+    record { lanes = shown.0; vectors = shown.1 }

@@ -10,7 +10,10 @@ unfolding substituted bits_of number pick
 tables = refl
 
 pub returns : goal.returns
-returns c l h =
+returns c =
+    let shown =
+    outputs s4 0x92c3e719ed90583e 0xcb69718c74ca0e97 0xacd1168f692cce71 0x9b77c1ac34998e7 c.args.a c.args.b c.args.c c.args.d c.args.e c.args.f _ _ _ _ tables
+    (λ l h.
     let i : Inputs l c.args.a c.args.b c.args.c c.args.d c.args.e c.args.f
     = inputs l c.args.a c.args.b c.args.c c.args.d c.args.e c.args.f h
     (record { two = c.fits-a.0; fits = c.fits-a.1 }) (record { two = c.fits-b.0; fits = c.fits-b.1 }) (record { two = c.fits-c.0; fits = c.fits-c.1 }) (record { two = c.fits-d.0; fits = c.fits-d.1 }) (record { two = c.fits-e.0; fits = c.fits-e.1 }) (record { two = c.fits-f.0; fits = c.fits-f.1 }) in
@@ -56,4 +59,5 @@ returns c l h =
     let g40 = xor g32 g39 in
     let g41 = xor g40 g38 in
     let g42 = xor g41 i.f in
-    outputs s4 0x92c3e719ed90583e 0xcb69718c74ca0e97 0xacd1168f692cce71 0x9b77c1ac34998e7 l c.args.a c.args.b c.args.c c.args.d c.args.e c.args.f _ _ _ _ tables i g40 (not g42) (not g24) (not g25)
+    (g40, not g42, not g24, not g25)) in
+    record { lanes = shown.0; vectors = shown.1 }

@@ -10,7 +10,10 @@ unfolding substituted bits_of number pick
 tables = refl
 
 pub returns : goal.returns
-returns c l h =
+returns c =
+    let shown =
+    outputs s5 0x429dcd6a79e1348e 0x695b9ca191666b96 0xc70b39c692f05d2b 0xa4cd96d24b76b948 c.args.a c.args.b c.args.c c.args.d c.args.e c.args.f _ _ _ _ tables
+    (λ l h.
     let i : Inputs l c.args.a c.args.b c.args.c c.args.d c.args.e c.args.f
     = inputs l c.args.a c.args.b c.args.c c.args.d c.args.e c.args.f h
     (record { two = c.fits-a.0; fits = c.fits-a.1 }) (record { two = c.fits-b.0; fits = c.fits-b.1 }) (record { two = c.fits-c.0; fits = c.fits-c.1 }) (record { two = c.fits-d.0; fits = c.fits-d.1 }) (record { two = c.fits-e.0; fits = c.fits-e.1 }) (record { two = c.fits-f.0; fits = c.fits-f.1 }) in
@@ -68,4 +71,5 @@ returns c l h =
     let g52 = xor g49 g51 in
     let g53 = or i.d g52 in
     let g54 = xor g35 g53 in
-    outputs s5 0x429dcd6a79e1348e 0x695b9ca191666b96 0xc70b39c692f05d2b 0xa4cd96d24b76b948 l c.args.a c.args.b c.args.c c.args.d c.args.e c.args.f _ _ _ _ tables i g36 g17 (not g54) g47
+    (g36, g17, not g54, g47)) in
+    record { lanes = shown.0; vectors = shown.1 }

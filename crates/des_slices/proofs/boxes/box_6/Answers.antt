@@ -10,7 +10,10 @@ unfolding substituted bits_of number pick
 tables = refl
 
 pub returns : goal.returns
-returns c l h =
+returns c =
+    let shown =
+    outputs s6 0xb44ab695c9a4695b 0xc69938d615e69a69 0x52cbe13c6d9216da 0x95a36a597c3ca34c c.args.a c.args.b c.args.c c.args.d c.args.e c.args.f _ _ _ _ tables
+    (λ l h.
     let i : Inputs l c.args.a c.args.b c.args.c c.args.d c.args.e c.args.f
     = inputs l c.args.a c.args.b c.args.c c.args.d c.args.e c.args.f h
     (record { two = c.fits-a.0; fits = c.fits-a.1 }) (record { two = c.fits-b.0; fits = c.fits-b.1 }) (record { two = c.fits-c.0; fits = c.fits-c.1 }) (record { two = c.fits-d.0; fits = c.fits-d.1 }) (record { two = c.fits-e.0; fits = c.fits-e.1 }) (record { two = c.fits-f.0; fits = c.fits-f.1 }) in
@@ -72,4 +75,5 @@ returns c l h =
     let g56 = xor g52 g55 in
     let g57 = and g56 (not i.d) in
     let g58 = xor g28 g57 in
-    outputs s6 0xb44ab695c9a4695b 0xc69938d615e69a69 0x52cbe13c6d9216da 0x95a36a597c3ca34c l c.args.a c.args.b c.args.c c.args.d c.args.e c.args.f _ _ _ _ tables i (not g58) (not g51) g45 g49
+    (not g58, not g51, g45, g49)) in
+    record { lanes = shown.0; vectors = shown.1 }

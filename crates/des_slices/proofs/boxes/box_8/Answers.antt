@@ -10,7 +10,10 @@ unfolding substituted bits_of number pick
 tables = refl
 
 pub returns : goal.returns
-returns c l h =
+returns c =
+    let shown =
+    outputs s8 0xc17abd2438c716b9 0x394e96b1596aa569 0xa71658a7c8f13f0c 0x9f6281cd619c7c2b c.args.a c.args.b c.args.c c.args.d c.args.e c.args.f _ _ _ _ tables
+    (λ l h.
     let i : Inputs l c.args.a c.args.b c.args.c c.args.d c.args.e c.args.f
     = inputs l c.args.a c.args.b c.args.c c.args.d c.args.e c.args.f h
     (record { two = c.fits-a.0; fits = c.fits-a.1 }) (record { two = c.fits-b.0; fits = c.fits-b.1 }) (record { two = c.fits-c.0; fits = c.fits-c.1 }) (record { two = c.fits-d.0; fits = c.fits-d.1 }) (record { two = c.fits-e.0; fits = c.fits-e.1 }) (record { two = c.fits-f.0; fits = c.fits-f.1 }) in
@@ -68,4 +71,5 @@ returns c l h =
     let g52 = xor g48 g51 in
     let g53 = and (not i.b) g52 in
     let g54 = xor g47 g53 in
-    outputs s8 0xc17abd2438c716b9 0x394e96b1596aa569 0xa71658a7c8f13f0c 0x9f6281cd619c7c2b l c.args.a c.args.b c.args.c c.args.d c.args.e c.args.f _ _ _ _ tables i (not g32) (not g17) g54 (not g44)
+    (not g32, not g17, g54, not g44)) in
+    record { lanes = shown.0; vectors = shown.1 }
