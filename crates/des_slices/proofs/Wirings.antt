@@ -22,7 +22,7 @@ use Rattle.des_slices.proofs.Gates.{vector_zip}
 unfoldable pub picked : List ℕ → List (List ℕ) → List (List ℕ)
 picked t vs = map (λ p. get_or vs (p - 1) []) t
 
-get_or-lane : (l : ℕ) (vs : List (List ℕ)) (i : ℕ) → lane_bit l (get_or vs i []) ≡ get_or (lane l vs) i false
+pub get_or-lane : (l : ℕ) (vs : List (List ℕ)) (i : ℕ) → lane_bit l (get_or vs i []) ≡ get_or (lane l vs) i false
 unfolding lane
 get_or-lane l [] i = ap (λ n. eqb n 1) (bit_at-zero (l % 64))
 get_or-lane l (v ∷ vs) zero = refl
@@ -82,6 +82,11 @@ vectors_xored [] ws p q = tt
 vectors_xored (v ∷ vs) [] p q = tt
 vectors_xored (v ∷ vs) (w ∷ ws) p q = (vector_zip bit_xor (λ a b x y. Fits-xor x y) v w p.0 q.0, vectors_xored vs ws p.1 q.1)
 
+pub vector_at : (vs : List Vector) (i : ℕ) (d : Vector) → i < length vs → AreVectors vs → IsVector (get_or vs i d).words
+vector_at [] i d h p = absurd (omega arith)
+vector_at (v ∷ vs) zero d h p = p.0
+vector_at (v ∷ vs) (suc i) d h p = vector_at vs i d (omega arith) p.1
+
 -- ---- lists that are written out
 
 unfoldable pub none : Vector
@@ -138,7 +143,7 @@ Each1-append P (x ∷ xs) ys p q = (p.0, Each1-append P xs ys p.1 q)
 unfoldable pub words_at : ℕ → List Vector → List (List ℕ)
 words_at n vs = words_of (whole n vs)
 
-lane-append : (l : ℕ) (vs ws : List (List ℕ)) → lane l (vs ++ ws) ≡ lane l vs ++ lane l ws
+pub lane-append : (l : ℕ) (vs ws : List (List ℕ)) → lane l (vs ++ ws) ≡ lane l vs ++ lane l ws
 unfolding lane
 lane-append l vs ws = map-append (lane_bit l) vs ws
 

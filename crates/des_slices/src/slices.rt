@@ -1,14 +1,14 @@
-ghost use Rattle.std.specs.Prelude.{◌≡◌, ◌<◌, ◌/◌, ◌^◌, ℕ, bit_xor, drop, take, map, replicate, slice_index_or};
+ghost use Rattle.std.specs.Prelude.{◌≡◌, ◌<◌, ◌≤◌, ◌-◌, ◌/◌, ◌^◌, ◌++◌, [], ℕ, bit_xor, drop, take, map, replicate, slice_index_or};
 ghost use Rattle.std.specs.Simd.Lanes.{zip2};
 ghost use Rattle.x_des.specs.Bits.{exclusive_or, pick};
 ghost use Rattle.x_des.specs.Des.{enciphered};
 ghost use Rattle.x_des.specs.Tables.{ip};
 ghost use Rattle.des_slices.specs.Slices.{numbers};
-ghost use Rattle.des_slices.specs.Vectors.{AreVectors, lane, words_of};
+ghost use Rattle.des_slices.specs.Vectors.{AreVectors, IsVector, lane, words_of};
 
 use crate::key::SlicedKey;
 use crate::round::round;
-use crate::vector::{Vector, all_checked};
+use crate::vector::{Vector, all_checked, bit};
 use std::marker::Model;
 use std::simd::u64x2;
 
@@ -82,8 +82,7 @@ impl Slices {
     {
         let mut half = 0;
         for place in LEFT_PLACES {
-            let vector = if place <= 32 { self.left[place - 1] } else { self.right[place - 33] };
-            half = half << 1 | (vector.words.to_array()[lane / 64] >> (lane % 64) & 1) as u32;
+            half = half << 1 | bit(at_place(&self.left, &self.right, place), lane);
         }
         half
     }
@@ -173,4 +172,17 @@ fn xor_right(half: &[Vector; 32], bits: &[Vector; 64]) -> [Vector; 32]
         Vector { words: half[30].words ^ bits[14].words },
         Vector { words: half[31].words ^ bits[6].words },
     ]
+}
+
+/// The vector at a place in two halves, counted from 1.
+#[inline(always)]
+fn at_place(left: &[Vector; 32], right: &[Vector; 32], place: usize) -> Vector
+    requires low { 1 ≤ place }
+    requires high { place ≤ 64 }
+    requires left { AreVectors left.now }
+    requires right { AreVectors right.now }
+    ensures words { result.words ≡ slice_index_or (words_of left.now ++ words_of right.now) (place - 1) [] }
+    ensures vector { IsVector result.words }
+{
+    if place <= 32 { left[place - 1] } else { right[place - 33] }
 }

@@ -1,5 +1,5 @@
-ghost use Rattle.std.specs.Prelude.{◌≡◌};
-ghost use Rattle.des_slices.specs.Vectors.{AreVectors, IsVector, words_of};
+ghost use Rattle.std.specs.Prelude.{◌≡◌, ◌<◌, ◌==◌};
+ghost use Rattle.des_slices.specs.Vectors.{AreVectors, IsVector, lane_bit, words_of};
 
 use std::simd::u64x2;
 
@@ -29,4 +29,15 @@ pub fn all_checked(words: &[u64x2; 64]) -> [Vector; 64]
         vectors[i] = checked(words[i]);
     }
     vectors
+}
+
+/// The bit of a lane, 0 or 1.
+#[inline(always)]
+pub fn bit(vector: Vector, lane: usize) -> u32
+    requires lane { lane < 128 }
+    requires vector { IsVector vector.words }
+    ensures bit { result == 1 ≡ lane_bit lane vector.words }
+    ensures below { result < 2 }
+{
+    (vector.words.to_array()[lane / 64] >> (lane % 64) & 1) as u32
 }
