@@ -166,9 +166,10 @@ four_shown box t u v w l a b c d e f g h i j test p q r x =
 
 pub outputs : (box : List ℕ) (t u v w : ℕ) (a b c d e f g h i j : List ℕ) → tables_agree box t u v w ≡ true
     → ((l : ℕ) → l < 128 → Shows l (six_of l (a ∷ b ∷ c ∷ d ∷ e ∷ f ∷ [])) t g × Shows l (six_of l (a ∷ b ∷ c ∷ d ∷ e ∷ f ∷ [])) u h
-        × Shows l (six_of l (a ∷ b ∷ c ∷ d ∷ e ∷ f ∷ [])) v i × Shows l (six_of l (a ∷ b ∷ c ∷ d ∷ e ∷ f ∷ [])) w j)
+    × Shows l (six_of l (a ∷ b ∷ c ∷ d ∷ e ∷ f ∷ [])) v i × Shows l (six_of l (a ∷ b ∷ c ∷ d ∷ e ∷ f ∷ [])) w j)
     → ((l : ℕ) → l < 128 → lane l (g ∷ h ∷ i ∷ j ∷ []) ≡ substituted box (lane l (a ∷ b ∷ c ∷ d ∷ e ∷ f ∷ []))) × Each1 IsVector (g ∷ h ∷ i ∷ j ∷ [])
 outputs box t u v w a b c d e f g h i j test shown =
-    let first = shown 0 (omega arith) in
-    (λ l p. let s = shown l p in four_shown box t u v w l a b c d e f g h i j test s.0 s.1 s.2 s.3,
-    (first.0.vector, (first.1.vector, (first.2.vector, (first.3.vector, tt)))))
+    let first = shown 0 (omega arith) in (
+      λ l p. let s = shown l p in four_shown box t u v w l a b c d e f g h i j test s.0 s.1 s.2 s.3,
+      (first.0.vector, (first.1.vector, (first.2.vector, (first.3.vector, tt)))),
+    )

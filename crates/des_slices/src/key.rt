@@ -50,7 +50,9 @@ fn in_all_lanes(word: u64) -> RoundKey
     ensures lanes { (l : ℕ) → l < 128 → lane l (words_of result.bits) ≡ bits_of 48 word }
     ensures vectors { AreVectors result.bits }
 {
-    let mut bits = [Vector { words: u64x2::splat(0) }; 48];
+    let mut bits = [Vector {
+        words: u64x2::splat(0),
+    }; 48];
     for i in 0..48 {
         bits[i] = in_all(word >> (47 - i) & 1);
     }

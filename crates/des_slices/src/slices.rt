@@ -17,7 +17,8 @@ pub const LANES: usize = 128;
 
 /// Where the left half of a block stands behind IP, counted from 1.
 const LEFT_PLACES: [usize; 32] = [
-    40, 8, 48, 16, 56, 24, 64, 32, 39, 7, 47, 15, 55, 23, 63, 31, 38, 6, 46, 14, 54, 22, 62, 30, 37, 5, 45, 13, 53, 21, 61, 29,
+    40, 8, 48, 16, 56, 24, 64, 32, 39, 7, 47, 15, 55, 23, 63, 31, 38, 6, 46, 14, 54, 22, 62, 30,
+    37, 5, 45, 13, 53, 21, 61, 29,
 ];
 
 /// 128 blocks, in the bits of vectors: vector `n` of a half has bit `n` of that half of each block,
@@ -44,7 +45,9 @@ impl Slices {
     pub fn zeros() -> Slices
         ensures { result ≡ replicate 128 0 }
     {
-        let zero = Vector { words: u64x2::splat(0) };
+        let zero = Vector {
+            words: u64x2::splat(0),
+        };
         Slices {
             left: [zero; 32],
             right: [zero; 32],
@@ -96,38 +99,102 @@ fn xor_left(half: &[Vector; 32], bits: &[Vector; 64]) -> [Vector; 32]
     ensures vectors { AreVectors result }
 {
     [
-        Vector { words: half[0].words ^ bits[57].words },
-        Vector { words: half[1].words ^ bits[49].words },
-        Vector { words: half[2].words ^ bits[41].words },
-        Vector { words: half[3].words ^ bits[33].words },
-        Vector { words: half[4].words ^ bits[25].words },
-        Vector { words: half[5].words ^ bits[17].words },
-        Vector { words: half[6].words ^ bits[9].words },
-        Vector { words: half[7].words ^ bits[1].words },
-        Vector { words: half[8].words ^ bits[59].words },
-        Vector { words: half[9].words ^ bits[51].words },
-        Vector { words: half[10].words ^ bits[43].words },
-        Vector { words: half[11].words ^ bits[35].words },
-        Vector { words: half[12].words ^ bits[27].words },
-        Vector { words: half[13].words ^ bits[19].words },
-        Vector { words: half[14].words ^ bits[11].words },
-        Vector { words: half[15].words ^ bits[3].words },
-        Vector { words: half[16].words ^ bits[61].words },
-        Vector { words: half[17].words ^ bits[53].words },
-        Vector { words: half[18].words ^ bits[45].words },
-        Vector { words: half[19].words ^ bits[37].words },
-        Vector { words: half[20].words ^ bits[29].words },
-        Vector { words: half[21].words ^ bits[21].words },
-        Vector { words: half[22].words ^ bits[13].words },
-        Vector { words: half[23].words ^ bits[5].words },
-        Vector { words: half[24].words ^ bits[63].words },
-        Vector { words: half[25].words ^ bits[55].words },
-        Vector { words: half[26].words ^ bits[47].words },
-        Vector { words: half[27].words ^ bits[39].words },
-        Vector { words: half[28].words ^ bits[31].words },
-        Vector { words: half[29].words ^ bits[23].words },
-        Vector { words: half[30].words ^ bits[15].words },
-        Vector { words: half[31].words ^ bits[7].words },
+        Vector {
+            words: half[0].words ^ bits[57].words,
+        },
+        Vector {
+            words: half[1].words ^ bits[49].words,
+        },
+        Vector {
+            words: half[2].words ^ bits[41].words,
+        },
+        Vector {
+            words: half[3].words ^ bits[33].words,
+        },
+        Vector {
+            words: half[4].words ^ bits[25].words,
+        },
+        Vector {
+            words: half[5].words ^ bits[17].words,
+        },
+        Vector {
+            words: half[6].words ^ bits[9].words,
+        },
+        Vector {
+            words: half[7].words ^ bits[1].words,
+        },
+        Vector {
+            words: half[8].words ^ bits[59].words,
+        },
+        Vector {
+            words: half[9].words ^ bits[51].words,
+        },
+        Vector {
+            words: half[10].words ^ bits[43].words,
+        },
+        Vector {
+            words: half[11].words ^ bits[35].words,
+        },
+        Vector {
+            words: half[12].words ^ bits[27].words,
+        },
+        Vector {
+            words: half[13].words ^ bits[19].words,
+        },
+        Vector {
+            words: half[14].words ^ bits[11].words,
+        },
+        Vector {
+            words: half[15].words ^ bits[3].words,
+        },
+        Vector {
+            words: half[16].words ^ bits[61].words,
+        },
+        Vector {
+            words: half[17].words ^ bits[53].words,
+        },
+        Vector {
+            words: half[18].words ^ bits[45].words,
+        },
+        Vector {
+            words: half[19].words ^ bits[37].words,
+        },
+        Vector {
+            words: half[20].words ^ bits[29].words,
+        },
+        Vector {
+            words: half[21].words ^ bits[21].words,
+        },
+        Vector {
+            words: half[22].words ^ bits[13].words,
+        },
+        Vector {
+            words: half[23].words ^ bits[5].words,
+        },
+        Vector {
+            words: half[24].words ^ bits[63].words,
+        },
+        Vector {
+            words: half[25].words ^ bits[55].words,
+        },
+        Vector {
+            words: half[26].words ^ bits[47].words,
+        },
+        Vector {
+            words: half[27].words ^ bits[39].words,
+        },
+        Vector {
+            words: half[28].words ^ bits[31].words,
+        },
+        Vector {
+            words: half[29].words ^ bits[23].words,
+        },
+        Vector {
+            words: half[30].words ^ bits[15].words,
+        },
+        Vector {
+            words: half[31].words ^ bits[7].words,
+        },
     ]
 }
 
@@ -139,38 +206,102 @@ fn xor_right(half: &[Vector; 32], bits: &[Vector; 64]) -> [Vector; 32]
     ensures vectors { AreVectors result }
 {
     [
-        Vector { words: half[0].words ^ bits[56].words },
-        Vector { words: half[1].words ^ bits[48].words },
-        Vector { words: half[2].words ^ bits[40].words },
-        Vector { words: half[3].words ^ bits[32].words },
-        Vector { words: half[4].words ^ bits[24].words },
-        Vector { words: half[5].words ^ bits[16].words },
-        Vector { words: half[6].words ^ bits[8].words },
-        Vector { words: half[7].words ^ bits[0].words },
-        Vector { words: half[8].words ^ bits[58].words },
-        Vector { words: half[9].words ^ bits[50].words },
-        Vector { words: half[10].words ^ bits[42].words },
-        Vector { words: half[11].words ^ bits[34].words },
-        Vector { words: half[12].words ^ bits[26].words },
-        Vector { words: half[13].words ^ bits[18].words },
-        Vector { words: half[14].words ^ bits[10].words },
-        Vector { words: half[15].words ^ bits[2].words },
-        Vector { words: half[16].words ^ bits[60].words },
-        Vector { words: half[17].words ^ bits[52].words },
-        Vector { words: half[18].words ^ bits[44].words },
-        Vector { words: half[19].words ^ bits[36].words },
-        Vector { words: half[20].words ^ bits[28].words },
-        Vector { words: half[21].words ^ bits[20].words },
-        Vector { words: half[22].words ^ bits[12].words },
-        Vector { words: half[23].words ^ bits[4].words },
-        Vector { words: half[24].words ^ bits[62].words },
-        Vector { words: half[25].words ^ bits[54].words },
-        Vector { words: half[26].words ^ bits[46].words },
-        Vector { words: half[27].words ^ bits[38].words },
-        Vector { words: half[28].words ^ bits[30].words },
-        Vector { words: half[29].words ^ bits[22].words },
-        Vector { words: half[30].words ^ bits[14].words },
-        Vector { words: half[31].words ^ bits[6].words },
+        Vector {
+            words: half[0].words ^ bits[56].words,
+        },
+        Vector {
+            words: half[1].words ^ bits[48].words,
+        },
+        Vector {
+            words: half[2].words ^ bits[40].words,
+        },
+        Vector {
+            words: half[3].words ^ bits[32].words,
+        },
+        Vector {
+            words: half[4].words ^ bits[24].words,
+        },
+        Vector {
+            words: half[5].words ^ bits[16].words,
+        },
+        Vector {
+            words: half[6].words ^ bits[8].words,
+        },
+        Vector {
+            words: half[7].words ^ bits[0].words,
+        },
+        Vector {
+            words: half[8].words ^ bits[58].words,
+        },
+        Vector {
+            words: half[9].words ^ bits[50].words,
+        },
+        Vector {
+            words: half[10].words ^ bits[42].words,
+        },
+        Vector {
+            words: half[11].words ^ bits[34].words,
+        },
+        Vector {
+            words: half[12].words ^ bits[26].words,
+        },
+        Vector {
+            words: half[13].words ^ bits[18].words,
+        },
+        Vector {
+            words: half[14].words ^ bits[10].words,
+        },
+        Vector {
+            words: half[15].words ^ bits[2].words,
+        },
+        Vector {
+            words: half[16].words ^ bits[60].words,
+        },
+        Vector {
+            words: half[17].words ^ bits[52].words,
+        },
+        Vector {
+            words: half[18].words ^ bits[44].words,
+        },
+        Vector {
+            words: half[19].words ^ bits[36].words,
+        },
+        Vector {
+            words: half[20].words ^ bits[28].words,
+        },
+        Vector {
+            words: half[21].words ^ bits[20].words,
+        },
+        Vector {
+            words: half[22].words ^ bits[12].words,
+        },
+        Vector {
+            words: half[23].words ^ bits[4].words,
+        },
+        Vector {
+            words: half[24].words ^ bits[62].words,
+        },
+        Vector {
+            words: half[25].words ^ bits[54].words,
+        },
+        Vector {
+            words: half[26].words ^ bits[46].words,
+        },
+        Vector {
+            words: half[27].words ^ bits[38].words,
+        },
+        Vector {
+            words: half[28].words ^ bits[30].words,
+        },
+        Vector {
+            words: half[29].words ^ bits[22].words,
+        },
+        Vector {
+            words: half[30].words ^ bits[14].words,
+        },
+        Vector {
+            words: half[31].words ^ bits[6].words,
+        },
     ]
 }
 
@@ -184,5 +315,9 @@ fn at_place(left: &[Vector; 32], right: &[Vector; 32], place: usize) -> Vector
     ensures words { result.words ≡ slice_index_or (words_of left.now ++ words_of right.now) (place - 1) [] }
     ensures vector { IsVector result.words }
 {
-    if place <= 32 { left[place - 1] } else { right[place - 33] }
+    if place <= 32 {
+        left[place - 1]
+    } else {
+        right[place - 33]
+    }
 }

@@ -15,8 +15,8 @@ pub returns-clause-lanes : goal.returns-clause-lanes
 returns-clause-lanes c l h =
     one_word l c.if-bit-eq1.word h
     ∙ (elim c.if-bit-eq1.branch [
-      then-bit-eq1 w ↦ ap (λ m. eqb (bit_at m (l % 64)) 1) w.word-is ∙ ap (λ n. eqb n 1) (bit_at_ones 64 (l % 64) (omega arith)) ∙ ap (λ b. eqb b 1) (sym w.if-bit-eq1.true)
+      | then-bit-eq1 w ↦ ap (λ m. eqb (bit_at m (l % 64)) 1) w.word-is ∙ ap (λ n. eqb n 1) (bit_at_ones 64 (l % 64) (omega arith)) ∙ ap (λ b. eqb b 1) (sym w.if-bit-eq1.true)
       | else-bit-eq1 w ↦
-        let none : c.args.bit ≡ 0 = omega arith in
-        ap (λ m. eqb (bit_at m (l % 64)) 1) w.word-is ∙ ap (λ n. eqb n 1) (bit_at-zero (l % 64)) ∙ ap (λ b. eqb b 1) (sym none)
+          let none : c.args.bit ≡ 0 = omega arith in
+          ap (λ m. eqb (bit_at m (l % 64)) 1) w.word-is ∙ ap (λ n. eqb n 1) (bit_at-zero (l % 64)) ∙ ap (λ b. eqb b 1) (sym none)
     ])

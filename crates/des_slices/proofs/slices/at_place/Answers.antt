@@ -17,7 +17,7 @@ returns-else-place-le32-clause-words c =
     let size : length left ≡ 32 = length-map c.args.left.now (λ (v : Vector). v.words) ∙ c.told-left in
     let place : p - 1 - length left ≡ p - 33 = omega (arith, size) in
     sym (get_or-append_right left right (p - 1) [] (omega (arith, size)) ∙ ap (λ n. get_or right n []) place
-      ∙ get_or-map (λ (v : Vector). v.words) c.args.right.now (p - 33) _ [] (omega arith))
+    ∙ get_or-map (λ (v : Vector). v.words) c.args.right.now (p - 33) _ [] (omega arith))
 
 pub returns-else-place-le32-clause-vector : goal.returns-else-place-le32-clause-vector
 returns-else-place-le32-clause-vector c = vector_at c.args.right.now (c.args.place - 33) _ (omega arith) c.requires.right

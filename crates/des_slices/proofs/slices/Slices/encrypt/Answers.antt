@@ -35,10 +35,10 @@ returns c =
     let k = c.key.inside in
     let before = λ (n : ℕ). restored (lane n (words_of s.left)) (lane n (words_of s.right)) in
     same_in_lanes (λ n. restored (lane n (words_of l.right)) (lane n (words_of l.left))) (λ n. enciphered k.key (before n)) (λ n h.
-      let size : length (keys_in n k.rounds) ≡ 16 = ap length (c.key.invariant.lanes n h) ∙ length-round_keys (bits_of 64 k.key) in
-      restored_enciphered k.key (keys_in n k.rounds) (lane n (words_of s.left)) (lane n (words_of s.right)) (lane n (words_of l.left)) (lane n (words_of l.right))
-      (length-lane n 32 s.left (omega arith)) (length-lane n 32 s.right (omega arith)) (c.key.invariant.lanes n h)
-      (sym (at_drop_all (fold round (halves (lane n (words_of l.left)) (lane n (words_of l.right)))) (keys_in n k.rounds) (2 * l.i) (omega (arith, size))) ∙ l.invariant.lanes n h))
+    let size : length (keys_in n k.rounds) ≡ 16 = ap length (c.key.invariant.lanes n h) ∙ length-round_keys (bits_of 64 k.key) in
+    restored_enciphered k.key (keys_in n k.rounds) (lane n (words_of s.left)) (lane n (words_of s.right)) (lane n (words_of l.left)) (lane n (words_of l.right))
+    (length-lane n 32 s.left (omega arith)) (length-lane n 32 s.right (omega arith)) (c.key.invariant.lanes n h)
+    (sym (at_drop_all (fold round (halves (lane n (words_of l.left)) (lane n (words_of l.right)))) (keys_in n k.rounds) (2 * l.i) (omega (arith, size))) ∙ l.invariant.lanes n h))
     ∙ sym (map-in_lanes (enciphered k.key) before)
     ∙ ap (map (enciphered k.key)) c.self.view_is
     ∙ ap (λ key. map (enciphered key) c.args.self.now) c.key.view_is
