@@ -1,14 +1,14 @@
 -- What the gates of a circuit show in one lane of vectors, by truth tables: bit s of a table is a gate's value
 -- for the six inputs that s writes.
-use Rattle.std.proofs.Common.{◌≡◌, ℕ, ◌+◌, ◌-◌, ◌/◌, ◌%◌, ◌^◌, ◌<◌, zero, suc, Bool, true, false, eqb, List, [], ◌∷◌, map, length, get_or, refl, sym, ap, ◌∙◌, arith, Fits, w64}
+use Rattle.std.proofs.Common.{◌≡◌, ℕ, ◌+◌, ◌-◌, ◌/◌, ◌%◌, ◌<◌, zero, suc, Bool, true, false, eqb, List, [], ◌∷◌, map, length, get_or, refl, sym, ap, ◌∙◌, arith, Fits, w64}
 use Rattle.std.specs.Prelude.{bit_and, bit_or, bit_xor, min, max}
 use Rattle.std.specs.Int.{bit_at, bit_not}
-use Rattle.std.specs.Simd.Lanes.{zip2, Each1, Each2}
+use Rattle.std.specs.Simd.Lanes.{zip2, Each1}
 use Rattle.std.proofs.lemmas.Simd.{get_or-zip2, length-zip2, Each1-get_or, Each1-zip2, Each2-of}
 use Rattle.std.proofs.lemmas.List.{get_or-map, length-map}
 use Rattle.std.proofs.lemmas.Nat.Bits.{bit_at_xor, bit_at_and, bit_at_or, bit_at_not, bit_at-lt}
 use Rattle.std.proofs.lemmas.Bool.{eqb-true, agree_below, agree_below_at}
-use Rattle.x_des.specs.Bits.{bit, bits_of, number, pick}
+use Rattle.x_des.specs.Bits.{bit, bits_of, number}
 use Rattle.x_des.specs.Des.{substituted}
 use Rattle.x_des.proofs.BitsLemmas.{bits-number_at, number-lt}
 use Rattle.des_slices.specs.Vectors.{IsVector, lane, lane_bit}

@@ -1,13 +1,12 @@
-use Rattle.std.proofs.Common.{◌≡◌, ◌-◌, ◌<◌, ◌/◌, ◌^◌, ℕ, false, eqb, get_or, length, map, ap, sym, ◌∙◌, arith}
+use Rattle.std.proofs.Common.{◌≡◌, ◌-◌, ◌/◌, ◌^◌, false, eqb, get_or, ap, sym, ◌∙◌, arith}
 use Rattle.std.specs.Prelude.{bit_and}
-use Rattle.std.specs.Int.{bit_at}
 use Rattle.std.proofs.lemmas.Nat.Bits.{shr_and_one}
 use Rattle.std.proofs.lemmas.Simd.{map-map}
 use Rattle.std.proofs.lemmas.List.{length-set}
 use Rattle.x_des.specs.Bits.{bit, bits_of}
 use Rattle.x_des.proofs.BitsLemmas.{get_or-bits, length-bits}
 use Rattle.des_slices.specs.declared.vector.Vector.{Vector}
-use Rattle.des_slices.specs.Vectors.{lane, lane_bit, words_of}
+use Rattle.des_slices.specs.Vectors.{lane, lane_bit}
 use Rattle.des_slices.proofs.Filling.{filled, filled_more, vectors-set}
 use Rattle.des_slices.proofs.key.in_all_lanes.Goals as goal
 

@@ -1,4 +1,4 @@
-use Rattle.std.proofs.Common.{◌≡◌, [], length, map, sym, ◌∙◌, arith}
+use Rattle.std.proofs.Common.{[], map, sym, ◌∙◌, arith}
 use Rattle.std.proofs.lemmas.List.{get_or-map, length-map, length-set}
 use Rattle.x_des.specs.Bits.{bits_of}
 use Rattle.des_slices.specs.declared.key.RoundKey.{RoundKey}

@@ -1,4 +1,4 @@
-use Rattle.std.proofs.Common.{◌≡◌, ◌-◌, ◌/◌, ◌<◌, ◌^◌, ◌++◌, ℕ, false, eqb, get_or, refl, subst, take, ap, sym, ◌∙◌, arith}
+use Rattle.std.proofs.Common.{◌≡◌, ◌-◌, ◌/◌, ◌<◌, ◌^◌, ◌++◌, false, eqb, get_or, refl, subst, take, ap, sym, ◌∙◌, arith}
 use Rattle.x_des.specs.Bits.{bits_of, pick}
 use Rattle.x_des.specs.Tables.{ip_inverse}
 use Rattle.x_des.proofs.BitsLemmas.{is_place_at}

@@ -1,4 +1,4 @@
-use Rattle.std.proofs.Common.{◌≡◌, ℕ, drop, length, take, ap, sym, ◌∙◌, arith}
+use Rattle.std.proofs.Common.{ℕ, take, ap, sym, ◌∙◌, arith}
 use Rattle.std.specs.Prelude.{bit_xor}
 use Rattle.std.specs.Simd.Lanes.{zip2}
 use Rattle.x_des.specs.Bits.{exclusive_or, number, pick}
