@@ -1,0 +1,4 @@
+pub mod Gates
+pub mod Wirings
+pub mod Filling
+pub mod Blocks

@@ -1,0 +1,11 @@
+//! DES of 128 blocks at once, in the bits of vectors.
+#![tactic(auto)]
+
+mod boxes;
+mod key;
+mod round;
+mod slices;
+mod vector;
+
+pub use key::SlicedKey;
+pub use slices::{LANES, Slices};

@@ -1,0 +1,43 @@
+ghost use Rattle.std.specs.Prelude.{◌≡◌, ◌<◌, ◌==◌};
+ghost use Rattle.des_slices.specs.Vectors.{AreVectors, IsVector, lane_bit, words_of};
+
+use std::simd::u64x2;
+
+/// A bit of each of 128 lanes: that of lane `64 * w + i` is bit `i` of word `w`, where bit 0 is the
+/// lowest.
+#[derive(Clone, Copy)]
+pub struct Vector {
+    pub words: u64x2,
+}
+
+/// The vector of these two words.
+#[inline(always)]
+fn checked(words: u64x2) -> Vector
+    ensures words { result.words ≡ words }
+    ensures vector { IsVector result.words }
+{
+    Vector { words }
+}
+
+/// The vectors of these words.
+pub fn all_checked(words: &[u64x2; 64]) -> [Vector; 64]
+    ensures words { words_of result ≡ words.now }
+    ensures vectors { AreVectors result }
+{
+    let mut vectors = [checked(u64x2::splat(0)); 64];
+    for i in 0..64 {
+        vectors[i] = checked(words[i]);
+    }
+    vectors
+}
+
+/// The bit of a lane, 0 or 1.
+#[inline(always)]
+pub fn bit(vector: Vector, lane: usize) -> u32
+    requires lane { lane < 128 }
+    requires vector { IsVector vector.words }
+    ensures bit { result == 1 ≡ lane_bit lane vector.words }
+    ensures below { result < 2 }
+{
+    (vector.words.to_array()[lane / 64] >> (lane % 64) & 1) as u32
+}

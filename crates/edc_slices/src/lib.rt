@@ -1,0 +1,47 @@
+//! Error detection codes of up to 128 texts at once.
+#![tactic(auto)]
+
+ghost use Rattle.std.specs.Prelude.{◌≡◌, ℕ, ◌<◌, ◌≤◌, [], length, slice_index_or};
+ghost use Rattle.x_mac.specs.Code.{edc_of};
+ghost use Rattle.edc_slices.specs.Ends.{text_before_end};
+
+mod bits;
+mod chain;
+mod rows;
+
+use chain::side_by_side;
+use des_slices::LANES;
+use rows::before_end;
+use x_base::Text;
+use x_mac::edc;
+
+/// How many codes are made at once.
+pub const MOST: usize = LANES;
+
+/// From so many bodies on, 128 chains side by side take less time than theirs one by one.
+const FEWEST_SIDE_BY_SIDE: usize = 40;
+
+/// The error detection code of each of these bodies but for its last four bytes (of a body of less
+/// than four bytes: of no text, 0). What stands behind the codes of the bodies means nothing.
+pub fn codes_before_ends(bodies: &[Text]) -> [u32; MOST]
+    requires { length bodies.now ≤ 128 }
+    ensures { (i : ℕ) → i < length bodies.now → slice_index_or result i 0 ≡ edc_of (text_before_end (slice_index_or bodies.now i [])) }
+{
+    if bodies.len() < FEWEST_SIDE_BY_SIDE {
+        one_by_one(bodies)
+    } else {
+        side_by_side(bodies)
+    }
+}
+
+/// The same, one code made after the other.
+fn one_by_one(bodies: &[Text]) -> [u32; MOST]
+    requires { length bodies.now ≤ 128 }
+    ensures { (i : ℕ) → i < length bodies.now → slice_index_or result i 0 ≡ edc_of (text_before_end (slice_index_or bodies.now i [])) }
+{
+    let mut codes = [0; MOST];
+    for (lane, body) in bodies.iter().enumerate() {
+        codes[lane] = edc(before_end(body));
+    }
+    codes
+}
