@@ -62,7 +62,7 @@ not_closed bytes text given code small small' gives is differs other closes =
 pub too_short : (bytes : List ℕ) → length bytes < 4 → (other : List ℕ) → bytes ≡ closed Two other → ⊥
 too_short bytes few other closes = omega (arith, few, ap length closes, length-append other (closing Two other), four_long (edc_of other))
 
--- nor is the end of no text, which begins with no number
+-- nor are bytes that close an empty text: it begins with no number
 pub not_empty : (format : Format) (bytes text other : List ℕ) → bytes ≡ closed format text → length text ≡ 0 → bytes ≡ closed format (number_of format ∷ other) → ⊥
 not_empty format bytes text other closes none code =
     let one = same_text format text (number_of format ∷ other) (sym closes ∙ code) in

@@ -147,9 +147,9 @@ closing Two text = four (edc_of text)
 abbrev pub closed : Format → List ℕ → List ℕ
 closed format text = text ++ closing format text
 
--- the number is the code that would close the bytes: in format 2, the error detection code of all of them but the last four
-abbrev pub IsClosingCode : Format → List ℕ → ℕ → Type 0
-IsClosingCode format bytes code = format ≡ Two → code ≡ edc_of (take (length bytes - 4) bytes)
+-- the number is, in format 2, the error detection code of all of the bytes but the last four; in format 1 any number
+abbrev pub IsClosingEdc : Format → List ℕ → ℕ → Type 0
+IsClosingEdc format bytes edc = format ≡ Two → edc ≡ edc_of (take (length bytes - 4) bytes)
 
 -- a change in a format
 abbrev pub code_of_change : Format → List Edit → List ℕ

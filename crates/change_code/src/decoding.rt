@@ -2,7 +2,7 @@
 ghost use Rattle.std.specs.Prelude.{◌≡◌, ◌∷◌, ℕ, List, None, IfOk, IfErr, IfSome};
 ghost use Rattle.change_code.specs.declared.format.Format.{Format};
 ghost use Rattle.party_state.specs.declared.edit.Edit.{Edit};
-ghost use Rattle.change_code.specs.Code.{number_of, closed, IsClosingCode, IsCode, IsNoCode};
+ghost use Rattle.change_code.specs.Code.{number_of, closed, IsClosingEdc, IsCode, IsNoCode};
 ghost use Rattle.change_code.specs.Reading.{IsDecoded, IsAllRead, edits_form, change_form};
 
 use crate::fault::CodeFault;
@@ -42,9 +42,10 @@ impl<'a> Reader<'a> {
     }
 }
 
-/// The text that is closed in this format, if the bytes are one. The number is the code that would close it.
-fn closed_text(format: Format, bytes: &[u8], code: u32) -> Option<&[u8]>
-    requires { IsClosingCode format bytes.now code }
+/// The text that is closed in this format, if the bytes are one. `edc` is, in format 2, the error detection code of all bytes but
+/// the last four.
+fn closed_text(format: Format, bytes: &[u8], edc: u32) -> Option<&[u8]>
+    requires { IsClosingEdc format bytes.now edc }
     ensures text { IfSome result (λ text. bytes.now ≡ closed format text.now) }
     ensures none { result ≡ None → (text : List ℕ) → bytes.now ≡ closed format text → ⊥ }
 {
@@ -52,7 +53,7 @@ fn closed_text(format: Format, bytes: &[u8], code: u32) -> Option<&[u8]>
         Format::One => Some(bytes),
         Format::Two => {
             let (text, end) = bytes.split_last_chunk::<4>()?;
-            if code == code_of(end) {
+            if edc == code_of(end) {
                 Some(text)
             } else {
                 None
@@ -62,12 +63,12 @@ fn closed_text(format: Format, bytes: &[u8], code: u32) -> Option<&[u8]>
 }
 
 /// The text behind the number of the format, if the bytes are one that is closed in it.
-fn opened(format: Format, bytes: &[u8], code: u32) -> Option<&[u8]>
-    requires { IsClosingCode format bytes.now code }
+fn opened(format: Format, bytes: &[u8], edc: u32) -> Option<&[u8]>
+    requires { IsClosingEdc format bytes.now edc }
     ensures text { IfSome result (λ text. bytes.now ≡ closed format (number_of format ∷ text.now)) }
     ensures none { result ≡ None → (text : List ℕ) → bytes.now ≡ closed format (number_of format ∷ text) → ⊥ }
 {
-    let (number, text) = closed_text(format, bytes, code)?.split_first()?;
+    let (number, text) = closed_text(format, bytes, edc)?.split_first()?;
     if *number == format.number() {
         Some(text)
     } else {
@@ -75,25 +76,25 @@ fn opened(format: Format, bytes: &[u8], code: u32) -> Option<&[u8]>
     }
 }
 
-/// The change whose code in this format the bytes are. The number is, in format 2, the error detection code of all bytes but the
-/// last four. Comes with `Bad` exactly where they are no code in this format.
+/// The change whose code in this format the bytes are. `edc` is, in format 2, the error detection code of all bytes but the last
+/// four; in format 1 it isn't looked at. Comes with `Bad` exactly where they are no code in this format.
 pub fn decode_as(
     alloc: Global,
     format: Format,
     bytes: &[u8],
-    code: u32,
+    edc: u32,
 ) -> Result<Change, CodeFault>
-    requires { IsClosingCode format bytes.now code }
+    requires { IsClosingEdc format bytes.now edc }
     ensures code { IfOk result (λ change. IsCode format bytes.now change) }
     ensures bad { IfErr result (λ fault. fault ≡ CodeFault.Bad → (change : List Edit) → IsCode format bytes.now change → ⊥) }
 {
-    let Some(text) = opened(format, bytes, code) else {
+    let Some(text) = opened(format, bytes, edc) else {
         return Err(CodeFault::Bad);
     };
     Reader::new(text).change(alloc)
 }
 
-/// The format with whose number the bytes begin.
+/// The one format in which the bytes can be a code, by the number with which they begin.
 fn format_of(bytes: &[u8]) -> Option<Format>
     ensures is { IfSome result (λ format. (other : Format) (change : List Edit) → IsCode other bytes.now change → format ≡ other) }
     ensures none { result ≡ None → IsNoCode bytes.now }
@@ -101,9 +102,9 @@ fn format_of(bytes: &[u8]) -> Option<Format>
     Format::of(*bytes.first()?)
 }
 
-/// The code that would close the bytes in this format.
-fn closing_code(format: Format, bytes: &[u8]) -> u32
-    ensures { IsClosingCode format bytes.now result }
+/// In format 2, the error detection code of all bytes but the last four; in format 1 nothing.
+fn closing_edc(format: Format, bytes: &[u8]) -> u32
+    ensures { IsClosingEdc format bytes.now result }
 {
     match format {
         Format::One => 0,
@@ -126,7 +127,7 @@ pub fn decode(alloc: Global, bytes: &[u8]) -> Result<Coded, CodeFault>
     let Some(format) = format_of(bytes) else {
         return Err(CodeFault::Bad);
     };
-    let code = closing_code(format, bytes);
-    let change = decode_as(alloc, format, bytes, code)?;
+    let edc = closing_edc(format, bytes);
+    let change = decode_as(alloc, format, bytes, edc)?;
     Ok(Coded { format, change })
 }

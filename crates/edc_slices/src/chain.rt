@@ -77,7 +77,7 @@ fn take_codes(codes: &mut [u32; LANES], bodies: &[Text], step: usize, chains: &S
 }
 
 /// How many blocks the text of a body has.
-fn blocks(body: &Text) -> usize
+pub fn blocks(body: &Text) -> usize
     ensures count { result ≡ block_count (text_before_end body.now) }
     ensures small { result ≤ 2 ^ 61 }
 {

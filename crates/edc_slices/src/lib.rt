@@ -9,37 +9,49 @@ mod bits;
 mod chain;
 mod rows;
 
-use chain::side_by_side;
+use chain::{blocks, side_by_side};
 use des_slices::LANES;
 use rows::before_end;
 use x_base::Text;
 use x_mac::edc;
 
 /// How many codes are made at once.
-pub const MOST: usize = LANES;
+pub const MOST_CODES: usize = LANES;
 
-/// From so many bodies on, 128 chains side by side take less time than theirs one by one.
-const FEWEST_SIDE_BY_SIDE: usize = 40;
+/// A step of 128 chains side by side takes about as long as so many blocks one by one.
+const BLOCKS_A_STEP: usize = 40;
 
 /// The error detection code of each of these bodies but for its last four bytes (of a body of less
 /// than four bytes: of no text, 0). What stands behind the codes of the bodies means nothing.
-pub fn codes_before_ends(bodies: &[Text]) -> [u32; MOST]
+pub fn codes_before_ends(bodies: &[Text]) -> [u32; MOST_CODES]
     requires { length bodies.now ≤ 128 }
     ensures { (i : ℕ) → i < length bodies.now → slice_index_or result i 0 ≡ edc_of (text_before_end (slice_index_or bodies.now i [])) }
 {
-    if bodies.len() < FEWEST_SIDE_BY_SIDE {
-        one_by_one(bodies)
-    } else {
+    if are_quicker_side_by_side(bodies) {
         side_by_side(bodies)
+    } else {
+        one_by_one(bodies)
     }
 }
 
+/// Whether the blocks of all chains take longer than the steps of the longest one.
+fn are_quicker_side_by_side(bodies: &[Text]) -> bool {
+    let mut all: usize = 0;
+    let mut most: usize = 0;
+    for body in bodies {
+        let count = blocks(body);
+        all = all.saturating_add(count);
+        most = most.max(count);
+    }
+    all > most.saturating_mul(BLOCKS_A_STEP)
+}
+
 /// The same, one code made after the other.
-fn one_by_one(bodies: &[Text]) -> [u32; MOST]
+fn one_by_one(bodies: &[Text]) -> [u32; MOST_CODES]
     requires { length bodies.now ≤ 128 }
     ensures { (i : ℕ) → i < length bodies.now → slice_index_or result i 0 ≡ edc_of (text_before_end (slice_index_or bodies.now i [])) }
 {
-    let mut codes = [0; MOST];
+    let mut codes = [0; MOST_CODES];
     for (lane, body) in bodies.iter().enumerate() {
         codes[lane] = edc(before_end(body));
     }

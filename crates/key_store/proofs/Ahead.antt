@@ -4,7 +4,7 @@ use Rattle.x_disk.specs.Disk.{View, IsStill}
 use Rattle.key_journal.specs.Journal.{frames}
 use Rattle.key_journal.specs.Reading.{IsReadOn}
 use Rattle.key_journal.specs.States.{Reading, HasRead}
-use Rattle.key_store.specs.Ahead.{gate_behind, IsAhead}
+use Rattle.key_store.specs.Ahead.{gate_behind, IsReadAhead}
 use Rattle.key_store.proofs.Loaded.{still_on}
 
 -- the length of frames
@@ -48,8 +48,8 @@ module _ {D : Type 0} (told : D → View) (old mid : Reading D) (bodies : List (
     faults = omega (arith, way.faults, next.faults);
   }
 
-  -- the batch is full
-  pub full : 0 < length (frames bodies) → mid.gate < 2 ^ 64 → IsAhead told old mid bodies (Ok true)
+  -- enough was read ahead
+  pub full : 0 < length (frames bodies) → mid.gate < 2 ^ 64 → IsReadAhead told old mid bodies (Ok true)
   full some fits = record {
     few = way.few;
     fits = omega (arith, way.place, fits);

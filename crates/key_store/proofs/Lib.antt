@@ -13,4 +13,4 @@ mod Nothing
 mod Loaded
 mod Findings
 mod Ahead
-mod Batches
+mod Following

@@ -16,7 +16,7 @@ abbrev pub gate_behind : ℕ → List (List ℕ) → ℕ
 gate_behind gate bodies = gate + length (frames bodies)
 
 -- the next bodies of a journal were read, and whether there may be more behind them
-pub record IsAhead {D : Type 0} (told : D → View) (old new : Reading D) (bodies : List (List ℕ)) (result : Result Bool Cause) : Type 0 where
+pub record IsReadAhead {D : Type 0} (told : D → View) (old new : Reading D) (bodies : List (List ℕ)) (result : Result Bool Cause) : Type 0 where
   pub few : length bodies ≤ 128
   pub fits : gate_behind old.gate bodies < 2 ^ 64
   -- they follow those that were read before
@@ -32,7 +32,7 @@ pub record IsAhead {D : Type 0} (told : D → View) (old new : Reading D) (bodie
   pub journal : LeavesJournal told old new result
 
 -- the bodies lead from a party to one that the next of them can't follow, and the reason tells its gate
-pub record IsBroken (format : Format) (old : Party) (gate : ℕ) (bodies : List (List ℕ)) (reason : Cause) : Type 0 where
+pub record LeadsToUnsound (format : Format) (old : Party) (gate : ℕ) (bodies : List (List ℕ)) (reason : Cause) : Type 0 where
   pub front : List (List ℕ)
   pub body : List ℕ
   pub rest : List (List ℕ)
@@ -43,5 +43,5 @@ pub record IsBroken (format : Format) (old : Party) (gate : ℕ) (bodies : List 
   pub place : reason ≡ cause.Damaged (gate_behind gate front)
 
 -- why no party is made of the bodies: one of them can't follow, or no memory was left
-abbrev pub Breaks : Format → Party → ℕ → List (List ℕ) → Cause → Type 0
-Breaks format old gate bodies reason = (reason ≡ cause.NoMemory) ⊎ IsBroken format old gate bodies reason
+abbrev pub StopsAmong : Format → Party → ℕ → List (List ℕ) → Cause → Type 0
+StopsAmong format old gate bodies reason = (reason ≡ cause.NoMemory) ⊎ LeadsToUnsound format old gate bodies reason

@@ -1,7 +1,7 @@
 //! The store of a party's state on a journal.
 #![tactic(auto)]
 
-mod batch;
+mod ahead;
 mod bodies;
 mod changing;
 mod compact;

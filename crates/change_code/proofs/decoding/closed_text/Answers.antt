@@ -12,6 +12,6 @@ returns-in_err-text-in-Two-clause-none c = λ none other closes.
 pub returns-else-code-code_of-clause-none : goal.returns-else-code-code_of-clause-none
 returns-else-code-code_of-clause-none c = λ none other closes.
     let parts = c.in_ok-text-in-Two.ensures.cases in
-    not_closed c.args.bytes.now c.in_ok-text-in-Two.text.now c.args.code c.code_of.result (omega arith) (omega arith) (c.requires c.in-Two.is ∙ ap edc_of (sym parts.0))
+    not_closed c.args.bytes.now c.in_ok-text-in-Two.text.now c.args.edc c.code_of.result (omega arith) (omega arith) (c.requires c.in-Two.is ∙ ap edc_of (sym parts.0))
     (ends_in c.args.bytes.now c.in_ok-text-in-Two.text.now c.in_ok-text-in-Two.end.now c.code_of.result parts.0 parts.1 c.code_of.ensures)
     (λ same. omega (arith, same, c.if-code-code_of.false)) other (subst (λ (f : Format). c.args.bytes.now ≡ closed f other) c.in-Two.is closes)

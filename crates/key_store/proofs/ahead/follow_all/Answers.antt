@@ -1,7 +1,7 @@
 use Rattle.std.proofs.Common.{List, ℕ, inr, length, arith, ap, sym, subst}
 use Rattle.key_store.specs.Store.{IsStep}
-use Rattle.key_store.proofs.Batches.{lead_more, place_more, place_within, broken}
-use Rattle.key_store.proofs.batch.follow_all.Goals as goal
+use Rattle.key_store.proofs.Following.{lead_more, place_more, place_within, unsound_here}
+use Rattle.key_store.proofs.ahead.follow_all.Goals as goal
 
 pub overflow_add-place-in-Ok-true : goal.overflow_add-place-in-Ok-true
 overflow_add-place-in-Ok-true c =
@@ -12,8 +12,8 @@ overflow_add-place-in-Ok-true c =
       place_within c.args.bodies.now c.loop-i.i c.index-bodies-i.result (omega arith) c.index-bodies-i.is c.args.gate c.loop-i.place c.loop-i.invariant.place,
     )
 
-pub returns-in-Ok-false-clause-breaks : goal.returns-in-Ok-false-clause-breaks
-returns-in-Ok-false-clause-breaks c = inr (broken c.args.bodies.now c.loop-i.i c.index-bodies-i.result (omega arith) c.index-bodies-i.is c.args.format c.args.state.now c.loop-i.state c.args.gate c.loop-i.place
+pub returns-in-Ok-false-clause-stops : goal.returns-in-Ok-false-clause-stops
+returns-in-Ok-false-clause-stops c = inr (unsound_here c.args.bodies.now c.loop-i.i c.index-bodies-i.result (omega arith) c.index-bodies-i.is c.args.format c.args.state.now c.loop-i.state c.args.gate c.loop-i.place
     c.loop-i.invariant.lead c.loop-i.invariant.place
     (λ p is. c.in-Ok-false.ensures.no c.in-Ok-false.field-0-test p (subst (λ (b : List ℕ). IsStep c.args.format b c.loop-i.state p) (sym c.bytes.ensures) is)))
 

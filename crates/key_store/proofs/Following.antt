@@ -1,4 +1,4 @@
--- The bodies of a batch follow a party one after the other.
+-- Bodies that were read ahead follow a party one after the other.
 use Rattle.std.proofs.Common.{◌≡◌, inl, inr, ℕ, suc, ◌+◌, ◌<◌, ◌≤◌, Bool, true, false, List, [], ◌∷◌, ◌++◌, length, take, drop, get_or, Some, Result, Ok, Err, IfOk, IfErr, refl, sym, ◌∙◌, ap, subst, arith, append_assoc}
 use Rattle.std.proofs.lemmas.List.{take_more, take-append-drop}
 use Rattle.std.proofs.lemmas.Result.{IfOk-weaker}
@@ -15,7 +15,7 @@ use Rattle.party_state.specs.Limits.{IsWithinLimits}
 use Rattle.change_code.specs.declared.format.Format.{Format}
 use Rattle.key_store.specs.Store.{IsStep, Lead, Fold}
 use Rattle.key_store.specs.Loading.{ReadTo, StopsSomewhere, StandsOnly}
-use Rattle.key_store.specs.Ahead.{gate_behind, IsAhead, IsBroken, Breaks}
+use Rattle.key_store.specs.Ahead.{gate_behind, IsReadAhead, LeadsToUnsound, StopsAmong}
 use Rattle.key_store.proofs.Ahead.{frames_append, frames_one}
 use Rattle.key_store.proofs.Folding.{lead_append, fold_append, one_fold}
 use Rattle.key_store.proofs.Frames.{same_image, sound_of, unsound_of, next_stops}
@@ -41,9 +41,9 @@ module _ (bodies : List (List ℕ)) (i : ℕ) (body : List ℕ) (few : i < lengt
       omega (arith, place_more gate place is, frames_append (take (i + 1) bodies) (drop (i + 1) bodies), ap (λ (l : List (List ℕ)). length (frames l)) (take-append-drop (i + 1) bodies))
 
   -- or it can't follow
-  pub broken : (format : Format) (old mid : Party) (gate place : ℕ) → Lead format old (take i bodies) mid → place ≡ gate_behind gate (take i bodies)
-      → ((new : Party) → IsStep format body mid new → ⊥) → IsBroken format old gate bodies (cause.Damaged place)
-  broken format old mid gate place lead is never = record {
+  pub unsound_here : (format : Format) (old mid : Party) (gate place : ℕ) → Lead format old (take i bodies) mid → place ≡ gate_behind gate (take i bodies)
+      → ((new : Party) → IsStep format body mid new → ⊥) → LeadsToUnsound format old gate bodies (cause.Damaged place)
+  unsound_here format old mid gate place lead is never = record {
     front = take i bodies;
     body = body;
     rest = drop (suc i) bodies;
@@ -54,20 +54,20 @@ module _ (bodies : List (List ℕ)) (i : ℕ) (body : List ℕ) (few : i < lengt
     place = ap (λ (n : ℕ). cause.Damaged n) is;
   }
 
--- a batch
+-- what was read ahead
 
 both_err : (result : Result Bool Cause) (P Q R : Cause → Type 0) → ((reason : Cause) → P reason → Q reason → R reason) → IfErr result P → IfErr result Q → IfErr result R
 both_err (Ok more) P Q R make p q = tt
 both_err (Err reason) P Q R make p q = make reason p q
 
-module _ {D : Type 0} (told : D → View) (old new : Reading D) (bodies : List (List ℕ)) (result : Result Bool Cause) (ahead : IsAhead told old new bodies result)
+module _ {D : Type 0} (told : D → View) (old new : Reading D) (bodies : List (List ℕ)) (result : Result Bool Cause) (ahead : IsReadAhead told old new bodies result)
     (format : Format) (party : Party) (read : ReadTo (told old.disk) old.gate old.end format party) where
   -- where a body can't follow
   module _ (front : (image : List ℕ) (bodies rest : List (List ℕ)) (last : ℕ) → Begins image (bodies ++ rest) last → Begins image bodies (gate_place image bodies))
       (next : (image : List ℕ) (bodies rest : List (List ℕ)) (body : List ℕ) (gate last : ℕ) → Begins image bodies gate → Begins image (bodies ++ body ∷ rest) last
       → found_at image gate (start image + area_size) ≡ Ok (Some body)) where
-    broken_stops : (reason : Cause) → IsBroken format party old.gate bodies reason → StopsSomewhere (told old.disk) reason
-    broken_stops reason b image now =
+    unsound_stops : (reason : Cause) → LeadsToUnsound format party old.gate bodies reason → StopsSomewhere (told old.disk) reason
+    unsound_stops reason b image now =
         let r = read image now in
         let there = ahead.read r.bodies (record { image = image; now = now; begins = r.begins }) in
         let last = gate_behind old.gate bodies in
@@ -90,9 +90,9 @@ module _ {D : Type 0} (told : D → View) (old new : Reading D) (bodies : List (
           },
         )
 
-    pub breaks_stops : (reason : Cause) → Breaks format party old.gate bodies reason → StopsSomewhere (told old.disk) reason
-    breaks_stops reason (inl none) = λ image now. inl (subst IsFree (sym none) tt)
-    breaks_stops reason (inr broken) = broken_stops reason broken
+    pub among_stops : (reason : Cause) → StopsAmong format party old.gate bodies reason → StopsSomewhere (told old.disk) reason
+    among_stops reason (inl none) = λ image now. inl (subst IsFree (sym none) tt)
+    among_stops reason (inr unsound_here) = unsound_stops reason unsound_here
 
   -- where all bodies follow
   module _ (last : Party) (lead : Lead format party bodies last) where
@@ -108,15 +108,15 @@ module _ {D : Type 0} (told : D → View) (old new : Reading D) (bodies : List (
           last = r.last;
         }
 
-    pub batch_read : IfOk result (λ more. more ≡ true → ReadTo (told new.disk) new.gate new.end format last)
-    batch_read = IfOk-weaker result _ _
+    pub ahead_read : IfOk result (λ more. more ≡ true → ReadTo (told new.disk) new.gate new.end format last)
+    ahead_read = IfOk-weaker result _ _
         (λ more there is. subst (λ (e : ℕ). ReadTo (told new.disk) new.gate e format last) (sym ahead.end)
         (subst (λ (g : ℕ). ReadTo (told new.disk) g old.end format last) (sym (there is).0) ahead_to))
         ahead.more
 
-    pub batch_all : ((image : List ℕ) (first second : List (List ℕ)) → HoldsBodies image first → HoldsBodies image second → first ≡ second)
+    pub ahead_all : ((image : List ℕ) (first second : List (List ℕ)) → HoldsBodies image first → HoldsBodies image second → first ≡ second)
         → IfOk result (λ more. more ≡ false → (new.ended ≡ true) × StandsOnly (told new.disk) format last)
-    batch_all one = IfOk-weaker result _ _ (λ more there is. ((there is).0, only (there is).1)) ahead.all
+    ahead_all one = IfOk-weaker result _ _ (λ more there is. ((there is).0, only (there is).1)) ahead.all
       where
         only : ((front : List (List ℕ)) → HasRead (told old.disk) front old.gate → HasBodies (told new.disk) (front ++ bodies)) → StandsOnly (told new.disk) format last
         only all image now =
@@ -131,11 +131,11 @@ module _ {D : Type 0} (told : D → View) (old new : Reading D) (bodies : List (
                   one_fold format other (r.bodies ++ bodies) last another fold (subst (λ (l : List (List ℕ)). Fold other l another) same stands.fold),
             )
 
-    pub batch_stops : IfErr result (StopsSomewhere (told old.disk))
-    batch_stops = both_err result _ _ (StopsSomewhere (told old.disk))
+    pub ahead_stops : IfErr result (StopsSomewhere (told old.disk))
+    ahead_stops = both_err result _ _ (StopsSomewhere (told old.disk))
         (λ reason exact names. stops_on (told old.disk) (told new.disk) reason ahead.journal.still.now (gate_behind old.gate bodies)
-        (next_stops (told new.disk) (told new.disk) (gate_behind old.gate bodies) old.end format last ahead_to reason (λ image now. exact image (sym ahead.journal.still.now ∙ now)) names))
+        (next_stops (told new.disk) (gate_behind old.gate bodies) old.end format last ahead_to reason (λ image now. exact image (sym ahead.journal.still.now ∙ now)) names))
         ahead.exact ahead.names
 
-    pub batch_within : IfOk result (λ more. IsWithinLimits party → IsWithinLimits last)
-    batch_within = IfOk-weaker result _ _ (λ more there within. within_lead format party last bodies lead within) ahead.all
+    pub ahead_within : IfOk result (λ more. IsWithinLimits party → IsWithinLimits last)
+    ahead_within = IfOk-weaker result _ _ (λ more there within. within_lead format party last bodies lead within) ahead.all

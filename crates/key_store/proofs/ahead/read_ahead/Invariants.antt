@@ -1,6 +1,6 @@
 use Rattle.std.proofs.Common.{◌-◌, length}
 use Rattle.key_store.proofs.Ahead.{IsUnderWay}
-use Rattle.key_store.proofs.batch.read_ahead.Given as goal
+use Rattle.key_store.proofs.ahead.read_ahead.Given as goal
 
 abbrev pub invariant-reading : goal.invariant-reading
 invariant-reading g l = IsUnderWay g.D.Disk.told l.fn.opened l.opened l.bodies.items

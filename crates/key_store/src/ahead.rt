@@ -1,22 +1,22 @@
 // Bodies that are read ahead, and followed with the codes of all of them made at once.
 ghost use Rattle.std.specs.Prelude.{◌≡◌, ◌<◌, ◌≤◌, ◌^◌, ◌++◌, ◌∷◌, [], ℕ, length, slice_index_or, true, false, OnOk, OnErr, IfOk, IfErr};
 ghost use Rattle.party_state.specs.Limits.{IsWithinLimits};
-ghost use Rattle.change_code.specs.Code.{IsClosingCode};
+ghost use Rattle.change_code.specs.Code.{IsClosingEdc};
 ghost use Rattle.key_store.specs.Store.{Lead};
 ghost use Rattle.key_store.specs.Loading.{ReadTo, StopsSomewhere, StandsOnly, LeavesJournal};
-ghost use Rattle.key_store.specs.Ahead.{gate_behind, IsAhead, Breaks};
+ghost use Rattle.key_store.specs.Ahead.{gate_behind, IsReadAhead, StopsAmong};
 
 use crate::bodies::next_party;
 use change_code::Format;
-use edc_slices::{MOST, codes_before_ends};
+use edc_slices::{MOST_CODES, codes_before_ends};
 use key_journal::{Cause, Opened, law_gates, law_one_list};
 use party_state::State;
 use std::alloc::Global;
 use x_base::{NoMemory, Text};
 use x_disk::Disk;
 
-/// How many bytes of frames are enough for a batch: behind so many, no further frame is read ahead.
-const ENOUGH: u64 = 65_536;
+/// Behind so many bytes of frames no further one is read ahead.
+const BYTES_AHEAD: u64 = 65_536;
 
 fn push_body(bodies: &mut Vec<Text>, body: Text) -> Result<(), Cause>
     ensures more { OnOk result (bodies.new.items ≡ bodies.old.items ++ body ∷ []) }
@@ -29,17 +29,17 @@ fn push_body(bodies: &mut Vec<Text>, body: Text) -> Result<(), Cause>
     }
 }
 
-/// Reads the bodies of a batch; false where there are no more behind them.
+/// Reads bodies ahead; false where there are no more behind them.
 fn read_ahead<D: Disk>(
     alloc: Global,
     opened: &mut Opened<D>,
     bodies: &mut Vec<Text>,
 ) -> Result<bool, Cause>
     requires { bodies.old.items ≡ [] }
-    ensures { IsAhead D.told opened.old opened.new bodies.new.items result }
+    ensures { IsReadAhead D.told opened.old opened.new bodies.new.items result }
 {
     let gate = opened.gate();
-    'reading: while opened.gate() - gate < ENOUGH && bodies.len() < MOST {
+    'reading: while opened.gate() - gate < BYTES_AHEAD && bodies.len() < MOST_CODES {
         let Some(body) = opened.next(alloc)? else {
             return Ok(false);
         };
@@ -48,13 +48,13 @@ fn read_ahead<D: Disk>(
     Ok(true)
 }
 
-/// The codes that would close the bodies, where the format has some.
-fn closing_codes(format: Format, bodies: &[Text]) -> [u32; MOST]
+/// In format 2, the error detection code of each body but for its last four bytes.
+fn closing_edcs(format: Format, bodies: &[Text]) -> [u32; MOST_CODES]
     requires { length bodies.now ≤ 128 }
-    ensures { (i : ℕ) → i < length bodies.now → IsClosingCode format (slice_index_or bodies.now i []) (slice_index_or result i 0) }
+    ensures { (i : ℕ) → i < length bodies.now → IsClosingEdc format (slice_index_or bodies.now i []) (slice_index_or result i 0) }
 {
     match format {
-        Format::One => [0; MOST],
+        Format::One => [0; MOST_CODES],
         Format::Two => codes_before_ends(bodies),
     }
 }
@@ -70,12 +70,12 @@ fn follow_all(
     requires few { length bodies.now ≤ 128 }
     requires fits { gate_behind gate bodies.now < 2 ^ 64 }
     ensures lead { OnOk result (Lead format state.old bodies.now state.new) }
-    ensures breaks { IfErr result (Breaks format state.old gate bodies.now) }
+    ensures stops { IfErr result (StopsAmong format state.old gate bodies.now) }
 {
-    let codes = closing_codes(format, bodies);
+    let edcs = closing_edcs(format, bodies);
     let mut place = gate;
     for (i, body) in bodies.iter().enumerate() {
-        match next_party(alloc, format, state, body.bytes(), codes[i]) {
+        match next_party(alloc, format, state, body.bytes(), edcs[i]) {
             Ok(true) => place += 5 + body.bytes().len() as u64,
             Ok(false) => return Err(Cause::Damaged(place)),
             Err(NoMemory) => return Err(Cause::NoMemory),
@@ -84,8 +84,8 @@ fn follow_all(
     Ok(())
 }
 
-/// Makes of the party the one after the next frames, as many as a batch has; false where there are no more.
-pub(crate) fn read_batch<D: Disk>(
+/// Makes of the party the one after the next frames, which are read ahead; false where there are no more.
+pub(crate) fn read_frames<D: Disk>(
     alloc: Global,
     opened: &mut Opened<D>,
     format: Format,
@@ -104,10 +104,11 @@ pub(crate) fn read_batch<D: Disk>(
     law_gates();
     law_one_list();
     let gate = opened.gate();
-    let Ok(mut bodies) = Vec::with_capacity(alloc, MOST) else {
+    let Ok(mut bodies) = Vec::with_capacity(alloc, MOST_CODES) else {
         return Err(Cause::NoMemory);
     };
     let more = read_ahead(alloc, opened, &mut bodies);
     follow_all(alloc, format, state, gate, bodies.as_slice())?;
+    // What stopped the reading comes behind what stops one of these bodies.
     more
 }
