@@ -1,11 +1,13 @@
 -- Blocks in lanes.
-use Rattle.std.proofs.Common.{◌≡◌, ℕ, zero, suc, ◌+◌, ◌-◌, ◌*◌, ◌/◌, ◌%◌, ◌^◌, ◌<◌, Bool, false, eqb, List, [], ◌∷◌, ◌++◌, map, take, drop, replicate, length, get_or, refl, sym, ap, subst, ◌∙◌, arith, add-one}
+use Rattle.std.proofs.Common.{◌≡◌, ℕ, zero, suc, ◌+◌, ◌-◌, ◌*◌, ◌/◌, ◌%◌, ◌^◌, ◌<◌, Bool, true, false, eqb, List, [], ◌∷◌, ◌++◌, map, take, drop, replicate, length, get_or, refl, sym, ap, subst, ◌∙◌, arith, add-one}
 use Rattle.std.specs.Prelude.{bit_or, bit_xor, fold}
 use Rattle.std.specs.Int.{bit_at}
 use Rattle.std.specs.List.{range_with_len}
 use Rattle.std.specs.Simd.Lanes.{zip2}
 use Rattle.std.proofs.lemmas.Simd.{get_or-replicate, zip2-map, map-map}
-use Rattle.std.proofs.lemmas.List.{length-map, length-append, length-take, take_at, drop_at, take-append-drop, drop_more, get_or-map}
+use Rattle.std.proofs.Math.ListN.{get_or-append}
+use Rattle.std.proofs.lemmas.Bool.{eqb-true, agree_below_at}
+use Rattle.std.proofs.lemmas.List.{get_or-append-add, length-map, length-append, length-take, take_at, drop_at, take-append-drop, drop_more, get_or-map}
 use Rattle.std.proofs.lemmas.List.FromFn.{get_or-map-range_with_len}
 use Rattle.std.proofs.lemmas.Nat.{xor_lt, shl_whole, or_shifted, pow-add}
 use Rattle.std.proofs.lemmas.Nat.Bits.{bit_at-zero}
@@ -21,6 +23,7 @@ use Rattle.des_slices.specs.declared.key.RoundKey.{RoundKey}
 use Rattle.des_slices.specs.Keys.{keys_in}
 use Rattle.des_slices.specs.Slices.{in_lanes}
 use Rattle.des_slices.specs.Vectors.{lane, lane_bit, words_of}
+use Rattle.des_slices.proofs.Wirings.{get_or-lane}
 
 -- ---- a number for each lane
 
@@ -142,7 +145,7 @@ two_rounds ks i l r a b h within first second so_far =
 -- ---- the left half of a block
 
 -- one step: the bits gathered so far, and the next one behind them
-pub gathered_more : (t : List ℕ) (bs : List Bool) (v i x : ℕ) → i < length t → i < 32 → v < 2 ^ i → x < 2 → eqb x 1 ≡ get_or bs (get_or t i 0 - 1) false
+gathered_more : (t : List ℕ) (bs : List Bool) (v i x : ℕ) → i < length t → i < 32 → v < 2 ^ i → x < 2 → eqb x 1 ≡ get_or bs (get_or t i 0 - 1) false
     → bits_of i v ≡ pick (take i t) bs
     → (bits_of (i + 1) (bit_or (v * 2 % 2 ^ 32) x) ≡ pick (take (i + 1) t) bs) × (bit_or (v * 2 % 2 ^ 32) x < 2 ^ (i + 1))
 gathered_more t bs v i x within small below bit picked so_far =
@@ -154,6 +157,40 @@ gathered_more t bs v i x within small below bit picked so_far =
           ∙ ap (λ b. pick (take i t) bs ++ b ∷ []) picked ∙ sym (pick_more t bs i within),
       rw power (omega arith),
     )
+
+-- two steps
+pub gathered_two : (t : List ℕ) (bs : List Bool) (v i x y : ℕ) → 2 * i + 1 < length t → 2 * i + 1 < 32 → v < 2 ^ (2 * i) → x < 2 → y < 2
+    → eqb x 1 ≡ get_or bs (get_or t (2 * i) 0 - 1) false → eqb y 1 ≡ get_or bs (get_or t (2 * i + 1) 0 - 1) false
+    → bits_of (2 * i) v ≡ pick (take (2 * i) t) bs
+    → (bits_of (2 * (i + 1)) (bit_or (bit_or (v * 2 % 2 ^ 32) x * 2 % 2 ^ 32) y) ≡ pick (take (2 * (i + 1)) t) bs) × (bit_or (bit_or (v * 2 % 2 ^ 32) x * 2 % 2 ^ 32) y < 2 ^ (2 * (i + 1)))
+gathered_two t bs v i x y within small below p q first second so_far =
+    let w = bit_or (v * 2 % 2 ^ 32) x in
+    let z = bit_or (w * 2 % 2 ^ 32) y in
+    let next : 2 * i + 1 + 1 ≡ 2 * (i + 1) = omega arith in
+    let one = gathered_more t bs v (2 * i) x (omega arith) (omega arith) below p first so_far in
+    let two = gathered_more t bs w (2 * i + 1) y within small one.1 q second one.0 in
+    subst (λ m. (bits_of m z ≡ pick (take m t) bs) × (z < 2 ^ m)) next two
+
+-- the place in a half of the bits 2 i and 2 i + 1 of a block
+pub right_place : (i : ℕ) → i < 16 → get_or (take 32 ip_inverse) (2 * i) 0 - 1 ≡ 32 + (8 * (i % 4) + 7 - i / 4)
+right_place i h = eqb-true _ _ (agree_below_at (λ n. eqb (get_or (take 32 ip_inverse) (2 * n) 0 - 1) (32 + (8 * (n % 4) + 7 - n / 4))) (λ n. true) 16 i refl h)
+
+pub left_place : (i : ℕ) → i < 16 → get_or (take 32 ip_inverse) (2 * i + 1) 0 - 1 ≡ 8 * (i % 4) + 7 - i / 4
+left_place i h = eqb-true _ _ (agree_below_at (λ n. eqb (get_or (take 32 ip_inverse) (2 * n + 1) 0 - 1) (8 * (n % 4) + 7 - n / 4)) (λ n. true) 16 i refl h)
+
+bit_in : (l : ℕ) (vs : List Vector) (p : ℕ) (d : Vector) → p < length vs → lane_bit l (get_or vs p d).words ≡ get_or (lane l (words_of vs)) p false
+bit_in l vs p d h = ap (lane_bit l) (sym (get_or-map (λ (v : Vector). v.words) vs p d [] h)) ∙ get_or-lane l (words_of vs) p
+
+pub bit_in_left : (l : ℕ) (vs ws : List Vector) (p : ℕ) (d : Vector) → length vs ≡ 32 → p < 32 → lane_bit l (get_or vs p d).words ≡ get_or (lane l (words_of vs) ++ lane l (words_of ws)) p false
+bit_in_left l vs ws p d e h =
+    let size = length-lane l 32 vs e in
+    bit_in l vs p d (omega arith) ∙ sym (get_or-append (lane l (words_of vs)) (lane l (words_of ws)) false p (omega (arith, size)))
+
+pub bit_in_right : (l : ℕ) (vs ws : List Vector) (p : ℕ) (d : Vector) → length vs ≡ 32 → p < length ws → lane_bit l (get_or ws p d).words ≡ get_or (lane l (words_of vs) ++ lane l (words_of ws)) (32 + p) false
+bit_in_right l vs ws p d e h =
+    let size = length-lane l 32 vs e in
+    bit_in l ws p d h ∙ sym (get_or-append-add (lane l (words_of vs)) (lane l (words_of ws)) p false)
+    ∙ ap (λ n. get_or (lane l (words_of vs) ++ lane l (words_of ws)) (n + p) false) size
 
 front : (l r : List Bool) → pick (take 32 ip_inverse) (l ++ r) ≡ take 32 (pick ip_inverse (l ++ r))
 unfolding pick

@@ -143,7 +143,7 @@ Each1-append P (x ∷ xs) ys p q = (p.0, Each1-append P xs ys p.1 q)
 unfoldable pub words_at : ℕ → List Vector → List (List ℕ)
 words_at n vs = words_of (whole n vs)
 
-pub lane-append : (l : ℕ) (vs ws : List (List ℕ)) → lane l (vs ++ ws) ≡ lane l vs ++ lane l ws
+lane-append : (l : ℕ) (vs ws : List (List ℕ)) → lane l (vs ++ ws) ≡ lane l vs ++ lane l ws
 unfolding lane
 lane-append l vs ws = map-append (lane_bit l) vs ws
 

@@ -1,5 +1,5 @@
 //! The S-boxes of FIPS 46 as circuits: six vectors of input bits give four of output bits, the first
-//! of each the most significant, in all lanes at once.
+//! of each the most significant, in all lanes at once. bench/boxes.c found the gates.
 ghost use Rattle.std.specs.Prelude.{◌≡◌, ◌<◌, ℕ, [], ◌∷◌};
 ghost use Rattle.x_des.specs.Des.{substituted};
 ghost use Rattle.x_des.specs.Tables.{s1, s2, s3, s4, s5, s6, s7, s8};

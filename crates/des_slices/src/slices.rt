@@ -1,25 +1,19 @@
-ghost use Rattle.std.specs.Prelude.{◌≡◌, ◌<◌, ◌≤◌, ◌-◌, ◌/◌, ◌^◌, ◌++◌, [], ℕ, bit_xor, drop, take, map, replicate, slice_index_or};
+ghost use Rattle.std.specs.Prelude.{◌≡◌, ◌<◌, ◌/◌, ◌^◌, ℕ, bit_xor, drop, take, map, replicate, slice_index_or};
 ghost use Rattle.std.specs.Simd.Lanes.{zip2};
 ghost use Rattle.x_des.specs.Bits.{exclusive_or, pick};
 ghost use Rattle.x_des.specs.Des.{enciphered};
 ghost use Rattle.x_des.specs.Tables.{ip};
 ghost use Rattle.des_slices.specs.Slices.{numbers};
-ghost use Rattle.des_slices.specs.Vectors.{AreVectors, IsVector, lane, words_of};
+ghost use Rattle.des_slices.specs.Vectors.{AreVectors, lane, words_of};
 
 use crate::key::SlicedKey;
 use crate::round::round;
-use crate::vector::{Vector, all_checked, bit};
+use crate::vector::{Vector, bit, vectors_of};
 use std::marker::Model;
 use std::simd::u64x2;
 
 /// How many blocks stand side by side.
 pub const LANES: usize = 128;
-
-/// Where the left half of a block stands behind IP, counted from 1.
-const LEFT_PLACES: [usize; 32] = [
-    40, 8, 48, 16, 56, 24, 64, 32, 39, 7, 47, 15, 55, 23, 63, 31, 38, 6, 46, 14, 54, 22, 62, 30,
-    37, 5, 45, 13, 53, 21, 61, 29,
-];
 
 /// 128 blocks, in the bits of vectors: vector `n` of a half has bit `n` of that half of each block,
 /// behind IP of FIPS 46. Contracts see them as the list of the blocks.
@@ -59,7 +53,7 @@ impl Slices {
     pub fn xor(&mut self, bits: &[u64x2; 64])
         ensures { self.new ≡ zip2 bit_xor self.old (numbers bits.now) }
     {
-        let bits = all_checked(bits);
+        let bits = vectors_of(bits);
         self.left = xor_left(&self.left, &bits);
         self.right = xor_right(&self.right, &bits);
     }
@@ -84,8 +78,10 @@ impl Slices {
         ensures { result ≡ slice_index_or self.now lane 0 / 2 ^ 32 }
     {
         let mut half = 0;
-        for place in LEFT_PLACES {
-            half = half << 1 | bit(at_place(&self.left, &self.right, place), lane);
+        for i in 0..16 {
+            let place = 8 * (i % 4) + 7 - i / 4;
+            half = half << 1 | bit(self.right[place], lane);
+            half = half << 1 | bit(self.left[place], lane);
         }
         half
     }
@@ -303,21 +299,4 @@ fn xor_right(half: &[Vector; 32], bits: &[Vector; 64]) -> [Vector; 32]
             words: half[31].words ^ bits[6].words,
         },
     ]
-}
-
-/// The vector at a place in two halves, counted from 1.
-#[inline(always)]
-fn at_place(left: &[Vector; 32], right: &[Vector; 32], place: usize) -> Vector
-    requires low { 1 ≤ place }
-    requires high { place ≤ 64 }
-    requires left { AreVectors left.now }
-    requires right { AreVectors right.now }
-    ensures words { result.words ≡ slice_index_or (words_of left.now ++ words_of right.now) (place - 1) [] }
-    ensures vector { IsVector result.words }
-{
-    if place <= 32 {
-        left[place - 1]
-    } else {
-        right[place - 33]
-    }
 }

@@ -12,7 +12,7 @@ pub struct Vector {
 
 /// The vector of these two words.
 #[inline(always)]
-fn checked(words: u64x2) -> Vector
+fn vector_of(words: u64x2) -> Vector
     ensures words { result.words ≡ words }
     ensures vector { IsVector result.words }
 {
@@ -20,13 +20,13 @@ fn checked(words: u64x2) -> Vector
 }
 
 /// The vectors of these words.
-pub fn all_checked(words: &[u64x2; 64]) -> [Vector; 64]
+pub fn vectors_of(words: &[u64x2; 64]) -> [Vector; 64]
     ensures words { words_of result ≡ words.now }
     ensures vectors { AreVectors result }
 {
-    let mut vectors = [checked(u64x2::splat(0)); 64];
+    let mut vectors = [vector_of(u64x2::splat(0)); 64];
     for i in 0..64 {
-        vectors[i] = checked(words[i]);
+        vectors[i] = vector_of(words[i]);
     }
     vectors
 }
@@ -39,5 +39,7 @@ pub fn bit(vector: Vector, lane: usize) -> u32
     ensures bit { result == 1 ≡ lane_bit lane vector.words }
     ensures below { result < 2 }
 {
-    (vector.words.to_array()[lane / 64] >> (lane % 64) & 1) as u32
+    let words = vector.words.to_array();
+    let word = if lane < 64 { words[0] } else { words[1] };
+    (word >> (lane % 64) & 1) as u32
 }

@@ -11,7 +11,7 @@ use Rattle.des_slices.proofs.slices.Slices.xor.Goals as goal
 pub returns : goal.returns
 returns c =
     let s = c.self.inside in
-    let bits = c.all_checked-bits.result in
+    let bits = c.vectors_of-bits.result in
     let left = c.xor_left-self-inside.result in
     let right = c.xor_right-self-inside.result in
     let before = λ (n : ℕ). restored (lane n (words_of s.left)) (lane n (words_of s.right)) in
@@ -24,4 +24,4 @@ returns c =
     (length-lane n 32 s.left (omega arith)) (length-lane n 32 s.right (omega arith)) (length-lane n 64 bits (omega arith)))
     ∙ sym (zip2-in_lanes before put)
     ∙ ap (λ xs. zip2 bit_xor xs (numbers (words_of bits))) c.self.view_is
-    ∙ ap (λ vs. zip2 bit_xor c.args.self.now (numbers vs)) c.all_checked-bits.ensures.words
+    ∙ ap (λ vs. zip2 bit_xor c.args.self.now (numbers vs)) c.vectors_of-bits.ensures.words

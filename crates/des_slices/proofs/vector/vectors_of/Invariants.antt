@@ -1,6 +1,6 @@
 use Rattle.std.proofs.Common.{◌≡◌, length, take}
 use Rattle.des_slices.specs.Vectors.{AreVectors, words_of}
-use Rattle.des_slices.proofs.vector.all_checked.Given as goal
+use Rattle.des_slices.proofs.vector.vectors_of.Given as goal
 
 abbrev pub invariant-loop-i : goal.invariant-loop-i
 invariant-loop-i l = record {

@@ -2,15 +2,15 @@ use Rattle.std.proofs.Common.{◌∙◌, arith}
 use Rattle.std.proofs.lemmas.List.{length-set}
 use Rattle.des_slices.specs.declared.vector.Vector.{Vector}
 use Rattle.des_slices.proofs.Filling.{filled, filled_more, vectors-set}
-use Rattle.des_slices.proofs.vector.all_checked.Goals as goal
+use Rattle.des_slices.proofs.vector.vectors_of.Goals as goal
 
 pub loop-i-preserved : goal.loop-i-preserved
 loop-i-preserved c =
     let l = c.loop-i in
     record {
-      words = filled_more (λ (v : Vector). v.words) l.vectors c.args.words.now l.i c.checked.result _ (omega arith) (omega arith) l.invariant.words c.checked.ensures.words;
-      vectors = vectors-set l.vectors l.i c.checked.result c.checked.ensures.vector l.invariant.vectors;
-      size = length-set l.vectors l.i c.checked.result ∙ l.invariant.size;
+      words = filled_more (λ (v : Vector). v.words) l.vectors c.args.words.now l.i c.vector_of.result _ (omega arith) (omega arith) l.invariant.words c.vector_of.ensures.words;
+      vectors = vectors-set l.vectors l.i c.vector_of.result c.vector_of.ensures.vector l.invariant.vectors;
+      size = length-set l.vectors l.i c.vector_of.result ∙ l.invariant.size;
     }
 
 pub returns-clause-words : goal.returns-clause-words
