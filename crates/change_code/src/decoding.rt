@@ -78,12 +78,7 @@ fn opened(format: Format, bytes: &[u8], edc: u32) -> Option<&[u8]>
 
 /// The change whose code in this format the bytes are. `edc` is, in format 2, the error detection code of all bytes but the last
 /// four; in format 1 it isn't looked at. Comes with `Bad` exactly where they are no code in this format.
-pub fn decode_as(
-    alloc: Global,
-    format: Format,
-    bytes: &[u8],
-    edc: u32,
-) -> Result<Change, CodeFault>
+pub fn decode_as(alloc: Global, format: Format, bytes: &[u8], edc: u32) -> Result<Change, CodeFault>
     requires { IsClosingEdc format bytes.now edc }
     ensures code { IfOk result (λ change. IsCode format bytes.now change) }
     ensures bad { IfErr result (λ fault. fault ≡ CodeFault.Bad → (change : List Edit) → IsCode format bytes.now change → ⊥) }
