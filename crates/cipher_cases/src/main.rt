@@ -9,6 +9,7 @@
 mod calls;
 mod keys;
 mod plain;
+mod side;
 mod words;
 
 use case_table::{Answers, rows_told};
@@ -39,6 +40,7 @@ impl Answers for Ciphers {
             "codes made by another program, of texts whole and cut" => calls::codes(
                 alloc, left, asked,
             ),
+            "codes side by side, made by another program" => side::codes(alloc, left, right),
             "draws made by another program" => told(
                 alloc,
                 &calls::draws(Gen { key, v: third }, fourth),

@@ -1,0 +1,32 @@
+// Codes of many texts, made at once.
+use crate::words::told;
+use edc_slices::{MOST, codes_before_ends};
+use std::alloc::{AllocError, Global};
+use x_base::{NoMemory, Text};
+
+/// A body of up to 204 bytes, by a rule.
+fn body(alloc: Global, number: u64) -> Result<Text, NoMemory> {
+    let mut body = Text::new(alloc);
+    for place in 0..number.wrapping_mul(37) % 205 {
+        let byte = number.wrapping_mul(31).wrapping_add(place.wrapping_mul(17)) % 256;
+        body.push(&[byte as u8])?;
+    }
+    Ok(body)
+}
+
+/// The codes of so many bodies from a number on, but for the last four bytes of each.
+pub(crate) fn codes(alloc: Global, first: u64, count: u64) -> Result<String, NoMemory> {
+    let mut bodies = Vec::new(alloc);
+    for number in first..first.saturating_add(count) {
+        if let Err(full) = bodies.push(body(alloc, number)?) {
+            return Err(AllocError::from(full).into());
+        }
+    }
+    let count = bodies.len().min(MOST);
+    let codes = codes_before_ends(&bodies[..count]);
+    let mut words = [0; MOST];
+    for (word, code) in words.iter_mut().zip(codes) {
+        *word = code.into();
+    }
+    told(alloc, &words[..count])
+}
