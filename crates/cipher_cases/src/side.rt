@@ -1,6 +1,6 @@
 // Codes of many texts, made at once.
 use crate::words::told;
-use edc_slices::{MOST, codes_before_ends};
+use edc_slices::{MOST_CODES, codes_before_ends};
 use std::alloc::{AllocError, Global};
 use x_base::{NoMemory, Text};
 
@@ -22,9 +22,9 @@ pub(crate) fn codes(alloc: Global, first: u64, count: u64) -> Result<String, NoM
             return Err(AllocError::from(full).into());
         }
     }
-    let count = bodies.len().min(MOST);
+    let count = bodies.len().min(MOST_CODES);
     let codes = codes_before_ends(&bodies[..count]);
-    let mut words = [0; MOST];
+    let mut words = [0; MOST_CODES];
     for (word, code) in words.iter_mut().zip(codes) {
         *word = code.into();
     }
