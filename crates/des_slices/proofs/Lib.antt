@@ -1,4 +1,4 @@
-pub mod Gates
-pub mod Wirings
-pub mod Filling
-pub mod Blocks
+mod Gates
+mod Wirings
+mod Filling
+mod Blocks

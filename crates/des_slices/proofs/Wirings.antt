@@ -28,7 +28,7 @@ get_or-lane l [] i = ap (λ n. eqb n 1) (bit_at-zero (l % 64))
 get_or-lane l (v ∷ vs) zero = refl
 get_or-lane l (v ∷ vs) (suc i) = get_or-lane l vs i
 
-pub lane-picked : (l : ℕ) (t : List ℕ) (vs : List (List ℕ)) → lane l (picked t vs) ≡ pick t (lane l vs)
+lane-picked : (l : ℕ) (t : List ℕ) (vs : List (List ℕ)) → lane l (picked t vs) ≡ pick t (lane l vs)
 unfolding lane pick picked
 lane-picked l [] vs = refl
 lane-picked l (p ∷ t) vs =
@@ -68,7 +68,7 @@ lane_bit-xor l v w h p q =
     ∙ ap (λ n. eqb n 1) (bit_at_xor a b (l % 64))
     ∙ differ_of (bit_at a (l % 64)) (bit_at b (l % 64)) (bit_at-lt a (l % 64)) (bit_at-lt b (l % 64))
 
-pub lane-xored : (l : ℕ) (vs ws : List (List ℕ)) → l < 128 → length vs ≡ length ws → Each1 IsVector vs → Each1 IsVector ws → lane l (xored vs ws) ≡ exclusive_or (lane l vs) (lane l ws)
+lane-xored : (l : ℕ) (vs ws : List (List ℕ)) → l < 128 → length vs ≡ length ws → Each1 IsVector vs → Each1 IsVector ws → lane l (xored vs ws) ≡ exclusive_or (lane l vs) (lane l ws)
 unfolding lane exclusive_or xored
 lane-xored l [] ws h e p q = refl
 lane-xored l (v ∷ vs) [] h e p q = absurd (omega arith)
@@ -76,7 +76,7 @@ lane-xored l (v ∷ vs) (w ∷ ws) h e p q =
     ap (λ b. b ∷ lane l (xored vs ws)) (lane_bit-xor l v w h p.0 q.0)
     ∙ ap (λ bs. differ (lane_bit l v) (lane_bit l w) ∷ bs) (lane-xored l vs ws h (omega arith) p.1 q.1)
 
-pub vectors_xored : (vs ws : List (List ℕ)) → Each1 IsVector vs → Each1 IsVector ws → Each1 IsVector (xored vs ws)
+vectors_xored : (vs ws : List (List ℕ)) → Each1 IsVector vs → Each1 IsVector ws → Each1 IsVector (xored vs ws)
 unfolding xored
 vectors_xored [] ws p q = tt
 vectors_xored (v ∷ vs) [] p q = tt
@@ -96,7 +96,7 @@ none = record { words = [] }
 unfoldable pub whole : ℕ → List Vector → List Vector
 whole n vs = pick_l none vs (range_with_len 0 n)
 
-pub whole_is : (n : ℕ) (vs : List Vector) → length vs ≡ n → whole n vs ≡ vs
+whole_is : (n : ℕ) (vs : List Vector) → length vs ≡ n → whole n vs ≡ vs
 unfolding whole
 whole_is n vs e = pick_l_whole none vs n e
 
@@ -135,7 +135,7 @@ picked_second n m t vs ws e f g places p q =
 
 -- ---- the eight S-boxes
 
-pub Each1-append : {X : Type 0} (P : X → Type 0) (xs ys : List X) → Each1 P xs → Each1 P ys → Each1 P (xs ++ ys)
+Each1-append : {X : Type 0} (P : X → Type 0) (xs ys : List X) → Each1 P xs → Each1 P ys → Each1 P (xs ++ ys)
 Each1-append P [] ys p q = q
 Each1-append P (x ∷ xs) ys p q = (p.0, Each1-append P xs ys p.1 q)
 

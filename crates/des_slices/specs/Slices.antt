@@ -10,11 +10,11 @@ use Rattle.des_slices.specs.declared.slices.Slices.TheInside.{Inside}
 unfoldable pub in_lanes : (ℕ → ℕ) → List ℕ
 in_lanes f = map f (range_with_len 0 128)
 
--- the numbers that the lanes of vectors write, each the first vector's bit first
+-- the number that each lane of these vectors writes, the first vector's bit the most significant
 abbrev pub numbers : List (List ℕ) → List ℕ
 numbers vs = in_lanes (λ l. number (lane l vs))
 
--- the block of a lane: that of which IP makes the lane's two halves
+-- the block of which IP makes the two halves of a lane
 abbrev pub block_in : Inside → ℕ → ℕ
 block_in s l = number (pick ip_inverse (lane l (words_of s.left) ++ lane l (words_of s.right)))
 
@@ -22,6 +22,7 @@ block_in s l = number (pick ip_inverse (lane l (words_of s.left) ++ lane l (word
 abbrev pub blocks_of : Inside → List ℕ
 blocks_of s = in_lanes (block_in s)
 
+-- the vectors of both halves
 pub record HasVectors (s : Inside) : Type 0 where
   pub left : AreVectors s.left
   pub right : AreVectors s.right

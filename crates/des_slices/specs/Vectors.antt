@@ -14,13 +14,15 @@ lane_bit l v = bit (slice_index_or v (l / 64) 0) (l % 64)
 unfoldable pub lane : ℕ → List (List ℕ) → List Bool
 lane l vs = map (lane_bit l) vs
 
--- two words
+-- two words of 64 bits
 pub record IsVector (v : List ℕ) : Type 0 where
   pub two : length v ≡ 2
   pub fits : Each1 (Fits w64) v
 
+-- the words of each vector
 abbrev pub words_of : List Vector → List (List ℕ)
 words_of vs = map (λ (v : Vector). v.words) vs
 
+-- each is one
 abbrev pub AreVectors : List Vector → Type 0
 AreVectors vs = Each1 IsVector (words_of vs)

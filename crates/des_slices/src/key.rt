@@ -37,16 +37,16 @@ impl SlicedKey {
         requires { AreRoundKeys round_keys.now key }
         ensures { result ≡ key }
     {
-        let mut rounds = [in_all_lanes(0); 16];
+        let mut rounds = [round_key_in_lanes(0); 16];
         for i in 0..16 {
-            rounds[i] = in_all_lanes(round_keys[i]);
+            rounds[i] = round_key_in_lanes(round_keys[i]);
         }
         SlicedKey { rounds, key }
     }
 }
 
 /// The round key in the low 48 bits of a word.
-fn in_all_lanes(word: u64) -> RoundKey
+fn round_key_in_lanes(word: u64) -> RoundKey
     ensures lanes { (l : ℕ) → l < 128 → lane l (words_of result.bits) ≡ bits_of 48 word }
     ensures vectors { AreVectors result.bits }
 {
@@ -54,13 +54,13 @@ fn in_all_lanes(word: u64) -> RoundKey
         words: u64x2::splat(0),
     }; 48];
     for i in 0..48 {
-        bits[i] = in_all(word >> (47 - i) & 1);
+        bits[i] = bit_in_lanes(word >> (47 - i) & 1);
     }
     RoundKey { bits }
 }
 
-/// The lowest bit of a word in all lanes.
-fn in_all(bit: u64) -> Vector
+/// A bit, 0 or 1, in all lanes.
+fn bit_in_lanes(bit: u64) -> Vector
     requires { bit < 2 }
     ensures lanes { (l : ℕ) → l < 128 → lane_bit l result.words ≡ bit == 1 }
     ensures vector { IsVector result.words }

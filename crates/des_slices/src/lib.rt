@@ -1,7 +1,8 @@
 //! DES of 128 blocks at once, in the bits of vectors.
 #![tactic(auto)]
 
-mod boxes;
+mod boxes_1_to_4;
+mod boxes_5_to_8;
 mod key;
 mod round;
 mod slices;

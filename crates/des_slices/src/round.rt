@@ -4,8 +4,9 @@ ghost use Rattle.x_des.specs.Des.{cipher, substitution};
 ghost use Rattle.x_des.specs.Tables.{expansion, permutation, s_boxes};
 ghost use Rattle.des_slices.specs.Vectors.{AreVectors, lane, words_of};
 
-use crate::boxes::{box_1, box_2, box_3, box_4, box_5, box_6, box_7, box_8};
-use crate::vector::Vector;
+use crate::boxes_1_to_4::{box_1, box_2, box_3, box_4};
+use crate::boxes_5_to_8::{box_5, box_6, box_7, box_8};
+use crate::vector::{Vector, xored};
 
 /// Puts the cipher function of the right half and a round key onto the left half by exclusive or.
 #[inline(never)]
@@ -27,155 +28,59 @@ fn xor_expanded(half: &[Vector; 32], key: &[Vector; 48]) -> [Vector; 48]
     ensures lanes { (l : ℕ) → l < 128 → lane l (words_of result) ≡ exclusive_or (pick expansion (lane l (words_of half.now))) (lane l (words_of key.now)) }
     ensures vectors { AreVectors result }
 {
-    [
-        Vector {
-            words: half[31].words ^ key[0].words,
-        },
-        Vector {
-            words: half[0].words ^ key[1].words,
-        },
-        Vector {
-            words: half[1].words ^ key[2].words,
-        },
-        Vector {
-            words: half[2].words ^ key[3].words,
-        },
-        Vector {
-            words: half[3].words ^ key[4].words,
-        },
-        Vector {
-            words: half[4].words ^ key[5].words,
-        },
-        Vector {
-            words: half[3].words ^ key[6].words,
-        },
-        Vector {
-            words: half[4].words ^ key[7].words,
-        },
-        Vector {
-            words: half[5].words ^ key[8].words,
-        },
-        Vector {
-            words: half[6].words ^ key[9].words,
-        },
-        Vector {
-            words: half[7].words ^ key[10].words,
-        },
-        Vector {
-            words: half[8].words ^ key[11].words,
-        },
-        Vector {
-            words: half[7].words ^ key[12].words,
-        },
-        Vector {
-            words: half[8].words ^ key[13].words,
-        },
-        Vector {
-            words: half[9].words ^ key[14].words,
-        },
-        Vector {
-            words: half[10].words ^ key[15].words,
-        },
-        Vector {
-            words: half[11].words ^ key[16].words,
-        },
-        Vector {
-            words: half[12].words ^ key[17].words,
-        },
-        Vector {
-            words: half[11].words ^ key[18].words,
-        },
-        Vector {
-            words: half[12].words ^ key[19].words,
-        },
-        Vector {
-            words: half[13].words ^ key[20].words,
-        },
-        Vector {
-            words: half[14].words ^ key[21].words,
-        },
-        Vector {
-            words: half[15].words ^ key[22].words,
-        },
-        Vector {
-            words: half[16].words ^ key[23].words,
-        },
-        Vector {
-            words: half[15].words ^ key[24].words,
-        },
-        Vector {
-            words: half[16].words ^ key[25].words,
-        },
-        Vector {
-            words: half[17].words ^ key[26].words,
-        },
-        Vector {
-            words: half[18].words ^ key[27].words,
-        },
-        Vector {
-            words: half[19].words ^ key[28].words,
-        },
-        Vector {
-            words: half[20].words ^ key[29].words,
-        },
-        Vector {
-            words: half[19].words ^ key[30].words,
-        },
-        Vector {
-            words: half[20].words ^ key[31].words,
-        },
-        Vector {
-            words: half[21].words ^ key[32].words,
-        },
-        Vector {
-            words: half[22].words ^ key[33].words,
-        },
-        Vector {
-            words: half[23].words ^ key[34].words,
-        },
-        Vector {
-            words: half[24].words ^ key[35].words,
-        },
-        Vector {
-            words: half[23].words ^ key[36].words,
-        },
-        Vector {
-            words: half[24].words ^ key[37].words,
-        },
-        Vector {
-            words: half[25].words ^ key[38].words,
-        },
-        Vector {
-            words: half[26].words ^ key[39].words,
-        },
-        Vector {
-            words: half[27].words ^ key[40].words,
-        },
-        Vector {
-            words: half[28].words ^ key[41].words,
-        },
-        Vector {
-            words: half[27].words ^ key[42].words,
-        },
-        Vector {
-            words: half[28].words ^ key[43].words,
-        },
-        Vector {
-            words: half[29].words ^ key[44].words,
-        },
-        Vector {
-            words: half[30].words ^ key[45].words,
-        },
-        Vector {
-            words: half[31].words ^ key[46].words,
-        },
-        Vector {
-            words: half[0].words ^ key[47].words,
-        },
+    xored![
+        half[31] ^ key[0],
+        half[0] ^ key[1],
+        half[1] ^ key[2],
+        half[2] ^ key[3],
+        half[3] ^ key[4],
+        half[4] ^ key[5],
+        half[3] ^ key[6],
+        half[4] ^ key[7],
+        half[5] ^ key[8],
+        half[6] ^ key[9],
+        half[7] ^ key[10],
+        half[8] ^ key[11],
+        half[7] ^ key[12],
+        half[8] ^ key[13],
+        half[9] ^ key[14],
+        half[10] ^ key[15],
+        half[11] ^ key[16],
+        half[12] ^ key[17],
+        half[11] ^ key[18],
+        half[12] ^ key[19],
+        half[13] ^ key[20],
+        half[14] ^ key[21],
+        half[15] ^ key[22],
+        half[16] ^ key[23],
+        half[15] ^ key[24],
+        half[16] ^ key[25],
+        half[17] ^ key[26],
+        half[18] ^ key[27],
+        half[19] ^ key[28],
+        half[20] ^ key[29],
+        half[19] ^ key[30],
+        half[20] ^ key[31],
+        half[21] ^ key[32],
+        half[22] ^ key[33],
+        half[23] ^ key[34],
+        half[24] ^ key[35],
+        half[23] ^ key[36],
+        half[24] ^ key[37],
+        half[25] ^ key[38],
+        half[26] ^ key[39],
+        half[27] ^ key[40],
+        half[28] ^ key[41],
+        half[27] ^ key[42],
+        half[28] ^ key[43],
+        half[29] ^ key[44],
+        half[30] ^ key[45],
+        half[31] ^ key[46],
+        half[0] ^ key[47],
     ]
 }
 
-/// The eight S-boxes.
+/// What the eight S-boxes make of 48 bits.
 #[inline(always)]
 fn substituted(bits: &[Vector; 48]) -> [Vector; 32]
     ensures lanes { (l : ℕ) → l < 128 → lane l (words_of result) ≡ substitution s_boxes (lane l (words_of bits.now)) }
@@ -260,102 +165,38 @@ fn xor_permuted(half: &[Vector; 32], bits: &[Vector; 32]) -> [Vector; 32]
     ensures lanes { (l : ℕ) → l < 128 → lane l (words_of result) ≡ exclusive_or (lane l (words_of half.now)) (pick permutation (lane l (words_of bits.now))) }
     ensures vectors { AreVectors result }
 {
-    [
-        Vector {
-            words: half[0].words ^ bits[15].words,
-        },
-        Vector {
-            words: half[1].words ^ bits[6].words,
-        },
-        Vector {
-            words: half[2].words ^ bits[19].words,
-        },
-        Vector {
-            words: half[3].words ^ bits[20].words,
-        },
-        Vector {
-            words: half[4].words ^ bits[28].words,
-        },
-        Vector {
-            words: half[5].words ^ bits[11].words,
-        },
-        Vector {
-            words: half[6].words ^ bits[27].words,
-        },
-        Vector {
-            words: half[7].words ^ bits[16].words,
-        },
-        Vector {
-            words: half[8].words ^ bits[0].words,
-        },
-        Vector {
-            words: half[9].words ^ bits[14].words,
-        },
-        Vector {
-            words: half[10].words ^ bits[22].words,
-        },
-        Vector {
-            words: half[11].words ^ bits[25].words,
-        },
-        Vector {
-            words: half[12].words ^ bits[4].words,
-        },
-        Vector {
-            words: half[13].words ^ bits[17].words,
-        },
-        Vector {
-            words: half[14].words ^ bits[30].words,
-        },
-        Vector {
-            words: half[15].words ^ bits[9].words,
-        },
-        Vector {
-            words: half[16].words ^ bits[1].words,
-        },
-        Vector {
-            words: half[17].words ^ bits[7].words,
-        },
-        Vector {
-            words: half[18].words ^ bits[23].words,
-        },
-        Vector {
-            words: half[19].words ^ bits[13].words,
-        },
-        Vector {
-            words: half[20].words ^ bits[31].words,
-        },
-        Vector {
-            words: half[21].words ^ bits[26].words,
-        },
-        Vector {
-            words: half[22].words ^ bits[2].words,
-        },
-        Vector {
-            words: half[23].words ^ bits[8].words,
-        },
-        Vector {
-            words: half[24].words ^ bits[18].words,
-        },
-        Vector {
-            words: half[25].words ^ bits[12].words,
-        },
-        Vector {
-            words: half[26].words ^ bits[29].words,
-        },
-        Vector {
-            words: half[27].words ^ bits[5].words,
-        },
-        Vector {
-            words: half[28].words ^ bits[21].words,
-        },
-        Vector {
-            words: half[29].words ^ bits[10].words,
-        },
-        Vector {
-            words: half[30].words ^ bits[3].words,
-        },
-        Vector {
-            words: half[31].words ^ bits[24].words,
-        },
+    xored![
+        half[0] ^ bits[15],
+        half[1] ^ bits[6],
+        half[2] ^ bits[19],
+        half[3] ^ bits[20],
+        half[4] ^ bits[28],
+        half[5] ^ bits[11],
+        half[6] ^ bits[27],
+        half[7] ^ bits[16],
+        half[8] ^ bits[0],
+        half[9] ^ bits[14],
+        half[10] ^ bits[22],
+        half[11] ^ bits[25],
+        half[12] ^ bits[4],
+        half[13] ^ bits[17],
+        half[14] ^ bits[30],
+        half[15] ^ bits[9],
+        half[16] ^ bits[1],
+        half[17] ^ bits[7],
+        half[18] ^ bits[23],
+        half[19] ^ bits[13],
+        half[20] ^ bits[31],
+        half[21] ^ bits[26],
+        half[22] ^ bits[2],
+        half[23] ^ bits[8],
+        half[24] ^ bits[18],
+        half[25] ^ bits[12],
+        half[26] ^ bits[29],
+        half[27] ^ bits[5],
+        half[28] ^ bits[21],
+        half[29] ^ bits[10],
+        half[30] ^ bits[3],
+        half[31] ^ bits[24],
     ]
 }

@@ -8,7 +8,7 @@ ghost use Rattle.des_slices.specs.Vectors.{AreVectors, lane, words_of};
 
 use crate::key::SlicedKey;
 use crate::round::round;
-use crate::vector::{Vector, bit, vectors_of};
+use crate::vector::{Vector, bit, vectors_of, xored};
 use std::marker::Model;
 use std::simd::u64x2;
 
@@ -16,7 +16,8 @@ use std::simd::u64x2;
 pub const LANES: usize = 128;
 
 /// 128 blocks, in the bits of vectors: vector `n` of a half has bit `n` of that half of each block,
-/// behind IP of FIPS 46. Contracts see them as the list of the blocks.
+/// behind IP of FIPS 46; lane `64 * w + i` is bit `i` of word `w`, bit 0 the lowest. Contracts see
+/// them as the list of the blocks.
 #[derive(Drop)]
 pub struct Slices {
     left: [Vector; 32],
@@ -79,6 +80,7 @@ impl Slices {
     {
         let mut half = 0;
         for i in 0..16 {
+            // Where bits 2 i and 2 i + 1 of a block stand behind IP, in the right and in the left half.
             let place = 8 * (i % 4) + 7 - i / 4;
             half = half << 1 | bit(self.right[place], lane);
             half = half << 1 | bit(self.left[place], lane);
@@ -87,216 +89,88 @@ impl Slices {
     }
 }
 
-/// The exclusive or of a left half with that which IP makes of 64 bits.
+/// The exclusive or of a left half with the left half of what IP makes of 64 bits.
 fn xor_left(half: &[Vector; 32], bits: &[Vector; 64]) -> [Vector; 32]
     requires half { AreVectors half.now }
     requires bits { AreVectors bits.now }
     ensures lanes { (l : ℕ) → l < 128 → lane l (words_of result) ≡ exclusive_or (lane l (words_of half.now)) (take 32 (pick ip (lane l (words_of bits.now)))) }
     ensures vectors { AreVectors result }
 {
-    [
-        Vector {
-            words: half[0].words ^ bits[57].words,
-        },
-        Vector {
-            words: half[1].words ^ bits[49].words,
-        },
-        Vector {
-            words: half[2].words ^ bits[41].words,
-        },
-        Vector {
-            words: half[3].words ^ bits[33].words,
-        },
-        Vector {
-            words: half[4].words ^ bits[25].words,
-        },
-        Vector {
-            words: half[5].words ^ bits[17].words,
-        },
-        Vector {
-            words: half[6].words ^ bits[9].words,
-        },
-        Vector {
-            words: half[7].words ^ bits[1].words,
-        },
-        Vector {
-            words: half[8].words ^ bits[59].words,
-        },
-        Vector {
-            words: half[9].words ^ bits[51].words,
-        },
-        Vector {
-            words: half[10].words ^ bits[43].words,
-        },
-        Vector {
-            words: half[11].words ^ bits[35].words,
-        },
-        Vector {
-            words: half[12].words ^ bits[27].words,
-        },
-        Vector {
-            words: half[13].words ^ bits[19].words,
-        },
-        Vector {
-            words: half[14].words ^ bits[11].words,
-        },
-        Vector {
-            words: half[15].words ^ bits[3].words,
-        },
-        Vector {
-            words: half[16].words ^ bits[61].words,
-        },
-        Vector {
-            words: half[17].words ^ bits[53].words,
-        },
-        Vector {
-            words: half[18].words ^ bits[45].words,
-        },
-        Vector {
-            words: half[19].words ^ bits[37].words,
-        },
-        Vector {
-            words: half[20].words ^ bits[29].words,
-        },
-        Vector {
-            words: half[21].words ^ bits[21].words,
-        },
-        Vector {
-            words: half[22].words ^ bits[13].words,
-        },
-        Vector {
-            words: half[23].words ^ bits[5].words,
-        },
-        Vector {
-            words: half[24].words ^ bits[63].words,
-        },
-        Vector {
-            words: half[25].words ^ bits[55].words,
-        },
-        Vector {
-            words: half[26].words ^ bits[47].words,
-        },
-        Vector {
-            words: half[27].words ^ bits[39].words,
-        },
-        Vector {
-            words: half[28].words ^ bits[31].words,
-        },
-        Vector {
-            words: half[29].words ^ bits[23].words,
-        },
-        Vector {
-            words: half[30].words ^ bits[15].words,
-        },
-        Vector {
-            words: half[31].words ^ bits[7].words,
-        },
+    xored![
+        half[0] ^ bits[57],
+        half[1] ^ bits[49],
+        half[2] ^ bits[41],
+        half[3] ^ bits[33],
+        half[4] ^ bits[25],
+        half[5] ^ bits[17],
+        half[6] ^ bits[9],
+        half[7] ^ bits[1],
+        half[8] ^ bits[59],
+        half[9] ^ bits[51],
+        half[10] ^ bits[43],
+        half[11] ^ bits[35],
+        half[12] ^ bits[27],
+        half[13] ^ bits[19],
+        half[14] ^ bits[11],
+        half[15] ^ bits[3],
+        half[16] ^ bits[61],
+        half[17] ^ bits[53],
+        half[18] ^ bits[45],
+        half[19] ^ bits[37],
+        half[20] ^ bits[29],
+        half[21] ^ bits[21],
+        half[22] ^ bits[13],
+        half[23] ^ bits[5],
+        half[24] ^ bits[63],
+        half[25] ^ bits[55],
+        half[26] ^ bits[47],
+        half[27] ^ bits[39],
+        half[28] ^ bits[31],
+        half[29] ^ bits[23],
+        half[30] ^ bits[15],
+        half[31] ^ bits[7],
     ]
 }
 
-/// The exclusive or of a right half with that which IP makes of 64 bits.
+/// The exclusive or of a right half with the right half of what IP makes of 64 bits.
 fn xor_right(half: &[Vector; 32], bits: &[Vector; 64]) -> [Vector; 32]
     requires half { AreVectors half.now }
     requires bits { AreVectors bits.now }
     ensures lanes { (l : ℕ) → l < 128 → lane l (words_of result) ≡ exclusive_or (lane l (words_of half.now)) (drop 32 (pick ip (lane l (words_of bits.now)))) }
     ensures vectors { AreVectors result }
 {
-    [
-        Vector {
-            words: half[0].words ^ bits[56].words,
-        },
-        Vector {
-            words: half[1].words ^ bits[48].words,
-        },
-        Vector {
-            words: half[2].words ^ bits[40].words,
-        },
-        Vector {
-            words: half[3].words ^ bits[32].words,
-        },
-        Vector {
-            words: half[4].words ^ bits[24].words,
-        },
-        Vector {
-            words: half[5].words ^ bits[16].words,
-        },
-        Vector {
-            words: half[6].words ^ bits[8].words,
-        },
-        Vector {
-            words: half[7].words ^ bits[0].words,
-        },
-        Vector {
-            words: half[8].words ^ bits[58].words,
-        },
-        Vector {
-            words: half[9].words ^ bits[50].words,
-        },
-        Vector {
-            words: half[10].words ^ bits[42].words,
-        },
-        Vector {
-            words: half[11].words ^ bits[34].words,
-        },
-        Vector {
-            words: half[12].words ^ bits[26].words,
-        },
-        Vector {
-            words: half[13].words ^ bits[18].words,
-        },
-        Vector {
-            words: half[14].words ^ bits[10].words,
-        },
-        Vector {
-            words: half[15].words ^ bits[2].words,
-        },
-        Vector {
-            words: half[16].words ^ bits[60].words,
-        },
-        Vector {
-            words: half[17].words ^ bits[52].words,
-        },
-        Vector {
-            words: half[18].words ^ bits[44].words,
-        },
-        Vector {
-            words: half[19].words ^ bits[36].words,
-        },
-        Vector {
-            words: half[20].words ^ bits[28].words,
-        },
-        Vector {
-            words: half[21].words ^ bits[20].words,
-        },
-        Vector {
-            words: half[22].words ^ bits[12].words,
-        },
-        Vector {
-            words: half[23].words ^ bits[4].words,
-        },
-        Vector {
-            words: half[24].words ^ bits[62].words,
-        },
-        Vector {
-            words: half[25].words ^ bits[54].words,
-        },
-        Vector {
-            words: half[26].words ^ bits[46].words,
-        },
-        Vector {
-            words: half[27].words ^ bits[38].words,
-        },
-        Vector {
-            words: half[28].words ^ bits[30].words,
-        },
-        Vector {
-            words: half[29].words ^ bits[22].words,
-        },
-        Vector {
-            words: half[30].words ^ bits[14].words,
-        },
-        Vector {
-            words: half[31].words ^ bits[6].words,
-        },
+    xored![
+        half[0] ^ bits[56],
+        half[1] ^ bits[48],
+        half[2] ^ bits[40],
+        half[3] ^ bits[32],
+        half[4] ^ bits[24],
+        half[5] ^ bits[16],
+        half[6] ^ bits[8],
+        half[7] ^ bits[0],
+        half[8] ^ bits[58],
+        half[9] ^ bits[50],
+        half[10] ^ bits[42],
+        half[11] ^ bits[34],
+        half[12] ^ bits[26],
+        half[13] ^ bits[18],
+        half[14] ^ bits[10],
+        half[15] ^ bits[2],
+        half[16] ^ bits[60],
+        half[17] ^ bits[52],
+        half[18] ^ bits[44],
+        half[19] ^ bits[36],
+        half[20] ^ bits[28],
+        half[21] ^ bits[20],
+        half[22] ^ bits[12],
+        half[23] ^ bits[4],
+        half[24] ^ bits[62],
+        half[25] ^ bits[54],
+        half[26] ^ bits[46],
+        half[27] ^ bits[38],
+        half[28] ^ bits[30],
+        half[29] ^ bits[22],
+        half[30] ^ bits[14],
+        half[31] ^ bits[6],
     ]
 }

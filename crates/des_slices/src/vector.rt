@@ -10,6 +10,15 @@ pub struct Vector {
     pub words: u64x2,
 }
 
+/// The exclusive or of vectors, entry by entry.
+macro_rules! xored {
+    ($($vectors:ident[$place:literal] ^ $others:ident[$other:literal],)*) => {
+        [$(Vector { words: $vectors[$place].words ^ $others[$other].words }),*]
+    };
+}
+
+pub(crate) use xored;
+
 /// The vector of these two words.
 #[inline(always)]
 fn vector_of(words: u64x2) -> Vector

@@ -12,10 +12,10 @@ loop-i-preserved c =
     let words = c.args.round_keys.now in
     let size = length-map words (bits_of 48) in
     record {
-      lanes = λ n h. filled_more (λ (r : RoundKey). lane n (words_of r.bits)) l.rounds (map (bits_of 48) words) l.i c.in_all_lanes.result [] (omega arith) (omega (arith, size)) (l.invariant.lanes n h)
-          (c.in_all_lanes.ensures.lanes n h ∙ sym (get_or-map (bits_of 48) words l.i 0 [] (omega arith)));
-      vectors = Each1-set (λ (r : RoundKey). AreVectors r.bits) l.rounds l.i c.in_all_lanes.result c.in_all_lanes.ensures.vectors l.invariant.vectors;
-      size = length-set l.rounds l.i c.in_all_lanes.result ∙ l.invariant.size;
+      lanes = λ n h. filled_more (λ (r : RoundKey). lane n (words_of r.bits)) l.rounds (map (bits_of 48) words) l.i c.round_key_in_lanes.result [] (omega arith) (omega (arith, size)) (l.invariant.lanes n h)
+          (c.round_key_in_lanes.ensures.lanes n h ∙ sym (get_or-map (bits_of 48) words l.i 0 [] (omega arith)));
+      vectors = Each1-set (λ (r : RoundKey). AreVectors r.bits) l.rounds l.i c.round_key_in_lanes.result c.round_key_in_lanes.ensures.vectors l.invariant.vectors;
+      size = length-set l.rounds l.i c.round_key_in_lanes.result ∙ l.invariant.size;
     }
 
 pub invariant_of-result : goal.invariant_of-result

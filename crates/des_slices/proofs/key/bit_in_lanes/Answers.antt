@@ -4,8 +4,8 @@ use Rattle.std.specs.Prelude.{replicate}
 use Rattle.std.proofs.lemmas.Nat.Bits.{bit_at-zero, bit_at_ones}
 use Rattle.std.proofs.lemmas.Simd.{get_or-replicate}
 use Rattle.des_slices.specs.Vectors.{lane_bit}
-use Rattle.des_slices.proofs.key.in_all.Goals as goal
-use Rattle.des_slices.proofs.key.in_all.Goals.{then-bit-eq1, else-bit-eq1}
+use Rattle.des_slices.proofs.key.bit_in_lanes.Goals as goal
+use Rattle.des_slices.proofs.key.bit_in_lanes.Goals.{then-bit-eq1, else-bit-eq1}
 
 -- the bit of each lane is that of the word
 one_word : (l n : ℕ) → l < 128 → lane_bit l (replicate 2 n) ≡ eqb (bit_at n (l % 64)) 1

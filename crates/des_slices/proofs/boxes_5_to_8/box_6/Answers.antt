@@ -3,7 +3,7 @@ use Rattle.x_des.specs.Bits.{bits_of, number, pick}
 use Rattle.x_des.specs.Des.{substituted}
 use Rattle.x_des.specs.Tables.{s6}
 use Rattle.des_slices.proofs.Gates.{Inputs, and, inputs, not, or, outputs, tables_agree, xor}
-use Rattle.des_slices.proofs.boxes.box_6.Goals as goal
+use Rattle.des_slices.proofs.boxes_5_to_8.box_6.Goals as goal
 
 tables : tables_agree s6 0xb44ab695c9a4695b 0xc69938d615e69a69 0x52cbe13c6d9216da 0x95a36a597c3ca34c ≡ true
 unfolding substituted bits_of number pick

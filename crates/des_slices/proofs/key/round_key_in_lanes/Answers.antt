@@ -8,7 +8,7 @@ use Rattle.x_des.proofs.BitsLemmas.{get_or-bits, length-bits}
 use Rattle.des_slices.specs.declared.vector.Vector.{Vector}
 use Rattle.des_slices.specs.Vectors.{lane, lane_bit}
 use Rattle.des_slices.proofs.Filling.{filled, filled_more, vectors-set}
-use Rattle.des_slices.proofs.key.in_all_lanes.Goals as goal
+use Rattle.des_slices.proofs.key.round_key_in_lanes.Goals as goal
 
 pub loop-i-preserved : goal.loop-i-preserved
 loop-i-preserved c =
@@ -19,9 +19,9 @@ loop-i-preserved c =
     let at : eqb (bit_and (word / 2 ^ (47 - l.i)) 1) 1 ≡ get_or (bits_of 48 word) l.i false
     = ap (λ n. eqb n 1) (shr_and_one word (47 - l.i)) ∙ sym (get_or-bits 48 word l.i false (omega arith) ∙ ap (bit word) place) in
     record {
-      lanes = λ n h. filled_more (λ (v : Vector). lane_bit n v.words) l.bits (bits_of 48 word) l.i c.in_all.result false (omega arith) (omega (arith, size)) (l.invariant.lanes n h) (c.in_all.ensures.lanes n h ∙ at);
-      vectors = vectors-set l.bits l.i c.in_all.result c.in_all.ensures.vector l.invariant.vectors;
-      size = length-set l.bits l.i c.in_all.result ∙ l.invariant.size;
+      lanes = λ n h. filled_more (λ (v : Vector). lane_bit n v.words) l.bits (bits_of 48 word) l.i c.bit_in_lanes.result false (omega arith) (omega (arith, size)) (l.invariant.lanes n h) (c.bit_in_lanes.ensures.lanes n h ∙ at);
+      vectors = vectors-set l.bits l.i c.bit_in_lanes.result c.bit_in_lanes.ensures.vector l.invariant.vectors;
+      size = length-set l.bits l.i c.bit_in_lanes.result ∙ l.invariant.size;
     }
 
 pub returns-clause-lanes : goal.returns-clause-lanes

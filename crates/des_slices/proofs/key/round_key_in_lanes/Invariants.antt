@@ -2,7 +2,7 @@ use Rattle.std.proofs.Common.{◌≡◌, ◌<◌, ℕ, length, map, take}
 use Rattle.x_des.specs.Bits.{bits_of}
 use Rattle.des_slices.specs.declared.vector.Vector.{Vector}
 use Rattle.des_slices.specs.Vectors.{AreVectors, lane_bit}
-use Rattle.des_slices.proofs.key.in_all_lanes.Given as goal
+use Rattle.des_slices.proofs.key.round_key_in_lanes.Given as goal
 
 abbrev pub invariant-loop-i : goal.invariant-loop-i
 invariant-loop-i l = record {

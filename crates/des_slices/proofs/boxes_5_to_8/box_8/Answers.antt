@@ -3,7 +3,7 @@ use Rattle.x_des.specs.Bits.{bits_of, number, pick}
 use Rattle.x_des.specs.Des.{substituted}
 use Rattle.x_des.specs.Tables.{s8}
 use Rattle.des_slices.proofs.Gates.{Inputs, and, inputs, not, or, outputs, tables_agree, xor}
-use Rattle.des_slices.proofs.boxes.box_8.Goals as goal
+use Rattle.des_slices.proofs.boxes_5_to_8.box_8.Goals as goal
 
 tables : tables_agree s8 0xc17abd2438c716b9 0x394e96b1596aa569 0xa71658a7c8f13f0c 0x9f6281cd619c7c2b ≡ true
 unfolding substituted bits_of number pick

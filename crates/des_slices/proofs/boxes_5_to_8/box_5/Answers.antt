@@ -3,7 +3,7 @@ use Rattle.x_des.specs.Bits.{bits_of, number, pick}
 use Rattle.x_des.specs.Des.{substituted}
 use Rattle.x_des.specs.Tables.{s5}
 use Rattle.des_slices.proofs.Gates.{Inputs, and, inputs, not, or, outputs, tables_agree, xor}
-use Rattle.des_slices.proofs.boxes.box_5.Goals as goal
+use Rattle.des_slices.proofs.boxes_5_to_8.box_5.Goals as goal
 
 tables : tables_agree s5 0x429dcd6a79e1348e 0x695b9ca191666b96 0xc70b39c692f05d2b 0xa4cd96d24b76b948 ≡ true
 unfolding substituted bits_of number pick

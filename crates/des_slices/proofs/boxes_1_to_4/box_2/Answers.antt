@@ -3,7 +3,7 @@ use Rattle.x_des.specs.Bits.{bits_of, number, pick}
 use Rattle.x_des.specs.Des.{substituted}
 use Rattle.x_des.specs.Tables.{s2}
 use Rattle.des_slices.proofs.Gates.{Inputs, and, inputs, not, or, outputs, tables_agree, xor}
-use Rattle.des_slices.proofs.boxes.box_2.Goals as goal
+use Rattle.des_slices.proofs.boxes_1_to_4.box_2.Goals as goal
 
 tables : tables_agree s2 0xe196196e69c3a659 0x68f93c169346c3e9 0x746a8b7462949fc3 0xcd235ad2b865168f ≡ true
 unfolding substituted bits_of number pick

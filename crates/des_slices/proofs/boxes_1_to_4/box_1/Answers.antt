@@ -3,7 +3,7 @@ use Rattle.x_des.specs.Bits.{bits_of, number, pick}
 use Rattle.x_des.specs.Des.{substituted}
 use Rattle.x_des.specs.Tables.{s1}
 use Rattle.des_slices.proofs.Gates.{Inputs, and, inputs, not, or, outputs, tables_agree, xor}
-use Rattle.des_slices.proofs.boxes.box_1.Goals as goal
+use Rattle.des_slices.proofs.boxes_1_to_4.box_1.Goals as goal
 
 tables : tables_agree s1 0x869d497a86e67619 0xb0c7871b497826bd 0x27e9d492609f1f29 0x917be9066f81b478 ≡ true
 unfolding substituted bits_of number pick

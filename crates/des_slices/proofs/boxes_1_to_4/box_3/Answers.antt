@@ -3,7 +3,7 @@ use Rattle.x_des.specs.Bits.{bits_of, number, pick}
 use Rattle.x_des.specs.Des.{substituted}
 use Rattle.x_des.specs.Tables.{s3}
 use Rattle.des_slices.proofs.Gates.{Inputs, and, inputs, not, or, outputs, tables_agree, xor}
-use Rattle.des_slices.proofs.boxes.box_3.Goals as goal
+use Rattle.des_slices.proofs.boxes_1_to_4.box_3.Goals as goal
 
 tables : tables_agree s3 0x96692d696b9c90d3 0xd96a863526f4794a 0x76b9960c39c2b749 0x4b8d9c63a965569a ≡ true
 unfolding substituted bits_of number pick

@@ -3,7 +3,7 @@ use Rattle.x_des.specs.Bits.{bits_of, number, pick}
 use Rattle.x_des.specs.Des.{substituted}
 use Rattle.x_des.specs.Tables.{s4}
 use Rattle.des_slices.proofs.Gates.{Inputs, and, inputs, not, or, outputs, tables_agree, xor}
-use Rattle.des_slices.proofs.boxes.box_4.Goals as goal
+use Rattle.des_slices.proofs.boxes_1_to_4.box_4.Goals as goal
 
 tables : tables_agree s4 0x92c3e719ed90583e 0xcb69718c74ca0e97 0xacd1168f692cce71 0x9b77c1ac34998e7 ≡ true
 unfolding substituted bits_of number pick

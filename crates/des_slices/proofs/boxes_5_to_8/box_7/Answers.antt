@@ -3,7 +3,7 @@ use Rattle.x_des.specs.Bits.{bits_of, number, pick}
 use Rattle.x_des.specs.Des.{substituted}
 use Rattle.x_des.specs.Tables.{s7}
 use Rattle.des_slices.proofs.Gates.{Inputs, and, inputs, not, or, outputs, tables_agree, xor}
-use Rattle.des_slices.proofs.boxes.box_7.Goals as goal
+use Rattle.des_slices.proofs.boxes_5_to_8.box_7.Goals as goal
 
 tables : tables_agree s7 0x92c761f82c96d966 0x869cd96699e643c3 0x6a95f41a9e4b81f4 0x348e9679497969a6 ≡ true
 unfolding substituted bits_of number pick
