@@ -16,7 +16,7 @@ use Rattle.change_code.specs.declared.format.Format.{Format}
 use Rattle.key_store.specs.Store.{IsStep, Lead, Fold}
 use Rattle.key_store.specs.Loading.{ReadTo, StopsSomewhere, StandsOnly}
 use Rattle.key_store.specs.Ahead.{gate_behind, IsReadAhead, LeadsToUnsound, StopsAmong}
-use Rattle.key_store.proofs.Ahead.{frames_append, frames_one}
+use Rattle.key_store.proofs.ReadAhead.{frames_append, frames_one}
 use Rattle.key_store.proofs.Folding.{lead_append, fold_append, one_fold}
 use Rattle.key_store.proofs.Frames.{same_image, sound_of, unsound_of, next_stops}
 use Rattle.key_store.proofs.Loaded.{stops_on}

@@ -12,5 +12,5 @@ mod NeverRefused
 mod Nothing
 mod Loaded
 mod Findings
-mod Ahead
+mod ReadAhead
 mod Following

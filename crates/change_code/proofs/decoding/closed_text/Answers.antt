@@ -9,9 +9,9 @@ pub returns-in_err-text-in-Two-clause-none : goal.returns-in_err-text-in-Two-cla
 returns-in_err-text-in-Two-clause-none c = λ none other closes.
     too_short c.args.bytes.now c.in_err-text-in-Two.ensures.cases other (subst (λ (f : Format). c.args.bytes.now ≡ closed f other) c.in-Two.is closes)
 
-pub returns-else-code-code_of-clause-none : goal.returns-else-code-code_of-clause-none
-returns-else-code-code_of-clause-none c = λ none other closes.
+pub returns-else-edc-code_of-clause-none : goal.returns-else-edc-code_of-clause-none
+returns-else-edc-code_of-clause-none c = λ none other closes.
     let parts = c.in_ok-text-in-Two.ensures.cases in
     not_closed c.args.bytes.now c.in_ok-text-in-Two.text.now c.args.edc c.code_of.result (omega arith) (omega arith) (c.requires c.in-Two.is ∙ ap edc_of (sym parts.0))
     (ends_in c.args.bytes.now c.in_ok-text-in-Two.text.now c.in_ok-text-in-Two.end.now c.code_of.result parts.0 parts.1 c.code_of.ensures)
-    (λ same. omega (arith, same, c.if-code-code_of.false)) other (subst (λ (f : Format). c.args.bytes.now ≡ closed f other) c.in-Two.is closes)
+    (λ same. omega (arith, same, c.if-edc-code_of.false)) other (subst (λ (f : Format). c.args.bytes.now ≡ closed f other) c.in-Two.is closes)

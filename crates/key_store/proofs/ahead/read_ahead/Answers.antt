@@ -1,6 +1,6 @@
 use Rattle.std.proofs.Common.{List, ℕ, Option, Ok, arith, sym, subst}
 use Rattle.key_journal.specs.Reading.{IsReadOn}
-use Rattle.key_store.proofs.Ahead.{IsUnderWay, some_frames, full, one_more}
+use Rattle.key_store.proofs.ReadAhead.{IsUnderWay, some_frames, full, one_more}
 use Rattle.key_store.proofs.ahead.read_ahead.Goals as goal
 
 pub reading-preserved : goal.reading-preserved

@@ -1,5 +1,5 @@
 use Rattle.std.proofs.Common.{◌-◌, length}
-use Rattle.key_store.proofs.Ahead.{IsUnderWay}
+use Rattle.key_store.proofs.ReadAhead.{IsUnderWay}
 use Rattle.key_store.proofs.ahead.read_ahead.Given as goal
 
 abbrev pub invariant-reading : goal.invariant-reading
