@@ -3,7 +3,8 @@
 //! table has a wrong row on purpose.
 //!
 //! A row of blocks, codes or keys has a key or a pair of keys first. It is answered by a number for each call that is
-//! tried with it, in their order in the code.
+//! tried with it, in their order in the code. A row of codes side by side has the number of the first body and how many
+//! there are, and is answered by the code of each.
 #![tactic(auto)]
 
 mod calls;

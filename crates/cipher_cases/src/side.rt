@@ -14,7 +14,7 @@ fn body(alloc: Global, number: u64) -> Result<Text, NoMemory> {
     Ok(body)
 }
 
-/// The codes of so many bodies from a number on, but for the last four bytes of each.
+/// The codes of so many bodies from a number on, but for the last four bytes of each; nothing where they are too many.
 pub(crate) fn codes(alloc: Global, first: u64, count: u64) -> Result<String, NoMemory> {
     let mut bodies = Vec::new(alloc);
     for number in first..first.saturating_add(count) {
@@ -22,11 +22,13 @@ pub(crate) fn codes(alloc: Global, first: u64, count: u64) -> Result<String, NoM
             return Err(AllocError::from(full).into());
         }
     }
-    let count = bodies.len().min(MOST_CODES);
-    let codes = codes_before_ends(&bodies[..count]);
+    if bodies.len() > MOST_CODES {
+        return Ok(String::new(alloc));
+    }
+    let codes = codes_before_ends(&bodies[..]);
     let mut words = [0; MOST_CODES];
     for (word, code) in words.iter_mut().zip(codes) {
         *word = code.into();
     }
-    told(alloc, &words[..count])
+    told(alloc, &words[..bodies.len()])
 }

@@ -50,7 +50,7 @@ pub fn side_by_side(bodies: &[Text]) -> [u32; LANES]
 }
 
 /// How many blocks the longest of the texts has.
-fn most_blocks(bodies: &[Text]) -> usize
+pub fn most_blocks(bodies: &[Text]) -> usize
     ensures most { (i : ℕ) → i < length bodies.now → block_count (text_before_end (slice_index_or bodies.now i [])) ≤ result }
     ensures small { result ≤ 2 ^ 61 }
 {

@@ -9,7 +9,7 @@ mod bits;
 mod chain;
 mod rows;
 
-use chain::{blocks, side_by_side};
+use chain::{blocks, most_blocks, side_by_side};
 use des_slices::LANES;
 use rows::before_end;
 use x_base::Text;
@@ -21,8 +21,8 @@ pub const MOST_CODES: usize = LANES;
 /// A step of 128 chains side by side takes about as long as so many blocks one by one.
 const BLOCKS_A_STEP: usize = 40;
 
-/// The error detection code of each of these bodies but for its last four bytes (of a body of less
-/// than four bytes: of no text, 0). What stands behind the codes of the bodies means nothing.
+/// The error detection code of each of these bodies but for its last four bytes (of a body of at
+/// most four bytes: of no text, 0). What stands behind the codes of the bodies means nothing.
 pub fn codes_before_ends(bodies: &[Text]) -> [u32; MOST_CODES]
     requires { length bodies.now ≤ 128 }
     ensures { (i : ℕ) → i < length bodies.now → slice_index_or result i 0 ≡ edc_of (text_before_end (slice_index_or bodies.now i [])) }
@@ -37,16 +37,13 @@ pub fn codes_before_ends(bodies: &[Text]) -> [u32; MOST_CODES]
 /// Whether the blocks of all chains take longer than the steps of the longest one.
 fn are_quicker_side_by_side(bodies: &[Text]) -> bool {
     let mut all: usize = 0;
-    let mut most: usize = 0;
     for body in bodies {
-        let count = blocks(body);
-        all = all.saturating_add(count);
-        most = most.max(count);
+        all = all.saturating_add(blocks(body));
     }
-    all > most.saturating_mul(BLOCKS_A_STEP)
+    all > most_blocks(bodies).saturating_mul(BLOCKS_A_STEP)
 }
 
-/// The same, one code made after the other.
+/// What `codes_before_ends` gives, one code made after the other.
 fn one_by_one(bodies: &[Text]) -> [u32; MOST_CODES]
     requires { length bodies.now ≤ 128 }
     ensures { (i : ℕ) → i < length bodies.now → slice_index_or result i 0 ≡ edc_of (text_before_end (slice_index_or bodies.now i [])) }

@@ -1,5 +1,5 @@
 //! The blocks of texts side by side, a row for each byte of a block.
-ghost use Rattle.std.specs.Prelude.{◌≡◌, ◌≢◌, ℕ, ◌+◌, ◌*◌, ◌<◌, ◌≤◌, ◌^◌, [], length, slice_index_or};
+ghost use Rattle.std.specs.Prelude.{◌≡◌, ◌≢◌, ℕ, ◌<◌, ◌≤◌, ◌^◌, [], length, slice_index_or};
 ghost use Rattle.edc_slices.specs.Ends.{text_before_end};
 ghost use Rattle.edc_slices.specs.Rows.{AreWide, block_at_step, column, entry};
 

@@ -18,6 +18,7 @@ use x_disk::Disk;
 /// Behind so many bytes of frames no further one is read ahead.
 const BYTES_AHEAD: u64 = 65_536;
 
+/// Puts a body behind the others.
 fn push_body(bodies: &mut Vec<Text>, body: Text) -> Result<(), Cause>
     ensures more { OnOk result (bodies.new.items ≡ bodies.old.items ++ body ∷ []) }
     ensures kept { OnErr result (bodies.new.items ≡ bodies.old.items) }
