@@ -1,6 +1,6 @@
 // Stops of a payment.
 use crate::payments::{Answer, Names, Payment, read_names};
-use crate::{ledgers, shelves};
+use crate::{counts, ledgers, shelves};
 use std::alloc::Global;
 use x_base::NoMemory;
 
@@ -55,9 +55,6 @@ pub(crate) fn told(
         "out" => Payment::Out,
         _ => return Ok(String::from_str(alloc, "no payment")?),
     };
-    match stops(alloc, &names, is_shelf, payment, choice) {
-        Some(0..=2) if choice > 1 => Ok(format!(in alloc; "at most 2")?),
-        Some(stops) => Ok(format!(in alloc; "{stops}")?),
-        None => Ok(format!(in alloc; "something else")?),
-    }
+    let stops = stops(alloc, &names, is_shelf, payment, choice);
+    counts::told(alloc, stops, choice < 2)
 }
