@@ -30,8 +30,7 @@ pub(crate) fn disk_of(alloc: Global, image: &[u8]) -> Option<TornDisk> {
 }
 
 /// The disk behind the failure of its power.
-pub(crate) fn without_power(disk: TornDisk, choice: u64) -> Result<TornDisk, DiskErr> {
-    let mut disk = disk;
+pub(crate) fn without_power(mut disk: TornDisk, choice: u64) -> Result<TornDisk, DiskErr> {
     disk.power_off(choice)?;
     Ok(disk)
 }

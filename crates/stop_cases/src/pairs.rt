@@ -47,10 +47,9 @@ pub(crate) fn arrived(alloc: Global) -> Result<Input, DiskErr> {
     if text.len() > INPUT_LIMIT {
         return Err(DiskErr::Fault);
     }
-    match hear(alloc, text) {
-        Ok(Ok(arrival)) => Ok(Input::Arrived(arrival)),
-        Ok(Err(_)) => Err(DiskErr::Fault),
-        Err(_) => Err(DiskErr::NoMemory),
+    match hear(alloc, text)? {
+        Ok(arrival) => Ok(Input::Arrived(arrival)),
+        Err(_) => Err(DiskErr::Fault),
     }
 }
 

@@ -82,7 +82,7 @@ fn put_back(
     shelf.put_back(&owners.mirror, second)
 }
 
-/// What became of the turn on this shelf, where that disk fails after so many calls and the disk is lost.
+/// What became of the turn on this shelf, where the one disk fails after so many calls. The disks are put back, one of them lost.
 fn stopped_turn(
     alloc: Global,
     shelf: &mut MemoryShelf,
@@ -110,7 +110,7 @@ fn stop_at(
     Ok((end, seen(show(alloc, &mut shelf, owners))))
 }
 
-/// How many stops leave the party as it is to be, where the disk fails after more and more calls, fewer than 60, until the turn is
+/// How many stops leave the party as it is to be, where the one disk fails after more and more calls, fewer than 60, until the turn is
 /// done. Nothing where something else comes, as the old party behind a reply.
 fn stops_of(
     alloc: Global,
@@ -130,7 +130,7 @@ fn stops_of(
     Ok(None)
 }
 
-/// The same of BANKB's turn with its message.
+/// How many stops of BANKB's turn with its message leave the party as it is to be.
 fn stops(alloc: Global, stop: Stop) -> Result<Option<u64>, DiskErr> {
     let owners = read_owners()?;
     let input = arrived(alloc)?;
