@@ -1,6 +1,6 @@
 // A bank's file. Both images were made outside of this repository.
 use std::alloc::Global;
-use x_disk::{Disk, TornDisk};
+use x_disk::{Disk, DiskErr, TornDisk};
 
 /// BANKB, which has loaded the key-encrypting key that it shares with BANKA.
 pub(crate) const LOADED: &[u8] =
@@ -27,4 +27,10 @@ pub(crate) fn disk_of(alloc: Global, image: &[u8]) -> Option<TornDisk> {
     disk.write_at(0, image).ok()?;
     disk.sync().ok()?;
     Some(disk)
+}
+
+/// The disk behind the failure of its power.
+pub(crate) fn without_power(mut disk: TornDisk, choice: u64) -> Result<TornDisk, DiskErr> {
+    disk.power_off(choice)?;
+    Ok(disk)
 }

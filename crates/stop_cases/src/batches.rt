@@ -1,5 +1,5 @@
 // A batch whose party's disk, or whose spool's, fails.
-use crate::bank::{LOADED, disk_of};
+use crate::bank::{LOADED, disk_of, without_power};
 use csm_batch::Batch;
 use csm_spool::{Driven, begin, drive};
 use key_journal::Unmade;
@@ -81,41 +81,57 @@ fn is_wanted(outbox: &Option<Text>) -> bool {
 /// The power of both disks goes; whether the batch is done again and again, with the same outbox.
 fn goes_on(
     alloc: Global,
-    mut party: TornDisk,
-    mut spool: TornDisk,
+    party: TornDisk,
+    spool: TornDisk,
     batch: &Batch,
     choice: u64,
 ) -> Option<bool> {
-    party.power_off(choice).ok()?;
-    spool.power_off(choice).ok()?;
+    let party = without_power(party, choice).ok()?;
+    let spool = without_power(spool, choice).ok()?;
     let first = driven(alloc, party, spool, batch);
     let second = driven(alloc, first.party, first.spool, batch);
     Some(is_wanted(&first.outbox) && is_wanted(&second.outbox))
 }
 
+/// Drives the batch over disks that fail after so many calls.
+fn stopped(
+    alloc: Global,
+    batch: &Batch,
+    party_calls: u64,
+    spool_calls: u64,
+) -> Option<Ended<TornDisk>> {
+    let party = Fused::new(disk_of(alloc, LOADED)?, party_calls);
+    let spool = Fused::new(TornDisk::new(alloc, 0).ok()?, spool_calls);
+    let end = driven(alloc, party, spool, batch);
+    Some(Ended {
+        party: end.party.into_inner(),
+        spool: end.spool.into_inner(),
+        outbox: end.outbox,
+    })
+}
+
+/// Whether the batch was done. Nothing where its outbox is another one, or where it doesn't go on to the same one.
+fn is_done(alloc: Global, batch: &Batch, end: Ended<TornDisk>, choice: u64) -> Option<bool> {
+    let is_done = is_wanted(&end.outbox);
+    if end.outbox.is_some() != is_done {
+        return None;
+    }
+    match goes_on(alloc, end.party, end.spool, batch, choice) {
+        Some(true) => Some(is_done),
+        _ => None,
+    }
+}
+
 /// Whether there is a stop, and behind each the batch goes on to the same outbox, where the one disk fails after more and more
 /// calls, fewer than 100, until the batch is done, and the power of both goes each time with this choice.
-fn holds(alloc: Global, is_party: bool, choice: u64) -> Option<bool> {
-    let batch = Batch::read(alloc, BATCH.as_bytes()).ok()?;
+fn holds(alloc: Global, batch: &Batch, is_party: bool, choice: u64) -> Option<bool> {
     for calls in 0..100 {
-        let (party_calls, spool_calls) = if is_party {
-            (calls, u64::MAX)
+        let end = if is_party {
+            stopped(alloc, batch, calls, u64::MAX)?
         } else {
-            (u64::MAX, calls)
+            stopped(alloc, batch, u64::MAX, calls)?
         };
-        let party = Fused::new(disk_of(alloc, LOADED)?, party_calls);
-        let spool = Fused::new(TornDisk::new(alloc, 0).ok()?, spool_calls);
-        let end = driven(alloc, party, spool, &batch);
-        let is_done = is_wanted(&end.outbox);
-        if end.outbox.is_some() != is_done {
-            return None;
-        }
-        let party = end.party.into_inner();
-        let spool = end.spool.into_inner();
-        if !goes_on(alloc, party, spool, &batch, choice)? {
-            return None;
-        }
-        if is_done {
+        if is_done(alloc, batch, end, choice)? {
             return Some(calls > 0);
         }
     }
@@ -124,9 +140,12 @@ fn holds(alloc: Global, is_party: bool, choice: u64) -> Option<bool> {
 
 /// What is told of a batch.
 pub(crate) fn told(alloc: Global, failing: &str, choice: u64) -> Result<String, NoMemory> {
+    let Ok(batch) = Batch::read(alloc, BATCH.as_bytes()) else {
+        return Ok(String::from_str(alloc, "no batch")?);
+    };
     let holding = match failing {
-        "party" => holds(alloc, true, choice),
-        "spool" => holds(alloc, false, choice),
+        "party" => holds(alloc, &batch, true, choice),
+        "spool" => holds(alloc, &batch, false, choice),
         _ => None,
     };
     let told = match holding {

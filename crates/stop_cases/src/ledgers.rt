@@ -1,5 +1,5 @@
 // Payments over a ledger whose disk fails, beside a party whose disk doesn't.
-use crate::bank::{HOLDING, disk_of};
+use crate::bank::{HOLDING, disk_of, without_power};
 use crate::payments::{Answer, Names, PAYMENT, Payment, refused, told};
 use key_journal::{Cause, Unmade};
 use node_core::Node;
@@ -45,6 +45,23 @@ fn made<D: Disk>(
     ended(payment, turn)
 }
 
+/// What becomes of the payments over a party that is open.
+fn ends_of(
+    alloc: Global,
+    state: &State,
+    names: &Names,
+    payment: Payment,
+    calls: u64,
+    choice: u64,
+) -> Option<[Answer; 3]> {
+    let fused = Fused::new(TornDisk::new(alloc, 256).ok()?, calls);
+    let (fused, end) = made(alloc, state, fused, names, payment);
+    let disk = without_power(fused.into_inner(), choice).ok()?;
+    let (disk, first) = made(alloc, state, disk, names, payment);
+    let (_, second) = made(alloc, state, disk, names, payment);
+    Some([end, first, second])
+}
+
 /// What becomes of the payment where the ledger's disk fails after so many calls, and of two more behind it, where its power goes.
 pub(crate) fn ends(
     alloc: Global,
@@ -54,11 +71,5 @@ pub(crate) fn ends(
     choice: u64,
 ) -> Option<[Answer; 3]> {
     let node = Node::open_from(alloc, disk_of(alloc, HOLDING)?).ok()?;
-    let fused = Fused::new(TornDisk::new(alloc, 256).ok()?, calls);
-    let (fused, end) = made(alloc, node.view(), fused, names, payment);
-    let mut disk = fused.into_inner();
-    disk.power_off(choice).ok()?;
-    let (disk, first) = made(alloc, node.view(), disk, names, payment);
-    let (_, second) = made(alloc, node.view(), disk, names, payment);
-    Some([end, first, second])
+    ends_of(alloc, node.view(), names, payment, calls, choice)
 }

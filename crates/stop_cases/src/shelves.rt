@@ -1,5 +1,5 @@
 // Payments over a shelf whose disks fail.
-use crate::bank::{HOLDING, disk_of};
+use crate::bank::{HOLDING, disk_of, without_power};
 use crate::payments::{Answer, Names, PAYMENT, Payment, refused, told};
 use std::alloc::Global;
 use x_base::Ident;
@@ -33,9 +33,8 @@ fn made<H: Shelf>(alloc: Global, shelf: &mut H, names: &Names, payment: Payment)
 
 /// The power of a disk goes.
 fn power_goes(shelf: &mut MemoryShelf, name: &Ident, choice: u64) -> Option<()> {
-    let mut disk = shelf.fetch(name).ok()?;
-    disk.power_off(choice).ok()?;
-    shelf.put_back(name, disk).ok()
+    let disk = shelf.fetch(name).ok()?;
+    shelf.put_back(name, without_power(disk, choice).ok()?).ok()
 }
 
 /// What becomes of the payment where each of the two disks fails after so many calls, and of two more behind it, where the power

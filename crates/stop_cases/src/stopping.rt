@@ -1,12 +1,12 @@
 // Stops of a payment.
 use crate::payments::{Answer, Names, Payment, read_names};
-use crate::{ledgers, shelves};
+use crate::{counts, ledgers, shelves};
 use std::alloc::Global;
 use x_base::NoMemory;
 
 /// How many stops leave the ledger as it is to be, where the disks fail after more and more calls, fewer than 40, until the payment
-/// is done, and the power goes each time with this choice. Nothing where something else comes: behind a stop the payment has
-/// number 1, or 2 where the stopped one counts; and one more is paid out with the next number, or not taken in, for a number below 2.
+/// is done, and the power goes each time with this choice. Nothing where there is no stop, or where something else comes: behind a
+/// stop the payment has number 1, or 2 where the stopped one counts; and one more is paid out with the next number, or not taken in, for a number below 2.
 fn stops(
     alloc: Global,
     names: &Names,
@@ -33,7 +33,7 @@ fn stops(
         }
         match end {
             Answer::Stopped => after = after.saturating_add(first.saturating_sub(1)),
-            Answer::Number(1) if first == 2 => return Some(after),
+            Answer::Number(1) if first == 2 && calls > 0 => return Some(after),
             _ => return None,
         }
     }
@@ -55,9 +55,6 @@ pub(crate) fn told(
         "out" => Payment::Out,
         _ => return Ok(String::from_str(alloc, "no payment")?),
     };
-    match stops(alloc, &names, is_shelf, payment, choice) {
-        Some(0..=2) if choice > 1 => Ok(format!(in alloc; "at most 2")?),
-        Some(stops) => Ok(format!(in alloc; "{stops}")?),
-        None => Ok(format!(in alloc; "something else")?),
-    }
+    let stops = stops(alloc, &names, is_shelf, payment, choice);
+    counts::told(alloc, stops, choice < 2)
 }
