@@ -1,19 +1,15 @@
-//! Goes through tables of names, messages that are read, written and heard, and parties that are changed and
-//! shown, and tells of each table how many rows hold, and of a row that doesn't what it gives and what was
-//! wanted.
+//! Goes through tables of names, and of messages that are read, written and heard, and tells of each table how many rows hold, and
+//! of a row that doesn't what it gives and what was wanted.
 //!
 //! A row of a text is `<TEXT> = ANSWER`, where `\r` and `\n` stand for those two separators. The answer is
 //! `read LENGTH`, or `heard` and the message, or the number of the refusal, its tag where it has one, and
 //! `at` with its place.
 #![tactic(auto)]
 
-mod changes;
-mod edits;
 mod fields;
 mod heard_texts;
 mod hearing;
 mod lengths;
-mod lookups;
 mod messages;
 mod names;
 mod parts;
@@ -22,7 +18,6 @@ mod reading;
 mod refused_texts;
 mod rows;
 mod sources;
-mod states;
 mod streams;
 mod tables;
 mod texts;
@@ -47,10 +42,6 @@ enum Topic {
     Inputs,
     Cuts,
     Pieces,
-    Edits,
-    Centres,
-    Lookups,
-    Changes,
     Wrong,
 }
 
@@ -61,7 +52,7 @@ enum Part {
     Calls(&'static str, Topic),
 }
 
-const PARTS: [Part; 19] = [
+const PARTS: [Part; 15] = [
     Part::Calls("identities expanded", Topic::Identities),
     Part::Calls("names, counts and words", Topic::Names),
     Part::Calls("a source and a sink in memory", Topic::Memory),
@@ -76,10 +67,6 @@ const PARTS: [Part; 19] = [
     Part::Calls("inputs that don't end", Topic::Inputs),
     Part::Calls("a message cut anywhere", Topic::Cuts),
     Part::Calls("a stream in pieces", Topic::Pieces),
-    Part::Calls("a bank behind an edit", Topic::Edits),
-    Part::Calls("centres that have begun", Topic::Centres),
-    Part::Calls("rows that are found", Topic::Lookups),
-    Part::Calls("changes and full names", Topic::Changes),
     Part::Calls("wrong rows, on purpose", Topic::Wrong),
 ];
 
@@ -95,10 +82,6 @@ fn add_rows(alloc: Global, table: &mut Table, topic: Topic) -> Result<(), NoMemo
         Topic::Inputs => lengths::inputs(alloc, table),
         Topic::Cuts => streams::cuts(alloc, table),
         Topic::Pieces => streams::pieces(alloc, table),
-        Topic::Edits => edits::edits(alloc, table),
-        Topic::Centres => edits::centres(alloc, table),
-        Topic::Lookups => lookups::lookups(alloc, table),
-        Topic::Changes => changes::changes(alloc, table),
         Topic::Wrong => wrong::wrong(table),
     }
 }

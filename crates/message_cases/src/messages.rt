@@ -1,5 +1,4 @@
 // Messages of each form, to be written.
-use crate::states::{ident, label, name};
 use crate::texts::text_of;
 use csm_grammar::{
     Dsm, Ers, Esm, Extras, Ksm, KsmBody, Message, NewKk, Rfs, Rsi, Rsm, Rtr, Service,
@@ -30,6 +29,14 @@ pub(crate) struct Names {
     pub(crate) counts: Counts,
 }
 
+fn ident(name: &[u8]) -> Option<Ident> {
+    Ident::read(name).ok()
+}
+
+fn label(name: &[u8]) -> Option<Label> {
+    Label::read(name).ok()
+}
+
 fn read_counts() -> Option<Counts> {
     Some(Counts {
         one: Count::of(1)?,
@@ -47,8 +54,8 @@ pub(crate) fn read_names() -> Option<Names> {
         cktx: ident(b"CKTX")?,
         k1: label(b"K1")?,
         k2: label(b"K2")?,
-        key_of_bank: name(b"BANKA.BANKA.K1.1")?,
-        key_of_centre: name(b"CKDX.BANKB.K2.40")?,
+        key_of_bank: KeyName::read(b"BANKA.BANKA.K1.1").ok()?,
+        key_of_centre: KeyName::read(b"CKDX.BANKB.K2.40").ok()?,
         counts: read_counts()?,
     })
 }

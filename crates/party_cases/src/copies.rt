@@ -1,18 +1,18 @@
 // Changes that are copied and prepared, and full names.
 ghost use Rattle.party_state.specs.Ranges.{AreFitting, HasNoBegin};
 
+use crate::parties::{begun, ident, name};
 use crate::rows::add_rows;
-use crate::states::{begun, ident, name};
-use crate::texts::text_of;
 use case_table::{Call, Table};
 use party_state::{Change, Edit, Exchange, KeyRec, KeyStatus, Kind, Role};
 use std::alloc::Global;
-use x_base::{Ident, KeyName, NoMemory};
+use x_base::{Ident, KeyName, NoMemory, Text};
 
 fn add_edits(alloc: Global, change: &mut Change, peer: Ident) -> Result<(), NoMemory> {
     change.push(Edit::DropEnded)?;
     let kind = Kind::Asked { ultimate: peer };
-    let text = text_of(alloc, b"CSM(")?;
+    let mut text = Text::new(alloc);
+    text.push(b"CSM(")?;
     change.push(Edit::PutExchange(Exchange { peer, kind, text }))
 }
 
@@ -102,8 +102,8 @@ fn seed_rows(alloc: Global, table: &mut Table) -> Result<(), NoMemory> {
     add_rows(table, &calls)
 }
 
-/// Changes, and full names.
-pub(crate) fn changes(alloc: Global, table: &mut Table) -> Result<(), NoMemory> {
+/// Changes that are copied, done or given up, and full names.
+pub(crate) fn copies(alloc: Global, table: &mut Table) -> Result<(), NoMemory> {
     if let Some(peer) = ident(b"BANKB") {
         copy_rows(alloc, table, peer)?;
     }

@@ -1,6 +1,6 @@
 // What is found in a party's tables.
+use crate::parties::{PAIR, add, begun, ident, label, name, put_link, whole};
 use crate::rows::{add_rows, no_party};
-use crate::states::{PAIR, add, begun, ident, label, name, put_link, whole};
 use case_table::{Call, Table};
 use party_state::{Answer, KeyRec, KeyStatus, LinkRec, Role, Side, State};
 use std::alloc::Global;

@@ -2,10 +2,10 @@
 ghost use Rattle.std.specs.Prelude.{IfSome};
 ghost use Rattle.party_state.specs.Ranges.{IsFitting, IsNoBegin};
 
-use crate::rows::no_party;
-use crate::states::{
+use crate::parties::{
     begun, ident, label, put_answer, put_asked, put_ending, put_key, put_link, whole,
 };
+use crate::rows::no_party;
 use case_table::Table;
 use party_show::show_text;
 use party_state::{Change, Edit, KeyStatus, Role, Side, State, apply};
