@@ -192,19 +192,15 @@ fn shown_row(
 }
 
 /// A row of the state behind the edit of a row.
-fn edit_row(
-    alloc: Global,
-    table: &mut Table,
-    state: &State,
-    row: usize,
-    lines: [&[u8]; 4],
-) -> Result<(), NoMemory> {
+fn edit_row(alloc: Global, table: &mut Table, state: &State, row: usize) -> Result<(), NoMemory> {
+    let Some([links, keys, exchanges, answers]) = SHOWN.get(row) else {
+        return no_party(table);
+    };
     let Some(edit) = edit_of(alloc, row) else {
         return no_party(table);
     };
     let next = after(alloc, state, edit)?;
-    let [links, keys, exchanges, answers] = lines;
-    let lines = [PARTY, links, keys, exchanges, answers];
+    let lines = [PARTY, *links, *keys, *exchanges, *answers];
     shown_row(alloc, table, &next, &lines)
 }
 
@@ -213,8 +209,8 @@ pub(crate) fn edits(alloc: Global, table: &mut Table) -> Result<(), NoMemory> {
     let Some(state) = whole(alloc) else {
         return no_party(table);
     };
-    for (row, lines) in SHOWN.into_iter().enumerate() {
-        edit_row(alloc, table, &state, row, lines)?;
+    for row in 0..SHOWN.len() {
+        edit_row(alloc, table, &state, row)?;
     }
     Ok(())
 }
