@@ -8,30 +8,37 @@ use x_base::{NoMemory, Text};
 /// So many blanks before the code of a message, and what is read.
 const MESSAGES: [(usize, &str); 2] = [(980, "read 1024"), (981, "6 at 1024")];
 
-fn pushed(text: &mut Text, count: usize, byte: u8) -> Result<(), NoMemory> {
+fn push_bytes(text: &mut Text, count: usize, byte: u8) -> Result<(), NoMemory> {
     for _ in 0..count {
         text.push(&[byte])?;
     }
     Ok(())
 }
 
-fn padded(alloc: Global, blanks: usize) -> Result<Text, NoMemory> {
-    let mut text = Text::new(alloc);
+fn push_padded(text: &mut Text, blanks: usize) -> Result<(), NoMemory> {
     text.push(b"CSM(MCL/RSM RCV/BANKA ORG/BANKB")?;
-    pushed(&mut text, blanks, b' ')?;
-    text.push(b"MAC/00000000)")?;
-    Ok(text)
+    push_bytes(text, blanks, b' ')?;
+    text.push(b"MAC/00000000)")
 }
 
-/// What is told of messages with many blanks.
-pub(crate) fn messages(alloc: Global) -> Result<Text, NoMemory> {
-    let mut table = Table::new(alloc, "long messages");
+fn padded_row(
+    alloc: Global,
+    table: &mut Table,
+    blanks: usize,
+    wanted: &str,
+) -> Result<(), NoMemory> {
+    let mut text = Text::new(alloc);
+    push_padded(&mut text, blanks)?;
+    let given = read_told(alloc, text.bytes())?;
+    table.text_row("read", given.as_str(), wanted)
+}
+
+/// Messages with many blanks.
+pub(crate) fn messages(alloc: Global, table: &mut Table) -> Result<(), NoMemory> {
     for (blanks, wanted) in MESSAGES {
-        let text = padded(alloc, blanks)?;
-        let given = read_told(alloc, text.bytes())?;
-        table.text_row("read", given.as_str(), wanted)?;
+        padded_row(alloc, table, blanks, wanted)?;
     }
-    table.told()
+    Ok(())
 }
 
 /// So many separators, a text behind them that begins a message, has so many bytes and doesn't end, and why
@@ -46,21 +53,29 @@ const INPUTS: [(usize, usize, &str); 7] = [
     (1025, 1024, "7 at 2049"),
 ];
 
-fn endless(alloc: Global, separators: usize, count: usize) -> Result<Text, NoMemory> {
-    let mut text = Text::new(alloc);
-    pushed(&mut text, separators, b'\n')?;
+fn push_endless(text: &mut Text, separators: usize, count: usize) -> Result<(), NoMemory> {
+    push_bytes(text, separators, b'\n')?;
     text.push(b"CSM(")?;
-    pushed(&mut text, count.saturating_sub(4), b'A')?;
-    Ok(text)
+    push_bytes(text, count.saturating_sub(4), b'A')
 }
 
-/// What is told of inputs that don't end.
-pub(crate) fn inputs(alloc: Global) -> Result<Text, NoMemory> {
-    let mut table = Table::new(alloc, "inputs that don't end");
+fn endless_row(
+    alloc: Global,
+    table: &mut Table,
+    separators: usize,
+    count: usize,
+    wanted: &str,
+) -> Result<(), NoMemory> {
+    let mut text = Text::new(alloc);
+    push_endless(&mut text, separators, count)?;
+    let given = heard_told(alloc, text.bytes())?;
+    table.text_row("hear", given.as_str(), wanted)
+}
+
+/// Inputs that don't end.
+pub(crate) fn inputs(alloc: Global, table: &mut Table) -> Result<(), NoMemory> {
     for (separators, count, wanted) in INPUTS {
-        let text = endless(alloc, separators, count)?;
-        let given = heard_told(alloc, text.bytes())?;
-        table.text_row("hear", given.as_str(), wanted)?;
+        endless_row(alloc, table, separators, count, wanted)?;
     }
-    table.told()
+    Ok(())
 }

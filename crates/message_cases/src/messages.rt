@@ -1,4 +1,5 @@
 // Messages of each form, to be written.
+use crate::texts::text_of;
 use csm_grammar::{
     Dsm, Ers, Esm, Extras, Ksm, KsmBody, Message, NewKk, Rfs, Rsi, Rsm, Rtr, Service,
 };
@@ -7,8 +8,8 @@ use x_base::{Count, Ident, KeyName, Label, NoMemory, Text};
 
 /// The counts that most messages have.
 #[derive(Clone, Copy)]
-struct Counts {
-    one: Count,
+pub(crate) struct Counts {
+    pub(crate) one: Count,
     two: Count,
     three: Count,
     last: Count,
@@ -20,24 +21,20 @@ pub(crate) struct Names {
     banka: Ident,
     pub(crate) bankb: Ident,
     pub(crate) ckdx: Ident,
-    cktx: Ident,
+    pub(crate) cktx: Ident,
     k1: Label,
     k2: Label,
-    key_of_bank: KeyName,
+    pub(crate) key_of_bank: KeyName,
     key_of_centre: KeyName,
-    counts: Counts,
+    pub(crate) counts: Counts,
 }
 
-fn ident(name: &str) -> Option<Ident> {
-    Ident::read(name.as_bytes()).ok()
+fn ident(name: &[u8]) -> Option<Ident> {
+    Ident::read(name).ok()
 }
 
-fn label(name: &str) -> Option<Label> {
-    Label::read(name.as_bytes()).ok()
-}
-
-fn key_name(name: &str) -> Option<KeyName> {
-    KeyName::read(name.as_bytes()).ok()
+fn label(name: &[u8]) -> Option<Label> {
+    Label::read(name).ok()
 }
 
 fn read_counts() -> Option<Counts> {
@@ -51,25 +48,19 @@ fn read_counts() -> Option<Counts> {
 
 pub(crate) fn read_names() -> Option<Names> {
     Some(Names {
-        banka: ident("BANKA")?,
-        bankb: ident("BANKB")?,
-        ckdx: ident("CKDX")?,
-        cktx: ident("CKTX")?,
-        k1: label("K1")?,
-        k2: label("K2")?,
-        key_of_bank: key_name("BANKA.BANKA.K1.1")?,
-        key_of_centre: key_name("CKDX.BANKB.K2.40")?,
+        banka: ident(b"BANKA")?,
+        bankb: ident(b"BANKB")?,
+        ckdx: ident(b"CKDX")?,
+        cktx: ident(b"CKTX")?,
+        k1: label(b"K1")?,
+        k2: label(b"K2")?,
+        key_of_bank: KeyName::read(b"BANKA.BANKA.K1.1").ok()?,
+        key_of_centre: KeyName::read(b"CKDX.BANKB.K2.40").ok()?,
         counts: read_counts()?,
     })
 }
 
-fn text(alloc: Global, bytes: &str) -> Result<Text, NoMemory> {
-    let mut text = Text::new(alloc);
-    text.push(bytes.as_bytes())?;
-    Ok(text)
-}
-
-fn no_extras() -> Extras {
+pub(crate) fn no_extras() -> Extras {
     Extras {
         iv: None,
         edk: None,
@@ -77,11 +68,11 @@ fn no_extras() -> Extras {
     }
 }
 
-fn extras(alloc: Global, p: &str) -> Result<Extras, NoMemory> {
+pub(crate) fn extras(alloc: Global, p: &[u8]) -> Result<Extras, NoMemory> {
     Ok(Extras {
-        iv: Some(text(alloc, "x")?),
-        edk: Some(text(alloc, "y")?),
-        p: Some(text(alloc, p)?),
+        iv: Some(text_of(alloc, b"x")?),
+        edk: Some(text_of(alloc, b"y")?),
+        p: Some(text_of(alloc, p)?),
     })
 }
 
@@ -105,7 +96,8 @@ pub(crate) fn rfs(names: &Names) -> Message {
     })
 }
 
-fn rtr(names: &Names, originator: Ident, kd: Option<(u64, Count)>) -> Message {
+/// An answer of a centre, with the key of the requester or without one.
+pub(crate) fn rtr(names: &Names, originator: Ident, kd: Option<(u64, Count)>) -> Message {
     Message::Rtr(Rtr {
         receiver: names.banka,
         originator,
@@ -115,17 +107,6 @@ fn rtr(names: &Names, originator: Ident, kd: Option<(u64, Count)>) -> Message {
         ctb: names.counts.one,
         extras: no_extras(),
     })
-}
-
-/// An answer of a centre without the requester's key.
-pub(crate) fn translated(names: &Names) -> Message {
-    rtr(names, names.cktx, None)
-}
-
-/// An answer of a centre with the requester's key.
-pub(crate) fn distributed(names: &Names) -> Message {
-    let kd = Some((0xC2A5290756D949F4, names.counts.one));
-    rtr(names, names.ckdx, kd)
 }
 
 fn ksm(names: &Names, body: KsmBody, extras: Extras) -> Message {
@@ -158,7 +139,7 @@ pub(crate) fn with_double_key(names: &Names) -> Message {
     ksm(names, body, no_extras())
 }
 
-pub(crate) fn with_single_key(alloc: Global, names: &Names) -> Result<Message, NoMemory> {
+pub(crate) fn with_single_key(names: &Names, extras: Extras) -> Message {
     let key = NewKk::Single(0x20E2F5F31394D5D9);
     let body = KsmBody::Direct {
         idk2: None,
@@ -166,7 +147,7 @@ pub(crate) fn with_single_key(alloc: Global, names: &Names) -> Result<Message, N
         kd: 0x4D679520638F1F1A,
         ctp: names.counts.last,
     };
-    Ok(ksm(names, body, extras(alloc, "a.b-c*")?))
+    ksm(names, body, extras)
 }
 
 pub(crate) fn of_centre(names: &Names) -> Message {
@@ -188,7 +169,7 @@ pub(crate) fn two_keys(names: &Names) -> Message {
     ksm(names, body, no_extras())
 }
 
-fn response(names: &Names, idd: Option<KeyName>, extras: Extras) -> Message {
+pub(crate) fn rsm(names: &Names, idd: Option<KeyName>, extras: Extras) -> Message {
     Message::Rsm(Rsm {
         receiver: names.banka,
         originator: names.bankb,
@@ -197,35 +178,26 @@ fn response(names: &Names, idd: Option<KeyName>, extras: Extras) -> Message {
     })
 }
 
-pub(crate) fn rsm(names: &Names) -> Message {
-    response(names, None, no_extras())
-}
-
-pub(crate) fn rsm_of_end(alloc: Global, names: &Names) -> Result<Message, NoMemory> {
-    let extras = extras(alloc, "z")?;
-    Ok(response(names, Some(names.key_of_bank), extras))
-}
-
-pub(crate) fn ers(alloc: Global, names: &Names) -> Result<Message, NoMemory> {
-    Ok(Message::Ers(Ers {
+pub(crate) fn ers(names: &Names, erf: Text) -> Message {
+    Message::Ers(Ers {
         receiver: names.ckdx,
         originator: names.banka,
         ultimate: names.bankb,
         ctr: names.counts.three,
-        erf: text(alloc, "C")?,
-    }))
+        erf,
+    })
 }
 
-pub(crate) fn esm(alloc: Global, names: &Names) -> Result<Message, NoMemory> {
-    Ok(Message::Esm(Esm {
+pub(crate) fn esm(names: &Names, erf: Text) -> Message {
+    Message::Esm(Esm {
         receiver: names.banka,
         originator: names.bankb,
-        erf: text(alloc, "C.F")?,
+        erf,
         ctp: Count::of(1),
         cta: Count::of(20),
         ctb: Count::of(300),
         ctr: Count::of(4000),
-    }))
+    })
 }
 
 pub(crate) fn dsm(names: &Names) -> Message {

@@ -1,8 +1,9 @@
 // Identities, names of keys, counts and words.
 use crate::rows::add_rows;
+use crate::texts::text_of;
 use case_table::{Call, Table};
 use std::alloc::Global;
-use x_base::{Count, Ident, KeyName, LIMIT, Label, NoMemory, Text, Verdict, Words};
+use x_base::{Count, Ident, KeyName, LIMIT, Label, NoMemory, Verdict, Words};
 
 /// An identity, and the halves of what it expands to.
 const IDENTITIES: [(&[u8], u64, u64); 9] = [
@@ -28,29 +29,34 @@ fn identity_row(table: &mut Table, bytes: &[u8], left: u64, right: u64) -> Resul
     ])
 }
 
-/// What is told of the expansion of identities.
-pub(crate) fn identities(alloc: Global) -> Result<Text, NoMemory> {
-    let mut table = Table::new(alloc, "identities expanded");
+/// The expansion of identities.
+pub(crate) fn identities(table: &mut Table) -> Result<(), NoMemory> {
     for (bytes, left, right) in IDENTITIES {
-        identity_row(&mut table, bytes, left, right)?;
+        identity_row(table, bytes, left, right)?;
     }
-    table.told()
+    Ok(())
 }
 
-fn name_rows(alloc: Global, table: &mut Table, name: &KeyName) -> Result<(), NoMemory> {
-    let label = Label::read(b"C").ok() == Some(name.label);
-    let mut text = Text::new(alloc);
-    text.push(b"IDD/")?;
+fn text_rows(alloc: Global, table: &mut Table, name: &KeyName) -> Result<(), NoMemory> {
+    let mut text = text_of(alloc, b"IDD/")?;
     name.write(&mut text)?;
     let written = text.bytes() == b"IDD/CKDX.BANKA.C.12".as_slice();
     let copied = text.copy(alloc)? == text;
     let calls = [
-        Call::answer("label of the name", label, true),
-        Call::number("count of the name", name.count.value(), 12),
         Call::answer("write", written, true),
         Call::answer("copy", copied, true),
     ];
     add_rows(table, &calls)
+}
+
+fn name_rows(alloc: Global, table: &mut Table, name: &KeyName) -> Result<(), NoMemory> {
+    let label = Label::read(b"C").ok() == Some(name.label);
+    let calls = [
+        Call::answer("label of the name", label, true),
+        Call::number("count of the name", name.count.value(), 12),
+    ];
+    add_rows(table, &calls)?;
+    text_rows(alloc, table, name)
 }
 
 fn value(count: Option<Count>) -> Option<u64> {
@@ -67,10 +73,14 @@ fn number_calls() -> [Call; 3] {
     ]
 }
 
+fn add_words(words: &mut Words) -> Result<(), NoMemory> {
+    words.push("load")?;
+    words.push("--peer")
+}
+
 fn word_rows(alloc: Global, table: &mut Table) -> Result<(), NoMemory> {
     let mut words = Words::new(alloc);
-    words.push("load")?;
-    words.push("--peer")?;
+    add_words(&mut words)?;
     let second = words.word(1) == Some("--peer");
     let calls = [
         Call::answer("word 1", second, true),
@@ -79,14 +89,12 @@ fn word_rows(alloc: Global, table: &mut Table) -> Result<(), NoMemory> {
     add_rows(table, &calls)
 }
 
-/// What is told of the name of a key, a count, a verdict and words.
-pub(crate) fn names(alloc: Global) -> Result<Text, NoMemory> {
-    let mut table = Table::new(alloc, "names, counts and words");
+/// The name of a key, counts, a verdict and words.
+pub(crate) fn names(alloc: Global, table: &mut Table) -> Result<(), NoMemory> {
     match KeyName::read(b"CKDX.BANKA.C.00000000000012") {
-        Ok(name) => name_rows(alloc, &mut table, &name)?,
+        Ok(name) => name_rows(alloc, table, &name)?,
         Err(_) => table.row(&[Call::answer("the name is read", false, true)])?,
     }
-    add_rows(&mut table, &number_calls())?;
-    word_rows(alloc, &mut table)?;
-    table.told()
+    add_rows(table, &number_calls())?;
+    word_rows(alloc, table)
 }

@@ -6,7 +6,7 @@ use csm_grammar::{
 };
 use csm_read::{read, read_arrival};
 use std::alloc::Global;
-use x_base::{Ident, NoMemory, Text};
+use x_base::NoMemory;
 
 /// A request with other bytes behind it.
 const REQUEST: &[u8] = b"CSM(MCL/RSI RCV/BANKB ORG/BANKA SVR/KD EDC/6C5A 8EFC )CSM(";
@@ -15,22 +15,12 @@ const REQUEST: &[u8] = b"CSM(MCL/RSI RCV/BANKB ORG/BANKA SVR/KD EDC/6C5A 8EFC )C
 const TWO_KEYS: &[u8] =
     b"CSM(MCL/KSM RCV/BANKB ORG/BANKA KD/0123456789ABCDEe KD/0123456789abcdef CTP/007 MAC/00000000)";
 
-fn is_name(ident: &Ident, name: &[u8]) -> bool {
-    ident.bytes() == name
-}
-
-/// The message, where it is a request.
-fn request_of(message: &Message) -> Option<&Rsi> {
-    match message {
-        Message::Rsi(rsi) => Some(rsi),
-        _ => None,
-    }
-}
-
 fn request_calls(rsi: &Rsi) -> [Call; 4] {
+    let receiver = rsi.receiver.bytes() == b"BANKB".as_slice();
+    let originator = rsi.originator.bytes() == b"BANKA".as_slice();
     [
-        Call::answer("receiver", is_name(&rsi.receiver, b"BANKB"), true),
-        Call::answer("originator", is_name(&rsi.originator, b"BANKA"), true),
+        Call::answer("receiver", receiver, true),
+        Call::answer("originator", originator, true),
         Call::answer("service", rsi.service == Service::Kd, true),
         Call::answer("ultimate", rsi.ultimate.is_some(), false),
     ]
@@ -49,23 +39,18 @@ fn arrival_calls(arrival: &Arrival) -> [Call; 3] {
 
 fn arrival_rows(table: &mut Table, arrival: &Arrival) -> Result<(), NoMemory> {
     add_rows(table, &arrival_calls(arrival))?;
-    match request_of(&arrival.parsed.message) {
-        Some(rsi) => add_rows(table, &request_calls(rsi)),
-        None => table.row(&[Call::answer("a request", false, true)]),
+    match &arrival.parsed.message {
+        Message::Rsi(rsi) => add_rows(table, &request_calls(rsi)),
+        _ => table.row(&[Call::answer("a request", false, true)]),
     }
 }
 
-/// What the message carries, where it is a key service message.
-fn body_of(message: &Message) -> Option<&KsmBody> {
-    match message {
-        Message::Ksm(ksm) => Some(&ksm.body),
-        _ => None,
-    }
-}
-
-/// Two keys and the count of the first.
-fn keys_of(body: &KsmBody) -> Option<(u64, u64, u64)> {
-    match body {
+/// Two keys and the count of the first, where it is a key service message with two data keys.
+fn keys_of(message: &Message) -> Option<(u64, u64, u64)> {
+    let Message::Ksm(ksm) = message else {
+        return None;
+    };
+    match &ksm.body {
         KsmBody::Twin {
             first,
             second,
@@ -77,10 +62,7 @@ fn keys_of(body: &KsmBody) -> Option<(u64, u64, u64)> {
 }
 
 fn two_key_rows(table: &mut Table, message: &Message) -> Result<(), NoMemory> {
-    let Some(body) = body_of(message) else {
-        return table.row(&[Call::answer("a key service message", false, true)]);
-    };
-    let Some((first, second, ctp)) = keys_of(body) else {
+    let Some((first, second, ctp)) = keys_of(message) else {
         return table.row(&[Call::answer("two keys", false, true)]);
     };
     let calls = [
@@ -107,19 +89,25 @@ fn class_calls() -> [Call; 5] {
     ]
 }
 
-/// What is told of the parts of messages.
-pub(crate) fn parts(alloc: Global) -> Result<Text, NoMemory> {
-    let mut table = Table::new(alloc, "parts of messages");
+fn request_rows(alloc: Global, table: &mut Table) -> Result<(), NoMemory> {
     match read_arrival(alloc, REQUEST) {
-        Ok(arrival) => arrival_rows(&mut table, &arrival)?,
-        Err(ReadRefusal::NoMemory) => return Err(NoMemory),
-        Err(_) => table.row(&[Call::answer("the request is read", false, true)])?,
+        Ok(arrival) => arrival_rows(table, &arrival),
+        Err(ReadRefusal::NoMemory) => Err(NoMemory),
+        Err(_) => table.row(&[Call::answer("the request is read", false, true)]),
     }
+}
+
+fn key_rows(alloc: Global, table: &mut Table) -> Result<(), NoMemory> {
     match read(alloc, TWO_KEYS) {
-        Ok(parsed) => two_key_rows(&mut table, &parsed.message)?,
-        Err(ReadRefusal::NoMemory) => return Err(NoMemory),
-        Err(_) => table.row(&[Call::answer("two keys are read", false, true)])?,
+        Ok(parsed) => two_key_rows(table, &parsed.message),
+        Err(ReadRefusal::NoMemory) => Err(NoMemory),
+        Err(_) => table.row(&[Call::answer("two keys are read", false, true)]),
     }
-    add_rows(&mut table, &class_calls())?;
-    table.told()
+}
+
+/// The parts of messages, and entries of the class table.
+pub(crate) fn parts(alloc: Global, table: &mut Table) -> Result<(), NoMemory> {
+    request_rows(alloc, table)?;
+    key_rows(alloc, table)?;
+    add_rows(table, &class_calls())
 }

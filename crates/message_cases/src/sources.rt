@@ -1,10 +1,11 @@
 // Sources and sinks, in memory and over readers and writers.
 ghost use Rattle.std.specs.Prelude.{◌<◌, length};
 
+use crate::texts::text_of;
 use case_table::{Call, Table};
 use std::alloc::Global;
 use std::io::{self, ErrorKind, Read};
-use x_base::{MemorySink, MemorySource, NoMemory, Sink, Source, StdSink, StdSource, Text};
+use x_base::{MemorySink, MemorySource, NoMemory, Sink, Source, StdSink, StdSource};
 
 /// A reader of which nothing can be read.
 #[derive(Drop)]
@@ -36,9 +37,8 @@ fn failing(alloc: Global, call: u32) -> Result<Vec<u32>, NoMemory> {
 }
 
 fn source_row(alloc: Global, table: &mut Table) -> Result<(), NoMemory> {
-    let mut text = Text::new(alloc);
-    text.push(b"abc")?;
-    let mut source = MemorySource::new(text, failing(alloc, 2)?);
+    let calls = failing(alloc, 2)?;
+    let mut source = MemorySource::new(text_of(alloc, b"abc")?, calls);
     let mut buf = [0; 2];
     table.row(&[
         Call::option("the first call", taken(&mut source, &mut buf), Some(2)),
@@ -49,7 +49,8 @@ fn source_row(alloc: Global, table: &mut Table) -> Result<(), NoMemory> {
 }
 
 fn sink_row(alloc: Global, table: &mut Table) -> Result<(), NoMemory> {
-    let mut sink = MemorySink::new(alloc, 3, failing(alloc, 1)?)?;
+    let calls = failing(alloc, 1)?;
+    let mut sink = MemorySink::new(alloc, 3, calls)?;
     table.row(&[
         Call::option("the first call", put(&mut sink, b"ab"), None),
         Call::option("the second call", put(&mut sink, b"ab"), Some(2)),
@@ -59,12 +60,10 @@ fn sink_row(alloc: Global, table: &mut Table) -> Result<(), NoMemory> {
     ])
 }
 
-/// What is told of a source and a sink in memory, at which a call fails.
-pub(crate) fn memory(alloc: Global) -> Result<Text, NoMemory> {
-    let mut table = Table::new(alloc, "a source and a sink in memory");
-    source_row(alloc, &mut table)?;
-    sink_row(alloc, &mut table)?;
-    table.told()
+/// A source and a sink in memory, at which a call fails.
+pub(crate) fn memory(alloc: Global, table: &mut Table) -> Result<(), NoMemory> {
+    source_row(alloc, table)?;
+    sink_row(alloc, table)
 }
 
 fn reader_row(table: &mut Table) -> Result<(), NoMemory> {
@@ -90,10 +89,8 @@ fn writer_row(table: &mut Table) -> Result<(), NoMemory> {
     ])
 }
 
-/// What is told of a source over a reader and a sink over a writer.
-pub(crate) fn readers_and_writers(alloc: Global) -> Result<Text, NoMemory> {
-    let mut table = Table::new(alloc, "a reader and a writer");
-    reader_row(&mut table)?;
-    writer_row(&mut table)?;
-    table.told()
+/// A source over a reader and a sink over a writer.
+pub(crate) fn readers_and_writers(table: &mut Table) -> Result<(), NoMemory> {
+    reader_row(table)?;
+    writer_row(table)
 }

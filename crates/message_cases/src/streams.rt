@@ -3,7 +3,7 @@ use case_table::{Call, Table};
 use csm_feed::{Feed, Next};
 use csm_grammar::{ReadRefusal, Tag};
 use std::alloc::Global;
-use x_base::{NoMemory, Text};
+use x_base::NoMemory;
 
 const MESSAGES: [&[u8]; 3] = [
     b"CSM(MCL/RSI RCV/BANKB ORG/BANKA SVR/KD EDC/00000000)",
@@ -19,17 +19,27 @@ const STREAM: &[u8] = b" \r\nCSM(MCL/RSI RCV/BANKB ORG/BANKA SVR/KD EDC/00000000
 
 const FAULT: ReadRefusal = ReadRefusal::Repeated(Tag::Rcv, 199);
 
-/// Whether the feed hands out the message.
-fn hands_out(alloc: Global, feed: &mut Feed, message: &[u8]) -> bool {
-    match feed.next(alloc) {
-        Next::Message(arrival) => arrival.text.bytes() == message,
-        _ => false,
-    }
+/// What a feed gives that is asked for a message.
+#[derive(Clone, Copy)]
+enum Outcome {
+    Wanted,
+    NotYet,
+    Fault,
+    Other,
 }
 
-/// Whether the feed waits for more.
-fn waits(alloc: Global, feed: &mut Feed) -> bool {
-    matches!(feed.next(alloc), Next::NotYet)
+fn next_outcome(alloc: Global, feed: &mut Feed, message: &[u8]) -> Outcome {
+    let is_wanted = match feed.next(alloc) {
+        Next::Message(arrival) => arrival.text.bytes() == message,
+        Next::NotYet => return Outcome::NotYet,
+        Next::Refused(FAULT) => return Outcome::Fault,
+        _ => return Outcome::Other,
+    };
+    if is_wanted {
+        Outcome::Wanted
+    } else {
+        Outcome::Other
+    }
 }
 
 /// What comes of a message that is cut at a place.
@@ -37,9 +47,9 @@ fn cut_row(alloc: Global, table: &mut Table, message: &[u8], cut: usize) -> Resu
     let (first, second) = message.split_at(cut.min(message.len()));
     let mut feed = Feed::new(alloc)?;
     feed.push(first);
-    let waits = waits(alloc, &mut feed);
+    let waits = matches!(next_outcome(alloc, &mut feed, message), Outcome::NotYet);
     feed.push(second);
-    let comes = hands_out(alloc, &mut feed, message);
+    let comes = matches!(next_outcome(alloc, &mut feed, message), Outcome::Wanted);
     table.row(&[
         Call::answer("next waits", waits, true),
         Call::answer("next gives the message", comes, true),
@@ -47,24 +57,23 @@ fn cut_row(alloc: Global, table: &mut Table, message: &[u8], cut: usize) -> Resu
     ])
 }
 
-/// What is told of a message that is cut anywhere.
-pub(crate) fn cuts(alloc: Global) -> Result<Text, NoMemory> {
-    let mut table = Table::new(alloc, "a message cut anywhere");
+/// A message that is cut anywhere.
+pub(crate) fn cuts(alloc: Global, table: &mut Table) -> Result<(), NoMemory> {
     let message = MESSAGES[1];
     for cut in 0..message.len() {
-        cut_row(alloc, &mut table, message, cut)?;
+        cut_row(alloc, table, message, cut)?;
     }
-    table.told()
+    Ok(())
 }
 
 /// How many of the messages that the feed has come, from this one on.
 fn come(alloc: Global, feed: &mut Feed, from: usize) -> usize {
     let mut came = from;
     for message in MESSAGES.iter().skip(from) {
-        if !hands_out(alloc, feed, message) {
-            return came;
+        match next_outcome(alloc, feed, *message) {
+            Outcome::Wanted => came = came.saturating_add(1),
+            _ => return came,
         }
-        came = came.saturating_add(1);
     }
     came
 }
@@ -82,19 +91,11 @@ fn come_in_pieces(alloc: Global, feed: &mut Feed, size: usize) -> usize {
     came
 }
 
-/// Whether the feed refuses what it holds for the fault.
-fn refuses(alloc: Global, feed: &mut Feed) -> bool {
-    match feed.next(alloc) {
-        Next::Refused(refusal) => refusal == FAULT,
-        _ => false,
-    }
-}
-
 /// The row of a stream that comes in pieces of this size.
 fn piece_row(alloc: Global, table: &mut Table, size: usize) -> Result<(), NoMemory> {
     let mut feed = Feed::new(alloc)?;
     let came = come_in_pieces(alloc, &mut feed, size);
-    let refused = refuses(alloc, &mut feed);
+    let refused = matches!(next_outcome(alloc, &mut feed, STREAM), Outcome::Fault);
     table.row(&[
         Call::number("messages", came as u64, 3),
         Call::answer("next refuses the fourth", refused, true),
@@ -102,11 +103,10 @@ fn piece_row(alloc: Global, table: &mut Table, size: usize) -> Result<(), NoMemo
     ])
 }
 
-/// What is told of a stream that comes in pieces of 1, of 7 and of all bytes.
-pub(crate) fn pieces(alloc: Global) -> Result<Text, NoMemory> {
-    let mut table = Table::new(alloc, "a stream in pieces");
+/// A stream that comes in pieces of 1, of 7 and of all bytes.
+pub(crate) fn pieces(alloc: Global, table: &mut Table) -> Result<(), NoMemory> {
     for size in [1, 7, STREAM.len()] {
-        piece_row(alloc, &mut table, size)?;
+        piece_row(alloc, table, size)?;
     }
-    table.told()
+    Ok(())
 }

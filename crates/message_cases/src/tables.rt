@@ -1,7 +1,7 @@
 // Tables of texts that are read, and of inputs of which a message is heard.
 use crate::hearing::heard_told;
 use crate::reading::read_told;
-use crate::texts::meant;
+use crate::texts::push_meant;
 use case_table::{Answers, rows_told};
 use std::alloc::Global;
 use x_base::{NoMemory, Text};
@@ -17,16 +17,23 @@ fn written(asked: &str) -> Option<&str> {
     asked.strip_prefix("<")?.strip_suffix(">")
 }
 
+/// What is heard or read of a text.
+fn text_told(alloc: Global, table: &str, bytes: &[u8]) -> Result<String, NoMemory> {
+    if table == "inputs that are heard" {
+        heard_told(alloc, bytes)
+    } else {
+        read_told(alloc, bytes)
+    }
+}
+
 impl Answers for Texts {
     fn answer(&mut self, table: &str, asked: &str) -> Result<String, NoMemory> {
         let Some(written) = written(asked) else {
             return Ok("no text".to_string(self.alloc)?);
         };
-        let text = meant(self.alloc, written)?;
-        if table == "inputs that are heard" {
-            return heard_told(self.alloc, text.bytes());
-        }
-        read_told(self.alloc, text.bytes())
+        let mut text = Text::new(self.alloc);
+        push_meant(&mut text, written)?;
+        text_told(self.alloc, table, text.bytes())
     }
 }
 

@@ -1,12 +1,9 @@
 use case_table::{Call, Table};
-use std::alloc::Global;
-use x_base::{NoMemory, Text};
+use x_base::NoMemory;
 
-/// What is told of rows of which two are wrong on purpose, so that it is seen how that is told.
-pub(crate) fn wrong(alloc: Global) -> Result<Text, NoMemory> {
-    let mut table = Table::new(alloc, "wrong rows, on purpose");
+/// Rows of which two are wrong on purpose, so that it is seen how that is told.
+pub(crate) fn wrong(table: &mut Table) -> Result<(), NoMemory> {
     table.row(&[Call::number("one", 1, 1), Call::option("none", None, None)])?;
     table.row(&[Call::number("one", 1, 1), Call::number("two", 2, 3)])?;
-    table.text_row("a word", "read", "heard")?;
-    table.told()
+    table.text_row("a word", "read", "heard")
 }

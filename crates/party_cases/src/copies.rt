@@ -1,22 +1,26 @@
 // Changes that are copied and prepared, and full names.
 ghost use Rattle.party_state.specs.Ranges.{AreFitting, HasNoBegin};
 
+use crate::parties::{begun, ident, name};
 use crate::rows::add_rows;
-use crate::states::{begun, ident, name};
 use case_table::{Call, Table};
 use party_state::{Change, Edit, Exchange, KeyRec, KeyStatus, Kind, Role};
 use std::alloc::Global;
 use x_base::{Ident, KeyName, NoMemory, Text};
 
-/// A change of two edits.
-fn two_edits(alloc: Global, peer: Ident) -> Result<Change, NoMemory> {
+fn add_edits(alloc: Global, change: &mut Change, peer: Ident) -> Result<(), NoMemory> {
+    change.push(Edit::DropEnded)?;
     let kind = Kind::Asked { ultimate: peer };
     let mut text = Text::new(alloc);
     text.push(b"CSM(")?;
+    change.push(Edit::PutExchange(Exchange { peer, kind, text }))
+}
+
+/// A copy of a change of two edits.
+fn two_edits(alloc: Global, peer: Ident) -> Result<Change, NoMemory> {
     let mut change = Change::new(alloc);
-    change.push(Edit::DropEnded)?;
-    change.push(Edit::PutExchange(Exchange { peer, kind, text }))?;
-    Ok(change)
+    add_edits(alloc, &mut change, peer)?;
+    change.copy(alloc)
 }
 
 fn is_drop_ended(edit: Option<&Edit>) -> bool {
@@ -31,21 +35,23 @@ fn puts_text(edit: Option<&Edit>, text: &[u8]) -> bool {
     }
 }
 
-fn copy_rows(alloc: Global, table: &mut Table, peer: Ident) -> Result<(), NoMemory> {
-    let empty = Change::new(alloc).is_empty();
-    let copy = two_edits(alloc, peer)?.copy(alloc)?;
-    let length = copy.len();
-    let first = is_drop_ended(copy.edit_at(0));
-    let second = puts_text(copy.edit_at(1), b"CSM(");
-    let edits = copy.into_edits().len();
-    let calls = [
-        Call::answer("is_empty", empty, true),
-        Call::number("len", length as u64, 2),
+fn change_calls(change: &Change) -> [Call; 3] {
+    let first = is_drop_ended(change.edit_at(0));
+    let second = puts_text(change.edit_at(1), b"CSM(");
+    [
+        Call::number("len", change.len() as u64, 2),
         Call::answer("edit_at 0", first, true),
         Call::answer("edit_at 1", second, true),
-        Call::number("into_edits", edits as u64, 2),
-    ];
-    add_rows(table, &calls)
+    ]
+}
+
+fn copy_rows(alloc: Global, table: &mut Table, peer: Ident) -> Result<(), NoMemory> {
+    let empty = Change::new(alloc).is_empty();
+    table.row(&[Call::answer("is_empty", empty, true)])?;
+    let copy = two_edits(alloc, peer)?;
+    add_rows(table, &change_calls(&copy))?;
+    let edits = copy.into_edits().len();
+    table.row(&[Call::number("into_edits", edits as u64, 2)])
 }
 
 /// The recipient in the full name of a key that a party shares with a peer.
@@ -59,22 +65,15 @@ fn recipient(peer: &Ident, name: &KeyName, own: &Ident) -> Ident {
     key.full_name(own).recipient
 }
 
-/// Calls with a name that an identity gave which, doubled, expands as before.
-fn name_calls(name: &KeyName, once: &Ident, twice: &Ident) -> [Call; 2] {
-    let at_originator = recipient(twice, name, once);
-    let at_recipient = recipient(once, name, twice);
-    [
-        Call::answer(
-            "recipient at the originator",
-            at_originator.bytes() == twice.bytes(),
-            true,
-        ),
-        Call::answer(
-            "recipient at itself",
-            at_recipient.bytes() == twice.bytes(),
-            true,
-        ),
-    ]
+/// Whether the full name of a key has the recipient's name, at its originator and at the recipient; the identity that gave
+/// the key its name expands as the recipient's, which is the same doubled.
+fn recipient_agrees() -> Option<(bool, bool)> {
+    let name = name(b"ABAB.ABAB.K1.7")?;
+    let once = ident(b"ABAB")?;
+    let twice = ident(b"ABABABAB")?;
+    let at_originator = recipient(&twice, &name, &once).bytes() == twice.bytes();
+    let at_recipient = recipient(&once, &name, &twice).bytes() == twice.bytes();
+    Some((at_originator, at_recipient))
 }
 
 /// The seed behind a change that is done, or given up.
@@ -103,19 +102,17 @@ fn seed_rows(alloc: Global, table: &mut Table) -> Result<(), NoMemory> {
     add_rows(table, &calls)
 }
 
-/// What is told of changes.
-pub(crate) fn changes(alloc: Global) -> Result<Text, NoMemory> {
-    let mut table = Table::new(alloc, "changes and full names");
+/// Changes that are copied, done or given up, and full names.
+pub(crate) fn copies(alloc: Global, table: &mut Table) -> Result<(), NoMemory> {
     if let Some(peer) = ident(b"BANKB") {
-        copy_rows(alloc, &mut table, peer)?;
+        copy_rows(alloc, table, peer)?;
     }
-    if let (Some(name), Some(once), Some(twice)) = (
-        name(b"ABAB.ABAB.K1.7"),
-        ident(b"ABAB"),
-        ident(b"ABABABAB"),
-    ) {
-        add_rows(&mut table, &name_calls(&name, &once, &twice))?;
+    if let Some((at_originator, at_recipient)) = recipient_agrees() {
+        let calls = [
+            Call::answer("recipient at the originator", at_originator, true),
+            Call::answer("recipient at itself", at_recipient, true),
+        ];
+        add_rows(table, &calls)?;
     }
-    seed_rows(alloc, &mut table)?;
-    table.told()
+    seed_rows(alloc, table)
 }

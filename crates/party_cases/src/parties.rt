@@ -76,6 +76,49 @@ pub(crate) fn put_exchange(alloc: Global, peer: &[u8], kind: Kind) -> Option<Edi
     }))
 }
 
+/// The edit that puts an exchange in which a centre was asked for a key with this recipient.
+pub(crate) fn put_asked(alloc: Global, peer: &[u8], ultimate: &[u8]) -> Option<Edit>
+    ensures fitting { IfSome result IsFitting }
+    ensures goes_on { IfSome result IsNoBegin }
+{
+    let ultimate = ident(ultimate)?;
+    put_exchange(alloc, peer, Kind::Asked { ultimate })
+}
+
+fn put_translating(alloc: Global) -> Option<Edit>
+    ensures fitting { IfSome result IsFitting }
+    ensures goes_on { IfSome result IsNoBegin }
+{
+    let ultimate = ident(b"BANK-C")?;
+    let cta = Count::of(12)?;
+    let value = 5;
+    let kind = Kind::Translating {
+        ultimate,
+        value,
+        cta,
+    };
+    put_exchange(alloc, b"CKTX", kind)
+}
+
+fn put_sent(alloc: Global) -> Option<Edit>
+    ensures fitting { IfSome result IsFitting }
+    ensures goes_on { IfSome result IsNoBegin }
+{
+    let name = name(b"BANKA.BANKA.K1.7")?;
+    let centre = ident(b"CKTX")?;
+    let via = Via::Translation { centre };
+    put_exchange(alloc, b"BANKB", Kind::KeySent { name, via })
+}
+
+fn put_pair(alloc: Global) -> Option<Edit>
+    ensures fitting { IfSome result IsFitting }
+    ensures goes_on { IfSome result IsNoBegin }
+{
+    let name = name(b"BANKA.BANKA.K1.10")?;
+    name_behind(&name)?;
+    put_exchange(alloc, b"BANKE", Kind::PairSent { name })
+}
+
 /// The edit that puts an exchange in which the key with this name ends.
 pub(crate) fn put_ending(alloc: Global, peer: &[u8], bytes: &[u8]) -> Option<Edit>
     ensures fitting { IfSome result IsFitting }
@@ -106,22 +149,12 @@ pub(crate) fn begun(alloc: Global, own: &[u8], role: Role) -> Option<State> {
     first_state(alloc, ident(own)?, role, generator).ok()
 }
 
-/// The state behind one edit.
-pub(crate) fn with(state: State, edit: Edit) -> Option<State>
-    requires fitting { IsFitting edit }
-    requires goes_on { IsNoBegin edit }
+/// Does an edit more; none where there is no edit, or no memory for it.
+pub(crate) fn add(state: &mut State, edit: Option<Edit>) -> Option<()>
+    requires fitting { IfSome edit IsFitting }
+    requires goes_on { IfSome edit IsNoBegin }
 {
-    let mut state = state;
-    match state.edit(edit) {
-        Ok(()) => Some(state),
-        Err(_) => None,
-    }
-}
-
-fn with_links(state: State) -> Option<State> {
-    let sends = put_link(b"K1", Side::Sends, 100_000_000_000_000, true)?;
-    let takes = put_link(b"K-2", Side::Takes, 7, false)?;
-    with(with(state, sends)?, takes)
+    state.edit(edit?).ok()
 }
 
 const KEYS: [(&[u8], KeyStatus); 5] = [
@@ -132,57 +165,30 @@ const KEYS: [(&[u8], KeyStatus); 5] = [
     (b"CKDX.BANKA.C.10", KeyStatus::Ended),
 ];
 
-fn with_keys(state: State) -> Option<State> {
-    let mut state = state;
+fn add_keys(state: &mut State) -> Option<()> {
     for (bytes, status) in KEYS {
-        state = with(state, put_key(bytes, status)?)?;
+        add(state, put_key(bytes, status))?;
     }
-    Some(state)
+    Some(())
 }
 
-fn with_requests(alloc: Global, state: State) -> Option<State> {
-    let ultimate = ident(b"BANK-C")?;
-    let asked = put_exchange(alloc, b"CKDX", Kind::Asked { ultimate })?;
-    let translating = Kind::Translating {
-        ultimate,
-        value: 5,
-        cta: Count::of(12)?,
-    };
-    let translating = put_exchange(alloc, b"CKTX", translating)?;
-    with(with(state, asked)?, translating)
-}
-
-fn with_sent(alloc: Global, state: State) -> Option<State> {
-    let one = Kind::KeySent {
-        name: name(b"BANKA.BANKA.K1.7")?,
-        via: Via::Translation {
-            centre: ident(b"CKTX")?,
-        },
-    };
-    let one = put_exchange(alloc, b"BANKB", one)?;
-    let ending = put_ending(alloc, b"BANKD", b"BANKA.BANKA.K1.9")?;
-    with(with(state, one)?, ending)
-}
-
-fn with_pair(alloc: Global, state: State) -> Option<State> {
-    let name = name(b"BANKA.BANKA.K1.10")?;
-    name_behind(&name)?;
-    with(
-        state,
-        put_exchange(alloc, b"BANKE", Kind::PairSent { name })?,
-    )
-}
-
-fn with_answers(state: State) -> Option<State> {
-    let first = put_answer(b"BANKB", b"BANK-C", 3)?;
-    let second = put_answer(b"BANK-C", b"BANKB", 4)?;
-    with(with(state, first)?, second)
+fn add_every_kind(alloc: Global, state: &mut State) -> Option<()> {
+    let sends = put_link(b"K1", Side::Sends, 100_000_000_000_000, true);
+    add(state, sends)?;
+    add(state, put_link(b"K-2", Side::Takes, 7, false))?;
+    add_keys(state)?;
+    add(state, put_asked(alloc, b"CKDX", b"BANK-C"))?;
+    add(state, put_translating(alloc))?;
+    add(state, put_sent(alloc))?;
+    add(state, put_ending(alloc, b"BANKD", b"BANKA.BANKA.K1.9"))?;
+    add(state, put_pair(alloc))?;
+    add(state, put_answer(b"BANKB", b"BANK-C", 3))?;
+    add(state, put_answer(b"BANK-C", b"BANKB", 4))
 }
 
 /// The bank with rows of every kind.
 pub(crate) fn whole(alloc: Global) -> Option<State> {
-    let state = with_links(begun(alloc, b"BANKA", Role::Bank)?)?;
-    let state = with_requests(alloc, with_keys(state)?)?;
-    let state = with_pair(alloc, with_sent(alloc, state)?)?;
-    with_answers(state)
+    let mut state = begun(alloc, b"BANKA", Role::Bank)?;
+    add_every_kind(alloc, &mut state)?;
+    Some(state)
 }

@@ -1,10 +1,10 @@
 // What is found in a party's tables.
-use crate::rows::add_rows;
-use crate::states::{PAIR, begun, ident, label, name, put_link, whole, with};
+use crate::parties::{PAIR, add, begun, ident, label, name, put_link, whole};
+use crate::rows::{add_rows, no_party};
 use case_table::{Call, Table};
 use party_state::{Answer, KeyRec, KeyStatus, LinkRec, Role, Side, State};
 use std::alloc::Global;
-use x_base::{Ident, KeyName, Label, NoMemory, Text};
+use x_base::{Ident, KeyName, Label, NoMemory};
 
 /// The next count of a link, where one is found.
 fn next(link: Option<&LinkRec>) -> Option<u64> {
@@ -94,12 +94,11 @@ fn answer_calls(state: &State, wanted: &Wanted) -> [Call; 3] {
     ]
 }
 
-/// A bank with a link with a centre and one that isn't ready before the one that can be used.
-fn three_links(alloc: Global) -> Option<State> {
-    let state = begun(alloc, b"ABAB", Role::Bank)?;
-    let state = with(state, put_link(b"C", Side::Sends, 1, true)?)?;
-    let state = with(state, put_link(b"K1", Side::Sends, 2, false)?)?;
-    with(state, put_link(b"K2", Side::Sends, 3, true)?)
+/// A link with a centre and one that isn't ready, before the one that can be used.
+fn add_three_links(state: &mut State) -> Option<()> {
+    add(state, put_link(b"C", Side::Sends, 1, true))?;
+    add(state, put_link(b"K1", Side::Sends, 2, false))?;
+    add(state, put_link(b"K2", Side::Sends, 3, true))
 }
 
 /// Whether the name expands as the party's own does, or as another one of a peer; none where it is no identity.
@@ -121,17 +120,31 @@ fn search_calls(state: &State, peer: &Ident) -> [Call; 3] {
     ]
 }
 
-/// What is told of rows that are found.
-pub(crate) fn lookups(alloc: Global) -> Result<Text, NoMemory> {
-    let mut table = Table::new(alloc, "rows that are found");
-    if let (Some(state), Some(wanted)) = (whole(alloc), names_wanted()) {
-        add_rows(&mut table, &link_calls(&state, &wanted))?;
-        add_rows(&mut table, &key_calls(&state, &wanted))?;
-        add_rows(&mut table, &exchange_calls(&state, &wanted))?;
-        add_rows(&mut table, &answer_calls(&state, &wanted))?;
-        if let Some(state) = three_links(alloc) {
-            add_rows(&mut table, &search_calls(&state, &wanted.peer))?;
-        }
+fn found_rows(table: &mut Table, state: &State, wanted: &Wanted) -> Result<(), NoMemory> {
+    add_rows(table, &link_calls(state, wanted))?;
+    add_rows(table, &key_calls(state, wanted))?;
+    add_rows(table, &exchange_calls(state, wanted))?;
+    add_rows(table, &answer_calls(state, wanted))
+}
+
+fn search_rows(alloc: Global, table: &mut Table, peer: &Ident) -> Result<(), NoMemory> {
+    let Some(mut state) = begun(alloc, b"ABAB", Role::Bank) else {
+        return no_party(table);
+    };
+    match add_three_links(&mut state) {
+        Some(()) => add_rows(table, &search_calls(&state, peer)),
+        None => no_party(table),
     }
-    table.told()
+}
+
+/// Rows that are found.
+pub(crate) fn lookups(alloc: Global, table: &mut Table) -> Result<(), NoMemory> {
+    let Some(wanted) = names_wanted() else {
+        return no_party(table);
+    };
+    match whole(alloc) {
+        Some(state) => found_rows(table, &state, &wanted)?,
+        None => no_party(table)?,
+    }
+    search_rows(alloc, table, &wanted.peer)
 }

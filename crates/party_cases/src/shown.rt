@@ -2,12 +2,13 @@
 ghost use Rattle.std.specs.Prelude.{IfSome};
 ghost use Rattle.party_state.specs.Ranges.{IsFitting, IsNoBegin};
 
-use crate::states::{
-    begun, ident, label, put_answer, put_ending, put_exchange, put_key, put_link, whole,
+use crate::parties::{
+    begun, ident, label, put_answer, put_asked, put_ending, put_key, put_link, whole,
 };
+use crate::rows::no_party;
 use case_table::Table;
 use party_show::show_text;
-use party_state::{Change, Edit, KeyStatus, Kind, Role, Side, State, apply};
+use party_state::{Change, Edit, KeyStatus, Role, Side, State, apply};
 use std::alloc::Global;
 use std::str::from_utf8;
 use x_base::{NoMemory, Text};
@@ -139,14 +140,6 @@ fn drop_exchange() -> Option<Edit>
     Some(Edit::DropExchange { peer })
 }
 
-fn put_asked(alloc: Global) -> Option<Edit>
-    ensures fitting { IfSome result IsFitting }
-    ensures goes_on { IfSome result IsNoBegin }
-{
-    let ultimate = ident(b"BANKD")?;
-    put_exchange(alloc, b"BANK-C", Kind::Asked { ultimate })
-}
-
 /// The edit of a row.
 fn edit_of(alloc: Global, row: usize) -> Option<Edit>
     ensures fitting { IfSome result IsFitting }
@@ -159,7 +152,7 @@ fn edit_of(alloc: Global, row: usize) -> Option<Edit>
         3 => put_key(b"BANKA.BANKA.K1.8", KeyStatus::Closing),
         4 => Some(Edit::DropEnded),
         5 => put_ending(alloc, b"CKTX", b"BANKA.BANKA.K1.8"),
-        6 => put_asked(alloc),
+        6 => put_asked(alloc, b"BANK-C", b"BANKD"),
         7 => drop_exchange(),
         8 => put_answer(b"BANKB", b"BANK-C", 5),
         _ => Some(Edit::SetGen(6)),
@@ -167,58 +160,78 @@ fn edit_of(alloc: Global, row: usize) -> Option<Edit>
 }
 
 /// The state behind a change of one edit.
-fn after(alloc: Global, state: &State, row: usize) -> Result<Option<State>, NoMemory> {
-    let Some(edit) = edit_of(alloc, row) else {
-        return Ok(None);
-    };
+fn after(alloc: Global, state: &State, edit: Edit) -> Result<State, NoMemory>
+    requires fitting { IsFitting edit }
+    requires goes_on { IsNoBegin edit }
+{
     let mut change = Change::new(alloc);
     change.push(edit)?;
-    Ok(Some(apply(alloc, state, &change)?))
+    apply(alloc, state, &change)
+}
+
+fn joined(alloc: Global, lines: &[&[u8]]) -> Result<Text, NoMemory> {
+    let mut text = Text::new(alloc);
+    for piece in lines {
+        text.push(*piece)?;
+    }
+    Ok(text)
 }
 
 /// A row of a state and the lines in which it is wanted to be shown.
 fn shown_row(
     alloc: Global,
     table: &mut Table,
-    state: Option<State>,
+    state: &State,
     lines: &[&[u8]],
 ) -> Result<(), NoMemory> {
-    let mut wanted = Text::new(alloc);
-    for piece in lines {
-        wanted.push(*piece)?;
-    }
-    let wanted = from_utf8(wanted.bytes()).unwrap_or("no lines");
-    let Some(state) = state else {
-        return table.text_row("show_text", "no party", wanted);
-    };
-    let text = show_text(alloc, &state)?;
-    table.text_row(
-        "show_text",
-        from_utf8(text.bytes()).unwrap_or("no text"),
-        wanted,
-    )
+    let text = show_text(alloc, state)?;
+    let lines = joined(alloc, lines)?;
+    let given = from_utf8(text.bytes()).unwrap_or("no text");
+    let wanted = from_utf8(lines.bytes()).unwrap_or("no lines");
+    table.text_row("show_text", given, wanted)
 }
 
-/// What is told of the bank behind each edit.
-pub(crate) fn edits(alloc: Global) -> Result<Text, NoMemory> {
-    let mut table = Table::new(alloc, "a bank behind an edit");
+/// A row of the state behind the edit of a row.
+fn edit_row(alloc: Global, table: &mut Table, state: &State, row: usize) -> Result<(), NoMemory> {
+    let Some([links, keys, exchanges, answers]) = SHOWN.get(row) else {
+        return no_party(table);
+    };
+    let Some(edit) = edit_of(alloc, row) else {
+        return no_party(table);
+    };
+    let next = after(alloc, state, edit)?;
+    let lines = [PARTY, *links, *keys, *exchanges, *answers];
+    shown_row(alloc, table, &next, &lines)
+}
+
+/// The bank behind each edit.
+pub(crate) fn edits(alloc: Global, table: &mut Table) -> Result<(), NoMemory> {
     let Some(state) = whole(alloc) else {
-        return table.told();
+        return no_party(table);
     };
-    for (row, [links, keys, exchanges, answers]) in SHOWN.into_iter().enumerate() {
-        let next = after(alloc, &state, row)?;
-        let lines = [PARTY, links, keys, exchanges, answers];
-        shown_row(alloc, &mut table, next, &lines)?;
+    for row in 0..SHOWN.len() {
+        edit_row(alloc, table, &state, row)?;
     }
-    table.told()
+    Ok(())
 }
 
-/// What is told of centres that have begun.
-pub(crate) fn centres(alloc: Global) -> Result<Text, NoMemory> {
-    let mut table = Table::new(alloc, "centres that have begun");
-    let state = begun(alloc, b"CKDX", Role::Distribution);
-    shown_row(alloc, &mut table, state, &[b"PARTY CKDX DISTRIBUTION\n"])?;
-    let state = begun(alloc, b"CKTX", Role::Translation);
-    shown_row(alloc, &mut table, state, &[b"PARTY CKTX TRANSLATION\n"])?;
-    table.told()
+fn begun_row(
+    alloc: Global,
+    table: &mut Table,
+    own: &[u8],
+    role: Role,
+    line: &[u8],
+) -> Result<(), NoMemory> {
+    match begun(alloc, own, role) {
+        Some(state) => shown_row(alloc, table, &state, &[line]),
+        None => no_party(table),
+    }
+}
+
+/// Centres that have begun.
+pub(crate) fn centres(alloc: Global, table: &mut Table) -> Result<(), NoMemory> {
+    let line = b"PARTY CKDX DISTRIBUTION\n";
+    begun_row(alloc, table, b"CKDX", Role::Distribution, line)?;
+    let line = b"PARTY CKTX TRANSLATION\n";
+    begun_row(alloc, table, b"CKTX", Role::Translation, line)
 }
