@@ -32,7 +32,7 @@ fn next_outcome(alloc: Global, feed: &mut Feed, message: &[u8]) -> Outcome {
     let is_wanted = match feed.next(alloc) {
         Next::Message(arrival) => arrival.text.bytes() == message,
         Next::NotYet => return Outcome::NotYet,
-        Next::Refused(FAULT) => return Outcome::Fault,
+        Next::Refused(refusal) if refusal == FAULT => return Outcome::Fault,
         _ => return Outcome::Other,
     };
     if is_wanted {

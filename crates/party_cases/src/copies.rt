@@ -2,7 +2,7 @@
 ghost use Rattle.party_state.specs.Ranges.{AreFitting, HasNoBegin};
 
 use crate::parties::{begun, ident, name};
-use crate::rows::add_rows;
+use crate::rows::{add_rows, no_party};
 use case_table::{Call, Table};
 use party_state::{Change, Edit, Exchange, KeyRec, KeyStatus, Kind, Role};
 use std::alloc::Global;
@@ -65,8 +65,8 @@ fn recipient(peer: &Ident, name: &KeyName, own: &Ident) -> Ident {
     key.full_name(own).recipient
 }
 
-/// Whether the full name of a key has the recipient's name, at its originator and at the recipient; the identity that gave
-/// the key its name expands as the recipient's, which is the same doubled.
+/// Whether the full name of a key has the recipient's name, at its originator and at the recipient. ABAB, which gave the key
+/// its name, and ABABABAB, the recipient, expand alike.
 fn recipient_agrees() -> Option<(bool, bool)> {
     let name = name(b"ABAB.ABAB.K1.7")?;
     let once = ident(b"ABAB")?;
@@ -104,15 +104,19 @@ fn seed_rows(alloc: Global, table: &mut Table) -> Result<(), NoMemory> {
 
 /// Changes that are copied, done or given up, and full names.
 pub(crate) fn copies(alloc: Global, table: &mut Table) -> Result<(), NoMemory> {
-    if let Some(peer) = ident(b"BANKB") {
-        copy_rows(alloc, table, peer)?;
+    match ident(b"BANKB") {
+        Some(peer) => copy_rows(alloc, table, peer)?,
+        None => no_party(table)?,
     }
-    if let Some((at_originator, at_recipient)) = recipient_agrees() {
-        let calls = [
-            Call::answer("recipient at the originator", at_originator, true),
-            Call::answer("recipient at itself", at_recipient, true),
-        ];
-        add_rows(table, &calls)?;
+    match recipient_agrees() {
+        Some((at_originator, at_recipient)) => add_rows(
+            table,
+            &[
+                Call::answer("recipient at the originator", at_originator, true),
+                Call::answer("recipient at itself", at_recipient, true),
+            ],
+        )?,
+        None => no_party(table)?,
     }
     seed_rows(alloc, table)
 }

@@ -63,7 +63,7 @@ pub(crate) fn put_key(bytes: &[u8], status: KeyStatus) -> Option<Edit>
 }
 
 /// The edit that puts an exchange without a text.
-pub(crate) fn put_exchange(alloc: Global, peer: &[u8], kind: Kind) -> Option<Edit>
+fn put_exchange(alloc: Global, peer: &[u8], kind: Kind) -> Option<Edit>
     requires { IsFittingKind kind }
     ensures fitting { IfSome result IsFitting }
     ensures goes_on { IfSome result IsNoBegin }

@@ -9,7 +9,7 @@ pub(crate) fn add_rows(table: &mut Table, calls: &[Call]) -> Result<(), NoMemory
     Ok(())
 }
 
-/// The row of a party that could not be made; it doesn't hold.
+/// The row where a party, an edit or a name could not be made; it doesn't hold.
 pub(crate) fn no_party(table: &mut Table) -> Result<(), NoMemory> {
     table.text_row("party", "no party", "a party")
 }
