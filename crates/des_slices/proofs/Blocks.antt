@@ -1,10 +1,10 @@
 -- Blocks in lanes.
-use Rattle.std.proofs.Common.{◌≡◌, ℕ, zero, suc, ◌+◌, ◌-◌, ◌*◌, ◌/◌, ◌%◌, ◌^◌, ◌<◌, Bool, true, false, eqb, List, [], ◌∷◌, ◌++◌, map, take, drop, replicate, length, get_or, refl, sym, ap, subst, ◌∙◌, arith, add-one}
+use Rattle.std.proofs.Common.{◌≡◌, ℕ, zero, suc, ◌+◌, ◌-◌, ◌*◌, ◌/◌, ◌%◌, ◌^◌, ◌<◌, Bool, true, false, ◌&&◌, cond, not, eqb, List, [], ◌∷◌, ◌++◌, map, take, drop, replicate, length, get_or, refl, sym, ap, subst, ◌∙◌, arith, add-one}
 use Rattle.std.specs.Prelude.{bit_or, bit_xor, fold}
 use Rattle.std.specs.Int.{bit_at}
 use Rattle.std.specs.List.{range_with_len}
 use Rattle.std.specs.Simd.Lanes.{zip2}
-use Rattle.std.proofs.lemmas.Simd.{get_or-replicate, zip2-map, map-map}
+use Rattle.std.proofs.lemmas.Simd.{get_or-replicate, zip2-map, map-map, pick_l_whole}
 use Rattle.std.proofs.Math.ListN.{get_or-append}
 use Rattle.std.proofs.lemmas.Bool.{eqb-true, agree_below_at}
 use Rattle.std.proofs.lemmas.List.{get_or-append-add, length-map, length-append, length-take, take_at, drop_at, take-append-drop, drop_more, get_or-map}
@@ -41,9 +41,17 @@ pub map-in_lanes : (h f : ℕ → ℕ) → map h (in_lanes f) ≡ in_lanes (λ l
 unfolding in_lanes
 map-in_lanes h f = map-map h f (range_with_len 0 128)
 
-pub zip2-in_lanes : (f g : ℕ → ℕ) → zip2 bit_xor (in_lanes f) (in_lanes g) ≡ in_lanes (λ l. bit_xor (f l) (g l))
+pub zip2_first : (f : Bool → ℕ → ℕ) (bs : List Bool) (g : ℕ → ℕ) → length bs ≡ 128 → in_lanes (λ l. f (get_or bs l false) (g l)) ≡ zip2 f bs (in_lanes g)
 unfolding in_lanes
-zip2-in_lanes f g = zip2-map bit_xor f g (range_with_len 0 128)
+zip2_first f bs g e =
+    let places = range_with_len 0 128 in
+    sym (zip2-map f (λ l. get_or bs l false) g places) ∙ ap (λ xs. zip2 f xs (map g places)) (pick_l_whole false bs 128 e)
+
+pub zip2_second : (f : ℕ → ℕ → ℕ) (g : ℕ → ℕ) (xs : List ℕ) → length xs ≡ 128 → in_lanes (λ l. f (g l) (get_or xs l 0)) ≡ zip2 f (in_lanes g) xs
+unfolding in_lanes
+zip2_second f g xs e =
+    let places = range_with_len 0 128 in
+    sym (zip2-map f g (λ l. get_or xs l 0) places) ∙ ap (zip2 f (map g places)) (pick_l_whole 0 xs 128 e)
 
 pub at_lane : (f : ℕ → ℕ) (l : ℕ) → l < 128 → get_or (in_lanes f) l 0 ≡ f l
 unfolding in_lanes
@@ -92,6 +100,26 @@ restored-xor l r bs p q e =
     ∙ ap (pick ip_inverse) (ap (exclusive_or x) (sym (take-append-drop 32 y)) ∙ exclusive_or-append l r (take 32 y) (drop 32 y) left) in
     sym (word_is 64 (bit_xor (restored l r) (number bs)) (pick ip_inverse (exclusive_or l (take 32 y) ++ exclusive_or r (drop 32 y)))
     (xor_lt 64 (restored l r) (number bs) (restored-lt l r) small) bits)
+
+all_false : (bs : List Bool) → map (λ b. b && false) bs ≡ replicate (length bs) false
+all_false [] = refl
+all_false (true ∷ bs) = ap (λ xs. false ∷ xs) (all_false bs)
+all_false (false ∷ bs) = ap (λ xs. false ∷ xs) (all_false bs)
+
+all_kept : (bs : List Bool) → map (λ b. b && true) bs ≡ bs
+all_kept [] = refl
+all_kept (true ∷ bs) = ap (λ xs. true ∷ xs) (all_kept bs)
+all_kept (false ∷ bs) = ap (λ xs. false ∷ xs) (all_kept bs)
+
+nothing : restored (replicate 32 false) (replicate 32 false) ≡ 0
+unfolding number pick
+nothing = refl
+
+pub restored-cleared : (c : Bool) (l r : List Bool) → length l ≡ 32 → length r ≡ 32 → restored (map (λ b. b && not c) l) (map (λ b. b && not c) r) ≡ cond c 0 (restored l r)
+restored-cleared true l r p q =
+    ap (λ bs. restored bs (map (λ b. b && false) r)) (all_false l ∙ ap (λ n. replicate n false) p)
+    ∙ ap (restored (replicate 32 false)) (all_false r ∙ ap (λ n. replicate n false) q) ∙ nothing
+restored-cleared false l r p q = ap (λ bs. restored bs (map (λ b. b && true) r)) (all_kept l) ∙ ap (restored l) (all_kept r)
 
 -- ---- lanes of halves
 
@@ -178,7 +206,7 @@ right_place i h = eqb-true _ _ (agree_below_at (λ n. eqb (get_or (take 32 ip_in
 pub left_place : (i : ℕ) → i < 16 → get_or (take 32 ip_inverse) (2 * i + 1) 0 - 1 ≡ 8 * (i % 4) + 7 - i / 4
 left_place i h = eqb-true _ _ (agree_below_at (λ n. eqb (get_or (take 32 ip_inverse) (2 * n + 1) 0 - 1) (8 * (n % 4) + 7 - n / 4)) (λ n. true) 16 i refl h)
 
-bit_in : (l : ℕ) (vs : List Vector) (p : ℕ) (d : Vector) → p < length vs → lane_bit l (get_or vs p d).words ≡ get_or (lane l (words_of vs)) p false
+pub bit_in : (l : ℕ) (vs : List Vector) (p : ℕ) (d : Vector) → p < length vs → lane_bit l (get_or vs p d).words ≡ get_or (lane l (words_of vs)) p false
 bit_in l vs p d h = ap (lane_bit l) (sym (get_or-map (λ (v : Vector). v.words) vs p d [] h)) ∙ get_or-lane l (words_of vs) p
 
 pub bit_in_left : (l : ℕ) (vs ws : List Vector) (p : ℕ) (d : Vector) → length vs ≡ 32 → p < 32 → lane_bit l (get_or vs p d).words ≡ get_or (lane l (words_of vs) ++ lane l (words_of ws)) p false

@@ -2,3 +2,4 @@ mod Gates
 mod Wirings
 mod Filling
 mod Blocks
+mod Exchanging

@@ -1,3 +1,4 @@
 pub mod Vectors
 pub mod Slices
 pub mod Keys
+pub mod Exchanges

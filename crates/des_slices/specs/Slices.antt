@@ -10,10 +10,6 @@ use Rattle.des_slices.specs.declared.slices.Slices.TheInside.{Inside}
 unfoldable pub in_lanes : (ℕ → ℕ) → List ℕ
 in_lanes f = map f (range_with_len 0 128)
 
--- the number that each lane of these vectors writes, the first vector's bit the most significant
-abbrev pub numbers : List (List ℕ) → List ℕ
-numbers vs = in_lanes (λ l. number (lane l vs))
-
 -- the block of which IP makes the two halves of a lane
 abbrev pub block_in : Inside → ℕ → ℕ
 block_in s l = number (pick ip_inverse (lane l (words_of s.left) ++ lane l (words_of s.right)))

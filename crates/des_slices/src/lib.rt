@@ -3,7 +3,9 @@
 
 mod boxes_1_to_4;
 mod boxes_5_to_8;
+mod exchanges;
 mod key;
+mod mask;
 mod round;
 mod slices;
 mod vector;

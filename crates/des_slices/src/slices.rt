@@ -1,14 +1,15 @@
-ghost use Rattle.std.specs.Prelude.{◌≡◌, ◌<◌, ◌/◌, ◌^◌, ℕ, bit_xor, drop, take, map, replicate, slice_index_or};
+ghost use Rattle.std.specs.Prelude.{◌≡◌, ◌<◌, ◌/◌, ◌^◌, ℕ, bit_xor, cond, drop, map, replicate, slice_index_or, take};
 ghost use Rattle.std.specs.Simd.Lanes.{zip2};
 ghost use Rattle.x_des.specs.Bits.{exclusive_or, pick};
 ghost use Rattle.x_des.specs.Des.{enciphered};
 ghost use Rattle.x_des.specs.Tables.{ip};
-ghost use Rattle.des_slices.specs.Slices.{numbers};
 ghost use Rattle.des_slices.specs.Vectors.{AreVectors, lane, words_of};
 
+use crate::exchanges::sliced;
 use crate::key::SlicedKey;
+use crate::mask::{masked, unchosen};
 use crate::round::round;
-use crate::vector::{Vector, bit, vectors_of, xored};
+use crate::vector::{Vector, bit, xored};
 use std::marker::Model;
 use std::simd::u64x2;
 
@@ -49,14 +50,22 @@ impl Slices {
         }
     }
 
-    /// Puts numbers onto the blocks by exclusive or: bit `n` of the number of each lane stands in
-    /// vector `n`, the most significant first.
-    pub fn xor(&mut self, bits: &[u64x2; 64])
-        ensures { self.new ≡ zip2 bit_xor self.old (numbers bits.now) }
+    /// Puts numbers onto the blocks by exclusive or, one onto each.
+    pub fn xor(&mut self, numbers: &[u64; LANES])
+        ensures { self.new ≡ zip2 bit_xor self.old numbers.now }
     {
-        let bits = vectors_of(bits);
+        let bits = sliced(numbers);
         self.left = xor_left(&self.left, &bits);
         self.right = xor_right(&self.right, &bits);
+    }
+
+    /// Puts zero into the lanes that are chosen.
+    pub fn clear(&mut self, chosen: &[bool; LANES])
+        ensures { self.new ≡ zip2 (λ b n. cond b 0 n) chosen.now self.old }
+    {
+        let kept = unchosen(chosen);
+        self.left = masked(&self.left, kept);
+        self.right = masked(&self.right, kept);
     }
 
     /// Encrypts each block under the key.
