@@ -1,11 +1,11 @@
 -- The blocks of a text, one by one.
 use Rattle.std.proofs.Common.{◌≡◌, ◌∙◌, ℕ, zero, suc, ◌+◌, ◌-◌, ◌*◌, ◌/◌, ◌%◌, ◌^◌, ◌<◌, ◌≤◌, List, [], ◌∷◌, ◌++◌, length, take, drop, replicate, refl, sym, ap, arith}
 use Rattle.std.specs.Prelude.{fold}
-use Rattle.std.proofs.lemmas.List.{drop-append-le, drop_all, drop-drop, length-drop, length-take-le, take_all, take-append-le, length-append, length-replicate}
+use Rattle.std.proofs.lemmas.List.{drop-append-le, drop-drop, length-drop, take_all, take-append-le, length-append, length-replicate}
 use Rattle.std.proofs.lemmas.List.Sums.{fold-append}
 use Rattle.x_mac.specs.Code.{blocks, chained, code_from, edc_of, filled, word_of}
 use Rattle.x_mac.proofs.ChainLemmas.{length-filled}
-use Rattle.edc_slices.specs.Rows.{block_at_step, block_count, chain_after, edc_key}
+use Rattle.edc_slices.specs.Chains.{block_at_step, block_count, chain_after, edc_key}
 
 -- the number of zeros behind a list doesn't matter where there are enough
 pub enough_zeros : (n j k : ℕ) (xs : List ℕ) → n ≤ length xs + j → n ≤ length xs + k → take n (xs ++ replicate j 0) ≡ take n (xs ++ replicate k 0)
@@ -15,37 +15,22 @@ enough_zeros (suc n) (suc j) zero [] p q = absurd (omega arith)
 enough_zeros (suc n) (suc j) (suc k) [] p q = ap (λ ys. 0 ∷ ys) (enough_zeros n j k [] (omega arith) (omega arith))
 enough_zeros (suc n) j k (x ∷ xs) p q = ap (λ ys. x ∷ ys) (enough_zeros n j k xs (omega arith) (omega arith))
 
--- a whole block, a block that a text's end cuts, and one behind the end
-pub whole_block : (text : List ℕ) (n : ℕ) → 8 ≤ length (drop (8 * n) text) → take 8 (drop (8 * n) text) ≡ block_at_step text n
+-- a whole block, and a block that a text's end cuts
+pub whole_block : (text : List ℕ) → 8 ≤ length text → take 8 text ≡ block_at_step text 0
 unfolding block_at_step
-whole_block text n h = sym (take-append-le 8 (drop (8 * n) text) (replicate 8 0) h)
+whole_block text h = sym (take-append-le 8 text (replicate 8 0) h)
 
-pub cut_block : (text : List ℕ) (n : ℕ) → length (drop (8 * n) text) ≤ 8 → drop (8 * n) text ++ replicate (8 - length (drop (8 * n) text)) 0 ≡ block_at_step text n
+pub cut_block : (text : List ℕ) → length text ≤ 8 → text ++ replicate (8 - length text) 0 ≡ block_at_step text 0
 unfolding block_at_step
-cut_block text n h =
-    let rest = drop (8 * n) text in
-    let size : length (rest ++ replicate (8 - length rest) 0) ≡ 8
-    = length-append rest (replicate (8 - length rest) 0) ∙ ap (λ k. length rest + k) (length-replicate (8 - length rest) 0) ∙ (omega arith) in
-    sym (take_all 8 (rest ++ replicate (8 - length rest) 0) (omega arith))
-    ∙ enough_zeros 8 (8 - length rest) 8 rest (omega arith) (omega arith)
-
-pub no_block : (text : List ℕ) (n : ℕ) → length text ≤ 8 * n → replicate 8 0 ≡ block_at_step text n
-unfolding block_at_step
-no_block text n h = sym (ap (λ rest. take 8 (rest ++ replicate 8 0)) (drop_all (8 * n) text h))
-
--- what stands from a place on, as a slice up to the end
-pub rest_is : (text : List ℕ) (at : ℕ) → take (length text - at) (drop at text) ≡ drop at text
-rest_is text at = take_all (length text - at) (drop at text) (omega (arith, length-drop at text))
+cut_block text h =
+    let size : length (text ++ replicate (8 - length text) 0) ≡ 8
+    = length-append text (replicate (8 - length text) 0) ∙ ap (λ k. length text + k) (length-replicate (8 - length text) 0) ∙ (omega arith) in
+    sym (take_all 8 (text ++ replicate (8 - length text) 0) (omega arith))
+    ∙ enough_zeros 8 (8 - length text) 8 text (omega arith) (omega arith)
 
 pub same_block : (text rest : List ℕ) (n : ℕ) → rest ≡ drop (8 * n) text → block_at_step rest 0 ≡ block_at_step text n
 unfolding block_at_step
 same_block text rest n e = ap (λ xs. take 8 (xs ++ replicate 8 0)) e
-
-pub length-block : (text : List ℕ) (n : ℕ) → length (block_at_step text n) ≡ 8
-unfolding block_at_step
-length-block text n =
-    let rest = drop (8 * n) text in
-    length-take-le 8 (rest ++ replicate 8 0) (omega (arith, length-append rest (replicate 8 0)))
 
 -- one block more
 blocks_more : (n : ℕ) (t : List ℕ) → blocks (suc n) t ≡ blocks n t ++ word_of (take 8 (drop (8 * n) t)) ∷ []

@@ -1,121 +1,133 @@
--- Chains side by side, a block a step.
-use Rattle.std.proofs.Common.{◌≡◌, ◌≢◌, ◌∙◌, ℕ, ◌+◌, ◌/◌, ◌^◌, ◌<◌, ◌≤◌, List, [], length, map, get_or, set, replicate, refl, sym, ap, subst, add-one, arith, inl, inr}
-use Rattle.std.specs.Prelude.{bit_xor}
-use lib.Lanes.{zip2}
+-- Chains in lanes.
+use Rattle.std.proofs.Common.{◌≡◌, ◌∙◌, ℕ, ◌+◌, ◌*◌, ◌/◌, ◌^◌, ◌<◌, ◌≤◌, Bool, true, false, cond, Option, Some, None, List, length, map, drop, get_or, replicate, set, refl, sym, ap, subst, add-one, arith}
+use Rattle.std.specs.Prelude.{bit_xor, IfSome}
+use Rattle.std.specs.Simd.Lanes.{zip2}
+use Rattle.std.proofs.lemmas.Option.{IfSome_then, MatchOption-from_none}
 use Rattle.std.proofs.lemmas.Simd.{get_or-zip2, length-zip2}
-use Rattle.std.proofs.lemmas.List.{get_or-map, get_or-replicate, get_or-set_same, get_or-set_other, get_or_default, length-map}
-use Rattle.std.proofs.lemmas.List.FromFn.{get_or-map-range_with_len, length-map-range_with_len}
-use Rattle.std.proofs.lemmas.Bool.Decides.{eqb_tells}
+use Rattle.std.proofs.lemmas.List.{drop-drop, get_or-map, get_or-replicate, get_or-set_same, get_or-set_other, length-drop}
 use borrow.Author.Count.{below_more}
-use Rattle.x_des.specs.Bits.{number}
 use Rattle.x_des.specs.Des.{enciphered}
 use Rattle.x_mac.specs.Code.{chained, edc_of, word_of}
-use Rattle.des_slices.specs.Slices.{in_lanes, numbers}
-use Rattle.des_slices.specs.Vectors.{lane}
-use Rattle.edc_slices.specs.Ends.{text_before_end}
-use Rattle.edc_slices.specs.Rows.{HaveChains, HaveCodes, block_at_step, block_count, chain_after, column, edc_key}
-use Rattle.edc_slices.proofs.Blocks.{code_is}
+use Rattle.edc_slices.specs.Chains.{block_at_step, block_count, chain_after, edc_key, stepped}
+use Rattle.edc_slices.specs.Lanes.{AreMade, HasChain, HaveChains, IsAtStart, IsChain, text_of}
+use Rattle.edc_slices.specs.declared.lanes.Lane.{Lane}
+use Rattle.edc_slices.proofs.Blocks.{code_is, same_block}
 
--- the number of blocks grows with each body
-pub most_more : (bodies : List (List ℕ)) (k most most' count : ℕ) (body : List ℕ) → k < length bodies → body ≡ get_or bodies k body → count ≡ block_count (text_before_end body)
-    → most ≤ most' → count ≤ most' → ((i : ℕ) → i < k → block_count (text_before_end (get_or bodies i [])) ≤ most)
-    → (i : ℕ) → i < k + 1 → block_count (text_before_end (get_or bodies i [])) ≤ most'
-most_more bodies k most most' count body within at counted more enough before =
-    let same : count ≡ block_count (text_before_end (get_or bodies k [])) = counted ∙ ap (λ t. block_count (text_before_end t)) (at ∙ get_or_default bodies k body [] within) in
-    below_more (λ i. block_count (text_before_end (get_or bodies i [])) ≤ most') k (λ i h. (let b = before i h in omega (arith, b, more))) (subst (λ n. n ≤ most') same enough)
-
--- no step yet
-pub chains_begin : (bodies : List (List ℕ)) → length bodies ≤ 128 → HaveChains (replicate 128 0) bodies 0
+-- no block yet
+chain_begins : (text rest : List ℕ) → rest ≡ text → IsChain text rest 0
 unfolding chain_after
-chains_begin bodies few l h = get_or-replicate 128 l 0 0 (omega arith)
+chain_begins text rest e = record { count = 0; left = e; so_far = refl; within = omega arith }
 
-code_of_none : (t : List ℕ) → block_count t ≤ 0 → 0 ≡ edc_of t
+-- a block more
+chain_more : (text rest left : List ℕ) (chain block : ℕ) → IsChain text rest chain → 0 < length rest → left ≡ drop 8 rest → block ≡ word_of (block_at_step rest 0)
+    → IsChain text left (chained edc_key chain block)
 unfolding chain_after
-code_of_none t h =
-    let none : block_count t ≡ 0 = omega arith in
-    (let e : 0 ≡ 0 / 2 ^ 32 = refl in e) ∙ ap (λ n. chain_after t n / 2 ^ 32) (sym none) ∙ code_is t
+chain_more text rest left chain block k some e f =
+    let n = k.count in
+    let long = ap length k.left in record {
+      count = n + 1;
+      left = e ∙ ap (drop 8) k.left ∙ drop-drop 8 (8 * n) text ∙ ap (λ m. drop m text) (let g : 8 * n + 8 ≡ 8 * (n + 1) = omega arith in g);
+      so_far = ap (λ y. chained edc_key y block) k.so_far ∙ ap (chained edc_key (chain_after text n)) (f ∙ ap word_of (same_block text rest n k.left)) ∙ ap (chain_after text) (sym (add-one n));
+      within = omega (arith, some, long, k.within, length-drop (8 * n) text);
+    }
 
-pub codes_begin : (bodies : List (List ℕ)) → length bodies ≤ 128 → HaveCodes (replicate 128 0) bodies 0
-codes_begin bodies few l h none = get_or-replicate 128 l 0 0 (omega arith) ∙ code_of_none (text_before_end (get_or bodies l [])) none
+-- no block left
+code_at_end : (text rest : List ℕ) (chain : ℕ) → IsChain text rest chain → length rest ≡ 0 → chain / 2 ^ 32 ≡ edc_of text
+code_at_end text rest chain k none =
+    let long = ap length k.left in
+    let all : k.count ≡ block_count text = omega (arith, none, long, k.within, length-drop (8 * k.count) text) in
+    ap (λ y. y / 2 ^ 32) (k.so_far ∙ ap (chain_after text) all) ∙ code_is text
 
-length-numbers : (vs : List (List ℕ)) → length (numbers vs) ≡ 128
-unfolding in_lanes
-length-numbers vs = length-map-range_with_len (λ l. number (lane l vs)) 0 128
+pub lane_at_end : (bodies : List (List ℕ)) (lane : Lane) (chain : ℕ) → HasChain bodies lane chain → length lane.rest.now ≡ 0 → IfSome lane.text (λ n. chain / 2 ^ 32 ≡ edc_of (text_of bodies n))
+lane_at_end bodies lane chain has none = IfSome_then lane.text has (λ n k. code_at_end (text_of bodies n) lane.rest.now chain k.1 none)
 
-number_at : (vs : List (List ℕ)) (l : ℕ) → l < 128 → get_or (numbers vs) l 0 ≡ number (lane l vs)
-unfolding in_lanes
-number_at vs l h = get_or-map-range_with_len (λ k. number (lane k vs)) 0 128 l l 0 h (omega arith)
+-- a lane with a text that has a block left
+abbrev pub GoesOn : List (List ℕ) → Lane → ℕ → Type 0
+GoesOn bodies lane chain = IfSome lane.text (λ n. (n < length bodies) × IsChain (text_of bodies n) lane.rest.now chain × (0 < length lane.rest.now))
+
+-- one that has begun, and one that hasn't ended
+pub begun_goes_on : (bodies : List (List ℕ)) (lane next : Lane) (begun : Bool) (chain : ℕ) → begun ≡ true → lane ≡ next → IsAtStart bodies next → GoesOn bodies lane (cond begun 0 chain)
+begun_goes_on bodies lane next begun chain e f start =
+    IfSome_then lane.text (subst (IsAtStart bodies) (sym f) start)
+    (λ n s. (s.0, subst (λ b. IsChain (text_of bodies n) lane.rest.now (cond b 0 chain)) (sym e) (chain_begins (text_of bodies n) lane.rest.now s.1), s.2))
+
+pub kept_goes_on : (bodies : List (List ℕ)) (lane old : Lane) (begun : Bool) (chain : ℕ) → begun ≡ false → lane ≡ old → HasChain bodies old chain → 0 < length old.rest.now
+    → GoesOn bodies lane (cond begun 0 chain)
+kept_goes_on bodies lane old begun chain e f has some =
+    IfSome_then lane.text (subst (λ (l : Lane). HasChain bodies l chain) (sym f) has)
+    (λ n k. (k.0, subst (λ b. IsChain (text_of bodies n) lane.rest.now (cond b 0 chain)) (sym e) k.1, subst (λ (l : Lane). 0 < length l.rest.now) (sym f) some))
+
+-- its chain behind the next block
+pub has_chain : (bodies : List (List ℕ)) (lane after : Lane) (chain block : ℕ) → GoesOn bodies lane chain → after.text ≡ lane.text → after.rest.now ≡ drop 8 lane.rest.now
+    → block ≡ word_of (block_at_step lane.rest.now 0) → HasChain bodies after (chained edc_key chain block)
+has_chain bodies lane after chain block goes e f g =
+    subst (λ o. IfSome o (λ n. (n < length bodies) × IsChain (text_of bodies n) after.rest.now (chained edc_key chain block))) (sym e)
+    (IfSome_then lane.text goes (λ n k. (k.0, chain_more (text_of bodies n) lane.rest.now after.rest.now chain block k.1 k.2 f g)))
+
+same_chain : (bodies : List (List ℕ)) (lane lane' : Lane) (chain chain' : ℕ) → lane ≡ lane' → chain ≡ chain' → HasChain bodies lane' chain' → HasChain bodies lane chain
+same_chain bodies lane lane' chain chain' e f has =
+    subst (λ (l : Lane). HasChain bodies l chain) (sym e) (subst (HasChain bodies lane') (sym f) has)
+
+-- the lanes before this one have the chains that a step makes
+abbrev pub AreStepped : List (List ℕ) → List Lane → List ℕ → List Bool → List ℕ → ℕ → Type 0
+AreStepped bodies lanes chains begun blocks i =
+    (k : ℕ) → k < i → (other : Lane) → HasChain bodies (get_or lanes k other) (stepped (get_or begun k false) (get_or chains k 0) (get_or blocks k 0))
+
+-- the others those before the step
+abbrev pub AreLeft : List (List ℕ) → List Lane → List ℕ → ℕ → Type 0
+AreLeft bodies lanes chains i = (k : ℕ) → i ≤ k → k < 128 → (other : Lane) → HasChain bodies (get_or lanes k other) (get_or chains k 0)
+
+pub stepped_more : (bodies : List (List ℕ)) (lanes : List Lane) (chains blocks : List ℕ) (begun : List Bool) (i : ℕ) (lane : Lane) (block : ℕ) (b : Bool)
+    → i < length lanes → i < length blocks → i < length begun → HasChain bodies lane (stepped b (get_or chains i 0) block)
+    → AreStepped bodies lanes chains begun blocks i → AreStepped bodies (set lanes i lane) chains (set begun i b) (set blocks i block) (i + 1)
+stepped_more bodies lanes chains blocks begun i lane block b p q r here before =
+    below_more (λ k. (other : Lane) → HasChain bodies (get_or (set lanes i lane) k other) (stepped (get_or (set begun i b) k false) (get_or chains k 0) (get_or (set blocks i block) k 0))) i
+    (λ k h other. same_chain bodies (get_or (set lanes i lane) k other) (get_or lanes k other) _ (stepped (get_or begun k false) (get_or chains k 0) (get_or blocks k 0))
+    (get_or-set_other lanes i k lane other (omega arith))
+    (ap (λ x. stepped x (get_or chains k 0) (get_or (set blocks i block) k 0)) (get_or-set_other begun i k b false (omega arith))
+    ∙ ap (stepped (get_or begun k false) (get_or chains k 0)) (get_or-set_other blocks i k block 0 (omega arith)))
+    (before k h other))
+    (λ other. same_chain bodies (get_or (set lanes i lane) i other) lane _ (stepped b (get_or chains i 0) block)
+    (get_or-set_same lanes i lane other p)
+    (ap (λ x. stepped x (get_or chains i 0) (get_or (set blocks i block) i 0)) (get_or-set_same begun i b false r)
+    ∙ ap (stepped b (get_or chains i 0)) (get_or-set_same blocks i block 0 q))
+    here)
+
+pub left_fewer : (bodies : List (List ℕ)) (lanes : List Lane) (chains : List ℕ) (i : ℕ) (lane : Lane) → AreLeft bodies lanes chains i → AreLeft bodies (set lanes i lane) chains (i + 1)
+left_fewer bodies lanes chains i lane before k from within other =
+    same_chain bodies (get_or (set lanes i lane) k other) (get_or lanes k other) (get_or chains k 0) (get_or chains k 0) (get_or-set_other lanes i k lane other (omega arith)) refl
+    (before k (omega arith) within other)
 
 -- the chains after a step
-abbrev pub stepped : List ℕ → List (List ℕ) → List ℕ
-stepped chains vectors = map (enciphered edc_key) (zip2 bit_xor chains (numbers vectors))
+abbrev pub cleared : List Bool → List ℕ → List ℕ
+cleared begun chains = zip2 (λ b n. cond b 0 n) begun chains
 
-length-xored : (chains : List ℕ) (vectors : List (List ℕ)) → length chains ≡ 128 → length (zip2 bit_xor chains (numbers vectors)) ≡ 128
-length-xored chains vectors size = length-zip2 bit_xor chains (numbers vectors) (size ∙ sym (length-numbers vectors)) ∙ size
+length-cleared : (begun : List Bool) (chains : List ℕ) → length begun ≡ 128 → length chains ≡ 128 → length (cleared begun chains) ≡ 128
+length-cleared begun chains p q = length-zip2 (λ (b : Bool) (n : ℕ). cond b 0 n) begun chains (p ∙ sym q) ∙ p
 
-pub length-stepped : (chains : List ℕ) (vectors : List (List ℕ)) → length chains ≡ 128 → length (stepped chains vectors) ≡ 128
-length-stepped chains vectors size = length-map (zip2 bit_xor chains (numbers vectors)) (enciphered edc_key) ∙ length-xored chains vectors size
+pub length-xored : (begun : List Bool) (chains blocks : List ℕ) → length begun ≡ 128 → length chains ≡ 128 → length blocks ≡ 128 → length (zip2 bit_xor (cleared begun chains) blocks) ≡ 128
+length-xored begun chains blocks p q r =
+    let size = length-cleared begun chains p q in
+    length-zip2 bit_xor (cleared begun chains) blocks (size ∙ sym r) ∙ size
 
-pub chains_more : (bodies rows vectors : List (List ℕ)) (chains : List ℕ) (step : ℕ) → length bodies ≤ 128 → length chains ≡ 128 → HaveChains chains bodies step
-    → ((l : ℕ) → l < length bodies → column l rows ≡ block_at_step (text_before_end (get_or bodies l [])) step)
-    → ((l : ℕ) → l < 128 → number (lane l vectors) ≡ word_of (column l rows)) → HaveChains (stepped chains vectors) bodies (step + 1)
-unfolding chain_after
-chains_more bodies rows vectors chains step few size before columns words l h =
-    let text = text_before_end (get_or bodies l []) in
-    let room : l < 128 = omega arith in
-    let word : get_or (numbers vectors) l 0 ≡ word_of (block_at_step text step) = number_at vectors l room ∙ words l room ∙ ap word_of (columns l h) in
-    let wide = length-xored chains vectors size in
-    get_or-map (enciphered edc_key) (zip2 bit_xor chains (numbers vectors)) l 0 0 (omega (arith, wide))
-    ∙ ap (enciphered edc_key) (get_or-zip2 bit_xor chains (numbers vectors) l 0 0 0 (omega arith) (omega (arith, length-numbers vectors)))
-    ∙ ap (λ y. chained edc_key y (get_or (numbers vectors) l 0)) (before l h)
-    ∙ ap (chained edc_key (chain_after text step)) word
-    ∙ ap (chain_after text) (sym (add-one step))
+pub all_stepped : (bodies : List (List ℕ)) (lanes : List Lane) (begun : List Bool) (chains blocks : List ℕ) → length begun ≡ 128 → length chains ≡ 128 → length blocks ≡ 128
+    → AreStepped bodies lanes chains begun blocks 128 → HaveChains bodies lanes (map (enciphered edc_key) (zip2 bit_xor (cleared begun chains) blocks))
+all_stepped bodies lanes begun chains blocks p q r all l h other =
+    let size = length-cleared begun chains p q in
+    let xored = length-xored begun chains blocks p q r in
+    same_chain bodies (get_or lanes l other) (get_or lanes l other) _ (stepped (get_or begun l false) (get_or chains l 0) (get_or blocks l 0)) refl
+    (get_or-map (enciphered edc_key) (zip2 bit_xor (cleared begun chains) blocks) l 0 0 (omega (arith, xored))
+    ∙ ap (enciphered edc_key) (get_or-zip2 bit_xor (cleared begun chains) blocks l 0 0 0 (omega (arith, size)) (omega arith)
+    ∙ ap (λ y. bit_xor y (get_or blocks l 0)) (get_or-zip2 (λ (b : Bool) (n : ℕ). cond b 0 n) begun chains l false 0 0 (omega arith) (omega arith))))
+    (all l h other)
 
-count_at : (bodies : List (List ℕ)) (lane count : ℕ) (body : List ℕ) → lane < length bodies → body ≡ get_or bodies lane body → count ≡ block_count (text_before_end body)
-    → count ≡ block_count (text_before_end (get_or bodies lane []))
-count_at bodies lane count body within at counted = counted ∙ ap (λ t. block_count (text_before_end t)) (at ∙ get_or_default bodies lane body [] within)
+-- no code yet
+pub none_made : (n : ℕ) (bodies : List (List ℕ)) → length bodies ≤ n → AreMade (replicate n None) bodies
+none_made n bodies few i code h e =
+    let none : ◌≡◌ {A = Option ℕ} None (Some code) = sym (get_or-replicate n i None None (omega arith)) ∙ e in cc
 
--- a code taken from a chain that has ended
-pub code_taken : (bodies : List (List ℕ)) (chains : List ℕ) (lane step count code : ℕ) (body : List ℕ) → lane < length bodies → body ≡ get_or bodies lane body
-    → count ≡ block_count (text_before_end body) → count ≡ step + 1 → HaveChains chains bodies (step + 1) → code ≡ get_or chains lane 0 / 2 ^ 32
-    → code ≡ edc_of (text_before_end (get_or bodies lane []))
-code_taken bodies chains lane step count code body within at counted last have made =
-    let text = text_before_end (get_or bodies lane []) in
-    let same : step + 1 ≡ block_count text = sym last ∙ count_at bodies lane count body within at counted in
-    made ∙ ap (λ y. y / 2 ^ 32) (have lane within ∙ ap (chain_after text) same) ∙ code_is text
-
--- the codes of the lanes before this one are those of this step
-abbrev pub AreTaken : List ℕ → List (List ℕ) → ℕ → ℕ → Type 0
-AreTaken codes bodies lane n =
-    (i : ℕ) → i < lane → block_count (text_before_end (get_or bodies i [])) ≤ n → get_or codes i 0 ≡ edc_of (text_before_end (get_or bodies i []))
-
--- a lane whose text ends with this step
-pub taken_put : (bodies : List (List ℕ)) (codes : List ℕ) (lane step code : ℕ) → lane < length codes → code ≡ edc_of (text_before_end (get_or bodies lane []))
-    → AreTaken codes bodies lane (step + 1) → AreTaken (set codes lane code) bodies (lane + 1) (step + 1)
-taken_put bodies codes lane step code room made before =
-    below_more (λ i. block_count (text_before_end (get_or bodies i [])) ≤ step + 1 → get_or (set codes lane code) i 0 ≡ edc_of (text_before_end (get_or bodies i []))) lane
-    (λ i h k. get_or-set_other codes lane i code 0 (omega arith) ∙ before i h k)
-    (λ k. get_or-set_same codes lane code 0 room ∙ made)
-
-pub others_put : (bodies : List (List ℕ)) (codes : List ℕ) (lane step count code : ℕ) (body : List ℕ) → lane < length bodies → body ≡ get_or bodies lane body
-    → count ≡ block_count (text_before_end body) → count ≡ step + 1 → HaveCodes codes bodies step → HaveCodes (set codes lane code) bodies step
-others_put bodies codes lane step count code body within at counted last before i h k =
-    let same : step + 1 ≡ block_count (text_before_end (get_or bodies lane [])) = sym last ∙ count_at bodies lane count body within at counted in
-    elim (eqb_tells i lane) as (λ _. get_or (set codes lane code) i 0 ≡ edc_of (text_before_end (get_or bodies i []))) [
-      | inl e ↦ absurd (too_many same (subst (λ j. block_count (text_before_end (get_or bodies j [])) ≤ step) e.1 k))
-      | inr n ↦ get_or-set_other codes lane i code 0 n.1 ∙ before i h k
-    ]
-  where
-    too_many : {n m : ℕ} → n + 1 ≡ m → m ≤ n → ⊥
-    too_many e h = omega arith
-
--- a lane whose text doesn't
-pub taken_kept : (bodies : List (List ℕ)) (codes : List ℕ) (lane step count : ℕ) (body : List ℕ) → lane < length bodies → body ≡ get_or bodies lane body
-    → count ≡ block_count (text_before_end body) → count ≢ step + 1 → AreTaken codes bodies lane (step + 1) → HaveCodes codes bodies step → AreTaken codes bodies (lane + 1) (step + 1)
-taken_kept bodies codes lane step count body within at counted other before rest =
-    let same = count_at bodies lane count body within at counted in
-    below_more (λ i. block_count (text_before_end (get_or bodies i [])) ≤ step + 1 → get_or codes i 0 ≡ edc_of (text_before_end (get_or bodies i []))) lane before
-    (λ k. rest lane within (less same other k))
-  where
-    less : {n m k : ℕ} → n ≡ m → n ≢ k + 1 → m ≤ k + 1 → m ≤ k
-    less e f h = omega arith
+-- no text yet
+pub no_chains : (bodies : List (List ℕ)) (lane : Lane) (chains : List ℕ) → lane.text ≡ None → HaveChains bodies (replicate 128 lane) chains
+no_chains bodies lane chains e l h other =
+    same_chain bodies (get_or (replicate 128 lane) l other) lane (get_or chains l 0) (get_or chains l 0) (get_or-replicate 128 l lane other h) refl
+    (MatchOption-from_none lane.text (λ n. (n < length bodies) × IsChain (text_of bodies n) lane.rest.now (get_or chains l 0)) e)
