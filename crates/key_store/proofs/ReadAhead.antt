@@ -27,7 +27,7 @@ some_bodies (body ∷ bodies) some = omega arith
 
 -- bodies were read ahead up to the gate that is read next
 pub record IsUnderWay {D : Type 0} (told : D → View) (old now : Reading D) (bodies : List (List ℕ)) : Type 0 where
-  pub few : length bodies ≤ 128
+  pub few : length bodies ≤ 512
   pub place : now.gate ≡ gate_behind old.gate bodies
   pub read : (front : List (List ℕ)) → HasRead (told old.disk) front old.gate → HasRead (told now.disk) (front ++ bodies) now.gate
   pub onward : 0 < length bodies → now.gate < now.end
@@ -37,7 +37,7 @@ pub record IsUnderWay {D : Type 0} (told : D → View) (old now : Reading D) (bo
 
 module _ {D : Type 0} (told : D → View) (old mid : Reading D) (bodies : List (List ℕ)) (way : IsUnderWay told old mid bodies) where
   -- one body more
-  pub one_more : (new : Reading D) (body : List ℕ) → IsReadOn told mid new (Ok (Some body)) → length bodies < 128 → IsUnderWay told old new (bodies ++ body ∷ [])
+  pub one_more : (new : Reading D) (body : List ℕ) → IsReadOn told mid new (Ok (Some body)) → length bodies < 512 → IsUnderWay told old new (bodies ++ body ∷ [])
   one_more new body next few = record {
     few = omega (arith, few, length-append bodies (body ∷ []));
     place = omega (arith, way.place, next.onward.0, frames_one bodies body);

@@ -17,7 +17,7 @@ gate_behind gate bodies = gate + length (frames bodies)
 
 -- the next bodies of a journal were read, and whether there may be more behind them
 pub record IsReadAhead {D : Type 0} (told : D → View) (old new : Reading D) (bodies : List (List ℕ)) (result : Result Bool Cause) : Type 0 where
-  pub few : length bodies ≤ 128
+  pub few : length bodies ≤ 512
   pub fits : gate_behind old.gate bodies < 2 ^ 64
   -- they follow those that were read before
   pub read : (front : List (List ℕ)) → HasRead (told old.disk) front old.gate → HasRead (told new.disk) (front ++ bodies) (gate_behind old.gate bodies)

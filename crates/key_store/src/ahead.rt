@@ -51,7 +51,7 @@ fn read_ahead<D: Disk>(
 
 /// In format 2, the error detection code of each body but for its last four bytes.
 fn closing_edcs(format: Format, bodies: &[Text]) -> [u32; MOST_CODES]
-    requires { length bodies.now ≤ 128 }
+    requires { length bodies.now ≤ 512 }
     ensures { (i : ℕ) → i < length bodies.now → IsClosingEdc format (slice_index_or bodies.now i []) (slice_index_or result i 0) }
 {
     match format {
@@ -68,7 +68,7 @@ fn follow_all(
     gate: u64,
     bodies: &[Text],
 ) -> Result<(), Cause>
-    requires few { length bodies.now ≤ 128 }
+    requires few { length bodies.now ≤ 512 }
     requires fits { gate_behind gate bodies.now < 2 ^ 64 }
     ensures lead { OnOk result (Lead format state.old bodies.now state.new) }
     ensures stops { IfErr result (StopsAmong format state.old gate bodies.now) }

@@ -6,4 +6,4 @@ abbrev pub invariant-reading : goal.invariant-reading
 invariant-reading g l = IsUnderWay g.D.Disk.told l.fn.opened l.opened l.bodies.items
 
 abbrev pub decreases-reading : goal.decreases-reading
-decreases-reading g l = 128 - length l.bodies.items
+decreases-reading g l = 512 - length l.bodies.items
