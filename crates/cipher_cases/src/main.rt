@@ -4,7 +4,7 @@
 //!
 //! A row of blocks, codes or keys has a key or a pair of keys first. It is answered by a number for each call that is
 //! tried with it, in their order in the code. A row of codes side by side has the number of the first body and how many
-//! there are, and is answered by the code of each.
+//! there are, and may have the range of their lengths and the least one; it is answered by the code of each.
 #![tactic(auto)]
 
 mod calls;
@@ -14,6 +14,7 @@ mod side;
 mod words;
 
 use case_table::{Answers, rows_told};
+use side::Lengths;
 use std::alloc::Global;
 use std::io::{self, Write};
 use words::{numbers, told};
@@ -41,7 +42,13 @@ impl Answers for Ciphers {
             "codes made by another program, of texts whole and cut" => calls::codes(
                 alloc, left, asked,
             ),
-            "codes side by side, made by another program" => side::codes(alloc, left, right),
+            "codes side by side, made by another program" => {
+                let lengths = Lengths {
+                    least: fourth,
+                    range: third,
+                };
+                side::codes(alloc, left, right, lengths)
+            }
             "draws made by another program" => told(
                 alloc,
                 &calls::draws(Gen { key, v: third }, fourth),
