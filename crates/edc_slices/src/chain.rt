@@ -36,7 +36,7 @@ const EDC_ROUND_KEYS: [u64; 16] = [
 ];
 
 /// A step of the chains side by side takes about as long as so many blocks one by one.
-pub const BLOCKS_A_STEP: usize = 36;
+pub const BLOCKS_A_STEP: usize = 40;
 
 /// A lane behind a step, the block that goes onto its chain, and whether the chain begins with it.
 #[derive(Clone, Copy)]
@@ -112,17 +112,28 @@ fn feed<'a>(
 /// Whether going on with the texts in lanes takes less time than making their codes one by one:
 /// together they have more than `BLOCKS_A_STEP` times the blocks of the longest rest.
 fn is_worth_steps(bodies: &[Text], lanes: &[Lane; LANES]) -> bool {
+    let limit = longest_rest(lanes).saturating_mul(BLOCKS_A_STEP);
     let mut all: usize = 0;
-    let mut longest = 0;
     for lane in lanes {
         if let Some(text) = lane.text
             && let Some(body) = bodies.get(text)
         {
             all = all.saturating_add(blocks(body));
-            longest = longest.max(lane.rest.len().div_ceil(8));
+            if all > limit {
+                return true;
+            }
         }
     }
-    all > longest.saturating_mul(BLOCKS_A_STEP)
+    false
+}
+
+/// How many blocks the longest rest has.
+fn longest_rest(lanes: &[Lane; LANES]) -> usize {
+    let mut longest = 0;
+    for lane in lanes {
+        longest = longest.max(lane.rest.len());
+    }
+    longest.div_ceil(8)
 }
 
 /// The next block of a lane; where its text has ended, of the next text.
