@@ -7,7 +7,7 @@ use x_base::{Ident, NoMemory, Side, Text};
 use x_disk::Shelf;
 use x_gen::Gen;
 use x_mac::Pair;
-use x_party::{Outcome, create, show, turn};
+use x_party::{Outcome, compact, create, migrate, show, turn};
 
 const GENERATOR: Gen = Gen {
     key: Pair {
@@ -120,6 +120,22 @@ pub(crate) fn told_of(alloc: Global, outcome: Outcome) -> Result<String, NoMemor
     Ok(told)
 }
 
+/// What becomes of a step that is neither a command within an exchange nor a message.
+fn looked_after<H: Shelf>(
+    alloc: Global,
+    shelf: &mut H,
+    party: &Party,
+    step: &str,
+) -> Option<Outcome> {
+    match step {
+        "create" => Some(create(alloc, shelf, party.own, Role::Bank, GENERATOR)),
+        "show" => Some(show(alloc, shelf, &party.own)),
+        "compact" => Some(compact(alloc, shelf, &party.own)),
+        "migrate" => Some(migrate(alloc, shelf, &party.own)),
+        _ => None,
+    }
+}
+
 /// What becomes of a step.
 pub(crate) fn asked<H: Shelf>(
     alloc: Global,
@@ -127,15 +143,11 @@ pub(crate) fn asked<H: Shelf>(
     party: &Party,
     step: &str,
 ) -> Result<String, NoMemory> {
-    let outcome = if step == "create" {
-        create(alloc, shelf, party.own, Role::Bank, GENERATOR)
-    } else if step == "show" {
-        show(alloc, shelf, &party.own)
-    } else {
-        match input_of(alloc, party, step)? {
-            Some(input) => turn(alloc, shelf, &party.own, &input, 0),
-            None => return Ok(String::from_str(alloc, "no step")?),
-        }
-    };
-    told_of(alloc, outcome)
+    if let Some(outcome) = looked_after(alloc, shelf, party, step) {
+        return told_of(alloc, outcome);
+    }
+    match input_of(alloc, party, step)? {
+        Some(input) => told_of(alloc, turn(alloc, shelf, &party.own, &input, 0)),
+        None => Ok(String::from_str(alloc, "no step")?),
+    }
 }

@@ -35,7 +35,33 @@ pub(crate) fn failing_shelf(alloc: Global, row: &str) -> Result<String, NoMemory
     Ok(told)
 }
 
-/// The shelf on which the party was asked all of its history.
+/// No image that a step names is longer.
+const LONGEST_IMAGE: usize = 4_096;
+
+/// Writes the bytes that a step names in hexadecimal digits behind `image ` to the disk of the party; false where it names none.
+fn laid(
+    alloc: Global,
+    shelf: &mut MemoryShelf,
+    party: &Party,
+    step: &str,
+) -> Result<bool, DiskErr> {
+    let Some(digits) = step.strip_prefix("image ") else {
+        return Ok(false);
+    };
+    let Ok(image) = hex::decode(alloc, digits.as_bytes()) else {
+        return Ok(false);
+    };
+    if image.len() > LONGEST_IMAGE {
+        return Ok(false);
+    }
+    let mut disk = shelf.fetch(&party.own)?;
+    disk.write_at(0, image.as_slice())?;
+    disk.sync()?;
+    shelf.put_back(&party.own, disk)?;
+    Ok(true)
+}
+
+/// The shelf on which the party was asked all of its history, in front of which an image may have been laid.
 pub(crate) fn standing(
     alloc: Global,
     party: &Party,
@@ -46,6 +72,9 @@ pub(crate) fn standing(
         return Ok(shelf);
     }
     for step in history.split(" > ") {
+        if let Ok(true) = laid(alloc, &mut shelf, party, step) {
+            continue;
+        }
         let _ = asked(alloc, &mut shelf, party, step)?;
     }
     Ok(shelf)
