@@ -4,7 +4,7 @@
 //!
 //! A row of blocks, codes or keys has a key or a pair of keys first. It is answered by a number for each call that is
 //! tried with it, in their order in the code. A row of codes side by side has the number of the first body and how many
-//! there are, and may have the range of their lengths and the least one; it is answered by the code of each.
+//! there are, and may have how many lengths there are, and the least one; it is answered by the code of each.
 #![tactic(auto)]
 
 mod calls;

@@ -9,7 +9,7 @@ use x_base::{NoMemory, Text};
 pub(crate) struct Lengths {
     /// No body is shorter.
     pub(crate) least: u64,
-    /// By so many at most, less one, a body is longer; 0 stands for 205.
+    /// How many lengths there are, from the least on; 0 stands for 205.
     pub(crate) range: u64,
 }
 

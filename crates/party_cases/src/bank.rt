@@ -120,8 +120,8 @@ pub(crate) fn told_of(alloc: Global, outcome: Outcome) -> Result<String, NoMemor
     Ok(told)
 }
 
-/// What becomes of a step that is neither a command within an exchange nor a message.
-fn looked_after<H: Shelf>(
+/// What becomes of a step for which the party takes no turn.
+fn without_turn<H: Shelf>(
     alloc: Global,
     shelf: &mut H,
     party: &Party,
@@ -143,7 +143,7 @@ pub(crate) fn asked<H: Shelf>(
     party: &Party,
     step: &str,
 ) -> Result<String, NoMemory> {
-    if let Some(outcome) = looked_after(alloc, shelf, party, step) {
+    if let Some(outcome) = without_turn(alloc, shelf, party, step) {
         return told_of(alloc, outcome);
     }
     match input_of(alloc, party, step)? {

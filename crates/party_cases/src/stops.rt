@@ -4,8 +4,8 @@ use std::alloc::Global;
 use x_base::NoMemory;
 use x_disk::{Disk, DiskErr, FusedShelf, MemoryShelf, Shelf};
 
-/// What a party was asked from its beginning on, with ` > ` between two steps, what it is asked now, what this gives, what is
-/// shown before and after it, and what the same step gives once more.
+/// What a party was asked from its beginning on, with ` > ` between two steps, or behind an image that was laid, what it is asked
+/// now, what this gives, what is seen before and after it, and what the same step gives once more.
 #[derive(Drop)]
 struct Case<'a> {
     history: &'a str,
@@ -25,7 +25,9 @@ pub(crate) fn failing_shelf(alloc: Global, row: &str) -> Result<String, NoMemory
         return Ok(String::from_str(alloc, "no party")?);
     };
     for calls in 0..2 {
-        let shelf = standing(alloc, &party, history)?;
+        let Ok(shelf) = standing(alloc, &party, history) else {
+            return Ok(String::from_str(alloc, "no shelf")?);
+        };
         let mut fused = FusedShelf::new(shelf, calls, u64::MAX);
         let given = asked(alloc, &mut fused, &party, step)?;
         let shown = asked(alloc, &mut fused.into_inner(), &party, "show")?;
@@ -35,10 +37,11 @@ pub(crate) fn failing_shelf(alloc: Global, row: &str) -> Result<String, NoMemory
     Ok(told)
 }
 
-/// No image that a step names is longer.
+/// A longer image isn't laid: no disk has room for any length.
 const LONGEST_IMAGE: usize = 4_096;
 
-/// Writes the bytes that a step names in hexadecimal digits behind `image ` to the disk of the party; false where it names none.
+/// Writes the bytes that a step names in hexadecimal digits behind `image ` to the disk of the party; false where it names none, or
+/// too many.
 fn laid(
     alloc: Global,
     shelf: &mut MemoryShelf,
@@ -61,21 +64,20 @@ fn laid(
     Ok(true)
 }
 
-/// The shelf on which the party was asked all of its history, in front of which an image may have been laid.
+/// The shelf on which the party was asked all of its history; a step of it may be an image that is laid.
 pub(crate) fn standing(
     alloc: Global,
     party: &Party,
     history: &str,
-) -> Result<MemoryShelf, NoMemory> {
+) -> Result<MemoryShelf, DiskErr> {
     let mut shelf = MemoryShelf::new(alloc);
     if history.is_empty() {
         return Ok(shelf);
     }
     for step in history.split(" > ") {
-        if let Ok(true) = laid(alloc, &mut shelf, party, step) {
-            continue;
+        if !laid(alloc, &mut shelf, party, step)? {
+            let _ = asked(alloc, &mut shelf, party, step)?;
         }
-        let _ = asked(alloc, &mut shelf, party, step)?;
     }
     Ok(shelf)
 }
@@ -87,6 +89,44 @@ fn power_goes(shelf: &mut MemoryShelf, party: &Party, choice: u64) -> Result<(),
     shelf.put_back(&party.own, disk)
 }
 
+/// The byte at this place of a disk, and 0 past its end.
+fn byte_at<D: Disk>(disk: &mut D, at: u64) -> Result<u8, DiskErr> {
+    if at >= disk.length()? {
+        return Ok(0);
+    }
+    let mut byte = [0];
+    disk.read(at, &mut byte)?;
+    Ok(byte[0])
+}
+
+/// Which half of its file a party is in, the second one where the selector is 1, and in which format.
+fn half_and_format<D: Disk>(alloc: Global, disk: &mut D) -> Result<String, DiskErr> {
+    let (half, body) = if byte_at(disk, 1)? == 1 {
+        (1, 8_388_621)
+    } else {
+        (0, 21)
+    };
+    let format = byte_at(disk, body)?;
+    Ok(format!(in alloc; "half {half};format {format};")?)
+}
+
+/// What is seen of a party: what it shows, and, for a step that writes it anew, its half and format.
+fn seen(
+    alloc: Global,
+    shelf: &mut MemoryShelf,
+    party: &Party,
+    step: &str,
+) -> Result<String, DiskErr> {
+    let mut seen = asked(alloc, shelf, party, "show")?;
+    if step == "compact" || step == "migrate" {
+        let mut disk = shelf.fetch(&party.own)?;
+        let file = half_and_format(alloc, &mut disk)?;
+        seen.push_str(file.as_str())?;
+        shelf.put_back(&party.own, disk)?;
+    }
+    Ok(seen)
+}
+
 /// Whether the party is as it is to be, and the same step once more is answered as it then is; or is as it was, and the step is
 /// done now. None where it is neither.
 fn state_of(
@@ -94,10 +134,10 @@ fn state_of(
     shelf: &mut MemoryShelf,
     party: &Party,
     case: &Case,
-) -> Result<Option<bool>, NoMemory> {
-    let shown = asked(alloc, shelf, party, "show")?;
-    let is_after = shown.as_str() == case.after;
-    if !is_after && shown.as_str() != case.before {
+) -> Result<Option<bool>, DiskErr> {
+    let seen = seen(alloc, shelf, party, case.step)?;
+    let is_after = seen.as_str() == case.after;
+    if !is_after && seen.as_str() != case.before {
         return Ok(None);
     }
     let wanted = if is_after { case.again } else { case.given };
