@@ -111,8 +111,9 @@ each centre_rsm BANKA ../centre_ksm take --party BANKA
 each compact BANKA /dev/null compact --party BANKA
 each wipe BANKA /dev/null wipe --party BANKA
 # a bank in format 1
-(umask 077 && printf '%b' '\0001\0000X917-KEYSTORE1\0001\0000\0000\0000\0043\0001\0000\0001\0001\0005BANKC' \
-    '\0001\0001\0043\0105\0147\0211\0253\0315\0357\0376\0334\0272\0230\0166\0124\0062\0020\0000\0000\0000\0000\0000\0000\0000\0001\0000' >BANKC.x917)
+(umask 077 && printf '%b' '\0001\0000X917-KEYSTORE1\0001\0000\0000\0000\0043\0001\0000\0001\0001\0005BANKC\0001' \
+    '\0001\0043\0105\0147\0211\0253\0315\0357\0376\0334\0272\0230\0166\0124\0062\0020' \
+    '\0000\0000\0000\0000\0000\0000\0000\0001\0000' >BANKC.x917)
 each migrate BANKC /dev/null migrate --party BANKC
 each drill - /dev/null drill --seed 7 --events 3
 party=BANKA
