@@ -12,3 +12,5 @@ mod Shown
 mod Spaces
 mod Wiped
 mod Acts
+mod Looks
+mod Turns

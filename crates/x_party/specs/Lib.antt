@@ -3,3 +3,4 @@ pub mod Outcomes
 pub mod Steps
 pub mod Dues
 pub mod Asking
+pub mod Notices

@@ -7,3 +7,5 @@ mod Front
 mod Around
 mod Following
 mod Looked
+mod Streams
+mod StreamTaking

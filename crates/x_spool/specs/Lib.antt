@@ -4,3 +4,4 @@ pub mod Shelves
 pub mod Steps
 pub mod Outboxes
 pub mod Looks
+pub mod Inbox

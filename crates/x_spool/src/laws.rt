@@ -1,10 +1,12 @@
-// What holds of a batch over two images, and of a spool's, told by calls that do nothing.
+// What holds of a batch over two images, of a spool's, and of every stream, told by calls that do nothing.
 ghost use Rattle.std.specs.Prelude.{◌≡◌, ℕ, List};
 ghost use Rattle.x_spool.specs.Dues.{IsDueBatch, IsSame};
+ghost use Rattle.x_spool.specs.Inbox.{OneInbox};
 ghost use Rattle.x_spool.specs.Outboxes.{IsDueOutbox};
 ghost use Rattle.x_spool.specs.declared.outcome.SpoolOutcome.{SpoolOutcome as TheOutcome};
 ghost use Rattle.x_spool.specs.declared.outcome.OutboxOutcome.{OutboxOutcome as TheLook};
 
+use csm_read::{law_one_answer, law_read_stays};
 use spool_store::Contents;
 
 /// By the images of the party's disk and the spool's one outcome is due, and no second one.
@@ -20,4 +22,12 @@ pub fn law_one_outbox()
     ensures { (book : List ℕ) (a b : TheLook) → IsDueOutbox book a → IsDueOutbox book b → a ≡ b }
 {
     journal_state::law_one_finding::<Contents>();
+}
+
+/// A stream is one list of messages at most, and then it isn't refused; otherwise for one reason at most.
+pub fn law_one_inbox()
+    ensures { OneInbox }
+{
+    law_one_answer();
+    law_read_stays();
 }

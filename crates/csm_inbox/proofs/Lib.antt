@@ -1,2 +1,0 @@
-mod Streams
-mod Taking

@@ -1,5 +1,0 @@
-use Rattle.csm_inbox.proofs.Streams.{one_inbox}
-use Rattle.csm_inbox.proofs.laws.law_one_inbox.Goals as goal
-
-pub returns : goal.returns
-returns c = one_inbox c.law_one_answer.ensures c.law_read_stays.ensures

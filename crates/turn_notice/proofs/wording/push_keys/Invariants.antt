@@ -1,7 +1,0 @@
-use Rattle.std.proofs.Common.{◌≡◌, ◌++◌, take}
-use Rattle.std.specs.List.{flat_map}
-use Rattle.turn_notice.specs.Notices.{key_words}
-use Rattle.turn_notice.proofs.wording.push_keys.Given as goal
-
-abbrev pub invariant-loop-edit : goal.invariant-loop-edit
-invariant-loop-edit l = l.out ≡ l.initial.out ++ flat_map key_words (take l.edit-index l.edits)
