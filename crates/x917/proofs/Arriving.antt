@@ -11,10 +11,10 @@ use Rattle.csm_feed.specs.Heard.{after_leading, Heard}
 use Rattle.csm_feed.specs.Laws.{OneHearing}
 use Rattle.x_disk.specs.Disk.{View}
 use Rattle.party_state.specs.declared.command.Input.TheVariants.{Arrived}
-use Rattle.x_status.specs.declared.status.Status.{Status}
-use Rattle.x_status.specs.declared.status.Status.TheVariants as status
-use Rattle.csm_check.specs.Transfer.{IsQuiet}
-use Rattle.csm_check.specs.Listening.{taken, refusal_of, IsHeard, IsUnheard}
+use Rattle.x917.specs.declared.status.Status.{Status}
+use Rattle.x917.specs.declared.status.Status.TheVariants as status
+use Rattle.x917.specs.Transfer.{IsQuiet}
+use Rattle.x917.specs.Listening.{taken, refusal_of, IsHeard, IsUnheard}
 use Rattle.x917.specs.Ends.{IsOfParty}
 use Rattle.x_party.specs.Dues.{IsDue}
 use Rattle.x917.specs.Dues.{Follows, FollowsBytes}

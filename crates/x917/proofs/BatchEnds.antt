@@ -18,11 +18,11 @@ use Rattle.x_spool.specs.declared.outcome.SpoolOutcome.TheVariants as outcome
 use Rattle.x_spool.specs.declared.outcome.OutboxOutcome.{OutboxOutcome}
 use Rattle.x_spool.specs.declared.outcome.OutboxOutcome.TheVariants as outbox
 use Rattle.x_line.specs.declared.order.Order.{Order}
-use Rattle.csm_check.specs.Transfer.{GivesOutput, IsAtEnd, IsFront, IsQuiet, Took}
-use Rattle.x_status.specs.Causes.{HasCause, IsSilent}
-use Rattle.x_status.specs.declared.status.Refusal.TheVariants.{Unplanned}
-use Rattle.x_status.specs.declared.status.Status.{Status}
-use Rattle.x_status.specs.declared.status.Status.TheVariants as status
+use Rattle.x917.specs.Transfer.{GivesOutput, IsAtEnd, IsFront, IsQuiet, Took}
+use Rattle.x917.specs.Causes.{HasCause, IsSilent}
+use Rattle.x917.specs.declared.status.Refusal.TheVariants.{Unplanned}
+use Rattle.x917.specs.declared.status.Status.{Status}
+use Rattle.x917.specs.declared.status.Status.TheVariants as status
 use Rattle.x917.specs.Ends.{IsOfParty, Puts}
 use Rattle.x917.specs.Obeys.{LeavesOthers, LeavesRest, OthersOf, is_reading, ledger_of, party_of}
 use Rattle.x917.specs.Playable.{IsOrNoMemory}

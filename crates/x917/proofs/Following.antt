@@ -5,10 +5,10 @@ use Rattle.x_disk.specs.Disk.{View}
 use Rattle.x_party.specs.Dues.{GivesDue}
 use Rattle.x_party.specs.declared.outcome.Outcome.{Outcome}
 use Rattle.x_party.specs.declared.outcome.Outcome.TheVariants as outcome
-use Rattle.x_status.specs.declared.status.Refusal.TheVariants.{Decided}
-use Rattle.x_status.specs.declared.status.Status.{Status}
-use Rattle.x_status.specs.declared.status.Status.TheVariants as status
-use Rattle.csm_check.specs.Transfer.{IsQuiet}
+use Rattle.x917.specs.declared.status.Refusal.TheVariants.{Decided}
+use Rattle.x917.specs.declared.status.Status.{Status}
+use Rattle.x917.specs.declared.status.Status.TheVariants as status
+use Rattle.x917.specs.Transfer.{IsQuiet}
 use Rattle.x917.specs.Ends.{status_of_outcome, Puts, Ends}
 use Rattle.x917.specs.Dues.{Follows}
 

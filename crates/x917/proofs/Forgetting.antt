@@ -9,7 +9,7 @@ use Rattle.party_state.specs.declared.command.Input.TheVariants.{Ordered}
 use Rattle.x_line.specs.declared.order.Order.{Order}
 use Rattle.x_line.specs.declared.order.Order.TheVariants as order
 use Rattle.x_party.specs.Dues.{IsDue, IsDueCreation}
-use Rattle.x_status.specs.declared.status.Status.TheVariants as status
+use Rattle.x917.specs.declared.status.Status.TheVariants as status
 use Rattle.x917.specs.Dues.{Follows}
 use Rattle.x917.specs.Entered.{ExpectsRead, digits_taken}
 use Rattle.x917.specs.Obeys.{Expects}

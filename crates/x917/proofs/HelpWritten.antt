@@ -5,9 +5,9 @@ use Rattle.help_texts.specs.declared.asking.Topic.{Topic}
 use Rattle.help_texts.specs.Lines.{head_of}
 use Rattle.x_line.specs.declared.usage.UsageKind.{UsageKind}
 use Rattle.x_line.specs.Usage.{usage_of}
-use Rattle.x_status.specs.declared.status.Status.{Status}
-use Rattle.x_status.specs.declared.status.Status.TheVariants as status
-use Rattle.x_status.specs.Causes.{HasFaults}
+use Rattle.x917.specs.declared.status.Status.{Status}
+use Rattle.x917.specs.declared.status.Status.TheVariants as status
+use Rattle.x917.specs.Causes.{HasFaults}
 use Rattle.x917.specs.Ends.{Puts}
 use Rattle.x917.specs.Helped.{IsHelp}
 

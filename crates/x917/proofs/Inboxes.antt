@@ -4,13 +4,13 @@ use Rattle.x_base.specs.Edge.{Rose}
 use Rattle.csm_grammar.specs.declared.arrival.Arrival.{Arrival}
 use Rattle.csm_grammar.specs.declared.refusal.ReadRefusal.{ReadRefusal}
 use Rattle.csm_feed.specs.Streams.{AreMessages}
-use Rattle.csm_inbox.specs.Inbox.{IsInbox, IsRefusedStream, OneInbox}
-use Rattle.csm_check.specs.Transfer.{IsAtEnd, IsFront, IsQuiet, Took}
-use Rattle.x_status.specs.Causes.{HasCause, IsSilent}
-use Rattle.x_status.specs.declared.status.Refusal.{Refusal}
-use Rattle.x_status.specs.declared.status.Refusal.TheVariants.{Text, Trailing}
-use Rattle.x_status.specs.declared.status.Status.{Status}
-use Rattle.x_status.specs.declared.status.Status.TheVariants as status
+use Rattle.x_spool.specs.Inbox.{IsInbox, IsRefusedStream, OneInbox}
+use Rattle.x917.specs.Transfer.{IsAtEnd, IsFront, IsQuiet, Took}
+use Rattle.x917.specs.Causes.{HasCause, IsSilent}
+use Rattle.x917.specs.declared.status.Refusal.{Refusal}
+use Rattle.x917.specs.declared.status.Refusal.TheVariants.{Text, Trailing}
+use Rattle.x917.specs.declared.status.Status.{Status}
+use Rattle.x917.specs.declared.status.Status.TheVariants as status
 use Rattle.x917.specs.Batched.{FollowsInbox, IsMade, IsRefusedInbox, NoMessage, TooMany}
 use Rattle.x917.specs.Ends.{Puts}
 use Rattle.x917.specs.Spooled.{TakesBatch, batch_limit}

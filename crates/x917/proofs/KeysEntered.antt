@@ -2,7 +2,7 @@
 use Rattle.std.proofs.Common.{◌≡◌, ◌⊎◌, inl, inr, ℕ, ◌<◌, List, length, Option, Some, None, IfSome, Result, Ok, Err, refl, sym, ap, ◌∙◌, subst}
 use Rattle.x_base.specs.Edge.{Rose}
 use Rattle.x_disk.specs.Disk.{View}
-use Rattle.csm_check.specs.Transfer.{IsAtEnd, IsFront, IsQuiet}
+use Rattle.x917.specs.Transfer.{IsAtEnd, IsFront, IsQuiet}
 use Rattle.key_parts.specs.Parts.{entered_of}
 use Rattle.key_parts.specs.declared.part.Form.{Form}
 use Rattle.key_parts.specs.declared.part.Part.{Part}
@@ -11,10 +11,10 @@ use Rattle.x_party.specs.Outcomes.{IsNoFailure, LeavesShelf}
 use Rattle.x_party.specs.declared.outcome.Outcome.{Outcome}
 use Rattle.x_party.specs.declared.outcome.Outcome.TheVariants as outcome
 use Rattle.x_pair.specs.Outcomes.{LeavesPair}
-use Rattle.x_status.specs.Causes.{HasCause}
-use Rattle.x_status.specs.declared.status.Refusal.TheVariants.{BadDigits}
-use Rattle.x_status.specs.declared.status.Status.{Status}
-use Rattle.x_status.specs.declared.status.Status.TheVariants as status
+use Rattle.x917.specs.Causes.{HasCause}
+use Rattle.x917.specs.declared.status.Refusal.TheVariants.{BadDigits}
+use Rattle.x917.specs.declared.status.Status.{Status}
+use Rattle.x917.specs.declared.status.Status.TheVariants as status
 use Rattle.x917.specs.Dues.{Follows}
 use Rattle.x917.specs.Ends.{IsOfParty, status_of_outcome}
 use Rattle.x917.specs.Entered.{AreRead, ExpectsKey, ExpectsRead, IsNoKey, TakesDigits, digits_limit, digits_taken, valued}

@@ -1,3 +1,6 @@
+pub mod Transfers
+pub mod Arrivals
+pub mod Decisions
 pub mod Endings
 pub mod Following
 pub mod Arriving

@@ -7,10 +7,10 @@ use Rattle.x_pair.specs.declared.likeness.Compared.{Compared}
 use Rattle.x_pair.specs.declared.likeness.Compared.TheVariants as compared
 use Rattle.x_pair.specs.declared.likeness.Likeness.{Likeness}
 use Rattle.x_pair.specs.declared.likeness.Likeness.TheVariants as likeness
-use Rattle.csm_check.specs.Transfer.{IsQuiet}
-use Rattle.x_status.specs.Causes.{HasCause, IsSilent}
-use Rattle.x_status.specs.declared.status.Status.{Status}
-use Rattle.x_status.specs.declared.status.Status.TheVariants as status
+use Rattle.x917.specs.Transfer.{IsQuiet}
+use Rattle.x917.specs.Causes.{HasCause, IsSilent}
+use Rattle.x917.specs.declared.status.Status.{Status}
+use Rattle.x917.specs.declared.status.Status.TheVariants as status
 use Rattle.x917.specs.Compared.{EndsOrForgets, FollowsComparison, IsComparing, status_of_likeness}
 use Rattle.x917.specs.Ends.{IsOfParty}
 use Rattle.x917.specs.Obeys.{LeavesRest}

@@ -20,8 +20,8 @@ use Rattle.x_party.specs.declared.outcome.Outcome.{Outcome}
 use Rattle.x_party.specs.declared.outcome.Outcome.TheVariants as outcome
 use Rattle.world_laws.specs.Events.{Action, Orders, Hears, Compacts, Migrates, IsAction, IsCommand}
 use Rattle.world_laws.specs.Calls.{IsCall, IsNamedCall, AnswersOther}
-use Rattle.x_status.specs.declared.status.Status.{Status}
-use Rattle.csm_check.specs.Listening.{taken, IsHeard}
+use Rattle.x917.specs.declared.status.Status.{Status}
+use Rattle.x917.specs.Listening.{taken, IsHeard}
 use Rattle.x917.specs.Ends.{Ends}
 use Rattle.x917.specs.Obeys.{Obeys, IsPartyTurn, IsTaken}
 use Rattle.x917.specs.Network.{IsNamedEvent, IsArrivalEvent, IsNetworkEvent}

@@ -2,14 +2,14 @@
 use Rattle.std.proofs.Common.{◌≡◌, inl, inr, ℕ, Bool, true, List, [], ◌∷◌, Option, Some, None, IfSome, refl, sym}
 use Rattle.x_disk.specs.Disk.{View}
 use Rattle.csm_grammar.specs.declared.arrival.Arrival.{Arrival}
-use Rattle.csm_check.specs.Listening.{IsHeard}
+use Rattle.x917.specs.Listening.{IsHeard}
 use Rattle.x_line.specs.declared.order.Order.{Order}
 use Rattle.x_line.specs.declared.order.Order.TheVariants as order
 use Rattle.x_party.specs.declared.outcome.Outcome.{Outcome}
 use Rattle.x_party.specs.declared.outcome.Outcome.TheVariants as outcome
-use Rattle.x_status.specs.declared.status.Status.{Status}
-use Rattle.x_status.specs.declared.status.Status.TheVariants as status
-use Rattle.turn_notice.specs.Notices.{HasNotice}
+use Rattle.x917.specs.declared.status.Status.{Status}
+use Rattle.x917.specs.declared.status.Status.TheVariants as status
+use Rattle.x_party.specs.Notices.{HasNotice}
 use Rattle.x917.specs.Ends.{Ends, Puts}
 use Rattle.x917.specs.Notice.{LeavesNotice, notice_at}
 

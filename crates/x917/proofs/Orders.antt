@@ -25,16 +25,16 @@ use Rattle.x_party.specs.Images.{OrBefore}
 use Rattle.x_party.specs.Outcomes.{IsNoFailure, IsOldOrRewritten, IsSafe, IsSafeRewriting, IsSafeWiping, LeavesShelf}
 use Rattle.x_party.specs.declared.outcome.Outcome.{Outcome}
 use Rattle.x_party.specs.declared.outcome.Outcome.TheVariants as outcome
-use Rattle.x_status.specs.declared.status.Status.{Status}
-use Rattle.x_status.specs.declared.status.Status.TheVariants as status
+use Rattle.x917.specs.declared.status.Status.{Status}
+use Rattle.x917.specs.declared.status.Status.TheVariants as status
 use Rattle.x917.specs.declared.party_command.PartyCommand.{PartyCommand}
-use Rattle.csm_check.specs.Transfer.{IsQuiet, Took, TookAtMost}
-use Rattle.x_status.specs.Causes.{HasCause, HasFaults}
+use Rattle.x917.specs.Transfer.{IsQuiet, Took, TookAtMost}
+use Rattle.x917.specs.Causes.{HasCause, HasFaults}
 use Rattle.x917.specs.Ends.{Ends, IsOfParty, status_of_outcome}
 use Rattle.x_party.specs.Dues.{IsDue, GivesDue}
 use Rattle.x917.specs.Dues.{Follows}
-use Rattle.csm_check.specs.Check.{IsChecked}
-use Rattle.csm_check.specs.Listening.{IsUnheard}
+use Rattle.x917.specs.Check.{IsChecked}
+use Rattle.x917.specs.Listening.{IsUnheard}
 use Rattle.x917.specs.Obeys.{Obeys, ObeysCommand, Expects, ExpectsCommand, OthersOf, LeavesOthers, IsPartyTurn, IsWithin, command_of, ledger_of, party_of, is_reading, is_tended}
 use Rattle.x917.proofs.Following.{disk_fault, ended, follows}
 use Rattle.x917.proofs.Paying.{idle_payment}

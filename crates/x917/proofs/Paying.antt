@@ -10,10 +10,10 @@ use Rattle.x_pay.specs.Outcomes.{Payment, MayLeave, Before, IsNoFailure, LeavesS
 use Rattle.x_pay.specs.Payments.{accepting}
 use Rattle.x_pay.specs.declared.outcome.PayOutcome.{PayOutcome}
 use Rattle.x_pay.specs.declared.outcome.PayOutcome.TheVariants as outcome
-use Rattle.csm_check.specs.Transfer.{IsAtEnd, IsFront, IsQuiet}
-use Rattle.x_status.specs.Causes.{HasCause, IsSilent}
-use Rattle.x_status.specs.declared.status.Status.{Status}
-use Rattle.x_status.specs.declared.status.Status.TheVariants as status
+use Rattle.x917.specs.Transfer.{IsAtEnd, IsFront, IsQuiet}
+use Rattle.x917.specs.Causes.{HasCause, IsSilent}
+use Rattle.x917.specs.declared.status.Status.{Status}
+use Rattle.x917.specs.declared.status.Status.TheVariants as status
 use Rattle.x917.specs.Ends.{IsOfParty}
 use Rattle.x917.specs.Paid.{EndsPayment, FollowsPayment, IsAccepted, IsPayment, TakesPayment, payment_limit, payment_taken, status_of_payment}
 use Rattle.x917.specs.Obeys.{LeavesOthers, LeavesRest, OthersOf, is_reading, ledger_of, party_of}

@@ -11,9 +11,9 @@ use Rattle.audit_check.specs.declared.fault.AuditFault.{AuditFault}
 use Rattle.audit_check.specs.declared.fault.AuditFault.TheVariants.{Forged}
 use Rattle.audit_check.specs.declared.result.AuditResult.{AuditResult}
 use Rattle.audit_check.specs.declared.result.AuditResult.TheVariants as answer
-use Rattle.x_status.specs.declared.status.Refusal.TheVariants.{Audit}
-use Rattle.x_status.specs.declared.status.Status.{Status}
-use Rattle.x_status.specs.declared.status.Status.TheVariants as status
+use Rattle.x917.specs.declared.status.Refusal.TheVariants.{Audit}
+use Rattle.x917.specs.declared.status.Status.{Status}
+use Rattle.x917.specs.declared.status.Status.TheVariants as status
 use Rattle.x917.specs.Playable.{IsOrNoMemory}
 
 -- how many bytes of an input are taken at most: one more than it may have

@@ -4,11 +4,11 @@ use Rattle.std.specs.Prelude.{◌≡◌, ◌≤◌, ◌⊎◌, ℕ, List, [], le
 use Rattle.csm_grammar.specs.declared.arrival.Arrival.{Arrival}
 use Rattle.csm_grammar.specs.declared.refusal.ReadRefusal.{ReadRefusal}
 use Rattle.csm_feed.specs.Streams.{AreMessages}
-use Rattle.csm_inbox.specs.Inbox.{IsInbox, IsRefusedStream}
-use Rattle.x_status.specs.declared.status.Refusal.{Refusal}
-use Rattle.x_status.specs.declared.status.Refusal.TheVariants.{Text, Trailing}
-use Rattle.x_status.specs.declared.status.Status.{Status}
-use Rattle.x_status.specs.declared.status.Status.TheVariants as status
+use Rattle.x_spool.specs.Inbox.{IsInbox, IsRefusedStream}
+use Rattle.x917.specs.declared.status.Refusal.{Refusal}
+use Rattle.x917.specs.declared.status.Refusal.TheVariants.{Text, Trailing}
+use Rattle.x917.specs.declared.status.Status.{Status}
+use Rattle.x917.specs.declared.status.Status.TheVariants as status
 use Rattle.x917.specs.Ends.{Puts}
 use Rattle.x917.specs.Playable.{IsOrNoMemory}
 use Rattle.x917.specs.Spooled.{batch_limit}

@@ -9,9 +9,9 @@ use Rattle.x_pair.specs.declared.likeness.Compared.{Compared}
 use Rattle.x_pair.specs.declared.likeness.Compared.TheVariants as compared
 use Rattle.x_pair.specs.declared.likeness.Likeness.{Likeness}
 use Rattle.x_pair.specs.declared.likeness.Likeness.TheVariants as likeness
-use Rattle.x_status.specs.declared.status.Refusal.TheVariants.{Unlike}
-use Rattle.x_status.specs.declared.status.Status.{Status}
-use Rattle.x_status.specs.declared.status.Status.TheVariants as status
+use Rattle.x917.specs.declared.status.Refusal.TheVariants.{Unlike}
+use Rattle.x917.specs.declared.status.Status.{Status}
+use Rattle.x917.specs.declared.status.Status.TheVariants as status
 use Rattle.x917.specs.Ends.{Puts}
 use Rattle.x917.specs.Playable.{IsOrNoMemory}
 

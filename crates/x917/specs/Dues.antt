@@ -7,9 +7,9 @@ use Rattle.x_disk.specs.Disk.{View}
 use Rattle.party_state.specs.declared.command.Input.TheVariants.{Arrived}
 use Rattle.x_party.specs.Dues.{IsDue}
 use Rattle.x_party.specs.declared.outcome.Outcome.{Outcome}
-use Rattle.x_status.specs.declared.status.Status.{Status}
-use Rattle.x_status.specs.declared.status.Status.TheVariants as status
-use Rattle.csm_check.specs.Listening.{IsHeard, refusal_of, taken}
+use Rattle.x917.specs.declared.status.Status.{Status}
+use Rattle.x917.specs.declared.status.Status.TheVariants as status
+use Rattle.x917.specs.Listening.{IsHeard, refusal_of, taken}
 use Rattle.x917.specs.Ends.{status_of_outcome}
 
 -- the status is that of the outcome that is due by the image, or no memory was left

@@ -21,9 +21,9 @@ use Rattle.x_party.specs.declared.outcome.Outcome.TheVariants as outcome
 use Rattle.x_pair.specs.Creations.{CreatesPair, GivesDueCreation, IsSafeCreation}
 use Rattle.x_pair.specs.Dues.{GivesDuePair}
 use Rattle.x_pair.specs.Outcomes.{IsSafePair, MakesPair, Work}
-use Rattle.x_status.specs.declared.status.Refusal.TheVariants.{BadDigits}
-use Rattle.x_status.specs.declared.status.Status.{Status}
-use Rattle.x_status.specs.declared.status.Status.TheVariants as status
+use Rattle.x917.specs.declared.status.Refusal.TheVariants.{BadDigits}
+use Rattle.x917.specs.declared.status.Status.{Status}
+use Rattle.x917.specs.declared.status.Status.TheVariants as status
 use Rattle.x917.specs.Ends.{Ends}
 use Rattle.x917.specs.Playable.{IsOrNoMemory}
 

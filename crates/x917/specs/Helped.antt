@@ -5,8 +5,8 @@ use Rattle.help_texts.specs.Lines.{head_of}
 use Rattle.help_texts.specs.Topics.{topic_of}
 use Rattle.x_line.specs.declared.usage.UsageKind.{UsageKind}
 use Rattle.x_line.specs.Usage.{usage_of}
-use Rattle.x_status.specs.declared.status.Status.{Status}
-use Rattle.x_status.specs.declared.status.Status.TheVariants as status
+use Rattle.x917.specs.declared.status.Status.{Status}
+use Rattle.x917.specs.declared.status.Status.TheVariants as status
 use Rattle.x917.specs.Ends.{Puts}
 
 -- the text of the topic, which begins with its lines, was written, or the sink failed; or no memory was left, and nothing was

@@ -1,3 +1,8 @@
+pub mod Lines
+pub mod Causes
+pub mod Transfer
+pub mod Listening
+pub mod Check
 pub mod Ends
 pub mod Helped
 pub mod Notice

@@ -15,8 +15,8 @@ use Rattle.x_pair.specs.Creations.{CreatesPair, GivesDueCreation, IsSafeCreation
 use Rattle.x_pair.specs.Dues.{GivesDuePair, IsDueShow, IsDueTurn}
 use Rattle.x_pair.specs.Outcomes.{IsSafePair, MakesPair, Work, showing, turning}
 use Rattle.x_party.specs.declared.outcome.Outcome.{Outcome}
-use Rattle.x_status.specs.declared.status.Status.{Status}
-use Rattle.csm_check.specs.Listening.{IsHeard, IsUnheard}
+use Rattle.x917.specs.declared.status.Status.{Status}
+use Rattle.x917.specs.Listening.{IsHeard, IsUnheard}
 use Rattle.x917.specs.declared.party_command.PartyCommand.{PartyCommand}
 use Rattle.x917.specs.Ends.{Ends, IsOfParty}
 use Rattle.x917.specs.Entered.{EntersKey, IsUnchanged, IsValuedPairCall, IsValuedPairCreation}

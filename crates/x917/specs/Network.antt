@@ -12,8 +12,8 @@ use Rattle.x_line.specs.declared.order.Order.TheVariants as order
 use Rattle.world_laws.specs.Events.{Action, Orders, Hears, Compacts, Migrates, IsAction}
 use Rattle.world_laws.specs.Calls.{IsCall, IsNamedCall}
 use Rattle.x917.specs.declared.party_command.PartyCommand.{PartyCommand}
-use Rattle.x_status.specs.declared.status.Status.{Status}
-use Rattle.csm_check.specs.Listening.{IsUnheard, taken}
+use Rattle.x917.specs.declared.status.Status.{Status}
+use Rattle.x917.specs.Listening.{IsUnheard, taken}
 use Rattle.x917.specs.Ends.{Ends}
 use Rattle.x917.specs.Obeys.{command_of}
 

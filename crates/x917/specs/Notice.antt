@@ -7,12 +7,12 @@ use Rattle.party_state.specs.declared.command.Input.TheVariants.{Arrived}
 use Rattle.party_state.specs.State.{Party}
 use Rattle.key_store.specs.Store.{Stands}
 use Rattle.roles.specs.Deciding.{decision}
-use Rattle.turn_notice.specs.Notices.{class_word, notice_of}
+use Rattle.x_party.specs.Notices.{class_word, notice_of}
 use Rattle.x_line.specs.declared.order.Order.{Order}
 use Rattle.x_line.specs.declared.order.Order.TheVariants.{Take}
-use Rattle.x_status.specs.declared.status.Status.{Status}
-use Rattle.x_status.specs.declared.status.Status.TheVariants.{Done}
-use Rattle.csm_check.specs.Listening.{IsHeard}
+use Rattle.x917.specs.declared.status.Status.{Status}
+use Rattle.x917.specs.declared.status.Status.TheVariants.{Done}
+use Rattle.x917.specs.Listening.{IsHeard}
 
 -- the notice of the message that was heard: what the party that stood on the disk decided of it
 abbrev pub IsNoticeOf : View → List ℕ → ℕ → Option (List ℕ) → Type 0

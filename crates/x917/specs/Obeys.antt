@@ -30,11 +30,11 @@ use Rattle.x_party.specs.declared.outcome.Outcome.{Outcome}
 use Rattle.disk_pair.specs.Pairs.{ThirdsStay}
 use Rattle.x_pay.specs.Payments.{accepting, paying}
 use Rattle.x917.specs.declared.party_command.PartyCommand.{PartyCommand}
-use Rattle.x_status.specs.declared.status.Status.{Status}
-use Rattle.x_status.specs.declared.status.Status.TheVariants as status
-use Rattle.x_status.specs.Causes.{IsSilent}
-use Rattle.csm_check.specs.Listening.{IsHeard, IsUnheard}
-use Rattle.csm_check.specs.Check.{IsChecked, IsExact}
+use Rattle.x917.specs.declared.status.Status.{Status}
+use Rattle.x917.specs.declared.status.Status.TheVariants as status
+use Rattle.x917.specs.Causes.{IsSilent}
+use Rattle.x917.specs.Listening.{IsHeard, IsUnheard}
+use Rattle.x917.specs.Check.{IsChecked, IsExact}
 use Rattle.x917.specs.Ends.{Ends, IsOfParty}
 use Rattle.x917.specs.Audited.{ExpectsAudit, audit_limit, audit_taken}
 use Rattle.x917.specs.Dues.{Follows, FollowsBytes}

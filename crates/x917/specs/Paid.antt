@@ -9,9 +9,9 @@ use Rattle.x_pay.specs.Outcomes.{Payment, MakesPayment, IsSafePayment}
 use Rattle.x_pay.specs.Payments.{accepting}
 use Rattle.x_pay.specs.declared.outcome.PayOutcome.{PayOutcome}
 use Rattle.x_pay.specs.declared.outcome.PayOutcome.TheVariants as outcome
-use Rattle.x_status.specs.declared.status.Refusal.TheVariants.{Decided, OtherParty, Pay}
-use Rattle.x_status.specs.declared.status.Status.{Status}
-use Rattle.x_status.specs.declared.status.Status.TheVariants as status
+use Rattle.x917.specs.declared.status.Refusal.TheVariants.{Decided, OtherParty, Pay}
+use Rattle.x917.specs.declared.status.Status.{Status}
+use Rattle.x917.specs.declared.status.Status.TheVariants as status
 use Rattle.x917.specs.Ends.{Puts}
 use Rattle.x917.specs.Playable.{IsOrNoMemory}
 

@@ -11,10 +11,10 @@ use Rattle.course.specs.Lines.{IsForgedIn}
 use Rattle.replay.specs.SettingUp.{AllReadBlank, AllTell}
 use Rattle.course.specs.Parties.{parties_in}
 use Rattle.course.specs.Starts.{start_course}
-use Rattle.x_status.specs.declared.status.Refusal.TheVariants.{Decided}
-use Rattle.x_status.specs.declared.status.Status.{Status}
-use Rattle.x_status.specs.declared.status.Status.TheVariants as status
-use Rattle.csm_check.specs.Transfer.{IsQuiet}
+use Rattle.x917.specs.declared.status.Refusal.TheVariants.{Decided}
+use Rattle.x917.specs.declared.status.Status.{Status}
+use Rattle.x917.specs.declared.status.Status.TheVariants as status
+use Rattle.x917.specs.Transfer.{IsQuiet}
 
 -- the status is this one, or no memory was left
 abbrev pub IsOrNoMemory : Status → Status → Type 0

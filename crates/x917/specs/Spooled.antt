@@ -16,10 +16,10 @@ use Rattle.x_spool.specs.declared.outcome.SpoolOutcome.{SpoolOutcome}
 use Rattle.x_spool.specs.declared.outcome.SpoolOutcome.TheVariants as outcome
 use Rattle.x_spool.specs.declared.outcome.OutboxOutcome.{OutboxOutcome}
 use Rattle.x_spool.specs.declared.outcome.OutboxOutcome.TheVariants as outbox
-use Rattle.x_status.specs.Causes.{IsSilent}
-use Rattle.x_status.specs.declared.status.Refusal.TheVariants.{Decided, OtherBatch, OtherParty, OutOfStep, Unplanned}
-use Rattle.x_status.specs.declared.status.Status.{Status}
-use Rattle.x_status.specs.declared.status.Status.TheVariants as status
+use Rattle.x917.specs.Causes.{IsSilent}
+use Rattle.x917.specs.declared.status.Refusal.TheVariants.{Decided, OtherBatch, OtherParty, OutOfStep, Unplanned}
+use Rattle.x917.specs.declared.status.Status.{Status}
+use Rattle.x917.specs.declared.status.Status.TheVariants as status
 use Rattle.x917.specs.Ends.{IsOfParty, Puts}
 use Rattle.x917.specs.Playable.{IsOrNoMemory}
 

@@ -1,18 +1,18 @@
 // A transcript is audited.
 ghost use Rattle.std.specs.Prelude.{◌≡◌, ◌≢◌, ◌⊎◌, Err, IfSome, Result};
 ghost use Rattle.course.specs.declared.tally.Tally.{Tally};
-ghost use Rattle.csm_check.specs.Transfer.{GivesOutput, IsQuiet, TakesInput};
-ghost use Rattle.x_status.specs.Causes.{IsSilent};
-ghost use Rattle.x_status.specs.declared.status.Status.{Status as TheStatus};
+ghost use Rattle.x917.specs.Transfer.{GivesOutput, IsQuiet, TakesInput};
+ghost use Rattle.x917.specs.Causes.{IsSilent};
+ghost use Rattle.x917.specs.declared.status.Status.{Status as TheStatus};
 ghost use Rattle.x917.specs.Audited.{ExpectsAudit, IsAudit, IsFound, audit_limit, audit_taken, found_of, status_of_fault};
 
+use crate::status::{Refusal, Status};
+use crate::transfer::{GatherError, gather};
 use audit_check::{AuditFault, AuditResult, AuditTally, audit, read_audit};
 use course::summary;
-use csm_check::{GatherError, gather};
 use scenario::ScenarioFault;
 use std::alloc::Global;
 use x_base::{Sink, Source, put_all};
-use x_status::{Refusal, Status};
 
 /// How many bytes of an auditor's input are taken at most: one more than it may have.
 const AUDIT_LIMIT: usize = 67_108_865;

@@ -1,18 +1,18 @@
 // The two disks of a party are compared.
 ghost use Rattle.std.specs.Prelude.{◌≡◌, ◌≢◌, ℕ, IfOk, string_bytes};
-ghost use Rattle.csm_check.specs.Transfer.{GivesOutput, IsQuiet};
+ghost use Rattle.x917.specs.Transfer.{GivesOutput, IsQuiet};
 ghost use Rattle.x_pair.specs.Comparisons.{IsAnswered};
-ghost use Rattle.x_status.specs.Causes.{HasCause, IsSilent};
+ghost use Rattle.x917.specs.Causes.{HasCause, IsSilent};
 ghost use Rattle.x917.specs.Compared.{EndsOrForgets, FollowsComparison, IsComparing, likeness_text, status_of_likeness};
 ghost use Rattle.x917.specs.Ends.{IsOfParty};
 ghost use Rattle.x917.specs.Obeys.{LeavesRest};
 
 use crate::finish::put_text;
+use crate::status::{Refusal, Status};
 use std::alloc::{AllocError, Global};
 use x_base::{Ident, NoMemory, Sink, Text};
 use x_disk::Shelf;
 use x_pair::{Compared, Likeness, compare_pair};
-use x_status::{Refusal, Status};
 
 fn words_of(alloc: Global, likeness: Likeness) -> Result<String, AllocError>
     ensures { IfOk result (λ s. string_bytes s ≡ likeness_text likeness) }

@@ -4,10 +4,11 @@ ghost use Rattle.scenario_drill.specs.Drill.{drill_text};
 ghost use Rattle.scenario.specs.Reading.{IsScenario};
 ghost use Rattle.x917.specs.Drilled.{EndsDrill, IsDrill, IsDrilled, IsPlayedAlone};
 ghost use Rattle.x917.specs.Playable.{ExpectsDrill};
-ghost use Rattle.csm_check.specs.Transfer.{GivesOutput, IsQuiet};
-ghost use Rattle.x_status.specs.Causes.{IsSilent};
+ghost use Rattle.x917.specs.Transfer.{GivesOutput, IsQuiet};
+ghost use Rattle.x917.specs.Causes.{IsSilent};
 
 use crate::courses::law_courses;
+use crate::status::Status;
 use course::{Tally, law_counted, law_scenario_starts, summary};
 use replay::{PlayResult, play};
 use scenario::{Scenario, ScenarioFault, law_never_both, law_one_scenario};
@@ -15,7 +16,6 @@ use scenario_drill::{drill, law_drills_read};
 use std::alloc::Global;
 use x_base::{Sink, SinkFault, put_all};
 use x_disk::{MemoryShelf, Shelf};
-use x_status::Status;
 
 /// A sink that keeps nothing.
 #[derive(Drop)]

@@ -2,14 +2,15 @@
 ghost use Rattle.std.specs.Prelude.{◌≡◌, ℕ, IfOk, IfErr, Ok};
 ghost use Rattle.x_base.specs.Edge.{Rose};
 ghost use Rattle.pair_check.specs.Values.{check_value_of};
-ghost use Rattle.csm_check.specs.Transfer.{IsQuiet, TookAtMost};
+ghost use Rattle.x917.specs.Transfer.{IsQuiet, TookAtMost};
 ghost use Rattle.x_line.specs.declared.order.Order.TheVariants.{Create, Enter};
-ghost use Rattle.x_status.specs.Causes.{HasCause, IsSilent};
+ghost use Rattle.x917.specs.Causes.{HasCause, IsSilent};
 ghost use Rattle.x917.specs.Entered.{AreRead, IsNoKey, digits_limit, valued};
 ghost use Rattle.x917.specs.Obeys.{Expects, LeavesOthers, Obeys};
 
 use crate::finish::finish;
-use csm_check::{GatherError, gather};
+use crate::status::{Refusal, Status};
+use crate::transfer::{GatherError, gather};
 use key_parts::{Form, Part};
 use pair_check::check_value;
 use party_state::{Command, Input};
@@ -19,7 +20,6 @@ use x_base::{Ident, Role, Sink, Source, Text};
 use x_disk::Shelf;
 use x_gen::Gen;
 use x_party::Outcome;
-use x_status::{Refusal, Status};
 
 /// How many bytes of a key are taken at most.
 const DIGITS_LIMIT: usize = 257;

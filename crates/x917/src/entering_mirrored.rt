@@ -1,13 +1,14 @@
 // Keys that come from the source, at a party that is kept on two disks.
 ghost use Rattle.std.specs.Prelude.{◌≡◌, ◌≢◌, ℕ};
-ghost use Rattle.csm_check.specs.Transfer.{TookAtMost};
+ghost use Rattle.x917.specs.Transfer.{TookAtMost};
 ghost use Rattle.x_line.specs.declared.order.Order.TheVariants.{Create, Enter};
-ghost use Rattle.x_status.specs.Causes.{HasCause, IsSilent};
+ghost use Rattle.x917.specs.Causes.{HasCause, IsSilent};
 ghost use Rattle.x917.specs.Entered.{digits_limit};
 ghost use Rattle.x917.specs.Mirrored.{LeavesMirrored, ObeysMirrored};
 
 use crate::entering::{take_key, with_value};
 use crate::finish::finish;
+use crate::status::Status;
 use key_parts::Form;
 use party_state::{Command, Input};
 use party_tables::LinkKey;
@@ -16,7 +17,6 @@ use x_base::{Ident, Role, Sink, Source};
 use x_disk::Shelf;
 use x_gen::Gen;
 use x_pair::{create_pair, turn_pair};
-use x_status::Status;
 
 /// Loads the key-encrypting key that the source gives, over the party's two disks, and writes its check value.
 pub fn enter_mirrored<S: Source, K: Sink, H: Shelf>(

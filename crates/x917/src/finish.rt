@@ -1,9 +1,9 @@
 // A call over a party, a payment, or a batch, ends: the text is written, and the status follows.
 ghost use Rattle.std.specs.Prelude.{◌≡◌, ◌⊎◌, ◌++◌, OnOk, OnErr};
 ghost use Rattle.x_base.specs.Edge.{Rose, AppendsTo, WrotePrefix};
-ghost use Rattle.csm_check.specs.Transfer.{GivesOutput};
+ghost use Rattle.x917.specs.Transfer.{GivesOutput};
 ghost use Rattle.x_party.specs.Outcomes.{IsNoFailure};
-ghost use Rattle.x_status.specs.Causes.{IsSilent};
+ghost use Rattle.x917.specs.Causes.{IsSilent};
 ghost use Rattle.x_pay.specs.Outcomes.{IsNoFailure as IsNoPayFailure};
 ghost use Rattle.x917.specs.Ends.{Ends, Puts, IsOfParty};
 ghost use Rattle.x917.specs.Paid.{EndsPayment};
@@ -11,11 +11,11 @@ ghost use Rattle.x917.specs.Spooled.{EndsBatch, EndsOutbox, status_of_missing};
 ghost use Rattle.x_spool.specs.Outcomes.{IsNoFailure as IsNoBatchFailure};
 ghost use Rattle.x_spool.specs.Outboxes.{IsNoFailure as IsNoOutboxFailure};
 
+use crate::status::{Refusal, Status};
 use x_base::{Sink, SinkFault, Text, Verdict, put_all};
 use x_party::Outcome;
 use x_pay::PayOutcome;
 use x_spool::{OutboxOutcome, SpoolOutcome};
-use x_status::{Refusal, Status};
 
 /// Puts the text and then its ending, without memory.
 #[tactic(auto, using(crate::proofs::Endings::both_whole, crate::proofs::Endings::first_part, crate::proofs::Endings::second_part, crate::proofs::Endings::rose_later))]

@@ -3,15 +3,15 @@ ghost use Rattle.std.specs.Prelude.{◌≡◌, ℕ, Some, None};
 ghost use Rattle.help_texts.specs.declared.asking.Topic.{Topic as TheTopic};
 ghost use Rattle.help_texts.specs.Topics.{topic_of};
 ghost use Rattle.x_line.specs.declared.usage.UsageKind.{UsageKind as Kind};
-ghost use Rattle.x_status.specs.Causes.{HasFaults};
+ghost use Rattle.x917.specs.Causes.{HasFaults};
 ghost use Rattle.x917.specs.Helped.{IsHelp};
 
 use crate::finish::put_text;
+use crate::status::Status;
 use help_texts::{Topic, asked, help_text};
 use std::alloc::Global;
 use x_base::{Sink, Words};
 use x_line::UsageKind;
-use x_status::Status;
 
 /// Writes the text of a topic.
 fn help<K: Sink>(alloc: Global, topic: Topic, sink: &mut K) -> Status

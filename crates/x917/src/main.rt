@@ -2,6 +2,7 @@
 #![tactic(auto)]
 
 mod auditing;
+mod checking;
 mod comparing;
 mod courses;
 mod drilling;
@@ -9,14 +10,18 @@ mod entering;
 mod entering_mirrored;
 mod finish;
 mod helping;
+mod listening;
 mod mirrored;
 mod notice;
 mod party_command;
 mod payments;
 mod replaying;
 mod spooling;
+mod status;
 mod top;
+mod transfer;
 
+use crate::status::{Status, exit_code, status_line};
 use std::alloc::AllocGlobal;
 use std::fs::OpenOptions;
 use std::io::Write;
@@ -27,7 +32,6 @@ use std::{env, io};
 use x_base::{NoMemory, StdSink, StdSource, Words};
 use x_disk::FolderShelf;
 use x_line::UsageKind;
-use x_status::{Status, exit_code, status_line};
 
 /// What stands on standard error behind the line of a faulty command line.
 const ASK_FOR_HELP: &[u8] = b"Try 'x917 help' for the commands and their options.\n";

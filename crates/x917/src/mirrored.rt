@@ -1,15 +1,16 @@
 // An order of a party that is kept on two disks.
 ghost use Rattle.std.specs.Prelude.{◌≡◌};
-ghost use Rattle.csm_check.specs.Transfer.{TookAtMost};
+ghost use Rattle.x917.specs.Transfer.{TookAtMost};
 ghost use Rattle.x_line.specs.Orders.{IsOfTwo};
-ghost use Rattle.x_status.specs.Causes.{HasCause, IsSilent};
+ghost use Rattle.x917.specs.Causes.{HasCause, IsSilent};
 ghost use Rattle.x917.specs.Mirrored.{LeavesMirrored, ObeysMirrored};
 ghost use Rattle.x917.specs.Obeys.{most_of};
 
 use crate::entering_mirrored::{create_mirrored, enter_mirrored};
 use crate::finish::finish;
+use crate::listening::listen;
 use crate::party_command::command_of;
-use csm_check::listen;
+use crate::status::Status;
 use party_state::Input;
 use party_tables::LinkKey;
 use std::alloc::Global;
@@ -18,7 +19,6 @@ use x_disk::Shelf;
 use x_gen::Gen;
 use x_line::Order;
 use x_pair::{create_pair, show_pair, turn_pair};
-use x_status::Status;
 
 /// Does what an order says, over the party's two disks, the second of that name. Both are put back before anything is written.
 pub fn carry_out_mirrored<S: Source, K: Sink, H: Shelf>(

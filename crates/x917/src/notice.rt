@@ -1,8 +1,8 @@
 // An order of a party with one disk, and its notice.
 ghost use Rattle.std.specs.Prelude.{◌≡◌, ℕ, true, None};
-ghost use Rattle.csm_check.specs.Transfer.{IsQuiet, TookAtMost};
+ghost use Rattle.x917.specs.Transfer.{IsQuiet, TookAtMost};
 ghost use Rattle.x_line.specs.declared.order.Order.TheVariants.{Audit, Drill, Replay, Take};
-ghost use Rattle.x_status.specs.Causes.{HasCause, IsSilent};
+ghost use Rattle.x917.specs.Causes.{HasCause, IsSilent};
 ghost use Rattle.x917.specs.Audited.{IsAudit};
 ghost use Rattle.x917.specs.Drilled.{IsDrill};
 ghost use Rattle.x917.specs.Headline.{IsReplay};
@@ -10,15 +10,15 @@ ghost use Rattle.x917.specs.Notice.{LeavesNotice, notice_at};
 ghost use Rattle.x917.specs.Obeys.{Expects, IsSilentOf, IsWithin, LeavesOthers, Obeys, most_of};
 
 use crate::finish::finish;
+use crate::listening::listen;
+use crate::status::Status;
 use crate::top::carry_out;
-use csm_check::listen;
 use csm_feed::law_one_hearing;
 use std::alloc::Global;
-use turn_notice::turn_with_notice;
 use x_base::{Ident, Sink, Source, Text};
 use x_disk::{MemoryShelf, Shelf};
 use x_line::Order;
-use x_status::Status;
+use x_party::turn_with_notice;
 
 /// The notice, where the status is done.
 fn notice_at(status: &Status, notice: Option<Text>) -> Option<Text>

@@ -1,16 +1,16 @@
 // A payment is taken in.
 ghost use Rattle.std.specs.Prelude.{◌≡◌, ◌≢◌, IfSome};
-ghost use Rattle.csm_check.specs.Transfer.{IsQuiet, TakesInput};
+ghost use Rattle.x917.specs.Transfer.{IsQuiet, TakesInput};
 ghost use Rattle.x_pay.specs.Payments.{accepting};
 ghost use Rattle.x917.specs.Paid.{FollowsPayment, IsAccepted, payment_limit, payment_taken};
 ghost use Rattle.x917.specs.Obeys.{LeavesRest};
 
 use crate::finish::finish_payment;
-use csm_check::{GatherError, gather};
+use crate::status::Status;
+use crate::transfer::{GatherError, gather};
 use std::alloc::Global;
 use x_base::{Ident, Sink, Source};
 use x_disk::Shelf;
-use x_status::Status;
 
 /// How many bytes of a payment are taken at most.
 const PAYMENT_LIMIT: usize = 257;

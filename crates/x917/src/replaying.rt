@@ -2,14 +2,15 @@
 ghost use Rattle.std.specs.Prelude.{◌≡◌, IfOk, IfErr, IfSome};
 ghost use Rattle.x_base.specs.Edge.{Rose};
 ghost use Rattle.x_line.specs.declared.order.Order.TheVariants.{Replay};
-ghost use Rattle.csm_check.specs.Transfer.{GivesOutput, IsQuiet, TakesInput, TookAtMost};
+ghost use Rattle.x917.specs.Transfer.{GivesOutput, IsQuiet, TakesInput, TookAtMost};
 ghost use Rattle.x917.specs.Headline.{IsReplay, IsUnread, ReadsScenario, scenario_limit, status_of_play};
 ghost use Rattle.x917.specs.Playable.{ExpectsReplay};
 ghost use Rattle.x917.specs.Obeys.{IsSilentOf};
 
 use crate::courses::law_courses;
+use crate::status::{Refusal, Status};
+use crate::transfer::{GatherError, gather};
 use course::law_scenario_starts;
-use csm_check::{GatherError, gather};
 use replay::{PlayResult, play};
 use scenario::{
     Scenario, ScenarioFault, law_bad_in_front, law_few_bytes, law_never_both, law_one_first_bad,
@@ -18,7 +19,6 @@ use scenario::{
 use std::alloc::Global;
 use x_base::{Sink, Source};
 use x_disk::Shelf;
-use x_status::{Refusal, Status};
 
 /// How many bytes of a scenario are taken at most: one more than it may have.
 const SCENARIO_LIMIT: usize = 16_777_217;

@@ -2,20 +2,20 @@
 ghost use Rattle.std.specs.Prelude.{◌≡◌, ◌≢◌, ℕ, Some, IfSome, IfOk, IfErr};
 ghost use Rattle.x_base.specs.Edge.{Rose};
 ghost use Rattle.csm_batch.specs.Batches.{IsBatch};
-ghost use Rattle.csm_check.specs.Transfer.{GivesOutput, IsQuiet, TakesInput, TookAtMost};
-ghost use Rattle.x_status.specs.Causes.{HasCause, IsSilent};
+ghost use Rattle.x917.specs.Transfer.{GivesOutput, IsQuiet, TakesInput, TookAtMost};
+ghost use Rattle.x917.specs.Causes.{HasCause, IsSilent};
 ghost use Rattle.x917.specs.Batched.{FollowsInbox, IsMade};
 ghost use Rattle.x917.specs.Obeys.{LeavesRest};
 ghost use Rattle.x917.specs.Spooled.{FollowsBatch, FollowsOutbox, IsBatched, IsOutboxCall, IsUnbatched, LeavesSpool, TakesBatch, batch_limit};
 
 use crate::finish::{finish_batch, finish_outbox, put_text};
+use crate::status::{Refusal, Status};
+use crate::transfer::{GatherError, gather};
 use csm_batch::{Batch, BatchFault, law_bad_in_front, law_one_reading};
-use csm_check::{GatherError, gather};
-use csm_inbox::{InboxFault, inbox_lines, law_one_inbox};
 use std::alloc::Global;
 use x_base::{Ident, Sink, Source};
 use x_disk::Shelf;
-use x_status::{Refusal, Status};
+use x_spool::{InboxFault, inbox_lines, law_one_inbox};
 
 /// How many bytes of a batch, or of messages for one, are taken at most.
 const BATCH_LIMIT: usize = 1_048_577;

@@ -3,8 +3,8 @@ ghost use Rattle.std.specs.Prelude.{◌≡◌, ℕ, List, Option, None, true};
 ghost use Rattle.x_line.specs.Orders.{IsGiven, IsMirrored, IsOrder, is_telling};
 ghost use Rattle.x_line.specs.declared.order.Order.{Order};
 ghost use Rattle.x_line.specs.declared.order.Order.TheVariants.{Audit, Replay, Drill};
-ghost use Rattle.csm_check.specs.Transfer.{TookAtMost, IsQuiet};
-ghost use Rattle.x_status.specs.Causes.{HasCause, HasFaults, IsSilent};
+ghost use Rattle.x917.specs.Transfer.{TookAtMost, IsQuiet};
+ghost use Rattle.x917.specs.Causes.{HasCause, HasFaults, IsSilent};
 ghost use Rattle.x917.specs.Audited.{IsAudit};
 ghost use Rattle.x917.specs.Headline.{IsReplay};
 ghost use Rattle.x917.specs.Helped.{Helps};
@@ -15,18 +15,20 @@ ghost use Rattle.x917.specs.Mirrored.{LeavesMirrored, ObeysMirrored};
 ghost use Rattle.x917.specs.Network.{IsNetworkEvent};
 
 use crate::auditing::audit_all;
+use crate::checking::check;
 use crate::comparing::compare;
 use crate::drilling::drill_all;
 use crate::entering::{create, enter};
 use crate::finish::{finish, finish_payment};
 use crate::helping::help_or_fault;
+use crate::listening::listen;
 use crate::mirrored::carry_out_mirrored;
 use crate::notice::carry_out_with_notice;
 use crate::party_command::command_of;
 use crate::payments::accept;
 use crate::replaying::replay_all;
 use crate::spooling::{batch, outbox, spool};
-use csm_check::{check, listen};
+use crate::status::Status;
 use csm_feed::law_one_hearing;
 use party_state::Input;
 use party_tables::LinkKey;
@@ -39,7 +41,6 @@ use x_line::{
     LineFault, Order, law_few_events, law_ledger_apart, law_mirror_apart, law_one_order,
     law_spool_apart, read_order,
 };
-use x_status::Status;
 
 /// Begins, shows, compares or looks after the file of a party, pays out of it, or looks at a spool, as an order says.
 fn tend<K: Sink, H: Shelf>(alloc: Global, order: &Order, sink: &mut K, shelf: &mut H) -> Status

@@ -5,7 +5,7 @@ use Rattle.x_line.specs.declared.order.Order.{Order}
 use Rattle.x_line.specs.Orders.{IsOfTwo}
 use Rattle.x_pair.specs.Dues.{IsDueTurn}
 use Rattle.x_pair.specs.Outcomes.{turning}
-use Rattle.csm_check.specs.Transfer.{TookAtMost}
+use Rattle.x917.specs.Transfer.{TookAtMost}
 use Rattle.x917.specs.Mirrored.{IsPairCall, LeavesMirrored, ObeysMirrored}
 use Rattle.x917.specs.Obeys.{command_of, is_reading, most_of, party_of}
 use Rattle.x917.proofs.Arriving.{none_told}

@@ -1,5 +1,5 @@
 use Rattle.std.proofs.Common.{◌≡◌, ◌∙◌, List, ℕ, Option, true, sym, subst}
-use Rattle.csm_check.specs.Transfer.{TookAtMost}
+use Rattle.x917.specs.Transfer.{TookAtMost}
 use Rattle.x_line.specs.declared.order.Order.{Order}
 use Rattle.x_line.specs.declared.order.Order.TheVariants as order
 use Rattle.x917.specs.Notice.{LeavesNotice}

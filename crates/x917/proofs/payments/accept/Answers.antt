@@ -1,7 +1,7 @@
 use Rattle.std.proofs.Common.{◌≡◌, inl, inr, refl}
 use Rattle.x_disk.specs.Shelf.{alike_refl}
 use Rattle.x_pay.specs.Payments.{accepting}
-use Rattle.x_status.specs.declared.status.Status.TheVariants as status
+use Rattle.x917.specs.declared.status.Status.TheVariants as status
 use Rattle.x917.proofs.Paying.{never_read, no_payment, nothing_left, of_payment, payment_follows, payment_rest, takes_payment}
 use Rattle.x917.proofs.payments.accept.Goals as goal
 

@@ -1,7 +1,7 @@
 use Rattle.std.proofs.Common.{◌≡◌, ℕ, List, length, inl, inr, ap, refl, subst, arith}
-use Rattle.csm_inbox.specs.Inbox.{IsInbox, IsRefusedStream}
-use Rattle.x_status.specs.declared.status.Refusal.TheVariants.{Text, Trailing}
-use Rattle.x_status.specs.declared.status.Status.TheVariants as status
+use Rattle.x_spool.specs.Inbox.{IsInbox, IsRefusedStream}
+use Rattle.x917.specs.declared.status.Refusal.TheVariants.{Text, Trailing}
+use Rattle.x917.specs.declared.status.Status.TheVariants as status
 use Rattle.x917.specs.Spooled.{batch_limit}
 use Rattle.x917.proofs.Inboxes.{ends, forgets, lines_all, lines_done, lines_fault, lines_silent, lines_unread, refused_all, refuses, short, takes, too_many}
 use Rattle.x917.proofs.spooling.batch.Goals as goal

@@ -4,7 +4,7 @@ use Rattle.party_state.specs.declared.command.Input.TheVariants.{Arrived, Ordere
 use Rattle.x_line.specs.declared.order.Order.{Order}
 use Rattle.x_line.specs.declared.order.Order.TheVariants as order
 use Rattle.x_party.specs.Dues.{IsDue}
-use Rattle.csm_check.specs.Transfer.{TookAtMost}
+use Rattle.x917.specs.Transfer.{TookAtMost}
 use Rattle.x917.specs.Obeys.{Obeys, Expects, IsPartyTurn, LeavesOthers, IsSilentOf, IsWithin, command_of, is_reading, ledger_of, most_of, party_of}
 use Rattle.x917.proofs.Arriving.{follows_heard, follows_unheard, none_told}
 use Rattle.x917.proofs.Audits.{cause_audited}

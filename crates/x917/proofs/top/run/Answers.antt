@@ -1,6 +1,6 @@
 use Rattle.std.proofs.Common.{◌≡◌, ◌∙◌, List, ℕ, Bool, Option, Some, None, Err, inl, inr, true, refl, sym, ap, subst}
 use Rattle.x_disk.specs.Shelf.{alike_refl}
-use Rattle.x_status.specs.declared.status.Status.TheVariants as status
+use Rattle.x917.specs.declared.status.Status.TheVariants as status
 use Rattle.x_line.specs.declared.order.Order.{Order}
 use Rattle.x_line.specs.declared.order.Order.TheVariants as order
 use Rattle.x_line.specs.Line.{rows_of_line}
@@ -13,7 +13,7 @@ use Rattle.x_line.specs.declared.usage.UsageKind.TheVariants.{Line}
 use Rattle.x917.specs.Mirrored.{LeavesMirrored, ObeysMirrored}
 use Rattle.x917.specs.Notice.{LeavesNotice}
 use Rattle.x917.specs.Obeys.{Obeys, Expects, LeavesOthers, IsSilentOf, most_of}
-use Rattle.csm_check.specs.Transfer.{TookAtMost}
+use Rattle.x917.specs.Transfer.{TookAtMost}
 use Rattle.x917.proofs.Audits.{without_memory}
 use Rattle.x917.proofs.Forgetting.{forgets_order}
 use Rattle.x917.proofs.HelpWritten.{no_order}

@@ -1,18 +1,18 @@
 // A message is checked, and its canonical text written.
 ghost use Rattle.std.specs.Prelude.{◌≡◌, IfOk};
 ghost use Rattle.csm_feed.specs.Heard.{input_limit};
-ghost use Rattle.csm_check.specs.Check.{IsChecked, IsExact, closing_of, is_right, reply_of};
-ghost use Rattle.csm_check.specs.Transfer.{GivesOutput, IsQuiet, TakesInput};
-ghost use Rattle.x_status.specs.Causes.{IsSilent};
+ghost use Rattle.x917.specs.Check.{IsChecked, IsExact, closing_of, is_right, reply_of};
+ghost use Rattle.x917.specs.Transfer.{GivesOutput, IsQuiet, TakesInput};
+ghost use Rattle.x917.specs.Causes.{IsSilent};
 
 use crate::listening::listen;
+use crate::status::{Refusal, Status};
 use csm_feed::law_one_hearing;
 use csm_grammar::{Parsed, Shut};
 use csm_write::{Closing, write};
 use std::alloc::Global;
 use x_base::{NoMemory, Sink, Source, Text, Verdict, put_all};
 use x_mac::edc;
-use x_status::{Refusal, Status};
 
 /// Whether no error detection code other than that of the authenticated text closes it.
 fn is_right(auth: &[u8], shut: Shut) -> bool

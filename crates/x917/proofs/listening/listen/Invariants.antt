@@ -1,6 +1,6 @@
 use Rattle.std.proofs.Common.{◌≡◌, ◌≤◌, ◌+◌, ◌-◌, true, take, if◌then◌else◌}
-use Rattle.csm_check.specs.Transfer.{IsAtEnd, Took}
-use Rattle.csm_check.proofs.listening.listen.Given as goal
+use Rattle.x917.specs.Transfer.{IsAtEnd, Took}
+use Rattle.x917.proofs.listening.listen.Given as goal
 
 abbrev pub invariant-taking : goal.invariant-taking
 invariant-taking g l = record {

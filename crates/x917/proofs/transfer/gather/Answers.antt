@@ -1,7 +1,7 @@
 use Rattle.std.proofs.Common.{arith}
 use Rattle.std.proofs.lemmas.Grind.{common_steps}
-use Rattle.csm_check.proofs.Transfers.{took_piece}
-use Rattle.csm_check.proofs.transfer.gather.Goals as goal
+use Rattle.x917.proofs.Transfers.{took_piece}
+use Rattle.x917.proofs.transfer.gather.Goals as goal
 
 pub returns-in_default-push-clause-most : goal.returns-in_default-push-clause-most
 returns-in_default-push-clause-most g c =

@@ -1,6 +1,6 @@
 // How a run ended, and how that is told.
 ghost use Rattle.std.specs.Prelude.{◌≡◌, IfOk, string_bytes};
-ghost use Rattle.x_status.specs.Lines.{pay_text, refusal_text, line_of, exit_code_of};
+ghost use Rattle.x917.specs.Lines.{pay_text, refusal_text, line_of, exit_code_of};
 
 use audit_check::AuditFault;
 use csm_grammar::ReadRefusal;

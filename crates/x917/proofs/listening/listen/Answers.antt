@@ -1,11 +1,11 @@
 use Rattle.std.proofs.Common.{rules, ◌≡◌, ◌≤◌, ◌<◌, ◌∙◌, Ok, Err, length, take, refl, ap, arith}
 use Rattle.std.proofs.lemmas.Grind.{common_steps}
 use Rattle.std.proofs.lemmas.List.{length-take-le}
-use Rattle.csm_check.specs.Transfer.{IsAtEnd}
-use Rattle.csm_check.proofs.Transfers.{front_of, took_into}
-use Rattle.csm_check.proofs.Arrivals.{heard_was, unheard_was}
-use Rattle.csm_check.proofs.listening.listen.Goals.{then-taking-test+else-count-lt-INPUT_LIMIT, else-taking-test}
-use Rattle.csm_check.proofs.listening.listen.Goals as goal
+use Rattle.x917.specs.Transfer.{IsAtEnd}
+use Rattle.x917.proofs.Transfers.{front_of, took_into}
+use Rattle.x917.proofs.Arrivals.{heard_was, unheard_was}
+use Rattle.x917.proofs.listening.listen.Goals.{then-taking-test+else-count-lt-INPUT_LIMIT, else-taking-test}
+use Rattle.x917.proofs.listening.listen.Goals as goal
 
 pub taking-preserved : goal.taking-preserved
 taking-preserved g c =

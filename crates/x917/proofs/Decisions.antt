@@ -8,13 +8,13 @@ use Rattle.csm_grammar.specs.Arrivals.{authenticated_text}
 use Rattle.csm_feed.specs.declared.unheard.Unheard.{Unheard}
 use Rattle.csm_feed.specs.Heard.{Heard}
 use Rattle.csm_feed.specs.Laws.{OneHearing}
-use Rattle.x_status.specs.declared.status.Refusal.{Refusal}
-use Rattle.x_status.specs.declared.status.Refusal.TheVariants.{Decided}
-use Rattle.x_status.specs.declared.status.Status.{Status}
-use Rattle.x_status.specs.declared.status.Status.TheVariants as status
-use Rattle.csm_check.specs.Transfer.{IsQuiet}
-use Rattle.csm_check.specs.Listening.{IsHeard, IsUnheard, refusal_of, taken}
-use Rattle.csm_check.specs.Check.{authenticated_text_in, decided_of, is_right, judged, reply_of, status_of, IsChecked, IsDecision, IsExact, IsReply}
+use Rattle.x917.specs.declared.status.Refusal.{Refusal}
+use Rattle.x917.specs.declared.status.Refusal.TheVariants.{Decided}
+use Rattle.x917.specs.declared.status.Status.{Status}
+use Rattle.x917.specs.declared.status.Status.TheVariants as status
+use Rattle.x917.specs.Transfer.{IsQuiet}
+use Rattle.x917.specs.Listening.{IsHeard, IsUnheard, refusal_of, taken}
+use Rattle.x917.specs.Check.{authenticated_text_in, decided_of, is_right, judged, reply_of, status_of, IsChecked, IsDecision, IsExact, IsReply}
 
 decided_once : OneHearing → (text : List ℕ) (d e : Result Parsed Refusal) → IsDecision text d → IsDecision text e → d ≡ e
 decided_once one text d e h k =

@@ -11,10 +11,10 @@ use Rattle.pay_auth.specs.Refusals.{pay_number}
 use Rattle.pay_auth.specs.declared.refusal.PayRefusal.{PayRefusal}
 use Rattle.pay_auth.specs.declared.refusal.PayRefusal.TheVariants.{BadPay, PayLow}
 use Rattle.x_line.specs.Usage as usage
-use Rattle.x_status.specs.declared.status.Refusal.{Refusal}
-use Rattle.x_status.specs.declared.status.Refusal.TheVariants.{Text, Trailing, Decided, OtherParty, Audit, Pay, OtherBatch, OutOfStep, Unplanned, Unlike, BadDigits}
-use Rattle.x_status.specs.declared.status.Status.{Status}
-use Rattle.x_status.specs.declared.status.Status.TheVariants as status
+use Rattle.x917.specs.declared.status.Refusal.{Refusal}
+use Rattle.x917.specs.declared.status.Refusal.TheVariants.{Text, Trailing, Decided, OtherParty, Audit, Pay, OtherBatch, OutOfStep, Unplanned, Unlike, BadDigits}
+use Rattle.x917.specs.declared.status.Status.{Status}
+use Rattle.x917.specs.declared.status.Status.TheVariants as status
 
 -- of a payment: the number, and the place or the expected number where there is one
 abbrev pub pay_text : PayRefusal → List ℕ

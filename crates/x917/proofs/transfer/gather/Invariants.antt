@@ -1,6 +1,6 @@
 use Rattle.std.proofs.Common.{◌≤◌, ◌-◌, length}
-use Rattle.csm_check.specs.Transfer.{Took}
-use Rattle.csm_check.proofs.transfer.gather.Given as goal
+use Rattle.x917.specs.Transfer.{Took}
+use Rattle.x917.proofs.transfer.gather.Given as goal
 
 abbrev pub invariant-taking : goal.invariant-taking
 invariant-taking g l = record {

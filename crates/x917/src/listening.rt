@@ -2,14 +2,14 @@
 ghost use Rattle.std.specs.Prelude.{◌≡◌, [], Some, IfSome, IfOk, IfErr};
 ghost use Rattle.x_base.specs.Edge.{Rose};
 ghost use Rattle.csm_feed.specs.Heard.{input_limit};
-ghost use Rattle.csm_check.specs.Listening.{IsHeard, IsUnheard, refusal_of};
-ghost use Rattle.csm_check.specs.Transfer.{TookAtMost};
+ghost use Rattle.x917.specs.Listening.{IsHeard, IsUnheard, refusal_of};
+ghost use Rattle.x917.specs.Transfer.{TookAtMost};
 
+use crate::status::{Refusal, Status};
 use csm_feed::{INPUT_LIMIT, Unheard, hear};
 use csm_grammar::Arrival;
 use std::alloc::Global;
 use x_base::{NoMemory, Source};
-use x_status::{Refusal, Status};
 
 /// The refusal where no message is heard.
 fn refusal_of(unheard: Unheard) -> Refusal

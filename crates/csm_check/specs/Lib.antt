@@ -1,3 +1,0 @@
-pub mod Transfer
-pub mod Listening
-pub mod Check
