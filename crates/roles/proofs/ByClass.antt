@@ -10,7 +10,7 @@ use Rattle.party_state.specs.declared.command.Input.{Input}
 use Rattle.party_state.specs.declared.command.Input.TheVariants as input
 use Rattle.party_state.specs.State.{Party, knows}
 use Rattle.role_base.specs.Conditions.{is_for, other_class}
-use Rattle.bank_role.specs.Rows.{message_row, row_of}
+use Rattle.roles.specs.BankRows.{message_row, row_of}
 use Rattle.distribution_role.specs.Rows.{distribution_row}
 use Rattle.distribution_role.specs.Serves as distribution
 use Rattle.translation_role.specs.Rows.{translation_row}

@@ -18,9 +18,9 @@ use Rattle.role_base.specs.Texts.{is_plain}
 use Rattle.role_base.specs.Errors.{is_early}
 use Rattle.role_base.specs.Beginning.{AllBeginFree}
 use Rattle.role_base.specs.Apart.{AreApart}
-use Rattle.bank_role.specs.Rows.{row_of}
-use Rattle.bank_role.specs.Leads.{lead_of}
-use Rattle.bank_role.specs.Deciding.{decided}
+use Rattle.roles.specs.BankRows.{row_of}
+use Rattle.roles.specs.BankLeads.{lead_of}
+use Rattle.roles.specs.BankDeciding.{decided}
 use Rattle.distribution_role.specs.Rows.{distribution_row, distribution_lead}
 use Rattle.translation_role.specs.Rows.{translation_row, translation_lead}
 use Rattle.roles.specs.Rows.{row_by, row_at}

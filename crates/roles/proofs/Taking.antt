@@ -21,8 +21,8 @@ use Rattle.role_base.specs.Ranged.{IsRanged}
 use Rattle.role_base.proofs.PartyLaws.{HeldAtAccept}
 use Rattle.bank_keys.specs.Taking.{Brings, CanTake, TakesKeys}
 use Rattle.bank_keys.specs.Passing.{Responds, CanPassOn, PassesKeys}
-use Rattle.bank_role.specs.Deciding.{decided}
-use Rattle.bank_role.specs.Rows.{message_row}
+use Rattle.roles.specs.BankDeciding.{decided}
+use Rattle.roles.specs.BankRows.{message_row}
 use Rattle.distribution_role.specs.Rows.{distribution_message, distribution_row}
 use Rattle.translation_role.specs.Rows.{translation_message, translation_row}
 use Rattle.roles.specs.Rows.{row_by, row_at}

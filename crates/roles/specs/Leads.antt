@@ -7,7 +7,7 @@ use Rattle.party_state.specs.declared.command.Input.{Input}
 use Rattle.party_state.specs.declared.decision.Lead.{Lead}
 use Rattle.party_state.specs.State.{Party}
 use Rattle.role_base.specs.Leads.{of_arrival}
-use Rattle.bank_role.specs.Leads.{lead_of}
+use Rattle.roles.specs.BankLeads.{lead_of}
 use Rattle.distribution_role.specs.Rows.{distribution_lead}
 use Rattle.translation_role.specs.Rows.{translation_lead}
 

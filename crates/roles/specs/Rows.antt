@@ -5,7 +5,7 @@ use Rattle.x_base.specs.declared.party.Role.TheVariants.{Bank, Distribution, Tra
 use Rattle.party_state.specs.declared.command.Input.{Input}
 use Rattle.party_state.specs.State.{Party}
 use Rattle.party_state.specs.Rows.{Row}
-use Rattle.bank_role.specs.Rows.{row_of}
+use Rattle.roles.specs.BankRows.{row_of}
 use Rattle.distribution_role.specs.Rows.{distribution_row}
 use Rattle.translation_role.specs.Rows.{translation_row}
 

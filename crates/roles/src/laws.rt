@@ -21,6 +21,9 @@ ghost use Rattle.roles.specs.Deciding.{decision};
 ghost use Rattle.roles.specs.Serving.{Serves};
 ghost use Rattle.roles.specs.Taking.{TakesAsBank, PassesAsBank};
 
+use crate::bank_laws::{
+    law_bank_apart, law_bank_lead, law_bank_passing, law_bank_ranged, law_bank_taking,
+};
 use party_state::law_accept;
 
 /// There is no key to test the code of an arrival under exactly where the arrival is closed by an
@@ -29,7 +32,7 @@ pub fn law_role_lead()
     ensures { (p : Party) (a : TheArrival) (moment : ℕ) →
         ((lead_at p a ≡ None) ↔ ((is_plain a.parsed.shut ≡ true) ⊎ (is_early (decision p (Arrived a) moment).verdict ≡ true))) }
 {
-    bank_role::law_bank_lead();
+    law_bank_lead();
     distribution_role::law_distribution_lead();
     translation_role::law_translation_lead();
 }
@@ -45,7 +48,7 @@ pub fn law_differing()
         apply (differing p (row_at p i moment).edits) p ≡ apply (row_at p i moment).edits p }
 {
     role_base::law_differing();
-    bank_role::law_bank_apart();
+    law_bank_apart();
     distribution_role::law_distribution_apart();
     translation_role::law_translation_apart();
 }
@@ -61,7 +64,7 @@ pub fn law_settling()
         apply (decision p i moment).change (apply (decision p i moment).change q) ≡ apply (decision p i moment).change q }
 {
     role_base::law_settling();
-    bank_role::law_bank_apart();
+    law_bank_apart();
     distribution_role::law_distribution_apart();
     translation_role::law_translation_apart();
 }
@@ -72,7 +75,7 @@ pub fn law_settling()
 pub fn law_ranged()
     ensures { (p : Party) (i : TheInput) (moment : ℕ) → IsParty p → IsInput i → IsRanged p (decision p i moment) }
 {
-    bank_role::law_ranged();
+    law_bank_ranged();
     distribution_role::law_ranged();
     translation_role::law_ranged();
 }
@@ -83,7 +86,7 @@ pub fn law_taking()
     ensures { (p : Party) (i : TheInput) (moment : ℕ) → TakesAsBank p i (decision p i moment) }
 {
     law_accept();
-    bank_role::law_taking();
+    law_bank_taking();
 }
 
 /// A centre's answer is accepted exactly where the party is a bank and its key can go on to the
@@ -92,7 +95,7 @@ pub fn law_passing()
     ensures { (p : Party) (i : TheInput) (moment : ℕ) → PassesAsBank p i (decision p i moment) }
 {
     law_accept();
-    bank_role::law_passing();
+    law_bank_passing();
 }
 
 /// What a party accepts is a command or a message of a class that its role serves: a bank answers no

@@ -60,7 +60,7 @@ use Rattle.bank_orders.specs.Resend.{resend_of}
 use Rattle.bank_keys.specs.Ksm.{body_front, body_link}
 use Rattle.roles.specs.Rows.{row_by}
 use Rattle.bank_orders.specs.Orders.{command_row}
-use Rattle.bank_role.specs.Rows.{message_row}
+use Rattle.roles.specs.BankRows.{message_row}
 use Rattle.role_base.specs.Centres.{centre_command}
 use Rattle.distribution_role.specs.Rows.{distribution_message}
 use Rattle.translation_role.specs.Rows.{translation_message}
@@ -74,7 +74,7 @@ use Rattle.world_laws.proofs.Counting.Counts.{CountedAt}
 use Rattle.world_laws.proofs.Counting.Sound.{IsSound, Moves, moves}
 use Rattle.world_laws.proofs.Links.Waiting.{Waits}
 use Rattle.roles.specs.Leads.{lead_by}
-use Rattle.bank_role.specs.Leads.{message_lead}
+use Rattle.roles.specs.BankLeads.{message_lead}
 use Rattle.translation_role.specs.Rows.{translation_lead}
 use Rattle.bank_keys.specs.Ksm.{key_lead_with}
 use Rattle.world_laws.proofs.Agreeing.Lists.{lists_of}

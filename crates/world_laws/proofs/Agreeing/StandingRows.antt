@@ -77,7 +77,7 @@ use Rattle.bank_keys.specs.declared.waits.KeyAtCentre.{KeyAtCentre}
 use Rattle.bank_keys.specs.Waiting.{waiting_with}
 use Rattle.roles.specs.Rows.{row_by}
 use Rattle.bank_orders.specs.Orders.{command_row}
-use Rattle.bank_role.specs.Rows.{message_row}
+use Rattle.roles.specs.BankRows.{message_row}
 use Rattle.roles.specs.Rows.{row_at}
 use Rattle.world_laws.proofs.Agreeing.Standing.{Freed, TidyIn, Tidy, RowNews, tidy, starts, twice, tidy_join, freed_behind}
 use Rattle.world_laws.proofs.Agreeing.StandingCentres.{distribution_tidy, translation_tidy, centre_tidy}

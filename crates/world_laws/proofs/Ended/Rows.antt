@@ -70,7 +70,7 @@ use Rattle.bank_arrivals.specs.Rsi.{rsi_tests, rsi_row, rsi_under}
 use Rattle.bank_arrivals.specs.Rsm.{end_front, rsm_to, rsm_by, answer_to, rsm_with}
 use Rattle.bank_arrivals.specs.Esm.{subject_with, error_of, error_with}
 use Rattle.bank_arrivals.specs.Dsm.{named_by, dsm_on}
-use Rattle.bank_role.specs.Rows.{message_row}
+use Rattle.roles.specs.BankRows.{message_row}
 use Rattle.distribution_role.specs.Answering.{answering}
 use Rattle.distribution_role.specs.Requests.{rsi_tests as centre_tests, rsi_between, rsi_for}
 use Rattle.distribution_role.specs.Recovery.{ers_tests, at_least, ers_between}

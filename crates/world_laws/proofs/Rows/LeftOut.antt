@@ -23,7 +23,7 @@ use Rattle.role_base.proofs.LeftOut.{left_out}
 use Rattle.bank_orders.proofs.OrdersApart.{command_apart}
 use Rattle.bank_keys.proofs.KeysApart.{ksm_apart, rtr_apart}
 use Rattle.bank_arrivals.proofs.ArrivalsApart.{rsi_apart, rsm_apart, esm_apart, dsm_apart}
-use Rattle.bank_role.proofs.Apart as bank
+use Rattle.roles.proofs.BankApart as bank
 use Rattle.role_base.proofs.CentresApart.{order_apart}
 use Rattle.distribution_role.proofs.AnswersApart as distribution
 use Rattle.translation_role.proofs.TranslatedApart as translation

@@ -72,7 +72,7 @@ use Rattle.bank_keys.specs.declared.waits.KeyAtCentre.{KeyAtCentre}
 use Rattle.bank_keys.specs.Waiting.{waiting_with}
 use Rattle.roles.specs.Rows.{row_by}
 use Rattle.bank_orders.specs.Orders.{command_row}
-use Rattle.bank_role.specs.Rows.{message_row}
+use Rattle.roles.specs.BankRows.{message_row}
 use Rattle.role_base.specs.Centres.{centre_command}
 use Rattle.distribution_role.specs.Rows.{distribution_message}
 use Rattle.translation_role.specs.Rows.{translation_message}

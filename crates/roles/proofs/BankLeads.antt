@@ -23,8 +23,8 @@ use Rattle.bank_keys.specs.Rtr.{rtr, rtr_lead}
 use Rattle.bank_arrivals.specs.Rsm.{rsm, rsm_lead}
 use Rattle.bank_arrivals.specs.Esm.{error, esm_lead}
 use Rattle.bank_arrivals.specs.Dsm.{dsm, dsm_lead}
-use Rattle.bank_role.specs.Rows.{message_row}
-use Rattle.bank_role.specs.Leads.{message_lead, lead_of}
+use Rattle.roles.specs.BankRows.{message_row}
+use Rattle.roles.specs.BankLeads.{message_lead, lead_of}
 
 -- there is no key exactly then
 abbrev IsLed : Arrival → Option Lead → Verdict → Type 0

@@ -13,8 +13,8 @@ use Rattle.bank_keys.specs.Ksm.{key_arrives}
 use Rattle.bank_keys.specs.Rtr.{rtr}
 use Rattle.bank_keys.specs.Taking.{TakesKeys}
 use Rattle.bank_keys.specs.Passing.{PassesKeys}
-use Rattle.bank_role.specs.Rows.{message_row}
-use Rattle.bank_role.specs.Deciding.{decided}
+use Rattle.roles.specs.BankRows.{message_row}
+use Rattle.roles.specs.BankDeciding.{decided}
 
 -- it is so of the messages that bring keys
 abbrev pub KeysTaken : Type 0

@@ -26,8 +26,8 @@ use Rattle.bank_arrivals.specs.Rsi.{rsi}
 use Rattle.bank_arrivals.specs.Rsm.{rsm}
 use Rattle.bank_arrivals.specs.Esm.{error}
 use Rattle.bank_arrivals.specs.Dsm.{dsm}
-use Rattle.bank_role.specs.Rows.{message_row}
-use Rattle.bank_role.specs.Deciding.{decided}
+use Rattle.roles.specs.BankRows.{message_row}
+use Rattle.roles.specs.BankDeciding.{decided}
 
 -- it is so of the rows of each class
 pub record RowsRanged : Type 0 where

@@ -1,5 +1,5 @@
-use Rattle.bank_role.proofs.Leads.{RowsLed, lead_none}
-use Rattle.bank_role.proofs.laws.law_bank_lead.Goals as goal
+use Rattle.roles.proofs.BankLeads.{RowsLed, lead_none}
+use Rattle.roles.proofs.bank_laws.law_bank_lead.Goals as goal
 
 pub returns : goal.returns
 returns c =

@@ -1,5 +1,5 @@
-use Rattle.bank_role.proofs.Apart.{RowsApart, RowsBegin, row_apart, row_begins}
-use Rattle.bank_role.proofs.laws.law_bank_apart.Goals as goal
+use Rattle.roles.proofs.BankApart.{RowsApart, RowsBegin, row_apart, row_begins}
+use Rattle.roles.proofs.bank_laws.law_bank_apart.Goals as goal
 
 pub returns-clause-apart : goal.returns-clause-apart
 returns-clause-apart c =

@@ -1,5 +1,5 @@
-use Rattle.bank_role.proofs.Ranged.{RowsRanged, decided_ranged}
-use Rattle.bank_role.proofs.laws.law_ranged.Goals as goal
+use Rattle.roles.proofs.BankRanged.{RowsRanged, decided_ranged}
+use Rattle.roles.proofs.bank_laws.law_bank_ranged.Goals as goal
 
 pub returns : goal.returns
 returns c =

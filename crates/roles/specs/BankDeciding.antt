@@ -4,7 +4,7 @@ use Rattle.party_state.specs.declared.command.Input.{Input}
 use Rattle.party_state.specs.declared.decision.Decision.{Decision}
 use Rattle.party_state.specs.State.{Party}
 use Rattle.role_base.specs.Deciding.{decision_of}
-use Rattle.bank_role.specs.Rows.{row_of}
+use Rattle.roles.specs.BankRows.{row_of}
 
 abbrev pub decided : Party → Input → ℕ → Decision
 decided p i moment = decision_of p (row_of p i moment)

@@ -1,4 +1,4 @@
-// What is known of every party, by calls that do nothing.
+// What is known of every bank (ANSI X9.17), by calls that do nothing: of commands, and of messages that arrive.
 ghost use Rattle.std.specs.Prelude.{◌≡◌, ◌↔◌, ◌⊎◌, ℕ, true, None};
 ghost use Rattle.csm_grammar.specs.declared.arrival.Arrival.{Arrival as TheArrival};
 ghost use Rattle.party_state.specs.declared.command.Input.TheVariants.{Arrived};
@@ -15,9 +15,9 @@ ghost use Rattle.role_base.specs.Beginning.{AllBeginFree};
 ghost use Rattle.role_base.specs.Apart.{AreApart};
 ghost use Rattle.bank_keys.specs.Taking.{TakesKeys};
 ghost use Rattle.bank_keys.specs.Passing.{PassesKeys};
-ghost use Rattle.bank_role.specs.Rows.{row_of};
-ghost use Rattle.bank_role.specs.Leads.{lead_of};
-ghost use Rattle.bank_role.specs.Deciding.{decided};
+ghost use Rattle.roles.specs.BankRows.{row_of};
+ghost use Rattle.roles.specs.BankLeads.{lead_of};
+ghost use Rattle.roles.specs.BankDeciding.{decided};
 
 /// There is no key to test the code of an arrival under exactly where the arrival is closed by an
 /// error detection code, or is refused before its code is looked at.
@@ -45,7 +45,7 @@ pub fn law_bank_apart()
 
 /// What a bank changes can be kept, each part of it in its range, and what it writes has at most 1,024
 /// bytes, where the parts of its state and of a command are in their ranges.
-pub fn law_ranged()
+pub fn law_bank_ranged()
     ensures { (p : Party) (i : TheInput) (moment : ℕ) → IsParty p → IsInput i → IsRanged p (decided p i moment) }
 {
     bank_orders::law_ranged();
@@ -55,14 +55,14 @@ pub fn law_ranged()
 
 /// A key that a key service message brings, from a partner or a centre, alone, with a new
 /// key-encrypting key or with a second data key, is accepted exactly where it can be taken.
-pub fn law_taking()
+pub fn law_bank_taking()
     ensures { (p : Party) (i : TheInput) (moment : ℕ) → TakesKeys p i (decided p i moment) }
 {
     bank_keys::law_taking();
 }
 
 /// A centre's answer is accepted exactly where its key can go on to the ultimate recipient.
-pub fn law_passing()
+pub fn law_bank_passing()
     ensures { (p : Party) (i : TheInput) (moment : ℕ) → PassesKeys p i (decided p i moment) }
 {
     bank_keys::law_passing();

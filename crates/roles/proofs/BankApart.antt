@@ -25,7 +25,7 @@ use Rattle.bank_arrivals.specs.Rsi.{rsi}
 use Rattle.bank_arrivals.specs.Rsm.{rsm}
 use Rattle.bank_arrivals.specs.Esm.{error}
 use Rattle.bank_arrivals.specs.Dsm.{dsm}
-use Rattle.bank_role.specs.Rows.{message_row, row_of}
+use Rattle.roles.specs.BankRows.{message_row, row_of}
 
 -- it is so of the rows of each class, and of commands
 pub record RowsApart : Type 0 where

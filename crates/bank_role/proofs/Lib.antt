@@ -1,4 +1,0 @@
-pub mod Apart
-pub mod Leads
-pub mod Taking
-pub mod Ranged
