@@ -4,8 +4,8 @@ use Rattle.std.specs.Prelude.{option_to_list}
 use Rattle.std.proofs.lemmas.List.{append-nil}
 use Rattle.party_state.specs.declared.command.Input.{Input}
 use Rattle.change_code.specs.Cost.{fits, is_change}
-use Rattle.roles.specs.Deciding.{decision}
-use Rattle.roles.specs.Leads.{lead_in}
+use Rattle.member.specs.Deciding.{decision}
+use Rattle.member.specs.Leads.{lead_in}
 use Rattle.fact_book.specs.Facts.{NamedText}
 use Rattle.member.specs.Answers.{PlannedMember}
 use Rattle.member.specs.Member.{Member, Plan, plan_at, as_decided, as_full, after}

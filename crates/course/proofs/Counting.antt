@@ -6,7 +6,7 @@ use Rattle.party_state.specs.declared.command.Input.TheVariants as input
 use Rattle.party_state.specs.Rows.{Row, Reply}
 use Rattle.party_state.specs.Verdicts.{is_accept}
 use Rattle.role_base.specs.Differing.{differing}
-use Rattle.roles.specs.Rows.{row_at}
+use Rattle.member.specs.Rows.{row_at}
 use Rattle.scenario.specs.declared.line.Line.{Line}
 use Rattle.scenario.specs.declared.line.Line.TheVariants as line
 use Rattle.member.specs.Member.{Member}

@@ -5,7 +5,7 @@ use Rattle.party_state.specs.declared.command.Input.TheVariants as input
 use Rattle.party_state.specs.declared.decision.Lead.{Lead}
 use Rattle.party_state.specs.State.{Party}
 use Rattle.csm_grammar.specs.Arrivals.{authenticated_text}
-use Rattle.roles.specs.Leads.{lead_in}
+use Rattle.member.specs.Leads.{lead_in}
 use Rattle.fact_book.specs.Facts.{NamedText}
 use Rattle.change_code.specs.Cost.{whole_area}
 use Rattle.change_code.specs.declared.format.Format.TheVariants.{Two}

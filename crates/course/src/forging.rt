@@ -1,7 +1,7 @@
 // Whether a holder of its key made the code of what arrives.
 ghost use Rattle.std.specs.Prelude.{◌≡◌, true, false, List, Some, map};
 ghost use Rattle.party_state.specs.State.{Party};
-ghost use Rattle.roles.specs.Leads.{lead_in};
+ghost use Rattle.member.specs.Leads.{lead_in};
 ghost use Rattle.world_laws.specs.World.{Fact};
 ghost use Rattle.world_laws.specs.Honest.{is_honest_lead, named_text};
 ghost use Rattle.course.specs.Forging.{HonestInput, is_honest_input};

@@ -11,8 +11,8 @@ use Rattle.party_state.specs.Ranges.{IsParty, InRange, AreInRange}
 use Rattle.party_state.specs.State.{Party, apply}
 use Rattle.role_base.specs.Apart.{AreDone, NoneDone}
 use Rattle.role_base.specs.Ranged.{IsInput, IsRanged}
-use Rattle.roles.specs.Deciding.{decision}
-use Rattle.roles.specs.Leads.{lead_in}
+use Rattle.member.specs.Deciding.{decision}
+use Rattle.member.specs.Leads.{lead_in}
 use Rattle.change_code.specs.declared.format.Format.{Format}
 use Rattle.change_code.specs.declared.format.Format.TheVariants.{Two}
 use Rattle.change_code.specs.Code.{IsCode, code_of_change, most_edits}

@@ -3,7 +3,7 @@ ghost use Rattle.csm_spool.specs.Laws.{OneCourse, LawBegins, LawCommit, LawTake,
 
 use change_code::law_one_change;
 use csm_feed::law_one_hearing;
-use roles::{law_ranged, law_settling};
+use member::{law_ranged, law_settling};
 
 /// A party that stands here comes by the same plans to the same end.
 pub fn law_one_course()

@@ -9,8 +9,8 @@ use Rattle.change_code.specs.declared.space.Space.{Space}
 use Rattle.change_code.specs.Cost.{fits}
 use Rattle.change_code.specs.Framed.{FramedEdits, space_for}
 use Rattle.role_base.specs.Storable.{IsStorable}
-use Rattle.roles.specs.Deciding.{IsDecided}
-use Rattle.roles.specs.Leads.{lead_in}
+use Rattle.member.specs.Deciding.{IsDecided}
+use Rattle.member.specs.Leads.{lead_in}
 use Rattle.member.specs.Member.{Member, Plan, as_decided, as_full, plan_of, plan_at}
 use Rattle.member.specs.Answers.{IsPlan}
 

@@ -5,8 +5,8 @@ use Rattle.party_state.specs.declared.edit.Edit.{Edit}
 use Rattle.party_state.specs.State.{Party}
 use Rattle.party_state.specs.Verdicts.{is_accept}
 use Rattle.role_base.specs.Differing.{differing}
-use Rattle.roles.specs.Deciding.{decision}
-use Rattle.roles.specs.Rows.{row_at}
+use Rattle.member.specs.Deciding.{decision}
+use Rattle.member.specs.Rows.{row_at}
 
 none_chosen : (b : Bool) (edits : List Edit) → b ≡ false → cond b edits [] ≡ []
 none_chosen true edits is = absurd (cc is)

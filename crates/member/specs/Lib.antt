@@ -1,3 +1,11 @@
+pub mod Rows
+pub mod Taking
+pub mod Deciding
+pub mod Leads
+pub mod Serving
+pub mod BankRows
+pub mod BankLeads
+pub mod BankDeciding
 pub mod Member
 pub mod Acts
 pub mod Answers

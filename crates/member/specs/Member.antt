@@ -10,8 +10,8 @@ use Rattle.party_state.specs.declared.edit.Edit.{Edit}
 use Rattle.party_state.specs.State.{Party, apply}
 use Rattle.change_code.specs.Cost.{fits, space_after}
 use Rattle.change_code.specs.declared.space.Space.{Space}
-use Rattle.roles.specs.Deciding.{decision}
-use Rattle.roles.specs.Leads.{lead_in}
+use Rattle.member.specs.Deciding.{decision}
+use Rattle.member.specs.Leads.{lead_in}
 
 -- a party, and the room that is left on its disk, with the format of what is kept there
 pub record Member : Type 0 where

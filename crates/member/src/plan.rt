@@ -3,6 +3,7 @@ ghost use Rattle.std.specs.Prelude.{◌≡◌, IfOk};
 ghost use Rattle.member.specs.Answers.{IsPlan, plan_with};
 
 use crate::answer::Answer;
+use crate::deciding::decide;
 use change_code::{Framed, Space, law_short_code};
 use party_state::{Change, Decision, Input, Lead, State};
 use std::alloc::Global;
@@ -36,13 +37,13 @@ impl Plan {
     ) -> Result<Plan, NoMemory>
         ensures { IfOk result (IsPlan (record { party = state.now; space = space }) input.now moment) }
     {
-        let lead = roles::lead(state, input);
+        let lead = crate::leads::lead(state, input);
         let Decision {
             change,
             reply,
             under,
             verdict,
-        } = roles::decide(alloc, state, input, &lead, moment)?;
+        } = decide(alloc, state, input, &lead, moment)?;
         let change = change.into_change().unwrap_or(Change::new(alloc));
         law_short_code(space.format, &change);
         let framed = Framed::of(alloc, space.format, change)?;

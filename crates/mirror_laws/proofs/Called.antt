@@ -13,8 +13,8 @@ use Rattle.party_state.specs.Verdicts.{is_accept}
 use Rattle.change_code.specs.Cost.{fits}
 use Rattle.change_code.specs.declared.space.Space.{Space}
 use Rattle.key_store.specs.Store.{Stands, StandsWith}
-use Rattle.roles.specs.Deciding.{decision}
-use Rattle.roles.specs.Leads.{lead_in}
+use Rattle.member.specs.Deciding.{decision}
+use Rattle.member.specs.Leads.{lead_in}
 use Rattle.member.specs.Member.{Member, Plan, plan_at, as_full, after}
 use Rattle.member.specs.Acts.{taking}
 use Rattle.mirror_store.specs.Pairs.{Recovers}

@@ -11,8 +11,8 @@ use Rattle.party_state.specs.declared.edit.Edit.{Edit}
 use Rattle.party_state.specs.State.{Party}
 use Rattle.party_state.specs.Verdicts.{is_accept}
 use Rattle.change_code.specs.Cost.{fits, is_change}
-use Rattle.roles.specs.Deciding.{decision}
-use Rattle.roles.specs.Leads.{lead_in}
+use Rattle.member.specs.Deciding.{decision}
+use Rattle.member.specs.Leads.{lead_in}
 use Rattle.member.specs.Member.{Member, Plan, plan_at, as_decided, as_full, after}
 use Rattle.member.specs.Acts.{taking}
 use Rattle.node_core.specs.Turns.{member_of}

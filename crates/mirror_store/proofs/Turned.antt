@@ -21,8 +21,8 @@ use Rattle.change_code.specs.Cost.{can_compact, fits, space_of_whole}
 use Rattle.change_code.specs.Whole.{IsTooLarge}
 use Rattle.key_store.specs.Store.{Stored, StandsWith, IsStore, space, space_between}
 use Rattle.key_store.specs.Replacing.{IsReplacing, IsOldOrOther}
-use Rattle.roles.specs.Deciding.{decision}
-use Rattle.roles.specs.Leads.{lead_in}
+use Rattle.member.specs.Deciding.{decision}
+use Rattle.member.specs.Leads.{lead_in}
 use Rattle.member.specs.Member.{Member, Plan, plan_at, as_decided, as_full, after}
 use Rattle.member.specs.Acts.{Keeps, taking}
 use Rattle.node_core.specs.Turns.{member_of, IsOldOrNext, IsWorkDone, IsWorkCut, IsTurn}

@@ -1,8 +1,8 @@
 // When a party over two disks has no room, told by a call that does nothing.
 ghost use Rattle.std.specs.Prelude.{◌≡◌, ℕ};
 ghost use Rattle.party_state.specs.declared.command.Input.{Input as TheInput};
-ghost use Rattle.roles.specs.Deciding.{decision};
-ghost use Rattle.roles.specs.Leads.{lead_in};
+ghost use Rattle.member.specs.Deciding.{decision};
+ghost use Rattle.member.specs.Leads.{lead_in};
 ghost use Rattle.member.specs.Member.{Member, as_decided, as_full};
 ghost use Rattle.mirror_store.specs.Turns.{DoesNotFit, pair_plan_at};
 

@@ -5,7 +5,7 @@ use Rattle.party_state.specs.declared.command.Input.{Input}
 use Rattle.party_state.specs.declared.decision.Lead.{Lead}
 use Rattle.party_state.specs.State.{Party}
 use Rattle.key_store.specs.Store.{Stored}
-use Rattle.roles.specs.Leads.{lead_in}
+use Rattle.member.specs.Leads.{lead_in}
 use Rattle.member.specs.Member.{Member}
 use Rattle.node_core.specs.Turns.{member_of}
 use Rattle.world_laws.specs.World.{World, Fact, member_at}

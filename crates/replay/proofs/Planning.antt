@@ -9,8 +9,8 @@ use Rattle.change_code.specs.Code.{code_of_change}
 use Rattle.change_code.specs.Cost.{fits, is_change}
 use Rattle.change_code.specs.declared.space.Space.{Space}
 use Rattle.member.specs.Member.{Member, Plan, as_decided, as_full, plan_of, plan_at, after}
-use Rattle.roles.specs.Deciding.{decision}
-use Rattle.roles.specs.Leads.{lead_in}
+use Rattle.member.specs.Deciding.{decision}
+use Rattle.member.specs.Leads.{lead_in}
 use Rattle.course.specs.Stops.{KeepsChange, member_next}
 
 plan_by : (space : Space) (l : Option Lead) (d : Decision) (P : Plan → Type 0) → (fits space d.change ≡ true → P (as_decided l d)) → P (as_full l) → P (plan_of space l d)

@@ -18,7 +18,7 @@ use Rattle.key_store.specs.Store.{Stands, StandsWith}
 use Rattle.member.specs.Member.{Member}
 use Rattle.x_party.specs.Images.{DiskStandsFor}
 use Rattle.x_party.specs.Outcomes.{IsAccepted}
-use Rattle.roles.specs.Deciding.{decision}
+use Rattle.member.specs.Deciding.{decision}
 use Rattle.world_laws.specs.World.{own_of, member_at}
 use Rattle.world_laws.proofs.Lists.Among.{first_in}
 use Rattle.world_laws.specs.Sessions.{AllOff, IsOff}

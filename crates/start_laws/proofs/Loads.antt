@@ -16,8 +16,8 @@ use Rattle.role_base.specs.Deciding.{decision_of}
 use Rattle.role_base.specs.Differing.{differing}
 use Rattle.role_base.specs.Load.{load}
 use Rattle.role_base.specs.Loading.{CanLoad}
-use Rattle.roles.specs.Deciding.{decision}
-use Rattle.roles.specs.Rows.{row_by}
+use Rattle.member.specs.Deciding.{decision}
+use Rattle.member.specs.Rows.{row_by}
 use Rattle.start_laws.specs.SetUp.{End, link_at}
 
 pub record DecidesLoad (p : Party) (e : End) (d : Decision) : Type 0 where

@@ -9,7 +9,7 @@ use Rattle.csm_grammar.specs.Arrivals.{authenticated_text}
 use Rattle.fact_book.specs.Facts.{NamedText, has_named, same_full_name}
 use Rattle.member.specs.Member.{Member}
 use Rattle.world_laws.specs.World.{Fact, World, member_at}
-use Rattle.roles.specs.Leads.{lead_at}
+use Rattle.member.specs.Leads.{lead_at}
 use Rattle.world_laws.specs.Events.{Action, Orders, Hears, Compacts, Migrates, Event}
 use Rattle.world_laws.specs.Steps.{step}
 

@@ -15,7 +15,7 @@ use Rattle.change_code.specs.declared.space.Space.{Space}
 use Rattle.member.specs.Member.{Member, after}
 use Rattle.member.specs.Acts.{compacted_in, migrated_in}
 use Rattle.world_laws.specs.World.{Fact, Kk, Birth, KkUse, Acceptance, World, own_of, member_at}
-use Rattle.roles.specs.Rows.{row_at}
+use Rattle.member.specs.Rows.{row_at}
 use Rattle.world_laws.specs.Events.{Action, Orders, Hears, Compacts, Migrates, Completion, Whole, CutOld, CutNew, Event}
 
 -- the authenticated text of an input

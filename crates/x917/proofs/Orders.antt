@@ -20,7 +20,7 @@ use Rattle.party_state.specs.State.{begun}
 use Rattle.change_code.specs.declared.format.Format.{Format}
 use Rattle.key_store.specs.Store.{IsBlankOrFirst, StandsForOldOrNew, StandsWith}
 use Rattle.member.specs.Acts.{compacted_in, migrated_in}
-use Rattle.roles.specs.Deciding.{decision}
+use Rattle.member.specs.Deciding.{decision}
 use Rattle.x_party.specs.Images.{OrBefore}
 use Rattle.x_party.specs.Outcomes.{IsNoFailure, IsOldOrRewritten, IsSafe, IsSafeRewriting, IsSafeWiping, LeavesShelf}
 use Rattle.x_party.specs.declared.outcome.Outcome.{Outcome}

@@ -6,7 +6,7 @@ use Rattle.csm_grammar.specs.declared.arrival.Arrival.{Arrival}
 use Rattle.party_state.specs.declared.command.Input.TheVariants.{Arrived}
 use Rattle.party_state.specs.State.{Party}
 use Rattle.key_store.specs.Store.{Stands}
-use Rattle.roles.specs.Deciding.{decision}
+use Rattle.member.specs.Deciding.{decision}
 use Rattle.x_party.specs.Notices.{class_word, notice_of}
 use Rattle.x_line.specs.declared.order.Order.{Order}
 use Rattle.x_line.specs.declared.order.Order.TheVariants.{Take}

@@ -9,7 +9,7 @@ use Rattle.change_code.specs.declared.format.Format.{Format}
 use Rattle.change_code.specs.declared.space.Space.{Space}
 use Rattle.change_code.specs.Cost.{space_after}
 use Rattle.key_store.specs.Store.{StandsWith, StandsForOldOrNew, space_between}
-use Rattle.roles.specs.Deciding.{decision}
+use Rattle.member.specs.Deciding.{decision}
 use Rattle.x_party.specs.Images.{ReadsAs, OrBefore}
 use Rattle.x_party.specs.Outcomes.{IsToKeep, TakesTurn, IsSafe, IsSafeCall}
 use Rattle.x_party.specs.Steps.{IsOpened, IsNotOpened, IsOutcome}

@@ -11,7 +11,7 @@ use Rattle.change_code.specs.declared.format.Format.{Format}
 use Rattle.change_code.specs.declared.space.Space.{Space}
 use Rattle.change_code.specs.Cost.{fits}
 use Rattle.key_store.specs.Store.{Stands, StandsWith, IsNothing}
-use Rattle.roles.specs.Deciding.{decision}
+use Rattle.member.specs.Deciding.{decision}
 use Rattle.x_party.specs.Outcomes.{IsTooLargeIn}
 use Rattle.x_party.specs.Dues.{IsDue, IsDueRewriting, IsDueCreation, IsDueShow, IsDueWiping}
 use Rattle.x_party.specs.declared.outcome.Outcome.{Outcome}

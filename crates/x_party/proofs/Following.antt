@@ -12,7 +12,7 @@ use Rattle.change_code.specs.declared.format.Format.{Format}
 use Rattle.change_code.specs.declared.space.Space.{Space}
 use Rattle.change_code.specs.Cost.{fits}
 use Rattle.key_store.specs.Store.{Stands, StandsAs, StandsWith, IsFirstDamage}
-use Rattle.roles.specs.Deciding.{decision}
+use Rattle.member.specs.Deciding.{decision}
 use Rattle.x_party.specs.Images.{OfOwnParty}
 use Rattle.x_party.specs.Outcomes.{IsAsDecided, IsTooLong, IsTooLargeIn, IsRefusedTurn, IsNobody, CreatesParty, ShowsParty, RewritesParty, WipesParty, TakesTurn}
 use Rattle.x_party.specs.Dues.{Accepts, Refuses, FindsOther, FindsNobody, FitsOneFrame, PassesOneFrame, IsDue, IsDueCreation, IsDueShow, IsDueRewriting, IsDueWiping, GivesDue}

@@ -10,7 +10,7 @@ use Rattle.key_journal.specs.Opening.{IsFree}
 use Rattle.key_store.specs.Store.{Stands}
 use Rattle.party_state.specs.declared.command.Input.{Input}
 use Rattle.party_state.specs.State.{Party}
-use Rattle.roles.specs.Deciding.{decision}
+use Rattle.member.specs.Deciding.{decision}
 use Rattle.x_party.specs.Notices.{FindsNotice, notice_of}
 
 -- two spans in which nothing was written, one after the other

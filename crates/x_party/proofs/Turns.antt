@@ -14,7 +14,7 @@ use Rattle.key_store.specs.Store.{StandsForOldOrNew}
 use Rattle.party_state.specs.declared.command.Input.{Input}
 use Rattle.party_state.specs.declared.command.Input.TheVariants.{Arrived}
 use Rattle.party_state.specs.State.{Party}
-use Rattle.roles.specs.Deciding.{decision}
+use Rattle.member.specs.Deciding.{decision}
 use Rattle.x_party.specs.Dues.{GivesDue}
 use Rattle.x_party.specs.Images.{OfOwnParty, OrBefore, ReadsAs}
 use Rattle.x_party.specs.Outcomes.{IsNobody, IsRefusedTurn, IsSafe, LeavesShelf, TakesTurn}

@@ -12,7 +12,7 @@ use Rattle.change_code.specs.declared.format.Format.{Format}
 use Rattle.change_code.specs.declared.space.Space.{Space}
 use Rattle.key_store.specs.Store.{Stands, StandsAs, StandsWith, IsFirstDamage}
 use Rattle.member.specs.Acts.{compacted_in, migrated_in}
-use Rattle.roles.specs.Deciding.{decision}
+use Rattle.member.specs.Deciding.{decision}
 use Rattle.x_party.specs.Outcomes.{IsAsDecided, IsTooLong, IsTooLargeIn}
 use Rattle.x_party.specs.declared.outcome.Outcome.{Outcome}
 use Rattle.x_party.specs.declared.outcome.Outcome.TheVariants as outcome

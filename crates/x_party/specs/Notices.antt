@@ -15,7 +15,7 @@ use Rattle.party_state.specs.declared.edit.Edit.TheVariants.{PutKey}
 use Rattle.party_state.specs.State.{Party}
 use Rattle.party_show.specs.Show.{status_word}
 use Rattle.key_store.specs.Store.{Stands}
-use Rattle.roles.specs.Deciding.{decision}
+use Rattle.member.specs.Deciding.{decision}
 use Rattle.x_party.specs.declared.outcome.Outcome.{Outcome}
 use Rattle.x_party.specs.declared.outcome.Outcome.TheVariants as outcome
 

@@ -3,14 +3,14 @@ ghost use Rattle.std.specs.Prelude.{◌≡◌, ◌≤◌, IfOk, IsErrOf};
 ghost use Rattle.x_base.specs.Edge.{Rose};
 ghost use Rattle.x_disk.specs.Disk.{IsUntouched, LeavesNoMore, LeavesOnly};
 ghost use Rattle.x_disk.specs.Shelf.{OthersStay};
-ghost use Rattle.roles.specs.Deciding.{decision};
+ghost use Rattle.member.specs.Deciding.{decision};
 ghost use Rattle.x_party.specs.Notices.{FindsNotice, notice_of};
 
 use crate::wording::notice;
 use key_journal::{Cause, Unmade};
+use member::{decide, lead};
 use node_core::Node;
 use party_state::{Input, State};
-use roles::{decide, lead};
 use std::alloc::Global;
 use x_base::{Ident, NoMemory, Text};
 use x_disk::{Disk, DiskErr, Shelf};

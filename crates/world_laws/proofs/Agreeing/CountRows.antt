@@ -71,16 +71,16 @@ use Rattle.bank_keys.specs.Ksm.{body_link, key_row, key_lead_with}
 use Rattle.bank_orders.specs.StartKk.{kk_sending, start_kk_under, fresh_link, kk_edits}
 use Rattle.bank_keys.specs.declared.waits.KeyAtCentre.{KeyAtCentre}
 use Rattle.bank_keys.specs.Waiting.{waiting_with}
-use Rattle.roles.specs.Rows.{row_by, row_at}
+use Rattle.member.specs.Rows.{row_by, row_at}
 use Rattle.bank_orders.specs.Orders.{command_row}
-use Rattle.roles.specs.BankRows.{message_row}
+use Rattle.member.specs.BankRows.{message_row}
 use Rattle.party_state.specs.Rows.{Made}
 use Rattle.translation_role.specs.Rows.{translation_message, translation_lead}
 use Rattle.party_tables.specs.Tables.{put_row}
 use Rattle.csm_grammar.specs.Spelling.{Says}
 use Rattle.csm_read.proofs.Arrived.{arrival_says}
-use Rattle.roles.specs.Leads.{lead_by}
-use Rattle.roles.specs.BankLeads.{message_lead}
+use Rattle.member.specs.Leads.{lead_by}
+use Rattle.member.specs.BankLeads.{message_lead}
 use Rattle.member.specs.Member.{Member}
 use Rattle.world_laws.specs.World.{member_at}
 use Rattle.world_laws.specs.Events.{IsCommand}

@@ -7,7 +7,7 @@ use Rattle.party_state.specs.State.{Party}
 use Rattle.party_state.specs.Verdicts.{is_accept}
 use Rattle.member.specs.Member.{Member}
 use Rattle.world_laws.specs.World.{World, member_at}
-use Rattle.roles.specs.Rows.{row_at}
+use Rattle.member.specs.Rows.{row_at}
 use Rattle.world_laws.specs.Steps.{received_text}
 use Rattle.world_laws.proofs.Roles.Inputs.{IsInput, HonestInput}
 use Rattle.world_laws.proofs.Texts.Names.{IsNamed}

@@ -58,9 +58,9 @@ use Rattle.bank_arrivals.specs.Rsi.{rsi_tests as bank_rsi_tests, rsi_row as bank
 use Rattle.bank_orders.specs.Start.{sending_link}
 use Rattle.bank_orders.specs.Resend.{resend_of}
 use Rattle.bank_keys.specs.Ksm.{body_front, body_link}
-use Rattle.roles.specs.Rows.{row_by}
+use Rattle.member.specs.Rows.{row_by}
 use Rattle.bank_orders.specs.Orders.{command_row}
-use Rattle.roles.specs.BankRows.{message_row}
+use Rattle.member.specs.BankRows.{message_row}
 use Rattle.role_base.specs.Centres.{centre_command}
 use Rattle.distribution_role.specs.Rows.{distribution_message}
 use Rattle.translation_role.specs.Rows.{translation_message}
@@ -73,8 +73,8 @@ use Rattle.world_laws.proofs.Counting.Accepting.{AcceptedBelow, ksm_apart}
 use Rattle.world_laws.proofs.Counting.Counts.{CountedAt}
 use Rattle.world_laws.proofs.Counting.Sound.{IsSound, Moves, moves}
 use Rattle.world_laws.proofs.Links.Waiting.{Waits}
-use Rattle.roles.specs.Leads.{lead_by}
-use Rattle.roles.specs.BankLeads.{message_lead}
+use Rattle.member.specs.Leads.{lead_by}
+use Rattle.member.specs.BankLeads.{message_lead}
 use Rattle.translation_role.specs.Rows.{translation_lead}
 use Rattle.bank_keys.specs.Ksm.{key_lead_with}
 use Rattle.world_laws.proofs.Agreeing.Lists.{lists_of}

@@ -75,10 +75,10 @@ use Rattle.bank_keys.specs.Ksm.{body_link, body_count, body_new, body_record, ta
 use Rattle.bank_orders.specs.StartKk.{kk_sending, start_kk_under}
 use Rattle.bank_keys.specs.declared.waits.KeyAtCentre.{KeyAtCentre}
 use Rattle.bank_keys.specs.Waiting.{waiting_with}
-use Rattle.roles.specs.Rows.{row_by}
+use Rattle.member.specs.Rows.{row_by}
 use Rattle.bank_orders.specs.Orders.{command_row}
-use Rattle.roles.specs.BankRows.{message_row}
-use Rattle.roles.specs.Rows.{row_at}
+use Rattle.member.specs.BankRows.{message_row}
+use Rattle.member.specs.Rows.{row_at}
 use Rattle.world_laws.proofs.Agreeing.Standing.{Freed, TidyIn, Tidy, RowNews, tidy, starts, twice, tidy_join, freed_behind}
 use Rattle.world_laws.proofs.Agreeing.StandingCentres.{distribution_tidy, translation_tidy, centre_tidy}
 

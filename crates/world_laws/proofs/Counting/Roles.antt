@@ -14,7 +14,7 @@ use Rattle.party_state.specs.declared.command.Input.TheVariants as input
 use Rattle.party_state.specs.State.{Party, apply}
 use Rattle.party_state.specs.Verdicts.{is_accept}
 use Rattle.role_base.specs.Differing.{differing}
-use Rattle.roles.specs.Rows.{row_by, row_at}
+use Rattle.member.specs.Rows.{row_by, row_at}
 use Rattle.world_laws.specs.Steps.{received_text}
 use Rattle.world_laws.proofs.Links.Found.{HasLinks}
 use Rattle.world_laws.proofs.Links.Waiting.{Waits}

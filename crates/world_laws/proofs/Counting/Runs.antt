@@ -10,7 +10,7 @@ use Rattle.role_base.specs.Differing.{differing}
 use Rattle.member.specs.Member.{Member}
 use Rattle.member.specs.Acts.{compacted_in, migrated_in}
 use Rattle.world_laws.specs.World.{World, Birth, member_at}
-use Rattle.roles.specs.Rows.{row_at}
+use Rattle.member.specs.Rows.{row_at}
 use Rattle.change_code.specs.Cost.{fits, is_change, can_compact, space_of_whole}
 use Rattle.change_code.specs.declared.format.Format.{Format}
 use Rattle.party_state.specs.declared.command.Input.{Input}

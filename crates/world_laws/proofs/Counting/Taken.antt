@@ -12,7 +12,7 @@ use Rattle.change_code.specs.Cost.{fits, is_change, can_compact, space_of_whole}
 use Rattle.change_code.specs.declared.format.Format.{Format}
 use Rattle.member.specs.Member.{Member}
 use Rattle.member.specs.Acts.{compacted_in, migrated_in}
-use Rattle.roles.specs.Rows.{row_at}
+use Rattle.member.specs.Rows.{row_at}
 use Rattle.world_laws.specs.World.{World, Acceptance, own_of, member_at}
 use Rattle.world_laws.specs.Events.{Action, Orders, Hears, Compacts, Migrates, Completion, Whole, CutOld, CutNew, Event, IsAction, AreEvents}
 use Rattle.world_laws.specs.Steps.{received_text, member_after, world_after_row, world_with_answer, world_with_text, world_by_row, world_with_space, world_rewritten, world_after_input, world_after_action, step_at, step, run}

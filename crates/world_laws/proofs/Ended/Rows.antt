@@ -70,14 +70,14 @@ use Rattle.bank_arrivals.specs.Rsi.{rsi_tests, rsi_row, rsi_under}
 use Rattle.bank_arrivals.specs.Rsm.{end_front, rsm_to, rsm_by, answer_to, rsm_with}
 use Rattle.bank_arrivals.specs.Esm.{subject_with, error_of, error_with}
 use Rattle.bank_arrivals.specs.Dsm.{named_by, dsm_on}
-use Rattle.roles.specs.BankRows.{message_row}
+use Rattle.member.specs.BankRows.{message_row}
 use Rattle.distribution_role.specs.Answering.{answering}
 use Rattle.distribution_role.specs.Requests.{rsi_tests as centre_tests, rsi_between, rsi_for}
 use Rattle.distribution_role.specs.Recovery.{ers_tests, at_least, ers_between}
 use Rattle.distribution_role.specs.Rows.{distribution_message}
 use Rattle.translation_role.specs.Service.{rfs_between}
 use Rattle.translation_role.specs.Rows.{translation_message}
-use Rattle.roles.specs.Rows.{row_by, row_at}
+use Rattle.member.specs.Rows.{row_by, row_at}
 use Rattle.world_laws.specs.World.{Acceptance}
 use Rattle.world_laws.specs.Steps.{acceptances_of, received_text}
 use Rattle.world_laws.specs.Answered.{is_end_answer, answers_in, answer_of, message_answers}

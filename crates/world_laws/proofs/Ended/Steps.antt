@@ -11,9 +11,9 @@ use Rattle.change_code.specs.Cost.{fits, is_change, can_compact, space_of_whole}
 use Rattle.change_code.specs.declared.format.Format.{Format}
 use Rattle.member.specs.Member.{Member, plan_at, as_decided, as_full}
 use Rattle.member.specs.Acts.{compacted_in, migrated_in}
-use Rattle.roles.specs.Deciding.{decision}
-use Rattle.roles.specs.Leads.{lead_in}
-use Rattle.roles.specs.Rows.{row_at}
+use Rattle.member.specs.Deciding.{decision}
+use Rattle.member.specs.Leads.{lead_in}
+use Rattle.member.specs.Rows.{row_at}
 use Rattle.world_laws.specs.World.{Acceptance, World, member_at}
 use Rattle.world_laws.specs.Events.{Action, Orders, Hears, Compacts, Migrates, Completion, Whole, CutOld, CutNew, Event}
 use Rattle.world_laws.specs.Steps.{received_text, acceptances_of, member_after, world_after_row, world_with_answer, world_with_text, world_with_space, world_rewritten, world_after_input, world_after_action, step, step_at}

@@ -27,7 +27,7 @@ use Rattle.role_base.specs.Differing.{differing}
 use Rattle.bank_orders.specs.Start.{start_tests}
 use Rattle.bank_keys.specs.Ksm.{response}
 use Rattle.member.specs.Member.{Member}
-use Rattle.roles.specs.Rows.{row_at}
+use Rattle.member.specs.Rows.{row_at}
 use Rattle.change_code.specs.Code.{eight, kind_code, edits_code}
 use Rattle.change_code.specs.Cost.{cost}
 use Rattle.change_code.specs.declared.space.Space.{Space}

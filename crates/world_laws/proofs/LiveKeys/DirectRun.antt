@@ -16,7 +16,7 @@ use Rattle.bank_orders.specs.Start.{start_tests}
 use Rattle.bank_keys.specs.Ksm.{response}
 use Rattle.member.specs.Member.{Member}
 use Rattle.world_laws.specs.World.{World}
-use Rattle.roles.specs.Rows.{row_at}
+use Rattle.member.specs.Rows.{row_at}
 use Rattle.change_code.specs.Cost.{cost}
 use Rattle.change_code.specs.declared.format.Format.TheVariants.{Two}
 use Rattle.world_laws.specs.Events.{Event, Orders, Hears, Whole}

@@ -20,7 +20,7 @@ use Rattle.csm_grammar.specs.Values.{kind_of}
 use Rattle.bank_keys.specs.Ksm.{response}
 use Rattle.member.specs.Member.{Member}
 use Rattle.world_laws.specs.World.{World}
-use Rattle.roles.specs.Rows.{row_at}
+use Rattle.member.specs.Rows.{row_at}
 use Rattle.change_code.specs.Cost.{cost}
 use Rattle.change_code.specs.declared.format.Format.TheVariants.{Two}
 use Rattle.world_laws.specs.Events.{Event, Orders, Hears, Whole}

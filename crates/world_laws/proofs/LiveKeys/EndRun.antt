@@ -17,7 +17,7 @@ use Rattle.role_base.specs.Differing.{differing}
 use Rattle.bank_orders.specs.Ending.{end_message}
 use Rattle.member.specs.Member.{Member}
 use Rattle.world_laws.specs.World.{World}
-use Rattle.roles.specs.Rows.{row_at}
+use Rattle.member.specs.Rows.{row_at}
 use Rattle.change_code.specs.Cost.{cost}
 use Rattle.change_code.specs.declared.format.Format.TheVariants.{Two}
 use Rattle.world_laws.specs.Events.{Event, Orders, Hears, Whole}

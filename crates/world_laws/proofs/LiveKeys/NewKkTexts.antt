@@ -19,7 +19,7 @@ use Rattle.bank_orders.specs.declared.draws.KkDrawn.{KkDrawn}
 use Rattle.bank_orders.specs.Draws.{key_drawn, right_drawn, left_drawn, kk_drawn}
 use Rattle.bank_orders.specs.StartKk.{sealed_kk, fresh_link, kk_message, kk_sending}
 use Rattle.bank_keys.specs.Ksm.{opened_kk}
-use Rattle.roles.specs.Rows.{row_at}
+use Rattle.member.specs.Rows.{row_at}
 use Rattle.world_laws.proofs.Texts.Own.{IsOwn}
 use Rattle.world_laws.proofs.Texts.OwnMessages.{kk_own, data_key_own, response_own}
 use Rattle.world_laws.proofs.Agreeing.SendingRows.{kk_draw_sound, opened_is}

@@ -15,8 +15,8 @@ use Rattle.csm_grammar.specs.Arrivals.{authenticated_text}
 use Rattle.role_base.specs.Texts.{lead_under}
 use Rattle.member.specs.Member.{Member}
 use Rattle.world_laws.specs.World.{World, Fact, member_at}
-use Rattle.roles.specs.Rows.{row_at}
-use Rattle.roles.specs.Leads.{lead_at}
+use Rattle.member.specs.Rows.{row_at}
+use Rattle.member.specs.Leads.{lead_at}
 use Rattle.change_code.specs.Cost.{cost, fits, is_change, space_after}
 use Rattle.change_code.specs.declared.space.Space.{Space}
 use Rattle.world_laws.specs.Events.{Event, Whole, CutNew}

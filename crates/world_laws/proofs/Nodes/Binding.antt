@@ -13,9 +13,9 @@ use Rattle.role_base.specs.Texts.{text_of}
 use Rattle.role_base.specs.Differing.{differing}
 use Rattle.role_base.specs.Deciding.{name_of}
 use Rattle.change_code.specs.Cost.{fits, is_change, space_after}
-use Rattle.roles.specs.Deciding.{decision}
-use Rattle.roles.specs.Leads.{lead_in}
-use Rattle.roles.specs.Rows.{row_at}
+use Rattle.member.specs.Deciding.{decision}
+use Rattle.member.specs.Leads.{lead_in}
+use Rattle.member.specs.Rows.{row_at}
 use Rattle.member.specs.Member.{Member, Plan, plan_of, plan_at, as_decided, as_full, after}
 use Rattle.member.specs.Acts.{taking}
 use Rattle.world_laws.specs.World.{World, own_of, member_at}

@@ -19,9 +19,9 @@ use Rattle.change_code.specs.declared.format.Format.{Format}
 use Rattle.change_code.specs.declared.space.Space.{Space}
 use Rattle.change_code.specs.Whole.{IsTooLarge}
 use Rattle.key_store.specs.Store.{Stands, StandsWith, IsFirstDamage, StandsForOldOrNew}
-use Rattle.roles.specs.Deciding.{decision}
-use Rattle.roles.specs.Leads.{lead_in}
-use Rattle.roles.specs.Rows.{row_at}
+use Rattle.member.specs.Deciding.{decision}
+use Rattle.member.specs.Leads.{lead_in}
+use Rattle.member.specs.Rows.{row_at}
 use Rattle.member.specs.Member.{Member, Plan, plan_at, as_decided, as_full, after}
 use Rattle.member.specs.Acts.{Act, Keeps, WritesWhole, verdict_alone, taking, rewriting, compacted_in, migrated_in, member_after}
 use Rattle.node_core.specs.Turns.{IsOldOrNext}

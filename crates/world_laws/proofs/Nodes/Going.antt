@@ -16,7 +16,7 @@ use Rattle.bank_arrivals.specs.declared.asking_again.Retry.{Retry}
 use Rattle.bank_arrivals.specs.AskingAgain.{asked_again, retry_in}
 use Rattle.bank_arrivals.specs.Esm.{error_of}
 use Rattle.bank_orders.specs.Orders.{command_row}
-use Rattle.roles.specs.BankRows.{message_row}
+use Rattle.member.specs.BankRows.{message_row}
 use Rattle.role_base.specs.Texts.{is_plain}
 use Rattle.std.proofs.Common.{◌≡◌, ℕ, Bool, true, false, cond, Option, Some, None, List, [], ◌∷◌, ◌++◌, refl, ◌∙◌}
 use Rattle.std.specs.List.{AllByRecursion}

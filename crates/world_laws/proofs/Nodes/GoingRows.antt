@@ -15,7 +15,7 @@ use Rattle.translation_role.specs.Service.{rfs_between}
 use Rattle.role_base.specs.Centres.{centre_command}
 use Rattle.distribution_role.specs.Rows.{distribution_message}
 use Rattle.translation_role.specs.Rows.{translation_message}
-use Rattle.roles.specs.Rows.{row_by, row_at}
+use Rattle.member.specs.Rows.{row_by, row_at}
 use Rattle.std.proofs.Common.{ℕ, Bool, true, false, cond, Option, Some, None, List, [], ◌∷◌}
 use Rattle.x_base.specs.declared.party.Role.{Role}
 use Rattle.x_base.specs.declared.party.Role.TheVariants.{Bank, Distribution, Translation}

@@ -9,7 +9,7 @@ use Rattle.party_tables.proofs.Keys.{test_idents, test_names}
 use Rattle.csm_grammar.specs.Arrivals.{authenticated_text}
 use Rattle.member.specs.Member.{Member}
 use Rattle.world_laws.specs.World.{World, Fact, member_at}
-use Rattle.roles.specs.Leads.{lead_at}
+use Rattle.member.specs.Leads.{lead_at}
 use Rattle.world_laws.specs.Events.{Action, Orders, Hears, Compacts, Migrates, Event}
 use Rattle.world_laws.specs.Steps.{step}
 use Rattle.fact_book.specs.Facts.{has_named, same_full_name}

@@ -23,11 +23,11 @@ use Rattle.role_base.proofs.LeftOut.{left_out}
 use Rattle.bank_orders.proofs.OrdersApart.{command_apart}
 use Rattle.bank_keys.proofs.KeysApart.{ksm_apart, rtr_apart}
 use Rattle.bank_arrivals.proofs.ArrivalsApart.{rsi_apart, rsm_apart, esm_apart, dsm_apart}
-use Rattle.roles.proofs.BankApart as bank
+use Rattle.member.proofs.BankApart as bank
 use Rattle.role_base.proofs.CentresApart.{order_apart}
 use Rattle.distribution_role.proofs.AnswersApart as distribution
 use Rattle.translation_role.proofs.TranslatedApart as translation
-use Rattle.roles.specs.Rows.{row_by}
+use Rattle.member.specs.Rows.{row_by}
 use Rattle.world_laws.proofs.Links.Found.{HasLinks}
 
 -- the row without what makes no difference

@@ -50,12 +50,12 @@ use Rattle.bank_arrivals.specs.Rsi.{rsi_tests, rsi_row, rsi_under}
 use Rattle.bank_arrivals.specs.Rsm.{rsm_to, rsm_by, answer_to, rsm_with}
 use Rattle.bank_arrivals.specs.Esm.{subject_with, error_of, error_with}
 use Rattle.bank_arrivals.specs.Dsm.{named_by, dsm_on}
-use Rattle.roles.specs.BankRows.{message_row}
+use Rattle.member.specs.BankRows.{message_row}
 use Rattle.distribution_role.specs.Requests.{rsi_tests as centre_tests, rsi_between, rsi_for}
 use Rattle.distribution_role.specs.Recovery.{ers_tests, at_least, ers_between}
 use Rattle.distribution_role.specs.Rows.{distribution_message}
 use Rattle.translation_role.specs.Rows.{translation_message}
-use Rattle.roles.specs.Rows.{row_by, row_at}
+use Rattle.member.specs.Rows.{row_by, row_at}
 use Rattle.world_laws.specs.Events.{IsCommand}
 use Rattle.world_laws.proofs.Roles.Inputs.{IsInput}
 use Rattle.world_laws.proofs.Links.Found.{HasLinks, FirstAt, first_at, sending_at}

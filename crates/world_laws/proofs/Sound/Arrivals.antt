@@ -5,7 +5,7 @@ use Rattle.bank_keys.specs.Ksm.{body_link}
 use Rattle.bank_arrivals.specs.declared.asking_again.Retry.{Retry}
 use Rattle.bank_arrivals.specs.AskingAgain.{asked_again, retry_in}
 use Rattle.bank_arrivals.specs.Esm.{error_row, error_of, error_with}
-use Rattle.roles.specs.BankRows.{message_row}
+use Rattle.member.specs.BankRows.{message_row}
 use Rattle.world_laws.proofs.Counting.Sound.{SoundRow}
 use Rattle.world_laws.proofs.Counting.Quiet.{IsQuiet, all_fine, all_calm, no_free}
 use Rattle.world_laws.proofs.Sound.Keys.{key_row_sound}

@@ -51,8 +51,8 @@ use Rattle.bank_arrivals.specs.AskingAgain.{asked_again, retry_in}
 use Rattle.bank_arrivals.specs.Rsm.{rsm_front, rsm_to, rsm_twins, rsm_by, rsm_with}
 use Rattle.bank_arrivals.specs.Esm.{subject_with, subject_link, subject_ended, raised, esm_front, plain_esm, error_row, error_of, error_with}
 use Rattle.bank_arrivals.specs.Dsm.{named_by, dsm_front, dsm_on, left_by, left_in}
-use Rattle.roles.specs.BankRows.{message_row}
-use Rattle.roles.specs.Rows.{row_by, row_at}
+use Rattle.member.specs.BankRows.{message_row}
+use Rattle.member.specs.Rows.{row_by, row_at}
 use Rattle.world_laws.specs.Events.{IsCommand}
 use Rattle.world_laws.specs.Steps.{received_text}
 use Rattle.world_laws.proofs.Roles.Inputs.{IsInput}

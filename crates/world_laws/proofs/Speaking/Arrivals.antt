@@ -70,7 +70,7 @@ use Rattle.x_base.specs.Count.{IsCount}
 use Rattle.party_state.specs.declared.edit.Edit.TheVariants.{PutKey, DropExchange}
 use Rattle.party_state.specs.State.{first_link}
 use Rattle.bank_keys.specs.Ksm.{body_link, body_record}
-use Rattle.roles.specs.BankRows.{message_row}
+use Rattle.member.specs.BankRows.{message_row}
 use Rattle.world_laws.proofs.Sound.Exchanges.{subject_link_at}
 use Rattle.world_laws.proofs.Texts.Names.{LinkNamed, RecordNamed, IsNamed, NamesFine, record_named, exchange_named, KindNamed, ViaNamed}
 use Rattle.world_laws.proofs.Texts.Own.{IsOwn}

@@ -38,7 +38,7 @@ use Rattle.x_base.specs.declared.party.Role.TheVariants as role
 use Rattle.party_state.specs.State.{answer_with}
 use Rattle.role_base.specs.Conditions.{has_count}
 use Rattle.translation_role.specs.Service.{rfs_tests}
-use Rattle.roles.specs.Rows.{row_by}
+use Rattle.member.specs.Rows.{row_by}
 use Rattle.role_base.specs.Centres.{centre_command}
 use Rattle.distribution_role.specs.Rows.{distribution_message}
 use Rattle.translation_role.specs.Rows.{translation_message}

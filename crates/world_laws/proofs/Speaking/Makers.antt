@@ -70,13 +70,13 @@ use Rattle.bank_orders.specs.StartKk.{kk_sending, start_kk_under}
 use Rattle.translation_role.specs.Service.{rfs_between, rfs_tests, rfs_under, rfs_value, rfs_message}
 use Rattle.bank_keys.specs.declared.waits.KeyAtCentre.{KeyAtCentre}
 use Rattle.bank_keys.specs.Waiting.{waiting_with}
-use Rattle.roles.specs.Rows.{row_by}
+use Rattle.member.specs.Rows.{row_by}
 use Rattle.bank_orders.specs.Orders.{command_row}
-use Rattle.roles.specs.BankRows.{message_row}
+use Rattle.member.specs.BankRows.{message_row}
 use Rattle.role_base.specs.Centres.{centre_command}
 use Rattle.distribution_role.specs.Rows.{distribution_message}
 use Rattle.translation_role.specs.Rows.{translation_message}
-use Rattle.roles.specs.Rows.{row_at}
+use Rattle.member.specs.Rows.{row_at}
 use Rattle.world_laws.specs.Facts.{sender_of}
 
 abbrev pub SentBy : List ℕ → Option Reply → Type 0

@@ -1,6 +1,6 @@
 use Rattle.change_code.specs.declared.format.Format.TheVariants.{Two}
-use Rattle.roles.specs.Deciding.{decision}
-use Rattle.roles.specs.Leads.{lead_in}
+use Rattle.member.specs.Deciding.{decision}
+use Rattle.member.specs.Leads.{lead_in}
 use Rattle.mirror_store.proofs.Fitting.{has_none, has_room}
 use Rattle.mirror_store.proofs.room.law_room.Goals as goal
 

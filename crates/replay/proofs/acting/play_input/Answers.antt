@@ -3,7 +3,7 @@ use Rattle.std.proofs.lemmas.Result.{err_from_is_err_and}
 use Rattle.change_code.specs.Cost.{is_change}
 use Rattle.member.specs.Member.{Plan, after}
 use Rattle.node_core.specs.Turns.{member_of}
-use Rattle.roles.specs.Leads.{lead_in}
+use Rattle.member.specs.Leads.{lead_in}
 use Rattle.course.specs.declared.act.LineAct.TheVariants as act
 use Rattle.course.specs.declared.progress.EventOutcome.TheVariants as outcome
 use Rattle.replay.specs.Breaks.{BreaksAct}

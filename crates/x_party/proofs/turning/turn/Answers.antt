@@ -1,6 +1,6 @@
 use Rattle.std.proofs.Common.{sym, ◌∙◌, ap, subst}
-use Rattle.roles.specs.Deciding.{decision}
-use Rattle.roles.specs.Leads.{lead_in}
+use Rattle.member.specs.Deciding.{decision}
+use Rattle.member.specs.Leads.{lead_in}
 use Rattle.member.specs.Acts.{taking}
 use Rattle.node_core.specs.Turns.{IsTurn, turn_disk}
 use Rattle.x_party.specs.Steps.{outcome_of_turn}

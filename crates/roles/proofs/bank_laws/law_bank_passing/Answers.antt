@@ -1,5 +1,0 @@
-use Rattle.roles.proofs.BankTaking.{keys_pass}
-use Rattle.roles.proofs.bank_laws.law_bank_passing.Goals as goal
-
-pub returns : goal.returns
-returns c = keys_pass c.law_passing.ensures

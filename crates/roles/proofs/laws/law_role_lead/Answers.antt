@@ -1,5 +1,0 @@
-use Rattle.roles.proofs.ByRole.{led}
-use Rattle.roles.proofs.laws.law_role_lead.Goals as goal
-
-pub returns : goal.returns
-returns c = led c.law_bank_lead.ensures c.law_distribution_lead.ensures c.law_translation_lead.ensures

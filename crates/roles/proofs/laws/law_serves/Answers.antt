@@ -1,5 +1,0 @@
-use Rattle.roles.proofs.ByClass.{serves}
-use Rattle.roles.proofs.laws.law_serves.Goals as goal
-
-pub returns : goal.returns
-returns c = serves c.law_serves.ensures.only c.law_serves-2.ensures.only
