@@ -56,7 +56,7 @@ def events(rounds, earlier):
 
 def audits(rounds, earlier):
     """An audit of a scenario with its transcript beside the play that wrote it."""
-    cases, auditor = measure.built("cases"), measure.built("audit_cases")
+    cases = measure.built("cases")
     for name in list(scenarios.ALL)[:4]:
         text = scenarios.ALL[name]
         count = scenarios.events_of(text)
@@ -70,7 +70,7 @@ def audits(rounds, earlier):
         def is_confirmed(answer, times):
             return sum(line.startswith(confirmed) for line in answer.splitlines()) == times
         measure.told(f"audit: {name}", "us an event", measure.in_turns({
-            "audit": lambda: measure.one_of_many(auditor, audit, is_confirmed) / count,
+            "audit": lambda: measure.one_of_many(cases, audit, is_confirmed) / count,
             "play": lambda: measure.one_of_many(cases, order, is_played(count)) / count}, rounds), 1e6)
 
 

@@ -1,4 +1,4 @@
-//! Reads and plays scenarios over disks in memory, and fills a journal. Standard input has orders, a line
+//! Reads and plays scenarios over disks in memory, fills a journal, and audits transcripts. Standard input has orders, a line
 //! each; a line that begins with `#` is written as it is, so that each answer stands behind its name.
 //!
 //! `read N`, with the N bytes of the scenario behind it, tells how many lines it has or which line is
@@ -7,8 +7,12 @@
 //! `faults N` plays it with each call of a disk, of the shelf and of the sink failing in turn; the answer
 //! says whether each time a run of so many events stands. `show IDENT` shows a party, `drill SEED EVENTS`
 //! plays a drill and tells its counts. `fill` fills a journal.
+//!
+//! `audit N`, with the N bytes of an input behind it, audits it. `changed K`, `without K` and `twice K` audit the last input
+//! with line K of its transcript changed, left out or doubled. The answer is a line.
 #![tactic(auto)]
 
+mod auditing;
 mod failing;
 mod filling;
 mod order;
@@ -17,16 +21,19 @@ mod playing;
 mod reading;
 mod showing;
 mod stages;
+mod transcripts;
 
+use auditing::audit_line;
 use failing::faults_line;
 use filling::filled_lines;
-use order::{Order, order_of};
+use order::{Order, Task, order_of};
 use parting::parted;
 use playing::{answer, drilled};
 use reading::{drill_text, read_line};
 use showing::shown;
 use std::alloc::Global;
 use std::io::{self, Read, Write};
+use transcripts::with_line;
 use x_base::{NoMemory, Text};
 use x_disk::{DiskErr, MemoryShelf};
 
@@ -44,35 +51,57 @@ fn remark(alloc: Global, line: &[u8]) -> Result<Text, NoMemory> {
     Ok(text)
 }
 
+/// What orders leave to later ones.
+#[derive(Drop)]
+struct Last<'a> {
+    /// The disks over which a scenario was played.
+    shelf: MemoryShelf,
+    /// The input that was audited.
+    input: &'a [u8],
+}
+
+/// What comes of the bytes behind an order.
+fn done<'a>(
+    alloc: Global,
+    task: Task,
+    bytes: &'a [u8],
+    last: &mut Last<'a>,
+) -> Result<Text, DiskErr> {
+    match task {
+        Task::Read => Ok(read_line(alloc, bytes)?),
+        Task::Scenario => {
+            last.shelf = MemoryShelf::new(alloc);
+            Ok(answer(alloc, bytes, &mut last.shelf)?)
+        }
+        Task::Again => Ok(answer(alloc, bytes, &mut last.shelf)?),
+        Task::Faults => faults_line(alloc, bytes),
+        Task::Audit => {
+            last.input = bytes;
+            Ok(audit_line(alloc, bytes)?)
+        }
+    }
+}
+
 /// The answer to the order of a line, and what stands behind it.
 fn carried<'a>(
     alloc: Global,
     order: Order,
     line: &[u8],
     rest: &'a [u8],
-    shelf: &mut MemoryShelf,
+    last: &mut Last<'a>,
 ) -> Result<(Text, &'a [u8]), DiskErr> {
     match order {
         Order::Remark => Ok((remark(alloc, line)?, rest)),
-        Order::Read(len) => {
+        Order::With(task, len) => {
             let (bytes, behind) = front_of(rest, len);
-            Ok((read_line(alloc, bytes)?, behind))
+            Ok((done(alloc, task, bytes, last)?, behind))
+        }
+        Order::Changed(change, number) => {
+            let changed = with_line(alloc, last.input, change, number)?;
+            Ok((audit_line(alloc, changed.bytes())?, rest))
         }
         Order::Text { seed, events } => Ok((drill_text(alloc, seed, events)?, rest)),
-        Order::Scenario(len) => {
-            *shelf = MemoryShelf::new(alloc);
-            let (bytes, behind) = front_of(rest, len);
-            Ok((answer(alloc, bytes, shelf)?, behind))
-        }
-        Order::Again(len) => {
-            let (bytes, behind) = front_of(rest, len);
-            Ok((answer(alloc, bytes, shelf)?, behind))
-        }
-        Order::Faults(len) => {
-            let (bytes, behind) = front_of(rest, len);
-            Ok((faults_line(alloc, bytes)?, behind))
-        }
-        Order::Show(name) => Ok((shown(alloc, &name, shelf)?, rest)),
+        Order::Show(name) => Ok((shown(alloc, &name, &mut last.shelf)?, rest)),
         Order::Drill { seed, events } => Ok((drilled(alloc, seed, events)?, rest)),
         Order::Fill => Ok((filled_lines(alloc)?, rest)),
     }
@@ -83,7 +112,10 @@ fn main(rt: HostRuntime) -> io::Result<()> {
     let mut input = Vec::new(alloc);
     rt.stdin().read_to_end(&mut input)?;
     let mut out = rt.stdout();
-    let mut shelf = MemoryShelf::new(alloc);
+    let mut last = Last {
+        shelf: MemoryShelf::new(alloc),
+        input: &[],
+    };
     let mut rest = input.as_slice();
     // Each order has a byte at least.
     for _ in 0..input.len() {
@@ -93,7 +125,7 @@ fn main(rt: HostRuntime) -> io::Result<()> {
         let Some(order) = order_of(line) else {
             return Err(io::ErrorKind::InvalidData.into());
         };
-        let Ok((text, after)) = carried(alloc, order, line, behind, &mut shelf) else {
+        let Ok((text, after)) = carried(alloc, order, line, behind, &mut last) else {
             return Err(io::ErrorKind::OutOfMemory.into());
         };
         out.write_all(text.bytes())?;

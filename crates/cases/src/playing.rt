@@ -31,7 +31,8 @@ pub(crate) fn play_over<H: Shelf>(
     Ok(Played { outcome, written })
 }
 
-fn tally_line(alloc: Global, tally: &Tally) -> Result<String, AllocError> {
+/// The counts of a run behind a word.
+pub(crate) fn tally_line(alloc: Global, word: &str, tally: &Tally) -> Result<String, AllocError> {
     let Tally {
         events,
         done,
@@ -45,13 +46,13 @@ fn tally_line(alloc: Global, tally: &Tally) -> Result<String, AllocError> {
         ended,
     } = *tally;
     format!(in alloc;
-        "done {events} {done} {refused} {stopped} {none} {texts} {live} {held} {closing} {ended}\n"
+        "{word} {events} {done} {refused} {stopped} {none} {texts} {live} {held} {closing} {ended}\n"
     )
 }
 
 fn outcome_line(alloc: Global, outcome: &PlayResult) -> Result<String, AllocError> {
     match outcome {
-        PlayResult::Done(tally) => tally_line(alloc, tally),
+        PlayResult::Done(tally) => tally_line(alloc, "done", tally),
         PlayResult::Refused(verdict) => {
             let number = verdict.number();
             format!(in alloc; "refused {number}\n")
@@ -64,7 +65,8 @@ fn outcome_line(alloc: Global, outcome: &PlayResult) -> Result<String, AllocErro
     }
 }
 
-fn bad_line(alloc: Global, line: u32) -> Result<Text, NoMemory> {
+/// The line of a bad one.
+pub(crate) fn bad_line(alloc: Global, line: u32) -> Result<Text, NoMemory> {
     let mut text = Text::new(alloc);
     text.push(format!(in alloc; "bad line {line}\n")?.as_bytes())?;
     Ok(text)

@@ -1,4 +1,5 @@
-// Lines, and a change of one.
+// A change of a line of a transcript.
+use crate::parting::parted;
 use std::alloc::Global;
 use x_base::{NoMemory, Text};
 
@@ -11,18 +12,6 @@ pub(crate) enum Change {
     Without,
     /// It stands twice.
     Twice,
-}
-
-/// The first line of bytes without its line feed, and what stands behind it.
-pub(crate) fn first_line(bytes: &[u8]) -> (&[u8], &[u8]) {
-    match bytes.iter().position(|byte| *byte == b'\n') {
-        Some(at) => {
-            let (line, rest) = bytes.split_at(at.min(bytes.len()));
-            let (_, behind) = rest.split_at(rest.len().min(1));
-            (line, behind)
-        }
-        None => bytes.split_at(bytes.len()),
-    }
 }
 
 fn push_line(text: &mut Text, line: &[u8]) -> Result<(), NoMemory> {
@@ -51,17 +40,17 @@ pub(crate) fn with_line(
     alloc: Global,
     input: &[u8],
     change: Change,
-    number: usize,
+    number: u64,
 ) -> Result<Text, NoMemory> {
     let mut text = Text::new(alloc);
     let mut rest = input;
     let mut is_behind = false;
-    let mut count: usize = 0;
+    let mut count: u64 = 0;
     for _ in 0..input.len() {
         if rest.is_empty() {
             break;
         }
-        let (line, behind) = first_line(rest);
+        let (line, behind) = parted(rest, b'\n').unwrap_or((rest, &[]));
         if is_behind {
             count = count.saturating_add(1);
         }
