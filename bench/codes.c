@@ -102,11 +102,15 @@ static void make_tables(void)
 /* ---- one, two or four chains: the bits of a block stand permuted by IP all the way, as a chain allows, and each half twice,
    so that each byte of it ends with the six bits of a box */
 
-static inline uint64_t mixed(uint64_t wide, uint64_t key)
+static inline uint64_t boxes(uint64_t given)
 {
-    uint64_t given = wide ^ key;
     return (tables[7][given & 63] | tables[5][given >> 8 & 63]) ^ (tables[3][given >> 16 & 63] | tables[1][given >> 24 & 63])
         ^ (tables[6][given >> 32 & 63] | tables[4][given >> 40 & 63]) ^ (tables[2][given >> 48 & 63] | tables[0][given >> 56 & 63]);
+}
+
+static inline uint64_t mixed(uint64_t wide, uint64_t key)
+{
+    return boxes(wide ^ key);
 }
 
 #define EACH(COUNT, DONE)             \
@@ -134,6 +138,49 @@ static inline uint64_t mixed(uint64_t wide, uint64_t key)
 CHAINS(1)
 CHAINS(2)
 CHAINS(4)
+
+/* One chain with all sixteen rounds written out. */
+static void chains_written_out(int blocks, uint64_t *out)
+{
+    for (int text = 0; text < TEXTS; text++) {
+        uint64_t left = 0, right = 0;
+        for (int block = 0; block < blocks; block++) {
+            left ^= permuted[text][block][0];
+            right ^= permuted[text][block][1];
+#pragma GCC unroll 16
+            for (int round = 0; round < 16; round += 2) {
+                left ^= mixed(right, groups[round]);
+                right ^= mixed(left, groups[round + 1]);
+            }
+            uint64_t held = left;
+            left = right;
+            right = held;
+        }
+        out[text] = (uint64_t)single(left) << 32 | single(right);
+    }
+}
+
+/* One chain in which the other half has the next round's key on it before the boxes' output comes: a round waits for one exclusive
+   or less. */
+static void chains_early(int blocks, uint64_t *out)
+{
+    for (int text = 0; text < TEXTS; text++) {
+        uint64_t left = 0, right = 0;
+        for (int block = 0; block < blocks; block++) {
+            left ^= permuted[text][block][0];
+            uint64_t given = right ^ permuted[text][block][1] ^ groups[0];
+            for (int round = 0; round < 16; round++) {
+                uint64_t next = round < 15 ? groups[round + 1] : 0;
+                uint64_t waiting = left ^ next;
+                left = given ^ groups[round];
+                given = boxes(given) ^ waiting;
+            }
+            right = left;
+            left = given;
+        }
+        out[text] = (uint64_t)single(left) << 32 | single(right);
+    }
+}
 
 /* ---- chains in the bits of words or vectors: word i holds bit i of each block. What a box gives complemented is undone by the
    next round keys: each bit of a half is complemented once in each two rounds. */
@@ -266,7 +313,8 @@ static const struct {
     const char *name;
     void (*made)(int, uint64_t *);
 } WAYS[] = {
-    {"one chain after the other", chains_1},   {"two side by side", chains_2},
+    {"one chain after the other", chains_1},   {"the same, rounds written out", chains_written_out},
+    {"the same, keys put on early", chains_early}, {"two side by side", chains_2},
     {"four side by side", chains_4},           {"64 in words", sliced_64},
     {"128 in vectors of 128 bits", sliced_128}, {"256 in vectors of 256 bits", sliced_256},
     {"512 in vectors of 512 bits", sliced_512},
@@ -275,8 +323,8 @@ static const struct {
 static int many_ways(void)
 {
     if (__builtin_cpu_supports("avx512f"))
-        return 7;
-    return __builtin_cpu_supports("avx2") ? 6 : 5;
+        return 9;
+    return __builtin_cpu_supports("avx2") ? 8 : 7;
 }
 
 int main(int count, char **arguments)
