@@ -3,4 +3,5 @@ pub mod Expanding
 pub mod Naming
 pub mod Spelling
 pub mod Splitting
+mod Filling
 mod Pieces

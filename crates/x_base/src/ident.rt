@@ -3,7 +3,6 @@ ghost use Rattle.std.specs.Int.{w64, from_be_bytes};
 ghost use Rattle.x_base.specs.Ident.{repeated, expanded};
 ghost use Rattle.x_base.specs.Names.{IsIdent};
 
-use crate::names::is_name;
 use crate::padded::Padded;
 use std::marker::Model;
 use thiserror::Error;
@@ -52,12 +51,10 @@ impl Ident {
         ensures value { IfOk result (λ ident. ident ≡ bytes.now) }
         ensures found { IsOk result ↔ IsIdent bytes.now }
     {
-        if !is_name(4, bytes) {
-            return Err(BadIdent);
+        match Padded::read(4, bytes) {
+            Some(name) => Ok(Ident { name }),
+            None => Err(BadIdent),
         }
-        Ok(Ident {
-            name: Padded::new(bytes),
-        })
     }
 
     /// The bytes, and what fills them up.

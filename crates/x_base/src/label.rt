@@ -1,7 +1,6 @@
 ghost use Rattle.std.specs.Prelude.{◌≡◌, ◌↔◌, IsOk, IfOk};
 ghost use Rattle.x_base.specs.Names.{IsLabel};
 
-use crate::names::is_name;
 use crate::padded::Padded;
 use std::marker::Model;
 use thiserror::Error;
@@ -37,12 +36,10 @@ impl Label {
         ensures value { IfOk result (λ label. label ≡ bytes.now) }
         ensures found { IsOk result ↔ IsLabel bytes.now }
     {
-        if !is_name(1, bytes) {
-            return Err(BadLabel);
+        match Padded::read(1, bytes) {
+            Some(name) => Ok(Label { name }),
+            None => Err(BadLabel),
         }
-        Ok(Label {
-            name: Padded::new(bytes),
-        })
     }
 
     /// The bytes, and what fills them up.

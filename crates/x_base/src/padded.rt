@@ -1,11 +1,12 @@
 // Up to sixteen bytes, copied by value.
-ghost use Rattle.std.specs.Prelude.{◌≡◌, ◌≤◌, ◌↔◌, ◌∷◌, [], nat_eq, length, IsTrue};
+ghost use Rattle.std.specs.Prelude.{◌≡◌, ◌≤◌, ◌↔◌, ◌∷◌, [], nat_eq, length, is_some, IfSome, IsTrue};
 ghost use Rattle.x_base.specs.Hashing.{equal_bytes_hash_alike};
+ghost use Rattle.x_base.specs.Names.{is_name};
 ghost use Rattle.x_base.specs.Padded.{filled};
 ghost use Rattle.std.specs.Cmp.{partial_equiv_from_equiv};
 ghost use Rattle.std.specs.Cmp.Lexicographic.{pointwise, nat_list_eq_equiv};
 
-use crate::names::LONGEST;
+use crate::names::{LONGEST, is_name_byte};
 use std::hash::{Hash, Hasher};
 use std::marker::Model;
 
@@ -69,18 +70,27 @@ impl Hash for Padded {
 }
 
 impl Padded {
-    /// These bytes.
-    pub(crate) fn new(bytes: &[u8]) -> Padded
-        requires { length bytes.now ≤ 16 }
-        ensures { result ≡ bytes.now }
+    /// These bytes, if they are `low` to `LONGEST` bytes of a name.
+    pub(crate) fn read(low: usize, bytes: &[u8]) -> Option<Padded>
+        ensures value { IfSome result (λ name. name ≡ bytes.now) }
+        ensures found { is_some result ≡ is_name low 16 bytes.now }
     {
         let len = bytes.len();
+        if len < low || LONGEST < len {
+            return None;
+        }
         let mut filled = [0; LONGEST];
-        filled[..len].copy_from_slice(bytes);
-        Padded {
+        for i in 0..len {
+            let byte = bytes[i];
+            if !is_name_byte(byte) {
+                return None;
+            }
+            filled[i] = byte;
+        }
+        Some(Padded {
             bytes: filled,
             len: len as u8,
-        }
+        })
     }
 
     /// The bytes without the filling.
