@@ -3,7 +3,7 @@ use Rattle.std.proofs.Common.{◌≡◌, ℕ, ◌+◌, ◌*◌, ◌≤◌, List,
 use Rattle.std.proofs.lemmas.List.Elements.{All-weaker, All-head, All-tail}
 use Rattle.std.specs.List.{All}
 use Rattle.party_state.specs.State.{Party, apply_edit}
-use Rattle.party_state.specs.Limits.{IsWithinLimits, StaysWithinLimits}
+use Rattle.party_state.specs.Limits.{IsWithinLimits, StaysWithinLimits, GoOn}
 use Rattle.party_state.specs.Ranges.{IsFitting, AreFitting, IsNoBegin, HasNoBegin}
 use Rattle.party_state.specs.declared.edit.Edit.{Edit}
 use Rattle.party_state.specs.declared.edit.Edit.TheVariants.{SetGen}
@@ -11,7 +11,6 @@ use Rattle.x_mac.specs.Code.{edc_of}
 use Rattle.change_code.specs.declared.format.Format.{Format}
 use Rattle.change_code.specs.declared.format.Format.TheVariants.{One, Two}
 use Rattle.change_code.specs.Code.{two, four, eight, edit_code, edits_code, change_text, number_of, code_of_change}
-use Rattle.key_store.specs.Store.{GoOn}
 use Rattle.cases.specs.Seeds.{IsSeed, AreSeeds}
 
 pub seeds_fit : (edits : List Edit) → AreSeeds edits → AreFitting edits

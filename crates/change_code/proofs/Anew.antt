@@ -79,7 +79,7 @@ column_stays {R} key same put at c most within front (x ∷ rows) d few =
     fewer : (front ++ x ∷ []) ++ rows ≡ front ++ x ∷ rows → length (front ++ x ∷ []) ≤ most
     fewer is = let all : length ((front ++ x ∷ []) ++ rows) ≡ length (front ++ x ∷ []) + length rows = length-append (front ++ x ∷ []) rows in let e : length ((front ++ x ∷ []) ++ rows) ≡ length (front ++ x ∷ rows) = ap length is in omega (arith, all, e, few)
 
-stays_on : (es fs : List Edit) (p : Party) → StaysWithinLimits es p → StaysWithinLimits fs (apply es p) → StaysWithinLimits (es ++ fs) p
+pub stays_on : (es fs : List Edit) (p : Party) → StaysWithinLimits es p → StaysWithinLimits fs (apply es p) → StaysWithinLimits (es ++ fs) p
 stays_on [] fs p first second = second
 stays_on (e ∷ es) fs p first second = (first.0, stays_on es fs (apply_edit e p) first.1 second)
 

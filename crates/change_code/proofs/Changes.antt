@@ -104,7 +104,7 @@ IsNone bytes = (edits : List Edit) → change_form.Fits edits → bytes ≡ chan
 pub none_short : (bytes : List ℕ) → length bytes < 2 → IsNone bytes
 none_short bytes few edits fits is = omega (arith, few, ap length is, length-append (two (length edits)) (edits_code edits), two_long (length edits))
 
-same_count : (bytes rest : List ℕ) (n : ℕ) (edits : List Edit) → n < 2 ^ 16 → bytes ≡ two n ++ rest → length edits ≤ most_edits → bytes ≡ change_text edits → (n ≡ length edits) × (rest ≡ edits_code edits)
+pub same_count : (bytes rest : List ℕ) (n : ℕ) (edits : List Edit) → n < 2 ^ 16 → bytes ≡ two n ++ rest → length edits ≤ most_edits → bytes ≡ change_text edits → (n ≡ length edits) × (rest ≡ edits_code edits)
 same_count bytes rest n edits small is few text = two_apart n (length edits) rest (edits_code edits) small (omega (arith, few)) (sym is ∙ text)
 
 pub none_lacking : (fault : CodeFault) (bytes rest more : List ℕ) (n : ℕ) → n < 2 ^ 16 → bytes ≡ two n ++ rest → IsDecoded (edits_form n) rest more (Err fault) → IsAllRead change_form bytes (Err fault)

@@ -9,6 +9,8 @@ mod ExchangeForms
 mod EditForms
 pub mod Changes
 mod Undoing
+mod Steps
+mod FirstBodies
 mod OneChange
 pub mod Anew
 mod Sizes

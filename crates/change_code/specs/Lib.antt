@@ -1,5 +1,6 @@
 pub mod Code
 pub mod Cost
+pub mod Following
 pub mod Framed
 pub mod Reading
 pub mod Whole

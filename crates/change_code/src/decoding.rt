@@ -63,7 +63,7 @@ fn closed_text(format: Format, bytes: &[u8], edc: u32) -> Option<&[u8]>
 }
 
 /// The text behind the number of the format, if the bytes are one that is closed in it.
-fn opened(format: Format, bytes: &[u8], edc: u32) -> Option<&[u8]>
+pub(crate) fn opened(format: Format, bytes: &[u8], edc: u32) -> Option<&[u8]>
     requires { IsClosingEdc format bytes.now edc }
     ensures text { IfSome result (λ text. bytes.now ≡ closed format (number_of format ∷ text.now)) }
     ensures none { result ≡ None → (text : List ℕ) → bytes.now ≡ closed format (number_of format ∷ text) → ⊥ }
@@ -78,7 +78,7 @@ fn opened(format: Format, bytes: &[u8], edc: u32) -> Option<&[u8]>
 
 /// The change whose code in this format the bytes are. `edc` is, in format 2, the error detection code of all bytes but the last
 /// four; in format 1 it isn't looked at. Comes with `Bad` exactly where they are no code in this format.
-pub fn decode_as(alloc: Global, format: Format, bytes: &[u8], edc: u32) -> Result<Change, CodeFault>
+fn decode_as(alloc: Global, format: Format, bytes: &[u8], edc: u32) -> Result<Change, CodeFault>
     requires { IsClosingEdc format bytes.now edc }
     ensures code { IfOk result (λ change. IsCode format bytes.now change) }
     ensures bad { IfErr result (λ fault. fault ≡ CodeFault.Bad → (change : List Edit) → IsCode format bytes.now change → ⊥) }
@@ -90,7 +90,7 @@ pub fn decode_as(alloc: Global, format: Format, bytes: &[u8], edc: u32) -> Resul
 }
 
 /// The one format in which the bytes can be a code, by the number with which they begin.
-fn format_of(bytes: &[u8]) -> Option<Format>
+pub(crate) fn format_of(bytes: &[u8]) -> Option<Format>
     ensures is { IfSome result (λ format. (other : Format) (change : List Edit) → IsCode other bytes.now change → format ≡ other) }
     ensures none { result ≡ None → IsNoCode bytes.now }
 {
@@ -98,7 +98,7 @@ fn format_of(bytes: &[u8]) -> Option<Format>
 }
 
 /// In format 2, the error detection code of all bytes but the last four; in format 1 nothing.
-fn closing_edc(format: Format, bytes: &[u8]) -> u32
+pub(crate) fn closing_edc(format: Format, bytes: &[u8]) -> u32
     ensures { IsClosingEdc format bytes.now result }
 {
     match format {

@@ -8,7 +8,7 @@ use party_state::Edit;
 use std::alloc::Global;
 
 /// The kind of an edit that puts an exchange.
-const PUT_EXCHANGE: u8 = 6;
+pub(crate) const PUT_EXCHANGE: u8 = 6;
 
 impl<'a> Reader<'a> {
     pub(crate) fn edit(&mut self, alloc: Global) -> Result<Edit, CodeFault>
@@ -22,7 +22,7 @@ impl<'a> Reader<'a> {
     }
 
     /// An edit behind the byte of its kind, other than one that puts an exchange.
-    fn edit_of(&mut self, kind: u8) -> Option<Edit>
+    pub(crate) fn edit_of(&mut self, kind: u8) -> Option<Edit>
         requires { kind ≢ 6 }
         ensures { IsPieceRead edit_form (kind ∷ self.old) self.new result }
     {

@@ -8,6 +8,8 @@ mod edits;
 mod encoding;
 mod exchanges;
 mod fault;
+mod first;
+mod following;
 mod format;
 mod framed;
 mod laws;
@@ -19,10 +21,12 @@ mod space;
 mod writing;
 
 pub use compaction::whole_behind;
-pub use decoding::{Coded, decode, decode_as};
+pub use decoding::{Coded, decode};
 pub use edit_code::EditCode;
 pub use encoding::{MOST_EDITS, encode_behind};
 pub use fault::{CodeFault, WholeFault};
+pub use first::{Begun, begin_party};
+pub use following::follow_as;
 pub use format::Format;
 pub use framed::Framed;
 pub use laws::{

@@ -9,7 +9,8 @@ use Rattle.party_state.specs.declared.edit.Edit.{Edit}
 use Rattle.change_code.specs.Code.{code_of_change}
 use Rattle.change_code.specs.Cost.{cost}
 use Rattle.change_code.specs.Framed.{IsFramed}
-use Rattle.key_store.specs.Store.{Stored, GoOn, IsStore, space}
+use Rattle.party_state.specs.Limits.{GoOn}
+use Rattle.key_store.specs.Store.{Stored, IsStore, space}
 use Rattle.key_store.specs.Keeping.{IsKept}
 use Rattle.key_store.proofs.Keeping.{Changes, cost_is, at_rest, old_is_either, after_stage, after_commit, stable_staged, stable_commit, now_new, kept, few_calls, never_done, still_told, one_left, frame_long, never_err, faults_later}
 

@@ -13,7 +13,8 @@ use Rattle.key_journal.specs.declared.cause.Cause.TheVariants as cause
 use Rattle.party_state.specs.State.{Party}
 use Rattle.party_state.specs.Limits.{IsWithinLimits}
 use Rattle.change_code.specs.declared.format.Format.{Format}
-use Rattle.key_store.specs.Store.{IsStep, Lead, Fold}
+use Rattle.change_code.specs.Following.{IsStep}
+use Rattle.key_store.specs.Store.{Lead, Fold}
 use Rattle.key_store.specs.Loading.{ReadTo, StopsSomewhere, StandsOnly}
 use Rattle.key_store.specs.Ahead.{gate_behind, IsReadAhead, LeadsToUnsound, StopsAmong}
 use Rattle.key_store.proofs.ReadAhead.{frames_append, frames_one}

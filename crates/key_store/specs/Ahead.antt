@@ -8,7 +8,8 @@ use Rattle.key_journal.specs.declared.cause.Cause.{Cause}
 use Rattle.key_journal.specs.declared.cause.Cause.TheVariants as cause
 use Rattle.party_state.specs.State.{Party}
 use Rattle.change_code.specs.declared.format.Format.{Format}
-use Rattle.key_store.specs.Store.{IsStep, Lead}
+use Rattle.change_code.specs.Following.{IsStep}
+use Rattle.key_store.specs.Store.{Lead}
 use Rattle.key_store.specs.Loading.{LeavesJournal}
 
 -- the place of the gate behind frames with these bodies, of which the first one's gate is at this place

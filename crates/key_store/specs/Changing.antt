@@ -6,7 +6,8 @@ use Rattle.party_state.specs.declared.edit.Edit.{Edit}
 use Rattle.change_code.specs.declared.format.Format.{Format}
 use Rattle.change_code.specs.Cost.{fits}
 use Rattle.change_code.specs.Framed.{AreFramed}
-use Rattle.key_store.specs.Store.{Stored, GoOn, IsStore, space_between}
+use Rattle.party_state.specs.Limits.{GoOn}
+use Rattle.key_store.specs.Store.{Stored, IsStore, space_between}
 
 -- a store, and the edits that it will keep
 pub record ChangingStore (D : Type 0) : Type 0 where

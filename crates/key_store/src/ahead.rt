@@ -6,8 +6,7 @@ ghost use Rattle.key_store.specs.Store.{Lead};
 ghost use Rattle.key_store.specs.Loading.{ReadTo, StopsSomewhere, StandsOnly, LeavesJournal};
 ghost use Rattle.key_store.specs.Ahead.{gate_behind, IsReadAhead, StopsAmong};
 
-use crate::bodies::next_party;
-use change_code::Format;
+use change_code::{Format, follow_as};
 use edc_slices::{MOST_CODES, codes_before_ends};
 use key_journal::{Cause, Opened, law_gates, law_one_list};
 use party_state::State;
@@ -76,7 +75,7 @@ fn follow_all(
     let edcs = closing_edcs(format, bodies);
     let mut place = gate;
     for (i, body) in bodies.iter().enumerate() {
-        match next_party(alloc, format, state, body.bytes(), edcs[i]) {
+        match follow_as(alloc, format, body.bytes(), edcs[i], state) {
             Ok(true) => place += 5 + body.bytes().len() as u64,
             Ok(false) => return Err(Cause::Damaged(place)),
             Err(NoMemory) => return Err(Cause::NoMemory),

@@ -2,11 +2,9 @@
 #![tactic(auto)]
 
 mod ahead;
-mod bodies;
 mod changing;
 mod compact;
 mod creating;
-mod follow;
 mod framed_state;
 mod image_laws;
 mod keep;

@@ -2,6 +2,7 @@
 use Rattle.std.specs.Prelude.{ℕ, ◌≤◌, List, [], ◌∷◌, length}
 use Rattle.party_state.specs.declared.edit.Edit.{Edit}
 use Rattle.party_state.specs.State.{Party, apply_edit}
+use Rattle.party_state.specs.Ranges.{HasNoBegin}
 
 abbrev pub most_links : ℕ
 most_links = 64
@@ -18,3 +19,8 @@ pub record IsWithinLimits (p : Party) : Type 0 where
 abbrev pub StaysWithinLimits : List Edit → Party → Type 0
 StaysWithinLimits [] p = Unit {0}
 StaysWithinLimits (e ∷ es) p = IsWithinLimits (apply_edit e p) × StaysWithinLimits es (apply_edit e p)
+
+-- the edits go on from this party: none begins another, and after none a limit is passed
+pub record GoOn (edits : List Edit) (party : Party) : Type 0 where
+  pub goes_on : HasNoBegin edits
+  pub within : StaysWithinLimits edits party

@@ -2,9 +2,12 @@ ghost use Rattle.std.specs.Prelude.{◌≡◌, length, slice_get, IfSome, IfOk, 
 ghost use Rattle.party_state.specs.Ranges.{AreFitting, HasNoBegin, IsFitting, IsNoBegin, IsParty};
 ghost use Rattle.party_state.specs.State.{begun, apply_edit};
 ghost use Rattle.party_state.specs.State as party;
+ghost use Rattle.party_state.specs.declared.edit.Edit.TheVariants.{PutLink, PutKey, PutExchange, DropExchange, SetGen};
+ghost use Rattle.party_tables.specs.Ranges.{IsLink, IsRecord, IsExchange};
 
 use crate::edit::{Change, Edit};
 use crate::parts::Parts;
+use party_tables::{Exchange, KeyRec, LinkRec};
 use std::alloc::{AllocError, Global};
 use std::marker::Model;
 use x_base::{Ident, NoMemory, Role};
@@ -55,6 +58,50 @@ impl State {
         ensures kept { OnErr result (self.new ≡ self.old) }
     {
         self.parts.take(&mut edit)
+    }
+}
+
+// Single edits, each done in place from its parts.
+impl State {
+    /// Puts a link. Where there is no memory for it, all stays as it was.
+    pub fn put_link(&mut self, link: LinkRec) -> Result<(), NoMemory>
+        requires { IsLink link }
+        ensures done { OnOk result (self.new ≡ apply_edit (PutLink link) self.old) }
+        ensures kept { OnErr result (self.new ≡ self.old) }
+    {
+        self.parts.links.put(link)
+    }
+
+    /// Puts a key record. Where there is no memory for it, all stays as it was.
+    pub fn put_key(&mut self, key: KeyRec) -> Result<(), NoMemory>
+        requires { IsRecord key }
+        ensures done { OnOk result (self.new ≡ apply_edit (PutKey key) self.old) }
+        ensures kept { OnErr result (self.new ≡ self.old) }
+    {
+        self.parts.keys.put(key)
+    }
+
+    /// Puts an exchange. Where there is no memory for it, all stays as it was.
+    pub fn put_exchange(&mut self, exchange: Exchange) -> Result<(), NoMemory>
+        requires { IsExchange exchange }
+        ensures done { OnOk result (self.new ≡ apply_edit (PutExchange exchange) self.old) }
+        ensures kept { OnErr result (self.new ≡ self.old) }
+    {
+        self.parts.exchanges.put(exchange)
+    }
+
+    /// Drops the exchange with that peer.
+    pub fn drop_exchange(&mut self, peer: &Ident)
+        ensures { self.new ≡ apply_edit (DropExchange peer.now) self.old }
+    {
+        self.parts.exchanges.remove(peer);
+    }
+
+    /// The generator goes on with this seed value.
+    pub fn set_seed(&mut self, v: u64)
+        ensures { self.new ≡ apply_edit (SetGen v) self.old }
+    {
+        self.parts.generator.v = v;
     }
 }
 

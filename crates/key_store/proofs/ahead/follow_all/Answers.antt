@@ -1,5 +1,5 @@
 use Rattle.std.proofs.Common.{List, ℕ, inr, length, arith, ap, sym, subst}
-use Rattle.key_store.specs.Store.{IsStep}
+use Rattle.change_code.specs.Following.{IsStep}
 use Rattle.key_store.proofs.Following.{lead_more, place_more, place_within, unsound_here}
 use Rattle.key_store.proofs.ahead.follow_all.Goals as goal
 
@@ -19,8 +19,8 @@ returns-in-Ok-false-clause-stops c = inr (unsound_here c.args.bodies.now c.loop-
 
 pub loop-i-preserved : goal.loop-i-preserved
 loop-i-preserved c = record {
-  lead = lead_more c.args.bodies.now c.loop-i.i c.index-bodies-i.result (omega arith) c.index-bodies-i.is c.args.format c.args.state.now c.loop-i.state c.next_party.new.state c.loop-i.invariant.lead
-      (subst (λ (b : List ℕ). IsStep c.args.format b c.loop-i.state c.next_party.new.state) c.bytes.ensures (c.in-Ok-true.ensures.yes c.in-Ok-true.field-0-test));
+  lead = lead_more c.args.bodies.now c.loop-i.i c.index-bodies-i.result (omega arith) c.index-bodies-i.is c.args.format c.args.state.now c.loop-i.state c.follow_as.new.state c.loop-i.invariant.lead
+      (subst (λ (b : List ℕ). IsStep c.args.format b c.loop-i.state c.follow_as.new.state) c.bytes.ensures (c.in-Ok-true.ensures.yes c.in-Ok-true.field-0-test));
   place = omega (
     arith,
     ap length c.bytes-in-Ok-true.ensures,

@@ -2,7 +2,8 @@ use Rattle.std.proofs.Common.{◌≡◌, true, false, ◌++◌, ◌∷◌, [], L
 use Rattle.party_state.specs.declared.edit.Edit.{Edit}
 use Rattle.party_state.specs.declared.edit.Edit.TheVariants.{PutLink}
 use Rattle.change_code.specs.Cost.{fits}
-use Rattle.key_store.specs.Store.{GoOn, space}
+use Rattle.party_state.specs.Limits.{GoOn}
+use Rattle.key_store.specs.Store.{space}
 use Rattle.key_store.specs.Keeping.{IsKeeping}
 use Rattle.key_store.specs.declared.store.Kept.TheVariants as kept
 use Rattle.replay.proofs.Begun.{goes_on_load, load_fits, stays_within, loads_one, failed_broken, failed_memory}
