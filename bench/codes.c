@@ -8,52 +8,22 @@
 #include <string.h>
 #include <time.h>
 #include "boxes.h"
-#include "tables.h"
+#include "rounds.h"
 
 enum { TEXTS = 512, BLOCKS = 16 };
 
 static const uint64_t KEY = 0x0123456789ABCDEFu;
 
-static const uint8_t P[32] = {16,7,20,21,29,12,28,17,1,15,23,26,5,18,31,10,2,8,24,14,32,27,3,9,19,13,30,6,22,11,4,25};
-
 static const uint8_t IP[64] = {
     58,50,42,34,26,18,10,2,60,52,44,36,28,20,12,4,62,54,46,38,30,22,14,6,64,56,48,40,32,24,16,8,
     57,49,41,33,25,17,9,1,59,51,43,35,27,19,11,3,61,53,45,37,29,21,13,5,63,55,47,39,31,23,15,7};
 
-static const uint8_t PC1[56] = {
-    57,49,41,33,25,17,9,1,58,50,42,34,26,18,10,2,59,51,43,35,27,19,11,3,60,52,44,36,
-    63,55,47,39,31,23,15,7,62,54,46,38,30,22,14,6,61,53,45,37,29,21,13,5,28,20,12,4};
-
-static const uint8_t PC2[48] = {
-    14,17,11,24,1,5,3,28,15,6,21,10,23,19,12,4,26,8,16,7,27,20,13,2,
-    41,52,31,37,47,55,30,40,51,45,33,48,44,49,39,56,34,53,46,42,50,36,29,32};
-
-/* Where in such a half the six bits of each box end. */
-static const uint8_t ORDER[8] = {56, 24, 48, 16, 40, 8, 32, 0};
-
-static const uint8_t SHIFTS[16] = {1,1,2,2,2,2,2,2,1,2,2,2,2,2,2,1};
-
-/* The bits of each round key, the first at place 0; the same as the groups of six that
-   end the bytes of a half that stands twice; what P makes of each box's output, twice too. */
+/* The bits of each round key, the first at place 0; the same as the groups of six that end the bytes of a half. */
 static uint8_t round_bits[16][48], sliced_key[16][48];
 static uint64_t groups[16];
-static uint64_t tables[8][64];
 static uint64_t words[TEXTS][BLOCKS];
 static uint64_t permuted[TEXTS][BLOCKS][2];
 static uint64_t codes[TEXTS], wanted[TEXTS];
-
-static unsigned bit(uint64_t word, unsigned width, unsigned place)
-{
-    return (unsigned)(word >> (width - place)) & 1;
-}
-
-static uint64_t picked(uint64_t word, unsigned width, const uint8_t *places, unsigned count)
-{
-    uint64_t result = 0;
-    for (unsigned i = 0; i < count; i++)
-        result = result << 1 | bit(word, width, places[i]);
-    return result;
-}
 
 static uint64_t unpicked(uint64_t word, const uint8_t *places)
 {
@@ -63,55 +33,19 @@ static uint64_t unpicked(uint64_t word, const uint8_t *places)
     return result;
 }
 
-static unsigned box_output(unsigned box, unsigned six)
-{
-    return BOXES[box][(six >> 5 << 1 | (six & 1)) * 16 + (six >> 1 & 15)];
-}
-
-static uint64_t doubled(uint32_t half)
-{
-    return (uint64_t)(half << 29 | half >> 3) << 32 | (half << 1 | half >> 31);
-}
-
-static uint32_t single(uint64_t wide)
-{
-    uint32_t low = (uint32_t)wide;
-    return low >> 1 | low << 31;
-}
-
 static void make_tables(void)
 {
-    uint64_t chosen = picked(KEY, 64, PC1, 56);
-    uint32_t c = (uint32_t)(chosen >> 28), d = (uint32_t)(chosen & 0xFFFFFFF);
+    uint64_t keys[16];
+    make_boxes();
+    make_round_keys(KEY, keys);
     for (int round = 0; round < 16; round++) {
-        for (int i = 0; i < SHIFTS[round]; i++) {
-            c = (c << 1 | c >> 27) & 0xFFFFFFF;
-            d = (d << 1 | d >> 27) & 0xFFFFFFF;
-        }
-        uint64_t key = picked((uint64_t)c << 28 | d, 56, PC2, 48);
         for (unsigned i = 0; i < 48; i++)
-            round_bits[round][i] = (uint8_t)bit(key, 48, i + 1);
-        for (unsigned i = 0; i < 8; i++)
-            groups[round] |= (key >> (42 - 6 * i) & 63) << ORDER[i];
+            round_bits[round][i] = (uint8_t)bit(keys[round], 48, i + 1);
+        groups[round] = grouped(keys[round]);
     }
-    for (unsigned box = 0; box < 8; box++)
-        for (unsigned six = 0; six < 64; six++)
-            tables[box][six] = doubled((uint32_t)picked((uint64_t)box_output(box, six) << (28 - 4 * box), 32, P, 32));
 }
 
-/* ---- one, two or four chains: the bits of a block stand permuted by IP all the way, as a chain allows, and each half twice,
-   so that each byte of it ends with the six bits of a box */
-
-static inline uint64_t boxes(uint64_t given)
-{
-    return (tables[7][given & 63] | tables[5][given >> 8 & 63]) ^ (tables[3][given >> 16 & 63] | tables[1][given >> 24 & 63])
-        ^ (tables[6][given >> 32 & 63] | tables[4][given >> 40 & 63]) ^ (tables[2][given >> 48 & 63] | tables[0][given >> 56 & 63]);
-}
-
-static inline uint64_t mixed(uint64_t wide, uint64_t key)
-{
-    return boxes(wide ^ key);
-}
+/* ---- one, two or four chains: the bits of a block stand permuted by IP all the way, as a chain allows, and each half twice */
 
 #define EACH(COUNT, DONE)             \
     for (int i = 0; i < COUNT; i++) { \

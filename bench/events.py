@@ -1,6 +1,8 @@
 """Scenarios: read, played over disks in memory, audited, and played over files. In memory it is processor time, of one process
-that does it once and six times; what is told is a fifth of the difference."""
+that does it once and six times; what is told is a fifth of the difference. plain_events.c, plain C, plays those without centres beside
+x917; what both write has to be the same bytes."""
 import os
+import sys
 import tempfile
 
 import measure
@@ -20,36 +22,55 @@ def player(name, tree):
                 None) or measure.built("cases", tree)
 
 
+def order_of(text):
+    return f"scenario {len(text)}\n{text}".encode()
+
+
 def play(program, text):
-    """The microseconds of an event, with its reading."""
+    """The seconds of an event, with its reading."""
     events = scenarios.events_of(text)
-    order = f"scenario {len(text)}\n{text}".encode()
-    return measure.one_of_many(program, order, is_played(events)) / events
+    return measure.one_of_many(program, order_of(text), is_played(events)) / events
+
+
+def has_centres(text):
+    return " DISTRIBUTION " in text or " TRANSLATION " in text
+
+
+def written_by(program, text):
+    """What a play of it writes."""
+    answers, right = [], is_played(scenarios.events_of(text))
+    measure.processor_time(program, order_of(text), lambda answer: answers.append(answer) or right(answer, 1))
+    return answers[0]
 
 
 def read_alone(program, text):
     """The same of reading it alone: its last line is bad."""
     bad = text + "?\n"
     last = b"bad line %d" % (len(text.splitlines()) + 1)
-    order = f"scenario {len(bad)}\n{bad}".encode()
     def right(written, times):
         return written.splitlines() == [last] * times
-    return measure.one_of_many(program, order, right) / scenarios.events_of(text)
+    return measure.one_of_many(program, order_of(bad), right) / scenarios.events_of(text)
 
 
 def events(rounds, earlier):
-    """Each scenario, played with its reading and read alone, beside an earlier program; all in turns."""
+    """Each scenario, played with its reading, beside plain C and an earlier program, and read alone; all in turns."""
     programs = {"x917": player("x917", measure.TREE)}
     if earlier:
         programs["earlier program"] = player("earlier", earlier)
-    ways = {}
+    with tempfile.TemporaryDirectory() as folder:
+        plain = measure.compiled("plain_events.c", folder)
+        ways = {}
+        for name, text in scenarios.ALL.items():
+            beside = programs if has_centres(text) else {**programs, "plain C": plain}
+            if plain in beside.values() and written_by(plain, text) != written_by(programs["x917"], text):
+                sys.exit(f"{name}: x917 and plain C write other bytes")
+            for way, program in beside.items():
+                ways[name, way] = lambda program=program, text=text: play(program, text)
+            ways[name, "its reading"] = lambda text=text: read_alone(programs["x917"], text)
+        times = measure.in_turns(ways, rounds)
     for name, text in scenarios.ALL.items():
-        for way, program in programs.items():
-            ways[name, way] = lambda program=program, text=text: play(program, text)
-        ways[name, "its reading"] = lambda text=text: read_alone(programs["x917"], text)
-    times = measure.in_turns(ways, rounds)
-    for name, text in scenarios.ALL.items():
-        measure.told(f"{name}: {scenarios.events_of(text)} events", "us an event", {way: times[name, way] for way in [*programs, "its reading"]}, 1e6)
+        took = {way: times[of, way] for of, way in times if of == name}
+        measure.told(f"{name}: {scenarios.events_of(text)} events", "us an event", took, 1e6)
     for two, many in zip(list(scenarios.ALL)[:6:2], list(scenarios.ALL)[1:6:2]):
         measure.told(f"{many} beside two", "us an event", {"64 banks": times[many, "x917"], "two banks": times[two, "x917"]}, 1e6)
 
@@ -60,10 +81,9 @@ def audits(rounds, earlier):
     for name in list(scenarios.ALL)[:4]:
         text = scenarios.ALL[name]
         count = scenarios.events_of(text)
-        order = f"scenario {len(text)}\n{text}".encode()
-        written = []
-        measure.processor_time(cases, order, lambda answer: written.append(answer) or is_played(count)(answer, 1))
-        transcript = written[0][:written[0].rfind(b"\n", 0, -1) + 1]
+        order = order_of(text)
+        written = written_by(cases, text)
+        transcript = written[:written.rfind(b"\n", 0, -1) + 1]
         whole = text.encode() + b"AUDIT -\n" + transcript
         confirmed = b"yes %d %d 0 " % (count, count)
         audit = b"audit %d\n" % len(whole) + whole
@@ -91,11 +111,27 @@ def lines(rounds, earlier):
         "x917": lambda: measure.one_of_many(cases, b"text 7 10000\n", lambda answer, times: True, 30)}, rounds), 1e3)
 
 
+def images_in(folder):
+    """The files of a folder."""
+    images = {}
+    for name in os.listdir(folder):
+        with open(f"{folder}/{name}", "rb") as file:
+            images[name] = file.read()
+    return images
+
+
 def files(rounds, earlier):
-    """x917 replay over files, by the clock."""
+    """x917 replay over files, by the clock. The files that it leaves are those that plain C gives."""
     text = scenarios.ALL["two banks, keys that stay"]
     count = scenarios.events_of(text)
     programs = {"x917": measure.built("x917")}
+    with tempfile.TemporaryDirectory() as folder, tempfile.TemporaryDirectory(dir="/dev/shm") as ours:
+        plain = measure.compiled("plain_events.c", folder)
+        os.mkdir(f"{folder}/C")
+        measure.process([plain, "-d", "C"], folder, order_of(text))
+        measure.process([programs["x917"], "replay"], ours, text.encode())
+        if images_in(ours) != images_in(f"{folder}/C"):
+            sys.exit("x917 and plain C leave other files")
     if earlier:
         programs["earlier program"] = measure.built("x917", earlier)
     for where, place in ("in memory", "/dev/shm"), ("on a disk", None):

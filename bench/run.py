@@ -7,7 +7,7 @@ run.py [quick] [--earlier TREE] [PART..]
   TREE       a checkout of an earlier state, built, whose library and programs are timed beside
   PART       ciphers reading turns codes events audits lines files commands compaction mirror spool; all of them, if none is named
 
-First build, each in its folder: crates/bench_c by `rt lib`; crates/cases and crates/x917 by `rt run`. It wants a C compiler,
+First build, each in its folder: crates/bench_c by `rt lib`; crates/cases and crates/x917 by `rt run`. It wants GCC,
 OpenSSL's headers (Debian: libssl-dev) and strace. TMPDIR should lie on a disk. Where the machine has other work to do, run it by
 `chrt -f 50`."""
 import os
