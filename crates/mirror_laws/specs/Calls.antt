@@ -14,7 +14,7 @@ use Rattle.x_party.specs.declared.outcome.Outcome.TheVariants as outcome
 use Rattle.x_pair.specs.Outcomes.{BothStand, IsTooLargePair}
 use Rattle.world_laws.specs.World.{HasMember}
 use Rattle.world_laws.specs.Events.{Completion, Whole, CutOld, IsCutOff, Event}
-use Rattle.world_laws.specs.Calls.{InEveryNetwork}
+use Rattle.call_laws.specs.Calls.{InEveryNetwork}
 use Rattle.mirror_laws.specs.Turns.{turn_event, IsHeldBack}
 
 -- the whole event: each image of either disk that a crash may leave stands for the party as it is then, with the space that the

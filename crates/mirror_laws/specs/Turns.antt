@@ -19,7 +19,7 @@ use Rattle.mirror_store.specs.declared.mirror.PairTurn.{PairTurn}
 use Rattle.mirror_store.specs.declared.mirror.PairTurn.TheVariants.{Done, Refused, Broken, NoMemory}
 use Rattle.world_laws.specs.World.{World, member_at}
 use Rattle.world_laws.specs.Events.{Action, Orders, Hears, Completion, Whole, CutOld, IsCutOff, Event}
-use Rattle.world_laws.specs.Calls.{event_at, InEveryNetwork}
+use Rattle.call_laws.specs.Calls.{event_at, InEveryNetwork}
 use Rattle.mirror_laws.specs.Runs.{Which, FirstDisk, SecondDisk, PairEvent, Happens, pair_run, losses}
 
 -- the action of an input: of a message with the bytes in which it is heard

@@ -10,5 +10,4 @@ pub mod Speaking
 pub mod Nodes
 pub mod Shown
 pub mod Ended
-pub mod Deeds
 pub mod LiveKeys

@@ -8,4 +8,3 @@ pub mod Binding
 pub mod Turning
 pub mod Compactions
 pub mod Named
-pub mod Calls

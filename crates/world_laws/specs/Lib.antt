@@ -11,7 +11,5 @@ pub mod Facts
 pub mod Shown
 pub mod Answered
 pub mod Nodes
-pub mod Calls
 pub mod Reached
 pub mod Exchanged
-pub mod Sessions

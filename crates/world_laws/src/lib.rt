@@ -1,7 +1,6 @@
 //! What holds of the end of every run of several parties (ANSI X9.17).
 #![tactic(auto)]
 
-mod calls;
 mod compactions;
 mod exchanged;
 mod facts;
@@ -11,10 +10,8 @@ mod inputs;
 mod laws;
 mod live_runs;
 mod runs;
-mod sessions;
 mod turns;
 
-pub use calls::law_calls;
 pub use compactions::law_compactions;
 pub use exchanged::law_exchanged;
 pub use fact_book::FactBook;
@@ -27,5 +24,4 @@ pub use laws::{
 };
 pub use live_runs::law_live_runs_exist;
 pub use runs::law_runs;
-pub use sessions::law_session;
 pub use turns::law_turns;

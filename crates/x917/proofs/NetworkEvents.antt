@@ -19,7 +19,7 @@ use Rattle.x_party.specs.Outcomes.{TakesTurn, IsSafe, RewritesParty, IsSafeRewri
 use Rattle.x_party.specs.declared.outcome.Outcome.{Outcome}
 use Rattle.x_party.specs.declared.outcome.Outcome.TheVariants as outcome
 use Rattle.world_laws.specs.Events.{Action, Orders, Hears, Compacts, Migrates, IsAction, IsCommand}
-use Rattle.world_laws.specs.Calls.{IsCall, IsNamedCall, AnswersOther}
+use Rattle.call_laws.specs.Calls.{IsCall, IsNamedCall, AnswersOther}
 use Rattle.x917.specs.declared.status.Status.{Status}
 use Rattle.x917.specs.Listening.{taken, IsHeard}
 use Rattle.x917.specs.Ends.{Ends}

@@ -10,7 +10,7 @@ use Rattle.x_party.specs.declared.outcome.Outcome.{Outcome}
 use Rattle.x_line.specs.declared.order.Order.{Order}
 use Rattle.x_line.specs.declared.order.Order.TheVariants as order
 use Rattle.world_laws.specs.Events.{Action, Orders, Hears, Compacts, Migrates, IsAction}
-use Rattle.world_laws.specs.Calls.{IsCall, IsNamedCall}
+use Rattle.call_laws.specs.Calls.{IsCall, IsNamedCall}
 use Rattle.x917.specs.declared.party_command.PartyCommand.{PartyCommand}
 use Rattle.x917.specs.declared.status.Status.{Status}
 use Rattle.x917.specs.Listening.{IsUnheard, taken}

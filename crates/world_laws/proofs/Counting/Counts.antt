@@ -2,7 +2,6 @@
 -- once: what each moment of each run keeps, and the row that stands.
 use Rattle.std.proofs.Common.{arith, ◌≡◌, ℕ, suc, ◌<◌, ◌⊎◌, inl, inr, Option, Some, List, ◌++◌, map, refl, sym, ◌∙◌, ap, subst, AllPairs, All}
 use Rattle.std.proofs.lemmas.List.Elements.{All-append, All-weaker, All-from_recursion, All-map, recursion_from_All}
-use Rattle.csm_grammar.specs.declared.message.Message.TheVariants as message
 use Rattle.party_tables.specs.declared.link.LinkKey.{LinkKey}
 use Rattle.party_tables.specs.declared.link.LinkRec.{LinkRec}
 use Rattle.party_tables.specs.Keys.{sends}

@@ -1,0 +1,17 @@
+pub mod CallEvents
+pub mod Others
+pub mod Reaching
+pub mod Calling
+pub mod Ending
+pub mod Loads
+pub mod Members
+pub mod Disks
+pub mod Found
+pub mod Stays
+pub mod Starts
+pub mod Later
+pub mod Example
+pub mod Left
+pub mod Led
+pub mod Called
+pub mod Session

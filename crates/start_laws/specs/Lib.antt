@@ -1,5 +1,0 @@
-pub mod SetUp
-pub mod Rules
-pub mod SettingUp
-pub mod Failing
-pub mod Deeds
