@@ -1,4 +1,3 @@
-pub mod Faults
 pub mod Audits
 pub mod Answers
 pub mod Laws

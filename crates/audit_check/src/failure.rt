@@ -1,5 +1,5 @@
 // Why an audit ends before its last line.
-use crate::fault::AuditFault;
+use audit_fault::AuditFault;
 use x_base::NoMemory;
 
 /// What was found wrong, or want of memory.

@@ -7,7 +7,6 @@ mod auditing;
 mod comparison;
 mod ending;
 mod failure;
-mod fault;
 mod input;
 mod laws;
 mod letters;
@@ -17,8 +16,8 @@ mod result;
 mod setting_up;
 mod state;
 
+pub use audit_fault::AuditFault;
 pub use auditing::audit;
-pub use fault::AuditFault;
 pub use input::{AuditInput, read_audit};
 pub use laws::{law_one_answer, law_runs_lawful};
 pub use result::{AuditResult, AuditTally};

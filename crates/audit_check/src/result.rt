@@ -1,5 +1,5 @@
 // What an audit answers.
-use crate::fault::AuditFault;
+use audit_fault::AuditFault;
 use course::Tally;
 
 /// The numbers of a scenario that was audited: those of a play.

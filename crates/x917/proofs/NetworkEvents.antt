@@ -20,10 +20,10 @@ use Rattle.x_party.specs.declared.outcome.Outcome.{Outcome}
 use Rattle.x_party.specs.declared.outcome.Outcome.TheVariants as outcome
 use Rattle.world_laws.specs.Events.{Action, Orders, Hears, Compacts, Migrates, IsAction, IsCommand}
 use Rattle.call_laws.specs.Calls.{IsCall, IsNamedCall, AnswersOther}
-use Rattle.x917.specs.declared.status.Status.{Status}
-use Rattle.x917.specs.Listening.{taken, IsHeard}
-use Rattle.x917.specs.Ends.{Ends}
-use Rattle.x917.specs.Obeys.{Obeys, IsPartyTurn, IsTaken}
+use Rattle.party_calls.specs.declared.status.Status.{Status}
+use Rattle.party_calls.specs.Listening.{taken, IsHeard}
+use Rattle.party_calls.specs.Ends.{Ends}
+use Rattle.party_calls.specs.Obeys.{Obeys, IsPartyTurn, IsTaken}
 use Rattle.x917.specs.Network.{IsNamedEvent, IsArrivalEvent, IsNetworkEvent}
 
 -- a value that an option gives

@@ -8,12 +8,13 @@ use Rattle.x_line.specs.declared.order.Order.TheVariants as order
 use Rattle.replay.specs.Playing.{Surroundings, around}
 use Rattle.replay.specs.declared.result.PlayResult.{PlayResult}
 use Rattle.replay.specs.declared.result.PlayResult.TheVariants as played
-use Rattle.x917.specs.declared.status.Status.{Status}
-use Rattle.x917.specs.declared.status.Status.TheVariants as status
+use Rattle.party_calls.specs.declared.status.Status.{Status}
+use Rattle.party_calls.specs.declared.status.Status.TheVariants as status
 use Rattle.x917.specs.Drilled.{IsDrill}
-use Rattle.x917.specs.Causes.{HasCause, IsSilent}
+use Rattle.party_calls.specs.Causes.{HasCause, IsSilent}
 use Rattle.x917.specs.Headline.{IsReplay, IsUnread, Says, status_of_play}
-use Rattle.x917.specs.Obeys.{IsSilentOf}
+use Rattle.party_calls.specs.Obeys.{ExpectsCall}
+use Rattle.x917.specs.Expects.{Expects, IsSilentOf}
 
 -- ---- the status of what became of a scenario
 
@@ -109,3 +110,11 @@ module _ (read reads put puts disk disks : ℕ) where
 pub silent_of : (o : Order) (s : Status) → (o ≡ order.Replay → ⊥) → IsSilentOf o s → IsSilent s
 silent_of order.Replay s replay silent = absurd (replay refl)
 silent_of o s replay silent = silent
+
+-- what is due of an order that plays no scenario
+pub expects_of : (o : Order) (moment : ℕ) (left : Option (List ℕ)) (old : List ℕ → View) (s : Status) → (o ≡ order.Replay → ⊥) → (o ≡ order.Audit → ⊥) → ((seed events : ℕ) → o ≡ order.Drill seed events → ⊥)
+    → ExpectsCall o moment left old s → Expects o moment left old s
+expects_of order.Replay moment left old s replay audit drill due = absurd (replay refl)
+expects_of order.Audit moment left old s replay audit drill due = absurd (audit refl)
+expects_of (order.Drill seed events) moment left old s replay audit drill due = absurd (drill seed events refl)
+expects_of o moment left old s replay audit drill due = due

@@ -7,18 +7,15 @@ use Rattle.course.specs.declared.tally.Tally.{Tally}
 use Rattle.audit_check.specs.Answers.{IsAudited, IsFault}
 use Rattle.audit_check.specs.Inputs.{IsBadInput, IsAuditInput}
 use Rattle.audit_check.specs.Parts.{Parts}
-use Rattle.audit_check.specs.declared.fault.AuditFault.{AuditFault}
-use Rattle.audit_check.specs.declared.fault.AuditFault.TheVariants.{Forged}
+use Rattle.audit_fault.specs.declared.fault.AuditFault.{AuditFault}
+use Rattle.audit_fault.specs.declared.fault.AuditFault.TheVariants.{Forged}
 use Rattle.audit_check.specs.declared.result.AuditResult.{AuditResult}
 use Rattle.audit_check.specs.declared.result.AuditResult.TheVariants as answer
-use Rattle.x917.specs.declared.status.Refusal.TheVariants.{Audit}
-use Rattle.x917.specs.declared.status.Status.{Status}
-use Rattle.x917.specs.declared.status.Status.TheVariants as status
-use Rattle.x917.specs.Playable.{IsOrNoMemory}
-
--- how many bytes of an input are taken at most: one more than it may have
-abbrev pub audit_limit : ℕ
-audit_limit = 67108865
+use Rattle.party_calls.specs.declared.status.Refusal.TheVariants.{Audit}
+use Rattle.party_calls.specs.declared.status.Status.{Status}
+use Rattle.party_calls.specs.declared.status.Status.TheVariants as status
+use Rattle.party_calls.specs.Dues.{IsOrNoMemory}
+use Rattle.party_calls.specs.Obeys.{audit_limit}
 
 -- the bytes of a source that are taken
 abbrev pub audit_taken : List ℕ → List ℕ

@@ -19,9 +19,9 @@ use Rattle.course.specs.Starts.{start_course, start_world}
 use Rattle.course.specs.Transcript.{show_lines}
 use Rattle.replay.specs.declared.result.PlayResult.{PlayResult}
 use Rattle.replay.specs.declared.result.PlayResult.TheVariants as played
-use Rattle.x917.specs.declared.status.Refusal.TheVariants.{Decided}
-use Rattle.x917.specs.declared.status.Status.{Status}
-use Rattle.x917.specs.declared.status.Status.TheVariants as status
+use Rattle.party_calls.specs.declared.status.Refusal.TheVariants.{Decided}
+use Rattle.party_calls.specs.declared.status.Status.{Status}
+use Rattle.party_calls.specs.declared.status.Status.TheVariants as status
 
 -- ---- the playing of a scenario
 
@@ -139,10 +139,6 @@ status_of_play (played.Damaged place) = status.Damaged place
 status_of_play played.NoMemory = status.NoMemory
 
 -- ---- the scenario that is read
-
--- how many bytes of a scenario are taken at most: one more than it may have
-abbrev pub scenario_limit : ℕ
-scenario_limit = 16777217
 
 -- the source was read to its end, and its bytes are a scenario with these lines
 abbrev pub ReadsScenario : Option (List ℕ) → Option (List ℕ) → List Line → Type 0

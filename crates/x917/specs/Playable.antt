@@ -11,14 +11,11 @@ use Rattle.course.specs.Lines.{IsForgedIn}
 use Rattle.replay.specs.SettingUp.{AllReadBlank, AllTell}
 use Rattle.course.specs.Parties.{parties_in}
 use Rattle.course.specs.Starts.{start_course}
-use Rattle.x917.specs.declared.status.Refusal.TheVariants.{Decided}
-use Rattle.x917.specs.declared.status.Status.{Status}
-use Rattle.x917.specs.declared.status.Status.TheVariants as status
-use Rattle.x917.specs.Transfer.{IsQuiet}
-
--- the status is this one, or no memory was left
-abbrev pub IsOrNoMemory : Status → Status → Type 0
-IsOrNoMemory s due = (s ≡ due) ⊎ (s ≡ status.NoMemory)
+use Rattle.party_calls.specs.declared.status.Refusal.TheVariants.{Decided}
+use Rattle.party_calls.specs.declared.status.Status.{Status}
+use Rattle.party_calls.specs.declared.status.Status.TheVariants as status
+use Rattle.party_calls.specs.Transfer.{IsQuiet}
+use Rattle.party_calls.specs.Dues.{IsOrNoMemory}
 
 -- whichever outcomes the stopped events have, no event of the scenario is forged
 abbrev pub IsHonest : List Line → Type 0

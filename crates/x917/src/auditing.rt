@@ -1,15 +1,15 @@
 // A transcript is audited.
 ghost use Rattle.std.specs.Prelude.{◌≡◌, ◌≢◌, ◌⊎◌, Err, IfSome, Result};
 ghost use Rattle.course.specs.declared.tally.Tally.{Tally};
-ghost use Rattle.x917.specs.Transfer.{GivesOutput, IsQuiet, TakesInput};
-ghost use Rattle.x917.specs.Causes.{IsSilent};
-ghost use Rattle.x917.specs.declared.status.Status.{Status as TheStatus};
-ghost use Rattle.x917.specs.Audited.{ExpectsAudit, IsAudit, IsFound, audit_limit, audit_taken, found_of, status_of_fault};
+ghost use Rattle.party_calls.specs.Transfer.{GivesOutput, IsQuiet, TakesInput};
+ghost use Rattle.party_calls.specs.Causes.{IsSilent};
+ghost use Rattle.party_calls.specs.declared.status.Status.{Status as TheStatus};
+ghost use Rattle.party_calls.specs.Obeys.{audit_limit};
+ghost use Rattle.x917.specs.Audited.{ExpectsAudit, IsAudit, IsFound, audit_taken, found_of, status_of_fault};
 
-use crate::status::{Refusal, Status};
-use crate::transfer::{GatherError, gather};
 use audit_check::{AuditFault, AuditResult, AuditTally, audit, read_audit};
 use course::summary;
+use party_calls::{GatherError, Refusal, Status, gather};
 use scenario::ScenarioFault;
 use std::alloc::Global;
 use x_base::{Sink, Source, put_all};

@@ -2,26 +2,14 @@
 #![tactic(auto)]
 
 mod auditing;
-mod checking;
-mod comparing;
 mod courses;
 mod drilling;
-mod entering;
-mod entering_mirrored;
-mod finish;
 mod helping;
-mod listening;
-mod mirrored;
 mod notice;
-mod party_command;
-mod payments;
 mod replaying;
-mod spooling;
-mod status;
 mod top;
-mod transfer;
 
-use crate::status::{Status, exit_code, status_line};
+use party_calls::{Status, exit_code, status_line};
 use std::alloc::AllocGlobal;
 use std::fs::OpenOptions;
 use std::io::Write;

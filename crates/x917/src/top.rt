@@ -1,97 +1,34 @@
 // The top call.
-ghost use Rattle.std.specs.Prelude.{◌≡◌, ℕ, List, Option, None, true};
+ghost use Rattle.std.specs.Prelude.{◌≡◌, ℕ, List, Option, None};
 ghost use Rattle.x_line.specs.Orders.{IsGiven, IsMirrored, IsOrder, is_telling};
 ghost use Rattle.x_line.specs.declared.order.Order.{Order};
 ghost use Rattle.x_line.specs.declared.order.Order.TheVariants.{Audit, Replay, Drill};
-ghost use Rattle.x917.specs.Transfer.{TookAtMost, IsQuiet};
-ghost use Rattle.x917.specs.Causes.{HasCause, HasFaults, IsSilent};
+ghost use Rattle.party_calls.specs.Transfer.{TookAtMost, IsQuiet};
+ghost use Rattle.party_calls.specs.Causes.{HasCause, HasFaults};
+ghost use Rattle.party_calls.specs.Notice.{LeavesNotice};
+ghost use Rattle.party_calls.specs.Obeys.{Obeys, IsWithin, LeavesOthers, most_of};
+ghost use Rattle.party_calls.specs.Mirrored.{LeavesMirrored, ObeysMirrored};
 ghost use Rattle.x917.specs.Audited.{IsAudit};
 ghost use Rattle.x917.specs.Headline.{IsReplay};
 ghost use Rattle.x917.specs.Helped.{Helps};
-ghost use Rattle.x917.specs.Notice.{LeavesNotice};
 ghost use Rattle.x917.specs.Drilled.{IsDrill};
-ghost use Rattle.x917.specs.Obeys.{Obeys, Expects, IsWithin, LeavesOthers, JudgesWords, IsSilentOf, is_tended, most_of};
-ghost use Rattle.x917.specs.Mirrored.{LeavesMirrored, ObeysMirrored};
+ghost use Rattle.x917.specs.Expects.{Expects, JudgesWords, IsSilentOf};
 ghost use Rattle.x917.specs.Network.{IsNetworkEvent};
 
 use crate::auditing::audit_all;
-use crate::checking::check;
-use crate::comparing::compare;
 use crate::drilling::drill_all;
-use crate::entering::{create, enter};
-use crate::finish::{finish, finish_payment};
 use crate::helping::help_or_fault;
-use crate::listening::listen;
-use crate::mirrored::carry_out_mirrored;
 use crate::notice::carry_out_with_notice;
-use crate::party_command::command_of;
-use crate::payments::accept;
 use crate::replaying::replay_all;
-use crate::spooling::{batch, outbox, spool};
-use crate::status::Status;
 use call_laws::law_calls;
-use csm_feed::law_one_hearing;
-use party_state::Input;
-use party_tables::LinkKey;
+use party_calls::{Status, carry_out_mirrored, obey};
 use std::alloc::Global;
 use x_base::{Sink, Source, Text, Words};
 use x_disk::{MemoryShelf, Shelf};
-use x_gen::Gen;
 use x_line::{
     LineFault, Order, law_few_events, law_ledger_apart, law_mirror_apart, law_one_order,
     law_spool_apart, read_order,
 };
-
-/// Begins, shows, compares or looks after the file of a party, pays out of it, or looks at a spool, as an order says.
-fn tend<K: Sink, H: Shelf>(alloc: Global, order: &Order, sink: &mut K, shelf: &mut H) -> Status
-    requires tended { is_tended order.now ≡ true }
-    requires within { IsWithin order.now }
-    ensures obeys { (moment : ℕ) (left : Option (List ℕ)) → Obeys order.now moment result left left (K.written sink.old) (K.written sink.new) (H.entry shelf.old) (H.entry shelf.new) }
-    ensures expects { (moment : ℕ) (left : Option (List ℕ)) → IsQuiet (K.faults sink.old) (K.faults sink.new) → IsQuiet (H.faults shelf.old) (H.faults shelf.new)
-        → Expects order.now moment left (H.entry shelf.old) result }
-    ensures others { LeavesOthers order.now result (H.is_back shelf.new) (Unit {0}) (H.entry shelf.old) (H.entry shelf.new) }
-    ensures cause { (read reads : ℕ) → HasCause result read reads (K.faults sink.old) (K.faults sink.new) (H.faults shelf.old) (H.faults shelf.new) }
-    ensures silent { IsSilent result → sink.new ≡ sink.old }
-{
-    match *order {
-        Order::Init {
-            party,
-            role,
-            key,
-            v,
-        } => {
-            let outcome = x_party::create(alloc, shelf, party, role, Gen { key, v });
-            finish(sink, outcome, b"")
-        }
-        Order::Show { party } => finish(sink, x_party::show(alloc, shelf, &party), b""),
-        Order::Value {
-            party,
-            peer,
-            label,
-            side,
-        } => {
-            let key = LinkKey { peer, label, side };
-            let outcome = x_party::value(alloc, shelf, &party, key);
-            finish(sink, outcome, b"\n")
-        }
-        Order::Compact { party } => finish(sink, x_party::compact(alloc, shelf, &party), b""),
-        Order::Migrate { party } => finish(sink, x_party::migrate(alloc, shelf, &party), b""),
-        Order::Wipe { party } => finish(sink, x_party::wipe(alloc, shelf, &party), b""),
-        Order::Compare { party, mirror } => compare(alloc, sink, shelf, &party, &mirror),
-        Order::Pay {
-            party,
-            peer,
-            name,
-            ledger,
-            amount,
-        } => {
-            let outcome = x_pay::pay(alloc, shelf, &party, &peer, &name, &ledger, amount);
-            finish_payment(sink, outcome)
-        }
-        Order::Outbox { spool } => outbox(alloc, sink, shelf, &spool),
-        _ => unreachable!(),
-    }
-}
 
 /// Does what an order says.
 pub(crate) fn carry_out<S: Source, K: Sink, H: Shelf>(
@@ -115,41 +52,11 @@ pub(crate) fn carry_out<S: Source, K: Sink, H: Shelf>(
         → IsDrill ⟦<MemoryShelf as Shelf>⟧.entry seed events result (K.written sink.old) (K.written sink.new) × (source.new ≡ source.old) × (shelf.new ≡ shelf.old) }
     ensures audits { order ≡ Audit → IsAudit result (S.left source.old) (S.left source.new) (K.written sink.old) (K.written sink.new) × (shelf.new ≡ shelf.old) }
 {
-    law_one_hearing();
     match order {
-        Order::Check => check(alloc, source, sink),
         Order::Replay => replay_all(alloc, source, sink, shelf),
         Order::Audit => audit_all(alloc, source, sink),
         Order::Drill { seed, events } => drill_all(alloc, seed, events, sink),
-        Order::Take { party } => match listen(alloc, source) {
-            Ok(arrival) => {
-                let input = Input::Arrived(arrival);
-                let outcome = x_party::turn(alloc, shelf, &party, &input, moment);
-                finish(sink, outcome, b"\n")
-            }
-            Err(status) => status,
-        },
-        Order::Accept { party, ledger } => accept(alloc, source, sink, shelf, &party, &ledger),
-        Order::Batch => batch(alloc, moment, source, sink),
-        Order::Spool { party, spool: name } => spool(alloc, source, sink, shelf, &party, &name),
-        Order::Create { party, role } => create(alloc, source, sink, shelf, party, role),
-        Order::Enter {
-            party,
-            peer,
-            label,
-            side,
-        } => {
-            let key = LinkKey { peer, label, side };
-            enter(alloc, source, sink, shelf, &party, key, moment)
-        }
-        _ => match command_of(order) {
-            Some(given) => {
-                let input = Input::Ordered(given.command);
-                let outcome = x_party::turn(alloc, shelf, &given.party, &input, moment);
-                finish(sink, outcome, b"\n")
-            }
-            None => tend(alloc, &order, sink, shelf),
-        },
+        _ => obey(alloc, order, moment, source, sink, shelf),
     }
 }
 

@@ -1,10 +1,11 @@
 use Rattle.std.proofs.Common.{◌≡◌, ◌∙◌, List, ℕ, Option, true, sym, subst}
-use Rattle.x917.specs.Transfer.{TookAtMost}
+use Rattle.party_calls.specs.Transfer.{TookAtMost}
 use Rattle.x_line.specs.declared.order.Order.{Order}
 use Rattle.x_line.specs.declared.order.Order.TheVariants as order
-use Rattle.x917.specs.Notice.{LeavesNotice}
-use Rattle.x917.specs.Obeys.{Expects, IsSilentOf, LeavesOthers, Obeys, most_of}
-use Rattle.x917.proofs.Noticing.{none_left}
+use Rattle.party_calls.specs.Notice.{LeavesNotice}
+use Rattle.party_calls.specs.Obeys.{LeavesOthers, Obeys, most_of}
+use Rattle.x917.specs.Expects.{Expects, IsSilentOf}
+use Rattle.party_calls.proofs.Noticing.{none_left}
 use Rattle.x917.proofs.notice.carry_out_with_notice.Goals as goal
 
 pub take_with_notice-requires : goal.take_with_notice-requires

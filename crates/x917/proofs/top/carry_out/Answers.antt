@@ -1,43 +1,14 @@
-use Rattle.std.proofs.Common.{◌≡◌, ◌∙◌, true, false, Some, [], ◌∷◌, inl, inr, refl, sym, ap, subst}
+use Rattle.std.proofs.Common.{◌≡◌, ◌∙◌, refl, sym, subst}
 use Rattle.x_disk.specs.Shelf.{alike_refl}
-use Rattle.party_state.specs.declared.command.Input.TheVariants.{Arrived, Ordered}
 use Rattle.x_line.specs.declared.order.Order.{Order}
 use Rattle.x_line.specs.declared.order.Order.TheVariants as order
-use Rattle.x_party.specs.Dues.{IsDue}
-use Rattle.x917.specs.Transfer.{TookAtMost}
-use Rattle.x917.specs.Obeys.{Obeys, Expects, IsPartyTurn, LeavesOthers, IsSilentOf, IsWithin, command_of, is_reading, ledger_of, most_of, party_of}
-use Rattle.x917.proofs.Arriving.{follows_heard, follows_unheard, none_told}
+use Rattle.party_calls.specs.Transfer.{TookAtMost}
+use Rattle.party_calls.specs.Obeys.{Obeys, LeavesOthers, IsWithin, most_of}
+use Rattle.party_calls.proofs.Orders.{took_nothing}
+use Rattle.x917.specs.Expects.{Expects, IsSilentOf}
 use Rattle.x917.proofs.Audits.{cause_audited}
-use Rattle.x917.proofs.Orders.{cause_checked, cause_unheard, expects_command, finished, is_party, no_ledger, obeys_command, tended_of, took_nothing}
-use Rattle.x917.proofs.Paying.{cause_accepted, leaves_two}
-use Rattle.x917.proofs.Played.{cause_played, cause_drilled, silent_of}
-use Rattle.x917.proofs.Inboxes.{cause_made}
-use Rattle.x917.proofs.BatchEnds.{cause_batched}
+use Rattle.x917.proofs.Played.{cause_played, cause_drilled, expects_of, silent_of}
 use Rattle.x917.proofs.top.carry_out.Goals as goal
-
-pub returns-in-Check : goal.returns-in-Check
-returns-in-Check g c =
-    let is = c.in-Check.is in
-    let r = c.check.ensures in
-    let s = c.check.result in
-    let left = g.S.Source.left c.args.source.now in
-    let rest = g.S.Source.left c.check.new.source in
-    let before = g.K.Sink.written c.args.sink.now in
-    let after = g.K.Sink.written c.check.new.sink in
-    let entry = g.H.Shelf.entry c.args.shelf.now in
-    record {
-      obeys = subst (λ (o : Order). Obeys o c.args.moment s left rest before after entry entry) (sym is) r.checked;
-      expects = λ read_quiet put_quiet disk_quiet. subst (λ (o : Order). Expects o c.args.moment left entry s) (sym is) (r.exact read_quiet put_quiet);
-      others = subst (λ (o : Order). LeavesOthers o s (g.H.Shelf.is_back c.args.shelf.now) (c.check.new.source ≡ c.args.source.now) entry entry) (sym is)
-          (record { back = λ of. tt; ledger_back = λ of. tt; others = λ playing name. alike_refl (entry name); unread = λ reading. absurd (cc reading) });
-      cause = cause_checked (g.S.Source.faults c.args.source.now) (g.S.Source.faults c.check.new.source) (g.K.Sink.faults c.args.sink.now) (g.K.Sink.faults c.check.new.sink)
-          (g.H.Shelf.faults c.args.shelf.now) (g.H.Shelf.faults c.args.shelf.now) s left rest before after r.checked r.input.fault r.output.fault;
-      silent = λ silent. r.output.silent (subst (λ (o : Order). IsSilentOf o s) is silent);
-      most = subst (λ (o : Order). TookAtMost (most_of o) left rest) (sym is) r.input.most;
-      replays = λ same. (let no : order.Check ≡ order.Replay = sym is ∙ same in absurd cc);
-      drills = λ seed events same. (let no : order.Check ≡ order.Drill seed events = sym is ∙ same in absurd cc);
-      audits = λ same. (let no : order.Check ≡ order.Audit = sym is ∙ same in absurd cc);
-    }
 
 pub returns-in-Replay : goal.returns-in-Replay
 returns-in-Replay g c =
@@ -122,254 +93,31 @@ returns-in-Audit g c =
       audits = λ same. (r.audits, refl);
     }
 
-pub returns-in-Ok : goal.returns-in-Ok
-returns-in-Ok g c =
-    let is = c.in-Take.is in
-    let party = c.in-Take.party in
-    let r = c.turn-outcome.ensures in
-    let f = c.finish.ensures in
-    let s = c.finish.result in
-    let i = Arrived c.in-Ok.arrival in
-    let left = g.S.Source.left c.args.source.now in
-    let rest = g.S.Source.left c.listen.new.source in
-    let before = g.K.Sink.written c.args.sink.now in
-    let after = g.K.Sink.written c.finish.new.sink in
-    let old = g.H.Shelf.entry c.args.shelf.now in
-    let new = g.H.Shelf.entry c.turn-outcome.new.shelf in
-    let done = finished c.args.order party s (g.H.Shelf.is_back c.turn-outcome.new.shelf) (c.listen.new.source ≡ c.args.source.now) old new c.turn-outcome.result (10 ∷ []) before after
-    (IsDue party i c.args.moment) (g.K.Sink.faults c.args.sink.now) (g.K.Sink.faults c.finish.new.sink) (g.H.Shelf.faults c.args.shelf.now) (g.H.Shelf.faults c.turn-outcome.new.shelf)
-    (ap party_of is) (ap ledger_of is) f.ends f.answered f.output.fault r.due r.shelf (λ reading. (let e : is_reading c.args.order ≡ true = ap is_reading is in let no : true ≡ false = sym e ∙ reading in absurd cc)) in
-    let turned : IsPartyTurn party i c.args.moment (old party) (new party) s before after = record { outcome = c.turn-outcome.result; turned = r.turned; safe = r.safe; ends = f.ends } in
-    record {
-      obeys = subst (λ (o : Order). Obeys o c.args.moment s left rest before after old new) (sym is) (inr (c.in-Ok.arrival, c.in-Ok.ensures.heard, turned));
-      expects = λ read_quiet put_quiet disk_quiet. subst (λ (o : Order). Expects o c.args.moment left old s) (sym is)
-          (follows_heard c.law_one_hearing.ensures left rest party (old party) c.args.moment s c.in-Ok.arrival c.in-Ok.ensures.heard (done.expects put_quiet disk_quiet));
-      others = done.others;
-      cause = done.cause (g.S.Source.faults c.args.source.now) (g.S.Source.faults c.listen.new.source);
-      silent = λ silent. f.output.silent (subst (λ (o : Order). IsSilentOf o s) is silent);
-      most = subst (λ (o : Order). TookAtMost (most_of o) left rest) (sym is) c.listen.ensures.most;
-      replays = λ same. (let no : order.Take party ≡ order.Replay = sym is ∙ same in absurd cc);
-      drills = λ seed events same. (let no : order.Take party ≡ order.Drill seed events = sym is ∙ same in absurd cc);
-      audits = λ same. (let no : order.Take party ≡ order.Audit = sym is ∙ same in absurd cc);
-    }
+pub obey-requires-clause-within : goal.obey-requires-clause-within
+obey-requires-clause-within g c = c.requires
 
-pub returns-in-Err : goal.returns-in-Err
-returns-in-Err g c =
-    let is = c.in-Take.is in
-    let party = c.in-Take.party in
-    let s = c.in-Err.status in
-    let unheard = c.in-Err.ensures.unheard in
-    let left = g.S.Source.left c.args.source.now in
-    let rest = g.S.Source.left c.listen.new.source in
-    let before = g.K.Sink.written c.args.sink.now in
-    let entry = g.H.Shelf.entry c.args.shelf.now in
-    let reads = g.S.Source.faults c.args.source.now in
-    let puts = g.K.Sink.faults c.args.sink.now in
-    let disks = g.H.Shelf.faults c.args.shelf.now in
-    record {
-      obeys = subst (λ (o : Order). Obeys o c.args.moment s left rest before before entry entry) (sym is) (inl (unheard, refl, alike_refl (entry party)));
-      expects = λ read_quiet put_quiet disk_quiet. subst (λ (o : Order). Expects o c.args.moment left entry s) (sym is)
-          (follows_unheard c.law_one_hearing.ensures left party (entry party) c.args.moment s reads (g.S.Source.faults c.listen.new.source) unheard c.in-Err.ensures.read_fault read_quiet);
-      others = subst (λ (o : Order). LeavesOthers o s (g.H.Shelf.is_back c.args.shelf.now) (c.listen.new.source ≡ c.args.source.now) entry entry) (sym is)
-          (record { back = λ of. absurd (none_told left s unheard of); ledger_back = λ of. tt; others = λ playing name apart. alike_refl (entry name); unread = λ reading. absurd (cc reading) });
-      cause = cause_unheard reads (g.S.Source.faults c.listen.new.source) puts puts disks disks left s unheard c.in-Err.ensures.read_fault;
-      silent = λ silent. refl;
-      most = subst (λ (o : Order). TookAtMost (most_of o) left rest) (sym is) c.listen.ensures.most;
-      replays = λ same. (let no : order.Take party ≡ order.Replay = sym is ∙ same in absurd cc);
-      drills = λ seed events same. (let no : order.Take party ≡ order.Drill seed events = sym is ∙ same in absurd cc);
-      audits = λ same. (let no : order.Take party ≡ order.Audit = sym is ∙ same in absurd cc);
-    }
+pub obey-requires-clause-replays : goal.obey-requires-clause-replays
+obey-requires-clause-replays g c = c.in_default.not-Replay
 
-pub accept-requires : goal.accept-requires
-accept-requires g c = subst IsWithin c.in-Accept.is c.requires
+pub obey-requires-clause-audits : goal.obey-requires-clause-audits
+obey-requires-clause-audits g c = c.in_default.not-Audit
 
-pub returns-in-Accept : goal.returns-in-Accept
-returns-in-Accept g c =
-    let is = c.in-Accept.is in
-    let party = c.in-Accept.party in
-    let ledger = c.in-Accept.ledger in
-    let r = c.accept.ensures in
-    let s = c.accept.result in
-    let left = g.S.Source.left c.args.source.now in
-    let rest = g.S.Source.left c.accept.new.source in
-    let before = g.K.Sink.written c.args.sink.now in
-    let after = g.K.Sink.written c.accept.new.sink in
-    let old = g.H.Shelf.entry c.args.shelf.now in
-    let new = g.H.Shelf.entry c.accept.new.shelf in
-    let put = g.K.Sink.faults c.args.sink.now in
-    let puts = g.K.Sink.faults c.accept.new.sink in
-    let disk = g.H.Shelf.faults c.args.shelf.now in
-    let disks = g.H.Shelf.faults c.accept.new.shelf in
-    record {
-      obeys = subst (λ (o : Order). Obeys o c.args.moment s left rest before after old new) (sym is) r.accepted;
-      expects = λ read_quiet put_quiet disk_quiet. subst (λ (o : Order). Expects o c.args.moment left old s) (sym is) (r.follows read_quiet put_quiet disk_quiet);
-      others = leaves_two c.args.order party ledger s (g.H.Shelf.is_back c.accept.new.shelf) (c.accept.new.source ≡ c.args.source.now) (c.accept.new.sink ≡ c.args.sink.now) old new put puts disk disks
-          (ap party_of is) (ap ledger_of is) r.rest (λ reading. (let e : is_reading c.args.order ≡ true = ap is_reading is in let no : true ≡ false = sym e ∙ reading in absurd cc));
-      cause = cause_accepted (g.S.Source.faults c.args.source.now) (g.S.Source.faults c.accept.new.source) put puts disk disks party ledger left rest old new s before after r.accepted
-          r.input.fault r.rest.write_fault r.rest.disk_fault;
-      silent = λ silent. r.rest.silent (subst (λ (o : Order). IsSilentOf o s) is silent);
-      most = subst (λ (o : Order). TookAtMost (most_of o) left rest) (sym is) r.input.most;
-      replays = λ same. (let no : order.Accept party ledger ≡ order.Replay = sym is ∙ same in absurd cc);
-      drills = λ seed events same. (let no : order.Accept party ledger ≡ order.Drill seed events = sym is ∙ same in absurd cc);
-      audits = λ same. (let no : order.Accept party ledger ≡ order.Audit = sym is ∙ same in absurd cc);
-    }
+pub obey-requires-clause-drills : goal.obey-requires-clause-drills
+obey-requires-clause-drills g c = c.in_default.not-Drill
 
-pub returns-in-Create : goal.returns-in-Create
-returns-in-Create g c =
-    let is = c.in-Create.is in
-    let r = c.create.ensures in
-    let s = c.create.result in
-    let left = g.S.Source.left c.args.source.now in
-    let rest = g.S.Source.left c.create.new.source in
-    let before = g.K.Sink.written c.args.sink.now in
-    let after = g.K.Sink.written c.create.new.sink in
-    let old = g.H.Shelf.entry c.args.shelf.now in
-    let new = g.H.Shelf.entry c.create.new.shelf in
+pub returns-in_default : goal.returns-in_default
+returns-in_default g c =
+    let o = c.args.order in
+    let s = c.obey.result in
+    let r = c.obey.ensures in
     record {
-      obeys = subst (λ (o : Order). Obeys o c.args.moment s left rest before after old new) (sym is) (r.obeys c.args.moment);
-      expects = λ read_quiet put_quiet disk_quiet. subst (λ (o : Order). Expects o c.args.moment left old s) (sym is) (r.expects c.args.moment read_quiet put_quiet disk_quiet);
-      others = subst (λ (o : Order). LeavesOthers o s (g.H.Shelf.is_back c.create.new.shelf) (c.create.new.source ≡ c.args.source.now) old new) (sym is) r.others;
+      obeys = r.obeys;
+      expects = λ read_quiet put_quiet disk_quiet. expects_of o c.args.moment (g.S.Source.left c.args.source.now) (g.H.Shelf.entry c.args.shelf.now) s
+          c.in_default.not-Replay c.in_default.not-Audit c.in_default.not-Drill (r.expects read_quiet put_quiet disk_quiet);
+      others = r.others;
       cause = r.cause;
-      silent = λ silent. r.silent (subst (λ (o : Order). IsSilentOf o s) is silent);
-      most = subst (λ (o : Order). TookAtMost (most_of o) left rest) (sym is) r.most;
-      replays = λ same. (let no : order.Create c.in-Create.party c.in-Create.role ≡ order.Replay = sym is ∙ same in absurd cc);
-      drills = λ seed events same. (let no : order.Create c.in-Create.party c.in-Create.role ≡ order.Drill seed events = sym is ∙ same in absurd cc);
-      audits = λ same. (let no : order.Create c.in-Create.party c.in-Create.role ≡ order.Audit = sym is ∙ same in absurd cc);
-    }
-
-pub returns-in-Enter : goal.returns-in-Enter
-returns-in-Enter g c =
-    let is = c.in-Enter.is in
-    let r = c.enter.ensures in
-    let s = c.enter.result in
-    let left = g.S.Source.left c.args.source.now in
-    let rest = g.S.Source.left c.enter.new.source in
-    let before = g.K.Sink.written c.args.sink.now in
-    let after = g.K.Sink.written c.enter.new.sink in
-    let old = g.H.Shelf.entry c.args.shelf.now in
-    let new = g.H.Shelf.entry c.enter.new.shelf in
-    record {
-      obeys = subst (λ (o : Order). Obeys o c.args.moment s left rest before after old new) (sym is) r.obeys;
-      expects = λ read_quiet put_quiet disk_quiet. subst (λ (o : Order). Expects o c.args.moment left old s) (sym is) (r.expects read_quiet put_quiet disk_quiet);
-      others = subst (λ (o : Order). LeavesOthers o s (g.H.Shelf.is_back c.enter.new.shelf) (c.enter.new.source ≡ c.args.source.now) old new) (sym is) r.others;
-      cause = r.cause;
-      silent = λ silent. r.silent (subst (λ (o : Order). IsSilentOf o s) is silent);
-      most = subst (λ (o : Order). TookAtMost (most_of o) left rest) (sym is) r.most;
-      replays = λ same. (let no : order.Enter c.in-Enter.party c.in-Enter.peer c.in-Enter.label c.in-Enter.side ≡ order.Replay = sym is ∙ same in absurd cc);
-      drills = λ seed events same. (let no : order.Enter c.in-Enter.party c.in-Enter.peer c.in-Enter.label c.in-Enter.side ≡ order.Drill seed events = sym is ∙ same in absurd cc);
-      audits = λ same. (let no : order.Enter c.in-Enter.party c.in-Enter.peer c.in-Enter.label c.in-Enter.side ≡ order.Audit = sym is ∙ same in absurd cc);
-    }
-
-pub spool-requires : goal.spool-requires
-spool-requires g c = subst IsWithin c.in-Spool.is c.requires
-
-pub returns-in-Spool : goal.returns-in-Spool
-returns-in-Spool g c =
-    let is = c.in-Spool.is in
-    let party = c.in-Spool.party in
-    let name = c.in-Spool.name in
-    let r = c.spool.ensures in
-    let s = c.spool.result in
-    let left = g.S.Source.left c.args.source.now in
-    let rest = g.S.Source.left c.spool.new.source in
-    let before = g.K.Sink.written c.args.sink.now in
-    let after = g.K.Sink.written c.spool.new.sink in
-    let old = g.H.Shelf.entry c.args.shelf.now in
-    let new = g.H.Shelf.entry c.spool.new.shelf in
-    let put = g.K.Sink.faults c.args.sink.now in
-    let puts = g.K.Sink.faults c.spool.new.sink in
-    let disk = g.H.Shelf.faults c.args.shelf.now in
-    let disks = g.H.Shelf.faults c.spool.new.shelf in
-    record {
-      obeys = subst (λ (o : Order). Obeys o c.args.moment s left rest before after old new) (sym is) r.batched;
-      expects = λ read_quiet put_quiet disk_quiet. subst (λ (o : Order). Expects o c.args.moment left old s) (sym is) (r.follows read_quiet put_quiet disk_quiet);
-      others = leaves_two c.args.order party name s (g.H.Shelf.is_back c.spool.new.shelf) (c.spool.new.source ≡ c.args.source.now) (c.spool.new.sink ≡ c.args.sink.now) old new put puts disk disks
-          (ap party_of is) (ap ledger_of is) r.rest (λ reading. (let e : is_reading c.args.order ≡ true = ap is_reading is in let no : true ≡ false = sym e ∙ reading in absurd cc));
-      cause = cause_batched (g.S.Source.faults c.args.source.now) (g.S.Source.faults c.spool.new.source) put puts disk disks party name left rest old new s before after r.batched
-          r.input.fault r.rest.write_fault r.rest.disk_fault;
-      silent = λ silent. r.rest.silent (subst (λ (o : Order). IsSilentOf o s) is silent);
-      most = subst (λ (o : Order). TookAtMost (most_of o) left rest) (sym is) r.input.most;
-      replays = λ same. (let no : order.Spool party name ≡ order.Replay = sym is ∙ same in absurd cc);
-      drills = λ seed events same. (let no : order.Spool party name ≡ order.Drill seed events = sym is ∙ same in absurd cc);
-      audits = λ same. (let no : order.Spool party name ≡ order.Audit = sym is ∙ same in absurd cc);
-    }
-
-pub returns-in-Batch : goal.returns-in-Batch
-returns-in-Batch g c =
-    let is = c.in-Batch.is in
-    let r = c.batch.ensures in
-    let s = c.batch.result in
-    let left = g.S.Source.left c.args.source.now in
-    let rest = g.S.Source.left c.batch.new.source in
-    let before = g.K.Sink.written c.args.sink.now in
-    let after = g.K.Sink.written c.batch.new.sink in
-    let entry = g.H.Shelf.entry c.args.shelf.now in
-    record {
-      obeys = subst (λ (o : Order). Obeys o c.args.moment s left rest before after entry entry) (sym is) r.made;
-      expects = λ read_quiet put_quiet disk_quiet. subst (λ (o : Order). Expects o c.args.moment left entry s) (sym is) (r.follows read_quiet put_quiet);
-      others = subst (λ (o : Order). LeavesOthers o s (g.H.Shelf.is_back c.args.shelf.now) (c.batch.new.source ≡ c.args.source.now) entry entry) (sym is)
-          (record { back = λ of. tt; ledger_back = λ of. tt; others = λ playing name. alike_refl (entry name); unread = λ reading. absurd (cc reading) });
-      cause = cause_made (g.S.Source.faults c.args.source.now) (g.S.Source.faults c.batch.new.source) (g.K.Sink.faults c.args.sink.now) (g.K.Sink.faults c.batch.new.sink)
-          (g.H.Shelf.faults c.args.shelf.now) (g.H.Shelf.faults c.args.shelf.now) c.args.moment left rest s before after r.made r.input.fault r.output.fault;
-      silent = λ silent. r.output.silent (subst (λ (o : Order). IsSilentOf o s) is silent);
-      most = subst (λ (o : Order). TookAtMost (most_of o) left rest) (sym is) r.input.most;
-      replays = λ same. (let no : order.Batch ≡ order.Replay = sym is ∙ same in absurd cc);
-      drills = λ seed events same. (let no : order.Batch ≡ order.Drill seed events = sym is ∙ same in absurd cc);
-      audits = λ same. (let no : order.Batch ≡ order.Audit = sym is ∙ same in absurd cc);
-    }
-
-pub returns-in-Some : goal.returns-in-Some
-returns-in-Some g c =
-    let i = c.in-Some.is in
-    let e = c.command_of.ensures in
-    let is : command_of c.args.order ≡ Some c.in-Some.given = cc in
-    let t = c.in-Some.given in
-    let r = c.turn-outcome-in-Some.ensures in
-    let f = c.finish-in-Some.ensures in
-    let s = c.finish-in-Some.result in
-    let left = g.S.Source.left c.args.source.now in
-    let before = g.K.Sink.written c.args.sink.now in
-    let after = g.K.Sink.written c.finish-in-Some.new.sink in
-    let old = g.H.Shelf.entry c.args.shelf.now in
-    let new = g.H.Shelf.entry c.turn-outcome-in-Some.new.shelf in
-    let done = finished c.args.order t.party s (g.H.Shelf.is_back c.turn-outcome-in-Some.new.shelf) (c.args.source.now ≡ c.args.source.now) old new c.turn-outcome-in-Some.result (10 ∷ []) before after
-    (IsDue t.party (Ordered t.command) c.args.moment) (g.K.Sink.faults c.args.sink.now) (g.K.Sink.faults c.finish-in-Some.new.sink) (g.H.Shelf.faults c.args.shelf.now)
-    (g.H.Shelf.faults c.turn-outcome-in-Some.new.shelf) (is_party t c.args.moment s left left before after old new c.args.order is) (no_ledger t c.args.moment s left left before after old new c.args.order is) f.ends f.answered f.output.fault r.due r.shelf (λ reading. refl) in
-    let turned : IsPartyTurn t.party (Ordered t.command) c.args.moment (old t.party) (new t.party) s before after =
-    record { outcome = c.turn-outcome-in-Some.result; turned = r.turned; safe = r.safe; ends = f.ends } in
-    record {
-      obeys = obeys_command t c.args.moment s left left before after old new c.args.order is turned;
-      expects = λ read_quiet put_quiet disk_quiet. expects_command t c.args.moment s left left before after old new c.args.order is (done.expects put_quiet disk_quiet);
-      others = done.others;
-      cause = done.cause (g.S.Source.faults c.args.source.now) (g.S.Source.faults c.args.source.now);
-      silent = λ silent. f.output.silent (silent_of c.args.order s c.in_default.not-Replay silent);
-      most = took_nothing (most_of c.args.order) left;
-      replays = λ same. absurd (c.in_default.not-Replay same);
-      drills = λ seed events same. absurd (c.in_default.not-Drill seed events same);
-      audits = λ same. absurd (c.in_default.not-Audit same);
-    }
-
-pub tend-requires-clause-within : goal.tend-requires-clause-within
-tend-requires-clause-within g c = c.requires
-
-pub tend-requires-clause-tended : goal.tend-requires-clause-tended
-tend-requires-clause-tended g c =
-    let i = c.in-None.is in
-    let e = c.command_of.ensures in
-    tended_of c.args.order c.in_default.not-Check c.in_default.not-Replay c.in_default.not-Audit c.in_default.not-Drill c.in_default.not-Take c.in_default.not-Accept c.in_default.not-Create c.in_default.not-Enter c.in_default.not-Batch c.in_default.not-Spool cc
-
-pub returns-in-None : goal.returns-in-None
-returns-in-None g c =
-    let r = c.tend.ensures in
-    let left = g.S.Source.left c.args.source.now in
-    let reads = g.S.Source.faults c.args.source.now in
-    record {
-      obeys = r.obeys c.args.moment left;
-      expects = λ read_quiet put_quiet disk_quiet. r.expects c.args.moment left put_quiet disk_quiet;
-      others = record { back = r.others.back; ledger_back = r.others.ledger_back; others = r.others.others; unread = λ reading. refl };
-      cause = r.cause reads reads;
-      silent = λ silent. r.silent (silent_of c.args.order c.tend.result c.in_default.not-Replay silent);
-      most = took_nothing (most_of c.args.order) left;
+      silent = λ silent. r.silent (silent_of o s c.in_default.not-Replay silent);
+      most = r.most;
       replays = λ same. absurd (c.in_default.not-Replay same);
       drills = λ seed events same. absurd (c.in_default.not-Drill seed events same);
       audits = λ same. absurd (c.in_default.not-Audit same);

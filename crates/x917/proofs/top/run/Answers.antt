@@ -1,6 +1,6 @@
 use Rattle.std.proofs.Common.{◌≡◌, ◌∙◌, List, ℕ, Bool, Option, Some, None, Err, inl, inr, true, refl, sym, ap, subst}
 use Rattle.x_disk.specs.Shelf.{alike_refl}
-use Rattle.x917.specs.declared.status.Status.TheVariants as status
+use Rattle.party_calls.specs.declared.status.Status.TheVariants as status
 use Rattle.x_line.specs.declared.order.Order.{Order}
 use Rattle.x_line.specs.declared.order.Order.TheVariants as order
 use Rattle.x_line.specs.Line.{rows_of_line}
@@ -10,17 +10,18 @@ use Rattle.x_line.specs.declared.usage.LineFault.{LineFault}
 use Rattle.x_line.specs.declared.usage.LineFault.TheVariants as fault
 use Rattle.x_line.specs.declared.usage.UsageKind.{UsageKind}
 use Rattle.x_line.specs.declared.usage.UsageKind.TheVariants.{Line}
-use Rattle.x917.specs.Mirrored.{LeavesMirrored, ObeysMirrored}
-use Rattle.x917.specs.Notice.{LeavesNotice}
-use Rattle.x917.specs.Obeys.{Obeys, Expects, LeavesOthers, IsSilentOf, most_of}
-use Rattle.x917.specs.Transfer.{TookAtMost}
+use Rattle.party_calls.specs.Mirrored.{LeavesMirrored, ObeysMirrored}
+use Rattle.party_calls.specs.Notice.{LeavesNotice}
+use Rattle.party_calls.specs.Obeys.{Obeys, LeavesOthers, most_of}
+use Rattle.x917.specs.Expects.{Expects, IsSilentOf}
+use Rattle.party_calls.specs.Transfer.{TookAtMost}
 use Rattle.x917.proofs.Audits.{without_memory}
 use Rattle.x917.proofs.Forgetting.{forgets_order}
 use Rattle.x917.proofs.HelpWritten.{no_order}
-use Rattle.x917.proofs.Noticing.{none_without_memory}
-use Rattle.x917.proofs.Orders.{idle, leaves_all, faults_of, took_nothing, within_of}
+use Rattle.party_calls.proofs.Noticing.{none_without_memory}
+use Rattle.party_calls.proofs.Orders.{idle, leaves_all, faults_of, took_nothing, within_of}
 use Rattle.x917.proofs.Played.{silent_of}
-use Rattle.x917.proofs.Mirrors.{idle_mirrored, left_all, never_both, not_replay}
+use Rattle.party_calls.proofs.Mirrors.{idle_mirrored, left_all, never_both, not_replay}
 use Rattle.x917.proofs.NetworkEvents.{network_event}
 use Rattle.x917.proofs.top.run.Goals as goal
 

@@ -1,0 +1,14 @@
+mod Transfers
+mod Arrivals
+mod Decisions
+mod Endings
+mod Following
+mod Arriving
+mod Paying
+mod BatchEnds
+mod Inboxes
+pub mod Orders
+mod KeysEntered
+pub mod Noticing
+pub mod Mirrors
+mod Likening

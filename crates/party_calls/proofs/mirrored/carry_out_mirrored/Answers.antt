@@ -1,0 +1,211 @@
+use Rattle.std.proofs.Common.{◌≡◌, ◌∙◌, true, false, Some, None, [], ◌∷◌, inl, inr, refl, sym, ap, subst}
+use Rattle.x_disk.specs.Shelf.{alike_refl}
+use Rattle.party_state.specs.declared.command.Input.TheVariants.{Arrived}
+use Rattle.x_line.specs.declared.order.Order.{Order}
+use Rattle.x_line.specs.Orders.{IsOfTwo}
+use Rattle.x_pair.specs.Dues.{IsDueTurn}
+use Rattle.x_pair.specs.Outcomes.{turning}
+use Rattle.party_calls.specs.Transfer.{TookAtMost}
+use Rattle.party_calls.specs.Mirrored.{IsPairCall, LeavesMirrored, ObeysMirrored}
+use Rattle.party_calls.specs.Obeys.{command_of, is_reading, most_of, party_of}
+use Rattle.party_calls.proofs.Arriving.{none_told}
+use Rattle.party_calls.proofs.Mirrors.{apart_of, commands_of_two, finished_of_two, left_all, obeys_mirrored}
+use Rattle.party_calls.proofs.Orders.{cause_unheard, is_party, took_nothing}
+use Rattle.party_calls.proofs.mirrored.carry_out_mirrored.Goals as goal
+
+pub create_pair-outcome-requires : goal.create_pair-outcome-requires
+create_pair-outcome-requires g c = subst (λ (o : Order). IsOfTwo o c.args.mirror.now) c.in-Init.is c.requires
+
+pub show_pair-outcome-requires : goal.show_pair-outcome-requires
+show_pair-outcome-requires g c = subst (λ (o : Order). IsOfTwo o c.args.mirror.now) c.in-Show.is c.requires
+
+pub turn_pair-outcome-requires : goal.turn_pair-outcome-requires
+turn_pair-outcome-requires g c = subst (λ (o : Order). IsOfTwo o c.args.mirror.now) c.in-Take.is c.requires
+
+pub turn_pair-outcome-requires-in-Some : goal.turn_pair-outcome-requires-in-Some
+turn_pair-outcome-requires-in-Some g c =
+    let i = c.in-Some.is in
+    let e = c.command_of.ensures in
+    let is : command_of c.args.order ≡ Some c.in-Some.given = cc in
+    apart_of c.args.order c.args.mirror.now c.in-Some.given c.requires is
+
+pub returns-in-Init : goal.returns-in-Init
+returns-in-Init g c =
+    let is = c.in-Init.is in
+    let party = c.in-Init.party in
+    let mirror = c.args.mirror.now in
+    let r = c.create_pair-outcome.ensures in
+    let f = c.finish.ensures in
+    let s = c.finish.result in
+    let left = g.S.Source.left c.args.source.now in
+    let reads = g.S.Source.faults c.args.source.now in
+    let before = g.K.Sink.written c.args.sink.now in
+    let after = g.K.Sink.written c.finish.new.sink in
+    let old = g.H.Shelf.entry c.args.shelf.now in
+    let new = g.H.Shelf.entry c.create_pair-outcome.new.shelf in
+    let done = finished_of_two c.args.order party mirror s (g.H.Shelf.is_back c.create_pair-outcome.new.shelf) (c.args.source.now ≡ c.args.source.now) old new c.create_pair-outcome.result [] before after
+    (g.K.Sink.faults c.args.sink.now) (g.K.Sink.faults c.finish.new.sink) (g.H.Shelf.faults c.args.shelf.now) (g.H.Shelf.faults c.create_pair-outcome.new.shelf)
+    (ap party_of is) f.ends f.answered f.output.fault r.shelf (λ reading. refl) in
+    record {
+      obeys = subst (λ (o : Order). ObeysMirrored o mirror c.args.moment s left left before after old new) (sym is)
+          (record { outcome = c.create_pair-outcome.result; created = r.created; due = r.due; safe = r.safe; ends = f.ends });
+      others = done.others;
+      cause = done.cause reads reads;
+      silent = f.output.silent;
+      most = took_nothing (most_of c.args.order) left;
+    }
+
+pub create_mirrored-requires : goal.create_mirrored-requires
+create_mirrored-requires g c = subst (λ (o : Order). IsOfTwo o c.args.mirror.now) c.in-Create.is c.requires
+
+pub returns-in-Create : goal.returns-in-Create
+returns-in-Create g c =
+    let is = c.in-Create.is in
+    let mirror = c.args.mirror.now in
+    let r = c.create_mirrored.ensures in
+    let s = c.create_mirrored.result in
+    let left = g.S.Source.left c.args.source.now in
+    let rest = g.S.Source.left c.create_mirrored.new.source in
+    let before = g.K.Sink.written c.args.sink.now in
+    let after = g.K.Sink.written c.create_mirrored.new.sink in
+    let old = g.H.Shelf.entry c.args.shelf.now in
+    let new = g.H.Shelf.entry c.create_mirrored.new.shelf in
+    record {
+      obeys = subst (λ (o : Order). ObeysMirrored o mirror c.args.moment s left rest before after old new) (sym is) (r.obeys c.args.moment);
+      others = subst (λ (o : Order). LeavesMirrored o mirror s (g.H.Shelf.is_back c.create_mirrored.new.shelf) (c.create_mirrored.new.source ≡ c.args.source.now) old new) (sym is) r.others;
+      cause = r.cause;
+      silent = r.silent;
+      most = subst (λ (o : Order). TookAtMost (most_of o) left rest) (sym is) r.most;
+    }
+
+pub enter_mirrored-requires : goal.enter_mirrored-requires
+enter_mirrored-requires g c = subst (λ (o : Order). IsOfTwo o c.args.mirror.now) c.in-Enter.is c.requires
+
+pub returns-in-Enter : goal.returns-in-Enter
+returns-in-Enter g c =
+    let is = c.in-Enter.is in
+    let mirror = c.args.mirror.now in
+    let r = c.enter_mirrored.ensures in
+    let s = c.enter_mirrored.result in
+    let left = g.S.Source.left c.args.source.now in
+    let rest = g.S.Source.left c.enter_mirrored.new.source in
+    let before = g.K.Sink.written c.args.sink.now in
+    let after = g.K.Sink.written c.enter_mirrored.new.sink in
+    let old = g.H.Shelf.entry c.args.shelf.now in
+    let new = g.H.Shelf.entry c.enter_mirrored.new.shelf in
+    record {
+      obeys = subst (λ (o : Order). ObeysMirrored o mirror c.args.moment s left rest before after old new) (sym is) r.obeys;
+      others = subst (λ (o : Order). LeavesMirrored o mirror s (g.H.Shelf.is_back c.enter_mirrored.new.shelf) (c.enter_mirrored.new.source ≡ c.args.source.now) old new) (sym is) r.others;
+      cause = r.cause;
+      silent = r.silent;
+      most = subst (λ (o : Order). TookAtMost (most_of o) left rest) (sym is) r.most;
+    }
+
+pub returns-in-Show : goal.returns-in-Show
+returns-in-Show g c =
+    let is = c.in-Show.is in
+    let party = c.in-Show.party in
+    let mirror = c.args.mirror.now in
+    let r = c.show_pair-outcome.ensures in
+    let f = c.finish-in-Show.ensures in
+    let s = c.finish-in-Show.result in
+    let left = g.S.Source.left c.args.source.now in
+    let reads = g.S.Source.faults c.args.source.now in
+    let before = g.K.Sink.written c.args.sink.now in
+    let after = g.K.Sink.written c.finish-in-Show.new.sink in
+    let old = g.H.Shelf.entry c.args.shelf.now in
+    let new = g.H.Shelf.entry c.show_pair-outcome.new.shelf in
+    let done = finished_of_two c.args.order party mirror s (g.H.Shelf.is_back c.show_pair-outcome.new.shelf) (c.args.source.now ≡ c.args.source.now) old new c.show_pair-outcome.result [] before after
+    (g.K.Sink.faults c.args.sink.now) (g.K.Sink.faults c.finish-in-Show.new.sink) (g.H.Shelf.faults c.args.shelf.now) (g.H.Shelf.faults c.show_pair-outcome.new.shelf)
+    (ap party_of is) f.ends f.answered f.output.fault r.shelf (λ reading. refl) in
+    record {
+      obeys = subst (λ (o : Order). ObeysMirrored o mirror c.args.moment s left left before after old new) (sym is)
+          (record { outcome = c.show_pair-outcome.result; made = r.shown; due = r.due; safe = r.safe; ends = f.ends });
+      others = done.others;
+      cause = done.cause reads reads;
+      silent = f.output.silent;
+      most = took_nothing (most_of c.args.order) left;
+    }
+
+pub returns-in-Ok : goal.returns-in-Ok
+returns-in-Ok g c =
+    let is = c.in-Take.is in
+    let party = c.in-Take.party in
+    let mirror = c.args.mirror.now in
+    let r = c.turn_pair-outcome.ensures in
+    let f = c.finish-in-Ok.ensures in
+    let s = c.finish-in-Ok.result in
+    let i = Arrived c.in-Ok.arrival in
+    let left = g.S.Source.left c.args.source.now in
+    let rest = g.S.Source.left c.listen.new.source in
+    let before = g.K.Sink.written c.args.sink.now in
+    let after = g.K.Sink.written c.finish-in-Ok.new.sink in
+    let old = g.H.Shelf.entry c.args.shelf.now in
+    let new = g.H.Shelf.entry c.turn_pair-outcome.new.shelf in
+    let done = finished_of_two c.args.order party mirror s (g.H.Shelf.is_back c.turn_pair-outcome.new.shelf) (c.listen.new.source ≡ c.args.source.now) old new c.turn_pair-outcome.result (10 ∷ []) before after
+    (g.K.Sink.faults c.args.sink.now) (g.K.Sink.faults c.finish-in-Ok.new.sink) (g.H.Shelf.faults c.args.shelf.now) (g.H.Shelf.faults c.turn_pair-outcome.new.shelf)
+    (ap party_of is) f.ends f.answered f.output.fault r.shelf (λ reading. (let e : is_reading c.args.order ≡ true = ap is_reading is in let no : true ≡ false = sym e ∙ reading in absurd cc)) in
+    let call : IsPairCall (turning party i c.args.moment) (IsDueTurn party i c.args.moment) (10 ∷ []) party mirror old new s before after = record { outcome = c.turn_pair-outcome.result; made = r.turned; due = r.due; safe = r.safe; ends = f.ends } in
+    record {
+      obeys = subst (λ (o : Order). ObeysMirrored o mirror c.args.moment s left rest before after old new) (sym is) (inr (c.in-Ok.arrival, c.in-Ok.ensures.heard, call));
+      others = done.others;
+      cause = done.cause (g.S.Source.faults c.args.source.now) (g.S.Source.faults c.listen.new.source);
+      silent = f.output.silent;
+      most = subst (λ (o : Order). TookAtMost (most_of o) left rest) (sym is) c.listen.ensures.most;
+    }
+
+pub returns-in-Err : goal.returns-in-Err
+returns-in-Err g c =
+    let is = c.in-Take.is in
+    let party = c.in-Take.party in
+    let mirror = c.args.mirror.now in
+    let s = c.in-Err.status in
+    let unheard = c.in-Err.ensures.unheard in
+    let left = g.S.Source.left c.args.source.now in
+    let rest = g.S.Source.left c.listen.new.source in
+    let before = g.K.Sink.written c.args.sink.now in
+    let entry = g.H.Shelf.entry c.args.shelf.now in
+    let puts = g.K.Sink.faults c.args.sink.now in
+    let disks = g.H.Shelf.faults c.args.shelf.now in
+    record {
+      obeys = subst (λ (o : Order). ObeysMirrored o mirror c.args.moment s left rest before before entry entry) (sym is) (inl (unheard, refl, λ name. alike_refl (entry name)));
+      others = left_all c.args.order mirror s (g.H.Shelf.is_back c.args.shelf.now) (c.listen.new.source ≡ c.args.source.now) entry (λ of. none_told left s unheard of)
+          (λ reading. (let e : is_reading c.args.order ≡ true = ap is_reading is in let no : true ≡ false = sym e ∙ reading in absurd cc));
+      cause = cause_unheard (g.S.Source.faults c.args.source.now) (g.S.Source.faults c.listen.new.source) puts puts disks disks left s unheard c.in-Err.ensures.read_fault;
+      silent = λ silent. refl;
+      most = subst (λ (o : Order). TookAtMost (most_of o) left rest) (sym is) c.listen.ensures.most;
+    }
+
+pub returns-in-Some : goal.returns-in-Some
+returns-in-Some g c =
+    let i = c.in-Some.is in
+    let e = c.command_of.ensures in
+    let is : command_of c.args.order ≡ Some c.in-Some.given = cc in
+    let t = c.in-Some.given in
+    let mirror = c.args.mirror.now in
+    let r = c.turn_pair-outcome-in-Some.ensures in
+    let f = c.finish-in-Some.ensures in
+    let s = c.finish-in-Some.result in
+    let left = g.S.Source.left c.args.source.now in
+    let reads = g.S.Source.faults c.args.source.now in
+    let before = g.K.Sink.written c.args.sink.now in
+    let after = g.K.Sink.written c.finish-in-Some.new.sink in
+    let old = g.H.Shelf.entry c.args.shelf.now in
+    let new = g.H.Shelf.entry c.turn_pair-outcome-in-Some.new.shelf in
+    let done = finished_of_two c.args.order t.party mirror s (g.H.Shelf.is_back c.turn_pair-outcome-in-Some.new.shelf) (c.args.source.now ≡ c.args.source.now) old new c.turn_pair-outcome-in-Some.result (10 ∷ []) before after
+    (g.K.Sink.faults c.args.sink.now) (g.K.Sink.faults c.finish-in-Some.new.sink) (g.H.Shelf.faults c.args.shelf.now) (g.H.Shelf.faults c.turn_pair-outcome-in-Some.new.shelf)
+    (is_party t c.args.moment s left left before after old new c.args.order is) f.ends f.answered f.output.fault r.shelf (λ reading. refl) in
+    record {
+      obeys = obeys_mirrored t mirror c.args.moment s left left before after old new c.args.order c.requires is (record { outcome = c.turn_pair-outcome-in-Some.result; made = r.turned; due = r.due; safe = r.safe; ends = f.ends });
+      others = done.others;
+      cause = done.cause reads reads;
+      silent = f.output.silent;
+      most = took_nothing (most_of c.args.order) left;
+    }
+
+pub unreachable-requires : goal.unreachable-requires
+unreachable-requires g c =
+    let i = c.in-None.is in
+    let e = c.command_of.ensures in
+    let none : command_of c.args.order ≡ None = cc in
+    commands_of_two c.args.order c.args.mirror.now c.requires c.in_default.not-Init c.in_default.not-Show c.in_default.not-Take c.in_default.not-Create c.in_default.not-Enter none

@@ -1,0 +1,15 @@
+pub mod Lines
+pub mod Causes
+pub mod Transfer
+pub mod Listening
+pub mod Check
+pub mod Ends
+pub mod Notice
+pub mod Dues
+pub mod Paid
+pub mod Compared
+pub mod Entered
+pub mod Obeys
+pub mod Mirrored
+pub mod Spooled
+pub mod Batched

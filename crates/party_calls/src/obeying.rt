@@ -1,0 +1,79 @@
+// An order is done that is no scenario, drill or audit.
+ghost use Rattle.std.specs.Prelude.{◌≡◌, ◌≢◌, ℕ};
+ghost use Rattle.x_line.specs.declared.order.Order.TheVariants.{Audit, Drill, Replay};
+ghost use Rattle.party_calls.specs.Transfer.{IsQuiet, TookAtMost};
+ghost use Rattle.party_calls.specs.Causes.{HasCause, IsSilent};
+ghost use Rattle.party_calls.specs.Obeys.{ExpectsCall, IsWithin, LeavesOthers, Obeys, most_of};
+
+use crate::checking::check;
+use crate::entering::{create, enter};
+use crate::finish::finish;
+use crate::listening::listen;
+use crate::party_command::command_of;
+use crate::payments::accept;
+use crate::spooling::{batch, spool};
+use crate::status::Status;
+use crate::tending::tend;
+use csm_feed::law_one_hearing;
+use party_state::Input;
+use party_tables::LinkKey;
+use std::alloc::Global;
+use x_base::{Sink, Source};
+use x_disk::Shelf;
+use x_line::Order;
+
+/// Does what an order says: checks a message, or does something at a party, over one disk, or with a batch.
+pub fn obey<S: Source, K: Sink, H: Shelf>(
+    alloc: Global,
+    order: Order,
+    moment: u64,
+    source: &mut S,
+    sink: &mut K,
+    shelf: &mut H,
+) -> Status
+    requires within { IsWithin order }
+    requires replays { order ≢ Replay }
+    requires audits { order ≢ Audit }
+    requires drills { (seed events : ℕ) → order ≢ Drill seed events }
+    ensures obeys { Obeys order moment result (S.left source.old) (S.left source.new) (K.written sink.old) (K.written sink.new) (H.entry shelf.old) (H.entry shelf.new) }
+    ensures expects { IsQuiet (S.faults source.old) (S.faults source.new) → IsQuiet (K.faults sink.old) (K.faults sink.new) → IsQuiet (H.faults shelf.old) (H.faults shelf.new)
+        → ExpectsCall order moment (S.left source.old) (H.entry shelf.old) result }
+    ensures others { LeavesOthers order result (H.is_back shelf.new) (source.new ≡ source.old) (H.entry shelf.old) (H.entry shelf.new) }
+    ensures cause { HasCause result (S.faults source.old) (S.faults source.new) (K.faults sink.old) (K.faults sink.new) (H.faults shelf.old) (H.faults shelf.new) }
+    ensures silent { IsSilent result → sink.new ≡ sink.old }
+    ensures most { TookAtMost (most_of order) (S.left source.old) (S.left source.new) }
+{
+    law_one_hearing();
+    match order {
+        Order::Check => check(alloc, source, sink),
+        Order::Take { party } => match listen(alloc, source) {
+            Ok(arrival) => {
+                let input = Input::Arrived(arrival);
+                let outcome = x_party::turn(alloc, shelf, &party, &input, moment);
+                finish(sink, outcome, b"\n")
+            }
+            Err(status) => status,
+        },
+        Order::Accept { party, ledger } => accept(alloc, source, sink, shelf, &party, &ledger),
+        Order::Batch => batch(alloc, moment, source, sink),
+        Order::Spool { party, spool: name } => spool(alloc, source, sink, shelf, &party, &name),
+        Order::Create { party, role } => create(alloc, source, sink, shelf, party, role),
+        Order::Enter {
+            party,
+            peer,
+            label,
+            side,
+        } => {
+            let key = LinkKey { peer, label, side };
+            enter(alloc, source, sink, shelf, &party, key, moment)
+        }
+        _ => match command_of(order) {
+            Some(given) => {
+                let input = Input::Ordered(given.command);
+                let outcome = x_party::turn(alloc, shelf, &given.party, &input, moment);
+                finish(sink, outcome, b"\n")
+            }
+            None => tend(alloc, &order, sink, shelf),
+        },
+    }
+}
