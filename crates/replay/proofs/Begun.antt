@@ -1,5 +1,5 @@
 -- A disk on which a party begins, and to which its links are loaded.
-use Rattle.std.proofs.Common.{◌≡◌, ◌⊎◌, inl, inr, ⊎_elim, ℕ, zero, suc, ◌+◌, ◌-◌, ◌<◌, ◌≤◌, Bool, true, false, List, [], ◌∷◌, length, take, Some, is_some, Result, Ok, Err, refl, sym, ◌∙◌, ap, subst, arith}
+use Rattle.std.proofs.Common.{◌≡◌, ◌⊎◌, inl, inr, ℕ, zero, suc, ◌+◌, ◌-◌, ◌<◌, ◌≤◌, Bool, true, false, List, [], ◌∷◌, length, Some, is_some, Result, Ok, Err, refl, sym, ◌∙◌, ap, subst, arith}
 use Rattle.std.proofs.lemmas.Bool.{le-leb}
 use Rattle.x_base.specs.Edge.{Rose}
 use Rattle.x_base.specs.Names.{IsIdent}
@@ -30,18 +30,18 @@ use Rattle.key_store.specs.declared.store.Kept.TheVariants as kept
 use Rattle.member.specs.Member.{Member}
 use Rattle.node_core.specs.Turns.{member_of, IsImageOf}
 use Rattle.replay.specs.Crash.{AddsOnly}
-use Rattle.replay.specs.Failing.{IsFailing}
+use Rattle.open_parties.specs.Failing.{IsFailing}
 use Rattle.replay.specs.SettingUp.{ReadsBlank, longest_load, HasBegun, HasPlace, IsLoad, IsLoadedInPart, IsPartlyLoaded, BeginsInPart, IsBeginning, BeginsOnly, IsNotBlank, IsFailedSetUp, IsFailedSetUpDisk, EndsBy}
 use Rattle.course.specs.Parties.{new_member}
-use Rattle.replay.specs.declared.failure.Failure.{Failure}
-use Rattle.replay.specs.declared.failure.Failure.TheVariants as failure
+use Rattle.open_parties.specs.declared.failure.Failure.{Failure}
+use Rattle.open_parties.specs.declared.failure.Failure.TheVariants as failure
 use Rattle.course.specs.declared.declaring.NewParty.{NewParty}
 use Rattle.replay.specs.declared.making.SetUpEnd.{SetUpEnd}
 use Rattle.replay.specs.declared.making.SetUpEnd.TheVariants.{Failed}
 use Rattle.x_disk.proofs.Runs.{began, weaker}
 use Rattle.replay.proofs.Adding.{OrBefore, adds_call, adds_on}
-use Rattle.replay.proofs.Carrying.{is_fault}
-use Rattle.replay.proofs.Images.{image_of, told_now}
+use Rattle.open_parties.proofs.Carrying.{is_fault}
+use Rattle.open_parties.proofs.Images.{image_of, told_now}
 use Rattle.replay.proofs.Lengths.{first_few, longest_is}
 use Rattle.replay.proofs.Loads.{put_longer}
 

@@ -14,13 +14,14 @@ use Rattle.replay.specs.Breaking.{TellsAndReadsAs, StandsForMember, StandForAll}
 use Rattle.replay.specs.Breaks.{IsBrokenOff, BreaksOff}
 use Rattle.replay.specs.Events.{StandsEither, IsBrokenIn}
 use Rattle.replay.specs.PlayState.{Shows}
-use Rattle.replay.specs.OpenParties.{open_party, members, with_held, IsOf, IsIn, AreIn, AreOpen, NoneOf, IsPlace, IsTakenOut}
-use Rattle.replay.specs.declared.failure.Failure.{Failure}
+use Rattle.open_parties.specs.OpenParties.{open_party, members, with_held, IsOf, IsIn, AreIn, AreOpen, NoneOf, IsPlace, IsTakenOut}
+use Rattle.open_parties.specs.declared.failure.Failure.{Failure}
 use Rattle.replay.specs.declared.play_state.PlayState.{PlayState}
-use Rattle.replay.specs.declared.open_party.OpenParty.{OpenParty}
-use Rattle.replay.specs.declared.open_party.PartyDisk.{PartyDisk}
-use Rattle.replay.specs.declared.open_party.PartyDisk.TheVariants.{Open, Closed, Away}
-use Rattle.replay.proofs.Members.{cond_yes, cond_not, same_yes, same_not, found, of_in}
+use Rattle.open_parties.specs.declared.open_party.OpenParty.{OpenParty}
+use Rattle.open_parties.specs.declared.open_party.PartyDisk.{PartyDisk}
+use Rattle.open_parties.specs.declared.open_party.PartyDisk.TheVariants.{Open, Closed, Away}
+use Rattle.open_parties.proofs.Members.{cond_yes, cond_not, same_yes, same_not, of_in}
+use Rattle.replay.proofs.Members.{found}
 use Rattle.replay.proofs.Reading.{reads_one}
 
 -- the open parties stand for the members that they show

@@ -7,24 +7,19 @@ use Rattle.scenario.specs.declared.line.Line.{Line}
 use Rattle.world_laws.specs.World.{World}
 use Rattle.replay.specs.Breaking.{StandForAll, IsBreak, IsBrokenAt, BreaksIn}
 use Rattle.course.specs.Parts.{HasLineEvent, MakesEventOrNone}
-use Rattle.replay.specs.Closing.{OtherDisksStay}
 use Rattle.course.specs.Course.{Course, no_event}
 use Rattle.replay.specs.Course.{IsAt}
 use Rattle.course.specs.LineEvents.{LineEvent}
 use Rattle.replay.specs.Lines.{Plays}
 use Rattle.course.specs.Meanings.{IsLineAct}
-use Rattle.replay.specs.OpenParties.{owners}
 use Rattle.course.specs.declared.act.LineAct.{LineAct}
-use Rattle.replay.specs.declared.failure.Ending.{Ending}
-use Rattle.replay.specs.declared.failure.Ending.TheVariants as ending
+use Rattle.open_parties.specs.declared.failure.Ending.{Ending}
+use Rattle.open_parties.specs.declared.failure.Ending.TheVariants as ending
 use Rattle.course.specs.declared.progress.Progress.{Progress}
 use Rattle.replay.specs.declared.play_state.PlayState.{PlayState}
-use Rattle.replay.specs.declared.open_party.OpenParty.{OpenParty}
 use Rattle.replay.proofs.Breakage.{shown_stand}
 use Rattle.replay.proofs.Happened.{nothing_done, quiet_honest}
-use Rattle.replay.proofs.Owning.{none_alike}
 use Rattle.replay.proofs.Shutting.{none_leaves}
-use Rattle.replay.proofs.PuttingBack.{alike_on}
 use Rattle.replay.proofs.Unfinished.{BreaksEvent}
 
 -- a line broke off, from whichever course the old state and sink show; `entry` is the shelf's afterwards
@@ -80,8 +75,3 @@ module _ {D : Type 0} (told : D → View) (entry : List ℕ → View) where
           broken = b.1.2;
         },
       )
-
--- the disks of all others stay from line to line
-module _ {D : Type 0} where
-  pub others_on : (old mid new : List ℕ → View) (open_parties now : List (OpenParty D)) → owners now ≡ owners open_parties → OtherDisksStay old mid open_parties → OtherDisksStay mid new now → OtherDisksStay old new open_parties
-  others_on old mid new open_parties now same first more = λ own none. alike_on (old own) (mid own) (new own) (first own none) (more own (none_alike open_parties now own (sym same) none))

@@ -6,16 +6,16 @@ use Rattle.x_disk.specs.Disk.{View}
 use Rattle.replay.specs.Finishing.{end_of, answer_of, set_up_answer}
 use Rattle.replay.specs.SettingUp.{IsSetUpEnd}
 use Rattle.replay.specs.Playing.{Surroundings, WereBlank, IsPlay, IsPlayOn}
-use Rattle.replay.specs.declared.failure.Ending.{Ending}
-use Rattle.replay.specs.declared.failure.Ending.TheVariants as ending
-use Rattle.replay.specs.declared.failure.Failure.{Failure}
-use Rattle.replay.specs.declared.failure.Failure.TheVariants as failure
+use Rattle.open_parties.specs.declared.failure.Ending.{Ending}
+use Rattle.open_parties.specs.declared.failure.Ending.TheVariants as ending
+use Rattle.open_parties.specs.declared.failure.Failure.{Failure}
+use Rattle.open_parties.specs.declared.failure.Failure.TheVariants as failure
 use Rattle.replay.specs.declared.making.SetUpEnd.{SetUpEnd}
 use Rattle.replay.specs.declared.making.SetUpEnd.TheVariants.{NotEmpty, Failed}
 use Rattle.course.specs.declared.tally.Tally.{Tally}
 use Rattle.replay.specs.declared.result.PlayResult.{PlayResult}
 use Rattle.replay.specs.declared.result.PlayResult.TheVariants as played
-use Rattle.replay.proofs.PuttingBack.{rose_on, rose_then}
+use Rattle.open_parties.proofs.PuttingBack.{rose_on, rose_then}
 
 pub never_refused : (outcome : Result Tally Ending) (v : Verdict) → answer_of outcome ≡ played.Refused v → ⊥
 never_refused (Ok tally) v is = cc is

@@ -17,7 +17,7 @@ use Rattle.node_core.specs.Turns.{member_of, IsImageOf, IsOldOrNext}
 use Rattle.course.specs.Starts.{load_at, loads_of, with_load, with_loads}
 use Rattle.course.specs.Parties.{new_member, full_member}
 use Rattle.replay.specs.SettingUp.{least_room, HasBegun, CanLoad, IsLoadOrSame, IsLoadedInPart, IsLoadedTo, IsPartlyLoaded, BeginsInPart, BeginsOnly, IsSetUp, IsFailedSetUpDisk}
-use Rattle.replay.specs.declared.failure.Failure.{Failure}
+use Rattle.open_parties.specs.declared.failure.Failure.{Failure}
 use Rattle.course.specs.declared.declaring.NewParty.{NewParty}
 use Rattle.replay.specs.declared.making.SetUpEnd.TheVariants.{Failed}
 use Rattle.replay.proofs.Adding.{adds_all, adds_on}

@@ -4,16 +4,16 @@ use Rattle.std.specs.Prelude.{IfOk}
 use Rattle.std.proofs.Math.Seq.{take-length}
 use Rattle.std.proofs.lemmas.List.{append-nil}
 use Rattle.x_base.specs.Edge.{AppendsTo, WrotePrefix}
-use Rattle.x_disk.specs.Disk.{View, IsDurable}
+use Rattle.x_disk.specs.Disk.{View}
 use Rattle.scenario.specs.declared.line.Line.{Line}
 use Rattle.member.specs.Member.{Member}
 use Rattle.world_laws.specs.World.{World, member_at}
 use Rattle.world_laws.specs.Events.{Event}
 use Rattle.world_laws.specs.Steps.{step}
-use Rattle.node_core.specs.Turns.{IsImageOf}
-use Rattle.replay.specs.Breaking.{AreOnShelf, AreDurable, TellsAndReadsAs, IsShut, LeavesShut, StandForAll, IsBreak, IsBrokenIn, BreaksIn}
-use Rattle.replay.specs.Closing.{AllBack, OtherDisksStay}
-use Rattle.replay.specs.Crash.{held_of, disk_of, IsBehind, IsPartyOf}
+use Rattle.replay.specs.Breaking.{AreOnShelf, AreDurable, IsShut, LeavesShut, StandForAll, IsBreak, IsBrokenIn, BreaksIn}
+use Rattle.open_parties.specs.Closing.{AllBack, OtherDisksStay}
+use Rattle.open_parties.specs.Crash.{held_of, disk_of}
+use Rattle.replay.specs.Crash.{IsBehind, IsPartyOf}
 use Rattle.course.specs.Course.{Course, no_event}
 use Rattle.course.specs.LineEvents.{LineEvent}
 use Rattle.replay.specs.Course.{IsAt}
@@ -22,24 +22,23 @@ use Rattle.replay.specs.Lines.{Plays, ForgesIn}
 use Rattle.replay.specs.Playing.{Surroundings, around, IsPlayed, IsPlayedToForged, IsBrokenPlay, IsUnwritten, IsPlayOn, IsRun, IsRunToForged, IsRunBy}
 use Rattle.course.specs.Tallies.{IsTallied}
 use Rattle.replay.specs.PlayState.{Shows}
-use Rattle.replay.specs.OpenParties.{members, AreIn}
+use Rattle.open_parties.specs.OpenParties.{members, AreIn}
 use Rattle.replay.specs.Showing.{IsWriteEnd}
 use Rattle.course.specs.Starts.{start_course, start_members, start_progress}
 use Rattle.course.specs.Transcript.{show_lines}
-use Rattle.replay.specs.declared.failure.Ending.{Ending}
-use Rattle.replay.specs.declared.failure.Ending.TheVariants as ending
-use Rattle.replay.specs.declared.failure.Failure.{Failure}
-use Rattle.replay.specs.declared.failure.Failure.TheVariants as failure
+use Rattle.open_parties.specs.declared.failure.Ending.{Ending}
+use Rattle.open_parties.specs.declared.failure.Ending.TheVariants as ending
+use Rattle.open_parties.specs.declared.failure.Failure.{Failure}
+use Rattle.open_parties.specs.declared.failure.Failure.TheVariants as failure
 use Rattle.course.specs.declared.progress.Progress.{Progress}
 use Rattle.replay.specs.declared.making.SetUpEnd.{SetUpEnd}
 use Rattle.replay.specs.declared.making.SetUpEnd.TheVariants.{NotEmpty, Failed}
 use Rattle.replay.specs.declared.play_state.PlayState.{PlayState}
-use Rattle.replay.specs.declared.open_party.OpenParty.{OpenParty}
-use Rattle.replay.specs.declared.open_party.PartyDisk.{PartyDisk}
-use Rattle.replay.specs.declared.open_party.PartyDisk.TheVariants.{Open, Closed, Away}
+use Rattle.open_parties.specs.declared.open_party.PartyDisk.{PartyDisk}
+use Rattle.open_parties.specs.declared.open_party.PartyDisk.TheVariants.{Open, Closed, Away}
 use Rattle.course.specs.declared.tally.Tally.{Tally}
 use Rattle.replay.proofs.Breakage.{shown_stand}
-use Rattle.replay.proofs.Holding.{back_on_shelf}
+use Rattle.open_parties.proofs.Holding.{back_on_shelf}
 use Rattle.replay.proofs.Lasting.{durable_back, durable_image, durable_open, images_open}
 use Rattle.replay.proofs.Happened.{nothing_done, quiet_honest}
 use Rattle.replay.proofs.Leading.{appends_more}

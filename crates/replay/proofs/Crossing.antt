@@ -1,9 +1,9 @@
 -- What a crash may leave of the parties' disks amid an event.
-use Rattle.std.proofs.Common.{◌≡◌, ◌⊎◌, inl, inr, ⊎_elim, ℕ, Bool, true, false, cond, List, [], ◌∷◌, ◌++◌, Option, Some, None, bytes_eq, refl, sym, ◌∙◌, ap, subst, subst₂}
+use Rattle.std.proofs.Common.{◌≡◌, ◌⊎◌, inl, inr, ⊎_elim, ℕ, Bool, true, false, List, [], ◌∷◌, Option, Some, None, bytes_eq, refl, sym, ◌∙◌, ap, subst}
 use mathlib.Core.Logic.{◌≢◌}
 use Rattle.std.proofs.lemmas.Slice.Eq.{bytes_eq-Decides}
-use Rattle.x_disk.specs.Disk.{View, Tells, LeavesOnly}
-use Rattle.x_disk.specs.Shelf.{IsAlike, OthersStay, alike_refl}
+use Rattle.x_disk.specs.Disk.{View, LeavesOnly}
+use Rattle.x_disk.specs.Shelf.{OthersStay, alike_refl}
 use Rattle.x_disk.proofs.Runs.{weaker}
 use Rattle.party_tables.specs.Tables.{put_row}
 use Rattle.party_state.specs.declared.command.Input.{Input}
@@ -13,7 +13,7 @@ use Rattle.change_code.specs.Cost.{is_change}
 use Rattle.member.specs.Acts.{taking}
 use Rattle.member.specs.Member.{Member, Plan, after, plan_at}
 use Rattle.node_core.specs.Planned.{PlannedNode}
-use Rattle.node_core.specs.Turns.{IsImageOf, member_of}
+use Rattle.node_core.specs.Turns.{member_of}
 use Rattle.world_laws.specs.World.{World, own_of, member_at}
 use Rattle.world_laws.specs.Events.{Action, Completion, CutOld, CutNew, Hears, Orders}
 use Rattle.world_laws.specs.Honest.{HonestAt}
@@ -27,68 +27,18 @@ use Rattle.course.specs.Stops.{KeepsChange, member_next}
 use Rattle.course.specs.declared.act.LineAct.{LineAct}
 use Rattle.course.specs.declared.act.LineAct.TheVariants as act
 use Rattle.course.specs.declared.progress.Progress.{Progress}
-use Rattle.replay.specs.Crash.{Crosses, held_view, held_of, disk_of, IsBehind, IsCrossed, IsEither, IsHeldStill, IsPartyOf, IsHeldAgain, HoldsAgain}
+use Rattle.replay.specs.Crash.{Crosses, IsBehind, IsCrossed, IsPartyOf}
+use Rattle.open_parties.specs.Crash.{held_of, disk_of, IsEither, IsHeldStill, IsHeldAgain, HoldsAgain}
 use Rattle.replay.specs.PlayState.{Shows}
-use Rattle.replay.specs.OpenParties.{open_party, AreIn, Fills, IsTakenOut, IsOf, IsPlace, NoneOf}
+use Rattle.open_parties.specs.OpenParties.{open_party, AreIn, Fills, IsTakenOut, IsOf, IsPlace}
 use Rattle.replay.specs.declared.play_state.PlayState.{PlayState}
-use Rattle.replay.specs.declared.open_party.OpenParty.{OpenParty}
-use Rattle.replay.specs.declared.open_party.PartyDisk.{PartyDisk}
-use Rattle.replay.specs.declared.open_party.PartyDisk.TheVariants.{Open, Closed, Away}
+use Rattle.open_parties.specs.declared.open_party.OpenParty.{OpenParty}
+use Rattle.open_parties.specs.declared.open_party.PartyDisk.TheVariants.{Open}
 use Rattle.replay.proofs.Eventing.{old_stays}
 use Rattle.replay.proofs.Happened.{honest_action, told_action}
-use Rattle.replay.proofs.Members.{cond_not, cond_yes, of_in, same_not, same_yes}
+use Rattle.open_parties.proofs.Members.{cond_not, cond_yes, of_in, same_yes}
 use Rattle.replay.proofs.Stepping.{at}
-
-module _ {D : Type 0} where
-  pub held_here : (front : List (OpenParty D)) (s : OpenParty D) (back : List (OpenParty D)) (own : List ℕ) → NoneOf front own → s.own ≡ own → held_of (front ++ s ∷ back) own ≡ s.held
-  held_here [] s back own none is = cond_yes (bytes_eq s.own own) s.held (held_of back own) (same_yes s.own own is)
-  held_here (f ∷ front) s back own none is = cond_not (bytes_eq f.own own) f.held (held_of (front ++ s ∷ back) own) (same_not f.own own none.0) ∙ held_here front s back own none.1 is
-
-  pub held_elsewhere : (front : List (OpenParty D)) (name : List ℕ) (h k : PartyDisk D) (back : List (OpenParty D)) (own : List ℕ) → name ≢ own → held_of (front ++ open_party name h ∷ back) own ≡ held_of (front ++ open_party name k ∷ back) own
-  held_elsewhere [] name h k back own apart = cond_not (bytes_eq name own) h (held_of back own) (same_not name own apart) ∙ sym (cond_not (bytes_eq name own) k (held_of back own) (same_not name own apart))
-  held_elsewhere (f ∷ front) name h k back own apart = ap (λ (x : PartyDisk D). cond (bytes_eq f.own own) f.held x) (held_elsewhere front name h k back own apart)
-
-  pub held_alike : (told : D → View) (v w : View) (h : PartyDisk D) → IsAlike v w → IsAlike (held_view told v h) (held_view told w h)
-  held_alike told v w (Open node) alike = alike_refl (told node.disk)
-  held_alike told v w (Closed disk) alike = alike_refl (told disk)
-  held_alike told v w Away alike = alike
-
-  -- what is held stays, and so does the disk on the shelf
-  pub held_still : (told : D → View) (before after : List ℕ → View) (old new : List (OpenParty D)) (own : List ℕ) → held_of new own ≡ held_of old own → IsAlike (before own) (after own) → IsHeldStill told before after old new own
-  held_still told before after old new own same alike = record {
-    held = same;
-    alike = subst (λ (h : PartyDisk D). IsAlike (held_view told (before own) (held_of old own)) (held_view told (after own) h)) (sym same) (held_alike told (before own) (after own) (held_of old own) alike);
-  }
-
--- the party of a place was taken out
-module _ {D : Type 0} (told : D → View) (before after : List ℕ → View) (old mid new : List (OpenParty D)) (place : ℕ) (node : Stored D) (l : IsTakenOut old mid place node) (own : List ℕ) (is_place : IsPlace old own place)
-    (stay : OthersStay own before after) where
-  here : NoneOf l.front own × (l.own ≡ own)
-  here = is_place l.front (open_party l.own (Open node)) l.back l.before l.size
-
-  was_held : held_of old own ≡ Open node
-  was_held = ap (λ (ss : List (OpenParty D)). held_of ss own) l.before ∙ held_here l.front (open_party l.own (Open node)) l.back own here.0 here.1
-
-  now_held : (held : PartyDisk D) → Fills mid new place held → held_of new own ≡ held
-  now_held held fills = ap (λ (ss : List (OpenParty D)). held_of ss own) (fills l.front l.own l.back l.after l.size) ∙ held_here l.front (open_party l.own held) l.back own here.0 here.1
-
-  -- nothing was done to the others
-  pub others_still : (held : PartyDisk D) → Fills mid new place held → (other : List ℕ) → other ≢ own → IsHeldStill told before after old new other
-  others_still held fills other apart = held_still told before after old new other
-      (ap (λ (ss : List (OpenParty D)). held_of ss other) (fills l.front l.own l.back l.after l.size)
-      ∙ (held_elsewhere l.front l.own held (Open node) l.back other (λ same. apart (sym same ∙ here.1)) ∙ sym (ap (λ (ss : List (OpenParty D)). held_of ss other) l.before)))
-      (stay other apart)
-
-  pub same_still : Fills mid new place (Open node) → IsHeldStill told before after old new own
-  same_still fills = record {
-    held = now_held (Open node) fills ∙ sym was_held;
-    alike = subst₂ (λ (h k : PartyDisk D). IsAlike (held_view told (before own) h) (held_view told (after own) k)) (sym was_held) (sym (now_held (Open node) fills)) (alike_refl (told node.disk));
-  }
-
-  pub leaves_by : (P Q : List ℕ → Type 0) → IsHeldAgain told (after own) (told node.disk) P mid new place → ((image : List ℕ) → P image → Q image) → LeavesOnly (disk_of told before old own) (disk_of told after new own) Q
-  leaves_by P Q r more =
-      subst₂ (λ (h k : PartyDisk D). LeavesOnly (held_view told (before own) h) (held_view told (after own) k) Q) (sym was_held) (sym (now_held r.held r.fills))
-      (weaker (told node.disk) (held_view told (after own) r.held) P Q r.leaves more)
+use Rattle.open_parties.proofs.Holding.{held_still, others_still, same_still, leaves_by}
 
 -- the member of a name that was put is found
 member_put : (own : List ℕ) (y : Member) (ms : List Member) → own_of y ≡ own → member_at own (put_row own_of bytes_eq y ms) ≡ Some y

@@ -22,12 +22,12 @@ use Rattle.course.specs.declared.progress.Stop.{Stop}
 use Rattle.replay.specs.Breaks.{BreaksOff}
 use Rattle.replay.specs.Events.{HoldsEither, StandsEither, IsWhole, IsLeft, IsBrokenIn, IsStoppedIn, IsStopLeft}
 use Rattle.replay.specs.PlayState.{IsStep, IsCutStep}
-use Rattle.replay.specs.OpenParties.{IsPlace, IsTakenOut}
-use Rattle.replay.specs.declared.failure.Failure.{Failure}
+use Rattle.open_parties.specs.OpenParties.{IsPlace, IsTakenOut}
+use Rattle.open_parties.specs.declared.failure.Failure.{Failure}
 use Rattle.replay.specs.declared.play_state.PlayState.{PlayState}
-use Rattle.replay.specs.declared.open_party.OpenParty.{OpenParty}
-use Rattle.replay.specs.declared.open_party.PartyDisk.{PartyDisk}
-use Rattle.replay.specs.declared.open_party.PartyDisk.TheVariants.{Open, Closed, Away}
+use Rattle.open_parties.specs.declared.open_party.OpenParty.{OpenParty}
+use Rattle.open_parties.specs.declared.open_party.PartyDisk.{PartyDisk}
+use Rattle.open_parties.specs.declared.open_party.PartyDisk.TheVariants.{Open, Closed, Away}
 use Rattle.replay.proofs.Breakage.{broken_off}
 use Rattle.replay.proofs.Stepping.{whole_step, cut_step}
 

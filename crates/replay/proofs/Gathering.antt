@@ -10,11 +10,11 @@ use Rattle.party_show.specs.Show.{shown}
 use Rattle.member.specs.Member.{Member}
 use Rattle.node_core.specs.Turns.{member_of}
 use Rattle.course.specs.Tallies.{one_with, count_status, records_of}
-use Rattle.replay.specs.OpenParties.{with_held, members, HoldsParty}
+use Rattle.open_parties.specs.OpenParties.{with_held, members, HoldsParty}
 use Rattle.course.specs.Transcript.{show_lines}
-use Rattle.replay.specs.declared.open_party.OpenParty.{OpenParty}
-use Rattle.replay.specs.declared.open_party.PartyDisk.{PartyDisk}
-use Rattle.replay.specs.declared.open_party.PartyDisk.TheVariants.{Open, Closed, Away}
+use Rattle.open_parties.specs.declared.open_party.OpenParty.{OpenParty}
+use Rattle.open_parties.specs.declared.open_party.PartyDisk.{PartyDisk}
+use Rattle.open_parties.specs.declared.open_party.PartyDisk.TheVariants.{Open, Closed, Away}
 use Rattle.replay.proofs.Leading.{appends_more}
 
 -- what is gathered of one member after another

@@ -10,21 +10,21 @@ use Rattle.scenario.specs.declared.line.Line.{Line}
 use Rattle.scenario.specs.Behind.{EachBehind}
 use Rattle.scenario.specs.Rules.{may_follow}
 use Rattle.replay.specs.Breaking.{AreOnShelf, AreDurable}
-use Rattle.replay.specs.Closing.{AllBack, OtherDisksStay}
-use Rattle.replay.specs.Crash.{disk_of}
-use Rattle.replay.specs.OpenParties.{members, owners, NoneOf}
+use Rattle.open_parties.specs.Closing.{AllBack, OtherDisksStay}
+use Rattle.open_parties.specs.Crash.{disk_of}
+use Rattle.open_parties.specs.OpenParties.{members, owners, NoneOf}
 use Rattle.course.specs.Starts.{loads_of}
 use Rattle.course.specs.Parties.{new_party, line_of_party, party_in, parties_in, new_member}
 use Rattle.replay.specs.SettingUp.{AllTell, BeginsInPart, BeginsOnly, IsOrFails, IsFailedSetUpNext, FailsSetUpNext, IsOfSetUp, SetsUpOnly, AreSetUp, IsSetUpEnd}
 use Rattle.course.specs.declared.declaring.NewParty.{NewParty}
 use Rattle.replay.specs.declared.making.SetUpEnd.{SetUpEnd}
-use Rattle.replay.specs.declared.open_party.OpenParty.{OpenParty}
+use Rattle.open_parties.specs.declared.open_party.OpenParty.{OpenParty}
 use Rattle.replay.proofs.Breakage.{stand_open}
 use Rattle.replay.proofs.Adding.{adds_end, adds_now}
-use Rattle.replay.proofs.Holding.{apart_by, back_on_shelf, still_there}
+use Rattle.open_parties.proofs.Holding.{apart_by, still_there, back_on_shelf}
 use Rattle.replay.proofs.Joining.{begins_from, begins_to, sets_up_only, split_at_party, failed_set_up_alike, failed_set_up_or_fails, none_of, tell_parts, apart_at}
 use Rattle.replay.proofs.Lasting.{durable_back}
-use Rattle.replay.proofs.PuttingBack.{alike_on}
+use Rattle.open_parties.proofs.PuttingBack.{alike_on}
 use Rattle.replay.proofs.Standing.{stand_on_shelf}
 
 -- the party of a line is among those of all

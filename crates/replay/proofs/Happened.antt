@@ -14,7 +14,7 @@ use Rattle.world_laws.specs.Honest.{HonestAction, HonestAt}
 use Rattle.course.specs.Stops.{KeepsChange, IsFixed}
 use Rattle.replay.specs.PlayState.{Shows, IsStep, IsCutStep}
 use Rattle.course.specs.Outcomes.{world_after_given, completion_of, input_in, outcome_of, IsCompleted, IsOutcome}
-use Rattle.replay.specs.OpenParties.{NoneOf, IsPlace}
+use Rattle.open_parties.specs.OpenParties.{NoneOf, IsPlace}
 use Rattle.course.specs.LineEvents.{LineEvent, At, IsNumbered}
 use Rattle.course.specs.Course.{Course, no_event, event_at, IsDoneBy, IsDone, IsForgedBy, IsForgedAt}
 use Rattle.course.specs.Forging.{HonestInput}

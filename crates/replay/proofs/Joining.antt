@@ -19,23 +19,23 @@ use Rattle.scenario.specs.Rules.{declared, expansion, is_party, same_two, may_de
 use Rattle.member.specs.Member.{Member}
 use Rattle.world_laws.specs.World.{own_of}
 use Rattle.node_core.specs.Turns.{member_of}
-use Rattle.replay.specs.Closing.{AllSlots, AreApart}
-use Rattle.replay.specs.Crash.{held_view, disk_of, IsSetUpInPart}
-use Rattle.replay.specs.OpenParties.{open_party, members, with_held, owners, IsOf, AreIn, AreOpen, NoneOf}
+use Rattle.open_parties.specs.Closing.{AllSlots, AreApart}
+use Rattle.open_parties.specs.Crash.{held_view, disk_of}
+use Rattle.open_parties.specs.OpenParties.{open_party, members, with_held, owners, IsOf, AreIn, AreOpen, NoneOf}
 use Rattle.course.specs.Starts.{loads_of, start_member, members_by}
 use Rattle.course.specs.Parties.{new_party, line_of_party, own_of_new, party_in, parties_in, new_member, full_member}
 use Rattle.replay.specs.SettingUp.{AllTell, ReadsBlank, AllReadBlank, IsSetUp, BeginsInPart, IsBeginning, BeginsOnly, IsFailedSetUp, IsFailedSetUpNext, IsOrFails, IsAddedNext, AddsNext, ShowMembers, IsOfSetUp, SetsUpOnly, AreSetUp}
 use Rattle.course.specs.declared.declaring.NewParty.{NewParty}
-use Rattle.replay.specs.declared.failure.Failure.TheVariants as failure
+use Rattle.open_parties.specs.declared.failure.Failure.TheVariants as failure
 use Rattle.replay.specs.declared.making.SetUpEnd.{SetUpEnd}
 use Rattle.replay.specs.declared.making.SetUpEnd.TheVariants.{NotEmpty, Failed}
-use Rattle.replay.specs.declared.open_party.OpenParty.{OpenParty}
-use Rattle.replay.specs.declared.open_party.PartyDisk.{PartyDisk}
-use Rattle.replay.specs.declared.open_party.PartyDisk.TheVariants.{Open, Closed, Away}
+use Rattle.open_parties.specs.declared.open_party.OpenParty.{OpenParty}
+use Rattle.open_parties.specs.declared.open_party.PartyDisk.{PartyDisk}
+use Rattle.open_parties.specs.declared.open_party.PartyDisk.TheVariants.{Open, Closed, Away}
 use Rattle.replay.proofs.Adding.{adds_begin, adds_end, adds_none, adds_weaker}
-use Rattle.replay.proofs.Holding.{apart_by, held_last, held_front, still_there}
+use Rattle.open_parties.proofs.Holding.{apart_by, held_last, held_front, still_there}
 use Rattle.replay.proofs.Loads.{own_stays, more_of, follows, split_lines}
-use Rattle.replay.proofs.PuttingBack.{alike_on}
+use Rattle.open_parties.proofs.PuttingBack.{alike_on}
 
 -- ---- a disk on which no party is set up, by what a read of it gives
 

@@ -13,12 +13,12 @@ use Rattle.world_laws.specs.Honest.{named_text}
 use Rattle.course.specs.Forging.{HonestInput}
 use Rattle.replay.specs.Acting.{ForgesAt}
 use Rattle.replay.specs.PlayState.{Shows}
-use Rattle.replay.specs.OpenParties.{open_party, members, AreIn, AreOpen, NoneOf, IsPlace, IsTakenOut}
+use Rattle.open_parties.specs.OpenParties.{open_party, members, AreIn, AreOpen, NoneOf, IsPlace, IsTakenOut}
 use Rattle.replay.specs.declared.play_state.PlayState.{PlayState}
-use Rattle.replay.specs.declared.open_party.OpenParty.{OpenParty}
-use Rattle.replay.specs.declared.open_party.PartyDisk.TheVariants.{Open}
+use Rattle.open_parties.specs.declared.open_party.OpenParty.{OpenParty}
+use Rattle.open_parties.specs.declared.open_party.PartyDisk.TheVariants.{Open}
 use Rattle.replay.proofs.Members.{found}
-use Rattle.replay.proofs.Places.{OpenAt, open_at}
+use Rattle.open_parties.proofs.Places.{OpenAt, open_at}
 use Rattle.replay.proofs.Stepping.{at}
 
 -- a place has a member

@@ -1,5 +1,5 @@
 -- What a crash leaves of the disks once they are back on the shelf.
-use Rattle.std.proofs.Common.{◌≡◌, ℕ, Bool, true, false, List, [], ◌∷◌, Option, Some, bytes_eq, refl, sym, ◌∙◌, ap, subst}
+use Rattle.std.proofs.Common.{◌≡◌, ℕ, Bool, true, false, List, [], ◌∷◌, Some, bytes_eq, refl, sym, ◌∙◌, subst}
 use Rattle.std.proofs.lemmas.Slice.Eq.{bytes_eq-Decides}
 use Rattle.x_disk.specs.Disk.{View, IsDurable}
 use Rattle.x_disk.specs.Shelf.{IsAlike}
@@ -8,14 +8,14 @@ use Rattle.member.specs.Member.{Member}
 use Rattle.world_laws.specs.World.{own_of, member_at}
 use Rattle.node_core.specs.Turns.{member_of, IsImageOf}
 use Rattle.replay.specs.Breaking.{AreDurable, TellsAndReadsAs, StandsForMember, StandForAll}
-use Rattle.replay.specs.Closing.{IsBack, AllBack}
-use Rattle.replay.specs.Crash.{held_of}
-use Rattle.replay.specs.OpenParties.{members, with_held, IsIn, AreIn, IsOpen, AreOpen}
-use Rattle.replay.specs.declared.open_party.OpenParty.{OpenParty}
-use Rattle.replay.specs.declared.open_party.PartyDisk.{PartyDisk}
-use Rattle.replay.specs.declared.open_party.PartyDisk.TheVariants.{Open, Closed, Away}
-use Rattle.replay.proofs.Images.{image_of, told_now}
-use Rattle.replay.proofs.Members.{cond_yes, cond_not}
+use Rattle.open_parties.specs.Closing.{IsBack, AllBack}
+use Rattle.open_parties.specs.Crash.{held_of}
+use Rattle.open_parties.specs.OpenParties.{members, with_held, IsIn, AreIn, IsOpen, AreOpen}
+use Rattle.open_parties.specs.declared.open_party.OpenParty.{OpenParty}
+use Rattle.open_parties.specs.declared.open_party.PartyDisk.{PartyDisk}
+use Rattle.open_parties.specs.declared.open_party.PartyDisk.TheVariants.{Open, Closed, Away}
+use Rattle.open_parties.proofs.Images.{image_of, told_now}
+use Rattle.open_parties.proofs.Members.{cond_yes, cond_not}
 use Rattle.replay.proofs.Standing.{named_for}
 
 durable_alike : (v w : View) → IsAlike v w → IsDurable v → IsDurable w

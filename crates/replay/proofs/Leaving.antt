@@ -10,7 +10,7 @@ use Rattle.key_journal.specs.States.{Failed}
 use Rattle.party_state.specs.declared.command.Input.{Input}
 use Rattle.key_store.specs.Store.{Stored, IsStore, space}
 use Rattle.change_code.specs.Cost.{is_change}
-use Rattle.member.specs.Member.{Member, Plan, plan_at, after}
+use Rattle.member.specs.Member.{Member, plan_at, after}
 use Rattle.member.specs.Acts.{taking}
 use Rattle.node_core.specs.Planned.{PlannedNode}
 use Rattle.node_core.specs.Turns.{IsTurn, member_of}
@@ -18,22 +18,24 @@ use Rattle.node_core.specs.declared.node.Turn.TheVariants as turn
 use Rattle.world_laws.specs.Noted.{noted}
 use Rattle.course.specs.Stops.{KeepsChange, member_next}
 use Rattle.course.specs.declared.progress.Stop.{Stop}
-use Rattle.replay.specs.Events.{IsWhole, IsLeft, AreExpected, Begins, IsStoppedIn, IsStopLeft}
-use Rattle.replay.specs.Failing.{IsFailing, ReadsEither, IsFailedPartyDisk}
-use Rattle.replay.specs.OpenParties.{Fills}
-use Rattle.replay.specs.Stops.{IsDiskAtStop, IsRestarted}
-use Rattle.replay.specs.declared.expecting.Expected.{Expected}
-use Rattle.replay.specs.declared.failure.Failure.{Failure}
-use Rattle.replay.specs.declared.failure.Failure.TheVariants as failure
+use Rattle.replay.specs.Events.{IsWhole, IsLeft, Begins, IsStoppedIn, IsStopLeft}
+use Rattle.open_parties.specs.Failing.{IsFailing, ReadsEither, IsFailedPartyDisk}
+use Rattle.open_parties.specs.OpenParties.{Fills}
+use Rattle.open_parties.specs.Stops.{IsDiskAtStop, IsRestarted}
+use Rattle.open_parties.specs.Expecting.{AreExpected}
+use Rattle.open_parties.specs.declared.expecting.Expected.{Expected}
+use Rattle.open_parties.specs.declared.failure.Failure.{Failure}
+use Rattle.open_parties.specs.declared.failure.Failure.TheVariants as failure
 use Rattle.replay.specs.declared.play_state.PlayState.{PlayState}
-use Rattle.replay.specs.declared.open_party.OpenParty.{OpenParty}
-use Rattle.replay.specs.declared.open_party.PartyDisk.TheVariants.{Open, Closed, Away}
-use Rattle.replay.specs.declared.stopped.FailedPartyDisk.{FailedPartyDisk}
-use Rattle.replay.proofs.Carrying.{done_or_not, broken_reads}
-use Rattle.replay.proofs.Images.{image_of}
-use Rattle.replay.proofs.Losing.{shelf_reads, failed_reads}
+use Rattle.open_parties.specs.declared.open_party.OpenParty.{OpenParty}
+use Rattle.open_parties.specs.declared.open_party.PartyDisk.TheVariants.{Open, Closed, Away}
+use Rattle.open_parties.specs.declared.stopped.FailedPartyDisk.{FailedPartyDisk}
+use Rattle.open_parties.proofs.Carrying.{done_or_not, broken_reads}
+use Rattle.open_parties.proofs.Images.{image_of}
+use Rattle.open_parties.proofs.Losing.{shelf_reads, failed_reads}
 use Rattle.replay.proofs.Planning.{takes_room, keeps_or_not, same_next}
-use Rattle.replay.proofs.Stopping.{at_stop_idle, expected_found, stops}
+use Rattle.open_parties.proofs.Stopping.{at_stop_idle}
+use Rattle.replay.proofs.Stopping.{expected_found, stops}
 
 -- what is planned was carried out
 module _ {D : Type 0} (told : D → View) (p : PlannedNode D) (place : ℕ) where
@@ -142,7 +144,7 @@ left_stopped told shelved old new place node i moment stop before after next s =
 
 -- what is planned was begun
 module _ {D : Type 0} (told : D → View) (p : PlannedNode D) (node : Stored D) (i : Input) (moment n : ℕ) (e : Expected) (begun : Result D (FailedPartyDisk D)) (is : p ≡ record { node = node; plan = plan_at (member_of node) i moment }) where
-  pub begins_of : AreExpected e (member_of node) (Some i) moment → IfOk begun (λ disk. IsDiskAtStop (told p.node.disk) (told disk) (member_of p.node) (after (member_of p.node) p.plan.edits) (is_change p.plan.edits ≡ true) n) → IfErr begun (λ failed_disk. IsFailing failed_disk.why)
+  pub begins_of : AreExpected e (member_of node) (member_next (member_of node) (Some i) moment) → IfOk begun (λ disk. IsDiskAtStop (told p.node.disk) (told disk) (member_of p.node) (after (member_of p.node) p.plan.edits) (is_change p.plan.edits ≡ true) n) → IfErr begun (λ failed_disk. IsFailing failed_disk.why)
       → IfErr begun (λ failed_disk. Tells (told p.node.disk) → ReadsEither (told failed_disk.disk) (member_of p.node) (after (member_of p.node) p.plan.edits) (is_change p.plan.edits ≡ true)) → Begins told node (Some i) moment n e begun
   begins_of expected at_stop failing reads = record {
     expected = expected;
@@ -152,7 +154,7 @@ module _ {D : Type 0} (told : D → View) (p : PlannedNode D) (node : Stored D) 
   }
 
 -- nothing is begun of an event of which nothing is heard
-pub begins_idle : {D : Type 0} (told : D → View) (node : Stored D) (k : D) (moment n : ℕ) (e : Expected) → AreExpected e (member_of node) None moment → k ≡ node.disk → IsDurable (told k) → IsStore (told node.disk) node.gate node.end node.format node.party → Begins told node None moment n e (Ok k)
+pub begins_idle : {D : Type 0} (told : D → View) (node : Stored D) (k : D) (moment n : ℕ) (e : Expected) → AreExpected e (member_of node) (member_next (member_of node) None moment) → k ≡ node.disk → IsDurable (told k) → IsStore (told node.disk) node.gate node.end node.format node.party → Begins told node None moment n e (Ok k)
 begins_idle {D = D} told node k moment n e expected is durable stands = record {
   expected = expected;
   at_stop = subst (λ (j : D). IsDiskAtStop (told node.disk) (told j) (member_of node) (member_of node) ⊥ n) (sym is) (at_stop_idle (told node.disk) (member_of node) n (subst (λ (j : D). IsDurable (told j)) is durable) (image_of (told node.disk) node.gate node.end node.format node.party stands));

@@ -1,21 +1,21 @@
 -- What a crash may leave of the parties' disks, line after line.
-use Rattle.std.proofs.Common.{◌≡◌, ◌⊎◌, inl, inr, ⊎_elim, ℕ, ◌+◌, ◌<◌, ◌≤◌, true, List, [], ◌∷◌, ◌++◌, length, take, drop, get_or, Option, Some, refl, sym, ◌∙◌, ap, subst, arith, append_assoc, take-append-drop}
+use Rattle.std.proofs.Common.{◌≡◌, ◌⊎◌, inl, inr, ⊎_elim, ℕ, ◌+◌, ◌<◌, ◌≤◌, true, List, [], ◌∷◌, ◌++◌, length, take, drop, get_or, Option, refl, sym, ◌∙◌, ap, subst, arith, append_assoc, take-append-drop}
 use Rattle.std.proofs.lemmas.List.{drop_more}
 use Rattle.x_disk.specs.Disk.{View, IsSound}
 use Rattle.x_disk.specs.Shelf.{alike_refl}
 use Rattle.scenario.specs.declared.line.Line.{Line}
-use Rattle.world_laws.specs.World.{World}
-use Rattle.course.specs.Course.{Course, LinesLead}
+use Rattle.course.specs.Course.{Course}
 use Rattle.course.specs.Meanings.{IsLineAct}
 use Rattle.course.specs.declared.act.LineAct.{LineAct}
 use Rattle.course.specs.declared.progress.Progress.{Progress}
 use Rattle.replay.specs.Course.{IsAt}
-use Rattle.replay.specs.Crash.{AddsOnly, Crosses, CrossesLines, held_view, held_of, disk_of, IsBehind, IsBehindLine, IsBehindNext, IsCrossed, IsOfLines, IsPartyOf}
+use Rattle.replay.specs.Crash.{AddsOnly, Crosses, CrossesLines, IsBehind, IsBehindLine, IsBehindNext, IsOfLines}
+use Rattle.open_parties.specs.Crash.{held_view, held_of, disk_of}
 use Rattle.replay.specs.Lines.{Plays}
 use Rattle.replay.specs.declared.play_state.PlayState.{PlayState}
-use Rattle.replay.specs.declared.open_party.OpenParty.{OpenParty}
-use Rattle.replay.specs.declared.open_party.PartyDisk.{PartyDisk}
-use Rattle.replay.specs.declared.open_party.PartyDisk.TheVariants.{Open, Closed, Away}
+use Rattle.open_parties.specs.declared.open_party.OpenParty.{OpenParty}
+use Rattle.open_parties.specs.declared.open_party.PartyDisk.{PartyDisk}
+use Rattle.open_parties.specs.declared.open_party.PartyDisk.TheVariants.{Open, Closed, Away}
 use Rattle.replay.proofs.Adding.{adds_all, adds_none, adds_on, adds_weaker}
 
 -- each disk is sound, held or on the shelf

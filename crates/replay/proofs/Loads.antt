@@ -17,7 +17,7 @@ use Rattle.scenario.specs.Behind.{EachBehind}
 use Rattle.scenario.specs.Rules.{is_end, is_centre, is_declared, is_party_or_link, both_or_neither, ends, same_ends, loaded, odd_pair, same_two, may_load, may_follow}
 use Rattle.member.specs.Member.{Member}
 use Rattle.course.specs.Starts.{load_at, loads_of, with_load, with_loads}
-use Rattle.replay.proofs.Members.{cond_yes, cond_not, same_yes}
+use Rattle.open_parties.proofs.Members.{cond_yes, cond_not, same_yes}
 
 pub own_stays : (x : Member) (ls : List LinkRec) → (with_loads x ls).party.own ≡ x.party.own
 own_stays x [] = refl

@@ -1,33 +1,16 @@
 -- The members of the network for which open disks stand.
-use Rattle.std.proofs.Common.{◌≡◌, ℕ, Bool, true, false, cond, List, [], ◌∷◌, ◌++◌, Some, bytes_eq, refl, sym, ◌∙◌, ap}
-use mathlib.Core.Logic.{◌≢◌}
-use Rattle.std.proofs.lemmas.Slice.Eq.{bytes_eq-Decides}
+use Rattle.std.proofs.Common.{◌≡◌, ℕ, Bool, true, false, List, [], ◌∷◌, ◌++◌, Some, bytes_eq, refl, sym, ◌∙◌, ap}
 use Rattle.x_disk.specs.Disk.{View}
 use Rattle.party_tables.specs.Tables.{put_row}
 use Rattle.key_store.specs.Store.{Stored}
 use Rattle.member.specs.Member.{Member}
 use Rattle.world_laws.specs.World.{own_of, member_at}
 use Rattle.node_core.specs.Turns.{member_of}
-use Rattle.replay.specs.OpenParties.{open_party, members, with_held, IsOf, IsIn, AreIn, AreOpen, NoneOf, owners}
-use Rattle.replay.specs.declared.open_party.OpenParty.{OpenParty}
-use Rattle.replay.specs.declared.open_party.PartyDisk.{PartyDisk}
-use Rattle.replay.specs.declared.open_party.PartyDisk.TheVariants.{Open, Closed, Away}
-
-pub same_yes : (a b : List ℕ) → a ≡ b → bytes_eq a b ≡ true
-same_yes a b is = (bytes_eq-Decides a b).1 is
-
-pub same_not : (a b : List ℕ) → a ≢ b → bytes_eq a b ≡ false
-same_not a b apart = go (bytes_eq a b) refl
-  where
-    go : (t : Bool) → bytes_eq a b ≡ t → bytes_eq a b ≡ false
-    go true is = absurd (apart ((bytes_eq-Decides a b).0 is))
-    go false is = is
-
-pub cond_yes : {T : Type 0} (a : Bool) (x y : T) → a ≡ true → cond a x y ≡ x
-cond_yes a x y is = rw is refl
-
-pub cond_not : {T : Type 0} (a : Bool) (x y : T) → a ≡ false → cond a x y ≡ y
-cond_not a x y is = rw is refl
+use Rattle.open_parties.specs.OpenParties.{open_party, members, with_held, IsIn, AreIn, NoneOf}
+use Rattle.open_parties.specs.declared.open_party.OpenParty.{OpenParty}
+use Rattle.open_parties.specs.declared.open_party.PartyDisk.{PartyDisk}
+use Rattle.open_parties.specs.declared.open_party.PartyDisk.TheVariants.{Open, Closed, Away}
+use Rattle.open_parties.proofs.Members.{cond_yes, cond_not, same_yes, same_not}
 
 module _ {D : Type 0} (tell : Bool) (told : D → View) (own : List ℕ) (n : Stored D) (back : List (OpenParty D)) where
   -- the member whose place it is
@@ -52,22 +35,6 @@ module _ {D : Type 0} (tell : Bool) (told : D → View) (own : List ℕ) (n : St
           ∙ sym (cond_not (bytes_eq new.party.own m.party.own) _ _ (same_not new.party.own m.party.own (λ same. none.0 (sym is.named ∙ (sym same ∙ named)))))
       go (Closed disk) is rest = absurd is
       go Away is rest = absurd is
-
-  pub stay_in : (new : Stored D) → IsOf tell told own new → (front : List (OpenParty D)) → AreIn tell told (front ++ open_party own (Open n) ∷ back) → AreIn tell told (front ++ open_party own (Open new) ∷ back)
-  stay_in new of [] all = (of, all.1)
-  stay_in new of (f ∷ front) all = (all.0, stay_in new of front all.1)
-
-  pub of_in : (front : List (OpenParty D)) → AreIn tell told (front ++ open_party own (Open n) ∷ back) → IsOf tell told own n
-  of_in [] all = all.0
-  of_in (f ∷ front) all = of_in front all.1
-
-pub still_open : {D : Type 0} (front : List (OpenParty D)) (own : List ℕ) (n new : Stored D) (back : List (OpenParty D)) → AreOpen (front ++ open_party own (Open n) ∷ back) → AreOpen (front ++ open_party own (Open new) ∷ back)
-still_open [] own n new back all = (tt, all.1)
-still_open (f ∷ front) own n new back all = (all.0, still_open front own n new back all.1)
-
-pub same_owners : {D : Type 0} (front : List (OpenParty D)) (own : List ℕ) (h k : PartyDisk D) (back : List (OpenParty D)) → owners (front ++ open_party own h ∷ back) ≡ owners (front ++ open_party own k ∷ back)
-same_owners [] own h k back = refl
-same_owners (f ∷ front) own h k back = ap (λ (l : List (List ℕ)). f.own ∷ l) (same_owners front own h k back)
 
 -- a row that stands is put in its own place
 pub put_stands : (x : Member) (own : List ℕ) (ms : List Member) → own_of x ≡ own → member_at own ms ≡ Some x → put_row own_of bytes_eq x ms ≡ ms

@@ -12,6 +12,7 @@ use Rattle.member.specs.Member.{Member, Plan, as_decided, as_full, plan_of, plan
 use Rattle.member.specs.Deciding.{decision}
 use Rattle.member.specs.Leads.{lead_in}
 use Rattle.course.specs.Stops.{KeepsChange, member_next}
+use Rattle.open_parties.proofs.Planning.{same_none, changes_or_not}
 
 plan_by : (space : Space) (l : Option Lead) (d : Decision) (P : Plan → Type 0) → (fits space d.change ≡ true → P (as_decided l d)) → P (as_full l) → P (plan_of space l d)
 plan_by space l d P decided full = go (fits space d.change) refl
@@ -25,18 +26,6 @@ plan_fits x i moment = plan_by x.space (lead_in x.party i) (decision x.party i m
 
 pub plan_lead : (x : Member) (i : Input) (moment : ℕ) → (plan_at x i moment).lead ≡ lead_in x.party i
 plan_lead x i moment = plan_by x.space (lead_in x.party i) (decision x.party i moment) (λ (p : Plan). p.lead ≡ lead_in x.party i) (λ is. refl) refl
-
--- where nothing changes, the member stays
-less_nothing : (room : ℕ) → room - 0 ≡ room
-less_nothing room = omega arith
-
-pub same_none : (x : Member) (es : List Edit) → (is_change es ≡ true → ⊥) → after x es ≡ x
-same_none x [] none = λ i. record { party = x.party; space = record { format = x.space.format; room = less_nothing x.space.room i } }
-same_none x (e ∷ es) none = absurd (none refl)
-
-pub changes_or_not : (es : List Edit) (P : Type 0) → (is_change es ≡ true → P) → ((is_change es ≡ true → ⊥) → P) → P
-changes_or_not [] P some none = none (λ is. (let lie : false ≡ true = is in cc lie))
-changes_or_not (e ∷ es) P some none = some refl
 
 -- a change that is kept takes room
 less_room : (x : Member) (es : List Edit) → is_change es ≡ true → fits x.space es ≡ true → (after x es).space.room ≢ x.space.room

@@ -4,8 +4,8 @@ use Rattle.x_disk.specs.Disk.{View, Tells}
 use Rattle.member.specs.Member.{Member}
 use Rattle.node_core.specs.Turns.{IsImageOf}
 use Rattle.replay.specs.Breaking.{TellsAndReadsAs}
-use Rattle.replay.specs.Failing.{ReadsEither}
-use Rattle.replay.proofs.Images.{told_now}
+use Rattle.open_parties.specs.Failing.{ReadsEither}
+use Rattle.open_parties.proofs.Images.{told_now}
 
 -- what a read gives is one image
 reads_some : (v : View) (x : Member) (image : List ℕ) → Tells v → v.now ≡ Some image → IsImageOf x image → TellsAndReadsAs v x

@@ -1,9 +1,8 @@
 -- Disks that are open, and what a crash leaves of one that isn't.
-use Rattle.std.proofs.Common.{◌≡◌, inl, inr, ⊎_elim, ℕ, Bool, true, false, cond, List, [], ◌∷◌, Option, Some, None, bytes_eq, refl, sym, ◌∙◌, ap, subst}
+use Rattle.std.proofs.Common.{◌≡◌, ⊎_elim, ℕ, Bool, true, false, cond, List, [], ◌∷◌, Some, bytes_eq, refl, sym, ◌∙◌, ap, subst}
 use mathlib.Core.Logic.{◌≢◌}
 use Rattle.std.proofs.lemmas.Slice.Eq.{bytes_eq-Decides}
 use Rattle.x_disk.specs.Disk.{View, IsSound}
-use Rattle.key_store.specs.Store.{Stored}
 use Rattle.member.specs.Member.{Member}
 use Rattle.node_core.specs.Turns.{member_of}
 use Rattle.world_laws.specs.World.{member_at}
@@ -13,15 +12,16 @@ use Rattle.course.specs.LineEvents.{LineEvent}
 use Rattle.course.specs.declared.act.LineAct.{LineAct}
 use Rattle.course.specs.declared.progress.Progress.{Progress}
 use Rattle.replay.specs.Breaking.{IsShut, LeavesShut}
-use Rattle.replay.specs.Crash.{Crosses, held_of, disk_of}
+use Rattle.replay.specs.Crash.{Crosses}
+use Rattle.open_parties.specs.Crash.{held_of, disk_of}
 use Rattle.replay.specs.PlayState.{Shows}
-use Rattle.replay.specs.OpenParties.{members, with_held, AreIn, AreOpen, IsIn, IsOpen}
+use Rattle.open_parties.specs.OpenParties.{members, with_held, AreIn, AreOpen, IsIn, IsOpen}
 use Rattle.replay.specs.declared.play_state.PlayState.{PlayState}
-use Rattle.replay.specs.declared.open_party.OpenParty.{OpenParty}
-use Rattle.replay.specs.declared.open_party.PartyDisk.{PartyDisk}
-use Rattle.replay.specs.declared.open_party.PartyDisk.TheVariants.{Open, Closed, Away}
+use Rattle.open_parties.specs.declared.open_party.OpenParty.{OpenParty}
+use Rattle.open_parties.specs.declared.open_party.PartyDisk.{PartyDisk}
+use Rattle.open_parties.specs.declared.open_party.PartyDisk.TheVariants.{Open, Closed, Away}
 use Rattle.replay.proofs.LineByLine.{disk_sound}
-use Rattle.replay.proofs.Members.{cond_not, cond_yes, same_not}
+use Rattle.open_parties.proofs.Members.{cond_not, cond_yes, same_not}
 
 -- disks that stand for members are open
 pub all_open : {D : Type 0} (tell : Bool) (told : D → View) (open_parties : List (OpenParty D)) → AreIn tell told open_parties → AreOpen open_parties

@@ -5,13 +5,13 @@ use Rattle.x_disk.specs.Disk.{View}
 use Rattle.member.specs.Member.{Member}
 use Rattle.world_laws.specs.World.{own_of, member_at}
 use Rattle.replay.specs.Breaking.{TellsAndReadsAs, AreOnShelf, StandsForMember, StandForAll}
-use Rattle.replay.specs.Closing.{IsBack, AllBack}
+use Rattle.open_parties.specs.Closing.{IsBack, AllBack}
 use Rattle.node_core.specs.Turns.{IsImageOf}
-use Rattle.replay.specs.declared.open_party.OpenParty.{OpenParty}
-use Rattle.replay.specs.declared.open_party.PartyDisk.{PartyDisk}
-use Rattle.replay.specs.declared.open_party.PartyDisk.TheVariants.{Open, Closed, Away}
-use Rattle.replay.proofs.Images.{image_of}
-use Rattle.replay.proofs.Members.{cond_yes, cond_not}
+use Rattle.open_parties.specs.declared.open_party.OpenParty.{OpenParty}
+use Rattle.open_parties.specs.declared.open_party.PartyDisk.{PartyDisk}
+use Rattle.open_parties.specs.declared.open_party.PartyDisk.TheVariants.{Open, Closed, Away}
+use Rattle.open_parties.proofs.Images.{image_of}
+use Rattle.open_parties.proofs.Members.{cond_yes, cond_not}
 
 module _ {D : Type 0} (told : D → View) (old entry : List ℕ → View) where
   back_reads : (own : List ℕ) (h : PartyDisk D) (x : Member) → IsBack told old entry own h → StandsForMember told old own h x → TellsAndReadsAs (entry own) x

@@ -1,5 +1,5 @@
 -- An event in a network, by what is planned: whole, or stopped.
-use Rattle.std.proofs.Common.{◌≡◌, ◌⊎◌, inl, inr, ◌<◌, ℕ, Bool, true, false, cond, map, List, [], ◌∷◌, ◌++◌, Option, Some, None, bytes_eq, refl, sym, ◌∙◌, ap, ap₂, subst}
+use Rattle.std.proofs.Common.{◌≡◌, ◌⊎◌, inl, inr, ℕ, Bool, true, false, cond, map, List, [], ◌∷◌, ◌++◌, Option, Some, None, bytes_eq, refl, sym, ◌∙◌, ap, ap₂, subst}
 use Rattle.std.specs.Prelude.{option_to_list}
 use Rattle.std.proofs.lemmas.List.{append-nil}
 use Rattle.x_base.specs.declared.verdict.Verdict.{Verdict}
@@ -20,14 +20,14 @@ use Rattle.member.specs.Acts.{taking}
 use Rattle.world_laws.specs.Nodes.{IsAfter, IsEventOf, input_event}
 use Rattle.course.specs.Stops.{KeepsChange, member_next}
 use Rattle.course.specs.declared.progress.Stop.{Stop}
-use Rattle.replay.specs.Closing.{AnyFaulty}
 use Rattle.replay.specs.Events.{IsWhole, IsStoppedIn}
 use Rattle.replay.specs.PlayState.{Shows, IsStep, IsCutStep}
-use Rattle.replay.specs.OpenParties.{open_party, members, IsOf, AreIn, NoneOf, IsPlace, IsTakenOut}
+use Rattle.open_parties.specs.OpenParties.{open_party, members, IsOf, AreIn, NoneOf, IsPlace, IsTakenOut}
 use Rattle.replay.specs.declared.play_state.PlayState.{PlayState}
-use Rattle.replay.specs.declared.open_party.OpenParty.{OpenParty}
-use Rattle.replay.specs.declared.open_party.PartyDisk.TheVariants.{Open, Closed}
-use Rattle.replay.proofs.Members.{found, put, stay_in, of_in, put_stands}
+use Rattle.open_parties.specs.declared.open_party.OpenParty.{OpenParty}
+use Rattle.open_parties.specs.declared.open_party.PartyDisk.TheVariants.{Open}
+use Rattle.replay.proofs.Members.{found, put, put_stands}
+use Rattle.open_parties.proofs.Members.{stay_in, of_in}
 
 -- the party that was taken out, in a network that the state shows
 module _ {D : Type 0} (tell : Bool) (told : D → View) (old mid : List (OpenParty D)) (place : ℕ) (node : Stored D) (l : IsTakenOut old mid place node) (w : World) (all : AreIn tell told old) (members_are : members old ≡ w.members) (own : List ℕ) (is_place : IsPlace old own place) where
@@ -121,8 +121,3 @@ module _ {D : Type 0} (told : D → View) (old mid new : PlayState D) (place : �
             texts_are = texts_stay ∙ (shows.texts_are ∙ (sym (net.texts ∙ append-nil w.texts) ∙ ap (λ (v : World). v.texts) (sym world_is)));
             facts_are = facts_grow ∙ (ap₂ (λ (fs : List NamedText) (b : Bool). fs ++ cond b adds []) shows.facts_are two.0 ∙ (sym net.facts_are ∙ ap (λ (v : World). map named_text v.facts) (sym world_is)));
           }
-
--- a closed disk that failed
-pub faulty_at : {D : Type 0} (told : D → View) (front : List (OpenParty D)) (own : List ℕ) (disk : D) (back : List (OpenParty D)) → 0 < (told disk).faults → AnyFaulty told (front ++ open_party own (Closed disk) ∷ back)
-faulty_at told [] own disk back some = inl some
-faulty_at told (f ∷ front) own disk back some = inr (faulty_at told front own disk back some)

@@ -1,16 +1,16 @@
 -- What a crash leaves at any moment of a play: of the set-up, and of the lines behind it.
-use Rattle.std.proofs.Common.{◌≡◌, ◌⊎◌, inl, inr, ℕ, zero, suc, Bool, true, false, List, [], ◌∷◌, length, bytes_eq, refl, subst, arith}
+use Rattle.std.proofs.Common.{◌≡◌, ◌⊎◌, inl, inr, ℕ, zero, suc, Bool, true, false, List, [], ◌∷◌, bytes_eq, refl, subst, arith}
 use Rattle.std.specs.Prelude.{Contains}
 use Rattle.std.proofs.lemmas.Slice.Eq.{bytes_eq-Decides}
 use Rattle.x_disk.specs.Disk.{View, IsSound}
 use Rattle.scenario.specs.declared.line.Line.{Line}
 use Rattle.course.specs.Starts.{start_course}
 use Rattle.replay.specs.Crash.{AddsOnly, IsOfPlay, IsOfLines}
-use Rattle.replay.specs.OpenParties.{owners, NoneOf}
+use Rattle.open_parties.specs.OpenParties.{owners, NoneOf}
 use Rattle.replay.specs.SettingUp.{ReadsBlank, AllReadBlank, IsOfSetUp, SetsUpOnly}
-use Rattle.replay.specs.declared.open_party.OpenParty.{OpenParty}
+use Rattle.open_parties.specs.declared.open_party.OpenParty.{OpenParty}
 use Rattle.replay.proofs.Adding.{adds_on, adds_weaker}
-use Rattle.replay.proofs.Holding.{apart_by}
+use Rattle.open_parties.proofs.Holding.{apart_by}
 
 -- one of these is of an identity, or none
 pub owned_or_not : {D : Type 0} (open_parties : List (OpenParty D)) (own : List ℕ) → Contains (owners open_parties) own ⊎ NoneOf open_parties own

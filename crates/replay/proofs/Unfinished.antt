@@ -18,23 +18,23 @@ use Rattle.replay.specs.Course.{IsAt}
 use Rattle.replay.specs.Crash.{Crosses}
 use Rattle.replay.specs.Breaks.{IsBrokenAct, BreaksOff, BreaksHonest, BreaksAct}
 use Rattle.course.specs.Course.{Course, no_event, event_at, IsDoneBy, IsDone}
-use Rattle.replay.specs.Failing.{IsFailing}
+use Rattle.open_parties.specs.Failing.{IsFailing}
 use Rattle.course.specs.LineEvents.{LineEvent, Nothing, At, IsNumbered}
 use Rattle.course.specs.Outcomes.{input_in, world_after_given}
 use Rattle.replay.specs.PlayState.{Shows}
-use Rattle.replay.specs.OpenParties.{IsPlace}
+use Rattle.open_parties.specs.OpenParties.{IsPlace}
 use Rattle.course.specs.Transcript.{outcome_line, text_line, event_lines, written_between}
 use Rattle.course.specs.declared.act.LineAct.{LineAct}
 use Rattle.course.specs.declared.act.LineAct.TheVariants as act
 use Rattle.party_state.specs.declared.command.Input.TheVariants as input
-use Rattle.replay.specs.declared.failure.Ending.{Ending}
-use Rattle.replay.specs.declared.failure.Ending.TheVariants as ending
-use Rattle.replay.specs.declared.failure.Failure.{Failure}
-use Rattle.replay.specs.declared.failure.Failure.TheVariants as failure
+use Rattle.open_parties.specs.declared.failure.Ending.{Ending}
+use Rattle.open_parties.specs.declared.failure.Ending.TheVariants as ending
+use Rattle.open_parties.specs.declared.failure.Failure.{Failure}
+use Rattle.open_parties.specs.declared.failure.Failure.TheVariants as failure
 use Rattle.course.specs.declared.progress.EventOutcome.{EventOutcome}
 use Rattle.course.specs.declared.progress.Progress.{Progress}
 use Rattle.replay.specs.declared.play_state.PlayState.{PlayState}
-use Rattle.replay.specs.declared.open_party.OpenParty.{OpenParty}
+use Rattle.open_parties.specs.declared.open_party.OpenParty.{OpenParty}
 use Rattle.replay.proofs.Breakage.{shown_stand}
 use Rattle.replay.proofs.Shutting.{all_open, leaves_shut}
 use Rattle.replay.proofs.Happened.{nothing_done, told_action, honest_action, quiet_honest}

@@ -9,7 +9,7 @@ use Rattle.world_laws.specs.Steps.{step}
 use Rattle.course.specs.LineEvents.{LineEvent}
 use Rattle.course.specs.Outcomes.{IsCompleted, IsOutcome, world_after_given}
 use Rattle.replay.specs.PlayState.{Shows}
-use Rattle.replay.specs.OpenParties.{IsPlace}
+use Rattle.open_parties.specs.OpenParties.{IsPlace}
 use Rattle.course.specs.Course.{Course, IsDone, IsForgedAt}
 use Rattle.course.specs.declared.act.LineAct.{LineAct}
 use Rattle.course.specs.declared.progress.EventOutcome.{EventOutcome}

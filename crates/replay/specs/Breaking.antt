@@ -12,17 +12,18 @@ use Rattle.node_core.specs.Turns.{member_of, IsImageOf}
 use Rattle.course.specs.Course.{Course, LinesLead}
 use Rattle.replay.specs.Course.{IsAt}
 use Rattle.course.specs.LineEvents.{LineEvent}
-use Rattle.replay.specs.OpenParties.{IsOf, AreOpen}
-use Rattle.replay.specs.Crash.{IsBehind, held_of, disk_of}
-use Rattle.replay.specs.declared.failure.Ending.{Ending}
+use Rattle.open_parties.specs.OpenParties.{IsOf, AreOpen}
+use Rattle.replay.specs.Crash.{IsBehind}
+use Rattle.open_parties.specs.Crash.{held_of, disk_of}
+use Rattle.open_parties.specs.declared.failure.Ending.{Ending}
 use Rattle.course.specs.declared.progress.Progress.{Progress}
 use Rattle.replay.specs.declared.play_state.PlayState.{PlayState}
-use Rattle.replay.specs.declared.open_party.OpenParty.{OpenParty}
-use Rattle.replay.specs.declared.open_party.PartyDisk.{PartyDisk}
-use Rattle.replay.specs.declared.open_party.PartyDisk.TheVariants.{Open, Closed, Away}
+use Rattle.open_parties.specs.declared.open_party.OpenParty.{OpenParty}
+use Rattle.open_parties.specs.declared.open_party.PartyDisk.{PartyDisk}
+use Rattle.open_parties.specs.declared.open_party.PartyDisk.TheVariants.{Open, Closed, Away}
 use Rattle.course.specs.Parts.{IsEventOf, IsPartDone, IsPartOf, MakesEventOrNone}
-use Rattle.replay.specs.declared.failure.Ending.TheVariants as ending
-use Rattle.replay.specs.declared.failure.Failure.TheVariants as failure
+use Rattle.open_parties.specs.declared.failure.Ending.TheVariants as ending
+use Rattle.open_parties.specs.declared.failure.Failure.TheVariants as failure
 
 -- the disk tells its bytes, and what a read gives of it stands for the member
 pub record TellsAndReadsAs (v : View) (x : Member) : Type 0 where

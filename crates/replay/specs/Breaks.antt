@@ -12,16 +12,16 @@ use Rattle.course.specs.Forging.{HonestInput}
 use Rattle.replay.specs.Breaking.{StandForAll}
 use Rattle.course.specs.Parts.{IsEventOf}
 use Rattle.course.specs.Course.{Course}
-use Rattle.replay.specs.Failing.{IsFailing}
+use Rattle.open_parties.specs.Failing.{IsFailing}
 use Rattle.course.specs.LineEvents.{LineEvent}
 use Rattle.replay.specs.PlayState.{Shows}
 use Rattle.course.specs.Outcomes.{world_after_given}
-use Rattle.replay.specs.OpenParties.{IsPlace}
+use Rattle.open_parties.specs.OpenParties.{IsPlace}
 use Rattle.course.specs.declared.act.LineAct.{LineAct}
-use Rattle.replay.specs.declared.failure.Failure.{Failure}
+use Rattle.open_parties.specs.declared.failure.Failure.{Failure}
 use Rattle.course.specs.declared.progress.Progress.{Progress}
 use Rattle.replay.specs.declared.play_state.PlayState.{PlayState}
-use Rattle.replay.specs.declared.open_party.OpenParty.{OpenParty}
+use Rattle.open_parties.specs.declared.open_party.OpenParty.{OpenParty}
 
 -- an event at the member of a place, whole or cut; what is held, and the shelf, stand for the network behind it
 pub record IsBrokenOff {D : Type 0} (told : D → View) (entry : List ℕ → View) (w : World) (n : ℕ) (own : List ℕ) (new : List (OpenParty D)) (i : Option Input) (moment : ℕ) : Type 0 where

@@ -4,23 +4,25 @@ use Rattle.x_base.specs.declared.verdict.Verdict.{Verdict}
 use Rattle.x_disk.specs.Disk.{View, Tells}
 use Rattle.party_state.specs.declared.command.Input.{Input}
 use Rattle.change_code.specs.Cost.{is_change}
-use Rattle.key_store.specs.Store.{Stored, space}
+use Rattle.key_store.specs.Store.{Stored}
 use Rattle.member.specs.Member.{Member, after}
 use Rattle.node_core.specs.Planned.{PlannedNode}
 use Rattle.node_core.specs.Turns.{member_of}
 use Rattle.world_laws.specs.Noted.{noted}
 use Rattle.course.specs.Stops.{KeepsChange, member_next}
 use Rattle.course.specs.declared.progress.Stop.{Stop}
-use Rattle.replay.specs.Failing.{IsFailing, ReadsEither}
-use Rattle.replay.specs.OpenParties.{Fills}
-use Rattle.replay.specs.Stops.{IsDiskAtStop, IsStopped}
-use Rattle.replay.specs.declared.failure.Failure.{Failure}
+use Rattle.open_parties.specs.Failing.{IsFailing, ReadsEither}
+use Rattle.open_parties.specs.OpenParties.{Fills}
+use Rattle.open_parties.specs.Stops.{IsDiskAtStop}
+use Rattle.replay.specs.Stops.{IsStopped}
+use Rattle.open_parties.specs.declared.failure.Failure.{Failure}
 use Rattle.replay.specs.declared.play_state.PlayState.{PlayState}
-use Rattle.replay.specs.declared.open_party.OpenParty.{OpenParty}
-use Rattle.replay.specs.declared.open_party.PartyDisk.{PartyDisk}
-use Rattle.replay.specs.declared.open_party.PartyDisk.TheVariants.{Open, Closed, Away}
-use Rattle.replay.specs.declared.expecting.Expected.{Expected}
-use Rattle.replay.specs.declared.stopped.FailedPartyDisk.{FailedPartyDisk}
+use Rattle.open_parties.specs.declared.open_party.OpenParty.{OpenParty}
+use Rattle.open_parties.specs.declared.open_party.PartyDisk.{PartyDisk}
+use Rattle.open_parties.specs.declared.open_party.PartyDisk.TheVariants.{Open, Closed, Away}
+use Rattle.open_parties.specs.Expecting.{AreExpected}
+use Rattle.open_parties.specs.declared.expecting.Expected.{Expected}
+use Rattle.open_parties.specs.declared.stopped.FailedPartyDisk.{FailedPartyDisk}
 
 -- the party was put back as it is after the event; what was planned to be written is among the texts, and its fact is noted
 pub record IsWhole {D : Type 0} (told : D → View) (p : PlannedNode D) (old new : PlayState D) (place : ℕ) (verdict : Verdict) : Type 0 where
@@ -57,14 +59,9 @@ pub record IsLeft {D : Type 0} (told : D → View) (p : PlannedNode D) (old new 
   pub fills : Fills old new place held
   pub fails : Tells (told p.node.disk) → IsFailing why × HoldsEither told held (member_of p.node) (after (member_of p.node) p.plan.edits) (is_change p.plan.edits ≡ true)
 
--- these are the members of which one stands after a stopped event of this member
-pub record AreExpected (e : Expected) (x : Member) (i : Option Input) (moment : ℕ) : Type 0 where
-  pub before : e.before ≡ x
-  pub after : e.after ≡ member_next x i moment
-
 -- on the disk that is begun an event of this member was carried out up to a call, or it failed; these are expected behind it
 pub record Begins {D : Type 0} (told : D → View) (node : Stored D) (i : Option Input) (moment n : ℕ) (e : Expected) (begun : Result D (FailedPartyDisk D)) : Type 0 where
-  pub expected : AreExpected e (member_of node) i moment
+  pub expected : AreExpected e (member_of node) (member_next (member_of node) i moment)
   pub at_stop : IfOk begun (λ disk. IsDiskAtStop (told node.disk) (told disk) (member_of node) (member_next (member_of node) i moment) (KeepsChange (member_of node) i moment) n)
   pub failing : IfErr begun (λ failed_disk. IsFailing failed_disk.why)
   pub reads : IfErr begun (λ failed_disk. Tells (told node.disk) → ReadsEither (told failed_disk.disk) (member_of node) (member_next (member_of node) i moment) (KeepsChange (member_of node) i moment))

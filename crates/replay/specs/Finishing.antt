@@ -9,10 +9,10 @@ use Rattle.course.specs.Course.{Course, LinesLead}
 use Rattle.replay.specs.Course.{IsAt}
 use Rattle.course.specs.Tallies.{IsTallied}
 use Rattle.replay.specs.PlayState.{Shows}
-use Rattle.replay.specs.OpenParties.{AreOpen}
+use Rattle.open_parties.specs.OpenParties.{AreOpen}
 use Rattle.course.specs.Transcript.{show_lines}
-use Rattle.replay.specs.declared.failure.Ending.{Ending}
-use Rattle.replay.specs.declared.failure.Failure.{Failure}
+use Rattle.open_parties.specs.declared.failure.Ending.{Ending}
+use Rattle.open_parties.specs.declared.failure.Failure.{Failure}
 use Rattle.replay.specs.declared.making.SetUpEnd.{SetUpEnd}
 use Rattle.replay.specs.declared.making.SetUpEnd.TheVariants.{NotEmpty, Failed}
 use Rattle.course.specs.declared.progress.Progress.{Progress}
@@ -20,8 +20,8 @@ use Rattle.replay.specs.declared.play_state.PlayState.{PlayState}
 use Rattle.course.specs.declared.tally.Tally.{Tally}
 use Rattle.replay.specs.declared.result.PlayResult.{PlayResult}
 use Rattle.x_base.specs.declared.verdict.Verdict.TheVariants as verdict
-use Rattle.replay.specs.declared.failure.Ending.TheVariants as ending
-use Rattle.replay.specs.declared.failure.Failure.TheVariants as failure
+use Rattle.open_parties.specs.declared.failure.Ending.TheVariants as ending
+use Rattle.open_parties.specs.declared.failure.Failure.TheVariants as failure
 use Rattle.replay.specs.declared.result.PlayResult.TheVariants as played
 
 -- the lines led to a course that the new state shows; its transcript was written with the show lines behind it

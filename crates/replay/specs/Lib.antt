@@ -7,10 +7,7 @@ pub mod Lines
 pub mod Playing
 pub mod SettingUp
 pub mod Breaks
-pub mod Closing
-pub mod Failing
 pub mod Finishing
-pub mod OpenParties
 pub mod Showing
 pub mod Around
 pub mod Events

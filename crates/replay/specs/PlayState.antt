@@ -11,7 +11,7 @@ use Rattle.world_laws.specs.Honest.{named_text}
 use Rattle.course.specs.Outcomes.{world_after_given, completion_of}
 use Rattle.course.specs.Stops.{KeepsChange, IsFixed}
 use Rattle.course.specs.declared.progress.Stop.{Stop}
-use Rattle.replay.specs.OpenParties.{members, AreIn, IsPlace}
+use Rattle.open_parties.specs.OpenParties.{members, AreIn, IsPlace}
 use Rattle.replay.specs.declared.play_state.PlayState.{PlayState}
 
 -- the open disks stand for the members of the network, and the texts and the named facts are its. Whether the disks tell

@@ -18,7 +18,7 @@ use Rattle.replay.specs.Crash.{AddsOnly, IsBehind, IsOfPlay, IsPartyOf}
 use Rattle.replay.specs.SettingUp.{ReadsBlank, AllReadBlank, IsSetUpEnd}
 use Rattle.course.specs.Starts.{start_course}
 use Rattle.course.specs.Transcript.{show_lines}
-use Rattle.replay.specs.declared.failure.Failure.{Failure}
+use Rattle.open_parties.specs.declared.failure.Failure.{Failure}
 use Rattle.replay.specs.declared.making.SetUpEnd.TheVariants.{NotEmpty, Failed}
 use Rattle.course.specs.declared.tally.Tally.{Tally}
 use Rattle.replay.specs.declared.result.PlayResult.{PlayResult}

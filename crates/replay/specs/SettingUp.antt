@@ -15,20 +15,21 @@ use Rattle.scenario.specs.declared.line.Line.{Line}
 use Rattle.member.specs.Member.{Member}
 use Rattle.node_core.specs.Turns.{member_of, IsImageOf, IsOldOrNext}
 use Rattle.replay.specs.Breaking.{AreOnShelf, AreDurable}
-use Rattle.replay.specs.Crash.{AddsOnly, disk_of, IsSetUpInPart}
-use Rattle.replay.specs.Failing.{IsFailing}
-use Rattle.replay.specs.Closing.{AllSlots, AreApart, OtherDisksStay}
-use Rattle.replay.specs.OpenParties.{open_party, members, owners, AreOpen, AreIn}
+use Rattle.replay.specs.Crash.{AddsOnly, IsSetUpInPart}
+use Rattle.open_parties.specs.Crash.{disk_of}
+use Rattle.open_parties.specs.Failing.{IsFailing}
+use Rattle.open_parties.specs.Closing.{AllSlots, AreApart, OtherDisksStay}
+use Rattle.open_parties.specs.OpenParties.{open_party, members, owners, AreOpen, AreIn}
 use Rattle.course.specs.Starts.{with_load, with_loads, loads_of, members_by}
-use Rattle.replay.specs.declared.failure.Failure.{Failure}
+use Rattle.open_parties.specs.declared.failure.Failure.{Failure}
 use Rattle.course.specs.declared.declaring.NewParty.{NewParty}
 use Rattle.replay.specs.declared.making.SetUpEnd.{SetUpEnd}
 use Rattle.replay.specs.declared.making.SetUpEnd.TheVariants.{NotEmpty, Failed}
-use Rattle.replay.specs.declared.open_party.OpenParty.{OpenParty}
-use Rattle.replay.specs.declared.open_party.PartyDisk.TheVariants.{Open}
+use Rattle.open_parties.specs.declared.open_party.OpenParty.{OpenParty}
+use Rattle.open_parties.specs.declared.open_party.PartyDisk.TheVariants.{Open}
 use Rattle.course.specs.Parties.{line_of_party, parties_in, new_member, full_member}
 use Rattle.key_journal.specs.declared.cause.Cause.TheVariants as cause
-use Rattle.replay.specs.declared.failure.Failure.TheVariants as failure
+use Rattle.open_parties.specs.declared.failure.Failure.TheVariants as failure
 
 -- ---- the parties of a scenario, and their disks
 

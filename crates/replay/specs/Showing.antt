@@ -1,7 +1,7 @@
 -- A writing that ends early (this project's profile).
-use Rattle.replay.specs.declared.failure.Ending.{Ending}
-use Rattle.replay.specs.declared.failure.Ending.TheVariants as ending
-use Rattle.replay.specs.declared.failure.Failure.TheVariants as failure
+use Rattle.open_parties.specs.declared.failure.Ending.{Ending}
+use Rattle.open_parties.specs.declared.failure.Ending.TheVariants as ending
+use Rattle.open_parties.specs.declared.failure.Failure.TheVariants as failure
 
 -- the sink failed, or no memory was left
 abbrev pub IsWriteEnd : Ending → Type 0

@@ -1,32 +1,12 @@
 -- A stopped event: it is begun, the power goes at a call of the disk, and the party is opened again. The party before
 -- the event stands, or the one after it (this project's profile).
-use Rattle.std.specs.Prelude.{◌≡◌, ◌⊎◌, ◌≤◌, ℕ, Bool, true, false, List, Some, is_some}
+use Rattle.std.specs.Prelude.{◌≡◌, ◌⊎◌, ℕ, Bool, true, false}
 use Rattle.x_disk.specs.Disk.{View, Tells}
-use Rattle.party_state.specs.State.{Party}
-use Rattle.change_code.specs.declared.format.Format.{Format}
-use Rattle.key_store.specs.Store.{Stored, StandsAs, IsStore}
+use Rattle.key_store.specs.Store.{Stored}
 use Rattle.member.specs.Member.{Member}
-use Rattle.node_core.specs.Turns.{IsImageOf, member_of}
+use Rattle.node_core.specs.Turns.{member_of}
 use Rattle.course.specs.Stops.{IsFixed}
 use Rattle.course.specs.declared.progress.Stop.{Stop}
-
--- a disk over which an event was carried out up to a call, before the power goes
-pub record IsDiskAtStop (v w : View) (x y : Member) (keep : Type 0) (n : ℕ) : Type 0 where
-  pub either : Tells v → (image : List ℕ) → w.may_leave image → IsImageOf x image ⊎ (keep × IsImageOf y image)
-  pub early : Tells v → keep → n ≤ 2 → (image : List ℕ) → w.may_leave image → IsImageOf x image
-  pub stable : keep → n ≤ 4 → (image : List ℕ) → w.stable ≡ Some image → IsImageOf x image
-  pub pending : keep → n ≡ 4 → w.faults ≡ 0 → (image : List ℕ) → w.now ≡ Some image → IsImageOf y image
-  pub whole : Tells v → keep → 5 ≤ n → (image : List ℕ) → w.may_leave image → IsImageOf y image
-  pub tells : is_some w.now ≡ is_some v.now
-
--- from a disk to the party that is opened once the power went, in the format in which it stands
-pub record IsRestarted (v w : View) (choice gate end : ℕ) (format : Format) (party : Party) : Type 0 where
-  pub store : IsStore w gate end format party
-  pub among : (image : List ℕ) → w.now ≡ Some image → v.may_leave image
-  pub stable : choice ≡ 0 → w.now ≡ v.stable
-  pub now : choice ≡ 1 → w.now ≡ v.now
-  pub exact : (image : List ℕ) (other : Format) (another : Party) → w.now ≡ Some image → StandsAs image other another → (format ≡ other) × (party ≡ another)
-  pub tells : is_some w.now ≡ is_some v.now
 
 -- the party that is opened is x or y, and where the disks tell their bytes, which it is, is said
 pub record IsStopped {D : Type 0} (tell : Bool) (told : D → View) (x y : Member) (keep : Type 0) (stop : Stop) (before after : ℕ) (new : Stored D) (next : Bool) : Type 0 where

@@ -2,10 +2,10 @@
 ghost use Rattle.std.specs.Prelude.{◌≡◌};
 ghost use Rattle.replay.specs.Finishing.{end_of, answer_of, set_up_answer};
 
-use crate::failure::{Ending, Failure};
 use crate::making::SetUpEnd;
 use crate::result::PlayResult;
 use course::Tally;
+use open_parties::{Ending, Failure};
 use x_base::Verdict;
 
 /// How a play ended, where a disk may not have been put back: an end that came before stays.

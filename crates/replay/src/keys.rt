@@ -1,10 +1,10 @@
 // How many key records of all parties have a status.
 ghost use Rattle.std.specs.Prelude.{◌≡◌, ◌≤◌, length};
 ghost use Rattle.course.specs.Tallies.{count_status, records_of};
-ghost use Rattle.replay.specs.OpenParties.{AreOpen, members};
+ghost use Rattle.open_parties.specs.OpenParties.{AreOpen, members};
 
-use crate::open_parties::OpenParties;
 use course::count_in;
+use open_parties::OpenParties;
 use party_state::KeyStatus;
 use x_disk::Disk;
 

@@ -5,21 +5,15 @@
 
 mod acting;
 mod answering;
-mod closing;
-mod expecting;
-mod failure;
 mod keys;
 mod lines;
 mod making;
-mod open_parties;
-mod open_party;
 mod play_state;
 mod playing;
 mod restarting;
 mod result;
 mod setting_up;
 mod showing;
-mod stopped;
 mod tallying;
 mod whole;
 mod writing;

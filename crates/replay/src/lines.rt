@@ -1,19 +1,20 @@
 // The lines are played, one after the other.
 ghost use Rattle.std.specs.Prelude.{◌≡◌, ◌≤◌, ◌<◌, ◌^◌, ℕ, length, option_map, slice_get, Err, IfOk};
 ghost use Rattle.replay.specs.Breaking.{BreaksIn};
-ghost use Rattle.replay.specs.Around.{Around, SinkStays};
-ghost use Rattle.replay.specs.Closing.{AllSlots};
+ghost use Rattle.open_parties.specs.Around.{Around};
+ghost use Rattle.replay.specs.Around.{SinkStays};
+ghost use Rattle.open_parties.specs.Closing.{AllSlots};
 ghost use Rattle.replay.specs.Crash.{CrossesLines};
 ghost use Rattle.replay.specs.Lines.{Plays, ForgesIn};
 ghost use Rattle.course.specs.Outcomes.{IsWithin};
-ghost use Rattle.replay.specs.OpenParties.{AreOpen, owners};
+ghost use Rattle.open_parties.specs.OpenParties.{AreOpen, owners};
 ghost use Rattle.course.specs.Starts.{start_progress};
 
 use crate::acting::play_act;
-use crate::failure::Ending;
 use crate::play_state::PlayState;
 use crate::writing::write_event;
 use course::{Progress, act_at, advance_quiet, start};
+use open_parties::Ending;
 use scenario::Line;
 use std::alloc::Global;
 use x_base::Sink;

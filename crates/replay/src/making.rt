@@ -10,13 +10,12 @@ ghost use Rattle.course.specs.Starts.{load_at, loads_of};
 ghost use Rattle.course.specs.Parties.{new_member, full_member};
 ghost use Rattle.replay.specs.SettingUp.{least_room, HasPlace, CanLoad, HasBegun, IsLoad, IsLoadOrSame, IsLoadedTo, IsPartlyLoaded, IsSetUp, BeginsOnly, IsFailedSetUpDisk, EndsBy};
 
-use crate::failure::Failure;
-use crate::stopped::{FailedPartyDisk, failure_by, failure_of};
 use change_code::law_short_code;
 use course::{NewParty, is_head, load_at};
 use key_journal::{Cause, Unmade};
 use key_store::{Kept, Store};
 use node_core::Node;
+use open_parties::{FailedPartyDisk, Failure, failure_by, failure_of};
 use party_state::{Change, Edit, LinkRec};
 use scenario::Line;
 use std::alloc::Global;

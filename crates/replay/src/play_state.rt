@@ -1,6 +1,6 @@
 // The state of a play: the open parties, the texts that were written, and the facts.
-use crate::open_parties::OpenParties;
 use fact_book::{FactBook, Texts};
+use open_parties::OpenParties;
 use x_disk::Disk;
 
 /// The open parties, the texts that were written, and the facts.

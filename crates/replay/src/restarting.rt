@@ -3,18 +3,16 @@ ghost use Rattle.std.specs.Prelude.{◌≡◌, ◌⊎◌, ◌<◌, ℕ, Option, 
 ghost use Rattle.x_base.specs.Edge.{Rose};
 ghost use Rattle.party_state.specs.declared.command.Input.{Input as TheInput};
 ghost use Rattle.key_store.specs.Store.{Stored};
-ghost use Rattle.replay.specs.Around.{ShelfStays};
-ghost use Rattle.replay.specs.Closing.{AnyFaulty};
-ghost use Rattle.replay.specs.Crash.{IsHeldAgain, disk_begun};
+ghost use Rattle.open_parties.specs.Around.{ShelfStays};
+ghost use Rattle.open_parties.specs.Closing.{AnyFaulty};
+ghost use Rattle.open_parties.specs.Crash.{IsHeldAgain, disk_begun};
 ghost use Rattle.replay.specs.Events.{Begins, IsStopLeft, IsStoppedIn};
-ghost use Rattle.replay.specs.OpenParties.{IsEmptyAt};
+ghost use Rattle.open_parties.specs.OpenParties.{IsEmptyAt};
 
-use crate::expecting::Expected;
-use crate::failure::Failure;
-use crate::open_parties::OpenParties;
-use crate::open_party::PartyDisk;
-use crate::stopped::{FailedPartyDisk, put_back_and_fetch, restart};
 use course::Stop;
+use open_parties::{
+    Expected, FailedPartyDisk, Failure, OpenParties, PartyDisk, put_back_and_fetch, restart,
+};
 use std::alloc::Global;
 use x_base::Ident;
 use x_disk::Shelf;

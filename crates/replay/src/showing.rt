@@ -3,12 +3,11 @@ ghost use Rattle.std.specs.Prelude.{Err, IfErr, OnOk, OnErr};
 ghost use Rattle.x_base.specs.Edge.{AppendsTo, WrotePrefix};
 ghost use Rattle.party_show.specs.Show.{shown};
 ghost use Rattle.replay.specs.Around.{SinkStays};
-ghost use Rattle.replay.specs.OpenParties.{AreOpen, members};
+ghost use Rattle.open_parties.specs.OpenParties.{AreOpen, members};
 ghost use Rattle.replay.specs.Showing.{IsWriteEnd};
 ghost use Rattle.course.specs.Transcript.{show_lines};
 
-use crate::failure::Ending;
-use crate::open_parties::OpenParties;
+use open_parties::{Ending, OpenParties};
 use party_show::show_text;
 use party_state::State;
 use std::alloc::Global;

@@ -1,11 +1,11 @@
 // The tally of a play at its end.
 ghost use Rattle.std.specs.Prelude.{◌≤◌, length};
 ghost use Rattle.course.specs.Tallies.{IsTallied};
-ghost use Rattle.replay.specs.OpenParties.{AreOpen, members};
+ghost use Rattle.open_parties.specs.OpenParties.{AreOpen, members};
 
 use crate::keys::count_keys;
-use crate::open_parties::OpenParties;
 use course::{Progress, Tally};
+use open_parties::OpenParties;
 use party_state::KeyStatus;
 use x_disk::Disk;
 

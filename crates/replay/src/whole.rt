@@ -3,18 +3,16 @@ ghost use Rattle.std.specs.Prelude.{◌≡◌, true, Err, IfOk, IfErr};
 ghost use Rattle.change_code.specs.Cost.{is_change};
 ghost use Rattle.member.specs.Member.{after};
 ghost use Rattle.node_core.specs.Turns.{member_of};
-ghost use Rattle.replay.specs.Closing.{AnyFaulty};
-ghost use Rattle.replay.specs.Crash.{HoldsSince};
+ghost use Rattle.open_parties.specs.Closing.{AnyFaulty};
+ghost use Rattle.open_parties.specs.Crash.{HoldsSince};
 ghost use Rattle.replay.specs.Events.{IsWhole, IsLeft};
-ghost use Rattle.replay.specs.OpenParties.{IsEmptyAt};
+ghost use Rattle.open_parties.specs.OpenParties.{IsEmptyAt};
 
-use crate::failure::Failure;
-use crate::open_party::PartyDisk;
 use crate::play_state::PlayState;
-use crate::stopped::failure_by;
 use course::note;
 use key_journal::Unmade;
 use node_core::{Planned, Turn};
+use open_parties::{Failure, PartyDisk, failure_by};
 use x_base::Verdict;
 use x_disk::Disk;
 

@@ -5,8 +5,8 @@ ghost use Rattle.replay.specs.Around.{SinkStays};
 ghost use Rattle.replay.specs.Breaking.{IsBreak};
 ghost use Rattle.course.specs.Transcript.{outcome_line, text_line};
 
-use crate::failure::{Ending, Failure};
 use course::{EventOutcome, compose_event};
+use open_parties::{Ending, Failure};
 use x_base::{Sink, SinkFault, put_all};
 
 /// Writes the lines of an event: what became of it, and the text that it wrote, if it did. They are put together in memory

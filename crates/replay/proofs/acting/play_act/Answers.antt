@@ -3,9 +3,9 @@ use Rattle.course.specs.declared.act.LineAct.TheVariants as act
 use Rattle.course.specs.declared.progress.EventOutcome.TheVariants as outcome
 use Rattle.replay.specs.Acting.{PlaysAt, Acts, Forges}
 use Rattle.replay.specs.Breaks.{BreaksAct}
-use Rattle.replay.specs.declared.failure.Ending.TheVariants as ending
+use Rattle.open_parties.specs.declared.failure.Ending.TheVariants as ending
 use Rattle.replay.proofs.Happened.{acts_nothing, acts_nobody, acts_given, acts_unheard, acts_unheard_nobody, forges_given}
-use Rattle.replay.proofs.Results.{if_ok, of_if_err}
+use Rattle.open_parties.proofs.Results.{if_ok, of_if_err}
 use Rattle.replay.proofs.Unfinished.{refused_act}
 use Rattle.replay.specs.Crash.{Crosses}
 use Rattle.replay.proofs.Crossing.{still_crosses}

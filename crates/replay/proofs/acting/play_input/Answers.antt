@@ -7,19 +7,19 @@ use Rattle.member.specs.Leads.{lead_in}
 use Rattle.course.specs.declared.act.LineAct.TheVariants as act
 use Rattle.course.specs.declared.progress.EventOutcome.TheVariants as outcome
 use Rattle.replay.specs.Breaks.{BreaksAct}
-use Rattle.replay.specs.declared.failure.Ending.TheVariants as ending
-use Rattle.replay.specs.declared.failure.Failure.TheVariants as failure
+use Rattle.open_parties.specs.declared.failure.Ending.TheVariants as ending
+use Rattle.open_parties.specs.declared.failure.Failure.TheVariants as failure
 use Rattle.replay.specs.declared.play_state.PlayState.{PlayState}
-use Rattle.replay.specs.declared.open_party.PartyDisk.TheVariants.{Open}
+use Rattle.open_parties.specs.declared.open_party.PartyDisk.TheVariants.{Open}
 use Rattle.replay.proofs.Eventing.{planned_of, taken_out_of, taken_out_again, stopped_plan, input_whole, input_cut, input_breaks, left_so}
 use Rattle.replay.proofs.Happened.{plays_whole, plays_stopped}
 use Rattle.replay.proofs.Judging.{honest_there, forged_there}
 use Rattle.replay.proofs.Planning.{plan_lead}
-use Rattle.replay.proofs.Results.{one_err}
-use Rattle.replay.proofs.Surrounding.{around_place, shelf_same, refilled, filled_open, slot_at}
+use Rattle.open_parties.proofs.Results.{one_err}
+use Rattle.open_parties.proofs.Surrounding.{around_place, shelf_same, refilled, filled_open, slot_at}
 use Rattle.replay.proofs.Unfinished.{breaks_honest, given_act, unplanned}
 use Rattle.replay.proofs.Crossing.{input_crosses, planned_holds_again, still_crosses, told_crosses}
-use Rattle.replay.proofs.HoldingAgain.{holds_since}
+use Rattle.open_parties.proofs.HoldingAgain.{holds_since}
 use Rattle.x_disk.specs.Shelf.{alike_refl}
 use Rattle.replay.proofs.acting.play_input.Goals as goal
 

@@ -1,7 +1,7 @@
-use Rattle.std.proofs.Common.{◌≡◌, refl, Some, ◌∙◌, ap}
+use Rattle.std.proofs.Common.{refl, Some, ◌∙◌, ap}
 use Rattle.std.proofs.lemmas.Result.{err_from_is_err_and}
 use Rattle.replay.proofs.Leaving.{left_same, left_stopped, begins_of}
-use Rattle.replay.specs.Crash.{disk_begun}
+use Rattle.open_parties.specs.Crash.{disk_begun}
 use Rattle.replay.proofs.HoldingAgain.{holds_again_same, holds_again_stopped}
 use Rattle.replay.proofs.acting.play_stopped.Goals as goal
 

@@ -1,15 +1,15 @@
 use Rattle.std.proofs.Common.{◌≡◌, Ok, Err, None, ap, refl}
 use Rattle.std.proofs.lemmas.Result.{err_from_is_err_and}
-use Rattle.replay.specs.declared.failure.Ending.TheVariants as ending
-use Rattle.replay.specs.declared.failure.Failure.TheVariants as failure
+use Rattle.open_parties.specs.declared.failure.Ending.TheVariants as ending
+use Rattle.open_parties.specs.declared.failure.Failure.TheVariants as failure
 use Rattle.course.specs.declared.progress.EventOutcome.TheVariants as outcome
 use Rattle.replay.specs.declared.play_state.PlayState.{PlayState}
-use Rattle.replay.specs.declared.open_party.PartyDisk.TheVariants.{Open}
+use Rattle.open_parties.specs.declared.open_party.PartyDisk.TheVariants.{Open}
 use Rattle.replay.proofs.Eventing.{unheard_cut, unheard_breaks}
 use Rattle.replay.proofs.Happened.{plays_stopped, plays_unheard}
 use Rattle.replay.proofs.Judging.{member_there}
 use Rattle.replay.proofs.Leaving.{begins_idle, left_same}
-use Rattle.replay.proofs.Surrounding.{around_place, filled_open, refilled, slot_at}
+use Rattle.open_parties.proofs.Surrounding.{around_place, filled_open, refilled, slot_at}
 use Rattle.replay.proofs.Unfinished.{breaks_honest}
 use Rattle.course.specs.declared.act.LineAct.TheVariants as act
 use Rattle.replay.proofs.Crossing.{crosses_at, refused_crosses, still_crosses}
@@ -52,7 +52,7 @@ returns-in_err-reopen-clause-broken g c =
     let new : PlayState _ = record { parties = c.reopen.new.parties; texts = old.texts; facts = old.facts } in
     let node = c.take_out-node.result in
     let moment = c.args.now.now.moment in
-    let begun = begins_idle told node c.into_disk.result moment c.in-Some.stop.n c.in-Ok.expected (c.in-Ok.ensures moment) c.into_disk.ensures.disk c.into_disk.ensures.durable c.view.ensures.stands in
+    let begun = begins_idle told node c.into_disk.result moment c.in-Some.stop.n c.in-Ok.expected c.in-Ok.ensures c.into_disk.ensures.disk c.into_disk.ensures.durable c.view.ensures.stands in
     let p = err_from_is_err_and c.from_residual.result c.from_residual.ensures.1 in
     let failed = c.in_err-reopen.field-0.0 in
     rw (p.1, p.2) (
@@ -71,7 +71,7 @@ returns-in_err-reopen-clause-around g c =
     let faults = g.H.Shelf.faults in
     let node = c.take_out-node.result in
     let moment = c.args.now.now.moment in
-    let begun = begins_idle told node c.into_disk.result moment c.in-Some.stop.n c.in-Ok.expected (c.in-Ok.ensures moment) c.into_disk.ensures.disk c.into_disk.ensures.durable c.view.ensures.stands in
+    let begun = begins_idle told node c.into_disk.result moment c.in-Some.stop.n c.in-Ok.expected c.in-Ok.ensures c.into_disk.ensures.disk c.into_disk.ensures.durable c.view.ensures.stands in
     let p = err_from_is_err_and c.from_residual.result c.from_residual.ensures.1 in
     let left = c.in_err-reopen.ensures.left node None moment begun in
     rw (p.1, p.2) (around_place c.args.play_state.now.parties c.take_out-node.new.self c.reopen.new.parties c.args.place node c.take_out-node.ensures left.held left.fills told c.args.own.now c.requires.placed
@@ -87,7 +87,7 @@ returns-clause-played g c =
     let new : PlayState _ = record { parties = c.reopen.new.parties; texts = old.texts; facts = old.facts } in
     let node = c.take_out-node.result in
     let moment = c.args.now.now.moment in
-    let begun = begins_idle told node c.into_disk.result moment c.in-Some.stop.n c.in-Ok.expected (c.in-Ok.ensures moment) c.into_disk.ensures.disk c.into_disk.ensures.durable c.view.ensures.stands in
+    let begun = begins_idle told node c.into_disk.result moment c.in-Some.stop.n c.in-Ok.expected c.in-Ok.ensures c.into_disk.ensures.disk c.into_disk.ensures.durable c.view.ensures.stands in
     plays_stopped told (faults c.args.shelf.now) (faults c.reopen.new.shelf) old new c.args.place None c.args.number c.args.now.now c.in-Some.stop c.in_ok-reopen.field-0 c.in-Some.is
     (λ tell w own is_place shows. (let m = member_there tell told old c.args.place c.requires.within c.requires.all_open w own is_place shows in (m.0, m.1, tt)))
     (unheard_cut told old mid new c.args.place node c.take_out-node.ensures refl refl moment c.in-Some.stop (faults c.args.shelf.now) (faults c.reopen.new.shelf) c.in_ok-reopen.field-0 (c.in_ok-reopen.ensures.stopped node None moment begun))
@@ -100,7 +100,7 @@ returns-clause-around g c =
     let faults = g.H.Shelf.faults in
     let node = c.take_out-node.result in
     let moment = c.args.now.now.moment in
-    let begun = begins_idle told node c.into_disk.result moment c.in-Some.stop.n c.in-Ok.expected (c.in-Ok.ensures moment) c.into_disk.ensures.disk c.into_disk.ensures.durable c.view.ensures.stands in
+    let begun = begins_idle told node c.into_disk.result moment c.in-Some.stop.n c.in-Ok.expected c.in-Ok.ensures c.into_disk.ensures.disk c.into_disk.ensures.durable c.view.ensures.stands in
     let s = c.in_ok-reopen.ensures.stopped node None moment begun in
     around_place c.args.play_state.now.parties c.take_out-node.new.self c.reopen.new.parties c.args.place node c.take_out-node.ensures (Open s.opened) s.fills told c.args.own.now c.requires.placed
     (entry c.args.shelf.now) (entry c.reopen.new.shelf) (slot c.args.shelf.now) (slot c.reopen.new.shelf) (faults c.args.shelf.now) (faults c.reopen.new.shelf) (Ok outcome.Stopped) c.reopen.ensures.shelf

@@ -1,6 +1,6 @@
 use Rattle.std.proofs.Common.{◌≡◌, ◌≤◌, ◌*◌, take}
 use Rattle.course.specs.Tallies.{count_status, records_of}
-use Rattle.replay.specs.OpenParties.{members}
+use Rattle.open_parties.specs.OpenParties.{members}
 use Rattle.replay.proofs.keys.count_keys.Given as goal
 
 abbrev pub invariant-loop-place : goal.invariant-loop-place

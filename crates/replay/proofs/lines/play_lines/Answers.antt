@@ -1,6 +1,5 @@
-use Rattle.std.proofs.Common.{◌≡◌, ◌++◌, [], ◌∷◌, take, Ok, Err, IfSome, IfNone, option_map, sym, refl, ap, ◌∙◌, subst, arith}
+use Rattle.std.proofs.Common.{◌≡◌, ◌++◌, [], ◌∷◌, take, Ok, Err, IfSome, IfNone, option_map, sym, refl, ap, ◌∙◌, subst, arith, take-append-drop, drop}
 use Rattle.std.proofs.lemmas.List.{take_all, take_more}
-use Rattle.std.proofs.Common.{take-append-drop, drop}
 use Rattle.std.proofs.lemmas.Result.{err_from_is_err_and}
 use Rattle.course.specs.LineEvents.{IsNoEvent}
 use Rattle.course.specs.Meanings.{IsLineAct}
@@ -9,19 +8,19 @@ use Rattle.course.specs.declared.progress.Progress.{Progress}
 use Rattle.x_disk.specs.Shelf.{alike_refl}
 use Rattle.course.specs.Starts.{start_progress}
 use Rattle.replay.specs.Breaking.{IsBreak}
-use Rattle.replay.specs.Closing.{AllSlots}
+use Rattle.open_parties.specs.Closing.{AllSlots}
 use Rattle.replay.specs.Crash.{CrossesLines}
 use Rattle.replay.specs.Lines.{Plays}
-use Rattle.replay.specs.OpenParties.{owners}
-use Rattle.replay.specs.declared.failure.Ending.TheVariants as ending
-use Rattle.replay.specs.declared.failure.Failure.TheVariants as failure
+use Rattle.open_parties.specs.OpenParties.{owners}
+use Rattle.open_parties.specs.declared.failure.Ending.TheVariants as ending
+use Rattle.open_parties.specs.declared.failure.Failure.TheVariants as failure
 use Rattle.replay.proofs.BreakingOff.{BreaksLine, breaks_ahead, breaks_event, breaks_in}
 use Rattle.replay.proofs.Leading.{event_within, forges_event, forges_in, plays_event, plays_on, plays_quiet, quiet_within, some_map}
 use Rattle.replay.proofs.LineByLine.{crosses_in, crosses_line, crosses_more, crosses_none, crosses_on}
-use Rattle.replay.proofs.Owning.{slots_stay}
-use Rattle.replay.proofs.PuttingBack.{rose_on}
-use Rattle.replay.proofs.Results.{one_err}
-use Rattle.replay.proofs.Surrounding.{around_err, around_late, around_ok, around_on}
+use Rattle.open_parties.proofs.Owning.{slots_stay}
+use Rattle.open_parties.proofs.PuttingBack.{rose_on}
+use Rattle.open_parties.proofs.Results.{one_err}
+use Rattle.open_parties.proofs.Surrounding.{around_err, around_late, around_ok, around_on}
 use Rattle.replay.proofs.Unfinished.{act_breaks, lines_break}
 use Rattle.replay.proofs.lines.play_lines.Goals as goal
 

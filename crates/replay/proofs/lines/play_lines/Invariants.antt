@@ -1,5 +1,5 @@
 use Rattle.std.proofs.Common.{◌≤◌, take, Ok}
-use Rattle.replay.specs.Around.{Around}
+use Rattle.open_parties.specs.Around.{Around}
 use Rattle.replay.specs.Crash.{CrossesLines}
 use Rattle.replay.specs.Lines.{Plays}
 use Rattle.course.specs.Outcomes.{IsWithin}

@@ -4,16 +4,17 @@ use Rattle.scenario.specs.declared.line.Line.{Line}
 use Rattle.replay.specs.Playing.{around, IsPlay, IsPlayOn, IsRunBy}
 use Rattle.course.specs.Parties.{parties_in}
 use Rattle.course.specs.Starts.{start_course, start_members}
-use Rattle.replay.specs.Crash.{AddsOnly, IsOfLines, disk_of}
-use Rattle.replay.specs.OpenParties.{owners, NoneOf}
+use Rattle.replay.specs.Crash.{AddsOnly, IsOfLines}
+use Rattle.open_parties.specs.Crash.{disk_of}
+use Rattle.open_parties.specs.OpenParties.{owners, NoneOf}
 use Rattle.replay.proofs.Adding.{adds_none}
 use Rattle.replay.proofs.Causes.{behind_set_up, ended_in_set_up}
 use Rattle.replay.proofs.Concluding.{failed_set_up_runs}
 use Rattle.replay.proofs.LineByLine.{disk_sound}
 use Rattle.replay.proofs.Throughout.{OfPlay, blank_of, play_leaves, owned_or_not, set_up_leaves}
-use Rattle.replay.proofs.Owning.{none_absent, count_owners}
+use Rattle.open_parties.proofs.Owning.{none_absent, count_owners}
 use Rattle.replay.proofs.Declaring.{few_parties}
-use Rattle.replay.proofs.PuttingBack.{alike_on}
+use Rattle.open_parties.proofs.PuttingBack.{alike_on}
 use Rattle.replay.proofs.playing.play.Goals as goal
 
 pub play_parties-requires-clause-few : goal.play_parties-requires-clause-few

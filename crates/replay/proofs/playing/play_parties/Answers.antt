@@ -1,17 +1,18 @@
 use Rattle.std.proofs.Common.{true, false, sym, ap, subst, ◌∙◌, arith}
 use Rattle.course.specs.Starts.{start_course}
-use Rattle.replay.specs.Closing.{AllSlots, AnyFaulty}
-use Rattle.replay.specs.Crash.{IsOfLines, disk_of}
+use Rattle.open_parties.specs.Closing.{AllSlots, AnyFaulty}
+use Rattle.replay.specs.Crash.{IsOfLines}
+use Rattle.open_parties.specs.Crash.{disk_of}
 use Rattle.replay.specs.Finishing.{answer_of}
 use Rattle.replay.specs.Playing.{around, IsPlayOn, IsRunBy}
-use Rattle.replay.specs.OpenParties.{owners}
+use Rattle.open_parties.specs.OpenParties.{owners}
 use Rattle.replay.specs.declared.play_state.PlayState.{PlayState}
 use Rattle.replay.proofs.Adding.{adds_end}
-use Rattle.replay.proofs.Holding.{back_on_shelf}
+use Rattle.open_parties.proofs.Holding.{back_on_shelf}
 use Rattle.replay.proofs.Causes.{write_fault_by, disk_fault_rose, never_refused}
 use Rattle.replay.proofs.Concluding.{starts, concludes, runs}
-use Rattle.replay.proofs.Owning.{slots_stay, apart_alike, none_alike}
-use Rattle.replay.proofs.PuttingBack.{alike_on}
+use Rattle.open_parties.proofs.Owning.{slots_stay, apart_alike, none_alike}
+use Rattle.open_parties.proofs.PuttingBack.{alike_on}
 use Rattle.replay.proofs.playing.play_parties.Goals as goal
 
 pub put_back_all-back-requires-clause-slots : goal.put_back_all-back-requires-clause-slots

@@ -2,8 +2,8 @@ use Rattle.std.proofs.Common.{◌≡◌, ◌∙◌, Err, sym, ap, subst, arith, 
 use Rattle.replay.specs.Showing.{IsWriteEnd}
 use Rattle.course.specs.Starts.{start_progress}
 use Rattle.replay.proofs.Concluding.{finishes, breaks_before, breaks_behind}
-use Rattle.replay.proofs.Owning.{count_owners}
-use Rattle.replay.proofs.Results.{of_err}
+use Rattle.open_parties.proofs.Owning.{count_owners}
+use Rattle.open_parties.proofs.Results.{of_err}
 use Rattle.replay.proofs.playing.play_to_end.Goals as goal
 
 pub tally_of-tally-requires-clause-few : goal.tally_of-tally-requires-clause-few

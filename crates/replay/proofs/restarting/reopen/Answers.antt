@@ -1,12 +1,12 @@
 use Rattle.std.proofs.Common.{◌≡◌, inr, ◌<◌, true, false, IfErr, sym, ◌∙◌, ap, subst, refl}
 use Rattle.std.proofs.lemmas.Result.{err_from_is_err_and}
-use Rattle.replay.specs.declared.failure.Failure.TheVariants as failure
+use Rattle.open_parties.specs.declared.failure.Failure.TheVariants as failure
 use Rattle.replay.proofs.Leaving.{reopened, left_other, left_out, left_failed, left_begun}
 use Rattle.x_disk.proofs.Runs.{began}
-use Rattle.replay.specs.Crash.{disk_begun}
-use Rattle.replay.specs.declared.open_party.PartyDisk.TheVariants.{Open, Closed, Away}
-use Rattle.replay.proofs.HoldingAgain.{again_leaves, back_leaves, holds_again_begun}
-use Rattle.replay.proofs.Surrounding.{empty_within, filled_faulty}
+use Rattle.open_parties.specs.Crash.{disk_begun}
+use Rattle.open_parties.specs.declared.open_party.PartyDisk.TheVariants.{Open, Closed, Away}
+use Rattle.open_parties.proofs.HoldingAgain.{again_leaves, back_leaves, holds_again_begun}
+use Rattle.open_parties.proofs.Surrounding.{empty_within, filled_faulty}
 use Rattle.replay.proofs.restarting.reopen.Goals as goal
 
 pub put_in-requires : goal.put_in-requires

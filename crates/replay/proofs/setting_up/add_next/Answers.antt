@@ -1,12 +1,12 @@
 use Rattle.std.proofs.Common.{◌≡◌, ◌∙◌, ◌∷◌, [], length, length-append, Option, Some, arith, sym, ap, subst}
 use Rattle.course.specs.Parties.{new_party}
 use Rattle.course.specs.declared.declaring.NewParty.{NewParty}
-use Rattle.replay.specs.OpenParties.{open_party}
+use Rattle.open_parties.specs.OpenParties.{open_party}
 use Rattle.replay.specs.SettingUp.{AddsNext, FailsSetUpNext}
-use Rattle.replay.specs.declared.failure.Failure.TheVariants as failure
+use Rattle.open_parties.specs.declared.failure.Failure.TheVariants as failure
 use Rattle.replay.specs.declared.making.SetUpEnd.TheVariants.{Failed}
 use Rattle.replay.proofs.Joining.{none_made}
-use Rattle.replay.specs.declared.open_party.PartyDisk.TheVariants.{Away}
+use Rattle.open_parties.specs.declared.open_party.PartyDisk.TheVariants.{Away}
 use Rattle.replay.proofs.setting_up.add_next.Goals as goal
 
 pub put_in-requires : goal.put_in-requires

@@ -1,6 +1,6 @@
 use Rattle.std.proofs.Common.{◌≡◌, inr, Err, refl, ap}
-use Rattle.replay.specs.declared.failure.Failure.TheVariants as failure
-use Rattle.replay.proofs.Losing.{fails_undamaged}
+use Rattle.open_parties.specs.declared.failure.Failure.TheVariants as failure
+use Rattle.open_parties.proofs.Losing.{fails_undamaged}
 use Rattle.replay.proofs.setting_up.end_all.Goals as goal
 
 pub returns-in-Err-clause-end : goal.returns-in-Err-clause-end

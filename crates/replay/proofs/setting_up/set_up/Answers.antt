@@ -4,17 +4,17 @@ use Rattle.std.proofs.lemmas.List.{take_all}
 use Rattle.scenario.specs.declared.line.Line.{Line}
 use Rattle.scenario.specs.Behind.{EachBehind}
 use Rattle.scenario.specs.Rules.{may_follow}
-use Rattle.replay.specs.Closing.{AllBack, AllSlots, OtherDisksStay}
-use Rattle.replay.specs.OpenParties.{owners}
+use Rattle.open_parties.specs.Closing.{AllBack, AllSlots, OtherDisksStay}
+use Rattle.open_parties.specs.OpenParties.{owners}
 use Rattle.course.specs.Parties.{parties_in}
 use Rattle.replay.specs.SettingUp.{AllTell, SetsUpOnly, IsSetUpEnd}
-use Rattle.replay.specs.declared.failure.Failure.TheVariants as failure
+use Rattle.open_parties.specs.declared.failure.Failure.TheVariants as failure
 use Rattle.replay.specs.declared.making.SetUpEnd.TheVariants.{Failed}
-use Rattle.replay.specs.declared.open_party.OpenParty.{OpenParty}
+use Rattle.open_parties.specs.declared.open_party.OpenParty.{OpenParty}
 use Rattle.replay.proofs.Halting.{halts, halts_only, halts_others}
 use Rattle.replay.proofs.Joining.{none_set_up, set_up_more, strangers, apart_next}
-use Rattle.replay.proofs.Owning.{slots_stay}
-use Rattle.replay.proofs.PuttingBack.{rose_on, rose_then}
+use Rattle.open_parties.proofs.Owning.{slots_stay}
+use Rattle.open_parties.proofs.PuttingBack.{rose_on, rose_then}
 use Rattle.replay.proofs.setting_up.set_up.Goals as goal
 
 pub loop-line-init : goal.loop-line-init

@@ -1,9 +1,9 @@
 use Rattle.std.proofs.Common.{arith}
 use Rattle.x_base.specs.Edge.{WrotePrefix}
 use Rattle.course.specs.Transcript.{show_lines}
-use Rattle.replay.specs.OpenParties.{members}
+use Rattle.open_parties.specs.OpenParties.{members}
 use Rattle.replay.proofs.Gathering.{shows_more, shows_part}
-use Rattle.replay.proofs.Results.{on_err}
+use Rattle.open_parties.proofs.Results.{on_err}
 use Rattle.replay.proofs.showing.write_shows.Goals as goal
 
 pub loop-place-preserved : goal.loop-place-preserved

@@ -1,6 +1,6 @@
 use Rattle.std.proofs.Common.{◌≤◌, take}
 use Rattle.x_base.specs.Edge.{AppendsTo}
-use Rattle.replay.specs.OpenParties.{members}
+use Rattle.open_parties.specs.OpenParties.{members}
 use Rattle.course.specs.Transcript.{show_lines}
 use Rattle.replay.proofs.showing.write_shows.Given as goal
 

@@ -1,15 +1,16 @@
-use Rattle.std.proofs.Common.{◌≡◌, ◌<◌, sym, ◌∙◌, ap, refl, subst}
+use Rattle.std.proofs.Common.{◌≡◌, ◌<◌, sym, ◌∙◌, subst}
 use Rattle.std.proofs.lemmas.Result.{err_from_is_err_and}
 use Rattle.key_journal.specs.Opening.{IsFree}
-use Rattle.replay.specs.declared.failure.Failure.TheVariants as failure
+use Rattle.open_parties.specs.declared.failure.Failure.TheVariants as failure
 use Rattle.replay.proofs.Begun.{free_cause, rose_above}
-use Rattle.replay.proofs.Carrying.{is_fault}
+use Rattle.open_parties.proofs.Carrying.{is_fault}
 use Rattle.replay.proofs.Leaving.{whole_by, left_done, left_memory, left_broken}
 use Rattle.node_core.specs.declared.node.Turn.TheVariants as turn
-use Rattle.replay.specs.declared.open_party.PartyDisk.TheVariants.{Open, Closed}
+use Rattle.open_parties.specs.declared.open_party.PartyDisk.TheVariants.{Open, Closed}
 use Rattle.x_disk.specs.Disk.{LeavesOnly}
-use Rattle.replay.proofs.HoldingAgain.{EitherOf, holds_since_turn}
-use Rattle.replay.proofs.Surrounding.{empty_within, filled_faulty}
+use Rattle.open_parties.proofs.HoldingAgain.{EitherOf}
+use Rattle.open_parties.proofs.HoldingAgain.{holds_since_turn}
+use Rattle.open_parties.proofs.Surrounding.{empty_within, filled_faulty}
 use Rattle.replay.proofs.whole.play_whole.Goals as goal
 
 pub put_in-requires : goal.put_in-requires
