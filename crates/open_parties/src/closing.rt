@@ -27,7 +27,10 @@ pub fn put_disk<H: Shelf>(shelf: &mut H, own: &Ident, disk: H::Disk) -> Result<(
 }
 
 /// Puts back what is held of a party.
-pub fn put_party<H: Shelf>(shelf: &mut H, open_party: OpenParty<H::Disk>) -> Result<(), Failure>
+pub(crate) fn put_party<H: Shelf>(
+    shelf: &mut H,
+    open_party: OpenParty<H::Disk>,
+) -> Result<(), Failure>
     requires { H.has_slot shelf.old open_party.own }
     ensures back { IsBack H.Disk.told (H.entry shelf.old) (H.entry shelf.new) open_party.own open_party.held }
     ensures seen { IsFaulty H.Disk.told open_party.held → Rose (H.faults shelf.old) (H.faults shelf.new) }

@@ -25,7 +25,7 @@ use Rattle.course.specs.declared.progress.EventOutcome.TheVariants as outcome
 use Rattle.course.specs.declared.progress.Progress.{Progress}
 use Rattle.replay.specs.declared.play_state.PlayState.{PlayState}
 use Rattle.course.specs.declared.progress.Stop.{Stop}
-use Rattle.replay.proofs.Places.{none_found}
+use Rattle.replay.proofs.Members.{none_found}
 
 pub rose_wider : (a b low high : ℕ) → a ≤ low → high ≤ b → Rose low high → Rose a b
 rose_wider a b low high first last (inl less) = inl (omega (arith, first, last, less))

@@ -3,7 +3,6 @@ mod Planning
 mod Stopping
 mod Members
 mod Stepping
-mod Places
 mod Judging
 mod Happened
 mod Leading

@@ -1,5 +1,5 @@
 -- The members of the network for which open disks stand.
-use Rattle.std.proofs.Common.{◌≡◌, ℕ, Bool, true, false, List, [], ◌∷◌, ◌++◌, Some, bytes_eq, refl, sym, ◌∙◌, ap}
+use Rattle.std.proofs.Common.{◌≡◌, ℕ, Bool, true, false, List, [], ◌∷◌, ◌++◌, Some, bytes_eq, refl, sym, ◌∙◌, ap, None}
 use Rattle.x_disk.specs.Disk.{View}
 use Rattle.party_tables.specs.Tables.{put_row}
 use Rattle.key_store.specs.Store.{Stored}
@@ -52,3 +52,14 @@ put_stands x own (m ∷ ms) named is = go (bytes_eq own (own_of m)) refl is (λ 
     go false not_is found_is rest =
         cond_not (bytes_eq (own_of x) (own_of m)) (x ∷ ms) _ (mine ∙ not_is)
         ∙ ap (λ (l : List Member). m ∷ l) (rest (sym (cond_not (bytes_eq own (own_of m)) (Some m) (member_at own ms) not_is) ∙ found_is))
+
+module _ {D : Type 0} where
+  -- an identity without a place has no member
+  pub none_found : (tell : Bool) (told : D → View) (own : List ℕ) (open_parties : List (OpenParty D)) → AreIn tell told open_parties → NoneOf open_parties own → member_at own (members open_parties) ≡ None
+  none_found tell told own [] all none = refl
+  none_found tell told own (s ∷ open_parties) all none = go s.held all.0 (none_found tell told own open_parties all.1 none.1)
+    where
+      go : (h : PartyDisk D) → IsIn tell told s.own h → member_at own (members open_parties) ≡ None → member_at own (with_held h (members open_parties)) ≡ None
+      go (Open m) is rest = cond_not (bytes_eq own m.party.own) (Some (member_of m)) _ (same_not own m.party.own (λ same. none.0 (sym is.named ∙ sym same))) ∙ rest
+      go (Closed disk) is rest = absurd is
+      go Away is rest = absurd is

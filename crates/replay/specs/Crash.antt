@@ -82,6 +82,8 @@ IsSetUpInPart lines own image = (is_blank image ≡ true) ⊎ IsMadeInPart lines
 abbrev pub IsOfPlay : ℕ → ℕ → List Line → List ℕ → List ℕ → Type 0
 IsOfPlay before after lines own image = IsSetUpInPart lines own image ⊎ IsOfLines before after lines (start_course lines) own image
 
+-- ---- one event
+
 -- in what happens nothing is done to a party's disk, or a crash leaves at any moment of it the party behind it, whole or cut
 abbrev pub IsCrossed : {D : Type 0} → (D → View) → (List ℕ → View) → (List ℕ → View) → List (OpenParty D) → List (OpenParty D) → Course → LineEvent → List ℕ → Type 0
 IsCrossed told before after old new c h own = IsHeldStill told before after old new own ⊎ LeavesOnly (disk_of told before old own) (disk_of told after new own) (IsBehind c h own)

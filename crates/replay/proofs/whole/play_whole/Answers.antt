@@ -8,8 +8,7 @@ use Rattle.replay.proofs.Leaving.{whole_by, left_done, left_memory, left_broken}
 use Rattle.node_core.specs.declared.node.Turn.TheVariants as turn
 use Rattle.open_parties.specs.declared.open_party.PartyDisk.TheVariants.{Open, Closed}
 use Rattle.x_disk.specs.Disk.{LeavesOnly}
-use Rattle.open_parties.proofs.HoldingAgain.{EitherOf}
-use Rattle.open_parties.proofs.HoldingAgain.{holds_since_turn}
+use Rattle.open_parties.proofs.HoldingAgain.{EitherOf, holds_since_turn}
 use Rattle.open_parties.proofs.Surrounding.{empty_within, filled_faulty}
 use Rattle.replay.proofs.whole.play_whole.Goals as goal
 
