@@ -34,10 +34,10 @@ use Rattle.world_laws.specs.Events.{Action, Orders, Hears, Compacts, Migrates, C
 use Rattle.world_laws.specs.Steps.{world_after_action, world_rewritten, world_after_input, step, step_at}
 use Rattle.world_laws.specs.Nodes.{IsEventOf, input_event}
 use Rattle.call_laws.specs.Calls.{event_at, IsWholeCall, IsCutCall, AnswersWhole, AnswersOther, IsCall, IsNamedCall}
+use Rattle.call_laws.proofs.Turning.{cut_is}
 use Rattle.world_laws.proofs.Lists.Members.{after_at}
 use Rattle.world_laws.proofs.Nodes.Binding.{input_is, same_member}
 use Rattle.world_laws.proofs.Nodes.Compactions.{rewriting_is}
-use Rattle.world_laws.proofs.Nodes.Turning.{cut_is}
 
 -- a crash leaves images of which more holds
 leaves_more : (old new : View) (P Q : List ℕ → Type 0) → ((c : List ℕ) → P c → Q c) → LeavesOnly old new P → LeavesOnly old new Q

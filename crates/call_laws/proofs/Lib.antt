@@ -1,8 +1,7 @@
+pub mod Turning
 pub mod CallEvents
 pub mod Others
 pub mod Reaching
-pub mod Calling
-pub mod Ending
 pub mod Loads
 pub mod Members
 pub mod Disks

@@ -1,17 +1,12 @@
 -- What a session may have come to: whichever images a crash may leave, there is a run that they stand for.
-use Rattle.std.proofs.Common.{◌≡◌, ◌≢◌, ℕ, Bool, true, false, Option, Some, None, List, [], ◌∷◌, ◌++◌, refl, sym, ◌∙◌, ap, subst, bytes_eq, append-nil, append_assoc}
+use Rattle.std.proofs.Common.{◌≡◌, ◌≢◌, ℕ, Bool, true, false, Option, Some, None, List, ◌++◌, refl, sym, ◌∙◌, ap, subst, bytes_eq, append_assoc}
 use Rattle.std.specs.Prelude.{is_some}
-use Rattle.x_disk.specs.Disk.{View, Tells}
+use Rattle.x_disk.specs.Disk.{View}
 use Rattle.party_tables.proofs.Keys.{test_idents}
 use Rattle.party_tables.proofs.Tables.{one_found}
 use Rattle.key_store.specs.Store.{StandsWith}
 use Rattle.member.specs.Member.{Member}
 use Rattle.world_laws.specs.World.{World, HasMember, member_at}
-use Rattle.world_laws.specs.Events.{Action, Completion, Event, IsAction, AreEvents}
-use Rattle.world_laws.specs.Steps.{step, run, number_after}
-use Rattle.call_laws.specs.Calls.{event_at}
-use Rattle.world_laws.proofs.Nodes.Longer.{run_more, events_more}
-use Rattle.call_laws.proofs.Others.{Beside, step_beside}
 
 -- the images stand for a network with the names of the start, which has written these texts
 pub record IsAt (start : World) (texts : List (List ℕ)) (image : List ℕ → List ℕ) (v : World) : Type 0 where
@@ -19,18 +14,9 @@ pub record IsAt (start : World) (texts : List (List ℕ)) (image : List ℕ → 
   pub there : (q : List ℕ) → is_some (member_at q v.members) ≡ is_some (member_at q start.members)
   pub texts_are : v.texts ≡ start.texts ++ texts
 
-pub record Reached (start : World) (texts : List (List ℕ)) (image : List ℕ → List ℕ) : Type 0 where
-  pub events : List Event
-  pub are_events : AreEvents events
-  pub at : IsAt start texts image (run 1 start events)
-
 -- each is an image that a crash may leave
 abbrev pub IsPossible : World → (List ℕ → View) → (List ℕ → List ℕ) → Type 0
 IsPossible start disks image = (q : List ℕ) (x : Member) → member_at q start.members ≡ Some x → (disks q).may_leave (image q)
-
-pub record Goes (start : World) (disks : List ℕ → View) (texts : List (List ℕ)) : Type 0 where
-  pub tells : (q : List ℕ) (x : Member) → member_at q start.members ≡ Some x → Tells (disks q)
-  pub reach : (image : List ℕ → List ℕ) → IsPossible start disks image → Reached start texts image
 
 pub some_is : {A : Type 0} (o : Option A) → is_some o ≡ true → (a : A) × (o ≡ Some a)
 some_is None h = absurd (cc)
@@ -69,21 +55,3 @@ module _ (start : World) (texts more : List (List ℕ)) (image new : List ℕ �
     there = λ q. there q (bytes_eq q name) refl;
     texts_are = wrote ∙ (ap (λ (ts : List (List ℕ)). ts ++ more) i.texts_are ∙ append_assoc start.texts texts more);
   }
-
-pub go_on : (start : World) (texts more : List (List ℕ)) (image new : List ℕ → List ℕ) (name : List ℕ) (r : Reached start texts image) (x : Member) (moment : ℕ) (action : Action) (c : Completion)
-    → IsAction action → member_at name (run 1 start r.events).members ≡ Some x → name ≡ x.party.own → ((q : List ℕ) → q ≢ name → new q ≡ image q)
-    → HasMember (step (number_after 1 r.events) (run 1 start r.events) (event_at x moment action c)) x.party.own (StandsWith (new name))
-    → (step (number_after 1 r.events) (run 1 start r.events) (event_at x moment action c)).texts ≡ (run 1 start r.events).texts ++ more
-    → Reached start (texts ++ more) new
-go_on start texts more image new name r x moment action c is at own others stood wrote =
-    let at_own : member_at x.party.own (run 1 start r.events).members ≡ Some x = subst (λ (a : List ℕ). member_at a (run 1 start r.events).members ≡ Some x) own at in
-    let b : Beside x (run 1 start r.events) (step (number_after 1 r.events) (run 1 start r.events) (event_at x moment action c)) c = step_beside x moment (number_after 1 r.events) (run 1 start r.events) c action at_own in
-    record {
-      events = r.events ++ event_at x moment action c ∷ [];
-      are_events = events_more r.events (event_at x moment action c) r.are_events is;
-      at = subst (IsAt start (texts ++ more) new) (sym (run_more 1 start r.events (event_at x moment action c)))
-          (one_more start texts more image new name (run 1 start r.events) r.at x at own others (step (number_after 1 r.events) (run 1 start r.events) (event_at x moment action c)) b.others stood wrote);
-    }
-
-pub same_texts : (start : World) (texts : List (List ℕ)) (image : List ℕ → List ℕ) → Reached start texts image → Reached start (texts ++ []) image
-same_texts start texts image r = subst (λ (ts : List (List ℕ)). Reached start ts image) (sym (append-nil texts)) r

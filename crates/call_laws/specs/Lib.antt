@@ -5,3 +5,4 @@ pub mod Rules
 pub mod SettingUp
 pub mod Failing
 pub mod Deeds
+pub mod Turns

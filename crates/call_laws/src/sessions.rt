@@ -4,9 +4,8 @@ ghost use Rattle.world_laws.specs.World.{World};
 ghost use Rattle.world_laws.specs.Starts.{IsStart};
 ghost use Rattle.call_laws.specs.Sessions.{Deed, StandsOn, AreDone, EndsAsRun, texts_in};
 
-use key_store::law_one_finding;
+use crate::deeds::law_deeds;
 use x_disk::Shelf;
-use x_party::law_one_space;
 
 /// What a bank does day by day is a run: for every list of commands (but loading), arriving bytes, compactions and migrations, each
 /// called over its own party's disk, with power failures between calls and inside them, from disks that stand for a start, there
@@ -17,6 +16,5 @@ pub fn law_session<H: Shelf>()
     ensures { (start : World) (deeds : List Deed) (shelves ends : ℕ → H) → IsStart start → StandsOn (H.entry (shelves 0)) start
         → AreDone start deeds 0 (λ k. H.entry (shelves k)) (λ k. H.entry (ends k)) → EndsAsRun start (H.entry (shelves (length deeds))) (texts_in deeds) }
 {
-    law_one_space();
-    law_one_finding();
+    law_deeds::<H>();
 }

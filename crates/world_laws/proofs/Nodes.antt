@@ -5,6 +5,5 @@ pub mod Going
 pub mod GoingRows
 pub mod Noting
 pub mod Binding
-pub mod Turning
 pub mod Compactions
 pub mod Named

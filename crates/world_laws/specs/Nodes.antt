@@ -3,15 +3,11 @@ use Rattle.std.specs.Prelude.{◌≡◌, ℕ, Bool, true, false, Option, Some, N
 use Rattle.party_tables.specs.Tables.{put_row}
 use Rattle.party_state.specs.declared.command.Input.{Input}
 use Rattle.change_code.specs.Cost.{is_change}
-use Rattle.key_store.specs.Store.{Stored, StandsWith}
 use Rattle.member.specs.Member.{Member}
 use Rattle.member.specs.Acts.{Work, Keeps, WritesWhole, ClearsRest, Act, member_after}
-use Rattle.node_core.specs.Turns.{member_of}
-use Rattle.node_core.specs.declared.node.Turn.{Turn}
-use Rattle.node_core.specs.declared.node.Turn.TheVariants.{Done, Broken, NoMemory}
 use Rattle.fact_book.specs.Facts.{NamedText}
-use Rattle.world_laws.specs.World.{World, HasMember, own_of, member_at}
-use Rattle.world_laws.specs.Events.{Completion, Whole, CutOld, CutNew, IsCutOff}
+use Rattle.world_laws.specs.World.{World, own_of, member_at}
+use Rattle.world_laws.specs.Events.{Completion, Whole, CutOld, CutNew}
 use Rattle.world_laws.specs.Steps.{world_after_input}
 use Rattle.world_laws.specs.Honest.{named_text}
 use Rattle.world_laws.specs.Noted.{noted}
@@ -38,19 +34,6 @@ pub record IsEventOf (x : Member) (act : Act) (event : ℕ → World → Complet
   pub old : (n : ℕ) (w : World) → event n w CutOld ≡ w
   pub new : (n : ℕ) (w : World) → member_at x.party.own w.members ≡ Some x → changes act.work ≡ true → IsAfter w (event n w CutNew) (member_after x act.work) None (noted act.under act.reply)
   pub none : (n : ℕ) (w : World) → changes act.work ≡ false → event n w CutNew ≡ w
-
--- a turn of a node that is done is the whole event: the node afterwards is the member then, and what was handed out is the
--- text that is written. Where no memory was left, nothing happened
-abbrev pub IsTurnEvent : {D : Type 0} → Stored D → (ℕ → World → Completion → World) → Turn D → Type 0
-IsTurnEvent old event (Done node verdict reply under) = (n : ℕ) (w : World) → member_at old.party.own w.members ≡ Some (member_of old) → IsAfter w (event n w Whole) (member_of node) reply (noted under reply)
-IsTurnEvent old event (Broken b) = Unit {0}
-IsTurnEvent old event (NoMemory node) = node ≡ old
-
--- the image stands for the member after the event that is cut off, with its space
-pub record IsCutEvent (x : Member) (event : ℕ → World → Completion → World) (image : List ℕ) : Type 0 where
-  pub completion : Completion
-  pub cut : IsCutOff completion
-  pub stands : (n : ℕ) (w : World) → member_at x.party.own w.members ≡ Some x → HasMember (event n w completion) x.party.own (StandsWith image)
 
 -- the event of an input at a member
 abbrev pub input_event : Member → Input → ℕ → ℕ → World → Completion → World

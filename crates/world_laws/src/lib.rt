@@ -10,7 +10,6 @@ mod inputs;
 mod laws;
 mod live_runs;
 mod runs;
-mod turns;
 
 pub use compactions::law_compactions;
 pub use exchanged::law_exchanged;
@@ -24,4 +23,3 @@ pub use laws::{
 };
 pub use live_runs::law_live_runs_exist;
 pub use runs::law_runs;
-pub use turns::law_turns;

@@ -1,6 +1,6 @@
-use Rattle.call_laws.proofs.Ending.{session_is_run}
 use Rattle.call_laws.proofs.sessions.law_session.Goals as goal
 
 pub returns : goal.returns
-returns g c = λ start deeds shelves ends.
-    session_is_run c.law_one_space.ensures c.law_one_finding.ensures.not_blank c.law_one_finding.ensures.undamaged start (λ k. g.H.Shelf.entry (shelves k)) (λ k. g.H.Shelf.entry (ends k)) (λ k q. g.met.H.Shelf.sound (shelves k) q) deeds
+returns g c = λ start deeds shelves ends s on is.
+    let e = c.law_deeds.ensures start deeds shelves ends s on is in
+    record { events = e.events; are_events = e.are_events; reads = e.reads; texts_are = e.texts_are; counts = e.counts; once = e.once; agreement = e.agreement; ended = e.ended }

@@ -11,7 +11,8 @@ use Rattle.node_core.specs.declared.node.Turn.TheVariants as turn
 use Rattle.world_laws.specs.World.{World, HasMember, member_at}
 use Rattle.world_laws.specs.Events.{Completion, Whole, CutOld, CutNew}
 use Rattle.world_laws.specs.Noted.{noted}
-use Rattle.world_laws.specs.Nodes.{IsAfter, IsEventOf, IsTurnEvent, IsCutEvent, changes}
+use Rattle.world_laws.specs.Nodes.{IsAfter, IsEventOf, changes}
+use Rattle.call_laws.specs.Turns.{IsTurnEvent, IsCutEvent}
 use Rattle.world_laws.proofs.Lists.Members.{after_at}
 use Rattle.world_laws.proofs.Nodes.Binding.{same_member}
 

@@ -7,7 +7,8 @@ ghost use Rattle.node_core.specs.Turns.{IsTurn, IsOldOrNext, member_of};
 ghost use Rattle.node_core.specs.declared.node.Turn.{Turn as TheTurn};
 ghost use Rattle.world_laws.specs.World.{World};
 ghost use Rattle.world_laws.specs.Events.{Completion};
-ghost use Rattle.world_laws.specs.Nodes.{IsEventOf, IsTurnEvent, IsCutEvent};
+ghost use Rattle.world_laws.specs.Nodes.{IsEventOf};
+ghost use Rattle.call_laws.specs.Turns.{IsTurnEvent, IsCutEvent};
 
 use x_disk::Disk;
 
