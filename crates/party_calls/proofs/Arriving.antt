@@ -11,10 +11,10 @@ use Rattle.csm_feed.specs.Heard.{after_leading, Heard}
 use Rattle.csm_feed.specs.Laws.{OneHearing}
 use Rattle.x_disk.specs.Disk.{View}
 use Rattle.party_state.specs.declared.command.Input.TheVariants.{Arrived}
-use Rattle.party_calls.specs.declared.status.Status.{Status}
-use Rattle.party_calls.specs.declared.status.Status.TheVariants as status
-use Rattle.party_calls.specs.Transfer.{IsQuiet}
-use Rattle.party_calls.specs.Listening.{taken, refusal_of, IsHeard, IsUnheard}
+use Rattle.call_ends.specs.declared.status.Status.{Status}
+use Rattle.call_ends.specs.declared.status.Status.TheVariants as status
+use Rattle.call_ends.specs.Transfer.{IsQuiet}
+use Rattle.call_ends.specs.Listening.{taken, refusal_of, IsHeard, IsUnheard}
 use Rattle.party_calls.specs.Ends.{IsOfParty}
 use Rattle.x_party.specs.Dues.{IsDue}
 use Rattle.party_calls.specs.Dues.{Follows, FollowsBytes}

@@ -18,12 +18,13 @@ use Rattle.x_spool.specs.declared.outcome.SpoolOutcome.TheVariants as outcome
 use Rattle.x_spool.specs.declared.outcome.OutboxOutcome.{OutboxOutcome}
 use Rattle.x_spool.specs.declared.outcome.OutboxOutcome.TheVariants as outbox
 use Rattle.x_line.specs.declared.order.Order.{Order}
-use Rattle.party_calls.specs.Transfer.{GivesOutput, IsAtEnd, IsFront, IsQuiet, Took}
-use Rattle.party_calls.specs.Causes.{HasCause, IsSilent}
-use Rattle.party_calls.specs.declared.status.Refusal.TheVariants.{Unplanned}
-use Rattle.party_calls.specs.declared.status.Status.{Status}
-use Rattle.party_calls.specs.declared.status.Status.TheVariants as status
-use Rattle.party_calls.specs.Ends.{IsOfParty, Puts}
+use Rattle.call_ends.specs.Transfer.{GivesOutput, IsAtEnd, IsFront, IsQuiet, Took}
+use Rattle.call_ends.specs.Causes.{HasCause, IsSilent}
+use Rattle.call_ends.specs.declared.status.Refusal.TheVariants.{Unplanned}
+use Rattle.call_ends.specs.declared.status.Status.{Status}
+use Rattle.call_ends.specs.declared.status.Status.TheVariants as status
+use Rattle.call_ends.specs.Puts.{Puts}
+use Rattle.party_calls.specs.Ends.{IsOfParty}
 use Rattle.party_calls.specs.Obeys.{LeavesOthers, LeavesRest, OthersOf, is_reading, ledger_of, party_of}
 use Rattle.party_calls.specs.Dues.{IsOrNoMemory}
 use Rattle.party_calls.specs.Spooled.{EndsBatch, EndsOutbox, FollowsBatch, FollowsOutbox, IsBatched, IsUnbatched, LeavesSpool, TakesBatch, batch_limit, status_of_batch, status_of_missing, status_of_outbox}

@@ -5,11 +5,12 @@ use Rattle.x_disk.specs.Disk.{View}
 use Rattle.x_party.specs.Dues.{GivesDue}
 use Rattle.x_party.specs.declared.outcome.Outcome.{Outcome}
 use Rattle.x_party.specs.declared.outcome.Outcome.TheVariants as outcome
-use Rattle.party_calls.specs.declared.status.Refusal.TheVariants.{Decided}
-use Rattle.party_calls.specs.declared.status.Status.{Status}
-use Rattle.party_calls.specs.declared.status.Status.TheVariants as status
-use Rattle.party_calls.specs.Transfer.{IsQuiet}
-use Rattle.party_calls.specs.Ends.{status_of_outcome, Puts, Ends}
+use Rattle.call_ends.specs.declared.status.Refusal.TheVariants.{Decided}
+use Rattle.call_ends.specs.declared.status.Status.{Status}
+use Rattle.call_ends.specs.declared.status.Status.TheVariants as status
+use Rattle.call_ends.specs.Transfer.{IsQuiet}
+use Rattle.call_ends.specs.Puts.{Puts}
+use Rattle.party_calls.specs.Ends.{status_of_outcome, Ends}
 use Rattle.party_calls.specs.Dues.{Follows}
 
 put_status : (reply : Option (List ℕ)) (ending : List ℕ) (answer s : Status) (before after : Option (List ℕ)) → Puts reply ending answer s before after → (s ≡ answer) ⊎ (s ≡ status.WriteFault)

@@ -5,14 +5,14 @@ use Rattle.csm_grammar.specs.declared.arrival.Arrival.{Arrival}
 use Rattle.csm_grammar.specs.declared.refusal.ReadRefusal.{ReadRefusal}
 use Rattle.csm_feed.specs.Streams.{AreMessages}
 use Rattle.x_spool.specs.Inbox.{IsInbox, IsRefusedStream, OneInbox}
-use Rattle.party_calls.specs.Transfer.{IsAtEnd, IsFront, IsQuiet, Took}
-use Rattle.party_calls.specs.Causes.{HasCause, IsSilent}
-use Rattle.party_calls.specs.declared.status.Refusal.{Refusal}
-use Rattle.party_calls.specs.declared.status.Refusal.TheVariants.{Text, Trailing}
-use Rattle.party_calls.specs.declared.status.Status.{Status}
-use Rattle.party_calls.specs.declared.status.Status.TheVariants as status
+use Rattle.call_ends.specs.Transfer.{IsAtEnd, IsFront, IsQuiet, Took}
+use Rattle.call_ends.specs.Causes.{HasCause, IsSilent}
+use Rattle.call_ends.specs.declared.status.Refusal.{Refusal}
+use Rattle.call_ends.specs.declared.status.Refusal.TheVariants.{Text, Trailing}
+use Rattle.call_ends.specs.declared.status.Status.{Status}
+use Rattle.call_ends.specs.declared.status.Status.TheVariants as status
 use Rattle.party_calls.specs.Batched.{FollowsInbox, IsMade, IsRefusedInbox, NoMessage, TooMany}
-use Rattle.party_calls.specs.Ends.{Puts}
+use Rattle.call_ends.specs.Puts.{Puts}
 use Rattle.party_calls.specs.Spooled.{TakesBatch, batch_limit}
 use Rattle.party_calls.proofs.BatchEnds.{all_taken}
 

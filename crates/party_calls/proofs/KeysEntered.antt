@@ -1,8 +1,8 @@
 -- A key comes from the source, and its check value is written.
-use Rattle.std.proofs.Common.{◌≡◌, ◌⊎◌, inl, inr, ℕ, ◌<◌, List, length, Option, Some, None, IfSome, Result, Ok, Err, refl, sym, ap, ◌∙◌, subst}
+use Rattle.std.proofs.Common.{◌≡◌, ◌⊎◌, inl, inr, ℕ, List, Option, Some, None, IfSome, Result, Ok, Err, refl, sym, ap, ◌∙◌, subst}
 use Rattle.x_base.specs.Edge.{Rose}
 use Rattle.x_disk.specs.Disk.{View}
-use Rattle.party_calls.specs.Transfer.{IsAtEnd, IsFront, IsQuiet}
+use Rattle.call_ends.specs.Transfer.{IsQuiet}
 use Rattle.key_parts.specs.Parts.{entered_of}
 use Rattle.key_parts.specs.declared.part.Form.{Form}
 use Rattle.key_parts.specs.declared.part.Part.{Part}
@@ -11,30 +11,13 @@ use Rattle.x_party.specs.Outcomes.{IsNoFailure, LeavesShelf}
 use Rattle.x_party.specs.declared.outcome.Outcome.{Outcome}
 use Rattle.x_party.specs.declared.outcome.Outcome.TheVariants as outcome
 use Rattle.x_pair.specs.Outcomes.{LeavesPair}
-use Rattle.party_calls.specs.Causes.{HasCause}
-use Rattle.party_calls.specs.declared.status.Refusal.TheVariants.{BadDigits}
-use Rattle.party_calls.specs.declared.status.Status.{Status}
-use Rattle.party_calls.specs.declared.status.Status.TheVariants as status
+use Rattle.call_ends.specs.Causes.{HasCause}
+use Rattle.call_ends.specs.declared.status.Status.{Status}
+use Rattle.call_ends.specs.declared.status.Status.TheVariants as status
 use Rattle.party_calls.specs.Dues.{Follows}
 use Rattle.party_calls.specs.Ends.{IsOfParty, status_of_outcome}
-use Rattle.party_calls.specs.Entered.{AreRead, ExpectsKey, ExpectsRead, IsNoKey, TakesDigits, digits_limit, digits_taken, valued}
-
--- ---- the bytes
-
-pub takes_digits : (left rest : Option (List ℕ)) (text bytes : List ℕ) → IsFront digits_limit left text → (length text < digits_limit → IsAtEnd left rest) → bytes ≡ text → TakesDigits left rest bytes
-takes_digits left rest text bytes front end same = subst (TakesDigits left rest) (sym same) (record { front = front; end = end })
-
-pub are_read : (form : Form) (left rest : Option (List ℕ)) (text bytes : List ℕ) (read : Result Part ℕ) → IsFront digits_limit left text → (length text < digits_limit → IsAtEnd left rest) → bytes ≡ text
-    → read ≡ entered_of form bytes → AreRead form left rest read
-are_read form left rest text bytes read front end same is = (bytes, takes_digits left rest text bytes front end same, sym is)
-
-pub key_read : (form : Form) (left rest : Option (List ℕ)) (text bytes : List ℕ) (part : Part) → IsFront digits_limit left text → (length text < digits_limit → IsAtEnd left rest) → bytes ≡ text
-    → Ok part ≡ entered_of form bytes → AreRead form left rest (Ok part)
-key_read form left rest text bytes part front end same is = are_read form left rest text bytes (Ok part) front end same is
-
-pub line_at_fault : (form : Form) (left rest : Option (List ℕ)) (text bytes : List ℕ) (line : ℕ) → IsFront digits_limit left text → (length text < digits_limit → IsAtEnd left rest) → bytes ≡ text
-    → Err line ≡ entered_of form bytes → IsNoKey form left rest (status.Refused (BadDigits line))
-line_at_fault form left rest text bytes line front end same is = inr (line, refl, are_read form left rest text bytes (Err line) front end same is)
+use Rattle.call_ends.specs.Digits.{AreRead, IsNoKey, digits_taken}
+use Rattle.party_calls.specs.Entered.{ExpectsKey, ExpectsRead, valued}
 
 -- what is read of all that is taken
 read_of : (form : Form) (left rest : Option (List ℕ)) (read : Result Part ℕ) → AreRead form left rest read → IfSome left (λ all. entered_of form (digits_taken all) ≡ read)

@@ -1,7 +1,3 @@
-mod Transfers
-mod Arrivals
-mod Decisions
-mod Endings
 mod Following
 mod Arriving
 mod Paying

@@ -7,10 +7,10 @@ use Rattle.x_pair.specs.declared.likeness.Compared.{Compared}
 use Rattle.x_pair.specs.declared.likeness.Compared.TheVariants as compared
 use Rattle.x_pair.specs.declared.likeness.Likeness.{Likeness}
 use Rattle.x_pair.specs.declared.likeness.Likeness.TheVariants as likeness
-use Rattle.party_calls.specs.Transfer.{IsQuiet}
-use Rattle.party_calls.specs.Causes.{HasCause, IsSilent}
-use Rattle.party_calls.specs.declared.status.Status.{Status}
-use Rattle.party_calls.specs.declared.status.Status.TheVariants as status
+use Rattle.call_ends.specs.Transfer.{IsQuiet}
+use Rattle.call_ends.specs.Causes.{HasCause, IsSilent}
+use Rattle.call_ends.specs.declared.status.Status.{Status}
+use Rattle.call_ends.specs.declared.status.Status.TheVariants as status
 use Rattle.party_calls.specs.Compared.{EndsOrForgets, FollowsComparison, IsComparing, status_of_likeness}
 use Rattle.party_calls.specs.Ends.{IsOfParty}
 use Rattle.party_calls.specs.Obeys.{LeavesRest}

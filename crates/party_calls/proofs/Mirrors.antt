@@ -21,12 +21,13 @@ use Rattle.x_party.specs.Images.{OrBefore}
 use Rattle.x_party.specs.Outcomes.{IsNoFailure}
 use Rattle.x_party.specs.declared.outcome.Outcome.{Outcome}
 use Rattle.x_party.specs.declared.outcome.Outcome.TheVariants as outcome
-use Rattle.party_calls.specs.declared.status.Status.{Status}
-use Rattle.party_calls.specs.declared.status.Status.TheVariants as status
-use Rattle.party_calls.specs.Causes.{HasCause}
-use Rattle.party_calls.specs.declared.party_command.PartyCommand.{PartyCommand}
+use Rattle.call_ends.specs.declared.status.Status.{Status}
+use Rattle.call_ends.specs.declared.status.Status.TheVariants as status
+use Rattle.call_ends.specs.Causes.{HasCause}
+use Rattle.call_ends.specs.declared.party_command.PartyCommand.{PartyCommand}
 use Rattle.party_calls.specs.Ends.{Ends, IsOfParty}
-use Rattle.party_calls.specs.Obeys.{command_of, is_reading, party_of}
+use Rattle.call_ends.specs.Commands.{command_of}
+use Rattle.party_calls.specs.Obeys.{is_reading, party_of}
 use Rattle.party_calls.specs.Mirrored.{IsPairCall, LeavesMirrored, ObeysMirrored, ObeysMirroredCommand}
 use Rattle.party_calls.proofs.Following.{disk_fault}
 use Rattle.party_calls.proofs.Orders.{cause_ended}

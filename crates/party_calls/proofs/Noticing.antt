@@ -2,15 +2,16 @@
 use Rattle.std.proofs.Common.{◌≡◌, inl, inr, ℕ, Bool, true, List, [], ◌∷◌, Option, Some, None, IfSome, refl, sym}
 use Rattle.x_disk.specs.Disk.{View}
 use Rattle.csm_grammar.specs.declared.arrival.Arrival.{Arrival}
-use Rattle.party_calls.specs.Listening.{IsHeard}
+use Rattle.call_ends.specs.Listening.{IsHeard}
 use Rattle.x_line.specs.declared.order.Order.{Order}
 use Rattle.x_line.specs.declared.order.Order.TheVariants as order
 use Rattle.x_party.specs.declared.outcome.Outcome.{Outcome}
 use Rattle.x_party.specs.declared.outcome.Outcome.TheVariants as outcome
-use Rattle.party_calls.specs.declared.status.Status.{Status}
-use Rattle.party_calls.specs.declared.status.Status.TheVariants as status
+use Rattle.call_ends.specs.declared.status.Status.{Status}
+use Rattle.call_ends.specs.declared.status.Status.TheVariants as status
 use Rattle.x_party.specs.Notices.{HasNotice}
-use Rattle.party_calls.specs.Ends.{Ends, Puts}
+use Rattle.call_ends.specs.Puts.{Puts}
+use Rattle.party_calls.specs.Ends.{Ends}
 use Rattle.party_calls.specs.Notice.{LeavesNotice, notice_at}
 
 -- only what is done ends as done

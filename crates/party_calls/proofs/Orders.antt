@@ -25,17 +25,18 @@ use Rattle.x_party.specs.Images.{OrBefore}
 use Rattle.x_party.specs.Outcomes.{IsNoFailure, IsOldOrRewritten, IsSafe, IsSafeRewriting, IsSafeWiping, LeavesShelf}
 use Rattle.x_party.specs.declared.outcome.Outcome.{Outcome}
 use Rattle.x_party.specs.declared.outcome.Outcome.TheVariants as outcome
-use Rattle.party_calls.specs.declared.status.Status.{Status}
-use Rattle.party_calls.specs.declared.status.Status.TheVariants as status
-use Rattle.party_calls.specs.declared.party_command.PartyCommand.{PartyCommand}
-use Rattle.party_calls.specs.Transfer.{IsQuiet, Took, TookAtMost}
-use Rattle.party_calls.specs.Causes.{HasCause, HasFaults}
+use Rattle.call_ends.specs.declared.status.Status.{Status}
+use Rattle.call_ends.specs.declared.status.Status.TheVariants as status
+use Rattle.call_ends.specs.declared.party_command.PartyCommand.{PartyCommand}
+use Rattle.call_ends.specs.Transfer.{IsQuiet, Took, TookAtMost}
+use Rattle.call_ends.specs.Causes.{HasCause, HasFaults}
 use Rattle.party_calls.specs.Ends.{Ends, IsOfParty, status_of_outcome}
 use Rattle.x_party.specs.Dues.{IsDue, GivesDue}
 use Rattle.party_calls.specs.Dues.{Follows}
-use Rattle.party_calls.specs.Check.{IsChecked}
-use Rattle.party_calls.specs.Listening.{IsUnheard}
-use Rattle.party_calls.specs.Obeys.{Obeys, ObeysCommand, ExpectsCall, ExpectsCommand, OthersOf, LeavesOthers, IsPartyTurn, IsWithin, command_of, ledger_of, party_of, is_reading, is_tended}
+use Rattle.call_ends.specs.Check.{IsChecked}
+use Rattle.call_ends.specs.Listening.{IsUnheard}
+use Rattle.call_ends.specs.Commands.{command_of}
+use Rattle.party_calls.specs.Obeys.{Obeys, ObeysCommand, ExpectsCall, ExpectsCommand, OthersOf, LeavesOthers, IsPartyTurn, IsWithin, ledger_of, party_of, is_reading, is_tended}
 use Rattle.party_calls.proofs.Following.{disk_fault, ended, follows}
 use Rattle.party_calls.proofs.Paying.{idle_payment}
 

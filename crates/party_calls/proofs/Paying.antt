@@ -10,10 +10,10 @@ use Rattle.x_pay.specs.Outcomes.{Payment, MayLeave, Before, IsNoFailure, LeavesS
 use Rattle.x_pay.specs.Payments.{accepting}
 use Rattle.x_pay.specs.declared.outcome.PayOutcome.{PayOutcome}
 use Rattle.x_pay.specs.declared.outcome.PayOutcome.TheVariants as outcome
-use Rattle.party_calls.specs.Transfer.{IsAtEnd, IsFront, IsQuiet}
-use Rattle.party_calls.specs.Causes.{HasCause, IsSilent}
-use Rattle.party_calls.specs.declared.status.Status.{Status}
-use Rattle.party_calls.specs.declared.status.Status.TheVariants as status
+use Rattle.call_ends.specs.Transfer.{IsAtEnd, IsFront, IsQuiet}
+use Rattle.call_ends.specs.Causes.{HasCause, IsSilent}
+use Rattle.call_ends.specs.declared.status.Status.{Status}
+use Rattle.call_ends.specs.declared.status.Status.TheVariants as status
 use Rattle.party_calls.specs.Ends.{IsOfParty}
 use Rattle.party_calls.specs.Paid.{EndsPayment, FollowsPayment, IsAccepted, IsPayment, TakesPayment, payment_limit, payment_taken, status_of_payment}
 use Rattle.party_calls.specs.Obeys.{LeavesOthers, LeavesRest, OthersOf, is_reading, ledger_of, party_of}

@@ -9,10 +9,10 @@ use Rattle.x_pair.specs.declared.likeness.Compared.{Compared}
 use Rattle.x_pair.specs.declared.likeness.Compared.TheVariants as compared
 use Rattle.x_pair.specs.declared.likeness.Likeness.{Likeness}
 use Rattle.x_pair.specs.declared.likeness.Likeness.TheVariants as likeness
-use Rattle.party_calls.specs.declared.status.Refusal.TheVariants.{Unlike}
-use Rattle.party_calls.specs.declared.status.Status.{Status}
-use Rattle.party_calls.specs.declared.status.Status.TheVariants as status
-use Rattle.party_calls.specs.Ends.{Puts}
+use Rattle.call_ends.specs.declared.status.Refusal.TheVariants.{Unlike}
+use Rattle.call_ends.specs.declared.status.Status.{Status}
+use Rattle.call_ends.specs.declared.status.Status.TheVariants as status
+use Rattle.call_ends.specs.Puts.{Puts}
 use Rattle.party_calls.specs.Dues.{IsOrNoMemory}
 
 -- the line that tells it, without its line feed

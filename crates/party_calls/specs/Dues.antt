@@ -7,9 +7,9 @@ use Rattle.x_disk.specs.Disk.{View}
 use Rattle.party_state.specs.declared.command.Input.TheVariants.{Arrived}
 use Rattle.x_party.specs.Dues.{IsDue}
 use Rattle.x_party.specs.declared.outcome.Outcome.{Outcome}
-use Rattle.party_calls.specs.declared.status.Status.{Status}
-use Rattle.party_calls.specs.declared.status.Status.TheVariants as status
-use Rattle.party_calls.specs.Listening.{IsHeard, refusal_of, taken}
+use Rattle.call_ends.specs.declared.status.Status.{Status}
+use Rattle.call_ends.specs.declared.status.Status.TheVariants as status
+use Rattle.call_ends.specs.Listening.{IsHeard, refusal_of, taken}
 use Rattle.party_calls.specs.Ends.{status_of_outcome}
 
 -- the status is this one, or no memory was left

@@ -1,11 +1,11 @@
 -- How a call over a party ends (this project's profile).
-use Rattle.std.specs.Prelude.{◌≡◌, ◌⊎◌, ◌++◌, ℕ, List, Option, Some, None}
-use Rattle.x_base.specs.Edge.{AppendsTo, WrotePrefix}
+use Rattle.std.specs.Prelude.{◌≡◌, ℕ, List, Option}
 use Rattle.x_party.specs.declared.outcome.Outcome.{Outcome}
 use Rattle.x_party.specs.declared.outcome.Outcome.TheVariants as outcome
-use Rattle.party_calls.specs.declared.status.Refusal.TheVariants.{Decided, OtherBatch, OtherParty, OutOfStep, Pay, Unlike, Unplanned}
-use Rattle.party_calls.specs.declared.status.Status.{Status}
-use Rattle.party_calls.specs.declared.status.Status.TheVariants as status
+use Rattle.call_ends.specs.declared.status.Refusal.TheVariants.{Decided, OtherBatch, OtherParty, OutOfStep, Pay, Unlike, Unplanned}
+use Rattle.call_ends.specs.declared.status.Status.{Status}
+use Rattle.call_ends.specs.declared.status.Status.TheVariants as status
+use Rattle.call_ends.specs.Puts.{Puts}
 
 -- the status of an outcome
 abbrev pub status_of_outcome : Outcome → Status
@@ -15,12 +15,6 @@ status_of_outcome (outcome.OtherParty asked found) = status.Refused (OtherParty 
 status_of_outcome (outcome.Damaged place) = status.Damaged place
 status_of_outcome outcome.Fault = status.DiskFault
 status_of_outcome outcome.NoMemory = status.NoMemory
-
--- the text and its ending were written, or the sink failed and a prefix was; where there is no text, nothing is
-abbrev pub Puts : Option (List ℕ) → List ℕ → Status → Status → Option (List ℕ) → Option (List ℕ) → Type 0
-Puts None ending answer s before after = (s ≡ answer) × (after ≡ before)
-Puts (Some text) ending answer s before after = ((s ≡ answer) × AppendsTo before after (text ++ ending))
-    ⊎ ((s ≡ status.WriteFault) × WrotePrefix before after (text ++ ending))
 
 -- a call with this outcome ends so
 abbrev pub Ends : Outcome → List ℕ → Status → Option (List ℕ) → Option (List ℕ) → Type 0

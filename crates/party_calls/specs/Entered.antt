@@ -1,6 +1,6 @@
 -- Keys that come from the source, and check values (this project's profile). `left` and `rest` are what the source has before and
 -- after, `before` and `after` what the sink has, `old` and `new` what the shelf tells of the disks.
-use Rattle.std.specs.Prelude.{◌≡◌, ◌⊎◌, ◌<◌, ℕ, List, [], ◌∷◌, length, take, Option, Some, IfSome, Result, Ok, Err}
+use Rattle.std.specs.Prelude.{◌≡◌, ◌⊎◌, ℕ, List, [], ◌∷◌, Option, Some, Result, Ok, Err}
 use Rattle.x_mac.specs.declared.pair.Pair.{Pair}
 use Rattle.pair_check.specs.Values.{check_value_of}
 use Rattle.x_disk.specs.Disk.{View, Tells, LeavesOnly, IsUntouched}
@@ -21,34 +21,12 @@ use Rattle.x_party.specs.declared.outcome.Outcome.TheVariants as outcome
 use Rattle.x_pair.specs.Creations.{CreatesPair, GivesDueCreation, IsSafeCreation}
 use Rattle.x_pair.specs.Dues.{GivesDuePair}
 use Rattle.x_pair.specs.Outcomes.{IsSafePair, MakesPair, Work}
-use Rattle.party_calls.specs.declared.status.Refusal.TheVariants.{BadDigits}
-use Rattle.party_calls.specs.declared.status.Status.{Status}
-use Rattle.party_calls.specs.declared.status.Status.TheVariants as status
+use Rattle.call_ends.specs.declared.status.Refusal.TheVariants.{BadDigits}
+use Rattle.call_ends.specs.declared.status.Status.{Status}
+use Rattle.call_ends.specs.declared.status.Status.TheVariants as status
+use Rattle.call_ends.specs.Digits.{AreRead, IsNoKey, digits_taken}
 use Rattle.party_calls.specs.Ends.{Ends}
 use Rattle.party_calls.specs.Dues.{IsOrNoMemory}
-
--- ---- the key that the source gives
-
--- how many bytes of it are taken at most
-abbrev pub digits_limit : ℕ
-digits_limit = 257
-
-abbrev pub digits_taken : List ℕ → List ℕ
-digits_taken all = take digits_limit all
-
--- the bytes of the source up to the limit; where they are fewer, the source was read to its end
-pub record TakesDigits (left rest : Option (List ℕ)) (bytes : List ℕ) : Type 0 where
-  pub front : IfSome left (λ all. bytes ≡ digits_taken all)
-  pub end : length bytes < digits_limit → IfSome left (λ all. rest ≡ Some [])
-
--- the bytes give this key, or this line of them is at fault
-abbrev pub AreRead : Form → Option (List ℕ) → Option (List ℕ) → Result Part ℕ → Type 0
-AreRead form left rest read = (bytes : List ℕ) × TakesDigits left rest bytes × (entered_of form bytes ≡ read)
-
--- there is no key: the source failed, or no memory was left, or a line is at fault
-abbrev pub IsNoKey : Form → Option (List ℕ) → Option (List ℕ) → Status → Type 0
-IsNoKey form left rest s = ((s ≡ status.ReadFault) ⊎ (s ≡ status.NoMemory))
-    ⊎ ((line : ℕ) × (s ≡ status.Refused (BadDigits line)) × AreRead form left rest (Err line))
 
 -- there is none, and nothing was changed or written; or there is one, and this was done with it
 abbrev pub EntersKey : Form → Option (List ℕ) → Option (List ℕ) → Status → Type 0 → (Part → Type 0) → Type 0

@@ -1,8 +1,3 @@
-pub mod Lines
-pub mod Causes
-pub mod Transfer
-pub mod Listening
-pub mod Check
 pub mod Ends
 pub mod Notice
 pub mod Dues

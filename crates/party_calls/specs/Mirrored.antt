@@ -15,12 +15,13 @@ use Rattle.x_pair.specs.Creations.{CreatesPair, GivesDueCreation, IsSafeCreation
 use Rattle.x_pair.specs.Dues.{GivesDuePair, IsDueShow, IsDueTurn}
 use Rattle.x_pair.specs.Outcomes.{IsSafePair, MakesPair, Work, showing, turning}
 use Rattle.x_party.specs.declared.outcome.Outcome.{Outcome}
-use Rattle.party_calls.specs.declared.status.Status.{Status}
-use Rattle.party_calls.specs.Listening.{IsHeard, IsUnheard}
-use Rattle.party_calls.specs.declared.party_command.PartyCommand.{PartyCommand}
+use Rattle.call_ends.specs.declared.status.Status.{Status}
+use Rattle.call_ends.specs.Listening.{IsHeard, IsUnheard}
+use Rattle.call_ends.specs.declared.party_command.PartyCommand.{PartyCommand}
 use Rattle.party_calls.specs.Ends.{Ends, IsOfParty}
 use Rattle.party_calls.specs.Entered.{EntersKey, IsUnchanged, IsValuedPairCall, IsValuedPairCreation}
-use Rattle.party_calls.specs.Obeys.{command_of, is_reading, party_of}
+use Rattle.call_ends.specs.Commands.{command_of}
+use Rattle.party_calls.specs.Obeys.{is_reading, party_of}
 
 -- a call over two disks did this, with the outcome that is due by the two images, a fault or want of memory; its reply was written
 -- with an ending

@@ -10,9 +10,9 @@ use Rattle.member.specs.Deciding.{decision}
 use Rattle.x_party.specs.Notices.{class_word, notice_of}
 use Rattle.x_line.specs.declared.order.Order.{Order}
 use Rattle.x_line.specs.declared.order.Order.TheVariants.{Take}
-use Rattle.party_calls.specs.declared.status.Status.{Status}
-use Rattle.party_calls.specs.declared.status.Status.TheVariants.{Done}
-use Rattle.party_calls.specs.Listening.{IsHeard}
+use Rattle.call_ends.specs.declared.status.Status.{Status}
+use Rattle.call_ends.specs.declared.status.Status.TheVariants.{Done}
+use Rattle.call_ends.specs.Listening.{IsHeard}
 
 -- the notice of the message that was heard: what the party that stood on the disk decided of it
 abbrev pub IsNoticeOf : View → List ℕ → ℕ → Option (List ℕ) → Type 0

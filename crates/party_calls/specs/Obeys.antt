@@ -24,32 +24,21 @@ use Rattle.x_party.specs.Dues.{IsDue, IsDueCompaction, IsDueCreation, IsDueMigra
 use Rattle.x_party.specs.declared.outcome.Outcome.{Outcome}
 use Rattle.disk_pair.specs.Pairs.{ThirdsStay}
 use Rattle.x_pay.specs.Payments.{accepting, paying}
-use Rattle.party_calls.specs.declared.party_command.PartyCommand.{PartyCommand}
-use Rattle.party_calls.specs.declared.status.Status.{Status}
-use Rattle.party_calls.specs.declared.status.Status.TheVariants as status
-use Rattle.party_calls.specs.Causes.{IsSilent}
-use Rattle.party_calls.specs.Listening.{IsHeard, IsUnheard}
-use Rattle.party_calls.specs.Check.{IsChecked, IsExact}
+use Rattle.call_ends.specs.declared.party_command.PartyCommand.{PartyCommand}
+use Rattle.call_ends.specs.declared.status.Status.{Status}
+use Rattle.call_ends.specs.declared.status.Status.TheVariants as status
+use Rattle.call_ends.specs.Causes.{IsSilent}
+use Rattle.call_ends.specs.Listening.{IsHeard, IsUnheard}
+use Rattle.call_ends.specs.Check.{IsChecked, IsExact}
+use Rattle.call_ends.specs.Commands.{command_of}
 use Rattle.party_calls.specs.Ends.{Ends, IsOfParty}
 use Rattle.party_calls.specs.Dues.{Follows, FollowsBytes}
 use Rattle.party_calls.specs.Paid.{FollowsPayment, IsAccepted, IsPayment, payment_limit, payment_taken}
 use Rattle.party_calls.specs.Compared.{FollowsComparison, IsComparing}
 use Rattle.party_calls.specs.Batched.{FollowsInbox, IsMade}
 use Rattle.party_calls.specs.Spooled.{FollowsBatch, FollowsOutbox, IsBatched, IsOutboxCall, batch_limit}
-use Rattle.party_calls.specs.Entered.{EntersKey, ExpectsKey, IsUnchanged, IsValuedCreation, IsValuedTurn, IsValuing, digits_limit}
-
--- the command that an order gives to a party
-abbrev pub command_of : Order → Option PartyCommand
-command_of (order.Load party peer label side pair) = Some (record { party = party; command = command.Load peer label side pair })
-command_of (order.Start party peer label) = Some (record { party = party; command = command.Start peer label })
-command_of (order.StartKk party peer new label single) = Some (record { party = party; command = command.StartKk peer label new single })
-command_of (order.Ask party peer ultimate) = Some (record { party = party; command = command.Ask peer ultimate })
-command_of (order.Translate party peer ultimate) = Some (record { party = party; command = command.Translate peer ultimate })
-command_of (order.Resend party peer) = Some (record { party = party; command = command.Resend peer })
-command_of (order.End party peer name) = Some (record { party = party; command = command.End peer name })
-command_of (order.Drop party peer) = Some (record { party = party; command = command.Drop peer })
-command_of (order.Purge party) = Some (record { party = party; command = command.Purge })
-command_of o = None
+use Rattle.call_ends.specs.Digits.{digits_limit}
+use Rattle.party_calls.specs.Entered.{EntersKey, ExpectsKey, IsUnchanged, IsValuedCreation, IsValuedTurn, IsValuing}
 
 -- the party of this name had its turn with an input, and its reply was written, with a line feed
 pub record IsPartyTurn (name : List ℕ) (i : Input) (moment : ℕ) (old new : View) (s : Status) (before after : Option (List ℕ)) : Type 0 where

@@ -9,10 +9,10 @@ use Rattle.x_pay.specs.Outcomes.{Payment, MakesPayment, IsSafePayment}
 use Rattle.x_pay.specs.Payments.{accepting}
 use Rattle.x_pay.specs.declared.outcome.PayOutcome.{PayOutcome}
 use Rattle.x_pay.specs.declared.outcome.PayOutcome.TheVariants as outcome
-use Rattle.party_calls.specs.declared.status.Refusal.TheVariants.{Decided, OtherParty, Pay}
-use Rattle.party_calls.specs.declared.status.Status.{Status}
-use Rattle.party_calls.specs.declared.status.Status.TheVariants as status
-use Rattle.party_calls.specs.Ends.{Puts}
+use Rattle.call_ends.specs.declared.status.Refusal.TheVariants.{Decided, OtherParty, Pay}
+use Rattle.call_ends.specs.declared.status.Status.{Status}
+use Rattle.call_ends.specs.declared.status.Status.TheVariants as status
+use Rattle.call_ends.specs.Puts.{Puts}
 use Rattle.party_calls.specs.Dues.{IsOrNoMemory}
 
 -- how many bytes of a payment are taken at most

@@ -16,11 +16,12 @@ use Rattle.x_spool.specs.declared.outcome.SpoolOutcome.{SpoolOutcome}
 use Rattle.x_spool.specs.declared.outcome.SpoolOutcome.TheVariants as outcome
 use Rattle.x_spool.specs.declared.outcome.OutboxOutcome.{OutboxOutcome}
 use Rattle.x_spool.specs.declared.outcome.OutboxOutcome.TheVariants as outbox
-use Rattle.party_calls.specs.Causes.{IsSilent}
-use Rattle.party_calls.specs.declared.status.Refusal.TheVariants.{Decided, OtherBatch, OtherParty, OutOfStep, Unplanned}
-use Rattle.party_calls.specs.declared.status.Status.{Status}
-use Rattle.party_calls.specs.declared.status.Status.TheVariants as status
-use Rattle.party_calls.specs.Ends.{IsOfParty, Puts}
+use Rattle.call_ends.specs.Causes.{IsSilent}
+use Rattle.call_ends.specs.declared.status.Refusal.TheVariants.{Decided, OtherBatch, OtherParty, OutOfStep, Unplanned}
+use Rattle.call_ends.specs.declared.status.Status.{Status}
+use Rattle.call_ends.specs.declared.status.Status.TheVariants as status
+use Rattle.call_ends.specs.Puts.{Puts}
+use Rattle.party_calls.specs.Ends.{IsOfParty}
 use Rattle.party_calls.specs.Dues.{IsOrNoMemory}
 
 -- how many bytes of a batch, or of messages for one, are taken at most

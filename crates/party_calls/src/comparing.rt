@@ -1,14 +1,13 @@
 // The two disks of a party are compared.
 ghost use Rattle.std.specs.Prelude.{◌≡◌, ◌≢◌, ℕ, IfOk, string_bytes};
-ghost use Rattle.party_calls.specs.Transfer.{GivesOutput, IsQuiet};
+ghost use Rattle.call_ends.specs.Transfer.{GivesOutput, IsQuiet};
 ghost use Rattle.x_pair.specs.Comparisons.{IsAnswered};
-ghost use Rattle.party_calls.specs.Causes.{HasCause, IsSilent};
+ghost use Rattle.call_ends.specs.Causes.{HasCause, IsSilent};
 ghost use Rattle.party_calls.specs.Compared.{EndsOrForgets, FollowsComparison, IsComparing, likeness_text, status_of_likeness};
 ghost use Rattle.party_calls.specs.Ends.{IsOfParty};
 ghost use Rattle.party_calls.specs.Obeys.{LeavesRest};
 
-use crate::finish::put_text;
-use crate::status::{Refusal, Status};
+use call_ends::{Refusal, Status, put_text};
 use std::alloc::{AllocError, Global};
 use x_base::{Ident, NoMemory, Sink, Text};
 use x_disk::Shelf;

@@ -1,18 +1,15 @@
 // Keys that come from the source: a party is created with its generator, or a key-encrypting key is loaded.
-ghost use Rattle.std.specs.Prelude.{◌≡◌, ℕ, IfOk, IfErr, Ok};
-ghost use Rattle.x_base.specs.Edge.{Rose};
-ghost use Rattle.pair_check.specs.Values.{check_value_of};
-ghost use Rattle.party_calls.specs.Transfer.{IsQuiet, TookAtMost};
+ghost use Rattle.std.specs.Prelude.{◌≡◌, ℕ, Ok};
+ghost use Rattle.call_ends.specs.Transfer.{IsQuiet, TookAtMost};
 ghost use Rattle.x_line.specs.declared.order.Order.TheVariants.{Create, Enter};
-ghost use Rattle.party_calls.specs.Causes.{HasCause, IsSilent};
-ghost use Rattle.party_calls.specs.Entered.{AreRead, IsNoKey, digits_limit, valued};
+ghost use Rattle.call_ends.specs.Causes.{HasCause, IsSilent};
+ghost use Rattle.call_ends.specs.Digits.{digits_limit};
+ghost use Rattle.party_calls.specs.Entered.{valued};
 ghost use Rattle.party_calls.specs.Obeys.{ExpectsCall, LeavesOthers, Obeys};
 
 use crate::finish::finish;
-use crate::status::{Refusal, Status};
-use crate::transfer::{GatherError, gather};
-use key_parts::{Form, Part};
-use pair_check::check_value;
+use call_ends::{Status, take_key};
+use key_parts::Form;
 use party_state::{Command, Input};
 use party_tables::LinkKey;
 use std::alloc::Global;
@@ -20,40 +17,6 @@ use x_base::{Ident, Role, Sink, Source, Text};
 use x_disk::Shelf;
 use x_gen::Gen;
 use x_party::Outcome;
-
-/// How many bytes of a key are taken at most.
-const DIGITS_LIMIT: usize = 257;
-
-/// The key that the source gives, and the check value of its pair.
-#[derive(Drop)]
-pub struct Entered {
-    pub part: Part,
-    pub value: Text,
-}
-
-/// Takes the bytes of a key and reads it.
-#[tactic(auto, using(crate::proofs::KeysEntered::key_read, crate::proofs::KeysEntered::line_at_fault))]
-pub fn take_key<S: Source>(alloc: Global, source: &mut S, form: Form) -> Result<Entered, Status>
-    ensures read { IfOk result (λ e. AreRead form (S.left source.old) (S.left source.new) (Ok e.part)) }
-    ensures value { IfOk result (λ e. e.value ≡ check_value_of e.part.pair) }
-    ensures none { IfErr result (IsNoKey form (S.left source.old) (S.left source.new)) }
-    ensures read_fault { IfErr result (λ s. s ≡ Status.ReadFault → Rose (S.faults source.old) (S.faults source.new)) }
-    ensures most { TookAtMost digits_limit (S.left source.old) (S.left source.new) }
-{
-    let input = match gather(alloc, source, DIGITS_LIMIT) {
-        Ok(input) => input,
-        Err(GatherError::Fault) => return Err(Status::ReadFault),
-        Err(GatherError::NoMemory) => return Err(Status::NoMemory),
-    };
-    let part = match key_parts::entered(form, input.bytes()) {
-        Ok(part) => part,
-        Err(line) => return Err(Status::Refused(Refusal::BadDigits(line))),
-    };
-    match check_value(alloc, part.pair) {
-        Ok(value) => Ok(Entered { part, value }),
-        Err(_) => Err(Status::NoMemory),
-    }
-}
 
 /// The outcome with a check value in place of the reply, where it is done.
 pub fn with_value(outcome: Outcome, value: Text) -> Outcome

@@ -1,14 +1,14 @@
 // Keys that come from the source, at a party that is kept on two disks.
 ghost use Rattle.std.specs.Prelude.{◌≡◌, ◌≢◌, ℕ};
-ghost use Rattle.party_calls.specs.Transfer.{TookAtMost};
+ghost use Rattle.call_ends.specs.Transfer.{TookAtMost};
 ghost use Rattle.x_line.specs.declared.order.Order.TheVariants.{Create, Enter};
-ghost use Rattle.party_calls.specs.Causes.{HasCause, IsSilent};
-ghost use Rattle.party_calls.specs.Entered.{digits_limit};
+ghost use Rattle.call_ends.specs.Causes.{HasCause, IsSilent};
+ghost use Rattle.call_ends.specs.Digits.{digits_limit};
 ghost use Rattle.party_calls.specs.Mirrored.{LeavesMirrored, ObeysMirrored};
 
-use crate::entering::{take_key, with_value};
+use crate::entering::with_value;
 use crate::finish::finish;
-use crate::status::Status;
+use call_ends::{Status, take_key};
 use key_parts::Form;
 use party_state::{Command, Input};
 use party_tables::LinkKey;

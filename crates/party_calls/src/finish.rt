@@ -1,46 +1,20 @@
 // A call over a party, a payment, or a batch, ends: the text is written, and the status follows.
-ghost use Rattle.std.specs.Prelude.{◌≡◌, ◌⊎◌, ◌++◌, OnOk, OnErr};
-ghost use Rattle.x_base.specs.Edge.{Rose, AppendsTo, WrotePrefix};
-ghost use Rattle.party_calls.specs.Transfer.{GivesOutput};
+ghost use Rattle.std.specs.Prelude.{◌≡◌};
+ghost use Rattle.call_ends.specs.Transfer.{GivesOutput};
 ghost use Rattle.x_party.specs.Outcomes.{IsNoFailure};
-ghost use Rattle.party_calls.specs.Causes.{IsSilent};
+ghost use Rattle.call_ends.specs.Causes.{IsSilent};
 ghost use Rattle.x_pay.specs.Outcomes.{IsNoFailure as IsNoPayFailure};
-ghost use Rattle.party_calls.specs.Ends.{Ends, Puts, IsOfParty};
+ghost use Rattle.party_calls.specs.Ends.{Ends, IsOfParty};
 ghost use Rattle.party_calls.specs.Paid.{EndsPayment};
 ghost use Rattle.party_calls.specs.Spooled.{EndsBatch, EndsOutbox, status_of_missing};
 ghost use Rattle.x_spool.specs.Outcomes.{IsNoFailure as IsNoBatchFailure};
 ghost use Rattle.x_spool.specs.Outboxes.{IsNoFailure as IsNoOutboxFailure};
 
-use crate::status::{Refusal, Status};
-use x_base::{Sink, SinkFault, Text, Verdict, put_all};
+use call_ends::{Refusal, Status, put_text};
+use x_base::{Sink, Verdict};
 use x_party::Outcome;
 use x_pay::PayOutcome;
 use x_spool::{OutboxOutcome, SpoolOutcome};
-
-/// Puts the text and then its ending, without memory.
-#[tactic(auto, using(crate::proofs::Endings::both_whole, crate::proofs::Endings::first_part, crate::proofs::Endings::second_part, crate::proofs::Endings::rose_later))]
-fn put_both<K: Sink>(sink: &mut K, text: &[u8], ending: &[u8]) -> Result<(), SinkFault>
-    ensures whole { OnOk result (AppendsTo (K.written sink.old) (K.written sink.new) (text.now ++ ending.now)) }
-    ensures part { OnErr result (WrotePrefix (K.written sink.old) (K.written sink.new) (text.now ++ ending.now)) }
-    ensures fault { OnErr result (Rose (K.faults sink.old) (K.faults sink.new)) }
-{
-    put_all(sink, text)?;
-    put_all(sink, ending)
-}
-
-/// Puts a text, where there is one; the status is the answer where that doesn't fail.
-pub fn put_text<K: Sink>(sink: &mut K, text: Option<Text>, ending: &[u8], answer: Status) -> Status
-    ensures puts { Puts text ending.now answer result (K.written sink.old) (K.written sink.new) }
-    ensures fault { (result ≡ answer) ⊎ Rose (K.faults sink.old) (K.faults sink.new) }
-{
-    let Some(text) = text else {
-        return answer;
-    };
-    match put_both(sink, text.bytes(), ending) {
-        Ok(()) => answer,
-        Err(_) => Status::WriteFault,
-    }
-}
 
 /// Writes the reply of an outcome and its ending, without memory.
 pub fn finish<K: Sink>(sink: &mut K, outcome: Outcome, ending: &[u8]) -> Status

@@ -1,16 +1,14 @@
 // An order of a party that is kept on two disks.
 ghost use Rattle.std.specs.Prelude.{◌≡◌};
-ghost use Rattle.party_calls.specs.Transfer.{TookAtMost};
+ghost use Rattle.call_ends.specs.Transfer.{TookAtMost};
 ghost use Rattle.x_line.specs.Orders.{IsOfTwo};
-ghost use Rattle.party_calls.specs.Causes.{HasCause, IsSilent};
+ghost use Rattle.call_ends.specs.Causes.{HasCause, IsSilent};
 ghost use Rattle.party_calls.specs.Mirrored.{LeavesMirrored, ObeysMirrored};
 ghost use Rattle.party_calls.specs.Obeys.{most_of};
 
 use crate::entering_mirrored::{create_mirrored, enter_mirrored};
 use crate::finish::finish;
-use crate::listening::listen;
-use crate::party_command::command_of;
-use crate::status::Status;
+use call_ends::{Status, command_of, listen};
 use party_state::Input;
 use party_tables::LinkKey;
 use std::alloc::Global;

@@ -1,14 +1,13 @@
 // A message is taken, with its notice.
 ghost use Rattle.std.specs.Prelude.{◌≡◌, true, None};
 ghost use Rattle.x_line.specs.declared.order.Order.TheVariants.{Take};
-ghost use Rattle.party_calls.specs.Transfer.{IsQuiet, TookAtMost};
-ghost use Rattle.party_calls.specs.Causes.{HasCause, IsSilent};
+ghost use Rattle.call_ends.specs.Transfer.{IsQuiet, TookAtMost};
+ghost use Rattle.call_ends.specs.Causes.{HasCause, IsSilent};
 ghost use Rattle.party_calls.specs.Notice.{LeavesNotice, notice_at};
 ghost use Rattle.party_calls.specs.Obeys.{ExpectsCall, LeavesOthers, Obeys, most_of};
 
 use crate::finish::finish;
-use crate::listening::listen;
-use crate::status::Status;
+use call_ends::{Status, listen};
 use csm_feed::law_one_hearing;
 use std::alloc::Global;
 use x_base::{Ident, Sink, Source, Text};

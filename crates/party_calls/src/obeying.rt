@@ -1,19 +1,16 @@
 // An order is done that is no scenario, drill or audit.
 ghost use Rattle.std.specs.Prelude.{◌≡◌, ◌≢◌, ℕ};
 ghost use Rattle.x_line.specs.declared.order.Order.TheVariants.{Audit, Drill, Replay};
-ghost use Rattle.party_calls.specs.Transfer.{IsQuiet, TookAtMost};
-ghost use Rattle.party_calls.specs.Causes.{HasCause, IsSilent};
+ghost use Rattle.call_ends.specs.Transfer.{IsQuiet, TookAtMost};
+ghost use Rattle.call_ends.specs.Causes.{HasCause, IsSilent};
 ghost use Rattle.party_calls.specs.Obeys.{ExpectsCall, IsWithin, LeavesOthers, Obeys, most_of};
 
-use crate::checking::check;
 use crate::entering::{create, enter};
 use crate::finish::finish;
-use crate::listening::listen;
-use crate::party_command::command_of;
 use crate::payments::accept;
 use crate::spooling::{batch, spool};
-use crate::status::Status;
 use crate::tending::tend;
+use call_ends::{Status, check, command_of, listen};
 use csm_feed::law_one_hearing;
 use party_state::Input;
 use party_tables::LinkKey;

@@ -1,13 +1,12 @@
 // A payment is taken in.
 ghost use Rattle.std.specs.Prelude.{◌≡◌, ◌≢◌, IfSome};
-ghost use Rattle.party_calls.specs.Transfer.{IsQuiet, TakesInput};
+ghost use Rattle.call_ends.specs.Transfer.{IsQuiet, TakesInput};
 ghost use Rattle.x_pay.specs.Payments.{accepting};
 ghost use Rattle.party_calls.specs.Paid.{FollowsPayment, IsAccepted, payment_limit, payment_taken};
 ghost use Rattle.party_calls.specs.Obeys.{LeavesRest};
 
 use crate::finish::finish_payment;
-use crate::status::Status;
-use crate::transfer::{GatherError, gather};
+use call_ends::{GatherError, Status, gather};
 use std::alloc::Global;
 use x_base::{Ident, Sink, Source};
 use x_disk::Shelf;

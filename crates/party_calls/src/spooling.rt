@@ -2,15 +2,14 @@
 ghost use Rattle.std.specs.Prelude.{◌≡◌, ◌≢◌, ℕ, Some, IfSome, IfOk, IfErr};
 ghost use Rattle.x_base.specs.Edge.{Rose};
 ghost use Rattle.csm_batch.specs.Batches.{IsBatch};
-ghost use Rattle.party_calls.specs.Transfer.{GivesOutput, IsQuiet, TakesInput, TookAtMost};
-ghost use Rattle.party_calls.specs.Causes.{HasCause, IsSilent};
+ghost use Rattle.call_ends.specs.Transfer.{GivesOutput, IsQuiet, TakesInput, TookAtMost};
+ghost use Rattle.call_ends.specs.Causes.{HasCause, IsSilent};
 ghost use Rattle.party_calls.specs.Batched.{FollowsInbox, IsMade};
 ghost use Rattle.party_calls.specs.Obeys.{LeavesRest};
 ghost use Rattle.party_calls.specs.Spooled.{FollowsBatch, FollowsOutbox, IsBatched, IsOutboxCall, IsUnbatched, LeavesSpool, TakesBatch, batch_limit};
 
-use crate::finish::{finish_batch, finish_outbox, put_text};
-use crate::status::{Refusal, Status};
-use crate::transfer::{GatherError, gather};
+use crate::finish::{finish_batch, finish_outbox};
+use call_ends::{GatherError, Refusal, Status, gather, put_text};
 use csm_batch::{Batch, BatchFault, law_bad_in_front, law_one_reading};
 use std::alloc::Global;
 use x_base::{Ident, Sink, Source};

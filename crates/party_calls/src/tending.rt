@@ -1,13 +1,13 @@
 // The file of a party is looked after, paid out of, or a spool looked at.
 ghost use Rattle.std.specs.Prelude.{◌≡◌, ℕ, List, Option, true};
-ghost use Rattle.party_calls.specs.Transfer.{IsQuiet};
-ghost use Rattle.party_calls.specs.Causes.{HasCause, IsSilent};
+ghost use Rattle.call_ends.specs.Transfer.{IsQuiet};
+ghost use Rattle.call_ends.specs.Causes.{HasCause, IsSilent};
 ghost use Rattle.party_calls.specs.Obeys.{ExpectsCall, IsWithin, LeavesOthers, Obeys, is_tended};
 
 use crate::comparing::compare;
 use crate::finish::{finish, finish_payment};
 use crate::spooling::outbox;
-use crate::status::Status;
+use call_ends::Status;
 use party_tables::LinkKey;
 use std::alloc::Global;
 use x_base::Sink;

@@ -12,9 +12,9 @@ use Rattle.audit_fault.specs.declared.fault.AuditFault.{AuditFault}
 use Rattle.audit_fault.specs.declared.fault.AuditFault.TheVariants as wrong
 use Rattle.audit_check.specs.declared.result.AuditResult.{AuditResult}
 use Rattle.audit_check.specs.declared.result.AuditResult.TheVariants as answer
-use Rattle.party_calls.specs.Causes.{HasCause}
-use Rattle.party_calls.specs.declared.status.Status.{Status}
-use Rattle.party_calls.specs.declared.status.Status.TheVariants as status
+use Rattle.call_ends.specs.Causes.{HasCause}
+use Rattle.call_ends.specs.declared.status.Status.{Status}
+use Rattle.call_ends.specs.declared.status.Status.TheVariants as status
 use Rattle.x917.specs.Audited.{ExpectsAudit, IsAudit, IsDenied, IsFound, IsNotAudited, IsUnconfirmed, audit_taken, found_of, status_of_fault}
 
 -- ---- one thing is found

@@ -27,8 +27,8 @@ use Rattle.course.specs.Starts.{start_course, start_world}
 use Rattle.course.specs.declared.tally.Tally.{Tally}
 use Rattle.replay.specs.declared.result.PlayResult.{PlayResult}
 use Rattle.replay.specs.declared.result.PlayResult.TheVariants as played
-use Rattle.party_calls.specs.declared.status.Status.{Status}
-use Rattle.party_calls.specs.declared.status.Status.TheVariants as status
+use Rattle.call_ends.specs.declared.status.Status.{Status}
+use Rattle.call_ends.specs.declared.status.Status.TheVariants as status
 use Rattle.x917.specs.Drilled.{EndsDrill, IsDrill, IsDrilled, IsDrilledUpTo, IsPlayedAlone}
 use Rattle.course.specs.Lawful.{IsLawful}
 use Rattle.x917.proofs.Headlines.{whole, up_to}

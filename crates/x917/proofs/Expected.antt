@@ -14,13 +14,13 @@ use Rattle.replay.specs.Playing.{Surroundings, around, IsNotEmpty}
 use Rattle.replay.specs.SettingUp.{AllReadBlank, AllTell, ReadsBlank}
 use Rattle.course.specs.Parties.{parties_in, party_in}
 use Rattle.course.specs.declared.tally.Tally.{Tally}
-use Rattle.party_calls.specs.declared.status.Refusal.TheVariants.{Decided}
-use Rattle.party_calls.specs.declared.status.Status.{Status}
-use Rattle.party_calls.specs.declared.status.Status.TheVariants as status
+use Rattle.call_ends.specs.declared.status.Refusal.TheVariants.{Decided}
+use Rattle.call_ends.specs.declared.status.Status.{Status}
+use Rattle.call_ends.specs.declared.status.Status.TheVariants as status
 use Rattle.x917.specs.Drilled.{IsDrill, IsDrilled}
 use Rattle.x917.specs.Headline.{DisksTell, IsReplay, IsUnread, Says}
 use Rattle.x917.specs.Playable.{AnyFilled, ExpectsDrill, ExpectsPlay, ExpectsReplay, IsForgedAlways, IsHonest}
-use Rattle.party_calls.specs.Transfer.{IsQuiet}
+use Rattle.call_ends.specs.Transfer.{IsQuiet}
 
 -- ---- a disk isn't blank and filled
 

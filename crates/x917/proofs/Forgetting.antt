@@ -9,9 +9,10 @@ use Rattle.party_state.specs.declared.command.Input.TheVariants.{Ordered}
 use Rattle.x_line.specs.declared.order.Order.{Order}
 use Rattle.x_line.specs.declared.order.Order.TheVariants as order
 use Rattle.x_party.specs.Dues.{IsDue, IsDueCreation}
-use Rattle.party_calls.specs.declared.status.Status.TheVariants as status
+use Rattle.call_ends.specs.declared.status.Status.TheVariants as status
 use Rattle.party_calls.specs.Dues.{Follows}
-use Rattle.party_calls.specs.Entered.{ExpectsRead, digits_taken}
+use Rattle.call_ends.specs.Digits.{digits_taken}
+use Rattle.party_calls.specs.Entered.{ExpectsRead}
 use Rattle.x917.specs.Expects.{Expects}
 
 none_read : (read : Result Part ℕ) (Due : Part → Type 0) → ((part : Part) → Due part) → ExpectsRead read status.NoMemory Due

@@ -18,8 +18,8 @@ use Rattle.course.specs.Starts.{start_course, start_world}
 use Rattle.course.specs.declared.tally.Tally.{Tally}
 use Rattle.replay.specs.declared.result.PlayResult.{PlayResult}
 use Rattle.replay.specs.declared.result.PlayResult.TheVariants as played
-use Rattle.party_calls.specs.declared.status.Refusal.TheVariants.{Decided}
-use Rattle.party_calls.specs.declared.status.Status.TheVariants as status
+use Rattle.call_ends.specs.declared.status.Refusal.TheVariants.{Decided}
+use Rattle.call_ends.specs.declared.status.Status.TheVariants as status
 use Rattle.course.specs.Lawful.{IsLawful}
 use Rattle.x917.specs.Headline.{IsPlayedWhole, IsPlayedUpTo, IsPlayedInPart, IsPlayedUnwritten, IsPlayedEarly, IsRunWhole, IsRunUpTo, DisksTell, Says, SaysOfRun, broken_events, status_of_play}
 

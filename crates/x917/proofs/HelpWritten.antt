@@ -5,10 +5,10 @@ use Rattle.help_texts.specs.declared.asking.Topic.{Topic}
 use Rattle.help_texts.specs.Lines.{head_of}
 use Rattle.x_line.specs.declared.usage.UsageKind.{UsageKind}
 use Rattle.x_line.specs.Usage.{usage_of}
-use Rattle.party_calls.specs.declared.status.Status.{Status}
-use Rattle.party_calls.specs.declared.status.Status.TheVariants as status
-use Rattle.party_calls.specs.Causes.{HasFaults}
-use Rattle.party_calls.specs.Ends.{Puts}
+use Rattle.call_ends.specs.declared.status.Status.{Status}
+use Rattle.call_ends.specs.declared.status.Status.TheVariants as status
+use Rattle.call_ends.specs.Causes.{HasFaults}
+use Rattle.call_ends.specs.Puts.{Puts}
 use Rattle.x917.specs.Helped.{IsHelp}
 
 module _ (text : List ℕ) (s : Status) (before after : Option (List ℕ)) (puts : Puts (Some text) [] status.Done s before after) where

@@ -20,8 +20,8 @@ use Rattle.x_party.specs.declared.outcome.Outcome.{Outcome}
 use Rattle.x_party.specs.declared.outcome.Outcome.TheVariants as outcome
 use Rattle.world_laws.specs.Events.{Action, Orders, Hears, Compacts, Migrates, IsAction, IsCommand}
 use Rattle.call_laws.specs.Calls.{IsCall, IsNamedCall, AnswersOther}
-use Rattle.party_calls.specs.declared.status.Status.{Status}
-use Rattle.party_calls.specs.Listening.{taken, IsHeard}
+use Rattle.call_ends.specs.declared.status.Status.{Status}
+use Rattle.call_ends.specs.Listening.{taken, IsHeard}
 use Rattle.party_calls.specs.Ends.{Ends}
 use Rattle.party_calls.specs.Obeys.{Obeys, IsPartyTurn, IsTaken}
 use Rattle.x917.specs.Network.{IsNamedEvent, IsArrivalEvent, IsNetworkEvent}

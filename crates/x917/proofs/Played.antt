@@ -8,10 +8,10 @@ use Rattle.x_line.specs.declared.order.Order.TheVariants as order
 use Rattle.replay.specs.Playing.{Surroundings, around}
 use Rattle.replay.specs.declared.result.PlayResult.{PlayResult}
 use Rattle.replay.specs.declared.result.PlayResult.TheVariants as played
-use Rattle.party_calls.specs.declared.status.Status.{Status}
-use Rattle.party_calls.specs.declared.status.Status.TheVariants as status
+use Rattle.call_ends.specs.declared.status.Status.{Status}
+use Rattle.call_ends.specs.declared.status.Status.TheVariants as status
 use Rattle.x917.specs.Drilled.{IsDrill}
-use Rattle.party_calls.specs.Causes.{HasCause, IsSilent}
+use Rattle.call_ends.specs.Causes.{HasCause, IsSilent}
 use Rattle.x917.specs.Headline.{IsReplay, IsUnread, Says, status_of_play}
 use Rattle.party_calls.specs.Obeys.{ExpectsCall}
 use Rattle.x917.specs.Expects.{Expects, IsSilentOf}

@@ -4,10 +4,10 @@ use Rattle.std.proofs.lemmas.List.{append-nil}
 use Rattle.scenario.specs.declared.line.Line.{Line}
 use Rattle.scenario.specs.Laws.{BadInFront, FewBytes}
 use Rattle.scenario.specs.Reading.{IsFirstBad, IsScenario}
-use Rattle.party_calls.specs.declared.status.Status.TheVariants as status
+use Rattle.call_ends.specs.declared.status.Status.TheVariants as status
 use Rattle.party_calls.specs.Obeys.{scenario_limit}
 use Rattle.x917.specs.Headline.{IsUnread, ReadsScenario}
-use Rattle.party_calls.specs.Transfer.{IsAtEnd, IsFront, Took}
+use Rattle.call_ends.specs.Transfer.{IsAtEnd, IsFront, Took}
 
 -- a scenario has fewer bytes than are taken, so that the source was read to its end
 pub scenario_read : FewBytes → (before after : Option (List ℕ)) (text bytes : List ℕ) (lines : List Line) → Took before after text

@@ -12,8 +12,8 @@ use Rattle.course.specs.Tallies.{IsTallied}
 use Rattle.course.specs.declared.tally.Tally.{Tally}
 use Rattle.replay.specs.declared.result.PlayResult.{PlayResult}
 use Rattle.replay.specs.declared.result.PlayResult.TheVariants as played
-use Rattle.party_calls.specs.declared.status.Status.{Status}
-use Rattle.party_calls.specs.declared.status.Status.TheVariants as status
+use Rattle.call_ends.specs.declared.status.Status.{Status}
+use Rattle.call_ends.specs.declared.status.Status.TheVariants as status
 use Rattle.x917.specs.Headline.{IsPlayedWhole, IsPlayedUpTo}
 
 -- a scenario was played over a shelf of its own, on which each disk was empty and none failed; its transcript was written

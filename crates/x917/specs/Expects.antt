@@ -9,9 +9,9 @@ use Rattle.x_line.specs.declared.usage.UsageKind.TheVariants.{Line}
 use Rattle.x_line.specs.Line.{is_line}
 use Rattle.x_line.specs.Usage.{usage_of}
 use Rattle.help_texts.specs.Topics.{topic_of}
-use Rattle.party_calls.specs.declared.status.Status.{Status}
-use Rattle.party_calls.specs.declared.status.Status.TheVariants as status
-use Rattle.party_calls.specs.Causes.{IsSilent}
+use Rattle.call_ends.specs.declared.status.Status.{Status}
+use Rattle.call_ends.specs.declared.status.Status.TheVariants as status
+use Rattle.call_ends.specs.Causes.{IsSilent}
 use Rattle.party_calls.specs.Obeys.{ExpectsCall}
 use Rattle.x917.specs.Audited.{ExpectsAudit, audit_taken}
 use Rattle.x917.specs.Playable.{ExpectsReplay, ExpectsDrill}

@@ -19,9 +19,9 @@ use Rattle.course.specs.Starts.{start_course, start_world}
 use Rattle.course.specs.Transcript.{show_lines}
 use Rattle.replay.specs.declared.result.PlayResult.{PlayResult}
 use Rattle.replay.specs.declared.result.PlayResult.TheVariants as played
-use Rattle.party_calls.specs.declared.status.Refusal.TheVariants.{Decided}
-use Rattle.party_calls.specs.declared.status.Status.{Status}
-use Rattle.party_calls.specs.declared.status.Status.TheVariants as status
+use Rattle.call_ends.specs.declared.status.Refusal.TheVariants.{Decided}
+use Rattle.call_ends.specs.declared.status.Status.{Status}
+use Rattle.call_ends.specs.declared.status.Status.TheVariants as status
 
 -- ---- the playing of a scenario
 

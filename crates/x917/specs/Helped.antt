@@ -5,9 +5,9 @@ use Rattle.help_texts.specs.Lines.{head_of}
 use Rattle.help_texts.specs.Topics.{topic_of}
 use Rattle.x_line.specs.declared.usage.UsageKind.{UsageKind}
 use Rattle.x_line.specs.Usage.{usage_of}
-use Rattle.party_calls.specs.declared.status.Status.{Status}
-use Rattle.party_calls.specs.declared.status.Status.TheVariants as status
-use Rattle.party_calls.specs.Ends.{Puts}
+use Rattle.call_ends.specs.declared.status.Status.{Status}
+use Rattle.call_ends.specs.declared.status.Status.TheVariants as status
+use Rattle.call_ends.specs.Puts.{Puts}
 
 -- the text of the topic, which begins with its lines, was written, or the sink failed; or no memory was left, and nothing was
 abbrev pub IsHelp : Topic → Status → Option (List ℕ) → Option (List ℕ) → Type 0

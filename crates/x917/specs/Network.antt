@@ -11,11 +11,11 @@ use Rattle.x_line.specs.declared.order.Order.{Order}
 use Rattle.x_line.specs.declared.order.Order.TheVariants as order
 use Rattle.world_laws.specs.Events.{Action, Orders, Hears, Compacts, Migrates, IsAction}
 use Rattle.call_laws.specs.Calls.{IsCall, IsNamedCall}
-use Rattle.party_calls.specs.declared.party_command.PartyCommand.{PartyCommand}
-use Rattle.party_calls.specs.declared.status.Status.{Status}
-use Rattle.party_calls.specs.Listening.{IsUnheard, taken}
+use Rattle.call_ends.specs.declared.party_command.PartyCommand.{PartyCommand}
+use Rattle.call_ends.specs.declared.status.Status.{Status}
+use Rattle.call_ends.specs.Listening.{IsUnheard, taken}
 use Rattle.party_calls.specs.Ends.{Ends}
-use Rattle.party_calls.specs.Obeys.{command_of}
+use Rattle.call_ends.specs.Commands.{command_of}
 
 -- the call is this action of a network, at the party that stands under the name, and it ends with that outcome's status and
 -- reply: whole, where the party answered, and otherwise cut off

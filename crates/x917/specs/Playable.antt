@@ -11,10 +11,10 @@ use Rattle.course.specs.Lines.{IsForgedIn}
 use Rattle.replay.specs.SettingUp.{AllReadBlank, AllTell}
 use Rattle.course.specs.Parties.{parties_in}
 use Rattle.course.specs.Starts.{start_course}
-use Rattle.party_calls.specs.declared.status.Refusal.TheVariants.{Decided}
-use Rattle.party_calls.specs.declared.status.Status.{Status}
-use Rattle.party_calls.specs.declared.status.Status.TheVariants as status
-use Rattle.party_calls.specs.Transfer.{IsQuiet}
+use Rattle.call_ends.specs.declared.status.Refusal.TheVariants.{Decided}
+use Rattle.call_ends.specs.declared.status.Status.{Status}
+use Rattle.call_ends.specs.declared.status.Status.TheVariants as status
+use Rattle.call_ends.specs.Transfer.{IsQuiet}
 use Rattle.party_calls.specs.Dues.{IsOrNoMemory}
 
 -- whichever outcomes the stopped events have, no event of the scenario is forged

@@ -1,15 +1,15 @@
 // A transcript is audited.
 ghost use Rattle.std.specs.Prelude.{◌≡◌, ◌≢◌, ◌⊎◌, Err, IfSome, Result};
 ghost use Rattle.course.specs.declared.tally.Tally.{Tally};
-ghost use Rattle.party_calls.specs.Transfer.{GivesOutput, IsQuiet, TakesInput};
-ghost use Rattle.party_calls.specs.Causes.{IsSilent};
-ghost use Rattle.party_calls.specs.declared.status.Status.{Status as TheStatus};
+ghost use Rattle.call_ends.specs.Transfer.{GivesOutput, IsQuiet, TakesInput};
+ghost use Rattle.call_ends.specs.Causes.{IsSilent};
+ghost use Rattle.call_ends.specs.declared.status.Status.{Status as TheStatus};
 ghost use Rattle.party_calls.specs.Obeys.{audit_limit};
 ghost use Rattle.x917.specs.Audited.{ExpectsAudit, IsAudit, IsFound, audit_taken, found_of, status_of_fault};
 
 use audit_check::{AuditFault, AuditResult, AuditTally, audit, read_audit};
+use call_ends::{GatherError, Refusal, Status, gather};
 use course::summary;
-use party_calls::{GatherError, Refusal, Status, gather};
 use scenario::ScenarioFault;
 use std::alloc::Global;
 use x_base::{Sink, Source, put_all};

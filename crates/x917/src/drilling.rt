@@ -4,12 +4,12 @@ ghost use Rattle.scenario_drill.specs.Drill.{drill_text};
 ghost use Rattle.scenario.specs.Reading.{IsScenario};
 ghost use Rattle.x917.specs.Drilled.{EndsDrill, IsDrill, IsDrilled, IsPlayedAlone};
 ghost use Rattle.x917.specs.Playable.{ExpectsDrill};
-ghost use Rattle.party_calls.specs.Transfer.{GivesOutput, IsQuiet};
-ghost use Rattle.party_calls.specs.Causes.{IsSilent};
+ghost use Rattle.call_ends.specs.Transfer.{GivesOutput, IsQuiet};
+ghost use Rattle.call_ends.specs.Causes.{IsSilent};
 
 use crate::courses::law_courses;
+use call_ends::Status;
 use course::{Tally, law_counted, law_scenario_starts, summary};
-use party_calls::Status;
 use replay::{PlayResult, play};
 use scenario::{Scenario, ScenarioFault, law_never_both, law_one_scenario};
 use scenario_drill::{drill, law_drills_read};

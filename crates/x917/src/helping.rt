@@ -3,11 +3,11 @@ ghost use Rattle.std.specs.Prelude.{◌≡◌, ℕ, Some, None};
 ghost use Rattle.help_texts.specs.declared.asking.Topic.{Topic as TheTopic};
 ghost use Rattle.help_texts.specs.Topics.{topic_of};
 ghost use Rattle.x_line.specs.declared.usage.UsageKind.{UsageKind as Kind};
-ghost use Rattle.party_calls.specs.Causes.{HasFaults};
+ghost use Rattle.call_ends.specs.Causes.{HasFaults};
 ghost use Rattle.x917.specs.Helped.{IsHelp};
 
+use call_ends::{Status, put_text};
 use help_texts::{Topic, asked, help_text};
-use party_calls::{Status, put_text};
 use std::alloc::Global;
 use x_base::{Sink, Words};
 use x_line::UsageKind;

@@ -9,7 +9,7 @@ mod notice;
 mod replaying;
 mod top;
 
-use party_calls::{Status, exit_code, status_line};
+use call_ends::{Status, exit_code, status_line};
 use std::alloc::AllocGlobal;
 use std::fs::OpenOptions;
 use std::io::Write;

@@ -1,8 +1,8 @@
 // An order of a party with one disk, and its notice.
 ghost use Rattle.std.specs.Prelude.{◌≡◌, ℕ, true, None};
 ghost use Rattle.x_line.specs.declared.order.Order.TheVariants.{Audit, Drill, Replay};
-ghost use Rattle.party_calls.specs.Transfer.{IsQuiet, TookAtMost};
-ghost use Rattle.party_calls.specs.Causes.{HasCause};
+ghost use Rattle.call_ends.specs.Transfer.{IsQuiet, TookAtMost};
+ghost use Rattle.call_ends.specs.Causes.{HasCause};
 ghost use Rattle.party_calls.specs.Notice.{LeavesNotice};
 ghost use Rattle.party_calls.specs.Obeys.{IsWithin, LeavesOthers, Obeys, most_of};
 ghost use Rattle.x917.specs.Audited.{IsAudit};
@@ -11,7 +11,8 @@ ghost use Rattle.x917.specs.Expects.{Expects, IsSilentOf};
 ghost use Rattle.x917.specs.Headline.{IsReplay};
 
 use crate::top::carry_out;
-use party_calls::{Status, take_with_notice};
+use call_ends::Status;
+use party_calls::take_with_notice;
 use std::alloc::Global;
 use x_base::{Sink, Source, Text};
 use x_disk::{MemoryShelf, Shelf};

@@ -2,15 +2,15 @@
 ghost use Rattle.std.specs.Prelude.{◌≡◌, IfOk, IfErr, IfSome};
 ghost use Rattle.x_base.specs.Edge.{Rose};
 ghost use Rattle.x_line.specs.declared.order.Order.TheVariants.{Replay};
-ghost use Rattle.party_calls.specs.Transfer.{GivesOutput, IsQuiet, TakesInput, TookAtMost};
+ghost use Rattle.call_ends.specs.Transfer.{GivesOutput, IsQuiet, TakesInput, TookAtMost};
 ghost use Rattle.party_calls.specs.Obeys.{scenario_limit};
 ghost use Rattle.x917.specs.Headline.{IsReplay, IsUnread, ReadsScenario, status_of_play};
 ghost use Rattle.x917.specs.Playable.{ExpectsReplay};
 ghost use Rattle.x917.specs.Expects.{IsSilentOf};
 
 use crate::courses::law_courses;
+use call_ends::{GatherError, Refusal, Status, gather};
 use course::law_scenario_starts;
-use party_calls::{GatherError, Refusal, Status, gather};
 use replay::{PlayResult, play};
 use scenario::{
     Scenario, ScenarioFault, law_bad_in_front, law_few_bytes, law_never_both, law_one_first_bad,

@@ -5,9 +5,10 @@ use Rattle.x_line.specs.declared.order.Order.{Order}
 use Rattle.x_line.specs.Orders.{IsOfTwo}
 use Rattle.x_pair.specs.Dues.{IsDueTurn}
 use Rattle.x_pair.specs.Outcomes.{turning}
-use Rattle.party_calls.specs.Transfer.{TookAtMost}
+use Rattle.call_ends.specs.Transfer.{TookAtMost}
 use Rattle.party_calls.specs.Mirrored.{IsPairCall, LeavesMirrored, ObeysMirrored}
-use Rattle.party_calls.specs.Obeys.{command_of, is_reading, most_of, party_of}
+use Rattle.call_ends.specs.Commands.{command_of}
+use Rattle.party_calls.specs.Obeys.{is_reading, most_of, party_of}
 use Rattle.party_calls.proofs.Arriving.{none_told}
 use Rattle.party_calls.proofs.Mirrors.{apart_of, commands_of_two, finished_of_two, left_all, obeys_mirrored}
 use Rattle.party_calls.proofs.Orders.{cause_unheard, is_party, took_nothing}

@@ -3,8 +3,9 @@ use Rattle.x_disk.specs.Shelf.{alike_refl}
 use Rattle.party_state.specs.declared.command.Input.TheVariants.{Arrived, Ordered}
 use Rattle.x_line.specs.declared.order.Order.{Order}
 use Rattle.x_party.specs.Dues.{IsDue}
-use Rattle.party_calls.specs.Transfer.{TookAtMost}
-use Rattle.party_calls.specs.Obeys.{ExpectsCall, IsPartyTurn, IsWithin, LeavesOthers, Obeys, command_of, is_reading, ledger_of, most_of, party_of}
+use Rattle.call_ends.specs.Transfer.{TookAtMost}
+use Rattle.call_ends.specs.Commands.{command_of}
+use Rattle.party_calls.specs.Obeys.{ExpectsCall, IsPartyTurn, IsWithin, LeavesOthers, Obeys, is_reading, ledger_of, most_of, party_of}
 use Rattle.party_calls.proofs.Arriving.{follows_heard, follows_unheard, none_told}
 use Rattle.party_calls.proofs.Orders.{cause_checked, cause_unheard, expects_command, finished, is_party, no_ledger, obeys_command, tended_of, took_nothing}
 use Rattle.party_calls.proofs.Paying.{cause_accepted, leaves_two}

@@ -1,7 +1,7 @@
 use Rattle.std.proofs.Common.{◌≡◌, inl, inr, refl}
 use Rattle.x_disk.specs.Shelf.{alike_refl}
 use Rattle.x_pay.specs.Payments.{accepting}
-use Rattle.party_calls.specs.declared.status.Status.TheVariants as status
+use Rattle.call_ends.specs.declared.status.Status.TheVariants as status
 use Rattle.party_calls.proofs.Paying.{never_read, no_payment, nothing_left, of_payment, payment_follows, payment_rest, takes_payment}
 use Rattle.party_calls.proofs.payments.accept.Goals as goal
 

@@ -1,7 +1,7 @@
 use Rattle.std.proofs.Common.{◌≡◌, ℕ, List, length, inl, inr, ap, refl, subst, arith}
 use Rattle.x_spool.specs.Inbox.{IsInbox, IsRefusedStream}
-use Rattle.party_calls.specs.declared.status.Refusal.TheVariants.{Text, Trailing}
-use Rattle.party_calls.specs.declared.status.Status.TheVariants as status
+use Rattle.call_ends.specs.declared.status.Refusal.TheVariants.{Text, Trailing}
+use Rattle.call_ends.specs.declared.status.Status.TheVariants as status
 use Rattle.party_calls.specs.Spooled.{batch_limit}
 use Rattle.party_calls.proofs.Inboxes.{ends, forgets, lines_all, lines_done, lines_fault, lines_silent, lines_unread, refused_all, refuses, short, takes, too_many}
 use Rattle.party_calls.proofs.spooling.batch.Goals as goal

@@ -1,5 +1,5 @@
 use Rattle.std.proofs.Common.{refl}
-use Rattle.party_calls.specs.declared.status.Status.TheVariants as status
+use Rattle.call_ends.specs.declared.status.Status.TheVariants as status
 use Rattle.x917.proofs.Audits.{expects_confirmed, expects_unconfirmed, of_taken, unaudited, without_memory}
 use Rattle.x917.proofs.auditing.audit_all.Goals as goal
 

@@ -1,7 +1,7 @@
 use Rattle.std.proofs.Common.{◌≡◌, ◌⊎◌, Err, Result, sym, subst}
 use Rattle.course.specs.declared.tally.Tally.{Tally}
-use Rattle.party_calls.specs.declared.status.Status.{Status}
-use Rattle.party_calls.specs.declared.status.Status.TheVariants as status
+use Rattle.call_ends.specs.declared.status.Status.{Status}
+use Rattle.call_ends.specs.declared.status.Status.TheVariants as status
 use Rattle.x917.proofs.Audits.{only_bad, only_read}
 use Rattle.x917.proofs.auditing.find.Goals as goal
 

@@ -1,5 +1,5 @@
 use Rattle.std.proofs.Common.{◌≡◌, ◌∙◌, List, ℕ, Option, true, sym, subst}
-use Rattle.party_calls.specs.Transfer.{TookAtMost}
+use Rattle.call_ends.specs.Transfer.{TookAtMost}
 use Rattle.x_line.specs.declared.order.Order.{Order}
 use Rattle.x_line.specs.declared.order.Order.TheVariants as order
 use Rattle.party_calls.specs.Notice.{LeavesNotice}

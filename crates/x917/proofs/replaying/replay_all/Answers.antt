@@ -1,8 +1,8 @@
 use Rattle.std.proofs.Common.{◌≡◌, ◌∙◌, inl, inr, refl, sym, subst}
 use Rattle.x_disk.specs.Shelf.{alike_refl}
 use Rattle.replay.specs.Playing.{around}
-use Rattle.party_calls.specs.declared.status.Status.{Status}
-use Rattle.party_calls.specs.declared.status.Status.TheVariants as status
+use Rattle.call_ends.specs.declared.status.Status.{Status}
+use Rattle.call_ends.specs.declared.status.Status.TheVariants as status
 use Rattle.x917.specs.Headline.{IsReplay, Says, SaysOfRun}
 use Rattle.x917.specs.Expects.{IsSilentOf}
 use Rattle.x_line.specs.declared.order.Order.TheVariants as order

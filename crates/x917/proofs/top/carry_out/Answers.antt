@@ -2,7 +2,7 @@ use Rattle.std.proofs.Common.{◌≡◌, ◌∙◌, refl, sym, subst}
 use Rattle.x_disk.specs.Shelf.{alike_refl}
 use Rattle.x_line.specs.declared.order.Order.{Order}
 use Rattle.x_line.specs.declared.order.Order.TheVariants as order
-use Rattle.party_calls.specs.Transfer.{TookAtMost}
+use Rattle.call_ends.specs.Transfer.{TookAtMost}
 use Rattle.party_calls.specs.Obeys.{Obeys, LeavesOthers, IsWithin, most_of}
 use Rattle.party_calls.proofs.Orders.{took_nothing}
 use Rattle.x917.specs.Expects.{Expects, IsSilentOf}

@@ -1,6 +1,6 @@
 use Rattle.std.proofs.Common.{◌≡◌, ◌∙◌, List, ℕ, Bool, Option, Some, None, Err, inl, inr, true, refl, sym, ap, subst}
 use Rattle.x_disk.specs.Shelf.{alike_refl}
-use Rattle.party_calls.specs.declared.status.Status.TheVariants as status
+use Rattle.call_ends.specs.declared.status.Status.TheVariants as status
 use Rattle.x_line.specs.declared.order.Order.{Order}
 use Rattle.x_line.specs.declared.order.Order.TheVariants as order
 use Rattle.x_line.specs.Line.{rows_of_line}
@@ -14,7 +14,7 @@ use Rattle.party_calls.specs.Mirrored.{LeavesMirrored, ObeysMirrored}
 use Rattle.party_calls.specs.Notice.{LeavesNotice}
 use Rattle.party_calls.specs.Obeys.{Obeys, LeavesOthers, most_of}
 use Rattle.x917.specs.Expects.{Expects, IsSilentOf}
-use Rattle.party_calls.specs.Transfer.{TookAtMost}
+use Rattle.call_ends.specs.Transfer.{TookAtMost}
 use Rattle.x917.proofs.Audits.{without_memory}
 use Rattle.x917.proofs.Forgetting.{forgets_order}
 use Rattle.x917.proofs.HelpWritten.{no_order}

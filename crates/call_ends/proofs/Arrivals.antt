@@ -7,10 +7,10 @@ use Rattle.csm_grammar.specs.declared.refusal.ReadRefusal.TheVariants as reason
 use Rattle.csm_feed.specs.declared.unheard.Unheard.{Unheard}
 use Rattle.csm_feed.specs.declared.unheard.Unheard.TheVariants as unheard
 use Rattle.csm_feed.specs.Heard.{leading, after_leading, refused_place, Heard, readings, input_limit}
-use Rattle.party_calls.specs.declared.status.Refusal.{Refusal}
-use Rattle.party_calls.specs.declared.status.Status.TheVariants as status
-use Rattle.party_calls.specs.Transfer.{IsAtEnd, IsFront}
-use Rattle.party_calls.specs.Listening.{IsHeard, IsPossible, IsUnheard, refusal_of, taken}
+use Rattle.call_ends.specs.declared.status.Refusal.{Refusal}
+use Rattle.call_ends.specs.declared.status.Status.TheVariants as status
+use Rattle.call_ends.specs.Transfer.{IsAtEnd, IsFront}
+use Rattle.call_ends.specs.Listening.{IsHeard, IsPossible, IsUnheard, refusal_of, taken}
 
 -- a message that is heard isn't among 2,049 bytes
 not_full : (end count : ℕ) (o : Option ℕ) → refused_place end count o ≡ None → count ≡ input_limit → ⊥

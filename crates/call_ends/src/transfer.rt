@@ -1,7 +1,7 @@
 // Moving bytes from a source.
 ghost use Rattle.std.specs.Prelude.{◌≡◌, ◌≤◌, ◌<◌, length, IfOk};
 ghost use Rattle.x_base.specs.Edge.{Rose};
-ghost use Rattle.party_calls.specs.Transfer.{IsAtEnd, IsFront, Took, TookAtMost};
+ghost use Rattle.call_ends.specs.Transfer.{IsAtEnd, IsFront, Took, TookAtMost};
 
 use std::alloc::Global;
 use x_base::{Source, Text};

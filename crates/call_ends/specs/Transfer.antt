@@ -1,8 +1,8 @@
 -- What moving bytes from a source and to a sink does to them, where they are told (this project's profile).
 use Rattle.std.specs.Prelude.{◌≡◌, ◌≤◌, ◌++◌, ℕ, List, [], length, take, Option, Some, None, IfSome}
 use Rattle.x_base.specs.Edge.{Rose}
-use Rattle.party_calls.specs.declared.status.Status.{Status}
-use Rattle.party_calls.specs.declared.status.Status.TheVariants.{ReadFault, WriteFault}
+use Rattle.call_ends.specs.declared.status.Status.{Status}
+use Rattle.call_ends.specs.declared.status.Status.TheVariants.{ReadFault, WriteFault}
 
 -- the text was taken from the front of what was left
 abbrev pub Took : Option (List ℕ) → Option (List ℕ) → List ℕ → Type 0

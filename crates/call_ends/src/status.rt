@@ -1,6 +1,6 @@
 // How a run ended, and how that is told.
 ghost use Rattle.std.specs.Prelude.{◌≡◌, IfOk, string_bytes};
-ghost use Rattle.party_calls.specs.Lines.{pay_text, refusal_text, line_of, exit_code_of};
+ghost use Rattle.call_ends.specs.Lines.{pay_text, refusal_text, line_of, exit_code_of};
 
 use audit_fault::AuditFault;
 use csm_grammar::ReadRefusal;

@@ -5,7 +5,7 @@ use Rattle.std.specs.Prelude.{◌⊎◌}
 use Rattle.std.proofs.lemmas.Bool.{cases_lt}
 use Rattle.std.proofs.Math.Seq.{take-append-add}
 use Rattle.x_base.specs.Edge.{TakesFront}
-use Rattle.party_calls.specs.Transfer.{Took, TookAtMost, IsAtEnd, IsFront}
+use Rattle.call_ends.specs.Transfer.{Took, TookAtMost, IsAtEnd, IsFront}
 
 pub took_none : (before : Option (List ℕ)) → Took before before []
 took_none None = tt

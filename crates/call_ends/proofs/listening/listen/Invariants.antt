@@ -1,6 +1,6 @@
 use Rattle.std.proofs.Common.{◌≡◌, ◌≤◌, ◌+◌, ◌-◌, true, take, if◌then◌else◌}
-use Rattle.party_calls.specs.Transfer.{IsAtEnd, Took}
-use Rattle.party_calls.proofs.listening.listen.Given as goal
+use Rattle.call_ends.specs.Transfer.{IsAtEnd, Took}
+use Rattle.call_ends.proofs.listening.listen.Given as goal
 
 abbrev pub invariant-taking : goal.invariant-taking
 invariant-taking g l = record {

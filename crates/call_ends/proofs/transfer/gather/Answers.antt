@@ -1,7 +1,7 @@
 use Rattle.std.proofs.Common.{arith}
 use Rattle.std.proofs.lemmas.Grind.{common_steps}
-use Rattle.party_calls.proofs.Transfers.{took_piece}
-use Rattle.party_calls.proofs.transfer.gather.Goals as goal
+use Rattle.call_ends.proofs.Transfers.{took_piece}
+use Rattle.call_ends.proofs.transfer.gather.Goals as goal
 
 pub returns-in_default-push-clause-most : goal.returns-in_default-push-clause-most
 returns-in_default-push-clause-most g c =

@@ -1,6 +1,6 @@
 use Rattle.std.proofs.Common.{◌≤◌, ◌-◌, length}
-use Rattle.party_calls.specs.Transfer.{Took}
-use Rattle.party_calls.proofs.transfer.gather.Given as goal
+use Rattle.call_ends.specs.Transfer.{Took}
+use Rattle.call_ends.proofs.transfer.gather.Given as goal
 
 abbrev pub invariant-taking : goal.invariant-taking
 invariant-taking g l = record {

@@ -1,8 +1,8 @@
 use Rattle.std.proofs.Common.{◌≡◌, ◌∙◌, true, false, sym, ap}
 use Rattle.csm_grammar.specs.Arrivals.{authenticated_text}
-use Rattle.party_calls.specs.Check.{is_right}
-use Rattle.party_calls.proofs.Decisions.{unheard_checked, unheard_exact, wrong, exact_wrong, done, part, exact_done}
-use Rattle.party_calls.proofs.checking.check.Goals as goal
+use Rattle.call_ends.specs.Check.{is_right}
+use Rattle.call_ends.proofs.Decisions.{unheard_checked, unheard_exact, wrong, exact_wrong, done, part, exact_done}
+use Rattle.call_ends.proofs.checking.check.Goals as goal
 
 pub returns-in-Err-clause-checked : goal.returns-in-Err-clause-checked
 returns-in-Err-clause-checked g c = unheard_checked _ _ _ c.in-Err.status c.in-Err.ensures.unheard

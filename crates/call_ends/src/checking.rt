@@ -1,9 +1,9 @@
 // A message is checked, and its canonical text written.
 ghost use Rattle.std.specs.Prelude.{◌≡◌, IfOk};
 ghost use Rattle.csm_feed.specs.Heard.{input_limit};
-ghost use Rattle.party_calls.specs.Check.{IsChecked, IsExact, closing_of, is_right, reply_of};
-ghost use Rattle.party_calls.specs.Transfer.{GivesOutput, IsQuiet, TakesInput};
-ghost use Rattle.party_calls.specs.Causes.{IsSilent};
+ghost use Rattle.call_ends.specs.Check.{IsChecked, IsExact, closing_of, is_right, reply_of};
+ghost use Rattle.call_ends.specs.Transfer.{GivesOutput, IsQuiet, TakesInput};
+ghost use Rattle.call_ends.specs.Causes.{IsSilent};
 
 use crate::listening::listen;
 use crate::status::{Refusal, Status};

@@ -1,6 +1,6 @@
 // The command that an order gives to a party.
 ghost use Rattle.std.specs.Prelude.{◌≡◌};
-ghost use Rattle.party_calls.specs.Obeys.{command_of};
+ghost use Rattle.call_ends.specs.Commands.{command_of};
 
 use party_state::Command;
 use x_base::Ident;

@@ -2,8 +2,8 @@
 ghost use Rattle.std.specs.Prelude.{◌≡◌, [], Some, IfSome, IfOk, IfErr};
 ghost use Rattle.x_base.specs.Edge.{Rose};
 ghost use Rattle.csm_feed.specs.Heard.{input_limit};
-ghost use Rattle.party_calls.specs.Listening.{IsHeard, IsUnheard, refusal_of};
-ghost use Rattle.party_calls.specs.Transfer.{TookAtMost};
+ghost use Rattle.call_ends.specs.Listening.{IsHeard, IsUnheard, refusal_of};
+ghost use Rattle.call_ends.specs.Transfer.{TookAtMost};
 
 use crate::status::{Refusal, Status};
 use csm_feed::{INPUT_LIMIT, Unheard, hear};

@@ -11,10 +11,10 @@ use Rattle.pay_auth.specs.Refusals.{pay_number}
 use Rattle.pay_auth.specs.declared.refusal.PayRefusal.{PayRefusal}
 use Rattle.pay_auth.specs.declared.refusal.PayRefusal.TheVariants.{BadPay, PayLow}
 use Rattle.x_line.specs.Usage as usage
-use Rattle.party_calls.specs.declared.status.Refusal.{Refusal}
-use Rattle.party_calls.specs.declared.status.Refusal.TheVariants.{Text, Trailing, Decided, OtherParty, Audit, Pay, OtherBatch, OutOfStep, Unplanned, Unlike, BadDigits}
-use Rattle.party_calls.specs.declared.status.Status.{Status}
-use Rattle.party_calls.specs.declared.status.Status.TheVariants as status
+use Rattle.call_ends.specs.declared.status.Refusal.{Refusal}
+use Rattle.call_ends.specs.declared.status.Refusal.TheVariants.{Text, Trailing, Decided, OtherParty, Audit, Pay, OtherBatch, OutOfStep, Unplanned, Unlike, BadDigits}
+use Rattle.call_ends.specs.declared.status.Status.{Status}
+use Rattle.call_ends.specs.declared.status.Status.TheVariants as status
 
 -- of a payment: the number, and the place or the expected number where there is one
 abbrev pub pay_text : PayRefusal → List ℕ

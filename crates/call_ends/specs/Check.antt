@@ -11,11 +11,11 @@ use Rattle.csm_feed.specs.Heard.{after_leading, Heard}
 use Rattle.csm_write.specs.declared.closing.Closing.{Closing}
 use Rattle.csm_write.specs.declared.closing.Closing.TheVariants as closings
 use Rattle.csm_write.specs.Canon.{canon}
-use Rattle.party_calls.specs.declared.status.Refusal.{Refusal}
-use Rattle.party_calls.specs.declared.status.Refusal.TheVariants.{Decided}
-use Rattle.party_calls.specs.declared.status.Status.{Status}
-use Rattle.party_calls.specs.declared.status.Status.TheVariants as status
-use Rattle.party_calls.specs.Listening.{taken, refusal_of, IsPossible}
+use Rattle.call_ends.specs.declared.status.Refusal.{Refusal}
+use Rattle.call_ends.specs.declared.status.Refusal.TheVariants.{Decided}
+use Rattle.call_ends.specs.declared.status.Status.{Status}
+use Rattle.call_ends.specs.declared.status.Status.TheVariants as status
+use Rattle.call_ends.specs.Listening.{taken, refusal_of, IsPossible}
 
 -- the authenticated text of the message in the bytes, as it was received
 abbrev pub authenticated_text_in : List ℕ → Parsed → List ℕ

@@ -1,8 +1,8 @@
 -- With which statuses nothing is written, and what a fault says (this project's profile).
 use Rattle.std.specs.Prelude.{◌≡◌, ℕ}
 use Rattle.x_base.specs.Edge.{Rose}
-use Rattle.party_calls.specs.declared.status.Status.{Status}
-use Rattle.party_calls.specs.declared.status.Status.TheVariants as status
+use Rattle.call_ends.specs.declared.status.Status.{Status}
+use Rattle.call_ends.specs.declared.status.Status.TheVariants as status
 
 -- with these statuses nothing is written
 abbrev pub IsSilent : Status → Type 0

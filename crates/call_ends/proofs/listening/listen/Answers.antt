@@ -1,11 +1,11 @@
 use Rattle.std.proofs.Common.{rules, ◌≡◌, ◌≤◌, ◌<◌, ◌∙◌, Ok, Err, length, take, refl, ap, arith}
 use Rattle.std.proofs.lemmas.Grind.{common_steps}
 use Rattle.std.proofs.lemmas.List.{length-take-le}
-use Rattle.party_calls.specs.Transfer.{IsAtEnd}
-use Rattle.party_calls.proofs.Transfers.{front_of, took_into}
-use Rattle.party_calls.proofs.Arrivals.{heard_was, unheard_was}
-use Rattle.party_calls.proofs.listening.listen.Goals.{then-taking-test+else-count-lt-INPUT_LIMIT, else-taking-test}
-use Rattle.party_calls.proofs.listening.listen.Goals as goal
+use Rattle.call_ends.specs.Transfer.{IsAtEnd}
+use Rattle.call_ends.proofs.Transfers.{front_of, took_into}
+use Rattle.call_ends.proofs.Arrivals.{heard_was, unheard_was}
+use Rattle.call_ends.proofs.listening.listen.Goals.{then-taking-test+else-count-lt-INPUT_LIMIT, else-taking-test}
+use Rattle.call_ends.proofs.listening.listen.Goals as goal
 
 pub taking-preserved : goal.taking-preserved
 taking-preserved g c =

@@ -8,13 +8,13 @@ use Rattle.csm_grammar.specs.Arrivals.{authenticated_text}
 use Rattle.csm_feed.specs.declared.unheard.Unheard.{Unheard}
 use Rattle.csm_feed.specs.Heard.{Heard}
 use Rattle.csm_feed.specs.Laws.{OneHearing}
-use Rattle.party_calls.specs.declared.status.Refusal.{Refusal}
-use Rattle.party_calls.specs.declared.status.Refusal.TheVariants.{Decided}
-use Rattle.party_calls.specs.declared.status.Status.{Status}
-use Rattle.party_calls.specs.declared.status.Status.TheVariants as status
-use Rattle.party_calls.specs.Transfer.{IsQuiet}
-use Rattle.party_calls.specs.Listening.{IsHeard, IsUnheard, refusal_of, taken}
-use Rattle.party_calls.specs.Check.{authenticated_text_in, decided_of, is_right, judged, reply_of, status_of, IsChecked, IsDecision, IsExact, IsReply}
+use Rattle.call_ends.specs.declared.status.Refusal.{Refusal}
+use Rattle.call_ends.specs.declared.status.Refusal.TheVariants.{Decided}
+use Rattle.call_ends.specs.declared.status.Status.{Status}
+use Rattle.call_ends.specs.declared.status.Status.TheVariants as status
+use Rattle.call_ends.specs.Transfer.{IsQuiet}
+use Rattle.call_ends.specs.Listening.{IsHeard, IsUnheard, refusal_of, taken}
+use Rattle.call_ends.specs.Check.{authenticated_text_in, decided_of, is_right, judged, reply_of, status_of, IsChecked, IsDecision, IsExact, IsReply}
 
 decided_once : OneHearing → (text : List ℕ) (d e : Result Parsed Refusal) → IsDecision text d → IsDecision text e → d ≡ e
 decided_once one text d e h k =

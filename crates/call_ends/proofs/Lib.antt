@@ -1,0 +1,5 @@
+mod Transfers
+mod Arrivals
+mod Decisions
+mod Endings
+mod KeyRead
