@@ -57,12 +57,15 @@ pub(crate) fn play_lines<K: Sink, H: Shelf>(
     let mut buffer = Vec::new(alloc);
     let mut now = start();
     'playing: for line in lines {
-        let Some(act) = act_at(alloc, line, &play_state.texts)? else {
-            advance_quiet(line, &mut now);
-            continue;
-        };
         let texts = text_count(play_state);
-        let outcome = play_act(play_state, shelf, alloc, &act, &now)?;
+        let outcome = {
+            let Some(act) = act_at(alloc, line, &play_state.texts)? else {
+                advance_quiet(line, &mut now);
+                continue;
+            };
+            play_act(play_state, shelf, alloc, &act, &now)
+        };
+        let outcome = outcome?;
         let text = text_behind(play_state, texts);
         write_event(
             sink,
