@@ -48,31 +48,25 @@ fn start_state<'a>(
 }
 
 /// The numbers of a scenario behind its last line, or what is wrong there.
-fn end_of(alloc: Global, state: AuditState, transcript: &[u8]) -> Result<Tally, Failure>
-    requires holds_each { HoldsEach state.parties }
-    requires numbered { 1 ≤ state.now.number }
-    ensures { (a : Audit) → IsAt transcript.now state.entry a → IsBehind transcript.now a (answer_of result) }
+fn end_of(alloc: Global, state: &mut AuditState, transcript: &[u8]) -> Result<Tally, Failure>
+    requires holds_each { HoldsEach state.old.parties }
+    requires numbered { 1 ≤ state.old.now.number }
+    ensures { (a : Audit) → IsAt transcript.now state.old a → IsBehind transcript.now a (answer_of result) }
 {
     if !state.letters.is_empty() {
         return Err(Failure::Wrong(AuditFault::Letters(state.now.number)));
     }
-    let AuditState {
-        parties,
-        mut comparison,
-        now,
-        ..
-    } = state;
-    match compare_shows(&parties, &mut comparison, alloc) {
+    match compare_shows(&state.parties, &mut state.comparison, alloc) {
         Ok(()) => {}
         Err(_) => return Err(Failure::NoMemory),
     }
-    if !comparison.is_same() {
-        return match comparison.line(transcript) {
+    if !state.comparison.is_same() {
+        return match state.comparison.line(transcript) {
             Ok(line) => Err(Failure::Wrong(AuditFault::Differs(line))),
             Err(_) => Err(Failure::NoMemory),
         };
     }
-    match tally_of(&parties, &now) {
+    match tally_of(&state.parties, &state.now) {
         Ok(tally) => Ok(tally),
         Err(_) => Err(Failure::NoMemory),
     }
@@ -95,9 +89,10 @@ fn tally_or_fault<'a>(
         Err(_) => return Err(Failure::NoMemory),
     };
     match audit_lines(&mut state, alloc, scenario.lines()) {
-        Ok(()) => end_of(alloc, state, transcript),
-        Err(failure) => Err(failure),
+        Ok(()) => {}
+        Err(failure) => return Err(failure),
     }
+    end_of(alloc, &mut state, transcript)
 }
 
 /// Whether a scenario has an honest run with these outcomes of its stopped events, `O` where the old state stands and `N`

@@ -11,6 +11,8 @@ mod obeying;
 mod payments;
 mod spooling;
 mod tending;
+mod turning;
+mod turning_mirrored;
 
 pub use mirrored::carry_out_mirrored;
 pub use notice::take_with_notice;

@@ -8,15 +8,15 @@ ghost use Rattle.party_calls.specs.Obeys.{most_of};
 
 use crate::entering_mirrored::{create_mirrored, enter_mirrored};
 use crate::finish::finish;
-use call_ends::{Status, command_of, listen};
-use party_state::Input;
+use crate::turning_mirrored::{command_mirrored, take_mirrored};
+use call_ends::{Status, command_of};
 use party_tables::LinkKey;
 use std::alloc::Global;
 use x_base::{Ident, Sink, Source};
 use x_disk::Shelf;
 use x_gen::Gen;
 use x_line::Order;
-use x_pair::{create_pair, show_pair, turn_pair};
+use x_pair::{create_pair, show_pair};
 
 /// Does what an order says, over the party's two disks, the second of that name. Both are put back before anything is written.
 pub fn carry_out_mirrored<S: Source, K: Sink, H: Shelf>(
@@ -61,20 +61,11 @@ pub fn carry_out_mirrored<S: Source, K: Sink, H: Shelf>(
             let outcome = show_pair(alloc, shelf, &party, mirror);
             finish(sink, outcome, b"")
         }
-        Order::Take { party } => match listen(alloc, source) {
-            Ok(arrival) => {
-                let input = Input::Arrived(arrival);
-                let outcome = turn_pair(alloc, shelf, &party, mirror, &input, moment);
-                finish(sink, outcome, b"\n")
-            }
-            Err(status) => status,
-        },
+        Order::Take { party } => {
+            take_mirrored(alloc, &party, mirror, moment, source, sink, shelf)
+        }
         _ => match command_of(order) {
-            Some(given) => {
-                let input = Input::Ordered(given.command);
-                let outcome = turn_pair(alloc, shelf, &given.party, mirror, &input, moment);
-                finish(sink, outcome, b"\n")
-            }
+            Some(given) => command_mirrored(alloc, given, mirror, moment, sink, shelf),
             None => unreachable!(),
         },
     }

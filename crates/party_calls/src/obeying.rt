@@ -6,13 +6,11 @@ ghost use Rattle.call_ends.specs.Causes.{HasCause, IsSilent};
 ghost use Rattle.party_calls.specs.Obeys.{ExpectsCall, IsWithin, LeavesOthers, Obeys, most_of};
 
 use crate::entering::{create, enter};
-use crate::finish::finish;
 use crate::payments::accept;
 use crate::spooling::{batch, spool};
 use crate::tending::tend;
-use call_ends::{Status, check, command_of, listen};
-use csm_feed::law_one_hearing;
-use party_state::Input;
+use crate::turning::{command, take};
+use call_ends::{Status, check, command_of};
 use party_tables::LinkKey;
 use std::alloc::Global;
 use x_base::{Sink, Source};
@@ -40,17 +38,9 @@ pub fn obey<S: Source, K: Sink, H: Shelf>(
     ensures silent { IsSilent result → sink.new ≡ sink.old }
     ensures most { TookAtMost (most_of order) (S.left source.old) (S.left source.new) }
 {
-    law_one_hearing();
     match order {
         Order::Check => check(alloc, source, sink),
-        Order::Take { party } => match listen(alloc, source) {
-            Ok(arrival) => {
-                let input = Input::Arrived(arrival);
-                let outcome = x_party::turn(alloc, shelf, &party, &input, moment);
-                finish(sink, outcome, b"\n")
-            }
-            Err(status) => status,
-        },
+        Order::Take { party } => take(alloc, &party, moment, source, sink, shelf),
         Order::Accept { party, ledger } => accept(alloc, source, sink, shelf, &party, &ledger),
         Order::Batch => batch(alloc, moment, source, sink),
         Order::Spool { party, spool: name } => spool(alloc, source, sink, shelf, &party, &name),
@@ -65,11 +55,7 @@ pub fn obey<S: Source, K: Sink, H: Shelf>(
             enter(alloc, source, sink, shelf, &party, key, moment)
         }
         _ => match command_of(order) {
-            Some(given) => {
-                let input = Input::Ordered(given.command);
-                let outcome = x_party::turn(alloc, shelf, &given.party, &input, moment);
-                finish(sink, outcome, b"\n")
-            }
+            Some(given) => command(alloc, given, moment, sink, shelf),
             None => tend(alloc, &order, sink, shelf),
         },
     }

@@ -6,8 +6,8 @@ use Rattle.audit_check.specs.Ends.{answer_of}
 use Rattle.audit_check.proofs.Concluding.{concluded, failed_so}
 use Rattle.audit_check.proofs.auditing.tally_or_fault.Goals as goal
 
-pub returns-in-Ok-audit_lines : goal.returns-in-Ok-audit_lines
-returns-in-Ok-audit_lines c =
+pub returns : goal.returns
+returns c =
     let lines = c.args.scenario.now in
     let letters = c.args.letters.now in
     let transcript = c.args.transcript.now in

@@ -1,17 +1,12 @@
-use Rattle.std.proofs.Common.{◌≡◌, ◌∙◌, true, false, Some, None, [], ◌∷◌, inl, inr, refl, sym, ap, subst}
-use Rattle.x_disk.specs.Shelf.{alike_refl}
-use Rattle.party_state.specs.declared.command.Input.TheVariants.{Arrived}
+use Rattle.std.proofs.Common.{◌≡◌, Some, None, [], refl, sym, ap, subst}
 use Rattle.x_line.specs.declared.order.Order.{Order}
 use Rattle.x_line.specs.Orders.{IsOfTwo}
-use Rattle.x_pair.specs.Dues.{IsDueTurn}
-use Rattle.x_pair.specs.Outcomes.{turning}
 use Rattle.call_ends.specs.Transfer.{TookAtMost}
-use Rattle.party_calls.specs.Mirrored.{IsPairCall, LeavesMirrored, ObeysMirrored}
+use Rattle.party_calls.specs.Mirrored.{LeavesMirrored, ObeysMirrored}
 use Rattle.call_ends.specs.Commands.{command_of}
-use Rattle.party_calls.specs.Obeys.{is_reading, most_of, party_of}
-use Rattle.party_calls.proofs.Arriving.{none_told}
-use Rattle.party_calls.proofs.Mirrors.{apart_of, commands_of_two, finished_of_two, left_all, obeys_mirrored}
-use Rattle.party_calls.proofs.Orders.{cause_unheard, is_party, took_nothing}
+use Rattle.party_calls.specs.Obeys.{most_of, party_of}
+use Rattle.party_calls.proofs.Mirrors.{apart_of, commands_of_two, finished_of_two}
+use Rattle.party_calls.proofs.Orders.{took_nothing}
 use Rattle.party_calls.proofs.mirrored.carry_out_mirrored.Goals as goal
 
 pub create_pair-outcome-requires : goal.create_pair-outcome-requires
@@ -20,11 +15,11 @@ create_pair-outcome-requires g c = subst (λ (o : Order). IsOfTwo o c.args.mirro
 pub show_pair-outcome-requires : goal.show_pair-outcome-requires
 show_pair-outcome-requires g c = subst (λ (o : Order). IsOfTwo o c.args.mirror.now) c.in-Show.is c.requires
 
-pub turn_pair-outcome-requires : goal.turn_pair-outcome-requires
-turn_pair-outcome-requires g c = subst (λ (o : Order). IsOfTwo o c.args.mirror.now) c.in-Take.is c.requires
+pub take_mirrored-requires : goal.take_mirrored-requires
+take_mirrored-requires g c = subst (λ (o : Order). IsOfTwo o c.args.mirror.now) c.in-Take.is c.requires
 
-pub turn_pair-outcome-requires-in-Some : goal.turn_pair-outcome-requires-in-Some
-turn_pair-outcome-requires-in-Some g c =
+pub command_mirrored-requires : goal.command_mirrored-requires
+command_mirrored-requires g c =
     let i = c.in-Some.is in
     let e = c.command_of.ensures in
     let is : command_of c.args.order ≡ Some c.in-Some.given = cc in
@@ -128,53 +123,24 @@ returns-in-Show g c =
       most = took_nothing (most_of c.args.order) left;
     }
 
-pub returns-in-Ok : goal.returns-in-Ok
-returns-in-Ok g c =
+pub returns-in-Take : goal.returns-in-Take
+returns-in-Take g c =
     let is = c.in-Take.is in
-    let party = c.in-Take.party in
     let mirror = c.args.mirror.now in
-    let r = c.turn_pair-outcome.ensures in
-    let f = c.finish-in-Ok.ensures in
-    let s = c.finish-in-Ok.result in
-    let i = Arrived c.in-Ok.arrival in
+    let r = c.take_mirrored.ensures in
+    let s = c.take_mirrored.result in
     let left = g.S.Source.left c.args.source.now in
-    let rest = g.S.Source.left c.listen.new.source in
+    let rest = g.S.Source.left c.take_mirrored.new.source in
     let before = g.K.Sink.written c.args.sink.now in
-    let after = g.K.Sink.written c.finish-in-Ok.new.sink in
+    let after = g.K.Sink.written c.take_mirrored.new.sink in
     let old = g.H.Shelf.entry c.args.shelf.now in
-    let new = g.H.Shelf.entry c.turn_pair-outcome.new.shelf in
-    let done = finished_of_two c.args.order party mirror s (g.H.Shelf.is_back c.turn_pair-outcome.new.shelf) (c.listen.new.source ≡ c.args.source.now) old new c.turn_pair-outcome.result (10 ∷ []) before after
-    (g.K.Sink.faults c.args.sink.now) (g.K.Sink.faults c.finish-in-Ok.new.sink) (g.H.Shelf.faults c.args.shelf.now) (g.H.Shelf.faults c.turn_pair-outcome.new.shelf)
-    (ap party_of is) f.ends f.answered f.output.fault r.shelf (λ reading. (let e : is_reading c.args.order ≡ true = ap is_reading is in let no : true ≡ false = sym e ∙ reading in absurd cc)) in
-    let call : IsPairCall (turning party i c.args.moment) (IsDueTurn party i c.args.moment) (10 ∷ []) party mirror old new s before after = record { outcome = c.turn_pair-outcome.result; made = r.turned; due = r.due; safe = r.safe; ends = f.ends } in
+    let new = g.H.Shelf.entry c.take_mirrored.new.shelf in
     record {
-      obeys = subst (λ (o : Order). ObeysMirrored o mirror c.args.moment s left rest before after old new) (sym is) (inr (c.in-Ok.arrival, c.in-Ok.ensures.heard, call));
-      others = done.others;
-      cause = done.cause (g.S.Source.faults c.args.source.now) (g.S.Source.faults c.listen.new.source);
-      silent = f.output.silent;
-      most = subst (λ (o : Order). TookAtMost (most_of o) left rest) (sym is) c.listen.ensures.most;
-    }
-
-pub returns-in-Err : goal.returns-in-Err
-returns-in-Err g c =
-    let is = c.in-Take.is in
-    let party = c.in-Take.party in
-    let mirror = c.args.mirror.now in
-    let s = c.in-Err.status in
-    let unheard = c.in-Err.ensures.unheard in
-    let left = g.S.Source.left c.args.source.now in
-    let rest = g.S.Source.left c.listen.new.source in
-    let before = g.K.Sink.written c.args.sink.now in
-    let entry = g.H.Shelf.entry c.args.shelf.now in
-    let puts = g.K.Sink.faults c.args.sink.now in
-    let disks = g.H.Shelf.faults c.args.shelf.now in
-    record {
-      obeys = subst (λ (o : Order). ObeysMirrored o mirror c.args.moment s left rest before before entry entry) (sym is) (inl (unheard, refl, λ name. alike_refl (entry name)));
-      others = left_all c.args.order mirror s (g.H.Shelf.is_back c.args.shelf.now) (c.listen.new.source ≡ c.args.source.now) entry (λ of. none_told left s unheard of)
-          (λ reading. (let e : is_reading c.args.order ≡ true = ap is_reading is in let no : true ≡ false = sym e ∙ reading in absurd cc));
-      cause = cause_unheard (g.S.Source.faults c.args.source.now) (g.S.Source.faults c.listen.new.source) puts puts disks disks left s unheard c.in-Err.ensures.read_fault;
-      silent = λ silent. refl;
-      most = subst (λ (o : Order). TookAtMost (most_of o) left rest) (sym is) c.listen.ensures.most;
+      obeys = subst (λ (o : Order). ObeysMirrored o mirror c.args.moment s left rest before after old new) (sym is) r.obeys;
+      others = subst (λ (o : Order). LeavesMirrored o mirror s (g.H.Shelf.is_back c.take_mirrored.new.shelf) (c.take_mirrored.new.source ≡ c.args.source.now) old new) (sym is) r.others;
+      cause = r.cause;
+      silent = r.silent;
+      most = subst (λ (o : Order). TookAtMost (most_of o) left rest) (sym is) r.most;
     }
 
 pub returns-in-Some : goal.returns-in-Some
@@ -182,25 +148,15 @@ returns-in-Some g c =
     let i = c.in-Some.is in
     let e = c.command_of.ensures in
     let is : command_of c.args.order ≡ Some c.in-Some.given = cc in
-    let t = c.in-Some.given in
-    let mirror = c.args.mirror.now in
-    let r = c.turn_pair-outcome-in-Some.ensures in
-    let f = c.finish-in-Some.ensures in
-    let s = c.finish-in-Some.result in
+    let r = c.command_mirrored.ensures in
     let left = g.S.Source.left c.args.source.now in
     let reads = g.S.Source.faults c.args.source.now in
-    let before = g.K.Sink.written c.args.sink.now in
-    let after = g.K.Sink.written c.finish-in-Some.new.sink in
-    let old = g.H.Shelf.entry c.args.shelf.now in
-    let new = g.H.Shelf.entry c.turn_pair-outcome-in-Some.new.shelf in
-    let done = finished_of_two c.args.order t.party mirror s (g.H.Shelf.is_back c.turn_pair-outcome-in-Some.new.shelf) (c.args.source.now ≡ c.args.source.now) old new c.turn_pair-outcome-in-Some.result (10 ∷ []) before after
-    (g.K.Sink.faults c.args.sink.now) (g.K.Sink.faults c.finish-in-Some.new.sink) (g.H.Shelf.faults c.args.shelf.now) (g.H.Shelf.faults c.turn_pair-outcome-in-Some.new.shelf)
-    (is_party t c.args.moment s left left before after old new c.args.order is) f.ends f.answered f.output.fault r.shelf (λ reading. refl) in
+    let others = r.others c.args.order is in
     record {
-      obeys = obeys_mirrored t mirror c.args.moment s left left before after old new c.args.order c.requires is (record { outcome = c.turn_pair-outcome-in-Some.result; made = r.turned; due = r.due; safe = r.safe; ends = f.ends });
-      others = done.others;
-      cause = done.cause reads reads;
-      silent = f.output.silent;
+      obeys = r.obeys c.args.order left c.requires is;
+      others = record { back = others.back; others = others.others; unread = λ reading. refl };
+      cause = r.cause reads reads;
+      silent = r.silent;
       most = took_nothing (most_of c.args.order) left;
     }
 

@@ -1,13 +1,10 @@
-use Rattle.std.proofs.Common.{◌≡◌, ◌∙◌, true, false, Some, [], ◌∷◌, inl, inr, refl, sym, ap, subst}
+use Rattle.std.proofs.Common.{◌≡◌, ◌∙◌, true, false, Some, refl, sym, ap, subst}
 use Rattle.x_disk.specs.Shelf.{alike_refl}
-use Rattle.party_state.specs.declared.command.Input.TheVariants.{Arrived, Ordered}
 use Rattle.x_line.specs.declared.order.Order.{Order}
-use Rattle.x_party.specs.Dues.{IsDue}
 use Rattle.call_ends.specs.Transfer.{TookAtMost}
 use Rattle.call_ends.specs.Commands.{command_of}
-use Rattle.party_calls.specs.Obeys.{ExpectsCall, IsPartyTurn, IsWithin, LeavesOthers, Obeys, is_reading, ledger_of, most_of, party_of}
-use Rattle.party_calls.proofs.Arriving.{follows_heard, follows_unheard, none_told}
-use Rattle.party_calls.proofs.Orders.{cause_checked, cause_unheard, expects_command, finished, is_party, no_ledger, obeys_command, tended_of, took_nothing}
+use Rattle.party_calls.specs.Obeys.{ExpectsCall, IsWithin, LeavesOthers, Obeys, is_reading, ledger_of, most_of, party_of}
+use Rattle.party_calls.proofs.Orders.{cause_checked, tended_of, took_nothing}
 use Rattle.party_calls.proofs.Paying.{cause_accepted, leaves_two}
 use Rattle.party_calls.proofs.Inboxes.{cause_made}
 use Rattle.party_calls.proofs.BatchEnds.{cause_batched}
@@ -34,56 +31,24 @@ returns-in-Check g c =
       most = subst (λ (o : Order). TookAtMost (most_of o) left rest) (sym is) r.input.most;
     }
 
-pub returns-in-Ok : goal.returns-in-Ok
-returns-in-Ok g c =
+pub returns-in-Take : goal.returns-in-Take
+returns-in-Take g c =
     let is = c.in-Take.is in
-    let party = c.in-Take.party in
-    let r = c.turn-outcome.ensures in
-    let f = c.finish.ensures in
-    let s = c.finish.result in
-    let i = Arrived c.in-Ok.arrival in
+    let r = c.take.ensures in
+    let s = c.take.result in
     let left = g.S.Source.left c.args.source.now in
-    let rest = g.S.Source.left c.listen.new.source in
+    let rest = g.S.Source.left c.take.new.source in
     let before = g.K.Sink.written c.args.sink.now in
-    let after = g.K.Sink.written c.finish.new.sink in
+    let after = g.K.Sink.written c.take.new.sink in
     let old = g.H.Shelf.entry c.args.shelf.now in
-    let new = g.H.Shelf.entry c.turn-outcome.new.shelf in
-    let done = finished c.args.order party s (g.H.Shelf.is_back c.turn-outcome.new.shelf) (c.listen.new.source ≡ c.args.source.now) old new c.turn-outcome.result (10 ∷ []) before after
-    (IsDue party i c.args.moment) (g.K.Sink.faults c.args.sink.now) (g.K.Sink.faults c.finish.new.sink) (g.H.Shelf.faults c.args.shelf.now) (g.H.Shelf.faults c.turn-outcome.new.shelf)
-    (ap party_of is) (ap ledger_of is) f.ends f.answered f.output.fault r.due r.shelf (λ reading. (let e : is_reading c.args.order ≡ true = ap is_reading is in let no : true ≡ false = sym e ∙ reading in absurd cc)) in
-    let turned : IsPartyTurn party i c.args.moment (old party) (new party) s before after = record { outcome = c.turn-outcome.result; turned = r.turned; safe = r.safe; ends = f.ends } in
+    let new = g.H.Shelf.entry c.take.new.shelf in
     record {
-      obeys = subst (λ (o : Order). Obeys o c.args.moment s left rest before after old new) (sym is) (inr (c.in-Ok.arrival, c.in-Ok.ensures.heard, turned));
-      expects = λ read_quiet put_quiet disk_quiet. subst (λ (o : Order). ExpectsCall o c.args.moment left old s) (sym is)
-          (follows_heard c.law_one_hearing.ensures left rest party (old party) c.args.moment s c.in-Ok.arrival c.in-Ok.ensures.heard (done.expects put_quiet disk_quiet));
-      others = done.others;
-      cause = done.cause (g.S.Source.faults c.args.source.now) (g.S.Source.faults c.listen.new.source);
-      silent = f.output.silent;
-      most = subst (λ (o : Order). TookAtMost (most_of o) left rest) (sym is) c.listen.ensures.most;
-    }
-
-pub returns-in-Err : goal.returns-in-Err
-returns-in-Err g c =
-    let is = c.in-Take.is in
-    let party = c.in-Take.party in
-    let s = c.in-Err.status in
-    let unheard = c.in-Err.ensures.unheard in
-    let left = g.S.Source.left c.args.source.now in
-    let rest = g.S.Source.left c.listen.new.source in
-    let before = g.K.Sink.written c.args.sink.now in
-    let entry = g.H.Shelf.entry c.args.shelf.now in
-    let reads = g.S.Source.faults c.args.source.now in
-    let puts = g.K.Sink.faults c.args.sink.now in
-    let disks = g.H.Shelf.faults c.args.shelf.now in
-    record {
-      obeys = subst (λ (o : Order). Obeys o c.args.moment s left rest before before entry entry) (sym is) (inl (unheard, refl, alike_refl (entry party)));
-      expects = λ read_quiet put_quiet disk_quiet. subst (λ (o : Order). ExpectsCall o c.args.moment left entry s) (sym is)
-          (follows_unheard c.law_one_hearing.ensures left party (entry party) c.args.moment s reads (g.S.Source.faults c.listen.new.source) unheard c.in-Err.ensures.read_fault read_quiet);
-      others = subst (λ (o : Order). LeavesOthers o s (g.H.Shelf.is_back c.args.shelf.now) (c.listen.new.source ≡ c.args.source.now) entry entry) (sym is)
-          (record { back = λ of. absurd (none_told left s unheard of); ledger_back = λ of. tt; others = λ playing name apart. alike_refl (entry name); unread = λ reading. absurd (cc reading) });
-      cause = cause_unheard reads (g.S.Source.faults c.listen.new.source) puts puts disks disks left s unheard c.in-Err.ensures.read_fault;
-      silent = λ silent. refl;
-      most = subst (λ (o : Order). TookAtMost (most_of o) left rest) (sym is) c.listen.ensures.most;
+      obeys = subst (λ (o : Order). Obeys o c.args.moment s left rest before after old new) (sym is) r.obeys;
+      expects = λ read_quiet put_quiet disk_quiet. subst (λ (o : Order). ExpectsCall o c.args.moment left old s) (sym is) (r.expects read_quiet put_quiet disk_quiet);
+      others = subst (λ (o : Order). LeavesOthers o s (g.H.Shelf.is_back c.take.new.shelf) (c.take.new.source ≡ c.args.source.now) old new) (sym is) r.others;
+      cause = r.cause;
+      silent = r.silent;
+      most = subst (λ (o : Order). TookAtMost (most_of o) left rest) (sym is) r.most;
     }
 
 pub accept-requires : goal.accept-requires
@@ -214,26 +179,16 @@ returns-in-Some g c =
     let i = c.in-Some.is in
     let e = c.command_of.ensures in
     let is : command_of c.args.order ≡ Some c.in-Some.given = cc in
-    let t = c.in-Some.given in
-    let r = c.turn-outcome-in-Some.ensures in
-    let f = c.finish-in-Some.ensures in
-    let s = c.finish-in-Some.result in
+    let r = c.command.ensures in
     let left = g.S.Source.left c.args.source.now in
-    let before = g.K.Sink.written c.args.sink.now in
-    let after = g.K.Sink.written c.finish-in-Some.new.sink in
-    let old = g.H.Shelf.entry c.args.shelf.now in
-    let new = g.H.Shelf.entry c.turn-outcome-in-Some.new.shelf in
-    let done = finished c.args.order t.party s (g.H.Shelf.is_back c.turn-outcome-in-Some.new.shelf) (c.args.source.now ≡ c.args.source.now) old new c.turn-outcome-in-Some.result (10 ∷ []) before after
-    (IsDue t.party (Ordered t.command) c.args.moment) (g.K.Sink.faults c.args.sink.now) (g.K.Sink.faults c.finish-in-Some.new.sink) (g.H.Shelf.faults c.args.shelf.now)
-    (g.H.Shelf.faults c.turn-outcome-in-Some.new.shelf) (is_party t c.args.moment s left left before after old new c.args.order is) (no_ledger t c.args.moment s left left before after old new c.args.order is) f.ends f.answered f.output.fault r.due r.shelf (λ reading. refl) in
-    let turned : IsPartyTurn t.party (Ordered t.command) c.args.moment (old t.party) (new t.party) s before after =
-    record { outcome = c.turn-outcome-in-Some.result; turned = r.turned; safe = r.safe; ends = f.ends } in
+    let reads = g.S.Source.faults c.args.source.now in
+    let others = r.others c.args.order is in
     record {
-      obeys = obeys_command t c.args.moment s left left before after old new c.args.order is turned;
-      expects = λ read_quiet put_quiet disk_quiet. expects_command t c.args.moment s left left before after old new c.args.order is (done.expects put_quiet disk_quiet);
-      others = done.others;
-      cause = done.cause (g.S.Source.faults c.args.source.now) (g.S.Source.faults c.args.source.now);
-      silent = f.output.silent;
+      obeys = r.obeys c.args.order left is;
+      expects = λ read_quiet put_quiet disk_quiet. r.expects c.args.order left is put_quiet disk_quiet;
+      others = record { back = others.back; ledger_back = others.ledger_back; others = others.others; unread = λ reading. refl };
+      cause = r.cause reads reads;
+      silent = r.silent;
       most = took_nothing (most_of c.args.order) left;
     }
 
