@@ -23,7 +23,7 @@ use Rattle.des_slices.specs.declared.key.RoundKey.{RoundKey}
 use Rattle.des_slices.specs.Keys.{keys_in}
 use Rattle.des_slices.specs.Slices.{in_lanes}
 use Rattle.des_slices.specs.Vectors.{lane, lane_bit, words_of}
-use Rattle.des_slices.proofs.Wirings.{get_or-lane}
+use Rattle.des_slices.proofs.Lanes.{get_or-lane}
 
 -- ---- a number for each lane
 

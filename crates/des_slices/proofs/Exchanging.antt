@@ -11,7 +11,7 @@ use Rattle.x_des.specs.Bits.{bits_of}
 use Rattle.x_des.proofs.BitsLemmas.{get_or-bits, length-bits}
 use Rattle.des_slices.specs.Exchanges.{Exchanged, IsMask, IsLevel, word_bit, place_from, vector_from}
 use Rattle.des_slices.specs.Vectors.{lane, lane_bit}
-use Rattle.des_slices.proofs.Wirings.{get_or-lane}
+use Rattle.des_slices.proofs.Lanes.{get_or-lane}
 
 -- ---- shifted words
 

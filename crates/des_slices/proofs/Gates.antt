@@ -1,6 +1,6 @@
 -- What the gates of a circuit show in one lane of vectors, by truth tables: bit s of a table is a gate's value
 -- for the six inputs that s writes.
-use Rattle.std.proofs.Common.{◌≡◌, ℕ, ◌+◌, ◌-◌, ◌/◌, ◌%◌, ◌<◌, zero, suc, Bool, true, false, eqb, List, [], ◌∷◌, map, length, get_or, refl, sym, ap, ◌∙◌, arith, Fits, w64}
+use Rattle.std.proofs.Common.{◌≡◌, ℕ, ◌+◌, ◌-◌, ◌/◌, ◌%◌, ◌<◌, zero, suc, Bool, true, false, eqb, List, [], ◌∷◌, map, length, get_or, refl, sym, ap, subst, ◌∙◌, ◌^◌, arith, Fits, w64}
 use Rattle.std.specs.Prelude.{bit_and, bit_or, bit_xor, min, max}
 use Rattle.std.specs.Int.{bit_at, bit_not}
 use Rattle.std.specs.Simd.Lanes.{zip2, Each1}
@@ -12,6 +12,7 @@ use Rattle.x_des.specs.Bits.{bit, bits_of, number}
 use Rattle.x_des.specs.Des.{substituted}
 use Rattle.x_des.proofs.BitsLemmas.{bits-number_at, number-lt}
 use Rattle.des_slices.specs.Vectors.{IsVector, lane, lane_bit}
+use Rattle.des_slices.proofs.Lanes.{get_or-lane}
 use Rattle.std.proofs.Math.Facts.{Fits-xor, Fits-and, Fits-or}
 
 -- lane l shows bit s of the table t
@@ -101,36 +102,40 @@ input l s t k v h q fits e p same = record {
 pub six_of : ℕ → List (List ℕ) → ℕ
 six_of l vs = number (lane l vs)
 
-pub record Inputs (l : ℕ) (u v w x y z : List ℕ) : Type 0 where
-  pub a : Shows l (six_of l (u ∷ v ∷ w ∷ x ∷ y ∷ z ∷ [])) 0xffffffff00000000 u
-  pub b : Shows l (six_of l (u ∷ v ∷ w ∷ x ∷ y ∷ z ∷ [])) 0xffff0000ffff0000 v
-  pub c : Shows l (six_of l (u ∷ v ∷ w ∷ x ∷ y ∷ z ∷ [])) 0xff00ff00ff00ff00 w
-  pub d : Shows l (six_of l (u ∷ v ∷ w ∷ x ∷ y ∷ z ∷ [])) 0xf0f0f0f0f0f0f0f0 x
-  pub e : Shows l (six_of l (u ∷ v ∷ w ∷ x ∷ y ∷ z ∷ [])) 0xcccccccccccccccc y
-  pub f : Shows l (six_of l (u ∷ v ∷ w ∷ x ∷ y ∷ z ∷ [])) 0xaaaaaaaaaaaaaaaa z
+pub record Inputs (l : ℕ) (six : List (List ℕ)) : Type 0 where
+  pub a : Shows l (six_of l six) 0xffffffff00000000 (get_or six 0 [])
+  pub b : Shows l (six_of l six) 0xffff0000ffff0000 (get_or six 1 [])
+  pub c : Shows l (six_of l six) 0xff00ff00ff00ff00 (get_or six 2 [])
+  pub d : Shows l (six_of l six) 0xf0f0f0f0f0f0f0f0 (get_or six 3 [])
+  pub e : Shows l (six_of l six) 0xcccccccccccccccc (get_or six 4 [])
+  pub f : Shows l (six_of l six) 0xaaaaaaaaaaaaaaaa (get_or six 5 [])
 
-bits_of_six : (l : ℕ) (a b c d e f : List ℕ) → bits_of 6 (six_of l (a ∷ b ∷ c ∷ d ∷ e ∷ f ∷ [])) ≡ lane l (a ∷ b ∷ c ∷ d ∷ e ∷ f ∷ [])
-unfolding six_of lane
-bits_of_six l a b c d e f = bits-number_at 6 (lane l (a ∷ b ∷ c ∷ d ∷ e ∷ f ∷ [])) refl
+length-six_lane : (l : ℕ) (six : List (List ℕ)) → length six ≡ 6 → length (lane l six) ≡ 6
+unfolding lane
+length-six_lane l six e = length-map six (lane_bit l) ∙ e
 
-six_of-lt : (l : ℕ) (a b c d e f : List ℕ) → six_of l (a ∷ b ∷ c ∷ d ∷ e ∷ f ∷ []) < 64
-unfolding six_of lane
-six_of-lt l a b c d e f = number-lt (lane l (a ∷ b ∷ c ∷ d ∷ e ∷ f ∷ []))
+bits_of_six : (l : ℕ) (six : List (List ℕ)) → length six ≡ 6 → bits_of 6 (six_of l six) ≡ lane l six
+unfolding six_of
+bits_of_six l six e = bits-number_at 6 (lane l six) (length-six_lane l six e)
 
-pub inputs : (l : ℕ) (a b c d e f : List ℕ) → l < 128 → IsVector a → IsVector b → IsVector c → IsVector d → IsVector e → IsVector f → Inputs l a b c d e f
-unfolding lane bits_of
-inputs l a b c d e f h p q r x y z =
-    let s = six_of l (a ∷ b ∷ c ∷ d ∷ e ∷ f ∷ []) in
-    let small : s < 64 = six_of-lt l a b c d e f in
-    let same : bits_of 6 s ≡ lane l (a ∷ b ∷ c ∷ d ∷ e ∷ f ∷ []) = bits_of_six l a b c d e f in
-    let at : (i : ℕ) → get_or (lane l (a ∷ b ∷ c ∷ d ∷ e ∷ f ∷ [])) i false ≡ get_or (bits_of 6 s) i false = λ i. ap (λ bs. get_or bs i false) (sym same) in
+six_of-lt : (l : ℕ) (six : List (List ℕ)) → length six ≡ 6 → six_of l six < 64
+unfolding six_of
+six_of-lt l six e = subst (λ n. number (lane l six) < 2 ^ n) (length-six_lane l six e) (number-lt (lane l six))
+
+pub inputs : (l : ℕ) (six : List (List ℕ)) → l < 128 → length six ≡ 6 → Each1 IsVector six → Inputs l six
+unfolding bits_of
+inputs l six h size vectors =
+    let s = six_of l six in
+    let small : s < 64 = six_of-lt l six size in
+    let at : (i : ℕ) → lane_bit l (get_or six i []) ≡ get_or (bits_of 6 s) i false = λ i. get_or-lane l six i ∙ ap (λ bs. get_or bs i false) (sym (bits_of_six l six size)) in
+    let is : (i : ℕ) → i < 6 → IsVector (get_or six i []) = λ i p. Each1-get_or IsVector six i [] (omega (arith, p, size)) vectors in
     record {
-      a = input l s 0xffffffff00000000 5 a h small (record { fits = omega arith }) refl p (at 0);
-      b = input l s 0xffff0000ffff0000 4 b h small (record { fits = omega arith }) refl q (at 1);
-      c = input l s 0xff00ff00ff00ff00 3 c h small (record { fits = omega arith }) refl r (at 2);
-      d = input l s 0xf0f0f0f0f0f0f0f0 2 d h small (record { fits = omega arith }) refl x (at 3);
-      e = input l s 0xcccccccccccccccc 1 e h small (record { fits = omega arith }) refl y (at 4);
-      f = input l s 0xaaaaaaaaaaaaaaaa 0 f h small (record { fits = omega arith }) refl z (at 5);
+      a = input l s 0xffffffff00000000 5 (get_or six 0 []) h small (record { fits = omega arith }) refl (is 0 (omega arith)) (at 0);
+      b = input l s 0xffff0000ffff0000 4 (get_or six 1 []) h small (record { fits = omega arith }) refl (is 1 (omega arith)) (at 1);
+      c = input l s 0xff00ff00ff00ff00 3 (get_or six 2 []) h small (record { fits = omega arith }) refl (is 2 (omega arith)) (at 2);
+      d = input l s 0xf0f0f0f0f0f0f0f0 2 (get_or six 3 []) h small (record { fits = omega arith }) refl (is 3 (omega arith)) (at 3);
+      e = input l s 0xcccccccccccccccc 1 (get_or six 4 []) h small (record { fits = omega arith }) refl (is 4 (omega arith)) (at 4);
+      f = input l s 0xaaaaaaaaaaaaaaaa 0 (get_or six 5 []) h small (record { fits = omega arith }) refl (is 5 (omega arith)) (at 5);
     }
 
 -- ---- the four outputs
@@ -142,34 +147,34 @@ tables_agree box t u v w = agree_below (λ s. eqb (number (bit t s ∷ bit u s �
 four_bits : (a b c d : Bool) (bs : List Bool) → length bs ≡ 4 → number (a ∷ b ∷ c ∷ d ∷ []) ≡ number bs → a ∷ b ∷ c ∷ d ∷ [] ≡ bs
 four_bits a b c d bs e same = sym (bits-number_at 4 (a ∷ b ∷ c ∷ d ∷ []) refl) ∙ ap (bits_of 4) same ∙ bits-number_at 4 bs e
 
-length-substituted : (box : List ℕ) (bs : List Bool) → length (substituted box bs) ≡ 4
+pub length-substituted : (box : List ℕ) (bs : List Bool) → length (substituted box bs) ≡ 4
 unfolding substituted bits_of
 length-substituted box bs = refl
 
 shown_bit : {l s t : ℕ} {v : List ℕ} → Shows l s t v → lane_bit l v ≡ bit t s
 shown_bit p = ap (λ n. eqb n 1) p.shown
 
-four_shown : (box : List ℕ) (t u v w l : ℕ) (a b c d e f g h i j : List ℕ) → tables_agree box t u v w ≡ true
-    → Shows l (six_of l (a ∷ b ∷ c ∷ d ∷ e ∷ f ∷ [])) t g → Shows l (six_of l (a ∷ b ∷ c ∷ d ∷ e ∷ f ∷ [])) u h
-    → Shows l (six_of l (a ∷ b ∷ c ∷ d ∷ e ∷ f ∷ [])) v i → Shows l (six_of l (a ∷ b ∷ c ∷ d ∷ e ∷ f ∷ [])) w j
-    → lane l (g ∷ h ∷ i ∷ j ∷ []) ≡ substituted box (lane l (a ∷ b ∷ c ∷ d ∷ e ∷ f ∷ []))
+four_shown : (box : List ℕ) (t u v w l : ℕ) (six : List (List ℕ)) (g h i j : List ℕ) → length six ≡ 6 → tables_agree box t u v w ≡ true
+    → Shows l (six_of l six) t g → Shows l (six_of l six) u h
+    → Shows l (six_of l six) v i → Shows l (six_of l six) w j
+    → lane l (g ∷ h ∷ i ∷ j ∷ []) ≡ substituted box (lane l six)
 unfolding lane
-four_shown box t u v w l a b c d e f g h i j test p q r x =
-    let s = six_of l (a ∷ b ∷ c ∷ d ∷ e ∷ f ∷ []) in
+four_shown box t u v w l six g h i j size test p q r x =
+    let s = six_of l six in
     ap (λ y. y ∷ lane_bit l h ∷ lane_bit l i ∷ lane_bit l j ∷ []) (shown_bit p)
     ∙ ap (λ y. bit t s ∷ y ∷ lane_bit l i ∷ lane_bit l j ∷ []) (shown_bit q)
     ∙ ap (λ y. bit t s ∷ bit u s ∷ y ∷ lane_bit l j ∷ []) (shown_bit r)
     ∙ ap (λ y. bit t s ∷ bit u s ∷ bit v s ∷ y ∷ []) (shown_bit x)
     ∙ four_bits (bit t s) (bit u s) (bit v s) (bit w s) (substituted box (bits_of 6 s)) (length-substituted box (bits_of 6 s))
     (eqb-true _ _ (agree_below_at (λ s. eqb (number (bit t s ∷ bit u s ∷ bit v s ∷ bit w s ∷ [])) (number (substituted box (bits_of 6 s)))) (λ n. true) 64 s test p.six))
-    ∙ ap (substituted box) (bits_of_six l a b c d e f)
+    ∙ ap (substituted box) (bits_of_six l six size)
 
-pub outputs : (box : List ℕ) (t u v w : ℕ) (a b c d e f g h i j : List ℕ) → tables_agree box t u v w ≡ true
-    → ((l : ℕ) → l < 128 → Shows l (six_of l (a ∷ b ∷ c ∷ d ∷ e ∷ f ∷ [])) t g × Shows l (six_of l (a ∷ b ∷ c ∷ d ∷ e ∷ f ∷ [])) u h
-    × Shows l (six_of l (a ∷ b ∷ c ∷ d ∷ e ∷ f ∷ [])) v i × Shows l (six_of l (a ∷ b ∷ c ∷ d ∷ e ∷ f ∷ [])) w j)
-    → ((l : ℕ) → l < 128 → lane l (g ∷ h ∷ i ∷ j ∷ []) ≡ substituted box (lane l (a ∷ b ∷ c ∷ d ∷ e ∷ f ∷ []))) × Each1 IsVector (g ∷ h ∷ i ∷ j ∷ [])
-outputs box t u v w a b c d e f g h i j test shown =
+pub outputs : (box : List ℕ) (t u v w : ℕ) (six : List (List ℕ)) (g h i j : List ℕ) → length six ≡ 6 → tables_agree box t u v w ≡ true
+    → ((l : ℕ) → l < 128 → Shows l (six_of l six) t g × Shows l (six_of l six) u h
+    × Shows l (six_of l six) v i × Shows l (six_of l six) w j)
+    → ((l : ℕ) → l < 128 → lane l (g ∷ h ∷ i ∷ j ∷ []) ≡ substituted box (lane l six)) × Each1 IsVector (g ∷ h ∷ i ∷ j ∷ [])
+outputs box t u v w six g h i j size test shown =
     let first = shown 0 (omega arith) in (
-      λ l p. let s = shown l p in four_shown box t u v w l a b c d e f g h i j test s.0 s.1 s.2 s.3,
+      λ l p. let s = shown l p in four_shown box t u v w l six g h i j size test s.0 s.1 s.2 s.3,
       (first.0.vector, (first.1.vector, (first.2.vector, (first.3.vector, tt)))),
     )

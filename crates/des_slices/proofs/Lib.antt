@@ -1,5 +1,6 @@
+mod Lanes
 mod Gates
-mod Wirings
 mod Filling
 mod Blocks
 mod Exchanging
+mod Rounds

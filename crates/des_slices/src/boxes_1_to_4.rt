@@ -1,19 +1,22 @@
 //! The S-boxes of FIPS 46 as circuits: six vectors of input bits give four of output bits, the first
 //! of each the most significant, in all lanes at once. bench/boxes.c found the gates.
-ghost use Rattle.std.specs.Prelude.{◌≡◌, ◌<◌, ℕ, [], ◌∷◌};
+ghost use Rattle.std.specs.Prelude.{◌≡◌, ◌<◌, ℕ};
+ghost use Rattle.std.specs.Simd.Lanes.{Each1};
 ghost use Rattle.x_des.specs.Des.{substituted};
 ghost use Rattle.x_des.specs.Tables.{s1, s2, s3, s4};
-ghost use Rattle.des_slices.specs.Vectors.{AreVectors, lane, words_of};
+ghost use Rattle.des_slices.specs.Vectors.{AreVectors, IsVector, lane, words_of};
 
 use crate::vector::Vector;
 use std::simd::u64x2;
 
 /// S1.
 #[inline(always)]
-pub fn box_1(a: u64x2, b: u64x2, c: u64x2, d: u64x2, e: u64x2, f: u64x2) -> [Vector; 4]
-    ensures lanes { (l : ℕ) → l < 128 → lane l (words_of result) ≡ substituted s1 (lane l (a ∷ b ∷ c ∷ d ∷ e ∷ f ∷ [])) }
+pub fn box_1(six: [u64x2; 6]) -> [Vector; 4]
+    requires { Each1 IsVector six }
+    ensures lanes { (l : ℕ) → l < 128 → lane l (words_of result) ≡ substituted s1 (lane l six) }
     ensures vectors { AreVectors result }
 {
+    let [a, b, c, d, e, f] = six;
     let g1 = c | a;
     let g2 = g1 & d;
     let g3 = d ^ a;
@@ -81,10 +84,12 @@ pub fn box_1(a: u64x2, b: u64x2, c: u64x2, d: u64x2, e: u64x2, f: u64x2) -> [Vec
 
 /// S2.
 #[inline(always)]
-pub fn box_2(a: u64x2, b: u64x2, c: u64x2, d: u64x2, e: u64x2, f: u64x2) -> [Vector; 4]
-    ensures lanes { (l : ℕ) → l < 128 → lane l (words_of result) ≡ substituted s2 (lane l (a ∷ b ∷ c ∷ d ∷ e ∷ f ∷ [])) }
+pub fn box_2(six: [u64x2; 6]) -> [Vector; 4]
+    requires { Each1 IsVector six }
+    ensures lanes { (l : ℕ) → l < 128 → lane l (words_of result) ≡ substituted s2 (lane l six) }
     ensures vectors { AreVectors result }
 {
+    let [a, b, c, d, e, f] = six;
     let g1 = e | a;
     let g2 = b ^ a;
     let g3 = g1 & !g2;
@@ -146,10 +151,12 @@ pub fn box_2(a: u64x2, b: u64x2, c: u64x2, d: u64x2, e: u64x2, f: u64x2) -> [Vec
 
 /// S3.
 #[inline(always)]
-pub fn box_3(a: u64x2, b: u64x2, c: u64x2, d: u64x2, e: u64x2, f: u64x2) -> [Vector; 4]
-    ensures lanes { (l : ℕ) → l < 128 → lane l (words_of result) ≡ substituted s3 (lane l (a ∷ b ∷ c ∷ d ∷ e ∷ f ∷ [])) }
+pub fn box_3(six: [u64x2; 6]) -> [Vector; 4]
+    requires { Each1 IsVector six }
+    ensures lanes { (l : ℕ) → l < 128 → lane l (words_of result) ≡ substituted s3 (lane l six) }
     ensures vectors { AreVectors result }
 {
+    let [a, b, c, d, e, f] = six;
     let g1 = d & a;
     let g2 = f ^ d;
     let g3 = g1 | g2;
@@ -216,10 +223,12 @@ pub fn box_3(a: u64x2, b: u64x2, c: u64x2, d: u64x2, e: u64x2, f: u64x2) -> [Vec
 
 /// S4.
 #[inline(always)]
-pub fn box_4(a: u64x2, b: u64x2, c: u64x2, d: u64x2, e: u64x2, f: u64x2) -> [Vector; 4]
-    ensures lanes { (l : ℕ) → l < 128 → lane l (words_of result) ≡ substituted s4 (lane l (a ∷ b ∷ c ∷ d ∷ e ∷ f ∷ [])) }
+pub fn box_4(six: [u64x2; 6]) -> [Vector; 4]
+    requires { Each1 IsVector six }
+    ensures lanes { (l : ℕ) → l < 128 → lane l (words_of result) ≡ substituted s4 (lane l six) }
     ensures vectors { AreVectors result }
 {
+    let [a, b, c, d, e, f] = six;
     let g1 = d ^ c;
     let g2 = g1 ^ a;
     let g3 = g1 | a;

@@ -1,19 +1,22 @@
 //! The S-boxes of FIPS 46 as circuits: six vectors of input bits give four of output bits, the first
 //! of each the most significant, in all lanes at once. bench/boxes.c found the gates.
-ghost use Rattle.std.specs.Prelude.{◌≡◌, ◌<◌, ℕ, [], ◌∷◌};
+ghost use Rattle.std.specs.Prelude.{◌≡◌, ◌<◌, ℕ};
+ghost use Rattle.std.specs.Simd.Lanes.{Each1};
 ghost use Rattle.x_des.specs.Des.{substituted};
 ghost use Rattle.x_des.specs.Tables.{s5, s6, s7, s8};
-ghost use Rattle.des_slices.specs.Vectors.{AreVectors, lane, words_of};
+ghost use Rattle.des_slices.specs.Vectors.{AreVectors, IsVector, lane, words_of};
 
 use crate::vector::Vector;
 use std::simd::u64x2;
 
 /// S5.
 #[inline(always)]
-pub fn box_5(a: u64x2, b: u64x2, c: u64x2, d: u64x2, e: u64x2, f: u64x2) -> [Vector; 4]
-    ensures lanes { (l : ℕ) → l < 128 → lane l (words_of result) ≡ substituted s5 (lane l (a ∷ b ∷ c ∷ d ∷ e ∷ f ∷ [])) }
+pub fn box_5(six: [u64x2; 6]) -> [Vector; 4]
+    requires { Each1 IsVector six }
+    ensures lanes { (l : ℕ) → l < 128 → lane l (words_of result) ≡ substituted s5 (lane l six) }
     ensures vectors { AreVectors result }
 {
+    let [a, b, c, d, e, f] = six;
     let g1 = f ^ a;
     let g2 = c ^ b;
     let g3 = g1 ^ g2;
@@ -78,10 +81,12 @@ pub fn box_5(a: u64x2, b: u64x2, c: u64x2, d: u64x2, e: u64x2, f: u64x2) -> [Vec
 
 /// S6.
 #[inline(always)]
-pub fn box_6(a: u64x2, b: u64x2, c: u64x2, d: u64x2, e: u64x2, f: u64x2) -> [Vector; 4]
-    ensures lanes { (l : ℕ) → l < 128 → lane l (words_of result) ≡ substituted s6 (lane l (a ∷ b ∷ c ∷ d ∷ e ∷ f ∷ [])) }
+pub fn box_6(six: [u64x2; 6]) -> [Vector; 4]
+    requires { Each1 IsVector six }
+    ensures lanes { (l : ℕ) → l < 128 → lane l (words_of result) ≡ substituted s6 (lane l six) }
     ensures vectors { AreVectors result }
 {
+    let [a, b, c, d, e, f] = six;
     let g1 = f ^ a;
     let g2 = b ^ a;
     let g3 = g1 & !g2;
@@ -150,10 +155,12 @@ pub fn box_6(a: u64x2, b: u64x2, c: u64x2, d: u64x2, e: u64x2, f: u64x2) -> [Vec
 
 /// S7.
 #[inline(always)]
-pub fn box_7(a: u64x2, b: u64x2, c: u64x2, d: u64x2, e: u64x2, f: u64x2) -> [Vector; 4]
-    ensures lanes { (l : ℕ) → l < 128 → lane l (words_of result) ≡ substituted s7 (lane l (a ∷ b ∷ c ∷ d ∷ e ∷ f ∷ [])) }
+pub fn box_7(six: [u64x2; 6]) -> [Vector; 4]
+    requires { Each1 IsVector six }
+    ensures lanes { (l : ℕ) → l < 128 → lane l (words_of result) ≡ substituted s7 (lane l six) }
     ensures vectors { AreVectors result }
 {
+    let [a, b, c, d, e, f] = six;
     let g1 = c | b;
     let g2 = d ^ a;
     let g3 = g1 ^ g2;
@@ -218,10 +225,12 @@ pub fn box_7(a: u64x2, b: u64x2, c: u64x2, d: u64x2, e: u64x2, f: u64x2) -> [Vec
 
 /// S8.
 #[inline(always)]
-pub fn box_8(a: u64x2, b: u64x2, c: u64x2, d: u64x2, e: u64x2, f: u64x2) -> [Vector; 4]
-    ensures lanes { (l : ℕ) → l < 128 → lane l (words_of result) ≡ substituted s8 (lane l (a ∷ b ∷ c ∷ d ∷ e ∷ f ∷ [])) }
+pub fn box_8(six: [u64x2; 6]) -> [Vector; 4]
+    requires { Each1 IsVector six }
+    ensures lanes { (l : ℕ) → l < 128 → lane l (words_of result) ≡ substituted s8 (lane l six) }
     ensures vectors { AreVectors result }
 {
+    let [a, b, c, d, e, f] = six;
     let g1 = e ^ b;
     let g2 = d & !b;
     let g3 = c & !g2;

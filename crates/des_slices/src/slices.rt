@@ -1,4 +1,4 @@
-ghost use Rattle.std.specs.Prelude.{◌≡◌, ◌<◌, ◌/◌, ◌^◌, ℕ, bit_xor, cond, drop, map, replicate, slice_index_or, take};
+ghost use Rattle.std.specs.Prelude.{◌≡◌, ◌<◌, ◌*◌, ◌/◌, ◌^◌, ℕ, bit_xor, cond, drop, map, replicate, slice_index_or, take};
 ghost use Rattle.std.specs.Simd.Lanes.{zip2};
 ghost use Rattle.x_des.specs.Bits.{exclusive_or, pick};
 ghost use Rattle.x_des.specs.Des.{enciphered};
@@ -9,7 +9,7 @@ use crate::exchanges::sliced;
 use crate::key::SlicedKey;
 use crate::mask::{masked, unchosen};
 use crate::round::round;
-use crate::vector::{Vector, bit, xored};
+use crate::vector::{Vector, bit, put};
 use std::marker::Model;
 use std::simd::u64x2;
 
@@ -55,8 +55,8 @@ impl Slices {
         ensures { self.new ≡ zip2 bit_xor self.old numbers.now }
     {
         let bits = sliced(numbers);
-        self.left = xor_left(&self.left, &bits);
-        self.right = xor_right(&self.right, &bits);
+        xor_half(&mut self.left, &bits, 0);
+        xor_half(&mut self.right, &bits, 1);
     }
 
     /// Puts zero into the lanes that are chosen.
@@ -98,88 +98,24 @@ impl Slices {
     }
 }
 
-/// The exclusive or of a left half with the left half of what IP makes of 64 bits.
-fn xor_left(half: &[Vector; 32], bits: &[Vector; 64]) -> [Vector; 32]
+/// Puts the left half (side 0) or the right half (side 1) of what IP makes of 64 bits onto a half by
+/// exclusive or.
+#[inline(always)]
+fn xor_half(half: &mut [Vector; 32], bits: &[Vector; 64], side: usize)
     requires half { AreVectors half.now }
     requires bits { AreVectors bits.now }
-    ensures lanes { (l : ℕ) → l < 128 → lane l (words_of result) ≡ exclusive_or (lane l (words_of half.now)) (take 32 (pick ip (lane l (words_of bits.now)))) }
-    ensures vectors { AreVectors result }
+    requires side { side < 2 }
+    ensures lanes { (l : ℕ) → l < 128 → lane l (words_of half.new) ≡ exclusive_or (lane l (words_of half.old)) (take 32 (drop (32 * side) (pick ip (lane l (words_of bits.now))))) }
+    ensures vectors { AreVectors half.new }
 {
-    xored![
-        half[0] ^ bits[57],
-        half[1] ^ bits[49],
-        half[2] ^ bits[41],
-        half[3] ^ bits[33],
-        half[4] ^ bits[25],
-        half[5] ^ bits[17],
-        half[6] ^ bits[9],
-        half[7] ^ bits[1],
-        half[8] ^ bits[59],
-        half[9] ^ bits[51],
-        half[10] ^ bits[43],
-        half[11] ^ bits[35],
-        half[12] ^ bits[27],
-        half[13] ^ bits[19],
-        half[14] ^ bits[11],
-        half[15] ^ bits[3],
-        half[16] ^ bits[61],
-        half[17] ^ bits[53],
-        half[18] ^ bits[45],
-        half[19] ^ bits[37],
-        half[20] ^ bits[29],
-        half[21] ^ bits[21],
-        half[22] ^ bits[13],
-        half[23] ^ bits[5],
-        half[24] ^ bits[63],
-        half[25] ^ bits[55],
-        half[26] ^ bits[47],
-        half[27] ^ bits[39],
-        half[28] ^ bits[31],
-        half[29] ^ bits[23],
-        half[30] ^ bits[15],
-        half[31] ^ bits[7],
-    ]
-}
-
-/// The exclusive or of a right half with the right half of what IP makes of 64 bits.
-fn xor_right(half: &[Vector; 32], bits: &[Vector; 64]) -> [Vector; 32]
-    requires half { AreVectors half.now }
-    requires bits { AreVectors bits.now }
-    ensures lanes { (l : ℕ) → l < 128 → lane l (words_of result) ≡ exclusive_or (lane l (words_of half.now)) (drop 32 (pick ip (lane l (words_of bits.now)))) }
-    ensures vectors { AreVectors result }
-{
-    xored![
-        half[0] ^ bits[56],
-        half[1] ^ bits[48],
-        half[2] ^ bits[40],
-        half[3] ^ bits[32],
-        half[4] ^ bits[24],
-        half[5] ^ bits[16],
-        half[6] ^ bits[8],
-        half[7] ^ bits[0],
-        half[8] ^ bits[58],
-        half[9] ^ bits[50],
-        half[10] ^ bits[42],
-        half[11] ^ bits[34],
-        half[12] ^ bits[26],
-        half[13] ^ bits[18],
-        half[14] ^ bits[10],
-        half[15] ^ bits[2],
-        half[16] ^ bits[60],
-        half[17] ^ bits[52],
-        half[18] ^ bits[44],
-        half[19] ^ bits[36],
-        half[20] ^ bits[28],
-        half[21] ^ bits[20],
-        half[22] ^ bits[12],
-        half[23] ^ bits[4],
-        half[24] ^ bits[62],
-        half[25] ^ bits[54],
-        half[26] ^ bits[46],
-        half[27] ^ bits[38],
-        half[28] ^ bits[30],
-        half[29] ^ bits[22],
-        half[30] ^ bits[14],
-        half[31] ^ bits[6],
-    ]
+    for i in 0..8 {
+        let first = 57 - side - 8 * i;
+        let four = [
+            bits[first],
+            bits[first + 2],
+            bits[first + 4],
+            bits[first + 6],
+        ];
+        put(half, [i, 8 + i, 16 + i, 24 + i], four);
+    }
 }

@@ -1,5 +1,6 @@
-ghost use Rattle.std.specs.Prelude.{◌≡◌, ◌<◌, ◌==◌};
-ghost use Rattle.des_slices.specs.Vectors.{AreVectors, IsVector, lane_bit, words_of};
+ghost use Rattle.std.specs.Prelude.{◌≡◌, ◌<◌, ◌==◌, ℕ, nat_lt, true};
+ghost use Rattle.std.specs.List.{list_all};
+ghost use Rattle.des_slices.specs.Vectors.{AreVectors, IsVector, lane, lane_bit, put_at, words_of};
 
 use std::simd::u64x2;
 
@@ -9,15 +10,6 @@ use std::simd::u64x2;
 pub struct Vector {
     pub words: u64x2,
 }
-
-/// The exclusive or of vectors, entry by entry.
-macro_rules! xored {
-    ($($vectors:ident[$place:literal] ^ $others:ident[$other:literal],)*) => {
-        [$(Vector { words: $vectors[$place].words ^ $others[$other].words }),*]
-    };
-}
-
-pub(crate) use xored;
 
 /// The vector of these two words.
 #[inline(always)]
@@ -38,6 +30,23 @@ pub fn vectors_of(words: &[u64x2; 64]) -> [Vector; 64]
         vectors[i] = vector_of(words[i]);
     }
     vectors
+}
+
+/// Puts vectors onto those at these places of a half by exclusive or.
+#[inline(always)]
+pub fn put(half: &mut [Vector; 32], places: [usize; 4], vectors: [Vector; 4])
+    requires half { AreVectors half.now }
+    requires places { list_all (λ p. nat_lt p 32) places ≡ true }
+    requires vectors { AreVectors vectors }
+    ensures lanes { (l : ℕ) → l < 128 → lane l (words_of half.new) ≡ put_at places (lane l (words_of vectors)) (lane l (words_of half.old)) }
+    ensures vectors { AreVectors half.new }
+{
+    for i in 0..4 {
+        let place = places[i];
+        half[place] = Vector {
+            words: half[place].words ^ vectors[i].words,
+        };
+    }
 }
 
 /// The bit of a lane, 0 or 1.

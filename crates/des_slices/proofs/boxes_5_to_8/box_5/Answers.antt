@@ -1,4 +1,4 @@
-use Rattle.std.proofs.Common.{◌≡◌, true, refl}
+use Rattle.std.proofs.Common.{◌≡◌, true, length, refl, arith}
 use Rattle.x_des.specs.Bits.{bits_of, number, pick}
 use Rattle.x_des.specs.Des.{substituted}
 use Rattle.x_des.specs.Tables.{s5}
@@ -11,12 +11,12 @@ tables = refl
 
 pub returns : goal.returns
 returns c =
+    let six = c.args.six in
+    let size : length six ≡ 6 = omega arith in
     let shown =
-    outputs s5 0x429dcd6a79e1348e 0x695b9ca191666b96 0xc70b39c692f05d2b 0xa4cd96d24b76b948 c.args.a c.args.b c.args.c c.args.d c.args.e c.args.f _ _ _ _ tables
+    outputs s5 0x429dcd6a79e1348e 0x695b9ca191666b96 0xc70b39c692f05d2b 0xa4cd96d24b76b948 six _ _ _ _ size tables
     (λ l h.
-    let i : Inputs l c.args.a c.args.b c.args.c c.args.d c.args.e c.args.f
-    = inputs l c.args.a c.args.b c.args.c c.args.d c.args.e c.args.f h
-    (record { two = c.fits-a.0; fits = c.fits-a.1 }) (record { two = c.fits-b.0; fits = c.fits-b.1 }) (record { two = c.fits-c.0; fits = c.fits-c.1 }) (record { two = c.fits-d.0; fits = c.fits-d.1 }) (record { two = c.fits-e.0; fits = c.fits-e.1 }) (record { two = c.fits-f.0; fits = c.fits-f.1 }) in
+    let i : Inputs l six = inputs l six h size c.requires in
     let g1 = xor i.f i.a in
     let g2 = xor i.c i.b in
     let g3 = xor g1 g2 in

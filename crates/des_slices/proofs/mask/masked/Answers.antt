@@ -5,7 +5,7 @@ use Rattle.des_slices.specs.declared.vector.Vector.{Vector}
 use Rattle.des_slices.specs.Vectors.{lane, lane_bit, words_of}
 use Rattle.des_slices.proofs.Blocks.{bit_in, length-lane}
 use Rattle.des_slices.proofs.Filling.{filled, filled_more, vectors-set}
-use Rattle.des_slices.proofs.Wirings.{vector_at}
+use Rattle.des_slices.proofs.Lanes.{vector_at}
 use Rattle.des_slices.proofs.mask.masked.Goals as goal
 
 pub masked_vector-requires-clause-vector : goal.masked_vector-requires-clause-vector

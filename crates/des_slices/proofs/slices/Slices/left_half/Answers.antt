@@ -3,7 +3,7 @@ use Rattle.x_des.specs.Bits.{bits_of, pick}
 use Rattle.x_des.specs.Tables.{ip_inverse}
 use Rattle.des_slices.specs.Vectors.{lane, words_of}
 use Rattle.des_slices.proofs.Blocks.{at_lane, bit_in_left, bit_in_right, gathered_two, left_half_is, left_place, restored, right_place}
-use Rattle.des_slices.proofs.Wirings.{vector_at}
+use Rattle.des_slices.proofs.Lanes.{vector_at}
 use Rattle.des_slices.proofs.slices.Slices.left_half.Goals as goal
 
 pub loop-i-init : goal.loop-i-init
