@@ -79,12 +79,12 @@ fn ers_text(
 ) -> Result<Written, NoMemory>
     ensures { IfOk result (λ w. IsWritten w (ers_reply state.now message.now value retry.now)) }
 {
-    let request = ers_message(alloc, state, message, retry)?;
     let under = FullName {
         name: direct_name(retry.centre, centre_label(), retry.cta),
         recipient: state.own(),
     };
-    Written::coded(alloc, &request, under, value)
+    let request = ers_message(alloc, state, message, retry)?;
+    Written::coded(alloc, request, under, value)
 }
 
 /// The edits and the text with which a centre is asked again, where one is.

@@ -1,14 +1,16 @@
 // A disconnect service message arrives: the key ends, and a response that names it goes back.
-ghost use Rattle.std.specs.Prelude.{◌≡◌, ◌++◌, ◌∷◌, [], true, IfOk};
+ghost use Rattle.std.specs.Prelude.{◌≡◌, ◌++◌, ◌∷◌, [], true, IfOk, Ok};
 ghost use Rattle.x_base.specs.declared.verdict.Verdict.TheVariants.{BadMac};
 ghost use Rattle.party_tables.specs.declared.exchange.Kind.TheVariants as kind;
 ghost use Rattle.party_tables.specs.Keys.{same_name};
 ghost use Rattle.party_tables.specs.Names.{full_name, name_behind};
+ghost use Rattle.party_state.specs.declared.edit.Edit.TheVariants.{DropExchange};
 ghost use Rattle.party_state.specs.Rows.Reply.{Coded};
 ghost use Rattle.party_state.specs.Verdicts.{verdict_of};
 ghost use Rattle.role_base.specs.Replies.{IsWritten};
 ghost use Rattle.party_state.specs.State.{exchange_with};
 ghost use Rattle.role_base.specs.Deciding.{Decides};
+ghost use Rattle.role_base.specs.Exchanges.{ended};
 ghost use Rattle.bank_arrivals.specs.Dsm.{named_by, dsm_front, left_by, left_in, disconnected, dsm_response, dsm, dsm_lead};
 
 use csm_grammar::{Arrival, Dsm, Message, Rsm};
@@ -85,6 +87,26 @@ fn is_behind(name: &KeyName, sent: &KeyName) -> bool
     }
 }
 
+/// The edits before and behind, where there is memory for both.
+fn around(
+    before: Result<Vec<Edit>, NoMemory>,
+    behind: Result<Vec<Edit>, NoMemory>,
+) -> Result<(Vec<Edit>, Vec<Edit>), NoMemory>
+    ensures before { IfOk result (λ edits. before ≡ Ok edits.0) }
+    ensures behind { IfOk result (λ edits. behind ≡ Ok edits.1) }
+{
+    let before = before?;
+    Ok((before, behind?))
+}
+
+/// The other key of two ends, and the exchange goes.
+fn other_ended(alloc: Global, other: Option<KeyRec>, peer: Ident) -> Result<Vec<Edit>, NoMemory>
+    ensures { IfOk result (λ edits. edits.items ≡ ended other ++ DropExchange peer ∷ []) }
+{
+    let gone = list_of(alloc, [Edit::DropExchange { peer }])?;
+    joined(ended(alloc, other)?, gone)
+}
+
 /// The edits for an exchange about two keys that names this one: the other ends too, by name before
 /// it or behind it.
 fn left_of_two(
@@ -96,17 +118,17 @@ fn left_of_two(
 ) -> Result<(Vec<Edit>, Vec<Edit>), NoMemory>
     ensures { IfOk result (λ edits. (edits.0.items, edits.1.items) ≡ left_by state.now peer name.now (kind.PairSent sent.now)) }
 {
-    let none = Vec::new(alloc);
     if *name == *sent {
-        let other = ended(alloc, record_behind(state, &peer, sent))?;
-        let gone = list_of(alloc, [Edit::DropExchange { peer }])?;
-        return Ok((none, joined(other, gone)?));
+        let behind = other_ended(alloc, record_behind(state, &peer, sent), peer)?;
+        return Ok((Vec::new(alloc), behind));
     }
     if is_behind(name, sent) {
-        let other = ended(alloc, record_of(state, &peer, sent))?;
-        return Ok((other, list_of(alloc, [Edit::DropExchange { peer }])?));
+        return around(
+            ended(alloc, record_of(state, &peer, sent)),
+            list_of(alloc, [Edit::DropExchange { peer }]),
+        );
     }
-    Ok((none, Vec::new(alloc)))
+    Ok((Vec::new(alloc), Vec::new(alloc)))
 }
 
 /// The edits before and behind that of the key, for an exchange that names it.
@@ -119,23 +141,17 @@ fn left_by(
 ) -> Result<(Vec<Edit>, Vec<Edit>), NoMemory>
     ensures { IfOk result (λ edits. (edits.0.items, edits.1.items) ≡ left_by state.now peer name.now kind.now) }
 {
-    let none = Vec::new(alloc);
     match kind {
-        Kind::KeySent { name: sent, via } => {
-            if *name != *sent {
-                return Ok((none, Vec::new(alloc)));
-            }
-            let gone = dropped(alloc, new_link(state, &peer, via))?;
-            Ok((gone, list_of(alloc, [Edit::DropExchange { peer }])?))
-        }
-        Kind::Ending { name: ending } => {
-            if *name != *ending {
-                return Ok((none, Vec::new(alloc)));
-            }
-            Ok((none, list_of(alloc, [Edit::DropExchange { peer }])?))
+        Kind::KeySent { name: sent, via } if *name == *sent => around(
+            dropped(alloc, new_link(state, &peer, via)),
+            list_of(alloc, [Edit::DropExchange { peer }]),
+        ),
+        Kind::Ending { name: ending } if *name == *ending => {
+            let behind = list_of(alloc, [Edit::DropExchange { peer }])?;
+            Ok((Vec::new(alloc), behind))
         }
         Kind::PairSent { name: sent } => left_of_two(alloc, state, peer, name, sent),
-        Kind::Asked { .. } | Kind::Translating { .. } => Ok((none, Vec::new(alloc))),
+        _ => Ok((Vec::new(alloc), Vec::new(alloc))),
     }
 }
 
@@ -175,8 +191,8 @@ fn disconnected(
 fn dsm_reply(alloc: Global, state: &State, key: &KeyRec) -> Result<Written, NoMemory>
     ensures { IfOk result (λ w. IsWritten w (Coded (dsm_response state.now key.now) (full_name state.now.own key.now) key.now.value)) }
 {
-    let response = dsm_response(state, key);
-    Written::coded(alloc, &response, key.full_name(&state.own()), key.value)
+    let under = key.full_name(&state.own());
+    Written::coded(alloc, dsm_response(state, key), under, key.value)
 }
 
 /// What is decided of a disconnection, with the key under which its code is tested. The only error is want of

@@ -3,10 +3,11 @@
 ghost use Rattle.std.specs.Prelude.{◌≡◌, IfSome, IfOk};
 ghost use Rattle.x_base.specs.Count.{IsCount};
 ghost use Rattle.csm_grammar.specs.declared.message.Message.TheVariants as messages;
-ghost use Rattle.role_base.specs.Deciding.{decision_of, Decides};
+ghost use Rattle.csm_grammar.specs.declared.arrival.Arrival.{Arrival};
+ghost use Rattle.role_base.specs.Deciding.{accepting, decision_of, Decides};
 ghost use Rattle.role_base.specs.Texts.{lead_under};
-ghost use Rattle.bank_arrivals.specs.AskingAgain.{retry_in};
-ghost use Rattle.bank_arrivals.specs.Esm.{subject_by, subject_with, subject_value, subject_name, error_of, error, esm_lead_of, esm_lead};
+ghost use Rattle.bank_arrivals.specs.AskingAgain.{retry_of, retry_in};
+ghost use Rattle.bank_arrivals.specs.Esm.{subject_by, subject_with, subject_value, subject_name, error_row, error_of, error, esm_lead_of, esm_lead};
 
 use crate::asking_again::{asked_again, retry_of};
 use crate::error_edits::error_edits;
@@ -87,6 +88,22 @@ fn subject_lead(state: &State, arrival: &Arrival, peer: &Ident, subject: &ErrorS
     lead_under(arrival, under, subject_value(subject))
 }
 
+/// What was sent is given up, and the centre that gave it is asked again.
+fn given_up(
+    alloc: Global,
+    state: &State,
+    message: &Esm,
+    subject: &ErrorSubject,
+) -> Result<Decision, NoMemory>
+    ensures { (a : Arrival) → let row = error_row state.now a message.now subject.now (retry_of state.now subject.now message.now.ctr) in
+        IfOk result (λ d. d ≡ accepting state.now row.edits row.reply) }
+{
+    let again = retry_of(state, subject, message.ctr);
+    let (asked, written) = asked_again(alloc, state, message, subject_value(subject), &again)?;
+    let edits = error_edits(alloc, state, message, subject, asked)?;
+    accept(alloc, state, edits, written)
+}
+
 /// What is decided of one with an authentication code, with the key under which the code is tested.
 fn esm_about(
     alloc: Global,
@@ -110,10 +127,7 @@ fn esm_about(
     if !is_accept(&verdict) {
         return Ok(refusal(verdict));
     }
-    let again = retry_of(state, subject, message.ctr);
-    let (asked, written) = asked_again(alloc, state, message, subject_value(subject), &again)?;
-    let edits = error_edits(alloc, state, message, subject, asked)?;
-    accept(alloc, state, edits, written)
+    given_up(alloc, state, message, subject)
 }
 
 /// The count that is named.

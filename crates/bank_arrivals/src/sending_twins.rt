@@ -82,12 +82,12 @@ fn twins_text(
     ensures written { IfOk result (λ w. IsWritten w (twins_reply state.now link.now drawn.now)) }
     ensures short { IfOk result (λ w. length w.text ≤ longest_text) }
 {
-    let message = twins_message(state, link, count, drawn);
     let under = FullName {
         name: next_name(state, link, count),
         recipient: link.peer,
     };
-    Written::coded(alloc, &message, under, drawn.first ^ drawn.second)
+    let message = twins_message(state, link, count, drawn);
+    Written::coded(alloc, message, under, drawn.first ^ drawn.second)
 }
 
 /// The link behind its next two counts.

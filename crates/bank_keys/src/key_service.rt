@@ -9,7 +9,7 @@ ghost use Rattle.party_state.specs.Verdicts.{verdict_of};
 ghost use Rattle.role_base.specs.Conditions.{count_tests};
 ghost use Rattle.role_base.specs.Deciding.{Decides};
 ghost use Rattle.role_base.specs.Replies.{IsWritten};
-ghost use Rattle.bank_keys.specs.Ksm.{body_count, body_next, second_edits, have_room, body_front, response, link_edits, link_tests, key_arrives, key_lead};
+ghost use Rattle.bank_keys.specs.Ksm.{body_count, body_next, second_edits, have_room, body_front, response, link_edits, link_tests, key_arrives, key_lead, IsCounted, body_opened, body_code};
 
 use crate::bodies::{
     Keys, body_count, body_counts, body_link, body_name, body_next, body_opened, first_count,
@@ -22,7 +22,8 @@ use role_base::{
     has_key_room, has_room_for_two, is_accept, is_for, lead_under, list_of, no_extras, verdict_of,
 };
 use std::alloc::Global;
-use x_base::{NoMemory, Verdict};
+use x_base::{Ident, NoMemory, Verdict};
+use x_mac::Pair;
 use x_seal::{unseal, unwrap};
 
 /// The tests before the code's.
@@ -97,7 +98,7 @@ fn response_text(
         idd: None,
         extras: no_extras(),
     });
-    Written::coded(alloc, &response, lead.under, lead.value)
+    Written::coded(alloc, response, lead.under, lead.value)
 }
 
 /// Decides of a key service message, with the key under which its code is tested.
@@ -142,6 +143,36 @@ pub fn ksm(
     accept(alloc, state, edits, Some(written))
 }
 
+/// The key that comes under this pair, or the exclusive-or of two; a new key-encrypting key is opened already.
+fn body_code(
+    state: &State,
+    originator: &Ident,
+    body: &KsmBody,
+    pair: Pair,
+    opened: Option<Pair>,
+) -> u64
+    requires counted { IsCounted body.now }
+    requires opened { opened ≡ body_opened pair body.now }
+    ensures { result ≡ body_code pair originator.now state.now.own body.now }
+{
+    match body {
+        KsmBody::Direct { kd, ctp, .. } => match opened {
+            None => unwrap(pair, *ctp, *kd),
+            Some(new) => unwrap(new, first_count(), *kd),
+        },
+        KsmBody::Centre { kdu, ctb, .. } => unseal(pair, originator, &state.own(), *ctb, *kdu),
+        KsmBody::Twin {
+            first,
+            second,
+            ctp,
+            ..
+        } => {
+            let second = unwrap(pair, count_behind(*ctp), *second);
+            unwrap(pair, *ctp, *first) ^ second
+        }
+    }
+}
+
 /// The key under which the code of a key service message is tested: the one that it brings, or the
 /// exclusive-or of two, under the name of the first; with a new key-encrypting key, opened. There is none where the message is refused
 /// before its code is looked at.
@@ -156,24 +187,7 @@ pub fn ksm_lead(state: &State, arrival: &Arrival, message: &Ksm) -> Option<Lead>
     }
     let under = body_name(state, originator, body, &link);
     let opened = body_opened(link.pair, body);
-    let value = match body {
-        KsmBody::Direct { kd, ctp, .. } => match opened {
-            None => unwrap(link.pair, *ctp, *kd),
-            Some(pair) => unwrap(pair, first_count(), *kd),
-        },
-        KsmBody::Centre { kdu, ctb, .. } => {
-            unseal(link.pair, originator, &state.own(), *ctb, *kdu)
-        }
-        KsmBody::Twin {
-            first,
-            second,
-            ctp,
-            ..
-        } => {
-            let second = unwrap(link.pair, count_behind(*ctp), *second);
-            unwrap(link.pair, *ctp, *first) ^ second
-        }
-    };
+    let value = body_code(state, originator, body, link.pair, opened);
     Some(Lead {
         opened,
         ..lead_under(arrival, under, value)

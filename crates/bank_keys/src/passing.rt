@@ -89,12 +89,8 @@ fn passed_text(alloc: Global, state: &State, message: &Rtr, value: u64) -> Resul
         name: centre_name(state, message),
         recipient: message.ultimate,
     };
-    Written::coded(
-        alloc,
-        &Message::Ksm(centre_ksm(state, message)),
-        under,
-        value,
-    )
+    let sent = Message::Ksm(centre_ksm(state, message));
+    Written::coded(alloc, sent, under, value)
 }
 
 /// The key is pending, and the exchange with the centre gives way to one with the ultimate

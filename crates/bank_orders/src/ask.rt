@@ -28,7 +28,7 @@ fn request(state: &State, peer: &Ident) -> Message
 fn request_text(alloc: Global, state: &State, peer: &Ident) -> Result<Written, NoMemory>
     ensures { IfOk result (λ w. IsWritten w (Plain (request state.now peer.now))) }
 {
-    Written::plain(alloc, &request(state, peer))
+    Written::plain(alloc, request(state, peer))
 }
 
 /// What a bank decides where a peer is asked for a key.
@@ -63,7 +63,7 @@ fn centre_text(
     ensures written { IfOk result (λ w. IsWritten w (Plain (centre_request state.now centre.now ultimate.now))) }
     ensures short { IfOk result (λ w. length w.text ≤ longest_text) }
 {
-    Written::plain(alloc, &centre_request(state, centre, ultimate))
+    Written::plain(alloc, centre_request(state, centre, ultimate))
 }
 
 /// The tests of a command to a centre, but for those of the link with it.

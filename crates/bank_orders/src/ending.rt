@@ -46,8 +46,8 @@ fn end_text(alloc: Global, state: &State, key: &KeyRec) -> Result<Written, NoMem
     ensures written { IfOk result (λ w. IsWritten w (end_reply state.now key.now)) }
     ensures short { IfOk result (λ w. length w.text ≤ longest_text) }
 {
-    let message = end_message(state, key);
-    Written::coded(alloc, &message, key.full_name(&state.own()), key.value)
+    let under = key.full_name(&state.own());
+    Written::coded(alloc, end_message(state, key), under, key.value)
 }
 
 /// The key is being closed, and the peer hears of it.

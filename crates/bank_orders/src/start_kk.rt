@@ -124,12 +124,12 @@ fn kk_text(
     ensures written { IfOk result (λ w. IsWritten w (kk_reply state.now link.now wanted.now.label wanted.now.single drawn.now)) }
     ensures short { IfOk result (λ w. length w.text ≤ longest_text) }
 {
-    let message = kk_message(state, link, count, wanted, drawn);
     let under = FullName {
         name: next_name(state, link, count),
         recipient: link.peer,
     };
-    Written::coded(alloc, &message, under, drawn.key)
+    let message = kk_message(state, link, count, wanted, drawn);
+    Written::coded(alloc, message, under, drawn.key)
 }
 
 /// The link of the new key-encrypting key: its recipient doesn't hold it yet, and its first count

@@ -67,12 +67,12 @@ fn translate_text(
     ensures written { IfOk result (λ w. IsWritten w (translate_reply state.now centre.now ultimate.now link.now key)) }
     ensures short { IfOk result (λ w. length w.text ≤ longest_text) }
 {
-    let message = translate_message(state, centre, ultimate, link, count, key);
     let under = FullName {
         name: direct_name(state.own(), centre_label(), count),
         recipient: *centre,
     };
-    Written::coded(alloc, &message, under, key)
+    let message = translate_message(state, centre, ultimate, link, count, key);
+    Written::coded(alloc, message, under, key)
 }
 
 /// The generator goes on, the link's count is used, and the exchange stands.

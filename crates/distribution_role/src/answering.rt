@@ -67,9 +67,9 @@ fn answer_text(
     requires ctb { links.now.ctb ≡ links.now.ultimate.next }
     ensures { IfOk result (λ w. IsWritten w (answer_reply state.now asked.now.requester asked.now.ultimate links.now.requester links.now.ultimate key)) }
 {
-    let message = Message::Rtr(rtr_of(state, asked, links, key));
     let under = answer_under(state, asked.requester, links.cta);
-    Written::coded(alloc, &message, under, key)
+    let message = Message::Rtr(rtr_of(state, asked, links, key));
+    Written::coded(alloc, message, under, key)
 }
 
 /// Both counts are used, and the key is kept as the last answer.

@@ -70,7 +70,7 @@ fn error_text(
         ctb: counts.ctb,
         ctr: expected_count(verdict),
     });
-    Written::coded(alloc, &message, lead.under, lead.value)
+    Written::coded(alloc, message, lead.under, lead.value)
 }
 
 /// Refused, and answered under the key that came where the verdict is one that is answered.

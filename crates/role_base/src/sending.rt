@@ -61,12 +61,12 @@ fn data_key_text(
     ensures written { IfOk result (λ w. IsWritten w (data_key_reply state.now link.now key)) }
     ensures short { IfOk result (λ w. length w.text ≤ longest_text) }
 {
-    let message = data_key_message(state, link, count, key);
     let under = FullName {
         name: next_name(state, link, count),
         recipient: link.peer,
     };
-    Written::coded(alloc, &message, under, key)
+    let message = data_key_message(state, link, count, key);
+    Written::coded(alloc, message, under, key)
 }
 
 /// The link behind its next count.

@@ -1,5 +1,7 @@
 // The texts that a bank writes, and the codes of those that arrive.
-ghost use Rattle.std.specs.Prelude.{◌≡◌, ◌≤◌, length, IfOk};
+ghost use Rattle.std.specs.Prelude.{◌≡◌, ◌≤◌, length, IfOk, OnOk};
+ghost use Rattle.csm_write.specs.Canon.{canon};
+ghost use Rattle.csm_write.specs.Writable.{AreTyped};
 ghost use Rattle.csm_write.specs.Shortness.{free_length};
 ghost use Rattle.party_state.specs.Rows.Reply.{Coded, Plain, Again};
 ghost use Rattle.party_tables.specs.Ranges.{longest_text};
@@ -18,6 +20,14 @@ pub struct Written {
     pub under: Option<FullName>,
 }
 
+/// The text of a message, which is given up.
+fn closed_by(alloc: Global, message: Message, closing: &Closing) -> Result<Text, NoMemory>
+    ensures canonical { IfOk result (λ text. text ≡ canon message closing.now) }
+    ensures typed { OnOk result (AreTyped message closing.now) }
+{
+    write(alloc, &message, closing)
+}
+
 impl Written {
     ghost use Rattle.role_base.specs.Replies.{IsWritten};
 
@@ -25,16 +35,16 @@ impl Written {
     #[tactic(auto, unfolding(crate::specs::Texts::text_of))]
     pub fn coded(
         alloc: Global,
-        message: &Message,
+        message: Message,
         under: FullName,
         key: u64,
     ) -> Result<Written, NoMemory>
-        ensures written { IfOk result (λ w. IsWritten w (Coded message.now under key)) }
-        ensures short { free_length message.now ≤ 64 → IfOk result (λ w. length w.text ≤ longest_text) }
+        ensures written { IfOk result (λ w. IsWritten w (Coded message under key)) }
+        ensures short { free_length message ≤ 64 → IfOk result (λ w. length w.text ≤ longest_text) }
     {
         // Tells that the text is short.
         law_canon_short();
-        let text = write(alloc, message, &Closing::Mac(key))?;
+        let text = closed_by(alloc, message, &Closing::Mac(key))?;
         Ok(Written {
             text,
             under: Some(under),
@@ -43,13 +53,13 @@ impl Written {
 
     /// The text of a message, closed by its error detection code.
     #[tactic(auto, unfolding(crate::specs::Texts::text_of))]
-    pub fn plain(alloc: Global, message: &Message) -> Result<Written, NoMemory>
-        ensures written { IfOk result (λ w. IsWritten w (Plain message.now)) }
-        ensures short { free_length message.now ≤ 64 → IfOk result (λ w. length w.text ≤ longest_text) }
+    pub fn plain(alloc: Global, message: Message) -> Result<Written, NoMemory>
+        ensures written { IfOk result (λ w. IsWritten w (Plain message)) }
+        ensures short { free_length message ≤ 64 → IfOk result (λ w. length w.text ≤ longest_text) }
     {
         // Tells that the text is short.
         law_canon_short();
-        let text = write(alloc, message, &Closing::Edc)?;
+        let text = closed_by(alloc, message, &Closing::Edc)?;
         Ok(Written { text, under: None })
     }
 

@@ -109,7 +109,7 @@ fn rfs_text(
     ensures { IfOk result (λ w. IsWritten w (rfs_reply state.now message.now from.now to.now)) }
 {
     let answer = rfs_answer(state, message, from, to, ctb, lead.value);
-    Written::coded(alloc, &Message::Rtr(answer), lead.under, lead.value)
+    Written::coded(alloc, Message::Rtr(answer), lead.under, lead.value)
 }
 
 /// The count that came is used, and one of the ultimate recipient's link.
