@@ -1,9 +1,10 @@
 // A party has a turn with a message, and a notice is made of it.
 ghost use Rattle.std.specs.Prelude.{◌≡◌};
+ghost use Rattle.csm_grammar.specs.declared.arrival.Arrival.{Arrival};
 ghost use Rattle.party_state.specs.declared.command.Input.TheVariants.{Arrived};
 ghost use Rattle.x_party.specs.Outcomes.{TakesTurn, IsSafe, LeavesShelf};
 ghost use Rattle.x_party.specs.Dues.{IsDue, GivesDue};
-ghost use Rattle.x_party.specs.Notices.{HasNotice, failed_of, kept_notice};
+ghost use Rattle.x_party.specs.Notices.{HasNotice, class_word, failed_of, kept_notice};
 
 use crate::looking::look;
 use crate::outcome::Outcome;
@@ -52,6 +53,33 @@ fn failed(error: DiskErr) -> Outcome
     }
 }
 
+/// The same with the message as an input, and the word of its class.
+fn turn_noticed<H: Shelf>(
+    alloc: Global,
+    shelf: &mut H,
+    name: &Ident,
+    input: &Input,
+    class: &[u8],
+    moment: u64,
+) -> TurnWithNotice
+    ensures turned { TakesTurn name.now (H.entry shelf.old name.now) (H.entry shelf.new name.now) input.now moment result.outcome }
+    ensures safe { IsSafe name.now (H.entry shelf.old name.now) (H.entry shelf.new name.now) input.now moment }
+    ensures due { GivesDue (H.entry shelf.old name.now) (IsDue name.now input.now moment) result.outcome }
+    ensures shelf { LeavesShelf name.now result.outcome (H.is_back shelf.new name.now) (H.entry shelf.old) (H.entry shelf.new) (H.faults shelf.old) (H.faults shelf.new) }
+    ensures notice { (a : Arrival) → input.now ≡ Arrived a → class.now ≡ class_word a.parsed.message → HasNotice (H.entry shelf.old name.now) a moment result.outcome result.notice }
+{
+    match look(alloc, shelf, name, input, class, moment) {
+        Ok(notice) => {
+            let outcome = turn(alloc, shelf, name, input, moment);
+            TurnWithNotice::of(outcome, notice)
+        }
+        Err(error) => TurnWithNotice {
+            outcome: failed(error),
+            notice: None,
+        },
+    }
+}
+
 /// A party's turn with a message that arrived, at a moment, and where it is done its notice: the class of the message, and the
 /// name and the status of each data key whose record was put. The party is looked at before its turn, so its disk is fetched
 /// twice.
@@ -70,14 +98,5 @@ pub fn turn_with_notice<H: Shelf>(
 {
     let class = class_word(&arrival.parsed.message);
     let input = Input::Arrived(arrival);
-    match look(alloc, shelf, name, &input, class, moment) {
-        Ok(notice) => {
-            let outcome = turn(alloc, shelf, name, &input, moment);
-            TurnWithNotice::of(outcome, notice)
-        }
-        Err(error) => TurnWithNotice {
-            outcome: failed(error),
-            notice: None,
-        },
-    }
+    turn_noticed(alloc, shelf, name, &input, class, moment)
 }
