@@ -1,5 +1,5 @@
 -- What is decided of an input in which a message was heard, or none.
-use Rattle.std.proofs.Common.{◌≡◌, inl, inr, ℕ, Bool, true, false, List, [], take, refl, sym, ap, ◌∙◌, subst, Option, Some, None, IfSome, Result, Ok, Err}
+use Rattle.std.proofs.Common.{◌≡◌, ◌⊎◌, inl, inr, ℕ, Bool, true, false, List, [], take, refl, sym, ap, ◌∙◌, subst, Option, Some, None, IfSome, Result, Ok, Err}
 use Rattle.x_base.specs.Edge.{Rose, AppendsTo, WrotePrefix}
 use Rattle.x_base.specs.declared.verdict.Verdict.TheVariants.{BadEdc}
 use Rattle.csm_grammar.specs.declared.arrival.Arrival.{Arrival}
@@ -51,7 +51,7 @@ module _ (left rest : Option (List ℕ)) (a : Arrival) (heard : IfSome left (λ 
     by None h = tt
     by (Some all) h = (reply, replied all a h.0 e reply is, wrote)
 
-  pub wrong : false ≡ is_right (authenticated_text a) a.parsed.shut → (w : Option (List ℕ)) → IsChecked (status.Refused (Decided BadEdc)) left rest w w
+  wrong : false ≡ is_right (authenticated_text a) a.parsed.shut → (w : Option (List ℕ)) → IsChecked (status.Refused (Decided BadEdc)) left rest w w
   wrong e w = (refl, by left heard, refl) where
     by : (o : Option (List ℕ)) → IfSome o (λ all. IsHeard all a × (rest ≡ Some [])) → IfSome o (λ all. IsDecision all (Err (Decided BadEdc)))
     by None h = tt
@@ -66,8 +66,22 @@ module _ (left rest : Option (List ℕ)) (a : Arrival) (heard : IfSome left (λ 
   pub exact_done : OneHearing → true ≡ is_right (authenticated_text a) a.parsed.shut → IsExact left status.Done
   exact_done one e = exact one true e
 
-  pub exact_wrong : OneHearing → false ≡ is_right (authenticated_text a) a.parsed.shut → IsExact left (status.Refused (Decided BadEdc))
+  exact_wrong : OneHearing → false ≡ is_right (authenticated_text a) a.parsed.shut → IsExact left (status.Refused (Decided BadEdc))
   exact_wrong one e = exact one false e
+
+  pub unanswered : (w : Option (List ℕ)) (s : Status) → (s ≡ status.NoMemory) ⊎ ((s ≡ status.Refused (Decided BadEdc)) × (false ≡ is_right (authenticated_text a) a.parsed.shut)) → IsChecked s left rest w w
+  unanswered w s (inl is) = subst (λ (x : Status). IsChecked x left rest w w) (sym is) refl
+  unanswered w s (inr (is, e)) = subst (λ (x : Status). IsChecked x left rest w w) (sym is) (wrong e w)
+
+  exact_memory : (s : Status) → s ≡ status.NoMemory → IsExact left s
+  exact_memory s is = by left where
+    by : (o : Option (List ℕ)) → IsExact o s
+    by None = tt
+    by (Some all) = λ other decision. inr is
+
+  pub exact_unanswered : OneHearing → (s : Status) → (s ≡ status.NoMemory) ⊎ ((s ≡ status.Refused (Decided BadEdc)) × (false ≡ is_right (authenticated_text a) a.parsed.shut)) → IsExact left s
+  exact_unanswered one s (inl is) = exact_memory s is
+  exact_unanswered one s (inr (is, e)) = subst (λ (x : Status). IsExact left x) (sym is) (exact_wrong one e)
 
 -- ---- where none was heard
 

@@ -1,5 +1,6 @@
 // A message is checked, and its canonical text written.
-ghost use Rattle.std.specs.Prelude.{◌≡◌, IfOk};
+ghost use Rattle.std.specs.Prelude.{◌≡◌, ◌⊎◌, true, false, IfOk, IfErr};
+ghost use Rattle.csm_grammar.specs.Arrivals.{authenticated_text};
 ghost use Rattle.csm_feed.specs.Heard.{input_limit};
 ghost use Rattle.call_ends.specs.Check.{IsChecked, IsExact, closing_of, is_right, reply_of};
 ghost use Rattle.call_ends.specs.Transfer.{GivesOutput, IsQuiet, TakesInput};
@@ -8,7 +9,7 @@ ghost use Rattle.call_ends.specs.Causes.{IsSilent};
 use crate::listening::listen;
 use crate::status::{Refusal, Status};
 use csm_feed::law_one_hearing;
-use csm_grammar::{Parsed, Shut};
+use csm_grammar::{Arrival, Parsed, Shut};
 use csm_write::{Closing, write};
 use std::alloc::Global;
 use x_base::{NoMemory, Sink, Source, Text, Verdict, put_all};
@@ -44,6 +45,28 @@ fn reply(alloc: Global, parsed: &Parsed) -> Result<Text, NoMemory>
     Ok(text)
 }
 
+/// The reply to a message, where its code is right.
+fn judge(alloc: Global, arrival: &Arrival) -> Result<Text, Status>
+    ensures right { IfOk result (λ text. (true ≡ is_right (authenticated_text arrival.now) arrival.now.parsed.shut) × (text ≡ reply_of arrival.now.parsed)) }
+    ensures wrong { IfErr result (λ s. (s ≡ Status.NoMemory) ⊎ ((s ≡ Status.Refused (Refusal.Decided Verdict.BadEdc)) × (false ≡ is_right (authenticated_text arrival.now) arrival.now.parsed.shut))) }
+{
+    if !is_right(arrival.auth(), arrival.parsed.shut) {
+        return Err(Status::Refused(Refusal::Decided(Verdict::BadEdc)));
+    }
+    match reply(alloc, &arrival.parsed) {
+        Ok(text) => Ok(text),
+        Err(NoMemory) => Err(Status::NoMemory),
+    }
+}
+
+/// The reply to a message that isn't kept.
+fn answer(alloc: Global, arrival: Arrival) -> Result<Text, Status>
+    ensures right { IfOk result (λ text. (true ≡ is_right (authenticated_text arrival) arrival.parsed.shut) × (text ≡ reply_of arrival.parsed)) }
+    ensures wrong { IfErr result (λ s. (s ≡ Status.NoMemory) ⊎ ((s ≡ Status.Refused (Refusal.Decided Verdict.BadEdc)) × (false ≡ is_right (authenticated_text arrival) arrival.parsed.shut))) }
+{
+    judge(alloc, &arrival)
+}
+
 /// Reads one message, and writes its canonical text where its error detection code is right. An authentication code,
 /// which has no key here, is written as it came.
 pub fn check<S: Source, K: Sink>(alloc: Global, source: &mut S, sink: &mut K) -> Status
@@ -57,11 +80,9 @@ pub fn check<S: Source, K: Sink>(alloc: Global, source: &mut S, sink: &mut K) ->
         Ok(arrival) => arrival,
         Err(status) => return status,
     };
-    if !is_right(arrival.auth(), arrival.parsed.shut) {
-        return Status::Refused(Refusal::Decided(Verdict::BadEdc));
-    }
-    let Ok(text) = reply(alloc, &arrival.parsed) else {
-        return Status::NoMemory;
+    let text = match answer(alloc, arrival) {
+        Ok(text) => text,
+        Err(status) => return status,
     };
     match put_all(sink, text.bytes()) {
         Ok(()) => Status::Done,

@@ -140,24 +140,31 @@ fn forged_line(alloc: Global, number: u32) -> Result<String, AllocError>
     format!(in alloc; "x917: forged event {number}\n")
 }
 
+fn line_of(alloc: Global, status: &Status) -> Result<String, AllocError>
+    ensures { IfOk result (λ s. string_bytes s ≡ line_of status.now) }
+{
+    match status {
+        Status::Done => Ok(String::new(alloc)),
+        Status::Refused(refusal) => refusal_line(alloc, refusal),
+        Status::Usage(kind) => usage_line(alloc, kind),
+        Status::ReadFault => format!(in alloc; "x917: read fault\n"),
+        Status::WriteFault => format!(in alloc; "x917: write fault\n"),
+        Status::DiskFault => format!(in alloc; "x917: disk fault\n"),
+        Status::Damaged(place) => damaged_line(alloc, *place),
+        Status::BadScenario(number) => bad_line(alloc, *number),
+        Status::Forged(number) => forged_line(alloc, *number),
+        Status::NoMemory => format!(in alloc; "x917: no memory\n"),
+    }
+}
+
 /// The line of a status for standard error, with its line feed; empty at `Done`.
 pub fn status_line(alloc: Global, status: &Status) -> Result<Text, NoMemory>
     ensures { IfOk result (λ line. line ≡ line_of status.now) }
 {
-    let mut line = Text::new(alloc);
-    match status {
-        Status::Done => {}
-        Status::Refused(refusal) => line.push(refusal_line(alloc, refusal)?.as_bytes())?,
-        Status::Usage(kind) => line.push(usage_line(alloc, kind)?.as_bytes())?,
-        Status::ReadFault => line.push(b"x917: read fault\n")?,
-        Status::WriteFault => line.push(b"x917: write fault\n")?,
-        Status::DiskFault => line.push(b"x917: disk fault\n")?,
-        Status::Damaged(place) => line.push(damaged_line(alloc, *place)?.as_bytes())?,
-        Status::BadScenario(number) => line.push(bad_line(alloc, *number)?.as_bytes())?,
-        Status::Forged(number) => line.push(forged_line(alloc, *number)?.as_bytes())?,
-        Status::NoMemory => line.push(b"x917: no memory\n")?,
-    }
-    Ok(line)
+    let line = line_of(alloc, status)?;
+    let mut text = Text::new(alloc);
+    text.push(line.as_bytes())?;
+    Ok(text)
 }
 
 /// The exit code of a status.

@@ -1,7 +1,5 @@
-use Rattle.std.proofs.Common.{◌≡◌, ◌∙◌, true, false, sym, ap}
-use Rattle.csm_grammar.specs.Arrivals.{authenticated_text}
-use Rattle.call_ends.specs.Check.{is_right}
-use Rattle.call_ends.proofs.Decisions.{unheard_checked, unheard_exact, wrong, exact_wrong, done, part, exact_done}
+use Rattle.std.proofs.Common.{◌∙◌}
+use Rattle.call_ends.proofs.Decisions.{unheard_checked, unheard_exact, unanswered, exact_unanswered, done, part, exact_done}
 use Rattle.call_ends.proofs.checking.check.Goals as goal
 
 pub returns-in-Err-clause-checked : goal.returns-in-Err-clause-checked
@@ -11,34 +9,24 @@ pub returns-in-Err-clause-exact : goal.returns-in-Err-clause-exact
 returns-in-Err-clause-exact g c = λ read_quiet put_quiet.
     unheard_exact c.law_one_hearing.ensures _ c.in-Err.status (g.S.Source.faults c.args.source.now) (g.S.Source.faults c.listen.new.source) c.in-Err.ensures.unheard c.in-Err.ensures.read_fault read_quiet
 
-pub returns-then-not-is_right-clause-checked : goal.returns-then-not-is_right-clause-checked
-returns-then-not-is_right-clause-checked g c =
-    let a = c.in-Ok.arrival in
-    let e : false ≡ is_right (authenticated_text a) a.parsed.shut = sym c.if-not-is_right.true ∙ (c.is_right.ensures ∙ ap (λ t. is_right t a.parsed.shut) c.auth.ensures) in
-    wrong (g.S.Source.left c.args.source.now) (g.S.Source.left c.listen.new.source) a c.in-Ok.ensures.heard e (g.K.Sink.written c.args.sink.now)
+pub returns-in-Err-answer-clause-checked : goal.returns-in-Err-answer-clause-checked
+returns-in-Err-answer-clause-checked g c =
+    unanswered (g.S.Source.left c.args.source.now) (g.S.Source.left c.listen.new.source) c.in-Ok.arrival c.in-Ok.ensures.heard (g.K.Sink.written c.args.sink.now) c.in-Err-answer.status c.in-Err-answer.ensures.wrong
 
-pub returns-then-not-is_right-clause-exact : goal.returns-then-not-is_right-clause-exact
-returns-then-not-is_right-clause-exact g c = λ read_quiet put_quiet.
-    let a = c.in-Ok.arrival in
-    let e : false ≡ is_right (authenticated_text a) a.parsed.shut = sym c.if-not-is_right.true ∙ (c.is_right.ensures ∙ ap (λ t. is_right t a.parsed.shut) c.auth.ensures) in
-    exact_wrong (g.S.Source.left c.args.source.now) (g.S.Source.left c.listen.new.source) a c.in-Ok.ensures.heard c.law_one_hearing.ensures e
+pub returns-in-Err-answer-clause-exact : goal.returns-in-Err-answer-clause-exact
+returns-in-Err-answer-clause-exact g c = λ read_quiet put_quiet.
+    exact_unanswered (g.S.Source.left c.args.source.now) (g.S.Source.left c.listen.new.source) c.in-Ok.arrival c.in-Ok.ensures.heard c.law_one_hearing.ensures c.in-Err-answer.status c.in-Err-answer.ensures.wrong
 
 pub returns-in-Ok-put_all-clause-checked : goal.returns-in-Ok-put_all-clause-checked
 returns-in-Ok-put_all-clause-checked g c =
-    let a = c.in-Ok.arrival in
-    let e : true ≡ is_right (authenticated_text a) a.parsed.shut = sym c.if-not-is_right.false ∙ (c.is_right.ensures ∙ ap (λ t. is_right t a.parsed.shut) c.auth.ensures) in
-    done (g.S.Source.left c.args.source.now) (g.S.Source.left c.listen.new.source) a c.in-Ok.ensures.heard e (g.K.Sink.written c.args.sink.now) (g.K.Sink.written c.put_all.new.sink)
-    c.bytes.result.now (c.bytes.ensures ∙ c.in-Ok-reply.ensures) c.in-Ok-put_all.ensures.whole
+    done (g.S.Source.left c.args.source.now) (g.S.Source.left c.listen.new.source) c.in-Ok.arrival c.in-Ok.ensures.heard c.in-Ok-answer.ensures.right.0 (g.K.Sink.written c.args.sink.now) (g.K.Sink.written c.put_all.new.sink)
+    c.bytes.result.now (c.bytes.ensures ∙ c.in-Ok-answer.ensures.right.1) c.in-Ok-put_all.ensures.whole
 
 pub returns-in-Ok-put_all-clause-exact : goal.returns-in-Ok-put_all-clause-exact
 returns-in-Ok-put_all-clause-exact g c = λ read_quiet put_quiet.
-    let a = c.in-Ok.arrival in
-    let e : true ≡ is_right (authenticated_text a) a.parsed.shut = sym c.if-not-is_right.false ∙ (c.is_right.ensures ∙ ap (λ t. is_right t a.parsed.shut) c.auth.ensures) in
-    exact_done (g.S.Source.left c.args.source.now) (g.S.Source.left c.listen.new.source) a c.in-Ok.ensures.heard c.law_one_hearing.ensures e
+    exact_done (g.S.Source.left c.args.source.now) (g.S.Source.left c.listen.new.source) c.in-Ok.arrival c.in-Ok.ensures.heard c.law_one_hearing.ensures c.in-Ok-answer.ensures.right.0
 
 pub returns-clause-checked : goal.returns-clause-checked
 returns-clause-checked g c =
-    let a = c.in-Ok.arrival in
-    let e : true ≡ is_right (authenticated_text a) a.parsed.shut = sym c.if-not-is_right.false ∙ (c.is_right.ensures ∙ ap (λ t. is_right t a.parsed.shut) c.auth.ensures) in
-    part (g.S.Source.left c.args.source.now) (g.S.Source.left c.listen.new.source) a c.in-Ok.ensures.heard e (g.K.Sink.written c.args.sink.now) (g.K.Sink.written c.put_all.new.sink)
-    c.bytes.result.now (c.bytes.ensures ∙ c.in-Ok-reply.ensures) c.in-Err-put_all.ensures.part
+    part (g.S.Source.left c.args.source.now) (g.S.Source.left c.listen.new.source) c.in-Ok.arrival c.in-Ok.ensures.heard c.in-Ok-answer.ensures.right.0 (g.K.Sink.written c.args.sink.now) (g.K.Sink.written c.put_all.new.sink)
+    c.bytes.result.now (c.bytes.ensures ∙ c.in-Ok-answer.ensures.right.1) c.in-Err-put_all.ensures.part
