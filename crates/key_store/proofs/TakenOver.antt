@@ -3,13 +3,14 @@ use Rattle.std.proofs.Common.{◌≡◌, ◌⊎◌, inl, ℕ, ◌+◌, ◌≤◌
 use Rattle.x_disk.specs.Disk.{View, Tells, LeavesOnly}
 use Rattle.key_journal.specs.Layout.{area_size, first_start, second_start}
 use Rattle.key_journal.specs.Causes.{cause_of}
-use Rattle.key_journal.specs.Journal.{is_blank}
+use Rattle.key_journal.specs.Journal.{frame_of, is_blank}
 use Rattle.key_journal.specs.States.{Site, Failed, WritesOnlyToBlank, other_start}
 use Rattle.key_journal.specs.States as journal
 use Rattle.key_journal.specs.Writing.{IsSwitch, IsFirstFrame}
 use Rattle.party_state.specs.State.{Party}
 use Rattle.change_code.specs.declared.format.Format.TheVariants.{Two}
-use Rattle.change_code.specs.Whole.{whole_of}
+use Rattle.change_code.specs.Cost.{cost}
+use Rattle.change_code.specs.Whole.{whole_edits, whole_of}
 use Rattle.key_store.specs.Store.{Stored, IsStore, IsBlankOrFirst}
 use Rattle.key_store.specs.Replacing.{IsFramedState, IsReplacing, IsMadeAs}
 use Rattle.key_store.proofs.Keeping.{frame_long, never_err, rose_later}
@@ -55,6 +56,12 @@ module _ {D : Type 0} (told : D → View) (old : Stored D) (store : IsStore (tol
         let size : length frame ≡ length (whole_of Two other) + 5 = ap length framed.is ∙ frame_long (whole_of Two other) in
         switch.covered end n calls covers (omega (arith, size, in_end)) (omega (arith, size, in_n)) wants;
   }
+
+-- the place of the gate behind one frame
+pub place_of : (state party : Party) → state ≡ party → (frame : List ℕ) → frame ≡ frame_of (whole_of Two state) → (gate end : ℕ) → (gate ≡ first_start + length frame) × (end ≡ second_start)
+    → (gate ≡ first_start + cost Two (whole_edits party)) × (end ≡ second_start)
+place_of state party same frame is gate end place =
+    (place.0 ∙ ap (λ (n : ℕ). first_start + n) (ap length is ∙ (frame_long (whole_of Two state) ∙ ap (λ (p : Party). cost Two (whole_edits p)) same)), place.1)
 
 -- a store is made on a blank disk
 module _ {D : Type 0} (told : D → View) (old blank : D) (made_party : Party) (frame : List ℕ) (framed : IsFramedState frame made_party)

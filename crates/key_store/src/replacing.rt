@@ -9,7 +9,7 @@ use crate::compact::whole_frame;
 use crate::framed_state::FramedState;
 use crate::store::Store;
 use change_code::{Format, WholeFault, law_whole};
-use key_journal::{Broken, Unmade, prepare};
+use key_journal::{Broken, Unmade};
 use party_state::State;
 use std::alloc::Global;
 use x_disk::Disk;
@@ -55,17 +55,6 @@ impl<D: Disk> Store<D> {
     pub fn create_as(disk: D, framed: FramedState) -> Result<Store<D>, Unmade<D>>
         ensures { IsMadeAs D.told framed disk result }
     {
-        let FramedState { text, state } = framed;
-        match prepare(disk) {
-            Err(unmade) => Err(unmade),
-            Ok(blank) => match blank.create(text.bytes()) {
-                Ok(ready) => Ok(Store {
-                    ready,
-                    format: Format::Two,
-                    state,
-                }),
-                Err(broken) => Err(broken.give_up()),
-            },
-        }
+        Store::made(disk, framed)
     }
 }
