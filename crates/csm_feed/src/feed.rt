@@ -91,7 +91,6 @@ impl Feed {
     /// separators behind them.
     ///
     /// A refusal stays. Without memory nothing changes.
-    #[tactic(auto, using(crate::proofs::Answering::comes_as, crate::proofs::Answering::hands_out, crate::proofs::Answering::exhausts, crate::proofs::Answering::answer_other))]
     pub fn next(&mut self, alloc: Global) -> Next
         ensures answers { Answers self.old result self.new }
         ensures comes { ComesAs self.old result }

@@ -1,5 +1,5 @@
 // What is heard of the bytes of an input.
-ghost use Rattle.std.specs.Prelude.{◌≡◌, ◌≢◌, ◌≤◌, length, take, Ok, Err, IfOk};
+ghost use Rattle.std.specs.Prelude.{◌≡◌, ◌≢◌, ◌≤◌, ℕ, length, take, Some, None, Ok, Err, IfOk, IfErr};
 ghost use Rattle.csm_feed.specs.Heard.{after_leading, first_other, trailing, Heard, readings, input_limit};
 
 use crate::separators::leading_separators;
@@ -34,6 +34,17 @@ fn trailing(bytes: &[u8], end: usize) -> Option<u64>
     }
 }
 
+/// What is heard where a message was read: it, unless it is followed by what isn't taken at a place.
+fn heard(arrival: Arrival, follows: Option<u64>) -> Result<Arrival, Unheard>
+    ensures message { IfOk result (λ a. (a ≡ arrival) × (follows ≡ None)) }
+    ensures trailing { IfErr result (λ u. (place : ℕ) × (u ≡ Unheard.Trailing place) × (follows ≡ Some place)) }
+{
+    match follows {
+        Some(place) => Err(Unheard::Trailing(place)),
+        None => Ok(arrival),
+    }
+}
+
 /// The one message in the bytes, with any separators before and behind it, or why they are refused.
 pub fn hear(alloc: Global, bytes: &[u8]) -> Result<Result<Arrival, Unheard>, NoMemory>
     requires { length bytes.now ≤ input_limit }
@@ -46,10 +57,10 @@ pub fn hear(alloc: Global, bytes: &[u8]) -> Result<Result<Arrival, Unheard>, NoM
     let before = leading_separators(bytes);
     let (_, text) = bytes.split_at(before);
     match read_arrival(alloc, text) {
-        Ok(arrival) => match trailing(bytes, before + arrival.parsed.len) {
-            Some(place) => Ok(Err(Unheard::Trailing(place))),
-            None => Ok(Ok(arrival)),
-        },
+        Ok(arrival) => {
+            let follows = trailing(bytes, before + arrival.parsed.len);
+            Ok(heard(arrival, follows))
+        }
         Err(ReadRefusal::NoMemory) => Err(NoMemory),
         Err(refusal) => Ok(Err(Unheard::Text(refusal.moved(before as u64)))),
     }
