@@ -83,13 +83,14 @@ is_first_bad text rest behind count entries row w rows size taken = (
   ap (λ n. n + 1) w.counted,
 )
 
-pub all_read : (text rest : List ℕ) (count : ℕ) (entries : List Entry) → IsUnderWay text rest count entries → rest ≡ [] → IsBatch text entries
-all_read text rest count entries w e =
-    let whole : rows_of text ≡ w.before = w.rows ∙ ap (λ r. w.before ++ rows_of r) e ∙ append-nil w.before in
+pub all_read : (text rest : List ℕ) (count : ℕ) (entries : List Entry) → IsUnderWay text rest count entries → length rest ≡ 0 → IsBatch text entries
+all_read text [] count entries w none =
+    let whole : rows_of text ≡ w.before = w.rows ∙ append-nil w.before in
     record {
       good = subst (EachBehind is_good) (sym whole) w.good;
       values = w.values ∙ ap entries_in (sym whole);
     }
+all_read text (byte ∷ rest) count entries w none = absurd (omega (arith, none))
 
 kept_within : {X Y : Type 0} (h : X → Option Y) (xs : List X) → length (filter_map h xs) ≤ length xs
 kept_within h [] = omega arith

@@ -83,7 +83,6 @@ fn take(
 }
 
 /// The entries of the bytes.
-#[tactic(auto, using(crate::proofs::Walking::begun, crate::proofs::Walking::one_more, crate::proofs::Walking::is_first_bad, crate::proofs::Walking::all_read, crate::proofs::Walking::all_sized))]
 fn read_entries(alloc: Global, bytes: &[u8]) -> Result<Vec<Entry>, BatchFault>
     ensures good { IfOk result (λ entries. IsBatch bytes.now entries.items) }
     ensures sized { IfOk result (λ entries. IsSized bytes.now entries.items) }
