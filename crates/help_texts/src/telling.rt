@@ -1,5 +1,5 @@
 // The text of a topic.
-ghost use Rattle.std.specs.Prelude.{◌≡◌, ◌++◌, ℕ, List, IfOk};
+ghost use Rattle.std.specs.Prelude.{◌≡◌, ◌++◌, ℕ, List, IfOk, OnOk};
 ghost use Rattle.help_texts.specs.Lines.{head_of};
 
 use crate::asking::Topic;
@@ -16,20 +16,18 @@ sections of docs/OPERATOR.md.
 x917 1.0.0, proved with rattle-kit-13f
 ";
 
-/// The line with which the text of a topic begins, or the lines.
-fn head(alloc: Global, topic: Topic) -> Result<Text, NoMemory>
-    ensures { IfOk result (λ text. text ≡ head_of topic) }
+/// Appends the line with which the text of a topic begins, or the lines.
+fn push_head(out: &mut Text, alloc: Global, topic: Topic) -> Result<(), NoMemory>
+    ensures { OnOk result (out.new ≡ out.old ++ head_of topic) }
 {
-    let mut text = Text::new(alloc);
     match topic {
-        Topic::All => push_all(&mut text)?,
-        Topic::Command(kind) => push_usage(&mut text, kind)?,
+        Topic::All => push_all(out),
+        Topic::Command(kind) => push_usage(out, kind),
         Topic::Refusal(number) => {
             let line = format!(in alloc; "refused {number}\n")?;
-            text.push(line.as_bytes())?;
+            out.push(line.as_bytes())
         }
     }
-    Ok(text)
 }
 
 fn rest(topic: Topic) -> &'static [u8] {
@@ -44,7 +42,8 @@ fn rest(topic: Topic) -> &'static [u8] {
 pub fn help_text(alloc: Global, topic: Topic) -> Result<Text, NoMemory>
     ensures { IfOk result (λ text. (rest : List ℕ) × (text ≡ head_of topic ++ rest)) }
 {
-    let mut text = head(alloc, topic)?;
+    let mut text = Text::new(alloc);
+    push_head(&mut text, alloc, topic)?;
     text.push(rest(topic))?;
     Ok(text)
 }
