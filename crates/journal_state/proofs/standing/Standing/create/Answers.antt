@@ -5,7 +5,7 @@ use Rattle.key_journal.specs.Opening.{IsFree}
 use Rattle.journal_state.specs.States.{IsBlankOrFor}
 use Rattle.journal_state.proofs.Loaded.{rose_later}
 use Rattle.journal_state.proofs.Carried.{made_standing}
-use Rattle.journal_state.proofs.Begun.{laid, free_cause, fault_of}
+use Rattle.journal_state.proofs.Begun.{looked, laid, free_cause, fault_of}
 use Rattle.journal_state.proofs.standing.Standing.create.Goals as goal
 
 pub returns-in-Ok-create : goal.returns-in-Ok-create
@@ -14,18 +14,35 @@ returns-in-Ok-create g c =
     let is = c.requires in
     let create = c.in-Ok-create.ensures in
     record {
-      made = search rules;
+      made = refl;
       stands = made_standing g.J.Judge.step g.J.Judge.start (told c.in-Ok.blank.disk) (told c.in-Ok-create.ready.disk) c.in-Ok-create.ready.gate c.in-Ok-create.ready.end c.args.state create.tells
           (λ tells. (is.body ∷ [], create.created is.body is.is_body is.is tells, (c.args.state, is.leads, refl))) create.durable create.room;
-      blank = search rules;
-      exact = search rules;
-      names = search rules;
+      blank = c.in-Ok.ensures.blank;
+      exact = tt;
+      names = tt;
       nothing_written = search rules;
       any_moment = laid g.J.Judge.step g.J.Judge.start c.args.state (told c.args.disk) (told c.in-Ok.blank.disk) (told c.in-Ok-create.ready.disk) is.body (c.args.state, is.leads, refl)
           c.in-Ok.ensures.any_moment c.in-Ok.ensures.tells (create.any_moment is.body is.is_body is.is);
-      fault = search rules;
-      faults = search rules;
-      tells = search rules;
+      fault = tt;
+      faults = omega (arith, c.in-Ok.ensures.faults, create.faults);
+      tells = create.tells ∙ c.in-Ok.ensures.tells;
+    }
+
+pub returns-in-Err : goal.returns-in-Err
+returns-in-Err g c =
+    let told = g.D.Disk.told in
+    let unprepared = c.in-Err.ensures in
+    record {
+      made = tt;
+      stands = tt;
+      blank = tt;
+      exact = unprepared.exact;
+      names = unprepared.names;
+      nothing_written = unprepared.nothing_written;
+      any_moment = looked g.J.Judge.step g.J.Judge.start c.args.state (told c.args.disk) (told c.in-Err.unmade.disk) unprepared.any_moment;
+      fault = unprepared.fault;
+      faults = unprepared.faults;
+      tells = unprepared.tells;
     }
 
 pub returns-in-Err-create : goal.returns-in-Err-create
@@ -35,9 +52,9 @@ returns-in-Err-create g c =
     let broken = c.in-Err-create.broken in
     let failed = c.in-Err-create.ensures in
     record {
-      made = search rules;
-      stands = search rules;
-      blank = search rules;
+      made = tt;
+      stands = tt;
+      blank = tt;
       exact = λ b now. inl (subst IsFree (sym c.give_up.ensures.cause) (free_cause broken.cause));
       names = inl (subst IsFree (sym c.give_up.ensures.cause) (free_cause broken.cause));
       nothing_written = search rules;
