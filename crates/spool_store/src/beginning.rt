@@ -7,10 +7,10 @@ ghost use Rattle.spool_store.specs.Beginning.{IsBegun, IsSorted, IsSpoolMade};
 
 use crate::cause::{SpoolCause, Unbegun};
 use crate::contents::BATCH;
-use crate::progress::Contents;
+use crate::progress::{Contents, Progress};
 use crate::spool::Spool;
-use csm_batch::Batch;
-use journal_state::{Judge, Standing, law_one_finding};
+use csm_batch::{Batch, BatchFault, law_one_reading};
+use journal_state::{Standing, law_one_finding};
 use key_journal::{Cause, Unmade, close_frame};
 use std::alloc::Global;
 use x_base::{NoMemory, Text};
@@ -26,18 +26,31 @@ fn batch_behind(alloc: Global, batch: &[u8]) -> Result<Text, NoMemory>
     Ok(text)
 }
 
+/// What the body with a batch makes, in memory of its own.
+fn first_contents(alloc: Global, batch: &Batch) -> Result<Contents, NoMemory>
+    ensures { IfOk result (λ contents. contents ≡ Some (no_plans batch.now.0 batch.now.1)) }
+{
+    law_one_reading();
+    match Batch::read(alloc, batch.bytes()) {
+        Ok(batch) => Ok(Contents {
+            progress: Some(Progress {
+                batch,
+                plans: Vec::new(alloc),
+            }),
+        }),
+        Err(BatchFault::BadLine(_)) => unreachable!(),
+        Err(BatchFault::NoMemory) => Err(NoMemory),
+    }
+}
+
 /// The frame of the body with a batch, and what it makes.
 fn first_frame(alloc: Global, batch: &Batch) -> Result<(Text, Contents), NoMemory>
     ensures contents { IfOk result (λ f. f.1 ≡ Some (no_plans batch.now.0 batch.now.1)) }
     ensures frame { IfOk result (λ f. IsFrameOf Goes f.0 None f.1) }
 {
-    let bytes = batch.bytes();
-    let mut frame = batch_behind(alloc, bytes)?;
-    let mut contents = Contents::start(alloc);
-    if !contents.follow(alloc, &frame.bytes()[4..])? {
-        unreachable!();
-    }
+    let mut frame = batch_behind(alloc, batch.bytes())?;
     close_frame(&mut frame)?;
+    let contents = first_contents(alloc, batch)?;
     Ok((frame, contents))
 }
 
