@@ -1,5 +1,5 @@
 // The lines of a scenario so far.
-ghost use Rattle.std.specs.Prelude.{◌≡◌, ◌≤◌, ◌++◌, ◌||◌, ◌∷◌, Bool, true, false, [], length, IfOk, OnOk};
+ghost use Rattle.std.specs.Prelude.{◌≡◌, ◌++◌, ◌||◌, ◌∷◌, Bool, true, false, [], IfOk, OnOk};
 ghost use Rattle.std.specs.Option.{option_map_or};
 ghost use Rattle.scenario.specs.Kinds.{line_of};
 ghost use Rattle.scenario.specs.Reading.{is_skipped, lines_in};
@@ -8,7 +8,6 @@ ghost use Rattle.scenario.specs.Rules.{may_follow};
 
 use crate::kinds::read_line;
 use crate::line::Line;
-use crate::scenario_lines::Scenario;
 use crate::tables::Tables;
 use std::alloc::Global;
 use x_base::NoMemory;
@@ -105,12 +104,11 @@ impl Draft {
         }
     }
 
-    /// The scenario of these lines.
-    pub(crate) fn finish(self) -> Scenario
-        requires draft { IsDraft self }
-        requires few { length self.lines.items ≤ 65536 }
-        ensures { result ≡ self.lines.items }
+    /// The lines, without their tables.
+    pub(crate) fn into_lines(self) -> Vec<Line>
+        ensures { result ≡ self.lines }
     {
-        Scenario::new(self.lines)
+        drop(self.tables);
+        self.lines
     }
 }

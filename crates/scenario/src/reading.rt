@@ -1,7 +1,7 @@
-ghost use Rattle.std.specs.Prelude.{◌≡◌, ◌&&◌, ◌||◌, ◌++◌, ◌∷◌, [], Bool, true, false, length, nat_lt, nat_le, IfOk};
+ghost use Rattle.std.specs.Prelude.{◌≡◌, ◌≤◌, ◌&&◌, ◌||◌, ◌++◌, ◌∷◌, [], Bool, true, false, length, nat_lt, nat_le, Err, IfErr, IfOk, OnOk};
 ghost use Rattle.std.specs.Option.{option_map_or};
 ghost use Rattle.scenario.specs.Kinds.{line_of};
-ghost use Rattle.scenario.specs.Reading.{IsReading, is_skipped, lines_in};
+ghost use Rattle.scenario.specs.Reading.{IsReading, IsScenario, is_skipped, lines_in};
 ghost use Rattle.scenario.specs.Rows.{Row};
 ghost use Rattle.scenario.specs.Rules.{may_follow};
 ghost use Rattle.scenario.specs.Tables.{IsDraft};
@@ -49,18 +49,22 @@ fn take(
     draft.take(alloc, line)
 }
 
-#[tactic(auto, using(crate::proofs::Walking::begun, crate::proofs::Walking::one_more, crate::proofs::Walking::is_first_bad, crate::proofs::Walking::all_read))]
-/// Reads the scenario that is all of the bytes, or tells the first line outside the grammar.
-pub fn read(alloc: Global, bytes: &[u8]) -> Result<Scenario, ScenarioFault>
-    ensures { IsReading bytes.now result }
+/// Takes all of the bytes line by line, or tells the first line outside the grammar.
+#[tactic(auto, using(crate::proofs::Walking::begun, crate::proofs::Walking::all_read))]
+fn take_all(draft: &mut Draft, alloc: Global, bytes: &[u8]) -> Result<(), ScenarioFault>
+    requires empty { draft.old.lines.items ≡ [] }
+    requires draft { IsDraft draft.old }
+    ensures lines { OnOk result (IsScenario bytes.now draft.new.lines.items) }
+    ensures few { OnOk result (length draft.new.lines.items ≤ 65536) }
+    ensures draft { OnOk result (IsDraft draft.new) }
+    ensures fault { IfErr result (λ fault. IsReading bytes.now (Err fault)) }
 {
-    let mut draft = Draft::new(alloc);
     let mut lines: u32 = 0;
     let mut rest = bytes;
     while !rest.is_empty() {
         let (line, _, behind) = first_row(rest);
         let taken = bytes.len() - behind.len();
-        match take(&mut draft, alloc, line, lines, taken) {
+        match take(draft, alloc, line, lines, taken) {
             Ok(true) => {}
             Ok(false) => return Err(ScenarioFault::BadLine(lines + 1)),
             Err(NoMemory) => return Err(ScenarioFault::NoMemory),
@@ -68,5 +72,16 @@ pub fn read(alloc: Global, bytes: &[u8]) -> Result<Scenario, ScenarioFault>
         lines += 1;
         rest = behind;
     }
-    Ok(draft.finish())
+    Ok(())
+}
+
+/// Reads the scenario that is all of the bytes, or tells the first line outside the grammar.
+pub fn read(alloc: Global, bytes: &[u8]) -> Result<Scenario, ScenarioFault>
+    ensures { IsReading bytes.now result }
+{
+    let mut draft = Draft::new(alloc);
+    let taken = take_all(&mut draft, alloc, bytes);
+    let lines = draft.into_lines();
+    taken?;
+    Ok(Scenario::new(lines))
 }
