@@ -1,4 +1,4 @@
-ghost use Rattle.std.specs.Prelude.{◌≡◌, ◌∷◌, [], List, IsOk, IfOk, OnOk, OnErr};
+ghost use Rattle.std.specs.Prelude.{◌≡◌, ◌∷◌, [], List, IsOk, Ok, IfOk, OnOk, OnErr};
 ghost use Rattle.party_tables.specs.declared.link.LinkKey.{LinkKey as TheKey};
 ghost use Rattle.party_tables.specs.Keys.{same_link};
 ghost use Rattle.party_state.specs.Ranges.{IsFitting, IsNoBegin, IsParty};
@@ -21,6 +21,19 @@ use x_gen::Gen;
 fn law_link_test()
     ensures { (a b : TheKey) → ⟦<LinkKey as PartialEq>⟧.eq a b ≡ same_link a b }
 {}
+
+/// Both values, if there are both.
+fn both<A: Drop, B: Drop>(
+    first: Result<A, NoMemory>,
+    second: Result<B, NoMemory>,
+) -> Result<(A, B), NoMemory>
+    ensures { IfOk result (λ values. (first ≡ Ok values.0) × (second ≡ Ok values.1)) }
+{
+    match (first, second) {
+        (Ok(first), Ok(second)) => Ok((first, second)),
+        _ => Err(NoMemory),
+    }
+}
 
 /// A party's parts: seen as the party, and the room of its tables.
 #[derive(Drop)]
@@ -66,15 +79,20 @@ impl Parts {
     pub(crate) fn copy(&self, alloc: Global) -> Result<Parts, NoMemory>
         ensures { IfOk result (λ copy. copy.0 ≡ self.now.0) }
     {
-        Ok(Parts {
-            own: self.own,
-            role: self.role,
-            generator: self.generator,
-            links: self.links.copy(alloc)?,
-            keys: self.keys.copy(alloc)?,
-            exchanges: self.exchanges.copy(alloc)?,
-            answers: self.answers.copy(alloc)?,
-        })
+        let links_and_keys = both(self.links.copy(alloc), self.keys.copy(alloc));
+        let exchanges_and_answers = both(self.exchanges.copy(alloc), self.answers.copy(alloc));
+        match both(links_and_keys, exchanges_and_answers) {
+            Ok(((links, keys), (exchanges, answers))) => Ok(Parts {
+                own: self.own,
+                role: self.role,
+                generator: self.generator,
+                links,
+                keys,
+                exchanges,
+                answers,
+            }),
+            Err(NoMemory) => Err(NoMemory),
+        }
     }
 
     /// Every part is in its range, and each table has each key once. It does nothing.
