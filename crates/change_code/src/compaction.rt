@@ -2,10 +2,10 @@
 ghost use Rattle.std.specs.Prelude.{◌≡◌, ◌<◌, ◌+◌, ◌++◌, length, map, OnOk, IfOk, IfErr};
 ghost use Rattle.party_state.specs.declared.edit.Edit.TheVariants.{PutLink, PutKey, PutExchange, PutAnswer};
 ghost use Rattle.change_code.specs.Code.{edits_code, IsCode};
-ghost use Rattle.change_code.specs.Whole.{row_edits, whole_edits, whole_of, IsTooLarge};
+ghost use Rattle.change_code.specs.Whole.{whole_edits, whole_of, IsTooLarge};
 
 use crate::encoding::{
-    MOST_EDITS, put_answer_edit, put_begin, put_closing, put_exchange_edit, put_head, put_key_edit,
+    MOST_EDITS, headed, put_answer_edit, put_begin, put_closing, put_exchange_edit, put_key_edit,
     put_link_edit,
 };
 use crate::fault::WholeFault;
@@ -64,9 +64,11 @@ fn put_answers(out: &mut Text, state: &State) -> Result<(), NoMemory>
     Ok(())
 }
 
-fn put_rows(out: &mut Text, state: &State) -> Result<(), NoMemory>
-    ensures { OnOk result (out.new ≡ out.old ++ edits_code (row_edits state.now)) }
+/// The edits that make the party from nothing.
+fn put_whole(out: &mut Text, state: &State) -> Result<(), NoMemory>
+    ensures { OnOk result (out.new ≡ out.old ++ edits_code (whole_edits state.now)) }
 {
+    put_begin(out, &state.own(), state.role(), state.generator())?;
     put_links(out, state)?;
     put_keys(out, state)?;
     put_exchanges(out, state)?;
@@ -93,11 +95,9 @@ fn whole_code(
     requires { edits ≡ length (whole_edits state.now) }
     ensures { IfOk result (λ text. text ≡ front.now ++ whole_of format state.now) }
 {
-    let mut out = Text::with_capacity(alloc, room_behind_whole(front.len(), state))?;
-    out.push(front)?;
-    put_head(&mut out, format, edits)?;
-    put_begin(&mut out, &state.own(), state.role(), state.generator())?;
-    put_rows(&mut out, state)?;
+    let room = room_behind_whole(front.len(), state);
+    let mut out = headed(alloc, room, front, format, edits)?;
+    put_whole(&mut out, state)?;
     put_closing(&mut out, front.len(), format)?;
     Ok(out)
 }

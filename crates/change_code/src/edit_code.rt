@@ -1,5 +1,5 @@
 // The code of an edit or of another row, put together before it goes into a text.
-ghost use Rattle.std.specs.Prelude.{◌≡◌, ◌≤◌, ◌+◌, ◌++◌, [], length};
+ghost use Rattle.std.specs.Prelude.{◌≡◌, ◌≤◌, ◌<◌, ◌+◌, ◌++◌, ◌∷◌, [], length};
 
 use std::marker::Model;
 
@@ -42,6 +42,15 @@ impl EditCode {
         let end = self.len + bytes.len();
         self.bytes[self.len..end].copy_from_slice(bytes);
         self.len = end;
+    }
+
+    /// Appends a byte.
+    pub(crate) fn put_byte(&mut self, byte: u8)
+        requires { length self.old < 128 }
+        ensures { self.new ≡ self.old ++ byte ∷ [] }
+    {
+        self.bytes[self.len] = byte;
+        self.len += 1;
     }
 
     /// The bytes.

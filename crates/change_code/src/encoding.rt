@@ -25,17 +25,17 @@ fn put_via(out: &mut EditCode, via: &Via)
 {
     match via {
         Via::Direct { label, new } => {
-            out.put(&[1]);
+            out.put_byte(1);
             put_label(out, label);
             put_maybe(out, *new);
         }
         Via::Distribution { centre, cta } => {
-            out.put(&[2]);
+            out.put_byte(2);
             put_ident(out, centre);
             put_word(out, cta.value());
         }
         Via::Translation { centre } => {
-            out.put(&[3]);
+            out.put_byte(3);
             put_ident(out, centre);
         }
     }
@@ -48,7 +48,7 @@ fn put_kind(out: &mut EditCode, kind: &Kind)
 {
     match kind {
         Kind::Asked { ultimate } => {
-            out.put(&[1]);
+            out.put_byte(1);
             put_ident(out, ultimate);
         }
         Kind::Translating {
@@ -56,22 +56,22 @@ fn put_kind(out: &mut EditCode, kind: &Kind)
             value,
             cta,
         } => {
-            out.put(&[2]);
+            out.put_byte(2);
             put_ident(out, ultimate);
             put_word(out, *value);
             put_word(out, cta.value());
         }
         Kind::KeySent { name, via } => {
-            out.put(&[3]);
+            out.put_byte(3);
             put_name(out, name);
             put_via(out, via);
         }
         Kind::Ending { name } => {
-            out.put(&[4]);
+            out.put_byte(4);
             put_name(out, name);
         }
         Kind::PairSent { name } => {
-            out.put(&[5]);
+            out.put_byte(5);
             put_name(out, name);
         }
     }
@@ -87,7 +87,7 @@ pub(crate) fn put_begin(
     ensures { OnOk result (out.new ≡ out.old ++ edit_code (Begin own.now role generator)) }
 {
     let mut code = EditCode::new();
-    code.put(&[1]);
+    code.put_byte(1);
     put_ident(&mut code, own);
     put_role(&mut code, role);
     put_generator(&mut code, generator);
@@ -99,7 +99,7 @@ pub(crate) fn put_link_edit(out: &mut Text, link: &LinkRec) -> Result<(), NoMemo
     ensures { OnOk result (out.new ≡ out.old ++ edit_code (PutLink link.now)) }
 {
     let mut code = EditCode::new();
-    code.put(&[2]);
+    code.put_byte(2);
     put_ident(&mut code, &link.peer);
     put_label(&mut code, &link.label);
     put_side(&mut code, link.side);
@@ -113,7 +113,7 @@ fn put_drop_link(out: &mut Text, peer: &Ident, label: &Label, side: Side) -> Res
     ensures { OnOk result (out.new ≡ out.old ++ edit_code (DropLink peer.now label.now side)) }
 {
     let mut code = EditCode::new();
-    code.put(&[3]);
+    code.put_byte(3);
     put_ident(&mut code, peer);
     put_label(&mut code, label);
     put_side(&mut code, side);
@@ -125,7 +125,7 @@ pub(crate) fn put_key_edit(out: &mut Text, key: &KeyRec) -> Result<(), NoMemory>
     ensures { OnOk result (out.new ≡ out.old ++ edit_code (PutKey key.now)) }
 {
     let mut code = EditCode::new();
-    code.put(&[4]);
+    code.put_byte(4);
     put_ident(&mut code, &key.peer);
     put_name(&mut code, &key.name);
     put_word(&mut code, key.value);
@@ -139,7 +139,7 @@ pub(crate) fn put_exchange_edit(out: &mut Text, exchange: &Exchange) -> Result<(
     ensures { OnOk result (out.new ≡ out.old ++ edit_code (PutExchange exchange.now)) }
 {
     let mut code = EditCode::new();
-    code.put(&[6]);
+    code.put_byte(6);
     put_ident(&mut code, &exchange.peer);
     put_kind(&mut code, &exchange.kind);
     put_half_word(&mut code, exchange.text.bytes().len() as u16);
@@ -151,7 +151,7 @@ fn put_drop_exchange(out: &mut Text, peer: &Ident) -> Result<(), NoMemory>
     ensures { OnOk result (out.new ≡ out.old ++ edit_code (DropExchange peer.now)) }
 {
     let mut code = EditCode::new();
-    code.put(&[7]);
+    code.put_byte(7);
     put_ident(&mut code, peer);
     out.push(code.bytes())
 }
@@ -161,7 +161,7 @@ pub(crate) fn put_answer_edit(out: &mut Text, answer: &Answer) -> Result<(), NoM
     ensures { OnOk result (out.new ≡ out.old ++ edit_code (PutAnswer answer.now)) }
 {
     let mut code = EditCode::new();
-    code.put(&[8]);
+    code.put_byte(8);
     put_ident(&mut code, &answer.requester);
     put_ident(&mut code, &answer.ultimate);
     put_word(&mut code, answer.cta.value());
@@ -173,7 +173,7 @@ fn put_set_gen(out: &mut Text, v: u64) -> Result<(), NoMemory>
     ensures { OnOk result (out.new ≡ out.old ++ edit_code (SetGen v)) }
 {
     let mut code = EditCode::new();
-    code.put(&[9]);
+    code.put_byte(9);
     put_word(&mut code, v);
     out.push(code.bytes())
 }
@@ -215,14 +215,23 @@ fn put_edits(out: &mut Text, change: &Change) -> Result<(), NoMemory>
     Ok(())
 }
 
-/// The number of a format, and how many edits come.
-pub(crate) fn put_head(out: &mut Text, format: Format, edits: u16) -> Result<(), NoMemory>
-    ensures { OnOk result (out.new ≡ out.old ++ number_of format ∷ two edits) }
+/// Bytes, and behind them the number of a format and how many edits come, in a text with so much room.
+pub(crate) fn headed(
+    alloc: Global,
+    room: usize,
+    front: &[u8],
+    format: Format,
+    edits: u16,
+) -> Result<Text, NoMemory>
+    ensures { IfOk result (λ text. text ≡ front.now ++ (number_of format ∷ two edits)) }
 {
     let mut code = EditCode::new();
-    code.put(&[format.number()]);
+    code.put_byte(format.number());
     put_half_word(&mut code, edits);
-    out.push(code.bytes())
+    let mut out = Text::with_capacity(alloc, room)?;
+    out.push(front)?;
+    out.push(code.bytes())?;
+    Ok(out)
 }
 
 /// Closes the text that stands behind so many bytes.
@@ -254,9 +263,8 @@ pub fn encode_behind(
     ensures is_code { IsCode format (code_of_change format change.now) change.now }
 {
     change.law_in_range();
-    let mut out = Text::with_capacity(alloc, room_behind(front.len(), change))?;
-    out.push(front)?;
-    put_head(&mut out, format, change.len() as u16)?;
+    let room = room_behind(front.len(), change);
+    let mut out = headed(alloc, room, front, format, change.len() as u16)?;
     put_edits(&mut out, change)?;
     put_closing(&mut out, front.len(), format)?;
     Ok(out)

@@ -1,10 +1,10 @@
 // Edits that are to be kept, with the text of their frame.
-ghost use Rattle.std.specs.Prelude.{◌≡◌, ◌≤◌, [], length, true, IfOk};
+ghost use Rattle.std.specs.Prelude.{◌≡◌, ◌≢◌, ◌≤◌, [], length, true, IfOk};
 ghost use Rattle.key_journal.specs.Layout.{largest_body};
 ghost use Rattle.party_state.specs.Ranges.{AreFitting};
 ghost use Rattle.change_code.specs.Code.{code_of_change, most_edits};
 ghost use Rattle.change_code.specs.Cost.{cost, fits, space_after};
-ghost use Rattle.change_code.specs.Framed.{AreFramed, space_for};
+ghost use Rattle.change_code.specs.Framed.{AreFramed, IsFramed, space_for};
 
 use crate::encoding::encode_behind;
 use crate::format::Format;
@@ -33,6 +33,19 @@ impl Model for Framed {
     ghost invariant = { λ f. AreFramed f.format f.change f.text };
 }
 
+/// The text of the frame of some edits.
+fn frame_of(alloc: Global, format: Format, change: &Change) -> Result<Text, NoMemory>
+    requires some { change.now ≢ [] }
+    requires few { length change.now ≤ most_edits }
+    requires fitting { AreFitting change.now }
+    requires short { length (code_of_change format change.now) ≤ largest_body }
+    ensures { IfOk result (λ text. IsFramed format change.now text) }
+{
+    let mut text = encode_behind(alloc, &[0, 0, 0, 0], format, change)?;
+    close_frame(&mut text)?;
+    Ok(text)
+}
+
 impl Framed {
     /// No edits. It takes no memory.
     pub fn none(alloc: Global, format: Format) -> Framed
@@ -52,19 +65,15 @@ impl Framed {
         requires short { length (code_of_change format change) ≤ largest_body }
         ensures { IfOk result (λ f. f ≡ record { format = format; edits = change }) }
     {
-        if change.is_empty() {
-            return Ok(Framed {
-                format,
-                change,
-                text: None,
-            });
-        }
-        let mut text = encode_behind(alloc, &[0, 0, 0, 0], format, &change)?;
-        close_frame(&mut text)?;
+        let text = if change.is_empty() {
+            None
+        } else {
+            Some(frame_of(alloc, format, &change)?)
+        };
         Ok(Framed {
             format,
             change,
-            text: Some(text),
+            text,
         })
     }
 

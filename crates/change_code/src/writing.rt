@@ -35,7 +35,7 @@ fn put_short(out: &mut EditCode, name: &[u8])
     ensures code { out.new ≡ out.old ++ short name.now }
     ensures most { length out.new ≤ length out.old + 17 }
 {
-    out.put(&[name.len() as u8]);
+    out.put_byte(name.len() as u8);
     out.put(name);
 }
 
@@ -92,9 +92,9 @@ pub(crate) fn put_role(out: &mut EditCode, role: Role)
     ensures most { length out.new ≤ length out.old + 1 }
 {
     match role {
-        Role::Bank => out.put(&[1]),
-        Role::Distribution => out.put(&[2]),
-        Role::Translation => out.put(&[3]),
+        Role::Bank => out.put_byte(1),
+        Role::Distribution => out.put_byte(2),
+        Role::Translation => out.put_byte(3),
     }
 }
 
@@ -105,8 +105,8 @@ pub fn put_side(out: &mut EditCode, side: Side)
     ensures most { length out.new ≤ length out.old + 1 }
 {
     match side {
-        Side::Sends => out.put(&[1]),
-        Side::Takes => out.put(&[2]),
+        Side::Sends => out.put_byte(1),
+        Side::Takes => out.put_byte(2),
     }
 }
 
@@ -116,11 +116,11 @@ pub(crate) fn put_status(out: &mut EditCode, status: KeyStatus)
     ensures most { length out.new ≤ length out.old + 1 }
 {
     match status {
-        KeyStatus::Pending => out.put(&[1]),
-        KeyStatus::Live => out.put(&[2]),
-        KeyStatus::Held => out.put(&[3]),
-        KeyStatus::Closing => out.put(&[4]),
-        KeyStatus::Ended => out.put(&[5]),
+        KeyStatus::Pending => out.put_byte(1),
+        KeyStatus::Live => out.put_byte(2),
+        KeyStatus::Held => out.put_byte(3),
+        KeyStatus::Closing => out.put_byte(4),
+        KeyStatus::Ended => out.put_byte(5),
     }
 }
 
@@ -129,7 +129,11 @@ pub(crate) fn put_flag(out: &mut EditCode, flag: bool)
     ensures code { out.new ≡ out.old ++ flag_code flag }
     ensures most { length out.new ≤ length out.old + 1 }
 {
-    if flag { out.put(&[1]) } else { out.put(&[0]) }
+    if flag {
+        out.put_byte(1)
+    } else {
+        out.put_byte(0)
+    }
 }
 
 /// A label, or that there is none.
@@ -139,9 +143,9 @@ pub(crate) fn put_maybe(out: &mut EditCode, label: Option<Label>)
     ensures most { length out.new ≤ length out.old + 18 }
 {
     match label {
-        None => out.put(&[0]),
+        None => out.put_byte(0),
         Some(label) => {
-            out.put(&[1]);
+            out.put_byte(1);
             put_label(out, &label);
         }
     }
