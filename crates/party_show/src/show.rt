@@ -1,11 +1,12 @@
-ghost use Rattle.std.specs.Prelude.{◌≡◌, ◌++◌, ◌∷◌, map, IfOk, OnOk};
+ghost use Rattle.std.specs.Prelude.{◌≡◌, ◌++◌, ◌∷◌, [], codes, map, IfOk, OnOk};
 ghost use Rattle.std.specs.List.{concat, flat_map};
+ghost use Rattle.std.specs.Fmt.{decimal};
 ghost use Rattle.x_base.specs.KeyName.{written as written_name};
 ghost use Rattle.party_show.specs.Show.{line, role_word as word_of_role, side_word as word_of_side, ready_word as word_of_ready, status_word as word_of_status, link_line, key_line, exchange_line, answer_line, shown};
 
 use party_state::{Answer, Exchange, KeyRec, KeyStatus, Kind, LinkRec, State};
 use std::alloc::Global;
-use x_base::{KeyName, NoMemory, Role, Side, Text};
+use x_base::{Count, Ident, KeyName, NoMemory, Role, Side, Text};
 
 /// About as many bytes as a line takes.
 const ROOM_OF_LINE: usize = 64;
@@ -55,13 +56,20 @@ fn written(alloc: Global, name: &KeyName) -> Result<Text, NoMemory>
     Ok(text)
 }
 
+/// Appends a word behind a blank.
+fn push_word(out: &mut Text, word: &[u8]) -> Result<(), NoMemory>
+    ensures { OnOk result (out.new ≡ out.old ++ 32 ∷ word.now) }
+{
+    out.push(b" ")?;
+    out.push(word)
+}
+
 /// Appends words, each behind a blank.
 fn push_words(out: &mut Text, words: &[&[u8]]) -> Result<(), NoMemory>
     ensures { OnOk result (out.new ≡ out.old ++ flat_map (λ w. 32 ∷ w.now) words.now) }
 {
     for word in words {
-        out.push(b" ")?;
-        out.push(word)?;
+        push_word(out, word)?;
     }
     Ok(())
 }
@@ -103,36 +111,58 @@ fn push_key(alloc: Global, out: &mut Text, key: &KeyRec) -> Result<(), NoMemory>
     )
 }
 
+/// Appends the line of an exchange about a key: the peer, what the exchange waits for, and the key's name.
+fn push_named(
+    alloc: Global,
+    out: &mut Text,
+    peer: &Ident,
+    word: &[u8],
+    name: &KeyName,
+) -> Result<(), NoMemory>
+    ensures { OnOk result (out.new ≡ out.old ++ line (codes "EXCHANGE" ∷ peer.now ∷ word.now ∷ written_name name.now ∷ [])) }
+{
+    let name = written(alloc, name)?;
+    push_line(out, b"EXCHANGE", &[peer.bytes(), word, name.bytes()])
+}
+
+fn push_translating(
+    alloc: Global,
+    out: &mut Text,
+    peer: &Ident,
+    ultimate: &Ident,
+    cta: Count,
+) -> Result<(), NoMemory>
+    ensures { OnOk result (out.new ≡ out.old ++ line (codes "EXCHANGE" ∷ peer.now ∷ codes "TRANSLATING" ∷ ultimate.now ∷ decimal cta ∷ [])) }
+{
+    let cta = cta.value().to_string(alloc)?;
+    push_line(
+        out,
+        b"EXCHANGE",
+        &[
+            peer.bytes(),
+            b"TRANSLATING",
+            ultimate.bytes(),
+            cta.as_bytes(),
+        ],
+    )
+}
+
 fn push_exchange(alloc: Global, out: &mut Text, exchange: &Exchange) -> Result<(), NoMemory>
     ensures { OnOk result (out.new ≡ out.old ++ exchange_line exchange.now) }
 {
-    let peer = exchange.peer.bytes();
+    let peer = &exchange.peer;
     match &exchange.kind {
         Kind::Asked { ultimate } => push_line(
             out,
             b"EXCHANGE",
-            &[peer, b"ASKED", ultimate.bytes()],
+            &[peer.bytes(), b"ASKED", ultimate.bytes()],
         ),
         Kind::Translating { ultimate, cta, .. } => {
-            let cta = cta.value().to_string(alloc)?;
-            push_line(
-                out,
-                b"EXCHANGE",
-                &[peer, b"TRANSLATING", ultimate.bytes(), cta.as_bytes()],
-            )
+            push_translating(alloc, out, peer, ultimate, *cta)
         }
-        Kind::KeySent { name, .. } => {
-            let name = written(alloc, name)?;
-            push_line(out, b"EXCHANGE", &[peer, b"KEYSENT", name.bytes()])
-        }
-        Kind::Ending { name } => {
-            let name = written(alloc, name)?;
-            push_line(out, b"EXCHANGE", &[peer, b"ENDING", name.bytes()])
-        }
-        Kind::PairSent { name } => {
-            let name = written(alloc, name)?;
-            push_line(out, b"EXCHANGE", &[peer, b"PAIRSENT", name.bytes()])
-        }
+        Kind::KeySent { name, .. } => push_named(alloc, out, peer, b"KEYSENT", name),
+        Kind::Ending { name } => push_named(alloc, out, peer, b"ENDING", name),
+        Kind::PairSent { name } => push_named(alloc, out, peer, b"PAIRSENT", name),
     }
 }
 
@@ -206,18 +236,27 @@ fn show_room(state: &State) -> usize {
         .saturating_mul(ROOM_OF_LINE)
 }
 
+/// Appends the lines in which a party is shown.
+fn push_party(alloc: Global, out: &mut Text, state: &State) -> Result<(), NoMemory>
+    ensures { OnOk result (out.new ≡ out.old ++ shown state.now) }
+{
+    push_line(
+        out,
+        b"PARTY",
+        &[state.own().bytes(), role_word(&state.role())],
+    )?;
+    push_links(alloc, out, state)?;
+    push_keys(alloc, out, state)?;
+    push_exchanges(alloc, out, state)?;
+    push_answers(alloc, out, state)
+}
+
 /// The lines in which a party is shown: the party, its links, keys, exchanges and answers, each
 /// list in its order. No key's value is shown.
 pub fn show_text(alloc: Global, state: &State) -> Result<Text, NoMemory>
     ensures { IfOk result (λ text. text ≡ shown state.now) }
 {
-    let own = state.own();
-    let role = state.role();
     let mut text = Text::with_capacity(alloc, show_room(state))?;
-    push_line(&mut text, b"PARTY", &[own.bytes(), role_word(&role)])?;
-    push_links(alloc, &mut text, state)?;
-    push_keys(alloc, &mut text, state)?;
-    push_exchanges(alloc, &mut text, state)?;
-    push_answers(alloc, &mut text, state)?;
+    push_party(alloc, &mut text, state)?;
     Ok(text)
 }
