@@ -1,5 +1,5 @@
 // The parties and links of a drill.
-ghost use Rattle.std.specs.Prelude.{◌≡◌, ◌++◌, ◌≤◌, ◌<◌, ◌+◌, OnOk};
+ghost use Rattle.std.specs.Prelude.{◌≡◌, ◌++◌, ◌≤◌, ◌<◌, ◌+◌, codes, OnOk};
 ghost use Rattle.scenario_drill.specs.Drill.{link, links_from_banks, links_of_banks, links_to_banks, parties, party, set_up};
 
 use crate::writing::Script;
@@ -26,10 +26,8 @@ impl Script {
         self.word(b"PARTY")?;
         self.word(name)?;
         self.word(role)?;
-        self.pair(count(15 + number))?;
-        self.push(b" ")?;
-        self.key(seed.wrapping_add(number))?;
-        self.push(b"\n")
+        self.pair_word(count(15 + number))?;
+        self.last_key(seed.wrapping_add(number))
     }
 
     #[tactic(auto, unfolding(crate::specs::Drill::parties))]
@@ -64,16 +62,30 @@ impl Script {
         self.push(b"\n")
     }
 
+    /// The links from a bank to the two others, numbered from `number` on.
+    fn links_of_bank(
+        &mut self,
+        number: u64,
+        origin: &[u8],
+        first: &[u8],
+        second: &[u8],
+    ) -> Result<(), NoMemory>
+        requires low { 1 ≤ number }
+        requires high { number < 15 }
+        ensures { OnOk result (self.new.text ≡ self.old.text ++ (link number origin.now first.now (codes "K1")
+            ++ link (number + 1) origin.now second.now (codes "K1"))) }
+    {
+        self.link(number, origin, first, b"K1")?;
+        self.link(number + 1, origin, second, b"K1")
+    }
+
     #[tactic(auto, unfolding(crate::specs::Drill::links_of_banks))]
     fn links_of_banks(&mut self) -> Result<(), NoMemory>
         ensures { OnOk result (self.new.text ≡ self.old.text ++ links_of_banks) }
     {
-        self.link(1, b"BANKA", b"BANKB", b"K1")?;
-        self.link(2, b"BANKA", b"BANKC", b"K1")?;
-        self.link(3, b"BANKB", b"BANKA", b"K1")?;
-        self.link(4, b"BANKB", b"BANKC", b"K1")?;
-        self.link(5, b"BANKC", b"BANKA", b"K1")?;
-        self.link(6, b"BANKC", b"BANKB", b"K1")
+        self.links_of_bank(1, b"BANKA", b"BANKB", b"BANKC")?;
+        self.links_of_bank(3, b"BANKB", b"BANKA", b"BANKC")?;
+        self.links_of_bank(5, b"BANKC", b"BANKA", b"BANKB")
     }
 
     /// The links from a party to the three banks, numbered from `number` on.

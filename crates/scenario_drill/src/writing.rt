@@ -81,6 +81,14 @@ impl Script {
         self.text.push(digits.as_bytes())
     }
 
+    /// Appends a key in sixteen digits as the last word of a line.
+    pub(crate) fn last_key(&mut self, key: u64) -> Result<(), NoMemory>
+        ensures { OnOk result (self.new.text ≡ self.old.text ++ last (key_digits key)) }
+    {
+        self.key(key)?;
+        self.text.push(b"\n")
+    }
+
     /// Appends pair `i` in thirty-two digits.
     pub(crate) fn pair(&mut self, i: Count) -> Result<(), NoMemory>
         ensures { OnOk result (self.new.text ≡ self.old.text ++ pair_digits i) }
@@ -88,6 +96,14 @@ impl Script {
         let spread = spread(i);
         self.key(with_odd_parity(0x0123456789ABCDEF ^ spread))?;
         self.key(with_odd_parity(0xFEDCBA9876543210 ^ spread))
+    }
+
+    /// Appends pair `i` in thirty-two digits, and a blank.
+    pub(crate) fn pair_word(&mut self, i: Count) -> Result<(), NoMemory>
+        ensures { OnOk result (self.new.text ≡ self.old.text ++ word (pair_digits i)) }
+    {
+        self.pair(i)?;
+        self.text.push(b" ")
     }
 
     /// The text.
