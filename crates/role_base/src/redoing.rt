@@ -43,7 +43,7 @@ fn is_done(state: &State, edit: &Edit) -> bool
 }
 
 /// Whether each edit of a change, done once more, changes nothing. Takes no memory.
-#[tactic(auto, using(crate::proofs::Redone::none_yet, crate::proofs::Redone::done_more, crate::proofs::Redone::not_all_done, crate::proofs::Redone::all_done))]
+#[tactic(auto, using(crate::proofs::Redone::none_yet))]
 pub fn are_done(state: &State, change: &Change) -> bool
     requires { HasNoBegin change.now }
     ensures { IsTrue result ↔ AreDone state.now change.now }
