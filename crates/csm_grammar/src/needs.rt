@@ -28,7 +28,6 @@ impl ClassTable<351> {
     }
 
     /// What the form says of the tag.
-    #[tactic(auto, using(crate::proofs::Rows::need_required, crate::proofs::Rows::need_twice, crate::proofs::Rows::need_optional, crate::proofs::Rows::need_refused))]
     pub fn need(&self, form: Form, tag: Tag) -> Need
         ensures { result ≡ need_of form tag }
     {
@@ -41,7 +40,6 @@ impl ClassTable<351> {
 
     /// How often a message of the form has the tag at most: 0, 1, or 2 for KD in the form with two data
     /// keys.
-    #[tactic(auto, using(crate::proofs::Rows::times_twice, crate::proofs::Rows::times_never, crate::proofs::Rows::times_once))]
     pub fn times(&self, form: Form, tag: Tag) -> u8
         ensures { result ≡ times form tag }
     {
