@@ -1,16 +1,16 @@
 -- The rows of the key schedule: each checked over its whole table, and then what their sums give.
-use Rattle.std.proofs.Common.{◌≡◌, ℕ, zero, suc, ◌+◌, ◌-◌, ◌*◌, ◌/◌, ◌%◌, ◌^◌, ◌<◌, ◌≤◌, Bool, true, false, eqb, List, [], ◌∷◌, ◌++◌, length, take, drop, replicate, get_or, refl, sym, ap, ◌∙◌, arith}
+use Rattle.std.proofs.Common.{◌≡◌, ℕ, zero, suc, ◌+◌, ◌-◌, ◌*◌, ◌/◌, ◌%◌, ◌^◌, ◌<◌, ◌≤◌, Bool, true, false, ◌&&◌, not, eqb, List, [], ◌∷◌, ◌++◌, map, length, take, drop, replicate, get_or, refl, sym, ap, ◌∙◌, arith}
 use Rattle.std.specs.Prelude.{bit_and, bit_xor}
 use Rattle.std.proofs.lemmas.Bool.{eqb-true, agree_below, agree_below_at}
 use Rattle.std.proofs.lemmas.List.{append-nil, length-append, length-replicate, length-take-le, length-drop, take_all, get_or-take, get_or-drop}
 use Rattle.std.proofs.lemmas.Nat.{and_mask, shr-shr}
-use Rattle.x_des.specs.Bits.{bits_of, number, pick, exclusive_or}
+use Rattle.x_des.specs.Bits.{bit, bits_of, pick, exclusive_or}
 use Rattle.x_des.specs.Combined.{placed}
 use Rattle.x_des.specs.Des.{keys_from, round_keys}
 use Rattle.x_des.specs.RoundKey.{added, gathered}
 use Rattle.x_des.specs.declared.rows_c.TheConstants.{C_ROWS}
 use Rattle.x_des.specs.declared.rows_d.TheConstants.{D_ROWS}
-use Rattle.x_des.proofs.BitsLemmas.{length-pick, length-bits, take-bits, drop-bits, bits_mod, bits-bit_xor, bits-number_at}
+use Rattle.x_des.proofs.BitsLemmas.{length-pick, length-bits, take-bits, drop-bits, bits_mod, bits-bit_xor}
 use Rattle.x_des.proofs.ExclusiveOr.{pick-exclusive_or}
 use Rattle.x_des.proofs.CombinedRound.{padded, placed_more}
 use Rattle.x_des.proofs.KeyPlaces.{high_places, low_places, c_tables, d_tables}
@@ -19,44 +19,61 @@ use Rattle.x_des.proofs.KeyPlaces.{high_places, low_places, c_tables, d_tables}
 abbrev pub grouped : List ℕ
 grouped = 3 ∷ 4 ∷ 5 ∷ 6 ∷ 7 ∷ 8 ∷ 19 ∷ 20 ∷ 21 ∷ 22 ∷ 23 ∷ 24 ∷ 11 ∷ 12 ∷ 13 ∷ 14 ∷ 15 ∷ 16 ∷ 27 ∷ 28 ∷ 29 ∷ 30 ∷ 31 ∷ 32 ∷ []
 
+-- the same bits of a word
+abbrev pub grouped_bits : ℕ → List Bool
+grouped_bits word = map (λ p. bit word (32 - p)) grouped
+
+grouped_bits_are : (word : ℕ) → pick grouped (bits_of 32 word) ≡ grouped_bits word
+unfolding pick bits_of
+grouped_bits_are word = refl
+
+abbrev pub same_bits : List Bool → List Bool → Bool
+same_bits [] [] = true
+same_bits [] (c ∷ cs) = false
+same_bits (b ∷ bs) [] = false
+same_bits (true ∷ bs) (c ∷ cs) = c && same_bits bs cs
+same_bits (false ∷ bs) (c ∷ cs) = not c && same_bits bs cs
+
+same_bits_true : (bs cs : List Bool) → same_bits bs cs ≡ true → bs ≡ cs
+same_bits_true [] [] e = refl
+same_bits_true [] (c ∷ cs) e = absurd (cc e)
+same_bits_true (b ∷ bs) [] e = absurd (cc e)
+same_bits_true (true ∷ bs) (true ∷ cs) e = ap (λ xs. true ∷ xs) (same_bits_true bs cs e)
+same_bits_true (true ∷ bs) (false ∷ cs) e = absurd (cc e)
+same_bits_true (false ∷ bs) (true ∷ cs) e = absurd (cc e)
+same_bits_true (false ∷ bs) (false ∷ cs) e = ap (λ xs. false ∷ xs) (same_bits_true bs cs e)
+
 -- whether entry i of row v of byte n gives what the places of round i pick of those four bits
 abbrev pub row_agrees : List (List ℕ) → List (List ℕ) → ℕ → ℕ → ℕ → Bool
-row_agrees rows tables n v i =
-    eqb (number (pick grouped (bits_of 32 (get_or (get_or rows n []) (16 * v + i) 0)))) (number (pick (get_or tables i []) (placed n (bits_of 4 v))))
+row_agrees rows tables n v i = same_bits (grouped_bits (get_or (get_or rows n []) (16 * v + i) 0)) (pick (get_or tables i []) (placed n (bits_of 4 v)))
 
 abbrev pub rows_agree : List (List ℕ) → List (List ℕ) → Bool
 rows_agree rows tables = agree_below (λ n. agree_below (λ v. agree_below (row_agrees rows tables n v) (λ i. true) 16) (λ v. true) 16) (λ n. true) 8
 
 c_rows_agree : rows_agree C_ROWS c_tables ≡ true
-unfolding number pick bits_of
+unfolding pick bits_of
 c_rows_agree = refl
 
 d_rows_agree : rows_agree D_ROWS d_tables ≡ true
-unfolding number pick bits_of
+unfolding pick bits_of
 d_rows_agree = refl
 
 -- each round has 24 places
 abbrev sized : List (List ℕ) → Bool
 sized tables = agree_below (λ i. eqb (length (get_or tables i [])) 24) (λ i. true) 16
 
-same_numbers : (bs cs : List Bool) → length bs ≡ 24 → length cs ≡ 24 → number bs ≡ number cs → bs ≡ cs
-same_numbers bs cs p q e = sym (bits-number_at 24 bs p) ∙ ap (bits_of 24) e ∙ bits-number_at 24 cs q
-
 abbrev RowsAre : List (List ℕ) → List (List ℕ) → Type 0
 RowsAre rows tables = (n v i : ℕ) → n < 8 → v < 16 → i < 16
     → pick grouped (bits_of 32 (get_or (get_or rows n []) (16 * v + i) 0)) ≡ pick (get_or tables i []) (placed n (bits_of 4 v))
 
-rows_are : (rows tables : List (List ℕ)) → rows_agree rows tables ≡ true → sized tables ≡ true → RowsAre rows tables
-rows_are rows tables agree size = λ n v i p q r.
+rows_are : (rows tables : List (List ℕ)) → rows_agree rows tables ≡ true → RowsAre rows tables
+rows_are rows tables agree = λ n v i p q r.
     let byte : agree_below (λ v. agree_below (row_agrees rows tables n v) (λ i. true) 16) (λ v. true) 16 ≡ true
     = agree_below_at (λ n. agree_below (λ v. agree_below (row_agrees rows tables n v) (λ i. true) 16) (λ v. true) 16) (λ n. true) 8 n agree p in
     let row : agree_below (row_agrees rows tables n v) (λ i. true) 16 ≡ true
     = agree_below_at (λ v. agree_below (row_agrees rows tables n v) (λ i. true) 16) (λ v. true) 16 v byte q in
-    let same = eqb-true (number (pick grouped (bits_of 32 (get_or (get_or rows n []) (16 * v + i) 0)))) (number (pick (get_or tables i []) (placed n (bits_of 4 v))))
-    (agree_below_at (row_agrees rows tables n v) (λ i. true) 16 i row r) in
-    let wide : length (get_or tables i []) ≡ 24 = eqb-true (length (get_or tables i [])) 24 (agree_below_at (λ i. eqb (length (get_or tables i [])) 24) (λ i. true) 16 i size r) in
-    same_numbers (pick grouped (bits_of 32 (get_or (get_or rows n []) (16 * v + i) 0))) (pick (get_or tables i []) (placed n (bits_of 4 v)))
-    (length-pick grouped _) (length-pick (get_or tables i []) _ ∙ wide) same
+    let entry = get_or (get_or rows n []) (16 * v + i) 0 in
+    grouped_bits_are entry ∙ same_bits_true (grouped_bits entry) (pick (get_or tables i []) (placed n (bits_of 4 v))) (agree_below_at (row_agrees rows tables n v) (λ i. true) 16 i row r)
 
 -- ---- sums of rows
 
@@ -187,10 +204,10 @@ round_key_is key i c d word h p q e =
     ap gathered e ∙ gathered_quarters c d
     ∙ ap (λ bs. bs ++ pick grouped (bits_of 32 d))
     (ap (λ n. pick grouped (bits_of 32 n)) p
-    ∙ whole_sum C_ROWS c_tables (key / 2 ^ 4) hs (rows_are C_ROWS c_tables c_rows_agree refl) (high_nibbles key) (length-pick high_places (bits_of 64 key)) i h refl)
+    ∙ whole_sum C_ROWS c_tables (key / 2 ^ 4) hs (rows_are C_ROWS c_tables c_rows_agree) (high_nibbles key) (length-pick high_places (bits_of 64 key)) i h refl)
     ∙ ap (λ bs. pick (get_or c_tables i []) hs ++ bs)
     (ap (λ n. pick grouped (bits_of 32 n)) q
-    ∙ whole_sum D_ROWS d_tables (key / 2) ls (rows_are D_ROWS d_tables d_rows_agree refl) (low_nibbles key) (length-pick low_places (bits_of 64 key)) i h refl)
+    ∙ whole_sum D_ROWS d_tables (key / 2) ls (rows_are D_ROWS d_tables d_rows_agree) (low_nibbles key) (length-pick low_places (bits_of 64 key)) i h refl)
     ∙ sym (ap (λ ks. get_or ks i []) (round_keys_by_places key) ∙ get_or-by_places c_tables d_tables hs ls i h h)
 
 pub length-round_keys : (key : List Bool) → length (round_keys key) ≡ 16
