@@ -1,10 +1,10 @@
 -- The calls of a disk with a fuse: one that the fuse answers, and one that passes.
-use Rattle.std.proofs.Common.{◌≡◌, ℕ, suc, ◌+◌, ◌-◌, ◌<◌, ◌≤◌, ◌^◌, List, length, Some, Result, Ok, Err, inl, inr, ⊎_elim, refl, sym, ap, subst, arith}
+use Rattle.std.proofs.Common.{◌≡◌, ℕ, zero, suc, true, ◌+◌, ◌-◌, ◌<◌, ◌≤◌, ◌^◌, List, length, Some, Result, Ok, Err, inl, inr, ⊎_elim, refl, sym, ap, subst, arith}
 use Rattle.std.proofs.lemmas.Result.{on_ok_weaker}
 use Rattle.x_base.specs.Edge.{Rose}
 use Rattle.x_disk.specs.Disk.{View, IsSound, IsStill, Elapses, HasCause, IsCounted, KeepsCover}
 use Rattle.x_disk.specs.Calls.{IsMeasured, IsFilled, IsWriting, IsSyncing}
-use Rattle.x_disk.specs.Fuse.{with_fuse, passes_of, faults_of, IsBurnt}
+use Rattle.x_disk.specs.Fuse.{with_fuse, passes_of, faults_of, is_last, IsBurnt}
 use Rattle.x_disk.specs.declared.disk.DiskErr.{DiskErr}
 use Rattle.x_disk.specs.declared.disk.DiskErr.TheVariants.{Fault, NoMemory}
 use Rattle.x_disk.specs.declared.fused.Fuse.{Fuse}
@@ -137,6 +137,32 @@ passed_writing at bytes old new v w r burnt call = record {
     left = λ end n calls covers within fits. (call.covered.left end n calls covers.0 within fits, omega (arith, covers.1, burnt.unblown.1));
   };
 }
+
+-- the call that blows the fuse is made, and nobody hears how it ended
+pub begun_writing : (at : ℕ) (bytes : List ℕ) (old new : Fuse) (v w : View) (r : Result Unit DiskErr) (e : DiskErr) → old ≡ Passes 0 → IsBurnt old new (Err e) → IsWriting at bytes v w r → IsWriting at bytes (with_fuse old v) (with_fuse new w) (Err e)
+begun_writing at bytes old new v w r e last burnt call = record {
+  written = tt;
+  stable = call.stable;
+  tells = call.tells;
+  crash = call.crash;
+  time = elapses old new v w call.time;
+  clock = tt;
+  cause = record {
+    later = omega (arith, call.cause.later, burnt.later);
+    fault = λ is. let i : e ≡ Fault = cc in let f : faults_of new ≡ faults_of old + 1 = burnt.fault (cc) in inl (omega (arith, f, call.cause.later));
+    no_memory = λ is. let fault = burnt.blows last in absurd (cc (is, fault));
+  };
+  counted = refused_counted old new v w e burnt;
+  covered = record {
+    answers = λ end n calls covers within fits is. let fault = burnt.blows last in absurd (cc (is, fault));
+    left = λ end n calls covers within fits. (call.covered.left end n calls covers.0 within fits, omega (arith, covers.1, one_fault old new e burnt));
+  };
+}
+
+pub is_last_call : (fuse : Fuse) → is_last fuse ≡ true → fuse ≡ Passes 0
+is_last_call (Passes zero) is = refl
+is_last_call (Passes (suc n)) is = absurd (cc is)
+is_last_call (Blown n) is = absurd (cc is)
 
 pub passed_syncing : (old new : Fuse) (v w : View) (r : Result Unit DiskErr) → IsBurnt old new (Ok tt) → IsSyncing v w r → IsSyncing (with_fuse old v) (with_fuse new w) r
 passed_syncing old new v w r burnt call = record {
