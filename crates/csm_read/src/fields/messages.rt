@@ -1,17 +1,13 @@
 // A message of the fields that came.
 ghost use Rattle.std.specs.Prelude.{◌≡◌, IfOk, IsSome};
 ghost use Rattle.csm_grammar.specs.declared.form.Form.TheVariants.{F1, F2, F3, F4, F5, F6, F7, F8, F9, F10, F11, F12, F13};
-ghost use Rattle.csm_grammar.specs.declared.tag.Tag.TheVariants.{Erf};
-ghost use Rattle.csm_grammar.specs.Values.Value.{AText};
-ghost use Rattle.csm_read.specs.Building.{AreExtras, ArePresent, IsSecondPresent, IsBuilt};
-ghost use Rattle.csm_read.specs.Denoting.{value_at, second_value};
+ghost use Rattle.csm_read.specs.Building.{ArePresent, IsSecondPresent, IsBuilt};
+ghost use Rattle.csm_read.specs.Denoting.{second_value};
 
 use crate::fields::Fields;
-use csm_grammar::{
-    Dsm, Ers, Esm, Extras, Form, Ksm, KsmBody, Message, NewKk, Rfs, Rsi, Rsm, Rtr, Tag,
-};
+use csm_grammar::{Dsm, Ers, Esm, Form, Ksm, KsmBody, Message, NewKk, Rfs, Rsi, Rsm, Rtr, Tag};
 use std::alloc::Global;
-use x_base::{NoMemory, Text};
+use x_base::NoMemory;
 
 impl Fields<'_> {
     fn rsi(&self) -> Message
@@ -39,12 +35,12 @@ impl Fields<'_> {
         })
     }
 
-    fn rtr(&self, extras: Extras) -> Message
-        requires present { ArePresent self.now.slots F3 }
-        requires extras { AreExtras self.now.slots extras }
-        ensures { IsBuilt self.now.slots F3 result }
+    fn rtr(&self, alloc: Global) -> Result<Message, NoMemory>
+        requires { ArePresent self.now.slots F3 }
+        ensures { IfOk result (IsBuilt self.now.slots F3) }
     {
-        Message::Rtr(Rtr {
+        let extras = self.extras(alloc)?;
+        Ok(Message::Rtr(Rtr {
             receiver: self.ident(Tag::Rcv),
             originator: self.ident(Tag::Org),
             ultimate: self.ident(Tag::Idu),
@@ -52,15 +48,15 @@ impl Fields<'_> {
             kdu: self.key(Tag::Kdu),
             ctb: self.count(Tag::Ctb),
             extras,
-        })
+        }))
     }
 
-    fn rtr_with_key(&self, extras: Extras) -> Message
-        requires present { ArePresent self.now.slots F4 }
-        requires extras { AreExtras self.now.slots extras }
-        ensures { IsBuilt self.now.slots F4 result }
+    fn rtr_with_key(&self, alloc: Global) -> Result<Message, NoMemory>
+        requires { ArePresent self.now.slots F4 }
+        ensures { IfOk result (IsBuilt self.now.slots F4) }
     {
-        Message::Rtr(Rtr {
+        let extras = self.extras(alloc)?;
+        Ok(Message::Rtr(Rtr {
             receiver: self.ident(Tag::Rcv),
             originator: self.ident(Tag::Org),
             ultimate: self.ident(Tag::Idu),
@@ -68,15 +64,15 @@ impl Fields<'_> {
             kdu: self.key(Tag::Kdu),
             ctb: self.count(Tag::Ctb),
             extras,
-        })
+        }))
     }
 
-    fn ksm(&self, extras: Extras) -> Message
-        requires present { ArePresent self.now.slots F5 }
-        requires extras { AreExtras self.now.slots extras }
-        ensures { IsBuilt self.now.slots F5 result }
+    fn ksm(&self, alloc: Global) -> Result<Message, NoMemory>
+        requires { ArePresent self.now.slots F5 }
+        ensures { IfOk result (IsBuilt self.now.slots F5) }
     {
-        Message::Ksm(Ksm {
+        let extras = self.extras(alloc)?;
+        Ok(Message::Ksm(Ksm {
             receiver: self.ident(Tag::Rcv),
             originator: self.ident(Tag::Org),
             body: KsmBody::Direct {
@@ -86,16 +82,16 @@ impl Fields<'_> {
                 ctp: self.count(Tag::Ctp),
             },
             extras,
-        })
+        }))
     }
 
-    fn ksm_with_pair(&self, extras: Extras) -> Message
-        requires present { ArePresent self.now.slots F6 }
-        requires extras { AreExtras self.now.slots extras }
-        ensures { IsBuilt self.now.slots F6 result }
+    fn ksm_with_pair(&self, alloc: Global) -> Result<Message, NoMemory>
+        requires { ArePresent self.now.slots F6 }
+        ensures { IfOk result (IsBuilt self.now.slots F6) }
     {
         let (left, right) = self.pair();
-        Message::Ksm(Ksm {
+        let extras = self.extras(alloc)?;
+        Ok(Message::Ksm(Ksm {
             receiver: self.ident(Tag::Rcv),
             originator: self.ident(Tag::Org),
             body: KsmBody::Direct {
@@ -105,15 +101,15 @@ impl Fields<'_> {
                 ctp: self.count(Tag::Ctp),
             },
             extras,
-        })
+        }))
     }
 
-    fn ksm_with_key(&self, extras: Extras) -> Message
-        requires present { ArePresent self.now.slots F7 }
-        requires extras { AreExtras self.now.slots extras }
-        ensures { IsBuilt self.now.slots F7 result }
+    fn ksm_with_key(&self, alloc: Global) -> Result<Message, NoMemory>
+        requires { ArePresent self.now.slots F7 }
+        ensures { IfOk result (IsBuilt self.now.slots F7) }
     {
-        Message::Ksm(Ksm {
+        let extras = self.extras(alloc)?;
+        Ok(Message::Ksm(Ksm {
             receiver: self.ident(Tag::Rcv),
             originator: self.ident(Tag::Org),
             body: KsmBody::Direct {
@@ -123,15 +119,15 @@ impl Fields<'_> {
                 ctp: self.count(Tag::Ctp),
             },
             extras,
-        })
+        }))
     }
 
-    fn ksm_of_centre(&self, extras: Extras) -> Message
-        requires present { ArePresent self.now.slots F8 }
-        requires extras { AreExtras self.now.slots extras }
-        ensures { IsBuilt self.now.slots F8 result }
+    fn ksm_of_centre(&self, alloc: Global) -> Result<Message, NoMemory>
+        requires { ArePresent self.now.slots F8 }
+        ensures { IfOk result (IsBuilt self.now.slots F8) }
     {
-        Message::Ksm(Ksm {
+        let extras = self.extras(alloc)?;
+        Ok(Message::Ksm(Ksm {
             receiver: self.ident(Tag::Rcv),
             originator: self.ident(Tag::Org),
             body: KsmBody::Centre {
@@ -140,16 +136,18 @@ impl Fields<'_> {
                 ctb: self.count(Tag::Ctb),
             },
             extras,
-        })
+        }))
     }
 
-    fn ksm_with_two_keys(&self, extras: Extras) -> Message
+    // A function of its own, so that the other messages don't pay for its locals.
+    #[inline(never)]
+    fn ksm_with_two_keys(&self, alloc: Global) -> Result<Message, NoMemory>
         requires present { ArePresent self.now.slots F13 }
         requires second { IsSome (second_value self.now.slots) }
-        requires extras { AreExtras self.now.slots extras }
-        ensures { IsBuilt self.now.slots F13 result }
+        ensures { IfOk result (IsBuilt self.now.slots F13) }
     {
-        Message::Ksm(Ksm {
+        let extras = self.extras(alloc)?;
+        Ok(Message::Ksm(Ksm {
             receiver: self.ident(Tag::Rcv),
             originator: self.ident(Tag::Org),
             body: KsmBody::Twin {
@@ -159,42 +157,42 @@ impl Fields<'_> {
                 ctp: self.count(Tag::Ctp),
             },
             extras,
-        })
+        }))
     }
 
-    fn rsm(&self, extras: Extras) -> Message
-        requires present { ArePresent self.now.slots F9 }
-        requires extras { AreExtras self.now.slots extras }
-        ensures { IsBuilt self.now.slots F9 result }
+    fn rsm(&self, alloc: Global) -> Result<Message, NoMemory>
+        requires { ArePresent self.now.slots F9 }
+        ensures { IfOk result (IsBuilt self.now.slots F9) }
     {
-        Message::Rsm(Rsm {
+        let extras = self.extras(alloc)?;
+        Ok(Message::Rsm(Rsm {
             receiver: self.ident(Tag::Rcv),
             originator: self.ident(Tag::Org),
             idd: self.name_if_any(Tag::Idd),
             extras,
-        })
+        }))
     }
 
-    fn ers(&self, erf: Text) -> Message
-        requires present { ArePresent self.now.slots F10 }
-        requires erf { value_at self.now.slots Erf ≡ Some (AText erf) }
-        ensures { IsBuilt self.now.slots F10 result }
+    fn ers(&self, alloc: Global) -> Result<Message, NoMemory>
+        requires { ArePresent self.now.slots F10 }
+        ensures { IfOk result (IsBuilt self.now.slots F10) }
     {
-        Message::Ers(Ers {
+        let erf = self.reason(alloc)?;
+        Ok(Message::Ers(Ers {
             receiver: self.ident(Tag::Rcv),
             originator: self.ident(Tag::Org),
             ultimate: self.ident(Tag::Idu),
             ctr: self.count(Tag::Ctr),
             erf,
-        })
+        }))
     }
 
-    fn esm(&self, erf: Text) -> Message
-        requires present { ArePresent self.now.slots F11 }
-        requires erf { value_at self.now.slots Erf ≡ Some (AText erf) }
-        ensures { IsBuilt self.now.slots F11 result }
+    fn esm(&self, alloc: Global) -> Result<Message, NoMemory>
+        requires { ArePresent self.now.slots F11 }
+        ensures { IfOk result (IsBuilt self.now.slots F11) }
     {
-        Message::Esm(Esm {
+        let erf = self.reason(alloc)?;
+        Ok(Message::Esm(Esm {
             receiver: self.ident(Tag::Rcv),
             originator: self.ident(Tag::Org),
             erf,
@@ -202,7 +200,7 @@ impl Fields<'_> {
             cta: self.count_if_any(Tag::Cta),
             ctb: self.count_if_any(Tag::Ctb),
             ctr: self.count_if_any(Tag::Ctr),
-        })
+        }))
     }
 
     fn dsm(&self) -> Message
@@ -217,16 +215,6 @@ impl Fields<'_> {
         })
     }
 
-    // A function of its own, so that the other messages don't pay for its locals.
-    #[inline(never)]
-    fn two_keys(&self, alloc: Global) -> Result<Message, NoMemory>
-        requires present { ArePresent self.now.slots F13 }
-        requires second { IsSome (second_value self.now.slots) }
-        ensures { IfOk result (IsBuilt self.now.slots F13) }
-    {
-        Ok(self.ksm_with_two_keys(self.extras(alloc)?))
-    }
-
     /// The message of the form.
     pub fn message(&self, alloc: Global, form: Form) -> Result<Message, NoMemory>
         requires present { ArePresent self.now.slots form }
@@ -236,16 +224,16 @@ impl Fields<'_> {
         match form {
             Form::F1 => Ok(self.rsi()),
             Form::F2 => Ok(self.rfs()),
-            Form::F3 => Ok(self.rtr(self.extras(alloc)?)),
-            Form::F4 => Ok(self.rtr_with_key(self.extras(alloc)?)),
-            Form::F5 => Ok(self.ksm(self.extras(alloc)?)),
-            Form::F6 => Ok(self.ksm_with_pair(self.extras(alloc)?)),
-            Form::F7 => Ok(self.ksm_with_key(self.extras(alloc)?)),
-            Form::F8 => Ok(self.ksm_of_centre(self.extras(alloc)?)),
-            Form::F13 => self.two_keys(alloc),
-            Form::F9 => Ok(self.rsm(self.extras(alloc)?)),
-            Form::F10 => Ok(self.ers(self.reason(alloc)?)),
-            Form::F11 => Ok(self.esm(self.reason(alloc)?)),
+            Form::F3 => self.rtr(alloc),
+            Form::F4 => self.rtr_with_key(alloc),
+            Form::F5 => self.ksm(alloc),
+            Form::F6 => self.ksm_with_pair(alloc),
+            Form::F7 => self.ksm_with_key(alloc),
+            Form::F8 => self.ksm_of_centre(alloc),
+            Form::F13 => self.ksm_with_two_keys(alloc),
+            Form::F9 => self.rsm(alloc),
+            Form::F10 => self.ers(alloc),
+            Form::F11 => self.esm(alloc),
             Form::F12 => Ok(self.dsm()),
         }
     }

@@ -1,5 +1,5 @@
 use Rattle.std.proofs.Common.{◌≡◌, ◌<◌, ℕ, List, length, get_or, take, drop, Some, sym, ◌∙◌, ap, subst, arith, inl}
-use Rattle.std.proofs.lemmas.List.{length-take}
+use Rattle.std.proofs.lemmas.List.{length-take, length-drop}
 use Rattle.csm_grammar.specs.declared.refusal.ReadRefusal.{ReadRefusal}
 use Rattle.csm_read.specs.Faults.{fields_from}
 use Rattle.csm_read.specs.Scanning.{RunsOut}
@@ -60,3 +60,51 @@ pub returns : goal.returns
 returns c =
     let k = endless_answer c.args.bytes.now c.loop-len.place c.loop-len.last c.loop-len.fields.slots c.loop-len.fields.left.bits c.loop-len.invariant (subst RunsOut (c.bytes_from.ensures ∙ ap (drop c.loop-len.place) c.judged-judged.ensures) c.in_default-unit_len.ensures) in
     inl (k ∙ ap (λ (r : ReadRefusal). Some r) (sym c.endless-2.ensures))
+
+pub bytes_from-requires : goal.bytes_from-requires
+bytes_from-requires c =
+    let e = ap length c.judged-judged.ensures in
+    omega (arith, e, c.loop-len.invariant.within)
+
+pub token-requires : goal.token-requires
+token-requires c =
+    let u = unit_there c.args.bytes.now c.judged-judged.result.now c.bytes_from.result.now c.loop-len.place c.in-Some-unit_len.len c.judged-judged.ensures c.bytes_from.ensures c.in-Some-unit_len.ensures in
+    let w = u.within in
+    let e = ap length c.judged-judged.ensures in
+    let n = length-drop c.loop-len.place (take 1024 c.args.bytes.now) in
+    omega (arith, e, n, w, c.loop-len.invariant.within)
+
+pub overflow_add-place : goal.overflow_add-place
+overflow_add-place c =
+    let u = unit_there c.args.bytes.now c.judged-judged.result.now c.bytes_from.result.now c.loop-len.place c.in-Some-unit_len.len c.judged-judged.ensures c.bytes_from.ensures c.in-Some-unit_len.ensures in
+    let w = u.within in
+    let n = length-drop c.loop-len.place (take 1024 c.args.bytes.now) in
+    omega (arith, n, w, length-take 1024 c.args.bytes.now, c.loop-len.invariant.within)
+
+pub loop-len-smaller-then-len-gt0 : goal.loop-len-smaller-then-len-gt0
+loop-len-smaller-then-len-gt0 c =
+    let u = unit_there c.args.bytes.now c.judged-judged.result.now c.bytes_from.result.now c.loop-len.place c.in-Some-unit_len.len c.judged-judged.ensures c.bytes_from.ensures c.in-Some-unit_len.ensures in
+    let w = u.within in
+    let e = ap length c.judged-judged.ensures in
+    let n = length-drop c.loop-len.place (take 1024 c.args.bytes.now) in
+    omega (arith, e, n, w, c.loop-len.invariant.within)
+
+pub bounds-judged-place : goal.bounds-judged-place
+bounds-judged-place c =
+    let u = unit_there c.args.bytes.now c.judged-judged.result.now c.bytes_from.result.now c.loop-len.place c.in-Some-unit_len.len c.judged-judged.ensures c.bytes_from.ensures c.in-Some-unit_len.ensures in
+    let w = u.within in
+    let e = ap length c.judged-judged.ensures in
+    let n = length-drop c.loop-len.place (take 1024 c.args.bytes.now) in
+    omega (arith, e, n, w, c.loop-len.invariant.within)
+
+pub overflow_add-place-else-judged-place-eq41 : goal.overflow_add-place-else-judged-place-eq41
+overflow_add-place-else-judged-place-eq41 c =
+    omega (arith, length-take 1024 c.args.bytes.now, c.loop-len.invariant.within)
+
+pub loop-len-smaller : goal.loop-len-smaller
+loop-len-smaller c =
+    let u = unit_there c.args.bytes.now c.judged-judged.result.now c.bytes_from.result.now c.loop-len.place c.in-Some-unit_len.len c.judged-judged.ensures c.bytes_from.ensures c.in-Some-unit_len.ensures in
+    let w = u.within in
+    let e = ap length c.judged-judged.ensures in
+    let n = length-drop c.loop-len.place (take 1024 c.args.bytes.now) in
+    omega (arith, e, n, w, c.loop-len.invariant.within)

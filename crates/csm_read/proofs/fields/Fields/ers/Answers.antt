@@ -1,22 +1,25 @@
 use Rattle.std.proofs.Common.{refl}
-use Rattle.csm_grammar.specs.declared.tag.Tag.TheVariants.{Rcv, Org, Idu, Ctr}
+use Rattle.csm_grammar.specs.declared.tag.Tag.TheVariants.{Rcv, Org, Idu, Ctr, Erf}
 use Rattle.csm_read.proofs.BuiltMessages.{ers_built}
 use Rattle.csm_read.proofs.fields.Fields.ers.Goals as goal
 
 pub ident-requires-clause-present : goal.ident-requires-clause-present
-ident-requires-clause-present c = c.requires.present Rcv refl
+ident-requires-clause-present c = c.requires Rcv refl
 
 pub ident-requires-2-clause-present : goal.ident-requires-2-clause-present
-ident-requires-2-clause-present c = c.requires.present Org refl
+ident-requires-2-clause-present c = c.requires Org refl
 
 pub ident-requires-3-clause-present : goal.ident-requires-3-clause-present
-ident-requires-3-clause-present c = c.requires.present Idu refl
+ident-requires-3-clause-present c = c.requires Idu refl
 
 pub count-requires-clause-present : goal.count-requires-clause-present
-count-requires-clause-present c = c.requires.present Ctr refl
+count-requires-clause-present c = c.requires Ctr refl
 
 pub returns : goal.returns
 returns c = record {
   form_is = refl;
-  stands = λ fs shut h. ers_built c.args.self.now.slots fs shut c.ident.result c.ident-2.result c.ident-3.result c.count.result c.args.erf h c.ident.ensures c.ident-2.ensures c.ident-3.ensures c.count.ensures c.requires.erf;
+  stands = λ fs shut h. ers_built c.args.self.now.slots fs shut c.ident.result c.ident-2.result c.ident-3.result c.count.result c.in_ok-erf.erf h c.ident.ensures c.ident-2.ensures c.ident-3.ensures c.count.ensures c.in_ok-erf.ensures;
 }
+
+pub reason-requires : goal.reason-requires
+reason-requires c = c.requires Erf refl

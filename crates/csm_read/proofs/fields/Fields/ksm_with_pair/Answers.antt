@@ -4,25 +4,25 @@ use Rattle.csm_read.proofs.BuiltMessages.{ksm_double_built}
 use Rattle.csm_read.proofs.fields.Fields.ksm_with_pair.Goals as goal
 
 pub pair-left-requires : goal.pair-left-requires
-pair-left-requires c = c.requires.present DoubleKk refl
+pair-left-requires c = c.requires DoubleKk refl
 
 pub ident-requires-clause-present : goal.ident-requires-clause-present
-ident-requires-clause-present c = c.requires.present Rcv refl
+ident-requires-clause-present c = c.requires Rcv refl
 
 pub ident-requires-2-clause-present : goal.ident-requires-2-clause-present
-ident-requires-2-clause-present c = c.requires.present Org refl
+ident-requires-2-clause-present c = c.requires Org refl
 
 pub label-requires-clause-present : goal.label-requires-clause-present
-label-requires-clause-present c = c.requires.present Idk1 refl
+label-requires-clause-present c = c.requires Idk1 refl
 
 pub key-requires-clause-present : goal.key-requires-clause-present
-key-requires-clause-present c = c.requires.present Kd refl
+key-requires-clause-present c = c.requires Kd refl
 
 pub count-requires-clause-present : goal.count-requires-clause-present
-count-requires-clause-present c = c.requires.present Ctp refl
+count-requires-clause-present c = c.requires Ctp refl
 
 pub returns : goal.returns
 returns c = record {
   form_is = refl;
-  stands = λ fs shut h. ksm_double_built c.args.self.now.slots fs shut c.ident.result c.ident-2.result c.label.result c.label_if_any.result c.pair-left.result c.key.result c.count.result c.args.extras.iv c.args.extras.edk c.args.extras.p h c.ident.ensures c.ident-2.ensures c.label.ensures c.label_if_any.ensures c.pair-left.ensures c.key.ensures c.count.ensures c.requires.extras.iv c.requires.extras.edk c.requires.extras.p;
+  stands = λ fs shut h. ksm_double_built c.args.self.now.slots fs shut c.ident.result c.ident-2.result c.label.result c.label_if_any.result c.pair-left.result c.key.result c.count.result c.in_ok-extras.extras.iv c.in_ok-extras.extras.edk c.in_ok-extras.extras.p h c.ident.ensures c.ident-2.ensures c.label.ensures c.label_if_any.ensures c.pair-left.ensures c.key.ensures c.count.ensures c.in_ok-extras.ensures.iv c.in_ok-extras.ensures.edk c.in_ok-extras.ensures.p;
 }

@@ -18,5 +18,5 @@ count-requires-clause-present c = c.requires.present Ctp refl
 pub returns : goal.returns
 returns c = record {
   form_is = refl;
-  stands = λ fs shut h. ksm_twin_built c.args.self.now.slots fs shut c.ident.result c.ident-2.result c.label_if_any.result c.key.result c.second_key.result c.count.result c.args.extras.iv c.args.extras.edk c.args.extras.p h c.ident.ensures c.ident-2.ensures c.label_if_any.ensures c.key.ensures c.second_key.ensures c.count.ensures c.requires.extras.iv c.requires.extras.edk c.requires.extras.p;
+  stands = λ fs shut h. ksm_twin_built c.args.self.now.slots fs shut c.ident.result c.ident-2.result c.label_if_any.result c.key.result c.second_key.result c.count.result c.in_ok-extras.extras.iv c.in_ok-extras.extras.edk c.in_ok-extras.extras.p h c.ident.ensures c.ident-2.ensures c.label_if_any.ensures c.key.ensures c.second_key.ensures c.count.ensures c.in_ok-extras.ensures.iv c.in_ok-extras.ensures.edk c.in_ok-extras.ensures.p;
 }
