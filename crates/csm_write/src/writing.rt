@@ -1,4 +1,4 @@
-ghost use Rattle.std.specs.Prelude.{◌≡◌, IfOk, OnOk};
+ghost use Rattle.std.specs.Prelude.{◌≡◌, [], IfOk, OnOk};
 ghost use Rattle.csm_write.specs.Canon.{shut_over, canon};
 ghost use Rattle.csm_write.specs.Writable.{Writable, AreTyped};
 ghost use Rattle.csm_write.specs.Laws.{ReadsBack, Rewrites};
@@ -23,18 +23,27 @@ fn shut(closing: &Closing, auth: &[u8]) -> Shut
     }
 }
 
-/// The canonical text of a message.
+/// Writes the canonical text of a message into a writer of no text.
 #[tactic(auto, using(crate::proofs::Reading::closing_typed))]
+fn put(writer: &mut Writer, message: &Message, closing: &Closing) -> Result<(), NoMemory>
+    requires { writer.old ≡ [] }
+    ensures canonical { OnOk result (writer.new ≡ canon message.now closing.now) }
+    ensures typed { OnOk result (AreTyped message.now closing.now) }
+{
+    writer.push(opening(message))?;
+    writer.fields(message)?;
+    let shut = shut(closing, writer.bytes());
+    writer.code(shut)?;
+    writer.push(b")")
+}
+
+/// The canonical text of a message.
 fn written(alloc: Global, message: &Message, closing: &Closing) -> Result<Text, NoMemory>
     ensures canonical { IfOk result (λ text. text ≡ canon message.now closing.now) }
     ensures typed { OnOk result (AreTyped message.now closing.now) }
 {
     let mut writer = Writer::new(alloc)?;
-    writer.push(opening(message))?;
-    writer.fields(message)?;
-    let shut = shut(closing, writer.bytes());
-    writer.code(shut)?;
-    writer.push(b")")?;
+    put(&mut writer, message, closing)?;
     Ok(writer.into_text())
 }
 
