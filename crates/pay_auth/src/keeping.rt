@@ -1,5 +1,5 @@
 // An entry is kept, and then its text handed out.
-ghost use Rattle.std.specs.Prelude.{◌≡◌, ◌≤◌, false, [], List, length, IfOk};
+ghost use Rattle.std.specs.Prelude.{◌≡◌, ◌≤◌, false, [], List, length, IfOk, IfErr};
 ghost use Rattle.journal_state.specs.Keeping.{IsFrameOf};
 ghost use Rattle.pay_auth.specs.declared.entry.Entry.{Entry as TheEntry};
 ghost use Rattle.pay_auth.specs.Entries.{entry_key, put_entry, is_full_for, most_entries};
@@ -11,8 +11,8 @@ use crate::entries::Entries;
 use crate::entry::Entry;
 use crate::ledger::Ledger;
 use crate::turn::PayTurn;
-use journal_state::Judge;
-use key_journal::close_frame;
+use journal_state::{Judge, Standing};
+use key_journal::{Broken, close_frame};
 use std::alloc::Global;
 use x_base::{NoMemory, Text};
 use x_disk::Disk;
@@ -68,13 +68,7 @@ impl<D: Disk> Ledger<D> {
         if !self.standing.fits(frame.bytes().len()) {
             return self.keep_whole(alloc, next, out);
         }
-        match self.standing.keep(frame.bytes(), next) {
-            Ok(standing) => PayTurn::Done {
-                ledger: Ledger { standing },
-                out,
-            },
-            Err(broken) => PayTurn::Broken(broken),
-        }
+        PayTurn::ended(self.standing.keep(frame.bytes(), next), out)
     }
 
     /// Switches to these entries as one frame, and hands the text out.
@@ -84,7 +78,17 @@ impl<D: Disk> Ledger<D> {
         let Ok(frame) = whole_frame(alloc, &next) else {
             return PayTurn::NoMemory(self);
         };
-        match self.standing.replace(frame.bytes(), next) {
+        PayTurn::ended(self.standing.replace(frame.bytes(), next), out)
+    }
+}
+
+impl<D: Disk> PayTurn<D> {
+    /// The text is handed out where the ledger stands, and not where the disk failed.
+    fn ended(kept: Result<Standing<D, Entries>, Broken<D>>, out: Text) -> PayTurn<D>
+        ensures done { IfOk kept (λ s. result ≡ PayTurn.Done s out) }
+        ensures broken { IfErr kept (λ b. result ≡ PayTurn.Broken b) }
+    {
+        match kept {
             Ok(standing) => PayTurn::Done {
                 ledger: Ledger { standing },
                 out,
