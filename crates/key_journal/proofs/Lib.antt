@@ -8,3 +8,4 @@ mod SameLemmas
 mod StepLemmas
 mod SwitchLemmas
 mod WipeLemmas
+mod NextLemmas

@@ -1,5 +1,5 @@
 -- What images a journal passes through while what doesn't count is overwritten.
-use Rattle.std.proofs.Common.{◌≡◌, ◌⊎◌, inl, inr, ℕ, suc, ◌+◌, ◌-◌, ◌<◌, ◌≤◌, ◌==◌, if◌then◌else◌, List, ◌++◌, length, get_or, take, drop, replicate, Some, is_some, refl, sym, ◌∙◌, ap, subst, arith, length-append, length-drop}
+use Rattle.std.proofs.Common.{◌≡◌, ◌⊎◌, inl, inr, ℕ, ◌+◌, ◌-◌, ◌<◌, ◌≤◌, ◌==◌, if◌then◌else◌, List, ◌++◌, length, get_or, take, drop, replicate, Some, is_some, refl, sym, ◌∙◌, ap, subst, arith, length-append, length-drop}
 use Rattle.std.specs.Prelude.{min}
 use Rattle.std.proofs.Math.ListN.{get_or-append}
 use Rattle.std.proofs.lemmas.Bool.{cases_lt}
@@ -7,12 +7,12 @@ use Rattle.std.proofs.lemmas.List.{take-take, get_or-take, get_or-drop, get_or_p
 use Rattle.x_disk.specs.Disk.{View, IsTornAt, IsDurable, IsWritten, IsStill, Elapses, LeavesOnly, IsSound, overwrite, disk_size}
 use Rattle.x_disk.proofs.Runs.{began, stays, weaker, joined, goes_on}
 use Rattle.key_journal.specs.Layout.{area_size, first_start, second_start}
-use Rattle.key_journal.specs.Journal.{frames, start, HoldsBodies, gate_place}
-use Rattle.key_journal.specs.States.{HasBodies, IsAt, IsReady, MayTear, other_start}
+use Rattle.key_journal.specs.Journal.{start, HoldsBodies, gate_place}
+use Rattle.key_journal.specs.States.{IsReady, MayTear, other_start}
 use Rattle.key_journal.specs.Wiping.{PlaceCounts, KeepsCounting, IsWiped, Wipes, LeavesCounting, HasZeros}
 use Rattle.key_journal.proofs.ImageLemmas.{same_front, holds_of, whole_of, gate_in, start_in, fits_area}
 use Rattle.key_journal.proofs.StepLemmas.{told_before, torn_from_now, ready_place}
-use Rattle.key_journal.proofs.SwitchLemmas.{Apart, apart_by, take_swap, behind_same, overwrite_front, overwrite_back, overwrite_long}
+use Rattle.key_journal.proofs.SwitchLemmas.{apart_by, take_swap, behind_same, overwrite_front, overwrite_back, overwrite_long}
 
 -- ---- what a torn write leaves at a place outside of its range
 

@@ -8,8 +8,8 @@ invariant_of-result-in-Ok-put g c = closed_written (g.D.Disk.told c.look.new.dis
 pub returns-in-Ok-put : goal.returns-in-Ok-put
 returns-in-Ok-put g c = record {
   blank = search rules;
-  exact = search rules;
-  names = search rules;
+  exact = tt;
+  names = tt;
   nothing_written = search rules;
   durable = search rules;
   closed = λ b now. closed_is_blank b ((invariant_of-result-in-Ok-put g c).closed b now);
@@ -19,19 +19,19 @@ returns-in-Ok-put g c = record {
       let header = c.in-Ok.ensures.header b.0 b.1 in
       let short : length b.0 ≤ 1 = omega (arith, header.long, c.if-header-gt1.false) in
       prepare_moment (told c.args.disk) (told c.look.new.disk) (told c.put.new.disk) (told c.args.disk).may_leave c.look.ensures.any_moment c.in-Ok.ensures.durable b.0 (c.look.ensures.now ∙ b.1) short c.put.ensures.any_moment;
-  fault = search rules;
+  fault = tt;
   faults = search rules;
   tells = search rules;
 }
 
 pub returns-in-Err-put : goal.returns-in-Err-put
 returns-in-Err-put g c = record {
-  blank = search rules;
+  blank = tt;
   exact = search rules;
   names = search rules;
   nothing_written = search rules;
-  durable = search rules;
-  closed = search rules;
+  durable = tt;
+  closed = tt;
   any_moment = λ tells.
       let told = g.D.Disk.told in
       let b = some_of (told c.args.disk).now tells in

@@ -8,7 +8,7 @@ use Rattle.key_journal.proofs.opened.open_disk.Goals as goal
 
 pub returns-in-Some : goal.returns-in-Some
 returns-in-Some g c = record {
-  opened = search rules;
+  opened = tt;
   refused = refused_is (g.D.Disk.told c.args.disk) (g.D.Disk.told c.look.new.disk) c.in-Some.cause c.look.ensures.now c.in-Some.ensures.names
       (λ b is. sym (c.refusal.ensures.value b (c.in-Ok.ensures.header b is)) ∙ c.in-Some.is);
   undamaged = λ bodies has.
@@ -40,10 +40,10 @@ returns g c = record {
       (λ b is. c.new.ensures.size ∙ (c.in-Ok.ensures.header b (was b is)).long) (λ b is. fine b (was b is)) (λ b is. c.start-gate.ensures.start b (c.in-Ok.ensures.header b (was b is)) (long_enough b (fine b (was b is)))) in
       subst (λ d. IsOpened (told c.args.disk) (told d) c.start-gate.result (c.start-gate.result + area_size) false) (sym c.new.ensures.disk)
       (opened_is (told c.args.disk) (told c.look.new.disk) c.new.result.size c.start-gate.result (c.start-gate.result + area_size) c.look.ensures.now c.in-Ok.ensures.durable state fine (λ b is. c.start-gate.ensures.start b (c.in-Ok.ensures.header b is) (long_enough b (fine b is))));
-  refused = search rules;
+  refused = tt;
   undamaged = search rules;
-  damaged = search rules;
-  first_damage = search rules;
+  damaged = tt;
+  first_damage = tt;
   any_moment = search rules;
   images = search rules;
   faults = search rules;

@@ -1,4 +1,4 @@
-use Rattle.std.proofs.Common.{rules, ◌+◌, ◌-◌, ◌≤◌, ◌≡◌, ℕ, length, replicate, refl, ◌∙◌, arith}
+use Rattle.std.proofs.Common.{rules, ◌+◌, ◌≤◌, replicate, refl, ◌∙◌, arith}
 use Rattle.key_journal.proofs.WipeLemmas.{clear_more, clear_leaves}
 use Rattle.key_journal.proofs.wipe.clear.Goals as goal
 

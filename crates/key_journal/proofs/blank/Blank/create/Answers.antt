@@ -6,10 +6,10 @@ use Rattle.key_journal.proofs.blank.Blank.create.Goals as goal
 
 pub returns-in-Err : goal.returns-in-Err
 returns-in-Err g c = record {
-  created = search rules;
-  room = search rules;
-  place = search rules;
-  durable = search rules;
+  created = tt;
+  room = tt;
+  place = tt;
+  durable = tt;
   any_moment = λ body is_body is tells.
       let told = g.D.Disk.told in
       let same = ap (λ s. s.disk) c.self.view_is in
@@ -42,17 +42,17 @@ returns-in-Ok-put g c = record {
       let first = lay_moment (told c.self.inside.disk) (told c.lay.new.disk) (told c.put.new.disk) c.args.frame.now body c.self.invariant tells_here c.lay.ensures.any_moment in
       let run = made_moment (told c.self.inside.disk) (told c.lay.new.disk) (told c.put.new.disk) c.args.frame.now body c.self.invariant tells_here first c.in-Ok.ensures.durable c.in-Ok.ensures.written c.put.ensures.any_moment is is_body in
       subst (λ d. LeavesOnly (told d) (told c.new.result.disk) (IsBlankOrFirst body)) same (subst (λ d. LeavesOnly (told c.self.inside.disk) (told d) (IsBlankOrFirst body)) (sym (ap (λ s. s.disk) c.new.ensures.made)) run);
-  cause = search rules;
+  cause = tt;
   faults = search rules;
   tells = search rules;
 }
 
 pub returns-in-Err-put : goal.returns-in-Err-put
 returns-in-Err-put g c = record {
-  created = search rules;
-  room = search rules;
-  place = search rules;
-  durable = search rules;
+  created = tt;
+  room = tt;
+  place = tt;
+  durable = tt;
   any_moment = λ body is_body is tells.
       let told = g.D.Disk.told in
       let same = ap (λ s. s.disk) c.self.view_is in

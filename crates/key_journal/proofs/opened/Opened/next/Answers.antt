@@ -1,11 +1,10 @@
-use Rattle.std.proofs.Common.{rules, ◌≡◌, ◌⊎◌, inr, ap, ◌∙◌, ◌+◌, ℕ, List, [], ◌∷◌, ◌++◌, length, take, drop, Some, None, Ok, Err, sym, subst, refl, arith}
+use Rattle.std.proofs.Common.{true, ◌≡◌, ap, ◌∙◌, ◌+◌, ℕ, List, ◌∷◌, take, drop, Some, None, Ok, Err, sym, subst, refl, arith}
 use Rattle.key_journal.specs.Journal.{four_bytes}
 use Rattle.key_journal.specs.Judged.{IfBody, IsSized}
-use Rattle.key_journal.specs.Opening.{found_at, IsDamagedAt}
-use Rattle.key_journal.specs.States.{HasRead, HasBodies}
 use Rattle.key_journal.specs.declared.cause.Cause.TheVariants as cause
-use Rattle.key_journal.proofs.OpenLemmas.{first_of, all_of, ended_at, found_end, more_of, more_state, still_both, closed_is, closed_state, first_gate, later_gate, found_first, found_damage, undamaged_at, one_list, damaged_gate}
-use Rattle.key_journal.proofs.DamageLemmas.{one_damage, unended}
+use Rattle.key_journal.specs.Reading.{IsReadOn}
+use Rattle.key_journal.proofs.NextLemmas.{body_read, damage_told, failed, none_left, reading, rose_later, still_same}
+use Rattle.key_journal.proofs.OpenLemmas.{ended_at, more_state, still_both, closed_is, closed_state, first_gate, later_gate, found_first, found_damage}
 use Rattle.key_journal.proofs.opened.Opened.next.Goals as goal
 
 pub invariant_of-self-in-Frame : goal.invariant_of-self-in-Frame
@@ -27,226 +26,78 @@ invariant_of-self-in-Closed g c =
 
 pub returns-then-self : goal.returns-then-self
 returns-then-self g c =
-    let they_are =
-    (let i = c.self.inside in
-    let v = g.D.Disk.told i.reader.disk in
-    subst (λ s. (bodies : List (List ℕ)) → HasRead (g.D.Disk.told s.disk) bodies s.gate → HasBodies (g.D.Disk.told s.disk) bodies) c.self.view_is
-    (λ bodies read. all_of v v bodies i.gate refl (ended_at v i.reader.size i.gate i.end i.ended c.self.invariant c.if-self.true) read)) in
-    record {
-      exact = let i = c.self.inside in
-          subst (λ s. (b : List ℕ) → (g.D.Disk.told s.disk).now ≡ Some b → found_at b s.gate s.end ≡ Ok None) c.self.view_is
-          (λ b is.
-          let e = ended_at (g.D.Disk.told i.reader.disk) i.reader.size i.gate i.end i.ended c.self.invariant c.if-self.true b is in
-          found_end b i.gate i.end e.0 e.1);
-      body = search rules;
-      more = search rules;
-      all = λ none. they_are;
-      only = λ none bodies all read has.
-          let v = g.D.Disk.told c.args.self.now.disk in
-          one_list v v bodies all refl (they_are bodies read) has;
-      ended = search rules;
-      onward = search rules;
-      undamaged = search rules;
-      damaged = search rules;
-      unended = λ none.
-          let i = c.self.inside in
-          let told = g.D.Disk.told in
-          subst (λ s. (place : ℕ) (b : List ℕ) → (told s.disk).now ≡ Some b → IsDamagedAt b place → ⊥) c.self.view_is
-          (unended (told i.reader.disk) i.reader.size i.gate i.end i.ended c.self.invariant (ended_at (told i.reader.disk) i.reader.size i.gate i.end i.ended c.self.invariant c.if-self.true));
-      first_damage = search rules;
-      first = λ bodies all read has. first_of (g.D.Disk.told c.args.self.now.disk) bodies all c.args.self.now.gate read has;
-      again = search rules;
-      end = search rules;
-      still = search rules;
-      names = search rules;
-      fault = search rules;
-      faults = search rules;
-    }
+    let i = c.self.inside in
+    let told = g.D.Disk.told in
+    let at = reading i.reader.disk i.gate i.end i.ended in
+    subst (λ s. IsReadOn told s s (Ok None)) c.self.view_is
+    (none_left told at at i.reader.size c.self.invariant (still_same (told i.reader.disk)) (omega arith) refl c.if-self.true
+    (ended_at (told i.reader.disk) i.reader.size i.gate i.end i.ended c.self.invariant c.if-self.true))
 
 pub returns-in_err-n : goal.returns-in_err-n
-returns-in_err-n g c = record {
-  exact = search rules;
-  body = search rules;
-  more = search rules;
-  all = search rules;
-  only = search rules;
-  ended = search rules;
-  onward = search rules;
-  undamaged = search rules;
-  damaged = search rules;
-  unended = search rules;
-  first_damage = search rules;
-  first = λ bodies all read has. first_of (g.D.Disk.told c.judge_at.new.self.disk) bodies all c.self.inside.gate read has;
-  again = search rules;
-  end = search rules;
-  still = search rules;
-  names = search rules;
-  fault = search rules;
-  faults = search rules;
-}
+returns-in_err-n g c =
+    let i = c.self.inside in
+    let told = g.D.Disk.told in
+    let file = c.judge_at.ensures.file in
+    subst (λ s. IsReadOn told s (reading c.judge_at.new.self.disk i.gate i.end i.ended) c.from_residual.result) c.self.view_is
+    (failed told (reading i.reader.disk i.gate i.end i.ended) (reading c.judge_at.new.self.disk i.gate i.end i.ended) c.in_err-n.field-0.0 c.from_residual.result c.from_residual.ensures
+    file.still (record { later = file.cause.later; fault = λ is. file.cause.fault (c.in_err-n.was ∙ ap (λ x. Err x) is) }) refl refl refl)
 
 pub returns-in_err-body-in-Frame : goal.returns-in_err-body-in-Frame
-returns-in_err-body-in-Frame g c = record {
-  exact = search rules;
-  body = search rules;
-  more = search rules;
-  all = search rules;
-  only = search rules;
-  ended = search rules;
-  onward = search rules;
-  undamaged = search rules;
-  damaged = search rules;
-  unended = search rules;
-  first_damage = search rules;
-  first = λ bodies all read has. first_of (g.D.Disk.told c.body.new.self.disk) bodies all c.self.inside.gate read has;
-  again = search rules;
-  end = search rules;
-  still = search rules;
-  names = search rules;
-  fault = search rules;
-  faults = search rules;
-}
+returns-in_err-body-in-Frame g c =
+    let i = c.self.inside in
+    let told = g.D.Disk.told in
+    let first = c.judge_at.ensures.file in
+    let file = c.body.ensures.file in
+    subst (λ s. IsReadOn told s (reading c.body.new.self.disk i.gate i.end i.ended) c.from_residual-in_err-body-in-Frame.result) c.self.view_is
+    (failed told (reading i.reader.disk i.gate i.end i.ended) (reading c.body.new.self.disk i.gate i.end i.ended) c.in_err-body-in-Frame.field-0.0 c.from_residual-in_err-body-in-Frame.result c.from_residual-in_err-body-in-Frame.ensures
+    (still_both (told i.reader.disk) (told c.judge_at.new.self.disk) (told c.body.new.self.disk) first.still file.still) (record { later = omega (arith, first.cause.later, file.cause.later); fault = λ is. rose_later _ _ _ first.cause.later (file.cause.fault (c.in_err-body-in-Frame.was ∙ ap (λ x. Err x) is)) }) refl refl refl)
 
 pub returns-then-self-2 : goal.returns-then-self-2
 returns-then-self-2 g c =
-    let broken =
-    (let i = c.self.inside in
+    let i = c.self.inside in
     let told = g.D.Disk.told in
-    subst (λ s. (place : ℕ) → cause.Damaged i.gate ≡ cause.Damaged place → (b : List ℕ) → (told s.disk).now ≡ Some b → IsDamagedAt b place) c.self.view_is
-    (damaged_gate (told i.reader.disk) i.reader.size i.gate i.end i.ended c.self.invariant
-    (λ b is. found_first b i.gate i.end (closed_is b i.gate i.end (sym c.in-Closed.is ∙ c.in_ok-n.ensures.value b is)) (first_gate (told i.reader.disk) i.reader.size i.gate i.end i.ended c.self.invariant b is c.if-self-2.true)))) in
-    record {
-      exact = let i = c.self.inside in
-          let told = g.D.Disk.told in
-          subst (λ s. (b : List ℕ) → (told s.disk).now ≡ Some b → ⊥ ⊎ (found_at b s.gate s.end ≡ Err (cause.Damaged i.gate))) c.self.view_is
-          (λ b is. inr (found_first b i.gate i.end (closed_is b i.gate i.end (sym c.in-Closed.is ∙ c.in_ok-n.ensures.value b is)) (first_gate (told i.reader.disk) i.reader.size i.gate i.end i.ended c.self.invariant b is c.if-self-2.true)));
-      body = search rules;
-      more = search rules;
-      all = search rules;
-      only = search rules;
-      ended = search rules;
-      onward = search rules;
-      undamaged = let i = c.self.inside in
-          let told = g.D.Disk.told in
-          subst (λ s. (bodies : List (List ℕ)) → HasBodies (told s.disk) bodies → ⊥) c.self.view_is
-          (λ bodies has. undamaged_at (told i.reader.disk) i.reader.size i.gate i.end i.ended c.self.invariant bodies has
-          (λ b is. found_first b i.gate i.end (closed_is b i.gate i.end (sym c.in-Closed.is ∙ c.in_ok-n.ensures.value b is)) (first_gate (told i.reader.disk) i.reader.size i.gate i.end i.ended c.self.invariant b is c.if-self-2.true)));
-      damaged = broken;
-      unended = search rules;
-      first_damage = λ place b now damage.
-          let gate = c.self.inside.gate in
-          inr (ap (λ (n : ℕ). cause.Damaged n) (one_damage b gate place (broken gate refl b now) damage));
-      first = λ bodies all read has. first_of (g.D.Disk.told c.judge_at.new.self.disk) bodies all c.self.inside.gate read has;
-      again = search rules;
-      end = search rules;
-      still = search rules;
-      names = search rules;
-      fault = search rules;
-      faults = search rules;
-    }
+    let file = c.judge_at.ensures.file in
+    let old = reading i.reader.disk i.gate i.end i.ended in
+    let new = reading c.judge_at.new.self.disk i.gate i.end i.ended in
+    subst (λ s. IsReadOn told s new (Err (cause.Damaged i.gate))) c.self.view_is
+    (damage_told told old new i.reader.size c.self.invariant file.still file.cause.later refl refl refl
+    (λ b is. found_first b i.gate i.end (closed_is b i.gate i.end (sym c.in-Closed.is ∙ c.in_ok-n.ensures.value b is)) (first_gate (told i.reader.disk) i.reader.size i.gate i.end i.ended c.self.invariant b is c.if-self-2.true)))
 
 pub returns-in-Damaged : goal.returns-in-Damaged
 returns-in-Damaged g c =
-    let broken =
-    (let i = c.self.inside in
+    let i = c.self.inside in
     let told = g.D.Disk.told in
-    subst (λ s. (place : ℕ) → cause.Damaged i.gate ≡ cause.Damaged place → (b : List ℕ) → (told s.disk).now ≡ Some b → IsDamagedAt b place) c.self.view_is
-    (damaged_gate (told i.reader.disk) i.reader.size i.gate i.end i.ended c.self.invariant (λ b is. found_damage b i.gate i.end (sym c.in-Damaged.is ∙ c.in_ok-n.ensures.value b is)))) in
-    record {
-      exact = search rules;
-      body = search rules;
-      more = search rules;
-      all = search rules;
-      only = search rules;
-      ended = search rules;
-      onward = search rules;
-      undamaged = let i = c.self.inside in
-          let told = g.D.Disk.told in
-          subst (λ s. (bodies : List (List ℕ)) → HasBodies (told s.disk) bodies → ⊥) c.self.view_is
-          (λ bodies has. undamaged_at (told i.reader.disk) i.reader.size i.gate i.end i.ended c.self.invariant bodies has (λ b is. found_damage b i.gate i.end (sym c.in-Damaged.is ∙ c.in_ok-n.ensures.value b is)));
-      damaged = broken;
-      unended = search rules;
-      first_damage = λ place b now damage.
-          let gate = c.self.inside.gate in
-          inr (ap (λ (n : ℕ). cause.Damaged n) (one_damage b gate place (broken gate refl b now) damage));
-      first = λ bodies all read has. first_of (g.D.Disk.told c.judge_at.new.self.disk) bodies all c.self.inside.gate read has;
-      again = search rules;
-      end = search rules;
-      still = search rules;
-      names = search rules;
-      fault = search rules;
-      faults = search rules;
-    }
+    let file = c.judge_at.ensures.file in
+    let old = reading i.reader.disk i.gate i.end i.ended in
+    let new = reading c.judge_at.new.self.disk i.gate i.end i.ended in
+    subst (λ s. IsReadOn told s new (Err (cause.Damaged i.gate))) c.self.view_is
+    (damage_told told old new i.reader.size c.self.invariant file.still file.cause.later refl refl refl
+    (λ b is. found_damage b i.gate i.end (sym c.in-Damaged.is ∙ c.in_ok-n.ensures.value b is)))
 
 pub returns-else-self-2 : goal.returns-else-self-2
 returns-else-self-2 g c =
-    let they_are =
-    (let i = c.self.inside in
+    let i = c.self.inside in
     let told = g.D.Disk.told in
-    subst (λ s. (bodies : List (List ℕ)) → HasRead (told s.disk) bodies s.gate → HasBodies (told c.judge_at.new.self.disk) bodies) c.self.view_is
-    (λ bodies read. all_of (told i.reader.disk) (told c.judge_at.new.self.disk) bodies i.gate c.judge_at.ensures.file.still.now
-    (λ b is. (closed_is b i.gate i.end (sym c.in-Closed.is ∙ c.in_ok-n.ensures.value b is), later_gate (told i.reader.disk) i.reader.size i.gate i.end i.ended c.self.invariant b is c.if-self-2.false)) read)) in
-    record {
-      exact = let i = c.self.inside in
-          let told = g.D.Disk.told in
-          subst (λ s. (b : List ℕ) → (told s.disk).now ≡ Some b → found_at b s.gate s.end ≡ Ok None) c.self.view_is
-          (λ b is. found_end b i.gate i.end (closed_is b i.gate i.end (sym c.in-Closed.is ∙ c.in_ok-n.ensures.value b is)) (later_gate (told i.reader.disk) i.reader.size i.gate i.end i.ended c.self.invariant b is c.if-self-2.false));
-      body = search rules;
-      more = search rules;
-      all = λ none. they_are;
-      only = λ none bodies all read has.
-          let told = g.D.Disk.told in
-          one_list (told c.args.self.now.disk) (told c.judge_at.new.self.disk) bodies all (subst (λ s. (told c.judge_at.new.self.disk).now ≡ (told s.disk).now) c.self.view_is c.judge_at.ensures.file.still.now)
-          (they_are bodies read) has;
-      ended = search rules;
-      onward = search rules;
-      undamaged = search rules;
-      damaged = search rules;
-      unended = λ none.
-          let i = c.self.inside in
-          let told = g.D.Disk.told in
-          subst (λ s. (place : ℕ) (b : List ℕ) → (told s.disk).now ≡ Some b → IsDamagedAt b place → ⊥) c.self.view_is
-          (unended (told i.reader.disk) i.reader.size i.gate i.end i.ended c.self.invariant
-          (λ b is. (closed_is b i.gate i.end (sym c.in-Closed.is ∙ c.in_ok-n.ensures.value b is), later_gate (told i.reader.disk) i.reader.size i.gate i.end i.ended c.self.invariant b is c.if-self-2.false)));
-      first_damage = search rules;
-      first = λ bodies all read has. first_of (g.D.Disk.told c.judge_at.new.self.disk) bodies all c.self.inside.gate read has;
-      again = search rules;
-      end = search rules;
-      still = search rules;
-      names = search rules;
-      fault = search rules;
-      faults = search rules;
-    }
+    let file = c.judge_at.ensures.file in
+    let old = reading i.reader.disk i.gate i.end i.ended in
+    let new = reading c.judge_at.new.self.disk i.gate i.end true in
+    subst (λ s. IsReadOn told s new (Ok None)) c.self.view_is
+    (none_left told old new i.reader.size c.self.invariant file.still file.cause.later refl refl
+    (λ b is. (closed_is b i.gate i.end (sym c.in-Closed.is ∙ c.in_ok-n.ensures.value b is), later_gate (told i.reader.disk) i.reader.size i.gate i.end i.ended c.self.invariant b is c.if-self-2.false)))
 
 pub returns-in_ok-body-in-Frame : goal.returns-in_ok-body-in-Frame
-returns-in_ok-body-in-Frame g c = record {
-  exact = search rules;
-  body = search rules;
-  more = let i = c.self.inside in
-      let told = g.D.Disk.told in
-      let body = c.in_ok-body-in-Frame.body in
-      let next = i.gate + (5 + c.in-Frame.n) in
-      let sized = subst (λ j. IfBody j (λ m. IsSized i.gate i.end i.reader.size m)) c.in-Frame.is c.in_ok-n.ensures.sized in
-      let front = subst (λ j. IfBody j (λ m. (b : List ℕ) → (told i.reader.disk).now ≡ Some b → take 5 (drop i.gate b) ≡ 1 ∷ four_bytes m)) c.in-Frame.is c.in_ok-n.ensures.bytes in
-      subst (λ s. (bodies : List (List ℕ)) → HasRead (told s.disk) bodies s.gate → HasRead (told c.body.new.self.disk) (bodies ++ body ∷ []) next) c.self.view_is
-      (more_of (told i.reader.disk) i.reader.size i.gate i.end i.ended c.self.invariant (told c.body.new.self.disk) next c.in-Frame.n body (c.body.ensures.file.still.now ∙ c.judge_at.ensures.file.still.now) refl sized front
-      (λ b is. c.in_ok-body-in-Frame.ensures.bytes b (c.judge_at.ensures.file.still.now ∙ is)));
-  all = search rules;
-  only = search rules;
-  ended = search rules;
-  onward = let i = c.self.inside in (
-    subst (λ s. i.gate + (5 + c.in-Frame.n) ≡ s.gate + 5 + length c.in_ok-body-in-Frame.body) c.self.view_is (omega (arith, c.in_ok-body-in-Frame.ensures.length)),
-    (invariant_of-self-in-Frame g c).room,
-  );
-  undamaged = search rules;
-  damaged = search rules;
-  unended = search rules;
-  first_damage = search rules;
-  first = λ bodies all read has. first_of (g.D.Disk.told c.body.new.self.disk) bodies all (c.self.inside.gate + (5 + c.in-Frame.n)) read has;
-  again = search rules;
-  end = search rules;
-  still = search rules;
-  names = search rules;
-  fault = search rules;
-  faults = search rules;
-}
+returns-in_ok-body-in-Frame g c =
+    let i = c.self.inside in
+    let told = g.D.Disk.told in
+    let first = c.judge_at.ensures.file in
+    let file = c.body.ensures.file in
+    let body = c.in_ok-body-in-Frame.body in
+    let old = reading i.reader.disk i.gate i.end i.ended in
+    let new = reading c.body.new.self.disk (i.gate + (5 + c.in-Frame.n)) i.end i.ended in
+    let still = still_both (told i.reader.disk) (told c.judge_at.new.self.disk) (told c.body.new.self.disk) first.still file.still in
+    subst (λ s. IsReadOn told s new (Ok (Some body))) c.self.view_is
+    (body_read told old new i.reader.size c.self.invariant still (omega (arith, first.cause.later, file.cause.later)) refl c.in-Frame.n body refl (invariant_of-self-in-Frame g c).room c.in_ok-body-in-Frame.ensures.length
+    (subst (λ j. IfBody j (λ m. IsSized i.gate i.end i.reader.size m)) c.in-Frame.is c.in_ok-n.ensures.sized)
+    (λ b is. sym c.in-Frame.is ∙ c.in_ok-n.ensures.value b is)
+    (subst (λ j. IfBody j (λ m. (b : List ℕ) → (told i.reader.disk).now ≡ Some b → take 5 (drop i.gate b) ≡ 1 ∷ four_bytes m)) c.in-Frame.is c.in_ok-n.ensures.bytes)
+    (λ b is. c.in_ok-body-in-Frame.ensures.bytes b (first.still.now ∙ is)))

@@ -23,32 +23,32 @@ returns-in-Ok g c = record {
       subst (λ d. (bodies : List (List ℕ)) → HasBodies (told d) bodies → LeavesOnly (told d) (told c.put.new.disk) (λ f. HoldsBodies f bodies)) (ap (λ s. s.disk) c.self.view_is)
       (stage_moment (told c.self.inside.disk) (told c.put.new.disk) c.self.inside.gate c.self.inside.end (length c.args.frame.now) c.self.invariant c.put.ensures.any_moment);
   place = search rules;
-  stable = search rules;
-  cause = search rules;
+  stable = tt;
+  cause = tt;
   faults = search rules;
   tells = search rules;
   calls_left = search rules;
-  left = search rules;
+  left = tt;
   blows = search rules;
-  covered = search rules;
+  covered = tt;
   covered_then = search rules;
 }
 
 pub returns-in-Err : goal.returns-in-Err
 returns-in-Err g c = record {
-  staged = search rules;
-  durable = search rules;
+  staged = tt;
+  durable = tt;
   any_moment = let told = g.D.Disk.told in
       subst (λ d. (bodies : List (List ℕ)) → HasBodies (told d) bodies → LeavesOnly (told d) (told c.put.new.disk) (λ f. HoldsBodies f bodies)) (ap (λ s. s.disk) c.self.view_is)
       (stage_moment (told c.self.inside.disk) (told c.put.new.disk) c.self.inside.gate c.self.inside.end (length c.args.frame.now) c.self.invariant c.put.ensures.any_moment);
-  place = search rules;
+  place = tt;
   stable = search rules;
   cause = search rules;
   faults = search rules;
   tells = search rules;
-  calls_left = search rules;
+  calls_left = tt;
   left = search rules;
   blows = search rules;
   covered = search rules;
-  covered_then = search rules;
+  covered_then = tt;
 }

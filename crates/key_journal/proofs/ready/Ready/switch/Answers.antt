@@ -10,10 +10,10 @@ use Rattle.key_journal.proofs.ready.Ready.switch.Goals as goal
 
 pub returns-in-Err : goal.returns-in-Err
 returns-in-Err g c = record {
-  switched = search rules;
-  room = search rules;
-  place = search rules;
-  durable = search rules;
+  switched = tt;
+  room = tt;
+  place = tt;
+  durable = tt;
   any_moment = λ bodies body has is_body is.
       let told = g.D.Disk.told in
       let i = c.self.inside in
@@ -25,10 +25,10 @@ returns-in-Err g c = record {
   cause = search rules;
   faults = search rules;
   tells = search rules;
-  calls_left = search rules;
+  calls_left = tt;
   blows = search rules;
   covered = search rules;
-  covered_then = search rules;
+  covered_then = tt;
   stable = λ bodies has image is.
       let told = g.D.Disk.told in
       let i = c.self.inside in
@@ -66,22 +66,22 @@ returns-in-Ok-put g c = record {
       subst (λ d. LeavesOnly (told d) (told c.put.new.disk) (IsOldOrAlone bodies body)) same
       (switch_moment (told i.disk) (told c.lay_alone.new.disk) (told c.put.new.disk) i.gate i.end c.other_start-start.result c.other_start-start.ensures c.args.frame.now body c.self.invariant (g.met.D.Disk.sound c.lay_alone.new.disk) is_body is
       c.lay_alone.ensures.any_moment c.in-Ok.ensures.written c.in-Ok.ensures.durable c.put.ensures.any_moment bodies (subst (λ d. HasBodies (told d) bodies) (sym same) has));
-  cause = search rules;
+  cause = tt;
   faults = search rules;
   tells = search rules;
   calls_left = search rules;
   blows = search rules;
-  covered = search rules;
+  covered = tt;
   covered_then = search rules;
-  stable = search rules;
+  stable = tt;
 }
 
 pub returns-in-Err-put : goal.returns-in-Err-put
 returns-in-Err-put g c = record {
-  switched = search rules;
-  room = search rules;
-  place = search rules;
-  durable = search rules;
+  switched = tt;
+  room = tt;
+  place = tt;
+  durable = tt;
   any_moment = λ bodies body has is_body is.
       let told = g.D.Disk.told in
       let i = c.self.inside in
@@ -92,10 +92,10 @@ returns-in-Err-put g c = record {
   cause = search rules;
   faults = search rules;
   tells = search rules;
-  calls_left = search rules;
+  calls_left = tt;
   blows = search rules;
   covered = search rules;
-  covered_then = search rules;
+  covered_then = tt;
   stable = λ bodies has image is.
       let told = g.D.Disk.told in
       let i = c.self.inside in

@@ -20,17 +20,17 @@ returns-in-Ok g c =
       room = room_is (told c.clear_idle.new.disk) _ _ (invariant_of-result g c);
       durable = search rules;
       any_moment = subst (λ d. LeavesCounting (told d) (told c.clear_idle.new.disk)) same c.clear_idle.ensures.any_moment;
-      cause = search rules;
+      cause = tt;
       faults = search rules;
       tells = search rules;
     }
 
 pub returns-in-Err : goal.returns-in-Err
 returns-in-Err g c = record {
-  wiped = search rules;
-  place = search rules;
-  room = search rules;
-  durable = search rules;
+  wiped = tt;
+  place = tt;
+  room = tt;
+  durable = tt;
   any_moment = let told = g.D.Disk.told in
       subst (λ d. LeavesCounting (told d) (told c.clear_idle.new.disk)) (ap (λ s. s.disk) c.self.view_is) c.clear_idle.ensures.any_moment;
   cause = search rules;

@@ -23,31 +23,31 @@ returns-in-Ok g c = record {
       subst (λ d. (bodies : List (List ℕ)) (body : List ℕ) → HasStaged (told d) bodies body → LeavesOnly (told d) (told c.put.new.disk) (HoldsOldOrNew bodies body)) (ap (λ s. s.disk) c.self.view_is)
       (commit_moment (told c.self.inside.disk) (told c.put.new.disk) c.self.inside.gate c.self.inside.next c.self.inside.end c.self.invariant c.put.ensures.any_moment);
   place = search rules;
-  stable = search rules;
-  cause = search rules;
+  stable = tt;
+  cause = tt;
   faults = search rules;
   tells = search rules;
   calls_left = search rules;
   blows = search rules;
-  pending = search rules;
-  covered = search rules;
+  pending = tt;
+  covered = tt;
   covered_then = search rules;
 }
 
 pub returns-in-Err : goal.returns-in-Err
 returns-in-Err g c = record {
-  room = search rules;
-  committed = search rules;
-  durable = search rules;
+  room = tt;
+  committed = tt;
+  durable = tt;
   any_moment = let told = g.D.Disk.told in
       subst (λ d. (bodies : List (List ℕ)) (body : List ℕ) → HasStaged (told d) bodies body → LeavesOnly (told d) (told c.put.new.disk) (HoldsOldOrNew bodies body)) (ap (λ s. s.disk) c.self.view_is)
       (commit_moment (told c.self.inside.disk) (told c.put.new.disk) c.self.inside.gate c.self.inside.next c.self.inside.end c.self.invariant c.put.ensures.any_moment);
-  place = search rules;
+  place = tt;
   stable = search rules;
   cause = search rules;
   faults = search rules;
   tells = search rules;
-  calls_left = search rules;
+  calls_left = tt;
   blows = search rules;
   pending = λ bodies body has one fault blown.
       let told = g.D.Disk.told in
@@ -56,5 +56,5 @@ returns-in-Err g c = record {
       commit_done (told c.self.inside.disk) (told c.put.new.disk) c.self.inside.gate c.self.inside.next c.self.inside.end c.self.invariant written bodies body
       (subst (λ d. HasStaged (told d) bodies body) (sym same) has);
   covered = search rules;
-  covered_then = search rules;
+  covered_then = tt;
 }
