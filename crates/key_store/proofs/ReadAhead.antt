@@ -1,10 +1,15 @@
 -- Bodies that are read ahead, and then followed.
-use Rattle.std.proofs.Common.{◌≡◌, ℕ, ◌+◌, ◌<◌, ◌≤◌, ◌^◌, true, List, [], ◌∷◌, ◌++◌, length, Some, Ok, ◌∙◌, subst, arith, append_assoc, length-append}
+use Rattle.std.proofs.Common.{◌≡◌, ◌⊎◌, inl, ℕ, ◌+◌, ◌<◌, ◌≤◌, ◌^◌, true, false, List, [], ◌∷◌, ◌++◌, length, Some, None, Ok, Err, ◌∙◌, refl, subst, arith, append_assoc, length-append}
 use Rattle.x_disk.specs.Disk.{View, IsStill}
 use Rattle.key_journal.specs.Journal.{frames}
+use Rattle.key_journal.specs.Opening.{IsFound, IsFree, found_at}
 use Rattle.key_journal.specs.Reading.{IsReadOn}
+use Rattle.key_journal.specs.declared.cause.Cause.{Cause}
+use Rattle.key_journal.specs.declared.cause.Cause.TheVariants as cause
 use Rattle.key_journal.specs.States.{Reading, HasRead}
 use Rattle.key_store.specs.Ahead.{gate_behind, IsReadAhead}
+use Rattle.key_store.proofs.Causes.{read_any}
+use Rattle.key_store.proofs.Keeping.{rose_later}
 use Rattle.key_store.proofs.Loaded.{still_on}
 
 -- the length of frames
@@ -60,4 +65,63 @@ module _ {D : Type 0} (told : D → View) (old mid : Reading D) (bodies : List (
     names = tt;
     end = way.end;
     journal = record { still = way.still; faults = way.faults; fault = tt; names = tt };
+  }
+
+  -- the frames up to there are read still
+  still_read : (new : Reading D) → IsStill (told mid.disk) (told new.disk) → (front : List (List ℕ)) → HasRead (told old.disk) front old.gate → HasRead (told new.disk) (front ++ bodies) (gate_behind old.gate bodies)
+  still_read new still front has =
+      let there = way.read front has in
+      subst (λ (g : ℕ). HasRead (told new.disk) (front ++ bodies) g) way.place (record { image = there.image; now = still.now ∙ there.now; begins = there.begins })
+
+  -- there are no more
+  pub last : (new : Reading D) → IsReadOn told mid new (Ok None) → mid.gate < 2 ^ 64 → IsReadAhead told old new bodies (Ok false)
+  last new next fits = record {
+    few = way.few;
+    fits = omega (arith, way.place, fits);
+    read = still_read new next.still;
+    more = λ is. absurd (cc is);
+    all = λ is. (next.ended refl, λ front has. next.all refl (front ++ bodies) (way.read front has));
+    exact = tt;
+    names = tt;
+    end = next.end ∙ way.end;
+    journal = record { still = still_on (told old.disk) (told mid.disk) (told new.disk) way.still next.still; faults = omega (arith, way.faults, next.faults); fault = tt; names = tt };
+  }
+
+  -- what lies behind them can't be read
+  pub stopped : (new : Reading D) (reason : Cause) → IsReadOn told mid new (Err reason) → mid.gate < 2 ^ 64 → IsReadAhead told old new bodies (Err reason)
+  stopped new reason next fits = record {
+    few = way.few;
+    fits = omega (arith, way.place, fits);
+    read = still_read new next.still;
+    more = tt;
+    all = tt;
+    exact = λ image now.
+        subst (λ (g : ℕ). IsFound (found_at image g old.end) (Err reason)) way.place (subst (λ (e : ℕ). IsFound (found_at image mid.gate e) (Err reason)) way.end (next.exact image (way.still.now ∙ now)));
+    names = subst (λ (g : ℕ). IsFree reason ⊎ (reason ≡ cause.Damaged g)) way.place next.names;
+    end = next.end ∙ way.end;
+    journal = record {
+      still = still_on (told old.disk) (told mid.disk) (told new.disk) way.still next.still;
+      faults = omega (arith, way.faults, next.faults);
+      fault = λ is. rose_later (told old.disk).faults (told mid.disk).faults (told new.disk).faults way.faults (next.fault is);
+      names = read_any reason mid.gate next.names;
+    };
+  }
+
+  -- no memory was left for one more
+  pub unkept : (new : Reading D) (body : List ℕ) → IsReadOn told mid new (Ok (Some body)) → mid.gate < 2 ^ 64 → IsReadAhead told old new bodies (Err cause.NoMemory)
+  unkept new body next fits = record {
+    few = way.few;
+    fits = omega (arith, way.place, fits);
+    read = still_read new next.still;
+    more = tt;
+    all = tt;
+    exact = λ image now. inl tt;
+    names = inl tt;
+    end = next.end ∙ way.end;
+    journal = record {
+      still = still_on (told old.disk) (told mid.disk) (told new.disk) way.still next.still;
+      faults = omega (arith, way.faults, next.faults);
+      fault = λ is. absurd (cc is);
+      names = λ is. cc is;
+    };
   }
