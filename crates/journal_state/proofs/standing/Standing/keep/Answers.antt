@@ -1,5 +1,4 @@
 use Rattle.std.proofs.Common.{sym, subst, length}
-use Rattle.journal_state.specs.States.{Stood, stood}
 use Rattle.journal_state.specs.Keeping.{IsFrameOf, IsKept}
 use Rattle.journal_state.proofs.standing.Standing.keep.Goals as goal
 

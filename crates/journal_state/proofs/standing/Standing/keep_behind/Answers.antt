@@ -1,5 +1,4 @@
-use Rattle.std.proofs.Common.{Ok, Err, length}
-use Rattle.journal_state.specs.States.{Stood, stood}
+use Rattle.journal_state.specs.States.{stood}
 use Rattle.journal_state.proofs.Carried.{not_staged, not_committed, committed, committed_standing}
 use Rattle.journal_state.proofs.standing.Standing.keep_behind.Goals as goal
 
