@@ -1,5 +1,5 @@
 -- The bytes of a plan, part by part.
-use Rattle.std.proofs.Common.{◌≡◌, ℕ, ◌+◌, ◌≤◌, ◌<◌, ◌^◌, List, [], ◌∷◌, ◌++◌, length, take, drop, sym, ap, subst, ◌∙◌, arith, length-append, append_assoc}
+use Rattle.std.proofs.Common.{◌≡◌, ℕ, ◌+◌, ◌≤◌, ◌<◌, ◌^◌, true, List, [], ◌∷◌, ◌++◌, length, take, drop, sym, ap, subst, ◌∙◌, arith, length-append, append_assoc}
 use Rattle.std.proofs.lemmas.List.{take-append-drop}
 use Rattle.std.specs.Prelude.{Result, Ok, Err, OnOk, OnErr}
 use Rattle.std.specs.List.{All}
@@ -8,7 +8,7 @@ use Rattle.change_code.specs.Code.{two}
 use Rattle.spool_store.specs.Contents.{Progress, IsProgress}
 use Rattle.change_code.proofs.Numbers.{two_apart, two_long, same_fronts}
 use Rattle.spool_store.specs.declared.entry_plan.EntryPlan.{EntryPlan}
-use Rattle.spool_store.specs.Plans.{plan_body, IsEntryPlan, IsPlanBody, IsSplit}
+use Rattle.spool_store.specs.Plans.{is_number, longest_plan, plan_body, IsChange, IsEntryPlan, IsPlanBody, IsSplit}
 use Rattle.spool_store.specs.ContentLaws.{body_long, number_small, reply_short}
 
 -- a plan has five bytes at least
@@ -61,6 +61,14 @@ same_parts body reply change n p small short is plan =
     let numbers = two_apart n p.number (two (length reply) ++ (reply ++ change)) (two (length p.reply) ++ (p.reply ++ p.change)) small (number_small p.number plan.plan.number) tails in
     let lengths = two_apart (length reply) (length p.reply) (reply ++ change) (p.reply ++ p.change) short (reply_short p plan.plan) numbers.1 in
     (numbers.0, (same_fronts reply p.reply change p.change lengths.0 lengths.1).1)
+
+-- a plan of copies of these parts has the bytes
+pub plan_of : (body reply change copy copied : List ℕ) (n : ℕ) → IsSplit body n reply change → length body ≤ longest_plan → is_number n ≡ true → IsChange change → copy ≡ reply → copied ≡ change
+    → IsPlanBody body (record { number = n; reply = copy; change = copied })
+plan_of body reply change copy copied n split short number goes same_reply same_change =
+    let is : body ≡ plan_body (record { number = n; reply = copy; change = copied }) =
+    split ∙ (ap (λ (l : List ℕ). 80 ∷ (two n ++ (two (length l) ++ (l ++ change)))) (sym same_reply) ∙ ap (λ (l : List ℕ). 80 ∷ (two n ++ (two (length copy) ++ (copy ++ l)))) (sym same_change)) in
+    record { plan = record { number = number; change = subst IsChange (sym same_change) goes; short = subst (λ (l : List ℕ). length l ≤ longest_plan) is short }; is = is }
 
 pub plan_long : (p : EntryPlan) → length (plan_body p) ≡ 5 + (length p.reply + length p.change)
 plan_long p = body_long p
