@@ -43,12 +43,19 @@ same_bits_true (true ∷ bs) (false ∷ cs) e = absurd (cc e)
 same_bits_true (false ∷ bs) (true ∷ cs) e = absurd (cc e)
 same_bits_true (false ∷ bs) (false ∷ cs) e = ap (λ xs. false ∷ xs) (same_bits_true bs cs e)
 
--- whether entry i of row v of byte n gives what the places of round i pick of those four bits
-abbrev pub row_agrees : List (List ℕ) → List (List ℕ) → ℕ → ℕ → ℕ → Bool
-row_agrees rows tables n v i = same_bits (grouped_bits (get_or (get_or rows n []) (16 * v + i) 0)) (pick (get_or tables i []) (placed n (bits_of 4 v)))
+-- whether each entry of a row gives what the places of its round pick of these bits
+abbrev pub entry_agrees : List ℕ → List (List ℕ) → List Bool → ℕ → Bool
+entry_agrees row tables bits i = same_bits (grouped_bits (get_or row i 0)) (pick (get_or tables i []) bits)
+
+abbrev pub row_agrees : List ℕ → List (List ℕ) → List Bool → Bool
+row_agrees row tables bits = agree_below (entry_agrees row tables bits) (λ i. true) 16
+
+-- the same of row v of byte n, whose bits are the four of v
+abbrev pub byte_agrees : List ℕ → List (List ℕ) → ℕ → Bool
+byte_agrees rows tables n = agree_below (λ v. row_agrees (take 16 (drop (16 * v) rows)) tables (placed n (bits_of 4 v))) (λ v. true) 16
 
 abbrev pub rows_agree : List (List ℕ) → List (List ℕ) → Bool
-rows_agree rows tables = agree_below (λ n. agree_below (λ v. agree_below (row_agrees rows tables n v) (λ i. true) 16) (λ v. true) 16) (λ n. true) 8
+rows_agree rows tables = agree_below (λ n. byte_agrees (get_or rows n []) tables n) (λ n. true) 8
 
 c_rows_agree : rows_agree C_ROWS c_tables ≡ true
 unfolding pick bits_of
@@ -68,12 +75,14 @@ RowsAre rows tables = (n v i : ℕ) → n < 8 → v < 16 → i < 16
 
 rows_are : (rows tables : List (List ℕ)) → rows_agree rows tables ≡ true → RowsAre rows tables
 rows_are rows tables agree = λ n v i p q r.
-    let byte : agree_below (λ v. agree_below (row_agrees rows tables n v) (λ i. true) 16) (λ v. true) 16 ≡ true
-    = agree_below_at (λ n. agree_below (λ v. agree_below (row_agrees rows tables n v) (λ i. true) 16) (λ v. true) 16) (λ n. true) 8 n agree p in
-    let row : agree_below (row_agrees rows tables n v) (λ i. true) 16 ≡ true
-    = agree_below_at (λ v. agree_below (row_agrees rows tables n v) (λ i. true) 16) (λ v. true) 16 v byte q in
-    let entry = get_or (get_or rows n []) (16 * v + i) 0 in
-    grouped_bits_are entry ∙ same_bits_true (grouped_bits entry) (pick (get_or tables i []) (placed n (bits_of 4 v))) (agree_below_at (row_agrees rows tables n v) (λ i. true) 16 i row r)
+    let byte = get_or rows n [] in
+    let row = take 16 (drop (16 * v) byte) in
+    let bits = placed n (bits_of 4 v) in
+    let all : byte_agrees byte tables n ≡ true = agree_below_at (λ n. byte_agrees (get_or rows n []) tables n) (λ n. true) 8 n agree p in
+    let one : row_agrees row tables bits ≡ true = agree_below_at (λ v. row_agrees (take 16 (drop (16 * v) byte)) tables (placed n (bits_of 4 v))) (λ v. true) 16 v all q in
+    let at : get_or row i 0 ≡ get_or byte (16 * v + i) 0 = get_or-take 16 (drop (16 * v) byte) i 0 r ∙ get_or-drop (16 * v) byte i 0 in
+    ap (λ e. pick grouped (bits_of 32 e)) (sym at) ∙ grouped_bits_are (get_or row i 0)
+    ∙ same_bits_true (grouped_bits (get_or row i 0)) (pick (get_or tables i []) bits) (agree_below_at (entry_agrees row tables bits) (λ i. true) 16 i one r)
 
 -- ---- sums of rows
 
