@@ -1,5 +1,5 @@
 // How a run ended, and how that is told.
-ghost use Rattle.std.specs.Prelude.{◌≡◌, IfOk, string_bytes};
+ghost use Rattle.std.specs.Prelude.{◌≡◌, ◌++◌, IfOk, OnOk, string_bytes};
 ghost use Rattle.call_ends.specs.Lines.{pay_text, refusal_text, line_of, exit_code_of};
 
 use audit_fault::AuditFault;
@@ -140,20 +140,21 @@ fn forged_line(alloc: Global, number: u32) -> Result<String, AllocError>
     format!(in alloc; "x917: forged event {number}\n")
 }
 
-fn line_of(alloc: Global, status: &Status) -> Result<String, AllocError>
-    ensures { IfOk result (λ s. string_bytes s ≡ line_of status.now) }
+/// Appends the line of a status.
+fn push_line(out: &mut Text, alloc: Global, status: &Status) -> Result<(), NoMemory>
+    ensures { OnOk result (out.new ≡ out.old ++ line_of status.now) }
 {
     match status {
-        Status::Done => Ok(String::new(alloc)),
-        Status::Refused(refusal) => refusal_line(alloc, refusal),
-        Status::Usage(kind) => usage_line(alloc, kind),
-        Status::ReadFault => format!(in alloc; "x917: read fault\n"),
-        Status::WriteFault => format!(in alloc; "x917: write fault\n"),
-        Status::DiskFault => format!(in alloc; "x917: disk fault\n"),
-        Status::Damaged(place) => damaged_line(alloc, *place),
-        Status::BadScenario(number) => bad_line(alloc, *number),
-        Status::Forged(number) => forged_line(alloc, *number),
-        Status::NoMemory => format!(in alloc; "x917: no memory\n"),
+        Status::Done => Ok(()),
+        Status::Refused(refusal) => out.push(refusal_line(alloc, refusal)?.as_bytes()),
+        Status::Usage(kind) => out.push(usage_line(alloc, kind)?.as_bytes()),
+        Status::ReadFault => out.push(b"x917: read fault\n"),
+        Status::WriteFault => out.push(b"x917: write fault\n"),
+        Status::DiskFault => out.push(b"x917: disk fault\n"),
+        Status::Damaged(place) => out.push(damaged_line(alloc, *place)?.as_bytes()),
+        Status::BadScenario(number) => out.push(bad_line(alloc, *number)?.as_bytes()),
+        Status::Forged(number) => out.push(forged_line(alloc, *number)?.as_bytes()),
+        Status::NoMemory => out.push(b"x917: no memory\n"),
     }
 }
 
@@ -161,10 +162,9 @@ fn line_of(alloc: Global, status: &Status) -> Result<String, AllocError>
 pub fn status_line(alloc: Global, status: &Status) -> Result<Text, NoMemory>
     ensures { IfOk result (λ line. line ≡ line_of status.now) }
 {
-    let line = line_of(alloc, status)?;
-    let mut text = Text::new(alloc);
-    text.push(line.as_bytes())?;
-    Ok(text)
+    let mut line = Text::new(alloc);
+    push_line(&mut line, alloc, status)?;
+    Ok(line)
 }
 
 /// The exit code of a status.
