@@ -12,9 +12,9 @@ use Rattle.audit_check.specs.Answers.{IsAnswer, start_audit}
 use Rattle.audit_check.specs.Audits.{Audit, AuditLeads, Fails}
 use Rattle.audit_check.specs.Ends.{IsBehind}
 use Rattle.audit_check.specs.Laws.{OneAnswer}
-use Rattle.audit_fault.specs.declared.fault.AuditFault.{AuditFault}
+use Rattle.scenario.specs.declared.audit_fault.AuditFault.{AuditFault}
 use Rattle.audit_check.specs.declared.result.AuditResult.{AuditResult}
-use Rattle.audit_fault.specs.declared.fault.AuditFault.TheVariants as fault
+use Rattle.scenario.specs.declared.audit_fault.AuditFault.TheVariants as fault
 use Rattle.audit_check.specs.declared.result.AuditResult.TheVariants as answer
 use Rattle.audit_check.proofs.Unique.{leads_once, leads_or_fails, fails_once}
 

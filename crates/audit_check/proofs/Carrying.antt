@@ -19,8 +19,8 @@ use Rattle.course.specs.declared.progress.Stop.{Stop}
 use Rattle.audit_check.specs.Audits.{IsCut, IsCompleted, letter_old, letter_new}
 use Rattle.audit_check.specs.Events.{IsActedHeld, IsWrongInput, PlaysAt, IsWrongAt, TakesLetter, LacksLetter, member_then, text_then, facts_then}
 use Rattle.audit_check.specs.States.{HoldsMembers, HoldsEach, IsPlaced, Shows}
-use Rattle.audit_fault.specs.declared.fault.AuditFault.{AuditFault}
-use Rattle.audit_fault.specs.declared.fault.AuditFault.TheVariants as fault
+use Rattle.scenario.specs.declared.audit_fault.AuditFault.{AuditFault}
+use Rattle.scenario.specs.declared.audit_fault.AuditFault.TheVariants as fault
 use Rattle.audit_check.specs.declared.parties.Parties.{Parties}
 use Rattle.audit_check.specs.declared.state.AuditState.{AuditState}
 use Rattle.audit_check.proofs.HeldMembers.{found, put, map_at}

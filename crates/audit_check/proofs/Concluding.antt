@@ -9,8 +9,8 @@ use Rattle.audit_check.specs.Ends.{IsBehind, answer_of}
 use Rattle.audit_check.specs.Laws.{RunsLawful}
 use Rattle.audit_check.specs.declared.failure.Failure.{Failure}
 use Rattle.audit_check.specs.declared.failure.Failure.TheVariants as failure
-use Rattle.audit_fault.specs.declared.fault.AuditFault.{AuditFault}
-use Rattle.audit_fault.specs.declared.fault.AuditFault.TheVariants as fault
+use Rattle.scenario.specs.declared.audit_fault.AuditFault.{AuditFault}
+use Rattle.scenario.specs.declared.audit_fault.AuditFault.TheVariants as fault
 use Rattle.audit_check.specs.declared.result.AuditResult.{AuditResult}
 use Rattle.audit_check.specs.declared.result.AuditResult.TheVariants as answer
 

@@ -20,10 +20,10 @@ use Rattle.course.specs.declared.progress.EventOutcome.TheVariants as outcome
 use Rattle.course.specs.declared.progress.Progress.{Progress}
 use Rattle.audit_check.specs.Audits.{Audit, IsCompleted, IsNothing, IsDone, IsDoneBy, IsStopped, IsWrong}
 use Rattle.audit_check.specs.Events.{IsHonestStop, IsWrongInput, PlaysAt, IsWrongAt}
-use Rattle.audit_fault.specs.Faults.{fault_place}
+use Rattle.scenario.specs.AuditFaults.{fault_place}
 use Rattle.audit_check.specs.States.{HoldsMembers, IsPlaced, Shows, IsActed, Acts, ActsWrongly}
-use Rattle.audit_fault.specs.declared.fault.AuditFault.{AuditFault}
-use Rattle.audit_fault.specs.declared.fault.AuditFault.TheVariants as fault
+use Rattle.scenario.specs.declared.audit_fault.AuditFault.{AuditFault}
+use Rattle.scenario.specs.declared.audit_fault.AuditFault.TheVariants as fault
 use Rattle.audit_check.specs.declared.state.AuditState.{AuditState}
 
 -- ---- from an action to the input that it gives

@@ -16,10 +16,10 @@ use Rattle.course.specs.declared.progress.EventOutcome.{EventOutcome}
 use Rattle.course.specs.declared.progress.EventOutcome.TheVariants as outcome
 use Rattle.course.specs.declared.progress.Progress.{Progress}
 use Rattle.audit_check.specs.Audits.{Audit, IsNext, AuditLeads, IsWrong, Fails}
-use Rattle.audit_fault.specs.Faults.{fault_place}
+use Rattle.scenario.specs.AuditFaults.{fault_place}
 use Rattle.audit_check.specs.States.{HoldsMembers, Shows, Acts, ActsWrongly, LeadsOn, IsWrongIn, LeadAll, AreWrong}
 use Rattle.audit_check.specs.Compared.{compared}
-use Rattle.audit_fault.specs.declared.fault.AuditFault.{AuditFault}
+use Rattle.scenario.specs.declared.audit_fault.AuditFault.{AuditFault}
 use Rattle.audit_check.specs.declared.state.AuditState.{AuditState}
 
 -- the numbers stay small

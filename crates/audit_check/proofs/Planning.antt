@@ -21,8 +21,8 @@ use Rattle.course.specs.declared.progress.Progress.{Progress}
 use Rattle.course.specs.declared.progress.Stop.{Stop}
 use Rattle.audit_check.specs.Audits.{IsCompleted, IsCut, letter_old, letter_new}
 use Rattle.audit_check.specs.Events.{IsNextLetter, TakesLetter, LacksLetter, IsCutBy, IsActedHeld, IsHonestStop, IsWrongInput, member_then, text_then, facts_then}
-use Rattle.audit_fault.specs.declared.fault.AuditFault.{AuditFault}
-use Rattle.audit_fault.specs.declared.fault.AuditFault.TheVariants as fault
+use Rattle.scenario.specs.declared.audit_fault.AuditFault.{AuditFault}
+use Rattle.scenario.specs.declared.audit_fault.AuditFault.TheVariants as fault
 use Rattle.audit_check.specs.declared.state.AuditState.{AuditState}
 
 pub plan_lead : (x : Member) (i : Input) (moment : ℕ) → (plan_at x i moment).lead ≡ lead_in x.party i

@@ -19,9 +19,9 @@ use Rattle.course.specs.declared.progress.Progress.{Progress}
 use Rattle.course.specs.declared.progress.EventOutcome.TheVariants.{Refused}
 use Rattle.course.specs.declared.progress.Stop.{Stop}
 use Rattle.audit_check.specs.Audits.{Audit, IsCut, IsCompleted, IsDoneAt, IsNothing, IsDoneBy, IsDone, IsEvent, IsQuiet, IsNext, AuditLeads, IsStopped, IsWrong, Fails, letter_old, letter_new}
-use Rattle.audit_fault.specs.Faults.{fault_place}
-use Rattle.audit_fault.specs.declared.fault.AuditFault.{AuditFault}
-use Rattle.audit_fault.specs.declared.fault.AuditFault.TheVariants as fault
+use Rattle.scenario.specs.AuditFaults.{fault_place}
+use Rattle.scenario.specs.declared.audit_fault.AuditFault.{AuditFault}
+use Rattle.scenario.specs.declared.audit_fault.AuditFault.TheVariants as fault
 
 -- ---- lines
 

@@ -8,9 +8,9 @@ use Rattle.course.specs.Tallies.{IsTallied}
 use Rattle.course.specs.Transcript.{show_lines}
 use Rattle.course.specs.declared.tally.Tally.{Tally}
 use Rattle.audit_check.specs.Audits.{Audit, AuditLeads, Fails}
-use Rattle.audit_fault.specs.declared.fault.AuditFault.{AuditFault}
+use Rattle.scenario.specs.declared.audit_fault.AuditFault.{AuditFault}
 use Rattle.audit_check.specs.declared.result.AuditResult.{AuditResult}
-use Rattle.audit_fault.specs.declared.fault.AuditFault.TheVariants as fault
+use Rattle.scenario.specs.declared.audit_fault.AuditFault.TheVariants as fault
 use Rattle.audit_check.specs.declared.result.AuditResult.TheVariants as answer
 
 -- before the first line, with all letters

@@ -14,10 +14,10 @@ use Rattle.course.specs.Stops.{KeepsChange}
 use Rattle.course.specs.declared.progress.EventOutcome.{EventOutcome}
 use Rattle.course.specs.declared.progress.Progress.{Progress}
 use Rattle.course.specs.declared.progress.Stop.{Stop}
-use Rattle.audit_fault.specs.Faults.{fault_place}
-use Rattle.audit_fault.specs.declared.fault.AuditFault.{AuditFault}
+use Rattle.scenario.specs.AuditFaults.{fault_place}
+use Rattle.scenario.specs.declared.audit_fault.AuditFault.{AuditFault}
 use Rattle.course.specs.declared.progress.EventOutcome.TheVariants as outcome
-use Rattle.audit_fault.specs.declared.fault.AuditFault.TheVariants as fault
+use Rattle.scenario.specs.declared.audit_fault.AuditFault.TheVariants as fault
 
 -- where an audit stands: the course so far, and the letters of the stopped events that are to come
 pub record Audit : Type 0 where

@@ -6,7 +6,7 @@ use Rattle.audit_check.specs.Answers.{transcript_of, line_of_difference}
 use Rattle.audit_check.specs.Audits.{Audit}
 use Rattle.audit_check.specs.declared.failure.Failure.{Failure}
 use Rattle.audit_check.specs.declared.failure.Failure.TheVariants as failure
-use Rattle.audit_fault.specs.declared.fault.AuditFault.TheVariants as fault
+use Rattle.scenario.specs.declared.audit_fault.AuditFault.TheVariants as fault
 use Rattle.audit_check.specs.declared.result.AuditResult.{AuditResult}
 use Rattle.audit_check.specs.declared.result.AuditResult.TheVariants as answer
 

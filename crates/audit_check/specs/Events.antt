@@ -17,9 +17,9 @@ use Rattle.course.specs.declared.progress.Progress.{Progress}
 use Rattle.course.specs.declared.progress.Stop.{Stop}
 use Rattle.audit_check.specs.Audits.{IsCompleted, letter_old, letter_new}
 use Rattle.audit_check.specs.States.{IsPlaced, Shows}
-use Rattle.audit_fault.specs.declared.fault.AuditFault.{AuditFault}
+use Rattle.scenario.specs.declared.audit_fault.AuditFault.{AuditFault}
 use Rattle.audit_check.specs.declared.state.AuditState.{AuditState}
-use Rattle.audit_fault.specs.declared.fault.AuditFault.TheVariants as fault
+use Rattle.scenario.specs.declared.audit_fault.AuditFault.TheVariants as fault
 
 -- the letter in front of these, and whether the new state stands after it
 pub record IsNextLetter (letters left : List ℕ) (next : Bool) : Type 0 where

@@ -11,9 +11,9 @@ use Rattle.course.specs.LineEvents.{LineEvent, MakesEvent, IsFormed}
 use Rattle.course.specs.declared.act.LineAct.{LineAct}
 use Rattle.course.specs.declared.progress.EventOutcome.{EventOutcome}
 use Rattle.audit_check.specs.Audits.{Audit, IsDone, IsNext, IsWrong, AuditLeads, Fails}
-use Rattle.audit_fault.specs.Faults.{fault_place}
+use Rattle.scenario.specs.AuditFaults.{fault_place}
 use Rattle.audit_check.specs.Compared.{compared}
-use Rattle.audit_fault.specs.declared.fault.AuditFault.{AuditFault}
+use Rattle.scenario.specs.declared.audit_fault.AuditFault.{AuditFault}
 use Rattle.audit_check.specs.declared.parties.Parties.{Parties}
 use Rattle.audit_check.specs.declared.state.AuditState.{AuditState}
 

@@ -9,16 +9,16 @@ ghost use Rattle.world_laws.specs.Noted.{noted};
 ghost use Rattle.course.specs.Outcomes.{outcome_of};
 ghost use Rattle.audit_check.specs.Events.{IsActedHeld, IsCutBy, IsWrongAt, IsWrongInput, LacksLetter, PlaysAt};
 ghost use Rattle.audit_check.specs.States.{HoldsEach, Acts, ActsWrongly};
-ghost use Rattle.audit_fault.specs.declared.fault.AuditFault.{AuditFault as TheFault};
+ghost use Rattle.scenario.specs.declared.audit_fault.AuditFault.{AuditFault as TheFault};
 
 use crate::failure::Failure;
 use crate::letters::Letters;
 use crate::state::AuditState;
-use audit_fault::AuditFault;
 use course::{EventOutcome, LineAct, is_honest, note, note_if, outcome_of};
 use fact_book::{FactBook, Texts};
 use member::{Answer, Holder, PartyInMemory, PlannedInMemory};
 use party_state::Input;
+use scenario::AuditFault;
 use std::alloc::Global;
 use world_laws::law_inputs;
 use x_base::NoMemory;

@@ -16,10 +16,9 @@ use crate::lines::audit_lines;
 use crate::result::AuditResult;
 use crate::setting_up::set_up;
 use crate::state::AuditState;
-use audit_fault::AuditFault;
 use course::{Tally, law_scenario_starts, start};
 use fact_book::{FactBook, Texts};
-use scenario::Scenario;
+use scenario::{AuditFault, Scenario};
 use std::alloc::Global;
 use x_base::NoMemory;
 

@@ -1,5 +1,5 @@
 // Why an audit ends before its last line.
-use audit_fault::AuditFault;
+use scenario::AuditFault;
 use x_base::NoMemory;
 
 /// What was found wrong, or want of memory.

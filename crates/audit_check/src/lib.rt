@@ -16,8 +16,8 @@ mod result;
 mod setting_up;
 mod state;
 
-pub use audit_fault::AuditFault;
 pub use auditing::audit;
 pub use input::{AuditInput, read_audit};
 pub use laws::{law_one_answer, law_runs_lawful};
 pub use result::{AuditResult, AuditTally};
+pub use scenario::AuditFault;

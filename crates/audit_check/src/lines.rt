@@ -4,7 +4,7 @@ ghost use Rattle.scenario.specs.declared.line.Line.{Line as TheLine};
 ghost use Rattle.course.specs.Meanings.{IsLineAct};
 ghost use Rattle.course.specs.Outcomes.{IsWithin};
 ghost use Rattle.audit_check.specs.States.{HoldsEach, AreWrong, IsWrongIn, LeadAll, LeadsOn};
-ghost use Rattle.audit_fault.specs.declared.fault.AuditFault.{AuditFault as TheFault};
+ghost use Rattle.scenario.specs.declared.audit_fault.AuditFault.{AuditFault as TheFault};
 
 use crate::acting::perform;
 use crate::failure::Failure;

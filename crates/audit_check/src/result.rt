@@ -1,6 +1,6 @@
 // What an audit answers.
-use audit_fault::AuditFault;
 use course::Tally;
+use scenario::AuditFault;
 
 /// The numbers of a scenario that was audited: those of a play.
 pub use course::Tally as AuditTally;

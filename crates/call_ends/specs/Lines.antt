@@ -3,8 +3,8 @@ use Rattle.std.specs.Prelude.{◌++◌, ℕ, List, [], codes}
 use Rattle.std.specs.Fmt.{decimal}
 use Rattle.x_base.specs.Verdict.{number_of}
 use Rattle.x_base.specs.declared.verdict.Verdict.TheVariants.{CountLow}
-use Rattle.audit_fault.specs.Faults.{fault_number, fault_place}
-use Rattle.audit_fault.specs.declared.fault.AuditFault.TheVariants.{Forged}
+use Rattle.scenario.specs.AuditFaults.{fault_number, fault_place}
+use Rattle.scenario.specs.declared.audit_fault.AuditFault.TheVariants.{Forged}
 use Rattle.csm_grammar.specs.declared.refusal.ReadRefusal.TheVariants.{NoMemory}
 use Rattle.csm_grammar.specs.Places.{read_number, place_of}
 use Rattle.pay_auth.specs.Refusals.{pay_number}

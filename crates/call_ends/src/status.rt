@@ -2,9 +2,9 @@
 ghost use Rattle.std.specs.Prelude.{◌≡◌, ◌++◌, IfOk, OnOk, string_bytes};
 ghost use Rattle.call_ends.specs.Lines.{pay_text, refusal_text, line_of, exit_code_of};
 
-use audit_fault::AuditFault;
 use csm_grammar::ReadRefusal;
 use pay_auth::PayRefusal;
+use scenario::AuditFault;
 use std::alloc::{AllocError, Global};
 use x_base::{Ident, NoMemory, Text, Verdict};
 use x_line::UsageKind;

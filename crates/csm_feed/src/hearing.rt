@@ -34,7 +34,7 @@ fn trailing(bytes: &[u8], end: usize) -> Option<u64>
     }
 }
 
-/// What is heard where a message was read: it, unless it is followed by what isn't taken at a place.
+/// What is heard where a message was read: the message, unless a byte that is no separator follows it, at this place of the input.
 fn heard(arrival: Arrival, follows: Option<u64>) -> Result<Arrival, Unheard>
     ensures message { IfOk result (λ a. (a ≡ arrival) × (follows ≡ None)) }
     ensures trailing { IfErr result (λ u. (place : ℕ) × (u ≡ Unheard.Trailing place) × (follows ≡ Some place)) }

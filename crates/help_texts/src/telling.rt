@@ -13,7 +13,7 @@ use x_base::{NoMemory, Text};
 const VERSIONS: &[u8] = b"
 x917 help COMMAND tells of a command, x917 help NUMBER of a refusal. Words in quotation marks are
 sections of docs/OPERATOR.md.
-x917 1.0.0, proved with rattle-kit-13b
+x917 1.0.0, proved with rattle-kit-13f
 ";
 
 /// Appends the line with which the text of a topic begins, or the lines.

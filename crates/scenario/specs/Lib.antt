@@ -6,3 +6,4 @@ pub mod Behind
 pub mod Reading
 pub mod Tables
 pub mod Laws
+pub mod AuditFaults

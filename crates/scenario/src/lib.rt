@@ -1,6 +1,7 @@
-//! Scenarios: texts of parties, links and events.
+//! Scenarios: texts of parties, links and events; and what an audit finds wrong with a transcript of one.
 #![tactic(auto)]
 
+mod audit_fault;
 mod draft;
 mod fault;
 mod kind;
@@ -13,6 +14,7 @@ mod scenario_lines;
 mod tables;
 mod words;
 
+pub use audit_fault::AuditFault;
 pub use fault::ScenarioFault;
 pub use kinds::decoded;
 pub use laws::{

@@ -81,6 +81,7 @@ pub fn read(alloc: Global, bytes: &[u8]) -> Result<Scenario, ScenarioFault>
 {
     let mut draft = Draft::new(alloc);
     let taken = take_all(&mut draft, alloc, bytes);
+    // The draft's tables are given up here, whatever was read.
     let lines = draft.into_lines();
     taken?;
     Ok(Scenario::new(lines))

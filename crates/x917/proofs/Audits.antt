@@ -8,8 +8,8 @@ use Rattle.course.specs.declared.tally.Tally.{Tally}
 use Rattle.audit_check.specs.Answers.{IsAudited, IsFault, IsOnly}
 use Rattle.audit_check.specs.Inputs.{IsInputReading}
 use Rattle.audit_check.specs.Parts.{Parts}
-use Rattle.audit_fault.specs.declared.fault.AuditFault.{AuditFault}
-use Rattle.audit_fault.specs.declared.fault.AuditFault.TheVariants as wrong
+use Rattle.scenario.specs.declared.audit_fault.AuditFault.{AuditFault}
+use Rattle.scenario.specs.declared.audit_fault.AuditFault.TheVariants as wrong
 use Rattle.audit_check.specs.declared.result.AuditResult.{AuditResult}
 use Rattle.audit_check.specs.declared.result.AuditResult.TheVariants as answer
 use Rattle.call_ends.specs.Causes.{HasCause}

@@ -7,8 +7,8 @@ use Rattle.course.specs.declared.tally.Tally.{Tally}
 use Rattle.audit_check.specs.Answers.{IsAudited, IsFault}
 use Rattle.audit_check.specs.Inputs.{IsBadInput, IsAuditInput}
 use Rattle.audit_check.specs.Parts.{Parts}
-use Rattle.audit_fault.specs.declared.fault.AuditFault.{AuditFault}
-use Rattle.audit_fault.specs.declared.fault.AuditFault.TheVariants.{Forged}
+use Rattle.scenario.specs.declared.audit_fault.AuditFault.{AuditFault}
+use Rattle.scenario.specs.declared.audit_fault.AuditFault.TheVariants.{Forged}
 use Rattle.audit_check.specs.declared.result.AuditResult.{AuditResult}
 use Rattle.audit_check.specs.declared.result.AuditResult.TheVariants as answer
 use Rattle.call_ends.specs.declared.status.Refusal.TheVariants.{Audit}

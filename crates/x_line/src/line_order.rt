@@ -205,7 +205,19 @@ pub(crate) fn order_of(kind: OrderKind, line: &Line<'_>) -> Option<Order>
         (OrderKind::Spool, _, _) => spool(line),
         (OrderKind::Outbox, _, _) => outbox(line),
         (OrderKind::Drill, _, _) => drill(line),
-        _ => None,
+        // An order of a party alone, or of a party and its peer, on a line that doesn't name them.
+        (
+            OrderKind::Take
+            | OrderKind::Purge
+            | OrderKind::Show
+            | OrderKind::Compact
+            | OrderKind::Migrate
+            | OrderKind::Wipe
+            | OrderKind::Resend
+            | OrderKind::Drop,
+            _,
+            _,
+        ) => None,
     }
 }
 

@@ -53,7 +53,7 @@ fn failed(error: DiskErr) -> Outcome
     }
 }
 
-/// The same with the message as an input, and the word of its class.
+/// A turn with a message as an input, and its notice, given the word of the message's class.
 fn turn_noticed<H: Shelf>(
     alloc: Global,
     shelf: &mut H,

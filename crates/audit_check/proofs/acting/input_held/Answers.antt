@@ -4,8 +4,8 @@ use Rattle.change_code.specs.Cost.{fits, is_change}
 use Rattle.member.specs.Answers.{PlannedMember}
 use Rattle.audit_check.specs.Events.{IsWrongInput, LacksLetter}
 use Rattle.audit_check.specs.declared.failure.Failure.TheVariants as failure
-use Rattle.audit_fault.specs.declared.fault.AuditFault.{AuditFault}
-use Rattle.audit_fault.specs.declared.fault.AuditFault.TheVariants as fault
+use Rattle.scenario.specs.declared.audit_fault.AuditFault.{AuditFault}
+use Rattle.scenario.specs.declared.audit_fault.AuditFault.TheVariants as fault
 use Rattle.audit_check.proofs.Planning.{plan_lead, plan_fits, lacking_is_wrong, cut_held, whole_held}
 use Rattle.audit_check.proofs.Results.{one_err}
 use Rattle.audit_check.proofs.acting.input_held.Goals as goal

@@ -1,7 +1,7 @@
 use Rattle.std.proofs.Common.{◌≡◌, false, None, refl, subst}
 use Rattle.audit_check.specs.Events.{IsNextLetter, IsWrongAt}
-use Rattle.audit_fault.specs.declared.fault.AuditFault.{AuditFault}
-use Rattle.audit_fault.specs.declared.fault.AuditFault.TheVariants as fault
+use Rattle.scenario.specs.declared.audit_fault.AuditFault.{AuditFault}
+use Rattle.scenario.specs.declared.audit_fault.AuditFault.TheVariants as fault
 use Rattle.audit_check.proofs.Carrying.{unheard_whole, unheard_cut, unheard_wrong}
 use Rattle.audit_check.proofs.Planning.{old_taken, lacks_change}
 use Rattle.audit_check.proofs.acting.unheard_at.Goals as goal

@@ -1,6 +1,6 @@
 // What an audit finds wrong.
 ghost use Rattle.std.specs.Prelude.{◌≡◌};
-ghost use Rattle.audit_fault.specs.Faults.{fault_number, fault_place};
+ghost use Rattle.scenario.specs.AuditFaults.{fault_number, fault_place};
 
 /// Why a transcript isn't that of a scenario. An event is told by its number, and a line by its number in the transcript,
 /// each from 1.

@@ -1,7 +1,7 @@
 -- The faults that an audit finds, and how they are told (this project's profile).
 use Rattle.std.specs.Prelude.{ℕ}
-use Rattle.audit_fault.specs.declared.fault.AuditFault.{AuditFault}
-use Rattle.audit_fault.specs.declared.fault.AuditFault.TheVariants as fault
+use Rattle.scenario.specs.declared.audit_fault.AuditFault.{AuditFault}
+use Rattle.scenario.specs.declared.audit_fault.AuditFault.TheVariants as fault
 
 -- its number among the refusals
 abbrev pub fault_number : AuditFault → ℕ
