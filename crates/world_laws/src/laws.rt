@@ -8,7 +8,7 @@ ghost use Rattle.world_laws.specs.Honest.{HonestRun};
 ghost use Rattle.world_laws.specs.Starts.{HasAcceptedNothing, IsBareStart, IsStart};
 ghost use Rattle.world_laws.specs.Laws.{OneKeyPerCount, Once, Agreement, EndedBoth};
 ghost use Rattle.world_laws.specs.Shown.{UsesShown};
-ghost use Rattle.world_laws.specs.Answered.{AnswersAdded};
+ghost use Rattle.world_laws.specs.Answered.{AcceptancesAdded, AnswersAdded};
 
 /// Each start is as bare as the first two laws need it.
 pub fn law_start()
@@ -28,10 +28,12 @@ pub fn law_used()
     ensures { (start : World) (events : List Event) → IsStart start → AreEvents events → UsesShown 1 start events }
 {}
 
-/// An event adds an acceptance of the answer to the end of a key exactly where a response service message that names a key is
-/// accepted at it, and stands: of that key, and no other.
+/// An event adds an acceptance of a key service message, of a disconnection, or of the answer to the end of a key exactly where
+/// such a message is accepted at it, and stands: of the keys that the message tells, and no other. So it adds one of an answer
+/// exactly where a response service message that names a key is accepted, and stands.
 pub fn law_accepted()
-    ensures { (n : ℕ) (w : World) (e : Event) (x : Member) → member_at e.party w.members ≡ Some x → AnswersAdded w (step n w e) x e.moment e.completion e.action }
+    ensures acceptances { (n : ℕ) (w : World) (e : Event) (x : Member) → member_at e.party w.members ≡ Some x → AcceptancesAdded w (step n w e) x e.moment e.completion e.action }
+    ensures answers { (n : ℕ) (w : World) (e : Event) (x : Member) → member_at e.party w.members ≡ Some x → AnswersAdded w (step n w e) x e.moment e.completion e.action }
 {}
 
 /// Each key service message takes effect at most once, whatever a network has done before but that it accepted nothing.

@@ -62,21 +62,13 @@ use Rattle.party_tables.proofs.Tables.{put_stands}
 use Rattle.csm_grammar.specs.declared.message.Dsm.{Dsm}
 use Rattle.bank_arrivals.specs.declared.disconnection.NamedKey.{NamedKey}
 use Rattle.role_base.specs.Exchanges.{record_of}
-use Rattle.bank_arrivals.specs.Dsm.{paired, code_name, named_by, dsm_front, left_by, left_in, disconnected, dsm_on}
+use Rattle.bank_arrivals.specs.Dsm.{named_by, dsm_front, left_by, left_in, disconnected, dsm_on}
 use Rattle.world_laws.proofs.Links.Waiting.{Waits}
+use Rattle.world_laws.proofs.Ended.Names.{named_at}
 use Rattle.world_laws.proofs.Sound.Arrivals.{dsm_passes}
 use Rattle.world_laws.proofs.Agreeing.Known.{one_key}
 use Rattle.world_laws.proofs.Agreeing.Waiting.{SentOk}
 use Rattle.change_code.specs.declared.space.Space.{Space}
-
--- the key that ends stands
-named_at : (q : Party) (m : Dsm) (n : NamedKey) → named_by q m ≡ Some n → record_of q m.originator m.idd ≡ Some n.key
-named_at q m n h = go (record_of q m.originator m.idd) (record_of q m.originator (code_name m.idd m.ida)) h
-  where
-    go : (a b : Option KeyRec) → paired a b ≡ Some n → a ≡ Some n.key
-    go None b h = absurd (cc)
-    go (Some k) None h = absurd (cc)
-    go (Some k) (Some j) h = (let made : NamedKey = record { key = k; by = j } in let is : made ≡ n = cc in ap (λ (z : NamedKey). let o : Option KeyRec = Some z.key in o) is)
 
 ended_is : (s : KeyStatus) → is_ended s ≡ true → s ≡ Ended
 ended_is Pending h = absurd (cc)

@@ -1,5 +1,5 @@
 -- What was accepted, and what was answered.
-use Rattle.std.proofs.Common.{◌≡◌, ◌⊎◌, ◌+◌, inl, inr, ℕ, Option, Some, None, IfSome, List, ◌∷◌, [], map, All, refl, sym, ◌∙◌, ap, subst}
+use Rattle.std.proofs.Common.{◌≡◌, ◌⊎◌, ◌+◌, inl, inr, ℕ, Option, Some, None, IfSome, List, ◌∷◌, [], All, refl, sym, ◌∙◌, ap, subst}
 use Rattle.std.proofs.lemmas.List.Elements.{All-contains, All-weaker, All-cons, All-nil}
 use Rattle.x_base.specs.declared.key_name.KeyName.{KeyName}
 use Rattle.x_base.specs.declared.key_name.FullName.{FullName}
@@ -30,21 +30,13 @@ use Rattle.world_laws.proofs.Agreeing.Facts.{Keeps, Carries, as_first, as_second
 use Rattle.world_laws.proofs.Agreeing.KeyRecords.{Gone}
 use Rattle.world_laws.proofs.Agreeing.Matched.{fact_of, name_of, receiver_of, made_of}
 use Rattle.world_laws.proofs.Agreeing.Agreed.{Agreed}
+use Rattle.world_laws.proofs.Ended.Names.{names_listed}
 
--- the names and values of a text's keys, as a list and as its row has them
+-- the values of a text's keys, as a list and as its row has them
 
 kk_same : (pair : Pair) (count : ℕ) (kk : NewKk) → opened_kk pair count kk ≡ carried_kk pair count kk
 kk_same pair count (new_kk.Double left right) = refl
 kk_same pair count (new_kk.Single key) = refl
-
-names_listed : (label : List ℕ) (pair : Pair) (m : Ksm) → key_names (carried_name label m (body_count m.body)) (body_twin m.body) ≡ map (λ k. carried_name label m k.count) (carried_keys pair m)
-names_listed label pair m = go m.body
-  where
-    go : (b : KsmBody) → key_names (carried_name label (record m { body = b }) (body_count b)) (body_twin b) ≡ map (λ k. carried_name label (record m { body = b }) k.count) (body_keys pair m.originator m.receiver b)
-    go (body.Direct idk2 None kd ctp) = refl
-    go (body.Direct idk2 (Some new) kd ctp) = refl
-    go (body.Centre centre kdu ctb) = refl
-    go (body.Twin idk2 first second ctp) = refl
 
 keys_listed : (label : List ℕ) (pair : Pair) (m : Ksm) (P : CarriedKey → Type 0) → ((k : CarriedKey) → Carries pair m.originator m.receiver m.body (carried_name label m (body_count m.body)) (carried_name label m k.count) k.value → P k) → All P (carried_keys pair m)
 keys_listed label pair m P each = go m.body each

@@ -1,18 +1,18 @@
--- The class of what each row accepts.
+-- What each row accepts is what its message tells.
 use Rattle.std.proofs.Common.{◌≡◌, ℕ, Bool, true, false, cond, Option, Some, None, List, [], ◌∷◌, ◌++◌, refl, sym, ap, bytes_eq}
 use Rattle.x_base.specs.declared.key_name.KeyName.{KeyName}
 use Rattle.x_base.specs.declared.key_name.FullName.{FullName}
 use Rattle.x_base.specs.declared.party.Role.{Role}
 use Rattle.x_base.specs.declared.party.Role.TheVariants.{Bank, Distribution, Translation}
 use Rattle.x_base.specs.declared.party.Side.TheVariants.{Sends}
-use Rattle.x_base.specs.declared.verdict.Verdict.TheVariants.{BadMac, NoExchange, WrongClass, NotForMe}
+use Rattle.x_base.specs.declared.verdict.Verdict.{Verdict}
+use Rattle.x_base.specs.declared.verdict.Verdict.TheVariants.{BadMac, NoExchange, WrongClass, NotForMe, UnknownKey, UnknownPeer}
 use Rattle.x_gen.specs.declared.generator.Gen.{Gen}
 use Rattle.x_gen.specs.Gen.{good_draw}
 use Rattle.csm_grammar.specs.declared.arrival.Arrival.{Arrival}
 use Rattle.csm_grammar.specs.declared.message.Rsi.{Rsi}
 use Rattle.csm_grammar.specs.declared.message.Rtr.{Rtr}
 use Rattle.csm_grammar.specs.declared.message.Ksm.{Ksm}
-use Rattle.csm_grammar.specs.declared.message.KsmBody.{KsmBody}
 use Rattle.csm_grammar.specs.declared.message.Rfs.{Rfs}
 use Rattle.csm_grammar.specs.declared.message.Rsm.{Rsm}
 use Rattle.csm_grammar.specs.declared.message.Ers.{Ers}
@@ -34,15 +34,16 @@ use Rattle.party_state.specs.declared.command.Command.{Command}
 use Rattle.party_state.specs.declared.command.Command.TheVariants as command
 use Rattle.party_state.specs.declared.command.Input.{Input}
 use Rattle.party_state.specs.declared.command.Input.TheVariants as input
-use Rattle.party_state.specs.Rows.{Accepted, OfAnswer, refused}
-use Rattle.party_state.specs.State.{Party, centre_label, link_with, first_link, exchange_with, answer_with}
+use Rattle.party_state.specs.Rows.{Accepted, OfKsm, OfAnswer, OfDsm, refused}
+use Rattle.party_state.specs.State.{Party, centre_label, link_with, first_link, exchange_with, answer_with, knows}
 use Rattle.party_state.specs.Verdicts.{Test, TestsHold, is_accept}
 use Rattle.party_state.proofs.Verdicts.{held, blocked}
 use Rattle.role_base.specs.declared.exchanges.Sent.{Sent}
 use Rattle.role_base.specs.declared.exchanges.Twins.{Twins}
+use Rattle.role_base.proofs.Addressed.{for_me}
 use Rattle.role_base.specs.Centres.{centre_command}
 use Rattle.role_base.specs.Load.{load}
-use Rattle.role_base.specs.Conditions.{is_for, is_two_keys}
+use Rattle.role_base.specs.Conditions.{body_issuer, is_for, is_two_keys, other_class}
 use Rattle.role_base.specs.Exchanges.{record_of, ending_by, ending_in, ending_with, sent_to, twins_to}
 use Rattle.role_base.specs.Texts.{is_plain, is_verified}
 use Rattle.bank_orders.specs.Start.{sending_link, start_tests, start_under}
@@ -80,57 +81,58 @@ use Rattle.translation_role.specs.Rows.{translation_message}
 use Rattle.member.specs.Rows.{row_by, row_at}
 use Rattle.world_laws.specs.World.{Acceptance}
 use Rattle.world_laws.specs.Steps.{acceptances_of, received_text}
-use Rattle.world_laws.specs.Answered.{is_end_answer, answers_in, answer_of, message_answers}
-use Rattle.world_laws.proofs.Sound.Exchanges.{record_at}
+use Rattle.world_laws.specs.Answered.{is_key_or_end, keys_and_ends, named_key, answer_of, dsm_acceptance, ksm_acceptance, message_acceptances}
+use Rattle.world_laws.proofs.Sound.Exchanges.{RecordAt, record_at}
+use Rattle.world_laws.proofs.Ended.Names.{named_at, names_carried}
 
--- what a row accepts is no answer to the end of a key
-abbrev pub NoAnswer : Option Accepted → Type 0
-NoAnswer None = Unit {0}
-NoAnswer (Some a) = is_end_answer a.class ≡ false
+-- what a row accepts is no key service message, no disconnection and no answer to one
+abbrev pub NoKeyOrEnd : Option Accepted → Type 0
+NoKeyOrEnd None = Unit {0}
+NoKeyOrEnd (Some a) = is_key_or_end a.class ≡ false
 
-pub no_answers : (own text : List ℕ) (o : Option Accepted) → NoAnswer o → answers_in (acceptances_of own text o) ≡ []
-no_answers own text None n = refl
-no_answers own text (Some a) n = rw n refl
+pub none_added : (own text : List ℕ) (o : Option Accepted) → NoKeyOrEnd o → keys_and_ends (acceptances_of own text o) ≡ []
+none_added own text None n = refl
+none_added own text (Some a) n = rw n refl
 
 -- commands
 
-sending_none : (p : Party) (o : Option LinkRec) (peer : List ℕ) (moment : ℕ) → NoAnswer (start_under p peer o moment).accepts
+sending_none : (p : Party) (o : Option LinkRec) (peer : List ℕ) (moment : ℕ) → NoKeyOrEnd (start_under p peer o moment).accepts
 sending_none p None peer moment = tt
 sending_none p (Some l) peer moment = by_draw (good_draw p.generator moment)
   where
-    by_draw : (d : Option (ℕ × Gen)) → NoAnswer (sending_drawn p (start_tests p peer (Some l)) l d).accepts
+    by_draw : (d : Option (ℕ × Gen)) → NoKeyOrEnd (sending_drawn p (start_tests p peer (Some l)) l d).accepts
     by_draw None = tt
     by_draw (Some d) = tt
 
-kk_none : (p : Party) (o : Option LinkRec) (peer new : List ℕ) (single : Bool) (moment : ℕ) → NoAnswer (start_kk_under p peer new single o moment).accepts
+kk_none : (p : Party) (o : Option LinkRec) (peer new : List ℕ) (single : Bool) (moment : ℕ) → NoKeyOrEnd (start_kk_under p peer new single o moment).accepts
 kk_none p None peer new single moment = tt
 kk_none p (Some l) peer new single moment = by_draw (kk_drawn p.generator moment single)
   where
-    by_draw : (d : Option KkDrawn) → NoAnswer (kk_sending p (start_tests p peer (Some l)) l new single d).accepts
+    by_draw : (d : Option KkDrawn) → NoKeyOrEnd (kk_sending p (start_tests p peer (Some l)) l new single d).accepts
     by_draw None = tt
     by_draw (Some d) = tt
 
-translate_none : (p : Party) (centre u : List ℕ) (o : Option LinkRec) (moment : ℕ) → NoAnswer (translate_under p centre u o moment).accepts
+translate_none : (p : Party) (centre u : List ℕ) (o : Option LinkRec) (moment : ℕ) → NoKeyOrEnd (translate_under p centre u o moment).accepts
 translate_none p centre u None moment = tt
 translate_none p centre u (Some l) moment = by_draw (good_draw p.generator moment)
   where
-    by_draw : (d : Option (ℕ × Gen)) → NoAnswer (translate_drawn p centre u l d).accepts
+    by_draw : (d : Option (ℕ × Gen)) → NoKeyOrEnd (translate_drawn p centre u l d).accepts
     by_draw None = tt
     by_draw (Some d) = tt
 
-ask_none : (p : Party) (peer : List ℕ) (o : Option (List ℕ)) → NoAnswer (ask_of p peer o).accepts
+ask_none : (p : Party) (peer : List ℕ) (o : Option (List ℕ)) → NoKeyOrEnd (ask_of p peer o).accepts
 ask_none p peer None = tt
 ask_none p peer (Some u) = tt
 
-resend_none : (o : Option Exchange) → NoAnswer (resend_of o).accepts
+resend_none : (o : Option Exchange) → NoKeyOrEnd (resend_of o).accepts
 resend_none None = tt
 resend_none (Some e) = tt
 
-end_none : (p : Party) (peer : List ℕ) (o : Option KeyRec) → NoAnswer (end_record p peer o).accepts
+end_none : (p : Party) (peer : List ℕ) (o : Option KeyRec) → NoKeyOrEnd (end_record p peer o).accepts
 end_none p peer None = tt
 end_none p peer (Some k) = tt
 
-command_none : (p : Party) (c : Command) (moment : ℕ) → NoAnswer (command_row p c moment).accepts
+command_none : (p : Party) (c : Command) (moment : ℕ) → NoKeyOrEnd (command_row p c moment).accepts
 command_none p (command.Load peer label side pair) moment = tt
 command_none p (command.Start peer label) moment = sending_none p (sending_link p peer label) peer moment
 command_none p (command.StartKk peer label new single) moment = kk_none p (sending_link p peer label) peer new single moment
@@ -143,62 +145,77 @@ command_none p command.Purge moment = tt
 
 -- messages at a bank
 
-request_none : (p : Party) (a : Arrival) (m : Rsi) (moment : ℕ) (o : Option LinkRec) → NoAnswer (rsi_under p a m o moment).accepts
+request_none : (p : Party) (a : Arrival) (m : Rsi) (moment : ℕ) (o : Option LinkRec) → NoKeyOrEnd (rsi_under p a m o moment).accepts
 request_none p a m moment None = tt
 request_none p a m moment (Some l) = by_service (is_two_keys m.service)
   where
-    by_twins : (d : Option TwinsDrawn) → NoAnswer (twins_sending_drawn p (rsi_tests p a m (Some l)) l d).accepts
+    by_twins : (d : Option TwinsDrawn) → NoKeyOrEnd (twins_sending_drawn p (rsi_tests p a m (Some l)) l d).accepts
     by_twins None = tt
     by_twins (Some d) = tt
 
-    by_draw : (d : Option (ℕ × Gen)) → NoAnswer (sending_drawn p (rsi_tests p a m (Some l)) l d).accepts
+    by_draw : (d : Option (ℕ × Gen)) → NoKeyOrEnd (sending_drawn p (rsi_tests p a m (Some l)) l d).accepts
     by_draw None = tt
     by_draw (Some d) = tt
 
-    by_service : (b : Bool) → NoAnswer (rsi_row p a m l moment b).accepts
+    by_service : (b : Bool) → NoKeyOrEnd (rsi_row p a m l moment b).accepts
     by_service true = by_twins (twins_drawn p.generator moment)
     by_service false = by_draw (good_draw p.generator moment)
 
-rtr_none : (p : Party) (a : Arrival) (m : Rtr) (o : Option (ℕ × ℕ)) → NoAnswer (rtr_with p a m o).accepts
+rtr_none : (p : Party) (a : Arrival) (m : Rtr) (o : Option (ℕ × ℕ)) → NoKeyOrEnd (rtr_with p a m o).accepts
 rtr_none p a m (Some k) = by_link (link_with (takes m.originator centre_label) p)
   where
-    by_link : (o : Option LinkRec) → NoAnswer (brought p a m k o).accepts
+    by_link : (o : Option LinkRec) → NoKeyOrEnd (brought p a m k o).accepts
     by_link None = tt
     by_link (Some l) = tt
 rtr_none p a m None = by_waiting (waiting_with p m.originator)
   where
-    by_waiting : (o : Option KeyAtCentre) → NoAnswer (translated p a m o).accepts
+    by_waiting : (o : Option KeyAtCentre) → NoKeyOrEnd (translated p a m o).accepts
     by_waiting None = tt
     by_waiting (Some t) = tt
 
-key_none : (p : Party) (a : Arrival) (m : Ksm) (b : KsmBody) (o : Option LinkRec) → NoAnswer (key_row p a m b o).accepts
-key_none p a m b None = tt
-key_none p a m b (Some l) = refl
-
-plain_none : (p : Party) (a : Arrival) (m : Rsm) → NoAnswer (rsm_with p a m None).accepts
+plain_none : (p : Party) (a : Arrival) (m : Rsm) → NoKeyOrEnd (rsm_with p a m None).accepts
 plain_none p a m = by_twins (twins_to p m.originator)
   where
-    by_sent : (o : Option Sent) → NoAnswer (rsm_to p a m o).accepts
+    by_sent : (o : Option Sent) → NoKeyOrEnd (rsm_to p a m o).accepts
     by_sent None = tt
     by_sent (Some s) = refl
 
-    by_twins : (o : Option Twins) → NoAnswer (rsm_by p a m o).accepts
+    by_twins : (o : Option Twins) → NoKeyOrEnd (rsm_by p a m o).accepts
     by_twins None = by_sent (sent_to p m.originator)
     by_twins (Some t) = refl
 
-esm_none : (p : Party) (a : Arrival) (m : Esm) (b : Bool) (again : Option Retry) → NoAnswer (error_with p a m b again).accepts
+esm_none : (p : Party) (a : Arrival) (m : Esm) (b : Bool) (again : Option Retry) → NoKeyOrEnd (error_with p a m b again).accepts
 esm_none p a m true again = tt
 esm_none p a m false again = by_subject (subject_with p m.originator)
   where
-    by_subject : (o : Option ErrorSubject) → NoAnswer (error_of p a m o again).accepts
+    by_subject : (o : Option ErrorSubject) → NoKeyOrEnd (error_of p a m o again).accepts
     by_subject None = tt
     by_subject (Some (SentKey s)) = refl
     by_subject (Some (SentTwins t)) = refl
     by_subject (Some (Translated value cta)) = tt
 
-dsm_none : (p : Party) (a : Arrival) (m : Dsm) (o : Option NamedKey) → NoAnswer (dsm_on p a m o).accepts
-dsm_none p a m None = tt
-dsm_none p a m (Some n) = refl
+-- a key service message
+
+first_test : (b : Bool) (v : Verdict) → is_accept (cond b v NotForMe) ≡ true → b ≡ true
+first_test true v h = refl
+first_test false v h = absurd (cc)
+
+key_added : (p : Party) (a : Arrival) (m : Ksm) (o : Option LinkRec) → body_link p m.originator m.body ≡ o → is_accept (key_row p a m m.body o).verdict ≡ true
+    → keys_and_ends (acceptances_of p.own (authenticated_text a) (key_row p a m m.body o).accepts) ≡ ksm_acceptance p a m o
+key_added p a m None e h = refl
+key_added p a m (Some l) e h =
+    let for : is_for p m.receiver m.originator ≡ true = first_test (is_for p m.receiver m.originator) _ h in
+    ap (λ (us : List FullName). let r : List Acceptance = record { party = p.own; text = authenticated_text a; class = OfKsm; names = us } ∷ [] in r) (names_carried p m l e (for_me p m.receiver m.originator for).0)
+
+-- a disconnection
+
+dsm_added : (p : Party) (a : Arrival) (m : Dsm) (o : Option NamedKey) → named_by p m ≡ o → is_accept (dsm_on p a m o).verdict ≡ true
+    → keys_and_ends (acceptances_of p.own (authenticated_text a) (dsm_on p a m o).accepts) ≡ dsm_acceptance p a m
+dsm_added p a m None e h = absurd (blocked ((is_for p m.receiver m.originator, NotForMe) ∷ []) UnknownKey refl refl h)
+dsm_added p a m (Some n) e h =
+    let k : RecordAt p m.originator m.idd n.key = record_at p m.originator m.idd n.key (named_at p m n e) in
+    let under : full_name p.own n.key ≡ named_key p m.originator m.idd = (λ i. record { name = k.name_is i; recipient = cond (bytes_eq (k.name_is i).originator p.own) (k.peer_is i) p.own }) in
+    ap (λ (u : FullName). let r : List Acceptance = record { party = p.own; text = authenticated_text a; class = OfDsm; names = u ∷ [] } ∷ [] in r) under
 
 -- the answer to the end of a key
 
@@ -217,51 +234,51 @@ ending_record p peer k h = by_exchange (exchange_with peer p) h
     by_exchange (Some e) h = by_kind e.kind h
 
 answer_added : (p : Party) (a : Arrival) (m : Rsm) (name : KeyName) (o : Option KeyRec) → ending_with p m.originator ≡ o → is_accept (answer_to p a m name o).verdict ≡ true
-    → answers_in (acceptances_of p.own (authenticated_text a) (answer_to p a m name o).accepts) ≡ answer_of p a m.originator (Some name)
+    → keys_and_ends (acceptances_of p.own (authenticated_text a) (answer_to p a m name o).accepts) ≡ answer_of p a m.originator (Some name)
 answer_added p a m name None e h = absurd (blocked ((is_for p m.receiver m.originator, NotForMe) ∷ []) NoExchange refl refl h)
 answer_added p a m name (Some k) e h =
     let t : TestsHold (end_front p m name (Some k) ++ (is_verified a k.value, BadMac) ∷ []) = held (end_front p m name (Some k) ++ (is_verified a k.value, BadMac) ∷ []) refl h in
     let is : name ≡ k.name = (test_names.decides name k.name).0 t.1.0 in
     let peer : k.peer ≡ m.originator = ending_record p m.originator k e in
-    let under : full_name p.own k ≡ record { name = name; recipient = cond (bytes_eq name.originator p.own) m.originator p.own } = (λ i. record { name = (sym is) i; recipient = cond (bytes_eq ((sym is) i).originator p.own) (peer i) p.own }) in
+    let under : full_name p.own k ≡ named_key p m.originator name = (λ i. record { name = (sym is) i; recipient = cond (bytes_eq ((sym is) i).originator p.own) (peer i) p.own }) in
     ap (λ (u : FullName). let r : List Acceptance = record { party = p.own; text = authenticated_text a; class = OfAnswer; names = u ∷ [] } ∷ [] in r) under
 
-bank_answers : (p : Party) (a : Arrival) (m : Message) (moment : ℕ) → is_accept (message_row p a m moment).verdict ≡ true → answers_in (acceptances_of p.own (authenticated_text a) (message_row p a m moment).accepts) ≡ message_answers p a m
-bank_answers p a (message.Rsi m) moment h = no_answers p.own (authenticated_text a) _ (request_none p a m moment (first_link m.originator Sends p))
-bank_answers p a (message.Rfs m) moment h = refl
-bank_answers p a (message.Rtr m) moment h = no_answers p.own (authenticated_text a) _ (rtr_none p a m m.kd)
-bank_answers p a (message.Ksm m) moment h = no_answers p.own (authenticated_text a) _ (key_none p a m m.body (body_link p m.originator m.body))
-bank_answers p a (message.Rsm m) moment h = by_name m.idd h
+bank_accepts : (p : Party) (a : Arrival) (m : Message) (moment : ℕ) → is_accept (message_row p a m moment).verdict ≡ true → keys_and_ends (acceptances_of p.own (authenticated_text a) (message_row p a m moment).accepts) ≡ message_acceptances p a m
+bank_accepts p a (message.Rsi m) moment h = none_added p.own (authenticated_text a) _ (request_none p a m moment (first_link m.originator Sends p))
+bank_accepts p a (message.Rfs m) moment h = refl
+bank_accepts p a (message.Rtr m) moment h = none_added p.own (authenticated_text a) _ (rtr_none p a m m.kd)
+bank_accepts p a (message.Ksm m) moment h = key_added p a m (body_link p m.originator m.body) refl h
+bank_accepts p a (message.Rsm m) moment h = by_name m.idd h
   where
-    by_name : (o : Option KeyName) → is_accept (rsm_with p a m o).verdict ≡ true → answers_in (acceptances_of p.own (authenticated_text a) (rsm_with p a m o).accepts) ≡ answer_of p a m.originator o
-    by_name None h = no_answers p.own (authenticated_text a) _ (plain_none p a m)
+    by_name : (o : Option KeyName) → is_accept (rsm_with p a m o).verdict ≡ true → keys_and_ends (acceptances_of p.own (authenticated_text a) (rsm_with p a m o).accepts) ≡ answer_of p a m.originator o
+    by_name None h = none_added p.own (authenticated_text a) _ (plain_none p a m)
     by_name (Some name) h = answer_added p a m name (ending_with p m.originator) refl h
-bank_answers p a (message.Ers m) moment h = refl
-bank_answers p a (message.Esm m) moment h = no_answers p.own (authenticated_text a) _ (esm_none p a m (is_plain a.parsed.shut) (retry_in p (subject_with p m.originator) m.ctr))
-bank_answers p a (message.Dsm m) moment h = no_answers p.own (authenticated_text a) _ (dsm_none p a m (named_by p m))
+bank_accepts p a (message.Ers m) moment h = refl
+bank_accepts p a (message.Esm m) moment h = none_added p.own (authenticated_text a) _ (esm_none p a m (is_plain a.parsed.shut) (retry_in p (subject_with p m.originator) m.ctr))
+bank_accepts p a (message.Dsm m) moment h = dsm_added p a m (named_by p m) refl h
 
 -- at the centres
 
-answering_none : (p : Party) (requester u : List ℕ) (tests : List Test) (l b : LinkRec) (d : Option (ℕ × Gen)) → NoAnswer (answering p requester u tests l b d).accepts
+answering_none : (p : Party) (requester u : List ℕ) (tests : List Test) (l b : LinkRec) (d : Option (ℕ × Gen)) → NoKeyOrEnd (answering p requester u tests l b d).accepts
 answering_none p requester u tests l b None = tt
 answering_none p requester u tests l b (Some d) = tt
 
-centre_request_none : (p : Party) (a : Arrival) (m : Rsi) (o : Option (List ℕ)) (moment : ℕ) → NoAnswer (rsi_for p a m o moment).accepts
+centre_request_none : (p : Party) (a : Arrival) (m : Rsi) (o : Option (List ℕ)) (moment : ℕ) → NoKeyOrEnd (rsi_for p a m o moment).accepts
 centre_request_none p a m None moment = tt
 centre_request_none p a m (Some u) moment = by_links (link_with (sends m.originator centre_label) p) (link_with (sends u centre_label) p) (good_draw p.generator moment)
   where
-    by_links : (fa fb : Option LinkRec) (d : Option (ℕ × Gen)) → NoAnswer (rsi_between p a m u fa fb d).accepts
+    by_links : (fa fb : Option LinkRec) (d : Option (ℕ × Gen)) → NoKeyOrEnd (rsi_between p a m u fa fb d).accepts
     by_links None fb d = tt
     by_links (Some l) None d = tt
     by_links (Some l) (Some b) d = answering_none p m.originator u (centre_tests p a m u l b) l b d
 
-ers_none : (p : Party) (a : Arrival) (m : Ers) (o : Option Answer) (fa fb : Option LinkRec) (d : Option (ℕ × Gen)) → NoAnswer (ers_between p a m o fa fb d).accepts
+ers_none : (p : Party) (a : Arrival) (m : Ers) (o : Option Answer) (fa fb : Option LinkRec) (d : Option (ℕ × Gen)) → NoKeyOrEnd (ers_between p a m o fa fb d).accepts
 ers_none p a m None fa fb d = tt
 ers_none p a m (Some t) None fb d = tt
 ers_none p a m (Some t) (Some l) None d = tt
 ers_none p a m (Some t) (Some l) (Some b) d = answering_none p m.originator m.ultimate (ers_tests p a m t l b) l (at_least b m.ctr) d
 
-rfs_none : (p : Party) (a : Arrival) (m : Rfs) (fa fb : Option LinkRec) → NoAnswer (rfs_between p a m fa fb).accepts
+rfs_none : (p : Party) (a : Arrival) (m : Rfs) (fa fb : Option LinkRec) → NoKeyOrEnd (rfs_between p a m fa fb).accepts
 rfs_none p a m None fb = tt
 rfs_none p a m (Some l) None = tt
 rfs_none p a m (Some l) (Some b) = tt
@@ -271,30 +288,33 @@ unserved_never : {A : Type 0} (b : Bool) → is_accept (cond b WrongClass NotFor
 unserved_never true h = absurd (cc)
 unserved_never false h = absurd (cc)
 
-distribution_answers : (p : Party) (a : Arrival) (m : Message) (moment : ℕ) → is_accept (distribution_message p a m moment).verdict ≡ true → answers_in (acceptances_of p.own (authenticated_text a) (distribution_message p a m moment).accepts) ≡ message_answers p a m
-distribution_answers p a (message.Rsi m) moment h = no_answers p.own (authenticated_text a) _ (centre_request_none p a m m.ultimate moment)
-distribution_answers p a (message.Rfs m) moment h = refl
-distribution_answers p a (message.Rtr m) moment h = refl
-distribution_answers p a (message.Ksm m) moment h = refl
-distribution_answers p a (message.Rsm m) moment h = unserved_never (is_for p m.receiver m.originator) h
-distribution_answers p a (message.Ers m) moment h = no_answers p.own (authenticated_text a) _ (ers_none p a m (answer_with (record { requester = m.originator; ultimate = m.ultimate }) p) (link_with (sends m.originator centre_label) p) (link_with (sends m.ultimate centre_label) p) (good_draw p.generator moment))
-distribution_answers p a (message.Esm m) moment h = refl
-distribution_answers p a (message.Dsm m) moment h = refl
+key_never : {A : Type 0} (p : Party) (m : Ksm) → is_accept (other_class p m.receiver m.originator (body_issuer m.originator m.body)).verdict ≡ true → A
+key_never p m h = absurd (blocked ((is_for p m.receiver m.originator, NotForMe) ∷ (knows (body_issuer m.originator m.body) p, UnknownPeer) ∷ []) WrongClass refl refl h)
 
-translation_answers : (p : Party) (a : Arrival) (m : Message) → is_accept (translation_message p a m).verdict ≡ true → answers_in (acceptances_of p.own (authenticated_text a) (translation_message p a m).accepts) ≡ message_answers p a m
-translation_answers p a (message.Rsi m) h = refl
-translation_answers p a (message.Rfs m) h = no_answers p.own (authenticated_text a) _ (rfs_none p a m (link_with (takes m.originator centre_label) p) (link_with (sends m.ultimate centre_label) p))
-translation_answers p a (message.Rtr m) h = refl
-translation_answers p a (message.Ksm m) h = refl
-translation_answers p a (message.Rsm m) h = unserved_never (is_for p m.receiver m.originator) h
-translation_answers p a (message.Ers m) h = refl
-translation_answers p a (message.Esm m) h = refl
-translation_answers p a (message.Dsm m) h = refl
+distribution_accepts : (p : Party) (a : Arrival) (m : Message) (moment : ℕ) → is_accept (distribution_message p a m moment).verdict ≡ true → keys_and_ends (acceptances_of p.own (authenticated_text a) (distribution_message p a m moment).accepts) ≡ message_acceptances p a m
+distribution_accepts p a (message.Rsi m) moment h = none_added p.own (authenticated_text a) _ (centre_request_none p a m m.ultimate moment)
+distribution_accepts p a (message.Rfs m) moment h = refl
+distribution_accepts p a (message.Rtr m) moment h = refl
+distribution_accepts p a (message.Ksm m) moment h = key_never p m h
+distribution_accepts p a (message.Rsm m) moment h = unserved_never (is_for p m.receiver m.originator) h
+distribution_accepts p a (message.Ers m) moment h = none_added p.own (authenticated_text a) _ (ers_none p a m (answer_with (record { requester = m.originator; ultimate = m.ultimate }) p) (link_with (sends m.originator centre_label) p) (link_with (sends m.ultimate centre_label) p) (good_draw p.generator moment))
+distribution_accepts p a (message.Esm m) moment h = refl
+distribution_accepts p a (message.Dsm m) moment h = unserved_never (is_for p m.receiver m.originator) h
 
-centre_none : (p : Party) (c : Command) → NoAnswer (centre_command p c).accepts
+translation_accepts : (p : Party) (a : Arrival) (m : Message) → is_accept (translation_message p a m).verdict ≡ true → keys_and_ends (acceptances_of p.own (authenticated_text a) (translation_message p a m).accepts) ≡ message_acceptances p a m
+translation_accepts p a (message.Rsi m) h = refl
+translation_accepts p a (message.Rfs m) h = none_added p.own (authenticated_text a) _ (rfs_none p a m (link_with (takes m.originator centre_label) p) (link_with (sends m.ultimate centre_label) p))
+translation_accepts p a (message.Rtr m) h = refl
+translation_accepts p a (message.Ksm m) h = key_never p m h
+translation_accepts p a (message.Rsm m) h = unserved_never (is_for p m.receiver m.originator) h
+translation_accepts p a (message.Ers m) h = refl
+translation_accepts p a (message.Esm m) h = refl
+translation_accepts p a (message.Dsm m) h = unserved_never (is_for p m.receiver m.originator) h
+
+centre_none : (p : Party) (c : Command) → NoKeyOrEnd (centre_command p c).accepts
 centre_none p (command.Load peer label side pair) = go (bytes_eq label centre_label)
   where
-    go : (b : Bool) → NoAnswer (cond b (load p peer label side pair) (refused WrongClass)).accepts
+    go : (b : Bool) → NoKeyOrEnd (cond b (load p peer label side pair) (refused WrongClass)).accepts
     go true = tt
     go false = tt
 centre_none p (command.Start peer label) = tt
@@ -307,17 +327,17 @@ centre_none p (command.Drop peer) = tt
 centre_none p command.Purge = tt
 
 -- what an input shows of that
-abbrev pub input_answers : Party → Input → List Acceptance
-input_answers p (input.Ordered c) = []
-input_answers p (input.Arrived a) = message_answers p a a.parsed.message
+abbrev pub input_acceptances : Party → Input → List Acceptance
+input_acceptances p (input.Ordered c) = []
+input_acceptances p (input.Arrived a) = message_acceptances p a a.parsed.message
 
-role_answers : (r : Role) (p : Party) (i : Input) (moment : ℕ) → is_accept (row_by r p i moment).verdict ≡ true → answers_in (acceptances_of p.own (received_text i) (row_by r p i moment).accepts) ≡ input_answers p i
-role_answers Bank p (input.Ordered c) moment h = no_answers p.own [] _ (command_none p c moment)
-role_answers Bank p (input.Arrived a) moment h = bank_answers p a a.parsed.message moment h
-role_answers Distribution p (input.Ordered c) moment h = no_answers p.own [] _ (centre_none p c)
-role_answers Distribution p (input.Arrived a) moment h = distribution_answers p a a.parsed.message moment h
-role_answers Translation p (input.Ordered c) moment h = no_answers p.own [] _ (centre_none p c)
-role_answers Translation p (input.Arrived a) moment h = translation_answers p a a.parsed.message h
+role_accepts : (r : Role) (p : Party) (i : Input) (moment : ℕ) → is_accept (row_by r p i moment).verdict ≡ true → keys_and_ends (acceptances_of p.own (received_text i) (row_by r p i moment).accepts) ≡ input_acceptances p i
+role_accepts Bank p (input.Ordered c) moment h = none_added p.own [] _ (command_none p c moment)
+role_accepts Bank p (input.Arrived a) moment h = bank_accepts p a a.parsed.message moment h
+role_accepts Distribution p (input.Ordered c) moment h = none_added p.own [] _ (centre_none p c)
+role_accepts Distribution p (input.Arrived a) moment h = distribution_accepts p a a.parsed.message moment h
+role_accepts Translation p (input.Ordered c) moment h = none_added p.own [] _ (centre_none p c)
+role_accepts Translation p (input.Arrived a) moment h = translation_accepts p a a.parsed.message h
 
-pub row_answers : (p : Party) (i : Input) (moment : ℕ) → is_accept (row_at p i moment).verdict ≡ true → answers_in (acceptances_of p.own (received_text i) (row_at p i moment).accepts) ≡ input_answers p i
-row_answers p i moment h = role_answers p.role p i moment h
+pub row_accepts : (p : Party) (i : Input) (moment : ℕ) → is_accept (row_at p i moment).verdict ≡ true → keys_and_ends (acceptances_of p.own (received_text i) (row_at p i moment).accepts) ≡ input_acceptances p i
+row_accepts p i moment h = role_accepts p.role p i moment h

@@ -1,5 +1,6 @@
--- Each event adds the answers that are accepted at it.
+-- Each event adds what is accepted at it.
 use Rattle.std.proofs.Common.{◌≡◌, ℕ, Bool, true, false, cond, ◌&&◌, Option, Some, None, List, [], ◌∷◌, ◌++◌, refl, sym, ◌∙◌, ap, subst, append-nil}
+use Rattle.std.specs.List.{filter}
 use Rattle.party_state.specs.declared.command.Command.{Command}
 use Rattle.party_state.specs.declared.decision.Lead.{Lead}
 use Rattle.party_state.specs.declared.command.Input.{Input}
@@ -17,15 +18,15 @@ use Rattle.member.specs.Rows.{row_at}
 use Rattle.world_laws.specs.World.{Acceptance, World, member_at}
 use Rattle.world_laws.specs.Events.{Action, Orders, Hears, Compacts, Migrates, Completion, Whole, CutOld, CutNew, Event}
 use Rattle.world_laws.specs.Steps.{received_text, acceptances_of, member_after, world_after_row, world_with_answer, world_with_text, world_with_space, world_rewritten, world_after_input, world_after_action, step, step_at}
-use Rattle.world_laws.specs.Answered.{is_end_answer, answers_in, stands, AnswersAdded}
+use Rattle.world_laws.specs.Answered.{is_key_or_end, keys_and_ends, stands, AcceptancesAdded}
 use Rattle.world_laws.proofs.Nodes.Binding.{decided, planned}
-use Rattle.world_laws.proofs.Ended.Rows.{input_answers, row_answers}
+use Rattle.world_laws.proofs.Ended.Rows.{input_acceptances, row_accepts}
 
-answers_both : (front more : List Acceptance) → answers_in (front ++ more) ≡ answers_in front ++ answers_in more
-answers_both [] more = refl
-answers_both (a ∷ front) more = go (is_end_answer a.class) (answers_both front more)
+pub filter_both : (f : Acceptance → Bool) (front more : List Acceptance) → filter f (front ++ more) ≡ filter f front ++ filter f more
+filter_both f [] more = refl
+filter_both f (a ∷ front) more = go (f a) (filter_both f front more)
   where
-    go : (b : Bool) → answers_in (front ++ more) ≡ answers_in front ++ answers_in more → cond b (a ∷ answers_in (front ++ more)) (answers_in (front ++ more)) ≡ cond b (a ∷ answers_in front) (answers_in front) ++ answers_in more
+    go : (b : Bool) → filter f (front ++ more) ≡ filter f front ++ filter f more → cond b (a ∷ filter f (front ++ more)) (filter f (front ++ more)) ≡ cond b (a ∷ filter f front) (filter f front) ++ filter f more
     go true ih = ap (λ (l : List Acceptance). a ∷ l) ih
     go false ih = ih
 
@@ -60,13 +61,13 @@ module _ (n : ℕ) (w : World) (x : Member) (i : Input) (moment : ℕ) where
   kept = world_after_row n w x.party.own (received_text i) (row_at x.party i moment) (member_after x (row_at x.party i moment))
 
   abbrev Adds : World → Bool → Type 0
-  Adds after t = answers_in after.acceptances ≡ answers_in w.acceptances ++ cond t (input_answers x.party i) []
+  Adds after t = keys_and_ends after.acceptances ≡ keys_and_ends w.acceptances ++ cond t (input_acceptances x.party i) []
 
   row_adds : is_accept (row_at x.party i moment).verdict ≡ true → Adds kept true
-  row_adds h = answers_both w.acceptances (acceptances_of x.party.own (received_text i) (row_at x.party i moment).accepts) ∙ ap (λ (l : List Acceptance). answers_in w.acceptances ++ l) (row_answers x.party i moment h)
+  row_adds h = filter_both (λ a. is_key_or_end a.class) w.acceptances (acceptances_of x.party.own (received_text i) (row_at x.party i moment).accepts) ∙ ap (λ (l : List Acceptance). keys_and_ends w.acceptances ++ l) (row_accepts x.party i moment h)
 
   same : Adds w false
-  same = sym (append-nil (answers_in w.acceptances))
+  same = sym (append-nil (keys_and_ends w.acceptances))
 
   whole_adds : (b : Bool) → is_accept (row_at x.party i moment).verdict ≡ b → (c : Bool) → Adds (cond b (cond c (world_with_text kept (row_at x.party i moment).reply) w) (world_with_text (world_with_answer w x.party.own (row_at x.party i moment)) (row_at x.party i moment).answer)) (b && c)
   whole_adds true h true = row_adds h
@@ -89,33 +90,33 @@ module _ (n : ℕ) (w : World) (x : Member) (i : Input) (moment : ℕ) where
       (new_adds (is_accept (row_at x.party i moment).verdict) refl (is_change (differing x.party (row_at x.party i moment).edits) && fits x.space (differing x.party (row_at x.party i moment).edits)))
 
 -- a command accepts none
-unchanged : (n : ℕ) (w : World) (x : Member) (c : Command) (moment : ℕ) (how : Completion) → answers_in (world_after_input n w x (input.Ordered c) moment how).acceptances ≡ answers_in w.acceptances
+unchanged : (n : ℕ) (w : World) (x : Member) (c : Command) (moment : ℕ) (how : Completion) → keys_and_ends (world_after_input n w x (input.Ordered c) moment how).acceptances ≡ keys_and_ends w.acceptances
 unchanged n w x c moment how = input_adds n w x (input.Ordered c) moment how ∙ none (stands (plan_at x (input.Ordered c) moment) how)
   where
-    none : (t : Bool) → answers_in w.acceptances ++ cond t [] [] ≡ answers_in w.acceptances
-    none true = append-nil (answers_in w.acceptances)
-    none false = append-nil (answers_in w.acceptances)
+    none : (t : Bool) → keys_and_ends w.acceptances ++ cond t [] [] ≡ keys_and_ends w.acceptances
+    none true = append-nil (keys_and_ends w.acceptances)
+    none false = append-nil (keys_and_ends w.acceptances)
 
-rewritten : (o : Option Format) (w : World) (x : Member) (how : Completion) → answers_in (world_rewritten o w x how).acceptances ≡ answers_in w.acceptances
+rewritten : (o : Option Format) (w : World) (x : Member) (how : Completion) → keys_and_ends (world_rewritten o w x how).acceptances ≡ keys_and_ends w.acceptances
 rewritten None w x how = refl
 rewritten (Some f) w x Whole = go (can_compact f x.party)
   where
-    go : (b : Bool) → answers_in (cond b (world_with_space w x (space_of_whole f x.party)) w).acceptances ≡ answers_in w.acceptances
+    go : (b : Bool) → keys_and_ends (cond b (world_with_space w x (space_of_whole f x.party)) w).acceptances ≡ keys_and_ends w.acceptances
     go true = refl
     go false = refl
 rewritten (Some f) w x CutOld = refl
 rewritten (Some f) w x CutNew = go (can_compact f x.party)
   where
-    go : (b : Bool) → answers_in (cond b (world_with_space w x (space_of_whole f x.party)) w).acceptances ≡ answers_in w.acceptances
+    go : (b : Bool) → keys_and_ends (cond b (world_with_space w x (space_of_whole f x.party)) w).acceptances ≡ keys_and_ends w.acceptances
     go true = refl
     go false = refl
 
-action_adds : (n : ℕ) (w : World) (x : Member) (moment : ℕ) (how : Completion) (d : Action) → AnswersAdded w (world_after_action n w x moment how d) x moment how d
+action_adds : (n : ℕ) (w : World) (x : Member) (moment : ℕ) (how : Completion) (d : Action) → AcceptancesAdded w (world_after_action n w x moment how d) x moment how d
 action_adds n w x moment how (Orders c) = unchanged n w x c moment how
 action_adds n w x moment how (Hears bytes (Some a)) = input_adds n w x (input.Arrived a) moment how
 action_adds n w x moment how (Hears bytes None) = refl
 action_adds n w x moment how Compacts = rewritten (compacted_in x.space.format) w x how
 action_adds n w x moment how Migrates = rewritten (migrated_in x.space.format) w x how
 
-pub answers_added : (n : ℕ) (w : World) (e : Event) (x : Member) → member_at e.party w.members ≡ Some x → AnswersAdded w (step n w e) x e.moment e.completion e.action
-answers_added n w e x at = subst (λ (o : Option Member). AnswersAdded w (step_at n w e o) x e.moment e.completion e.action) (sym at) (action_adds n w x e.moment e.completion e.action)
+pub acceptances_added : (n : ℕ) (w : World) (e : Event) (x : Member) → member_at e.party w.members ≡ Some x → AcceptancesAdded w (step n w e) x e.moment e.completion e.action
+acceptances_added n w e x at = subst (λ (o : Option Member). AcceptancesAdded w (step_at n w e o) x e.moment e.completion e.action) (sym at) (action_adds n w x e.moment e.completion e.action)
