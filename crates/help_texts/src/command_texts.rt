@@ -19,7 +19,7 @@ Sets the parties of a scenario up in the current folder and plays it, never besi
 use (docs/NETWORK.md).
 Reads: a scenario. Writes: the transcript.
 Exit: 0 done, 1 refused, 2 a faulty command line, 3 input not read, 4 output not written, 5 a
-fault of the disk, 7 a bad line, 8 a forged event, 9 no memory.
+fault of the disk, 6 a damaged file, 7 a bad line, 8 a forged event, 9 no memory.
 Example: x917 replay < network.scenario
 "
         }
@@ -38,8 +38,8 @@ Example: x917 audit < run
 Makes a batch of the messages of its input, each to arrive at the present moment (\"Batches\");
 looks at no file.
 Reads: messages. Writes: the batch.
-Exit: 0 done, 1 refused, 2 a faulty command line, 3 input not read, 4 output not written, 7 a
-bad line, 9 no memory.
+Exit: 0 done, 1 refused, 2 a faulty command line, 3 input not read, 4 output not written, 9 no
+memory.
 Example: x917 batch < messages
 "
         }
@@ -48,8 +48,7 @@ Example: x917 batch < messages
 Sets a party up: its role (bank, distribution, translation), its generator's pair of keys and
 seed.
 Reads: nothing. Writes: nothing.
-Exit: 0 done, 1 refused, 2 a faulty command line, 5 a fault of the disk, 6 a damaged file, 9 no
-memory.
+Exit: 0 done, 1 refused, 2 a faulty command line, 5 a fault of the disk, 9 no memory.
 Example: x917 init --party BANKA --role bank --genkey \"$PAIR\" --genseed \"$SEED\"
 "
         }
@@ -59,7 +58,7 @@ Sets a party up as init does, with its generator from standard input: one to thr
 of 32 digits for the pair, a blank and 16 digits for the seed, joined by exclusive or.
 Reads: digits. Writes: the check value of the pair.
 Exit: 0 done, 1 refused, 2 a faulty command line, 3 input not read, 4 output not written, 5 a
-fault of the disk, 6 a damaged file, 9 no memory.
+fault of the disk, 9 no memory.
 Example: x917 create --party BANKA --role bank < generator
 "
         }
@@ -77,8 +76,8 @@ Example: x917 load --party BANKA --peer BANKB --label K1 --side out --key \"$KEY
         }
         OrderKind::Enter => {
             "
-Loads a key-encrypting key as load does, with its digits from standard input: one to three lines
-of 32 digits, or of 16 for a single key, joined by exclusive or.
+Loads a key-encrypting key as load does, with its digits from standard input: one to three lines,
+all of 32 digits, or all of 16 for a single key, joined by exclusive or.
 Reads: digits. Writes: the check value of the key.
 Exit: 0 done, 1 refused, 2 a faulty command line, 3 input not read, 4 output not written, 5 a
 fault of the disk, 6 a damaged file, 9 no memory.
@@ -195,8 +194,8 @@ Example: x917 wipe --party BANKA
 Tells whether the two files of a party stand for one state, or which is ahead; changes neither
 (\"Two disks\").
 Reads: nothing. Writes: a line.
-Exit: 0 done, 1 refused, 2 a faulty command line, 4 output not written, 5 a fault of the disk, 6
-a damaged file, 9 no memory.
+Exit: 0 done, 1 refused, 2 a faulty command line, 4 output not written, 5 a fault of the disk, 9
+no memory.
 Example: x917 compare --party BANKA --mirror MIRA
 "
         }
@@ -270,8 +269,7 @@ Example: x917 outbox --spool SPOOLA
             "
 Makes a scenario of the seed and plays it in memory; looks at no file.
 Reads: nothing. Writes: a summary.
-Exit: 0 done, 1 refused, 2 a faulty command line, 4 output not written, 7 a bad line, 8 a forged
-event, 9 no memory.
+Exit: 0 done, 2 a faulty command line, 4 output not written, 8 a forged event, 9 no memory.
 Example: x917 drill --seed 7 --events 100
 "
         }

@@ -154,8 +154,8 @@ What to do: init, or the right folder.
         }
         38 => {
             "
-A byte behind the message, or more than 2,048 bytes in all.
-What to do: hand in one message at a time.
+A byte behind the message, or more than 2,048 bytes in all; at batch, more than 1,048,576.
+What to do: hand in one message at a time; cut the input of batch between two messages.
 "
         }
         40 => {
@@ -175,7 +175,7 @@ What to do: \"Batches\"; the same batch under a new spool is taken again.
 The file under the name of --party is another party's: it was copied or renamed; or the files of
 --party and --mirror are two parties'.
 What to do: show tells whose it is: give it that party's name, and never use a copy beside it.
-show, compact, migrate and wipe serve it under either name.
+show, value, compact, migrate and wipe serve it under either name.
 "
         }
         43 => {
@@ -231,8 +231,8 @@ What to do: by the line that it wrote: \"Two disks\".
         }
         51 => {
             "
-create, enter: line P of the input isn't a component: another number of digits, another sign, no
-line feed at its end, or a fourth line.
+create, enter: line P of the input isn't a component: another number of digits, also than in the
+first line, another sign, no line feed at its end, or a fourth line.
 What to do: enter the components again.
 "
         }

@@ -1,5 +1,5 @@
--- Keys that come as lines of an input (this project's profile): from one to three components, each on a line of its own, which
--- are joined by exclusive or.
+-- Keys that come as lines of an input (this project's profile): from one to three components of one length, each on a line of its
+-- own, which are joined by exclusive or.
 use Rattle.std.specs.Prelude.{ℕ, zero, suc, ◌+◌, ◌==◌, ◌&&◌, List, [], ◌∷◌, length, take, drop, slice_index, bit_xor, Option, Some, None, option_map, option_and_then, Result, Ok, Err, if◌then◌else◌}
 use Rattle.std.specs.List.{position}
 use Rattle.x_mac.specs.declared.pair.Pair.{Pair}
@@ -36,9 +36,18 @@ joined_with a b = record { pair = joined_pair a.pair b.pair; seed = bit_xor a.se
 abbrev pub first_line : List ℕ → Option (List ℕ × List ℕ)
 first_line bytes = option_map (λ at. (take at bytes, drop (at + 1) bytes)) (position (λ b. b == 10) bytes)
 
--- the component that the first line spells, and the bytes behind that line
-abbrev pub first_part : Form → List ℕ → Option (Part × List ℕ)
-first_part f bytes = option_and_then (λ p. option_map (λ part. (part, p.1)) (part_of f p.0)) (first_line bytes)
+-- how long the first line is; 0 where there is none
+abbrev pub line_length : Option (List ℕ × List ℕ) → ℕ
+line_length None = 0
+line_length (Some p) = length p.0
+
+-- the component that a line of so many bytes spells
+abbrev pub part_of_length : Form → ℕ → List ℕ → Option Part
+part_of_length f n line = if length line == n then part_of f line else None
+
+-- the component that the first line spells, if it has so many bytes, and the bytes behind that line
+abbrev pub first_part : Form → ℕ → List ℕ → Option (Part × List ℕ)
+first_part f n bytes = option_and_then (λ p. option_map (λ part. (part, p.1)) (part_of_length f n p.0)) (first_line bytes)
 
 -- a component, with what the lines behind it give; where none stand, it is the whole
 abbrev pub joined_onto : Part → List ℕ → Result Part ℕ → Result Part ℕ
@@ -51,11 +60,11 @@ abbrev pub joined_at : ℕ → Option (Part × List ℕ) → (List ℕ → Resul
 joined_at number None behind = Err number
 joined_at number (Some p) behind = joined_onto p.0 p.1 (behind p.1)
 
--- the key of so many lines at most, the first of them of this number; or the number of the first that isn't one
-abbrev pub entered_from : Form → ℕ → ℕ → List ℕ → Result Part ℕ
-entered_from f zero number bytes = Err number
-entered_from f (suc lines) number bytes = joined_at number (first_part f bytes) (entered_from f lines (number + 1))
+-- the key of so many lines at most of n bytes each, the first of them of this number; or the number of the first that isn't one
+abbrev pub entered_from : Form → ℕ → ℕ → ℕ → List ℕ → Result Part ℕ
+entered_from f n zero number bytes = Err number
+entered_from f n (suc lines) number bytes = joined_at number (first_part f n bytes) (entered_from f n lines (number + 1))
 
--- the key that an input gives, or the number of its first line at fault
+-- the key that an input gives, its lines as long as the first one; or the number of its first line at fault
 abbrev pub entered_of : Form → List ℕ → Result Part ℕ
-entered_of f bytes = entered_from f 3 1 bytes
+entered_of f bytes = entered_from f (line_length (first_line bytes)) 3 1 bytes

@@ -1,7 +1,7 @@
 // The first line of bytes.
 ghost use Rattle.std.specs.Prelude.{◌≡◌, ◌==◌, option_map};
 ghost use Rattle.std.specs.List.{position};
-ghost use Rattle.key_parts.specs.Parts.{first_line, first_part};
+ghost use Rattle.key_parts.specs.Parts.{first_line, first_part, line_length, part_of_length};
 
 use crate::part::{Form, Part, read_part};
 
@@ -19,10 +19,31 @@ fn first_line(bytes: &[u8]) -> Option<(&[u8], &[u8])>
     Some((&bytes[..at], &bytes[at + 1..]))
 }
 
-/// The component that the first line spells, and the bytes behind that line.
-pub(crate) fn first_part(form: Form, bytes: &[u8]) -> Option<(Part, &[u8])>
-    ensures { option_map (λ p. (p.0, p.1.now)) result ≡ first_part form bytes.now }
+/// How long the first line is; 0 where there is none.
+pub(crate) fn line_length(bytes: &[u8]) -> usize
+    ensures { result ≡ line_length (first_line bytes.now) }
+{
+    match first_line(bytes) {
+        Some((line, _)) => line.len(),
+        None => 0,
+    }
+}
+
+/// The component that a line of so many bytes spells.
+fn part_of_length(form: Form, length: usize, line: &[u8]) -> Option<Part>
+    ensures { result ≡ part_of_length form length line.now }
+{
+    if line.len() == length {
+        read_part(form, line)
+    } else {
+        None
+    }
+}
+
+/// The component that the first line spells, if it has so many bytes, and the bytes behind that line.
+pub(crate) fn first_part(form: Form, length: usize, bytes: &[u8]) -> Option<(Part, &[u8])>
+    ensures { option_map (λ p. (p.0, p.1.now)) result ≡ first_part form length bytes.now }
 {
     let (line, rest) = first_line(bytes)?;
-    Some((read_part(form, line)?, rest))
+    Some((part_of_length(form, length, line)?, rest))
 }

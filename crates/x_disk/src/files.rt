@@ -31,7 +31,7 @@ pub struct FileDisk<R: LockingFiles> {
 }
 
 /// The file with its lock, to which nobody but its owner has a right, or none where it isn't there. Where another command
-/// has the lock, or rights of others can't be taken away, it is an error.
+/// has the lock, the name leads to what is no regular file, or rights of others can't be taken away, it is an error.
 pub(crate) fn open_if_there<R: LockingFiles>(rt: &R, path: &str) -> io::Result<Option<R::File>> {
     match OpenOptions::new().read(true).write(true).open(rt, path) {
         Ok(file) => {
@@ -44,12 +44,13 @@ pub(crate) fn open_if_there<R: LockingFiles>(rt: &R, path: &str) -> io::Result<O
     }
 }
 
-// Takes the lock, and sees that the name still stands for this file: another one that took its place is another lock.
+// Takes the lock, and sees that the name still stands for this file: another one that took its place is another lock. And
+// that it is a regular file: the rights of a device are the whole machine's.
 fn lock<R: LockingFiles>(rt: &R, path: &str, file: &R::File) -> io::Result<()> {
     rt.try_lock(file)?;
     let opened = file.metadata()?;
     let named = rt.metadata(path)?;
-    if opened.dev() == named.dev() && opened.ino() == named.ino() {
+    if opened.is_file() && opened.dev() == named.dev() && opened.ino() == named.ino() {
         Ok(())
     } else {
         Err(io::Error::from(ErrorKind::NotFound))
