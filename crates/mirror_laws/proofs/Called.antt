@@ -131,9 +131,10 @@ module _ (inputs : (x : Member) (i : Input) (moment : ℕ) → IsEventOf x (taki
     stands = λ n w at. record { member = z; at = to.at n w at; holds = subst (Stands image) is stands };
   }
 
-  leaves : (was : List ℕ) (before : List ℕ → Type 0) (image : List ℕ) → MayLeave (turning name i moment) was_first party was before image → IsPairCutOr x e was before image
+  leaves : (was : List ℕ) (before : List ℕ → Type 0) (image : List ℕ) → MayLeave (turning name i moment) was_first was_second party was before image → IsPairCutOr x e was before image
   leaves was before image (Opened stands) = inl (cut_call x (to_old x bytes i moment event) party refl image stands)
-  leaves was before image (After next may stands) =
+  leaves was before image (After next changes stands) =
+      let may = changes.may in
       let same : may.space ≡ space = same_space party may.space space may.left left in
       let is : next ≡ (after x (pair_plan_at x i moment).edits).party = may.is ∙ ap (λ (s : Space). apply (pair_plan_at (record { party = party; space = s }) i moment).edits party) same in
       inl (cut_call (after x (pair_plan_at x i moment).edits) (to_next x bytes i moment event) next is image stands)
@@ -144,8 +145,8 @@ module _ (inputs : (x : Member) (i : Input) (moment : ℕ) → IsEventOf x (taki
       → IsSafePair (turning name i moment) first second first_after second_after → IsPairCallEvent x bytes i moment was_first was_second first second first_after second_after o
   is_call first second o read makes safe = record {
     whole = answers o (makes was_first was_second read);
-    cut_first = weaker first first_after (MayLeave (turning name i moment) was_first party was_first first.may_leave) (IsPairCutOr x e was_first first.may_leave)
+    cut_first = weaker first first_after (MayLeave (turning name i moment) was_first was_second party was_first first.may_leave) (IsPairCutOr x e was_first first.may_leave)
         (safe.on_first was_first was_second party read recovers) (leaves was_first first.may_leave);
-    cut_second = weaker second second_after (MayLeave (turning name i moment) was_first party was_second second.may_leave) (IsPairCutOr x e was_second second.may_leave)
+    cut_second = weaker second second_after (MayLeave (turning name i moment) was_first was_second party was_second second.may_leave) (IsPairCutOr x e was_second second.may_leave)
         (safe.on_second was_first was_second party read recovers) (leaves was_second second.may_leave);
   }

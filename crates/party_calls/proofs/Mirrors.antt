@@ -175,8 +175,12 @@ module _ (moment : ℕ) (left before : Option (List ℕ)) (e : List ℕ → View
     made = λ i j read. tt;
     due = λ i j other read is. inr (inr refl);
     safe = record {
-      on_first = λ i j p read recovers. began (e party) (MayLeave w i p i (e party).may_leave) (sound party) (λ c left. Before left);
-      on_second = λ i j p read recovers. began (e mirror) (MayLeave w i p j (e mirror).may_leave) (sound mirror) (λ c left. Before left);
+      on_first = λ i j p read recovers. began (e party) (MayLeave w i j p i (e party).may_leave) (sound party) (λ c left. Before left);
+      on_second = λ i j p read recovers. began (e mirror) (MayLeave w i j p j (e mirror).may_leave) (sound mirror) (λ c left. Before left);
+      nobody = λ i j read none. (still (e party) (sound party), still (e mirror) (sound mirror));
+      quiet = λ i j p read stand none. (still (e party) (sound party), still (e mirror) (sound mirror));
+      first_stays = λ i j p read recovers none filled. still (e party) (sound party);
+      second_stays = λ i j p read recovers none blank. still (e mirror) (sound mirror);
       first_tells = refl;
       second_tells = refl;
     };

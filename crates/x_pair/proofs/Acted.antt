@@ -1,7 +1,7 @@
 -- A party that is opened of two disks acts.
 use Rattle.std.proofs.Common.{◌≡◌, ◌≢◌, ◌⊎◌, inl, inr, ℕ, ◌-◌, ◌≤◌, List, [], ◌∷◌, Some, Ok, refl, sym, ◌∙◌, ap, subst, arith}
 use Rattle.x_base.specs.Edge.{Rose}
-use Rattle.x_disk.specs.Disk.{View}
+use Rattle.x_disk.specs.Disk.{View, IsUntouched}
 use Rattle.x_disk.proofs.Runs.{joined, weaker}
 use Rattle.key_journal.specs.declared.cause.Cause.TheVariants as cause
 use Rattle.party_state.specs.declared.command.Input.{Input}
@@ -19,7 +19,7 @@ use Rattle.node_core.specs.Turns.{member_of, IsOldOrNext}
 use Rattle.disk_pair.specs.declared.disks.Disks.{Disks}
 use Rattle.mirror_store.specs.Pairs.{PairStands, Recovers, Twin}
 use Rattle.mirror_store.specs.Answers.{twin_disks, turn_disks}
-use Rattle.mirror_store.specs.Opening.{HasFirstSpace, IsPairOpened}
+use Rattle.mirror_store.specs.Opening.{AreRead, HasFirstSpace, IsPairOpened}
 use Rattle.mirror_store.specs.Turns.{HasFailed, IsKeptTwice, IsPairTurn, pair_plan_at}
 use Rattle.mirror_store.specs.declared.pair.PairCause.{PairCause}
 use Rattle.mirror_store.specs.declared.pair.PairCause.TheVariants.{First, Second, OtherParty, TooLarge}
@@ -27,7 +27,7 @@ use Rattle.mirror_store.specs.declared.mirror.PairTurn.{PairTurn}
 use Rattle.mirror_store.specs.declared.mirror.PairTurn.TheVariants as turn
 use Rattle.x_party.specs.declared.outcome.Outcome.{Outcome}
 use Rattle.x_party.specs.declared.outcome.Outcome.TheVariants as outcome
-use Rattle.x_pair.specs.Outcomes.{Work, MakesOf, MayLeave, Opened, After, showing, turning}
+use Rattle.x_pair.specs.Outcomes.{Work, Changes, MakesOf, MayLeave, Opened, After, showing, turning}
 use Rattle.x_pair.specs.Steps.{HasActed, outcome_of_pair, outcome_of_turn}
 use Rattle.x_pair.proofs.Alike.{tells_by}
 use Rattle.x_pair.proofs.Opened.{both_stand, opening_leaves, rested}
@@ -113,6 +113,12 @@ kept_next (e ∷ es) old new kept = kept.0
 image_stands : (image : List ℕ) (party : Party) (left : Space) → StandsWith image party left → Stands image party
 image_stands image party left is = record { format = left.format; stands = record { bodies = is.bodies; holds = is.holds; fold = is.fold } }
 
+some_edit : (e : Edit) (es : List Edit) → e ∷ es ≡ [] → ⊥
+some_edit e es is = cc is
+
+both_recover : (a b : List ℕ) (party : Party) → PairStands a b party → Recovers a b party
+both_recover a b party stand = inl (stand.first_is, inr (party, stand.second_is, refl))
+
 module _ {D : Type 0} (told : D → View) (old : Disks D) (name : List ℕ) (i : Input) (moment : ℕ)
     (one_party : (a b : List ℕ) (p q : Party) → Recovers a b p → Recovers a b q → p ≡ q)
     (m : Twin D) (opened : IsPairOpened told old (Ok m)) (own : m.first.party.own ≡ name) where
@@ -125,18 +131,46 @@ module _ {D : Type 0} (told : D → View) (old : Disks D) (name : List ℕ) (i :
   abbrev plan : Plan
   plan = pair_plan_at x i moment
 
-  -- what a crash in a turn leaves of the first disk, and of the second
-  first_left : (first : List ℕ) → HasFirstSpace first m.first.party (space m.first) → (party : Party) (was : List ℕ) (before : List ℕ → Type 0) → m.first.party ≡ party → (c : List ℕ) → IsOldOrNext x (after x plan.edits) c → MayLeave w first party was before c
-  first_left first left party was before is c (inl stood) = Opened (subst (Stands c) is (image_stands c m.first.party (space m.first) stood))
-  first_left first left party was before is c (inr stood) =
-      subst (λ (p : Party). MayLeave w first p was before c) is
-      (After (apply plan.edits m.first.party) (record { space = space m.first; left = left; is = refl }) (image_stands c (apply plan.edits m.first.party) (space_after (space m.first) plan.edits) stood))
+  -- the party after edits is another only where there are some
+  changed : (first second : List ℕ) → HasFirstSpace first m.first.party (space m.first) → ((PairStands first second m.first.party → ⊥) → IsTooLarge Two m.first.party → ⊥)
+      → (edits : List Edit) → plan.edits ≡ edits → edits ≢ [] → Changes w first second m.first.party (apply plan.edits m.first.party)
+  changed first second left small edits is some = record { may = record { own = own; space = space m.first; left = left; changes = λ none. some (sym is ∙ none); is = refl }; small = small }
 
-  second_left : (first : List ℕ) → HasFirstSpace first m.first.party (space m.first) → (party : Party) (was : List ℕ) (before : List ℕ → Type 0) → m.first.party ≡ party → (c : List ℕ) → IsOldOrOther m.first.party (space m.second) Two (apply plan.edits m.first.party) c → MayLeave w first party was before c
-  second_left first left party was before is c (inl stood) = Opened (subst (Stands c) is (image_stands c m.first.party (space m.second) stood))
-  second_left first left party was before is c (inr stood) =
-      subst (λ (p : Party). MayLeave w first p was before c) is
-      (After (apply plan.edits m.first.party) (record { space = space m.first; left = left; is = refl }) (image_stands c (apply plan.edits m.first.party) _ stood))
+  -- what a crash in a turn leaves of the party after it
+  next_left : (first second : List ℕ) → HasFirstSpace first m.first.party (space m.first) → ((PairStands first second m.first.party → ⊥) → IsTooLarge Two m.first.party → ⊥) → (was : List ℕ) (before : List ℕ → Type 0) (c : List ℕ) → Stands c (apply plan.edits m.first.party)
+      → (edits : List Edit) → plan.edits ≡ edits → MayLeave w first second m.first.party was before c
+  next_left first second left small was before c stands [] none = Opened (subst (λ (es : List Edit). Stands c (apply es m.first.party)) none stands)
+  next_left first second left small was before c stands (e ∷ es) is = After (apply plan.edits m.first.party) (changed first second left small (e ∷ es) is (some_edit e es)) stands
+
+  -- of the first disk, and of the second
+  first_left : (first second : List ℕ) → HasFirstSpace first m.first.party (space m.first) → ((PairStands first second m.first.party → ⊥) → IsTooLarge Two m.first.party → ⊥) → (party : Party) (was : List ℕ) (before : List ℕ → Type 0) → m.first.party ≡ party → (c : List ℕ) → IsOldOrNext x (after x plan.edits) c → MayLeave w first second party was before c
+  first_left first second left small party was before is c (inl stood) = Opened (subst (Stands c) is (image_stands c m.first.party (space m.first) stood))
+  first_left first second left small party was before is c (inr stood) =
+      subst (λ (p : Party). MayLeave w first second p was before c) is
+      (next_left first second left small was before c (image_stands c (apply plan.edits m.first.party) (space_after (space m.first) plan.edits) stood) plan.edits refl)
+
+  second_left : (first second : List ℕ) → HasFirstSpace first m.first.party (space m.first) → ((PairStands first second m.first.party → ⊥) → IsTooLarge Two m.first.party → ⊥) → (party : Party) (was : List ℕ) (before : List ℕ → Type 0) → m.first.party ≡ party → (c : List ℕ) → IsOldOrOther m.first.party (space m.second) Two (apply plan.edits m.first.party) c → MayLeave w first second party was before c
+  second_left first second left small party was before is c (inl stood) = Opened (subst (Stands c) is (image_stands c m.first.party (space m.second) stood))
+  second_left first second left small party was before is c (inr stood) =
+      subst (λ (p : Party). MayLeave w first second p was before c) is
+      (next_left first second left small was before c (image_stands c (apply plan.edits m.first.party) _ stood) plan.edits refl)
+
+  -- where the party isn't changed, the disks stay as the opening left them
+  no_edits : (first second : List ℕ) → HasFirstSpace first m.first.party (space m.first) → ((PairStands first second m.first.party → ⊥) → IsTooLarge Two m.first.party → ⊥) → ((next : Party) → Changes w first second m.first.party next → ⊥) → (edits : List Edit) → plan.edits ≡ edits → plan.edits ≡ []
+  no_edits first second left small none [] is = is
+  no_edits first second left small none (e ∷ es) is = absurd (none (apply plan.edits m.first.party) (changed first second left small (e ∷ es) is (some_edit e es)))
+
+  unturned : plan.edits ≡ [] → (t : PairTurn D) → IsPairTurn told m plan t → turn_disks t ≡ twin_disks m
+  unturned none (turn.Done new reply under) is = ap (λ (n : Twin D). twin_disks n) (subst (λ (es : List Edit). IsKeptTwice es m new) none is.answer.kept)
+  unturned none (turn.Refused new said reply under) is = ap (λ (n : Twin D). twin_disks n) is.answer.same
+  unturned none (turn.Broken u) is = absurd (is.answer.changes none)
+  unturned none (turn.NoMemory new) is = ap (λ (n : Twin D). twin_disks n) is.answer
+
+  unchanged : (t : PairTurn D) → IsPairTurn told m plan t → (a b : List ℕ) (party : Party) → AreRead (told old.first) (told old.second) a b → Recovers a b party → ((next : Party) → Changes w a b party next → ⊥) → turn_disks t ≡ twin_disks m
+  unchanged t is a b party read recovers none =
+      let same : m.first.party ≡ party = one_party a b m.first.party party (opened.exact a b read) recovers in
+      let nothing : (next : Party) → Changes w a b m.first.party next → ⊥ = subst (λ (p : Party). (next : Party) → Changes w a b p next → ⊥) (sym same) none in
+      unturned (no_edits a b (opened.left a b read) (opened.small a b read) nothing plan.edits refl) t is
 
   makes_turn : (t : PairTurn D) → IsPairTurn told m plan t → (a b : List ℕ) → Recovers a b m.first.party → HasFirstSpace a m.first.party x.space → ((PairStands a b m.first.party → ⊥) → IsTooLarge Two m.first.party → ⊥) → MakesOf w a b (told (turn_disks t).first) (told (turn_disks t).second) (outcome_of_turn t)
   makes_turn (turn.Done new reply under) is a b recovers at small = record {
@@ -172,17 +206,25 @@ module _ {D : Type 0} (told : D → View) (old : Disks D) (name : List ℕ) (i :
     makes = λ a b read. makes_turn t is a b (opened.exact a b read) (opened.left a b read) (opened.small a b read);
     safe = record {
       on_first = λ a b party read recovers.
-          joined (told old.first) (told m.first.disk) (told (turn_disks t).first) (MayLeave w a party a (told old.first).may_leave)
-          (opening_leaves w (told old.first) (told m.first.disk) a a party (opened.first_moments a b party read recovers))
-          (weaker (told m.first.disk) (told (turn_disks t).first) (IsOldOrNext x (after x plan.edits)) (MayLeave w a party a (told old.first).may_leave)
+          joined (told old.first) (told m.first.disk) (told (turn_disks t).first) (MayLeave w a b party a (told old.first).may_leave)
+          (opening_leaves w (told old.first) (told m.first.disk) a b a party (opened.first_moments a b party read recovers))
+          (weaker (told m.first.disk) (told (turn_disks t).first) (IsOldOrNext x (after x plan.edits)) (MayLeave w a b party a (told old.first).may_leave)
           (is.first_moments (opened.keeps.first_tells ∙ tells_by (told old.first).now a read.first))
-          (first_left a (opened.left a b read) party a (told old.first).may_leave (one_party a b m.first.party party (opened.exact a b read) recovers)));
+          (first_left a b (opened.left a b read) (opened.small a b read) party a (told old.first).may_leave (one_party a b m.first.party party (opened.exact a b read) recovers)));
       on_second = λ a b party read recovers.
-          joined (told old.second) (told m.second.disk) (told (turn_disks t).second) (MayLeave w a party b (told old.second).may_leave)
-          (opening_leaves w (told old.second) (told m.second.disk) a b party (opened.second_moments a b party read recovers))
-          (weaker (told m.second.disk) (told (turn_disks t).second) (IsOldOrOther m.first.party (space m.second) Two (apply plan.edits m.first.party)) (MayLeave w a party b (told old.second).may_leave)
+          joined (told old.second) (told m.second.disk) (told (turn_disks t).second) (MayLeave w a b party b (told old.second).may_leave)
+          (opening_leaves w (told old.second) (told m.second.disk) a b b party (opened.second_moments a b party read recovers))
+          (weaker (told m.second.disk) (told (turn_disks t).second) (IsOldOrOther m.first.party (space m.second) Two (apply plan.edits m.first.party)) (MayLeave w a b party b (told old.second).may_leave)
           (is.second_moments (opened.keeps.second_tells ∙ tells_by (told old.second).now b read.second))
-          (second_left a (opened.left a b read) party b (told old.second).may_leave (one_party a b m.first.party party (opened.exact a b read) recovers)));
+          (second_left a b (opened.left a b read) (opened.small a b read) party b (told old.second).may_leave (one_party a b m.first.party party (opened.exact a b read) recovers)));
+      nobody = λ a b read none. absurd (none m.first.party (opened.exact a b read));
+      quiet = λ a b party read stand none.
+          subst (λ (d : Disks D). IsUntouched (told old.first) (told d.first) × IsUntouched (told old.second) (told d.second))
+          (sym (unchanged t is a b party read (both_recover a b party stand) none)) (opened.quiet a b party read stand);
+      first_stays = λ a b party read recovers none filled.
+          subst (λ (d : Disks D). IsUntouched (told old.first) (told d.first)) (sym (unchanged t is a b party read recovers none)) (opened.first_stays a b read filled);
+      second_stays = λ a b party read recovers none blank.
+          subst (λ (d : Disks D). IsUntouched (told old.second) (told d.second)) (sym (unchanged t is a b party read recovers none)) (opened.second_stays a b read blank);
       first_tells = is.keeps.first_tells ∙ opened.keeps.first_tells;
       second_tells = is.keeps.second_tells ∙ opened.keeps.second_tells;
     };

@@ -63,8 +63,12 @@ module _ {D : Type 0} (told : D → View) (name other : List ℕ) (old new : She
 
   pub unfetched_safe : (w : Work) → IsSafePair w (old.entry name) (old.entry other) (new.entry name) (new.entry other)
   unfetched_safe w = record {
-    on_first = λ i j party read recovers. weaker (old.entry name) (new.entry name) (old.entry name).may_leave (MayLeave w i party i (old.entry name).may_leave) first_still.any_moment (λ c left. Before left);
-    on_second = λ i j party read recovers. weaker (old.entry other) (new.entry other) (old.entry other).may_leave (MayLeave w i party j (old.entry other).may_leave) second_still.any_moment (λ c left. Before left);
+    on_first = λ i j party read recovers. weaker (old.entry name) (new.entry name) (old.entry name).may_leave (MayLeave w i j party i (old.entry name).may_leave) first_still.any_moment (λ c left. Before left);
+    on_second = λ i j party read recovers. weaker (old.entry other) (new.entry other) (old.entry other).may_leave (MayLeave w i j party j (old.entry other).may_leave) second_still.any_moment (λ c left. Before left);
+    nobody = λ i j read none. (first_still, second_still);
+    quiet = λ i j party read stand none. (first_still, second_still);
+    first_stays = λ i j party read recovers none filled. first_still;
+    second_stays = λ i j party read recovers none blank. second_still;
     first_tells = ap is_some out.first_stays.now;
     second_tells = ap is_some out.second_stays.now;
   }
@@ -99,6 +103,9 @@ module _ (first second out_first out_second mid_first mid_second new_first new_s
   read_out : (i j : List ℕ) → AreRead first second i j → AreRead out_first out_second i j
   read_out i j read = record { first = first_out.now ∙ read.first; second = second_out.now ∙ read.second }
 
+  both_around : IsUntouched out_first mid_first × IsUntouched out_second mid_second → IsUntouched first new_first × IsUntouched second new_second
+  both_around still = (untouched_around first out_first mid_first new_first first_out first_back still.0, untouched_around second out_second mid_second new_second second_out second_back still.1)
+
   module _ (w : Work) where
     opened_alike : (i j : List ℕ) (o : Outcome) → OfOpened w i j mid_first mid_second o → OfOpened w i j new_first new_second o
     opened_alike i j o is = record {
@@ -130,26 +137,30 @@ module _ (first second out_first out_second mid_first mid_second new_first new_s
     closed_makes o result before after (inr (inl is)) makes = λ i j read. subst (MakesOf w i j new_first new_second) (sym is.0) tt
     closed_makes o result before after (inr (inr is)) makes = λ i j read. subst (MakesOf w i j new_first new_second) (sym is) tt
 
-    leaves_first : (image : List ℕ) (party : Party) (was c : List ℕ) → MayLeave w image party was out_first.may_leave c → MayLeave w image party was first.may_leave c
-    leaves_first image party was c (Opened stands) = Opened stands
-    leaves_first image party was c (After next may stands) = After next may stands
-    leaves_first image party was c (AsItWas is) = AsItWas is
-    leaves_first image party was c (Before left) = Before (first_out.images c left)
+    leaves_first : (image other : List ℕ) (party : Party) (was c : List ℕ) → MayLeave w image other party was out_first.may_leave c → MayLeave w image other party was first.may_leave c
+    leaves_first image other party was c (Opened stands) = Opened stands
+    leaves_first image other party was c (After next may stands) = After next may stands
+    leaves_first image other party was c (AsItWas is) = AsItWas is
+    leaves_first image other party was c (Before left) = Before (first_out.images c left)
 
-    leaves_second : (image : List ℕ) (party : Party) (was c : List ℕ) → MayLeave w image party was out_second.may_leave c → MayLeave w image party was second.may_leave c
-    leaves_second image party was c (Opened stands) = Opened stands
-    leaves_second image party was c (After next may stands) = After next may stands
-    leaves_second image party was c (AsItWas is) = AsItWas is
-    leaves_second image party was c (Before left) = Before (second_out.images c left)
+    leaves_second : (image other : List ℕ) (party : Party) (was c : List ℕ) → MayLeave w image other party was out_second.may_leave c → MayLeave w image other party was second.may_leave c
+    leaves_second image other party was c (Opened stands) = Opened stands
+    leaves_second image other party was c (After next may stands) = After next may stands
+    leaves_second image other party was c (AsItWas is) = AsItWas is
+    leaves_second image other party was c (Before left) = Before (second_out.images c left)
 
     safe_around : IsSafePair w out_first out_second mid_first mid_second → IsSafePair w first second new_first new_second
     safe_around safe = record {
       on_first = λ i j party read recovers.
-          weaker first new_first (MayLeave w i party i out_first.may_leave) (MayLeave w i party i first.may_leave)
-          (leaves_around first out_first mid_first new_first first_out first_back (MayLeave w i party i out_first.may_leave) (safe.on_first i j party (read_out i j read) recovers)) (leaves_first i party i);
+          weaker first new_first (MayLeave w i j party i out_first.may_leave) (MayLeave w i j party i first.may_leave)
+          (leaves_around first out_first mid_first new_first first_out first_back (MayLeave w i j party i out_first.may_leave) (safe.on_first i j party (read_out i j read) recovers)) (leaves_first i j party i);
       on_second = λ i j party read recovers.
-          weaker second new_second (MayLeave w i party j out_second.may_leave) (MayLeave w i party j second.may_leave)
-          (leaves_around second out_second mid_second new_second second_out second_back (MayLeave w i party j out_second.may_leave) (safe.on_second i j party (read_out i j read) recovers)) (leaves_second i party j);
+          weaker second new_second (MayLeave w i j party j out_second.may_leave) (MayLeave w i j party j second.may_leave)
+          (leaves_around second out_second mid_second new_second second_out second_back (MayLeave w i j party j out_second.may_leave) (safe.on_second i j party (read_out i j read) recovers)) (leaves_second i j party j);
+      nobody = λ i j read none. both_around (safe.nobody i j (read_out i j read) none);
+      quiet = λ i j party read stand none. both_around (safe.quiet i j party (read_out i j read) stand none);
+      first_stays = λ i j party read recovers none filled. untouched_around first out_first mid_first new_first first_out first_back (safe.first_stays i j party (read_out i j read) recovers none filled);
+      second_stays = λ i j party read recovers none blank. untouched_around second out_second mid_second new_second second_out second_back (safe.second_stays i j party (read_out i j read) recovers none blank);
       first_tells = ap is_some first_back.now ∙ (safe.first_tells ∙ ap is_some first_out.now);
       second_tells = ap is_some second_back.now ∙ (safe.second_tells ∙ ap is_some second_out.now);
     }

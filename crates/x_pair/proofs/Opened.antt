@@ -60,21 +60,25 @@ refused_rose told old new (OtherParty a b) fault is = absurd (cc is)
 refused_rose told old new TooLarge fault is = absurd (cc is)
 
 -- what a crash in an opening leaves
-opened_leaves : (w : Work) (first : List ℕ) (party : Party) (was : List ℕ) (before : List ℕ → Type 0) (c : List ℕ) → (Stands c party ⊎ IsAsBefore was c) ⊎ before c → MayLeave w first party was before c
-opened_leaves w first party was before c (inl (inl is)) = Opened is
-opened_leaves w first party was before c (inl (inr is)) = AsItWas is
-opened_leaves w first party was before c (inr left) = Before left
+opened_leaves : (w : Work) (first second : List ℕ) (party : Party) (was : List ℕ) (before : List ℕ → Type 0) (c : List ℕ) → (Stands c party ⊎ IsAsBefore was c) ⊎ before c → MayLeave w first second party was before c
+opened_leaves w first second party was before c (inl (inl is)) = Opened is
+opened_leaves w first second party was before c (inl (inr is)) = AsItWas is
+opened_leaves w first second party was before c (inr left) = Before left
 
-pub opening_leaves : (w : Work) (old mid : View) (first was : List ℕ) (party : Party) → LeavesOnly old mid (λ c. (Stands c party ⊎ IsAsBefore was c) ⊎ old.may_leave c) → LeavesOnly old mid (MayLeave w first party was old.may_leave)
-opening_leaves w old mid first was party run = weaker old mid (λ c. (Stands c party ⊎ IsAsBefore was c) ⊎ old.may_leave c) (MayLeave w first party was old.may_leave) run (opened_leaves w first party was old.may_leave)
+pub opening_leaves : (w : Work) (old mid : View) (first second was : List ℕ) (party : Party) → LeavesOnly old mid (λ c. (Stands c party ⊎ IsAsBefore was c) ⊎ old.may_leave c) → LeavesOnly old mid (MayLeave w first second party was old.may_leave)
+opening_leaves w old mid first second was party run = weaker old mid (λ c. (Stands c party ⊎ IsAsBefore was c) ⊎ old.may_leave c) (MayLeave w first second party was old.may_leave) run (opened_leaves w first second party was old.may_leave)
 
 module _ {D : Type 0} (told : D → View) (old : Disks D) (w : Work) where
   pub not_opened : (u : PairUnmade D) → IsPairOpened told old (Err u) → HasActed w told old u.disks (outcome_of_pair u.cause)
   not_opened u opened = record {
     makes = λ i j read. refusal_makes w i j (told u.disks.first) (told u.disks.second) u.cause (opened.refused i j read);
     safe = record {
-      on_first = λ i j party read recovers. opening_leaves w (told old.first) (told u.disks.first) i i party (opened.first_moments i j party read recovers);
-      on_second = λ i j party read recovers. opening_leaves w (told old.second) (told u.disks.second) i j party (opened.second_moments i j party read recovers);
+      on_first = λ i j party read recovers. opening_leaves w (told old.first) (told u.disks.first) i j i party (opened.first_moments i j party read recovers);
+      on_second = λ i j party read recovers. opening_leaves w (told old.second) (told u.disks.second) i j j party (opened.second_moments i j party read recovers);
+      nobody = opened.stays;
+      quiet = λ i j party read stands none. opened.quiet i j party read stands;
+      first_stays = λ i j party read recovers none filled. opened.first_stays i j read filled;
+      second_stays = λ i j party read recovers none blank. opened.second_stays i j read blank;
       first_tells = opened.keeps.first_tells;
       second_tells = opened.keeps.second_tells;
     };
@@ -92,8 +96,12 @@ module _ {D : Type 0} (told : D → View) (old : Disks D) (w : Work) where
   rested m opened new is o makes none = subst (λ (n : Disks D). HasActed w told old n o) (sym is) (record {
     makes = λ i j read. makes i j (opened.exact i j read) (opened.left i j read) (opened.small i j read) (both_stand told m opened.stand);
     safe = record {
-      on_first = λ i j party read recovers. opening_leaves w (told old.first) (told m.first.disk) i i party (opened.first_moments i j party read recovers);
-      on_second = λ i j party read recovers. opening_leaves w (told old.second) (told m.second.disk) i j party (opened.second_moments i j party read recovers);
+      on_first = λ i j party read recovers. opening_leaves w (told old.first) (told m.first.disk) i j i party (opened.first_moments i j party read recovers);
+      on_second = λ i j party read recovers. opening_leaves w (told old.second) (told m.second.disk) i j j party (opened.second_moments i j party read recovers);
+      nobody = opened.stays;
+      quiet = λ i j party read stands none. opened.quiet i j party read stands;
+      first_stays = λ i j party read recovers none filled. opened.first_stays i j read filled;
+      second_stays = λ i j party read recovers none blank. opened.second_stays i j read blank;
       first_tells = opened.keeps.first_tells;
       second_tells = opened.keeps.second_tells;
     };

@@ -1,10 +1,10 @@
 -- What becomes of a party on a shelf that is kept on two disks (this project's profile). `first` and `second` are what the
 -- shelf tells of the two disks before, `first_after` and `second_after` what it tells afterwards.
-use Rattle.std.specs.Prelude.{◌≡◌, ◌≢◌, ◌⊎◌, ◌≤◌, ℕ, true, List, Option, Some, None}
+use Rattle.std.specs.Prelude.{◌≡◌, ◌≢◌, ◌⊎◌, ◌≤◌, ℕ, true, false, List, [], Option, Some, None}
 use Rattle.x_base.specs.Edge.{Rose}
 use Rattle.x_base.specs.declared.verdict.Verdict.{Verdict}
 use Rattle.x_base.specs.declared.verdict.Verdict.TheVariants.{Accept, JournalFull, Blank}
-use Rattle.x_disk.specs.Disk.{View, IsDurable, LeavesOnly}
+use Rattle.x_disk.specs.Disk.{View, IsDurable, LeavesOnly, IsUntouched}
 use Rattle.key_journal.specs.Journal.{is_blank}
 use Rattle.party_state.specs.declared.command.Input.{Input}
 use Rattle.party_state.specs.State.{Party, apply}
@@ -63,15 +63,18 @@ SaysTurn name i moment x (outcome.Refused verdict reply) y = Refuses name i mome
 SaysTurn name i moment x (outcome.OtherParty asked found) y = IsOther name x asked found y
 SaysTurn name i moment x o y = ⊥
 
--- the party after what it plans, with the space that the image of the first disk leaves, or one frame, where it was blank
-pub record IsAfter (i : Input) (moment : ℕ) (first : List ℕ) (party next : Party) : Type 0 where
+-- the party of the name after what it plans, where that changes anything, with the space that the image of the first disk
+-- leaves, or one frame, where it was blank
+pub record IsAfter (name : List ℕ) (i : Input) (moment : ℕ) (first : List ℕ) (party next : Party) : Type 0 where
+  pub own : party.own ≡ name
   pub space : Space
   pub left : HasFirstSpace first party space
+  pub changes : (pair_plan_at (record { party = party; space = space }) i moment).edits ≢ []
   pub is : next ≡ apply (pair_plan_at (record { party = party; space = space }) i moment).edits party
 
 -- the turn of the party of this name with an input at a moment
 abbrev pub turning : List ℕ → Input → ℕ → Work
-turning name i moment = record { Says = λ x o y. SaysTurn name i moment x o y; May = λ first party next. IsAfter i moment first party next }
+turning name i moment = record { Says = λ x o y. SaysTurn name i moment x o y; May = λ first party next. IsAfter name i moment first party next }
 
 abbrev pub SaysShow : Member → Outcome → Member → Type 0
 SaysShow x (outcome.Done reply) y = (reply ≡ Some (shown x.party)) × (y ≡ x)
@@ -124,19 +127,35 @@ MakesOf w i j first_after second_after outcome.NoMemory = Unit {0}
 abbrev pub MakesPair : Work → View → View → View → View → Outcome → Type 0
 MakesPair w first second first_after second_after o = (i j : List ℕ) → AreRead first second i j → MakesOf w i j first_after second_after o
 
+-- the call changes the party that is opened of two images: there is one after it, and where a disk has to be made anew, the party
+-- isn't too large for that
+pub record Changes (w : Work) (first second : List ℕ) (party next : Party) : Type 0 where
+  pub may : w.May first party next
+  pub small : (PairStands first second party → ⊥) → IsTooLarge Two party → ⊥
+
 -- an image that a crash may leave: it stands for the party that is opened or for one after it, is blank as it was, stands for the
 -- party for which it stood, or could be left before
-pub data MayLeave (w : Work) (first : List ℕ) (party : Party) (was : List ℕ) (before : List ℕ → Type 0) (image : List ℕ) : Type 0 where
-  Opened : Stands image party → MayLeave w first party was before image
-  After : (next : Party) → w.May first party next → Stands image next → MayLeave w first party was before image
-  AsItWas : IsAsBefore was image → MayLeave w first party was before image
-  Before : before image → MayLeave w first party was before image
+pub data MayLeave (w : Work) (first second : List ℕ) (party : Party) (was : List ℕ) (before : List ℕ → Type 0) (image : List ℕ) : Type 0 where
+  Opened : Stands image party → MayLeave w first second party was before image
+  After : (next : Party) → Changes w first second party next → Stands image next → MayLeave w first second party was before image
+  AsItWas : IsAsBefore was image → MayLeave w first second party was before image
+  Before : before image → MayLeave w first second party was before image
 
 -- what holds of every outcome
 pub record IsSafePair (w : Work) (first second first_after second_after : View) : Type 0 where
   -- what a crash at any moment leaves of two disks of which a party is opened
-  pub on_first : (i j : List ℕ) (party : Party) → AreRead first second i j → Recovers i j party → LeavesOnly first first_after (MayLeave w i party i first.may_leave)
-  pub on_second : (i j : List ℕ) (party : Party) → AreRead first second i j → Recovers i j party → LeavesOnly second second_after (MayLeave w i party j second.may_leave)
+  pub on_first : (i j : List ℕ) (party : Party) → AreRead first second i j → Recovers i j party → LeavesOnly first first_after (MayLeave w i j party i first.may_leave)
+  pub on_second : (i j : List ℕ) (party : Party) → AreRead first second i j → Recovers i j party → LeavesOnly second second_after (MayLeave w i j party j second.may_leave)
+  -- where no party can be opened of them, nothing is written
+  pub nobody : (i j : List ℕ) → AreRead first second i j → ((party : Party) → Recovers i j party → ⊥) → IsUntouched first first_after × IsUntouched second second_after
+  -- nor where both stand for a party that the call doesn't change
+  pub quiet : (i j : List ℕ) (party : Party) → AreRead first second i j → PairStands i j party → ((next : Party) → Changes w i j party next → ⊥)
+      → IsUntouched first first_after × IsUntouched second second_after
+  -- and where the party that is opened isn't changed, the first is written only if it is blank, and the second only if the first isn't
+  pub first_stays : (i j : List ℕ) (party : Party) → AreRead first second i j → Recovers i j party → ((next : Party) → Changes w i j party next → ⊥)
+      → is_blank i ≡ false → IsUntouched first first_after
+  pub second_stays : (i j : List ℕ) (party : Party) → AreRead first second i j → Recovers i j party → ((next : Party) → Changes w i j party next → ⊥)
+      → is_blank i ≡ true → IsUntouched second second_after
   pub first_tells : StillTells first first_after
   pub second_tells : StillTells second second_after
 
