@@ -93,25 +93,27 @@ module _ {D E : Type 0} (told : D → View) (told_spool : E → View) (spool : S
   taken planned t node k = record {
     answer = (inr (subst (λ (m : Member). TakesUp (member_of planned.node) m spool.progress) (sym k.behind) t), refl);
     keeps = record { party_faults = k.faults; spool_faults = omega arith; party_tells = k.tells; spool_tells = refl };
+    rests = λ was. absurd (t.unsettled (was.settled t.plan t.entry t.last));
   }
 
   pub taken_broken : (planned : PlannedNode D) → TakesUp (member_of planned.node) (after (member_of planned.node) planned.plan.edits) spool.progress → (b : Failed D) → IsCarried told planned (Err b) → IsCatching told told_spool planned.node spool (caught.NodeBroken b spool)
   taken_broken planned t b k = record {
     answer = (record { there = after (member_of planned.node) planned.plan.edits; takes = t; cause = k.cut.cause; leaves = k.cut.leaves }, refl);
     keeps = record { party_faults = k.faults; spool_faults = omega arith; party_tells = k.tells; spool_tells = refl };
+    rests = λ was. absurd (t.unsettled (was.settled t.plan t.entry t.last));
   }
 
   still : (node after : Stored D) → after ≡ node → KeepsBoth (told node.disk) (told_spool spool.disk) (told after.disk) (told_spool spool.disk)
   still node after same = subst (λ (n : Stored D). KeepsBoth (told node.disk) (told_spool spool.disk) (told n.disk) (told_spool spool.disk)) (sym same) (record { party_faults = omega arith; spool_faults = omega arith; party_tells = refl; spool_tells = refl })
 
   pub out : (node after : Stored D) → after ≡ node → IsOut (member_of node) spool.progress → IsCatching told told_spool node spool (caught.OutOfStep after spool)
-  out node after same o = record { answer = (o, same, refl); keeps = still node after same }
+  out node after same o = record { answer = (o, same, refl); keeps = still node after same; rests = λ was. (ap (λ (n : Stored D). n.disk) same, refl) }
 
   pub wanting : (node after : Stored D) → after ≡ node → IsCatching told told_spool node spool (caught.NoMemory after spool)
-  wanting node after same = record { answer = (same, refl); keeps = still node after same }
+  wanting node after same = record { answer = (same, refl); keeps = still node after same; rests = λ was. (ap (λ (n : Stored D). n.disk) same, refl) }
 
   pub settled : (node : Stored D) → ((plan : EntryPlan) (e : Entry) → IsLast spool.progress plan e → IsSettled node.party plan) → IsCatching told told_spool node spool (caught.Behind node spool)
-  settled node was = record { answer = (inl (refl, record { settled = was }), refl); keeps = still node node refl }
+  settled node was = record { answer = (inl (refl, record { settled = was }), refl); keeps = still node node refl; rests = λ was. (refl, refl) }
 
   pub unstepped : (node after : Stored D) → after ≡ node → IsStep told told_spool node spool (stepped.NoMemory after spool)
   unstepped node after same = record { answer = (same, refl); keeps = still node after same }

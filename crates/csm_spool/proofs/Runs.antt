@@ -1,5 +1,5 @@
 -- The rest of a batch, from a party that is behind the plans that stand.
-use Rattle.std.proofs.Common.{◌≡◌, inl, inr, ℕ, ◌≤◌, List, length, refl, sym, ap, subst, ◌∙◌, arith}
+use Rattle.std.proofs.Common.{◌≡◌, inl, inr, ℕ, ◌<◌, ◌≤◌, List, length, refl, sym, ap, subst, ◌∙◌, arith}
 use Rattle.x_base.specs.Edge.{Rose}
 use Rattle.x_disk.specs.Disk.{View, Tells}
 use Rattle.x_disk.specs.declared.disk.DiskErr.{DiskErr}
@@ -19,6 +19,7 @@ use Rattle.spool_store.specs.Spools.{Spooled, IsSpool}
 use Rattle.csm_spool.specs.Stepping.{IsNext, IsOn, IsNodeCut, IsSpoolCut}
 use Rattle.csm_spool.proofs.Steps.{course_on, commit, carried, at_rest}
 use Rattle.csm_spool.proofs.Images.{party_images, spool_images}
+use Rattle.csm_spool.proofs.Entries.{within}
 
 pub rose_later : (a b c : ℕ) → a ≤ b → Rose b c → Rose a c
 rose_later a b c le (inl less) = inl (omega (arith, le, less))
@@ -42,9 +43,10 @@ module _ {D E : Type 0} (told : D → View) (told_spool : E → View) (first : S
     pub entries : spool.progress.entries ≡ old.progress.entries
     pub course : (x : Member) → EntriesLead x old.progress.entries old.progress.plans (member_of first) → EntriesLead x old.progress.entries spool.progress.plans (member_of node)
     pub keeps : KeepsBoth (told first.disk) (told_spool old.disk) (told node.disk) (told_spool spool.disk)
+    pub over : length old.progress.entries ≤ length old.progress.plans → (node ≡ first) × (spool ≡ old)
 
   pub begun : IsRunning first old
-  begun = record { text = refl; entries = refl; course = λ x c. c; keeps = record { party_faults = omega arith; spool_faults = omega arith; party_tells = refl; spool_tells = refl } }
+  begun = record { text = refl; entries = refl; course = λ x c. c; keeps = record { party_faults = omega arith; spool_faults = omega arith; party_tells = refl; spool_tells = refl }; over = λ all. (refl, refl) }
 
   module _ (node : Stored D) (spool : Spooled E) (run : IsRunning node spool) where
     -- the progress, of the batch as it was
@@ -59,6 +61,16 @@ module _ {D E : Type 0} (told : D → View) (told_spool : E → View) (first : S
     next_now : (here there : Member) (plan : EntryPlan) → IsNext spool.progress here plan there → IsNext now here plan there
     next_now here there plan next = subst (λ (p : Progress). IsNext p here plan there) now_is next
 
+    -- where each entry had its plan there is no next one, and nothing was called
+    no_next : length old.progress.entries ≤ length old.progress.plans → (here there : Member) (plan : EntryPlan) → IsNext spool.progress here plan there → ⊥
+    no_next all here there plan next =
+        let same = (run.over all).1 in
+        let more : length spool.progress.plans < length spool.progress.entries = within spool.progress next.entry next.at in
+        omega (arith, all, more, ap (λ (s : Spooled E). length s.progress.plans) same, ap (λ (s : Spooled E). length s.progress.entries) same)
+
+    still : (after : Stored D) (new : Spooled E) → after ≡ node → new ≡ spool → length old.progress.entries ≤ length old.progress.plans → (after.disk ≡ first.disk) × (new.disk ≡ old.disk)
+    still after new same also all = (ap (λ (n : Stored D). n.disk) (same ∙ (run.over all).0), ap (λ (s : Spooled E). s.disk) (also ∙ (run.over all).1))
+
     pub on : (after : Stored D) (new : Spooled E) → IsOn node spool after new → KeepsBoth (told node.disk) (told_spool spool.disk) (told after.disk) (told_spool new.disk) → IsRunning after new
     on after new h keeps = record {
       text = ap (λ (p : Progress). p.text) h.goes ∙ run.text;
@@ -68,6 +80,7 @@ module _ {D E : Type 0} (told : D → View) (told_spool : E → View) (first : S
           subst (λ (ps : List EntryPlan). EntriesLead x old.progress.entries ps (member_of after)) (sym (ap (λ (p : Progress). p.plans) h.goes))
           (course_on x old.progress.entries spool.progress.plans (member_of node) (member_of after) n.entry h.plan (run.course x c) n.at n.leads);
       keeps = keeps_on (told first.disk) (told_spool old.disk) (told node.disk) (told_spool spool.disk) (told after.disk) (told_spool new.disk) run.keeps keeps;
+      over = λ all. absurd (no_next all (member_of node) (member_of after) h.plan h.next);
     }
 
     -- the party and the spool at rest
@@ -85,17 +98,19 @@ module _ {D E : Type 0} (told : D → View) (told_spool : E → View) (first : S
       ends = λ x c. run.course x c;
       in_step = λ x c party_tells spool_tells. resting node spool refl refl store kept (run.keeps.party_tells ∙ party_tells) (run.keeps.spool_tells ∙ spool_tells) x c;
       keeps = run.keeps;
+      rests = still node spool refl refl;
     }
 
     pub halted : (after : Stored D) (new : Spooled E) → after ≡ node → new ≡ spool → IsStore (told after.disk) after.gate after.end after.format after.party → IsSpool (told_spool new.disk) new.gate new.end new.progress
         → KeepsBoth (told node.disk) (told_spool spool.disk) (told after.disk) (told_spool new.disk) → IsRun told told_spool first old (drive.NoMemory after new)
-    halted after new same still store kept keeps =
+    halted after new same still_spool store kept keeps =
         let all = keeps_on (told first.disk) (told_spool old.disk) (told node.disk) (told_spool spool.disk) (told after.disk) (told_spool new.disk) run.keeps keeps in
         record {
           answer = tt;
           ends = λ x c. tt;
-          in_step = λ x c party_tells spool_tells. resting after new (ap member_of same) (ap (λ (s : Spooled E). s.progress) still) store kept (all.party_tells ∙ party_tells) (all.spool_tells ∙ spool_tells) x c;
+          in_step = λ x c party_tells spool_tells. resting after new (ap member_of same) (ap (λ (s : Spooled E). s.progress) still_spool) store kept (all.party_tells ∙ party_tells) (all.spool_tells ∙ spool_tells) x c;
           keeps = all;
+          rests = still after new same still_spool;
         }
 
     pub node_broken : (broken : Failed D) (new : Spooled E) → IsNodeCut told node spool broken new → IsSpool (told_spool new.disk) new.gate new.end new.progress
@@ -110,6 +125,7 @@ module _ {D E : Type 0} (told : D → View) (told_spool : E → View) (first : S
               (h.leaves (run.keeps.party_tells ∙ party_tells) i at_party)
               (subst (HoldsPlans j) (h.goes ∙ ap (λ (p : Progress). with_plan p h.plan) now_is) (spool_images (told_spool new.disk) new.gate new.end new.progress kept (all.spool_tells ∙ spool_tells) j at_spool));
           keeps = all;
+          rests = λ whole. absurd (no_next whole (member_of node) h.there h.plan h.next);
         }
 
     pub spool_broken : (after : Stored D) (broken : Failed E) → IsSpoolCut told_spool node spool after broken → IsStore (told after.disk) after.gate after.end after.format after.party
@@ -124,4 +140,5 @@ module _ {D E : Type 0} (told : D → View) (told_spool : E → View) (first : S
               (subst (λ (n : Stored D). IsImageOf (member_of n) i) h.same (party_images told after store (all.party_tells ∙ party_tells) i at_party))
               (subst (λ (p : Progress). HoldsEither p h.plan j) now_is (h.leaves (run.keeps.spool_tells ∙ spool_tells) j at_spool));
           keeps = all;
+          rests = λ whole. absurd (no_next whole (member_of node) h.there h.plan h.next);
         }

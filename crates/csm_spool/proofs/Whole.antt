@@ -19,7 +19,7 @@ use Rattle.csm_spool.specs.Courses.{EntryLeads, EntriesLead, plan_for}
 use Rattle.csm_spool.specs.InStep.{InStep, IsAt, PairsInStep}
 use Rattle.csm_spool.specs.Drives.{KeepsBoth, IsOut, DoesOtherwise, IsRun, IsDrive, IsAnswer, IsRunAnswer, party_disk, spool_disk}
 use Rattle.spool_store.specs.Spools.{Spooled, IsSpool}
-use Rattle.csm_spool.specs.Catching.{CatchesUp, TakesUp, IsCatching}
+use Rattle.csm_spool.specs.Catching.{CatchesUp, TakesUp, IsCatching, WasSettled}
 use Rattle.csm_spool.specs.Laws.{LawCaughtUp, LawNeverOut}
 use Rattle.csm_spool.proofs.Steps.{HeardOnce, never_both, same_arrival, at_rest}
 use Rattle.csm_spool.proofs.PlanEdits.{no_code}
@@ -69,17 +69,19 @@ module _ (once : HeardOnce) (caught_up : LawCaughtUp) (never_out : LawNeverOut) 
     course : (x : Member) → Tells (told node.disk) → Tells (told_spool old.disk) → Start x → EntriesLead x old.progress.entries old.progress.plans (member_of after)
     course x a b pairs = caught_up x (member_of node) (member_of after) old.progress (at_start x a b pairs) catches
 
-    run_from : (result : Driven D E) → IsRun told told_spool after old result → IsDrive told told_spool node old result
-    run_from result run = record {
+    run_from : (WasSettled (member_of node) old.progress → after.disk ≡ node.disk) → (result : Driven D E) → IsRun told told_spool after old result → IsDrive told told_spool node old result
+    run_from rested result run = record {
       answer = answered result run.answer;
       ends = λ x a b pairs. run.ends x (course x a b pairs);
       in_step = λ x a b pairs. run.in_step x (course x a b pairs) (keeps.party_tells ∙ a) (keeps.spool_tells ∙ b);
       keeps = keeps_on (told node.disk) (told_spool old.disk) (told after.disk) (told_spool old.disk) (told (party_disk result)) (told_spool (spool_disk result)) keeps run.keeps;
+      rests = λ is. absurd (not_out once (member_of node) old.progress (member_of after) catches is);
+      finished = λ is. let same = run.rests is.whole in (same.0 ∙ rested (record { settled = is.settled }), same.1);
     }
 
   pub behind : (after : Stored D) (new : Spooled E) → IsCatching told told_spool node old (caught.Behind after new) → (result : Driven D E) → IsRun told told_spool after new result → IsDrive told told_spool node old result
   behind after new c result run =
-      run_from after c.answer.0 (subst (λ (s : Spooled E). KeepsBoth (told node.disk) (told_spool old.disk) (told after.disk) (told_spool s.disk)) c.answer.1 c.keeps) result
+      run_from after c.answer.0 (subst (λ (s : Spooled E). KeepsBoth (told node.disk) (told_spool old.disk) (told after.disk) (told_spool s.disk)) c.answer.1 c.keeps) (λ was. (c.rests was).0) result
       (subst (λ (s : Spooled E). IsRun told told_spool after s result) c.answer.1 run)
 
   -- nothing changed
@@ -94,6 +96,8 @@ module _ (once : HeardOnce) (caught_up : LawCaughtUp) (never_out : LawNeverOut) 
     ends = λ x a b pairs. never_out x (member_of node) old.progress (at_start x a b pairs) c.answer.0;
     in_step = λ x a b pairs. still after new c.answer.1 c.answer.2 x pairs;
     keeps = c.keeps;
+    rests = λ is. (ap (λ (n : Stored D). n.disk) c.answer.1, ap (λ (s : Spooled E). s.disk) c.answer.2);
+    finished = λ is. (ap (λ (n : Stored D). n.disk) c.answer.1, ap (λ (s : Spooled E). s.disk) c.answer.2);
   }
 
   pub halted : (after : Stored D) (new : Spooled E) → IsCatching told told_spool node old (caught.NoMemory after new) → IsDrive told told_spool node old (drive.NoMemory after new)
@@ -102,6 +106,8 @@ module _ (once : HeardOnce) (caught_up : LawCaughtUp) (never_out : LawNeverOut) 
     ends = λ x a b pairs. tt;
     in_step = λ x a b pairs. still after new c.answer.0 c.answer.1 x pairs;
     keeps = c.keeps;
+    rests = λ is. (ap (λ (n : Stored D). n.disk) c.answer.0, ap (λ (s : Spooled E). s.disk) c.answer.1);
+    finished = λ is. (ap (λ (n : Stored D). n.disk) c.answer.0, ap (λ (s : Spooled E). s.disk) c.answer.1);
   }
 
   pub broken : (b : Failed D) (new : Spooled E) → IsCatching told told_spool node old (caught.NodeBroken b new) → IsDrive told told_spool node old (drive.NodeBroken b new)
@@ -115,6 +121,8 @@ module _ (once : HeardOnce) (caught_up : LawCaughtUp) (never_out : LawNeverOut) 
             let holds : HoldsPlans j old.progress = spool_images (told_spool old.disk) old.gate old.end old.progress kept s j (subst (λ (t : Spooled E). (told_spool t.disk).may_leave j) c.answer.1 at_spool) in
             go i j x is_at holds (cut.leaves p i at_party);
         keeps = c.keeps;
+        rests = λ is. absurd (taken_not_out once (member_of node) old.progress cut.there cut.takes is);
+        finished = λ is. absurd (cut.takes.unsettled (is.settled cut.takes.plan cut.takes.entry cut.takes.last));
       }
     where
       go : (i j : List ℕ) (x : Member) → IsAt x old.progress.entries old.progress.plans (member_of node) → HoldsPlans j old.progress → IsImageOf (member_of node) i ⊎ IsImageOf c.answer.0.there i → InStep i j old.progress.text x old.progress.entries

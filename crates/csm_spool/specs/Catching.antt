@@ -58,3 +58,5 @@ caught_spool (NoMemory node spool) = spool.disk
 pub record IsCatching {D E : Type 0} (told_party : D → View) (told_spool : E → View) (node : Stored D) (old : Spooled E) (result : Caught D E) : Type 0 where
   pub answer : IsCaught told_party node old result
   pub keeps : KeepsBoth (told_party node.disk) (told_spool old.disk) (told_party (caught_party result)) (told_spool (caught_spool result))
+  -- where the last plan was settled, or there is none, both disks are as they were
+  pub rests : WasSettled (member_of node) old.progress → (caught_party result ≡ node.disk) × (caught_spool result ≡ old.disk)

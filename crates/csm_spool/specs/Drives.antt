@@ -46,6 +46,11 @@ pub record IsOut (x : Member) (p : Progress) : Type 0 where
   pub unsettled : IsSettled x.party plan → ⊥
   pub otherwise : DoesOtherwise x entry plan
 
+-- each entry has its plan, and the last one is settled
+pub record IsFinished (x : Member) (p : Progress) : Type 0 where
+  pub settled : (plan : EntryPlan) (e : Entry) → IsLast p plan e → IsSettled x.party plan
+  pub whole : length p.entries ≤ length p.plans
+
 abbrev pub party_disk : {D E : Type 0} → Driven D E → D
 party_disk (Done node spool) = node.disk
 party_disk (OutOfStep node spool entry) = node.disk
@@ -98,6 +103,10 @@ pub record IsDrive {D E : Type 0} (told_party : D → View) (told_spool : E → 
       → PairsInStep (told_party node.disk) (told_spool old.disk) old.progress.text x old.progress.entries
       → PairsInStep (told_party (party_disk result)) (told_spool (spool_disk result)) old.progress.text x old.progress.entries
   pub keeps : KeepsBoth (told_party node.disk) (told_spool old.disk) (told_party (party_disk result)) (told_spool (spool_disk result))
+  -- where it was out of step both disks are as they were, whatever came
+  pub rests : IsOut (member_of node) old.progress → (party_disk result ≡ node.disk) × (spool_disk result ≡ old.disk)
+  -- so they are where it was finished
+  pub finished : IsFinished (member_of node) old.progress → (party_disk result ≡ node.disk) × (spool_disk result ≡ old.disk)
 
 -- from a party that is behind the plans that stand
 
@@ -114,3 +123,5 @@ pub record IsRun {D E : Type 0} (told_party : D → View) (told_spool : E → Vi
   pub in_step : (x : Member) → EntriesLead x old.progress.entries old.progress.plans (member_of node) → Tells (told_party node.disk) → Tells (told_spool old.disk)
       → PairsInStep (told_party (party_disk result)) (told_spool (spool_disk result)) old.progress.text x old.progress.entries
   pub keeps : KeepsBoth (told_party node.disk) (told_spool old.disk) (told_party (party_disk result)) (told_spool (spool_disk result))
+  -- with a plan for each entry both disks are as they were
+  pub rests : length old.progress.entries ≤ length old.progress.plans → (party_disk result ≡ node.disk) × (spool_disk result ≡ old.disk)

@@ -47,8 +47,9 @@ EndsBatch (outcome.Done out) s before after = Puts (Some out) [] status.Done s b
 EndsBatch o s before after = (s ≡ status_of_batch o) × (after ≡ before)
 
 -- what became of a batch of the party of this name, with the spool of that name. Where the two were in step they are so
--- afterwards at every pair of images that a crash may leave, whatever came; where it is done all plans stand, the party stands for
--- the end of the batch, and the outbox is written
+-- afterwards at every pair of images that a crash may leave, whatever came; where no batch is to be driven, or it is finished, nothing
+-- is written to either disk, whatever came; where it is done all plans stand, the party stands for the end of the batch, and the outbox
+-- is written
 pub record IsSpooling (party spool text : List ℕ) (entries : List Entry) (old new : List ℕ → View) (s : Status) (before after : Option (List ℕ)) : Type 0 where
   pub outcome : SpoolOutcome
   pub made : MakesBatch party text entries (old party) (old spool) (new party) (new spool) outcome

@@ -8,12 +8,12 @@ use Rattle.csm_batch.specs.declared.entry.Entry.{Entry}
 use Rattle.csm_spool.specs.InStep.{PairsInStep}
 use Rattle.disk_pair.specs.declared.disks.Disks.{Disks}
 use Rattle.x_spool.specs.Dues.{FindsMember, IsDueBatch}
-use Rattle.x_spool.specs.Outcomes.{BothStay, IsDoneOrFailed, IsNoFailure, LeavesBatch, MakesBatch, StaysInStep}
+use Rattle.x_spool.specs.Outcomes.{AreUntouched, BothStay, IsDoneOrFailed, IsNoFailure, IsSafeBatch, LeavesBatch, MakesBatch, StaysInStep}
 use Rattle.x_spool.specs.Shelves.{LeavesShelf}
 use Rattle.x_spool.specs.Steps.{HasActed, AreOut, AreBack, IsClosed}
 use Rattle.x_spool.specs.declared.outcome.SpoolOutcome.{SpoolOutcome}
 use Rattle.x_spool.specs.declared.outcome.SpoolOutcome.TheVariants as outcome
-use Rattle.x_spool.proofs.Alike.{thirds_on, untouched_around}
+use Rattle.x_spool.proofs.Alike.{thirds_on, untouched_alike, untouched_around}
 
 rose_some : (before after : ℕ) → before ≡ 0 → Rose before after → 0 < after
 rose_some before after none (inl less) = omega (arith, none, less)
@@ -59,13 +59,18 @@ module _ {D : Type 0} (told : D → View) (text : List ℕ) (entries : List Entr
   pub unfetched_makes : MakesBatch name text entries (old.entry name) (old.entry other) (new.entry name) (new.entry other) o
   unfetched_makes = failed_makes name text entries (old.entry name) (old.entry other) (new.entry name) (new.entry other) o failure
 
-  pub unfetched_stays : StaysInStep name text entries (old.entry name) (old.entry other) (new.entry name) (new.entry other) o
-  unfetched_stays = record {
-    pairs = λ x party_tells spool_tells start i j first second. start i j (out.first_stays.images i first) (out.second_stays.images j second);
-    complete = λ x y image tells start now finds. failed_done name text entries (old.entry name) (old.entry other) (new.entry name) (new.entry other) o failure;
-    party_tells = ap is_some out.first_stays.now;
-    spool_tells = ap is_some out.second_stays.now;
-  }
+  pub unfetched_stays : IsSound (old.entry name) → IsSound (old.entry other) → StaysInStep name text entries (old.entry name) (old.entry other) (new.entry name) (new.entry other) o
+  unfetched_stays first_sound second_sound = let
+      both : AreUntouched (old.entry name) (old.entry other) (new.entry name) (new.entry other) = record {
+        party = untouched_alike (old.entry name) (new.entry name) first_sound out.first_stays;
+        spool = untouched_alike (old.entry other) (new.entry other) second_sound out.second_stays;
+      } in record {
+        pairs = λ x party_tells spool_tells start i j first second. start i j (out.first_stays.images i first) (out.second_stays.images j second);
+        complete = λ x y image tells start now finds. failed_done name text entries (old.entry name) (old.entry other) (new.entry name) (new.entry other) o failure;
+        safe = record { nobody = λ image now nobody. both; unread = λ book told_book none. both; out = λ image book e now told_book due. both; finished = λ image book x p now told_book finds holds is. both };
+        party_tells = ap is_some out.first_stays.now;
+        spool_tells = ap is_some out.second_stays.now;
+      }
 
   pub unfetched_shelf : LeavesShelf name other o (new.is_back name) (new.is_back other) old.entry new.entry old.faults new.faults
   unfetched_shelf = record {
@@ -91,6 +96,20 @@ module _ (name text : List ℕ) (entries : List Entry) (first second out_first o
   both_around both = record {
     party = untouched_around first out_first mid_first new_first first_out first_back both.party;
     spool = λ tells. untouched_around second out_second mid_second new_second second_out second_back (both.spool (ap is_some second_out.now ∙ tells));
+  }
+
+  untouched_both : AreUntouched out_first out_second mid_first mid_second → AreUntouched first second new_first new_second
+  untouched_both both = record {
+    party = untouched_around first out_first mid_first new_first first_out first_back both.party;
+    spool = untouched_around second out_second mid_second new_second second_out second_back both.spool;
+  }
+
+  safe_around : IsSafeBatch name text out_first out_second mid_first mid_second → IsSafeBatch name text first second new_first new_second
+  safe_around safe = record {
+    nobody = λ image now nobody. untouched_both (safe.nobody image (first_out.now ∙ now) nobody);
+    unread = λ book told_book none. untouched_both (safe.unread book (second_out.now ∙ told_book) none);
+    out = λ image book e now told_book due. untouched_both (safe.out image book e (first_out.now ∙ now) (second_out.now ∙ told_book) due);
+    finished = λ image book x p now told_book finds holds is. untouched_both (safe.finished image book x p (first_out.now ∙ now) (second_out.now ∙ told_book) finds holds is);
   }
 
   left_around : (o : SpoolOutcome) → LeavesBatch text entries out_first out_second mid_first mid_second o → LeavesBatch text entries first second new_first new_second o
@@ -132,6 +151,7 @@ module _ (name text : List ℕ) (entries : List Entry) (first second out_first o
     pairs = λ x party_tells spool_tells was i j left right.
         did.pairs x (ap is_some first_out.now ∙ party_tells) (ap is_some second_out.now ∙ spool_tells) (start x was) i j (first_back.images i left) (second_back.images j right);
     complete = λ x y image tells was now finds. closed_done o result before after closed (did.complete x y image (ap is_some second_out.now ∙ tells) (start x was) (first_out.now ∙ now) finds);
+    safe = safe_around did.safe;
     party_tells = ap is_some first_back.now ∙ (did.party_tells ∙ ap is_some first_out.now);
     spool_tells = ap is_some second_back.now ∙ (did.spool_tells ∙ ap is_some second_out.now);
   }

@@ -1,5 +1,5 @@
 -- The spool is begun beside an opened party, and the batch is driven.
-use Rattle.std.proofs.Common.{◌≡◌, ◌⊎◌, inl, inr, ℕ, ◌+◌, ◌≤◌, true, List, [], length, Some, Result, Ok, Err, refl, sym, ◌∙◌, ap, subst, arith}
+use Rattle.std.proofs.Common.{◌≡◌, ◌⊎◌, inl, inr, ℕ, ◌+◌, ◌≤◌, Bool, true, false, List, [], length, Some, Result, Ok, Err, refl, sym, ◌∙◌, ap, subst, arith}
 use Rattle.x_base.specs.Edge.{Rose}
 use Rattle.x_disk.specs.Disk.{View, Tells, IsSound, IsUntouched}
 use Rattle.x_disk.specs.declared.disk.DiskErr.{DiskErr}
@@ -22,13 +22,13 @@ use Rattle.spool_store.specs.Contents.{Progress, HoldsPlans}
 use Rattle.spool_store.specs.Spools.{Spooled, IsSpool, outbox_of}
 use Rattle.csm_spool.specs.Beginning as beginning
 use Rattle.csm_spool.specs.Courses.{EntriesLead}
-use Rattle.csm_spool.specs.Drives.{IsDrive, IsOut, party_disk, spool_disk}
+use Rattle.csm_spool.specs.Drives.{IsDrive, IsFinished, IsOut, party_disk, spool_disk}
 use Rattle.csm_spool.specs.InStep.{InStep, PairsInStep}
 use Rattle.csm_spool.specs.declared.outcome.Driven.{Driven}
 use Rattle.csm_spool.specs.declared.outcome.Driven.TheVariants as drive
 use Rattle.disk_pair.specs.declared.disks.Disks.{Disks}
 use Rattle.x_spool.specs.Dues.{FindsMember, IsDueBatch, IsDueOut, ReadsBatch}
-use Rattle.x_spool.specs.Outcomes.{BothStay, IsDoneOrFailed, IsNoFailure, IsSpooled, LeavesBatch, progress_of}
+use Rattle.x_spool.specs.Outcomes.{AreUntouched, BothStay, IsDoneOrFailed, IsNoFailure, IsSafeBatch, IsSpooled, LeavesBatch, progress_of}
 use Rattle.x_spool.specs.Steps.{HasActed, HandsOut, IsEnd, driven_disks, outcome_of, outcome_of_spool, two_disks}
 use Rattle.x_spool.specs.declared.outcome.SpoolOutcome.{SpoolOutcome}
 use Rattle.x_spool.specs.declared.outcome.SpoolOutcome.TheVariants as outcome
@@ -46,6 +46,10 @@ failed_by disk.NoMemory is = absurd (cc is)
 failed_done : (d : DiskErr) → IsDoneOrFailed (outcome_of (cause_of d))
 failed_done disk.Fault = tt
 failed_done disk.NoMemory = tt
+
+unset : (b : Bool) → (b ≡ true → ⊥) → b ≡ false
+unset true never = absurd (never refl)
+unset false never = refl
 
 unfailed : (d : DiskErr) → IsNoFailure (outcome_of (cause_of d)) → ⊥
 unfailed disk.Fault is = is
@@ -119,6 +123,17 @@ module _ {D : Type 0} (told : D → View) (sound : (d : D) → IsSound (told d))
     fault_cause (spool.Journal cause.NoMemory) is = absurd (cc is)
     fault_cause spool.OtherBatch is = absurd (cc is)
 
+    untouched_unbegun : (book : List ℕ) → (told old).now ≡ Some book → is_blank book ≡ false → AreUntouched (told node.disk) (told old) (told node.disk) (told u.disk)
+    untouched_unbegun book told_book full = record { party = untouched_self (told node.disk) (sound node.disk); spool = begun.untouched book told_book full }
+
+    safe_unbegun : IsSafeBatch node.party.own text (told node.disk) (told old) (told node.disk) (told u.disk)
+    safe_unbegun = record {
+      nobody = λ image now nobody. absurd (nobody (member_of node) (found image now));
+      unread = λ book told_book none. untouched_unbegun book told_book (unset (is_blank book) (λ blank. none (inl blank)));
+      out = λ image book e now told_book due. untouched_unbegun book told_book (spool_full book (Some due.progress) due.holds);
+      finished = λ image book x p now told_book finds holds is. untouched_unbegun book told_book (spool_full book (Some p) holds);
+    }
+
     complete_unbegun : Completes (outcome_of_spool u.cause)
     complete_unbegun x y image tells start now finds =
         let book = told_image (told old).now tells in
@@ -133,6 +148,7 @@ module _ {D : Type 0} (told : D → View) (sound : (d : D) → IsSound (told d))
           in_step = record {
             pairs = λ x party_tells spool_tells start. stays x spool_tells start;
             complete = complete_unbegun;
+            safe = safe_unbegun;
             party_tells = refl;
             spool_tells = begun.tells;
           };
@@ -167,6 +183,16 @@ module _ {D : Type 0} (told : D → View) (sound : (d : D) → IsSound (told d))
             subst (λ (m : Member). IsOut m s.progress) (same_member told node store image now one_party one_format d.member d.found.stands)
             (subst (λ (p : Progress). IsOut d.member p) (same_progress one_progress book d.progress s.progress d.holds has) d.out)
 
+    -- so is what is finished
+    finished_of : (image book : List ℕ) (x : Member) (p : Progress) → (told node.disk).now ≡ Some image → (told old).now ≡ Some book → FindsMember node.party.own image x → HoldsPlans book p → IsFinished x p → IsFinished (member_of node) s.progress
+    finished_of image book x p now told_book finds has_p is = go (holds book told_book)
+      where
+        go : ((is_blank book ≡ true) × (s.progress.plans ≡ [])) ⊎ HoldsPlans book s.progress → IsFinished (member_of node) s.progress
+        go (inl blank) = absurd (differ (is_blank book) blank.0 (spool_full book (Some p) has_p))
+        go (inr has) =
+            subst (λ (m : Member). IsFinished m s.progress) (same_member told node store image now one_party one_format x finds.stands)
+            (subst (λ (q : Progress). IsFinished x q) (same_progress one_progress book p s.progress has_p has) is)
+
     -- a spool without plans is never out of step
     some_plans : (x : Member) → s.progress.plans ≡ [] → IsOut x s.progress → ⊥
     some_plans x none out = absurd (omega (arith, out.last.count, ap length none))
@@ -181,6 +207,22 @@ module _ {D : Type 0} (told : D → View) (sound : (d : D) → IsSound (told d))
           (subst (λ (es : List Entry). PairsInStep (told (party_disk d)) (told (spool_disk d)) s.progress.text x es) begun.batch.1
           (run.in_step x party_tells (tells_on spool_tells) (begun_start x spool_tells start)))
 
+      -- no call was made once the spool was begun
+      untouched_since : (book : List ℕ) → (told old).now ≡ Some book → is_blank book ≡ false → (party_disk d ≡ node.disk) × (spool_disk d ≡ s.disk) → AreUntouched (told node.disk) (told old) (told (party_disk d)) (told (spool_disk d))
+      untouched_since book told_book full same = record {
+        party = subst (λ (p : D). IsUntouched (told node.disk) (told p)) (sym same.0) (untouched_self (told node.disk) (sound node.disk));
+        spool = subst (λ (p : D). IsUntouched (told old) (told p)) (sym same.1) (begun.untouched book told_book full);
+      }
+
+      safe : IsSafeBatch node.party.own text (told node.disk) (told old) (told (party_disk d)) (told (spool_disk d))
+      safe = record {
+        nobody = λ image now nobody. absurd (nobody (member_of node) (found image now));
+        unread = λ book told_book none. absurd (none (reads book told_book));
+        out = λ image book e now told_book due. untouched_since book told_book (spool_full book (Some due.progress) due.holds) (run.rests (out_of image book now told_book e due));
+        finished = λ image book x p now told_book finds holds is.
+            untouched_since book told_book (spool_full book (Some p) holds) (run.finished (finished_of image book x p now told_book finds holds is));
+      }
+
       acted : (o : SpoolOutcome) → Due o → Left (party_disk d) (spool_disk d) o → Completes o
           → (o ≡ outcome.Fault → Rose (told node.disk).faults (told (party_disk d)).faults ⊎ Rose (told s.disk).faults (told (spool_disk d)).faults) → Acted (driven_disks d) o
       acted o due left completes fault = record {
@@ -188,6 +230,7 @@ module _ {D : Type 0} (told : D → View) (sound : (d : D) → IsSound (told d))
         in_step = record {
           pairs = pairs;
           complete = completes;
+          safe = safe;
           party_tells = run.keeps.party_tells;
           spool_tells = run.keeps.spool_tells ∙ begun.tells;
         };

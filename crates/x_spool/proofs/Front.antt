@@ -10,7 +10,7 @@ use Rattle.csm_batch.specs.declared.entry.Entry.{Entry}
 use Rattle.csm_spool.specs.InStep.{PairsInStep}
 use Rattle.disk_pair.specs.declared.disks.Disks.{Disks}
 use Rattle.x_spool.specs.Dues.{FindsMember, IsDueBatch}
-use Rattle.x_spool.specs.Outcomes.{BothStay, IsDoneOrFailed, IsNoFailure, LeavesBatch}
+use Rattle.x_spool.specs.Outcomes.{AreUntouched, BothStay, IsDoneOrFailed, IsNoFailure, IsSafeBatch, LeavesBatch}
 use Rattle.x_spool.specs.Steps.{HasActed, IsNoParty, IsPartyOpened, WhyNoParty, two_disks}
 use Rattle.x_spool.specs.declared.outcome.SpoolOutcome.{SpoolOutcome}
 use Rattle.x_spool.specs.declared.outcome.SpoolOutcome.TheVariants as outcome
@@ -31,6 +31,17 @@ module _ {D : Type 0} (told : D → View) (name text : List ℕ) (entries : List
 
   stays : (new : Disks D) → BothStay (told node.disk) (told old.second) (told new.first) (told new.second) → BothStay (told old.first) (told old.second) (told new.first) (told new.second)
   stays new both = record { party = untouched_on (told old.first) (told node.disk) (told new.first) opened.untouched both.party; spool = both.spool }
+
+  untouched : (new : Disks D) → AreUntouched (told node.disk) (told old.second) (told new.first) (told new.second) → AreUntouched (told old.first) (told old.second) (told new.first) (told new.second)
+  untouched new both = record { party = untouched_on (told old.first) (told node.disk) (told new.first) opened.untouched both.party; spool = both.spool }
+
+  safe_on : (new : Disks D) → IsSafeBatch name text (told node.disk) (told old.second) (told new.first) (told new.second) → IsSafeBatch name text (told old.first) (told old.second) (told new.first) (told new.second)
+  safe_on new safe = record {
+    nobody = λ image now nobody. untouched new (safe.nobody image (opened.untouched.now ∙ now) nobody);
+    unread = λ book told_book none. untouched new (safe.unread book told_book none);
+    out = λ image book e now told_book due. untouched new (safe.out image book e (opened.untouched.now ∙ now) told_book due);
+    finished = λ image book x p now told_book finds holds is. untouched new (safe.finished image book x p (opened.untouched.now ∙ now) told_book finds holds is);
+  }
 
   left_on : (new : Disks D) (o : SpoolOutcome) → LeavesBatch text entries (told node.disk) (told old.second) (told new.first) (told new.second) o
       → LeavesBatch text entries (told old.first) (told old.second) (told new.first) (told new.second) o
@@ -60,6 +71,7 @@ module _ {D : Type 0} (told : D → View) (name text : List ℕ) (entries : List
     in_step = record {
       pairs = λ x party_tells spool_tells start. did.in_step.pairs x (tells_on party_tells) spool_tells (fewer x start);
       complete = λ x y image tells start now finds. did.in_step.complete x y image tells (fewer x start) (opened.untouched.now ∙ now) finds;
+      safe = safe_on new did.in_step.safe;
       party_tells = did.in_step.party_tells ∙ ap is_some opened.untouched.now;
       spool_tells = did.in_step.spool_tells;
     };
@@ -85,6 +97,9 @@ module _ {D : Type 0} (told : D → View) (sound : (d : D) → IsSound (told d))
 
   rest : BothStay (told old.first) (told old.second) (told new) (told old.second)
   rest = record { party = none.untouched; spool = λ tells. untouched_self (told old.second) (sound old.second) }
+
+  untouched_all : AreUntouched (told old.first) (told old.second) (told new) (told old.second)
+  untouched_all = record { party = none.untouched; spool = untouched_self (told old.second) (sound old.second) }
 
   left : (out : SpoolOutcome) → WhyNoParty name (told old.first) (told new) out → LeavesBatch text entries (told old.first) (told old.second) (told new) (told old.second) out
   left (outcome.OtherParty asked found) why = rest
@@ -116,6 +131,7 @@ module _ {D : Type 0} (told : D → View) (sound : (d : D) → IsSound (told d))
     in_step = record {
       pairs = λ x party_tells spool_tells start i j first second. start i j (none.untouched.images i first) second;
       complete = λ x y image tells start now finds. failed (none.never image y.party now (stands_of y image finds.stands) finds.own);
+      safe = record { nobody = λ image now nobody. untouched_all; unread = λ book told_book unread. untouched_all; out = λ image book e now told_book due. untouched_all; finished = λ image book x p now told_book finds holds is. untouched_all };
       party_tells = ap is_some none.untouched.now;
       spool_tells = refl;
     };

@@ -9,8 +9,9 @@ use Rattle.spool_store.specs.declared.entry_plan.EntryPlan.{EntryPlan}
 use Rattle.spool_store.specs.Contents.{Progress, HoldsPlans}
 use Rattle.spool_store.specs.Spools.{outbox_of}
 use Rattle.csm_spool.specs.Courses.{EntriesLead}
+use Rattle.csm_spool.specs.Drives.{IsFinished}
 use Rattle.csm_spool.specs.InStep.{PairsInStep}
-use Rattle.x_spool.specs.Dues.{FindsMember, IsDueBatch}
+use Rattle.x_spool.specs.Dues.{FindsMember, IsDueBatch, IsDueOut, ReadsBatch}
 use Rattle.x_spool.specs.declared.outcome.SpoolOutcome.{SpoolOutcome}
 use Rattle.x_spool.specs.declared.outcome.SpoolOutcome.TheVariants as outcome
 
@@ -72,10 +73,28 @@ IsDoneOrFailed outcome.Fault = Unit {0}
 IsDoneOrFailed outcome.NoMemory = Unit {0}
 IsDoneOrFailed other = ⊥
 
+-- nothing is written to either disk, also where the spool's doesn't tell
+pub record AreUntouched (party_disk spool_disk party_after spool_after : View) : Type 0 where
+  pub party : IsUntouched party_disk party_after
+  pub spool : IsUntouched spool_disk spool_after
+
+-- where no batch is to be driven, or it is finished, nothing is written, whatever came
+pub record IsSafeBatch (name text : List ℕ) (party_disk spool_disk party_after spool_after : View) : Type 0 where
+  -- the party's image stands for no member whose party is that of the name
+  pub nobody : (image : List ℕ) → party_disk.now ≡ Some image → ((x : Member) → FindsMember name image x → ⊥) → AreUntouched party_disk spool_disk party_after spool_after
+  -- the spool's image is neither blank nor holds the batch
+  pub unread : (book : List ℕ) → spool_disk.now ≡ Some book → (ReadsBatch book text → ⊥) → AreUntouched party_disk spool_disk party_after spool_after
+  -- the last plan isn't settled, and the party would do otherwise with its entry
+  pub out : (image book : List ℕ) (entry : ℕ) → party_disk.now ≡ Some image → spool_disk.now ≡ Some book → IsDueOut name image book text entry → AreUntouched party_disk spool_disk party_after spool_after
+  -- the spool holds a plan for each entry, and the last one is settled
+  pub finished : (image book : List ℕ) (x : Member) (p : Progress) → party_disk.now ≡ Some image → spool_disk.now ≡ Some book → FindsMember name image x → HoldsPlans book p → IsFinished x p → AreUntouched party_disk spool_disk party_after spool_after
+
 -- where each pair of images that a crash may leave was in step, each is, whatever came; and of the party of the name nothing else
 -- comes than that the batch is done, a fault or want of memory
 pub record StaysInStep (name text : List ℕ) (entries : List Entry) (party_disk spool_disk party_after spool_after : View) (o : SpoolOutcome) : Type 0 where
   pub pairs : (x : Member) → Tells party_disk → Tells spool_disk → PairsInStep party_disk spool_disk text x entries → PairsInStep party_after spool_after text x entries
   pub complete : (x y : Member) (image : List ℕ) → Tells spool_disk → PairsInStep party_disk spool_disk text x entries → party_disk.now ≡ Some image → FindsMember name image y → IsDoneOrFailed o
+  -- where no batch is to be driven, or it is finished, nothing is written, in step or not
+  pub safe : IsSafeBatch name text party_disk spool_disk party_after spool_after
   pub party_tells : is_some party_after.now ≡ is_some party_disk.now
   pub spool_tells : is_some spool_after.now ≡ is_some spool_disk.now
