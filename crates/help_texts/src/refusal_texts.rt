@@ -231,8 +231,8 @@ What to do: by the line that it wrote: \"Two disks\".
         }
         51 => {
             "
-create, enter: line P of the input isn't a component: another number of digits, also than in the
-first line, another sign, no line feed at its end, or a fourth line.
+create, enter: line P of the input isn't a component: a wrong number of digits, or another one
+than the first line's, another sign, no line feed at its end, or a fourth line.
 What to do: enter the components again.
 "
         }

@@ -1,5 +1,5 @@
--- When a party accepts a key service message, a disconnection, or the answer to the end of a key (ANSI X9.17), and of which keys,
--- without the rows by which it decides: read from the message, and from what the member plans.
+-- When a party accepts a key service message, a disconnection, or the answer to the end of a key (ANSI X9.17), and of which keys:
+-- read from the message, from what the member plans, and from the link in use, by the word of the rows.
 use Rattle.std.specs.Prelude.{◌≡◌, ℕ, Bool, true, false, cond, ◌&&◌, List, [], ◌∷◌, ◌++◌, map, Option, Some, None, bytes_eq}
 use Rattle.std.specs.List.{filter}
 use Rattle.x_base.specs.declared.key_name.KeyName.{KeyName}
@@ -60,11 +60,14 @@ message_answers p a _ = []
 abbrev pub dsm_acceptance : Party → Arrival → Dsm → List Acceptance
 dsm_acceptance p a m = record { party = p.own; text = authenticated_text a; class = OfDsm; names = named_key p m.originator m.idd ∷ [] } ∷ []
 
--- a key service message, as this party accepts it: of the keys that it carries, by the label of the link in use
+-- the keys that a key service message carries, by the label of the link in use; none without one
+abbrev pub carried_names : Ksm → Option LinkRec → List FullName
+carried_names m None = []
+carried_names m (Some l) = map (λ k. carried_name l.label m k.count) (carried_keys l.pair m)
+
+-- a key service message, as this party accepts it: of the keys that it carries
 abbrev pub ksm_acceptance : Party → Arrival → Ksm → Option LinkRec → List Acceptance
-ksm_acceptance p a m None = []
-ksm_acceptance p a m (Some l) =
-    record { party = p.own; text = authenticated_text a; class = OfKsm; names = map (λ k. carried_name l.label m k.count) (carried_keys l.pair m) } ∷ []
+ksm_acceptance p a m link = record { party = p.own; text = authenticated_text a; class = OfKsm; names = carried_names m link } ∷ []
 
 -- the acceptance for which a message calls: of a key service message, of the keys that it carries; of a disconnection, of the key
 -- that IDD names; of a response that names a key, of that key; of no other message one

@@ -4,16 +4,14 @@ use Rattle.csm_grammar.specs.declared.arrival.Arrival.{Arrival}
 use Rattle.csm_grammar.specs.declared.message.Message.{Message}
 use Rattle.csm_grammar.specs.declared.message.Message.TheVariants as message
 use Rattle.x_base.specs.declared.key_name.KeyName.{KeyName}
-use Rattle.party_tables.specs.declared.link.LinkRec.{LinkRec}
 use Rattle.party_state.specs.declared.command.Input.TheVariants as input
 use Rattle.party_state.specs.Rows.{Class, OfRsi, OfRfs, OfRtr, OfKsm, OfRsm, OfAnswer, OfEsm, OfErs, OfDsm}
 use Rattle.party_state.specs.State.{Party}
-use Rattle.bank_keys.specs.Ksm.{body_link}
 use Rattle.member.specs.Member.{Member, plan_at}
 use Rattle.world_laws.specs.World.{Acceptance, World, member_at}
 use Rattle.world_laws.specs.Events.{Action, Orders, Hears, Compacts, Migrates, Completion, Event}
 use Rattle.world_laws.specs.Steps.{step}
-use Rattle.world_laws.specs.Answered.{is_end_answer, answers_in, is_key_or_end, keys_and_ends, answer_of, message_answers, ksm_acceptance, message_acceptances, stands, AcceptancesAdded, AnswersAdded}
+use Rattle.world_laws.specs.Answered.{is_end_answer, answers_in, is_key_or_end, keys_and_ends, answer_of, message_answers, message_acceptances, stands, AcceptancesAdded, AnswersAdded}
 use Rattle.world_laws.proofs.Ended.Steps.{filter_both, acceptances_added}
 
 answer_is : (c : Class) → is_end_answer c ≡ true → is_key_or_end c ≡ true
@@ -42,11 +40,7 @@ answer_told : (p : Party) (a : Arrival) (m : Message) → answers_in (message_ac
 answer_told p a (message.Rsi m) = refl
 answer_told p a (message.Rfs m) = refl
 answer_told p a (message.Rtr m) = refl
-answer_told p a (message.Ksm m) = by_link (body_link p m.originator m.body)
-  where
-    by_link : (o : Option LinkRec) → answers_in (ksm_acceptance p a m o) ≡ []
-    by_link None = refl
-    by_link (Some l) = refl
+answer_told p a (message.Ksm m) = refl
 answer_told p a (message.Rsm m) = by_name m.idd
   where
     by_name : (o : Option KeyName) → answers_in (answer_of p a m.originator o) ≡ answer_of p a m.originator o

@@ -6,7 +6,7 @@ use Rattle.x_base.specs.declared.party.Role.{Role}
 use Rattle.x_base.specs.declared.party.Role.TheVariants.{Bank, Distribution, Translation}
 use Rattle.x_base.specs.declared.party.Side.TheVariants.{Sends}
 use Rattle.x_base.specs.declared.verdict.Verdict.{Verdict}
-use Rattle.x_base.specs.declared.verdict.Verdict.TheVariants.{BadMac, NoExchange, WrongClass, NotForMe, UnknownKey, UnknownPeer}
+use Rattle.x_base.specs.declared.verdict.Verdict.TheVariants.{BadMac, NoExchange, WrongClass, NotForMe, UnknownKey, UnknownKk, UnknownPeer}
 use Rattle.x_gen.specs.declared.generator.Gen.{Gen}
 use Rattle.x_gen.specs.Gen.{good_draw}
 use Rattle.csm_grammar.specs.declared.arrival.Arrival.{Arrival}
@@ -202,7 +202,7 @@ first_test false v h = absurd (cc)
 
 key_added : (p : Party) (a : Arrival) (m : Ksm) (o : Option LinkRec) → body_link p m.originator m.body ≡ o → is_accept (key_row p a m m.body o).verdict ≡ true
     → keys_and_ends (acceptances_of p.own (authenticated_text a) (key_row p a m m.body o).accepts) ≡ ksm_acceptance p a m o
-key_added p a m None e h = refl
+key_added p a m None e h = absurd (blocked ((is_for p m.receiver m.originator, NotForMe) ∷ (knows (body_issuer m.originator m.body) p, UnknownPeer) ∷ []) UnknownKk refl refl h)
 key_added p a m (Some l) e h =
     let for : is_for p m.receiver m.originator ≡ true = first_test (is_for p m.receiver m.originator) _ h in
     ap (λ (us : List FullName). let r : List Acceptance = record { party = p.own; text = authenticated_text a; class = OfKsm; names = us } ∷ [] in r) (names_carried p m l e (for_me p m.receiver m.originator for).0)
