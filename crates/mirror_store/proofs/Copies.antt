@@ -60,18 +60,20 @@ module _ {D : Type 0} (told : D → View) (old : Stored D) (framed copy : Party)
     left = r.left ∙ ap (space_of_whole Two) is;
     small = small;
     refused = tt;
+    stays = λ large. absurd (small large);
     moments = other_moments (told old.disk) (told s.disk) old.party framed copy (space old) is r.any_moment;
     faults = r.faults;
     tells = r.tells;
   }
 
-  pub switch_failed : (b : Failed D) → IsReplacing told old framed (Err b) → IsCopying told old.disk (λ c. Stands c old.party) copy (Err (uncopied.Failed (record { disk = b.disk; cause = cause_of b.cause })))
-  switch_failed b r = record {
+  pub switch_failed : (b : Failed D) → IsReplacing told old framed (Err b) → (IsTooLarge Two copy → ⊥) → IsCopying told old.disk (λ c. Stands c old.party) copy (Err (uncopied.Failed (record { disk = b.disk; cause = cause_of b.cause })))
+  switch_failed b r small = record {
     stands = tt;
     party = tt;
     left = tt;
     small = tt;
     refused = (λ image now. free_cause b.cause, λ same. r.cause.fault (fault_of b.cause same));
+    stays = λ large. absurd (small large);
     moments = other_moments (told old.disk) (told b.disk) old.party framed copy (space old) is r.any_moment;
     faults = r.faults;
     tells = r.tells;
@@ -83,7 +85,7 @@ module _ {D : Type 0} (told : D → View) (old : Stored D) (copy : Party) (sound
   still tells = rests (told old.disk) (λ c. Stands c copy ⊎ Stands c old.party) sound (λ c left. inr (store_left (told old.disk) old.gate old.end old.format old.party store tells c left))
 
   pub switch_too_large : IsTooLarge Two copy → IsCopying told old.disk (λ c. Stands c old.party) copy (Err (uncopied.TooLarge old.disk))
-  switch_too_large large = record { stands = tt; party = tt; left = tt; small = tt; refused = large; moments = still; faults = omega arith; tells = refl }
+  switch_too_large large = record { stands = tt; party = tt; left = tt; small = tt; refused = large; stays = λ is. refl; moments = still; faults = omega arith; tells = refl }
 
   pub switch_no_memory : IsCopying told old.disk (λ c. Stands c old.party) copy (Err (uncopied.Failed (record { disk = old.disk; cause = cause.NoMemory })))
-  switch_no_memory = record { stands = tt; party = tt; left = tt; small = tt; refused = (λ image now. tt, λ same. absurd (cc same)); moments = still; faults = omega arith; tells = refl }
+  switch_no_memory = record { stands = tt; party = tt; left = tt; small = tt; refused = (λ image now. tt, λ same. absurd (cc same)); stays = λ is. refl; moments = still; faults = omega arith; tells = refl }

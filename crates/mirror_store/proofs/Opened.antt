@@ -140,6 +140,10 @@ module _ (unique : (image : List ℕ) (p q : Party) → Stands image p → Stand
         subst (λ (d : D). IsUntouched (told old) (told d)) (sym (apart (λ own. unlike (inr (two.party, stands_for j two.format two.party (load.stands.stands j (load.now ∙ now)), own)))))
         (record { now = load.now; images = load.images; any_moment = load.any_moment })
 
+    settled_too_large : (one two : Stored D) (old new : D) → IsLoaded told old (Ok two) → (IsTooLarge Two one.party → new ≡ two.disk) → IsTooLarge Two one.party → IsUntouched (told old) (told new)
+    settled_too_large one two old new load still large =
+        subst (λ (d : D). IsUntouched (told old) (told d)) (sym (still large)) (record { now = load.now; images = load.images; any_moment = load.any_moment })
+
     pub beside_settled : (one two : Stored D) (old : D) (result : Result (Twin D) (PairUnmade D)) → IsLoaded told old (Ok two) → IsSettled told one two result → IsBeside told one old result
     beside_settled one two old (Ok m) load s = record {
       stand = s.stand;
@@ -152,6 +156,7 @@ module _ (unique : (image : List ℕ) (p q : Party) → Stands image p → Stand
       moments = settled_moments one two old m.second.disk load s.moments;
       quiet = settled_quiet one two old m.second.disk load s.quiet;
       stays = settled_stays one two old m.second.disk load s.apart;
+      too_large = settled_too_large one two old m.second.disk load s.too_large;
       fault = tt;
       names = tt;
       faults = omega (arith, load.faults, s.faults);
@@ -168,6 +173,7 @@ module _ (unique : (image : List ℕ) (p q : Party) → Stands image p → Stand
       moments = settled_moments one two old u.disks.second load s.moments;
       quiet = settled_quiet one two old u.disks.second load s.quiet;
       stays = settled_stays one two old u.disks.second load s.apart;
+      too_large = settled_too_large one two old u.disks.second load s.too_large;
       fault = λ is. rose_later (told old).faults (told two.disk).faults (told u.disks.second).faults load.faults (s.fault is);
       names = s.names;
       faults = omega (arith, load.faults, s.faults);
@@ -192,6 +198,10 @@ module _ (unique : (image : List ℕ) (p q : Party) → Stands image p → Stand
       blank_stays : (new : D) (j : List ℕ) → (told old).now ≡ Some j → (IsBlankOrLike one.party j → ⊥) → IsUntouched (told old) (told new)
       blank_stays new j now unlike = absurd (unlike (inl (load.refused j now)))
 
+      blank_too_large : (new : D) → (IsTooLarge Two one.party → new ≡ disk) → IsTooLarge Two one.party → IsUntouched (told old) (told new)
+      blank_too_large new still large =
+          subst (λ (d : D). IsUntouched (told old) (told d)) (sym (still large)) (record { now = load.now; images = load.images; any_moment = load.any_moment })
+
       pub beside_copied : (s : Stored D) → IsStore (told one.disk) one.gate one.end one.format one.party → IsCopying told disk (IsBlankOrBefore (told disk)) one.party (Ok s)
           → IsBeside told one old (Ok (record { first = one; second = s }))
       beside_copied s store copying = record {
@@ -205,6 +215,7 @@ module _ (unique : (image : List ℕ) (p q : Party) → Stands image p → Stand
         moments = blank_moments s.disk copying.moments;
         quiet = blank_quiet s.disk;
         stays = blank_stays s.disk;
+        too_large = blank_too_large s.disk copying.stays;
         fault = tt;
         names = tt;
         faults = omega (arith, load.faults, copying.faults);
@@ -224,6 +235,7 @@ module _ (unique : (image : List ℕ) (p q : Party) → Stands image p → Stand
         moments = blank_moments new copying.moments;
         quiet = blank_quiet new;
         stays = blank_stays new;
+        too_large = blank_too_large new copying.stays;
         fault = λ is. absurd (cc is);
         names = λ is. cc is;
         faults = omega (arith, load.faults, copying.faults);
@@ -243,6 +255,7 @@ module _ (unique : (image : List ℕ) (p q : Party) → Stands image p → Stand
         moments = blank_moments u.disk copying.moments;
         quiet = blank_quiet u.disk;
         stays = blank_stays u.disk;
+        too_large = blank_too_large u.disk copying.stays;
         fault = λ is. rose_later (told old).faults (told disk).faults (told u.disk).faults load.faults (copying.refused.1 (second_same u.cause cause.Fault is));
         names = never_first u.cause cause.Fault;
         faults = omega (arith, load.faults, copying.faults);
@@ -263,6 +276,7 @@ module _ (unique : (image : List ℕ) (p q : Party) → Stands image p → Stand
       moments = λ j now. only_read (told old) (told u.disk) j one.party load.any_moment;
       quiet = λ j now stands. record { now = load.now; images = load.images; any_moment = load.any_moment };
       stays = λ j now unlike. record { now = load.now; images = load.images; any_moment = load.any_moment };
+      too_large = λ large. record { now = load.now; images = load.images; any_moment = load.any_moment };
       fault = λ is. load.fault (second_same u.cause cause.Fault is);
       names = never_first u.cause cause.Fault;
       faults = load.faults;
@@ -285,6 +299,10 @@ module _ (unique : (image : List ℕ) (p q : Party) → Stands image p → Stand
       over_stays : (new : D) (j : List ℕ) → (told old.second).now ≡ Some j → ((party : Party) → Stands j party → ⊥) → IsUntouched (told old.first) (told new)
       over_stays new j now none = absurd (none two.party (stands_for j two.format two.party (load.stands.stands j (load.now ∙ now))))
 
+      over_large : (new : D) → (IsTooLarge Two two.party → new ≡ old.first) → (j : List ℕ) (party : Party) → (told old.second).now ≡ Some j → Stands j party → IsTooLarge Two party → new ≡ old.first
+      over_large new still j party now stands large =
+          still (subst (IsTooLarge Two) (sym (unique j two.party party (stands_for j two.format two.party (load.stands.stands j (load.now ∙ now))) stands)) large)
+
       abbrev two_untouched : IsUntouched (told old.second) (told two.disk)
       two_untouched = record { now = load.now; images = load.images; any_moment = load.any_moment }
 
@@ -299,6 +317,7 @@ module _ (unique : (image : List ℕ) (p q : Party) → Stands image p → Stand
         moments = over_moments s.disk copying.moments;
         second = two_untouched;
         stays = over_stays s.disk;
+        too_large = over_large s.disk copying.stays;
         fault = tt;
         keeps = record { first_faults = copying.faults; second_faults = load.faults; first_tells = copying.tells; second_tells = ap is_some load.now };
       }
@@ -314,6 +333,7 @@ module _ (unique : (image : List ℕ) (p q : Party) → Stands image p → Stand
         moments = over_moments new copying.moments;
         second = two_untouched;
         stays = over_stays new;
+        too_large = over_large new copying.stays;
         fault = record { first = λ is. absurd (cc is); second = λ is. absurd (cc is) };
         keeps = record { first_faults = copying.faults; second_faults = load.faults; first_tells = copying.tells; second_tells = ap is_some load.now };
       }
@@ -329,6 +349,7 @@ module _ (unique : (image : List ℕ) (p q : Party) → Stands image p → Stand
         moments = over_moments u.disk copying.moments;
         second = two_untouched;
         stays = over_stays u.disk;
+        too_large = over_large u.disk copying.stays;
         fault = record { first = λ is. copying.refused.1 (first_same u.cause cause.Fault is); second = λ is. absurd (never_second u.cause cause.Fault is) };
         keeps = record { first_faults = copying.faults; second_faults = load.faults; first_tells = copying.tells; second_tells = ap is_some load.now };
       }
@@ -349,6 +370,7 @@ module _ (unique : (image : List ℕ) (p q : Party) → Stands image p → Stand
         moments = still_moments;
         second = record { now = load.now; images = load.images; any_moment = load.any_moment };
         stays = λ j now none. untouched_self (told old.first) sound;
+        too_large = λ j party now stands large. refl;
         fault = record { first = λ is. absurd (cc is); second = λ is. absurd (cc is) };
         keeps = record { first_faults = omega arith; second_faults = load.faults; first_tells = refl; second_tells = ap is_some load.now };
       }
@@ -364,6 +386,7 @@ module _ (unique : (image : List ℕ) (p q : Party) → Stands image p → Stand
         moments = still_moments;
         second = record { now = load.now; images = load.images; any_moment = load.any_moment };
         stays = λ j now none. untouched_self (told old.first) sound;
+        too_large = λ j party now stands large. refl;
         fault = record { first = λ is. absurd (never_first u.cause cause.Fault is); second = λ is. load.fault (second_same u.cause cause.Fault is) };
         keeps = record { first_faults = omega arith; second_faults = load.faults; first_tells = refl; second_tells = ap is_some load.now };
       }
@@ -401,6 +424,11 @@ module _ (unique : (image : List ℕ) (p q : Party) → Stands image p → Stand
         stays j read.second (λ like. none one.party (inl (one_stands i read.first, like))),
       )
 
+      both_too_large : (new_first new_second : D) → new_first ≡ one.disk → (IsTooLarge Two one.party → IsUntouched (told old.second) (told new_second))
+          → (i j : List ℕ) (party : Party) → AreRead (told old.first) (told old.second) i j → Recovers i j party → IsTooLarge Two party → IsUntouched (told old.first) (told new_first) × IsUntouched (told old.second) (told new_second)
+      both_too_large new_first new_second is still i j party read recovers large =
+          (first_untouched new_first is, still (subst (IsTooLarge Two) (sym (recovered i j party read.first recovers)) large))
+
       pub opened_beside : (result : Result (Twin D) (PairUnmade D)) → IsBeside told one old.second result → IsPairOpened told old result
       opened_beside (Ok m) b = record {
         stand = b.stand;
@@ -415,6 +443,7 @@ module _ (unique : (image : List ℕ) (p q : Party) → Stands image p → Stand
         second_moments = second_moments m.second.disk b.moments;
         quiet = both_quiet m.first.disk m.second.disk b.first b.quiet;
         stays = both_stay m.first.disk m.second.disk b.first b.stays;
+        too_large = both_too_large m.first.disk m.second.disk b.first b.too_large;
         first_stays = λ i j read stands. first_untouched m.first.disk b.first;
         second_stays = λ i j read blank. absurd (never_both (sym blank ∙ (load.marked i read.first).0));
         fault = tt;
@@ -436,6 +465,7 @@ module _ (unique : (image : List ℕ) (p q : Party) → Stands image p → Stand
         second_moments = second_moments u.disks.second b.moments;
         quiet = both_quiet u.disks.first u.disks.second b.first b.quiet;
         stays = both_stay u.disks.first u.disks.second b.first b.stays;
+        too_large = both_too_large u.disks.first u.disks.second b.first b.too_large;
         first_stays = λ i j read stands. first_untouched u.disks.first b.first;
         second_stays = λ i j read blank. absurd (never_both (sym blank ∙ (load.marked i read.first).0));
         fault = record { first = λ is. absurd (b.names is); second = λ is. b.fault is };
@@ -477,6 +507,14 @@ module _ (unique : (image : List ℕ) (p q : Party) → Stands image p → Stand
         second,
       )
 
+      blank_large_pair : (new_first new_second : D) → ((j : List ℕ) (party : Party) → (told old.second).now ≡ Some j → Stands j party → IsTooLarge Two party → new_first ≡ disk) → IsUntouched (told old.second) (told new_second)
+          → (i j : List ℕ) (party : Party) → AreRead (told old.first) (told old.second) i j → Recovers i j party → IsTooLarge Two party → IsUntouched (told old.first) (told new_first) × IsUntouched (told old.second) (told new_second)
+      blank_large_pair new_first new_second still second i j party read (inl is) large = absurd (never_stands i party read.first is.0)
+      blank_large_pair new_first new_second still second i j party read (inr is) large = (
+        subst (λ (d : D). IsUntouched (told old.first) (told d)) (sym (still j party read.second is.1 large)) (record { now = load.now; images = load.images; any_moment = load.any_moment }),
+        second,
+      )
+
       pub opened_over : (result : Result (Twin D) (PairUnmade D)) → IsOverBlank told mid result → IsPairOpened told old result
       opened_over (Ok m) b = record {
         stand = b.stand;
@@ -489,6 +527,7 @@ module _ (unique : (image : List ℕ) (p q : Party) → Stands image p → Stand
         second_moments = blank_second m.second.disk b.second;
         quiet = blank_quiet_pair m.first.disk m.second.disk;
         stays = blank_stay_pair m.first.disk m.second.disk b.stays b.second;
+        too_large = blank_large_pair m.first.disk m.second.disk b.too_large b.second;
         first_stays = λ i j read stands. absurd (never_both (sym (load.refused i read.first) ∙ stands));
         second_stays = λ i j read blank. b.second;
         fault = tt;
@@ -505,6 +544,7 @@ module _ (unique : (image : List ℕ) (p q : Party) → Stands image p → Stand
         second_moments = blank_second u.disks.second b.second;
         quiet = blank_quiet_pair u.disks.first u.disks.second;
         stays = blank_stay_pair u.disks.first u.disks.second b.stays b.second;
+        too_large = blank_large_pair u.disks.first u.disks.second b.too_large b.second;
         first_stays = λ i j read stands. absurd (never_both (sym (load.refused i read.first) ∙ stands));
         second_stays = λ i j read blank. b.second;
         fault = record { first = λ is. rose_later (told old.first).faults (told disk).faults (told u.disks.first).faults load.faults (b.fault.first is); second = b.fault.second };
@@ -525,6 +565,7 @@ module _ (unique : (image : List ℕ) (p q : Party) → Stands image p → Stand
       second_moments = λ i j party read recovers. only_read (told old.second) (told old.second) j party (untouched_self (told old.second) sound).any_moment;
       quiet = λ i j party read both. (record { now = load.now; images = load.images; any_moment = load.any_moment }, untouched_self (told old.second) sound);
       stays = λ i j read none. (record { now = load.now; images = load.images; any_moment = load.any_moment }, untouched_self (told old.second) sound);
+      too_large = λ i j party read recovers large. (record { now = load.now; images = load.images; any_moment = load.any_moment }, untouched_self (told old.second) sound);
       first_stays = λ i j read stands. record { now = load.now; images = load.images; any_moment = load.any_moment };
       second_stays = λ i j read blank. untouched_self (told old.second) sound;
       fault = record { first = λ is. load.fault (first_same u.cause cause.Fault is); second = λ is. absurd (never_second u.cause cause.Fault is) };
@@ -554,6 +595,7 @@ module _ {D : Type 0} (told : D → View) (one two : Stored D) (one_store : IsSt
     first = refl;
     quiet = λ same. refl;
     apart = λ differ. refl;
+    too_large = λ large. refl;
     moments = stays;
     fault = λ is. absurd (cc is);
     names = λ is. cc is;
@@ -572,6 +614,7 @@ module _ {D : Type 0} (told : D → View) (one two : Stored D) (one_store : IsSt
     first = refl;
     quiet = λ is. refl;
     apart = λ differ. refl;
+    too_large = λ large. refl;
     moments = stays;
     fault = tt;
     names = tt;
@@ -591,6 +634,7 @@ module _ {D : Type 0} (told : D → View) (one two : Stored D) (one_store : IsSt
     first = refl;
     quiet = λ same. absurd (apart same);
     apart = λ differ. absurd (differ own);
+    too_large = copying.stays;
     moments = copying.moments;
     fault = tt;
     names = tt;
@@ -610,6 +654,7 @@ module _ {D : Type 0} (told : D → View) (one two : Stored D) (one_store : IsSt
     first = refl;
     quiet = λ same. absurd (apart same);
     apart = λ differ. absurd (differ own);
+    too_large = copying.stays;
     moments = copying.moments;
     fault = λ is. copying.refused.1 (second_same u.cause cause.Fault is);
     names = never_first u.cause cause.Fault;

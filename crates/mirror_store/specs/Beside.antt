@@ -41,6 +41,7 @@ pub record IsBeside {D : Type 0} (told : D → View) (one : Stored D) (old : D) 
   pub moments : (j : List ℕ) → (told old).now ≡ Some j → LeavesParty (told old) (told (opened_disks result).second) j one.party
   pub quiet : (j : List ℕ) → (told old).now ≡ Some j → Stands j one.party → IsUntouched (told old) (told (opened_disks result).second)
   pub stays : (j : List ℕ) → (told old).now ≡ Some j → (IsBlankOrLike one.party j → ⊥) → IsUntouched (told old) (told (opened_disks result).second)
+  pub too_large : IsTooLarge Two one.party → IsUntouched (told old) (told (opened_disks result).second)
   pub fault : IfErr result (λ u. u.cause ≡ Second cause.Fault → Rose (told old).faults (told u.disks.second).faults)
   pub names : IfErr result (λ u. u.cause ≡ First cause.Fault → ⊥)
   pub faults : (told old).faults ≤ (told (opened_disks result).second).faults
@@ -73,5 +74,6 @@ pub record IsOverBlank {D : Type 0} (told : D → View) (old : Disks D) (result 
       → LeavesParty (told old.first) (told (opened_disks result).first) i party
   pub second : IsUntouched (told old.second) (told (opened_disks result).second)
   pub stays : (j : List ℕ) → (told old.second).now ≡ Some j → ((party : Party) → Stands j party → ⊥) → IsUntouched (told old.first) (told (opened_disks result).first)
+  pub too_large : (j : List ℕ) (party : Party) → (told old.second).now ≡ Some j → Stands j party → IsTooLarge Two party → (opened_disks result).first ≡ old.first
   pub fault : IfErr result (λ u. HasPairFault told old u.disks u.cause)
   pub keeps : KeepsPair told old (opened_disks result)

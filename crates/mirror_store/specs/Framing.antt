@@ -36,6 +36,8 @@ pub record IsCopying {D : Type 0} (told : D → View) (old : D) (P : List ℕ �
   pub left : IfOk result (λ s. space s ≡ space_of_whole Two copy)
   pub small : IfOk result (λ s. IsTooLarge Two copy → ⊥)
   pub refused : IfErr result (IsUncopied told old copy)
+  -- it isn't touched for a party that is too large
+  pub stays : IsTooLarge Two copy → copied_disk result ≡ old
   pub moments : Tells (told old) → LeavesOnly (told old) (told (copied_disk result)) (λ c. Stands c copy ⊎ P c)
   pub faults : (told old).faults ≤ (told (copied_disk result)).faults
   pub tells : is_some (told (copied_disk result)).now ≡ is_some (told old).now
@@ -64,6 +66,8 @@ pub record IsSettled {D : Type 0} (told : D → View) (one two : Stored D) (resu
   pub first : (opened_disks result).first ≡ one.disk
   pub quiet : two.party ≡ one.party → (opened_disks result).second ≡ two.disk
   pub apart : (two.party.own ≡ one.party.own → ⊥) → (opened_disks result).second ≡ two.disk
+  -- nor where that is too large to be written
+  pub too_large : IsTooLarge Two one.party → (opened_disks result).second ≡ two.disk
   -- a crash at any moment leaves the one or the other
   pub moments : Tells (told two.disk) → LeavesOnly (told two.disk) (told (opened_disks result).second) (λ c. Stands c one.party ⊎ Stands c two.party)
   pub fault : IfErr result (λ u. u.cause ≡ Second cause.Fault → Rose (told two.disk).faults (told u.disks.second).faults)

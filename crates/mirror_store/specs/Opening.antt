@@ -102,6 +102,9 @@ pub record IsPairOpened {D : Type 0} (told : D → View) (old : Disks D) (result
   -- and where no party can be opened of the two images
   pub stays : (i j : List ℕ) → AreRead (told old.first) (told old.second) i j → ((party : Party) → Recovers i j party → ⊥)
       → IsUntouched (told old.first) (told (opened_disks result).first) × IsUntouched (told old.second) (told (opened_disks result).second)
+  -- and where the party is too large for the one frame that would be written, whatever is answered
+  pub too_large : (i j : List ℕ) (party : Party) → AreRead (told old.first) (told old.second) i j → Recovers i j party → IsTooLarge Two party
+      → IsUntouched (told old.first) (told (opened_disks result).first) × IsUntouched (told old.second) (told (opened_disks result).second)
   -- the first disk is written only where it is blank, and the second only where the first isn't
   pub first_stays : (i j : List ℕ) → AreRead (told old.first) (told old.second) i j → is_blank i ≡ false → IsUntouched (told old.first) (told (opened_disks result).first)
   pub second_stays : (i j : List ℕ) → AreRead (told old.first) (told old.second) i j → is_blank i ≡ true → IsUntouched (told old.second) (told (opened_disks result).second)

@@ -181,6 +181,7 @@ module _ (moment : ℕ) (left before : Option (List ℕ)) (e : List ℕ → View
       quiet = λ i j p read stand none. (still (e party) (sound party), still (e mirror) (sound mirror));
       first_stays = λ i j p read recovers none filled. still (e party) (sound party);
       second_stays = λ i j p read recovers none blank. still (e mirror) (sound mirror);
+      too_large = λ i j read large. (still (e party) (sound party), still (e mirror) (sound mirror));
       first_tells = refl;
       second_tells = refl;
     };

@@ -225,6 +225,9 @@ module _ {D : Type 0} (told : D → View) (old : Disks D) (name : List ℕ) (i :
           subst (λ (d : Disks D). IsUntouched (told old.first) (told d.first)) (sym (unchanged t is a b party read recovers none)) (opened.first_stays a b read filled);
       second_stays = λ a b party read recovers none blank.
           subst (λ (d : Disks D). IsUntouched (told old.second) (told d.second)) (sym (unchanged t is a b party read recovers none)) (opened.second_stays a b read blank);
+      too_large = λ a b read large.
+          subst (λ (d : Disks D). IsUntouched (told old.first) (told d.first) × IsUntouched (told old.second) (told d.second))
+          (sym (unchanged t is a b large.party read large.recovers (λ next changes. changes.small large.apart large.too_large))) (opened.too_large a b large.party read large.recovers large.too_large);
       first_tells = is.keeps.first_tells ∙ opened.keeps.first_tells;
       second_tells = is.keeps.second_tells ∙ opened.keeps.second_tells;
     };

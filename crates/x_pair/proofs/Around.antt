@@ -69,6 +69,7 @@ module _ {D : Type 0} (told : D → View) (name other : List ℕ) (old new : She
     quiet = λ i j party read stand none. (first_still, second_still);
     first_stays = λ i j party read recovers none filled. first_still;
     second_stays = λ i j party read recovers none blank. second_still;
+    too_large = λ i j read large. (first_still, second_still);
     first_tells = ap is_some out.first_stays.now;
     second_tells = ap is_some out.second_stays.now;
   }
@@ -161,6 +162,7 @@ module _ (first second out_first out_second mid_first mid_second new_first new_s
       quiet = λ i j party read stand none. both_around (safe.quiet i j party (read_out i j read) stand none);
       first_stays = λ i j party read recovers none filled. untouched_around first out_first mid_first new_first first_out first_back (safe.first_stays i j party (read_out i j read) recovers none filled);
       second_stays = λ i j party read recovers none blank. untouched_around second out_second mid_second new_second second_out second_back (safe.second_stays i j party (read_out i j read) recovers none blank);
+      too_large = λ i j read large. both_around (safe.too_large i j (read_out i j read) large);
       first_tells = ap is_some first_back.now ∙ (safe.first_tells ∙ ap is_some first_out.now);
       second_tells = ap is_some second_back.now ∙ (safe.second_tells ∙ ap is_some second_out.now);
     }

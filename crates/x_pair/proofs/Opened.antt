@@ -79,6 +79,7 @@ module _ {D : Type 0} (told : D → View) (old : Disks D) (w : Work) where
       quiet = λ i j party read stands none. opened.quiet i j party read stands;
       first_stays = λ i j party read recovers none filled. opened.first_stays i j read filled;
       second_stays = λ i j party read recovers none blank. opened.second_stays i j read blank;
+      too_large = λ i j read is. opened.too_large i j is.party read is.recovers is.too_large;
       first_tells = opened.keeps.first_tells;
       second_tells = opened.keeps.second_tells;
     };
@@ -102,6 +103,7 @@ module _ {D : Type 0} (told : D → View) (old : Disks D) (w : Work) where
       quiet = λ i j party read stands none. opened.quiet i j party read stands;
       first_stays = λ i j party read recovers none filled. opened.first_stays i j read filled;
       second_stays = λ i j party read recovers none blank. opened.second_stays i j read blank;
+      too_large = λ i j read is. opened.too_large i j is.party read is.recovers is.too_large;
       first_tells = opened.keeps.first_tells;
       second_tells = opened.keeps.second_tells;
     };

@@ -156,6 +156,8 @@ pub record IsSafePair (w : Work) (first second first_after second_after : View) 
       → is_blank i ≡ false → IsUntouched first first_after
   pub second_stays : (i j : List ℕ) (party : Party) → AreRead first second i j → Recovers i j party → ((next : Party) → Changes w i j party next → ⊥)
       → is_blank i ≡ true → IsUntouched second second_after
+  -- neither is written where the party that is opened isn't on both and is too large for the one frame that would be written
+  pub too_large : (i j : List ℕ) → AreRead first second i j → IsTooLargeToWrite i j → IsUntouched first first_after × IsUntouched second second_after
   pub first_tells : StillTells first first_after
   pub second_tells : StillTells second second_after
 

@@ -18,7 +18,7 @@ returns-in-Err g c =
     let unmade : Unmade g.row.D.Denot = record { disk = b.disk; cause = cause_of b.cause } in
     let same : unmade ≡ c.give_up.result = (λ i. record { disk = sym c.give_up.ensures.disk i; cause = sym c.give_up.ensures.cause i }) in
     subst (λ u. IsCopying told c.args.store.disk (λ image. Stands image c.args.store.party) c.args.state.now (Err (uncopied.Failed u))) same
-    (switch_failed told c.args.store c.in-Ok.framed c.args.state.now c.in-Ok.ensures.party b c.in-Err.ensures)
+    (switch_failed told c.args.store c.in-Ok.framed c.args.state.now c.in-Ok.ensures.party b c.in-Err.ensures c.in-Ok.ensures.fits)
 
 pub returns-in-Err-TooLarge : goal.returns-in-Err-TooLarge
 returns-in-Err-TooLarge g c =
