@@ -1,5 +1,5 @@
 // Parties that are held in memory, by their identities and in the order in which they came.
-ghost use Rattle.std.specs.Prelude.{◌≡◌, ◌<◌, ◌++◌, [], ◌∷◌, List, length, None, IfNone, IfSome, OnOk, bytes_eq, position, slice_get};
+ghost use Rattle.std.specs.Prelude.{◌≡◌, ◌<◌, [], List, length, None, IfNone, IfSome, OnOk, bytes_eq, position, slice_get};
 ghost use Rattle.member.specs.Member.{Member};
 ghost use Rattle.world_laws.specs.World.{member_at};
 ghost use Rattle.audit_check.specs.States.{Adds, HoldsEach, IsPlaced, HoldsMembers};

@@ -1,8 +1,7 @@
 -- What is decided of a centre's answer whose tests before the code's hold.
-use Rattle.std.proofs.Common.{◌≡◌, ◌⊎◌, inl, inr, ℕ, ◌+◌, ◌≤◌, Bool, true, false, Option, Some, None, Result, IfSome, List, [], ◌∷◌, ◌++◌, length, refl, ap, subst, ◌∙◌, arith}
+use Rattle.std.proofs.Common.{◌≡◌, ◌⊎◌, inl, inr, ℕ, ◌+◌, ◌≤◌, Bool, true, false, Option, Some, None, IfSome, List, [], ◌∷◌, ◌++◌, length, refl, ap, subst, ◌∙◌, arith}
 use Rattle.std.specs.Prelude.{is_none}
 use Rattle.x_base.specs.Count.{IsCount}
-use Rattle.x_base.specs.declared.text.NoMemory.{NoMemory}
 use Rattle.x_base.specs.declared.verdict.Verdict.{Verdict}
 use Rattle.x_base.specs.declared.verdict.Verdict.TheVariants.{NotForMe, UnknownPeer, NoExchange, Outstanding, UnknownKk, BadMac}
 use Rattle.csm_grammar.specs.declared.message.Rtr.{Rtr}
@@ -18,11 +17,11 @@ use Rattle.party_state.specs.State.{Party, exchange_with, knows}
 use Rattle.party_state.specs.Verdicts.{Test, TestsHold, verdict_of, is_accept}
 use Rattle.role_base.specs.Texts.{text_of, is_verified, lead_under}
 use Rattle.role_base.specs.Conditions.{is_for, count_tests, has_key_room}
-use Rattle.role_base.specs.Deciding.{decision_of, refusal_of, IsDecision, Decides, AcceptsWith, RefusesEarly}
+use Rattle.role_base.specs.Deciding.{decision_of, refusal_of, IsDecision, RefusesEarly}
 use Rattle.role_base.specs.Standing.{LinkStands}
 use Rattle.role_base.specs.Storable.{IsKeepable, AreKeepable}
 use Rattle.role_base.proofs.Counted.{next_on}
-use Rattle.role_base.proofs.Decided.{decides_with, refuses}
+use Rattle.role_base.proofs.Decided.{refuses}
 use Rattle.role_base.proofs.Keeping.{link_room}
 use Rattle.role_base.proofs.Failing.{fails_at}
 use Rattle.role_base.proofs.Given.{given_none}
@@ -84,20 +83,9 @@ brought_verdict p a m k l x v e i = e ∙ ap (λ (y : Lead). verdict_of (brought
 pub brought_refuses : (p : Party) (a : Arrival) (m : Rtr) (k : ℕ × ℕ) (l : LinkRec) (x : Lead) (v : Verdict) → v ≡ verdict_of (brought_front p m (Some l) ++ (x.verified, BadMac) ∷ (count_tests l k.1 ++ rtr_rest p m)) → x ≡ lead_under a (brought_under p m k.1) (brought_value l k) → is_accept v ≡ false → refusal_of v ≡ decision_of p (brought p a m k (Some l))
 brought_refuses p a m k l x v e i f = refuses p (brought p a m k (Some l)) v (brought_verdict p a m k l x v e i) f refl
 
-pub brought_accepts : (p : Party) (a : Arrival) (m : Rtr) (k : ℕ × ℕ) (l used : LinkRec) (x : Lead) (v : Verdict) (made : Result Decision NoMemory) → v ≡ verdict_of (brought_front p m (Some l) ++ (x.verified, BadMac) ∷ (count_tests l k.1 ++ rtr_rest p m)) → x ≡ lead_under a (brought_under p m k.1) (brought_value l k) → is_accept v ≡ true → used ≡ record l { next = k.1 + 1 }
-    → AcceptsWith p (used_edits (Some used) ++ passed_on p m x.value (vias.Distribution m.originator k.1)) (Some (passed_reply p m x.value)) made → Decides p (brought p a m k (Some l)) made
-brought_accepts p a m k l used x v made e i t u h =
-    let value : x.value ≡ brought_value l k = ap (λ (y : Lead). y.value) i in
-    decides_with made p (brought p a m k (Some l)) v (rw (u, value) at h) (brought_verdict p a m k l x v e i) t
-
 translated_verdict : (p : Party) (a : Arrival) (m : Rtr) (t : KeyAtCentre) (x : Lead) (v : Verdict) → v ≡ verdict_of (translated_front p m (Some t) ++ (x.verified, BadMac) ∷ rtr_rest p m) → x ≡ lead_under a (translated_under p m t) t.value → v ≡ (translated p a m (Some t)).verdict
 translated_verdict p a m t x v e i = e ∙ ap (λ (y : Lead). verdict_of (translated_front p m (Some t) ++ (y.verified, BadMac) ∷ rtr_rest p m)) i
 
 pub translated_refuses : (p : Party) (a : Arrival) (m : Rtr) (t : KeyAtCentre) (x : Lead) (v : Verdict) → v ≡ verdict_of (translated_front p m (Some t) ++ (x.verified, BadMac) ∷ rtr_rest p m) → x ≡ lead_under a (translated_under p m t) t.value → is_accept v ≡ false → refusal_of v ≡ decision_of p (translated p a m (Some t))
 translated_refuses p a m t x v e i f = refuses p (translated p a m (Some t)) v (translated_verdict p a m t x v e i) f refl
 
-pub translated_accepts : (p : Party) (a : Arrival) (m : Rtr) (t : KeyAtCentre) (x : Lead) (v : Verdict) (made : Result Decision NoMemory) → v ≡ verdict_of (translated_front p m (Some t) ++ (x.verified, BadMac) ∷ rtr_rest p m) → x ≡ lead_under a (translated_under p m t) t.value → is_accept v ≡ true
-    → AcceptsWith p (used_edits None ++ passed_on p m x.value (vias.Translation m.originator)) (Some (passed_reply p m x.value)) made → Decides p (translated p a m (Some t)) made
-translated_accepts p a m t x v made e i y h =
-    let value : x.value ≡ t.value = ap (λ (z : Lead). z.value) i in
-    decides_with made p (translated p a m (Some t)) v (rw value at h) (translated_verdict p a m t x v e i) y

@@ -1,6 +1,6 @@
 // A key service message arrives: its key is held, or its two keys are, with a new key-encrypting key
 // where it brings one, and a response goes back under the key.
-ghost use Rattle.std.specs.Prelude.{◌≡◌, ◌+◌, ◌++◌, ◌∷◌, [], Some, IfOk};
+ghost use Rattle.std.specs.Prelude.{◌≡◌, ◌+◌, ◌++◌, ◌∷◌, Some, IfOk};
 ghost use Rattle.x_base.specs.declared.verdict.Verdict.TheVariants.{BadMac, KeysFull};
 ghost use Rattle.party_state.specs.declared.edit.Edit.TheVariants.{PutLink, PutKey};
 ghost use Rattle.party_tables.specs.Keys.{record_key};

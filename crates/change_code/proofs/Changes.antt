@@ -4,7 +4,7 @@ use Rattle.std.specs.List.{slice_get}
 use Rattle.std.proofs.lemmas.List.Concat.{flat_map-append}
 use Rattle.std.proofs.lemmas.List.Elements.{All-push, All-head, All-tail}
 use Rattle.party_state.specs.declared.edit.Edit.{Edit}
-use Rattle.party_state.specs.Ranges.{InRange, AreInRange, IsFitting, AreFitting}
+use Rattle.party_state.specs.Ranges.{InRange, AreInRange}
 use Rattle.change_code.specs.declared.format.Format.{Format}
 use Rattle.change_code.specs.Code.{two, edit_code, edits_code, change_text, number_of, closing, code_of_change, most_edits, IsCode}
 use Rattle.change_code.specs.Reading.{Lacks, StartsWith, IsDecoded, IsAllRead, edit_form, edits_form, change_form}
@@ -13,11 +13,6 @@ use Rattle.change_code.specs.declared.fault.CodeFault.TheVariants.{Bad, NoMemory
 use Rattle.change_code.proofs.Numbers.{two_apart, two_long}
 use Rattle.change_code.proofs.EditForms.{edit_apart}
 use Rattle.change_code.proofs.Closings.{number_apart}
-
-pub fits_at : (edits : List Edit) (i : ℕ) (edit : Edit) → AreFitting edits → slice_get edits i ≡ Some edit → IsFitting edit
-fits_at [] i edit all is = absurd (cc is)
-fits_at (e ∷ edits) zero edit all is = let same : e ≡ edit = cc is in subst IsFitting same (All-head IsFitting e edits all)
-fits_at (e ∷ edits) (suc i) edit all is = fits_at edits i edit (All-tail IsFitting e edits all) is
 
 -- the code of one edit more
 pub one_more : (edits : List Edit) (i : ℕ) (edit : Edit) → slice_get edits i ≡ Some edit → edits_code (take (suc i) edits) ≡ edits_code (take i edits) ++ edit_code edit

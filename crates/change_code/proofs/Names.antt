@@ -49,9 +49,6 @@ name_apart = apart_as name_form (both ident_form (both ident_form (both label_fo
 pub first_name_apart : Apart first_name_form
 first_name_apart = record { same = λ x y r s fx fy is. name_apart.same x y r s fx.0 fy.0 is }
 
-pub lacks_first_name : (bytes : List ℕ) → Lacks name_form bytes → Lacks first_name_form bytes
-lacks_first_name bytes lacks = record { none = λ x rest fits is. lacks.none x rest fits.0 is }
-
 pub lacks_last_count : (bytes rest : List ℕ) (name : KeyName) → StartsWith name_form bytes rest name → 99999999999999 ≤ name.count → Lacks first_name_form bytes
 lacks_last_count bytes rest name begins last = record {
   none = λ x more fits is.

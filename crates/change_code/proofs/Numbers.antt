@@ -65,9 +65,6 @@ lacks_within form bytes rest n code word begins out = record {
       out (subst form.Fits (sym same.0) fits);
 }
 
-pub lacks_lower : (form : Form ℕ) (bytes : List ℕ) → ((x : ℕ) → form.code x ≡ eight x) → ((x : ℕ) → form.Fits x → IsWord x) → Lacks word_form bytes → Lacks form bytes
-lacks_lower form bytes code word lacks = record { none = λ x rest fits is. lacks.none x rest (word x fits) (is ∙ ap (λ (l : List ℕ). l ++ rest) (code x)) }
-
 pub begins_word : (old front rest : List ℕ) (n : ℕ) → front ≡ take 8 old → rest ≡ drop 8 old → n < 2 ^ 64 → eight n ≡ front → StartsWith word_form old rest n
 begins_word old front rest n is_front is_rest small is = record {
   fits = small;

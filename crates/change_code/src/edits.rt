@@ -1,5 +1,5 @@
 // Reading edits.
-ghost use Rattle.std.specs.Prelude.{◌≡◌, ◌≢◌, ◌∷◌};
+ghost use Rattle.std.specs.Prelude.{◌≢◌, ◌∷◌};
 ghost use Rattle.change_code.specs.Reading.{IsPieceRead, IsDecoded, edit_form};
 
 use crate::fault::CodeFault;

@@ -1,5 +1,5 @@
 // Reading exchanges.
-ghost use Rattle.std.specs.Prelude.{◌≡◌, ◌≤◌, ◌∷◌, MatchOption};
+ghost use Rattle.std.specs.Prelude.{◌∷◌, MatchOption};
 ghost use Rattle.change_code.specs.Reading.{IsPieceRead, IsDecoded, Lacks, StartsWith, text_form, via_form, kind_form, exchange_form};
 
 use crate::fault::CodeFault;

@@ -1,5 +1,5 @@
 // Reading identities, labels, numbers and the kinds of a value.
-ghost use Rattle.std.specs.Prelude.{◌≡◌, ◌<◌, ◌^◌, length, MatchOption, ◌++◌};
+ghost use Rattle.std.specs.Prelude.{◌≡◌, ◌<◌, length, MatchOption, ◌++◌};
 ghost use Rattle.change_code.specs.Code.{two, four, eight};
 ghost use Rattle.change_code.specs.Reading.{IsPieceRead, ident_form, label_form, word_form, count_form, next_form, name_form, pair_form, gen_form, role_form, side_form, status_form, flag_form, maybe_form};
 

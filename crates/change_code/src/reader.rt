@@ -1,5 +1,5 @@
 // Reading the pieces of a code from the front.
-ghost use Rattle.std.specs.Prelude.{◌≡◌, ◌+◌, ◌<◌, ◌^◌, ◌∷◌, ◌++◌, List, ℕ, nat_eq, length, take, drop, Option, Some, None, IfSome, MatchOption};
+ghost use Rattle.std.specs.Prelude.{◌≡◌, ◌+◌, ◌<◌, ◌^◌, ◌∷◌, ◌++◌, List, ℕ, nat_eq, length, Some, IfSome, MatchOption};
 ghost use Rattle.change_code.specs.Code.{short, long};
 ghost use Rattle.change_code.specs.Reading.{LacksShort, LacksLong};
 

@@ -7,12 +7,12 @@ use Rattle.party_state.specs.declared.command.Command.{Command}
 use Rattle.party_state.specs.declared.command.Input.TheVariants as input
 use Rattle.scenario.specs.declared.line.Line.{Line}
 use Rattle.scenario.specs.declared.line.Line.TheVariants as line
-use Rattle.world_laws.specs.Events.{Orders, Hears, IsCommand}
+use Rattle.world_laws.specs.Events.{Hears}
 use Rattle.world_laws.specs.Hearing.{IsHeard, HeardOnce}
 use Rattle.course.specs.LineEvents.{LineEvent, Nothing, At, Arrives, IsFormed, Returns, at_receiver, input_bytes, receiver_of, text_back}
 use Rattle.csm_feed.specs.Numbers.{unheard_number}
 use Rattle.course.specs.Parts.{HasLineEvent}
-use Rattle.course.specs.Meanings.{HeardOf, IsLineAct, IsNoOrder, MeantBy, arriving, order_in}
+use Rattle.course.specs.Meanings.{HeardOf, IsLineAct, IsNoOrder, MeantBy, arriving}
 use Rattle.course.specs.declared.act.LineAct.{LineAct}
 use Rattle.course.specs.declared.act.LineAct.TheVariants as act
 
@@ -52,31 +52,6 @@ who (Some order) = order.0
 abbrev what : Command → Option (List ℕ × Command) → Command
 what c None = c
 what c (Some order) = order.1
-
-meant_at : (p party : List ℕ) (c command : Command) → ◌≡◌ {A = Option (List ℕ × Command)} (Some (p, c)) (Some (party, command)) → IsCommand command → MeantBy (λ (h : LineEvent). h ≡ At p (Orders c)) (act.Give party (input.Ordered command))
-meant_at p party c command same formed =
-    let same_party : p ≡ party = ap who same in
-    let same_command : c ≡ command = ap (what c) same in
-    let all : At p (Orders c) ≡ At party (Orders command) = cc (same_party, same_command) in
-    (At p (Orders c), refl, subst IsCommand (sym same_command) formed, all)
-
--- a line that gives a command
-pub meant_order : (l : Line) (party : List ℕ) (command : Command) → order_in l ≡ Some (party, command) → IsCommand command → (texts : List (List ℕ)) → IsLineAct l texts (act.Give party (input.Ordered command))
-meant_order (line.Start p peer label) party command order formed texts = meant_at p party _ command order formed
-meant_order (line.StartKk p peer label new single) party command order formed texts = meant_at p party _ command order formed
-meant_order (line.Ask p peer ultimate) party command order formed texts = meant_at p party _ command order formed
-meant_order (line.Translate p centre ultimate) party command order formed texts = meant_at p party _ command order formed
-meant_order (line.Resend p peer) party command order formed texts = meant_at p party _ command order formed
-meant_order (line.End p peer name) party command order formed texts = meant_at p party _ command order formed
-meant_order (line.Drop p peer) party command order formed texts = meant_at p party _ command order formed
-meant_order (line.Purge p) party command order formed texts = meant_at p party _ command order formed
-meant_order (line.Party name role pair v) party command order formed texts = cc order
-meant_order (line.Link origin recipient label pair) party command order formed texts = cc order
-meant_order (line.Time moment) party command order formed texts = cc order
-meant_order (line.Pass k p) party command order formed texts = cc order
-meant_order (line.Recent j) party command order formed texts = cc order
-meant_order (line.Bytes p bytes) party command order formed texts = cc order
-meant_order (line.Stop n choice) party command order formed texts = cc order
 
 abbrev named : Option (List ℕ) → List ℕ
 named None = []

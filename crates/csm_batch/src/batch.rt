@@ -1,5 +1,5 @@
 // A batch.
-ghost use Rattle.std.specs.Prelude.{◌≡◌, ◌≤◌, length, slice_get};
+ghost use Rattle.std.specs.Prelude.{◌≡◌, slice_get};
 ghost use Rattle.std.specs.Option.{option_copied};
 ghost use Rattle.csm_batch.specs.Batches.{IsBatch, IsSized};
 

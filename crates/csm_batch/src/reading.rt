@@ -2,7 +2,6 @@
 ghost use Rattle.std.specs.Prelude.{◌≡◌, ◌&&◌, ◌++◌, ◌∷◌, [], ℕ, true, is_some, nat_lt, nat_le, IfOk, IfErr, OnOk};
 ghost use Rattle.x_values.specs.Words.{number_of};
 ghost use Rattle.scenario.specs.Kinds.{bytes_of};
-ghost use Rattle.scenario.specs.Rows.{Row};
 ghost use Rattle.csm_batch.specs.Batches.{IsBatch, IsFirstBad, IsReading, IsSized, entry_of, entry_with, entries_in};
 
 use crate::batch::Batch;

@@ -10,7 +10,7 @@ use Rattle.csm_grammar.specs.Spelling.{is_separator, AreSeparators}
 use Rattle.csm_read.specs.Laws.{OneAnswer, FaultStays, ReadStays}
 use Rattle.csm_grammar.specs.Places.{moved}
 use Rattle.csm_feed.specs.Streams.{Leads, AreMessages, IsBegun, IsWaiting, IsRefusedAfter, EndsWith}
-use Rattle.csm_feed.specs.Laws.{OneHolding, RefusalStays, FirstHeld}
+use Rattle.csm_feed.specs.Laws.{OneHolding, FirstHeld}
 use Rattle.csm_feed.proofs.Fronts.{IsUnread, same_front, same_lead, leads_more, no_lead, unread}
 
 -- nothing is read of nothing
@@ -86,16 +86,6 @@ refused_more n x more r stays h = record {
   go : (b : List ℕ) → b ≢ [] → b ++ more ≢ []
   go [] i = absurd (i refl)
   go (c ∷ b) i = λ e. cc
-
-pub refusal_stays : FaultStays → RefusalStays
-refusal_stays stays stream more ms r h = record {
-  front = h.front;
-  rest = h.rest ++ more;
-  text = ap (λ (x : List ℕ). x ++ more) h.text ∙ append_assoc h.front h.rest more;
-  messages = h.messages;
-  begun = begun_more h.rest more h.ends.something h.begun;
-  ends = refused_more (length h.front) h.rest more r stays h.ends;
-}
 
 first_list : (ms all : List Arrival) (f g x y : List ℕ) → OneAnswer → ReadStays → AreMessages f ms → AreMessages g all → f ++ x ≡ g ++ y → IsBegun y → IsUnread y → (behind : List Arrival) × (all ≡ ms ++ behind)
 first_list [] all f g x y one stays h k e c m = (all, refl)

@@ -5,7 +5,7 @@ ghost use Rattle.csm_read.specs.Faults.{IsFault};
 ghost use Rattle.csm_feed.specs.declared.next.Next.{Next};
 ghost use Rattle.csm_feed.specs.Streams.{AreMessages, IsWaiting};
 ghost use Rattle.csm_feed.specs.HeldBytes.{Feeding, IsKept};
-ghost use Rattle.csm_feed.specs.Feeding.{pushed, IsFull, gap_before, with_bytes, without, with_refusal, Answers, ComesAs, Fed, Feeds, HandsOut, Exhausts};
+ghost use Rattle.csm_feed.specs.Feeding.{pushed, IsFull, gap_before, with_bytes, without, Answers, ComesAs, Fed, Feeds, HandsOut, Exhausts};
 
 use crate::next::Next;
 use crate::separators::{are_plain, leading_separators};

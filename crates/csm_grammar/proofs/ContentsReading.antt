@@ -1,5 +1,5 @@
 -- What the readers of contents give.
-use Rattle.std.proofs.Common.{◌≡◌, ◌≢◌, ℕ, ◌+◌, ◌<◌, Bool, true, false, List, [], ◌∷◌, ◌++◌, length, get_or, take, drop, Option, Some, None, Result, Ok, Err, refl, sym, ◌∙◌, ap, arith}
+use Rattle.std.proofs.Common.{◌≡◌, ℕ, ◌+◌, ◌<◌, Bool, true, false, List, [], ◌∷◌, ◌++◌, length, get_or, take, drop, Option, Some, None, Result, Ok, Err, refl, sym, ◌∙◌, ap, arith}
 use Rattle.std.specs.Prelude.{◌&&◌, ◌==◌, not, nat_lt, nat_le, option_map, bytes_eq, if◌then◌else◌}
 use Rattle.std.specs.Result.{OkIff, result_ok}
 use Rattle.std.specs.List.{list_all}
@@ -86,12 +86,6 @@ is_pair c l r m n h el er hl hr =
     let left : m ≡ digits_value 16 (take 16 c) = a.same ∙ ap (digits_value 16) el in
     let right : n ≡ digits_value 16 (drop 16 c) = b.same ∙ ap (digits_value 16) er in
     rw (test, left, right) refl
-
-pub no_pair_long : (c : List ℕ) → length c ≢ 32 → None ≡ value_of OfPair c
-no_pair_long c h = rw (ne_eqb (length c) 32 h) refl
-
-pub no_pair_left : (c l : List ℕ) → length c ≡ 32 → l ≡ take 16 c → None ≡ value_of OfKey l → None ≡ value_of OfPair c
-no_pair_left c l h el hl = rw (whole_pair c h ∙ and_left _ (is_hex 16 (drop 16 c)) (ap (is_hex 16) (sym el) ∙ not_numbered (is_hex 16 l) (digits_value 16 l) hl)) refl
 
 pub no_pair_right : (c r : List ℕ) → length c ≡ 32 → r ≡ drop 16 c → None ≡ value_of OfKey r → None ≡ value_of OfPair c
 no_pair_right c r h er hr = rw (whole_pair c h ∙ and_right (is_hex 16 (take 16 c)) _ (ap (is_hex 16) (sym er) ∙ not_numbered (is_hex 16 r) (digits_value 16 r) hr)) refl

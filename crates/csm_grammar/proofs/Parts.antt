@@ -10,7 +10,6 @@ use Rattle.csm_grammar.specs.declared.message.KsmBody.{KsmBody}
 use Rattle.csm_grammar.specs.declared.message.KsmBody.TheVariants as body
 use Rattle.csm_grammar.specs.declared.message.Rtr.{Rtr}
 use Rattle.csm_grammar.specs.declared.message.Rfs.{Rfs}
-use Rattle.csm_grammar.specs.declared.message.Rsm.{Rsm}
 use Rattle.csm_grammar.specs.declared.message.Ers.{Ers}
 use Rattle.csm_grammar.specs.declared.message.Ksm.{Ksm}
 use Rattle.csm_grammar.specs.declared.message.Esm.{Esm}
@@ -23,9 +22,6 @@ use Rattle.csm_grammar.proofs.Typed.{values_typed, said_typed}
 
 pub ksm_org : (text : List ℕ) (m : Ksm) → Says text (message.Ksm m) → IsIdent m.originator
 ksm_org text m s = (said_typed text (message.Ksm m) s).1.0
-
-pub rsm_org : (text : List ℕ) (m : Rsm) → Says text (message.Rsm m) → IsIdent m.originator
-rsm_org text m s = (said_typed text (message.Rsm m) s).1.0
 
 pub esm_org : (text : List ℕ) (m : Esm) → Says text (message.Esm m) → IsIdent m.originator
 esm_org text m s = (said_typed text (message.Esm m) s).1.0

@@ -161,35 +161,6 @@ form_small F13 = lit< tt
 pub each_form : (p : Form → Bool) → list_all p forms ≡ true → (f : Form) → p f ≡ true
 each_form p h f = subst (λ (g : Form). p g ≡ true) (form_at f) (all_get p forms (form_place f) F1 (form_small f) h)
 
-pub tag_named : (t : Tag) → tag_of (tag_name t) ≡ Some t
-tag_named Mcl = refl
-tag_named Rcv = refl
-tag_named Org = refl
-tag_named Svr = refl
-tag_named Idu = refl
-tag_named Idc = refl
-tag_named Idd = refl
-tag_named Ida = refl
-tag_named Idk1 = refl
-tag_named Idk2 = refl
-tag_named DoubleKk = refl
-tag_named Kk = refl
-tag_named Kd = refl
-tag_named Kdu = refl
-tag_named Ctp = refl
-tag_named Cta = refl
-tag_named Ctb = refl
-tag_named Ctr = refl
-tag_named Erf = refl
-tag_named Iv = refl
-tag_named Edk = refl
-tag_named P = refl
-tag_named Mac = refl
-tag_named Edc = refl
-tag_named Kku = refl
-tag_named DoubleKku = refl
-tag_named Nos = refl
-
 -- the first that passes does pass
 pub find_passes : {X : Type 0} (p : X → Bool) (xs : List X) (x : X) → find p xs ≡ Some x → p x ≡ true
 find_passes p [] x h = absurd cc

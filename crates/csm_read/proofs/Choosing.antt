@@ -1,28 +1,26 @@
 -- The form of fields without a fault, and the contents behind each tag.
-use Rattle.std.proofs.Common.{◌≡◌, ℕ, suc, ◌≤◌, Bool, true, false, cond, List, [], ◌∷◌, ◌++◌, map, Option, Some, None, refl, sym, ◌∙◌, ap, subst, arith}
-use Rattle.std.specs.Prelude.{◌&&◌, ◌||◌, is_none, is_some, option_map, option_to_list, bytes_eq}
+use Rattle.std.proofs.Common.{◌≡◌, ℕ, ◌≤◌, Bool, true, false, cond, List, [], ◌∷◌, ◌++◌, map, Some, None, refl, sym, ◌∙◌, ap, subst, arith}
+use Rattle.std.specs.Prelude.{◌&&◌, ◌||◌, is_none, bytes_eq}
 use Rattle.std.specs.List.{find, filter, list_any, list_all}
 use Rattle.std.specs.Cmp.Lexicographic.{bytes_decides}
-use Rattle.std.proofs.lemmas.Bool.{and_parts, and_from, or_left, or_parts, false≢true, both_ways, false_from_ne_true}
-use Rattle.std.proofs.lemmas.List.{nil_from_length}
+use Rattle.std.proofs.lemmas.Bool.{and_parts, and_from, or_left}
 use Rattle.csm_grammar.specs.declared.tag.Tag.{Tag}
 use Rattle.csm_grammar.specs.declared.tag.Tag.TheVariants.{Mcl}
 use Rattle.csm_grammar.specs.declared.form.Form.{Form}
 use Rattle.csm_grammar.specs.declared.form.Need.{Need}
 use Rattle.csm_grammar.specs.declared.form.Need.TheVariants.{Required}
-use Rattle.csm_grammar.specs.Tags.{same_tag, has_tag, count_tag, is_closing}
+use Rattle.csm_grammar.specs.Tags.{has_tag, count_tag, is_closing}
 use Rattle.csm_grammar.specs.Classes.{forms, class_text, class_forms, required, need_of, times}
-use Rattle.csm_grammar.specs.Values.{Value, AText, kind_of, value_of}
+use Rattle.csm_grammar.specs.Values.{AText}
 use Rattle.csm_grammar.specs.Spelling.{Field, tags_in, ComesAs, AreOfForm, values_in}
 use Rattle.csm_read.specs.Units.{Standing}
 use Rattle.csm_read.specs.Faults.{candidates, admits, forms_left, absent, fields_from, unclosed_fault}
-use Rattle.csm_read.specs.Judging.{contents_at, form_left}
-use Rattle.csm_grammar.proofs.TagLemmas.{find_passes, same_tags, same_itself}
+use Rattle.csm_read.specs.Judging.{form_left}
+use Rattle.csm_grammar.proofs.TagLemmas.{find_passes, same_itself}
 use Rattle.csm_read.proofs.Passing.{AllPass}
 use Rattle.csm_grammar.proofs.Counting.{count_fields, present_count, mcl_count, of_form}
 use Rattle.csm_read.proofs.Admitting.{complete_from, enough, admitted, admits_from}
 use Rattle.csm_read.proofs.Closing.{any_filtered, IsWholeForm, whole_form}
-use Rattle.csm_grammar.proofs.Slots.{count_values}
 use Rattle.csm_read.proofs.Making.{are_known, passing_known, OneCode}
 use Rattle.csm_read.proofs.Codes.{one_code}
 use Rattle.csm_read.proofs.Spelled.{faultless}
@@ -146,58 +144,3 @@ ready b done at a h =
     let pass = subst (AllPass []) e x.pass in
     ready_fields (fields_from done) pass (whole_form (fields_from done) pass (subst (λ (fs : List Field). list_any is_closing (tags_in fs) ≡ true) e x.closes))
 
--- what stands behind a tag that comes once
-pub values_at : (t : Tag) (fs : List Field) → count_tag t (tags_in fs) ≤ 1 → values_in t fs ≡ option_to_list (option_map (λ c. value_of (kind_of t) c) (contents_at t fs))
-values_at t [] h = refl
-values_at t (f ∷ fs) h = go (same_tag f.tag t) refl (λ n. values_at t fs n) where
-  go : (b : Bool) → same_tag f.tag t ≡ b → (count_tag t (tags_in fs) ≤ 1 → values_in t fs ≡ option_to_list (option_map (λ c. value_of (kind_of t) c) (contents_at t fs)))
-      → values_in t (f ∷ fs) ≡ option_to_list (option_map (λ c. value_of (kind_of t) c) (contents_at t (f ∷ fs)))
-  go true e more =
-      let n : count_tag t (tags_in (f ∷ fs)) ≡ suc (count_tag t (tags_in fs)) = rw e refl in
-      let l = count_values t fs in
-      let z : values_in t fs ≡ [] = nil_from_length _ (omega arith) in
-      rw e (λ i. value_of (kind_of (same_tags f.tag t e i)) f.contents ∷ z i)
-  go false e more =
-      let n : count_tag t (tags_in (f ∷ fs)) ≡ count_tag t (tags_in fs) = rw e refl in
-      rw e (more (omega arith))
-
--- a field more, whose tag didn't come
-pub contents_more : (t : Tag) (before : List Field) (f : Field) → has_tag f.tag (tags_in before) ≡ false → contents_at t (before ++ f ∷ []) ≡ cond (same_tag f.tag t) (Some f.contents) (contents_at t before)
-contents_more t [] f h = go (same_tag f.tag t) where
-  go : (b : Bool) → option_map (λ (g : Field). g.contents) (cond b (Some f) None) ≡ cond b (Some f.contents) None
-  go true = refl
-  go false = refl
-contents_more t (g ∷ gs) f h = go (same_tag g.tag t) refl (contents_more t gs f k.1) where
-  k : (same_tag g.tag f.tag ≡ false) × (has_tag f.tag (tags_in gs) ≡ false)
-  k = or_parts _ _ h
-
-  go : (b : Bool) → same_tag g.tag t ≡ b → contents_at t (gs ++ f ∷ []) ≡ cond (same_tag f.tag t) (Some f.contents) (contents_at t gs)
-      → option_map (λ (x : Field). x.contents) (cond b (Some g) (find (λ (x : Field). same_tag x.tag t) (gs ++ f ∷ []))) ≡ cond (same_tag f.tag t) (Some f.contents) (option_map (λ (x : Field). x.contents) (cond b (Some g) (find (λ (x : Field). same_tag x.tag t) gs)))
-  go true e more =
-      let o : same_tag f.tag t ≡ false = false_from_ne_true _ (λ i. both_ways (same_tag g.tag f.tag) k.0 (subst (λ (s : Tag). same_tag g.tag s ≡ true) (sym (same_tags f.tag t i)) e)) in
-      rw o refl
-  go false e more = more
-
-pub contents_present : (t : Tag) (fs : List Field) → is_some (contents_at t fs) ≡ has_tag t (tags_in fs)
-contents_present t [] = refl
-contents_present t (f ∷ fs) = go (same_tag f.tag t) (contents_present t fs) where
-  go : (b : Bool) → is_some (contents_at t fs) ≡ has_tag t (tags_in fs) → is_some (option_map (λ (x : Field). x.contents) (cond b (Some f) (find (λ (x : Field). same_tag x.tag t) fs))) ≡ (b || has_tag t (tags_in fs))
-  go true more = refl
-  go false more = more
-
--- contents behind a tag of known fields stand for a value
-pub contents_known : (t : Tag) (fs : List Field) (c : List ℕ) → are_known fs ≡ true → contents_at t fs ≡ Some c → (v : Value) × (value_of (kind_of t) c ≡ Some v)
-contents_known t [] c k h = absurd cc
-contents_known t (f ∷ fs) c k h = go (same_tag f.tag t) refl h (λ i. contents_known t fs c j.1 i) where
-  j : (is_some (value_of (kind_of f.tag) f.contents) ≡ true) × (are_known fs ≡ true)
-  j = and_parts _ _ k
-
-  some : (o : Option Value) → is_some o ≡ true → (v : Value) × (o ≡ Some v)
-  some None i = absurd (false≢true i)
-  some (Some v) i = (v, refl)
-
-  go : (b : Bool) → same_tag f.tag t ≡ b → option_map (λ (x : Field). x.contents) (cond b (Some f) (find (λ (x : Field). same_tag x.tag t) fs)) ≡ Some c → (contents_at t fs ≡ Some c → (v : Value) × (value_of (kind_of t) c ≡ Some v)) → (v : Value) × (value_of (kind_of t) c ≡ Some v)
-  go true e i more =
-      let x : f.contents ≡ c = cc in
-      some (value_of (kind_of t) c) (subst (λ (d : List ℕ). is_some (value_of (kind_of t) d) ≡ true) x (subst (λ (s : Tag). is_some (value_of (kind_of s) f.contents) ≡ true) (same_tags f.tag t e) j.0))
-  go false e i more = more i

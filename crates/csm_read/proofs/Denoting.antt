@@ -4,7 +4,7 @@ use Rattle.std.specs.Prelude.{not, ◌||◌, option_map, option_and_then, is_som
 use Rattle.std.specs.Option.{SomeIff}
 use Rattle.std.specs.Borrow.{Bor}
 use Rattle.x_base.specs.Count.{IsCount}
-use Rattle.std.proofs.lemmas.Bool.{cases_Bool, or_parts, eqb-true, eqb-false, not-true, true≢false, false≢true, both_ways}
+use Rattle.std.proofs.lemmas.Bool.{cases_Bool, or_parts, eqb-true, eqb-false, not-true, true≢false, false≢true}
 use Rattle.csm_grammar.specs.declared.tag.Tag.{Tag}
 use Rattle.csm_grammar.specs.Tags.{tag_place, same_tag}
 use Rattle.csm_grammar.specs.Values.{Value, AText, AName, AService, ANumber, APair, Kind, OfClass, OfIdent, OfService, OfName, OfLabel, OfPair, OfKey, OfCount, OfReason, OfText, OfCode, Unsupported, kind_of, value_of}
@@ -68,19 +68,6 @@ count_same (Some y) n x h e = (let same : x ≡ y = cc in same ∙ h.1)
 
 none_came : (t : Tag) → came (replicate 28 None) t ≡ false
 none_came t = not-true _ (each_tag (λ s. not (came (replicate 28 None) s)) refl t)
-
-came_at : (slots : List (Option (Bor (List ℕ)))) (t : Tag) (v : Value) → value_at slots t ≡ Some v → came slots t ≡ true
-came_at slots t v h = go (slot_in slots t) h
-  where
-    go : (o : Option (List ℕ)) → option_and_then (value_of (kind_of t)) o ≡ Some v → is_some o ≡ true
-    go None i = absurd (cc)
-    go (Some c) i = refl
-
-pub none_denoted : (numbers : List ℕ) → AreDenoted (replicate 28 None) numbers
-none_denoted numbers = record {
-  tags = λ t n h. absurd (both_ways _ (none_came t) (came_at (replicate 28 None) t (ANumber n) h));
-  second = λ n h. absurd (let none : None ≡ Some (ANumber n) = h in cc);
-}
 
 slot_cleared : (slots : List (Option (Bor (List ℕ)))) (tag : Tag) (t : Tag) → length slots ≡ 28 → slot_in (set slots (tag_place tag) None) t ≡ (if same_tag tag t then None else slot_in slots t)
 slot_cleared slots tag t h =

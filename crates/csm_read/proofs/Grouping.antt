@@ -1,5 +1,5 @@
 -- A text that holds `)` is spelled of its tokens.
-use Rattle.std.proofs.Common.{◌≡◌, ℕ, ◌+◌, Bool, true, false, cond, List, [], ◌∷◌, ◌++◌, length, Some, None, refl, sym, ◌∙◌, ap, subst, append_assoc, inl, inr}
+use Rattle.std.proofs.Common.{◌≡◌, ℕ, ◌+◌, Bool, true, false, cond, List, [], ◌∷◌, ◌++◌, length, Some, refl, sym, ◌∙◌, ap, subst, append_assoc, inl, inr}
 use Rattle.std.specs.Prelude.{◌&&◌, ◌||◌, ◌==◌, not}
 use Rattle.std.specs.List.{list_all, list_any, flat_map}
 use Rattle.std.proofs.lemmas.Bool.{eqb-true, and_parts, and_from, and_right, not-true}
@@ -27,13 +27,6 @@ end_from_place [] q h = absurd cc
 end_from_place (s ∷ ss) q h = go (s.end == 41) (λ i. end_from_place ss q i) h where
   go : (b : Bool) → (end_place ss ≡ Some q → is_close ss ≡ true) → cond b (Some (s.place + length s.text)) (end_place ss) ≡ Some q → (b || is_close ss) ≡ true
   go true more i = refl
-  go false more i = more i
-
-pub place_from_none : (ss : List Stretch) → end_place ss ≡ None → is_close ss ≡ false
-place_from_none [] h = refl
-place_from_none (s ∷ ss) h = go (s.end == 41) (λ i. place_from_none ss i) h where
-  go : (b : Bool) → (end_place ss ≡ None → is_close ss ≡ false) → cond b (Some (s.place + length s.text)) (end_place ss) ≡ None → (b || is_close ss) ≡ false
-  go true more i = absurd cc
   go false more i = more i
 
 -- a text whose stretches are those, and what stands behind `)`

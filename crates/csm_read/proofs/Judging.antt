@@ -1,7 +1,7 @@
 -- The steps of judging a text.
-use Rattle.std.proofs.Common.{◌≡◌, ◌≢◌, ℕ, ◌+◌, true, false, cond, List, [], ◌∷◌, ◌++◌, length, take, drop, Option, Some, None, refl, sym, ◌∙◌, ap, subst, append_assoc, arith, length-append}
-use Rattle.std.specs.Prelude.{◌==◌, ◌&&◌, option_to_list}
-use Rattle.std.proofs.lemmas.Bool.{and_from, and_right}
+use Rattle.std.proofs.Common.{◌≡◌, ℕ, ◌+◌, true, false, List, [], ◌∷◌, ◌++◌, length, take, drop, Option, Some, None, refl, sym, ◌∙◌, ap, subst, append_assoc, arith}
+use Rattle.std.specs.Prelude.{option_to_list}
+use Rattle.std.proofs.lemmas.Bool.{and_right}
 use Rattle.std.proofs.lemmas.List.{append-nil, drop-drop, drop_at}
 use Rattle.std.proofs.lemmas.List.Elements.{filter_map-append}
 use Rattle.csm_grammar.specs.declared.message.Message.{Message}
@@ -10,12 +10,12 @@ use Rattle.csm_grammar.specs.declared.refusal.ReadRefusal.{ReadRefusal}
 use Rattle.csm_grammar.specs.Values.{is_hex}
 use Rattle.csm_grammar.specs.Messages.{form_of}
 use Rattle.csm_grammar.specs.Spelling.{AreSeparators, Field, AreOfForm, StandFor}
-use Rattle.csm_read.specs.Units.{Stretch, Standing, stretches, end_place, is_half, waits, put, units, stretches_of, units_of}
+use Rattle.csm_read.specs.Units.{Stretch, Standing, stretches, end_place, waits, put, units, stretches_of, units_of}
 use Rattle.csm_read.specs.Faults.{or_else, field_of, fault_of, fields_from, front_fault, first_fault, unclosed_fault, endless_fault, fault_of_text}
-use Rattle.csm_read.specs.Judging.{ArePlain, IsEnd, stretches_from, Judged, IsNext, last_place}
+use Rattle.csm_read.specs.Judging.{stretches_from, Judged, IsNext, last_place}
 use Rattle.csm_grammar.specs.Reading.{IsRead}
-use Rattle.csm_read.proofs.Stretching.{stretch, standing, stretch_separator, stretch_closed, stretch_end, stretch_token, stretch_none, unit_empty, unit_not_waiting, gap_units, gap_end}
-use Rattle.csm_read.proofs.Tokens.{hex_plain, put_filled, joined, no_units}
+use Rattle.csm_read.proofs.Stretching.{stretch_closed, unit_empty, gap_units, gap_end}
+use Rattle.csm_read.proofs.Tokens.{no_units}
 use Rattle.csm_read.proofs.Passing.{no_fault, fault_more}
 use Rattle.csm_read.proofs.Kept.{kept}
 use Rattle.csm_read.proofs.Spelled.{faultless}
@@ -70,71 +70,9 @@ behind_gap : (w gap rest : List ℕ) (place : ℕ) → drop place w ≡ gap ++ r
 behind_gap w gap rest place h s =
     (ap (λ (x : List ℕ). units (stretches place x)) h ∙ gap_units place gap rest s, ap (λ (x : List ℕ). end_place (stretches place x)) h ∙ gap_end place gap rest s)
 
--- separators, a token, and what ends it: not half a code and a blank
-pub next_token : (b : List ℕ) (place : ℕ) (gap t : List ℕ) (e : ℕ) (rest : List ℕ) → drop place (take 1024 b) ≡ gap ++ (t ++ e ∷ rest) → AreSeparators gap → ArePlain t → t ≢ [] → IsEnd e → (is_half t && (e == 32)) ≡ false
-    → IsNext b place (standing (place + length gap) t) (place + length gap + length t)
-next_token b place gap t e rest h s p f i w =
-    let q = place + length gap in
-    let r = q + length t in
-    let g = behind_gap (take 1024 b) gap (t ++ e ∷ rest) place h s in
-    let a = behind (take 1024 b) gap (t ++ e ∷ rest) place h in
-    let d : drop r (take 1024 b) ≡ e ∷ rest = behind (take 1024 b) t (e ∷ rest) q a in
-    let x = stretch_end r e rest i in
-    let k = stretch_token q r e t rest x.0 p refl x.1 in
-    let after : stretches r (drop r (take 1024 b)) ≡ stretch r [] e ∷ x.0 = ap (stretches r) d ∙ x.1 in
-    record {
-      units_are = g.0 ∙ ap units k ∙ unit_not_waiting (stretch q t e) x.0 w ∙ put_filled q e t (units x.0) f ∙ ap (λ (us : List Standing). standing q t ∷ us) (sym (ap units after ∙ unit_empty r e x.0));
-      shut = g.1 ∙ ap end_place k ∙ ap (λ (n : ℕ). cond (e == 41) (Some n) (end_place x.0)) (let l : q + length t ≡ r + 0 = omega arith in l) ∙ ap end_place (sym after);
-    }
-
--- separators, the two halves of a code, and what ends them
-pub next_halves : (b : List ℕ) (place : ℕ) (gap first second : List ℕ) (e : ℕ) (rest : List ℕ) → drop place (take 1024 b) ≡ gap ++ (first ++ 32 ∷ (second ++ e ∷ rest)) → AreSeparators gap → ArePlain first → is_half first ≡ true → is_hex 4 second ≡ true → IsEnd e
-    → IsNext b place (standing (place + length gap) (first ++ 32 ∷ second)) (place + length gap + length (first ++ 32 ∷ second))
-next_halves b place gap first second e rest h s p f d i =
-    let q = place + length gap in
-    let t = first ++ 32 ∷ second in
-    let r = q + length t in
-    let l = length-append first (32 ∷ second) in
-    let whole : drop place (take 1024 b) ≡ gap ++ (t ++ e ∷ rest) = h ∙ ap (λ (x : List ℕ). gap ++ x) (sym (append_assoc first (32 ∷ second) (e ∷ rest))) in
-    let g = behind_gap (take 1024 b) gap (first ++ 32 ∷ (second ++ e ∷ rest)) place h s in
-    let a = behind (take 1024 b) gap (t ++ e ∷ rest) place whole in
-    let z : drop r (take 1024 b) ≡ e ∷ rest = behind (take 1024 b) t (e ∷ rest) q a in
-    let x = stretch_end r e rest i in
-    let after : stretches r (drop r (take 1024 b)) ≡ stretch r [] e ∷ x.0 = ap (stretches r) z ∙ x.1 in
-    let j : r ≡ q + length first + 1 + length second = omega arith in
-    let k2 = stretch_token (q + length first + 1) r e second rest x.0 (hex_plain 4 second d) j x.1 in
-    let k1 = stretch_token q (q + length first) 32 first (second ++ e ∷ rest) (stretches (q + length first + 1) (second ++ e ∷ rest)) p refl (stretch_separator (q + length first) 32 (second ++ e ∷ rest) refl)
-    ∙ ap (λ (ss : List Stretch). stretch q first 32 ∷ ss) k2 in
-    record {
-      units_are = g.0 ∙ ap units k1 ∙ joined q (q + length first + 1) e first second x.0 f d ∙ ap (λ (us : List Standing). standing q t ∷ us) (sym (ap units after ∙ unit_empty r e x.0));
-      shut = g.1 ∙ ap end_place k1 ∙ ap (λ (n : ℕ). cond (e == 41) (Some n) (end_place x.0)) (let m : q + length first + 1 + length second ≡ r + 0 = omega arith in m) ∙ ap end_place (sym after);
-    }
-
 alone : (s t : Stretch) (ss : List Stretch) → is_hex 4 t.text ≡ false → units (s ∷ t ∷ ss) ≡ put s (units (t ∷ ss))
 unfolding units
 alone s t ss h = rw (and_right (waits s) _ h) refl
-
--- separators, half a code, one blank, and something else than four digits up to what ends it
-pub next_alone : (b : List ℕ) (place : ℕ) (gap first other : List ℕ) (e : ℕ) (rest : List ℕ) → drop place (take 1024 b) ≡ gap ++ (first ++ 32 ∷ (other ++ e ∷ rest)) → AreSeparators gap → ArePlain first → first ≢ [] → ArePlain other → is_hex 4 other ≡ false → IsEnd e
-    → IsNext b place (standing (place + length gap) first) (place + length gap + length first)
-next_alone b place gap first other e rest h s p f o d i =
-    let q = place + length gap in
-    let r = q + length first in
-    let g = behind_gap (take 1024 b) gap (first ++ 32 ∷ (other ++ e ∷ rest)) place h s in
-    let a = behind (take 1024 b) gap (first ++ 32 ∷ (other ++ e ∷ rest)) place h in
-    let z : drop r (take 1024 b) ≡ 32 ∷ (other ++ e ∷ rest) = behind (take 1024 b) first (32 ∷ (other ++ e ∷ rest)) q a in
-    let x = stretch_end (r + 1 + length other) e rest i in
-    let k2 = stretch_token (r + 1) (r + 1 + length other) e other rest x.0 o refl x.1 in
-    let blank = stretch_separator r 32 (other ++ e ∷ rest) refl in
-    let k1 = stretch_token q r 32 first (other ++ e ∷ rest) (stretches (r + 1) (other ++ e ∷ rest)) p refl blank in
-    let after = ap (stretches r) z ∙ blank in
-    let us = stretches (r + 1) (other ++ e ∷ rest) in
-    let k3 : units (stretch q first 32 ∷ us) ≡ put (stretch q first 32) (units us) =
-    ap (λ (ss : List Stretch). units (stretch q first 32 ∷ ss)) k2 ∙ alone (stretch q first 32) (stretch (r + 1) other e) x.0 d ∙ ap (λ (ss : List Stretch). put (stretch q first 32) (units ss)) (sym k2) in
-    record {
-      units_are = g.0 ∙ ap units k1 ∙ k3 ∙ put_filled q 32 first (units us) f ∙ ap (λ (vs : List Standing). standing q first ∷ vs) (sym (ap units after ∙ unit_empty r 32 us));
-      shut = g.1 ∙ ap end_place k1 ∙ ap end_place (sym after);
-    }
 
 -- where `)` stands
 pub record AtEnd (b : List ℕ) (done : List Standing) (at : ℕ) : Type 0 where
@@ -192,21 +130,7 @@ endless b place done j u s =
     let none : end_place (stretches_of b) ≡ None = j.shut ∙ s in
     rw (j.front, tokens, none) refl
 
--- separators, and bytes that nothing ends
-pub end_refused : (b : List ℕ) (place : ℕ) (done : List Standing) (gap t : List ℕ) → Judged b place done → drop place (take 1024 b) ≡ gap ++ t → AreSeparators gap → ArePlain t → fault_of_text b ≡ Some (endless_fault (length b))
-end_refused b place done gap t j h s p =
-    let g = behind_gap (take 1024 b) gap t place h s in
-    let k = stretch_none (place + length gap) t p in
-    endless b place done j (g.0 ∙ ap units k ∙ no_units) (g.1 ∙ ap end_place k)
-
 waiting : (s : Stretch) → waits s ≡ true → units (s ∷ []) ≡ []
 unfolding units
 waiting s h = rw h refl
 
--- separators, half a code, one blank, and bytes that nothing ends
-pub half_refused : (b : List ℕ) (place : ℕ) (done : List Standing) (gap first t : List ℕ) → Judged b place done → drop place (take 1024 b) ≡ gap ++ (first ++ 32 ∷ t) → AreSeparators gap → ArePlain first → is_half first ≡ true → ArePlain t → fault_of_text b ≡ Some (endless_fault (length b))
-half_refused b place done gap first t j h s p f n =
-    let q = place + length gap in
-    let g = behind_gap (take 1024 b) gap (first ++ 32 ∷ t) place h s in
-    let k = stretch_token q (q + length first) 32 first t (stretches (q + length first + 1) t) p refl (stretch_separator (q + length first) 32 t refl) ∙ ap (λ (ss : List Stretch). stretch q first 32 ∷ ss) (stretch_none (q + length first + 1) t n) in
-    endless b place done j (g.0 ∙ ap units k ∙ waiting (stretch q first 32) (and_from _ _ f refl)) (g.1 ∙ ap end_place k)

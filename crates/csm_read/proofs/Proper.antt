@@ -62,9 +62,6 @@ or_not : (a b : Bool) → (not a || b) ≡ true → a ≡ true → b ≡ true
 or_not true b h e = h
 or_not false b h e = absurd (false≢true e)
 
-pub required_is_open : (g : Form) (t : Tag) → has_tag t (Mcl ∷ required g) ≡ true → is_closing t ≡ false
-required_is_open g t h = not-true _ (or_not _ _ (required_open g t) h)
-
 -- fields and a code that are those of a form
 pub record IsProper (g : Form) (gs : List Field) (c : Field) : Type 0 where
   pub tags : AreOfForm g (gs ++ c ∷ [])

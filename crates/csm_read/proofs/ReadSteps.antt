@@ -3,7 +3,7 @@ use Rattle.std.proofs.Common.{◌≡◌, ◌≢◌, ℕ, ◌+◌, ◌<◌, ◌�
 use Rattle.std.specs.Prelude.{◌⊎◌, ◌==◌, codes, option_to_list}
 use Rattle.std.specs.Borrow.{Bor}
 use Rattle.std.proofs.Math.Seq.{drop-cons}
-use Rattle.std.proofs.lemmas.Bool.{eqb-true, eq-eqb, ne_eqb, not-false, or_cases}
+use Rattle.std.proofs.lemmas.Bool.{eqb-true, eq-eqb, not-false, or_cases}
 use Rattle.std.proofs.lemmas.List.{length-take, length-drop, drop-drop, get_or-drop, nil_from_length}
 use Rattle.csm_grammar.specs.declared.parsed.Parsed.{Parsed}
 use Rattle.csm_grammar.specs.declared.refusal.ReadRefusal.{ReadRefusal}
@@ -33,14 +33,6 @@ use Rattle.csm_read.proofs.Sole.{sole}
 cons_at : (s : List ℕ) (i : ℕ) → i < length s → drop i s ≡ get_or s i 0 ∷ drop (i + 1) s
 cons_at s i h = rw (add-one, drop-cons s i 0) refl
 
--- the front, byte by byte
-pub front_begins : (b : List ℕ) → length b ≢ 0 → front_fault b ≡ differs 0 (drop 0 b) (drop 0 (codes "CSM("))
-front_begins [] h = absurd (h refl)
-front_begins (x ∷ xs) h = refl
-
-differs_here : (i b w : ℕ) (bs ws : List ℕ) → (b ≡ w → ⊥) → differs i (b ∷ bs) (w ∷ ws) ≡ Some (refusal.NotCsm i)
-differs_here i b w bs ws h = rw (ne_eqb b w h) refl
-
 differs_later : (i b w : ℕ) (bs ws : List ℕ) → b ≡ w → differs i (b ∷ bs) (w ∷ ws) ≡ differs (i + 1) bs ws
 differs_later i b w bs ws h = rw (eq-eqb b w h) refl
 
@@ -50,9 +42,6 @@ differs_end i (w ∷ ws) = refl
 
 pub front_short : (b : List ℕ) (i : ℕ) (ws : List ℕ) → length b ≤ i → front_fault b ≡ differs i (drop i b) ws → front_fault b ≡ None
 front_short b i ws h e = e ∙ ap (λ (x : List ℕ). differs i x ws) (nil_from_length (drop i b) (let k = length-drop i b in omega arith)) ∙ differs_end i ws
-
-pub front_bad : (b ws : List ℕ) (i : ℕ) → i < length b → i < length ws → (get_or b i 0 ≡ get_or ws i 0 → ⊥) → front_fault b ≡ differs i (drop i b) (drop i ws) → front_fault b ≡ Some (refusal.NotCsm i)
-front_bad b ws i h k n e = e ∙ rw (cons_at b i h, cons_at ws i k) (differs_here i (get_or b i 0) (get_or ws i 0) (drop (i + 1) b) (drop (i + 1) ws) n)
 
 pub front_more : (b ws : List ℕ) (i : ℕ) → i < length b → i < length ws → get_or b i 0 ≡ get_or ws i 0 → front_fault b ≡ differs i (drop i b) (drop i ws) → front_fault b ≡ differs (i + 1) (drop (i + 1) b) (drop (i + 1) ws)
 front_more b ws i h k n e = e ∙ rw (cons_at b i h, cons_at ws i k) (differs_later i (get_or b i 0) (get_or ws i 0) (drop (i + 1) b) (drop (i + 1) ws) n)
@@ -169,9 +158,6 @@ short_answer b h k =
     let e : drop 4 (take 1024 b) ≡ [] = nil_from_length _ (let z = length-drop 4 (take 1024 b) in omega arith) in
     let s : stretches_from 4 b ≡ [] = ap (stretches 4) e ∙ no_stretches in
     endless_from b 4 [] (begin b h) (ap units s ∙ no_units) (ap end_place s)
-
-pub reading_begins : (b : List ℕ) (slots : List (Option (Bor (List ℕ)))) (left : ℕ) → front_fault b ≡ None → 4 ≤ length (take 1024 b) → Keeps slots left [] → IsReading b 4 0 slots left
-reading_begins b slots left h k s = record { done = []; judged = begin b h; keeps = s; last_is = refl; within = k }
 
 -- the clauses of reading
 pub found_clause : (b : List ℕ) (r : Result Parsed ReadRefusal) → IsAnswer b r → Found b r

@@ -41,9 +41,6 @@ is_name n = (nat_le 1 (length n) && nat_le (length n) 4) && list_all is_tag_byte
 abbrev slash_in : List ℕ → Bool
 slash_in t = list_any (λ b. b == 47) t
 
-pub no_slash_fault : (fs : List Field) (place : ℕ) (text : List ℕ) → slash_in text ≡ false → fault_of fs (record { place = place; text = text }) ≡ Some (refusal.BadTag place)
-no_slash_fault fs place text h = rw h refl
-
 pub unnamed_fault : (fs : List Field) (place : ℕ) (text name : List ℕ) (r : ReadRefusal) → slash_in text ≡ true → name ≡ tag_text text → None ≡ tag_of name → r ≡ (if is_name name then refusal.UnknownTag place else refusal.BadTag place) → fault_of fs (record { place = place; text = text }) ≡ Some r
 unnamed_fault fs place text name r h e n k = elim (cases_Bool (is_name (tag_text text))) [
   | inl g ↦ (let m : None ≡ tag_of (tag_text text) = n ∙ ap tag_of e in let q : r ≡ refusal.UnknownTag place = k ∙ ap (λ (x : List ℕ). if is_name x then refusal.UnknownTag place else refusal.BadTag place) e ∙ rw g refl in rw (h, g, ← m, q) refl)

@@ -1,8 +1,8 @@
-ghost use Rattle.std.specs.Prelude.{◌≡◌, ◌∷◌, [], nat_lt, ◌||◌, ◌&&◌, List, length, slice_index_or, option_map, is_some, is_none, find, if◌then◌else◌};
+ghost use Rattle.std.specs.Prelude.{◌≡◌, [], nat_lt, ◌||◌, ◌&&◌, length, slice_index_or, option_map, is_some, is_none, find, if◌then◌else◌};
 ghost use Rattle.std.specs.List.{filter, list_any};
 ghost use Rattle.csm_grammar.specs.declared.tag.Tag.{Tag};
 ghost use Rattle.csm_grammar.specs.declared.tag.Tag.TheVariants.{Mcl, Kd, Mac, Edc};
-ghost use Rattle.csm_grammar.specs.Tags.{tag_place, same_tag, is_closing, is_unsupported};
+ghost use Rattle.csm_grammar.specs.Tags.{tag_place, same_tag};
 ghost use Rattle.csm_grammar.specs.Classes.{forms, class_forms, required, times};
 ghost use Rattle.csm_grammar.specs.FormSets.{forms_in, has_form};
 ghost use Rattle.csm_grammar.specs.Values.{kind_of, value_of};

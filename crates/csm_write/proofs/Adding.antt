@@ -1,10 +1,10 @@
 -- Fields appended one after another.
-use Rattle.std.proofs.Common.{◌≡◌, ℕ, List, [], ◌∷◌, ◌++◌, map, Result, Ok, Err, sym, ◌∙◌, ap, append_assoc}
+use Rattle.std.proofs.Common.{◌≡◌, ℕ, List, [], ◌++◌, map, Result, Ok, Err, sym, ◌∙◌, ap, append_assoc}
 use Rattle.std.specs.Prelude.{codes, OnOk}
 use Rattle.std.specs.List.{flat_map}
 use Rattle.std.proofs.lemmas.List.{append-nil, map-append}
 use Rattle.std.proofs.lemmas.List.Concat.{flat_map-append}
-use Rattle.std.proofs.lemmas.List.Elements.{All-nil, All-cons, All-append}
+use Rattle.std.proofs.lemmas.List.Elements.{All-nil, All-append}
 use Rattle.x_base.specs.declared.text.NoMemory.{NoMemory}
 use Rattle.csm_grammar.specs.Messages.{Valued}
 use Rattle.csm_grammar.specs.Spelling.{Field, field_text}
@@ -18,12 +18,6 @@ blank_fields_append vs ws =
 
 pub adds_none : (xs : List ℕ) → Adds xs xs []
 adds_none xs = record { text = sym (append-nil xs); typed = All-nil IsTypedField }
-
-pub adds_one : (old new : List ℕ) (v : Valued) → new ≡ old ++ (field_text (field_for v) ++ codes " ") → IsTypedField v → Adds old new (v ∷ [])
-adds_one old new v h t = record {
-  text = h ∙ ap (λ (xs : List ℕ). old ++ xs) (sym (append-nil (field_text (field_for v) ++ codes " ")));
-  typed = All-cons IsTypedField v [] t (All-nil IsTypedField);
-}
 
 adds_more : (a b c : List ℕ) (vs ws : List Valued) → Adds a b vs → Adds b c ws → Adds a c (vs ++ ws)
 adds_more a b c vs ws g h = record {

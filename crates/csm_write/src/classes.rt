@@ -1,12 +1,12 @@
 // The fields of a message in the writer's order, by class.
-ghost use Rattle.std.specs.Prelude.{◌≡◌, ◌++◌, ◌∷◌, [], ℕ, codes, OnOk};
+ghost use Rattle.std.specs.Prelude.{◌≡◌, ◌++◌, [], ℕ, codes, OnOk};
 ghost use Rattle.csm_grammar.specs.declared.tag.Tag.TheVariants.{Mcl, Idk1, Kd, Cta};
 ghost use Rattle.csm_grammar.specs.declared.message.Message.TheVariants as messages;
 ghost use Rattle.csm_grammar.specs.declared.message.KsmBody.TheVariants as bodies;
 ghost use Rattle.csm_grammar.specs.Classes.{class_text};
 ghost use Rattle.csm_grammar.specs.Values.Value.{AText, ANumber};
 ghost use Rattle.csm_grammar.specs.Messages.{form_of, fields_of, body_fields, extra_fields, new_fields, parties, if_any};
-ghost use Rattle.csm_grammar.specs.Spelling.{Field, field_text};
+ghost use Rattle.csm_grammar.specs.Spelling.{field_text};
 ghost use Rattle.csm_write.specs.Writing.{Adds};
 
 use crate::writer::Writer;

@@ -1,6 +1,6 @@
 // A field that is put together before it goes into a text.
 ghost use Rattle.std.specs.Prelude.{◌≡◌, ◌≤◌, ◌+◌, ◌++◌, [], length};
-ghost use Rattle.csm_grammar.specs.Spelling.{Field, field_text};
+ghost use Rattle.csm_grammar.specs.Spelling.{field_text};
 
 use csm_grammar::Tag;
 use std::marker::Model;

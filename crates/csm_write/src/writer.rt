@@ -5,8 +5,8 @@ ghost use Rattle.csm_grammar.specs.declared.tag.Tag.TheVariants.{Svr, DoubleKk, 
 ghost use Rattle.csm_grammar.specs.Values.{kind_of, service_text};
 ghost use Rattle.csm_grammar.specs.Values.Value.{AText, AName, AService, ANumber, APair};
 ghost use Rattle.csm_grammar.specs.Values.Kind.{OfIdent, OfName, OfLabel, OfKey, OfCount, OfText};
-ghost use Rattle.csm_grammar.specs.Messages.{valued, shut_field, if_any};
-ghost use Rattle.csm_grammar.specs.Spelling.{Field, field_text};
+ghost use Rattle.csm_grammar.specs.Messages.{valued, shut_field};
+ghost use Rattle.csm_grammar.specs.Spelling.{field_text};
 ghost use Rattle.csm_write.specs.Canon.{field_for, code_digits};
 ghost use Rattle.csm_write.specs.Writable.{IsTypedField};
 ghost use Rattle.x_base.specs.KeyName.{IsKeyName};

@@ -1,5 +1,5 @@
 // A disk with a journal.
-ghost use Rattle.std.specs.Prelude.{◌≡◌, IfOk};
+ghost use Rattle.std.specs.Prelude.{IfOk};
 ghost use Rattle.key_journal.specs.States.{IsFrame};
 
 use crate::hand::disk_order;

@@ -40,12 +40,6 @@ blank_gate (x ∷ b) (y ∷ c) not_open same =
 pub short_blank : (c : List ℕ) → length c ≤ 1 → is_blank c ≡ true
 short_blank c short = grind (arith, nat_tests)
 
-pub closed_blank : (c : List ℕ) → 1 ≤ length c → is_blank c ≡ true → 2 ≤ length c → HasClosedGate c
-closed_blank c some is long = record { some = some; closed = λ one. by_first (length c) (get_or c 0 0) long one is }
-  where
-    by_first : (n y : ℕ) → 2 ≤ n → y ≡ 1 → nat_le n 1 || not (y == 1) ≡ true → ⊥
-    by_first n y long one is = grind (arith, nat_tests)
-
 -- prepare, on a file of at most one byte
 pub closed_written : (old new : View) (size : ℕ) → IsDurable new → IsWritten 0 (0 ∷ []) old new → is_some new.now ≡ is_some old.now → IsEmpty new
 closed_written old new size durable written tells = record {

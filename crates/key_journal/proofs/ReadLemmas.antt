@@ -270,8 +270,3 @@ judged_same image front gate end size long within is enough =
     lt_true : (a b : ℕ) → a < b → nat_lt a b ≡ true
     lt_true a b lt = grind (arith, nat_tests)
 
-pub judged_past : (image : List ℕ) (gate end : ℕ) → length image ≤ gate → judged_at image gate end ≡ kind.Closed
-judged_past image gate end past = ap (λ (t : Bool). judged_by t (get_or image gate 0) (stated image gate) gate end (length image)) (lt_false gate (length image) past)
-  where
-    lt_false : (a b : ℕ) → b ≤ a → nat_lt a b ≡ false
-    lt_false a b le = grind (arith, nat_tests)

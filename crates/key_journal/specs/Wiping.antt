@@ -1,5 +1,5 @@
 -- Wiping: what doesn't count of a journal's file becomes zeros (this project's profile).
-use Rattle.std.specs.Prelude.{◌≡◌, ◌⊎◌, ℕ, ◌+◌, ◌-◌, ◌<◌, ◌≤◌, List, length, slice_index, Some, is_some, Result, IfOk, IfErr, OnOk}
+use Rattle.std.specs.Prelude.{◌≡◌, ◌⊎◌, ℕ, ◌-◌, ◌<◌, ◌≤◌, List, length, slice_index, Some, is_some, Result, IfOk, IfErr, OnOk}
 use Rattle.x_disk.specs.Disk.{View, IsDurable, LeavesOnly, disk_size}
 use Rattle.x_disk.specs.declared.disk.DiskErr.{DiskErr}
 use Rattle.key_journal.specs.Layout.{first_start}

@@ -62,7 +62,6 @@ pub fn open_disk<D: Disk>(disk: D) -> Result<Opened<D>, Unmade<D>>
 }
 
 impl<D: Disk> Broken<D> {
-    ghost use Rattle.key_journal.specs.Results.{opened_disk};
 
     /// Opens the journal anew: `open_disk` over its disk.
     pub fn reopen(self) -> Result<Opened<D>, Unmade<D>>

@@ -52,7 +52,6 @@ impl<D: Disk> Model for Staged<D> {
 }
 
 impl<D: Disk> Ready<D> {
-    ghost use Rattle.key_journal.specs.Results.{staged_disk, ready_disk};
     ghost use Rattle.key_journal.specs.States.{IsReady};
 
     pub(crate) fn new(disk: D, gate: u64, end: u64) -> Ready<D>
@@ -160,7 +159,6 @@ impl<D: Disk> Ready<D> {
 }
 
 impl<D: Disk> Staged<D> {
-    ghost use Rattle.key_journal.specs.Results.{ready_disk};
 
     /// Opens the gate and syncs: from `Ok` on, the new body counts. Takes no memory itself.
     pub fn commit(self) -> Result<Ready<D>, Broken<D>>

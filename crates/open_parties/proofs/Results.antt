@@ -1,14 +1,10 @@
 -- What holds of an answer, or of what may be there, made weaker.
-use Rattle.std.proofs.Common.{◌≡◌, Result, Ok, Err, IfOk, IfErr, OnOk, OnErr, Option, Some, None, IfSome, IfNone, subst}
+use Rattle.std.proofs.Common.{◌≡◌, Result, Ok, Err, IfOk, IfErr, OnErr, Option, Some, None, IfSome, IfNone, subst}
 use Rattle.std.specs.Result.{IsErrAnd}
 
 pub if_ok : {T E : Type 0} (r : Result T E) (P Q : T → Type 0) → ((x : T) → P x → Q x) → IfOk r P → IfOk r Q
 if_ok (Ok x) P Q more is = more x is
 if_ok (Err e) P Q more is = tt
-
-pub on_ok : {T E : Type 0} (r : Result T E) (P Q : Type 0) → (P → Q) → OnOk r P → OnOk r Q
-on_ok (Ok x) P Q more is = more is
-on_ok (Err e) P Q more is = tt
 
 pub if_some : {T : Type 0} (o : Option T) (P Q : T → Type 0) → ((x : T) → P x → Q x) → IfSome o P → IfSome o Q
 if_some (Some x) P Q more is = more x is

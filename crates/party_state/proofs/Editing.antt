@@ -1,6 +1,6 @@
 -- What lists of edits make of a party, and what stays true of every party.
 use Rattle.std.proofs.Common.{◌≡◌, ℕ, not, List, [], ◌∷◌, ◌++◌, refl, bytes_eq}
-use Rattle.std.proofs.lemmas.List.Elements.{All-nil, All-filter, All-head, All-tail, All-push}
+use Rattle.std.proofs.lemmas.List.Elements.{All-nil, All-filter, All-head, All-tail}
 use Rattle.x_base.specs.Names.{IsIdent}
 use Rattle.x_base.specs.declared.party.Role.{Role}
 use Rattle.x_gen.specs.declared.generator.Gen.{Gen}
@@ -11,7 +11,7 @@ use Rattle.party_tables.specs.Keys.{same_link, same_record, same_answer, link_ke
 use Rattle.party_tables.specs.Statuses.{is_ended}
 use Rattle.party_state.specs.State.{Party, begun, apply_edit, apply}
 use Rattle.party_tables.specs.Ranges.{IsLink, IsRecord, IsExchange, IsCentreAnswer}
-use Rattle.party_state.specs.Ranges.{IsGen, InRange, AreInRange, IsFitting, AreFitting, IsNoBegin, HasNoBegin, IsParty}
+use Rattle.party_state.specs.Ranges.{IsGen, InRange, AreInRange, IsParty}
 use Rattle.party_tables.proofs.Keys.{test_idents, test_links, test_records, test_answers}
 use Rattle.party_tables.proofs.Each.{all_put, all_drop}
 use Rattle.party_tables.proofs.Distinct.{distinct_put, distinct_drop, distinct_filter}
@@ -42,9 +42,3 @@ pub party_apply : (es : List Edit) (p : Party) → AreInRange es → IsParty p �
 party_apply [] p r i = i
 party_apply (e ∷ es) p r i = party_apply es (apply_edit e p) (All-tail InRange e es r) (party_edit e p (All-head InRange e es r) i)
 
--- a list of edits that a state can take, and one more
-pub fitting_push : (es : List Edit) (e : Edit) → AreFitting es → IsFitting e → AreFitting (es ++ e ∷ [])
-fitting_push es e a i = All-push IsFitting es e a i
-
-pub no_begin_push : (es : List Edit) (e : Edit) → HasNoBegin es → IsNoBegin e → HasNoBegin (es ++ e ∷ [])
-no_begin_push es e a i = All-push IsNoBegin es e a i

@@ -2,7 +2,7 @@
 use Rattle.std.proofs.Common.{◌≡◌, Bool, true, false, cond, not, ◌&&◌, List, [], ◌∷◌, ◌++◌, refl, ap}
 use Rattle.x_base.specs.declared.verdict.Verdict.{Verdict}
 use Rattle.x_base.specs.declared.verdict.Verdict.TheVariants.{Accept}
-use Rattle.party_state.specs.Verdicts.{Test, verdict_of, tests_pass, TestsHold, is_accept, all_refuse}
+use Rattle.party_state.specs.Verdicts.{Test, verdict_of, TestsHold, is_accept, all_refuse}
 
 -- where the verdict is Accept, each test held
 pub held : (ts : List Test) → all_refuse ts ≡ true → is_accept (verdict_of ts) ≡ true → TestsHold ts
@@ -37,23 +37,8 @@ pub held_after : (ts us : List Test) → TestsHold (ts ++ us) → TestsHold ts �
 held_after [] us h = (tt, h)
 held_after (t ∷ ts) us h = let later : TestsHold ts × TestsHold us = held_after ts us h.1 in ((h.0, later.0), later.1)
 
-pub held_before : (ts us : List Test) → TestsHold ts → TestsHold us → TestsHold (ts ++ us)
-held_before [] us h k = k
-held_before (t ∷ ts) us h k = (h.0, held_before ts us h.1 k)
-
 -- the verdict of two lists one after another, where the first one held
 pub verdict_after : (ts us : List Test) → TestsHold ts → verdict_of (ts ++ us) ≡ verdict_of us
 verdict_after [] us h = refl
 verdict_after (t ∷ ts) us h = rw h.0 (verdict_after ts us h.1)
 
-pub passes_held : (ts : List Test) → TestsHold ts → tests_pass ts ≡ true
-passes_held [] h = refl
-passes_held (t ∷ ts) h = rw h.0 (passes_held ts h.1)
-
-pub held_passes : (ts : List Test) → tests_pass ts ≡ true → TestsHold ts
-held_passes [] h = tt
-held_passes (t ∷ ts) h = go t.0 refl h (held_passes ts)
-  where
-    go : (b : Bool) → t.0 ≡ b → (b && tests_pass ts) ≡ true → (tests_pass ts ≡ true → TestsHold ts) → (t.0 ≡ true) × TestsHold ts
-    go true b= h ih = (b=, ih h)
-    go false b= h ih = absurd (cc)

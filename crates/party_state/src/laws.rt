@@ -1,5 +1,5 @@
 // What is known of verdicts and of parties, stated by calls that do nothing.
-ghost use Rattle.std.specs.Prelude.{◌≡◌, ◌↔◌, ◌++◌, Bool, true, false, cond, Some, None, List, ℕ, bytes_eq};
+ghost use Rattle.std.specs.Prelude.{◌≡◌, ◌↔◌, ◌++◌, true, false, cond, Some, None, List, ℕ, bytes_eq};
 ghost use Rattle.x_base.specs.Names.{IsIdent};
 ghost use Rattle.x_base.specs.declared.party.Role.{Role as TheRole};
 ghost use Rattle.x_base.specs.declared.verdict.Verdict.TheVariants.{Accept};

@@ -1,5 +1,5 @@
-ghost use Rattle.std.specs.Prelude.{◌≡◌, length, slice_get, IfSome, IfOk, IfErr, OnOk, OnErr, option_map};
-ghost use Rattle.party_state.specs.Ranges.{AreFitting, HasNoBegin, IsFitting, IsNoBegin, IsParty};
+ghost use Rattle.std.specs.Prelude.{◌≡◌, IfOk, OnOk, OnErr};
+ghost use Rattle.party_state.specs.Ranges.{IsFitting, IsNoBegin, IsParty};
 ghost use Rattle.party_state.specs.State.{begun, apply_edit};
 ghost use Rattle.party_state.specs.State as party;
 ghost use Rattle.party_state.specs.declared.edit.Edit.TheVariants.{PutLink, PutKey, PutExchange, DropExchange, SetGen};

@@ -1,5 +1,5 @@
 -- Tables that have each key once.
-use Rattle.std.proofs.Common.{arith, ℕ, zero, suc, ◌<◌, length, slice_index_or, Contains, ◌≡◌, Bool, true, false, cond, not, Some, None, List, [], ◌∷◌, filter, refl, sym}
+use Rattle.std.proofs.Common.{◌≡◌, Bool, true, false, cond, not, Some, None, List, [], ◌∷◌, filter, refl, sym}
 use Rattle.std.specs.List.{find}
 use Rattle.party_tables.specs.Tables.{find_row, put_row, drop_row, Distinct}
 use Rattle.party_tables.proofs.Tables.{IsTest, same_is, find_put, filter_absent}
@@ -44,19 +44,6 @@ filter_passed {R} {K} key same p k x (r ∷ rs) h = go (p r) refl (same k (key r
     go true b= true e= h ih = let f : cond true (Some r) (find_row key same k (filter p rs)) ≡ Some x = rw e= at h in let i : r ≡ x = cc in rw (← i) b=
     go true b= false e= h ih = ih (rw e= at h)
     go false b= e e= h ih = ih h
-
--- a row of a table is found under its key
-pub contains_found : {R K : Type 0} (key : R → K) (same : K → K → Bool) → IsTest same → (rs : List R) (r : R) → Distinct key same rs → Contains rs r → find_row key same (key r) rs ≡ Some r
-contains_found {R} {K} key same law rs r d c = go rs d c.0 c.1 c.2
-  where
-    go : (xs : List R) → Distinct key same xs → (k : ℕ) → k < length xs → slice_index_or xs k r ≡ r → find_row key same (key r) xs ≡ Some r
-    go [] d k l e = absurd (omega arith)
-    go (x ∷ xs) d zero l e = let t : same (key r) (key r) ≡ true = same_is law (key r) in rw (e, t) refl
-    go (x ∷ xs) d (suc k) l e = at (same (key r) (key x)) refl (go xs d.1 k (omega arith) e)
-      where
-        at : (b : Bool) → same (key r) (key x) ≡ b → find_row key same (key r) xs ≡ Some r → cond b (Some x) (find_row key same (key r) xs) ≡ Some r
-        at true b h = let i : key r ≡ key x = (law.decides (key r) (key x)).0 b in let n : find_row key same (key r) xs ≡ None = rw i d.0 in absurd (cc)
-        at false b h = h
 
 -- the first row that passes a test is found under its key
 pub first_found : {R K : Type 0} (key : R → K) (same : K → K → Bool) → IsTest same → (p : R → Bool) (r : R) (rs : List R) → Distinct key same rs → find p rs ≡ Some r → find_row key same (key r) rs ≡ Some r

@@ -1,16 +1,6 @@
 -- How many rows a table has after a row is put, dropped or filtered out.
-use Rattle.std.proofs.Common.{arith, ◌≡◌, ◌≤◌, ◌+◌, Bool, true, false, cond, not, Option, Some, None, is_some, List, [], ◌∷◌, ◌++◌, length, filter, refl, ap}
-use Rattle.party_tables.specs.Tables.{find_row, put_row, drop_row, Distinct}
-use Rattle.party_tables.proofs.Tables.{IsTest}
-
--- a row under a key that has none goes to the end
-pub put_absent : {R K : Type 0} (key : R → K) (same : K → K → Bool) (x : R) (rs : List R) → find_row key same (key x) rs ≡ None → put_row key same x rs ≡ rs ++ x ∷ []
-put_absent key same x [] h = refl
-put_absent {R} key same x (r ∷ rs) h = go (same (key x) (key r)) h (put_absent key same x rs)
-  where
-    go : (b : Bool) → cond b (Some r) (find_row key same (key x) rs) ≡ None → (find_row key same (key x) rs ≡ None → put_row key same x rs ≡ rs ++ x ∷ []) → cond b (x ∷ rs) (r ∷ put_row key same x rs) ≡ (r ∷ rs) ++ x ∷ []
-    go true h ih = absurd (cc)
-    go false h ih = ap (λ (ys : List R). r ∷ ys) (ih h)
+use Rattle.std.proofs.Common.{arith, ◌≡◌, ◌≤◌, ◌+◌, Bool, true, false, cond, not, Option, Some, None, is_some, List, [], ◌∷◌, length, filter, refl, ap}
+use Rattle.party_tables.specs.Tables.{find_row, put_row, drop_row}
 
 -- a put in place keeps the length
 pub length_put_found : {R K : Type 0} (key : R → K) (same : K → K → Bool) (x y : R) (rs : List R) → find_row key same (key x) rs ≡ Some y → length (put_row key same x rs) ≡ length rs
@@ -50,15 +40,6 @@ drop_absent {R} {K} key same k (r ∷ rs) h = go (same k (key r)) h (drop_absent
     go : (b : Bool) → cond b (Some r) (find_row key same k rs) ≡ None → (find_row key same k rs ≡ None → drop_row key same k rs ≡ rs) → cond (not b) (r ∷ drop_row key same k rs) (drop_row key same k rs) ≡ r ∷ rs
     go true h ih = absurd (cc)
     go false h ih = ap (λ (ys : List R). r ∷ ys) (ih h)
-
--- any other is one row less
-pub length_drop_found : {R K : Type 0} (key : R → K) (same : K → K → Bool) → IsTest same → (k : K) (x : R) (rs : List R) → Distinct key same rs → find_row key same k rs ≡ Some x → length (drop_row key same k rs) + 1 ≡ length rs
-length_drop_found key same law k x [] d h = absurd (cc)
-length_drop_found {R} {K} key same law k x (r ∷ rs) d h = go (same k (key r)) refl h (length_drop_found key same law k x rs d.1)
-  where
-    go : (b : Bool) → same k (key r) ≡ b → cond b (Some r) (find_row key same k rs) ≡ Some x → (find_row key same k rs ≡ Some x → length (drop_row key same k rs) + 1 ≡ length rs) → length (cond (not b) (r ∷ drop_row key same k rs) (drop_row key same k rs)) + 1 ≡ length (r ∷ rs)
-    go true e h ih = let i : k ≡ key r = (law.decides k (key r)).0 e in let n : find_row key same k rs ≡ None = rw i d.0 in let l : length (drop_row key same k rs) ≡ length rs = ap length (drop_absent key same k rs n) in omega arith
-    go false e h ih = let l : length (drop_row key same k rs) + 1 ≡ length rs = ih h in omega arith
 
 -- one row more where none stood under its key
 pub length_put : {R K : Type 0} (key : R → K) (same : K → K → Bool) (x : R) (rs : List R) → length (put_row key same x rs) ≡ length rs + cond (is_some (find_row key same (key x) rs)) 0 1

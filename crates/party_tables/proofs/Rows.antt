@@ -58,10 +58,6 @@ module _ {R K : Type 0} (key : R → K) (same : K → K → Bool) (P : R → Typ
       go rest false = (h.0, rest)
 
 module _ {R : Type 0} (P : R → Type 0) where
-  pub each_at : (rs : List R) (i : ℕ) → AllByRecursion P rs → IfSome (slice_get rs i) P
-  each_at [] i h = tt
-  each_at (r ∷ rs) zero h = h.0
-  each_at (r ∷ rs) (suc i) h = each_at rs i h.1
 
   pub each_filter : (test : R → Bool) (rs : List R) → AllByRecursion P rs → AllByRecursion P (filter test rs)
   each_filter test [] h = tt

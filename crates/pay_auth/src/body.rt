@@ -1,10 +1,8 @@
 // The bodies of a ledger's journal, written and read.
-ghost use Rattle.std.specs.Prelude.{◌≡◌, ◌≤◌, ◌∷◌, ◌++◌, [], List, ℕ, length, None, option_map, IfSome, IfOk, OnOk};
-ghost use Rattle.std.specs.List.{AllByRecursion};
+ghost use Rattle.std.specs.Prelude.{◌≡◌, ◌∷◌, ◌++◌, [], List, None, option_map, IfSome, IfOk, OnOk};
 ghost use Rattle.change_code.specs.Code.{two};
 ghost use Rattle.key_journal.specs.Journal.{IsBody};
 ghost use Rattle.pay_auth.specs.declared.entry.Entry.{Entry as TheEntry};
-ghost use Rattle.pay_auth.specs.Entries.{IsEntry};
 ghost use Rattle.pay_auth.specs.Bodies.{entry_code, entries_code, body_of, IsLedgerBody};
 ghost use Rattle.pay_auth.specs.Forms.{entry_form, IsEntriesRead};
 ghost use Rattle.change_code.specs.Reading.{IsPieceRead};

@@ -1,8 +1,8 @@
 // The entries of a ledger.
-ghost use Rattle.std.specs.Prelude.{◌≡◌, ◌<◌, ◌≤◌, true, false, not, length, slice_get, option_map, IfSome, IfOk, OnOk, OnErr};
+ghost use Rattle.std.specs.Prelude.{◌≡◌, ◌<◌, ◌≤◌, true, false, length, slice_get, option_map, IfSome, IfOk, OnOk, OnErr};
 ghost use Rattle.std.specs.List.{All};
 ghost use Rattle.pay_auth.specs.declared.entry.EntryKey.{EntryKey as TheKey};
-ghost use Rattle.pay_auth.specs.Entries.{IsEntry, entry_key, same_entry, put_entry, put_entries, entry_with, last_number, is_full_for, most_entries};
+ghost use Rattle.pay_auth.specs.Entries.{IsEntry, entry_key, same_entry, put_entry, put_entries, last_number, is_full_for, most_entries};
 ghost use Rattle.party_tables.specs.Tables.{Distinct};
 ghost use Rattle.x_base.specs.Count.{count_limit};
 

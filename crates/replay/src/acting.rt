@@ -1,5 +1,5 @@
 // An event: it is tested, and carried out whole, or stopped where a stop waits.
-ghost use Rattle.std.specs.Prelude.{◌≡◌, ◌⊎◌, ◌<◌, ◌++◌, ℕ, [], cond, length, Some, None, Err, IfOk, IfErr, Option};
+ghost use Rattle.std.specs.Prelude.{◌≡◌, ◌⊎◌, ◌<◌, ◌++◌, ℕ, [], cond, length, Some, None, Err, IfOk, IfErr};
 ghost use Rattle.x_base.specs.Edge.{Rose};
 ghost use Rattle.member.specs.Member.{plan_at};
 ghost use Rattle.node_core.specs.Turns.{member_of};

@@ -1,5 +1,5 @@
 // Whether edits are done: done once more, they change nothing.
-ghost use Rattle.std.specs.Prelude.{◌≡◌, ◌↔◌, false, IsTrue, IsFalse, Some};
+ghost use Rattle.std.specs.Prelude.{◌≡◌, ◌↔◌, false, IsTrue, Some};
 ghost use Rattle.party_state.specs.Ranges.{HasNoBegin, IsNoBegin};
 ghost use Rattle.party_state.specs.State.{apply_edit, exchange_with};
 ghost use Rattle.party_tables.specs.Keys.{exchange_key};

@@ -1,11 +1,10 @@
 -- The first word of a line and the first line of a text.
-use Rattle.std.proofs.Common.{◌≡◌, ◌≢◌, ◌==◌, ℕ, zero, suc, ◌+◌, ◌-◌, ◌<◌, ◌≤◌, Bool, true, false, List, [], ◌∷◌, length, take, drop, Option, Some, None, cond, arith, refl, sym, ap, ◌∙◌}
-use Rattle.std.specs.Prelude.{if◌then◌else◌}
-use Rattle.std.specs.List.{onto_first, position, position_or_len, slice_split}
+use Rattle.std.proofs.Common.{◌≡◌, ◌≢◌, ◌==◌, ℕ, zero, suc, ◌+◌, ◌-◌, ◌<◌, ◌≤◌, Bool, true, false, List, [], ◌∷◌, length, take, drop, Some, None, arith, refl, sym, ap, ◌∙◌}
+use Rattle.std.specs.List.{onto_first, position, position_or_len}
 use Rattle.std.proofs.lemmas.Bool.Decides.{nat_tests}
 use Rattle.std.proofs.lemmas.List.{take_rest}
 use Rattle.scenario.specs.Words.{is_blank, words_of, words_behind}
-use Rattle.scenario.specs.Rows.{Row, put_before, rows_of, size_of}
+use Rattle.scenario.specs.Rows.{Row, put_before, rows_of}
 
 suc_more : (n : ℕ) → suc n + 1 ≡ suc (n + 1)
 suc_more n = omega arith

@@ -1,5 +1,5 @@
 -- The tables answer what the lines before say.
-use Rattle.std.proofs.Common.{◌≡◌, ◌==◌, ℕ, ◌+◌, ◌<◌, Bool, true, false, List, [], ◌∷◌, ◌++◌, Option, Some, None, length, cond, not, count_by, refl, sym, ap, subst, ◌∙◌, arith, true≢false, eq-eqb, bytes_eq, is_some, option_map, append-nil}
+use Rattle.std.proofs.Common.{◌≡◌, ℕ, ◌+◌, Bool, true, false, List, [], ◌∷◌, ◌++◌, Option, Some, None, cond, not, count_by, refl, sym, ap, subst, ◌∙◌, arith, true≢false, eq-eqb, bytes_eq, option_map, append-nil}
 use Rattle.std.specs.Prelude.{◌&&◌, ◌||◌, codes, nat_lt, unwrap_or}
 use Rattle.std.specs.Cmp.Lexicographic.{bytes_decides}
 use Rattle.std.specs.List.{filter_map, list_all, list_any, cons_option}

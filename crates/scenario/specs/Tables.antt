@@ -1,5 +1,5 @@
 -- The tables in which the rules are looked up, and the lines that they stand for.
-use Rattle.std.specs.Prelude.{◌≡◌, ℕ, ◌+◌, ◌&&◌, ◌||◌, not, nat_lt, Bool, true, false, List, [], ◌∷◌, ◌++◌, length, count_by, unwrap_or, Option, Some, None, is_some, codes, bytes_eq}
+use Rattle.std.specs.Prelude.{◌≡◌, ℕ, ◌+◌, ◌&&◌, ◌||◌, not, nat_lt, Bool, true, false, List, length, count_by, unwrap_or, Option, is_some, codes, bytes_eq}
 use Rattle.std.specs.List.{list_all, list_any, filter_map}
 use Rattle.std.specs.Map.{lookup}
 use Rattle.std.specs.Option.{option_map_or}

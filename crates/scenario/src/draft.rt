@@ -3,7 +3,6 @@ ghost use Rattle.std.specs.Prelude.{◌≡◌, ◌++◌, ◌||◌, ◌∷◌, Bo
 ghost use Rattle.std.specs.Option.{option_map_or};
 ghost use Rattle.scenario.specs.Kinds.{line_of};
 ghost use Rattle.scenario.specs.Reading.{is_skipped, lines_in};
-ghost use Rattle.scenario.specs.Rows.{Row};
 ghost use Rattle.scenario.specs.Rules.{may_follow};
 
 use crate::kinds::read_line;

@@ -2,7 +2,6 @@ ghost use Rattle.std.specs.Prelude.{◌≡◌, ◌≤◌, ◌&&◌, ◌||◌, �
 ghost use Rattle.std.specs.Option.{option_map_or};
 ghost use Rattle.scenario.specs.Kinds.{line_of};
 ghost use Rattle.scenario.specs.Reading.{IsReading, IsScenario, is_skipped, lines_in};
-ghost use Rattle.scenario.specs.Rows.{Row};
 ghost use Rattle.scenario.specs.Rules.{may_follow};
 ghost use Rattle.scenario.specs.Tables.{IsDraft};
 

@@ -1,7 +1,7 @@
 // The first line of bytes.
 ghost use Rattle.std.specs.Prelude.{◌≡◌, ◌≢◌, ◌+◌, ◌<◌, ◌∷◌, ◌==◌, [], length};
 ghost use Rattle.std.specs.List.{position};
-ghost use Rattle.scenario.specs.Rows.{Row, rows_of, size_of};
+ghost use Rattle.scenario.specs.Rows.{rows_of, size_of};
 
 fn line_feed(bytes: &[u8]) -> Option<usize>
     ensures { result ≡ position (λ b. b == 10) bytes.now }

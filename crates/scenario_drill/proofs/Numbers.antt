@@ -1,5 +1,5 @@
 -- Keys and numbers are read of their digits.
-use Rattle.std.proofs.Common.{◌≡◌, ℕ, zero, suc, ◌*◌, ◌/◌, ◌%◌, ◌<◌, ◌≤◌, ◌^◌, ◌==◌, ◌&&◌, not, true, false, List, [], ◌∷◌, ◌++◌, length, Some, refl, ap, ap₂, ◌∙◌, arith, rules}
+use Rattle.std.proofs.Common.{◌≡◌, ℕ, zero, suc, ◌*◌, ◌/◌, ◌%◌, ◌<◌, ◌≤◌, ◌^◌, ◌==◌, ◌&&◌, not, true, false, List, [], ◌∷◌, length, Some, refl, ap, ◌∙◌, arith, rules}
 use Rattle.std.specs.Prelude.{slice_index, option_map, nat_le, nat_lt}
 use Rattle.std.specs.Char.{is_ascii_digit}
 use Rattle.std.specs.Fmt.{decimal}
@@ -13,7 +13,7 @@ use Rattle.std.proofs.lemmas.Nat.{from_be_bytes-to_be_bytes_8}
 use Rattle.std.proofs.lemmas.Str.Parse.{IsDigitsTest, IsNumeralModel, numerals_by_value}
 use Rattle.hex.specs.Hex.{encode_with, encode_upper, upper_digits}
 use Rattle.hex.proofs.HexLemmas.{decode_of-encode_upper, decode_sized-twice, length-encode_with}
-use Rattle.x_values.specs.Words.{decimal_of, key_of, number_of, pair_of, pair_with, plain_number_of}
+use Rattle.x_values.specs.Words.{decimal_of, key_of, number_of, plain_number_of}
 use Rattle.scenario_drill.specs.Drill.{key_digits}
 use Rattle.scenario_drill.proofs.Spelling.{is_plain, are_plain}
 
@@ -37,9 +37,7 @@ key_read n low =
     ap (λ r. option_map (from_be_bytes w64) (result_ok r)) (decode_sized-twice (encode_upper (to_be_bytes w64 n)) 8 size ∙ decode_of-encode_upper (to_be_bytes w64 n) (bytes_below 8 n))
     ∙ ap Some (from_be_bytes-to_be_bytes_8 n low)
 
-pub pair_read : (l r : ℕ) → l < 2 ^ 64 → r < 2 ^ 64 → pair_of (key_digits l ++ key_digits r) ≡ Some (record { left = l; right = r })
 unfolding encode_with
-pair_read l r low high = ap₂ pair_with (key_read l low) (key_read r high)
 
 index_plain : (bs : List ℕ) (i : ℕ) → are_plain bs ≡ true → is_plain (slice_index bs i) ≡ true
 index_plain [] zero plain = refl

@@ -1,4 +1,4 @@
-ghost use Rattle.std.specs.Prelude.{◌≡◌, ◌++◌, ◌<◌, ◌*◌, ◌^◌, ◌%◌, bit_xor, drop};
+ghost use Rattle.std.specs.Prelude.{◌≡◌, ◌++◌, ◌<◌, ◌^◌, bit_xor};
 ghost use Rattle.x_des.specs.Bits.{bits_of, chosen, pick, shifted_left, shifted_right};
 ghost use Rattle.x_des.specs.Block.{doubled, half};
 ghost use Rattle.x_des.specs.Tables.{ip, ip_inverse};

@@ -1,4 +1,4 @@
-ghost use Rattle.std.specs.Prelude.{◌≡◌, ℕ, ◌<◌, ◌/◌, ◌^◌, ◌++◌, bit_xor, length, map, slice_index, take, drop};
+ghost use Rattle.std.specs.Prelude.{◌≡◌, ℕ, ◌<◌, ◌^◌, ◌++◌, bit_xor, length, map, slice_index, take, drop};
 ghost use Rattle.x_des.specs.Bits.{bits_of};
 ghost use Rattle.x_des.specs.Des.{round_keys};
 ghost use Rattle.x_des.specs.RoundKey.{added, gathered};

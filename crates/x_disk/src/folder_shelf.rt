@@ -1,5 +1,5 @@
 // The edge over a real folder, of which nothing is told.
-ghost use Rattle.std.specs.Prelude.{◌≡◌, ◌≤◌};
+ghost use Rattle.std.specs.Prelude.{◌≡◌};
 ghost use Rattle.x_disk.specs.Untold.{untold, untold_sound};
 
 use crate::files::{FileDisk, counted, open_if_there};
@@ -30,7 +30,6 @@ impl<R: LockingFiles + Clone + Drop> FolderShelf<R> {
 }
 
 impl<R: LockingFiles + Clone + Drop> Shelf for FolderShelf<R> {
-    ghost use Rattle.std.specs.Prelude.{ℕ, List};
 
     type Disk = FileDisk<R>;
 

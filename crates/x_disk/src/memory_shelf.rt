@@ -1,5 +1,5 @@
 // A shelf of disks in memory.
-ghost use Rattle.std.specs.Prelude.{◌≡◌, ◌<◌, ◌≤◌, ℕ, List, length, unwrap_or, None, IfSome, IfNone, IfOk, OnOk, OnErr};
+ghost use Rattle.std.specs.Prelude.{◌≡◌, ◌<◌, ℕ, List, unwrap_or, None, IfSome, IfNone, IfOk, OnOk, OnErr};
 ghost use Rattle.x_disk.specs.Slots.{fresh, disk_at, entry_at, entry_sound, memory_view, HasSlot, NoneOf, IsFirst, OthersSame, AllSame};
 ghost use Rattle.x_disk.specs.History.{view_of};
 ghost use Rattle.x_disk.specs.Shelf.{IsAlike, IsFetched, SlotsStay};

@@ -1,4 +1,4 @@
-ghost use Rattle.std.specs.Prelude.{◌≡◌, option_and_then, option_map};
+ghost use Rattle.std.specs.Prelude.{◌≡◌};
 ghost use Rattle.x_line.specs.OrderKinds.{name_of_kind, named};
 
 /// A kind of order, named by the word in the place of the command.

@@ -1,5 +1,5 @@
 -- A pair is opened, or not, and what is told of it.
-use Rattle.std.proofs.Common.{◌≡◌, ◌⊎◌, inl, inr, ℕ, List, Ok, Err, refl, sym, subst}
+use Rattle.std.proofs.Common.{◌≡◌, ◌⊎◌, inl, inr, ℕ, List, Result, Ok, Err, refl, sym, subst}
 use Rattle.x_base.specs.Edge.{Rose}
 use Rattle.x_disk.specs.Disk.{View, LeavesOnly}
 use Rattle.x_disk.proofs.Runs.{weaker}
@@ -11,14 +11,14 @@ use Rattle.key_store.specs.Store.{Stands, space}
 use Rattle.disk_pair.specs.declared.disks.Disks.{Disks}
 use Rattle.node_core.specs.Turns.{member_of}
 use Rattle.mirror_store.specs.Pairs.{PairStands, Recovers, IsAsBefore, Twin, IsTwin}
-use Rattle.mirror_store.specs.Answers.{twin_disks}
+use Rattle.mirror_store.specs.Answers.{twin_disks, opened_disks}
 use Rattle.mirror_store.specs.Opening.{HasFirstSpace, HasPairFault, IsPairRefusal, IsPairOpened}
 use Rattle.mirror_store.specs.declared.pair.PairCause.{PairCause}
 use Rattle.mirror_store.specs.declared.pair.PairCause.TheVariants.{First, Second, OtherParty, TooLarge}
 use Rattle.mirror_store.specs.declared.pair.PairUnmade.{PairUnmade}
 use Rattle.x_party.specs.declared.outcome.Outcome.{Outcome}
 use Rattle.x_party.specs.declared.outcome.Outcome.TheVariants as outcome
-use Rattle.x_pair.specs.Outcomes.{Work, BothStand, MakesOf, MayLeave, Opened, AsItWas, Before}
+use Rattle.x_pair.specs.Outcomes.{Work, BothStand, MakesOf, MayLeave, Opened, AsItWas, Before, IsSafePair}
 use Rattle.x_pair.specs.Steps.{HasActed, outcome_of_pair}
 use Rattle.x_pair.proofs.Alike.{store_stands}
 
@@ -69,20 +69,25 @@ pub opening_leaves : (w : Work) (old mid : View) (first second was : List ℕ) (
 opening_leaves w old mid first second was party run = weaker old mid (λ c. (Stands c party ⊎ IsAsBefore was c) ⊎ old.may_leave c) (MayLeave w first second party was old.may_leave) run (opened_leaves w first second party was old.may_leave)
 
 module _ {D : Type 0} (told : D → View) (old : Disks D) (w : Work) where
+  -- an opening that nothing follows, whatever it gives
+  opening_safe : (result : Result (Twin D) (PairUnmade D)) → IsPairOpened told old result
+      → IsSafePair w (told old.first) (told old.second) (told (opened_disks result).first) (told (opened_disks result).second)
+  opening_safe result opened = record {
+    on_first = λ i j party read recovers. opening_leaves w (told old.first) (told (opened_disks result).first) i j i party (opened.first_moments i j party read recovers);
+    on_second = λ i j party read recovers. opening_leaves w (told old.second) (told (opened_disks result).second) i j j party (opened.second_moments i j party read recovers);
+    nobody = opened.stays;
+    quiet = λ i j party read stands none. opened.quiet i j party read stands;
+    first_stays = λ i j party read recovers none filled. opened.first_stays i j read filled;
+    second_stays = λ i j party read recovers none blank. opened.second_stays i j read blank;
+    too_large = λ i j read is. opened.too_large i j is.party read is.recovers is.too_large;
+    first_tells = opened.keeps.first_tells;
+    second_tells = opened.keeps.second_tells;
+  }
+
   pub not_opened : (u : PairUnmade D) → IsPairOpened told old (Err u) → HasActed w told old u.disks (outcome_of_pair u.cause)
   not_opened u opened = record {
     makes = λ i j read. refusal_makes w i j (told u.disks.first) (told u.disks.second) u.cause (opened.refused i j read);
-    safe = record {
-      on_first = λ i j party read recovers. opening_leaves w (told old.first) (told u.disks.first) i j i party (opened.first_moments i j party read recovers);
-      on_second = λ i j party read recovers. opening_leaves w (told old.second) (told u.disks.second) i j j party (opened.second_moments i j party read recovers);
-      nobody = opened.stays;
-      quiet = λ i j party read stands none. opened.quiet i j party read stands;
-      first_stays = λ i j party read recovers none filled. opened.first_stays i j read filled;
-      second_stays = λ i j party read recovers none blank. opened.second_stays i j read blank;
-      too_large = λ i j read is. opened.too_large i j is.party read is.recovers is.too_large;
-      first_tells = opened.keeps.first_tells;
-      second_tells = opened.keeps.second_tells;
-    };
+    safe = opening_safe (Err u) opened;
     faults = record {
       first_later = opened.keeps.first_faults;
       second_later = opened.keeps.second_faults;
@@ -96,17 +101,7 @@ module _ {D : Type 0} (told : D → View) (old : Disks D) (w : Work) where
       → (o ≡ outcome.Fault → ⊥) → HasActed w told old new o
   rested m opened new is o makes none = subst (λ (n : Disks D). HasActed w told old n o) (sym is) (record {
     makes = λ i j read. makes i j (opened.exact i j read) (opened.left i j read) (opened.small i j read) (both_stand told m opened.stand);
-    safe = record {
-      on_first = λ i j party read recovers. opening_leaves w (told old.first) (told m.first.disk) i j i party (opened.first_moments i j party read recovers);
-      on_second = λ i j party read recovers. opening_leaves w (told old.second) (told m.second.disk) i j j party (opened.second_moments i j party read recovers);
-      nobody = opened.stays;
-      quiet = λ i j party read stands none. opened.quiet i j party read stands;
-      first_stays = λ i j party read recovers none filled. opened.first_stays i j read filled;
-      second_stays = λ i j party read recovers none blank. opened.second_stays i j read blank;
-      too_large = λ i j read is. opened.too_large i j is.party read is.recovers is.too_large;
-      first_tells = opened.keeps.first_tells;
-      second_tells = opened.keeps.second_tells;
-    };
+    safe = opening_safe (Ok m) opened;
     faults = record {
       first_later = opened.keeps.first_faults;
       second_later = opened.keeps.second_faults;

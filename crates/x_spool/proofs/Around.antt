@@ -1,13 +1,12 @@
 -- Both disks are fetched, something is done, and both are put back.
-use Rattle.std.proofs.Common.{◌≡◌, ◌⊎◌, inl, inr, ℕ, ◌≤◌, ◌<◌, List, is_some, Some, Ok, Err, sym, ◌∙◌, ap, subst, arith}
+use Rattle.std.proofs.Common.{◌≡◌, ◌⊎◌, inl, inr, ℕ, ◌≤◌, ◌<◌, List, is_some, Ok, Err, sym, ◌∙◌, ap, subst, arith}
 use Rattle.x_base.specs.Edge.{Rose}
-use Rattle.x_disk.specs.Disk.{View, Tells, IsDurable, IsSound, IsUntouched}
+use Rattle.x_disk.specs.Disk.{View, IsDurable, IsSound}
 use Rattle.x_disk.specs.Shelf.{ShelfView, IsAlike}
 use Rattle.member.specs.Member.{Member}
 use Rattle.csm_batch.specs.declared.entry.Entry.{Entry}
 use Rattle.csm_spool.specs.InStep.{PairsInStep}
 use Rattle.disk_pair.specs.declared.disks.Disks.{Disks}
-use Rattle.x_spool.specs.Dues.{FindsMember, IsDueBatch}
 use Rattle.x_spool.specs.Outcomes.{AreUntouched, BothStay, IsDoneOrFailed, IsNoFailure, IsSafeBatch, LeavesBatch, MakesBatch, StaysInStep}
 use Rattle.x_spool.specs.Shelves.{LeavesShelf}
 use Rattle.x_spool.specs.Steps.{HasActed, AreOut, AreBack, IsClosed}

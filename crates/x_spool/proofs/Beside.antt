@@ -1,23 +1,22 @@
 -- The spool is begun beside an opened party, and the batch is driven.
-use Rattle.std.proofs.Common.{◌≡◌, ◌⊎◌, inl, inr, ℕ, ◌+◌, ◌≤◌, Bool, true, false, List, [], length, Some, Result, Ok, Err, refl, sym, ◌∙◌, ap, subst, arith}
+use Rattle.std.proofs.Common.{◌≡◌, ◌⊎◌, inl, inr, ℕ, ◌≤◌, Bool, true, false, List, [], length, Some, Ok, Err, refl, sym, ◌∙◌, ap, subst, arith}
 use Rattle.x_base.specs.Edge.{Rose}
 use Rattle.x_disk.specs.Disk.{View, Tells, IsSound, IsUntouched}
 use Rattle.x_disk.specs.declared.disk.DiskErr.{DiskErr}
 use Rattle.x_disk.specs.declared.disk.DiskErr.TheVariants as disk
 use Rattle.key_journal.specs.Causes.{cause_of}
 use Rattle.key_journal.specs.Journal.{is_blank}
-use Rattle.key_journal.specs.States.{Failed}
 use Rattle.key_journal.specs.declared.cause.Cause.{Cause}
 use Rattle.key_journal.specs.declared.cause.Cause.TheVariants as cause
 use Rattle.key_store.specs.Store.{Stored, IsStore}
 use Rattle.member.specs.Member.{Member}
-use Rattle.node_core.specs.Turns.{member_of, IsImageOf}
+use Rattle.node_core.specs.Turns.{member_of}
 use Rattle.csm_batch.specs.declared.entry.Entry.{Entry}
 use Rattle.spool_store.specs.declared.entry_plan.EntryPlan.{EntryPlan}
 use Rattle.spool_store.specs.declared.cause.SpoolCause.{SpoolCause}
 use Rattle.spool_store.specs.declared.cause.SpoolCause.TheVariants as spool
 use Rattle.spool_store.specs.declared.cause.Unbegun.{Unbegun}
-use Rattle.spool_store.specs.Beginning.{IsBegun, IsSpoolRefusal, IsFreeCause, HoldsBatch}
+use Rattle.spool_store.specs.Beginning.{IsBegun, IsSpoolRefusal, IsFreeCause}
 use Rattle.spool_store.specs.Contents.{Progress, HoldsPlans}
 use Rattle.spool_store.specs.Spools.{Spooled, IsSpool, outbox_of}
 use Rattle.csm_spool.specs.Beginning as beginning
@@ -28,12 +27,12 @@ use Rattle.csm_spool.specs.declared.outcome.Driven.{Driven}
 use Rattle.csm_spool.specs.declared.outcome.Driven.TheVariants as drive
 use Rattle.disk_pair.specs.declared.disks.Disks.{Disks}
 use Rattle.x_spool.specs.Dues.{FindsMember, IsDueBatch, IsDueOut, ReadsBatch}
-use Rattle.x_spool.specs.Outcomes.{AreUntouched, BothStay, IsDoneOrFailed, IsNoFailure, IsSafeBatch, IsSpooled, LeavesBatch, progress_of}
+use Rattle.x_spool.specs.Outcomes.{AreUntouched, BothStay, IsDoneOrFailed, IsNoFailure, IsSafeBatch, LeavesBatch, progress_of}
 use Rattle.x_spool.specs.Steps.{HasActed, HandsOut, IsEnd, driven_disks, outcome_of, outcome_of_spool, two_disks}
 use Rattle.x_spool.specs.declared.outcome.SpoolOutcome.{SpoolOutcome}
 use Rattle.x_spool.specs.declared.outcome.SpoolOutcome.TheVariants as outcome
 use Rattle.x_spool.proofs.Alike.{untouched_self}
-use Rattle.x_spool.proofs.Standing.{OneParty, OneFormat, OneProgress, NotBlank, differ, now_image, same_member, same_progress, stands_of, tells_of, told_image}
+use Rattle.x_spool.proofs.Standing.{OneParty, OneFormat, OneProgress, NotBlank, differ, now_image, same_member, same_progress, tells_of, told_image}
 
 rose_later : (a b c : ℕ) → a ≤ b → Rose b c → Rose a c
 rose_later a b c le (inl less) = inl (omega (arith, le, less))
@@ -50,10 +49,6 @@ failed_done disk.NoMemory = tt
 unset : (b : Bool) → (b ≡ true → ⊥) → b ≡ false
 unset true never = absurd (never refl)
 unset false never = refl
-
-unfailed : (d : DiskErr) → IsNoFailure (outcome_of (cause_of d)) → ⊥
-unfailed disk.Fault is = is
-unfailed disk.NoMemory is = is
 
 module _ {D : Type 0} (told : D → View) (sound : (d : D) → IsSound (told d)) (spool_full : NotBlank) (text : List ℕ) (entries : List Entry) (node : Stored D) (old : D)
     (store : IsStore (told node.disk) node.gate node.end node.format node.party) where

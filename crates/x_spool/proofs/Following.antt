@@ -1,5 +1,5 @@
 -- The outcome of a call is the one that is due.
-use Rattle.std.proofs.Common.{◌≡◌, inl, inr, List, ℕ, refl}
+use Rattle.std.proofs.Common.{inl, inr, List, ℕ, refl}
 use Rattle.x_disk.specs.Disk.{View}
 use Rattle.csm_batch.specs.declared.entry.Entry.{Entry}
 use Rattle.x_spool.specs.Dues.{IsDueBatch, IsSame, GivesDue}

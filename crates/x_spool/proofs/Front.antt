@@ -2,14 +2,13 @@
 use Rattle.std.proofs.Common.{◌≡◌, ◌⊎◌, inl, inr, ℕ, ◌≤◌, List, Some, refl, sym, ◌∙◌, ap, subst, arith}
 use Rattle.std.specs.Prelude.{is_some}
 use Rattle.x_base.specs.Edge.{Rose}
-use Rattle.x_disk.specs.Disk.{View, Tells, IsSound, IsUntouched}
-use Rattle.party_state.specs.State.{Party}
-use Rattle.key_store.specs.Store.{Stored, Stands}
+use Rattle.x_disk.specs.Disk.{View, Tells, IsSound}
+use Rattle.key_store.specs.Store.{Stored}
 use Rattle.member.specs.Member.{Member}
 use Rattle.csm_batch.specs.declared.entry.Entry.{Entry}
 use Rattle.csm_spool.specs.InStep.{PairsInStep}
 use Rattle.disk_pair.specs.declared.disks.Disks.{Disks}
-use Rattle.x_spool.specs.Dues.{FindsMember, IsDueBatch}
+use Rattle.x_spool.specs.Dues.{IsDueBatch}
 use Rattle.x_spool.specs.Outcomes.{AreUntouched, BothStay, IsDoneOrFailed, IsNoFailure, IsSafeBatch, LeavesBatch}
 use Rattle.x_spool.specs.Steps.{HasActed, IsNoParty, IsPartyOpened, WhyNoParty, two_disks}
 use Rattle.x_spool.specs.declared.outcome.SpoolOutcome.{SpoolOutcome}

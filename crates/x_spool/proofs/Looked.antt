@@ -1,21 +1,21 @@
 -- A spool is opened, and its outbox is told.
-use Rattle.std.proofs.Common.{◌≡◌, ◌⊎◌, inl, inr, ℕ, ◌-◌, ◌<◌, ◌≤◌, true, false, List, length, Option, Some, None, Ok, Err, refl, sym, ◌∙◌, ap, subst, arith}
+use Rattle.std.proofs.Common.{◌≡◌, ◌⊎◌, inl, inr, ℕ, ◌-◌, ◌<◌, ◌≤◌, List, length, Option, Some, None, Ok, Err, refl, sym, ◌∙◌, ap, subst, arith}
 use Rattle.x_base.specs.Edge.{Rose}
-use Rattle.x_disk.specs.Disk.{View, IsSound, IsUntouched}
-use Rattle.x_disk.specs.Shelf.{ShelfView, IsAlike, OthersStay}
+use Rattle.x_disk.specs.Disk.{View, IsUntouched}
+use Rattle.x_disk.specs.Shelf.{ShelfView}
 use Rattle.key_journal.specs.Journal.{is_blank}
 use Rattle.key_journal.specs.declared.cause.Cause.{Cause}
 use Rattle.key_journal.specs.declared.cause.Cause.TheVariants as cause
 use Rattle.key_journal.specs.declared.cause.Unmade.{Unmade}
 use Rattle.journal_state.specs.States as journal
-use Rattle.spool_store.specs.Contents.{Progress, Goes, HoldsPlans, IsSpoolDamage}
+use Rattle.spool_store.specs.Contents.{Progress, Goes, IsSpoolDamage}
 use Rattle.spool_store.specs.Opening.{IsOpenRefusal, IsSpoolOpened}
 use Rattle.spool_store.specs.Spools.{Spooled, outbox_of}
 use Rattle.x_spool.specs.Outboxes.{IsDueOutbox, IsNoFailure, IsOutbox, GivesOutbox, LeavesOne, ShowsOutbox}
 use Rattle.x_spool.specs.Looks.{HandsOutbox, HasLooked, IsEndOf, IsReturned, IsTaken, look_of}
 use Rattle.x_spool.specs.declared.outcome.OutboxOutcome.{OutboxOutcome}
 use Rattle.x_spool.specs.declared.outcome.OutboxOutcome.TheVariants as outbox
-use Rattle.x_spool.proofs.Alike.{alike_trans, untouched_alike, untouched_around}
+use Rattle.x_spool.proofs.Alike.{alike_trans, untouched_around}
 use Rattle.x_spool.proofs.Standing.{OneProgress, NotBlank, differ, same_progress}
 
 -- by an image one outcome is due
@@ -101,17 +101,8 @@ rose_from : (first mid last : ℕ) → first ≤ mid → Rose mid last → Rose 
 rose_from first mid last le (inl less) = inl (omega (arith, le, less))
 rose_from first mid last le (inr most) = inr most
 
-failed_shows : (disk : View) (o : OutboxOutcome) (rose : Type 0) → (o ≡ outbox.NoMemory) ⊎ ((o ≡ outbox.Fault) × rose) → ShowsOutbox disk o
-failed_shows disk o rose (inl is) = subst (ShowsOutbox disk) (sym is) (λ book now answered. absurd answered)
-failed_shows disk o rose (inr is) = subst (ShowsOutbox disk) (sym is.0) (λ book now answered. absurd answered)
-
 -- the disk wasn't fetched
 module _ {D : Type 0} (told : D → View) (name : List ℕ) (old new : ShelfView) (o : OutboxOutcome) (out : IsTaken told name old new (Err o)) where
-  pub untaken_shows : ShowsOutbox (old.entry name) o
-  untaken_shows = failed_shows (old.entry name) o (Rose old.faults new.faults) out.failed
-
-  pub untaken_stays : IsSound (old.entry name) → IsUntouched (old.entry name) (new.entry name)
-  untaken_stays sound = untouched_alike (old.entry name) (new.entry name) sound out.stays
 
   unanswered : (o ≡ outbox.NoMemory) ⊎ ((o ≡ outbox.Fault) × Rose old.faults new.faults) → IsNoFailure o → ⊥
   unanswered (inl is) answered = subst IsNoFailure is answered
@@ -120,9 +111,6 @@ module _ {D : Type 0} (told : D → View) (name : List ℕ) (old new : ShelfView
   failed_rose : (o ≡ outbox.NoMemory) ⊎ ((o ≡ outbox.Fault) × Rose old.faults new.faults) → o ≡ outbox.Fault → Rose old.faults new.faults
   failed_rose (inl is) fault = let both : outbox.NoMemory ≡ outbox.Fault = sym is ∙ fault in absurd (cc both)
   failed_rose (inr is) fault = is.1
-
-  pub untaken_shelf : LeavesOne name o (new.is_back name) old.entry new.entry old.faults new.faults
-  untaken_shelf = record { back = λ answered. absurd (unanswered out.failed answered); others = out.others; fault = failed_rose out.failed; later = out.later }
 
 -- the whole call
 module _ {D : Type 0} (told : D → View) (name : List ℕ) (old mid new : ShelfView) (taken put : D) (o result : OutboxOutcome) (out : IsTaken told name old mid (Ok taken)) (did : HasLooked told taken put o)

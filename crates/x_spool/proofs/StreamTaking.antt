@@ -1,5 +1,5 @@
 -- The messages of a stream are taken one by one.
-use Rattle.std.proofs.Common.{◌≡◌, ◌≢◌, inl, inr, ℕ, ◌+◌, ◌-◌, ◌*◌, ◌<◌, ◌≤◌, ◌^◌, zero, suc, Bool, true, false, List, [], ◌∷◌, ◌++◌, length, take, drop, length-append, append_assoc, None, refl, sym, ◌∙◌, ap, subst, arith, true≢false}
+use Rattle.std.proofs.Common.{◌≡◌, ◌≢◌, inl, inr, ℕ, ◌+◌, ◌-◌, ◌*◌, ◌<◌, ◌≤◌, ◌^◌, Bool, true, false, List, [], ◌∷◌, ◌++◌, length, take, drop, length-append, append_assoc, None, refl, sym, ◌∙◌, ap, subst, arith, true≢false}
 use Rattle.std.specs.Prelude.{nat_lt, codes}
 use Rattle.std.specs.List.{prefix_len}
 use Rattle.std.proofs.lemmas.Bool.{ltb-true, ltb-false}
@@ -59,14 +59,6 @@ begun_without n f = subst IsBegun (drop-drop (prefix_len is_separator (drop n f.
 filled : (t m : List ℕ) → t ≡ codes "CSM(" ++ m → 1 ≤ length t
 filled t m is = omega (arith, ap length is)
 
--- a message that is handed out isn't empty
-message_long : (old : Feeding) (a : Arrival) (new : Feeding) → Hands old a new → 1 ≤ a.parsed.len
-message_long old a new h = by (a.parsed.len) (take a.parsed.len old.held) refl (filled (take a.parsed.len old.held) _ h.read.spelled.text)
-  where
-    by : (n : ℕ) (t : List ℕ) → t ≡ take n old.held → 1 ≤ length t → 1 ≤ n
-    by zero t is long = absurd (omega (arith, ap length is, long))
-    by (suc n) t is long = omega arith
-
 module _ (moment : ℕ) (stream lines : List ℕ) (at : ℕ) (goes_on : Bool) (on : goes_on ≡ true) (old : Feeding) (t : IsTaking moment stream lines at goes_on old) where
   pub message : (a : Arrival) (new : Feeding) (more : List ℕ) → Hands old a new → HandsOut old (next.Message a) new → more ≡ lines ++ line_text moment a.text → IsTaking moment stream more at goes_on new
   message a new more h out is = record {
@@ -78,12 +70,6 @@ module _ (moment : ℕ) (stream lines : List ℕ) (at : ℕ) (goes_on : Bool) (o
     unrefused = ap (λ (g : Feeding). g.refusal) h.released ∙ t.unrefused;
     ended = λ no. absurd (true≢false (sym on ∙ no));
   }
-
-  pub message_less : (a : Arrival) (new : Feeding) → Hands old a new → left_of stream at goes_on new < left_of stream at goes_on old
-  message_less a new h =
-      let gone = a.parsed.len + prefix_len is_separator (drop a.parsed.len old.held) in
-      let held : length new.held ≡ length old.held - gone = ap (λ (g : Feeding). length g.held) h.released ∙ length-drop gone old.held in
-      omega (arith, held, message_long old a new h, h.read.within)
 
   -- where nothing more is handed out, the next bytes are pushed
   module _ (mid new : Feeding) (rest : List ℕ) (count at_new : ℕ) (goes_new : Bool) (waits : IsWaiting old.held) (same : mid ≡ old) (rest_is : rest ≡ drop at stream) (count_within : count ≤ length rest)
@@ -164,26 +150,6 @@ module _ (moment : ℕ) (stream lines : List ℕ) (at : ℕ) (goes_on : Bool) (o
       unrefused = ap (λ (g : Feeding). g.refusal) new_is ∙ t.unrefused;
       ended = λ no. (at_end ends short most (zero_of no), subst (λ (g : Feeding). IsWaiting g.held) (sym (none_pushed (zero_of no))) waits);
     }
-
-    held_less : length new.held ≤ length old.held + count
-    held_less =
-        let is = ap (λ (g : Feeding). length g.held) new_is in
-        let long = length-append old.held (drop (gap_before old.held (take count rest)) (take count rest)) in
-        let dropped = length-drop (gap_before old.held (take count rest)) (take count rest) in
-        let taken : length (take count rest) ≤ count = few count rest in
-        omega (arith, is, long, dropped, taken)
-      where
-        few : (n : ℕ) (xs : List ℕ) → length (take n xs) ≤ n
-        few zero xs = omega arith
-        few (suc n) [] = omega arith
-        few (suc n) (x ∷ xs) = omega (arith, few n xs)
-
-    pub push_less : left_of stream at_new goes_new new < left_of stream at goes_on old
-    push_less = by_test goes_new refl
-      where
-        by_test : (b : Bool) → goes_new ≡ b → left_of stream at_new b new < left_of stream at goes_on old
-        by_test true goes = omega (arith, ap turn on, ltb-true 0 count (sym goes_is ∙ goes), held_less, at_is, count_within, left_bytes, t.within)
-        by_test false stops = omega (arith, ap turn on, zero_of stops, held_less, at_is, t.within)
 
   -- what stands behind the messages begins none
   pub refused : FaultStays → (r : ReadRefusal) → IsRefusedAfter old.before old.held r → IsRefusedStream stream r

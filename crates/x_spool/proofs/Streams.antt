@@ -17,9 +17,6 @@ module _ (one : OneAnswer) (stays : ReadStays) where
   unread_nothing : IsUnread []
   unread_nothing = cutting.ends_unread 0 [] None one (inl refl)
 
-  no_rest : (stream : List ℕ) → stream ≡ stream ++ []
-  no_rest stream = sym (append-nil stream)
-
   same_list : (stream : List ℕ) (ms ns : List Arrival) → AreMessages stream ms → AreMessages stream ns → ms ≡ ns
   same_list stream ms ns first second = (cutting.one_list ms ns stream stream [] [] one stays first second refl tt tt unread_nothing unread_nothing).0
 

@@ -1,6 +1,6 @@
 -- What became of a batch of a party on a shelf (this project's profile). `party_disk` and `spool_disk` are what the shelf tells of
 -- the two disks before the call, and `party_after` and `spool_after` what it tells of them afterwards.
-use Rattle.std.specs.Prelude.{◌≡◌, ◌⊎◌, ℕ, List, length, Some, is_some}
+use Rattle.std.specs.Prelude.{◌≡◌, ℕ, List, length, Some, is_some}
 use Rattle.x_disk.specs.Disk.{View, Tells, IsDurable, IsUntouched}
 use Rattle.member.specs.Member.{Member}
 use Rattle.node_core.specs.Turns.{IsImageOf}

@@ -1,6 +1,5 @@
 // The batch is driven over the two disks.
 ghost use Rattle.std.specs.Prelude.{◌≡◌};
-ghost use Rattle.key_store.specs.Store.{IsStore};
 ghost use Rattle.spool_store.specs.Spools.{outbox_of};
 ghost use Rattle.x_spool.specs.Steps.{HandsOut, HasActed, IsEnd, driven_disks, outcome_of_spool, two_disks};
 

@@ -1,5 +1,5 @@
 // The end of a message.
-ghost use Rattle.std.specs.Prelude.{◌≡◌, ◌<◌, ℕ, List, true, false, IsSome};
+ghost use Rattle.std.specs.Prelude.{◌≡◌, ◌<◌, List, true, false, IsSome};
 ghost use Rattle.csm_grammar.specs.declared.tag.Tag.TheVariants.{Mac, Edc};
 ghost use Rattle.csm_grammar.specs.Spelling.{Field, tags_in, message_limit};
 ghost use Rattle.csm_read.specs.Faults.{forms_left, missing_of};

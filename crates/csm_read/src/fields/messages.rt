@@ -1,5 +1,5 @@
 // A message of the fields that came.
-ghost use Rattle.std.specs.Prelude.{◌≡◌, IfOk, IsSome};
+ghost use Rattle.std.specs.Prelude.{IfOk, IsSome};
 ghost use Rattle.csm_grammar.specs.declared.form.Form.TheVariants.{F1, F2, F3, F4, F5, F6, F7, F8, F9, F10, F11, F12, F13};
 ghost use Rattle.csm_read.specs.Building.{ArePresent, IsSecondPresent, IsBuilt};
 ghost use Rattle.csm_read.specs.Denoting.{second_value};

@@ -3,7 +3,7 @@ ghost use Rattle.std.specs.Prelude.{◌≡◌, ◌||◌, IsSome, IfOk, option_ma
 ghost use Rattle.csm_grammar.specs.declared.tag.Tag.TheVariants.{Erf, DoubleKk, Iv, Edk, P};
 ghost use Rattle.csm_grammar.specs.Values.{kind_of};
 ghost use Rattle.csm_grammar.specs.Values.Value.{AText, AName, AService, ANumber, APair};
-ghost use Rattle.csm_grammar.specs.Values.Kind.{OfIdent, OfService, OfName, OfLabel, OfPair, OfKey, OfCount, OfText, OfCode};
+ghost use Rattle.csm_grammar.specs.Values.Kind.{OfIdent, OfService, OfName, OfLabel, OfKey, OfCount, OfText, OfCode};
 ghost use Rattle.csm_read.specs.Building.{AreExtras};
 ghost use Rattle.csm_read.specs.Denoting.{value_at, second_value};
 ghost use Rattle.csm_read.specs.Slotting.{came};

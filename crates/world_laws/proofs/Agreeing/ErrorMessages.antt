@@ -74,12 +74,6 @@ asks_for p (Some (SentKey s)) ctr = tt
 asks_for p (Some (SentTwins t)) ctr = refl
 asks_for p (Some (Translated value cta)) ctr = refl
 
-pub asks_none : (o : Option ErrorSubject) → AsksFor o None
-asks_none None = tt
-asks_none (Some (SentKey s)) = tt
-asks_none (Some (SentTwins t)) = refl
-asks_none (Some (Translated value cta)) = refl
-
 given_parts : (s : Party) (m : Esm) (value : ℕ) (link : Option LinkRec) (ctr : Option ℕ) (l : Option LinkRec) (k : KeyRec) (r : Option Retry)
     → ((apply (raised link ctr ++ ((dropped l ++ PutKey k ∷ []) ++ DropExchange m.originator ∷ asked_again s m value r)) s).keys ≡ put_row record_key same_record k s.keys) × GivenUp s (apply (raised link ctr ++ ((dropped l ++ PutKey k ∷ []) ++ DropExchange m.originator ∷ asked_again s m value r)) s) m value
 given_parts s m value None ctr None k None = (refl, quietly refl)

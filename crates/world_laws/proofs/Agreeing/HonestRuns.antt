@@ -28,7 +28,6 @@ use Rattle.world_laws.specs.Laws.{HasAccepted, partner_of, IsEndedAt}
 use Rattle.member.specs.Member.{Member}
 use Rattle.world_laws.specs.World.{Fact, Acceptance, World, own_of, member_at}
 use Rattle.x_base.specs.declared.key_name.KeyName.{KeyName}
-use Rattle.x_base.specs.declared.verdict.Verdict.TheVariants.{BadMac, WeakDraws, UnknownKk}
 use Rattle.party_state.specs.declared.command.Input.{Input}
 use Rattle.party_state.specs.declared.command.Input.TheVariants as input
 use Rattle.world_laws.proofs.Texts.Names.{IsNamed}

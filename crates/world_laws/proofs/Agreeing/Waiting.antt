@@ -1,5 +1,5 @@
 -- What an exchange waits for.
-use Rattle.std.proofs.Common.{arith, ◌≡◌, ◌⊎◌, inl, ℕ, ◌≤◌, Option, Some, None, List, [], refl, ap, subst}
+use Rattle.std.proofs.Common.{arith, ◌≡◌, ◌⊎◌, inl, ℕ, ◌≤◌, Option, Some, None, List, [], ap, subst}
 use Rattle.x_base.specs.declared.key_name.KeyName.{KeyName}
 use Rattle.x_mac.specs.declared.pair.Pair.{Pair}
 use Rattle.csm_grammar.specs.declared.message.KsmBody.{KsmBody}
@@ -76,13 +76,6 @@ NewsMove s t = (peer : List ℕ) (e : Exchange) (name : KeyName) (new : List ℕ
 
 pub news_stay : (s t : Party) → t.exchanges ≡ s.exchanges → NewsMove s t
 news_stay s t e peer x name new h n w = inl (subst (λ (es : List Exchange). exchange_with peer (record s { exchanges = es }) ≡ Some x) e h)
-
-pub new_has_name : (k : Kind) (new : List ℕ) → new_of k ≡ Some new → (name : KeyName) × (sent_name_by k ≡ Some name)
-new_has_name (kind.KeySent name via) new h = (name, refl)
-new_has_name (kind.Asked ultimate) new h = absurd (cc)
-new_has_name (kind.Translating ultimate value cta) new h = absurd (cc)
-new_has_name (kind.Ending name) new h = absurd (cc)
-new_has_name (kind.PairSent name) new h = absurd (cc)
 
 -- a name that is past isn't a new one
 pub mine_not_new : (fs : List Fact) (s : Party) (k : RecordKey) → Mine fs s k → NewSent s k.peer k.name → ⊥

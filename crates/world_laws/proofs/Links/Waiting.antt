@@ -90,18 +90,6 @@ abbrev pub AllCalm : Party → List Edit → Type 0
 AllCalm s [] = Unit {0}
 AllCalm s (e ∷ es) = Calm s e × AllCalm (apply_edit e s) es
 
--- a link after a calm edit was there before, and unready where it was
-pub edit_unready : (s : Party) (e : Edit) → Calm s e → (k : LinkKey) (n : LinkRec) → link_with k (apply_edit e s) ≡ Some n → WasUnready s k n
-edit_unready s (Begin own role generator) c k n h = absurd c
-edit_unready s (PutLink m) c k n h = put_unready s m c.0 c.1 c.2 k n h
-edit_unready s (DropLink peer label side) c k n h = drop_unready s (record { peer = peer; label = label; side = side }) k n h
-edit_unready s (PutKey x) c k n h = (n, h, λ u. u)
-edit_unready s DropEnded c k n h = (n, h, λ u. u)
-edit_unready s (PutExchange e) c k n h = (n, h, λ u. u)
-edit_unready s (DropExchange peer) c k n h = (n, h, λ u. u)
-edit_unready s (PutAnswer a) c k n h = (n, h, λ u. u)
-edit_unready s (SetGen v) c k n h = (n, h, λ u. u)
-
 edit_waits : (s : Party) (e : Edit) → Calm s e → Waits s → Waits (apply_edit e s)
 edit_waits s (Begin own role generator) c w = absurd c
 edit_waits s (PutLink m) c w = waits_links s (apply_edit (PutLink m) s) refl (put_unready s m c.0 c.1 c.2) w

@@ -22,7 +22,6 @@ use Rattle.std.proofs.Common.{◌≡◌, ℕ, Option, Some, None, List, [], ◌�
 use Rattle.std.specs.Prelude.{option_map}
 use Rattle.world_laws.proofs.Links.Found.{HasLinks}
 use Rattle.x_base.specs.declared.key_name.FullName.{FullName}
-use Rattle.x_base.specs.declared.verdict.Verdict.TheVariants.{BadMac, WeakDraws, UnknownKk}
 use Rattle.std.proofs.Common.{IfSome}
 use Rattle.x_base.specs.Names.{IsIdent}
 use Rattle.x_base.specs.Count.{IsCount}

@@ -13,7 +13,6 @@ use Rattle.party_tables.specs.declared.link.LinkRec.{LinkRec}
 use Rattle.std.proofs.Common.{arith, ◌≡◌, ℕ, ◌+◌, Bool, true, false, not, cond, Option, Some, None, List, [], ◌∷◌, ◌++◌, refl}
 use Rattle.world_laws.proofs.Texts.Own.{IsOwn}
 use Rattle.x_base.specs.declared.verdict.Verdict.{Verdict}
-use Rattle.x_base.specs.declared.verdict.Verdict.TheVariants.{BadMac, WeakDraws, UnknownKk}
 use Rattle.std.specs.List.{AllByRecursion}
 use Rattle.std.proofs.Common.{IfSome}
 use Rattle.std.proofs.lemmas.Bool.{leb-true}

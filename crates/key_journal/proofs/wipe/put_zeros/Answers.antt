@@ -1,4 +1,4 @@
-use Rattle.std.proofs.Common.{replicate, subst}
+use Rattle.std.proofs.Common.{subst}
 use Rattle.std.proofs.lemmas.List.{take-replicate}
 use Rattle.x_disk.specs.Calls.{IsWriting}
 use Rattle.key_journal.proofs.wipe.put_zeros.Goals as goal

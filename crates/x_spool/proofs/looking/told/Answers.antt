@@ -1,4 +1,4 @@
-use Rattle.std.proofs.Common.{◌∙◌, ap, arith, length}
+use Rattle.std.proofs.Common.{arith}
 use Rattle.x_spool.proofs.looking.told.Goals as goal
 
 pub overflow_cast-missing : goal.overflow_cast-missing
