@@ -88,4 +88,3 @@ translated_verdict p a m t x v e i = e ∙ ap (λ (y : Lead). verdict_of (transl
 
 pub translated_refuses : (p : Party) (a : Arrival) (m : Rtr) (t : KeyAtCentre) (x : Lead) (v : Verdict) → v ≡ verdict_of (translated_front p m (Some t) ++ (x.verified, BadMac) ∷ rtr_rest p m) → x ≡ lead_under a (translated_under p m t) t.value → is_accept v ≡ false → refusal_of v ≡ decision_of p (translated p a m (Some t))
 translated_refuses p a m t x v e i f = refuses p (translated p a m (Some t)) v (translated_verdict p a m t x v e i) f refl
-

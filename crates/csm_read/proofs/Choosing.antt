@@ -143,4 +143,3 @@ ready b done at a h =
     let e = x.fields ∙ ap fields_from a.are in
     let pass = subst (AllPass []) e x.pass in
     ready_fields (fields_from done) pass (whole_form (fields_from done) pass (subst (λ (fs : List Field). list_any is_closing (tags_in fs) ≡ true) e x.closes))
-

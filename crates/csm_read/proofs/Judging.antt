@@ -133,4 +133,3 @@ endless b place done j u s =
 waiting : (s : Stretch) → waits s ≡ true → units (s ∷ []) ≡ []
 unfolding units
 waiting s h = rw h refl
-

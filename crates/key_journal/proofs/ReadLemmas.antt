@@ -269,4 +269,3 @@ judged_same image front gate end size long within is enough =
   where
     lt_true : (a b : ℕ) → a < b → nat_lt a b ≡ true
     lt_true a b lt = grind (arith, nat_tests)
-

@@ -84,7 +84,6 @@ pub fn prepare<D: Disk>(disk: D) -> Result<Blank<D>, Unmade<D>>
 }
 
 impl<D: Disk> Blank<D> {
-
     /// Makes a journal with this frame's body alone: writes all but the file's gate, syncs, opens the gate, and syncs.
     pub fn create(self, frame: &[u8]) -> Result<Ready<D>, Broken<D>>
         requires { IsFrame frame.now }

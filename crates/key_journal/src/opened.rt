@@ -62,7 +62,6 @@ pub fn open_disk<D: Disk>(disk: D) -> Result<Opened<D>, Unmade<D>>
 }
 
 impl<D: Disk> Broken<D> {
-
     /// Opens the journal anew: `open_disk` over its disk.
     pub fn reopen(self) -> Result<Opened<D>, Unmade<D>>
         ensures { IsOpening D.told self.disk result }

@@ -159,7 +159,6 @@ impl<D: Disk> Ready<D> {
 }
 
 impl<D: Disk> Staged<D> {
-
     /// Opens the gate and syncs: from `Ok` on, the new body counts. Takes no memory itself.
     pub fn commit(self) -> Result<Ready<D>, Broken<D>>
         ensures { IsCommit D.told self result }

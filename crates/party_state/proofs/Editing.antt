@@ -41,4 +41,3 @@ party_edit (SetGen v) p r i = record { own = i.own; generator = record { key = i
 pub party_apply : (es : List Edit) (p : Party) → AreInRange es → IsParty p → IsParty (apply es p)
 party_apply [] p r i = i
 party_apply (e ∷ es) p r i = party_apply es (apply_edit e p) (All-tail InRange e es r) (party_edit e p (All-head InRange e es r) i)
-

@@ -41,4 +41,3 @@ held_after (t ∷ ts) us h = let later : TestsHold ts × TestsHold us = held_aft
 pub verdict_after : (ts us : List Test) → TestsHold ts → verdict_of (ts ++ us) ≡ verdict_of us
 verdict_after [] us h = refl
 verdict_after (t ∷ ts) us h = rw h.0 (verdict_after ts us h.1)
-

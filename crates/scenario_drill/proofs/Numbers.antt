@@ -37,8 +37,6 @@ key_read n low =
     ap (λ r. option_map (from_be_bytes w64) (result_ok r)) (decode_sized-twice (encode_upper (to_be_bytes w64 n)) 8 size ∙ decode_of-encode_upper (to_be_bytes w64 n) (bytes_below 8 n))
     ∙ ap Some (from_be_bytes-to_be_bytes_8 n low)
 
-unfolding encode_with
-
 index_plain : (bs : List ℕ) (i : ℕ) → are_plain bs ≡ true → is_plain (slice_index bs i) ≡ true
 index_plain [] zero plain = refl
 index_plain [] (suc i) plain = refl

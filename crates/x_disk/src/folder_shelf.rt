@@ -30,7 +30,6 @@ impl<R: LockingFiles + Clone + Drop> FolderShelf<R> {
 }
 
 impl<R: LockingFiles + Clone + Drop> Shelf for FolderShelf<R> {
-
     type Disk = FileDisk<R>;
 
     ghost entry = { λ s name. untold 0 };

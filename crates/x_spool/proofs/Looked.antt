@@ -103,7 +103,6 @@ rose_from first mid last le (inr most) = inr most
 
 -- the disk wasn't fetched
 module _ {D : Type 0} (told : D → View) (name : List ℕ) (old new : ShelfView) (o : OutboxOutcome) (out : IsTaken told name old new (Err o)) where
-
   unanswered : (o ≡ outbox.NoMemory) ⊎ ((o ≡ outbox.Fault) × Rose old.faults new.faults) → IsNoFailure o → ⊥
   unanswered (inl is) answered = subst IsNoFailure is answered
   unanswered (inr is) answered = subst IsNoFailure is.0 answered
