@@ -58,7 +58,6 @@ module _ {R K : Type 0} (key : R → K) (same : K → K → Bool) (P : R → Typ
       go rest false = (h.0, rest)
 
 module _ {R : Type 0} (P : R → Type 0) where
-
   pub each_filter : (test : R → Bool) (rs : List R) → AllByRecursion P rs → AllByRecursion P (filter test rs)
   each_filter test [] h = tt
   each_filter test (r ∷ rs) h = go (each_filter test rs h.1) (test r)
