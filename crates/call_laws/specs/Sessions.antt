@@ -5,15 +5,12 @@ use Rattle.x_disk.specs.Disk.{View, IsDurable, Tells}
 use Rattle.x_disk.specs.Shelf.{OthersStay}
 use Rattle.party_state.specs.declared.command.Input.TheVariants as input
 use Rattle.member.specs.Member.{Member}
-use Rattle.x_party.specs.Images.{ReadsAs, DiskStandsFor}
+use Rattle.x_party.specs.Images.{DiskStandsFor}
 use Rattle.x_party.specs.Outcomes.{TakesTurn, IsSafe, CompactsParty, MigratesParty, IsSafeCompaction, IsSafeMigration}
 use Rattle.x_party.specs.declared.outcome.Outcome.{Outcome}
 use Rattle.x_party.specs.declared.outcome.Outcome.TheVariants as outcome
 use Rattle.world_laws.specs.World.{World, member_at}
-use Rattle.world_laws.specs.Events.{Action, Orders, Hears, Compacts, Migrates, Event, IsAction, AreEvents}
-use Rattle.world_laws.specs.Steps.{run}
-use Rattle.world_laws.specs.Honest.{HonestRun}
-use Rattle.world_laws.specs.Laws.{OneKeyPerCount, Once, Agreement, EndedBoth}
+use Rattle.world_laws.specs.Events.{Action, Orders, Hears, Compacts, Migrates, IsAction}
 
 -- what is done: the party of this name is called, at a moment, with an outcome; it is called, and the power fails at some moment
 -- from the beginning of the call to the end that it would have; or the power fails between two calls
@@ -85,15 +82,3 @@ texts_in (d ∷ ds) = deed_texts d ++ texts_in ds
 -- the disks tell, and stand for the members of the network
 abbrev pub StandsOn : (List ℕ → View) → World → Type 0
 StandsOn disks w = (name : List ℕ) (x : Member) → member_at name w.members ≡ Some x → Tells (disks name) × DiskStandsFor (disks name) x.party x.space
-
--- there are events from this start after which the network reads from the disks, and has written these texts; so the laws hold
--- of it
-pub record EndsAsRun (start : World) (disks : List ℕ → View) (texts : List (List ℕ)) : Type 0 where
-  pub events : List Event
-  pub are_events : AreEvents events
-  pub reads : (name : List ℕ) (x : Member) → member_at name (run 1 start events).members ≡ Some x → Tells (disks name) × ReadsAs (disks name) x.party x.space
-  pub texts_are : (run 1 start events).texts ≡ start.texts ++ texts
-  pub counts : OneKeyPerCount (run 1 start events)
-  pub once : Once (run 1 start events)
-  pub agreement : HonestRun 1 start events → Agreement (run 1 start events)
-  pub ended : HonestRun 1 start events → EndedBoth (run 1 start events)

@@ -9,7 +9,8 @@ use key_store::law_one_finding;
 use x_disk::Shelf;
 use x_party::law_one_space;
 
-/// The run that a session is has an event for each call that answered, done whole, and in its place; for each call that ended with a
+/// What a bank does day by day is a run: commands (but loading), arriving bytes, compactions and migrations, each called over its own
+/// party's disk, with power failures between calls and inside them, from disks that stand for a start. The run has an event for each call that answered, done whole, and in its place; for each call that ended with a
 /// fault or with no memory, or in which the power failed, its event cut off, with the old party or the new one, or none; and no
 /// others. After it the disks stand for the network, what was handed out, joined, is what it has written, and the laws of runs hold
 /// of it.

@@ -5,13 +5,11 @@
 mod calls;
 mod deeds;
 mod failing;
-mod sessions;
 mod set_up;
 mod turns;
 
 pub use calls::law_calls;
 pub use deeds::law_deeds;
 pub use failing::law_failed;
-pub use sessions::law_session;
 pub use set_up::{law_from_nothing, law_rules, law_set_up};
 pub use turns::law_turns;
