@@ -43,7 +43,7 @@ What to do: \"A full journal\".
         }
         18 => {
             "
-init, replay: the file has a party, or is damaged.
+init, create, replay: the file has a party, or is damaged.
 What to do: another identity, or another folder.
 "
         }
@@ -142,14 +142,15 @@ What to do: agree on another: a key-encrypting key is loaded once.
         }
         34 => {
             "
-load: the peer's identity, repeated to sixteen letters, is another known party's, or this one's.
+load, enter: the peer's identity, repeated to sixteen letters, is another known party's, or this
+one's.
 What to do: another identity.
 "
         }
         37 => {
             "
-No such party in the current folder.
-What to do: init, or the right folder.
+No such party in the current folder; at outbox, no such spool.
+What to do: create or init, or the right folder or name.
 "
         }
         38 => {
