@@ -34,7 +34,8 @@ fn trailing(bytes: &[u8], end: usize) -> Option<u64>
     }
 }
 
-/// What is heard where a message was read: the message, unless a byte that is no separator follows it, at this place of the input.
+/// What is heard where a message was read: the message, unless something that isn't taken follows it, at this place of the input.
+/// That is a byte that is no separator, or the last of 2,049 bytes.
 fn heard(arrival: Arrival, follows: Option<u64>) -> Result<Arrival, Unheard>
     ensures message { IfOk result (λ a. (a ≡ arrival) × (follows ≡ None)) }
     ensures trailing { IfErr result (λ u. (place : ℕ) × (u ≡ Unheard.Trailing place) × (follows ≡ Some place)) }
@@ -45,7 +46,8 @@ fn heard(arrival: Arrival, follows: Option<u64>) -> Result<Arrival, Unheard>
     }
 }
 
-/// The one message in the bytes, with any separators before and behind it, or why they are refused.
+/// The one message in the bytes, with separators before and behind it, or why they are refused. A message with so many of them that
+/// there are 2,049 bytes is refused.
 pub fn hear(alloc: Global, bytes: &[u8]) -> Result<Result<Arrival, Unheard>, NoMemory>
     requires { length bytes.now ≤ input_limit }
     ensures heard { IfOk result (λ h. Heard bytes.now (readings h)) }

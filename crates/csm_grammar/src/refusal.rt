@@ -15,13 +15,19 @@ pub enum ReadRefusal {
     Unended(u64),
     /// A token has no `/`, or no tag of 1 to 4 bytes before it.
     BadTag(u64),
+    /// The tag is none of the standard's or of this profile's.
     UnknownTag(u64),
+    /// The tag stands before it more often than a form of the class has it.
     Repeated(Tag, u64),
+    /// A form that the fields before it fit requires this tag, which isn't there.
     Missing(Tag, u64),
     /// No form of the class has the tag beside those before it, or it stands behind the code.
     Unwanted(Tag, u64),
+    /// What stands behind the tag isn't its contents.
     BadContents(Tag, u64),
+    /// A tag of the standard that this profile doesn't have.
     Unsupported(Tag, u64),
+    /// No memory was left; it has no place.
     NoMemory,
 }
 

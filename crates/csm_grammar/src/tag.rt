@@ -1,8 +1,8 @@
 ghost use Rattle.std.specs.Prelude.{◌≡◌, ◌<◌, bytes_eq, find};
 ghost use Rattle.csm_grammar.specs.Tags.{tag_name, tag_of, tag_place, same_tag, is_closing, is_unsupported};
 
-/// The tag of a field (ANSI X9.17; `P` is this project's own), in the writer's order. `DoubleKk`
-/// is `*KK` and `DoubleKku` is `*KKU`.
+/// The tag of a field (ANSI X9.17; `P` is this project's own), in the writer's order, the unsupported
+/// ones behind. `DoubleKk` is `*KK` and `DoubleKku` is `*KKU`.
 #[derive(Clone, Copy, PartialEq, Eq)]
 pub enum Tag {
     Mcl,
@@ -114,7 +114,7 @@ impl Tag {
         tags.iter().copied().find(|tag| tag.name() == name)
     }
 
-    /// How many tags stand before it in the writer's order.
+    /// How many tags stand before it in the order of the variants.
     pub fn place(self) -> usize
         ensures place { result ≡ tag_place self }
         ensures small { result < 27 }

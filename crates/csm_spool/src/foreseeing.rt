@@ -29,7 +29,7 @@ pub enum Foreseen<D: Disk> {
         node: Node<D>,
         plan: EntryPlan,
     },
-    /// No memory was left.
+    /// No memory was left, or the plan is longer than a plan may be.
     NoMemory(Node<D>),
 }
 

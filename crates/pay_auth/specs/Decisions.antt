@@ -27,7 +27,7 @@ abbrev pub value_in : Option KeyRec → Option ℕ
 value_in None = None
 value_in (Some k) = if is_usable k.status then Some k.value else None
 
--- the value of the key of that name that is shared with that peer, where it is live
+-- the value of the key of that name that is shared with that peer, where it is live or held
 abbrev pub live_value : List ℕ → KeyName → Party → Option ℕ
 live_value peer name p = value_in (record_with (record { peer = peer; name = name }) p)
 

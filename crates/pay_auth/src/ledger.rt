@@ -30,7 +30,8 @@ impl<D: Disk> Model for Ledger<D> {
 
 impl<D: Disk> Ledger<D> {
     /// Opens the ledger for which the image stands; where it is blank, a ledger without entries is created. Comes with
-    /// `Damaged` and the place exactly at the first damage of the image.
+    /// `Damaged` and the place exactly at the first damage of the image, else with the fault of the disk or
+    /// with want of memory.
     pub fn open_ledger(alloc: Global, disk: D) -> Result<Ledger<D>, Unmade<D>>
         ensures { IsLedgerOpened D.told disk result }
     {

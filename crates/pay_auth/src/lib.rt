@@ -1,4 +1,4 @@
-//! Payments under a live key, and the ledger that takes each number once.
+//! Payments under a data key, and the ledger that takes each number once.
 #![tactic(auto)]
 
 mod accepting;

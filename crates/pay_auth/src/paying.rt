@@ -52,7 +52,7 @@ fn next_pay(
 }
 
 impl<D: Disk> Ledger<D> {
-    /// Pays an amount to a peer under a key that is live: keeps the number of the payment, which is the one behind the last,
+    /// Pays an amount to a peer under a key that is live or held: keeps the number of the payment, which is the one behind the last,
     /// and then hands its text out. The tests are, in this order: 27 where the key isn't live or held, 31 where its numbers
     /// are spent, 48 where an entry is needed and the ledger has as many as it can have.
     pub fn pay(

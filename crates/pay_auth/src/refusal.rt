@@ -16,7 +16,7 @@ pub enum PayRefusal {
     /// The payment is for another party, or from this one.
     #[error("not for this party")]
     NotForMe,
-    /// The key isn't live here.
+    /// No key of that name is live or held here.
     #[error("unknown key")]
     UnknownKey,
     /// The authentication code differs.

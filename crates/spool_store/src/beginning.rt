@@ -57,7 +57,8 @@ fn first_frame(alloc: Global, batch: &Batch) -> Result<(Text, Contents), NoMemor
 impl<E: Disk> Spool<E> {
     /// Begins the spool of a batch: creates one over a blank image, and opens the one for which the image stands otherwise.
     /// Comes with `OtherBatch` exactly where the image holds a batch with other bytes, and with `Damaged` and the place
-    /// exactly at the first damage of the image. Over a disk that tells, `Blank` and `NotEmpty` never come.
+    /// exactly at the first damage of the image, else with the fault of the disk or with want of memory. Over a disk that tells,
+    /// `Blank` and `NotEmpty` never come.
     pub fn begin(alloc: Global, disk: E, batch: &Batch) -> Result<Spool<E>, Unbegun<E>>
         ensures { IsBegun E.told batch.now.0 batch.now.1 disk result }
     {

@@ -19,7 +19,7 @@ pub enum Committed<E: Disk> {
     Done(Spool<E>),
     /// The disk failed. The spool has to be begun again.
     Broken(Broken<E>),
-    /// No memory was left; nothing changed.
+    /// No memory or no room was left; nothing changed. The limits of a batch and of a plan leave room.
     NoMemory(Spool<E>),
 }
 

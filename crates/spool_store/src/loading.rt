@@ -10,7 +10,8 @@ use x_disk::Disk;
 
 impl<E: Disk> Spool<E> {
     /// Opens the spool for which the image stands, whatever batch it holds; nothing is written. Comes with `Blank` exactly
-    /// where the image is blank, and with `Damaged` and the place exactly at its first damage.
+    /// where the image is blank, and with `Damaged` and the place exactly at its first damage, else with the fault of the disk or
+    /// with want of memory.
     pub fn load(alloc: Global, disk: E) -> Result<Spool<E>, Unmade<E>>
         ensures { IsSpoolOpened E.told disk result }
     {

@@ -53,24 +53,32 @@ impl OrderKind {
             (OrderKind::Spool, Opt::Party | Opt::Spool) => Need::Required,
             (OrderKind::Outbox, Opt::Spool) => Need::Required,
             (OrderKind::Drill, Opt::Seed | Opt::Events) => Need::Required,
-            (OrderKind::Compare, Opt::Party | Opt::Mirror) => Need::Required,
-            (
-                OrderKind::Init
-                | OrderKind::Create
-                | OrderKind::Load
-                | OrderKind::Enter
-                | OrderKind::Start
-                | OrderKind::StartKk
-                | OrderKind::Ask
-                | OrderKind::Translate
-                | OrderKind::Take
-                | OrderKind::Resend
-                | OrderKind::End
-                | OrderKind::Drop
-                | OrderKind::Purge
-                | OrderKind::Show,
-                Opt::Mirror,
-            ) => Need::Optional,
+            (OrderKind::Compare, Opt::Party) => Need::Required,
+            (_, Opt::Mirror) => self.need_of_mirror(),
+            _ => Need::Refused,
+        }
+    }
+
+    /// The row of the second disk.
+    fn need_of_mirror(self) -> Need
+        ensures { result ≡ need_of self Opt.Mirror }
+    {
+        match self {
+            OrderKind::Compare => Need::Required,
+            OrderKind::Init
+            | OrderKind::Create
+            | OrderKind::Load
+            | OrderKind::Enter
+            | OrderKind::Start
+            | OrderKind::StartKk
+            | OrderKind::Ask
+            | OrderKind::Translate
+            | OrderKind::Take
+            | OrderKind::Resend
+            | OrderKind::End
+            | OrderKind::Drop
+            | OrderKind::Purge
+            | OrderKind::Show => Need::Optional,
             _ => Need::Refused,
         }
     }
