@@ -3,8 +3,7 @@
 use Rattle.std.specs.Prelude.{ℕ, zero, suc, ◌+◌, ◌==◌, ◌&&◌, List, [], ◌∷◌, length, take, drop, slice_index, bit_xor, Option, Some, None, option_map, option_and_then, Result, Ok, Err, if◌then◌else◌}
 use Rattle.std.specs.List.{position}
 use Rattle.x_mac.specs.declared.pair.Pair.{Pair}
-use Rattle.x_line.specs.Values.{one_or_two_of}
-use Rattle.x_values.specs.Words.{key_of, pair_of}
+use Rattle.x_values.specs.Words.{key_of, one_or_two_of, pair_of}
 use Rattle.key_parts.specs.declared.part.Form.{Form}
 use Rattle.key_parts.specs.declared.part.Form.TheVariants as form
 use Rattle.key_parts.specs.declared.part.Part.{Part}

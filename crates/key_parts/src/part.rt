@@ -2,9 +2,8 @@
 ghost use Rattle.std.specs.Prelude.{◌≡◌};
 ghost use Rattle.key_parts.specs.Parts.{generator_of, joined_with, part_of};
 
-use x_line::one_or_two;
 use x_mac::Pair;
-use x_values::{read_key, read_pair};
+use x_values::{read_key, read_one_or_two, read_pair};
 
 /// What each line of an input spells.
 #[derive(Clone, Copy)]
@@ -57,7 +56,7 @@ pub(crate) fn read_part(form: Form, line: &[u8]) -> Option<Part>
 {
     match form {
         Form::Key => Some(Part {
-            pair: one_or_two(line)?,
+            pair: read_one_or_two(line)?,
             seed: 0,
         }),
         Form::Generator => generator(line),

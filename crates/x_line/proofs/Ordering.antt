@@ -13,8 +13,8 @@ use Rattle.x_line.specs.Laws.{HasOrder, OneOrder}
 use Rattle.x_line.specs.Line.{is_line, rows_of_line}
 use Rattle.x_line.specs.Orders.{HasValues, IsGiven, Says, is_whole, kind_of, mirror_of}
 use Rattle.x_line.specs.Usage.{bad_of, first_fault, missing_of, options_fault, rows_fault, unwanted_of}
-use Rattle.x_line.specs.Values.{events_of, one_or_two_of, role_of, side_of}
-use Rattle.x_values.specs.Words.{count_of, ident_of, key_name_of, key_of, label_of, number_of, pair_of}
+use Rattle.x_line.specs.Values.{events_of, role_of, side_of}
+use Rattle.x_values.specs.Words.{count_of, ident_of, key_name_of, key_of, label_of, number_of, pair_of, one_or_two_of}
 use Rattle.x_line.proofs.Checking.{whole}
 
 -- ---- one order at most

@@ -7,8 +7,8 @@ use Rattle.x_line.specs.declared.opt.Opt.{Opt}
 use Rattle.x_line.specs.declared.opt.Opt.TheVariants as opt
 use Rattle.x_line.specs.OrderKinds.{named}
 use Rattle.x_line.specs.Options.{name_of}
-use Rattle.x_line.specs.Values.{events_of, one_or_two_of, other_than, role_of, side_of}
-use Rattle.x_values.specs.Words.{count_of, ident_of, key_name_of, key_of, label_of, number_of, pair_of}
+use Rattle.x_line.specs.Values.{events_of, other_than, role_of, side_of}
+use Rattle.x_values.specs.Words.{count_of, ident_of, key_name_of, key_of, label_of, number_of, pair_of, one_or_two_of}
 
 -- the word in the place of the command
 abbrev pub word_of : List Row → Option Text

@@ -14,8 +14,8 @@ use Rattle.x_line.specs.Line.{rows_of_line}
 use Rattle.x_line.specs.Needs.{is_required, need_of}
 use Rattle.x_line.specs.Options.{options}
 use Rattle.x_line.specs.Usage.{usage_of}
-use Rattle.x_line.specs.Values.{events_of, one_or_two_of, role_of, side_of}
-use Rattle.x_values.specs.Words.{count_of, ident_of, key_name_of, key_of, label_of, number_of, pair_of}
+use Rattle.x_line.specs.Values.{events_of, role_of, side_of}
+use Rattle.x_values.specs.Words.{count_of, ident_of, key_name_of, key_of, label_of, number_of, pair_of, one_or_two_of}
 
 -- of which kind an order is
 abbrev pub kind_of : Order → OrderKind

@@ -1,13 +1,12 @@
 -- What the value of an option stands for, where it is none of those that a scenario has too: this
 -- project's profile.
-use Rattle.std.specs.Prelude.{ℕ, ◌==◌, List, length, Option, Some, None, codes, if◌then◌else◌}
+use Rattle.std.specs.Prelude.{ℕ, List, Option, Some, None, codes, if◌then◌else◌}
 use Rattle.std.specs.Str.{bytes_eq}
 use Rattle.x_base.specs.declared.party.Role.{Role}
 use Rattle.x_base.specs.declared.party.Role.TheVariants as role
 use Rattle.x_base.specs.declared.party.Side.{Side}
 use Rattle.x_base.specs.declared.party.Side.TheVariants as side
-use Rattle.x_mac.specs.declared.pair.Pair.{Pair}
-use Rattle.x_values.specs.Words.{key_of, pair_of, pair_with, plain_number_within}
+use Rattle.x_values.specs.Words.{plain_number_within}
 
 -- what a party is
 abbrev pub role_of : List ℕ → Option Role
@@ -23,11 +22,6 @@ side_of text =
     if bytes_eq text (codes "out") then Some side.Sends
     else if bytes_eq text (codes "in") then Some side.Takes
     else None
-
--- a pair, or one key as a pair of equal halves
-abbrev pub one_or_two_of : List ℕ → Option Pair
-one_or_two_of digits =
-    if length digits == 16 then pair_with (key_of digits) (key_of digits) else pair_of digits
 
 -- a name other than the one that is taken, if one is
 abbrev pub other_than : Option (List ℕ) → List ℕ → Option (List ℕ)

@@ -21,4 +21,3 @@ pub use opt::{OPTIONS, Opt};
 pub use order::{Given, Order, read_order};
 pub use order_kind::{ORDER_KINDS, OrderKind};
 pub use usage::{LineFault, UsageKind};
-pub use values::one_or_two;

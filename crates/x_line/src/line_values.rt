@@ -1,8 +1,8 @@
 // What the options of a command line stand for.
 ghost use Rattle.std.specs.Prelude.{◌≡◌};
 ghost use Rattle.x_line.specs.LineValues.{named_kind, given, is_valid, other_of};
-ghost use Rattle.x_line.specs.Values.{events_of, one_or_two_of, role_of, side_of};
-ghost use Rattle.x_values.specs.Words.{count_of, ident_of, key_name_of, key_of, label_of, number_of, pair_of};
+ghost use Rattle.x_line.specs.Values.{events_of, role_of, side_of};
+ghost use Rattle.x_values.specs.Words.{count_of, ident_of, key_name_of, key_of, label_of, number_of, pair_of, one_or_two_of};
 
 use crate::line::Line;
 use crate::opt::Opt;
@@ -61,7 +61,7 @@ impl Line<'_> {
     pub(crate) fn loaded_pair(&self) -> Option<Pair>
         ensures { result ≡ given one_or_two_of Opt.Key self.now }
     {
-        values::one_or_two(self.text(Opt::Key)?.as_bytes())
+        x_values::read_one_or_two(self.text(Opt::Key)?.as_bytes())
     }
 
     pub(crate) fn name(&self) -> Option<KeyName>

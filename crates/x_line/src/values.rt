@@ -1,10 +1,9 @@
 // The values that the command line alone has.
 ghost use Rattle.std.specs.Prelude.{◌≡◌};
-ghost use Rattle.x_line.specs.Values.{events_of, one_or_two_of, other_than, role_of, side_of};
+ghost use Rattle.x_line.specs.Values.{events_of, other_than, role_of, side_of};
 
 use x_base::{Ident, Role, Side};
-use x_mac::Pair;
-use x_values::{read_key, read_pair, read_plain_number_within};
+use x_values::read_plain_number_within;
 
 /// What a party is.
 pub(crate) fn role(text: &str) -> Option<Role>
@@ -26,19 +25,6 @@ pub(crate) fn side(text: &str) -> Option<Side>
         "out" => Some(Side::Sends),
         "in" => Some(Side::Takes),
         _ => None,
-    }
-}
-
-/// A pair of keys, or one key as a pair of equal halves.
-pub fn one_or_two(digits: &[u8]) -> Option<Pair>
-    ensures { result ≡ one_or_two_of digits.now }
-{
-    match read_key(digits) {
-        Some(key) => Some(Pair {
-            left: key,
-            right: key,
-        }),
-        None => read_pair(digits),
     }
 }
 

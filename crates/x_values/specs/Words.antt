@@ -42,6 +42,11 @@ pair_of digits =
     if length digits == 32 then pair_with (key_of (take 16 digits)) (key_of (drop 16 digits))
     else None
 
+-- a pair, or one key as a pair of equal halves
+abbrev pub one_or_two_of : List ℕ → Option Pair
+one_or_two_of digits =
+    if length digits == 16 then pair_with (key_of digits) (key_of digits) else pair_of digits
+
 -- the number that decimal digits, one or more, write in 64 bits
 abbrev pub decimal_of : List ℕ → Option ℕ
 decimal_of digits =

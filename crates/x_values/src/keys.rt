@@ -1,5 +1,5 @@
 ghost use Rattle.std.specs.Prelude.{◌≡◌};
-ghost use Rattle.x_values.specs.Words.{key_of, pair_of};
+ghost use Rattle.x_values.specs.Words.{key_of, one_or_two_of, pair_of};
 
 use hex::FromHex;
 use x_mac::Pair;
@@ -26,4 +26,17 @@ pub fn read_pair(digits: &[u8]) -> Option<Pair>
         left: read_key(left)?,
         right: read_key(right)?,
     })
+}
+
+/// A pair of keys, or one key as a pair of equal halves.
+pub fn read_one_or_two(digits: &[u8]) -> Option<Pair>
+    ensures { result ≡ one_or_two_of digits.now }
+{
+    match read_key(digits) {
+        Some(key) => Some(Pair {
+            left: key,
+            right: key,
+        }),
+        None => read_pair(digits),
+    }
 }
