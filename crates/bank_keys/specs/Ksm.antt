@@ -75,13 +75,13 @@ body_twin (body.Direct idk2 new kd ctp) = None
 body_twin (body.Centre centre kdu ctb) = None
 body_twin (body.Twin idk2 first second ctp) = Some second
 
-abbrev pub count_behind : ℕ → Option ℕ → ℕ
-count_behind count None = count + 1
-count_behind count (Some kd) = count + 2
+abbrev pub next_behind : ℕ → Option ℕ → ℕ
+next_behind count None = count + 1
+next_behind count (Some kd) = count + 2
 
 -- the count behind those of the keys
 abbrev pub body_next : KsmBody → ℕ
-body_next b = count_behind (body_count b) (body_twin b)
+body_next b = next_behind (body_count b) (body_twin b)
 
 abbrev pub body_name : Party → List ℕ → KsmBody → LinkRec → FullName
 body_name p originator (body.Direct idk2 new kd ctp) l = arriving p l ctp

@@ -85,18 +85,18 @@ module _ (held : HeldAtAccept) (accepted : AcceptedIfHeld) where
       absurd (both_ways false refl h.1.1.1.0)
   can_translate p centre u moment (Some l) None f g e =
       let r : (translate_drawn p centre u l None).verdict ≡ Accept = ap (λ (y : Option (ℕ × Gen)). (translate_drawn p centre u l y).verdict) (sym g) ∙ e in
-      let h : TestsHold (centre_front p centre u ++ translate_tests p l None) = held (centre_front p centre u ++ translate_tests p l None) refl r in
+      let h : TestsHold (centre_front p centre u ++ translate_tests l None) = held (centre_front p centre u ++ translate_tests l None) refl r in
       absurd (both_ways false refl h.1.1.1.1.1.0)
   can_translate p centre u moment (Some l) (Some d) f g e =
       let r : (translate_drawn p centre u l (Some d)).verdict ≡ Accept = ap (λ (y : Option (ℕ × Gen)). (translate_drawn p centre u l y).verdict) (sym g) ∙ e in
-      let h : TestsHold (centre_front p centre u ++ translate_tests p l (Some d)) = held (centre_front p centre u ++ translate_tests p l (Some d)) refl r in
-      record { turns = turns p centre u (translate_tests p l (Some d)) h; link = l; in_use = f; left = leb-true l.next 99999999999999 h.1.1.1.1.0; drawn = d; draws = g }
+      let h : TestsHold (centre_front p centre u ++ translate_tests l (Some d)) = held (centre_front p centre u ++ translate_tests l (Some d)) refl r in
+      record { turns = turns p centre u (translate_tests l (Some d)) h; link = l; in_use = f; left = leb-true l.next 99999999999999 h.1.1.1.1.0; drawn = d; draws = g }
 
   translated : (p : Party) (centre u : List ℕ) (moment : ℕ) → CanAskToTranslate p centre u moment → (translate p centre u moment).verdict ≡ Accept
   translated p centre u moment c =
       ap (λ (o : Option LinkRec). (translate_under p centre u o moment).verdict) c.in_use
       ∙ (ap (λ (y : Option (ℕ × Gen)). (translate_drawn p centre u c.link y).verdict) c.draws
-      ∙ accepted (centre_front p centre u ++ translate_tests p c.link (Some c.drawn)) (turned p centre u (translate_tests p c.link (Some c.drawn)) c.turns (refl, (le-leb c.link.next 99999999999999 c.left, (refl, tt)))))
+      ∙ accepted (centre_front p centre u ++ translate_tests c.link (Some c.drawn)) (turned p centre u (translate_tests c.link (Some c.drawn)) c.turns (refl, (le-leb c.link.next 99999999999999 c.left, (refl, tt)))))
 
   pub translates_exactly : (p : Party) (centre u : List ℕ) (moment : ℕ) → ((translate p centre u moment).verdict ≡ Accept) ↔ CanAskToTranslate p centre u moment
   translates_exactly p centre u moment = (can_translate p centre u moment (link_with (sends centre centre_label) p) (good_draw p.generator moment) refl refl, translated p centre u moment)

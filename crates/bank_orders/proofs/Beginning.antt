@@ -73,7 +73,7 @@ module _ (held : HeldIfAccepted) (links : LinksFound) (keys : KeysFound) where
       go : (d : Option (ℕ × Gen)) → is_accept (translate_drawn p centre u l d).verdict ≡ true → AllBeginFree p (translate_drawn p centre u l d).edits
       go None e = tt
       go (Some d) e =
-          let h : TestsHold (centre_front p centre u ++ translate_tests p l (Some d)) = held (centre_front p centre u ++ translate_tests p l (Some d)) refl e in
+          let h : TestsHold (centre_front p centre u ++ translate_tests l (Some d)) = held (centre_front p centre u ++ translate_tests l (Some d)) refl e in
           (tt, (tt, (none_stands (exchange_with centre p) (and_parts (is_none (exchange_with centre p)) (is_none (exchange_with u p)) h.1.1.0).0, tt)))
 
   resends : (p : Party) (o : Option Exchange) → AllBeginFree p (resend_of o).edits

@@ -48,21 +48,21 @@ translated_keepable p l e v n s c i fits =
 
 -- under a link whose counts are spent nothing is sent
 pub translate_spent : (p : Party) (centre u : List ℕ) (l : LinkRec) (o : Option (ℕ × Gen)) (v : Verdict) → has_count l ≡ false → v ≡ verdict_of (centre_front p centre u ++ (false, CountSpent) ∷ []) → refusal_of v ≡ decision_of p (translate_drawn p centre u l o)
-translate_spent p centre u l None v h e = ap refusal_of (spent_first (centre_front p centre u) ((false, WeakDraws) ∷ []) (has_count l) v h e) ∙ by_refused p (verdict_of (centre_front p centre u ++ translate_tests p l None))
+translate_spent p centre u l None v h e = ap refusal_of (spent_first (centre_front p centre u) ((false, WeakDraws) ∷ []) (has_count l) v h e) ∙ by_refused p (verdict_of (centre_front p centre u ++ translate_tests l None))
 translate_spent p centre u l (Some d) v h e = refuses p (translate_drawn p centre u l (Some d)) v (spent_first (centre_front p centre u) ((true, WeakDraws) ∷ []) (has_count l) v h e) (rw e (unspent (centre_front p centre u) refl)) refl
 
 -- what is decided with what was drawn
 
-pub translate_refused : (p : Party) (centre u : List ℕ) (l : LinkRec) (o : Option (ℕ × Gen)) (v : Verdict) → v ≡ verdict_of (centre_front p centre u ++ translate_tests p l o) → is_accept v ≡ false → refusal_of v ≡ decision_of p (translate_drawn p centre u l o)
-translate_refused p centre u l None v e f = ap refusal_of e ∙ by_refused p (verdict_of (centre_front p centre u ++ translate_tests p l None))
+pub translate_refused : (p : Party) (centre u : List ℕ) (l : LinkRec) (o : Option (ℕ × Gen)) (v : Verdict) → v ≡ verdict_of (centre_front p centre u ++ translate_tests l o) → is_accept v ≡ false → refusal_of v ≡ decision_of p (translate_drawn p centre u l o)
+translate_refused p centre u l None v e f = ap refusal_of e ∙ by_refused p (verdict_of (centre_front p centre u ++ translate_tests l None))
 translate_refused p centre u l (Some d) v e f = refuses p (translate_drawn p centre u l (Some d)) v e f refl
 
-pub translate_undrawn : (p : Party) (centre u : List ℕ) (l : LinkRec) (o : Option (ℕ × Gen)) (v : Verdict) → o ≡ None → v ≡ verdict_of (centre_front p centre u ++ translate_tests p l o) → refusal_of v ≡ decision_of p (translate_drawn p centre u l o)
-translate_undrawn p centre u l None v i e = ap refusal_of e ∙ by_refused p (verdict_of (centre_front p centre u ++ translate_tests p l None))
+pub translate_undrawn : (p : Party) (centre u : List ℕ) (l : LinkRec) (o : Option (ℕ × Gen)) (v : Verdict) → o ≡ None → v ≡ verdict_of (centre_front p centre u ++ translate_tests l o) → refusal_of v ≡ decision_of p (translate_drawn p centre u l o)
+translate_undrawn p centre u l None v i e = ap refusal_of e ∙ by_refused p (verdict_of (centre_front p centre u ++ translate_tests l None))
 translate_undrawn p centre u l (Some d) v i e = cc
 
 pub translate_sent : (result : Result Decision NoMemory) (p : Party) (centre u : List ℕ) (l : LinkRec) (o : Option (ℕ × Gen)) (key : ℕ × Gen) (v : Verdict) → o ≡ Some key
-    → AcceptsWith p (translate_edits p centre u l key.0 key.1.v) (Some (translate_reply p centre u l key.0)) result → v ≡ verdict_of (centre_front p centre u ++ translate_tests p l o) → is_accept v ≡ true
+    → AcceptsWith p (translate_edits p centre u l key.0 key.1.v) (Some (translate_reply p centre u l key.0)) result → v ≡ verdict_of (centre_front p centre u ++ translate_tests l o) → is_accept v ≡ true
     → Decides p (translate_drawn p centre u l o) result
 translate_sent result p centre u l None key v i h e t = cc
 translate_sent result p centre u l (Some d) key v i h e t =

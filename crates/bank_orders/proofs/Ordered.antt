@@ -22,7 +22,7 @@ start_kk_order p peer new found l drawn = refl
 pub ask_order : (p : Party) (centre u : List ℕ) → InOrder (ask_tests p centre u)
 ask_order p centre u = refl
 
-pub translate_order : (p : Party) (centre u : List ℕ) (l : LinkRec) (drawn : Option (ℕ × Gen)) → InOrder (centre_front p centre u ++ translate_tests p l drawn)
+pub translate_order : (p : Party) (centre u : List ℕ) (l : LinkRec) (drawn : Option (ℕ × Gen)) → InOrder (centre_front p centre u ++ translate_tests l drawn)
 translate_order p centre u l drawn = refl
 
 pub translate_front_order : (p : Party) (centre u : List ℕ) → InOrder (centre_front p centre u ++ (false, UnknownKk) ∷ [])

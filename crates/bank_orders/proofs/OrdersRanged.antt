@@ -195,7 +195,7 @@ module _ (short : CanonShort) (below : WrapsBelow) (odd : DrawsOdd) (held : Held
           })
         where
           count : is_accept (translate_drawn p centre u l (Some d)).verdict ≡ true → IsCount l.next
-          count h = let t : TestsHold (centre_front p centre u ++ translate_tests p l (Some d)) = held (centre_front p centre u ++ translate_tests p l (Some d)) refl h in left_is_count l st.range.next t.1.1.1.1.0
+          count h = let t : TestsHold (centre_front p centre u ++ translate_tests l (Some d)) = held (centre_front p centre u ++ translate_tests l (Some d)) refl h in left_is_count l st.range.next t.1.1.1.1.0
 
 resend_ranged : ExchangesInRange → (p : Party) (peer : List ℕ) → IsParty p → IsRanged p (decision_of p (resend p peer))
 resend_ranged in_range p peer w = go (exchange_with peer p) refl

@@ -19,8 +19,8 @@ use Rattle.role_base.specs.Texts.{text_of, direct_name}
 use Rattle.role_base.specs.Conditions.{has_count}
 use Rattle.bank_orders.specs.Ask.{centre_front}
 
-abbrev pub translate_tests : Party → LinkRec → Option (ℕ × Gen) → List Test
-translate_tests p l drawn = (true, UnknownKk) ∷ (has_count l, CountSpent) ∷ (is_some drawn, WeakDraws) ∷ []
+abbrev pub translate_tests : LinkRec → Option (ℕ × Gen) → List Test
+translate_tests l drawn = (true, UnknownKk) ∷ (has_count l, CountSpent) ∷ (is_some drawn, WeakDraws) ∷ []
 
 abbrev pub translate_message : Party → List ℕ → List ℕ → LinkRec → ℕ → Message
 translate_message p centre u l key = message.Rfs (record { receiver = centre; originator = p.own; ultimate = u; kd = wrap_of l.pair l.next key; cta = l.next })
@@ -37,9 +37,9 @@ translate_edits p centre u l key v =
     ∷ []
 
 abbrev pub translate_drawn : Party → List ℕ → List ℕ → LinkRec → Option (ℕ × Gen) → Row
-translate_drawn p centre u l None = refused (verdict_of (centre_front p centre u ++ translate_tests p l None))
+translate_drawn p centre u l None = refused (verdict_of (centre_front p centre u ++ translate_tests l None))
 translate_drawn p centre u l (Some d) = record {
-  verdict = verdict_of (centre_front p centre u ++ translate_tests p l (Some d));
+  verdict = verdict_of (centre_front p centre u ++ translate_tests l (Some d));
   edits = translate_edits p centre u l d.0 d.1.v;
   reply = Some (translate_reply p centre u l d.0);
   uses = record { recipient = centre; label = centre_label; count = l.next; sealed = OneKey d.0 } ∷ [];

@@ -50,7 +50,7 @@ pub fn law_order()
     ensures start { (p : Party) (peer : List ℕ) (found : Option TheLink) (l : TheLink) (drawn : Option (ℕ × TheGen)) → InOrder (start_tests p peer found ++ sending_tests p l drawn) }
     ensures start_kk { (p : Party) (peer new : List ℕ) (found : Option TheLink) (l : TheLink) (drawn : Option TheKkDrawn) → InOrder (start_tests p peer found ++ kk_tests p l new drawn) }
     ensures ask { (p : Party) (centre u : List ℕ) → InOrder (ask_tests p centre u) }
-    ensures translate { (p : Party) (centre u : List ℕ) (l : TheLink) (drawn : Option (ℕ × TheGen)) → InOrder (centre_front p centre u ++ translate_tests p l drawn) }
+    ensures translate { (p : Party) (centre u : List ℕ) (l : TheLink) (drawn : Option (ℕ × TheGen)) → InOrder (centre_front p centre u ++ translate_tests l drawn) }
     ensures translate_front { (p : Party) (centre u : List ℕ) → InOrder (centre_front p centre u ++ (false, UnknownKk) ∷ []) }
     ensures end { (p : Party) (peer : List ℕ) (found : Bool) → InOrder (end_tests p peer found) }
 {}

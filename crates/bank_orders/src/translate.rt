@@ -3,7 +3,6 @@ ghost use Rattle.std.specs.Prelude.{◌≡◌, ◌+◌, ◌≤◌, length, IfOk,
 ghost use Rattle.x_base.specs.Count.{IsCount};
 ghost use Rattle.party_state.specs.declared.edit.Edit.TheVariants.{SetGen, PutLink, PutExchange};
 ghost use Rattle.party_tables.specs.Ranges.{longest_text};
-ghost use Rattle.party_state.specs.State.{Party};
 ghost use Rattle.role_base.specs.Deciding.{Decides, AcceptsWith};
 ghost use Rattle.role_base.specs.Replies.{IsWritten};
 ghost use Rattle.role_base.specs.Standing.{LinkStands};
@@ -24,7 +23,7 @@ use x_seal::wrap;
 
 /// The tests of a link with a centre, and of what is drawn.
 fn translate_tests(link: &LinkRec, drawn: &Option<(u64, Gen)>) -> [(bool, Verdict); 3]
-    ensures { (p : Party) → result ≡ translate_tests p link.now drawn.now }
+    ensures { result ≡ translate_tests link.now drawn.now }
 {
     [
         (true, Verdict::UnknownKk),

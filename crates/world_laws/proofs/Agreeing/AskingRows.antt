@@ -66,7 +66,7 @@ module _ (v : Lists) (p : List ℕ) (x : Member) (space : Space) (at : member_at
   }
 
   pub translate_agreeing : (o : Option LinkKey) (text : List ℕ) (centre u : List ℕ) (l : LinkRec) (moment : ℕ) (drawn : Option (ℕ × Gen)) → good_draw x.party.generator moment ≡ drawn → link_with (sends centre centre_label) x.party ≡ Some l → IsSound o x.party text (translate_drawn x.party centre u l drawn) → Agreeing v x space text (translate_drawn x.party centre u l drawn)
-  translate_agreeing o text centre u l moment None drew e sound = refused_agreeing v p x space at i text (verdict_of (centre_front x.party centre u ++ translate_tests x.party l None))
+  translate_agreeing o text centre u l moment None drew e sound = refused_agreeing v p x space at i text (verdict_of (centre_front x.party centre u ++ translate_tests l None))
   translate_agreeing o text centre u l moment (Some d) drew e sound = record {
     back = backed v.members x.party (translate_drawn x.party centre u l (Some d)).edits (tt, (inr (inr (l, at_key, refl, refl)), (tt, tt)));
     news = news_put x.party (apply (translate_drawn x.party centre u l (Some d)).edits x.party) (translate_exchange x.party centre u l d.0) refl refl;

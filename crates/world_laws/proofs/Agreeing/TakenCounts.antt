@@ -1,6 +1,6 @@
 -- The rows that raise the count that a link expects: what comes is honest, so the sending end is past that count.
 use Rattle.party_tables.specs.Names.{full_behind}
-use Rattle.bank_keys.specs.Ksm.{body_twin, body_next, body_value, second_value, count_behind, body_second}
+use Rattle.bank_keys.specs.Ksm.{body_twin, body_next, body_value, second_value, next_behind, body_second}
 use Rattle.world_laws.proofs.Sound.Keys.{taking_edits}
 use Rattle.world_laws.proofs.Agreeing.Facts.{at_peer, as_first, as_second}
 use Rattle.std.proofs.Common.{arith, ◌≡◌, ◌≢◌, ◌⊎◌, inl, inr, ℕ, ◌+◌, Bool, true, false, Option, Some, None, List, refl, sym, ◌∙◌, ap, subst, bytes_eq}
@@ -149,9 +149,9 @@ module _ (v : Lists) (p : List ℕ) (x : Member) (space : Space) (at : member_at
 
     -- the count of the last of its keys is past there
     by_last : (o : Option ℕ) → body_twin b ≡ o → IsReached v.members (body_issuer m.originator m.body) (sends x.party.own f.label) (body_next b)
-    by_last None e = by_mine fact.fact.under (ap (λ (z : FullName). z.recipient) f.under) (ap (λ (z : FullName). z.name.label) f.under) (ap (λ (z : FullName). z.name.issuer) f.under) (ap (count_behind (body_count b)) e ∙ ap (λ (n : ℕ). n + 1) (count ∙ sym (ap (λ (z : FullName). z.name.count) f.under))) (f.past fact.fact.under (body_value f.link.pair m.originator m.receiver m.body) (as_first refl refl))
+    by_last None e = by_mine fact.fact.under (ap (λ (z : FullName). z.recipient) f.under) (ap (λ (z : FullName). z.name.label) f.under) (ap (λ (z : FullName). z.name.issuer) f.under) (ap (next_behind (body_count b)) e ∙ ap (λ (n : ℕ). n + 1) (count ∙ sym (ap (λ (z : FullName). z.name.count) f.under))) (f.past fact.fact.under (body_value f.link.pair m.originator m.receiver m.body) (as_first refl refl))
     by_last (Some kd) e = by_mine (full_behind fact.fact.under) (ap (λ (z : FullName). z.recipient) f.under) (ap (λ (z : FullName). z.name.label) f.under) (ap (λ (z : FullName). z.name.issuer) f.under)
-        (let next : body_next b ≡ body_count b + 2 = ap (count_behind (body_count b)) e in let under : fact.fact.under.name.count ≡ body_count m.body = ap (λ (z : FullName). z.name.count) f.under in omega (arith, next, under, count))
+        (let next : body_next b ≡ body_count b + 2 = ap (next_behind (body_count b)) e in let under : fact.fact.under.name.count ≡ body_count m.body = ap (λ (z : FullName). z.name.count) f.under in omega (arith, next, under, count))
         (f.past (full_behind fact.fact.under) (second_value f.link.pair m.body kd) (as_second kd (ap body_twin is ∙ e) refl refl))
 
     reached : ReachedBy (takes (body_name x.party m.originator b l).name.issuer (body_name x.party m.originator b l).name.label) (body_next b)

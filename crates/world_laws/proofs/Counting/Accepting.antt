@@ -19,7 +19,7 @@ use Rattle.member.specs.Member.{Member}
 use Rattle.world_laws.specs.World.{Acceptance, own_of, member_at}
 use Rattle.world_laws.specs.Steps.{acceptances_of}
 use Rattle.world_laws.specs.Starts.{Each}
-use Rattle.bank_keys.specs.Ksm.{body_twin, count_behind, key_names}
+use Rattle.bank_keys.specs.Ksm.{body_twin, next_behind, key_names}
 use Rattle.world_laws.specs.Laws.{AcceptedApart}
 use Rattle.world_laws.proofs.Lists.Members.{own_is, after_at, member_cases}
 use Rattle.world_laws.proofs.Links.Growth.{LinkGrows}
@@ -93,7 +93,7 @@ module _ (ms : List Member) (p : List ℕ) (x y : Member) (text : List ℕ) (fou
           let label : (ksm_name x.party b.ksm b.link).name.label ≡ (ksm_name x.party f.ksm f.link).name.label = sym i.1 ∙ j.1 in
           let count_b : (ksm_name x.party b.ksm b.link).name.count ≡ ksm_count b.ksm = name_count x.party b.ksm.originator b.ksm.body b.link in
           let count_f : (ksm_name x.party f.ksm f.link).name.count ≡ ksm_count f.ksm = name_count x.party f.ksm.originator f.ksm.body f.link in
-          let next_b : count_behind (ksm_name x.party b.ksm b.link).name.count (body_twin b.ksm.body) ≡ ksm_next b.ksm = ap (λ (c : ℕ). count_behind c (body_twin b.ksm.body)) count_b in
+          let next_b : next_behind (ksm_name x.party b.ksm b.link).name.count (body_twin b.ksm.body) ≡ ksm_next b.ksm = ap (λ (c : ℕ). next_behind c (body_twin b.ksm.body)) count_b in
           let at_b = name_link x.party b.ksm.originator b.ksm.body b.link (links p x found) found_b in
           let at_f : link_with (takes (ksm_name x.party f.ksm f.link).name.issuer (ksm_name x.party f.ksm f.link).name.label) x.party ≡ Some f.link = name_link x.party f.ksm.originator f.ksm.body f.link (links p x found) f.before in
           let key : takes (ksm_name x.party b.ksm b.link).name.issuer (ksm_name x.party b.ksm b.link).name.label ≡ takes (ksm_name x.party f.ksm f.link).name.issuer (ksm_name x.party f.ksm f.link).name.label = (λ h. takes (issuer h) (label h)) in

@@ -1,5 +1,5 @@
 -- The link, the count and the name under which a key service message brings its key.
-use Rattle.bank_keys.specs.Ksm.{link_in_use, body_link, body_count, body_twin, body_name, count_behind, body_next, key_names}
+use Rattle.bank_keys.specs.Ksm.{link_in_use, body_link, body_count, body_twin, body_name, next_behind, body_next, key_names}
 use Rattle.std.proofs.Common.{arith, ◌≡◌, ◌⊎◌, ◌≤◌, ◌<◌, ◌+◌, ℕ, Bool, true, false, cond, Option, Some, None, List, Contains, refl, sym, ap, subst, inl, inr}
 use Rattle.std.specs.Prelude.{nat_lt}
 use Rattle.party_tables.specs.Names.{full_behind}
@@ -32,7 +32,7 @@ ksm_names p m l = key_names (ksm_name p m l) (body_twin m.body)
 abbrev pub ksm_next : Ksm → ℕ
 ksm_next m = body_next m.body
 
-pub count_less : (count : ℕ) (o : Option ℕ) → count < count_behind count o
+pub count_less : (count : ℕ) (o : Option ℕ) → count < next_behind count o
 count_less count None = omega arith
 count_less count (Some kd) = omega arith
 
@@ -45,13 +45,13 @@ name_among u v (Some kd) h = elim (of_two u (full_behind u) v h) [
 ]
 
 -- its link is that of the first, and its count is one of theirs
-pub among_tells : (u v : FullName) (o : Option ℕ) → Contains (key_names u o) v → (v.name.issuer ≡ u.name.issuer) × (v.name.label ≡ u.name.label) × (u.name.count ≤ v.name.count) × (v.name.count < count_behind u.name.count o)
+pub among_tells : (u v : FullName) (o : Option ℕ) → Contains (key_names u o) v → (v.name.issuer ≡ u.name.issuer) × (v.name.label ≡ u.name.label) × (u.name.count ≤ v.name.count) × (v.name.count < next_behind u.name.count o)
 among_tells u v o h = elim (name_among u v o h) [
   | inl e ↦ (let count : v.name.count ≡ u.name.count = ap (λ (z : FullName). z.name.count) e in
-      let less : u.name.count < count_behind u.name.count o = count_less u.name.count o in
+      let less : u.name.count < next_behind u.name.count o = count_less u.name.count o in
       (ap (λ (z : FullName). z.name.issuer) e, ap (λ (z : FullName). z.name.label) e, omega (arith, count), omega (arith, count, less)))
   | inr e ↦ (let count : v.name.count ≡ u.name.count + 1 = ap (λ (z : FullName). z.name.count) e.2 in
-      let next : count_behind u.name.count o ≡ u.name.count + 2 = ap (count_behind u.name.count) e.1 in
+      let next : next_behind u.name.count o ≡ u.name.count + 2 = ap (next_behind u.name.count) e.1 in
       (ap (λ (z : FullName). z.name.issuer) e.2, ap (λ (z : FullName). z.name.label) e.2, omega (arith, count), omega (arith, count, next)))
 ]
 

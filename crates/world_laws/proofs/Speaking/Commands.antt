@@ -120,7 +120,7 @@ module _ (p : Party) (i : IsNamed p) where
       go : (d : Option (ℕ × Gen)) → is_accept (translate_drawn p centre u l d).verdict ≡ true → Speaks (translate_drawn p centre u l d)
       go None h = record { names = tt; reply = tt }
       go (Some d) h =
-          let t : TestsHold (centre_front p centre u ++ translate_tests p l (Some d)) = held (centre_front p centre u ++ translate_tests p l (Some d)) refl h in
+          let t : TestsHold (centre_front p centre u ++ translate_tests l (Some d)) = held (centre_front p centre u ++ translate_tests l (Some d)) refl h in
           let count : IsCount l.next = count_of l named.next t.1.1.1.1.0 in
           record { names = (tt, (up_named p i l (l.next + 1) named (next_after l.next count), (tt, tt))); reply = translate_own p centre u l d.0 i.own to for count }
 
