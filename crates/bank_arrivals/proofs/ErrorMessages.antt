@@ -1,31 +1,24 @@
 -- What is decided of an error message, by what it speaks of.
-use Rattle.std.proofs.Common.{◌≡◌, true, false, Option, None, Result, IfOk, List, [], ◌∷◌, ◌++◌, refl, ap, ◌∙◌}
+use Rattle.std.proofs.Common.{◌≡◌, true, false, Option, None, Result, IfOk, List, [], refl}
 use Rattle.x_base.specs.declared.text.NoMemory.{NoMemory}
 use Rattle.x_base.specs.declared.verdict.Verdict.{Verdict}
-use Rattle.x_base.specs.declared.verdict.Verdict.TheVariants.{BadMac}
 use Rattle.csm_grammar.specs.declared.arrival.Arrival.{Arrival}
 use Rattle.party_state.specs.declared.edit.Edit.{Edit}
 use Rattle.party_state.specs.declared.decision.Decision.{Decision}
-use Rattle.party_state.specs.declared.decision.Lead.{Lead}
 use Rattle.party_state.specs.State.{Party}
 use Rattle.party_state.specs.Verdicts.{verdict_of, is_accept}
 use Rattle.party_state.specs.Rows.{Row, Reply}
 use Rattle.role_base.specs.Deciding.{decision_of, refusal_of, accepting}
 use Rattle.role_base.specs.Replies.{AreWritten}
-use Rattle.role_base.specs.Texts.{lead_under}
 use Rattle.role_base.proofs.ByRow.{by_answered, by_accept}
 use Rattle.csm_grammar.specs.declared.message.Esm.{Esm}
 use Rattle.bank_arrivals.specs.declared.error_message.ErrorSubject.{ErrorSubject}
-use Rattle.role_base.specs.Conditions.{answer_front}
 use Rattle.bank_arrivals.specs.AskingAgain.{retry_of}
-use Rattle.bank_arrivals.specs.Esm.{subject_name, subject_value, error_row, plain_tests, plain_esm}
+use Rattle.bank_arrivals.specs.Esm.{error_row, plain_tests, plain_esm}
 
 -- the row of the message, by what it speaks of
 abbrev row_of : Party → Arrival → Esm → ErrorSubject → Row
 row_of p a m s = error_row p a m s (retry_of p s m.ctr)
-
-verdict_is : (p : Party) (a : Arrival) (m : Esm) (s : ErrorSubject) (l : Lead) (v : Verdict) → v ≡ verdict_of (answer_front p m.receiver m.originator true ++ (l.verified, BadMac) ∷ []) → l ≡ lead_under a (subject_name p m.originator s) (subject_value s) → v ≡ (row_of p a m s).verdict
-verdict_is p a m s l v e i = e ∙ ap (λ (k : Lead). verdict_of (answer_front p m.receiver m.originator true ++ (k.verified, BadMac) ∷ [])) i
 
 pub plain_refuses : (p : Party) (a : Arrival) (m : Esm) (v : Verdict) → v ≡ verdict_of (plain_tests p a m) → is_accept v ≡ false → refusal_of v ≡ decision_of p (plain_esm p a m)
 plain_refuses p a m v e f = by_answered p (plain_esm p a m) v e f

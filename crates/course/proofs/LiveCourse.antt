@@ -26,7 +26,7 @@ use Rattle.world_laws.specs.Exchanged.{HasRoom, KeyExchanged, banks_with, kk_lab
 use Rattle.course.specs.LineEvents.{LineEvent, At, Arrives, MakesEvent, IsNumbered, input_bytes}
 use Rattle.course.specs.Outcomes.{input_in, outcome_of, IsCompleted, IsOutcome}
 use Rattle.course.specs.Course.{Course, IsDone, IsDoneAt, IsDoneBy, IsEvent, IsNext, LinesLead, after_event, event_at}
-use Rattle.course.specs.Starts.{start_course, start_world, with_loads, first_member, generator_of, link_of}
+use Rattle.course.specs.Starts.{start_course, with_loads, first_member, generator_of, link_of}
 use Rattle.course.specs.Live.{LeadsToLiveKey, live_lines, live_moment, other_pair, weak_pair}
 use Rattle.course.specs.declared.progress.EventOutcome.{EventOutcome}
 use Rattle.course.specs.declared.progress.Stop.{Stop}
@@ -122,9 +122,6 @@ second_room = (with_loads (first_member receiver_name Bank (generator_of other_p
 
 abbrev begins : World
 begins = banks_with weak_generator (generator_of other_pair 1) (odd_pair other_pair) first_room second_room
-
-start_is : start_world live_lines ≡ begins
-start_is = refl
 
 first_roomy : HasRoom first_room
 unfolding two four eight

@@ -20,9 +20,6 @@ use Rattle.csm_feed.proofs.Fronts.{one_parsed}
 use Rattle.csm_feed.proofs.Cutting.{ends_unread, one_end, messages_next}
 use Rattle.csm_feed.proofs.Spans.{span_separators}
 
-waits : (old : Feeding) → IsWaiting old.held → EndsWith old.before old.held None
-waits old h = h
-
 no_read : (old : Feeding) (end : Option ReadRefusal) (p : Parsed) → OneAnswer → EndsWith old.before old.held end → IsRead old.held p → ⊥
 no_read old end p one h i = ends_unread old.before old.held end one h p i
 

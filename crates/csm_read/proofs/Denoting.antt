@@ -1,10 +1,10 @@
 -- What is kept of contents is what they stand for.
-use Rattle.std.proofs.Common.{◌≡◌, ◌≢◌, ℕ, ◌<◌, Bool, true, false, List, length, set, replicate, Option, Some, None, refl, sym, ◌∙◌, ap, subst, arith, inl, inr, get_or-set_other, get_or-set_same, length-set}
-use Rattle.std.specs.Prelude.{not, ◌||◌, option_map, option_and_then, is_some, IsSome, slice_index_or, if◌then◌else◌}
+use Rattle.std.proofs.Common.{◌≡◌, ◌≢◌, ℕ, ◌<◌, Bool, true, false, List, length, set, Option, Some, None, refl, sym, ◌∙◌, ap, subst, arith, inl, inr, get_or-set_other, get_or-set_same, length-set}
+use Rattle.std.specs.Prelude.{◌||◌, option_map, option_and_then, is_some, IsSome, slice_index_or, if◌then◌else◌}
 use Rattle.std.specs.Option.{SomeIff}
 use Rattle.std.specs.Borrow.{Bor}
 use Rattle.x_base.specs.Count.{IsCount}
-use Rattle.std.proofs.lemmas.Bool.{cases_Bool, or_parts, eqb-true, eqb-false, not-true, true≢false, false≢true}
+use Rattle.std.proofs.lemmas.Bool.{cases_Bool, or_parts, eqb-true, eqb-false, true≢false, false≢true}
 use Rattle.csm_grammar.specs.declared.tag.Tag.{Tag}
 use Rattle.csm_grammar.specs.Tags.{tag_place, same_tag}
 use Rattle.csm_grammar.specs.Values.{Value, AText, AName, AService, ANumber, APair, Kind, OfClass, OfIdent, OfService, OfName, OfLabel, OfPair, OfKey, OfCount, OfReason, OfText, OfCode, Unsupported, kind_of, value_of}
@@ -13,7 +13,7 @@ use Rattle.csm_grammar.specs.declared.tag.Tag.TheVariants.{Iv, Edk, P}
 use Rattle.csm_read.specs.Slotting.{slot_in, second_in, came}
 use Rattle.csm_read.specs.Building.{AreExtras}
 use Rattle.csm_read.specs.Denoting.{is_number, IsKeptValue, IsDenoted, value_at, second_value, AreDenoted}
-use Rattle.csm_grammar.proofs.TagLemmas.{each_tag, tag_small, same_tags}
+use Rattle.csm_grammar.proofs.TagLemmas.{tag_small, same_tags}
 use Rattle.csm_read.proofs.SlotLemmas.{slot_set}
 use Rattle.csm_grammar.proofs.Typed.{kind_value, OfKindIfAny}
 
@@ -51,10 +51,6 @@ other_stands k c n h e = record {
   number = λ m i. absurd (no_number k m h (subst (OfKindIfAny k) i (kind_value k c)));
 }
 
-pub none_there : (o : Option Value) → is_some o ≡ false → o ≡ None
-none_there None h = refl
-none_there (Some v) h = absurd (true≢false h)
-
 -- the count of a number
 pub count_there : (o : Option ℕ) (n : ℕ) → SomeIff o (IsCount n) n → IsCount n → is_some o ≡ true
 count_there None n h k = absurd (h k)
@@ -65,9 +61,6 @@ count_same None n x h e = absurd (cc)
 count_same (Some y) n x h e = (let same : x ≡ y = cc in same ∙ h.1)
 
 -- what is kept by tag
-
-none_came : (t : Tag) → came (replicate 28 None) t ≡ false
-none_came t = not-true _ (each_tag (λ s. not (came (replicate 28 None) s)) refl t)
 
 slot_cleared : (slots : List (Option (Bor (List ℕ)))) (tag : Tag) (t : Tag) → length slots ≡ 28 → slot_in (set slots (tag_place tag) None) t ≡ (if same_tag tag t then None else slot_in slots t)
 slot_cleared slots tag t h =

@@ -1,17 +1,15 @@
 -- The steps of judging a text.
-use Rattle.std.proofs.Common.{◌≡◌, ℕ, ◌+◌, true, false, List, [], ◌∷◌, ◌++◌, length, take, drop, Option, Some, None, refl, sym, ◌∙◌, ap, subst, append_assoc, arith}
+use Rattle.std.proofs.Common.{◌≡◌, ℕ, ◌+◌, List, [], ◌∷◌, ◌++◌, length, take, drop, Option, Some, None, refl, sym, ◌∙◌, ap, subst, append_assoc, arith}
 use Rattle.std.specs.Prelude.{option_to_list}
-use Rattle.std.proofs.lemmas.Bool.{and_right}
-use Rattle.std.proofs.lemmas.List.{append-nil, drop-drop, drop_at}
+use Rattle.std.proofs.lemmas.List.{append-nil}
 use Rattle.std.proofs.lemmas.List.Elements.{filter_map-append}
 use Rattle.csm_grammar.specs.declared.message.Message.{Message}
 use Rattle.csm_grammar.specs.declared.parsed.Shut.{Shut}
 use Rattle.csm_grammar.specs.declared.refusal.ReadRefusal.{ReadRefusal}
-use Rattle.csm_grammar.specs.Values.{is_hex}
 use Rattle.csm_grammar.specs.Messages.{form_of}
 use Rattle.csm_grammar.specs.Spelling.{AreSeparators, Field, AreOfForm, StandFor}
-use Rattle.csm_read.specs.Units.{Stretch, Standing, stretches, end_place, waits, put, units, stretches_of, units_of}
-use Rattle.csm_read.specs.Faults.{or_else, field_of, fault_of, fields_from, front_fault, first_fault, unclosed_fault, endless_fault, fault_of_text}
+use Rattle.csm_read.specs.Units.{Standing, stretches, end_place, units, stretches_of, units_of}
+use Rattle.csm_read.specs.Faults.{or_else, field_of, fault_of, fields_from, front_fault, first_fault, unclosed_fault, fault_of_text}
 use Rattle.csm_read.specs.Judging.{stretches_from, Judged, IsNext, last_place}
 use Rattle.csm_grammar.specs.Reading.{IsRead}
 use Rattle.csm_read.proofs.Stretching.{stretch_closed, unit_empty, gap_units, gap_end}
@@ -60,19 +58,11 @@ token_judged b place done u after j n h =
 pub field_judged : (done : List Standing) (u : Standing) (f : Field) → field_of u ≡ Some f → fields_from (done ++ u ∷ []) ≡ fields_from done ++ f ∷ []
 field_judged done u f h = fields_more done u ∙ ap (λ (o : Option Field). fields_from done ++ option_to_list o) h
 
--- what stands behind a front of so many bytes
-behind : (w front rest : List ℕ) (place : ℕ) → drop place w ≡ front ++ rest → drop (place + length front) w ≡ rest
-behind w front rest place h = sym (drop-drop (length front) place w) ∙ ap (drop (length front)) h ∙ drop_at front rest (length front) refl
-
 -- the stretches from a place on, behind separators
 behind_gap : (w gap rest : List ℕ) (place : ℕ) → drop place w ≡ gap ++ rest → AreSeparators gap
     → (units (stretches place (drop place w)) ≡ units (stretches (place + length gap) rest)) × (end_place (stretches place (drop place w)) ≡ end_place (stretches (place + length gap) rest))
 behind_gap w gap rest place h s =
     (ap (λ (x : List ℕ). units (stretches place x)) h ∙ gap_units place gap rest s, ap (λ (x : List ℕ). end_place (stretches place x)) h ∙ gap_end place gap rest s)
-
-alone : (s t : Stretch) (ss : List Stretch) → is_hex 4 t.text ≡ false → units (s ∷ t ∷ ss) ≡ put s (units (t ∷ ss))
-unfolding units
-alone s t ss h = rw (and_right (waits s) _ h) refl
 
 -- where `)` stands
 pub record AtEnd (b : List ℕ) (done : List Standing) (at : ℕ) : Type 0 where
@@ -121,15 +111,3 @@ message_read b done at m shut a h form stands =
     let auth : r.auth_len ≡ last_place done = k.auth ∙ ap last_place a.are in
     subst (λ (n : ℕ). IsRead b (record { message = m; shut = shut; auth_len = last_place done; len = n })) len
     (subst (λ (n : ℕ). IsRead b (record { message = m; shut = shut; auth_len = n; len = r.len })) auth r.read)
-
--- nothing is ended from a place on
-endless : (b : List ℕ) (place : ℕ) (done : List Standing) → Judged b place done → units (stretches_from place b) ≡ [] → end_place (stretches_from place b) ≡ None → fault_of_text b ≡ Some (endless_fault (length b))
-unfolding fault_of_text
-endless b place done j u s =
-    let tokens : first_fault [] (units_of b) ≡ None = j.faults ∙ ap (first_fault (fields_from done)) u ∙ no_fault (fields_from done) in
-    let none : end_place (stretches_of b) ≡ None = j.shut ∙ s in
-    rw (j.front, tokens, none) refl
-
-waiting : (s : Stretch) → waits s ≡ true → units (s ∷ []) ≡ []
-unfolding units
-waiting s h = rw h refl

@@ -3,7 +3,7 @@ use Rattle.std.proofs.Common.{◌≡◌, ◌≢◌, ℕ, ◌+◌, ◌<◌, ◌�
 use Rattle.std.specs.Prelude.{◌⊎◌, ◌==◌, codes, option_to_list}
 use Rattle.std.specs.Borrow.{Bor}
 use Rattle.std.proofs.Math.Seq.{drop-cons}
-use Rattle.std.proofs.lemmas.Bool.{eqb-true, eq-eqb, not-false, or_cases}
+use Rattle.std.proofs.lemmas.Bool.{eqb-true, not-false, or_cases}
 use Rattle.std.proofs.lemmas.List.{length-take, length-drop, drop-drop, get_or-drop, nil_from_length}
 use Rattle.csm_grammar.specs.declared.parsed.Parsed.{Parsed}
 use Rattle.csm_grammar.specs.declared.refusal.ReadRefusal.{ReadRefusal}
@@ -32,19 +32,6 @@ use Rattle.csm_read.proofs.Sole.{sole}
 
 cons_at : (s : List ℕ) (i : ℕ) → i < length s → drop i s ≡ get_or s i 0 ∷ drop (i + 1) s
 cons_at s i h = rw (add-one, drop-cons s i 0) refl
-
-differs_later : (i b w : ℕ) (bs ws : List ℕ) → b ≡ w → differs i (b ∷ bs) (w ∷ ws) ≡ differs (i + 1) bs ws
-differs_later i b w bs ws h = rw (eq-eqb b w h) refl
-
-differs_end : (i : ℕ) (ws : List ℕ) → differs i [] ws ≡ None
-differs_end i [] = refl
-differs_end i (w ∷ ws) = refl
-
-pub front_short : (b : List ℕ) (i : ℕ) (ws : List ℕ) → length b ≤ i → front_fault b ≡ differs i (drop i b) ws → front_fault b ≡ None
-front_short b i ws h e = e ∙ ap (λ (x : List ℕ). differs i x ws) (nil_from_length (drop i b) (let k = length-drop i b in omega arith)) ∙ differs_end i ws
-
-pub front_more : (b ws : List ℕ) (i : ℕ) → i < length b → i < length ws → get_or b i 0 ≡ get_or ws i 0 → front_fault b ≡ differs i (drop i b) (drop i ws) → front_fault b ≡ differs (i + 1) (drop (i + 1) b) (drop (i + 1) ws)
-front_more b ws i h k n e = e ∙ rw (cons_at b i h, cons_at ws i k) (differs_later i (get_or b i 0) (get_or ws i 0) (drop (i + 1) b) (drop (i + 1) ws) n)
 
 -- a unit is the next token
 last_more : (us : List Standing) (u : Standing) → last_place (us ++ u ∷ []) ≡ u.place

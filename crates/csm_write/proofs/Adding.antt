@@ -1,10 +1,10 @@
 -- Fields appended one after another.
-use Rattle.std.proofs.Common.{◌≡◌, ℕ, List, [], ◌++◌, map, Result, Ok, Err, sym, ◌∙◌, ap, append_assoc}
+use Rattle.std.proofs.Common.{◌≡◌, ℕ, List, ◌++◌, map, Result, Ok, Err, sym, ◌∙◌, ap, append_assoc}
 use Rattle.std.specs.Prelude.{codes, OnOk}
 use Rattle.std.specs.List.{flat_map}
-use Rattle.std.proofs.lemmas.List.{append-nil, map-append}
+use Rattle.std.proofs.lemmas.List.{map-append}
 use Rattle.std.proofs.lemmas.List.Concat.{flat_map-append}
-use Rattle.std.proofs.lemmas.List.Elements.{All-nil, All-append}
+use Rattle.std.proofs.lemmas.List.Elements.{All-append}
 use Rattle.x_base.specs.declared.text.NoMemory.{NoMemory}
 use Rattle.csm_grammar.specs.Messages.{Valued}
 use Rattle.csm_grammar.specs.Spelling.{Field, field_text}
@@ -15,9 +15,6 @@ use Rattle.csm_write.specs.Writing.{blank_fields, Adds}
 pub blank_fields_append : (vs ws : List Valued) → blank_fields (vs ++ ws) ≡ blank_fields vs ++ blank_fields ws
 blank_fields_append vs ws =
     ap (flat_map (λ (f : Field). field_text f ++ codes " ")) (map-append field_for vs ws) ∙ flat_map-append (λ (f : Field). field_text f ++ codes " ") (map field_for vs) (map field_for ws)
-
-pub adds_none : (xs : List ℕ) → Adds xs xs []
-adds_none xs = record { text = sym (append-nil xs); typed = All-nil IsTypedField }
 
 adds_more : (a b c : List ℕ) (vs ws : List Valued) → Adds a b vs → Adds b c ws → Adds a c (vs ++ ws)
 adds_more a b c vs ws g h = record {

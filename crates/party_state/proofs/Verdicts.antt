@@ -36,8 +36,3 @@ blocked (t ∷ ts) v r f h = go t.0 (is_accept t.1) refl r h (blocked ts v)
 pub held_after : (ts us : List Test) → TestsHold (ts ++ us) → TestsHold ts × TestsHold us
 held_after [] us h = (tt, h)
 held_after (t ∷ ts) us h = let later : TestsHold ts × TestsHold us = held_after ts us h.1 in ((h.0, later.0), later.1)
-
--- the verdict of two lists one after another, where the first one held
-pub verdict_after : (ts us : List Test) → TestsHold ts → verdict_of (ts ++ us) ≡ verdict_of us
-verdict_after [] us h = refl
-verdict_after (t ∷ ts) us h = rw h.0 (verdict_after ts us h.1)

@@ -1,5 +1,5 @@
 -- The tests of rows, and of lists of them.
-use Rattle.std.proofs.Common.{◌≡◌, ◌↔◌, ℕ, suc, ◌<◌, ◌&&◌, ◌==◌, Bool, true, false, Option, Some, None, List, [], ◌∷◌, length, refl, sym, ◌∙◌, ap, bytes_eq, Decides, arith}
+use Rattle.std.proofs.Common.{◌≡◌, ◌↔◌, ℕ, suc, ◌<◌, ◌&&◌, ◌==◌, Bool, true, false, Option, Some, None, List, [], ◌∷◌, length, refl, ap, bytes_eq, Decides, arith}
 use Rattle.std.specs.Prelude.{slice_get}
 use Rattle.std.proofs.lemmas.Bool.Decides.{Decides-and, Decides-eqb, Decides-like}
 use Rattle.std.specs.Cmp.Lexicographic.{bytes_decides}
@@ -135,16 +135,6 @@ exchange_alike a b = decides_exchange a b
 
 pub answer_alike : (a b : Answer) → (same_answer_rec a b ≡ true) ↔ (a ≡ b)
 answer_alike a b = decides_answer a b
-
--- rows at one place
-pub same_at : {A : Type 0} (r test : Bool) (a b : A) (x y : Option A) → Decides test (a ≡ b) → r ≡ test → Some a ≡ x → Some b ≡ y → (r ≡ true → x ≡ y) × (x ≡ y → r ≡ true)
-same_at r test a b x y decides is at_x at_y = (
-  (λ yes. sym at_x ∙ (ap Some (decides.0 (sym is ∙ yes)) ∙ at_y)),
-  (λ same. is ∙ decides.1 (some_same a b (at_x ∙ (same ∙ sym at_y)))),
-)
-  where
-    some_same : {A : Type 0} (a b : A) → Some a ≡ Some b → a ≡ b
-    some_same a b is = cc is
 
 -- two lists with the same rows
 pub same_rows : {A : Type 0} (xs ys : List A) → length xs ≡ length ys → ((k : ℕ) → k < length xs → slice_get xs k ≡ slice_get ys k) → xs ≡ ys

@@ -18,9 +18,6 @@ five body p is = omega (arith, ap length is.is, body_long p)
 pub no_fewer : (body : List ℕ) (p : EntryPlan) → length body < 5 → IsPlanBody body p → ⊥
 no_fewer body p few is = omega (arith, few, five body p is)
 
-pub other_kind : (body rest : List ℕ) (b : ℕ) (p : EntryPlan) → body ≡ b ∷ rest → (b ≡ 80 → ⊥) → IsPlanBody body p → ⊥
-other_kind body rest b p is other plan = let both : b ∷ rest ≡ plan_body p = sym is ∙ plan.is in let same : b ≡ 80 = cc both in other same
-
 -- the front of so many bytes, and what stands behind it
 pub cut_at : (n : ℕ) (body front tail : List ℕ) → front ≡ take n body → tail ≡ drop n body → body ≡ front ++ tail
 cut_at n body front tail f b = sym (ap (λ (l : List ℕ). l ++ tail) f ∙ (ap (λ (l : List ℕ). take n body ++ l) b ∙ take-append-drop n body))

@@ -28,10 +28,6 @@ both_none : (a b : Kinds) → or_else a b ≡ [] → (a ≡ []) × (b ≡ [])
 both_none [] b h = (refl, h)
 both_none (k ∷ ks) b h = absurd cc
 
-no_kind : (t : Bool) (k : ErrorKind) (rest : Kinds) → (if t then k ∷ [] else rest) ≡ [] → (t ≡ false) × (rest ≡ [])
-no_kind true k rest h = absurd cc
-no_kind false k rest h = (refl, h)
-
 -- what passes where it has no fault passes where it may be absent
 maybe : {A : Type 0} (f : A → Kinds) (g : A → Bool) (o : Option A) → ((x : A) → f x ≡ [] → g x ≡ true) → option_map_or f o [] ≡ [] → option_map_or g o true ≡ true
 maybe f g None each h = refl

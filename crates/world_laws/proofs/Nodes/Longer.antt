@@ -1,5 +1,5 @@
 -- Runs with one event more, and runs up to the forged event.
-use Rattle.std.proofs.Common.{arith, ◌≡◌, ℕ, zero, suc, ◌+◌, List, [], ◌∷◌, ◌++◌, length, take, refl}
+use Rattle.std.proofs.Common.{◌≡◌, ℕ, zero, suc, ◌+◌, List, [], ◌∷◌, ◌++◌, take, refl}
 use Rattle.world_laws.specs.World.{World, member_at}
 use Rattle.world_laws.specs.Events.{Event, IsAction, AreEvents}
 use Rattle.world_laws.specs.Steps.{step, run, number_after}
@@ -8,10 +8,6 @@ use Rattle.world_laws.specs.Honest.{HonestAt, HonestRun, IsForged}
 pub run_more : (n : ℕ) (w : World) (es : List Event) (e : Event) → run n w (es ++ e ∷ []) ≡ step (number_after n es) (run n w es) e
 run_more n w [] e = refl
 run_more n w (x ∷ xs) e = run_more (suc n) (step n w x) xs e
-
-pub number_is : (n : ℕ) (es : List Event) → number_after n es ≡ n + length es
-number_is n [] = omega arith
-number_is n (x ∷ xs) = let h : number_after (suc n) xs ≡ suc n + length xs = number_is (suc n) xs in omega (arith, h)
 
 pub events_more : (es : List Event) (e : Event) → AreEvents es → IsAction e.action → AreEvents (es ++ e ∷ [])
 events_more [] e d i = (i, tt)
