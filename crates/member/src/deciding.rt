@@ -13,8 +13,8 @@ use role_base::{law_input, other_class};
 use std::alloc::Global;
 use x_base::{NoMemory, Role};
 
-/// What a party decides of a command or of a message that arrives, at a moment, with the key under
-/// which the message's code is tested: so the code is tested once (ANSI X9.17; the order of the tests
+/// What a party decides of a command or of a message that arrives, at a moment (microseconds since
+/// 1970), with the key under which the message's code is tested: so the code is tested once (ANSI X9.17; the order of the tests
 /// is this project's profile).
 ///
 /// The change has the edits that make a difference. The only error is want of memory.

@@ -80,8 +80,9 @@ pub fn law_ranged()
     translation_role::law_ranged();
 }
 
-/// A key that a key service message brings, from a partner or a centre, alone or with a new
-/// key-encrypting key, is accepted exactly where the party is a bank and can take it.
+/// A key that a key service message brings, from a partner or a centre, alone, with a new
+/// key-encrypting key or with a second data key, is accepted exactly where the party is a bank and
+/// can take it.
 pub fn law_taking()
     ensures { (p : Party) (i : TheInput) (moment : ℕ) → TakesAsBank p i (decision p i moment) }
 {

@@ -11,7 +11,8 @@ use std::alloc::Global;
 use x_disk::Disk;
 
 impl<D: Disk> Node<D> {
-    /// Decides of a command or a message at a moment by the party's role, keeps the change, and then hands out the reply.
+    /// Decides of a command or a message at a moment (microseconds since 1970) by the party's role, keeps the change, and then
+    /// hands out the reply.
     /// What is refused changes nothing, and a refused message may be answered.
     pub fn turn(self, alloc: Global, input: &Input, moment: u64) -> Turn<D>
         ensures { IsTurn D.told self (taking (plan_at (member_of self) input.now moment)) result }

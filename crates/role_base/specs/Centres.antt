@@ -13,8 +13,8 @@ use Rattle.role_base.specs.Load.{load}
 abbrev pub request_front : Party → List ℕ → List ℕ → Bool → List Test
 request_front p receiver originator served = (is_for p receiver originator, NotForMe) ∷ (knows originator p, UnknownPeer) ∷ (served, WrongClass) ∷ []
 
--- a response, an error message or a disconnection, which no centre serves: it sends nothing that they could answer, and
--- keeps no key that they could name
+-- a response, an error message or a disconnection, which no centre serves: it sends no key service message or disconnection
+-- that they could answer, and has no key records
 abbrev pub unserved : Party → List ℕ → List ℕ → Row
 unserved p receiver originator = refused (verdict_of ((is_for p receiver originator, NotForMe) ∷ (false, WrongClass) ∷ []))
 

@@ -172,7 +172,8 @@ fn send_drawn(
     }
 }
 
-/// What is decided where a new data key is to go under the link, behind the tests that come before.
+/// What is decided where a new data key is to go under the link, at a moment in microseconds since 1970, behind the tests that come
+/// before. The only error is want of memory.
 pub fn send(
     alloc: Global,
     state: &State,

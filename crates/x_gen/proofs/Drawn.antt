@@ -1,4 +1,4 @@
--- A drawn key has 64 bits and odd parity.
+-- A drawn key has 64 bits and odd parity, and isn't weak.
 use Rattle.std.specs.Prelude.{count_ones}
 use Rattle.std.proofs.Common.{arith, ◌≡◌, ℕ, zero, suc, ◌+◌, ◌*◌, ◌/◌, ◌%◌, ◌-◌, ◌<◌, ◌^◌, not, cond, Bool, true, false, Some, List, [], ◌∷◌, map, get_or, refl, ◌∙◌, ap, subst}
 use Rattle.std.specs.List.{find}
@@ -7,7 +7,7 @@ use Rattle.std.proofs.lemmas.Nat.{be_bytes_8}
 use Rattle.x_gen.specs.Parity.{odd_byte, odd_parity_of, is_weak_key}
 use Rattle.x_gen.specs.declared.generator.Gen.{Gen}
 use Rattle.x_gen.specs.Gen.{drawn, gen_after, draws}
-use Rattle.x_gen.specs.Laws.{IsOdd, OddStays, DrawsOdd}
+use Rattle.x_gen.specs.Laws.{IsOdd, OddStays, DrawsOdd, DrawsStrong}
 
 byte_again : (b : ℕ) → odd_byte (odd_byte b) ≡ odd_byte b
 byte_again b = let half : odd_byte b / 2 ≡ b / 2 = omega arith in ap (λ (h : ℕ). h * 2 + (1 - count_ones h % 2)) half
@@ -65,3 +65,16 @@ odd_in (suc n) g moment d h = go (not (is_weak_key (odd_parity_of (drawn g momen
 
 pub draws_odd : DrawsOdd
 draws_odd g moment d h = odd_in 16 g moment d h
+
+-- among any draws
+strong_in : (ds : List (ℕ × Gen)) (d : ℕ × Gen) → find (λ (x : ℕ × Gen). not (is_weak_key x.0)) ds ≡ Some d → is_weak_key d.0 ≡ false
+strong_in [] d h = absurd (cc)
+strong_in (x ∷ ds) d h = go (is_weak_key x.0) refl h (strong_in ds d)
+  where
+    go : (b : Bool) → is_weak_key x.0 ≡ b → cond (not b) (Some x) (find (λ (y : ℕ × Gen). not (is_weak_key y.0)) ds) ≡ Some d
+        → (find (λ (y : ℕ × Gen). not (is_weak_key y.0)) ds ≡ Some d → is_weak_key d.0 ≡ false) → is_weak_key d.0 ≡ false
+    go true weak h ih = ih h
+    go false weak h ih = (let is : x ≡ d = cc in subst (λ (y : ℕ × Gen). is_weak_key y.0 ≡ false) is weak)
+
+pub draws_strong : DrawsStrong
+draws_strong g moment d h = strong_in (draws 16 g moment) d h

@@ -1,6 +1,6 @@
 -- What is promised of every key that is drawn.
-use Rattle.std.specs.Prelude.{◌≡◌, ℕ, ◌<◌, ◌^◌, Some}
-use Rattle.x_gen.specs.Parity.{odd_parity_of}
+use Rattle.std.specs.Prelude.{◌≡◌, ℕ, ◌<◌, ◌^◌, false, Some}
+use Rattle.x_gen.specs.Parity.{odd_parity_of, is_weak_key}
 use Rattle.x_gen.specs.Gen.{good_draw}
 use Rattle.x_gen.specs.declared.generator.Gen.{Gen}
 
@@ -16,3 +16,7 @@ OddStays = (key : ℕ) → IsOdd (odd_parity_of key)
 -- and every key that sixteen draws give
 abbrev pub DrawsOdd : Type 0
 DrawsOdd = (g : Gen) (moment : ℕ) (d : ℕ × Gen) → good_draw g moment ≡ Some d → IsOdd d.0
+
+-- none of which is weak
+abbrev pub DrawsStrong : Type 0
+DrawsStrong = (g : Gen) (moment : ℕ) (d : ℕ × Gen) → good_draw g moment ≡ Some d → is_weak_key d.0 ≡ false

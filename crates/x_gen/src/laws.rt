@@ -1,5 +1,5 @@
 // What is promised of every key that is drawn.
-ghost use Rattle.x_gen.specs.Laws.{DrawsOdd, OddStays};
+ghost use Rattle.x_gen.specs.Laws.{DrawsOdd, DrawsStrong, OddStays};
 
 /// A key that has been given odd parity has 64 bits, and odd parity given to it again changes
 /// nothing.
@@ -11,4 +11,10 @@ pub fn law_odd_stays()
 /// The key that `draw_good` gives has 64 bits and odd parity.
 pub fn law_draws_odd()
     ensures { DrawsOdd }
+{}
+
+/// It is none of the weak keys.
+#[tactic(auto, using(crate::proofs::Drawn::draws_strong))]
+pub fn law_draws_strong()
+    ensures { DrawsStrong }
 {}

@@ -6,5 +6,5 @@ mod laws;
 mod parity;
 
 pub use generator::{Gen, WeakDraws};
-pub use laws::{law_draws_odd, law_odd_stays};
+pub use laws::{law_draws_odd, law_draws_strong, law_odd_stays};
 pub use parity::{is_weak, with_odd_parity};
