@@ -6,9 +6,9 @@ ghost use Rattle.change_code.specs.Code.{number_of};
 /// How a change is coded.
 #[derive(Clone, Copy, PartialEq, Eq)]
 pub enum Format {
-    /// The edits alone.
+    /// The number of the format, how many edits there are, and the edits.
     One,
-    /// The edits, and an error detection code behind them.
+    /// The same, and behind it the error detection code of all its bytes.
     Two,
 }
 

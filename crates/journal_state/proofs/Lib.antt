@@ -4,3 +4,4 @@ mod Loaded
 mod Carried
 mod Begun
 mod Findings
+mod Nothing

@@ -37,6 +37,12 @@ pub record IsFirstDamage {S : Type 0} (step : List ℕ → S → S → Type 0) (
   pub not_blank : is_blank image ≡ false
   pub damage : ((has_magic image ≡ false) × (place ≡ 2)) ⊎ ((has_magic image ≡ true) × IsDamagedFrame step first image place)
 
+-- the image is none of what an image can be: blank, one that stands for a state, or one with a first damage
+pub record IsNothing {S : Type 0} (step : List ℕ → S → S → Type 0) (first : S) (image : List ℕ) : Type 0 where
+  pub not_blank : is_blank image ≡ false
+  pub no_state : (state : S) → StandsFor step first image state → ⊥
+  pub undamaged : (place : ℕ) → IsFirstDamage step first image place → ⊥
+
 -- a journal with its state: the disk, the place of the closed gate and the end of its area, and the state
 pub record Stood (D S : Type 0) : Type 0 where
   pub disk : D

@@ -1,5 +1,7 @@
 // A body more, or the state as one body.
-ghost use Rattle.std.specs.Prelude.{◌+◌, ◌≤◌, length};
+ghost use Rattle.std.specs.Prelude.{◌≡◌, ◌+◌, ◌≤◌, length, IfOk};
+ghost use Rattle.key_journal.specs.Layout.{area_size};
+ghost use Rattle.key_journal.specs.States.{other_start};
 ghost use Rattle.journal_state.specs.Keeping.{IsFrameOf, IsKept, IsReplaced};
 ghost use Rattle.journal_state.specs.States.{IsStanding, stood};
 
@@ -39,7 +41,8 @@ impl<D: Disk, J: Judge> Standing<D, J> {
     /// state from the start. Makes disk calls alone.
     pub fn replace(self, frame: &[u8], next: J) -> Result<Standing<D, J>, Broken<D>>
         requires { IsFrameOf J.step frame.now J.start next }
-        ensures { IsReplaced J.step J.start D.told self next result }
+        ensures replaced { IsReplaced J.step J.start D.told self next result }
+        ensures place { IfOk result (λ s. (s.gate ≡ other_start self.end + length frame.now) × (s.end ≡ other_start self.end + area_size)) }
     {
         match self.ready.switch(frame) {
             Err(broken) => Err(broken),

@@ -1,5 +1,5 @@
 -- What images a journal passes through while it is made.
-use Rattle.std.proofs.Common.{◌≡◌, ◌⊎◌, inl, inr, ℕ, ◌+◌, ◌-◌, ◌≤◌, ◌==◌, nat_le, true, ◌||◌, not, List, [], ◌∷◌, ◌++◌, length, get_or, take, drop, Option, Some, None, is_some, refl, sym, ◌∙◌, ap, subst, arith, append_assoc, length-append}
+use Rattle.std.proofs.Common.{◌≡◌, ◌⊎◌, inl, inr, ℕ, ◌+◌, ◌-◌, ◌≤◌, if◌then◌else◌, ◌==◌, nat_le, true, ◌||◌, not, List, [], ◌∷◌, ◌++◌, length, get_or, take, drop, Option, Some, None, is_some, refl, sym, ◌∙◌, ap, subst, arith, append_assoc, length-append}
 use Rattle.key_journal.specs.Layout.{area_size, second_start, first_start}
 use mathlib.Core.Logic.{◌≢◌}
 use Rattle.std.proofs.lemmas.List.{take_at, append-nil, take-take, length-take-le}
@@ -39,6 +39,12 @@ blank_gate (x ∷ b) (y ∷ c) not_open same =
 
 pub short_blank : (c : List ℕ) → length c ≤ 1 → is_blank c ≡ true
 short_blank c short = grind (arith, nat_tests)
+
+-- what is made of a file of at most one byte
+pub short_made : (b : List ℕ) → length b ≤ 1 → overwrite 0 (0 ∷ []) b ≡ (if nat_le (length b) 1 then 0 ∷ [] else b)
+short_made [] short = refl
+short_made (x ∷ []) short = refl
+short_made (x ∷ y ∷ b) short = absurd (omega (arith, short))
 
 -- prepare, on a file of at most one byte
 pub closed_written : (old new : View) (size : ℕ) → IsDurable new → IsWritten 0 (0 ∷ []) old new → is_some new.now ≡ is_some old.now → IsEmpty new

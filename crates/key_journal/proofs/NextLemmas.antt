@@ -50,6 +50,8 @@ failed told old new reason (Err c) is still rose gate end ended =
       only = tt;
       ended = tt;
       onward = tt;
+      rests = tt;
+      unfinished = tt;
       undamaged = λ bodies has. free;
       damaged = λ place damaged b now. absurd (subst (λ (x : Cause). IsFree x) damaged free);
       unended = tt;
@@ -66,8 +68,8 @@ failed told old new reason (Err c) is still rose gate end ended =
 module _ {D : Type 0} (told : D → View) (old new : Reading D) (size : ℕ) (o : IsOpen (told old.disk) size old.gate old.end old.ended) (still : IsStill (told old.disk) (told new.disk)) (later : (told old.disk).faults ≤ (told new.disk).faults)
     (end : new.end ≡ old.end) where
   -- the list ends at the gate
-  pub none_left : new.ended ≡ true → ((b : List ℕ) → (told old.disk).now ≡ Some b → (is_open b old.gate ≡ false) × (old.gate ≢ start b)) → IsReadOn told old new (Ok None)
-  none_left done stop = record {
+  pub none_left : new.gate ≡ old.gate → new.ended ≡ true → ((b : List ℕ) → (told old.disk).now ≡ Some b → (is_open b old.gate ≡ false) × (old.gate ≢ start b)) → IsReadOn told old new (Ok None)
+  none_left gate done stop = record {
     exact = λ b now. found_end b old.gate old.end (stop b now).0 (stop b now).1;
     body = tt;
     more = tt;
@@ -75,6 +77,8 @@ module _ {D : Type 0} (told : D → View) (old new : Reading D) (size : ℕ) (o 
     only = λ none bodies all read has. one_list (told old.disk) (told new.disk) bodies all still.now (all_of (told old.disk) (told new.disk) bodies old.gate still.now stop read) has;
     ended = λ none. done;
     onward = tt;
+    rests = λ none. gate;
+    unfinished = tt;
     undamaged = λ bodies has. tt;
     damaged = tt;
     unended = λ none. unended (told old.disk) size old.gate old.end old.ended o stop;
@@ -100,6 +104,8 @@ module _ {D : Type 0} (told : D → View) (old new : Reading D) (size : ℕ) (o 
         only = tt;
         ended = tt;
         onward = tt;
+        rests = tt;
+        unfinished = tt;
         undamaged = λ bodies has. undamaged_at (told old.disk) size old.gate old.end old.ended o bodies has found;
         damaged = broken;
         unended = tt;
@@ -114,11 +120,11 @@ module _ {D : Type 0} (told : D → View) (old new : Reading D) (size : ℕ) (o 
       }
 
   -- a frame with this body
-  pub body_read : (n : ℕ) (body : List ℕ) → new.gate ≡ old.gate + (5 + n) → new.gate < new.end → length body ≡ n → IsSized old.gate old.end size n
+  pub body_read : (n : ℕ) (body : List ℕ) → new.ended ≡ false → new.gate ≡ old.gate + (5 + n) → new.gate < new.end → length body ≡ n → IsSized old.gate old.end size n
       → ((b : List ℕ) → (told old.disk).now ≡ Some b → kind.Frame n ≡ judged_at b old.gate old.end)
       → ((b : List ℕ) → (told old.disk).now ≡ Some b → take 5 (drop old.gate b) ≡ 1 ∷ four_bytes n)
       → ((b : List ℕ) → (told old.disk).now ≡ Some b → body ≡ take n (drop (old.gate + 5) b)) → IsReadOn told old new (Ok (Some body))
-  body_read n body next room long sized judged front text = record {
+  body_read n body fresh next room long sized judged front text = record {
     exact = λ b now. found_body b body old.gate old.end n (judged b now) (text b now);
     body = record { some = omega (arith, sized.some); small = omega (arith, sized.small) };
     more = λ bodies read. more_of (told old.disk) size old.gate old.end old.ended o (told new.disk) new.gate n body still.now next sized front text bodies read;
@@ -126,6 +132,8 @@ module _ {D : Type 0} (told : D → View) (old new : Reading D) (size : ℕ) (o 
     only = λ none. absurd (cc none);
     ended = λ none. absurd (cc none);
     onward = (omega arith, room);
+    rests = λ none. absurd (cc none);
+    unfinished = fresh;
     undamaged = λ bodies has. tt;
     damaged = tt;
     unended = λ none. absurd (cc none);

@@ -275,6 +275,12 @@ module _ (old mid new : View) (gate end other : ℕ) (is_other : other ≡ other
         holds = (switch_image ready sound is_body is run laid at.bodies (record { image = b.0; now = b.1; holds = at.holds })).0;
       }
 
+  -- what is written, and where
+  pub switch_written : Laid → IsWritten 1 (selector_of other ∷ []) mid new → (b : List ℕ) → old.now ≡ Some b
+      → new.now ≡ Some (overwrite 1 (selector_of (other_start end) ∷ []) (beside (other_start end) frame b))
+  switch_written laid written b now =
+      subst (λ (o : ℕ). new.now ≡ Some (overwrite 1 (selector_of o ∷ []) (beside o frame b))) is_other (written (beside other frame b) (laid b now))
+
   pub switch_ready : IsReady old gate end → IsSound mid → IsBody body → frame ≡ frame_of body → LeavesOnly old mid (MayTear old other (1 + length frame)) → Laid → IsWritten 1 (selector_of other ∷ []) mid new
       → is_some mid.now ≡ is_some old.now → is_some new.now ≡ is_some mid.now → IsDurable new → IsReady new (other + length frame) (other + area_size)
   switch_ready ready sound is_body is run laid written tells tells_too durable = record {

@@ -1,5 +1,5 @@
 -- What a journal's calls do that look and read (this project's profile).
-use Rattle.std.specs.Prelude.{◌≡◌, ◌⊎◌, ℕ, ◌+◌, ◌<◌, ◌≤◌, List, [], ◌∷◌, ◌++◌, length, true, false, Option, Some, None, is_some, Result, IfOk, IfErr, IfSome, OnErr}
+use Rattle.std.specs.Prelude.{◌≡◌, ◌⊎◌, ℕ, ◌+◌, ◌<◌, ◌≤◌, nat_le, if◌then◌else◌, List, [], ◌∷◌, ◌++◌, length, true, false, Option, Some, None, is_some, Result, IfOk, IfErr, IfSome, OnErr}
 use Rattle.x_base.specs.Edge.{Rose}
 use Rattle.x_disk.specs.Disk.{View, IsStill, IsDurable, Tells, LeavesOnly, LeavesNoMore}
 use Rattle.key_journal.specs.Journal.{is_blank, IsBody}
@@ -18,6 +18,8 @@ pub record IsPrepared {D : Type 0} (told : D → View) (old : D) (result : Resul
   -- no other cause is told
   pub names : IfErr result (λ u. IsFree u.cause ⊎ (u.cause ≡ cause.NotEmpty))
   pub nothing_written : WritesOnlyToBlank (told old) (told (empty_disk result))
+  -- a file of at most one byte becomes one closed gate, and a longer one stays as it is
+  pub written : IfOk result (λ s. (b : List ℕ) → (told old).now ≡ Some b → (told s.disk).now ≡ Some (if nat_le (length b) 1 then 0 ∷ [] else b))
   pub durable : IfOk result (λ s. IsDurable (told s.disk))
   pub closed : IfOk result (λ s. (b : List ℕ) → (told s.disk).now ≡ Some b → is_blank b ≡ true)
   -- a crash at any moment leaves a blank image, or what it could leave before
@@ -57,6 +59,10 @@ pub record IsReadOn {D : Type 0} (told : D → View) (old new : Reading D) (resu
   pub ended : IfOk result (λ o. o ≡ None → new.ended ≡ true)
   -- a body leads to the next gate
   pub onward : IfOk result (λ o. IfSome o (λ body. (new.gate ≡ old.gate + 5 + length body) × (new.gate < new.end)))
+  -- where there is none, the gate stays
+  pub rests : IfOk result (λ o. o ≡ None → new.gate ≡ old.gate)
+  -- after a body the list goes on
+  pub unfinished : IfOk result (λ o. IfSome o (λ _. new.ended ≡ false))
   -- an image that stands gives no other cause
   pub undamaged : (bodies : List (List ℕ)) → HasBodies (told old.disk) bodies → IfErr result IsFree
   -- a damage that is told is there

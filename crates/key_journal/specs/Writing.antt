@@ -4,9 +4,9 @@ use Rattle.x_disk.specs.Disk.{View, IsDurable, IsWritten, Tells, LeavesOnly, one
 use Rattle.x_disk.specs.declared.disk.DiskErr.{DiskErr}
 use Rattle.x_disk.specs.declared.disk.DiskErr.TheVariants.{Fault, NoMemory}
 use Rattle.key_journal.specs.Layout.{area_size, first_start, second_start}
-use Rattle.key_journal.specs.Journal.{frame_of, HoldsBodies, IsBody}
+use Rattle.key_journal.specs.Journal.{magic, frame_of, HoldsBodies, IsBody}
 use Rattle.key_journal.specs.Results.{staged_disk, ready_disk}
-use Rattle.key_journal.specs.States.{Empty, Site, Pending, Failed, HasBodies, HasStaged, HasRoom, HasFaults, FaultsRose, MayTear, HoldsOldOrNew, IsOldOrAlone, IsBlankOrFirst, other_start}
+use Rattle.key_journal.specs.States.{Empty, Site, Pending, Failed, HasBodies, HasStaged, HasRoom, HasFaults, FaultsRose, MayTear, HoldsOldOrNew, IsOldOrAlone, IsBlankOrFirst, other_start, selector_of}
 
 -- these bytes are written and synced
 pub record IsPut (at : ℕ) (bytes : List ℕ) (old new : View) (result : Result Unit DiskErr) : Type 0 where
@@ -60,6 +60,8 @@ pub record IsStaging {D : Type 0} (told : D → View) (old : Site D) (frame : Li
   -- the bodies stand, and the frame lies behind them
   pub staged : IfOk result (λ s. (bodies : List (List ℕ)) (body : List ℕ) → HasBodies (told old.disk) bodies → IsBody body → frame ≡ frame_of body
       → HasStaged (told s.disk) bodies body)
+  -- nothing else is written
+  pub written : IfOk result (λ s. IsWritten (old.gate + 1) frame (told old.disk) (told s.disk))
   pub durable : IfOk result (λ s. IsDurable (told s.disk))
   -- a crash at any moment leaves the bodies that were there
   pub any_moment : (bodies : List (List ℕ)) → HasBodies (told old.disk) bodies
@@ -87,6 +89,9 @@ pub record IsStaging {D : Type 0} (told : D → View) (old : Site D) (frame : Li
 pub record IsSwitch {D : Type 0} (told : D → View) (old : Site D) (frame : List ℕ) (result : Result (Site D) (Failed D)) : Type 0 where
   -- its body is the only one
   pub switched : IfOk result (λ s. (body : List ℕ) → IsBody body → frame ≡ frame_of body → Tells (told old.disk) → HasBodies (told s.disk) (body ∷ []))
+  -- an open gate, the frame and the selector are written, and nothing else
+  pub written : IfOk result (λ s. (b : List ℕ) → (told old.disk).now ≡ Some b
+      → (told s.disk).now ≡ Some (overwrite 1 (selector_of (other_start old.end) ∷ []) (overwrite (other_start old.end + 1) frame (overwrite (other_start old.end) (1 ∷ []) b))))
   pub room : IfOk result (λ s. HasRoom (told s.disk) s.gate s.end)
   -- where the gate and the end of the area are
   pub place : IfOk result (λ s. (s.gate ≡ other_start old.end + length frame) × (s.end ≡ other_start old.end + area_size))
@@ -114,6 +119,8 @@ pub record IsCommit {D : Type 0} (told : D → View) (old : Pending D) (result :
   pub room : IfOk result (λ s. HasRoom (told s.disk) s.gate s.end)
   -- the new body counts
   pub committed : IfOk result (λ s. (bodies : List (List ℕ)) (body : List ℕ) → HasStaged (told old.disk) bodies body → HasBodies (told s.disk) (bodies ++ body ∷ []))
+  -- that gate alone is written
+  pub written : IfOk result (λ s. IsWritten old.gate (1 ∷ []) (told old.disk) (told s.disk))
   pub durable : IfOk result (λ s. IsDurable (told s.disk))
   -- a crash at any moment leaves the bodies that were there, with the new one or without
   pub any_moment : (bodies : List (List ℕ)) (body : List ℕ) → HasStaged (told old.disk) bodies body
@@ -142,6 +149,9 @@ pub record IsFirstFrame {D : Type 0} (told : D → View) (old : Empty D) (frame 
   -- its body is the only one
   pub created : IfOk result (λ s. (body : List ℕ) → IsBody body → frame ≡ frame_of body → Tells (told old.disk)
       → HasBodies (told s.disk) (body ∷ []))
+  -- the selector, the magic, an open gate, the frame and the file's gate are written, and nothing else
+  pub written : IfOk result (λ s. (b : List ℕ) → (told old.disk).now ≡ Some b
+      → (told s.disk).now ≡ Some (overwrite 0 (1 ∷ []) (overwrite 17 frame (overwrite 1 (0 ∷ magic ++ 1 ∷ []) b))))
   pub room : IfOk result (λ s. HasRoom (told s.disk) s.gate s.end)
   -- where the gate and the end of the area are
   pub place : IfOk result (λ s. (s.gate ≡ first_start + length frame) × (s.end ≡ second_start))

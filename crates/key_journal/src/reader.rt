@@ -21,7 +21,7 @@ pub(crate) struct Reader<D: Disk> {
     size: u64,
     from: u64,
     held: usize,
-    buffer: [u8; 4096],
+    buffer: [u8; WINDOW],
 }
 
 impl<D: Disk> Model for Reader<D> {
@@ -57,7 +57,7 @@ impl<D: Disk> Reader<D> {
             size,
             from: 0,
             held: 0,
-            buffer: [0; 4096],
+            buffer: [0; WINDOW],
         }
     }
 

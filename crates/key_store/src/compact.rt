@@ -30,8 +30,7 @@ pub(crate) fn whole_frame(alloc: Global, format: Format, state: &State) -> Resul
 
 impl<D: Disk> Store<D> {
     /// Writes the party as one frame into the other area, and selects that area. The party stays with its format, whatever a
-    /// crash leaves. Comes with `Full` exactly where the party is too large for one frame in that
-    /// format.
+    /// crash leaves. Comes with `Full` exactly where the party is too large for one frame in that format.
     pub fn compact(self, alloc: Global) -> Kept<D>
         ensures { IsCompacting D.told self result }
     {

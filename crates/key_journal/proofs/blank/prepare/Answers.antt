@@ -1,5 +1,5 @@
-use Rattle.std.proofs.Common.{rules, ◌≤◌, ◌∙◌, length, arith}
-use Rattle.key_journal.proofs.MakeLemmas.{closed_written, prepare_moment, some_of, closed_is_blank}
+use Rattle.std.proofs.Common.{rules, ◌≤◌, ◌∙◌, ℕ, List, Some, length, ap, arith}
+use Rattle.key_journal.proofs.MakeLemmas.{short_made, closed_written, prepare_moment, some_of, closed_is_blank}
 use Rattle.key_journal.proofs.blank.prepare.Goals as goal
 
 pub invariant_of-result-in-Ok-put : goal.invariant_of-result-in-Ok-put
@@ -11,6 +11,9 @@ returns-in-Ok-put g c = record {
   exact = tt;
   names = tt;
   nothing_written = search rules;
+  written = λ b now.
+      let header = c.in-Ok.ensures.header b now in
+      c.in-Ok-put.ensures.written b (c.look.ensures.now ∙ now) ∙ ap (λ (x : List ℕ). Some x) (short_made b (omega (arith, header.long, c.if-header-gt1.false)));
   durable = search rules;
   closed = λ b now. closed_is_blank b ((invariant_of-result-in-Ok-put g c).closed b now);
   any_moment = λ tells.
@@ -30,6 +33,7 @@ returns-in-Err-put g c = record {
   exact = search rules;
   names = search rules;
   nothing_written = search rules;
+  written = tt;
   durable = tt;
   closed = tt;
   any_moment = λ tells.

@@ -8,8 +8,8 @@ use Rattle.journal_state.proofs.Carried.{made_standing}
 use Rattle.journal_state.proofs.Begun.{looked, laid, free_cause, fault_of}
 use Rattle.journal_state.proofs.standing.Standing.create.Goals as goal
 
-pub returns-in-Ok-create : goal.returns-in-Ok-create
-returns-in-Ok-create g c =
+pub returns-in-Ok-create-clause-made : goal.returns-in-Ok-create-clause-made
+returns-in-Ok-create-clause-made g c =
     let told = g.D.Disk.told in
     let is = c.requires in
     let create = c.in-Ok-create.ensures in
@@ -28,8 +28,8 @@ returns-in-Ok-create g c =
       tells = create.tells ∙ c.in-Ok.ensures.tells;
     }
 
-pub returns-in-Err : goal.returns-in-Err
-returns-in-Err g c =
+pub returns-in-Err-clause-made : goal.returns-in-Err-clause-made
+returns-in-Err-clause-made g c =
     let told = g.D.Disk.told in
     let unprepared = c.in-Err.ensures in
     record {
@@ -45,8 +45,8 @@ returns-in-Err g c =
       tells = unprepared.tells;
     }
 
-pub returns-in-Err-create : goal.returns-in-Err-create
-returns-in-Err-create g c =
+pub returns-in-Err-create-clause-made : goal.returns-in-Err-create-clause-made
+returns-in-Err-create-clause-made g c =
     let told = g.D.Disk.told in
     let is = c.requires in
     let broken = c.in-Err-create.broken in

@@ -1,12 +1,13 @@
-use Rattle.std.proofs.Common.{rules, [], ◌∷◌, ap, sym, subst}
-use Rattle.x_disk.specs.Disk.{LeavesOnly, Tells}
+use Rattle.std.proofs.Common.{rules, ◌≡◌, ℕ, List, [], ◌∷◌, Some, ap, sym, subst}
+use Rattle.x_disk.specs.Disk.{LeavesOnly, Tells, overwrite}
 use Rattle.key_journal.specs.States.{HasBodies, IsBlankOrFirst}
-use Rattle.key_journal.proofs.MakeLemmas.{made_ready, made_bodies, lay_moment, made_moment}
+use Rattle.key_journal.proofs.MakeLemmas.{laid, made_ready, made_bodies, lay_moment, made_moment}
 use Rattle.key_journal.proofs.blank.Blank.create.Goals as goal
 
 pub returns-in-Err : goal.returns-in-Err
 returns-in-Err g c = record {
   created = tt;
+  written = tt;
   room = tt;
   place = tt;
   durable = tt;
@@ -32,6 +33,12 @@ returns-in-Ok-put g c = record {
       let same = ap (λ s. s.disk) c.self.view_is in
       subst (λ d. HasBodies (told d) (body ∷ [])) (sym (ap (λ s. s.disk) c.new.ensures.made))
       (made_bodies (told c.self.inside.disk) (told c.lay.new.disk) (told c.put.new.disk) c.args.frame.now body c.self.invariant (subst (λ d. Tells (told d)) (sym same) tells) c.in-Ok.ensures.written c.in-Ok-put.ensures.written is is_body);
+  written =
+      let told = g.D.Disk.told in
+      let frame = c.args.frame.now in
+      subst (λ d. (b : List ℕ) → (told d).now ≡ Some b → (told c.new.result.disk).now ≡ Some (overwrite 0 (1 ∷ []) (laid frame b))) (ap (λ s. s.disk) c.self.view_is)
+      (subst (λ d. (b : List ℕ) → (told c.self.inside.disk).now ≡ Some b → (told d).now ≡ Some (overwrite 0 (1 ∷ []) (laid frame b))) (sym (ap (λ s. s.disk) c.new.ensures.made))
+      (λ b now. c.in-Ok-put.ensures.written (laid frame b) (c.in-Ok.ensures.written b now)));
   room = search rules;
   place = search rules;
   durable = search rules;
@@ -50,6 +57,7 @@ returns-in-Ok-put g c = record {
 pub returns-in-Err-put : goal.returns-in-Err-put
 returns-in-Err-put g c = record {
   created = tt;
+  written = tt;
   room = tt;
   place = tt;
   durable = tt;

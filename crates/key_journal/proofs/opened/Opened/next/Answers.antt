@@ -30,7 +30,7 @@ returns-then-self g c =
     let told = g.D.Disk.told in
     let at = reading i.reader.disk i.gate i.end i.ended in
     subst (λ s. IsReadOn told s s (Ok None)) c.self.view_is
-    (none_left told at at i.reader.size c.self.invariant (still_same (told i.reader.disk)) (omega arith) refl c.if-self.true
+    (none_left told at at i.reader.size c.self.invariant (still_same (told i.reader.disk)) (omega arith) refl refl c.if-self.true
     (ended_at (told i.reader.disk) i.reader.size i.gate i.end i.ended c.self.invariant c.if-self.true))
 
 pub returns-in_err-n : goal.returns-in_err-n
@@ -82,7 +82,7 @@ returns-else-self-2 g c =
     let old = reading i.reader.disk i.gate i.end i.ended in
     let new = reading c.judge_at.new.self.disk i.gate i.end true in
     subst (λ s. IsReadOn told s new (Ok None)) c.self.view_is
-    (none_left told old new i.reader.size c.self.invariant file.still file.cause.later refl refl
+    (none_left told old new i.reader.size c.self.invariant file.still file.cause.later refl refl refl
     (λ b is. (closed_is b i.gate i.end (sym c.in-Closed.is ∙ c.in_ok-n.ensures.value b is), later_gate (told i.reader.disk) i.reader.size i.gate i.end i.ended c.self.invariant b is c.if-self-2.false)))
 
 pub returns-in_ok-body-in-Frame : goal.returns-in_ok-body-in-Frame
@@ -96,7 +96,7 @@ returns-in_ok-body-in-Frame g c =
     let new = reading c.body.new.self.disk (i.gate + (5 + c.in-Frame.n)) i.end i.ended in
     let still = still_both (told i.reader.disk) (told c.judge_at.new.self.disk) (told c.body.new.self.disk) first.still file.still in
     subst (λ s. IsReadOn told s new (Ok (Some body))) c.self.view_is
-    (body_read told old new i.reader.size c.self.invariant still (omega (arith, first.cause.later, file.cause.later)) refl c.in-Frame.n body refl (invariant_of-self-in-Frame g c).room c.in_ok-body-in-Frame.ensures.length
+    (body_read told old new i.reader.size c.self.invariant still (omega (arith, first.cause.later, file.cause.later)) refl c.in-Frame.n body c.if-self.false refl (invariant_of-self-in-Frame g c).room c.in_ok-body-in-Frame.ensures.length
     (subst (λ j. IfBody j (λ m. IsSized i.gate i.end i.reader.size m)) c.in-Frame.is c.in_ok-n.ensures.sized)
     (λ b is. sym c.in-Frame.is ∙ c.in_ok-n.ensures.value b is)
     (subst (λ j. IfBody j (λ m. (b : List ℕ) → (told i.reader.disk).now ≡ Some b → take 5 (drop i.gate b) ≡ 1 ∷ four_bytes m)) c.in-Frame.is c.in_ok-n.ensures.bytes)

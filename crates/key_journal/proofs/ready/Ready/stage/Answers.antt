@@ -1,5 +1,5 @@
 use Rattle.std.proofs.Common.{rules, ◌+◌, ◌≤◌, List, ℕ, length, ap, subst, sym, arith}
-use Rattle.x_disk.specs.Disk.{LeavesOnly}
+use Rattle.x_disk.specs.Disk.{LeavesOnly, IsWritten}
 use Rattle.key_journal.specs.Journal.{HoldsBodies}
 use Rattle.key_journal.specs.States.{HasBodies}
 use Rattle.key_journal.proofs.StepLemmas.{stage_moment, stage_done, stage_ready}
@@ -18,6 +18,7 @@ returns-in-Ok g c = record {
       let fits : c.self.inside.gate + 1 + length c.args.frame.now ≤ c.self.inside.end = omega (arith, c.requires.fits, ap (λ s. s.gate) c.self.view_is, ap (λ s. s.end) c.self.view_is) in
       stage_done (told c.self.inside.disk) (told c.put.new.disk) c.self.inside.gate c.self.inside.end c.args.frame.now body c.self.invariant c.in-Ok.ensures.written fits is is_body bodies
       (subst (λ d. HasBodies (told d) bodies) (sym (ap (λ s. s.disk) c.self.view_is)) has);
+  written = let told = g.D.Disk.told in subst (λ s. IsWritten (s.gate + 1) c.args.frame.now (told s.disk) (told c.put.new.disk)) c.self.view_is c.in-Ok.ensures.written;
   durable = search rules;
   any_moment = let told = g.D.Disk.told in
       subst (λ d. (bodies : List (List ℕ)) → HasBodies (told d) bodies → LeavesOnly (told d) (told c.put.new.disk) (λ f. HoldsBodies f bodies)) (ap (λ s. s.disk) c.self.view_is)
@@ -37,6 +38,7 @@ returns-in-Ok g c = record {
 pub returns-in-Err : goal.returns-in-Err
 returns-in-Err g c = record {
   staged = tt;
+  written = tt;
   durable = tt;
   any_moment = let told = g.D.Disk.told in
       subst (λ d. (bodies : List (List ℕ)) → HasBodies (told d) bodies → LeavesOnly (told d) (told c.put.new.disk) (λ f. HoldsBodies f bodies)) (ap (λ s. s.disk) c.self.view_is)

@@ -1,9 +1,9 @@
-use Rattle.std.proofs.Common.{rules, ◌∙◌, ◌∷◌, [], ℕ, ap, subst, sym}
-use Rattle.x_disk.specs.Disk.{LeavesOnly, Tells, IsWritten}
-use Rattle.key_journal.specs.States.{HasBodies, IsOldOrAlone}
+use Rattle.std.proofs.Common.{rules, ◌≡◌, ◌∙◌, ◌∷◌, [], ℕ, List, Some, ap, subst, sym}
+use Rattle.x_disk.specs.Disk.{LeavesOnly, Tells, IsWritten, overwrite}
+use Rattle.key_journal.specs.States.{HasBodies, IsOldOrAlone, other_start, selector_of}
 use Rattle.x_disk.proofs.Runs.{weaker}
 use Rattle.key_journal.proofs.StepLemmas.{room_is}
-use Rattle.key_journal.proofs.SwitchLemmas.{stable_has, beside_moment, switch_moment, switched, switch_ready}
+use Rattle.key_journal.proofs.SwitchLemmas.{beside, stable_has, beside_moment, switch_moment, switched, switch_ready, switch_written}
 use Rattle.std.proofs.Common.{inl}
 use Rattle.key_journal.specs.Journal.{HoldsBodies}
 use Rattle.key_journal.proofs.ready.Ready.switch.Goals as goal
@@ -11,6 +11,7 @@ use Rattle.key_journal.proofs.ready.Ready.switch.Goals as goal
 pub returns-in-Err : goal.returns-in-Err
 returns-in-Err g c = record {
   switched = tt;
+  written = tt;
   room = tt;
   place = tt;
   durable = tt;
@@ -56,6 +57,15 @@ returns-in-Ok-put g c = record {
       let new = told c.put.new.disk in
       switched (told i.disk) mid new i.gate i.end c.other_start-start.result c.other_start-start.ensures c.args.frame.now body c.self.invariant (g.met.D.Disk.sound c.lay_alone.new.disk) is_body is c.lay_alone.ensures.any_moment
       c.in-Ok.ensures.written (subst (λ (byte : ℕ). IsWritten 1 (byte ∷ []) mid new) c.selector_of.ensures c.in-Ok-put.ensures.written) (subst (λ d. Tells (told d)) (sym (ap (λ s. s.disk) c.self.view_is)) tells);
+  written =
+      let told = g.D.Disk.told in
+      let i = c.self.inside in
+      let mid = told c.lay_alone.new.disk in
+      let new = told c.put.new.disk in
+      let frame = c.args.frame.now in
+      subst (λ s. (b : List ℕ) → (told s.disk).now ≡ Some b → new.now ≡ Some (overwrite 1 (selector_of (other_start s.end) ∷ []) (beside (other_start s.end) frame b))) c.self.view_is
+      (switch_written (told i.disk) mid new i.gate i.end c.other_start-start.result c.other_start-start.ensures frame c.requires.body c.in-Ok.ensures.written
+      (subst (λ (byte : ℕ). IsWritten 1 (byte ∷ []) mid new) c.selector_of.ensures c.in-Ok-put.ensures.written));
   room = room_is (g.D.Disk.told c.put.new.disk) _ _ (invariant_of-result g c);
   place = search rules;
   durable = search rules;
@@ -79,6 +89,7 @@ returns-in-Ok-put g c = record {
 pub returns-in-Err-put : goal.returns-in-Err-put
 returns-in-Err-put g c = record {
   switched = tt;
+  written = tt;
   room = tt;
   place = tt;
   durable = tt;

@@ -1,5 +1,5 @@
-use Rattle.std.proofs.Common.{rules, List, ℕ, ap, subst, sym}
-use Rattle.x_disk.specs.Disk.{LeavesOnly}
+use Rattle.std.proofs.Common.{rules, List, [], ◌∷◌, ℕ, ap, subst, sym}
+use Rattle.x_disk.specs.Disk.{LeavesOnly, IsWritten}
 use Rattle.key_journal.specs.States.{HasStaged, HoldsOldOrNew}
 use Rattle.key_journal.proofs.StepLemmas.{commit_moment, commit_done, commit_ready, room_is}
 use Rattle.std.proofs.Common.{◌≡◌, Some, Result, Err}
@@ -18,6 +18,7 @@ returns-in-Ok g c = record {
       let told = g.D.Disk.told in
       commit_done (told c.self.inside.disk) (told c.put.new.disk) c.self.inside.gate c.self.inside.next c.self.inside.end c.self.invariant c.in-Ok.ensures.written bodies body
       (subst (λ d. HasStaged (told d) bodies body) (sym (ap (λ s. s.disk) c.self.view_is)) has);
+  written = let told = g.D.Disk.told in subst (λ s. IsWritten s.gate (1 ∷ []) (told s.disk) (told c.put.new.disk)) c.self.view_is c.in-Ok.ensures.written;
   durable = search rules;
   any_moment = let told = g.D.Disk.told in
       subst (λ d. (bodies : List (List ℕ)) (body : List ℕ) → HasStaged (told d) bodies body → LeavesOnly (told d) (told c.put.new.disk) (HoldsOldOrNew bodies body)) (ap (λ s. s.disk) c.self.view_is)
@@ -38,6 +39,7 @@ pub returns-in-Err : goal.returns-in-Err
 returns-in-Err g c = record {
   room = tt;
   committed = tt;
+  written = tt;
   durable = tt;
   any_moment = let told = g.D.Disk.told in
       subst (λ d. (bodies : List (List ℕ)) (body : List ℕ) → HasStaged (told d) bodies body → LeavesOnly (told d) (told c.put.new.disk) (HoldsOldOrNew bodies body)) (ap (λ s. s.disk) c.self.view_is)
