@@ -6,6 +6,8 @@ use Rattle.std.proofs.lemmas.Slice.Eq.{bytes_eq-Decides}
 use Rattle.x_base.specs.declared.verdict.Verdict.TheVariants.{Accept, BadMac}
 use Rattle.csm_grammar.specs.declared.message.Esm.{Esm}
 use Rattle.csm_grammar.specs.declared.arrival.Arrival.{Arrival}
+use Rattle.csm_write.specs.declared.closing.Closing.TheVariants as closing
+use Rattle.csm_write.specs.Canon.{canon}
 use Rattle.party_tables.specs.declared.link.LinkKey.{LinkKey}
 use Rattle.party_tables.specs.declared.link.LinkRec.{LinkRec}
 use Rattle.party_tables.specs.declared.key.KeyRec.{KeyRec}
@@ -33,9 +35,9 @@ use Rattle.role_base.proofs.PartyLaws.{HeldAtAccept, LinkLaws, KeyLaws, Exchange
 use Rattle.bank_arrivals.specs.declared.asking_again.Retry.{Retry}
 use Rattle.bank_arrivals.specs.declared.error_message.ErrorSubject.{ErrorSubject}
 use Rattle.bank_arrivals.specs.declared.error_message.ErrorSubject.TheVariants.{SentKey, SentTwins, Translated}
-use Rattle.bank_arrivals.specs.AskingAgain.{retry_by, retry_in, ers_reply, asked_again, again_reply}
+use Rattle.bank_arrivals.specs.AskingAgain.{retry_by, retry_in, ers_message, ers_reply, asked_again, again_reply}
 use Rattle.bank_arrivals.specs.Esm.{subject_with, is_renewed, via_link, raised, esm_front, error_row, error_of, error_with, error}
-use Rattle.bank_arrivals.specs.Heard.{IsAbout, HasLink, MayAskAgain, AsksAgain, HeardError, HeardErrorOfTwo, HeardCentre}
+use Rattle.bank_arrivals.specs.Heard.{IsAbout, HasKey, HasLink, MayAskAgain, AsksAgain, HeardError, HeardErrorOfTwo, HeardCentre}
 use Rattle.bank_arrivals.proofs.About.{put_found, put_beside, put_link_found, is_to, FoundSent, FoundTwins, found_subject}
 
 -- what is asked again, and when
@@ -90,10 +92,11 @@ linked p l c new = (apply (raised l c ++ dropped new) p).links
 module _ (held : HeldAtAccept) (of_links : LinkLaws) (of_keys : KeyLaws) (of_exchanges : ExchangeLaws) (links_dropped : LinksDropped) where
   -- the exchanges afterwards
 
-  asked : (p : Party) (m : Esm) (value : ℕ) (t : Retry) → IsAbout (apply (asked_again p m value (Some t)) (apply_edit (DropExchange m.originator) p)) t.centre (kind.Asked m.originator)
+  asked : (p : Party) (m : Esm) (value : ℕ) (t : Retry) → exchange_with t.centre (apply (asked_again p m value (Some t)) (apply_edit (DropExchange m.originator) p)) ≡ Some (record { peer = t.centre; kind = kind.Asked m.originator; text = canon (ers_message p m t) (closing.Mac value) })
+  unfolding text_of
   asked p m value t =
       let e : Exchange = record { peer = t.centre; kind = kind.Asked m.originator; text = text_of (ers_reply p m value t) } in
-      ap (λ (o : Option Exchange). option_map (λ (x : Exchange). x.kind) o) (exchange_put of_exchanges e (apply_edit (DropExchange m.originator) p))
+      exchange_put of_exchanges e (apply_edit (DropExchange m.originator) p)
 
   -- an exchange with the originator stands, and none with the centre
   other_centre : (p : Party) (peer : List ℕ) (k : Kind) (t : Retry) → IsAbout p peer k → IsFree p t → bytes_eq peer t.centre ≡ false
@@ -147,6 +150,18 @@ module _ (held : HeldAtAccept) (of_links : LinkLaws) (of_keys : KeyLaws) (of_exc
       go (Some z) f (Some y) None a = dropping z p.links f
       go (Some z) f (Some y) (Some n) a = dropping z (put_row link_key same_link (record y { next = max y.next n }) p.links) f
 
+  -- no count is named, and no new key-encrypting key went
+
+  nothing_linked : (p : Party) (l : Option LinkRec) → linked p l None None ≡ p.links
+  nothing_linked p None = refl
+  nothing_linked p (Some l) = refl
+
+  none_new : (p : Party) (peer : List ℕ) (via : Via) → ((label n : List ℕ) → via ≡ vias.Direct label (Some n) → ⊥) → new_link p peer via ≡ None
+  none_new p peer (vias.Direct label None) apart = refl
+  none_new p peer (vias.Direct label (Some n)) apart = absurd (apart label n refl)
+  none_new p peer (vias.Distribution centre cta) apart = refl
+  none_new p peer (vias.Translation centre) apart = refl
+
   not_renewed : (label : List ℕ) (new : Option (List ℕ)) → new ≢ Some label → is_renewed label new ≡ false
   not_renewed label None ne = refl
   not_renewed label (Some n) ne = false_from_ne_true (bytes_eq n label) (λ s. ne (ap (λ (z : List ℕ). Some z) ((bytes_eq-Decides n label).0 s)))
@@ -178,6 +193,7 @@ module _ (held : HeldAtAccept) (of_links : LinkLaws) (of_keys : KeyLaws) (of_exc
         code = h.1.1.0;
         over = over (link_with (sends m.originator centre_label) p) m.ctr;
         counted = counted;
+        uncounted = λ i. ap (λ (c : Option ℕ). (apply (raised (link_with (sends m.originator centre_label) p) c ++ ([] ++ DropExchange m.originator ∷ [])) p).links) i ∙ uncounted (link_with (sends m.originator centre_label) p);
         silent = refl;
       }
     where
@@ -188,6 +204,10 @@ module _ (held : HeldAtAccept) (of_links : LinkLaws) (of_keys : KeyLaws) (of_exc
 
       counted : (l : LinkRec) (ctr : ℕ) → HasLink p m.originator centre_label l → m.ctr ≡ Some ctr → HasLink (apply (raised (link_with (sends m.originator centre_label) p) m.ctr ++ ([] ++ DropExchange m.originator ∷ [])) p) m.originator centre_label (record l { next = max l.next ctr })
       counted l ctr f i = rw f (rw i (put_link_found of_links p m.originator centre_label l (record l { next = max l.next ctr }) f refl))
+
+      uncounted : (l : Option LinkRec) → (apply (raised l None ++ ([] ++ DropExchange m.originator ∷ [])) p).links ≡ p.links
+      uncounted None = refl
+      uncounted (Some l) = refl
 
   -- about a key that was sent
 
@@ -207,6 +227,8 @@ module _ (held : HeldAtAccept) (of_links : LinkLaws) (of_keys : KeyLaws) (of_exc
         over = exchanges m.originator ∙ over_with p m s.key.value (kind.KeySent d.name s.via) again d.sent (retry_free p s.via m.ctr);
         counted = counted;
         given_up = given_up;
+        uncounted = uncounted;
+        keys = λ k ne. ap (λ (ks : List KeyRec). find_row record_key same_record k ks) parts.0 ∙ others d.name d.stands k ne;
         again = asks;
         silent = λ n. ap (λ (t : Option Retry). again_reply p m s.key.value t) (retry_none p m s.via m.ctr refl n);
       }
@@ -269,13 +291,24 @@ module _ (held : HeldAtAccept) (of_links : LinkLaws) (of_keys : KeyLaws) (of_exc
           ∙ ap (λ (y : Via). find_row link_key same_link (sends m.originator n) (linked p (via_link p m.originator y) m.ctr (new_link p m.originator y))) w
           ∙ given_up_with p m.originator n (via_link p m.originator (vias.Direct label (Some n))) m.ctr (unlike_new p m.originator label n)
 
+      uncounted : m.ctr ≡ None → ((label n : List ℕ) → s.via ≡ vias.Direct label (Some n) → ⊥) → after.links ≡ p.links
+      uncounted i n =
+          parts.1
+          ∙ (ap (λ (c : Option ℕ). linked p raises c new) i ∙ (ap (λ (o : Option LinkRec). linked p raises None o) (none_new p m.originator s.via n) ∙ nothing_linked p raises))
+
+      others : (name : KeyName) → HasKey p m.originator name s.key → (k : RecordKey) → k ≢ record { peer = m.originator; name = name } → record_with k (apply_edit (PutKey ends) p) ≡ record_with k p
+      others name stands k ne =
+          let is : record { peer = m.originator; name = name } ≡ record_key ends = of_keys.found (record { peer = m.originator; name = name }) s.key p stands in
+          let other : same_record k (record_key ends) ≡ false = false_from_ne_true (same_record k (record_key ends)) (λ e. ne ((of_keys.same k (record_key ends)).0 e ∙ sym is)) in
+          of_keys.put k ends p ∙ rw other refl
+
       asks : (t : MayAskAgain p m s.via) → AsksAgain p after m s.key (error_row p a m (SentKey s) again) t.centre t.cta t.ctr
       asks t =
           let u : Retry = record { centre = t.centre; cta = t.cta; ctr = t.ctr } in
           let is : again ≡ Some u = retry_is p m s.via t in
           record {
             written = ap (λ (o : Option Retry). again_reply p m s.key.value o) is;
-            waits = ap (λ (o : Option Exchange). option_map (λ (x : Exchange). x.kind) o) (exchanges t.centre ∙ ap (λ (o : Option Retry). exchange_with t.centre (apply (asked_again p m s.key.value o) (apply_edit (DropExchange m.originator) p))) is) ∙ asked p m s.key.value u;
+            waits = exchanges t.centre ∙ (ap (λ (o : Option Retry). exchange_with t.centre (apply (asked_again p m s.key.value o) (apply_edit (DropExchange m.originator) p))) is ∙ asked p m s.key.value u);
           }
 
   -- about two keys that were sent in one message
@@ -296,6 +329,7 @@ module _ (held : HeldAtAccept) (of_links : LinkLaws) (of_keys : KeyLaws) (of_exc
         second_ended = looked (name_behind d.name) second ∙ put_found of_keys (apply_edit (PutKey first) p) m.originator (name_behind d.name) t.second second (put_beside of_keys p m.originator (name_behind d.name) t.second first d.second (λ i. ne (sym i))) refl;
         over = over raises m.ctr;
         counted = λ l ctr g i. subst (λ (x : List ℕ). HasLink p m.originator x l → HasLink (apply (edits raises m.ctr) p) m.originator x (record l { next = max l.next ctr })) (ap (λ (k : RecordKey). k.name.label) (sym key)) (λ g. counted l ctr g i) g;
+        uncounted = λ i. ap (λ (c : Option ℕ). (apply (edits raises c) p).links) i ∙ uncounted raises;
         silent = refl;
       }
     where
@@ -326,6 +360,10 @@ module _ (held : HeldAtAccept) (of_links : LinkLaws) (of_keys : KeyLaws) (of_exc
 
       counted : (l : LinkRec) (ctr : ℕ) → HasLink p m.originator t.first.name.label l → m.ctr ≡ Some ctr → HasLink (apply (edits raises m.ctr) p) m.originator t.first.name.label (record l { next = max l.next ctr })
       counted l ctr f i = rw f (rw i (put_link_found of_links p m.originator t.first.name.label l (record l { next = max l.next ctr }) f refl))
+
+      uncounted : (l : Option LinkRec) → (apply (edits l None) p).links ≡ p.links
+      uncounted None = refl
+      uncounted (Some l) = refl
 
   heard_subject : (p : Party) (a : Arrival) (m : Esm) (o : Option ErrorSubject) → subject_with p m.originator ≡ o → (error_of p a m o (retry_in p o m.ctr)).verdict ≡ Accept
       → HeardError p (apply (error_of p a m o (retry_in p o m.ctr)).edits p) a m (error_of p a m o (retry_in p o m.ctr)) ⊎ (HeardErrorOfTwo p (apply (error_of p a m o (retry_in p o m.ctr)).edits p) a m (error_of p a m o (retry_in p o m.ctr)) ⊎ HeardCentre p (apply (error_of p a m o (retry_in p o m.ctr)).edits p) a m (error_of p a m o (retry_in p o m.ctr)))

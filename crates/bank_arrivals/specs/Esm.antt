@@ -62,7 +62,7 @@ abbrev pub is_renewed : List ℕ → Option (List ℕ) → Bool
 is_renewed label None = false
 is_renewed label (Some new) = bytes_eq new label
 
--- the link under which a key went, unless it goes with a new key-encrypting key
+-- the link under which a key went: none where the new key-encrypting key has the label of that very link, which is dropped
 abbrev pub via_link : Party → List ℕ → Via → Option LinkRec
 via_link p peer (vias.Direct label new) = cond (is_renewed label new) None (link_with (sends peer label) p)
 via_link p peer (vias.Distribution centre cta) = None

@@ -8,8 +8,11 @@ use Rattle.csm_grammar.specs.declared.message.Rsm.{Rsm}
 use Rattle.csm_grammar.specs.declared.message.Esm.{Esm}
 use Rattle.csm_grammar.specs.declared.message.Dsm.{Dsm}
 use Rattle.csm_grammar.specs.declared.arrival.Arrival.{Arrival}
+use Rattle.csm_write.specs.declared.closing.Closing.TheVariants as closing
+use Rattle.csm_write.specs.Canon.{canon}
 use Rattle.party_tables.specs.declared.link.LinkRec.{LinkRec}
 use Rattle.party_tables.specs.declared.key.KeyRec.{KeyRec}
+use Rattle.party_tables.specs.declared.key.RecordKey.{RecordKey}
 use Rattle.party_tables.specs.declared.key.KeyStatus.TheVariants.{Live, Ended}
 use Rattle.party_tables.specs.declared.exchange.Via.{Via}
 use Rattle.party_tables.specs.declared.exchange.Via.TheVariants as vias
@@ -91,13 +94,14 @@ pub record MayAskAgain (p : Party) (m : Esm) (via : Via) : Type 0 where
   pub told : m.ctr ≡ Some ctr
   pub free : exchange_with centre p ≡ None
 
--- the centre is asked for the same ultimate recipient, with the count and the reason that it told, under the key
+-- the centre is asked for the same ultimate recipient, with the count and the reason that it told, under the key, and the
+-- exchange keeps the text
 pub record AsksAgain (p after : Party) (m : Esm) (key : KeyRec) (r : Row) (centre : List ℕ) (cta ctr : ℕ) : Type 0 where
   pub written : r.reply ≡ Some (Coded
       (message.Ers (record { receiver = centre; originator = p.own; ultimate = m.originator; ctr = ctr; erf = m.erf }))
       (record { name = record { issuer = centre; originator = centre; label = centre_label; count = cta }; recipient = p.own })
       key.value)
-  pub waits : IsAbout after centre (kind.Asked m.originator)
+  pub waits : exchange_with centre after ≡ Some (record { peer = centre; kind = kind.Asked m.originator; text = canon (message.Ers (record { receiver = centre; originator = p.own; ultimate = m.originator; ctr = ctr; erf = m.erf })) (closing.Mac key.value) })
 
 -- an error message: the key that was sent ends. Where it went under a link, and not with a new key-encrypting key of
 -- the same label, the next count of the link is CTR, if that is larger; a new key-encrypting key goes
@@ -114,6 +118,10 @@ pub record HeardError (p after : Party) (a : Arrival) (m : Esm) (r : Row) : Type
   pub counted : (label : List ℕ) (new : Option (List ℕ)) (l : LinkRec) (ctr : ℕ) → via ≡ vias.Direct label new → new ≢ Some label → HasLink p m.originator label l → m.ctr ≡ Some ctr
       → HasLink after m.originator label (record l { next = max l.next ctr })
   pub given_up : (label new : List ℕ) → via ≡ vias.Direct label (Some new) → link_with (sends m.originator new) after ≡ None
+  -- without CTR no link changes, if no new key-encrypting key was sent with the key: such a one goes
+  pub uncounted : m.ctr ≡ None → ((label new : List ℕ) → via ≡ vias.Direct label (Some new) → ⊥) → after.links ≡ p.links
+  -- no other key changes
+  pub keys : (k : RecordKey) → k ≢ record { peer = m.originator; name = name } → record_with k after ≡ record_with k p
   pub again : (t : MayAskAgain p m via) → AsksAgain p after m key r t.centre t.cta t.ctr
   pub silent : (MayAskAgain p m via → ⊥) → r.reply ≡ None
 
@@ -129,6 +137,8 @@ pub record HeardErrorOfTwo (p after : Party) (a : Arrival) (m : Esm) (r : Row) :
   pub second_ended : HasKey after m.originator (name_behind name) (record second { status = Ended })
   pub over : exchange_with m.originator after ≡ None
   pub counted : (l : LinkRec) (ctr : ℕ) → HasLink p m.originator name.label l → m.ctr ≡ Some ctr → HasLink after m.originator name.label (record l { next = max l.next ctr })
+  -- without CTR no link changes
+  pub uncounted : m.ctr ≡ None → after.links ≡ p.links
   pub silent : r.reply ≡ None
 
 -- an error message of a translation centre: the key that is with it is given up
@@ -141,6 +151,8 @@ pub record HeardCentre (p after : Party) (a : Arrival) (m : Esm) (r : Row) : Typ
   pub code : IsTrue (is_verified a value)
   pub over : exchange_with m.originator after ≡ None
   pub counted : (l : LinkRec) (ctr : ℕ) → HasLink p m.originator centre_label l → m.ctr ≡ Some ctr → HasLink after m.originator centre_label (record l { next = max l.next ctr })
+  -- without CTR no link changes
+  pub uncounted : m.ctr ≡ None → after.links ≡ p.links
   pub silent : r.reply ≡ None
 
 -- of two keys that were sent in one message and aren't answered yet, the other one ends too, and the exchange is over

@@ -20,7 +20,8 @@ fn is_renewed(label: &Label, new: &Option<Label>) -> bool
     }
 }
 
-/// The link under which a key went, unless it goes with a new key-encrypting key.
+/// The link under which a key went. There is none where the new key-encrypting key has the label of
+/// that very link, which is dropped.
 fn via_link(state: &State, peer: &Ident, via: &Via) -> Option<LinkRec>
     ensures { result ≡ via_link state.now peer.now via.now }
 {

@@ -1,5 +1,5 @@
 -- What an accepted request gives to both banks, and what the centre keeps of it.
-use Rattle.std.proofs.Common.{◌≡◌, ◌≢◌, ℕ, ◌+◌, ◌<◌, ◌^◌, max, true, false, not, Option, Some, None, List, [], ◌∷◌, ◌++◌, option_map, refl, sym, ap, subst, ◌∙◌, bytes_eq}
+use Rattle.std.proofs.Common.{◌≡◌, ◌≢◌, ℕ, ◌+◌, ◌<◌, ◌^◌, max, true, false, not, Option, Some, None, List, [], ◌∷◌, ◌++◌, refl, sym, ap, subst, ◌∙◌, bytes_eq}
 use Rattle.std.proofs.lemmas.Bool.{both_ways, and_parts}
 use Rattle.x_base.specs.declared.verdict.Verdict.TheVariants.{Accept, WeakDraws}
 use Rattle.x_mac.specs.declared.pair.Pair.{Pair}
@@ -62,8 +62,8 @@ gives laws links answers p r u ts l b n moment d drawn below ne f g =
       for_requester = laws.unwrapped l.pair l.next d.0 below;
       count = refl;
       for_ultimate = laws.unsealed b.pair r u n d.0 below;
-      from_next = ap (λ (o : Option LinkRec). option_map (λ (x : LinkRec). x.next) o) from;
-      to_next = ap (λ (o : Option LinkRec). option_map (λ (x : LinkRec). x.next) o) to;
+      from_used = from;
+      to_used = to;
       kept = answer_put answers answer p;
     }
 

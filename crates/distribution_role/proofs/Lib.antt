@@ -4,7 +4,6 @@ pub mod AnswersApart
 pub mod Early
 pub mod Serving
 pub mod Giving
-pub mod Raised
 pub mod Refusals
 pub mod Ordered
 pub mod AnswersRanged

@@ -1,5 +1,5 @@
 -- What an answer of a key distribution centre gives to both banks, and what the centre keeps of it (ANSI X9.17).
-use Rattle.std.specs.Prelude.{ℕ, ◌≡◌, ◌+◌, max, List, Option, Some, option_map}
+use Rattle.std.specs.Prelude.{ℕ, ◌≡◌, ◌+◌, max, List, Some}
 use Rattle.x_base.specs.declared.verdict.Verdict.TheVariants.{Accept}
 use Rattle.x_gen.specs.declared.generator.Gen.{Gen}
 use Rattle.x_gen.specs.Gen.{good_draw}
@@ -15,10 +15,6 @@ use Rattle.party_state.specs.State.{Party, centre_label, link_with, answer_with,
 use Rattle.party_state.specs.Rows.{Row, Coded}
 use Rattle.distribution_role.specs.Answering.{answer_under}
 use Rattle.distribution_role.specs.Rows.{distribution_message}
-
--- the next count of the link with this bank
-abbrev pub next_with : List ℕ → Party → Option ℕ
-next_with peer p = option_map (λ (l : LinkRec). l.next) (link_with (sends peer centre_label) p)
 
 -- the key that is drawn at this moment goes to both banks, under these links, at the requester's next count and at this
 -- count
@@ -41,9 +37,9 @@ pub record GivesKey (p : Party) (r : Row) (moment : ℕ) (requester u : List ℕ
   -- and so is what the ultimate recipient decrypts, for these two banks
   pub count : rtr.ctb ≡ ctb
   pub for_ultimate : unseal_of to.pair requester u ctb rtr.kdu ≡ key
-  -- both counts are used, and the key is kept
-  pub from_next : next_with requester (apply r.edits p) ≡ Some (from.next + 1)
-  pub to_next : next_with u (apply r.edits p) ≡ Some (ctb + 1)
+  -- both counts are used and nothing else of either link changes, and the key is kept
+  pub from_used : link_with (sends requester centre_label) (apply r.edits p) ≡ Some (record from { next = from.next + 1 })
+  pub to_used : link_with (sends u centre_label) (apply r.edits p) ≡ Some (record to { next = ctb + 1 })
   pub kept : answer_with (record { requester = requester; ultimate = u }) (apply r.edits p) ≡ Some (record { requester = requester; ultimate = u; cta = from.next; value = key })
 
 -- an accepted request is answered at both next counts

@@ -1,5 +1,5 @@
 -- The requests that a translation centre accepts are those that can be answered, and what its answers give.
-use Rattle.std.proofs.Common.{◌≡◌, ◌≢◌, ℕ, ◌+◌, ◌<◌, ◌^◌, ◌↔◌, Bool, true, false, cond, not, ◌||◌, nat_le, Option, Some, None, List, [], ◌∷◌, option_map, refl, sym, ap, subst, ◌∙◌, bytes_eq}
+use Rattle.std.proofs.Common.{◌≡◌, ◌≢◌, ℕ, ◌+◌, ◌<◌, ◌^◌, ◌↔◌, Bool, true, false, cond, not, ◌||◌, nat_le, Option, Some, None, List, [], ◌∷◌, refl, sym, ap, subst, ◌∙◌, bytes_eq}
 use Rattle.std.proofs.lemmas.Bool.{leb-true, le-leb, both_ways, or_right}
 use Rattle.x_base.specs.declared.verdict.Verdict.{Verdict}
 use Rattle.x_base.specs.declared.verdict.Verdict.TheVariants.{Accept, CountLow, CountSpent, NotForMe, UnknownPeer, WrongClass, UnknownKk, BadMac}
@@ -111,8 +111,8 @@ returns_key laws links p a m l b f g =
       no_key = refl;
       count = refl;
       for_ultimate = laws.unsealed b.pair m.originator m.ultimate b.next (carried m l) (laws.below l.pair m.cta m.kd);
-      from_next = ap (λ (o : Option LinkRec). option_map (λ (x : LinkRec). x.next) o) from;
-      to_next = ap (λ (o : Option LinkRec). option_map (λ (x : LinkRec). x.next) o) to;
+      from_used = from;
+      to_used = to;
     }
 
 -- the row under both links

@@ -1,6 +1,6 @@
 -- Which requests for service a key translation centre answers, what its answer gives, and how it answers a refused
 -- count (ANSI X9.17; the bounds are this project's profile).
-use Rattle.std.specs.Prelude.{ℕ, ◌≡◌, ◌≢◌, ◌+◌, ◌≤◌, ◌↔◌, IsTrue, List, Option, Some, None, option_map, codes}
+use Rattle.std.specs.Prelude.{ℕ, ◌≡◌, ◌≢◌, ◌+◌, ◌≤◌, ◌↔◌, IsTrue, List, Option, Some, None, codes}
 use Rattle.x_base.specs.Count.{count_limit}
 use Rattle.x_base.specs.declared.verdict.Verdict.{Verdict}
 use Rattle.x_base.specs.declared.verdict.Verdict.TheVariants.{Accept, CountLow, CountSpent}
@@ -10,7 +10,6 @@ use Rattle.csm_grammar.specs.declared.message.Message.TheVariants as message
 use Rattle.csm_grammar.specs.declared.message.Rfs.{Rfs}
 use Rattle.csm_grammar.specs.declared.message.Rtr.{Rtr}
 use Rattle.csm_grammar.specs.declared.arrival.Arrival.{Arrival}
-use Rattle.party_tables.specs.declared.link.LinkKey.{LinkKey}
 use Rattle.party_tables.specs.declared.link.LinkRec.{LinkRec}
 use Rattle.party_tables.specs.Keys.{sends, takes}
 use Rattle.party_state.specs.State.{Party, centre_label, link_with, knows, apply}
@@ -44,10 +43,6 @@ pub record CanTranslate (p : Party) (a : Arrival) (m : Rfs) : Type 0 where
 abbrev pub TranslatesExactly : Type 0
 TranslatesExactly = (p : Party) (a : Arrival) (m : Rfs) → a.parsed.message ≡ message.Rfs m → ((translation_message p a a.parsed.message).verdict ≡ Accept) ↔ CanTranslate p a m
 
--- the next count of a link
-abbrev pub next_of : LinkKey → Party → Option ℕ
-next_of k p = option_map (λ (l : LinkRec). l.next) (link_with k p)
-
 -- the key that came goes back for the ultimate recipient, under these links
 pub record ReturnsKey (p : Party) (r : Row) (m : Rfs) (from to : LinkRec) : Type 0 where
   pub rtr : Rtr
@@ -60,9 +55,9 @@ pub record ReturnsKey (p : Party) (r : Row) (m : Rfs) (from to : LinkRec) : Type
   -- what the ultimate recipient decrypts, for these two banks, is that key
   pub count : rtr.ctb ≡ to.next
   pub for_ultimate : unseal_of to.pair m.originator m.ultimate to.next rtr.kdu ≡ carried m from
-  -- both counts are used
-  pub from_next : next_of (takes m.originator centre_label) (apply r.edits p) ≡ Some (m.cta + 1)
-  pub to_next : next_of (sends m.ultimate centre_label) (apply r.edits p) ≡ Some (to.next + 1)
+  -- both counts are used and nothing else of either link changes
+  pub from_used : link_with (takes m.originator centre_label) (apply r.edits p) ≡ Some (record from { next = m.cta + 1 })
+  pub to_used : link_with (sends m.ultimate centre_label) (apply r.edits p) ≡ Some (record to { next = to.next + 1 })
 
 abbrev pub ReturnsKeys : Type 0
 ReturnsKeys = (p : Party) (a : Arrival) (m : Rfs) (from to : LinkRec) → a.parsed.message ≡ message.Rfs m
