@@ -1,6 +1,5 @@
--- A new key-encrypting key: its first count, and the tests for it among the others.
-use Rattle.std.proofs.Common.{arith, ◌≡◌, ℕ, true, Bool, Option, Some, None, List, [], ◌∷◌, ◌++◌, refl}
-use Rattle.x_base.specs.Count.{IsCount}
+-- The tests for a new key-encrypting key, among the others.
+use Rattle.std.proofs.Common.{◌≡◌, ℕ, true, Bool, Option, Some, None, List, [], ◌∷◌, ◌++◌, refl}
 use Rattle.x_base.specs.declared.verdict.Verdict.TheVariants.{BadMac, KeysFull}
 use Rattle.csm_grammar.specs.declared.message.Ksm.{Ksm}
 use Rattle.csm_grammar.specs.declared.message.KsmBody.{KsmBody}
@@ -13,10 +12,6 @@ use Rattle.role_base.specs.Conditions.{count_tests}
 use Rattle.role_base.proofs.Early.{none_early}
 use Rattle.party_tables.specs.Keys.{record_key}
 use Rattle.bank_keys.specs.Ksm.{body_count, body_new, body_record, body_second, have_room, body_tests, new_tests}
-
--- the first count is one
-pub first_counts : IsCount 1
-first_counts = record { low = omega arith; high = omega arith }
 
 refuses : (p : Party) (originator : List ℕ) (l : LinkRec) (count : ℕ) (n : Option (List ℕ × NewKk)) (room : Bool) → all_refuse (new_tests p originator l count n ++ (room, KeysFull) ∷ []) ≡ true
 refuses p originator l count None room = refl

@@ -181,17 +181,6 @@ fn body_second(state: &State, message: &Ksm, link: &LinkRec) -> Option<KeyRec>
     }
 }
 
-/// The first count of a key-encrypting key.
-#[tactic(auto, using(crate::proofs::NewKeys::first_counts))]
-pub(crate) fn first_count() -> Count
-    ensures { result ≡ 1 }
-{
-    match Count::of(1) {
-        Some(count) => count,
-        None => unreachable!(),
-    }
-}
-
 /// What a key service message brings: the link of a new key-encrypting key, whose first count is
 /// used, the key that is held, of two keys the first, and the second.
 #[derive(Clone, Copy)]

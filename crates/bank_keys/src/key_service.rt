@@ -12,14 +12,15 @@ ghost use Rattle.role_base.specs.Replies.{IsWritten};
 ghost use Rattle.bank_keys.specs.Ksm.{body_count, body_next, second_edits, have_room, body_front, response, link_edits, link_tests, key_arrives, key_lead, IsCounted, body_opened, body_code};
 
 use crate::bodies::{
-    Keys, body_count, body_counts, body_link, body_name, body_next, body_opened, first_count,
-    keys_of, link_tests,
+    Keys, body_count, body_counts, body_link, body_name, body_next, body_opened, keys_of,
+    link_tests,
 };
 use csm_grammar::{Arrival, Ksm, KsmBody, Message, Rsm};
 use party_state::{Decision, Edit, KeyRec, Lead, LinkRec, RecordKey, State, law_accept};
 use role_base::{
     Written, accept, body_issuer, count_behind, count_tests, early_refusal, error_answer,
-    has_key_room, has_room_for_two, is_accept, is_for, lead_under, list_of, no_extras, verdict_of,
+    first_count, has_key_room, has_room_for_two, is_accept, is_for, lead_under, list_of, no_extras,
+    verdict_of,
 };
 use std::alloc::Global;
 use x_base::{Ident, NoMemory, Verdict};

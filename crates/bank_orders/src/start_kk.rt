@@ -19,7 +19,7 @@ use crate::start::{sending_link, start_tests};
 use csm_grammar::{Ksm, KsmBody, Message, NewKk};
 use party_state::{Decision, Edit, Exchange, Kind, LinkRec, State, Via, law_accept};
 use role_base::{
-    Written, accept, has_count, has_key_room, has_link_room, is_accept, is_of_centre,
+    Written, accept, first_count, has_count, has_key_room, has_link_room, is_accept, is_of_centre,
     link_after_use, list_of, next_name, no_extras, pending, refusal, verdict_after, verdict_of,
 };
 use std::alloc::Global;
@@ -32,16 +32,6 @@ use x_seal::wrap;
 pub struct Wanted {
     pub label: Label,
     pub single: bool,
-}
-
-/// The first count under a key-encrypting key.
-fn first_count() -> Count
-    ensures { result ≡ 1 }
-{
-    match Count::of(1) {
-        Some(count) => count,
-        None => unreachable!(),
-    }
 }
 
 /// One half of a new pair under a link at a count, or both.

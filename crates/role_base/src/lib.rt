@@ -39,7 +39,7 @@ pub use laws::{law_differing, law_loads, law_sends, law_settling};
 pub use leads::{key_lead, lead_under};
 pub use links::{first_link, link_behind, link_with};
 pub use loading::{load, odd_pair};
-pub use names::{centre_label, direct_name, no_extras};
+pub use names::{centre_label, direct_name, first_count, no_extras};
 pub use redoing::are_done;
 pub use sending::{link_after_use, next_name, pending, send};
 pub use texts::{Written, is_right};

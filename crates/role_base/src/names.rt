@@ -1,4 +1,4 @@
-// Names of keys, and what a bank leaves out of its messages.
+// Names of keys and their first count, and what a bank leaves out of its messages.
 ghost use Rattle.std.specs.Prelude.{◌≡◌};
 ghost use Rattle.party_state.specs.State.{centre_label};
 ghost use Rattle.role_base.specs.Texts.{direct_name, no_extras};
@@ -36,5 +36,15 @@ pub fn centre_label() -> Label
     match Label::read(b"C") {
         Ok(label) => label,
         Err(_) => unreachable!(),
+    }
+}
+
+/// The first count under a key-encrypting key.
+pub fn first_count() -> Count
+    ensures { result ≡ 1 }
+{
+    match Count::of(1) {
+        Some(count) => count,
+        None => unreachable!(),
     }
 }

@@ -4,6 +4,7 @@ use Rattle.std.proofs.Common.{arith, ◌≡◌, ℕ, zero, suc, ◌+◌, ◌*◌
 use Rattle.std.specs.List.{find}
 use Rattle.std.specs.Int.{from_be_bytes, to_be_bytes, w64}
 use Rattle.std.proofs.lemmas.Nat.{be_bytes_8}
+use Rattle.std.proofs.lemmas.Bool.{not-true}
 use Rattle.x_gen.specs.Parity.{odd_byte, odd_parity_of, is_weak_key}
 use Rattle.x_gen.specs.declared.generator.Gen.{Gen}
 use Rattle.x_gen.specs.Gen.{drawn, gen_after, draws}
@@ -66,15 +67,16 @@ odd_in (suc n) g moment d h = go (not (is_weak_key (odd_parity_of (drawn g momen
 pub draws_odd : DrawsOdd
 draws_odd g moment d h = odd_in 16 g moment d h
 
--- among any draws
-strong_in : (ds : List (ℕ × Gen)) (d : ℕ × Gen) → find (λ (x : ℕ × Gen). not (is_weak_key x.0)) ds ≡ Some d → is_weak_key d.0 ≡ false
-strong_in [] d h = absurd (cc)
-strong_in (x ∷ ds) d h = go (is_weak_key x.0) refl h (strong_in ds d)
+-- and the key that n draws give isn't weak
+strong_in : (n : ℕ) (g : Gen) (moment : ℕ) (d : ℕ × Gen) → find (λ (x : ℕ × Gen). not (is_weak_key x.0)) (draws n g moment) ≡ Some d → is_weak_key d.0 ≡ false
+unfolding draws
+strong_in zero g moment d h = absurd (cc)
+strong_in (suc n) g moment d h = go (not (is_weak_key (odd_parity_of (drawn g moment)))) refl h (strong_in n (gen_after g moment) moment d)
   where
-    go : (b : Bool) → is_weak_key x.0 ≡ b → cond (not b) (Some x) (find (λ (y : ℕ × Gen). not (is_weak_key y.0)) ds) ≡ Some d
-        → (find (λ (y : ℕ × Gen). not (is_weak_key y.0)) ds ≡ Some d → is_weak_key d.0 ≡ false) → is_weak_key d.0 ≡ false
-    go true weak h ih = ih h
-    go false weak h ih = (let is : x ≡ d = cc in subst (λ (y : ℕ × Gen). is_weak_key y.0 ≡ false) is weak)
+    go : (b : Bool) → not (is_weak_key (odd_parity_of (drawn g moment))) ≡ b → cond b (Some (odd_parity_of (drawn g moment), gen_after g moment)) (find (λ (x : ℕ × Gen). not (is_weak_key x.0)) (draws n (gen_after g moment) moment)) ≡ Some d
+        → (find (λ (x : ℕ × Gen). not (is_weak_key x.0)) (draws n (gen_after g moment) moment) ≡ Some d → is_weak_key d.0 ≡ false) → is_weak_key d.0 ≡ false
+    go true e h ih = (let is : (odd_parity_of (drawn g moment), gen_after g moment) ≡ d = cc in subst (λ (x : ℕ × Gen). is_weak_key x.0 ≡ false) is (not-true (is_weak_key (odd_parity_of (drawn g moment))) e))
+    go false e h ih = ih h
 
 pub draws_strong : DrawsStrong
-draws_strong g moment d h = strong_in (draws 16 g moment) d h
+draws_strong g moment d h = strong_in 16 g moment d h

@@ -17,6 +17,6 @@ OddStays = (key : ℕ) → IsOdd (odd_parity_of key)
 abbrev pub DrawsOdd : Type 0
 DrawsOdd = (g : Gen) (moment : ℕ) (d : ℕ × Gen) → good_draw g moment ≡ Some d → IsOdd d.0
 
--- none of which is weak
+-- no key that they give is weak
 abbrev pub DrawsStrong : Type 0
 DrawsStrong = (g : Gen) (moment : ℕ) (d : ℕ × Gen) → good_draw g moment ≡ Some d → is_weak_key d.0 ≡ false

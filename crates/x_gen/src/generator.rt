@@ -20,7 +20,8 @@ impl Gen {
     ghost use Rattle.x_gen.specs.Gen.{drawn, gen_after, good_draw};
     ghost use Rattle.x_gen.specs.Parity.{odd_parity_of};
 
-    /// The key that is drawn at a moment (microseconds since 1970), and the generator after the draw.
+    /// The key that is drawn at a moment, in microseconds since 1970, and the generator after the
+    /// draw.
     pub fn draw(&self, moment: u64) -> (u64, Gen)
         ensures key { result.0 ≡ odd_parity_of (drawn self.now moment) }
         ensures after { result.1 ≡ gen_after self.now moment }
@@ -32,7 +33,7 @@ impl Gen {
         (with_odd_parity(drawn), Gen { key: self.key, v })
     }
 
-    /// The first of sixteen successive draws at a moment whose key isn't weak, and the generator after it;
+    /// The first of sixteen successive draws whose key isn't weak, and the generator after it;
     /// `WeakDraws` exactly where all sixteen are weak.
     pub fn draw_good(&self, moment: u64) -> Result<(u64, Gen), WeakDraws>
         ensures { MatchResult result (λ good. good_draw self.now moment ≡ Some good) (λ _. good_draw self.now moment ≡ None) }

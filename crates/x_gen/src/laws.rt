@@ -13,8 +13,7 @@ pub fn law_draws_odd()
     ensures { DrawsOdd }
 {}
 
-/// It is none of the weak keys.
-#[tactic(auto, using(crate::proofs::Drawn::draws_strong))]
+/// The key that `draw_good` gives is neither a weak nor a semi-weak key.
 pub fn law_draws_strong()
     ensures { DrawsStrong }
 {}
