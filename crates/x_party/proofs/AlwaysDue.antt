@@ -12,6 +12,7 @@ use Rattle.change_code.specs.declared.space.Space.{Space}
 use Rattle.change_code.specs.Cost.{fits}
 use Rattle.key_store.specs.Store.{Stands, StandsWith, IsNothing}
 use Rattle.member.specs.Deciding.{decision}
+use Rattle.x_party.specs.Asking.{IsDueAnswer}
 use Rattle.x_party.specs.Outcomes.{IsTooLargeIn}
 use Rattle.x_party.specs.Dues.{IsDue, IsDueRewriting, IsDueCreation, IsDueShow, IsDueWiping}
 use Rattle.x_party.specs.declared.outcome.Outcome.{Outcome}
@@ -57,6 +58,13 @@ module _ (one_of : (image : List ℕ) → AreBytes image → IsNothing image →
     not_blank = is_false (is_blank image) (λ blank. never (outcome.Refused Blank None) (record { blank = blank; said = refl; written = refl }));
     no_party = λ party stood. never (outcome.Done (Some (shown party))) (party, stood, refl);
     undamaged = λ place first. never (outcome.Damaged place) first;
+  })
+
+  pub asking_due : (answer : Party → Outcome) (image : List ℕ) → AreBytes image → ((o : Outcome) → IsDueAnswer answer image o → ⊥) → ⊥
+  asking_due answer image bytes never = one_of image bytes (record {
+    not_blank = is_false (is_blank image) (λ blank. never (outcome.Refused Blank None) (inr (record { blank = blank; said = refl; written = refl })));
+    no_party = λ party stood. never (answer party) (inl (party, stood, refl));
+    undamaged = λ place first. never (outcome.Damaged place) (inr first);
   })
 
   pub rewriting_due : (format : Format → Option Format) (image : List ℕ) → AreBytes image → ((o : Outcome) → IsDueRewriting format image o → ⊥) → ⊥

@@ -10,6 +10,7 @@ use Rattle.x_disk.specs.declared.disk.DiskErr.TheVariants as disk
 use Rattle.x_disk.proofs.Runs.{joined, weaker}
 use Rattle.change_code.specs.declared.space.Space.{Space}
 use Rattle.csm_grammar.specs.declared.arrival.Arrival.{Arrival}
+use Rattle.key_journal.specs.Causes.{cause_of}
 use Rattle.key_store.specs.Store.{StandsForOldOrNew}
 use Rattle.party_state.specs.declared.command.Input.{Input}
 use Rattle.party_state.specs.declared.command.Input.TheVariants.{Arrived}
@@ -18,9 +19,10 @@ use Rattle.member.specs.Deciding.{decision}
 use Rattle.x_party.specs.Dues.{GivesDue}
 use Rattle.x_party.specs.Images.{OfOwnParty, OrBefore, ReadsAs}
 use Rattle.x_party.specs.Outcomes.{IsNobody, IsRefusedTurn, IsSafe, LeavesShelf, TakesTurn}
+use Rattle.x_party.specs.Steps.{outcome_of}
 use Rattle.x_party.specs.declared.outcome.Outcome.{Outcome}
 use Rattle.x_party.specs.declared.outcome.Outcome.TheVariants as outcome
-use Rattle.x_party.specs.Notices.{FindsNotice, HasNotice, class_word, failed_of, kept_notice}
+use Rattle.x_party.specs.Notices.{FindsNotice, HasNotice, class_word, kept_notice}
 use Rattle.x_party.proofs.Looks.{untouched_then}
 
 module _ (old mid new : View) (looked : IsUntouched old mid) where
@@ -90,11 +92,11 @@ module _ (old mid new : View) (looked : IsUntouched old mid) where
 
 -- where the look failed, nothing is done
 module _ (old new : View) (looked : IsUntouched old new) where
-  pub turned_unasked : (name : List ℕ) (i : Input) (moment : ℕ) (e : DiskErr) → TakesTurn name old new i moment (failed_of e)
+  pub turned_unasked : (name : List ℕ) (i : Input) (moment : ℕ) (e : DiskErr) → TakesTurn name old new i moment (outcome_of (cause_of e))
   turned_unasked name i moment disk.Fault = tt
   turned_unasked name i moment disk.NoMemory = tt
 
-  pub due_unasked : (due : List ℕ → Outcome → Type 0) (e : DiskErr) → GivesDue old due (failed_of e)
+  pub due_unasked : (due : List ℕ → Outcome → Type 0) (e : DiskErr) → GivesDue old due (outcome_of (cause_of e))
   due_unasked due disk.Fault = λ image other now is. inr (inl refl)
   due_unasked due disk.NoMemory = λ image other now is. inr (inr refl)
 
@@ -115,11 +117,11 @@ has_notice old a moment (outcome.Damaged place) notice looked = refl
 has_notice old a moment outcome.Fault notice looked = refl
 has_notice old a moment outcome.NoMemory notice looked = refl
 
-pub no_notice : (old : View) (a : Arrival) (moment : ℕ) (e : DiskErr) → HasNotice old a moment (failed_of e) None
+pub no_notice : (old : View) (a : Arrival) (moment : ℕ) (e : DiskErr) → HasNotice old a moment (outcome_of (cause_of e)) None
 no_notice old a moment disk.Fault = refl
 no_notice old a moment disk.NoMemory = refl
 
 pub shelf_unasked : (name : List ℕ) (back : Type 0) (old new : List ℕ → View) (first last : ℕ) (e : DiskErr) → OthersStay name old new → first ≤ last → (e ≡ disk.Fault → Rose first last)
-    → LeavesShelf name (failed_of e) back old new first last
+    → LeavesShelf name (outcome_of (cause_of e)) back old new first last
 shelf_unasked name back old new first last disk.Fault others later cause = record { back = λ no. absurd no; others = others; fault = λ is. cause refl; later = later }
 shelf_unasked name back old new first last disk.NoMemory others later cause = record { back = λ no. absurd no; others = others; fault = λ is. absurd (cc is); later = later }

@@ -3,8 +3,6 @@ use Rattle.std.specs.Prelude.{◌≡◌, ◌++◌, ◌∷◌, ℕ, List, [], Opt
 use Rattle.std.specs.List.{flat_map}
 use Rattle.x_base.specs.KeyName.{written}
 use Rattle.x_disk.specs.Disk.{View}
-use Rattle.x_disk.specs.declared.disk.DiskErr.{DiskErr}
-use Rattle.x_disk.specs.declared.disk.DiskErr.TheVariants as disk
 use Rattle.csm_grammar.specs.declared.arrival.Arrival.{Arrival}
 use Rattle.csm_grammar.specs.declared.message.Message.{Message}
 use Rattle.csm_grammar.specs.declared.message.Message.TheVariants as message
@@ -37,11 +35,6 @@ key_words other = []
 -- the line: the class of the message, and each data key whose record its change puts
 abbrev pub notice_of : List ℕ → List Edit → List ℕ
 notice_of class edits = codes "x917: accepted " ++ (class ++ (flat_map key_words edits ++ codes "\n"))
-
--- the outcome where the party couldn't be looked at
-abbrev pub failed_of : DiskErr → Outcome
-failed_of disk.Fault = outcome.Fault
-failed_of disk.NoMemory = outcome.NoMemory
 
 -- a notice is kept where the turn is done
 abbrev pub kept_notice : Outcome → Option (List ℕ) → Option (List ℕ)

@@ -5,6 +5,7 @@ ghost use Rattle.party_state.specs.declared.command.Input.{Input as TheInput};
 ghost use Rattle.party_state.specs.State.{Party};
 ghost use Rattle.change_code.specs.declared.space.Space.{Space};
 ghost use Rattle.key_store.specs.Store.{StandsWith};
+ghost use Rattle.x_party.specs.Asking.{IsDueAnswer};
 ghost use Rattle.x_party.specs.Dues.{IsDue, IsDueCompaction, IsDueCreation, IsDueMigration, IsDueShow, IsDueWiping};
 ghost use Rattle.x_party.specs.declared.outcome.Outcome.{Outcome as TheOutcome};
 
@@ -15,6 +16,7 @@ use key_store::law_one_finding;
 pub fn law_always_due()
     ensures turn { (name : List ℕ) (i : TheInput) (moment : ℕ) (image : List ℕ) → AreBytes image → ((o : TheOutcome) → IsDue name i moment image o → ⊥) → ⊥ }
     ensures show { (image : List ℕ) → AreBytes image → ((o : TheOutcome) → IsDueShow image o → ⊥) → ⊥ }
+    ensures asking { (answer : Party → TheOutcome) (image : List ℕ) → AreBytes image → ((o : TheOutcome) → IsDueAnswer answer image o → ⊥) → ⊥ }
     ensures compaction { (image : List ℕ) → AreBytes image → ((o : TheOutcome) → IsDueCompaction image o → ⊥) → ⊥ }
     ensures migration { (image : List ℕ) → AreBytes image → ((o : TheOutcome) → IsDueMigration image o → ⊥) → ⊥ }
     ensures wiping { (image : List ℕ) → AreBytes image → ((o : TheOutcome) → IsDueWiping image o → ⊥) → ⊥ }

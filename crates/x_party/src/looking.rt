@@ -60,7 +60,8 @@ fn notice_on<D: Disk>(
     }
 }
 
-/// The notice of an input of this class at the party under this name; none where no party stands there. Nothing is written, and the disk is put back, whatever comes.
+/// The notice of an input of this class at the party under this name; none where no party stands there. Nothing is written, and
+/// the disk is put back, whatever comes.
 pub(crate) fn look<H: Shelf>(
     alloc: Global,
     shelf: &mut H,

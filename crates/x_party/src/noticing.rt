@@ -4,7 +4,7 @@ ghost use Rattle.csm_grammar.specs.declared.arrival.Arrival.{Arrival};
 ghost use Rattle.party_state.specs.declared.command.Input.TheVariants.{Arrived};
 ghost use Rattle.x_party.specs.Outcomes.{TakesTurn, IsSafe, LeavesShelf};
 ghost use Rattle.x_party.specs.Dues.{IsDue, GivesDue};
-ghost use Rattle.x_party.specs.Notices.{HasNotice, class_word, failed_of, kept_notice};
+ghost use Rattle.x_party.specs.Notices.{HasNotice, class_word, kept_notice};
 
 use crate::looking::look;
 use crate::outcome::Outcome;
@@ -14,7 +14,7 @@ use csm_grammar::Arrival;
 use party_state::Input;
 use std::alloc::Global;
 use x_base::{Ident, Text};
-use x_disk::{DiskErr, Shelf};
+use x_disk::Shelf;
 
 /// What became of a turn, and its notice.
 #[derive(Drop)]
@@ -43,16 +43,6 @@ impl TurnWithNotice {
     }
 }
 
-/// The outcome where the party couldn't be looked at.
-fn failed(error: DiskErr) -> Outcome
-    ensures { result ≡ failed_of error }
-{
-    match error {
-        DiskErr::Fault => Outcome::Fault,
-        DiskErr::NoMemory => Outcome::NoMemory,
-    }
-}
-
 /// A turn with a message as an input, and its notice, given the word of the message's class.
 fn turn_noticed<H: Shelf>(
     alloc: Global,
@@ -74,7 +64,7 @@ fn turn_noticed<H: Shelf>(
             TurnWithNotice::of(outcome, notice)
         }
         Err(error) => TurnWithNotice {
-            outcome: failed(error),
+            outcome: Outcome::from(error),
             notice: None,
         },
     }

@@ -44,7 +44,7 @@ returns-in-Err g c =
     let first = g.H.Shelf.faults c.args.shelf.now in
     let last = g.H.Shelf.faults c.look.new.shelf in
     let i = c.args.input.now in
-    let is = sym c.failed.ensures in
+    let is = sym c.from.ensures in
     record {
       turned = subst (λ (o : Outcome). TakesTurn name (entry name) (new name) i c.args.moment o) is (turned_unasked (entry name) (new name) c.look.ensures.untouched name i c.args.moment e);
       safe = safe_unasked (entry name) (new name) c.look.ensures.untouched name i c.args.moment;
