@@ -2,6 +2,7 @@
 #![tactic(auto)]
 
 mod auditing;
+mod carrying;
 mod courses;
 mod drilling;
 mod helping;

@@ -10,7 +10,7 @@ ghost use Rattle.x917.specs.Drilled.{IsDrill};
 ghost use Rattle.x917.specs.Expects.{Expects, IsSilentOf};
 ghost use Rattle.x917.specs.Headline.{IsReplay};
 
-use crate::top::carry_out;
+use crate::carrying::carry_out;
 use call_ends::Status;
 use party_calls::take_with_notice;
 use std::alloc::Global;

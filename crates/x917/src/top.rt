@@ -1,12 +1,14 @@
 // The top call.
-ghost use Rattle.std.specs.Prelude.{◌≡◌, ℕ, List, Option, None};
+ghost use Rattle.std.specs.Prelude.{◌≡◌, ℕ, List, Option, Some, None};
 ghost use Rattle.x_line.specs.Orders.{IsGiven, IsMirrored, IsOrder, is_telling};
+ghost use Rattle.x_line.specs.Usage.{usage_of};
 ghost use Rattle.x_line.specs.declared.order.Order.{Order};
 ghost use Rattle.x_line.specs.declared.order.Order.TheVariants.{Audit, Replay, Drill};
+ghost use Rattle.x_line.specs.declared.usage.UsageKind.{UsageKind};
 ghost use Rattle.call_ends.specs.Transfer.{TookAtMost, IsQuiet};
-ghost use Rattle.call_ends.specs.Causes.{HasCause, HasFaults};
+ghost use Rattle.call_ends.specs.Causes.{HasFaults};
 ghost use Rattle.party_calls.specs.Notice.{LeavesNotice};
-ghost use Rattle.party_calls.specs.Obeys.{Obeys, IsWithin, LeavesOthers, most_of};
+ghost use Rattle.party_calls.specs.Obeys.{Obeys, LeavesOthers, most_of};
 ghost use Rattle.party_calls.specs.Mirrored.{LeavesMirrored, ObeysMirrored};
 ghost use Rattle.x917.specs.Audited.{IsAudit};
 ghost use Rattle.x917.specs.Headline.{IsReplay};
@@ -15,51 +17,19 @@ ghost use Rattle.x917.specs.Drilled.{IsDrill};
 ghost use Rattle.x917.specs.Expects.{Expects, JudgesWords, IsSilentOf};
 ghost use Rattle.x917.specs.Network.{IsNetworkEvent};
 
-use crate::auditing::audit_all;
-use crate::drilling::drill_all;
+use crate::carrying::carry_out;
 use crate::helping::help_or_fault;
 use crate::notice::carry_out_with_notice;
-use crate::replaying::replay_all;
 use call_ends::Status;
 use call_laws::law_calls;
-use party_calls::{carry_out_mirrored, obey};
+use party_calls::carry_out_mirrored;
 use std::alloc::Global;
 use x_base::{Sink, Source, Text, Words};
 use x_disk::{MemoryShelf, Shelf};
 use x_line::{
-    LineFault, Order, law_few_events, law_ledger_apart, law_mirror_apart, law_one_order,
-    law_spool_apart, read_order,
+    LineFault, law_few_events, law_ledger_apart, law_mirror_apart, law_one_order, law_spool_apart,
+    read_order,
 };
-
-/// Does what an order says.
-pub(crate) fn carry_out<S: Source, K: Sink, H: Shelf>(
-    alloc: Global,
-    order: Order,
-    moment: u64,
-    source: &mut S,
-    sink: &mut K,
-    shelf: &mut H,
-) -> Status
-    requires { IsWithin order }
-    ensures obeys { Obeys order moment result (S.left source.old) (S.left source.new) (K.written sink.old) (K.written sink.new) (H.entry shelf.old) (H.entry shelf.new) }
-    ensures expects { IsQuiet (S.faults source.old) (S.faults source.new) → IsQuiet (K.faults sink.old) (K.faults sink.new) → IsQuiet (H.faults shelf.old) (H.faults shelf.new)
-        → Expects order moment (S.left source.old) (H.entry shelf.old) result }
-    ensures others { LeavesOthers order result (H.is_back shelf.new) (source.new ≡ source.old) (H.entry shelf.old) (H.entry shelf.new) }
-    ensures cause { HasCause result (S.faults source.old) (S.faults source.new) (K.faults sink.old) (K.faults sink.new) (H.faults shelf.old) (H.faults shelf.new) }
-    ensures silent { IsSilentOf order result → sink.new ≡ sink.old }
-    ensures most { TookAtMost (most_of order) (S.left source.old) (S.left source.new) }
-    ensures replays { order ≡ Replay → IsReplay result (S.left source.old) (S.left source.new) (K.written sink.old) (K.written sink.new) (H.entry shelf.old) (H.entry shelf.new) (H.faults shelf.old) (H.faults shelf.new) }
-    ensures drills { (seed events : ℕ) → order ≡ Drill seed events
-        → IsDrill ⟦<MemoryShelf as Shelf>⟧.entry seed events result (K.written sink.old) (K.written sink.new) × (source.new ≡ source.old) × (shelf.new ≡ shelf.old) }
-    ensures audits { order ≡ Audit → IsAudit result (S.left source.old) (S.left source.new) (K.written sink.old) (K.written sink.new) × (shelf.new ≡ shelf.old) }
-{
-    match order {
-        Order::Replay => replay_all(alloc, source, sink, shelf),
-        Order::Audit => audit_all(alloc, source, sink),
-        Order::Drill { seed, events } => drill_all(alloc, seed, events, sink),
-        _ => obey(alloc, order, moment, source, sink, shelf),
-    }
-}
 
 /// Runs the command that the words name, at a moment: `check` and `audit` over the source and the sink, `replay` over the disks of the
 /// scenario's parties, `drill` over disks of its own, and the others over a party's disk on the shelf. A party's fetched disk
@@ -124,10 +94,11 @@ pub fn run<S: Source, K: Sink, H: Shelf>(
     ensures most { (order : Order) (mirror : Option (List ℕ)) → IsGiven words.now order mirror → TookAtMost (most_of order) (S.left source.old) (S.left source.new) }
 
     // The notice that is handed out for standard error: of a message that is taken with `--tell` over one disk, where it is done,
-    // its class, and the name and the status of each data key whose record the party put. Every other order has none; of words
-    // that stand for no order nothing is said.
+    // its class, and the name and the status of each data key whose record the party put. Every other order has none, and
+    // words that stand for no order don't.
     ensures notice { (order : Order) → IsOrder words.now order → LeavesNotice (is_telling words.now) order moment result (S.left source.old) (H.entry shelf.old) notice.new }
     ensures no_notice { (order : Order) (mirror : List ℕ) → IsMirrored words.now order mirror → notice.new ≡ None }
+    ensures no_order { (kind : UsageKind) → usage_of words.now ≡ Some kind → notice.new ≡ None }
 {
     *notice = None;
     law_one_order();

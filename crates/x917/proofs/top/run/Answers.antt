@@ -243,6 +243,9 @@ returns-in-None-clause-notice g c = λ o is.
 pub returns-in-None-clause-no_notice : goal.returns-in-None-clause-no_notice
 returns-in-None-clause-no_notice g c = λ o m is. never_both c.in-Ok.given.mirror m (c.law_one_order.ensures c.args.words.now c.in-Ok.given.order o c.in-Ok.given.mirror (Some m) c.in-Ok.ensures.order is).1 c.in-None.is
 
+pub returns-in-None-clause-no_order : goal.returns-in-None-clause-no_order
+returns-in-None-clause-no_order g c = λ kind is. no_order c.args.words.now kind is c.in-Ok.ensures.order.0
+
 pub returns-in-Some-clause-notice : goal.returns-in-Some-clause-notice
 returns-in-Some-clause-notice g c = λ o is. never_both c.in-Ok.given.mirror c.in-Some.mirror c.in-Some.is (c.law_one_order.ensures c.args.words.now c.in-Ok.given.order o c.in-Ok.given.mirror None c.in-Ok.ensures.order is).1
 
@@ -281,4 +284,5 @@ returns-in-Err-Usage g c =
       most = λ o m is. no_order words kind wrong is.0;
       notice = λ o is. no_order words kind wrong is.0;
       no_notice = λ o m is. no_order words kind wrong is.0;
+      no_order = λ other is. refl;
     }

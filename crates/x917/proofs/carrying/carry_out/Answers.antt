@@ -8,7 +8,7 @@ use Rattle.party_calls.proofs.Orders.{took_nothing}
 use Rattle.x917.specs.Expects.{Expects, IsSilentOf}
 use Rattle.x917.proofs.Audits.{cause_audited}
 use Rattle.x917.proofs.Played.{cause_played, cause_drilled, expects_of, silent_of}
-use Rattle.x917.proofs.top.carry_out.Goals as goal
+use Rattle.x917.proofs.carrying.carry_out.Goals as goal
 
 pub returns-in-Replay : goal.returns-in-Replay
 returns-in-Replay g c =
