@@ -10,14 +10,14 @@ use Rattle.key_journal.specs.declared.cause.Cause.{Cause}
 use Rattle.key_journal.specs.declared.cause.Cause.TheVariants as cause
 use Rattle.key_journal.specs.declared.cause.Unmade.{Unmade}
 use Rattle.party_state.specs.State.{begun}
-use Rattle.key_store.specs.Store.{Stored, IsBlankOrFirst}
+use Rattle.key_store.specs.Store.{Stored, Stands, IsBlankOrFirst}
 use Rattle.key_store.specs.Creating.{IsNewStore}
 use Rattle.mirror_store.specs.Pairs.{Twin}
 use Rattle.mirror_store.specs.Creating.{IsLookedAt, IsUncreated, IsPairCreated, IsMadeTwice}
 use Rattle.disk_pair.specs.declared.disks.Disks.{Disks}
 use Rattle.mirror_store.specs.declared.pair.PairCause.TheVariants.{First, Second}
 use Rattle.mirror_store.specs.declared.pair.PairUnmade.{PairUnmade}
-use Rattle.mirror_store.proofs.Moments.{untouched_self, untouched_then}
+use Rattle.mirror_store.proofs.Moments.{stands_for, untouched_self, untouched_then}
 use Rattle.mirror_store.proofs.Opened.{rose_later, first_same, second_same, never_first, never_second}
 
 free_first : (i j : List ℕ) (reason : Cause) → IsFree reason → IsUncreated i j (First reason)
@@ -57,6 +57,10 @@ module _ {D : Type 0} (told : D → View) (own : List ℕ) (role : Role) (genera
       first_moments = first.any_moment;
       second_moments = second.any_moment;
       order = λ reason is. absurd (never_first u.cause reason is);
+      kept = inr (record {
+        durable = first.stands.durable;
+        stands = λ image now. subst (Stands image) first.party (stands_for image one.format one.party (first.stands.stands image now));
+      });
       fault = record { first = λ is. absurd (never_first u.cause cause.Fault is); second = λ is. second.fault (second_same u.cause cause.Fault is) };
       keeps = record { first_faults = first.faults; second_faults = second.faults; first_tells = first.tells; second_tells = second.tells };
     }
@@ -93,6 +97,7 @@ module _ {D : Type 0} (told : D → View) (own : List ℕ) (role : Role) (genera
         first_moments = looked_moments (told old.first) (told mid_first) (told m.first.disk) first.untouched made.first_moments;
         second_moments = looked_moments (told old.second) (told mid_second) (told m.second.disk) second.untouched made.second_moments;
         order = tt;
+        kept = tt;
         fault = tt;
         keeps = record {
           first_faults = omega (arith, first.faults, made.keeps.first_faults);
@@ -111,6 +116,7 @@ module _ {D : Type 0} (told : D → View) (own : List ℕ) (role : Role) (genera
         first_moments = looked_moments (told old.first) (told mid_first) (told u.disks.first) first.untouched made.first_moments;
         second_moments = looked_moments (told old.second) (told mid_second) (told u.disks.second) second.untouched made.second_moments;
         order = λ reason is. untouched_then (told old.second) (told mid_second) (told u.disks.second) second.untouched (made.order reason is);
+        kept = elim made.kept [ inl still ↦ inl (untouched_then (told old.second) (told mid_second) (told u.disks.second) second.untouched still) | inr stands ↦ inr stands ];
         fault = record {
           first = λ is. rose_later (told old.first).faults (told mid_first).faults (told u.disks.first).faults first.faults (made.fault.first is);
           second = λ is. rose_later (told old.second).faults (told mid_second).faults (told u.disks.second).faults second.faults (made.fault.second is);
@@ -135,6 +141,7 @@ module _ {D : Type 0} (told : D → View) (own : List ℕ) (role : Role) (genera
       first_moments = only_looked (told old.first) (told u.disk) first.untouched;
       second_moments = only_looked (told old.second) (told old.second) (untouched_self (told old.second) sound);
       order = λ reason is. untouched_self (told old.second) sound;
+      kept = inl (untouched_self (told old.second) sound);
       fault = record { first = λ is. first.fault (first_same u.cause cause.Fault is); second = λ is. absurd (never_second u.cause cause.Fault is) };
       keeps = record { first_faults = first.faults; second_faults = omega arith; first_tells = ap is_some first.untouched.now; second_tells = refl };
     }

@@ -25,7 +25,7 @@ use Rattle.member.specs.Deciding.{decision}
 use Rattle.member.specs.Leads.{lead_in}
 use Rattle.member.specs.Member.{Member, Plan, plan_at, as_decided, as_full, after}
 use Rattle.member.specs.Acts.{Keeps, taking}
-use Rattle.node_core.specs.Turns.{member_of, IsOldOrNext, IsWorkDone, IsWorkCut, IsTurn}
+use Rattle.node_core.specs.Turns.{member_of, IsImageOf, IsOldOrNext, IsWorkDone, IsWorkCut, IsTurn}
 use Rattle.node_core.specs.declared.node.Turn.TheVariants as node
 use Rattle.disk_pair.specs.declared.disks.Disks.{Disks}
 use Rattle.mirror_store.specs.Pairs.{Twin, IsTwin}
@@ -36,6 +36,7 @@ use Rattle.mirror_store.specs.declared.pair.PairCause.TheVariants.{First, Second
 use Rattle.mirror_store.specs.declared.mirror.PairTurn.{PairTurn}
 use Rattle.mirror_store.specs.declared.mirror.PairTurn.TheVariants as turn
 use Rattle.mirror_store.proofs.Moments.{told_image, stands_with}
+use Rattle.mirror_store.proofs.Opened.{never_first, never_second}
 
 -- which plan is carried out
 
@@ -220,7 +221,15 @@ module _ {D : Type 0} (told : D → View) (first second : Stored D) (second_soun
       pub second_failed : (b : Failed D) → IsReplacing told second framed (Err b)
           → IsPairTurn told old plan (turn.Broken (record { disks = record { first = n.disk; second = b.disk }; cause = Second (cause_of b.cause) }))
       second_failed b r = record {
-        answer = record { accepted = accepts; changes = some; own = own_after; failed = failed_second told (twin_disks old) (record { first = n.disk; second = b.disk }) b.cause r.cause };
+        answer = record {
+          accepted = accepts;
+          changes = some;
+          own = own_after;
+          failed = failed_second told (twin_disks old) (record { first = n.disk; second = b.disk }) b.cause r.cause;
+          order = λ reason is. absurd (never_first (cause_of b.cause) reason is);
+          durable = λ reason is. t.stands.durable;
+          kept = λ reason is image now. subst (λ (x : Member). IsImageOf x image) t.answer.next (stands_with (told n.disk) n.gate n.end n.format n.party t.stands image now);
+        };
         stand = tt;
         first_moments = t.any_moment;
         second_moments = other_moments b.disk r.any_moment;
@@ -230,7 +239,15 @@ module _ {D : Type 0} (told : D → View) (first second : Stored D) (second_soun
     pub first_failed : (b : Failed D) → IsTurn told first (taking plan) (node.Broken b)
         → IsPairTurn told old plan (turn.Broken (record { disks = record { first = b.disk; second = second.disk }; cause = First (cause_of b.cause) }))
     first_failed b t = record {
-      answer = record { accepted = accepts; changes = some; own = own_after; failed = failed_first told (twin_disks old) (record { first = b.disk; second = second.disk }) b.cause t.answer.cause };
+      answer = record {
+        accepted = accepts;
+        changes = some;
+        own = own_after;
+        failed = failed_first told (twin_disks old) (record { first = b.disk; second = second.disk }) b.cause t.answer.cause;
+        order = λ reason is. refl;
+        durable = λ reason is. absurd (never_second (cause_of b.cause) reason is);
+        kept = λ reason is. absurd (never_second (cause_of b.cause) reason is);
+      };
       stand = tt;
       first_moments = t.any_moment;
       second_moments = second_rests plan;

@@ -11,7 +11,7 @@ use Rattle.key_journal.specs.declared.cause.Cause.TheVariants as cause
 use Rattle.key_journal.specs.declared.cause.Unmade.{Unmade}
 use Rattle.party_state.specs.State.{begun}
 use Rattle.key_store.specs.Store.{IsBlankOrFirst}
-use Rattle.mirror_store.specs.Pairs.{Twin, IsTwin}
+use Rattle.mirror_store.specs.Pairs.{IsKeptOn, Twin, IsTwin}
 use Rattle.mirror_store.specs.Answers.{opened_disks}
 use Rattle.mirror_store.specs.Opening.{AreRead, HasPairFault, KeepsPair}
 use Rattle.disk_pair.specs.declared.disks.Disks.{Disks}
@@ -62,6 +62,8 @@ pub record IsPairCreated {D : Type 0} (told : D → View) (own : List ℕ) (role
   pub second_moments : Tells (told old.second) → LeavesOnly (told old.second) (told (opened_disks result).second) (λ c. IsBlankOrFirst (begun own role generator) c ⊎ (told old.second).may_leave c)
   -- the first is made before the second is touched
   pub order : IfErr result (λ u. (reason : Cause) → u.cause ≡ First reason → IsUntouched (told old.second) (told u.disks.second))
+  -- the second is as it was, or each image of the first that a crash may leave stands for the party
+  pub kept : IfErr result (λ u. IsUntouched (told old.second) (told u.disks.second) ⊎ IsKeptOn (told u.disks.first) (begun own role generator))
   pub fault : IfErr result (λ u. HasPairFault told old u.disks u.cause)
   pub keeps : KeepsPair told old (opened_disks result)
 
@@ -74,5 +76,7 @@ pub record IsMadeTwice {D : Type 0} (told : D → View) (own : List ℕ) (role :
   pub second_moments : Tells (told old.second) → LeavesOnly (told old.second) (told (opened_disks result).second) (λ c. IsBlankOrFirst (begun own role generator) c ⊎ (told old.second).may_leave c)
   -- the first is made before the second is touched
   pub order : IfErr result (λ u. (reason : Cause) → u.cause ≡ First reason → IsUntouched (told old.second) (told u.disks.second))
+  -- the second is as it was, or each image of the first that a crash may leave stands for the party
+  pub kept : IfErr result (λ u. IsUntouched (told old.second) (told u.disks.second) ⊎ IsKeptOn (told u.disks.first) (begun own role generator))
   pub fault : IfErr result (λ u. HasPairFault told old u.disks u.cause)
   pub keeps : KeepsPair told old (opened_disks result)

@@ -1,9 +1,14 @@
 -- Two images of one party, and what they stand for (this project's profile).
-use Rattle.std.specs.Prelude.{◌≡◌, ◌⊎◌, ℕ, true, List}
-use Rattle.x_disk.specs.Disk.{View}
+use Rattle.std.specs.Prelude.{◌≡◌, ◌⊎◌, ℕ, true, List, Some}
+use Rattle.x_disk.specs.Disk.{View, IsDurable}
 use Rattle.key_journal.specs.Journal.{is_blank}
 use Rattle.party_state.specs.State.{Party}
 use Rattle.key_store.specs.Store.{Stored, Stands, IsStore}
+
+-- each image of the disk that a crash may leave now stands for the party
+pub record IsKeptOn (v : View) (party : Party) : Type 0 where
+  pub durable : IsDurable v
+  pub stands : (image : List ℕ) → v.now ≡ Some image → Stands image party
 
 -- both images stand for the party
 pub record PairStands (first second : List ℕ) (party : Party) : Type 0 where

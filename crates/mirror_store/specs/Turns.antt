@@ -1,10 +1,11 @@
 -- What became of an input at a party over two disks (this project's profile).
-use Rattle.std.specs.Prelude.{◌≡◌, ◌≢◌, ◌⊎◌, ℕ, Bool, true, false, cond, List, [], ◌∷◌, Option}
+use Rattle.std.specs.Prelude.{◌≡◌, ◌≢◌, ◌⊎◌, ℕ, Bool, true, false, cond, List, [], ◌∷◌, Option, Some}
 use Rattle.x_base.specs.Edge.{Rose}
 use Rattle.x_base.specs.declared.verdict.Verdict.{Verdict}
 use Rattle.x_base.specs.declared.verdict.Verdict.TheVariants.{Accept}
 use Rattle.x_base.specs.declared.key_name.FullName.{FullName}
-use Rattle.x_disk.specs.Disk.{View, Tells, LeavesOnly}
+use Rattle.x_disk.specs.Disk.{View, IsDurable, Tells, LeavesOnly}
+use Rattle.key_journal.specs.declared.cause.Cause.{Cause}
 use Rattle.key_journal.specs.declared.cause.Cause.TheVariants as cause
 use Rattle.party_state.specs.declared.command.Input.{Input}
 use Rattle.party_state.specs.declared.edit.Edit.{Edit}
@@ -15,7 +16,7 @@ use Rattle.change_code.specs.Whole.{IsTooLarge}
 use Rattle.key_store.specs.Store.{space}
 use Rattle.key_store.specs.Replacing.{IsOldOrOther}
 use Rattle.member.specs.Member.{Member, Plan, plan_at, as_full, after}
-use Rattle.node_core.specs.Turns.{member_of, IsOldOrNext}
+use Rattle.node_core.specs.Turns.{member_of, IsImageOf, IsOldOrNext}
 use Rattle.disk_pair.specs.declared.disks.Disks.{Disks}
 use Rattle.mirror_store.specs.Pairs.{Twin, IsTwin}
 use Rattle.mirror_store.specs.Answers.{twin_disks, turn_disks}
@@ -81,6 +82,11 @@ pub record IsPairCut {D : Type 0} (told : D → View) (old : Twin D) (plan : Pla
   pub changes : plan.edits ≢ []
   pub own : (apply plan.edits old.first.party).own ≡ old.first.party.own
   pub failed : HasFailed told (twin_disks old) new.disks new.cause
+  -- the second isn't touched before the first has kept the edits
+  pub order : (reason : Cause) → new.cause ≡ First reason → new.disks.second ≡ old.second.disk
+  -- where the second failed, each image of the first that a crash may leave stands for the member after them
+  pub durable : (reason : Cause) → new.cause ≡ Second reason → IsDurable (told new.disks.first)
+  pub kept : (reason : Cause) → new.cause ≡ Second reason → (image : List ℕ) → (told new.disks.first).now ≡ Some image → IsImageOf (after (member_of old.first) plan.edits) image
 
 -- the answer is the one that the plan calls for; want of memory may be answered to any
 abbrev pub IsPairAnswer : {D : Type 0} → (D → View) → Twin D → Plan → PairTurn D → Type 0

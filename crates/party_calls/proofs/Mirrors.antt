@@ -177,6 +177,7 @@ module _ (moment : ℕ) (left before : Option (List ℕ)) (e : List ℕ → View
     safe = record {
       on_first = λ i j p read recovers. began (e party) (MayLeave w i j p i (e party).may_leave) (sound party) (λ c left. Before left);
       on_second = λ i j p read recovers. began (e mirror) (MayLeave w i j p j (e mirror).may_leave) (sound mirror) (λ c left. Before left);
+      order = λ i j p read recovers. inl (record { moments = began (e mirror) _ (sound mirror) (λ c left. inr left); stays = λ either. still (e mirror) (sound mirror) });
       nobody = λ i j read none. (still (e party) (sound party), still (e mirror) (sound mirror));
       quiet = λ i j p read stand none. (still (e party) (sound party), still (e mirror) (sound mirror));
       first_stays = λ i j p read recovers none filled. still (e party) (sound party);
@@ -198,6 +199,7 @@ module _ (moment : ℕ) (left before : Option (List ℕ)) (e : List ℕ → View
       second_stays = λ i j read filled. still (e mirror) (sound mirror);
       on_first = λ tells. began (e party) (OrBefore (e party) (IsBlankOrFirst (begun party role (record { key = key; v = v })))) (sound party) (λ c left. inr left);
       on_second = λ tells. began (e mirror) (OrBefore (e mirror) (IsBlankOrFirst (begun party role (record { key = key; v = v })))) (sound mirror) (λ c left. inr left);
+      order = inl (still (e mirror) (sound mirror));
       first_tells = refl;
       second_tells = refl;
     };

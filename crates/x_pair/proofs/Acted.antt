@@ -17,20 +17,21 @@ use Rattle.key_store.specs.Replacing.{IsOldOrOther}
 use Rattle.member.specs.Member.{Member, Plan, after}
 use Rattle.node_core.specs.Turns.{member_of, IsOldOrNext}
 use Rattle.disk_pair.specs.declared.disks.Disks.{Disks}
-use Rattle.mirror_store.specs.Pairs.{PairStands, Recovers, Twin}
+use Rattle.mirror_store.specs.Pairs.{IsKeptOn, PairStands, Recovers, Twin, IsTwin}
 use Rattle.mirror_store.specs.Answers.{twin_disks, turn_disks}
 use Rattle.mirror_store.specs.Opening.{AreRead, HasFirstSpace, IsPairOpened}
-use Rattle.mirror_store.specs.Turns.{HasFailed, IsKeptTwice, IsPairTurn, pair_plan_at}
+use Rattle.mirror_store.specs.Turns.{HasFailed, IsKeptTwice, IsPairCut, IsPairTurn, pair_plan_at}
 use Rattle.mirror_store.specs.declared.pair.PairCause.{PairCause}
 use Rattle.mirror_store.specs.declared.pair.PairCause.TheVariants.{First, Second, OtherParty, TooLarge}
+use Rattle.mirror_store.specs.declared.pair.PairUnmade.{PairUnmade}
 use Rattle.mirror_store.specs.declared.mirror.PairTurn.{PairTurn}
 use Rattle.mirror_store.specs.declared.mirror.PairTurn.TheVariants as turn
 use Rattle.x_party.specs.declared.outcome.Outcome.{Outcome}
 use Rattle.x_party.specs.declared.outcome.Outcome.TheVariants as outcome
-use Rattle.x_pair.specs.Outcomes.{Work, Changes, MakesOf, MayLeave, Opened, After, showing, turning}
+use Rattle.x_pair.specs.Outcomes.{Work, Changes, MakesOf, IsAsOpened, KeepsNext, MayLeave, Opened, After, showing, turning}
 use Rattle.x_pair.specs.Steps.{HasActed, outcome_of_pair, outcome_of_turn}
 use Rattle.x_pair.proofs.Alike.{tells_by}
-use Rattle.x_pair.proofs.Opened.{both_stand, opening_leaves, rested}
+use Rattle.x_pair.proofs.Opened.{both_stand, opening_leaves, second_opened, rested}
 
 -- a party of another name isn't asked
 pub other : {D : Type 0} (told : D → View) (old : Disks D) (name : List ℕ) (i : Input) (moment : ℕ) (m : Twin D) → IsPairOpened told old (Ok m) → (new : Disks D) → new ≡ twin_disks m
@@ -172,6 +173,49 @@ module _ {D : Type 0} (told : D → View) (old : Disks D) (name : List ℕ) (i :
       let nothing : (next : Party) → Changes w a b m.first.party next → ⊥ = subst (λ (p : Party). (next : Party) → Changes w a b p next → ⊥) (sym same) none in
       unturned (no_edits a b (opened.left a b read) (opened.small a b read) nothing plan.edits refl) t is
 
+  -- the second disk is as the opening left it, or the first has kept the edits
+  abbrev IsInOrder : Disks D → Type 0
+  IsInOrder d = (d.second ≡ m.second.disk) ⊎ ((plan.edits ≢ []) × IsKeptOn (told d.first) (apply plan.edits m.first.party))
+
+  kept_first : (new : Twin D) → IsTwin told new → (party : Party) → new.first.party ≡ party → IsKeptOn (told new.first.disk) party
+  kept_first new twin party is = record {
+    durable = twin.first_stands.durable;
+    stands = λ image now. subst (Stands image) is (record { format = new.first.format; stands = twin.first_stands.stands image now });
+  }
+
+  done_order : (edits : List Edit) → plan.edits ≡ edits → (new : Twin D) → IsKeptTwice edits m new → IsKeptOn (told new.first.disk) (apply plan.edits m.first.party) → IsInOrder (twin_disks new)
+  done_order [] is new same stands = inl (ap (λ (n : Twin D). n.second.disk) same)
+  done_order (e ∷ es) is new kept stands = inr ((λ none. some_edit e es (sym is ∙ none)), stands)
+
+  cut_order : (u : PairUnmade D) → IsPairCut told m plan u → (reason : PairCause) → u.cause ≡ reason → IsInOrder u.disks
+  cut_order u cut (First reason) is = inl (cut.order reason is)
+  cut_order u cut (Second reason) is = inr (
+    cut.changes,
+    record {
+      durable = cut.durable reason is;
+      stands = λ image now. image_stands image (apply plan.edits m.first.party) (space_after (space m.first) plan.edits) (cut.kept reason is image now);
+    },
+  )
+  cut_order u cut (OtherParty one other) is = absurd (subst (λ (r : PairCause). HasFailed told (twin_disks m) u.disks r) is cut.failed)
+  cut_order u cut TooLarge is = absurd (subst (λ (r : PairCause). HasFailed told (twin_disks m) u.disks r) is cut.failed)
+
+  turn_order : (t : PairTurn D) → IsPairTurn told m plan t → IsInOrder (turn_disks t)
+  turn_order (turn.Done new reply under) is = done_order plan.edits refl new is.answer.kept (kept_first new is.stand (apply plan.edits m.first.party) is.answer.party)
+  turn_order (turn.Refused new said reply under) is = inl (ap (λ (n : Twin D). n.second.disk) is.answer.same)
+  turn_order (turn.Broken u) is = cut_order u is.answer u.cause refl
+  turn_order (turn.NoMemory new) is = inl (ap (λ (n : Twin D). n.second.disk) is.answer)
+
+  in_order : (t : PairTurn D) → IsPairTurn told m plan t → (a b : List ℕ) (party : Party) → AreRead (told old.first) (told old.second) a b → Recovers a b party
+      → IsAsOpened (told old.second) (told (turn_disks t).second) a b party ⊎ KeepsNext w (told (turn_disks t).first) a b party
+  in_order t is a b party read recovers = elim (turn_order t is) [
+    | inl same ↦ inl (subst (λ (d : D). IsAsOpened (told old.second) (told d) a b party) (sym same) (second_opened told old (Ok m) opened a b party read recovers))
+    | inr kept ↦ inr (subst (λ (p : Party). KeepsNext w (told (turn_disks t).first) a b p) (one_party a b m.first.party party (opened.exact a b read) recovers) (record {
+      next = apply plan.edits m.first.party;
+      changes = changed a b (opened.left a b read) (opened.small a b read) plan.edits refl kept.0;
+      kept = kept.1;
+    }))
+  ]
+
   makes_turn : (t : PairTurn D) → IsPairTurn told m plan t → (a b : List ℕ) → Recovers a b m.first.party → HasFirstSpace a m.first.party x.space → ((PairStands a b m.first.party → ⊥) → IsTooLarge Two m.first.party → ⊥) → MakesOf w a b (told (turn_disks t).first) (told (turn_disks t).second) (outcome_of_turn t)
   makes_turn (turn.Done new reply under) is a b recovers at small = record {
     member = x;
@@ -217,6 +261,7 @@ module _ {D : Type 0} (told : D → View) (old : Disks D) (name : List ℕ) (i :
           (weaker (told m.second.disk) (told (turn_disks t).second) (IsOldOrOther m.first.party (space m.second) Two (apply plan.edits m.first.party)) (MayLeave w a b party b (told old.second).may_leave)
           (is.second_moments (opened.keeps.second_tells ∙ tells_by (told old.second).now b read.second))
           (second_left a b (opened.left a b read) (opened.small a b read) party b (told old.second).may_leave (one_party a b m.first.party party (opened.exact a b read) recovers)));
+      order = λ a b party read recovers. in_order t is a b party read recovers;
       nobody = λ a b read none. absurd (none m.first.party (opened.exact a b read));
       quiet = λ a b party read stand none.
           subst (λ (d : Disks D). IsUntouched (told old.first) (told d.first) × IsUntouched (told old.second) (told d.second))

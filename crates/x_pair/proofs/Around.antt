@@ -5,17 +5,18 @@ use Rattle.x_disk.specs.Disk.{View, IsSound, IsUntouched}
 use Rattle.x_disk.specs.Shelf.{ShelfView, IsAlike}
 use Rattle.x_disk.proofs.Runs.{weaker}
 use Rattle.party_state.specs.State.{Party}
-use Rattle.key_store.specs.Store.{IsBlankOrFirst}
+use Rattle.key_store.specs.Store.{Stands, IsBlankOrFirst}
 use Rattle.disk_pair.specs.declared.disks.Disks.{Disks}
+use Rattle.mirror_store.specs.Pairs.{IsAsBefore}
 use Rattle.mirror_store.specs.Opening.{AreRead}
 use Rattle.x_party.specs.Images.{OrBefore}
 use Rattle.x_party.specs.Outcomes.{IsNoFailure}
 use Rattle.x_party.specs.declared.outcome.Outcome.{Outcome}
 use Rattle.x_party.specs.declared.outcome.Outcome.TheVariants as outcome
-use Rattle.x_pair.specs.Outcomes.{Work, OfOpened, MakesOf, MakesPair, IsSafePair, MayLeave, Opened, After, AsItWas, Before, LeavesPair}
-use Rattle.x_pair.specs.Creations.{CreatesPair, IsSafeCreation, IsDueOrFailed, Keeps, StandsWhereDone}
+use Rattle.x_pair.specs.Outcomes.{Work, OfOpened, MakesOf, MakesPair, IsAsOpened, KeepsNext, IsSafePair, MayLeave, Opened, After, AsItWas, Before, LeavesPair}
+use Rattle.x_pair.specs.Creations.{CreatesPair, IsSafeCreation, IsDueOrFailed, StandsWhereDone}
 use Rattle.x_pair.specs.Steps.{HasActed, HasCreated, HasFaults, AreOut, AreBack, IsClosed}
-use Rattle.x_pair.proofs.Alike.{durable_alike, stands_alike, thirds_on, untouched_alike, leaves_around, untouched_around}
+use Rattle.x_pair.proofs.Alike.{kept_alike, durable_alike, stands_alike, thirds_on, untouched_alike, leaves_around, untouched_around}
 
 rose_some : (before after : ℕ) → before ≡ 0 → Rose before after → 0 < after
 rose_some before after none (inl less) = omega (arith, none, less)
@@ -49,6 +50,10 @@ failed_rose : (o : Outcome) (rose : Type 0) → IsFailure o rose → o ≡ outco
 failed_rose o rose (inl is) fault = let both : outcome.NoMemory ≡ outcome.Fault = sym is ∙ fault in absurd (cc both)
 failed_rose o rose (inr is) fault = is.1
 
+-- what an opening may leave of a disk
+abbrev IsLeftOrBefore : View → List ℕ → Party → List ℕ → Type 0
+IsLeftOrBefore v was party image = (Stands image party ⊎ IsAsBefore was image) ⊎ v.may_leave image
+
 -- neither disk was fetched
 module _ {D : Type 0} (told : D → View) (name other : List ℕ) (old new : ShelfView) (o : Outcome) (out : AreOut told name other old new (Err o))
     (first : IsSound (old.entry name)) (second : IsSound (old.entry other)) where
@@ -65,6 +70,10 @@ module _ {D : Type 0} (told : D → View) (name other : List ℕ) (old new : She
   unfetched_safe w = record {
     on_first = λ i j party read recovers. weaker (old.entry name) (new.entry name) (old.entry name).may_leave (MayLeave w i j party i (old.entry name).may_leave) first_still.any_moment (λ c left. Before left);
     on_second = λ i j party read recovers. weaker (old.entry other) (new.entry other) (old.entry other).may_leave (MayLeave w i j party j (old.entry other).may_leave) second_still.any_moment (λ c left. Before left);
+    order = λ i j party read recovers. inl (record {
+      moments = weaker (old.entry other) (new.entry other) (old.entry other).may_leave (IsLeftOrBefore (old.entry other) j party) second_still.any_moment (λ c left. inr left);
+      stays = λ either. second_still;
+    });
     nobody = λ i j read none. (first_still, second_still);
     quiet = λ i j party read stand none. (first_still, second_still);
     first_stays = λ i j party read recovers none filled. first_still;
@@ -86,6 +95,7 @@ module _ {D : Type 0} (told : D → View) (name other : List ℕ) (old new : She
     second_stays = λ i j read filled. second_still;
     on_first = λ tells. weaker (old.entry name) (new.entry name) (old.entry name).may_leave (OrBefore (old.entry name) (IsBlankOrFirst party)) first_still.any_moment (λ c left. inr left);
     on_second = λ tells. weaker (old.entry other) (new.entry other) (old.entry other).may_leave (OrBefore (old.entry other) (IsBlankOrFirst party)) second_still.any_moment (λ c left. inr left);
+    order = inl second_still;
     first_tells = ap is_some out.first_stays.now;
     second_tells = ap is_some out.second_stays.now;
   }
@@ -150,6 +160,15 @@ module _ (first second out_first out_second mid_first mid_second new_first new_s
     leaves_second image other party was c (AsItWas is) = AsItWas is
     leaves_second image other party was c (Before left) = Before (second_out.images c left)
 
+    order_around : (i j : List ℕ) (party : Party) → IsAsOpened out_second mid_second i j party ⊎ KeepsNext w mid_first i j party → IsAsOpened second new_second i j party ⊎ KeepsNext w new_first i j party
+    order_around i j party (inl is) = inl (record {
+      moments = weaker second new_second (IsLeftOrBefore out_second j party) (IsLeftOrBefore second j party)
+          (leaves_around second out_second mid_second new_second second_out second_back (IsLeftOrBefore out_second j party) is.moments)
+          (λ c either. elim either [ inl here ↦ inl here | inr left ↦ inr (second_out.images c left) ]);
+      stays = λ either. untouched_around second out_second mid_second new_second second_out second_back (is.stays either);
+    })
+    order_around i j party (inr is) = inr (record { next = is.next; changes = is.changes; kept = kept_alike mid_first new_first is.next is.kept first_back })
+
     safe_around : IsSafePair w out_first out_second mid_first mid_second → IsSafePair w first second new_first new_second
     safe_around safe = record {
       on_first = λ i j party read recovers.
@@ -158,6 +177,7 @@ module _ (first second out_first out_second mid_first mid_second new_first new_s
       on_second = λ i j party read recovers.
           weaker second new_second (MayLeave w i j party j out_second.may_leave) (MayLeave w i j party j second.may_leave)
           (leaves_around second out_second mid_second new_second second_out second_back (MayLeave w i j party j out_second.may_leave) (safe.on_second i j party (read_out i j read) recovers)) (leaves_second i j party j);
+      order = λ i j party read recovers. order_around i j party (safe.order i j party (read_out i j read) recovers);
       nobody = λ i j read none. both_around (safe.nobody i j (read_out i j read) none);
       quiet = λ i j party read stand none. both_around (safe.quiet i j party (read_out i j read) stand none);
       first_stays = λ i j party read recovers none filled. untouched_around first out_first mid_first new_first first_out first_back (safe.first_stays i j party (read_out i j read) recovers none filled);
@@ -168,11 +188,8 @@ module _ (first second out_first out_second mid_first mid_second new_first new_s
     }
 
   module _ (party : Party) where
-    keeps_alike : (v w : View) → IsAlike v w → Keeps v party → Keeps w party
-    keeps_alike v w alike keeps = record { durable = durable_alike v w keeps.durable alike; stands = λ image now. keeps.stands image (sym alike.now ∙ now) }
-
     stands_back : (o : Outcome) → StandsWhereDone o mid_first mid_second party → StandsWhereDone o new_first new_second party
-    stands_back (outcome.Done reply) is = (keeps_alike mid_first new_first first_back is.0, keeps_alike mid_second new_second second_back is.1)
+    stands_back (outcome.Done reply) is = (kept_alike mid_first new_first party is.0 first_back, kept_alike mid_second new_second party is.1 second_back)
     stands_back (outcome.Refused verdict reply) is = tt
     stands_back (outcome.OtherParty a b) is = tt
     stands_back (outcome.Damaged place) is = tt
@@ -203,6 +220,10 @@ module _ (first second out_first out_second mid_first mid_second new_first new_s
           (leaves_around first out_first mid_first new_first first_out first_back (OrBefore out_first (IsBlankOrFirst party)) (safe.on_first (ap is_some first_out.now ∙ tells))) before_first;
       on_second = λ tells. weaker second new_second (OrBefore out_second (IsBlankOrFirst party)) (OrBefore second (IsBlankOrFirst party))
           (leaves_around second out_second mid_second new_second second_out second_back (OrBefore out_second (IsBlankOrFirst party)) (safe.on_second (ap is_some second_out.now ∙ tells))) before_second;
+      order = elim safe.order [
+        | inl still ↦ inl (untouched_around second out_second mid_second new_second second_out second_back still)
+        | inr kept ↦ inr (kept_alike mid_first new_first party kept first_back)
+      ];
       first_tells = ap is_some first_back.now ∙ (safe.first_tells ∙ ap is_some first_out.now);
       second_tells = ap is_some second_back.now ∙ (safe.second_tells ∙ ap is_some second_out.now);
     }

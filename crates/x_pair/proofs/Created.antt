@@ -8,7 +8,7 @@ use Rattle.x_base.specs.declared.party.Role.{Role}
 use Rattle.x_gen.specs.declared.generator.Gen.{Gen}
 use Rattle.key_store.specs.Store.{Stands}
 use Rattle.disk_pair.specs.declared.disks.Disks.{Disks}
-use Rattle.mirror_store.specs.Pairs.{Twin}
+use Rattle.mirror_store.specs.Pairs.{IsKeptOn, Twin}
 use Rattle.mirror_store.specs.Answers.{twin_disks}
 use Rattle.mirror_store.specs.Creating.{IsPairCreated, IsUncreated}
 use Rattle.mirror_store.specs.declared.pair.PairCause.{PairCause}
@@ -50,15 +50,18 @@ none_stands (OtherParty one other) a b own role generator = tt
 none_stands TooLarge a b own role generator = tt
 
 module _ {D : Type 0} (told : D → View) (own : List ℕ) (role : Role) (generator : Gen) (old : Disks D) where
+  first_kept : (m : Twin D) → IsPairCreated told own role generator old (Ok m) → IsKeptOn (told m.first.disk) (begun own role generator)
+  first_kept m is = record {
+    durable = is.stand.first_stands.durable;
+    stands = λ image now. subst (Stands image) is.party (record { format = m.first.format; stands = is.stand.first_stands.stands image now });
+  }
+
   pub created : (m : Twin D) → IsPairCreated told own role generator old (Ok m) → (new : Disks D) → new ≡ twin_disks m → HasCreated (begun own role generator) told old new (outcome.Done None)
   created m is new same = subst (λ (n : Disks D). HasCreated (begun own role generator) told old n (outcome.Done None)) (sym same) (record {
     makes = record {
       is_due = λ i j read. (refl, (is.blank i j read).0, (is.blank i j read).1);
       stand = (
-        record {
-          durable = is.stand.first_stands.durable;
-          stands = λ image now. subst (Stands image) is.party (record { format = m.first.format; stands = is.stand.first_stands.stands image now });
-        },
+        first_kept m is,
         record {
           durable = is.stand.second_stands.durable;
           stands = λ image now. subst (Stands image) (is.stand.same ∙ is.party) (record { format = m.second.format; stands = is.stand.second_stands.stands image now });
@@ -70,6 +73,7 @@ module _ {D : Type 0} (told : D → View) (own : List ℕ) (role : Role) (genera
       second_stays = is.second_stays;
       on_first = is.first_moments;
       on_second = is.second_moments;
+      order = inr (first_kept m is);
       first_tells = is.keeps.first_tells;
       second_tells = is.keeps.second_tells;
     };
@@ -87,6 +91,7 @@ module _ {D : Type 0} (told : D → View) (own : List ℕ) (role : Role) (genera
       second_stays = is.second_stays;
       on_first = is.first_moments;
       on_second = is.second_moments;
+      order = is.kept;
       first_tells = is.keeps.first_tells;
       second_tells = is.keeps.second_tells;
     };

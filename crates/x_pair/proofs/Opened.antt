@@ -12,13 +12,13 @@ use Rattle.disk_pair.specs.declared.disks.Disks.{Disks}
 use Rattle.node_core.specs.Turns.{member_of}
 use Rattle.mirror_store.specs.Pairs.{PairStands, Recovers, IsAsBefore, Twin, IsTwin}
 use Rattle.mirror_store.specs.Answers.{twin_disks, opened_disks}
-use Rattle.mirror_store.specs.Opening.{HasFirstSpace, HasPairFault, IsPairRefusal, IsPairOpened}
+use Rattle.mirror_store.specs.Opening.{AreRead, HasFirstSpace, HasPairFault, IsPairRefusal, IsPairOpened}
 use Rattle.mirror_store.specs.declared.pair.PairCause.{PairCause}
 use Rattle.mirror_store.specs.declared.pair.PairCause.TheVariants.{First, Second, OtherParty, TooLarge}
 use Rattle.mirror_store.specs.declared.pair.PairUnmade.{PairUnmade}
 use Rattle.x_party.specs.declared.outcome.Outcome.{Outcome}
 use Rattle.x_party.specs.declared.outcome.Outcome.TheVariants as outcome
-use Rattle.x_pair.specs.Outcomes.{Work, BothStand, MakesOf, MayLeave, Opened, AsItWas, Before, IsSafePair}
+use Rattle.x_pair.specs.Outcomes.{Work, BothStand, MakesOf, MayLeave, Opened, AsItWas, Before, IsAsOpened, IsSafePair}
 use Rattle.x_pair.specs.Steps.{HasActed, outcome_of_pair}
 use Rattle.x_pair.proofs.Alike.{store_stands}
 
@@ -68,6 +68,14 @@ opened_leaves w first second party was before c (inr left) = Before left
 pub opening_leaves : (w : Work) (old mid : View) (first second was : List ℕ) (party : Party) → LeavesOnly old mid (λ c. (Stands c party ⊎ IsAsBefore was c) ⊎ old.may_leave c) → LeavesOnly old mid (MayLeave w first second party was old.may_leave)
 opening_leaves w old mid first second was party run = weaker old mid (λ c. (Stands c party ⊎ IsAsBefore was c) ⊎ old.may_leave c) (MayLeave w first second party was old.may_leave) run (opened_leaves w first second party was old.may_leave)
 
+-- and of the second disk
+pub second_opened : {D : Type 0} (told : D → View) (old : Disks D) (result : Result (Twin D) (PairUnmade D)) → IsPairOpened told old result → (i j : List ℕ) (party : Party)
+    → AreRead (told old.first) (told old.second) i j → Recovers i j party → IsAsOpened (told old.second) (told (opened_disks result).second) i j party
+second_opened told old result opened i j party read recovers = record {
+  moments = opened.second_moments i j party read recovers;
+  stays = λ either. elim either [ inl stand ↦ (opened.quiet i j party read stand).1 | inr blank ↦ opened.second_stays i j read blank ];
+}
+
 module _ {D : Type 0} (told : D → View) (old : Disks D) (w : Work) where
   -- an opening that nothing follows, whatever it gives
   opening_safe : (result : Result (Twin D) (PairUnmade D)) → IsPairOpened told old result
@@ -75,6 +83,7 @@ module _ {D : Type 0} (told : D → View) (old : Disks D) (w : Work) where
   opening_safe result opened = record {
     on_first = λ i j party read recovers. opening_leaves w (told old.first) (told (opened_disks result).first) i j i party (opened.first_moments i j party read recovers);
     on_second = λ i j party read recovers. opening_leaves w (told old.second) (told (opened_disks result).second) i j j party (opened.second_moments i j party read recovers);
+    order = λ i j party read recovers. inl (second_opened told old result opened i j party read recovers);
     nobody = opened.stays;
     quiet = λ i j party read stands none. opened.quiet i j party read stands;
     first_stays = λ i j party read recovers none filled. opened.first_stays i j read filled;

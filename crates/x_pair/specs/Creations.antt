@@ -1,20 +1,16 @@
 -- What becomes of creating a party on two disks (this project's profile). `first` and `second` are what the shelf tells of the
 -- two disks before, `first_after` and `second_after` what it tells afterwards.
-use Rattle.std.specs.Prelude.{◌≡◌, ◌⊎◌, ℕ, true, false, List, Some, None}
+use Rattle.std.specs.Prelude.{◌≡◌, ◌⊎◌, ℕ, true, false, List, None}
 use Rattle.x_base.specs.declared.verdict.Verdict.TheVariants.{NotEmpty}
-use Rattle.x_disk.specs.Disk.{View, IsDurable, Tells, LeavesOnly, IsUntouched}
+use Rattle.x_disk.specs.Disk.{View, Tells, LeavesOnly, IsUntouched}
 use Rattle.key_journal.specs.Journal.{is_blank}
 use Rattle.party_state.specs.State.{Party}
-use Rattle.key_store.specs.Store.{Stands, IsBlankOrFirst}
+use Rattle.key_store.specs.Store.{IsBlankOrFirst}
+use Rattle.mirror_store.specs.Pairs.{IsKeptOn}
 use Rattle.mirror_store.specs.Opening.{AreRead}
 use Rattle.x_party.specs.Images.{OrBefore, StillTells}
 use Rattle.x_party.specs.declared.outcome.Outcome.{Outcome}
 use Rattle.x_party.specs.declared.outcome.Outcome.TheVariants as outcome
-
--- each image of the disk that a crash may leave stands for the party
-pub record Keeps (v : View) (party : Party) : Type 0 where
-  pub durable : IsDurable v
-  pub stands : (image : List ℕ) → v.now ≡ Some image → Stands image party
 
 -- the outcome that is due by the two images: done where both are blank, and otherwise refused
 abbrev pub IsDueOfTwo : List ℕ → List ℕ → Outcome → Type 0
@@ -24,7 +20,7 @@ IsDueOfTwo i j o = ⊥
 
 -- where a party is created, both disks stand for it
 abbrev pub StandsWhereDone : Outcome → View → View → Party → Type 0
-StandsWhereDone (outcome.Done reply) first_after second_after party = Keeps first_after party × Keeps second_after party
+StandsWhereDone (outcome.Done reply) first_after second_after party = IsKeptOn first_after party × IsKeptOn second_after party
 StandsWhereDone o first_after second_after party = Unit {0}
 
 -- the outcome is the one that is due, a fault or want of memory
@@ -50,5 +46,7 @@ pub record IsSafeCreation (party : Party) (first second first_after second_after
   -- a crash at any moment leaves a blank image, one that stands for the party, or what it could leave before
   pub on_first : Tells first → LeavesOnly first first_after (OrBefore first (IsBlankOrFirst party))
   pub on_second : Tells second → LeavesOnly second second_after (OrBefore second (IsBlankOrFirst party))
+  -- nothing is written on the second, or each image of the first that a crash may leave stands for the party
+  pub order : IsUntouched second second_after ⊎ IsKeptOn first_after party
   pub first_tells : StillTells first first_after
   pub second_tells : StillTells second second_after

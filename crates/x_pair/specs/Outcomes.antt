@@ -15,8 +15,8 @@ use Rattle.change_code.specs.declared.space.Space.{Space}
 use Rattle.key_store.specs.Store.{Stands, IsFirstDamage}
 use Rattle.member.specs.Member.{Member, after}
 use Rattle.disk_pair.specs.Pairs.{ThirdsStay}
-use Rattle.mirror_store.specs.Pairs.{PairStands, Recovers, IsAsBefore}
-use Rattle.mirror_store.specs.Opening.{AreRead, AreOthers, IsSound, IsTooLargeToWrite, HasFirstSpace}
+use Rattle.mirror_store.specs.Pairs.{IsKeptOn, PairStands, Recovers, IsAsBefore}
+use Rattle.mirror_store.specs.Opening.{AreRead, AreOthers, IsSound, IsTooLargeToWrite, HasFirstSpace, LeavesParty}
 use Rattle.mirror_store.specs.Turns.{pair_plan_at}
 use Rattle.x_party.specs.Images.{DiskStandsFor, StillTells}
 use Rattle.x_party.specs.Outcomes.{IsNoFailure}
@@ -141,11 +141,25 @@ pub data MayLeave (w : Work) (first second : List ℕ) (party : Party) (was : Li
   AsItWas : IsAsBefore was image → MayLeave w first second party was before image
   Before : before image → MayLeave w first second party was before image
 
+-- the second disk is as an opening alone leaves it: a crash at any moment leaves an image that stands for the party that is opened,
+-- is as it was, or could be left before; where both disks stood for the party, or the first was blank, nothing is written on it
+pub record IsAsOpened (second second_after : View) (i j : List ℕ) (party : Party) : Type 0 where
+  pub moments : LeavesParty second second_after j party
+  pub stays : PairStands i j party ⊎ (is_blank i ≡ true) → IsUntouched second second_after
+
+-- the call changes the party that is opened, and each image of the first disk that a crash may leave stands for the one after it
+pub record KeepsNext (w : Work) (first_after : View) (i j : List ℕ) (party : Party) : Type 0 where
+  pub next : Party
+  pub changes : Changes w i j party next
+  pub kept : IsKeptOn first_after next
+
 -- what holds of every outcome
 pub record IsSafePair (w : Work) (first second first_after second_after : View) : Type 0 where
   -- what a crash at any moment leaves of two disks of which a party is opened
   pub on_first : (i j : List ℕ) (party : Party) → AreRead first second i j → Recovers i j party → LeavesOnly first first_after (MayLeave w i j party i first.may_leave)
   pub on_second : (i j : List ℕ) (party : Party) → AreRead first second i j → Recovers i j party → LeavesOnly second second_after (MayLeave w i j party j second.may_leave)
+  -- the second isn't ahead of the first: the party after it is written there only where the first has kept it
+  pub order : (i j : List ℕ) (party : Party) → AreRead first second i j → Recovers i j party → IsAsOpened second second_after i j party ⊎ KeepsNext w first_after i j party
   -- where no party can be opened of them, nothing is written
   pub nobody : (i j : List ℕ) → AreRead first second i j → ((party : Party) → Recovers i j party → ⊥) → IsUntouched first first_after × IsUntouched second second_after
   -- nor where both stand for a party that the call doesn't change

@@ -1,5 +1,10 @@
 //! A party on a shelf that is kept on two disks: it is created on both, shown, or has a turn, and one disk of the two makes up
 //! for the loss of the other. Both disks are fetched, and put back whatever comes. What the two stand for is compared.
+//!
+//! The answers are the `Outcome` of x_party, of which two say less here. `Refused` and `OtherParty` leave the party as it was,
+//! but the opening before them may have made the disk that lacked it; where both disks stood for the party, nothing is written.
+//! `OtherParty` also comes where the two disks stand for parties of different identities, with the first disk's and the second's:
+//! then neither is opened, and nothing is written.
 #![tactic(auto)]
 
 mod acting;

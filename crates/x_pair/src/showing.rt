@@ -13,7 +13,8 @@ use x_disk::Shelf;
 use x_party::Outcome;
 
 /// The lines in which the party is shown, once it is opened on its two disks, which repairs the one that lacks it. Both disks are
-/// put back, whatever comes.
+/// put back, whatever comes. `OtherParty` has the identities for which the two disks stand, which differ; it writes nothing, and
+/// neither does `Refused`.
 pub fn show_pair<H: Shelf>(alloc: Global, shelf: &mut H, name: &Ident, mirror: &Ident) -> Outcome
     requires { name.now ≢ mirror.now }
     ensures shown { MakesPair showing (H.entry shelf.old name.now) (H.entry shelf.old mirror.now) (H.entry shelf.new name.now) (H.entry shelf.new mirror.now) result }

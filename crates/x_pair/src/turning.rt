@@ -14,8 +14,13 @@ use x_disk::Shelf;
 use x_party::{Outcome, law_one_space};
 
 /// Opens the party on its two disks, which repairs the one that lacks it, and gives it its turn with an operator's command or a
-/// message that arrived, at a moment: it decides, the change is kept on both disks, and then the reply is handed out. A party
-/// whose own identity isn't the name isn't asked. Both disks are put back, whatever comes.
+/// message that arrived, at a moment: it decides, the change is kept on the first disk and then on the second, and then the reply
+/// is handed out. A party whose own identity isn't the name isn't asked. Both disks are put back, whatever comes.
+///
+/// `Refused` and `OtherParty` leave the party as it was. Where one was opened both disks stand for it: the opening may have made
+/// the one that lacked it. `OtherParty` has the name and that party's own identity then. Where the two disks stand for parties
+/// of different identities it has these, and nothing is written; nor is it where `Refused` comes because no party stands on
+/// either disk, or it isn't on both and is too large for one frame.
 pub fn turn_pair<H: Shelf>(
     alloc: Global,
     shelf: &mut H,
