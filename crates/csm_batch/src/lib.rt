@@ -12,4 +12,4 @@ pub use batch::Batch;
 pub use entry::Entry;
 pub use fault::BatchFault;
 pub use laws::{law_bad_in_front, law_has_reading, law_one_reading, law_reads_back};
-pub use writing::write_line;
+pub use writing::{push_number, write_line};

@@ -8,8 +8,8 @@ use itoa::Buffer;
 use std::alloc::Global;
 use x_base::{NoMemory, Text};
 
-/// Appends the decimal digits of a number.
-fn push_number(text: &mut Text, n: u64) -> Result<(), NoMemory>
+/// Appends the decimal digits of a number, without leading zeros.
+pub fn push_number(text: &mut Text, n: u64) -> Result<(), NoMemory>
     ensures { OnOk result (text.new ≡ text.old ++ decimal n) }
 {
     let mut digits = Buffer::new();

@@ -1,22 +1,13 @@
 // The outbox of a batch.
 ghost use Rattle.std.specs.Prelude.{◌≡◌, ◌-◌, ◌++◌, ◌∷◌, [], length, IfOk, OnOk};
-ghost use Rattle.std.specs.Fmt.{decimal};
 ghost use Rattle.spool_store.specs.Spools.{outbox_from, outbox_of, reply_line, verdict_line};
 
 use crate::entry_plan::EntryPlan;
 use crate::spool::Spool;
-use itoa::Buffer;
+use csm_batch::push_number;
 use std::alloc::Global;
 use x_base::{NoMemory, Text};
 use x_disk::Disk;
-
-/// Appends the decimal digits of a number.
-fn push_number(out: &mut Text, n: u64) -> Result<(), NoMemory>
-    ensures { OnOk result (out.new ≡ out.old ++ decimal n) }
-{
-    let mut digits = Buffer::new();
-    out.push(digits.format(n).as_bytes())
-}
 
 /// Appends the line that an entry is done, or refused with a number.
 fn push_verdict(out: &mut Text, e: u64, number: u16) -> Result<(), NoMemory>
