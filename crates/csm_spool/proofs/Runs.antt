@@ -1,5 +1,5 @@
 -- The rest of a batch, from a party that is behind the plans that stand.
-use Rattle.std.proofs.Common.{◌≡◌, inl, inr, ℕ, ◌<◌, ◌≤◌, List, length, refl, sym, ap, subst, ◌∙◌, arith}
+use Rattle.std.proofs.Common.{◌≡◌, inl, inr, ℕ, ◌<◌, ◌≤◌, List, [], ◌∷◌, ◌++◌, length, refl, sym, ap, subst, ◌∙◌, arith, append-nil, append_assoc}
 use Rattle.x_base.specs.Edge.{Rose}
 use Rattle.x_disk.specs.Disk.{View, Tells}
 use Rattle.x_disk.specs.declared.disk.DiskErr.{DiskErr}
@@ -41,12 +41,13 @@ module _ {D E : Type 0} (told : D → View) (told_spool : E → View) (first : S
   pub record IsRunning (node : Stored D) (spool : Spooled E) : Type 0 where
     pub text : spool.progress.text ≡ old.progress.text
     pub entries : spool.progress.entries ≡ old.progress.entries
+    pub front : (more : List EntryPlan) × (spool.progress.plans ≡ old.progress.plans ++ more)
     pub course : (x : Member) → EntriesLead x old.progress.entries old.progress.plans (member_of first) → EntriesLead x old.progress.entries spool.progress.plans (member_of node)
     pub keeps : KeepsBoth (told first.disk) (told_spool old.disk) (told node.disk) (told_spool spool.disk)
     pub over : length old.progress.entries ≤ length old.progress.plans → (node ≡ first) × (spool ≡ old)
 
   pub begun : IsRunning first old
-  begun = record { text = refl; entries = refl; course = λ x c. c; keeps = record { party_faults = omega arith; spool_faults = omega arith; party_tells = refl; spool_tells = refl }; over = λ all. (refl, refl) }
+  begun = record { text = refl; entries = refl; front = ([], sym (append-nil old.progress.plans)); course = λ x c. c; keeps = record { party_faults = omega arith; spool_faults = omega arith; party_tells = refl; spool_tells = refl }; over = λ all. (refl, refl) }
 
   module _ (node : Stored D) (spool : Spooled E) (run : IsRunning node spool) where
     -- the progress, of the batch as it was
@@ -75,6 +76,11 @@ module _ {D E : Type 0} (told : D → View) (told_spool : E → View) (first : S
     on after new h keeps = record {
       text = ap (λ (p : Progress). p.text) h.goes ∙ run.text;
       entries = ap (λ (p : Progress). p.entries) h.goes ∙ run.entries;
+      front = (
+        run.front.0 ++ h.plan ∷ [],
+        ap (λ (p : Progress). p.plans) h.goes
+            ∙ (ap (λ (l : List EntryPlan). l ++ h.plan ∷ []) run.front.1 ∙ append_assoc old.progress.plans run.front.0 (h.plan ∷ [])),
+      );
       course = λ x c.
           let n = next_now (member_of node) (member_of after) h.plan h.next in
           subst (λ (ps : List EntryPlan). EntriesLead x old.progress.entries ps (member_of after)) (sym (ap (λ (p : Progress). p.plans) h.goes))
@@ -94,7 +100,7 @@ module _ {D E : Type 0} (told : D → View) (told_spool : E → View) (first : S
     pub ends : IsStore (told node.disk) node.gate node.end node.format node.party → IsSpool (told_spool spool.disk) spool.gate spool.end spool.progress → length spool.progress.entries ≤ length spool.progress.plans
         → IsRun told told_spool first old (drive.Done node spool)
     ends store kept over = record {
-      answer = record { text = run.text; entries = run.entries; plans = omega (arith, kept.progress.few, over) };
+      answer = record { text = run.text; entries = run.entries; plans = omega (arith, kept.progress.few, over); front = run.front };
       ends = λ x c. run.course x c;
       in_step = λ x c party_tells spool_tells. resting node spool refl refl store kept (run.keeps.party_tells ∙ party_tells) (run.keeps.spool_tells ∙ spool_tells) x c;
       keeps = run.keeps;

@@ -11,10 +11,11 @@ use Rattle.node_core.specs.Turns.{IsImageOf}
 use Rattle.csm_batch.specs.declared.entry.Entry.{Entry}
 use Rattle.spool_store.specs.declared.entry_plan.EntryPlan.{EntryPlan}
 use Rattle.spool_store.specs.Contents.{Progress, HoldsPlans}
+use Rattle.csm_spool.specs.Planning.{entry_plan, plan_of_unheard}
 use Rattle.csm_spool.specs.Courses.{IsHeard, plan_for, EntryLeads, EntriesLead}
 use Rattle.csm_spool.specs.InStep.{InStep}
 use Rattle.csm_spool.specs.Stepping.{IsNext}
-use Rattle.csm_spool.specs.Laws.{OneCourse, LawBegins, LawCommit, LawTake}
+use Rattle.csm_spool.specs.Laws.{OneCourse, OnePlans, LawBegins, LawCommit, LawTake}
 
 -- ---- one course
 
@@ -66,6 +67,28 @@ courses once x (e ∷ entries) (p ∷ plans) y z a b =
 
 pub one_course : HeardOnce → OneCourse
 one_course once = courses once
+
+one_plan : HeardOnce → (x : Member) (e : Entry) (p q : EntryPlan) (y z : Member) → EntryLeads x e p y → EntryLeads x e q z → p ≡ q
+one_plan once x e p q y z (inl a) (inl b) =
+    let both : Err a.unheard ≡ Err b.unheard = same_heard once e.bytes (Err a.unheard) (Err b.unheard) a.heard b.heard in
+    let same : a.unheard ≡ b.unheard = cc both in
+    a.plan ∙ (ap plan_of_unheard same ∙ sym b.plan)
+one_plan once x e p q y z (inr a) (inr b) =
+    let same : a.arrival ≡ b.arrival = same_arrival once e.bytes a.arrival b.arrival a.heard b.heard in
+    a.plan ∙ (ap (λ (m : Arrival). entry_plan (plan_for x m e)) same ∙ sym b.plan)
+one_plan once x e p q y z (inl a) (inr b) = absurd (never_both once e.bytes b.arrival a.unheard b.heard a.heard)
+one_plan once x e p q y z (inr a) (inl b) = absurd (never_both once e.bytes a.arrival b.unheard a.heard b.heard)
+
+pub one_plans : HeardOnce → OnePlans
+one_plans once x entries [] [] y z same a b = refl
+one_plans once x entries [] (q ∷ others) y z same a b = absurd (omega (arith, same))
+one_plans once x entries (p ∷ plans) [] y z same a b = absurd (omega (arith, same))
+one_plans once x [] (p ∷ plans) (q ∷ others) y z same a b = absurd a
+one_plans once x (e ∷ entries) (p ∷ plans) (q ∷ others) y z same a b =
+    let first : p ≡ q = one_plan once x e p q a.0 b.0 a.1 b.1 in
+    let mid : b.0 ≡ a.0 = one_lead once x e q p b.0 a.0 b.1 a.1 in
+    let rest : plans ≡ others = one_plans once a.0 entries plans others y z (omega (arith, same)) a.2 (subst (λ (m : Member). EntriesLead m entries others z) mid b.2) in
+    ap (λ (r : EntryPlan). r ∷ plans) first ∙ ap (λ (l : List EntryPlan). q ∷ l) rest
 
 -- ---- one entry more, and one less
 

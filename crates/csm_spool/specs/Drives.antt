@@ -1,5 +1,5 @@
 -- How a batch is driven: where it is in step it stays so, whatever comes (this project's profile).
-use Rattle.std.specs.Prelude.{◌≡◌, ◌≢◌, ◌⊎◌, ℕ, ◌+◌, ◌≤◌, List, length, slice_get, Some, is_some, Err}
+use Rattle.std.specs.Prelude.{◌≡◌, ◌≢◌, ◌⊎◌, ℕ, ◌+◌, ◌≤◌, List, ◌++◌, length, slice_get, Some, is_some, Err}
 use Rattle.x_disk.specs.Disk.{View, Tells}
 use Rattle.key_journal.specs.States.{FaultsRose}
 use Rattle.key_store.specs.Store.{Stored}
@@ -77,6 +77,8 @@ pub record IsWhole (old new : Progress) : Type 0 where
   pub text : new.text ≡ old.text
   pub entries : new.entries ≡ old.entries
   pub plans : length new.plans ≡ length new.entries
+  -- the plans that stood before stay, in front
+  pub front : (more : List EntryPlan) × (new.plans ≡ old.plans ++ more)
 
 -- what may be answered; want of memory to any
 abbrev pub IsAnswer : {D E : Type 0} → (D → View) → (E → View) → Stored D → Spooled E → Driven D E → Type 0

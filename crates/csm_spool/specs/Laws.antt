@@ -1,5 +1,5 @@
 -- What holds of each batch, and of the images of a party and a spool (this project's profile).
-use Rattle.std.specs.Prelude.{◌≡◌, ◌⊎◌, ℕ, true, List}
+use Rattle.std.specs.Prelude.{◌≡◌, ◌⊎◌, ℕ, true, List, length}
 use Rattle.key_journal.specs.Journal.{is_blank}
 use Rattle.member.specs.Member.{Member}
 use Rattle.node_core.specs.Turns.{IsImageOf}
@@ -16,6 +16,10 @@ use Rattle.csm_spool.specs.Catching.{CatchesUp}
 -- a party comes by the same plans to the same end
 abbrev pub OneCourse : Type 0
 OneCourse = (x : Member) (entries : List Entry) (plans : List EntryPlan) (y z : Member) → EntriesLead x entries plans y → EntriesLead x entries plans z → y ≡ z
+
+-- from one member on, the entries have at most one list of plans of each length, and so one outbox
+abbrev pub OnePlans : Type 0
+OnePlans = (x : Member) (entries : List Entry) (plans others : List EntryPlan) (y z : Member) → length plans ≡ length others → EntriesLead x entries plans y → EntriesLead x entries others z → plans ≡ others
 
 -- a spool is made where the party stands at the start
 abbrev pub LawBegins : Type 0

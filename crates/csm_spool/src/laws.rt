@@ -1,13 +1,14 @@
 // What is known of a batch and of the images of a party and a spool, by calls that do nothing.
-ghost use Rattle.csm_spool.specs.Laws.{OneCourse, LawBegins, LawCommit, LawTake, LawSettledOnlyBehind, LawCaughtUp, LawNeverOut};
+ghost use Rattle.csm_spool.specs.Laws.{OneCourse, OnePlans, LawBegins, LawCommit, LawTake, LawSettledOnlyBehind, LawCaughtUp, LawNeverOut};
 
 use change_code::law_one_change;
 use csm_feed::law_one_hearing;
 use member::{law_ranged, law_settling};
 
-/// A party that stands here comes by the same plans to the same end.
+/// A party that stands here comes by the same plans to the same end, and of each length there is at most one list of plans.
 pub fn law_one_course()
-    ensures { OneCourse }
+    ensures end { OneCourse }
+    ensures plans { OnePlans }
 {
     law_one_hearing();
 }

@@ -116,6 +116,7 @@ module _ (name text : List ℕ) (entries : List Entry) (first second out_first o
     plans = is.plans;
     whole = is.whole;
     spool = record { durable = durable_alike mid_second new_second second_back is.spool.durable; holds = λ image now. is.spool.holds image (sym second_back.now ∙ now) };
+    front = λ book p told_book has. is.front book p (second_out.now ∙ told_book) has;
     outbox = is.outbox;
     member = is.member;
     party = record { durable = durable_alike mid_first new_first first_back is.party.durable; stands = λ image now. is.party.stands image (sym first_back.now ∙ now) };

@@ -1,5 +1,5 @@
 -- The spool is begun beside an opened party, and the batch is driven.
-use Rattle.std.proofs.Common.{◌≡◌, ◌⊎◌, inl, inr, ℕ, ◌≤◌, Bool, true, false, List, [], length, Some, Ok, Err, refl, sym, ◌∙◌, ap, subst, arith}
+use Rattle.std.proofs.Common.{◌≡◌, ◌⊎◌, inl, inr, ℕ, ◌≤◌, Bool, true, false, List, [], ◌++◌, length, Some, Ok, Err, refl, sym, ◌∙◌, ap, subst, arith}
 use Rattle.x_base.specs.Edge.{Rose}
 use Rattle.x_disk.specs.Disk.{View, Tells, IsSound, IsUntouched}
 use Rattle.x_disk.specs.declared.disk.DiskErr.{DiskErr}
@@ -257,11 +257,22 @@ module _ {D : Type 0} (told : D → View) (sound : (d : D) → IsSound (told d))
           subst (λ (t : List ℕ). HoldsPlans image (progress_of t entries plans)) text_is
           (subst (λ (es : List Entry). HoldsPlans image (progress_of new.progress.text es plans)) entries_are (kept.standing.stands image now))
 
+      -- the plans that the image held stand in front
+      front_done : (book : List ℕ) (p : Progress) → (told old).now ≡ Some book → HoldsPlans book p → (more : List EntryPlan) × (plans ≡ p.plans ++ more)
+      front_done book p told_book has_p = go (holds book told_book)
+        where
+          go : ((is_blank book ≡ true) × (s.progress.plans ≡ [])) ⊎ HoldsPlans book s.progress → (more : List EntryPlan) × (plans ≡ p.plans ++ more)
+          go (inl blank) = absurd (differ (is_blank book) blank.0 (spool_full book (Some p) has_p))
+          go (inr has) =
+              let front = run.answer.0.front in
+              (front.0, front.1 ∙ ap (λ (q : Progress). q.plans ++ front.0) (same_progress one_progress book s.progress p has has_p))
+
       left_done : Left after.disk new.disk (outcome.Done (outbox_of plans))
       left_done = record {
         plans = plans;
         whole = run.answer.0.plans ∙ ap length entries_are;
         spool = record { durable = kept.standing.durable; holds = holds_all };
+        front = front_done;
         outbox = refl;
         member = member_of after;
         party = record { durable = stands.durable; stands = λ image now. now_image told after stands image now };

@@ -48,6 +48,7 @@ module _ {D : Type 0} (told : D → View) (name text : List ℕ) (entries : List
     plans = is.plans;
     whole = is.whole;
     spool = is.spool;
+    front = is.front;
     outbox = is.outbox;
     member = is.member;
     party = is.party;

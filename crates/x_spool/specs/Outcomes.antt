@@ -1,6 +1,6 @@
 -- What became of a batch of a party on a shelf (this project's profile). `party_disk` and `spool_disk` are what the shelf tells of
 -- the two disks before the call, and `party_after` and `spool_after` what it tells of them afterwards.
-use Rattle.std.specs.Prelude.{◌≡◌, ℕ, List, length, Some, is_some}
+use Rattle.std.specs.Prelude.{◌≡◌, ℕ, List, ◌++◌, length, Some, is_some}
 use Rattle.x_disk.specs.Disk.{View, Tells, IsDurable, IsUntouched}
 use Rattle.member.specs.Member.{Member}
 use Rattle.node_core.specs.Turns.{IsImageOf}
@@ -35,6 +35,8 @@ pub record IsSpooled (text : List ℕ) (entries : List Entry) (party_disk spool_
   -- each entry has its plan, and each image that a crash may leave of the spool holds them
   pub whole : length plans ≡ length entries
   pub spool : KeepsPlans spool_after (progress_of text entries plans)
+  -- the plans that it held before the call stay, in front
+  pub front : (book : List ℕ) (p : Progress) → spool_disk.now ≡ Some book → HoldsPlans book p → (more : List EntryPlan) × (plans ≡ p.plans ++ more)
   -- what is handed out is their outbox
   pub outbox : out ≡ outbox_of plans
   -- the member for which each image that a crash may leave of the party's disk stands

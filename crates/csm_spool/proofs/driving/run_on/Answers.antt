@@ -1,7 +1,10 @@
 use Rattle.std.proofs.Common.{◌≤◌, ◌∙◌, sym, subst, length}
 use Rattle.std.proofs.lemmas.Bool.{ltb-false}
-use Rattle.csm_spool.proofs.Runs.{on, ends, node_broken, spool_broken, halted}
+use Rattle.csm_spool.proofs.Runs.{begun, on, ends, node_broken, spool_broken, halted}
 use Rattle.csm_spool.proofs.driving.run_on.Goals as goal
+
+pub running-init : goal.running-init
+running-init g c = begun g.D.Disk.told g.E.Disk.told c.args.node c.args.spool
 
 pub running-preserved : goal.running-preserved
 running-preserved g c =
