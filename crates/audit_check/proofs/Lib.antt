@@ -2,6 +2,7 @@ mod Results
 mod Planning
 mod Unique
 mod Answering
+mod Courses
 mod Running
 mod HeldMembers
 mod Happened

@@ -1,7 +1,8 @@
 -- What an audit answers (this project's profile).
-use Rattle.std.specs.Prelude.{◌≡◌, ◌≢◌, ◌⊎◌, ◌+◌, ◌==◌, ◌++◌, ℕ, Bool, List, [], ◌∷◌, count_by, if◌then◌else◌}
+use Rattle.std.specs.Prelude.{◌≡◌, ◌≢◌, ◌⊎◌, ◌+◌, ◌==◌, ◌++◌, ℕ, Bool, List, [], ◌∷◌, length, count_by, if◌then◌else◌}
 use Rattle.scenario.specs.declared.line.Line.{Line}
 use Rattle.course.specs.Course.{Course, events_of}
+use Rattle.course.specs.Ends.{is_event}
 use Rattle.course.specs.Lawful.{IsLawful}
 use Rattle.course.specs.Starts.{start_course, start_world}
 use Rattle.course.specs.Tallies.{IsTallied}
@@ -46,6 +47,12 @@ pub record IsAudited (lines : List Line) (letters transcript : List ℕ) (tally 
   pub run : IsRun lines letters end
   pub same : transcript ≡ transcript_of end
   pub tallied : IsTallied end.now end.world.members tally
+  -- each line that is an event is one, and stands in the list of what happened; each has one outcome; and the texts are those
+  -- that were written
+  pub events_are : tally.events ≡ count_by is_event lines
+  pub listed : length end.happened ≡ tally.events
+  pub outcomes_are : tally.done + tally.refused + tally.stopped + tally.none ≡ tally.events
+  pub texts_are : tally.texts ≡ length end.world.texts
   pub lawful : IsLawful (start_world lines) (events_of end.happened) end.world
 
 -- it has a run with these outcomes, and another transcript

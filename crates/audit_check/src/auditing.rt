@@ -16,7 +16,7 @@ use crate::lines::audit_lines;
 use crate::result::AuditResult;
 use crate::setting_up::set_up;
 use crate::state::AuditState;
-use course::{Tally, law_scenario_starts, start};
+use course::{Tally, law_counted, law_scenario_starts, start};
 use fact_book::{FactBook, Texts};
 use scenario::{AuditFault, Scenario};
 use std::alloc::Global;
@@ -82,6 +82,7 @@ fn tally_or_fault<'a>(
     ensures { IsAnswer scenario.now letters.now transcript.now (answer_of result) }
 {
     law_runs_lawful();
+    law_counted();
     law_scenario_starts(scenario);
     let mut state = match start_state(alloc, scenario, letters, transcript) {
         Ok(state) => state,

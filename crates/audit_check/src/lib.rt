@@ -18,6 +18,6 @@ mod state;
 
 pub use auditing::audit;
 pub use input::{AuditInput, read_audit};
-pub use laws::{law_one_answer, law_runs_lawful};
+pub use laws::{law_one_answer, law_one_run, law_runs_lawful};
 pub use result::{AuditResult, AuditTally};
 pub use scenario::AuditFault;

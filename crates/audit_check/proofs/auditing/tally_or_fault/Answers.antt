@@ -12,7 +12,8 @@ returns c =
     let letters = c.args.letters.now in
     let transcript = c.args.transcript.now in
     let led = c.in-Ok-audit_lines.ensures.leads transcript (start_audit lines letters) c.in-Ok.ensures.at in
-    concluded lines letters transcript c.law_runs_lawful.ensures c.law_scenario_starts.ensures led.0 (answer_of c.end_of.result)
+    concluded lines letters transcript c.law_runs_lawful.ensures c.law_scenario_starts.ensures
+    c.law_counted.ensures.texts c.law_counted.ensures.events c.law_counted.ensures.listed c.law_counted.ensures.outcomes led.0 (answer_of c.end_of.result)
     (subst (λ (ls : List Line). AuditLeads ls (start_audit lines letters) led.0) c.lines.ensures.lines led.1) (c.end_of.ensures led.0 led.2)
 
 pub returns-in-Err-audit_lines : goal.returns-in-Err-audit_lines
