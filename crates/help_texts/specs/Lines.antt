@@ -1,11 +1,11 @@
 -- The lines in which help shows a command and its options (this project's profile).
-use Rattle.std.specs.Prelude.{◌++◌, ◌&&◌, not, ℕ, List, codes}
+use Rattle.std.specs.Prelude.{◌++◌, ◌&&◌, not, ℕ, List, [], codes, if◌then◌else◌}
 use Rattle.std.specs.List.{flat_map}
 use Rattle.std.specs.Fmt.{decimal}
 use Rattle.x_line.specs.declared.opt.Opt.{Opt}
 use Rattle.x_line.specs.declared.order_kind.OrderKind.{OrderKind}
 use Rattle.x_line.specs.Needs.{is_refused, is_required, need_of}
-use Rattle.x_line.specs.Options.{options}
+use Rattle.x_line.specs.Options.{name_of, options}
 use Rattle.x_line.specs.OrderKinds.{name_of_kind, order_kinds}
 use Rattle.help_texts.specs.declared.asking.Topic.{Topic}
 use Rattle.help_texts.specs.declared.asking.Topic.TheVariants as topic
