@@ -18,10 +18,12 @@ use Rattle.x_spool.specs.declared.outcome.SpoolOutcome.TheVariants as outcome
 use Rattle.x_spool.specs.declared.outcome.OutboxOutcome.{OutboxOutcome}
 use Rattle.x_spool.specs.declared.outcome.OutboxOutcome.TheVariants as outbox
 use Rattle.x_line.specs.declared.order.Order.{Order}
-use Rattle.call_ends.specs.Transfer.{IsAtEnd, IsFront, IsQuiet, Took}
+use Rattle.call_ends.specs.Transfer.{GivesOutput, IsAtEnd, IsFront, IsQuiet, Took}
 use Rattle.call_ends.specs.Causes.{HasCause, IsSilent}
+use Rattle.call_ends.specs.declared.status.Refusal.TheVariants.{Unplanned}
 use Rattle.call_ends.specs.declared.status.Status.{Status}
 use Rattle.call_ends.specs.declared.status.Status.TheVariants as status
+use Rattle.call_ends.specs.Puts.{Puts}
 use Rattle.party_calls.specs.Ends.{IsOfParty}
 use Rattle.party_calls.specs.Obeys.{LeavesOthers, LeavesRest, OthersOf, is_reading, ledger_of, party_of}
 use Rattle.party_calls.specs.Dues.{IsOrNoMemory}
@@ -225,8 +227,31 @@ missing_ended : (missing : ℕ) → status.DiskFault ≡ status_of_missing missi
 missing_ended zero is = cc is
 missing_ended (suc missing) is = cc is
 
+-- so many entries have no plan
+pub some_missing : (missing : ℕ) → (missing ≡ 0 → ⊥) → status.Refused (Unplanned missing) ≡ status_of_missing missing
+some_missing zero some = absurd (some refl)
+some_missing (suc missing) some = refl
+
+missing_silent : (missing : ℕ) → IsSilent (status_of_missing missing) → ⊥
+missing_silent zero silent = silent
+missing_silent (suc missing) silent = silent
+
+missing_write : (missing : ℕ) → status.WriteFault ≡ status_of_missing missing → ⊥
+missing_write zero is = cc is
+missing_write (suc missing) is = cc is
+
 -- an outbox is put
 module _ (text : List ℕ) (missing : ℕ) (answer s : Status) (before after : Option (List ℕ)) (told : answer ≡ status_of_missing missing) where
+  outbox_silent : Puts (Some text) [] answer s before after → IsSilent s → ⊥
+  outbox_silent (inl puts) silent = missing_silent missing (subst IsSilent (puts.0 ∙ told) silent)
+  outbox_silent (inr part) silent = subst IsSilent part.0 silent
+
+  outbox_write : (put puts : ℕ) → (s ≡ answer) ⊎ Rose put puts → s ≡ status.WriteFault → Rose put puts
+  outbox_write put puts (inl same) fault = absurd (missing_write missing (sym fault ∙ (same ∙ told)))
+  outbox_write put puts (inr rose) fault = rose
+
+  pub outbox_put : (unwritten : Type 0) (put puts : ℕ) → Puts (Some text) [] answer s before after → (s ≡ answer) ⊎ Rose put puts → GivesOutput s (IsSilent s) unwritten put puts
+  outbox_put unwritten put puts done fault = record { silent = λ silent. absurd (outbox_silent done silent); fault = outbox_write put puts fault }
 
 outbox_ended : (o : OutboxOutcome) (s : Status) (before after : Option (List ℕ)) → EndsOutbox o s before after → (s ≡ status_of_outbox o) ⊎ (s ≡ status.WriteFault)
 outbox_ended (outbox.Done text missing) s before after (inl puts) = inl puts.0

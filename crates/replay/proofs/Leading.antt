@@ -10,7 +10,7 @@ use Rattle.world_laws.specs.Steps.{step}
 use Rattle.course.specs.LineEvents.{IsNoEvent}
 use Rattle.course.specs.Outcomes.{after_outcome, counted, IsWithin}
 use Rattle.course.specs.Transcript.{outcome_line, text_line, written_between}
-use Rattle.course.specs.Course.{Course, after_event, IsForged, IsNext, LinesLead}
+use Rattle.course.specs.Course.{Course, after_event, IsEvent, IsForged, IsNext, LinesLead}
 use Rattle.replay.specs.Course.{IsAt}
 use Rattle.course.specs.Meanings.{IsLineAct}
 use Rattle.replay.specs.Acting.{Acts, Forges}
@@ -60,6 +60,13 @@ pub event_within : (o : EventOutcome) (wrote : Bool) (p q : Progress) → q ≡ 
 event_within o wrote p q is n w = subst (λ (r : Progress). IsWithin r (n + 1)) (sym is) (text_within o wrote p n w)
 
 -- a line that is an event
+next_event : (tell : Bool) (before after : ℕ) (l : Line) (c e : Course) → IsEvent tell before after l c e → IsNext tell before after l c e
+next_event tell before after (line.Party name role pair v) c e is = absurd is.makes_event
+next_event tell before after (line.Link origin recipient label pair) c e is = absurd is.makes_event
+next_event tell before after (line.Time moment) c e is = absurd is.makes_event
+next_event tell before after (line.Stop n choice) c e is = absurd is.makes_event
+next_event tell before after l c e is = is
+
 quiet_next : (tell : Bool) (before after : ℕ) (l : Line) → IsNoEvent l → (c : Course) (p q : Progress) → c.now ≡ p → IsQuietNext l p q → IsNext tell before after l c (record c { now = q })
 quiet_next tell before after (line.Party name role pair v) none c p q is quiet = λ i. record c { now = (quiet ∙ sym is) i }
 quiet_next tell before after (line.Link origin recipient label pair) none c p q is quiet = λ i. record c { now = (quiet ∙ sym is) i }
@@ -100,6 +107,7 @@ module _ {D : Type 0} (told : D → View) (low high : ℕ) (old new : PlayState 
       let lines : outcome_line p.number o ++ text_line (k + 1) text ≡ outcome_line c.now.number o ++ text_line (length c.world.texts + 1) (written_between c.world.texts (step c.now.number c.world m.event).texts) =
       ap₂ (λ (l r : List ℕ). l ++ r) (ap (λ (x : Progress). outcome_line x.number o) (sym at.now_is)) (ap₂ (λ (n : ℕ) (t : Option (List ℕ)). text_line (n + 1) t) count wrote) in (
         after_event c m.event o,
+        next_event tell before after l c (after_event c m.event o) (record { line_event = h.0; makes_event = h.1; formed = h.2; event = m.event; outcome = o; done = m.done; leads = refl }),
         record {
           shows = m.shows;
           now_is = ap₂ (λ (x : Progress) (t : Option (List ℕ)). after_outcome x o (is_some t)) at.now_is (sym wrote) ∙ sym q_is;

@@ -21,6 +21,10 @@ rose_from : (first mid last : ℕ) → first ≤ mid → Rose mid last → Rose 
 rose_from first mid last le (inl less) = inl (omega (arith, le, less))
 rose_from first mid last le (inr most) = inr most
 
+rose_on : (first mid last : ℕ) → Rose first mid → mid ≤ last → Rose first last
+rose_on first mid last (inl less) le = inl (omega (arith, le, less))
+rose_on first mid last (inr most) le = grind arith
+
 -- a failure tells nothing
 failed_makes : (w : Payment) (name : List ℕ) (party_disk ledger_disk new : View) (o : PayOutcome) (rose : Type 0) → (o ≡ outcome.NoMemory) ⊎ ((o ≡ outcome.Fault) × rose) → MakesPayment w name party_disk ledger_disk new o
 failed_makes w name party_disk ledger_disk new o rose (inl is) = subst (MakesPayment w name party_disk ledger_disk new) (sym is) tt

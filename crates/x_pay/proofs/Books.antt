@@ -1,8 +1,8 @@
 -- A ledger is opened beside its party: what a crash leaves of it meanwhile, and what is told where none is opened.
-use Rattle.std.proofs.Common.{◌≡◌, ◌⊎◌, inl, inr, ℕ, Bool, true, false, List, [], Option, Some, None, is_some, Err, refl, sym, ◌∙◌, ap, subst}
+use Rattle.std.proofs.Common.{◌≡◌, ◌⊎◌, inl, inr, ℕ, Bool, true, false, List, [], Option, Some, None, is_some, Err, refl, sym, ◌∙◌, ap, subst, arith}
 use Rattle.x_base.specs.Edge.{Rose}
 use Rattle.x_disk.specs.Disk.{View, IsSound, Tells, LeavesOnly, IsUntouched}
-use Rattle.x_disk.proofs.Runs.{weaker}
+use Rattle.x_disk.proofs.Runs.{began, weaker}
 use Rattle.key_journal.specs.Journal.{is_blank}
 use Rattle.key_journal.specs.declared.cause.Cause.{Cause}
 use Rattle.key_journal.specs.declared.cause.Cause.TheVariants as cause
@@ -16,7 +16,7 @@ use Rattle.pay_auth.specs.Bodies.{PutsBody}
 use Rattle.pay_auth.specs.Ledgers.{HasEntries, ReadsEntries, IsLedgerDamage}
 use Rattle.pay_auth.specs.Opening.{IsLedgerRefusal, IsLedgerOpened}
 use Rattle.x_pay.specs.Outcomes.{Payment, nothing, IsOwnParty, MakesPayment, MayLeave, Before, Old}
-use Rattle.x_pay.specs.Steps.{IsPartyOpened, WhyNoParty, HasActed, outcome_of}
+use Rattle.x_pay.specs.Steps.{IsPartyOpened, IsNoParty, WhyNoParty, HasActed, outcome_of}
 use Rattle.x_pay.specs.declared.outcome.PayOutcome.{PayOutcome}
 use Rattle.x_pay.specs.declared.outcome.PayOutcome.TheVariants as outcome
 use Rattle.x_pay.proofs.Alike.{untouched_self}
@@ -88,6 +88,22 @@ module _ {D : Type 0} (told : D → View) (name : List ℕ) (old : Disks D) (new
   shows (outcome.Damaged place) none is = absurd (cc is)
   shows outcome.Fault none is = none
   shows outcome.NoMemory none is = absurd (cc is)
+
+  pub nobody_acted : (o : PayOutcome) → IsNoParty told name old.first new o → HasActed nothing name told old (record { first = new; second = old.second }) o
+  nobody_acted o none = record {
+    makes = makes o none.why;
+    safe = record {
+      party = none.untouched;
+      ledger = λ p entries image book now stands own told_book reads.
+          began (told old.second) (MayLeave nothing p entries (told old.second).may_leave) sound (λ c left. Before left);
+      nobody = λ image now nobody. untouched_self (told old.second) sound;
+      damaged = λ book now damaged. untouched_self (told old.second) sound;
+      tells = refl;
+    };
+    first_faults = none.faults;
+    second_faults = omega arith;
+    fault = λ is. inl (shows o none.why is);
+  }
 
 -- the party is opened, and its ledger isn't
 module _ {D : Type 0} (told : D → View) (name : List ℕ) (old : Disks D) (node : Stored D) (u : Unmade D) (own : IsPartyOpened told name old.first node) (refused : IsLedgerOpened told old.second (Err u))

@@ -11,6 +11,13 @@ use Rattle.key_store.specs.Loaded.{IsLoaded}
 use Rattle.x_pay.specs.Steps.{IsPartyOpened, IsNoParty, WhyNoParty, outcome_of}
 use Rattle.x_pay.specs.declared.outcome.PayOutcome.TheVariants as outcome
 
+-- what a comparison says
+pub same_name : (own name : List ℕ) (differ : Bool) → differ ≡ not (bytes_eq own name) → differ ≡ false → own ≡ name
+same_name own name differ is none = go (bytes_eq own name) refl where
+  go : (b : Bool) → bytes_eq own name ≡ b → own ≡ name
+  go true same = (bytes_eq-Decides own name).0 same
+  go false other = let no : false ≡ true = sym none ∙ (is ∙ ap not other) in absurd cc
+
 pub other_name : (own name : List ℕ) (differ : Bool) → differ ≡ not (bytes_eq own name) → differ ≡ true → own ≢ name
 other_name own name differ is some = go (bytes_eq own name) refl where
   go : (b : Bool) → bytes_eq own name ≡ b → own ≢ name
