@@ -47,8 +47,8 @@ pub record IsAudited (lines : List Line) (letters transcript : List ℕ) (tally 
   pub run : IsRun lines letters end
   pub same : transcript ≡ transcript_of end
   pub tallied : IsTallied end.now end.world.members tally
-  -- each line that is an event is one, and stands in the list of what happened; each has one outcome; and the texts are those
-  -- that were written
+  -- as many events are counted as lines are events, and as happened; the outcomes add up to them; and as many texts are counted
+  -- as were written
   pub events_are : tally.events ≡ count_by is_event lines
   pub listed : length end.happened ≡ tally.events
   pub outcomes_are : tally.done + tally.refused + tally.stopped + tally.none ≡ tally.events

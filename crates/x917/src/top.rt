@@ -95,7 +95,7 @@ pub fn run<S: Source, K: Sink, H: Shelf>(
 
     // The notice that is handed out for standard error: of a message that is taken with `--tell` over one disk, where it is done,
     // its class, and the name and the status of each data key whose record the party put. Every other order has none, and
-    // words that stand for no order don't.
+    // neither have words that stand for no order.
     ensures notice { (order : Order) → IsOrder words.now order → LeavesNotice (is_telling words.now) order moment result (S.left source.old) (H.entry shelf.old) notice.new }
     ensures no_notice { (order : Order) (mirror : List ℕ) → IsMirrored words.now order mirror → notice.new ≡ None }
     ensures no_order { (kind : UsageKind) → usage_of words.now ≡ Some kind → notice.new ≡ None }
