@@ -3,8 +3,6 @@ use Rattle.std.proofs.Common.{◌≡◌, inl, inr, ◌-◌, ℕ, slice_get, List
 use Rattle.csm_grammar.specs.declared.arrival.Arrival.{Arrival}
 use Rattle.csm_feed.specs.declared.unheard.Unheard.{Unheard}
 use Rattle.csm_feed.specs.Heard.{Heard, after_leading, readings}
-use Rattle.party_state.specs.declared.command.Command.{Command}
-use Rattle.party_state.specs.declared.command.Input.TheVariants as input
 use Rattle.scenario.specs.declared.line.Line.{Line}
 use Rattle.scenario.specs.declared.line.Line.TheVariants as line
 use Rattle.world_laws.specs.Events.{Hears}
@@ -44,14 +42,6 @@ module _ (bytes : List ℕ) where
 
   pub returns_unheard : (u : Unheard) → HeardOf bytes (Err u) → MeantBy (Returns (Some bytes)) act.Nothing
   returns_unheard u hears = (Nothing, (None, (u, hears.heard_is), refl), tt, refl)
-
-abbrev who : Option (List ℕ × Command) → List ℕ
-who None = []
-who (Some order) = order.0
-
-abbrev what : Command → Option (List ℕ × Command) → Command
-what c None = c
-what c (Some order) = order.1
 
 abbrev named : Option (List ℕ) → List ℕ
 named None = []

@@ -17,7 +17,7 @@ pub enum ReadRefusal {
     BadTag(u64),
     /// The tag is none of the standard's or of this profile's.
     UnknownTag(u64),
-    /// The tag stands before it more often than a form of the class has it.
+    /// The tag came before; KD in a key service message, twice.
     Repeated(Tag, u64),
     /// A form that the fields before it fit requires this tag, which isn't there.
     Missing(Tag, u64),

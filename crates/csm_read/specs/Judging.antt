@@ -1,9 +1,7 @@
 -- How far a text was judged, from left to right, without a fault.
-use Rattle.std.specs.Prelude.{◌≡◌, ◌⊎◌, ℕ, ◌==◌, ◌||◌, not, true, Bool, List, [], ◌∷◌, ◌++◌, take, drop, Option, None, is_none, option_map}
+use Rattle.std.specs.Prelude.{◌≡◌, ◌⊎◌, ℕ, ◌==◌, ◌||◌, not, true, Bool, List, [], ◌∷◌, ◌++◌, take, drop, Option, None, is_none}
 use Rattle.std.specs.List.{find, list_all}
-use Rattle.csm_grammar.specs.declared.tag.Tag.{Tag}
 use Rattle.csm_grammar.specs.declared.form.Form.{Form}
-use Rattle.csm_grammar.specs.Tags.{same_tag}
 use Rattle.csm_grammar.specs.Spelling.{Field, is_separator, tags_in, message_limit}
 use Rattle.csm_read.specs.Units.{Standing, Stretch, stretches, end_place, units, stretches_of, units_of}
 use Rattle.csm_read.specs.Faults.{absent, forms_left, front_fault, first_fault, fields_from}
@@ -40,10 +38,6 @@ abbrev pub last_place : List Standing → ℕ
 last_place [] = 0
 last_place (u ∷ []) = u.place
 last_place (u ∷ v ∷ us) = last_place (v ∷ us)
-
--- the contents behind a tag
-abbrev pub contents_at : Tag → List Field → Option (List ℕ)
-contents_at t fs = option_map (λ f. f.contents) (find (λ f. same_tag f.tag t) fs)
 
 -- the first form left of which no required tag is absent
 abbrev pub form_left : List Field → Option Form

@@ -61,7 +61,7 @@ pub record IsReadOn {D : Type 0} (told : D → View) (old new : Reading D) (resu
   pub onward : IfOk result (λ o. IfSome o (λ body. (new.gate ≡ old.gate + 5 + length body) × (new.gate < new.end)))
   -- where there is none, the gate stays
   pub rests : IfOk result (λ o. o ≡ None → new.gate ≡ old.gate)
-  -- after a body the list goes on
+  -- behind a body the end of the list isn't found yet
   pub unfinished : IfOk result (λ o. IfSome o (λ _. new.ended ≡ false))
   -- an image that stands gives no other cause
   pub undamaged : (bodies : List (List ℕ)) → HasBodies (told old.disk) bodies → IfErr result IsFree

@@ -1,7 +1,6 @@
 ghost use Rattle.std.specs.Prelude.{◌≡◌, IfOk, OnOk, OnErr};
 ghost use Rattle.party_state.specs.Ranges.{IsFitting, IsNoBegin, IsParty};
 ghost use Rattle.party_state.specs.State.{begun, apply_edit};
-ghost use Rattle.party_state.specs.State as party;
 ghost use Rattle.party_state.specs.declared.edit.Edit.TheVariants.{PutLink, PutKey, PutExchange, DropExchange, SetGen};
 ghost use Rattle.party_tables.specs.Ranges.{IsLink, IsRecord, IsExchange};
 

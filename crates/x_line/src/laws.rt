@@ -24,7 +24,7 @@ pub fn law_ledger_apart()
     ensures accepts { AcceptsApart }
 {}
 
-/// Words that take a batch give its spool another name than the party.
+/// Words that stand for a batch that is taken give its spool another name than the party.
 pub fn law_spool_apart()
     ensures { SpoolsApart }
 {}

@@ -19,8 +19,8 @@ use x_party::{Outcome, law_one_space};
 ///
 /// `Refused` and `OtherParty` leave the party as it was. Where one was opened both disks stand for it: the opening may have made
 /// the one that lacked it. `OtherParty` has the name and that party's own identity then. Where the two disks stand for parties
-/// of different identities it has these, and nothing is written; nor is it where `Refused` comes because no party stands on
-/// either disk, or it isn't on both and is too large for one frame.
+/// of different identities it has these, and nothing is written; nor is anything where `Refused` comes because no party
+/// stands on either disk, or because the party isn't on both and is too large for one frame.
 pub fn turn_pair<H: Shelf>(
     alloc: Global,
     shelf: &mut H,
