@@ -221,7 +221,7 @@ What to do: another ledger, under another key.
         49 => {
             "
 outbox: so many messages of the batch have no answer yet.
-What to do: the same spool with the same batch again.
+What to do: the same spool with the same batch again; where that answers 41, see there.
 "
         }
         50 => {
