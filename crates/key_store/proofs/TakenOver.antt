@@ -1,5 +1,7 @@
 -- A store takes over a state as one frame: what a crash leaves, and what stands behind it.
-use Rattle.std.proofs.Common.{◌≡◌, ◌⊎◌, inl, ℕ, ◌+◌, ◌≤◌, List, length, true, false, Some, is_some, Ok, Err, refl, sym, ◌∙◌, ap, arith}
+use Rattle.std.proofs.Common.{◌≡◌, ◌⊎◌, inl, ℕ, ◌+◌, ◌≤◌, List, length, true, false, Some, is_some, Result, Ok, Err, IfOk, refl, sym, ◌∙◌, ap, subst, arith}
+use Rattle.x_base.specs.declared.party.Role.{Role}
+use Rattle.x_gen.specs.declared.generator.Gen.{Gen}
 use Rattle.x_disk.specs.Disk.{View, Tells, LeavesOnly}
 use Rattle.key_journal.specs.Layout.{area_size, first_start, second_start}
 use Rattle.key_journal.specs.Causes.{cause_of}
@@ -7,15 +9,18 @@ use Rattle.key_journal.specs.Journal.{frame_of, is_blank}
 use Rattle.key_journal.specs.States.{Site, Failed, WritesOnlyToBlank, other_start}
 use Rattle.key_journal.specs.States as journal
 use Rattle.key_journal.specs.Writing.{IsSwitch, IsFirstFrame}
-use Rattle.party_state.specs.State.{Party}
+use Rattle.key_journal.specs.declared.cause.Unmade.{Unmade}
+use Rattle.party_state.specs.State.{Party, begun}
 use Rattle.change_code.specs.declared.format.Format.TheVariants.{Two}
+use Rattle.change_code.specs.declared.space.Space.{Space}
 use Rattle.change_code.specs.Cost.{cost}
 use Rattle.change_code.specs.Whole.{whole_edits, whole_of}
 use Rattle.key_store.specs.Store.{Stored, IsStore, IsBlankOrFirst}
+use Rattle.key_store.specs.Creating.{IsNewStore}
 use Rattle.key_store.specs.Replacing.{IsFramedState, IsReplacing, IsMadeAs}
 use Rattle.key_store.proofs.Keeping.{frame_long, never_err, rose_later}
 use Rattle.key_store.proofs.Making.{made, laid, free_cause, fault_of}
-use Rattle.key_store.proofs.Wholes.{switched_any, switched_stable, alone_space, five_pass}
+use Rattle.key_store.proofs.Wholes.{whole_room, switched_any, switched_stable, alone_space, five_pass}
 
 area_end : (last : ℕ) → last ≡ second_start → last ≡ first_start + area_size
 area_end last is = omega (arith, is)
@@ -72,7 +77,7 @@ module _ {D : Type 0} (told : D → View) (old blank : D) (made_party : Party) (
 
   made_moments : (new : D) → (Tells (told blank) → LeavesOnly (told blank) (told new) (journal.IsBlankOrFirst (whole_of Two made_party)))
       → Tells (told old) → LeavesOnly (told old) (told new) (λ c. IsBlankOrFirst made_party c ⊎ (told old).may_leave c)
-  made_moments new create = laid (told old) (told blank) (told new) made_party (whole_of Two made_party) framed.fold run tells create
+  made_moments new create = laid (told old) (told blank) (told new) made_party (whole_of Two made_party) framed.fold (whole_room Two made_party) run tells create
 
   pub made_store : (s : Site D) → IsFirstFrame told (record { disk = blank }) frame (Ok s) → IsStore (told s.disk) s.gate s.end Two made_party
   made_store s first = made (told blank) (told s.disk) s.gate s.end Two made_party (whole_of Two made_party) framed.fold first.tells (first.created (whole_of Two made_party) framed.body framed.is) first.durable first.room
@@ -106,3 +111,43 @@ module _ {D : Type 0} (told : D → View) (old blank : D) (made_party : Party) (
     faults = omega (arith, faults, first.faults);
     tells = first.tells ∙ tells;
   }
+
+-- a store is made of a party that begins
+new_of : {D : Type 0} (told : D → View) (own : List ℕ) (role : Role) (generator : Gen) (old : D) (result : Result (Stored D) (Unmade D)) → IsMadeAs told (begun own role generator) old result
+    → IfOk result (λ s. (s.gate ≡ first_start + cost Two (whole_edits (begun own role generator))) × (s.end ≡ second_start)) → IsNewStore told own role generator old result
+new_of told own role generator old (Ok s) made place = record {
+  party = made.party;
+  format = ap (λ (left : Space). left.format) made.left;
+  left = made.left;
+  stands = made.stands;
+  place = place;
+  blank = made.blank;
+  exact = tt;
+  names = tt;
+  nothing_written = made.nothing_written;
+  any_moment = made.any_moment;
+  fault = tt;
+  faults = made.faults;
+  tells = made.tells;
+}
+new_of told own role generator old (Err u) made place = record {
+  party = tt;
+  format = tt;
+  left = tt;
+  stands = tt;
+  place = tt;
+  blank = tt;
+  exact = made.exact;
+  names = made.names;
+  nothing_written = made.nothing_written;
+  any_moment = made.any_moment;
+  fault = made.fault;
+  faults = made.faults;
+  tells = made.tells;
+}
+
+pub new_store : {D : Type 0} (told : D → View) (own : List ℕ) (role : Role) (generator : Gen) (old : D) (result : Result (Stored D) (Unmade D)) (framed : Party) → framed ≡ begun own role generator → IsMadeAs told framed old result
+    → IfOk result (λ s. (s.gate ≡ first_start + cost Two (whole_edits framed)) × (s.end ≡ second_start)) → IsNewStore told own role generator old result
+new_store told own role generator old result framed same made place =
+    new_of told own role generator old result (subst (λ (p : Party). IsMadeAs told p old result) same made)
+    (subst (λ (p : Party). IfOk result (λ s. (s.gate ≡ first_start + cost Two (whole_edits p)) × (s.end ≡ second_start))) same place)

@@ -26,7 +26,7 @@ with_space image party space s = stands_for image space.format party (record { b
 
 one_made : (v : View) (made copy : Party) → made ≡ copy → (c : List ℕ) → IsBlankOrFirst made c ⊎ v.may_leave c → Stands c copy ⊎ IsBlankOrBefore v c
 one_made v made copy is c (inl (inl blank)) = inr (inl blank)
-one_made v made copy is c (inl (inr stands)) = inl (subst (λ (p : Party). Stands c p) is (stands_for c Two made stands))
+one_made v made copy is c (inl (inr stands)) = inl (subst (λ (p : Party). Stands c p) is (with_space c made (space_of_whole Two made) stands))
 one_made v made copy is c (inr left) = inr (inr left)
 
 pub made_moments : (v w : View) (made copy : Party) → made ≡ copy → (Tells v → LeavesOnly v w (λ c. IsBlankOrFirst made c ⊎ v.may_leave c)) → Tells v → LeavesOnly v w (λ c. Stands c copy ⊎ IsBlankOrBefore v c)
