@@ -16,7 +16,7 @@ use Rattle.member.specs.Member.{Member, Plan, plan_at, as_full, after}
 use Rattle.member.specs.Acts.{taking}
 use Rattle.node_core.specs.Turns.{member_of, IsImageOf, IsOldOrNext}
 use Rattle.disk_pair.specs.declared.disks.Disks.{Disks}
-use Rattle.mirror_store.specs.Pairs.{PairStands, IsBlankOrLike, Recovers, IsAsBefore, Twin, IsTwin}
+use Rattle.mirror_store.specs.Pairs.{PairStands, IsBlankOrLike, Recovers, IsMadeAnew, IsAsBefore, Twin, IsTwin}
 use Rattle.mirror_store.specs.Answers.{opened_disks}
 use Rattle.mirror_store.specs.Recovering.{IsLeft}
 use Rattle.mirror_store.specs.declared.pair.PairUnmade.{PairUnmade}
@@ -70,6 +70,12 @@ Fit (Some SecondDisk) first second z = IsImageOf z first × IsBlankOrLike z.part
 
 image_stands : (image : List ℕ) (party : Party) (left : Space) → StandsWith image party left → Stands image party
 image_stands image party left is = record { format = left.format; stands = record { bodies = is.bodies; holds = is.holds; fold = is.fold } }
+
+-- what is made anew, or is as it was, is left in whichever room
+left_like : (was image : List ℕ) (party : Party) → IsMadeAnew was party image ⊎ IsAsBefore was image → IsLeft was party image
+left_like was image party (inl made) = inl (image_stands image party (space_of_whole Two party) made.1)
+left_like was image party (inr (inl blank)) = inr (inl blank)
+left_like was image party (inr (inr is)) = inr (inr (is.0, image_stands was is.0 is.1 is.2, image_stands image is.0 is.1 is.3))
 
 fits_by : (b : Bool) (Large : Type 0) → (b ≡ false → Large) → (Large → ⊥) → b ≡ true
 fits_by true Large large small = refl
@@ -146,8 +152,8 @@ module _ (not_blank : (image : List ℕ) (p : Party) → Stands image p → is_b
     stands_first : Stands i left.member.party
     stands_first = image_stands i left.member.party left.member.space (left.space isnt)
 
-    left_second : (d : List ℕ) → (Stands d left.member.party ⊎ IsAsBefore j d) ⊎ (told disks.second).may_leave d → Recovers i d left.member.party
-    left_second d (inl may) = again i j i d left.member.party left.recovers (inl stands_first) may
+    left_second : (d : List ℕ) → (IsMadeAnew j left.member.party d ⊎ IsAsBefore j d) ⊎ (told disks.second).may_leave d → Recovers i d left.member.party
+    left_second d (inl may) = again i j i d left.member.party left.recovers (inl stands_first) (left_like j d left.member.party may)
     left_second d (inr may) = subst (λ (l : List ℕ). Recovers i l left.member.party) (sym (second_now.only j d read.second may)) left.recovers
 
     reads_second : (d : List ℕ) → (told (opened_disks result).second).left_since (told disks.second).moment d → Recovers i d left.member.party

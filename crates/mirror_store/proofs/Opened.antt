@@ -1,5 +1,5 @@
 -- A pair of disks is opened: what the answer is, and what a crash leaves.
-use Rattle.std.proofs.Common.{◌≡◌, ◌⊎◌, inl, inr, ℕ, ◌≤◌, List, true, false, Some, is_some, Result, Ok, Err, refl, sym, ◌∙◌, ap, subst, arith}
+use Rattle.std.proofs.Common.{◌≡◌, ◌≢◌, ◌⊎◌, inl, inr, ℕ, ◌≤◌, List, true, false, Some, is_some, Result, Ok, Err, refl, sym, ◌∙◌, ap, subst, arith}
 use Rattle.x_base.specs.Edge.{Rose}
 use Rattle.x_disk.specs.Disk.{View, Tells, LeavesOnly, IsSound, IsUntouched}
 use Rattle.x_disk.proofs.Runs.{weaker}
@@ -12,11 +12,11 @@ use Rattle.party_state.specs.State.{Party}
 use Rattle.change_code.specs.Cost.{space_of_whole}
 use Rattle.change_code.specs.Whole.{IsTooLarge}
 use Rattle.change_code.specs.declared.format.Format.TheVariants.{Two}
-use Rattle.key_store.specs.Store.{Stored, Stands, StandsWith, IsStore, IsRefusal, space}
+use Rattle.key_store.specs.Store.{Stored, Stands, StandsWith, StandsAlone, IsStore, IsRefusal, space}
 use Rattle.key_store.specs.Loaded.{IsLoaded}
 use Rattle.mirror_store.specs.Pairs.{PairStands, IsBlankOrLike, Recovers, Twin}
 use Rattle.mirror_store.specs.Recovering.{IsPairFailure}
-use Rattle.mirror_store.specs.Opening.{IsPairRefusal, IsPairOpened, LeavesParty, AreRead}
+use Rattle.mirror_store.specs.Opening.{IsPairRefusal, IsPairOpened, LeavesParty, AreRead, HasSecondSpace}
 use Rattle.mirror_store.specs.Beside.{IsBesideRefusal, IsBeside, IsBlankRefusal, IsOverBlank}
 use Rattle.mirror_store.specs.Framing.{IsCopying, IsBlankOrBefore, IsUnsettled, IsSettled}
 use Rattle.disk_pair.specs.declared.disks.Disks.{Disks}
@@ -44,6 +44,10 @@ never_second a b is = cc is
 
 never_both : true ≡ false → ⊥
 never_both is = cc is
+
+-- what a crash leaves where the second disk is made to stand for the first one's party
+abbrev IsSwitched : {D : Type 0} → Stored D → Stored D → List ℕ → Type 0
+IsSwitched one two c = ((two.party ≢ one.party) × StandsAlone c one.party) ⊎ StandsWith c two.party (space two)
 
 -- what a refusal of the second disk says beside the first
 free_second : (one : Party) (j : List ℕ) (reason : Cause) → IsFree reason → IsBesideRefusal one j (Second reason)
@@ -119,13 +123,26 @@ module _ (unique : (image : List ℕ) (p q : Party) → Stands image p → Stand
 
   module _ {D : Type 0} (told : D → View) where
     -- the second disk stands too
-    settled_moments : (one two : Stored D) (old new : D) → IsLoaded told old (Ok two)
-        → (Tells (told two.disk) → LeavesOnly (told two.disk) (told new) (λ c. Stands c one.party ⊎ Stands c two.party))
+    settled_left : (one two new : Stored D) (old : D) → IsLoaded told old (Ok two) → ((two.party ≡ one.party) × (new ≡ two)) ⊎ ((two.party ≢ one.party) × (space new ≡ space_of_whole Two one.party))
+        → (j : List ℕ) → (told old).now ≡ Some j → HasSecondSpace j one.party (space new)
+    settled_left one two new old load (inl same) j now = inl (
+        subst (λ (s : Stored D). StandsWith j one.party (space s)) (sym same.1)
+        (subst (λ (p : Party). StandsWith j p (space two)) same.0 (stands_with (told two.disk) two.gate two.end two.format two.party load.stands j (load.now ∙ now)))
+        )
+    settled_left one two new old load (inr other) j now = inr (
+      (λ stood. other.0 (unique j two.party one.party (stands_for j two.format two.party (load.stands.stands j (load.now ∙ now))) stood)),
+      other.1,
+    )
+
+    settled_moments : (one two : Stored D) (old new : D) → IsLoaded told old (Ok two) → (Tells (told two.disk) → LeavesOnly (told two.disk) (told new) (IsSwitched one two))
         → (j : List ℕ) → (told old).now ≡ Some j → LeavesParty (told old) (told new) j one.party
     settled_moments one two old new load run j now =
         let same : (told two.disk).now ≡ Some j = load.now ∙ now in
-        read_then (told old) (told two.disk) (told new) j one.party (λ c. Stands c one.party ⊎ Stands c two.party) load.any_moment (run (tells_by (told two.disk).now j same))
-        (λ c either. elim either [ inl is ↦ inl (inl is) | inr is ↦ inl (inr (inr (two.party, stands_for j two.format two.party (load.stands.stands j same), is))) ])
+        read_then (told old) (told two.disk) (told new) j one.party (IsSwitched one two) load.any_moment (run (tells_by (told two.disk).now j same))
+        (λ c either. elim either [
+          | inl is ↦ inl (inl ((λ stood. is.0 (unique j two.party one.party (stands_for j two.format two.party (load.stands.stands j same)) stood)), is.1))
+          | inr is ↦ inl (inr (inr (two.party, space two, stands_with (told two.disk) two.gate two.end two.format two.party load.stands j same, is)))
+        ])
 
     settled_quiet : (one two : Stored D) (old new : D) → IsLoaded told old (Ok two) → (two.party ≡ one.party → new ≡ two.disk)
         → (j : List ℕ) → (told old).now ≡ Some j → Stands j one.party → IsUntouched (told old) (told new)
@@ -151,6 +168,7 @@ module _ (unique : (image : List ℕ) (p q : Party) → Stands image p → Stand
       same = s.same;
       small = λ j now apart. s.small (λ is. apart (subst (Stands j) is (stands_for j two.format two.party (load.stands.stands j (load.now ∙ now)))));
       exact = λ j now. inr (two.party, stands_for j two.format two.party (load.stands.stands j (load.now ∙ now)), s.own);
+      second_left = settled_left one two m.second old load s.second_left;
       refused = tt;
       first = s.first;
       moments = settled_moments one two old m.second.disk load s.moments;
@@ -168,6 +186,7 @@ module _ (unique : (image : List ℕ) (p q : Party) → Stands image p → Stand
       same = tt;
       small = tt;
       exact = tt;
+      second_left = tt;
       refused = λ j now. unsettled one.party two.party j u.cause (stands_for j two.format two.party (load.stands.stands j (load.now ∙ now))) (s.refused j (load.now ∙ now));
       first = s.first;
       moments = settled_moments one two old u.disks.second load s.moments;
@@ -182,12 +201,12 @@ module _ (unique : (image : List ℕ) (p q : Party) → Stands image p → Stand
 
     -- the second disk is blank
     module _ (one : Stored D) (old disk : D) (load : IsLoaded told old (Err (record { disk = disk; cause = cause.Blank }))) where
-      blank_moments : (new : D) → (Tells (told disk) → LeavesOnly (told disk) (told new) (λ c. Stands c one.party ⊎ IsBlankOrBefore (told disk) c))
+      blank_moments : (new : D) → (Tells (told disk) → LeavesOnly (told disk) (told new) (λ c. StandsAlone c one.party ⊎ IsBlankOrBefore (told disk) c))
           → (j : List ℕ) → (told old).now ≡ Some j → LeavesParty (told old) (told new) j one.party
       blank_moments new run j now =
-          read_then (told old) (told disk) (told new) j one.party (λ c. Stands c one.party ⊎ IsBlankOrBefore (told disk) c) load.any_moment (run (tells_by (told disk).now j (load.now ∙ now)))
+          read_then (told old) (told disk) (told new) j one.party (λ c. StandsAlone c one.party ⊎ IsBlankOrBefore (told disk) c) load.any_moment (run (tells_by (told disk).now j (load.now ∙ now)))
           (λ c either. elim either [
-            | inl is ↦ inl (inl is)
+            | inl is ↦ inl (inl (blank_never j one.party (load.refused j now), is))
             | inr (inl blank) ↦ inl (inr (inl (load.refused j now, blank)))
             | inr (inr left) ↦ inr (load.images c left)
           ])
@@ -210,6 +229,7 @@ module _ (unique : (image : List ℕ) (p q : Party) → Stands image p → Stand
         same = refl;
         small = λ j now apart. copying.small;
         exact = λ j now. inl (load.refused j now);
+        second_left = λ j now. inr (blank_never j one.party (load.refused j now), copying.left);
         refused = tt;
         first = refl;
         moments = blank_moments s.disk copying.moments;
@@ -230,6 +250,7 @@ module _ (unique : (image : List ℕ) (p q : Party) → Stands image p → Stand
         same = tt;
         small = tt;
         exact = tt;
+        second_left = tt;
         refused = λ j now. (copying.refused, inl (load.refused j now), λ stands. blank_never j one.party (load.refused j now) stands);
         first = refl;
         moments = blank_moments new copying.moments;
@@ -250,6 +271,7 @@ module _ (unique : (image : List ℕ) (p q : Party) → Stands image p → Stand
         same = tt;
         small = tt;
         exact = tt;
+        second_left = tt;
         refused = λ j now. free_second one.party j u.cause (copying.refused.0 j (load.now ∙ now));
         first = refl;
         moments = blank_moments u.disk copying.moments;
@@ -271,6 +293,7 @@ module _ (unique : (image : List ℕ) (p q : Party) → Stands image p → Stand
       same = tt;
       small = tt;
       exact = tt;
+      second_left = tt;
       refused = λ j now. refused_second one.party j u.cause other (load.refused j now);
       first = refl;
       moments = λ j now. only_read (told old) (told u.disk) j one.party load.any_moment;
@@ -285,13 +308,13 @@ module _ (unique : (image : List ℕ) (p q : Party) → Stands image p → Stand
 
     -- the first disk is blank, and the second stands
     module _ (old : Disks D) (two : Stored D) (load : IsLoaded told old.second (Ok two)) (blank : (i : List ℕ) → (told old.first).now ≡ Some i → is_blank i ≡ true) where
-      over_moments : (new : D) → (Tells (told old.first) → LeavesOnly (told old.first) (told new) (λ c. Stands c two.party ⊎ IsBlankOrBefore (told old.first) c))
+      over_moments : (new : D) → (Tells (told old.first) → LeavesOnly (told old.first) (told new) (λ c. StandsAlone c two.party ⊎ IsBlankOrBefore (told old.first) c))
           → (i j : List ℕ) (party : Party) → (told old.first).now ≡ Some i → (told old.second).now ≡ Some j → Stands j party → LeavesParty (told old.first) (told new) i party
       over_moments new run i j party now_i now_j stands =
           let same : two.party ≡ party = unique j two.party party (stands_for j two.format two.party (load.stands.stands j (load.now ∙ now_j))) stands in
-          weaker (told old.first) (told new) (λ c. Stands c two.party ⊎ IsBlankOrBefore (told old.first) c) _ (run (tells_by (told old.first).now i now_i))
+          weaker (told old.first) (told new) (λ c. StandsAlone c two.party ⊎ IsBlankOrBefore (told old.first) c) _ (run (tells_by (told old.first).now i now_i))
           (λ c either. elim either [
-            | inl is ↦ inl (inl (subst (λ (p : Party). Stands c p) same is))
+            | inl is ↦ inl (inl (blank_never i party (blank i now_i), subst (λ (p : Party). StandsAlone c p) same is))
             | inr (inl is_blank) ↦ inl (inr (inl (blank i now_i, is_blank)))
             | inr (inr left) ↦ inr left
           ])
@@ -311,6 +334,7 @@ module _ (unique : (image : List ℕ) (p q : Party) → Stands image p → Stand
       over_copied s copying = record {
         stand = record { first_stands = copying.stands; second_stands = load.stands; same = sym copying.party };
         left = copying.left ∙ ap (space_of_whole Two) (sym copying.party);
+        second_left = λ j now. subst (λ (p : Party). StandsWith j p (space two)) (sym copying.party) (stands_with (told two.disk) two.gate two.end two.format two.party load.stands j (load.now ∙ now));
         small = λ large. copying.small (subst (IsTooLarge Two) copying.party large);
         exact = λ j now. subst (λ (p : Party). Stands j p) (sym copying.party) (stands_for j two.format two.party (load.stands.stands j (load.now ∙ now)));
         refused = tt;
@@ -328,6 +352,7 @@ module _ (unique : (image : List ℕ) (p q : Party) → Stands image p → Stand
         stand = tt;
         exact = tt;
         left = tt;
+        second_left = tt;
         small = tt;
         refused = λ i j now_i now_j. (two.party, stands_for j two.format two.party (load.stands.stands j (load.now ∙ now_j)), copying.refused);
         moments = over_moments new copying.moments;
@@ -344,6 +369,7 @@ module _ (unique : (image : List ℕ) (p q : Party) → Stands image p → Stand
         stand = tt;
         exact = tt;
         left = tt;
+        second_left = tt;
         small = tt;
         refused = λ i j now_i now_j. free_first j u.cause (copying.refused.0 i now_i);
         moments = over_moments u.disk copying.moments;
@@ -365,6 +391,7 @@ module _ (unique : (image : List ℕ) (p q : Party) → Stands image p → Stand
         stand = tt;
         exact = tt;
         left = tt;
+        second_left = tt;
         small = tt;
         refused = λ i j now_i now_j. load.refused j now_j;
         moments = still_moments;
@@ -381,6 +408,7 @@ module _ (unique : (image : List ℕ) (p q : Party) → Stands image p → Stand
         stand = tt;
         exact = tt;
         left = tt;
+        second_left = tt;
         small = tt;
         refused = λ i j now_i now_j. refused_blank j u.cause other (load.refused j now_j);
         moments = still_moments;
@@ -434,6 +462,7 @@ module _ (unique : (image : List ℕ) (p q : Party) → Stands image p → Stand
         stand = b.stand;
         exact = λ i j read. subst (λ (p : Party). Recovers i j p) (sym b.party) (inl (one_stands i read.first, b.exact j read.second));
         left = λ i j read. inl (subst (λ (s : Stored D). StandsWith i s.party (space s)) (sym b.same) (stands_with (told one.disk) one.gate one.end one.format one.party load.stands i (load.now ∙ read.first)));
+        second_left = λ i j read. subst (λ (p : Party). HasSecondSpace j p (space m.second)) (sym b.party) (b.second_left j read.second);
         small = λ i j read apart large. b.small j read.second
             (λ stands. apart (subst (PairStands i j) (sym b.party) (record { first_is = one_stands i read.first; second_is = stands })))
             (subst (IsTooLarge Two) b.party large);
@@ -458,6 +487,7 @@ module _ (unique : (image : List ℕ) (p q : Party) → Stands image p → Stand
         stand = tt;
         exact = tt;
         left = tt;
+        second_left = tt;
         small = tt;
         refused = λ i j read. pair_beside i j one.party u.cause (one_stands i read.first) (b.refused j read.second);
         due = λ i j party read recovers. failure i j party u.cause recovers (pair_beside i j one.party u.cause (one_stands i read.first) (b.refused j read.second));
@@ -520,6 +550,7 @@ module _ (unique : (image : List ℕ) (p q : Party) → Stands image p → Stand
         stand = b.stand;
         exact = λ i j read. inr (load.refused i read.first, b.exact j read.second);
         left = λ i j read. inr (load.refused i read.first, b.left);
+        second_left = λ i j read. inl (b.second_left j read.second);
         small = λ i j read apart large. b.small large;
         refused = tt;
         due = tt;
@@ -537,6 +568,7 @@ module _ (unique : (image : List ℕ) (p q : Party) → Stands image p → Stand
         stand = tt;
         exact = tt;
         left = tt;
+        second_left = tt;
         small = tt;
         refused = λ i j read. pair_blank i j u.cause (load.refused i read.first) (b.refused i j (load.now ∙ read.first) read.second);
         due = λ i j party read recovers. failure i j party u.cause recovers (pair_blank i j u.cause (load.refused i read.first) (b.refused i j (load.now ∙ read.first) read.second));
@@ -558,6 +590,7 @@ module _ (unique : (image : List ℕ) (p q : Party) → Stands image p → Stand
       stand = tt;
       exact = tt;
       left = tt;
+      second_left = tt;
       small = tt;
       refused = λ i j read. refused_first i j u.cause other (load.refused i read.first);
       due = λ i j party read recovers. failure i j party (First u.cause) recovers (refused_first i j u.cause other (load.refused i read.first));
@@ -581,8 +614,13 @@ unmade_is u f s new_first new_second reason disks is first second =
 
 -- two stores are made one party's
 module _ {D : Type 0} (told : D → View) (one two : Stored D) (one_store : IsStore (told one.disk) one.gate one.end one.format one.party) (two_store : IsStore (told two.disk) two.gate two.end two.format two.party) (sound : IsSound (told two.disk)) where
-  stays : Tells (told two.disk) → LeavesOnly (told two.disk) (told two.disk) (λ c. Stands c one.party ⊎ Stands c two.party)
-  stays tells = rests (told two.disk) (λ c. Stands c one.party ⊎ Stands c two.party) sound (λ c left. inr (store_left (told two.disk) two.gate two.end two.format two.party two_store tells c left))
+  stays : Tells (told two.disk) → LeavesOnly (told two.disk) (told two.disk) (IsSwitched one two)
+  stays tells = rests (told two.disk) (IsSwitched one two) sound (λ c left. inr (store_left (told two.disk) two.gate two.end two.format two.party two_store tells c left))
+
+  apart_moments : (two.party ≡ one.party → ⊥) → (new : D) → (Tells (told two.disk) → LeavesOnly (told two.disk) (told new) (λ c. StandsAlone c one.party ⊎ StandsWith c two.party (space two)))
+      → Tells (told two.disk) → LeavesOnly (told two.disk) (told new) (IsSwitched one two)
+  apart_moments apart new run tells = weaker (told two.disk) (told new) (λ c. StandsAlone c one.party ⊎ StandsWith c two.party (space two)) (IsSwitched one two) (run tells)
+      (λ c either. elim either [ inl is ↦ inl (apart, is) | inr is ↦ inr is ])
 
   pub settled_other : (a b : List ℕ) → a ≡ one.party.own → b ≡ two.party.own → (a ≡ b → ⊥) → IsSettled told one two (Err (record { disks = record { first = one.disk; second = two.disk }; cause = OtherParty a b }))
   settled_other a b a_is b_is apart = record {
@@ -590,6 +628,7 @@ module _ {D : Type 0} (told : D → View) (one two : Stored D) (one_store : IsSt
     party = tt;
     own = tt;
     same = tt;
+    second_left = tt;
     small = tt;
     refused = λ image now. (a_is, b_is, apart);
     first = refl;
@@ -609,6 +648,7 @@ module _ {D : Type 0} (told : D → View) (one two : Stored D) (one_store : IsSt
     party = refl;
     own = ap (λ (p : Party). p.own) same;
     same = refl;
+    second_left = inl (same, refl);
     small = λ apart. absurd (apart same);
     refused = tt;
     first = refl;
@@ -622,42 +662,65 @@ module _ {D : Type 0} (told : D → View) (one two : Stored D) (one_store : IsSt
     tells = refl;
   }
 
-  pub settled_switched : (s : Stored D) → two.party.own ≡ one.party.own → (two.party ≡ one.party → ⊥) → IsCopying told two.disk (λ c. Stands c two.party) one.party (Ok s)
+  pub settled_switched : (s : Stored D) → two.party.own ≡ one.party.own → (two.party ≡ one.party → ⊥) → IsCopying told two.disk (λ c. StandsWith c two.party (space two)) one.party (Ok s)
       → IsSettled told one two (Ok (record { first = one; second = s }))
   settled_switched s own apart copying = record {
     stand = record { first_stands = one_store; second_stands = copying.stands; same = copying.party };
     party = refl;
     own = own;
     same = refl;
+    second_left = inr (apart, copying.left);
     small = λ differ. copying.small;
     refused = tt;
     first = refl;
     quiet = λ same. absurd (apart same);
     apart = λ differ. absurd (differ own);
     too_large = copying.stays;
-    moments = copying.moments;
+    moments = apart_moments apart s.disk copying.moments;
     fault = tt;
     names = tt;
     faults = copying.faults;
     tells = copying.tells;
   }
 
-  pub settled_failed : (u : Unmade D) → two.party.own ≡ one.party.own → (two.party ≡ one.party → ⊥) → IsCopying told two.disk (λ c. Stands c two.party) one.party (Err (uncopied.Failed u))
+  pub settled_failed : (u : Unmade D) → two.party.own ≡ one.party.own → (two.party ≡ one.party → ⊥) → IsCopying told two.disk (λ c. StandsWith c two.party (space two)) one.party (Err (uncopied.Failed u))
       → IsSettled told one two (Err (record { disks = record { first = one.disk; second = u.disk }; cause = Second u.cause }))
   settled_failed u own apart copying = record {
     stand = tt;
     party = tt;
     own = tt;
     same = tt;
+    second_left = tt;
     small = tt;
     refused = λ image now. copying.refused.0 image now;
     first = refl;
     quiet = λ same. absurd (apart same);
     apart = λ differ. absurd (differ own);
     too_large = copying.stays;
-    moments = copying.moments;
+    moments = apart_moments apart u.disk copying.moments;
     fault = λ is. copying.refused.1 (second_same u.cause cause.Fault is);
     names = never_first u.cause cause.Fault;
+    faults = copying.faults;
+    tells = copying.tells;
+  }
+
+  pub settled_large : (new : D) → two.party.own ≡ one.party.own → (two.party ≡ one.party → ⊥) → IsCopying told two.disk (λ c. StandsWith c two.party (space two)) one.party (Err (uncopied.TooLarge new))
+      → IsSettled told one two (Err (record { disks = record { first = one.disk; second = new }; cause = TooLarge }))
+  settled_large new own apart copying = record {
+    stand = tt;
+    party = tt;
+    own = tt;
+    same = tt;
+    second_left = tt;
+    small = tt;
+    refused = λ image now. (own, apart, copying.refused);
+    first = refl;
+    quiet = λ same. absurd (apart same);
+    apart = λ differ. absurd (differ own);
+    too_large = copying.stays;
+    moments = apart_moments apart new copying.moments;
+    fault = λ is. absurd (cc is);
+    names = λ is. cc is;
     faults = copying.faults;
     tells = copying.tells;
   }

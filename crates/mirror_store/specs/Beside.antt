@@ -8,10 +8,10 @@ use Rattle.party_state.specs.State.{Party}
 use Rattle.change_code.specs.Cost.{space_of_whole}
 use Rattle.change_code.specs.declared.format.Format.TheVariants.{Two}
 use Rattle.change_code.specs.Whole.{IsTooLarge}
-use Rattle.key_store.specs.Store.{Stored, Stands, IsFirstDamage, space}
+use Rattle.key_store.specs.Store.{Stored, Stands, StandsWith, IsFirstDamage, space}
 use Rattle.mirror_store.specs.Pairs.{IsBlankOrLike, Twin, IsTwin}
 use Rattle.mirror_store.specs.Answers.{opened_disks}
-use Rattle.mirror_store.specs.Opening.{LeavesParty, HasPairFault, KeepsPair}
+use Rattle.mirror_store.specs.Opening.{LeavesParty, HasSecondSpace, HasPairFault, KeepsPair}
 use Rattle.disk_pair.specs.declared.disks.Disks.{Disks}
 use Rattle.mirror_store.specs.declared.pair.PairCause.{PairCause}
 use Rattle.mirror_store.specs.declared.pair.PairCause.TheVariants.{First, Second, OtherParty, TooLarge}
@@ -34,6 +34,7 @@ pub record IsBeside {D : Type 0} (told : D → View) (one : Stored D) (old : D) 
   pub party : IfOk result (λ m. m.first.party ≡ one.party)
   pub same : IfOk result (λ m. m.first ≡ one)
   pub exact : IfOk result (λ m. (j : List ℕ) → (told old).now ≡ Some j → IsBlankOrLike one.party j)
+  pub second_left : IfOk result (λ m. (j : List ℕ) → (told old).now ≡ Some j → HasSecondSpace j one.party (space m.second))
   -- what is written isn't too large for one frame
   pub small : IfOk result (λ m. (j : List ℕ) → (told old).now ≡ Some j → (Stands j one.party → ⊥) → IsTooLarge Two one.party → ⊥)
   pub refused : IfErr result (λ u. (j : List ℕ) → (told old).now ≡ Some j → IsBesideRefusal one.party j u.cause)
@@ -68,6 +69,7 @@ pub record IsOverBlank {D : Type 0} (told : D → View) (old : Disks D) (result 
   pub exact : IfOk result (λ m. (j : List ℕ) → (told old.second).now ≡ Some j → Stands j m.first.party)
   -- it is alone there as one frame, for which it isn't too large
   pub left : IfOk result (λ m. space m.first ≡ space_of_whole Two m.first.party)
+  pub second_left : IfOk result (λ m. (j : List ℕ) → (told old.second).now ≡ Some j → StandsWith j m.first.party (space m.second))
   pub small : IfOk result (λ m. IsTooLarge Two m.first.party → ⊥)
   pub refused : IfErr result (λ u. (i j : List ℕ) → (told old.first).now ≡ Some i → (told old.second).now ≡ Some j → IsBlankRefusal j u.cause)
   pub moments : (i j : List ℕ) (party : Party) → (told old.first).now ≡ Some i → (told old.second).now ≡ Some j → Stands j party

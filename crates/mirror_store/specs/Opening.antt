@@ -10,7 +10,7 @@ use Rattle.change_code.specs.declared.format.Format.TheVariants.{Two}
 use Rattle.change_code.specs.declared.space.Space.{Space}
 use Rattle.change_code.specs.Whole.{IsTooLarge}
 use Rattle.key_store.specs.Store.{Stands, StandsWith, IsFirstDamage, space}
-use Rattle.mirror_store.specs.Pairs.{PairStands, Recovers, IsAsBefore, Twin, IsTwin}
+use Rattle.mirror_store.specs.Pairs.{PairStands, Recovers, IsMadeAnew, IsAsBefore, Twin, IsTwin}
 use Rattle.mirror_store.specs.Recovering.{IsPairFailure}
 use Rattle.mirror_store.specs.Answers.{opened_disks}
 use Rattle.disk_pair.specs.declared.disks.Disks.{Disks}
@@ -66,9 +66,9 @@ pub record KeepsPair {D : Type 0} (told : D → View) (old new : Disks D) : Type
   pub first_tells : is_some (told new.first).now ≡ is_some (told old.first).now
   pub second_tells : is_some (told new.second).now ≡ is_some (told old.second).now
 
--- a crash at any moment leaves an image that stands for the party, or is as it was, or one that could be left before
+-- a crash at any moment leaves an image that is made anew for the party, or is as it was, or one that could be left before
 abbrev pub LeavesParty : View → View → List ℕ → Party → Type 0
-LeavesParty old new before party = LeavesOnly old new (λ c. (Stands c party ⊎ IsAsBefore before c) ⊎ old.may_leave c)
+LeavesParty old new before party = LeavesOnly old new (λ c. (IsMadeAnew before party c ⊎ IsAsBefore before c) ⊎ old.may_leave c)
 
 -- what two disks tell
 pub record AreRead (v w : View) (i j : List ℕ) : Type 0 where
@@ -79,6 +79,11 @@ pub record AreRead (v w : View) (i j : List ℕ) : Type 0 where
 abbrev pub HasFirstSpace : List ℕ → Party → Space → Type 0
 HasFirstSpace first party left = StandsWith first party left ⊎ ((is_blank first ≡ true) × (left ≡ space_of_whole Two party))
 
+-- the space that the second disk has for it: what its image leaves, or, where that didn't stand for it, what one frame of format 2
+-- leaves
+abbrev pub HasSecondSpace : List ℕ → Party → Space → Type 0
+HasSecondSpace second party left = StandsWith second party left ⊎ ((Stands second party → ⊥) × (left ≡ space_of_whole Two party))
+
 -- two disks are opened as one party, after the one that lacks it was made to stand for it
 pub record IsPairOpened {D : Type 0} (told : D → View) (old : Disks D) (result : Result (Twin D) (PairUnmade D)) : Type 0 where
   pub stand : IfOk result (IsTwin told)
@@ -86,6 +91,7 @@ pub record IsPairOpened {D : Type 0} (told : D → View) (old : Disks D) (result
   pub exact : IfOk result (λ m. (i j : List ℕ) → AreRead (told old.first) (told old.second) i j → Recovers i j m.first.party)
   -- with the space that the first image leaves, or the frame that was written over a blank one
   pub left : IfOk result (λ m. (i j : List ℕ) → AreRead (told old.first) (told old.second) i j → HasFirstSpace i m.first.party (space m.first))
+  pub second_left : IfOk result (λ m. (i j : List ℕ) → AreRead (told old.first) (told old.second) i j → HasSecondSpace j m.first.party (space m.second))
   -- where it had to be written, it isn't too large for one frame
   pub small : IfOk result (λ m. (i j : List ℕ) → AreRead (told old.first) (told old.second) i j → (PairStands i j m.first.party → ⊥) → IsTooLarge Two m.first.party → ⊥)
   pub refused : IfErr result (λ u. (i j : List ℕ) → AreRead (told old.first) (told old.second) i j → IsPairRefusal i j u.cause)

@@ -3,7 +3,8 @@ use Rattle.std.specs.Prelude.{◌≡◌, ◌⊎◌, ℕ, true, List, Some}
 use Rattle.x_disk.specs.Disk.{View, IsDurable}
 use Rattle.key_journal.specs.Journal.{is_blank}
 use Rattle.party_state.specs.State.{Party}
-use Rattle.key_store.specs.Store.{Stored, Stands, IsStore}
+use Rattle.change_code.specs.declared.space.Space.{Space}
+use Rattle.key_store.specs.Store.{Stored, Stands, StandsWith, StandsAlone, IsStore}
 
 -- each image of the disk that a crash may leave now stands for the party
 pub record IsKeptOn (v : View) (party : Party) : Type 0 where
@@ -24,9 +25,13 @@ IsBlankOrLike party image = (is_blank image ≡ true) ⊎ ((other : Party) × St
 abbrev pub Recovers : List ℕ → List ℕ → Party → Type 0
 Recovers first second party = (Stands first party × IsBlankOrLike party second) ⊎ ((is_blank first ≡ true) × Stands second party)
 
--- one image is blank as another was, or stands for the party for which that stood
+-- the image stands for the party, for which the one before didn't, alone in its area
+abbrev pub IsMadeAnew : List ℕ → Party → List ℕ → Type 0
+IsMadeAnew before party image = (Stands before party → ⊥) × StandsAlone image party
+
+-- one image is blank as another was, or stands for the party for which that stood, with the room that it had
 abbrev pub IsAsBefore : List ℕ → List ℕ → Type 0
-IsAsBefore before image = ((is_blank before ≡ true) × (is_blank image ≡ true)) ⊎ ((party : Party) × Stands before party × Stands image party)
+IsAsBefore before image = ((is_blank before ≡ true) × (is_blank image ≡ true)) ⊎ ((party : Party) × (space : Space) × StandsWith before party space × StandsWith image party space)
 
 -- the stores of a party that keeps two disks
 pub record Twin (D : Type 0) : Type 0 where

@@ -4,7 +4,7 @@ ghost use Rattle.key_journal.specs.Journal.{is_blank};
 ghost use Rattle.party_state.specs.Limits.{IsWithinLimits};
 ghost use Rattle.change_code.specs.declared.format.Format.TheVariants.{Two};
 ghost use Rattle.change_code.specs.Whole.{IsTooLarge};
-ghost use Rattle.key_store.specs.Store.{Stands};
+ghost use Rattle.key_store.specs.Store.{StandsWith, space};
 ghost use Rattle.mirror_store.specs.Framing.{IsCopying, IsBlankOrBefore};
 
 use crate::uncopied::Uncopied;
@@ -59,7 +59,7 @@ pub(crate) fn switch_to<D: Disk>(
     store: Store<D>,
 ) -> Result<Store<D>, Uncopied<D>>
     requires { IsWithinLimits state.now }
-    ensures { IsCopying D.told store.disk (λ c. Stands c store.party) state.now result }
+    ensures { IsCopying D.told store.disk (λ c. StandsWith c store.party (space store)) state.now result }
 {
     store.view();
     match framed(alloc, state) {

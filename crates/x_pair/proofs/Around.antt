@@ -5,9 +5,9 @@ use Rattle.x_disk.specs.Disk.{View, IsSound, IsUntouched}
 use Rattle.x_disk.specs.Shelf.{ShelfView, IsAlike}
 use Rattle.x_disk.proofs.Runs.{weaker}
 use Rattle.party_state.specs.State.{Party}
-use Rattle.key_store.specs.Store.{Stands, IsBlankOrFirst}
+use Rattle.key_store.specs.Store.{IsBlankOrFirst}
 use Rattle.disk_pair.specs.declared.disks.Disks.{Disks}
-use Rattle.mirror_store.specs.Pairs.{IsAsBefore}
+use Rattle.mirror_store.specs.Pairs.{IsMadeAnew, IsAsBefore}
 use Rattle.mirror_store.specs.Opening.{AreRead}
 use Rattle.x_party.specs.Images.{OrBefore}
 use Rattle.x_party.specs.Outcomes.{IsNoFailure}
@@ -52,7 +52,7 @@ failed_rose o rose (inr is) fault = is.1
 
 -- what an opening may leave of a disk
 abbrev IsLeftOrBefore : View → List ℕ → Party → List ℕ → Type 0
-IsLeftOrBefore v was party image = (Stands image party ⊎ IsAsBefore was image) ⊎ v.may_leave image
+IsLeftOrBefore v was party image = (IsMadeAnew was party image ⊎ IsAsBefore was image) ⊎ v.may_leave image
 
 -- neither disk was fetched
 module _ {D : Type 0} (told : D → View) (name other : List ℕ) (old new : ShelfView) (o : Outcome) (out : AreOut told name other old new (Err o))

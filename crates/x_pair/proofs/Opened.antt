@@ -10,7 +10,7 @@ use Rattle.change_code.specs.declared.format.Format.TheVariants.{Two}
 use Rattle.key_store.specs.Store.{Stands, space}
 use Rattle.disk_pair.specs.declared.disks.Disks.{Disks}
 use Rattle.node_core.specs.Turns.{member_of}
-use Rattle.mirror_store.specs.Pairs.{PairStands, Recovers, IsAsBefore, Twin, IsTwin}
+use Rattle.mirror_store.specs.Pairs.{PairStands, Recovers, IsMadeAnew, IsAsBefore, Twin, IsTwin}
 use Rattle.mirror_store.specs.Answers.{twin_disks, opened_disks}
 use Rattle.mirror_store.specs.Opening.{AreRead, HasFirstSpace, HasPairFault, IsPairRefusal, IsPairOpened}
 use Rattle.mirror_store.specs.declared.pair.PairCause.{PairCause}
@@ -60,13 +60,13 @@ refused_rose told old new (OtherParty a b) fault is = absurd (cc is)
 refused_rose told old new TooLarge fault is = absurd (cc is)
 
 -- what a crash in an opening leaves
-opened_leaves : (w : Work) (first second : List ℕ) (party : Party) (was : List ℕ) (before : List ℕ → Type 0) (c : List ℕ) → (Stands c party ⊎ IsAsBefore was c) ⊎ before c → MayLeave w first second party was before c
-opened_leaves w first second party was before c (inl (inl is)) = Opened is
+opened_leaves : (w : Work) (first second : List ℕ) (party : Party) (was : List ℕ) (before : List ℕ → Type 0) (c : List ℕ) → (IsMadeAnew was party c ⊎ IsAsBefore was c) ⊎ before c → MayLeave w first second party was before c
+opened_leaves w first second party was before c (inl (inl is)) = Opened (record { format = Two; stands = record { bodies = is.1.bodies; holds = is.1.holds; fold = is.1.fold } })
 opened_leaves w first second party was before c (inl (inr is)) = AsItWas is
 opened_leaves w first second party was before c (inr left) = Before left
 
-pub opening_leaves : (w : Work) (old mid : View) (first second was : List ℕ) (party : Party) → LeavesOnly old mid (λ c. (Stands c party ⊎ IsAsBefore was c) ⊎ old.may_leave c) → LeavesOnly old mid (MayLeave w first second party was old.may_leave)
-opening_leaves w old mid first second was party run = weaker old mid (λ c. (Stands c party ⊎ IsAsBefore was c) ⊎ old.may_leave c) (MayLeave w first second party was old.may_leave) run (opened_leaves w first second party was old.may_leave)
+pub opening_leaves : (w : Work) (old mid : View) (first second was : List ℕ) (party : Party) → LeavesOnly old mid (λ c. (IsMadeAnew was party c ⊎ IsAsBefore was c) ⊎ old.may_leave c) → LeavesOnly old mid (MayLeave w first second party was old.may_leave)
+opening_leaves w old mid first second was party run = weaker old mid (λ c. (IsMadeAnew was party c ⊎ IsAsBefore was c) ⊎ old.may_leave c) (MayLeave w first second party was old.may_leave) run (opened_leaves w first second party was old.may_leave)
 
 -- and of the second disk
 pub second_opened : {D : Type 0} (told : D → View) (old : Disks D) (result : Result (Twin D) (PairUnmade D)) → IsPairOpened told old result → (i j : List ℕ) (party : Party)
