@@ -8,9 +8,10 @@ use Rattle.key_journal.specs.Journal.{is_blank}
 use Rattle.key_journal.specs.declared.cause.Cause.TheVariants as cause
 use Rattle.party_state.specs.declared.command.Input.{Input}
 use Rattle.party_state.specs.declared.edit.Edit.{Edit}
-use Rattle.party_state.specs.State.{Party, apply}
+use Rattle.party_state.specs.State.{Party}
 use Rattle.party_state.specs.Verdicts.{is_accept}
-use Rattle.change_code.specs.Cost.{fits}
+use Rattle.change_code.specs.Cost.{fits, space_of_whole}
+use Rattle.change_code.specs.declared.format.Format.TheVariants.{Two}
 use Rattle.change_code.specs.declared.space.Space.{Space}
 use Rattle.key_store.specs.Store.{Stands, StandsWith}
 use Rattle.member.specs.Deciding.{decision}
@@ -25,13 +26,13 @@ use Rattle.mirror_store.specs.declared.pair.PairCause.{PairCause}
 use Rattle.mirror_store.specs.declared.pair.PairCause.TheVariants.{First, Second, OtherParty}
 use Rattle.x_party.specs.declared.outcome.Outcome.{Outcome}
 use Rattle.x_party.specs.declared.outcome.Outcome.TheVariants as outcome
-use Rattle.x_pair.specs.Outcomes.{BothStand, OfOpened, MakesOf, MakesPair, MayLeave, Opened, After, AsItWas, Before, IsSafePair, turning}
+use Rattle.x_pair.specs.Outcomes.{BothStand, OfOpened, MakesOf, MakesPair, MayLeave, Opened, After, AsItWas, Before, left_on_first, left_on_second, IsSafePair, turning}
 use Rattle.world_laws.specs.Events.{Completion, Whole, CutOld, Event}
 use Rattle.world_laws.specs.Nodes.{IsEventOf, input_event}
 use Rattle.mirror_laws.specs.Turns.{turn_event, IsHeldBack}
 use Rattle.mirror_laws.specs.Calls.{IsWholePairCall, AnswersPair, IsCutPairCall, IsPairCutOr, IsPairCallEvent}
 use Rattle.mirror_laws.proofs.Turned.{same_member, without_edits, planned, whole_at, whole_texts, cut_old}
-use Rattle.mirror_laws.proofs.Left.{CutTo, to_old, to_next}
+use Rattle.mirror_laws.proofs.Left.{CutTo, image_stands, to_old, to_next}
 
 never : {A : Type 0} → true ≡ false → A
 never is = absurd (cc is)
@@ -131,22 +132,23 @@ module _ (inputs : (x : Member) (i : Input) (moment : ℕ) → IsEventOf x (taki
     stands = λ n w at. record { member = z; at = to.at n w at; holds = subst (Stands image) is stands };
   }
 
-  leaves : (was : List ℕ) (before : List ℕ → Type 0) (image : List ℕ) → MayLeave (turning name i moment) was_first was_second party was before image → IsPairCutOr x e was before image
-  leaves was before image (Opened stands) = inl (cut_call x (to_old x bytes i moment event) party refl image stands)
-  leaves was before image (After next changes stands) =
+  leaves : (room : Member → Space) (was : List ℕ) (before : List ℕ → Type 0) (image : List ℕ) → MayLeave (turning name i moment) room was_first was_second party was before image → IsPairCutOr x e was before image
+  leaves room was before image (Opened made) = inl (cut_call x (to_old x bytes i moment event) party refl image (image_stands image party (space_of_whole Two party) made.1))
+  leaves room was before image (After next changes stands) =
       let may = changes.may in
       let same : may.space ≡ space = same_space party may.space space may.left left in
-      let is : next ≡ (after x (pair_plan_at x i moment).edits).party = may.is ∙ ap (λ (s : Space). apply (pair_plan_at (record { party = party; space = s }) i moment).edits party) same in
-      inl (cut_call (after x (pair_plan_at x i moment).edits) (to_next x bytes i moment event) next is image stands)
-  leaves was before image (AsItWas is) = inr (inl is)
-  leaves was before image (Before is) = inr (inr is)
+      let is : next ≡ after x (pair_plan_at x i moment).edits =
+      may.is ∙ ap (λ (s : Space). let z : Member = record { party = party; space = s } in after z (pair_plan_at z i moment).edits) same in
+      inl (cut_call (after x (pair_plan_at x i moment).edits) (to_next x bytes i moment event) next.party (ap (λ (z : Member). z.party) is) image (image_stands image next.party (room next) stands))
+  leaves room was before image (AsItWas is) = inr (inl is)
+  leaves room was before image (Before is) = inr (inr is)
 
   pub is_call : (first second : View) (o : Outcome) → AreRead first second was_first was_second → MakesPair (turning name i moment) first second first_after second_after o
       → IsSafePair (turning name i moment) first second first_after second_after → IsPairCallEvent x bytes i moment was_first was_second first second first_after second_after o
   is_call first second o read makes safe = record {
     whole = answers o (makes was_first was_second read);
-    cut_first = weaker first first_after (MayLeave (turning name i moment) was_first was_second party was_first first.may_leave) (IsPairCutOr x e was_first first.may_leave)
-        (safe.on_first was_first was_second party read recovers) (leaves was_first first.may_leave);
-    cut_second = weaker second second_after (MayLeave (turning name i moment) was_first was_second party was_second second.may_leave) (IsPairCutOr x e was_second second.may_leave)
-        (safe.on_second was_first was_second party read recovers) (leaves was_second second.may_leave);
+    cut_first = weaker first first_after (MayLeave (turning name i moment) left_on_first was_first was_second party was_first first.may_leave) (IsPairCutOr x e was_first first.may_leave)
+        (safe.on_first was_first was_second party read recovers) (leaves left_on_first was_first first.may_leave);
+    cut_second = weaker second second_after (MayLeave (turning name i moment) left_on_second was_first was_second party was_second second.may_leave) (IsPairCutOr x e was_second second.may_leave)
+        (safe.on_second was_first was_second party read recovers) (leaves left_on_second was_second second.may_leave);
   }

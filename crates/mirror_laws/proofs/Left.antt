@@ -68,7 +68,7 @@ Fit None first second z = IsImageOf z first × IsBlankOrLike z.party second
 Fit (Some FirstDisk) first second z = (is_blank first ≡ true) × Stands second z.party
 Fit (Some SecondDisk) first second z = IsImageOf z first × IsBlankOrLike z.party second
 
-image_stands : (image : List ℕ) (party : Party) (left : Space) → StandsWith image party left → Stands image party
+pub image_stands : (image : List ℕ) (party : Party) (left : Space) → StandsWith image party left → Stands image party
 image_stands image party left is = record { format = left.format; stands = record { bodies = is.bodies; holds = is.holds; fold = is.fold } }
 
 -- what is made anew, or is as it was, is left in whichever room

@@ -16,7 +16,7 @@ use Rattle.x_line.specs.declared.order.Order.{Order}
 use Rattle.x_line.specs.declared.order.Order.TheVariants as order
 use Rattle.x_line.specs.Orders.{IsOfTwo}
 use Rattle.x_pair.specs.Dues.{IsDueShow, IsDueTurn}
-use Rattle.x_pair.specs.Outcomes.{Before, LeavesPair, MayLeave, Work, showing, turning}
+use Rattle.x_pair.specs.Outcomes.{Before, LeavesPair, MayLeave, Work, left_on_first, left_on_second, showing, turning}
 use Rattle.x_party.specs.Images.{OrBefore}
 use Rattle.x_party.specs.Outcomes.{IsNoFailure}
 use Rattle.x_party.specs.declared.outcome.Outcome.{Outcome}
@@ -175,8 +175,8 @@ module _ (moment : ℕ) (left before : Option (List ℕ)) (e : List ℕ → View
     made = λ i j read. tt;
     due = λ i j other read is. inr (inr refl);
     safe = record {
-      on_first = λ i j p read recovers. began (e party) (MayLeave w i j p i (e party).may_leave) (sound party) (λ c left. Before left);
-      on_second = λ i j p read recovers. began (e mirror) (MayLeave w i j p j (e mirror).may_leave) (sound mirror) (λ c left. Before left);
+      on_first = λ i j p read recovers. began (e party) (MayLeave w left_on_first i j p i (e party).may_leave) (sound party) (λ c left. Before left);
+      on_second = λ i j p read recovers. began (e mirror) (MayLeave w left_on_second i j p j (e mirror).may_leave) (sound mirror) (λ c left. Before left);
       order = λ i j p read recovers. inl (record { moments = began (e mirror) _ (sound mirror) (λ c left. inr left); stays = λ either. still (e mirror) (sound mirror) });
       nobody = λ i j read none. (still (e party) (sound party), still (e mirror) (sound mirror));
       quiet = λ i j p read stand none. (still (e party) (sound party), still (e mirror) (sound mirror));

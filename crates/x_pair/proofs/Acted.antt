@@ -1,15 +1,14 @@
 -- A party that is opened of two disks acts.
-use Rattle.std.proofs.Common.{◌≡◌, ◌≢◌, ◌⊎◌, inl, inr, ℕ, ◌-◌, ◌≤◌, List, [], ◌∷◌, Some, Ok, refl, sym, ◌∙◌, ap, subst, arith}
+use Rattle.std.proofs.Common.{◌≡◌, ◌≢◌, ◌⊎◌, inl, inr, ℕ, ◌-◌, ◌≤◌, true, false, List, [], ◌∷◌, Some, Ok, refl, sym, ◌∙◌, ap, subst, arith}
 use Rattle.x_base.specs.Edge.{Rose}
-use Rattle.x_disk.specs.Disk.{View, IsUntouched}
+use Rattle.x_disk.specs.Disk.{View, LeavesOnly, IsUntouched}
 use Rattle.x_disk.proofs.Runs.{joined, weaker}
+use Rattle.key_journal.specs.Journal.{is_blank}
 use Rattle.key_journal.specs.declared.cause.Cause.TheVariants as cause
 use Rattle.party_state.specs.declared.command.Input.{Input}
 use Rattle.party_state.specs.declared.edit.Edit.{Edit}
-use Rattle.party_state.specs.State.{Party, apply}
+use Rattle.party_state.specs.State.{Party}
 use Rattle.party_show.specs.Show.{shown}
-use Rattle.change_code.specs.declared.space.Space.{Space}
-use Rattle.change_code.specs.Cost.{space_after}
 use Rattle.change_code.specs.Whole.{IsTooLarge}
 use Rattle.change_code.specs.declared.format.Format.TheVariants.{Two}
 use Rattle.key_store.specs.Store.{Stands, StandsWith, space}
@@ -17,20 +16,21 @@ use Rattle.key_store.specs.Replacing.{IsOldOrOther}
 use Rattle.member.specs.Member.{Member, Plan, after}
 use Rattle.node_core.specs.Turns.{member_of, IsOldOrNext}
 use Rattle.disk_pair.specs.declared.disks.Disks.{Disks}
-use Rattle.mirror_store.specs.Pairs.{IsKeptOn, PairStands, Recovers, Twin, IsTwin}
+use Rattle.mirror_store.specs.Pairs.{PairStands, Recovers, Twin, IsTwin}
 use Rattle.mirror_store.specs.Answers.{twin_disks, turn_disks}
-use Rattle.mirror_store.specs.Opening.{AreRead, HasFirstSpace, IsPairOpened}
+use Rattle.mirror_store.specs.Opening.{AreRead, HasFirstSpace, HasSecondSpace, IsPairOpened}
 use Rattle.mirror_store.specs.Turns.{HasFailed, IsKeptTwice, IsPairCut, IsPairTurn, pair_plan_at}
 use Rattle.mirror_store.specs.declared.pair.PairCause.{PairCause}
 use Rattle.mirror_store.specs.declared.pair.PairCause.TheVariants.{First, Second, OtherParty, TooLarge}
 use Rattle.mirror_store.specs.declared.pair.PairUnmade.{PairUnmade}
 use Rattle.mirror_store.specs.declared.mirror.PairTurn.{PairTurn}
 use Rattle.mirror_store.specs.declared.mirror.PairTurn.TheVariants as turn
+use Rattle.x_party.specs.Images.{DiskStandsFor}
 use Rattle.x_party.specs.declared.outcome.Outcome.{Outcome}
 use Rattle.x_party.specs.declared.outcome.Outcome.TheVariants as outcome
-use Rattle.x_pair.specs.Outcomes.{Work, Changes, MakesOf, IsAsOpened, KeepsNext, MayLeave, Opened, After, showing, turning}
+use Rattle.x_pair.specs.Outcomes.{Work, Changes, MakesOf, IsAsOpened, KeepsNext, MayLeave, Opened, After, AsItWas, left_on_first, left_on_second, showing, turning}
 use Rattle.x_pair.specs.Steps.{HasActed, outcome_of_pair, outcome_of_turn}
-use Rattle.x_pair.proofs.Alike.{tells_by}
+use Rattle.x_pair.proofs.Alike.{tells_by, store_stands}
 use Rattle.x_pair.proofs.Opened.{both_stand, opening_leaves, second_opened, rested}
 
 -- a party of another name isn't asked
@@ -111,8 +111,8 @@ kept_next : {D : Type 0} (edits : List Edit) (old new : Twin D) → IsKeptTwice 
 kept_next {D = D} [] old new kept = ap (λ (n : Twin D). member_of n.first) kept ∙ stays (member_of old.first)
 kept_next (e ∷ es) old new kept = kept.0
 
-image_stands : (image : List ℕ) (party : Party) (left : Space) → StandsWith image party left → Stands image party
-image_stands image party left is = record { format = left.format; stands = record { bodies = is.bodies; holds = is.holds; fold = is.fold } }
+never_both : true ≡ false → ⊥
+never_both is = cc is
 
 some_edit : (e : Edit) (es : List Edit) → e ∷ es ≡ [] → ⊥
 some_edit e es is = cc is
@@ -121,7 +121,7 @@ both_recover : (a b : List ℕ) (party : Party) → PairStands a b party → Rec
 both_recover a b party stand = inl (stand.first_is, inr (party, stand.second_is, refl))
 
 module _ {D : Type 0} (told : D → View) (old : Disks D) (name : List ℕ) (i : Input) (moment : ℕ)
-    (one_party : (a b : List ℕ) (p q : Party) → Recovers a b p → Recovers a b q → p ≡ q)
+    (one_party : (a b : List ℕ) (p q : Party) → Recovers a b p → Recovers a b q → p ≡ q) (not_blank : (image : List ℕ) (p : Party) → Stands image p → is_blank image ≡ false)
     (m : Twin D) (opened : IsPairOpened told old (Ok m)) (own : m.first.party.own ≡ name) where
   abbrev w : Work
   w = turning name i moment
@@ -132,34 +132,42 @@ module _ {D : Type 0} (told : D → View) (old : Disks D) (name : List ℕ) (i :
   abbrev plan : Plan
   plan = pair_plan_at x i moment
 
-  -- the party after edits is another only where there are some
+  -- the member after the edits
+  abbrev y : Member
+  y = after x plan.edits
+
+  -- it is another only where there are some
   changed : (first second : List ℕ) → HasFirstSpace first m.first.party (space m.first) → ((PairStands first second m.first.party → ⊥) → IsTooLarge Two m.first.party → ⊥)
-      → (edits : List Edit) → plan.edits ≡ edits → edits ≢ [] → Changes w first second m.first.party (apply plan.edits m.first.party)
+      → (edits : List Edit) → plan.edits ≡ edits → edits ≢ [] → Changes w first second m.first.party y
   changed first second left small edits is some = record { may = record { own = own; space = space m.first; left = left; changes = λ none. some (sym is ∙ none); is = refl }; small = small }
 
-  -- what a crash in a turn leaves of the party after it
-  next_left : (first second : List ℕ) → HasFirstSpace first m.first.party (space m.first) → ((PairStands first second m.first.party → ⊥) → IsTooLarge Two m.first.party → ⊥) → (was : List ℕ) (before : List ℕ → Type 0) (c : List ℕ) → Stands c (apply plan.edits m.first.party)
-      → (edits : List Edit) → plan.edits ≡ edits → MayLeave w first second m.first.party was before c
-  next_left first second left small was before c stands [] none = Opened (subst (λ (es : List Edit). Stands c (apply es m.first.party)) none stands)
-  next_left first second left small was before c stands (e ∷ es) is = After (apply plan.edits m.first.party) (changed first second left small (e ∷ es) is (some_edit e es)) stands
+  -- what a crash in a turn leaves of the party before it, on the first disk and on the second
+  stood_first : (first second : List ℕ) → HasFirstSpace first m.first.party (space m.first) → (before : List ℕ → Type 0) (c : List ℕ) → StandsWith c m.first.party (space m.first)
+      → MayLeave w left_on_first first second m.first.party first before c
+  stood_first first second (inl there) before c stands = AsItWas (inr (m.first.party, space m.first, there, stands))
+  stood_first first second (inr blank) before c stands =
+      Opened ((λ stood. never_both (sym blank.0 ∙ not_blank first m.first.party stood)), subst (StandsWith c m.first.party) blank.1 stands)
 
-  -- of the first disk, and of the second
-  first_left : (first second : List ℕ) → HasFirstSpace first m.first.party (space m.first) → ((PairStands first second m.first.party → ⊥) → IsTooLarge Two m.first.party → ⊥) → (party : Party) (was : List ℕ) (before : List ℕ → Type 0) → m.first.party ≡ party → (c : List ℕ) → IsOldOrNext x (after x plan.edits) c → MayLeave w first second party was before c
-  first_left first second left small party was before is c (inl stood) = Opened (subst (Stands c) is (image_stands c m.first.party (space m.first) stood))
-  first_left first second left small party was before is c (inr stood) =
-      subst (λ (p : Party). MayLeave w first second p was before c) is
-      (next_left first second left small was before c (image_stands c (apply plan.edits m.first.party) (space_after (space m.first) plan.edits) stood) plan.edits refl)
+  stood_second : (first second : List ℕ) → HasSecondSpace second m.first.party (space m.second) → (before : List ℕ → Type 0) (c : List ℕ) → StandsWith c m.first.party (space m.second)
+      → MayLeave w left_on_second first second m.first.party second before c
+  stood_second first second (inl there) before c stands = AsItWas (inr (m.first.party, space m.second, there, stands))
+  stood_second first second (inr made) before c stands = Opened (made.0, subst (StandsWith c m.first.party) made.1 stands)
 
-  second_left : (first second : List ℕ) → HasFirstSpace first m.first.party (space m.first) → ((PairStands first second m.first.party → ⊥) → IsTooLarge Two m.first.party → ⊥) → (party : Party) (was : List ℕ) (before : List ℕ → Type 0) → m.first.party ≡ party → (c : List ℕ) → IsOldOrOther m.first.party (space m.second) Two (apply plan.edits m.first.party) c → MayLeave w first second party was before c
-  second_left first second left small party was before is c (inl stood) = Opened (subst (Stands c) is (image_stands c m.first.party (space m.second) stood))
-  second_left first second left small party was before is c (inr stood) =
-      subst (λ (p : Party). MayLeave w first second p was before c) is
-      (next_left first second left small was before c (image_stands c (apply plan.edits m.first.party) _ stood) plan.edits refl)
+  -- and of the member after it
+  first_left : (first second : List ℕ) → HasFirstSpace first m.first.party (space m.first) → Changes w first second m.first.party y → (party : Party) (before : List ℕ → Type 0) → m.first.party ≡ party
+      → (c : List ℕ) → IsOldOrNext x y c → MayLeave w left_on_first first second party first before c
+  first_left first second left changes party before same c (inl stood) = subst (λ (p : Party). MayLeave w left_on_first first second p first before c) same (stood_first first second left before c stood)
+  first_left first second left changes party before same c (inr stands) = subst (λ (p : Party). MayLeave w left_on_first first second p first before c) same (After y changes stands)
+
+  second_left : (first second : List ℕ) → HasSecondSpace second m.first.party (space m.second) → Changes w first second m.first.party y → (party : Party) (before : List ℕ → Type 0) → m.first.party ≡ party
+      → (c : List ℕ) → IsOldOrOther m.first.party (space m.second) Two y.party c → MayLeave w left_on_second first second party second before c
+  second_left first second left changes party before same c (inl stood) = subst (λ (p : Party). MayLeave w left_on_second first second p second before c) same (stood_second first second left before c stood)
+  second_left first second left changes party before same c (inr stands) = subst (λ (p : Party). MayLeave w left_on_second first second p second before c) same (After y changes stands)
 
   -- where the party isn't changed, the disks stay as the opening left them
-  no_edits : (first second : List ℕ) → HasFirstSpace first m.first.party (space m.first) → ((PairStands first second m.first.party → ⊥) → IsTooLarge Two m.first.party → ⊥) → ((next : Party) → Changes w first second m.first.party next → ⊥) → (edits : List Edit) → plan.edits ≡ edits → plan.edits ≡ []
+  no_edits : (first second : List ℕ) → HasFirstSpace first m.first.party (space m.first) → ((PairStands first second m.first.party → ⊥) → IsTooLarge Two m.first.party → ⊥) → ((next : Member) → Changes w first second m.first.party next → ⊥) → (edits : List Edit) → plan.edits ≡ edits → plan.edits ≡ []
   no_edits first second left small none [] is = is
-  no_edits first second left small none (e ∷ es) is = absurd (none (apply plan.edits m.first.party) (changed first second left small (e ∷ es) is (some_edit e es)))
+  no_edits first second left small none (e ∷ es) is = absurd (none y (changed first second left small (e ∷ es) is (some_edit e es)))
 
   unturned : plan.edits ≡ [] → (t : PairTurn D) → IsPairTurn told m plan t → turn_disks t ≡ twin_disks m
   unturned none (turn.Done new reply under) is = ap (λ (n : Twin D). twin_disks n) (subst (λ (es : List Edit). IsKeptTwice es m new) none is.answer.kept)
@@ -167,40 +175,59 @@ module _ {D : Type 0} (told : D → View) (old : Disks D) (name : List ℕ) (i :
   unturned none (turn.Broken u) is = absurd (is.answer.changes none)
   unturned none (turn.NoMemory new) is = ap (λ (n : Twin D). twin_disks n) is.answer
 
-  unchanged : (t : PairTurn D) → IsPairTurn told m plan t → (a b : List ℕ) (party : Party) → AreRead (told old.first) (told old.second) a b → Recovers a b party → ((next : Party) → Changes w a b party next → ⊥) → turn_disks t ≡ twin_disks m
+  unchanged : (t : PairTurn D) → IsPairTurn told m plan t → (a b : List ℕ) (party : Party) → AreRead (told old.first) (told old.second) a b → Recovers a b party → ((next : Member) → Changes w a b party next → ⊥) → turn_disks t ≡ twin_disks m
   unchanged t is a b party read recovers none =
       let same : m.first.party ≡ party = one_party a b m.first.party party (opened.exact a b read) recovers in
-      let nothing : (next : Party) → Changes w a b m.first.party next → ⊥ = subst (λ (p : Party). (next : Party) → Changes w a b p next → ⊥) (sym same) none in
+      let nothing : (next : Member) → Changes w a b m.first.party next → ⊥ = subst (λ (p : Party). (next : Member) → Changes w a b p next → ⊥) (sym same) none in
       unturned (no_edits a b (opened.left a b read) (opened.small a b read) nothing plan.edits refl) t is
+
+  -- what a crash leaves of the opening and the turn
+  leaves_first : (t : PairTurn D) → IsPairTurn told m plan t → (a b : List ℕ) (party : Party) → AreRead (told old.first) (told old.second) a b → Recovers a b party → (edits : List Edit) → plan.edits ≡ edits
+      → LeavesOnly (told old.first) (told (turn_disks t).first) (MayLeave w left_on_first a b party a (told old.first).may_leave)
+  leaves_first t is a b party read recovers [] none =
+      subst (λ (d : Disks D). LeavesOnly (told old.first) (told d.first) (MayLeave w left_on_first a b party a (told old.first).may_leave)) (sym (unturned none t is))
+      (opening_leaves w left_on_first (told old.first) (told m.first.disk) a b a party (opened.first_moments a b party read recovers))
+  leaves_first t is a b party read recovers (e ∷ es) some =
+      joined (told old.first) (told m.first.disk) (told (turn_disks t).first) (MayLeave w left_on_first a b party a (told old.first).may_leave)
+      (opening_leaves w left_on_first (told old.first) (told m.first.disk) a b a party (opened.first_moments a b party read recovers))
+      (weaker (told m.first.disk) (told (turn_disks t).first) (IsOldOrNext x y) (MayLeave w left_on_first a b party a (told old.first).may_leave)
+      (is.first_moments (opened.keeps.first_tells ∙ tells_by (told old.first).now a read.first))
+      (first_left a b (opened.left a b read) (changed a b (opened.left a b read) (opened.small a b read) (e ∷ es) some (some_edit e es)) party (told old.first).may_leave
+      (one_party a b m.first.party party (opened.exact a b read) recovers)))
+
+  leaves_second : (t : PairTurn D) → IsPairTurn told m plan t → (a b : List ℕ) (party : Party) → AreRead (told old.first) (told old.second) a b → Recovers a b party → (edits : List Edit) → plan.edits ≡ edits
+      → LeavesOnly (told old.second) (told (turn_disks t).second) (MayLeave w left_on_second a b party b (told old.second).may_leave)
+  leaves_second t is a b party read recovers [] none =
+      subst (λ (d : Disks D). LeavesOnly (told old.second) (told d.second) (MayLeave w left_on_second a b party b (told old.second).may_leave)) (sym (unturned none t is))
+      (opening_leaves w left_on_second (told old.second) (told m.second.disk) a b b party (opened.second_moments a b party read recovers))
+  leaves_second t is a b party read recovers (e ∷ es) some =
+      joined (told old.second) (told m.second.disk) (told (turn_disks t).second) (MayLeave w left_on_second a b party b (told old.second).may_leave)
+      (opening_leaves w left_on_second (told old.second) (told m.second.disk) a b b party (opened.second_moments a b party read recovers))
+      (weaker (told m.second.disk) (told (turn_disks t).second) (IsOldOrOther m.first.party (space m.second) Two y.party) (MayLeave w left_on_second a b party b (told old.second).may_leave)
+      (is.second_moments (opened.keeps.second_tells ∙ tells_by (told old.second).now b read.second))
+      (second_left a b (opened.second_left a b read) (changed a b (opened.left a b read) (opened.small a b read) (e ∷ es) some (some_edit e es)) party (told old.second).may_leave
+      (one_party a b m.first.party party (opened.exact a b read) recovers)))
 
   -- the second disk is as the opening left it, or the first has kept the edits
   abbrev IsInOrder : Disks D → Type 0
-  IsInOrder d = (d.second ≡ m.second.disk) ⊎ ((plan.edits ≢ []) × IsKeptOn (told d.first) (apply plan.edits m.first.party))
+  IsInOrder d = (d.second ≡ m.second.disk) ⊎ ((plan.edits ≢ []) × DiskStandsFor (told d.first) y.party y.space)
 
-  kept_first : (new : Twin D) → IsTwin told new → (party : Party) → new.first.party ≡ party → IsKeptOn (told new.first.disk) party
-  kept_first new twin party is = record {
-    durable = twin.first_stands.durable;
-    stands = λ image now. subst (Stands image) is (record { format = new.first.format; stands = twin.first_stands.stands image now });
-  }
+  kept_first : (new : Twin D) → IsTwin told new → member_of new.first ≡ y → DiskStandsFor (told new.first.disk) y.party y.space
+  kept_first new twin is =
+      subst (λ (z : Member). DiskStandsFor (told new.first.disk) z.party z.space) is (store_stands (told new.first.disk) new.first.gate new.first.end new.first.format new.first.party twin.first_stands)
 
-  done_order : (edits : List Edit) → plan.edits ≡ edits → (new : Twin D) → IsKeptTwice edits m new → IsKeptOn (told new.first.disk) (apply plan.edits m.first.party) → IsInOrder (twin_disks new)
+  done_order : (edits : List Edit) → plan.edits ≡ edits → (new : Twin D) → IsKeptTwice edits m new → DiskStandsFor (told new.first.disk) y.party y.space → IsInOrder (twin_disks new)
   done_order [] is new same stands = inl (ap (λ (n : Twin D). n.second.disk) same)
   done_order (e ∷ es) is new kept stands = inr ((λ none. some_edit e es (sym is ∙ none)), stands)
 
   cut_order : (u : PairUnmade D) → IsPairCut told m plan u → (reason : PairCause) → u.cause ≡ reason → IsInOrder u.disks
   cut_order u cut (First reason) is = inl (cut.order reason is)
-  cut_order u cut (Second reason) is = inr (
-    cut.changes,
-    record {
-      durable = cut.durable reason is;
-      stands = λ image now. image_stands image (apply plan.edits m.first.party) (space_after (space m.first) plan.edits) (cut.kept reason is image now);
-    },
-  )
+  cut_order u cut (Second reason) is = inr (cut.changes, record { durable = cut.durable reason is; reads = cut.kept reason is })
   cut_order u cut (OtherParty one other) is = absurd (subst (λ (r : PairCause). HasFailed told (twin_disks m) u.disks r) is cut.failed)
   cut_order u cut TooLarge is = absurd (subst (λ (r : PairCause). HasFailed told (twin_disks m) u.disks r) is cut.failed)
 
   turn_order : (t : PairTurn D) → IsPairTurn told m plan t → IsInOrder (turn_disks t)
-  turn_order (turn.Done new reply under) is = done_order plan.edits refl new is.answer.kept (kept_first new is.stand (apply plan.edits m.first.party) is.answer.party)
+  turn_order (turn.Done new reply under) is = done_order plan.edits refl new is.answer.kept (kept_first new is.stand (kept_next plan.edits m new is.answer.kept))
   turn_order (turn.Refused new said reply under) is = inl (ap (λ (n : Twin D). n.second.disk) is.answer.same)
   turn_order (turn.Broken u) is = cut_order u is.answer u.cause refl
   turn_order (turn.NoMemory new) is = inl (ap (λ (n : Twin D). n.second.disk) is.answer)
@@ -210,7 +237,7 @@ module _ {D : Type 0} (told : D → View) (old : Disks D) (name : List ℕ) (i :
   in_order t is a b party read recovers = elim (turn_order t is) [
     | inl same ↦ inl (subst (λ (d : D). IsAsOpened (told old.second) (told d) a b party) (sym same) (second_opened told old (Ok m) opened a b party read recovers))
     | inr kept ↦ inr (subst (λ (p : Party). KeepsNext w (told (turn_disks t).first) a b p) (one_party a b m.first.party party (opened.exact a b read) recovers) (record {
-      next = apply plan.edits m.first.party;
+      next = y;
       changes = changed a b (opened.left a b read) (opened.small a b read) plan.edits refl kept.0;
       kept = kept.1;
     }))
@@ -249,18 +276,8 @@ module _ {D : Type 0} (told : D → View) (old : Disks D) (name : List ℕ) (i :
   turned_of t is = record {
     makes = λ a b read. makes_turn t is a b (opened.exact a b read) (opened.left a b read) (opened.small a b read);
     safe = record {
-      on_first = λ a b party read recovers.
-          joined (told old.first) (told m.first.disk) (told (turn_disks t).first) (MayLeave w a b party a (told old.first).may_leave)
-          (opening_leaves w (told old.first) (told m.first.disk) a b a party (opened.first_moments a b party read recovers))
-          (weaker (told m.first.disk) (told (turn_disks t).first) (IsOldOrNext x (after x plan.edits)) (MayLeave w a b party a (told old.first).may_leave)
-          (is.first_moments (opened.keeps.first_tells ∙ tells_by (told old.first).now a read.first))
-          (first_left a b (opened.left a b read) (opened.small a b read) party a (told old.first).may_leave (one_party a b m.first.party party (opened.exact a b read) recovers)));
-      on_second = λ a b party read recovers.
-          joined (told old.second) (told m.second.disk) (told (turn_disks t).second) (MayLeave w a b party b (told old.second).may_leave)
-          (opening_leaves w (told old.second) (told m.second.disk) a b b party (opened.second_moments a b party read recovers))
-          (weaker (told m.second.disk) (told (turn_disks t).second) (IsOldOrOther m.first.party (space m.second) Two (apply plan.edits m.first.party)) (MayLeave w a b party b (told old.second).may_leave)
-          (is.second_moments (opened.keeps.second_tells ∙ tells_by (told old.second).now b read.second))
-          (second_left a b (opened.left a b read) (opened.small a b read) party b (told old.second).may_leave (one_party a b m.first.party party (opened.exact a b read) recovers)));
+      on_first = λ a b party read recovers. leaves_first t is a b party read recovers plan.edits refl;
+      on_second = λ a b party read recovers. leaves_second t is a b party read recovers plan.edits refl;
       order = λ a b party read recovers. in_order t is a b party read recovers;
       nobody = λ a b read none. absurd (none m.first.party (opened.exact a b read));
       quiet = λ a b party read stand none.

@@ -13,7 +13,7 @@ use Rattle.x_party.specs.Images.{OrBefore}
 use Rattle.x_party.specs.Outcomes.{IsNoFailure}
 use Rattle.x_party.specs.declared.outcome.Outcome.{Outcome}
 use Rattle.x_party.specs.declared.outcome.Outcome.TheVariants as outcome
-use Rattle.x_pair.specs.Outcomes.{Work, OfOpened, MakesOf, MakesPair, IsAsOpened, KeepsNext, IsSafePair, MayLeave, Opened, After, AsItWas, Before, LeavesPair}
+use Rattle.x_pair.specs.Outcomes.{Work, OfOpened, MakesOf, MakesPair, IsAsOpened, KeepsNext, IsSafePair, MayLeave, Opened, After, AsItWas, Before, left_on_first, left_on_second, LeavesPair}
 use Rattle.x_pair.specs.Creations.{CreatesPair, IsSafeCreation, IsDueOrFailed, StandsWhereDone}
 use Rattle.x_pair.specs.Steps.{HasActed, HasCreated, HasFaults, AreOut, AreBack, IsClosed}
 use Rattle.x_pair.proofs.Alike.{kept_alike, durable_alike, stands_alike, thirds_on, untouched_alike, leaves_around, untouched_around}
@@ -68,8 +68,8 @@ module _ {D : Type 0} (told : D → View) (name other : List ℕ) (old new : She
 
   pub unfetched_safe : (w : Work) → IsSafePair w (old.entry name) (old.entry other) (new.entry name) (new.entry other)
   unfetched_safe w = record {
-    on_first = λ i j party read recovers. weaker (old.entry name) (new.entry name) (old.entry name).may_leave (MayLeave w i j party i (old.entry name).may_leave) first_still.any_moment (λ c left. Before left);
-    on_second = λ i j party read recovers. weaker (old.entry other) (new.entry other) (old.entry other).may_leave (MayLeave w i j party j (old.entry other).may_leave) second_still.any_moment (λ c left. Before left);
+    on_first = λ i j party read recovers. weaker (old.entry name) (new.entry name) (old.entry name).may_leave (MayLeave w left_on_first i j party i (old.entry name).may_leave) first_still.any_moment (λ c left. Before left);
+    on_second = λ i j party read recovers. weaker (old.entry other) (new.entry other) (old.entry other).may_leave (MayLeave w left_on_second i j party j (old.entry other).may_leave) second_still.any_moment (λ c left. Before left);
     order = λ i j party read recovers. inl (record {
       moments = weaker (old.entry other) (new.entry other) (old.entry other).may_leave (IsLeftOrBefore (old.entry other) j party) second_still.any_moment (λ c left. inr left);
       stays = λ either. second_still;
@@ -148,13 +148,13 @@ module _ (first second out_first out_second mid_first mid_second new_first new_s
     closed_makes o result before after (inr (inl is)) makes = λ i j read. subst (MakesOf w i j new_first new_second) (sym is.0) tt
     closed_makes o result before after (inr (inr is)) makes = λ i j read. subst (MakesOf w i j new_first new_second) (sym is) tt
 
-    leaves_first : (image other : List ℕ) (party : Party) (was c : List ℕ) → MayLeave w image other party was out_first.may_leave c → MayLeave w image other party was first.may_leave c
+    leaves_first : (image other : List ℕ) (party : Party) (was c : List ℕ) → MayLeave w left_on_first image other party was out_first.may_leave c → MayLeave w left_on_first image other party was first.may_leave c
     leaves_first image other party was c (Opened stands) = Opened stands
     leaves_first image other party was c (After next may stands) = After next may stands
     leaves_first image other party was c (AsItWas is) = AsItWas is
     leaves_first image other party was c (Before left) = Before (first_out.images c left)
 
-    leaves_second : (image other : List ℕ) (party : Party) (was c : List ℕ) → MayLeave w image other party was out_second.may_leave c → MayLeave w image other party was second.may_leave c
+    leaves_second : (image other : List ℕ) (party : Party) (was c : List ℕ) → MayLeave w left_on_second image other party was out_second.may_leave c → MayLeave w left_on_second image other party was second.may_leave c
     leaves_second image other party was c (Opened stands) = Opened stands
     leaves_second image other party was c (After next may stands) = After next may stands
     leaves_second image other party was c (AsItWas is) = AsItWas is
@@ -167,16 +167,16 @@ module _ (first second out_first out_second mid_first mid_second new_first new_s
           (λ c either. elim either [ inl here ↦ inl here | inr left ↦ inr (second_out.images c left) ]);
       stays = λ either. untouched_around second out_second mid_second new_second second_out second_back (is.stays either);
     })
-    order_around i j party (inr is) = inr (record { next = is.next; changes = is.changes; kept = kept_alike mid_first new_first is.next is.kept first_back })
+    order_around i j party (inr is) = inr (record { next = is.next; changes = is.changes; kept = stands_alike mid_first new_first is.next.party is.next.space is.kept first_back })
 
     safe_around : IsSafePair w out_first out_second mid_first mid_second → IsSafePair w first second new_first new_second
     safe_around safe = record {
       on_first = λ i j party read recovers.
-          weaker first new_first (MayLeave w i j party i out_first.may_leave) (MayLeave w i j party i first.may_leave)
-          (leaves_around first out_first mid_first new_first first_out first_back (MayLeave w i j party i out_first.may_leave) (safe.on_first i j party (read_out i j read) recovers)) (leaves_first i j party i);
+          weaker first new_first (MayLeave w left_on_first i j party i out_first.may_leave) (MayLeave w left_on_first i j party i first.may_leave)
+          (leaves_around first out_first mid_first new_first first_out first_back (MayLeave w left_on_first i j party i out_first.may_leave) (safe.on_first i j party (read_out i j read) recovers)) (leaves_first i j party i);
       on_second = λ i j party read recovers.
-          weaker second new_second (MayLeave w i j party j out_second.may_leave) (MayLeave w i j party j second.may_leave)
-          (leaves_around second out_second mid_second new_second second_out second_back (MayLeave w i j party j out_second.may_leave) (safe.on_second i j party (read_out i j read) recovers)) (leaves_second i j party j);
+          weaker second new_second (MayLeave w left_on_second i j party j out_second.may_leave) (MayLeave w left_on_second i j party j second.may_leave)
+          (leaves_around second out_second mid_second new_second second_out second_back (MayLeave w left_on_second i j party j out_second.may_leave) (safe.on_second i j party (read_out i j read) recovers)) (leaves_second i j party j);
       order = λ i j party read recovers. order_around i j party (safe.order i j party (read_out i j read) recovers);
       nobody = λ i j read none. both_around (safe.nobody i j (read_out i j read) none);
       quiet = λ i j party read stand none. both_around (safe.quiet i j party (read_out i j read) stand none);

@@ -7,7 +7,9 @@ use Rattle.key_journal.specs.declared.cause.Cause.TheVariants as cause
 use Rattle.party_state.specs.State.{Party}
 use Rattle.change_code.specs.Whole.{IsTooLarge}
 use Rattle.change_code.specs.declared.format.Format.TheVariants.{Two}
+use Rattle.change_code.specs.declared.space.Space.{Space}
 use Rattle.key_store.specs.Store.{Stands, space}
+use Rattle.member.specs.Member.{Member}
 use Rattle.disk_pair.specs.declared.disks.Disks.{Disks}
 use Rattle.node_core.specs.Turns.{member_of}
 use Rattle.mirror_store.specs.Pairs.{PairStands, Recovers, IsMadeAnew, IsAsBefore, Twin, IsTwin}
@@ -18,7 +20,7 @@ use Rattle.mirror_store.specs.declared.pair.PairCause.TheVariants.{First, Second
 use Rattle.mirror_store.specs.declared.pair.PairUnmade.{PairUnmade}
 use Rattle.x_party.specs.declared.outcome.Outcome.{Outcome}
 use Rattle.x_party.specs.declared.outcome.Outcome.TheVariants as outcome
-use Rattle.x_pair.specs.Outcomes.{Work, BothStand, MakesOf, MayLeave, Opened, AsItWas, Before, IsAsOpened, IsSafePair}
+use Rattle.x_pair.specs.Outcomes.{Work, BothStand, MakesOf, MayLeave, Opened, AsItWas, Before, left_on_first, left_on_second, IsAsOpened, IsSafePair}
 use Rattle.x_pair.specs.Steps.{HasActed, outcome_of_pair}
 use Rattle.x_pair.proofs.Alike.{store_stands}
 
@@ -60,13 +62,13 @@ refused_rose told old new (OtherParty a b) fault is = absurd (cc is)
 refused_rose told old new TooLarge fault is = absurd (cc is)
 
 -- what a crash in an opening leaves
-opened_leaves : (w : Work) (first second : List ℕ) (party : Party) (was : List ℕ) (before : List ℕ → Type 0) (c : List ℕ) → (IsMadeAnew was party c ⊎ IsAsBefore was c) ⊎ before c → MayLeave w first second party was before c
-opened_leaves w first second party was before c (inl (inl is)) = Opened (record { format = Two; stands = record { bodies = is.1.bodies; holds = is.1.holds; fold = is.1.fold } })
-opened_leaves w first second party was before c (inl (inr is)) = AsItWas is
-opened_leaves w first second party was before c (inr left) = Before left
+opened_leaves : (w : Work) (room : Member → Space) (first second : List ℕ) (party : Party) (was : List ℕ) (before : List ℕ → Type 0) (c : List ℕ) → (IsMadeAnew was party c ⊎ IsAsBefore was c) ⊎ before c → MayLeave w room first second party was before c
+opened_leaves w room first second party was before c (inl (inl is)) = Opened is
+opened_leaves w room first second party was before c (inl (inr is)) = AsItWas is
+opened_leaves w room first second party was before c (inr left) = Before left
 
-pub opening_leaves : (w : Work) (old mid : View) (first second was : List ℕ) (party : Party) → LeavesOnly old mid (λ c. (IsMadeAnew was party c ⊎ IsAsBefore was c) ⊎ old.may_leave c) → LeavesOnly old mid (MayLeave w first second party was old.may_leave)
-opening_leaves w old mid first second was party run = weaker old mid (λ c. (IsMadeAnew was party c ⊎ IsAsBefore was c) ⊎ old.may_leave c) (MayLeave w first second party was old.may_leave) run (opened_leaves w first second party was old.may_leave)
+pub opening_leaves : (w : Work) (room : Member → Space) (old mid : View) (first second was : List ℕ) (party : Party) → LeavesOnly old mid (λ c. (IsMadeAnew was party c ⊎ IsAsBefore was c) ⊎ old.may_leave c) → LeavesOnly old mid (MayLeave w room first second party was old.may_leave)
+opening_leaves w room old mid first second was party run = weaker old mid (λ c. (IsMadeAnew was party c ⊎ IsAsBefore was c) ⊎ old.may_leave c) (MayLeave w room first second party was old.may_leave) run (opened_leaves w room first second party was old.may_leave)
 
 -- and of the second disk
 pub second_opened : {D : Type 0} (told : D → View) (old : Disks D) (result : Result (Twin D) (PairUnmade D)) → IsPairOpened told old result → (i j : List ℕ) (party : Party)
@@ -81,8 +83,8 @@ module _ {D : Type 0} (told : D → View) (old : Disks D) (w : Work) where
   opening_safe : (result : Result (Twin D) (PairUnmade D)) → IsPairOpened told old result
       → IsSafePair w (told old.first) (told old.second) (told (opened_disks result).first) (told (opened_disks result).second)
   opening_safe result opened = record {
-    on_first = λ i j party read recovers. opening_leaves w (told old.first) (told (opened_disks result).first) i j i party (opened.first_moments i j party read recovers);
-    on_second = λ i j party read recovers. opening_leaves w (told old.second) (told (opened_disks result).second) i j j party (opened.second_moments i j party read recovers);
+    on_first = λ i j party read recovers. opening_leaves w left_on_first (told old.first) (told (opened_disks result).first) i j i party (opened.first_moments i j party read recovers);
+    on_second = λ i j party read recovers. opening_leaves w left_on_second (told old.second) (told (opened_disks result).second) i j j party (opened.second_moments i j party read recovers);
     order = λ i j party read recovers. inl (second_opened told old result opened i j party read recovers);
     nobody = opened.stays;
     quiet = λ i j party read stands none. opened.quiet i j party read stands;

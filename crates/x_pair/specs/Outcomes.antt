@@ -7,15 +7,16 @@ use Rattle.x_base.specs.declared.verdict.Verdict.TheVariants.{Accept, JournalFul
 use Rattle.x_disk.specs.Disk.{View, IsDurable, LeavesOnly, IsUntouched}
 use Rattle.key_journal.specs.Journal.{is_blank}
 use Rattle.party_state.specs.declared.command.Input.{Input}
-use Rattle.party_state.specs.State.{Party, apply}
+use Rattle.party_state.specs.State.{Party}
 use Rattle.party_show.specs.Show.{shown}
+use Rattle.change_code.specs.Cost.{space_of_whole}
 use Rattle.change_code.specs.Whole.{IsTooLarge}
 use Rattle.change_code.specs.declared.format.Format.TheVariants.{Two}
 use Rattle.change_code.specs.declared.space.Space.{Space}
-use Rattle.key_store.specs.Store.{Stands, IsFirstDamage}
+use Rattle.key_store.specs.Store.{Stands, StandsWith, IsFirstDamage}
 use Rattle.member.specs.Member.{Member, after}
 use Rattle.disk_pair.specs.Pairs.{ThirdsStay}
-use Rattle.mirror_store.specs.Pairs.{IsKeptOn, PairStands, Recovers, IsAsBefore}
+use Rattle.mirror_store.specs.Pairs.{PairStands, Recovers, IsMadeAnew, IsAsBefore}
 use Rattle.mirror_store.specs.Opening.{AreRead, AreOthers, IsSound, IsTooLargeToWrite, HasFirstSpace, LeavesParty}
 use Rattle.mirror_store.specs.Turns.{pair_plan_at}
 use Rattle.x_party.specs.Images.{DiskStandsFor, StillTells}
@@ -30,10 +31,10 @@ pub record BothStand (first second : View) (x : Member) : Type 0 where
   pub on_second : (image : List ℕ) → second.now ≡ Some image → Stands image x.party
 
 -- what a call does with the party that is opened of two disks: what is said of a member with an outcome, and the member
--- afterwards; and, by the image of the first disk, the parties that a crash may leave beside the one that is opened
+-- afterwards; and, by the image of the first disk, the members that a crash may leave beside the party that is opened
 pub record Work : Type 1 where
   pub Says : Member → Outcome → Member → Type 0
-  pub May : List ℕ → Party → Party → Type 0
+  pub May : List ℕ → Party → Member → Type 0
 
 -- the party of the name accepts; its edits are kept, and this is answered
 pub record Accepts (name : List ℕ) (i : Input) (moment : ℕ) (x : Member) (reply : Option (List ℕ)) (y : Member) : Type 0 where
@@ -63,14 +64,14 @@ SaysTurn name i moment x (outcome.Refused verdict reply) y = Refuses name i mome
 SaysTurn name i moment x (outcome.OtherParty asked found) y = IsOther name x asked found y
 SaysTurn name i moment x o y = ⊥
 
--- the party of the name after what it plans, where that changes anything, with the space that the image of the first disk
+-- the member of the name after what it plans, where that changes anything, with the space that the image of the first disk
 -- leaves, or one frame, where it was blank
-pub record IsAfter (name : List ℕ) (i : Input) (moment : ℕ) (first : List ℕ) (party next : Party) : Type 0 where
+pub record IsAfter (name : List ℕ) (i : Input) (moment : ℕ) (first : List ℕ) (party : Party) (next : Member) : Type 0 where
   pub own : party.own ≡ name
   pub space : Space
   pub left : HasFirstSpace first party space
   pub changes : (pair_plan_at (record { party = party; space = space }) i moment).edits ≢ []
-  pub is : next ≡ apply (pair_plan_at (record { party = party; space = space }) i moment).edits party
+  pub is : next ≡ after (record { party = party; space = space }) (pair_plan_at (record { party = party; space = space }) i moment).edits
 
 -- the turn of the party of this name with an input at a moment
 abbrev pub turning : List ℕ → Input → ℕ → Work
@@ -129,46 +130,54 @@ MakesPair w first second first_after second_after o = (i j : List ℕ) → AreRe
 
 -- the call changes the party that is opened of two images: there is one after it, and where a disk has to be made anew, the party
 -- isn't too large for that
-pub record Changes (w : Work) (first second : List ℕ) (party next : Party) : Type 0 where
+pub record Changes (w : Work) (first second : List ℕ) (party : Party) (next : Member) : Type 0 where
   pub may : w.May first party next
   pub small : (PairStands first second party → ⊥) → IsTooLarge Two party → ⊥
 
--- an image that a crash may leave: it stands for the party that is opened or for one after it, is blank as it was, stands for the
--- party for which it stood, or could be left before
-pub data MayLeave (w : Work) (first second : List ℕ) (party : Party) (was : List ℕ) (before : List ℕ → Type 0) (image : List ℕ) : Type 0 where
-  Opened : Stands image party → MayLeave w first second party was before image
-  After : (next : Party) → Changes w first second party next → Stands image next → MayLeave w first second party was before image
-  AsItWas : IsAsBefore was image → MayLeave w first second party was before image
-  Before : before image → MayLeave w first second party was before image
+-- the space that a member after the call has on its first disk, and on the second, where it stands alone in its area
+abbrev pub left_on_first : Member → Space
+left_on_first x = x.space
 
--- the second disk is as an opening alone leaves it: a crash at any moment leaves an image that stands for the party that is opened,
--- is as it was, or could be left before; where both disks stood for the party, or the first was blank, nothing is written on it
+abbrev pub left_on_second : Member → Space
+left_on_second x = space_of_whole Two x.party
+
+-- an image that a crash may leave: it is made anew for the party that is opened, stands for a member after it, with this room, is
+-- blank as it was, stands for the party for which it stood, with the room that it had, or could be left before
+pub data MayLeave (w : Work) (room : Member → Space) (first second : List ℕ) (party : Party) (was : List ℕ) (before : List ℕ → Type 0) (image : List ℕ) : Type 0 where
+  Opened : IsMadeAnew was party image → MayLeave w room first second party was before image
+  After : (next : Member) → Changes w first second party next → StandsWith image next.party (room next) → MayLeave w room first second party was before image
+  AsItWas : IsAsBefore was image → MayLeave w room first second party was before image
+  Before : before image → MayLeave w room first second party was before image
+
+-- the second disk is as an opening alone leaves it: a crash at any moment leaves an image that is made anew for the party that is
+-- opened, is as it was, or could be left before; where both disks stood for the party, or the first was blank, nothing is written
+-- on it
 pub record IsAsOpened (second second_after : View) (i j : List ℕ) (party : Party) : Type 0 where
   pub moments : LeavesParty second second_after j party
   pub stays : PairStands i j party ⊎ (is_blank i ≡ true) → IsUntouched second second_after
 
--- the call changes the party that is opened, and each image of the first disk that a crash may leave stands for the one after it
+-- the call changes the party that is opened, and each image of the first disk that a crash may leave stands for the member after it
 pub record KeepsNext (w : Work) (first_after : View) (i j : List ℕ) (party : Party) : Type 0 where
-  pub next : Party
+  pub next : Member
   pub changes : Changes w i j party next
-  pub kept : IsKeptOn first_after next
+  pub kept : DiskStandsFor first_after next.party next.space
 
 -- what holds of every outcome
 pub record IsSafePair (w : Work) (first second first_after second_after : View) : Type 0 where
   -- what a crash at any moment leaves of two disks of which a party is opened
-  pub on_first : (i j : List ℕ) (party : Party) → AreRead first second i j → Recovers i j party → LeavesOnly first first_after (MayLeave w i j party i first.may_leave)
-  pub on_second : (i j : List ℕ) (party : Party) → AreRead first second i j → Recovers i j party → LeavesOnly second second_after (MayLeave w i j party j second.may_leave)
+  pub on_first : (i j : List ℕ) (party : Party) → AreRead first second i j → Recovers i j party → LeavesOnly first first_after (MayLeave w left_on_first i j party i first.may_leave)
+  pub on_second : (i j : List ℕ) (party : Party) → AreRead first second i j → Recovers i j party → LeavesOnly second second_after (MayLeave w left_on_second i j party j second.may_leave)
   -- the second isn't ahead of the first: the party after it is written there only where the first has kept it
   pub order : (i j : List ℕ) (party : Party) → AreRead first second i j → Recovers i j party → IsAsOpened second second_after i j party ⊎ KeepsNext w first_after i j party
   -- where no party can be opened of them, nothing is written
   pub nobody : (i j : List ℕ) → AreRead first second i j → ((party : Party) → Recovers i j party → ⊥) → IsUntouched first first_after × IsUntouched second second_after
   -- nor where both stand for a party that the call doesn't change
-  pub quiet : (i j : List ℕ) (party : Party) → AreRead first second i j → PairStands i j party → ((next : Party) → Changes w i j party next → ⊥)
+  pub quiet : (i j : List ℕ) (party : Party) → AreRead first second i j → PairStands i j party → ((next : Member) → Changes w i j party next → ⊥)
       → IsUntouched first first_after × IsUntouched second second_after
   -- and where the party that is opened isn't changed, the first is written only if it is blank, and the second only if the first isn't
-  pub first_stays : (i j : List ℕ) (party : Party) → AreRead first second i j → Recovers i j party → ((next : Party) → Changes w i j party next → ⊥)
+  pub first_stays : (i j : List ℕ) (party : Party) → AreRead first second i j → Recovers i j party → ((next : Member) → Changes w i j party next → ⊥)
       → is_blank i ≡ false → IsUntouched first first_after
-  pub second_stays : (i j : List ℕ) (party : Party) → AreRead first second i j → Recovers i j party → ((next : Party) → Changes w i j party next → ⊥)
+  pub second_stays : (i j : List ℕ) (party : Party) → AreRead first second i j → Recovers i j party → ((next : Member) → Changes w i j party next → ⊥)
       → is_blank i ≡ true → IsUntouched second second_after
   -- neither is written where the party that is opened isn't on both and is too large for the one frame that would be written
   pub too_large : (i j : List ℕ) → AreRead first second i j → IsTooLargeToWrite i j → IsUntouched first first_after × IsUntouched second second_after

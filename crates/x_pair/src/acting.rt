@@ -7,6 +7,7 @@ ghost use Rattle.x_pair.specs.Steps.{HasActed, HasCreated, outcome_of_turn};
 
 use crate::opening::outcome_of;
 use disk_pair::Disks;
+use key_store::law_one_finding;
 use mirror_store::{Mirror, PairTurn, PairUnmade, law_recovers};
 use party_show::show_text;
 use party_state::Input;
@@ -44,6 +45,7 @@ pub(crate) fn turn_over<D: Disk>(
 ) -> (Disks<D>, Outcome)
     ensures { HasActed (turning name.now input.now moment) D.told disks result.0 result.1 }
 {
+    law_one_finding();
     law_recovers();
     match Mirror::open_pair(alloc, disks) {
         Ok(mirror) => {

@@ -16,7 +16,7 @@ pub returns-else-ne : goal.returns-else-ne
 returns-else-ne g c =
     let own = c.own-own.result in
     let is = c.own-own.ensures.own ∙ ap (λ p. p.own) c.view.ensures.party in
-    turned g.D.Disk.told c.args.disks c.args.name.now c.args.input.now c.args.moment c.law_recovers.ensures.one_party c.in-Ok.mirror c.in-Ok.ensures
+    turned g.D.Disk.told c.args.disks c.args.name.now c.args.input.now c.args.moment c.law_recovers.ensures.one_party c.law_one_finding.ensures.not_blank c.in-Ok.mirror c.in-Ok.ensures
     (sym is ∙ same_name own c.args.name.now c.ne.result c.ne.ensures c.if-ne.false) c.turn-turned.result c.turn-turned.ensures c.ended.result c.ended.ensures.disks c.ended.ensures.outcome
 
 pub returns-in-Err : goal.returns-in-Err
