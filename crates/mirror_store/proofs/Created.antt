@@ -9,15 +9,15 @@ use Rattle.key_journal.specs.Opening.{IsFree}
 use Rattle.key_journal.specs.declared.cause.Cause.{Cause}
 use Rattle.key_journal.specs.declared.cause.Cause.TheVariants as cause
 use Rattle.key_journal.specs.declared.cause.Unmade.{Unmade}
-use Rattle.party_state.specs.State.{begun}
-use Rattle.key_store.specs.Store.{Stored, Stands, IsBlankOrFirst}
+use Rattle.party_state.specs.State.{Party, begun}
+use Rattle.key_store.specs.Store.{Stored, StandsWith, IsBlankOrFirst, space}
 use Rattle.key_store.specs.Creating.{IsNewStore}
 use Rattle.mirror_store.specs.Pairs.{Twin}
 use Rattle.mirror_store.specs.Creating.{IsLookedAt, IsUncreated, IsPairCreated, IsMadeTwice}
 use Rattle.disk_pair.specs.declared.disks.Disks.{Disks}
 use Rattle.mirror_store.specs.declared.pair.PairCause.TheVariants.{First, Second}
 use Rattle.mirror_store.specs.declared.pair.PairUnmade.{PairUnmade}
-use Rattle.mirror_store.proofs.Moments.{stands_for, untouched_self, untouched_then}
+use Rattle.mirror_store.proofs.Moments.{stands_with, untouched_self, untouched_then}
 use Rattle.mirror_store.proofs.Opened.{rose_later, first_same, second_same, never_first, never_second}
 
 free_first : (i j : List ℕ) (reason : Cause) → IsFree reason → IsUncreated i j (First reason)
@@ -53,13 +53,16 @@ module _ {D : Type 0} (told : D → View) (own : List ℕ) (role : Role) (genera
     second_unmade one u first second = record {
       stand = tt;
       party = tt;
+      left = tt;
       refused = λ i j read. free_second i j u.cause (free_made u.cause j (second_blank j read.second) (second.exact j read.second));
       first_moments = first.any_moment;
       second_moments = second.any_moment;
       order = λ reason is. absurd (never_first u.cause reason is);
       kept = inr (record {
         durable = first.stands.durable;
-        stands = λ image now. subst (Stands image) first.party (stands_for image one.format one.party (first.stands.stands image now));
+        stands = λ image now.
+            subst (StandsWith image (begun own role generator)) first.left
+            (subst (λ (p : Party). StandsWith image p (space one)) first.party (stands_with (told one.disk) one.gate one.end one.format one.party first.stands image now));
       });
       fault = record { first = λ is. absurd (never_first u.cause cause.Fault is); second = λ is. second.fault (second_same u.cause cause.Fault is) };
       keeps = record { first_faults = first.faults; second_faults = second.faults; first_tells = first.tells; second_tells = second.tells };
@@ -90,6 +93,7 @@ module _ {D : Type 0} (told : D → View) (own : List ℕ) (role : Role) (genera
       created (Ok m) made = record {
         stand = made.stand;
         party = made.party;
+        left = made.left;
         blank = λ i j read. (first.blank i read.first, second.blank j read.second);
         refused = tt;
         first_stays = λ i j read either. blank_either (IsUntouched (told old.first) (told m.first.disk)) i j (first.blank i read.first) (second.blank j read.second) either;
@@ -109,6 +113,7 @@ module _ {D : Type 0} (told : D → View) (own : List ℕ) (role : Role) (genera
       created (Err u) made = record {
         stand = tt;
         party = tt;
+        left = tt;
         blank = tt;
         refused = λ i j read. made.refused i j (record { first = first.untouched.now ∙ read.first; second = second.untouched.now ∙ read.second });
         first_stays = λ i j read either. blank_either (IsUntouched (told old.first) (told u.disks.first)) i j (first.blank i read.first) (second.blank j read.second) either;
@@ -134,6 +139,7 @@ module _ {D : Type 0} (told : D → View) (own : List ℕ) (role : Role) (genera
     first_looked sound u first = record {
       stand = tt;
       party = tt;
+      left = tt;
       blank = tt;
       refused = λ i j read. not_first i j u.cause (first.exact i read.first);
       first_stays = λ i j read either. first.untouched;

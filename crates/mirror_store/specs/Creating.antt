@@ -9,8 +9,10 @@ use Rattle.key_journal.specs.Opening.{IsFree}
 use Rattle.key_journal.specs.declared.cause.Cause.{Cause}
 use Rattle.key_journal.specs.declared.cause.Cause.TheVariants as cause
 use Rattle.key_journal.specs.declared.cause.Unmade.{Unmade}
-use Rattle.party_state.specs.State.{begun}
-use Rattle.key_store.specs.Store.{IsBlankOrFirst}
+use Rattle.party_state.specs.State.{Party, begun}
+use Rattle.change_code.specs.Cost.{space_of_whole}
+use Rattle.change_code.specs.declared.format.Format.TheVariants.{Two}
+use Rattle.key_store.specs.Store.{IsBlankOrFirst, space}
 use Rattle.mirror_store.specs.Pairs.{IsKeptOn, Twin, IsTwin}
 use Rattle.mirror_store.specs.Answers.{opened_disks}
 use Rattle.mirror_store.specs.Opening.{AreRead, HasPairFault, KeepsPair}
@@ -48,10 +50,15 @@ IsUncreated first second (Second cause.NoMemory) = Unit {0}
 IsUncreated first second (OtherParty a b) = ⊥
 IsUncreated first second TooLarge = ⊥
 
+-- the party is alone in its area on either disk, in format 2
+abbrev pub IsAloneOnBoth : {D : Type 0} → Party → Twin D → Type 0
+IsAloneOnBoth party m = (space m.first ≡ space_of_whole Two party) × (space m.second ≡ space_of_whole Two party)
+
 -- a party is created on two disks, whose images both were blank
 pub record IsPairCreated {D : Type 0} (told : D → View) (own : List ℕ) (role : Role) (generator : Gen) (old : Disks D) (result : Result (Twin D) (PairUnmade D)) : Type 0 where
   pub stand : IfOk result (IsTwin told)
   pub party : IfOk result (λ m. m.first.party ≡ begun own role generator)
+  pub left : IfOk result (λ m. IsAloneOnBoth (begun own role generator) m)
   pub blank : IfOk result (λ m. (i j : List ℕ) → AreRead (told old.first) (told old.second) i j → (is_blank i ≡ true) × (is_blank j ≡ true))
   pub refused : IfErr result (λ u. (i j : List ℕ) → AreRead (told old.first) (told old.second) i j → IsUncreated i j u.cause)
   -- where either isn't blank, nothing is written
@@ -63,7 +70,7 @@ pub record IsPairCreated {D : Type 0} (told : D → View) (own : List ℕ) (role
   -- the first is made before the second is touched
   pub order : IfErr result (λ u. (reason : Cause) → u.cause ≡ First reason → IsUntouched (told old.second) (told u.disks.second))
   -- the second is as it was, or each image of the first that a crash may leave stands for the party
-  pub kept : IfErr result (λ u. IsUntouched (told old.second) (told u.disks.second) ⊎ IsKeptOn (told u.disks.first) (begun own role generator))
+  pub kept : IfErr result (λ u. IsUntouched (told old.second) (told u.disks.second) ⊎ IsKeptOn (told u.disks.first) (begun own role generator) (space_of_whole Two (begun own role generator)))
   pub fault : IfErr result (λ u. HasPairFault told old u.disks u.cause)
   pub keeps : KeepsPair told old (opened_disks result)
 
@@ -71,12 +78,13 @@ pub record IsPairCreated {D : Type 0} (told : D → View) (own : List ℕ) (role
 pub record IsMadeTwice {D : Type 0} (told : D → View) (own : List ℕ) (role : Role) (generator : Gen) (old : Disks D) (result : Result (Twin D) (PairUnmade D)) : Type 0 where
   pub stand : IfOk result (IsTwin told)
   pub party : IfOk result (λ m. m.first.party ≡ begun own role generator)
+  pub left : IfOk result (λ m. IsAloneOnBoth (begun own role generator) m)
   pub refused : IfErr result (λ u. (i j : List ℕ) → AreRead (told old.first) (told old.second) i j → IsUncreated i j u.cause)
   pub first_moments : Tells (told old.first) → LeavesOnly (told old.first) (told (opened_disks result).first) (λ c. IsBlankOrFirst (begun own role generator) c ⊎ (told old.first).may_leave c)
   pub second_moments : Tells (told old.second) → LeavesOnly (told old.second) (told (opened_disks result).second) (λ c. IsBlankOrFirst (begun own role generator) c ⊎ (told old.second).may_leave c)
   -- the first is made before the second is touched
   pub order : IfErr result (λ u. (reason : Cause) → u.cause ≡ First reason → IsUntouched (told old.second) (told u.disks.second))
   -- the second is as it was, or each image of the first that a crash may leave stands for the party
-  pub kept : IfErr result (λ u. IsUntouched (told old.second) (told u.disks.second) ⊎ IsKeptOn (told u.disks.first) (begun own role generator))
+  pub kept : IfErr result (λ u. IsUntouched (told old.second) (told u.disks.second) ⊎ IsKeptOn (told u.disks.first) (begun own role generator) (space_of_whole Two (begun own role generator)))
   pub fault : IfErr result (λ u. HasPairFault told old u.disks u.cause)
   pub keeps : KeepsPair told old (opened_disks result)

@@ -6,10 +6,10 @@ use Rattle.party_state.specs.State.{Party}
 use Rattle.change_code.specs.declared.space.Space.{Space}
 use Rattle.key_store.specs.Store.{Stored, Stands, StandsWith, StandsAlone, IsStore}
 
--- each image of the disk that a crash may leave now stands for the party
-pub record IsKeptOn (v : View) (party : Party) : Type 0 where
+-- each image of the disk that a crash may leave now stands for the party, with this space
+pub record IsKeptOn (v : View) (party : Party) (space : Space) : Type 0 where
   pub durable : IsDurable v
-  pub stands : (image : List ℕ) → v.now ≡ Some image → Stands image party
+  pub stands : (image : List ℕ) → v.now ≡ Some image → StandsWith image party space
 
 -- both images stand for the party
 pub record PairStands (first second : List ℕ) (party : Party) : Type 0 where

@@ -10,7 +10,6 @@ use Rattle.change_code.specs.declared.format.Format.{Format}
 use Rattle.change_code.specs.declared.space.Space.{Space}
 use Rattle.key_store.specs.Store.{IsStore, space_between}
 use Rattle.disk_pair.specs.Pairs.{ThirdsStay}
-use Rattle.mirror_store.specs.Pairs.{IsKeptOn}
 use Rattle.x_party.specs.Images.{DiskStandsFor}
 
 alike_trans : (u v w : View) → IsAlike u v → IsAlike v w → IsAlike u w
@@ -56,9 +55,6 @@ durable_alike v w durable alike = record {
   only = λ b c now stays. durable.only b c (sym alike.now ∙ now) (alike.images c stays);
   stable = alike.stable ∙ (durable.stable ∙ sym alike.now);
 }
-
-pub kept_alike : (v w : View) (party : Party) → IsKeptOn v party → IsAlike v w → IsKeptOn w party
-kept_alike v w party kept alike = record { durable = durable_alike v w kept.durable alike; stands = λ image now. kept.stands image (sym alike.now ∙ now) }
 
 pub stands_alike : (v w : View) (party : Party) (left : Space) → DiskStandsFor v party left → IsAlike v w → DiskStandsFor w party left
 stands_alike v w party left stands alike = record {

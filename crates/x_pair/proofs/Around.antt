@@ -5,6 +5,8 @@ use Rattle.x_disk.specs.Disk.{View, IsSound, IsUntouched}
 use Rattle.x_disk.specs.Shelf.{ShelfView, IsAlike}
 use Rattle.x_disk.proofs.Runs.{weaker}
 use Rattle.party_state.specs.State.{Party}
+use Rattle.change_code.specs.Cost.{space_of_whole}
+use Rattle.change_code.specs.declared.format.Format.TheVariants.{Two}
 use Rattle.key_store.specs.Store.{IsBlankOrFirst}
 use Rattle.disk_pair.specs.declared.disks.Disks.{Disks}
 use Rattle.mirror_store.specs.Pairs.{IsMadeAnew, IsAsBefore}
@@ -16,7 +18,7 @@ use Rattle.x_party.specs.declared.outcome.Outcome.TheVariants as outcome
 use Rattle.x_pair.specs.Outcomes.{Work, OfOpened, MakesOf, MakesPair, IsAsOpened, KeepsNext, IsSafePair, MayLeave, Opened, After, AsItWas, Before, left_on_first, left_on_second, LeavesPair}
 use Rattle.x_pair.specs.Creations.{CreatesPair, IsSafeCreation, IsDueOrFailed, StandsWhereDone}
 use Rattle.x_pair.specs.Steps.{HasActed, HasCreated, HasFaults, AreOut, AreBack, IsClosed}
-use Rattle.x_pair.proofs.Alike.{kept_alike, durable_alike, stands_alike, thirds_on, untouched_alike, leaves_around, untouched_around}
+use Rattle.x_pair.proofs.Alike.{durable_alike, stands_alike, thirds_on, untouched_alike, leaves_around, untouched_around}
 
 rose_some : (before after : ℕ) → before ≡ 0 → Rose before after → 0 < after
 rose_some before after none (inl less) = omega (arith, none, less)
@@ -189,7 +191,7 @@ module _ (first second out_first out_second mid_first mid_second new_first new_s
 
   module _ (party : Party) where
     stands_back : (o : Outcome) → StandsWhereDone o mid_first mid_second party → StandsWhereDone o new_first new_second party
-    stands_back (outcome.Done reply) is = (kept_alike mid_first new_first party is.0 first_back, kept_alike mid_second new_second party is.1 second_back)
+    stands_back (outcome.Done reply) is = (stands_alike mid_first new_first party (space_of_whole Two party) is.0 first_back, stands_alike mid_second new_second party (space_of_whole Two party) is.1 second_back)
     stands_back (outcome.Refused verdict reply) is = tt
     stands_back (outcome.OtherParty a b) is = tt
     stands_back (outcome.Damaged place) is = tt
@@ -222,7 +224,7 @@ module _ (first second out_first out_second mid_first mid_second new_first new_s
           (leaves_around second out_second mid_second new_second second_out second_back (OrBefore out_second (IsBlankOrFirst party)) (safe.on_second (ap is_some second_out.now ∙ tells))) before_second;
       order = elim safe.order [
         | inl still ↦ inl (untouched_around second out_second mid_second new_second second_out second_back still)
-        | inr kept ↦ inr (kept_alike mid_first new_first party kept first_back)
+        | inr kept ↦ inr (stands_alike mid_first new_first party (space_of_whole Two party) kept first_back)
       ];
       first_tells = ap is_some first_back.now ∙ (safe.first_tells ∙ ap is_some first_out.now);
       second_tells = ap is_some second_back.now ∙ (safe.second_tells ∙ ap is_some second_out.now);

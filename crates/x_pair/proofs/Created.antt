@@ -1,12 +1,15 @@
 -- A party is created on two disks.
 use Rattle.std.proofs.Common.{◌≡◌, ◌⊎◌, inl, inr, ℕ, true, false, List, None, Ok, Err, refl, sym, ◌∙◌, ap, subst}
-use Rattle.x_disk.specs.Disk.{View}
+use Rattle.x_disk.specs.Disk.{View, IsUntouched}
 use Rattle.key_journal.specs.Journal.{is_blank}
 use Rattle.key_journal.specs.declared.cause.Cause.TheVariants as cause
-use Rattle.party_state.specs.State.{begun}
+use Rattle.party_state.specs.State.{Party, begun}
+use Rattle.change_code.specs.Cost.{space_of_whole}
+use Rattle.change_code.specs.declared.format.Format.TheVariants.{Two}
+use Rattle.change_code.specs.declared.space.Space.{Space}
 use Rattle.x_base.specs.declared.party.Role.{Role}
 use Rattle.x_gen.specs.declared.generator.Gen.{Gen}
-use Rattle.key_store.specs.Store.{Stands}
+use Rattle.key_store.specs.Store.{Stored, IsStore, space}
 use Rattle.disk_pair.specs.declared.disks.Disks.{Disks}
 use Rattle.mirror_store.specs.Pairs.{IsKeptOn, Twin}
 use Rattle.mirror_store.specs.Answers.{twin_disks}
@@ -14,10 +17,12 @@ use Rattle.mirror_store.specs.Creating.{IsPairCreated, IsUncreated}
 use Rattle.mirror_store.specs.declared.pair.PairCause.{PairCause}
 use Rattle.mirror_store.specs.declared.pair.PairCause.TheVariants.{First, Second, OtherParty, TooLarge}
 use Rattle.mirror_store.specs.declared.pair.PairUnmade.{PairUnmade}
+use Rattle.x_party.specs.Images.{DiskStandsFor}
 use Rattle.x_party.specs.declared.outcome.Outcome.{Outcome}
 use Rattle.x_party.specs.declared.outcome.Outcome.TheVariants as outcome
-use Rattle.x_pair.specs.Creations.{CreatesPair, GivesDueCreation, IsDueOfTwo, IsDueOrFailed, StandsWhereDone}
+use Rattle.x_pair.specs.Creations.{CreatesPair, GivesDueCreation, IsDueOfTwo, IsDueOrFailed, DiskStandsAlone, StandsWhereDone}
 use Rattle.x_pair.specs.Steps.{HasCreated, outcome_of_pair}
+use Rattle.x_pair.proofs.Alike.{store_stands}
 use Rattle.x_pair.proofs.Opened.{refused_rose}
 
 -- why it isn't created
@@ -50,30 +55,32 @@ none_stands (OtherParty one other) a b own role generator = tt
 none_stands TooLarge a b own role generator = tt
 
 module _ {D : Type 0} (told : D → View) (own : List ℕ) (role : Role) (generator : Gen) (old : Disks D) where
-  first_kept : (m : Twin D) → IsPairCreated told own role generator old (Ok m) → IsKeptOn (told m.first.disk) (begun own role generator)
-  first_kept m is = record {
-    durable = is.stand.first_stands.durable;
-    stands = λ image now. subst (Stands image) is.party (record { format = m.first.format; stands = is.stand.first_stands.stands image now });
-  }
+  stands_alone : (s : Stored D) (party : Party) → IsStore (told s.disk) s.gate s.end s.format s.party → s.party ≡ party → space s ≡ space_of_whole Two party → DiskStandsAlone (told s.disk) party
+  stands_alone s party store same left =
+      subst (λ (p : Party). DiskStandsFor (told s.disk) p (space_of_whole Two party)) same
+      (subst (λ (room : Space). DiskStandsFor (told s.disk) s.party room) left (store_stands (told s.disk) s.gate s.end s.format s.party store))
+
+  first_stands : (m : Twin D) → IsPairCreated told own role generator old (Ok m) → DiskStandsAlone (told m.first.disk) (begun own role generator)
+  first_stands m is = stands_alone m.first (begun own role generator) is.stand.first_stands is.party is.left.0
+
+  -- what is kept on the first disk, where the second failed
+  kept_first : (u : PairUnmade D) → IsUntouched (told old.second) (told u.disks.second) ⊎ IsKeptOn (told u.disks.first) (begun own role generator) (space_of_whole Two (begun own role generator))
+      → IsUntouched (told old.second) (told u.disks.second) ⊎ DiskStandsAlone (told u.disks.first) (begun own role generator)
+  kept_first u (inl still) = inl still
+  kept_first u (inr kept) = inr (record { durable = kept.durable; reads = kept.stands })
 
   pub created : (m : Twin D) → IsPairCreated told own role generator old (Ok m) → (new : Disks D) → new ≡ twin_disks m → HasCreated (begun own role generator) told old new (outcome.Done None)
   created m is new same = subst (λ (n : Disks D). HasCreated (begun own role generator) told old n (outcome.Done None)) (sym same) (record {
     makes = record {
       is_due = λ i j read. (refl, (is.blank i j read).0, (is.blank i j read).1);
-      stand = (
-        first_kept m is,
-        record {
-          durable = is.stand.second_stands.durable;
-          stands = λ image now. subst (Stands image) (is.stand.same ∙ is.party) (record { format = m.second.format; stands = is.stand.second_stands.stands image now });
-        },
-      );
+      stand = (first_stands m is, stands_alone m.second (begun own role generator) is.stand.second_stands (is.stand.same ∙ is.party) is.left.1);
     };
     safe = record {
       first_stays = is.first_stays;
       second_stays = is.second_stays;
       on_first = is.first_moments;
       on_second = is.second_moments;
-      order = inr (first_kept m is);
+      order = inr (first_stands m is);
       first_tells = is.keeps.first_tells;
       second_tells = is.keeps.second_tells;
     };
@@ -91,7 +98,7 @@ module _ {D : Type 0} (told : D → View) (own : List ℕ) (role : Role) (genera
       second_stays = is.second_stays;
       on_first = is.first_moments;
       on_second = is.second_moments;
-      order = is.kept;
+      order = kept_first u is.kept;
       first_tells = is.keeps.first_tells;
       second_tells = is.keeps.second_tells;
     };

@@ -5,10 +5,11 @@ use Rattle.x_base.specs.declared.verdict.Verdict.TheVariants.{NotEmpty}
 use Rattle.x_disk.specs.Disk.{View, Tells, LeavesOnly, IsUntouched}
 use Rattle.key_journal.specs.Journal.{is_blank}
 use Rattle.party_state.specs.State.{Party}
+use Rattle.change_code.specs.Cost.{space_of_whole}
+use Rattle.change_code.specs.declared.format.Format.TheVariants.{Two}
 use Rattle.key_store.specs.Store.{IsBlankOrFirst}
-use Rattle.mirror_store.specs.Pairs.{IsKeptOn}
 use Rattle.mirror_store.specs.Opening.{AreRead}
-use Rattle.x_party.specs.Images.{OrBefore, StillTells}
+use Rattle.x_party.specs.Images.{DiskStandsFor, OrBefore, StillTells}
 use Rattle.x_party.specs.declared.outcome.Outcome.{Outcome}
 use Rattle.x_party.specs.declared.outcome.Outcome.TheVariants as outcome
 
@@ -18,9 +19,13 @@ IsDueOfTwo i j (outcome.Done reply) = (reply ≡ None) × (is_blank i ≡ true) 
 IsDueOfTwo i j (outcome.Refused verdict reply) = (verdict ≡ NotEmpty) × (reply ≡ None) × ((is_blank i ≡ false) ⊎ (is_blank j ≡ false))
 IsDueOfTwo i j o = ⊥
 
+-- each image that a crash may leave stands for the party alone in its area, in format 2
+abbrev pub DiskStandsAlone : View → Party → Type 0
+DiskStandsAlone v party = DiskStandsFor v party (space_of_whole Two party)
+
 -- where a party is created, both disks stand for it
 abbrev pub StandsWhereDone : Outcome → View → View → Party → Type 0
-StandsWhereDone (outcome.Done reply) first_after second_after party = IsKeptOn first_after party × IsKeptOn second_after party
+StandsWhereDone (outcome.Done reply) first_after second_after party = DiskStandsAlone first_after party × DiskStandsAlone second_after party
 StandsWhereDone o first_after second_after party = Unit {0}
 
 -- the outcome is the one that is due, a fault or want of memory
@@ -47,6 +52,6 @@ pub record IsSafeCreation (party : Party) (first second first_after second_after
   pub on_first : Tells first → LeavesOnly first first_after (OrBefore first (IsBlankOrFirst party))
   pub on_second : Tells second → LeavesOnly second second_after (OrBefore second (IsBlankOrFirst party))
   -- nothing is written on the second, or each image of the first that a crash may leave stands for the party
-  pub order : IsUntouched second second_after ⊎ IsKeptOn first_after party
+  pub order : IsUntouched second second_after ⊎ DiskStandsAlone first_after party
   pub first_tells : StillTells first first_after
   pub second_tells : StillTells second second_after
