@@ -97,7 +97,7 @@ module _ {D : Type 0} (told : D → View) (old after : D) (party : NewParty) (sa
       where
         pick : (b : List ℕ) → (told old).now ≡ Some b → is_blank b ≡ true → (c : List ℕ) → IsBlankOrFirst (begun party.own party.role party.generator) c ⊎ (told after).may_leave c → OrBefore (told after) (BeginsInPart (told old) (new_member party) loads) c
         pick b was is c (inl (inl blank)) = inl (reads_blank b was is, inl blank)
-        pick b was is c (inl (inr stands)) = inl (reads_blank b was is, inr (0, record { bodies = stands.bodies; holds = stands.holds; fold = stands.fold }))
+        pick b was is c (inl (inr stands)) = inl (reads_blank b was is, inr (0, stands))
         pick b was is c (inr may) = inr may
 
         go : (b : List ℕ) → (told old).now ≡ Some b → (t : Bool) → is_blank b ≡ t → AddsOnly (told after) (told (store_disk result)) (BeginsInPart (told old) (new_member party) loads)
@@ -136,7 +136,7 @@ module _ {D : Type 0} (told : D → View) (old after : D) (party : NewParty) (sa
 
         left : (b : List ℕ) → (told old).now ≡ Some b → is_blank b ≡ true → IsBlankOrFirst (begun party.own party.role party.generator) image ⊎ (told after).may_leave image → IsBeginning (told old) (new_member party) loads image
         left b was is (inl (inl blank)) = inr (reads b was is, inl blank)
-        left b was is (inl (inr stands)) = inr (reads b was is, inr (0, record { bodies = stands.bodies; holds = stands.holds; fold = stands.fold }))
+        left b was is (inl (inr stands)) = inr (reads b was is, inr (0, stands))
         left b was is (inr may) = inl (was ∙ ap Some (sym (durable.only b image (same ∙ was) may)))
 
         go : (b : List ℕ) → (told old).now ≡ Some b → (t : Bool) → is_blank b ≡ t → IsBeginning (told old) (new_member party) loads image

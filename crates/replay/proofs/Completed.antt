@@ -6,9 +6,7 @@ use Rattle.std.proofs.lemmas.List.Elements.{filter_map-append}
 use Rattle.x_disk.specs.Disk.{View, IsSound, LeavesOnly}
 use Rattle.x_disk.proofs.Runs.{joined, weaker}
 use Rattle.party_tables.specs.declared.link.LinkRec.{LinkRec}
-use Rattle.change_code.specs.declared.format.Format.{Format}
-use Rattle.change_code.specs.declared.format.Format.TheVariants.{Two}
-use Rattle.key_store.specs.Store.{Stored, Fold, StandsAs, IsStore, space}
+use Rattle.key_store.specs.Store.{Stored, IsStore, space}
 use Rattle.scenario.specs.declared.line.Line.{Line}
 use Rattle.scenario.specs.Behind.{EachBehind}
 use Rattle.scenario.specs.Rules.{may_follow}
@@ -29,11 +27,6 @@ none_or_all : (o : Option LinkRec) (k : ℕ) → (take k (option_to_list o) ≡ 
 none_or_all None k = inl (take_all k [] (omega arith))
 none_or_all (Some l) zero = inl refl
 none_or_all (Some l) (suc k) = inr (ap (λ (ls : List LinkRec). l ∷ ls) (take_all k [] (omega arith)))
-
--- loads keep the format
-same_format : (x : Member) (ls : List LinkRec) → (with_loads x ls).space.format ≡ x.space.format
-same_format x [] = refl
-same_format x (l ∷ ls) = same_format (with_load x l) ls
 
 -- the first of some are the first of more
 first_of_more : (a b : List LinkRec) (k : ℕ) → (n : ℕ) × (take k a ≡ take n (a ++ b))
@@ -139,14 +132,9 @@ module _ {D : Type 0} (told : D → View) (old : Stored D) where
       member = done.member ∙ ap (λ (m : Member). with_loads m (loads_of party.own lines)) begun_is.member;
     }
 
-    stands_in : (image : List ℕ) (ls : List LinkRec) → IsImageOf (with_loads (member_of old) ls) image → StandsAs image Two (with_loads (new_member party) ls).party
-    stands_in image ls stands =
-        let there = subst (λ (m : Member). IsImageOf (with_loads m ls) image) begun_is.member stands in
-        record { bodies = there.bodies; holds = there.holds; fold = subst (λ (f : Format). Fold f there.bodies (with_loads (new_member party) ls).party) (same_format (new_member party) ls) there.fold }
-
     module _ (loads : List LinkRec) (sound : IsSound (told old.disk)) (only : BeginsOnly v (told old.disk) (new_member party) loads) where
       begun_in : (image : List ℕ) → IsLoadedInPart (member_of old) loads image → BeginsInPart v (new_member party) loads image
-      begun_in image p = (begun_is.blank, inr (p.0, stands_in image (take p.0 loads) p.1))
+      begun_in image p = (begun_is.blank, inr (p.0, subst (λ (m : Member). IsImageOf (with_loads m (take p.0 loads)) image) begun_is.member p.1))
 
       -- a crash at any moment of the set-up
       pub makes_only : (w : View) → (is_some (told old.disk).now ≡ true → LeavesOnly (told old.disk) w (IsLoadedInPart (member_of old) loads)) → BeginsOnly v w (new_member party) loads

@@ -2,8 +2,6 @@
 use Rattle.std.specs.Prelude.{◌≡◌, ◌⊎◌, ◌++◌, ◌≤◌, ℕ, true, List, [], ◌∷◌, take, Option, Some, Contains}
 use Rattle.x_disk.specs.Disk.{View, LeavesOnly}
 use Rattle.key_journal.specs.Journal.{is_blank}
-use Rattle.change_code.specs.declared.format.Format.TheVariants.{Two}
-use Rattle.key_store.specs.Store.{StandsAs}
 use Rattle.scenario.specs.declared.line.Line.{Line}
 use Rattle.member.specs.Member.{Member}
 use Rattle.node_core.specs.Turns.{IsImageOf}
@@ -66,13 +64,14 @@ pub record IsOfLines (before after : ℕ) (lines : List Line) (start : Course) (
   pub leads : LinesLead true before after front start course
   pub party : IsPartyOf course.world own image ⊎ IsBehindNext back course own image
 
--- the image stands for the party of this name as its line declares it, with none or some of its links, in their order
+-- the image stands for the party of this name as its line declares it, with none or some of its links, in their order, and with
+-- the room that they leave
 pub record IsMadeInPart (lines : List Line) (own image : List ℕ) : Type 0 where
   pub party : NewParty
   pub declared : Contains lines (line_of_party party)
   pub named : party.own ≡ own
   pub links : ℕ
-  pub stands : StandsAs image Two (with_loads (new_member party) (take links (loads_of own lines))).party
+  pub stands : IsImageOf (with_loads (new_member party) (take links (loads_of own lines))) image
 
 -- in the set-up: no party yet, or a part of it
 abbrev pub IsSetUpInPart : List Line → List ℕ → List ℕ → Type 0

@@ -10,7 +10,7 @@ use Rattle.party_tables.specs.declared.link.LinkRec.{LinkRec}
 use Rattle.party_state.specs.declared.edit.Edit.TheVariants.{PutLink}
 use Rattle.change_code.specs.Cost.{cost}
 use Rattle.change_code.specs.declared.format.Format.TheVariants.{Two}
-use Rattle.key_store.specs.Store.{Stored, StandsAs, space}
+use Rattle.key_store.specs.Store.{Stored, space}
 use Rattle.scenario.specs.declared.line.Line.{Line}
 use Rattle.member.specs.Member.{Member}
 use Rattle.node_core.specs.Turns.{member_of, IsImageOf, IsOldOrNext}
@@ -114,9 +114,9 @@ pub record IsSetUp {D : Type 0} (told : D → View) (old : View) (x : Member) (n
   pub tells : is_some (told node.disk).now ≡ is_some old.now
   pub member : member_of node ≡ x
 
--- the disk read blank, and the image is blank, or stands in format 2 for the party with none or some of its loads, in order
+-- the disk read blank, and the image is blank, or stands for the member with none or some of its loads, in order
 abbrev pub BeginsInPart : View → Member → List LinkRec → List ℕ → Type 0
-BeginsInPart old x loads image = ReadsBlank old × ((is_blank image ≡ true) ⊎ ((k : ℕ) × StandsAs image Two (with_loads x (take k loads)).party))
+BeginsInPart old x loads image = ReadsBlank old × ((is_blank image ≡ true) ⊎ IsLoadedInPart x loads image)
 
 -- what a read gives of the disk of the party at hand: what it gave before, or a part of the set-up
 abbrev pub IsBeginning : View → Member → List LinkRec → List ℕ → Type 0
