@@ -38,10 +38,11 @@ module _ (party : List ℕ) (moment : ℕ) (a : Arrival) (rest : Type 0) (left :
   leaves status.Done o notice before after ends has = of_done o notice before after ends has
   leaves s o notice before after ends has = refl
 
--- where no message is taken there is none
-pub none_left : (o : Order) → ((party : List ℕ) → o ≡ order.Take party → ⊥) → (moment : ℕ) (s : Status) (left : Option (List ℕ)) (old : List ℕ → View) → LeavesNotice true o moment s left old None
-none_left (order.Take party) never moment s left old = absurd (never party refl)
-none_left o never moment s left old = refl
+-- where no message is taken, or no notice of it is wanted, there is none
+pub none_left : (wanted : Bool) (o : Order) → ((party : List ℕ) → wanted ≡ true → o ≡ order.Take party → ⊥) → (moment : ℕ) (s : Status) (left : Option (List ℕ)) (old : List ℕ → View)
+    → LeavesNotice wanted o moment s left old None
+none_left true (order.Take party) never moment s left old = absurd (never party refl refl)
+none_left wanted o never moment s left old = refl
 
 -- nor where it isn't done
 pub none_unread : (party : List ℕ) (moment : ℕ) (s : Status) (left : Option (List ℕ)) (old : List ℕ → View) → (s ≡ status.Done → ⊥) → LeavesNotice true (order.Take party) moment s left old None

@@ -6,7 +6,6 @@ mod carrying;
 mod courses;
 mod drilling;
 mod helping;
-mod notice;
 mod replaying;
 mod top;
 

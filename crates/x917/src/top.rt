@@ -19,7 +19,6 @@ ghost use Rattle.x917.specs.Network.{IsNetworkEvent};
 
 use crate::carrying::carry_out;
 use crate::helping::help_or_fault;
-use crate::notice::carry_out_with_notice;
 use call_ends::Status;
 use call_laws::law_calls;
 use party_calls::carry_out_mirrored;
@@ -27,8 +26,8 @@ use std::alloc::Global;
 use x_base::{Sink, Source, Text, Words};
 use x_disk::{MemoryShelf, Shelf};
 use x_line::{
-    LineFault, law_few_events, law_ledger_apart, law_mirror_apart, law_one_order, law_spool_apart,
-    read_order,
+    Given, LineFault, law_few_events, law_ledger_apart, law_mirror_apart, law_one_order,
+    law_spool_apart, read_order,
 };
 
 /// Runs the command that the words name, at a moment: `check` and `audit` over the source and the sink, `replay` over the disks of the
@@ -109,10 +108,10 @@ pub fn run<S: Source, K: Sink, H: Shelf>(
     law_calls::<H>();
     match read_order(alloc, words) {
         Ok(given) => match given.mirror {
-            None if given.tell => {
-                carry_out_with_notice(alloc, given.order, moment, source, sink, shelf, notice)
+            None => {
+                let Given { order, tell, .. } = given;
+                carry_out(alloc, order, tell, moment, source, sink, shelf, notice)
             }
-            None => carry_out(alloc, given.order, moment, source, sink, shelf),
             Some(mirror) => {
                 carry_out_mirrored(alloc, given.order, &mirror, moment, source, sink, shelf)
             }

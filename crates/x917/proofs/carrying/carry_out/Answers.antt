@@ -1,9 +1,11 @@
-use Rattle.std.proofs.Common.{◌≡◌, ◌∙◌, refl, sym, subst}
+use Rattle.std.proofs.Common.{◌≡◌, ◌∙◌, ℕ, List, Option, refl, sym, subst}
 use Rattle.x_disk.specs.Shelf.{alike_refl}
 use Rattle.x_line.specs.declared.order.Order.{Order}
 use Rattle.x_line.specs.declared.order.Order.TheVariants as order
 use Rattle.call_ends.specs.Transfer.{TookAtMost}
+use Rattle.party_calls.specs.Notice.{LeavesNotice}
 use Rattle.party_calls.specs.Obeys.{Obeys, LeavesOthers, IsWithin, most_of}
+use Rattle.party_calls.proofs.Noticing.{none_left}
 use Rattle.party_calls.proofs.Orders.{took_nothing}
 use Rattle.x917.specs.Expects.{Expects, IsSilentOf}
 use Rattle.x917.proofs.Audits.{cause_audited}
@@ -33,6 +35,8 @@ returns-in-Replay g c =
       replays = λ same. r.replays;
       drills = λ seed events same. (let no : order.Replay ≡ order.Drill seed events = sym is ∙ same in absurd cc);
       audits = λ same. (let no : order.Replay ≡ order.Audit = sym is ∙ same in absurd cc);
+      notice = subst (λ (n : Option (List ℕ)). LeavesNotice c.args.tell c.args.order c.args.moment s left old n) (sym c.requires.none)
+          (none_left c.args.tell c.args.order (λ party wanted same. (let no : order.Replay ≡ order.Take party = sym is ∙ same in absurd cc)) c.args.moment s left old);
     }
 
 pub returns-in-Drill : goal.returns-in-Drill
@@ -61,13 +65,15 @@ returns-in-Drill g c =
           let second : c.in-Drill.events ≡ events = cc in
           (rw (← first, ← second) r.drills, refl, refl));
       audits = λ same. (let no : order.Drill c.in-Drill.seed c.in-Drill.events ≡ order.Audit = sym is ∙ same in absurd cc);
+      notice = subst (λ (n : Option (List ℕ)). LeavesNotice c.args.tell c.args.order c.args.moment s left entry n) (sym c.requires.none)
+          (none_left c.args.tell c.args.order (λ party wanted same. (let no : order.Drill c.in-Drill.seed c.in-Drill.events ≡ order.Take party = sym is ∙ same in absurd cc)) c.args.moment s left entry);
     }
 
 pub drill_all-requires-clause-low : goal.drill_all-requires-clause-low
-drill_all-requires-clause-low g c = (subst IsWithin c.in-Drill.is c.requires).0
+drill_all-requires-clause-low g c = (subst IsWithin c.in-Drill.is c.requires.within).0
 
 pub drill_all-requires-clause-high : goal.drill_all-requires-clause-high
-drill_all-requires-clause-high g c = (subst IsWithin c.in-Drill.is c.requires).1
+drill_all-requires-clause-high g c = (subst IsWithin c.in-Drill.is c.requires.within).1
 
 pub returns-in-Audit : goal.returns-in-Audit
 returns-in-Audit g c =
@@ -91,28 +97,20 @@ returns-in-Audit g c =
       replays = λ same. (let no : order.Audit ≡ order.Replay = sym is ∙ same in absurd cc);
       drills = λ seed events same. (let no : order.Audit ≡ order.Drill seed events = sym is ∙ same in absurd cc);
       audits = λ same. (r.audits, refl);
+      notice = subst (λ (n : Option (List ℕ)). LeavesNotice c.args.tell c.args.order c.args.moment s left entry n) (sym c.requires.none)
+          (none_left c.args.tell c.args.order (λ party wanted same. (let no : order.Audit ≡ order.Take party = sym is ∙ same in absurd cc)) c.args.moment s left entry);
     }
-
-pub obey-requires-clause-within : goal.obey-requires-clause-within
-obey-requires-clause-within g c = c.requires
-
-pub obey-requires-clause-replays : goal.obey-requires-clause-replays
-obey-requires-clause-replays g c = c.in_default.not-Replay
-
-pub obey-requires-clause-audits : goal.obey-requires-clause-audits
-obey-requires-clause-audits g c = c.in_default.not-Audit
-
-pub obey-requires-clause-drills : goal.obey-requires-clause-drills
-obey-requires-clause-drills g c = c.in_default.not-Drill
 
 pub returns-in_default : goal.returns-in_default
 returns-in_default g c =
     let o = c.args.order in
-    let s = c.obey.result in
-    let r = c.obey.ensures in
+    let s = c.obey-in_default.result in
+    let r = c.obey-in_default.ensures in
+    let left = g.S.Source.left c.args.source.now in
+    let old = g.H.Shelf.entry c.args.shelf.now in
     record {
       obeys = r.obeys;
-      expects = λ read_quiet put_quiet disk_quiet. expects_of o c.args.moment (g.S.Source.left c.args.source.now) (g.H.Shelf.entry c.args.shelf.now) s
+      expects = λ read_quiet put_quiet disk_quiet. expects_of o c.args.moment left old s
           c.in_default.not-Replay c.in_default.not-Audit c.in_default.not-Drill (r.expects read_quiet put_quiet disk_quiet);
       others = r.others;
       cause = r.cause;
@@ -121,4 +119,6 @@ returns-in_default g c =
       replays = λ same. absurd (c.in_default.not-Replay same);
       drills = λ seed events same. absurd (c.in_default.not-Drill seed events same);
       audits = λ same. absurd (c.in_default.not-Audit same);
+      notice = subst (λ (n : Option (List ℕ)). LeavesNotice c.args.tell o c.args.moment s left old n) (sym c.requires.none)
+          (none_left c.args.tell o (λ party wanted same. c.in_default.not-Take party same) c.args.moment s left old);
     }

@@ -1,4 +1,4 @@
-use Rattle.std.proofs.Common.{◌≡◌, ◌∙◌, List, ℕ, Bool, Option, Some, None, Err, inl, inr, true, refl, sym, ap, subst}
+use Rattle.std.proofs.Common.{◌≡◌, ◌∙◌, List, ℕ, Bool, Option, Some, None, Err, inl, inr, refl, sym, ap, subst}
 use Rattle.x_disk.specs.Shelf.{alike_refl}
 use Rattle.call_ends.specs.declared.status.Status.TheVariants as status
 use Rattle.x_line.specs.declared.order.Order.{Order}
@@ -25,15 +25,10 @@ use Rattle.party_calls.proofs.Mirrors.{idle_mirrored, left_all, never_both, not_
 use Rattle.x917.proofs.NetworkEvents.{network_event}
 use Rattle.x917.proofs.top.run.Goals as goal
 
-pub returns-in-None-2-clause-complete : goal.returns-in-None-2-clause-complete
-returns-in-None-2-clause-complete g c = λ o is read_quiet put_quiet disk_quiet.
-    subst (λ (x : Order). Expects x c.args.moment (g.S.Source.left c.args.source.now) (g.H.Shelf.entry c.args.shelf.now) c.carry_out.result)
-    ((c.law_one_order.ensures c.args.words.now c.in-Ok.given.order o c.in-Ok.given.mirror None c.in-Ok.ensures.order is).0) (c.carry_out.ensures.expects read_quiet put_quiet disk_quiet)
-
 pub returns-in-None-clause-complete : goal.returns-in-None-clause-complete
 returns-in-None-clause-complete g c = λ o is read_quiet put_quiet disk_quiet.
-    subst (λ (x : Order). Expects x c.args.moment (g.S.Source.left c.args.source.now) (g.H.Shelf.entry c.args.shelf.now) c.carry_out_with_notice.result)
-    ((c.law_one_order.ensures c.args.words.now c.in-Ok.given.order o c.in-Ok.given.mirror None c.in-Ok.ensures.order is).0) (c.carry_out_with_notice.ensures.expects read_quiet put_quiet disk_quiet)
+    subst (λ (x : Order). Expects x c.args.moment (g.S.Source.left c.args.source.now) (g.H.Shelf.entry c.args.shelf.now) c.carry_out.result)
+    ((c.law_one_order.ensures c.args.words.now c.in-Ok.given.order o c.in-Ok.given.mirror None c.in-Ok.ensures.order is).0) (c.carry_out.ensures.expects read_quiet put_quiet disk_quiet)
 
 pub returns-in-Err-NoMemory-clause-complete : goal.returns-in-Err-NoMemory-clause-complete
 returns-in-Err-NoMemory-clause-complete g c = λ o is read_quiet put_quiet disk_quiet. forgets_order c.args.moment (g.H.Shelf.entry c.args.shelf.now) o (g.S.Source.left c.args.source.now)
@@ -42,27 +37,22 @@ pub returns-in-Err-NoMemory-clause-obeys : goal.returns-in-Err-NoMemory-clause-o
 returns-in-Err-NoMemory-clause-obeys g c = λ o is.
     idle c.args.moment (g.S.Source.left c.args.source.now) (g.K.Sink.written c.args.sink.now) (g.H.Shelf.entry c.args.shelf.now) (λ name. g.met.H.Shelf.sound c.args.shelf.now name) o
 
-pub returns-in-None-2-clause-others : goal.returns-in-None-2-clause-others
-returns-in-None-2-clause-others g c = λ o is.
+pub returns-in-None-clause-others : goal.returns-in-None-clause-others
+returns-in-None-clause-others g c = λ o is.
     subst (λ (x : Order). LeavesOthers x c.carry_out.result (g.H.Shelf.is_back c.carry_out.new.shelf) (c.carry_out.new.source ≡ c.args.source.now) (g.H.Shelf.entry c.args.shelf.now) (g.H.Shelf.entry c.carry_out.new.shelf))
     ((c.law_one_order.ensures c.args.words.now c.in-Ok.given.order o c.in-Ok.given.mirror None c.in-Ok.ensures.order is).0) c.carry_out.ensures.others
 
-pub returns-in-None-clause-others : goal.returns-in-None-clause-others
-returns-in-None-clause-others g c = λ o is.
-    subst (λ (x : Order). LeavesOthers x c.carry_out_with_notice.result (g.H.Shelf.is_back c.carry_out_with_notice.new.shelf) (c.carry_out_with_notice.new.source ≡ c.args.source.now) (g.H.Shelf.entry c.args.shelf.now) (g.H.Shelf.entry c.carry_out_with_notice.new.shelf))
-    ((c.law_one_order.ensures c.args.words.now c.in-Ok.given.order o c.in-Ok.given.mirror None c.in-Ok.ensures.order is).0) c.carry_out_with_notice.ensures.others
-
 pub returns-in-None-clause-faults : goal.returns-in-None-clause-faults
 returns-in-None-clause-faults g c =
-    faults_of c.carry_out_with_notice.result (g.S.Source.faults c.args.source.now) (g.S.Source.faults c.carry_out_with_notice.new.source) (g.K.Sink.faults c.args.sink.now) (g.K.Sink.faults c.carry_out_with_notice.new.sink)
-    (g.H.Shelf.faults c.args.shelf.now) (g.H.Shelf.faults c.carry_out_with_notice.new.shelf) c.carry_out_with_notice.ensures.cause
+    faults_of c.carry_out.result (g.S.Source.faults c.args.source.now) (g.S.Source.faults c.carry_out.new.source) (g.K.Sink.faults c.args.sink.now) (g.K.Sink.faults c.carry_out.new.sink)
+    (g.H.Shelf.faults c.args.shelf.now) (g.H.Shelf.faults c.carry_out.new.shelf) c.carry_out.ensures.cause
 
 pub returns-in-Err-NoMemory-clause-others : goal.returns-in-Err-NoMemory-clause-others
 returns-in-Err-NoMemory-clause-others g c = λ o is.
     leaves_all o status.NoMemory (g.H.Shelf.is_back c.args.shelf.now) (c.args.source.now ≡ c.args.source.now) (g.H.Shelf.entry c.args.shelf.now) (λ of. of) refl
 
-pub returns-in-None-2-clause-network : goal.returns-in-None-2-clause-network
-returns-in-None-2-clause-network g c = λ o is.
+pub returns-in-None-clause-network : goal.returns-in-None-clause-network
+returns-in-None-clause-network g c = λ o is.
     let laws = c.law_calls.ensures in
     let left = g.S.Source.left c.args.source.now in
     let rest = g.S.Source.left c.carry_out.new.source in
@@ -74,19 +64,6 @@ returns-in-None-2-clause-network g c = λ o is.
     network_event g.H.Shelf.entry laws.commands laws.arrivals laws.compactions laws.migrations c.args.moment c.carry_out.result left rest before after c.args.shelf.now c.carry_out.new.shelf (rows_of_line c.args.words.now) o is.1.1
     (subst (λ (x : Order). Obeys x c.args.moment c.carry_out.result left rest before after old new) same c.carry_out.ensures.obeys)
 
-pub returns-in-None-clause-network : goal.returns-in-None-clause-network
-returns-in-None-clause-network g c = λ o is.
-    let laws = c.law_calls.ensures in
-    let left = g.S.Source.left c.args.source.now in
-    let rest = g.S.Source.left c.carry_out_with_notice.new.source in
-    let before = g.K.Sink.written c.args.sink.now in
-    let after = g.K.Sink.written c.carry_out_with_notice.new.sink in
-    let old = g.H.Shelf.entry c.args.shelf.now in
-    let new = g.H.Shelf.entry c.carry_out_with_notice.new.shelf in
-    let same = (c.law_one_order.ensures c.args.words.now c.in-Ok.given.order o c.in-Ok.given.mirror None c.in-Ok.ensures.order is).0 in
-    network_event g.H.Shelf.entry laws.commands laws.arrivals laws.compactions laws.migrations c.args.moment c.carry_out_with_notice.result left rest before after c.args.shelf.now c.carry_out_with_notice.new.shelf (rows_of_line c.args.words.now) o is.1.1
-    (subst (λ (x : Order). Obeys x c.args.moment c.carry_out_with_notice.result left rest before after old new) same c.carry_out_with_notice.ensures.obeys)
-
 pub returns-in-Err-NoMemory-clause-network : goal.returns-in-Err-NoMemory-clause-network
 returns-in-Err-NoMemory-clause-network g c = λ o is.
     let laws = c.law_calls.ensures in
@@ -96,50 +73,29 @@ returns-in-Err-NoMemory-clause-network g c = λ o is.
     network_event g.H.Shelf.entry laws.commands laws.arrivals laws.compactions laws.migrations c.args.moment status.NoMemory left left written written c.args.shelf.now c.args.shelf.now (rows_of_line c.args.words.now) o is.1.1
     (idle c.args.moment left written entry (λ name. g.met.H.Shelf.sound c.args.shelf.now name) o)
 
-pub carry_out_with_notice-requires-clause-within : goal.carry_out_with_notice-requires-clause-within
-carry_out_with_notice-requires-clause-within g c =
+pub carry_out-requires-clause-within : goal.carry_out-requires-clause-within
+carry_out-requires-clause-within g c =
     within_of c.law_few_events.ensures c.law_ledger_apart.ensures.pays c.law_ledger_apart.ensures.accepts c.law_mirror_apart.ensures.compares c.law_spool_apart.ensures c.args.words.now c.in-Ok.given.order
     (subst (λ (m : Option (List ℕ)). IsGiven c.args.words.now c.in-Ok.given.order m) c.in-None.is c.in-Ok.ensures.order)
-
-pub carry_out-requires : goal.carry_out-requires
-carry_out-requires g c =
-    within_of c.law_few_events.ensures c.law_ledger_apart.ensures.pays c.law_ledger_apart.ensures.accepts c.law_mirror_apart.ensures.compares c.law_spool_apart.ensures c.args.words.now c.in-Ok.given.order
-    (subst (λ (m : Option (List ℕ)). IsGiven c.args.words.now c.in-Ok.given.order m) c.in-None.is c.in-Ok.ensures.order)
-
-pub returns-in-None-2-clause-silent : goal.returns-in-None-2-clause-silent
-returns-in-None-2-clause-silent g c = λ o m is silent.
-    c.carry_out.ensures.silent (subst (λ (x : Order). IsSilentOf x c.carry_out.result) (sym (c.law_one_order.ensures c.args.words.now c.in-Ok.given.order o c.in-Ok.given.mirror m c.in-Ok.ensures.order is).0) silent)
 
 pub returns-in-None-clause-silent : goal.returns-in-None-clause-silent
 returns-in-None-clause-silent g c = λ o m is silent.
-    c.carry_out_with_notice.ensures.silent (subst (λ (x : Order). IsSilentOf x c.carry_out_with_notice.result) (sym (c.law_one_order.ensures c.args.words.now c.in-Ok.given.order o c.in-Ok.given.mirror m c.in-Ok.ensures.order is).0) silent)
-
-pub returns-in-None-2-clause-most : goal.returns-in-None-2-clause-most
-returns-in-None-2-clause-most g c = λ o m is.
-    subst (λ (x : Order). TookAtMost (most_of x) (g.S.Source.left c.args.source.now) (g.S.Source.left c.carry_out.new.source))
-    (c.law_one_order.ensures c.args.words.now c.in-Ok.given.order o c.in-Ok.given.mirror m c.in-Ok.ensures.order is).0 c.carry_out.ensures.most
+    c.carry_out.ensures.silent (subst (λ (x : Order). IsSilentOf x c.carry_out.result) (sym (c.law_one_order.ensures c.args.words.now c.in-Ok.given.order o c.in-Ok.given.mirror m c.in-Ok.ensures.order is).0) silent)
 
 pub returns-in-None-clause-most : goal.returns-in-None-clause-most
 returns-in-None-clause-most g c = λ o m is.
-    subst (λ (x : Order). TookAtMost (most_of x) (g.S.Source.left c.args.source.now) (g.S.Source.left c.carry_out_with_notice.new.source))
-    (c.law_one_order.ensures c.args.words.now c.in-Ok.given.order o c.in-Ok.given.mirror m c.in-Ok.ensures.order is).0 c.carry_out_with_notice.ensures.most
-
-pub returns-in-None-2-clause-replays : goal.returns-in-None-2-clause-replays
-returns-in-None-2-clause-replays g c = λ is. c.carry_out.ensures.replays ((c.law_one_order.ensures c.args.words.now c.in-Ok.given.order order.Replay c.in-Ok.given.mirror None c.in-Ok.ensures.order is).0)
+    subst (λ (x : Order). TookAtMost (most_of x) (g.S.Source.left c.args.source.now) (g.S.Source.left c.carry_out.new.source))
+    (c.law_one_order.ensures c.args.words.now c.in-Ok.given.order o c.in-Ok.given.mirror m c.in-Ok.ensures.order is).0 c.carry_out.ensures.most
 
 pub returns-in-None-clause-replays : goal.returns-in-None-clause-replays
-returns-in-None-clause-replays g c = λ is. c.carry_out_with_notice.ensures.replays ((c.law_one_order.ensures c.args.words.now c.in-Ok.given.order order.Replay c.in-Ok.given.mirror None c.in-Ok.ensures.order is).0)
-
-pub returns-in-None-2-clause-drills : goal.returns-in-None-2-clause-drills
-returns-in-None-2-clause-drills g c = λ seed events is.
-    c.carry_out.ensures.drills seed events ((c.law_one_order.ensures c.args.words.now c.in-Ok.given.order (order.Drill seed events) c.in-Ok.given.mirror None c.in-Ok.ensures.order is).0)
+returns-in-None-clause-replays g c = λ is. c.carry_out.ensures.replays ((c.law_one_order.ensures c.args.words.now c.in-Ok.given.order order.Replay c.in-Ok.given.mirror None c.in-Ok.ensures.order is).0)
 
 pub returns-in-None-clause-drills : goal.returns-in-None-clause-drills
 returns-in-None-clause-drills g c = λ seed events is.
-    c.carry_out_with_notice.ensures.drills seed events ((c.law_one_order.ensures c.args.words.now c.in-Ok.given.order (order.Drill seed events) c.in-Ok.given.mirror None c.in-Ok.ensures.order is).0)
+    c.carry_out.ensures.drills seed events ((c.law_one_order.ensures c.args.words.now c.in-Ok.given.order (order.Drill seed events) c.in-Ok.given.mirror None c.in-Ok.ensures.order is).0)
 
 pub returns-in-None-clause-audits : goal.returns-in-None-clause-audits
-returns-in-None-clause-audits g c = λ is. c.carry_out_with_notice.ensures.audits ((c.law_one_order.ensures c.args.words.now c.in-Ok.given.order order.Audit c.in-Ok.given.mirror None c.in-Ok.ensures.order is).0)
+returns-in-None-clause-audits g c = λ is. c.carry_out.ensures.audits ((c.law_one_order.ensures c.args.words.now c.in-Ok.given.order order.Audit c.in-Ok.given.mirror None c.in-Ok.ensures.order is).0)
 
 pub returns-in-Err-NoMemory-clause-audits : goal.returns-in-Err-NoMemory-clause-audits
 returns-in-Err-NoMemory-clause-audits g c = λ is. ((without_memory (g.S.Source.left c.args.source.now), refl), refl)
@@ -155,9 +111,9 @@ returns-in-Err-NoMemory-clause-drills g c = λ seed events is. ((tt, refl), refl
 
 pub returns-in-None-clause-obeys : goal.returns-in-None-clause-obeys
 returns-in-None-clause-obeys g c = λ o is.
-    subst (λ (x : Order). Obeys x c.args.moment c.carry_out_with_notice.result (g.S.Source.left c.args.source.now) (g.S.Source.left c.carry_out_with_notice.new.source) (g.K.Sink.written c.args.sink.now) (g.K.Sink.written c.carry_out_with_notice.new.sink)
-    (g.H.Shelf.entry c.args.shelf.now) (g.H.Shelf.entry c.carry_out_with_notice.new.shelf))
-    (c.law_one_order.ensures c.args.words.now c.in-Ok.given.order o c.in-Ok.given.mirror None c.in-Ok.ensures.order is).0 c.carry_out_with_notice.ensures.obeys
+    subst (λ (x : Order). Obeys x c.args.moment c.carry_out.result (g.S.Source.left c.args.source.now) (g.S.Source.left c.carry_out.new.source) (g.K.Sink.written c.args.sink.now) (g.K.Sink.written c.carry_out.new.sink)
+    (g.H.Shelf.entry c.args.shelf.now) (g.H.Shelf.entry c.carry_out.new.shelf))
+    (c.law_one_order.ensures c.args.words.now c.in-Ok.given.order o c.in-Ok.given.mirror None c.in-Ok.ensures.order is).0 c.carry_out.ensures.obeys
 
 pub returns-in-None-clause-mirrored : goal.returns-in-None-clause-mirrored
 returns-in-None-clause-mirrored g c = λ o m is. never_both c.in-Ok.given.mirror m (c.law_one_order.ensures c.args.words.now c.in-Ok.given.order o c.in-Ok.given.mirror (Some m) c.in-Ok.ensures.order is).1 c.in-None.is
@@ -234,11 +190,11 @@ pub returns-in-None-clause-notice : goal.returns-in-None-clause-notice
 returns-in-None-clause-notice g c = λ o is.
     let left = g.S.Source.left c.args.source.now in
     let old = g.H.Shelf.entry c.args.shelf.now in
-    let s = c.carry_out_with_notice.result in
-    let notice = c.carry_out_with_notice.new.notice in
-    subst (λ (wanted : Bool). LeavesNotice wanted o c.args.moment s left old notice) (sym c.if-given.true ∙ c.in-Ok.ensures.tell)
-    (subst (λ (x : Order). LeavesNotice true x c.args.moment s left old notice)
-    (c.law_one_order.ensures c.args.words.now c.in-Ok.given.order o c.in-Ok.given.mirror None c.in-Ok.ensures.order is).0 c.carry_out_with_notice.ensures.notice)
+    let s = c.carry_out.result in
+    let notice = c.carry_out.new.notice in
+    subst (λ (wanted : Bool). LeavesNotice wanted o c.args.moment s left old notice) c.in-Ok.ensures.tell
+    (subst (λ (x : Order). LeavesNotice c.in-Ok.given.tell x c.args.moment s left old notice)
+    (c.law_one_order.ensures c.args.words.now c.in-Ok.given.order o c.in-Ok.given.mirror None c.in-Ok.ensures.order is).0 c.carry_out.ensures.notice)
 
 pub returns-in-None-clause-no_notice : goal.returns-in-None-clause-no_notice
 returns-in-None-clause-no_notice g c = λ o m is. never_both c.in-Ok.given.mirror m (c.law_one_order.ensures c.args.words.now c.in-Ok.given.order o c.in-Ok.given.mirror (Some m) c.in-Ok.ensures.order is).1 c.in-None.is
