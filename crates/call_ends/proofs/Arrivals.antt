@@ -7,19 +7,19 @@ use Rattle.csm_grammar.specs.declared.refusal.ReadRefusal.TheVariants as reason
 use Rattle.csm_feed.specs.declared.unheard.Unheard.{Unheard}
 use Rattle.csm_feed.specs.declared.unheard.Unheard.TheVariants as unheard
 use Rattle.csm_feed.specs.Heard.{leading, after_leading, refused_place, Heard, readings, input_limit}
-use Rattle.call_ends.specs.declared.status.Refusal.{Refusal}
+use Rattle.call_ends.specs.declared.status.Refusal.TheVariants as refusal
 use Rattle.call_ends.specs.declared.status.Status.TheVariants as status
 use Rattle.call_ends.specs.Transfer.{IsAtEnd, IsFront}
-use Rattle.call_ends.specs.Listening.{IsHeard, IsPossible, IsUnheard, refusal_of, taken}
+use Rattle.call_ends.specs.Listening.{IsHeard, IsPossible, IsUnheard, taken}
 
 -- a message that is heard isn't among 2,049 bytes
 not_full : (end count : ℕ) (o : Option ℕ) → refused_place end count o ≡ None → count ≡ input_limit → ⊥
 not_full end count (Some n) h e = absurd cc
 not_full end count None h e = let k : Some 2048 ≡ None = subst (λ (c : ℕ). refused_place end c None ≡ None) e h in absurd cc
 
-refused_possible : (u : Unheard) → u ≢ unheard.Text reason.NoMemory → IsPossible (refusal_of u)
+refused_possible : (u : Unheard) → u ≢ unheard.Text reason.NoMemory → IsPossible (refusal.Unheard u)
 refused_possible (unheard.Text r) h = go r h where
-  go : (r : ReadRefusal) → unheard.Text r ≢ unheard.Text reason.NoMemory → IsPossible (refusal_of (unheard.Text r))
+  go : (r : ReadRefusal) → unheard.Text r ≢ unheard.Text reason.NoMemory → IsPossible (refusal.Unheard (unheard.Text r))
   go (reason.NotCsm p) h = tt
   go (reason.TooLong p) h = tt
   go (reason.Unended p) h = tt
@@ -64,5 +64,5 @@ module _ (before after : Option (List ℕ)) (text bytes : List ℕ) (front : IsF
   unheard_in None u t heard = tt
   unheard_in (Some all) u t heard = subst (λ (b : List ℕ). Heard b (Err u)) t heard
 
-  pub unheard_was : (u : Unheard) (f : Refusal) → r ≡ Err u → f ≡ refusal_of u → u ≢ unheard.Text reason.NoMemory → IsUnheard before (status.Refused f)
-  unheard_was u f is k some = inr (u, ap status.Refused k, refused_possible u some, unheard_in before u front (of_text (Err u) is))
+  pub unheard_was : (u : Unheard) → r ≡ Err u → u ≢ unheard.Text reason.NoMemory → IsUnheard before (status.Refused (refusal.Unheard u))
+  unheard_was u is some = inr (u, refl, refused_possible u some, unheard_in before u front (of_text (Err u) is))

@@ -10,10 +10,11 @@ use Rattle.csm_feed.specs.Heard.{Heard}
 use Rattle.csm_feed.specs.Laws.{OneHearing}
 use Rattle.call_ends.specs.declared.status.Refusal.{Refusal}
 use Rattle.call_ends.specs.declared.status.Refusal.TheVariants.{Decided}
+use Rattle.call_ends.specs.declared.status.Refusal.TheVariants as refusal
 use Rattle.call_ends.specs.declared.status.Status.{Status}
 use Rattle.call_ends.specs.declared.status.Status.TheVariants as status
 use Rattle.call_ends.specs.Transfer.{IsQuiet}
-use Rattle.call_ends.specs.Listening.{IsHeard, IsUnheard, refusal_of, taken}
+use Rattle.call_ends.specs.Listening.{IsHeard, IsUnheard, taken}
 use Rattle.call_ends.specs.Check.{authenticated_text_in, decided_of, is_right, judged, reply_of, status_of, IsChecked, IsDecision, IsExact, IsReply}
 
 decided_once : OneHearing → (text : List ℕ) (d e : Result Parsed Refusal) → IsDecision text d → IsDecision text e → d ≡ e
@@ -85,14 +86,14 @@ module _ (left rest : Option (List ℕ)) (a : Arrival) (heard : IfSome left (λ 
 
 -- ---- where none was heard
 
-refused_of : (all : List ℕ) (u : Unheard) → Heard (taken all) (Err u) → IsDecision all (Err (refusal_of u))
+refused_of : (all : List ℕ) (u : Unheard) → Heard (taken all) (Err u) → IsDecision all (Err (refusal.Unheard u))
 refused_of all u h = record { arrival = Err u; heard = h; follows = refl }
 
 pub unheard_checked : (left rest w : Option (List ℕ)) (s : Status) → IsUnheard left s → IsChecked s left rest w w
 unheard_checked left rest w s (inl (inl is)) = subst (λ (x : Status). IsChecked x left rest w w) (sym is) refl
 unheard_checked left rest w s (inl (inr is)) = subst (λ (x : Status). IsChecked x left rest w w) (sym is) refl
 unheard_checked left rest w s (inr (u, is, possible, heard)) = subst (λ (x : Status). IsChecked x left rest w w) (sym is) (possible, by left heard, refl) where
-  by : (o : Option (List ℕ)) → IfSome o (λ all. Heard (taken all) (Err u)) → IfSome o (λ all. IsDecision all (Err (refusal_of u)))
+  by : (o : Option (List ℕ)) → IfSome o (λ all. Heard (taken all) (Err u)) → IfSome o (λ all. IsDecision all (Err (refusal.Unheard u)))
   by None h = tt
   by (Some all) h = refused_of all u h
 
@@ -101,4 +102,4 @@ unheard_exact one None s read reads is cause quiet = tt
 unheard_exact one (Some all) s read reads (inl (inl fault)) cause quiet = absurd (quiet (cause fault))
 unheard_exact one (Some all) s read reads (inl (inr memory)) cause quiet = λ other is. inr memory
 unheard_exact one (Some all) s read reads (inr (u, same, possible, heard)) cause quiet =
-    λ other is. inl (same ∙ ap status_of (decided_once one all (Err (refusal_of u)) other (refused_of all u heard) is))
+    λ other is. inl (same ∙ ap status_of (decided_once one all (Err (refusal.Unheard u)) other (refused_of all u heard) is))

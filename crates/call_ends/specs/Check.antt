@@ -12,10 +12,10 @@ use Rattle.csm_write.specs.declared.closing.Closing.{Closing}
 use Rattle.csm_write.specs.declared.closing.Closing.TheVariants as closings
 use Rattle.csm_write.specs.Canon.{canon}
 use Rattle.call_ends.specs.declared.status.Refusal.{Refusal}
-use Rattle.call_ends.specs.declared.status.Refusal.TheVariants.{Decided}
+use Rattle.call_ends.specs.declared.status.Refusal.TheVariants as refusal
 use Rattle.call_ends.specs.declared.status.Status.{Status}
 use Rattle.call_ends.specs.declared.status.Status.TheVariants as status
-use Rattle.call_ends.specs.Listening.{taken, refusal_of, IsPossible}
+use Rattle.call_ends.specs.Listening.{taken, IsPossible}
 
 -- the authenticated text of the message in the bytes, as it was received
 abbrev pub authenticated_text_in : List ℕ → Parsed → List ℕ
@@ -29,12 +29,12 @@ is_right auth (shuts.Mac code) = true
 
 -- what is decided of a message, by its error detection code
 abbrev pub judged : Bool → Parsed → Result Parsed Refusal
-judged right parsed = if right then Ok parsed else Err (Decided BadEdc)
+judged right parsed = if right then Ok parsed else Err (refusal.Decided BadEdc)
 
 -- what is decided of what was heard of the bytes
 abbrev pub decided_of : List ℕ → Result Parsed Unheard → Result Parsed Refusal
 decided_of bytes (Ok parsed) = judged (is_right (authenticated_text_in bytes parsed) parsed.shut) parsed
-decided_of bytes (Err unheard) = Err (refusal_of unheard)
+decided_of bytes (Err unheard) = Err (refusal.Unheard unheard)
 
 -- what is decided of an input: it follows from what is heard of the bytes that are taken
 pub record IsDecision (input : List ℕ) (decided : Result Parsed Refusal) : Type 0 where

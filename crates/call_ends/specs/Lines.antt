@@ -6,13 +6,14 @@ use Rattle.x_base.specs.declared.verdict.Verdict.TheVariants.{CountLow}
 use Rattle.scenario.specs.AuditFaults.{fault_number, fault_place}
 use Rattle.scenario.specs.declared.audit_fault.AuditFault.TheVariants.{Forged}
 use Rattle.csm_grammar.specs.declared.refusal.ReadRefusal.TheVariants.{NoMemory}
+use Rattle.csm_feed.specs.declared.unheard.Unheard.TheVariants.{Text, Trailing}
 use Rattle.csm_grammar.specs.Places.{read_number, place_of}
 use Rattle.pay_auth.specs.Refusals.{pay_number}
 use Rattle.pay_auth.specs.declared.refusal.PayRefusal.{PayRefusal}
 use Rattle.pay_auth.specs.declared.refusal.PayRefusal.TheVariants.{BadPay, PayLow}
 use Rattle.x_line.specs.Usage as usage
 use Rattle.call_ends.specs.declared.status.Refusal.{Refusal}
-use Rattle.call_ends.specs.declared.status.Refusal.TheVariants.{Text, Trailing, Decided, OtherParty, Audit, Pay, OtherBatch, OutOfStep, Unplanned, Unlike, BadDigits}
+use Rattle.call_ends.specs.declared.status.Refusal.TheVariants.{Unheard, Decided, OtherParty, Audit, Pay, OtherBatch, OutOfStep, Unplanned, Unlike, BadDigits}
 use Rattle.call_ends.specs.declared.status.Status.{Status}
 use Rattle.call_ends.specs.declared.status.Status.TheVariants as status
 
@@ -24,8 +25,8 @@ pay_text refusal = decimal (pay_number refusal)
 
 -- the number, and the place or the expected count where there is one
 abbrev pub refusal_text : Refusal → List ℕ
-refusal_text (Text refusal) = decimal (read_number refusal) ++ (codes " at " ++ decimal (place_of refusal))
-refusal_text (Trailing place) = codes "38 at " ++ decimal place
+refusal_text (Unheard (Text refusal)) = decimal (read_number refusal) ++ (codes " at " ++ decimal (place_of refusal))
+refusal_text (Unheard (Trailing place)) = codes "38 at " ++ decimal place
 refusal_text (Decided (CountLow expected)) = codes "30 expected " ++ decimal expected
 refusal_text (Decided verdict) = decimal (number_of verdict)
 refusal_text (OtherParty asked found) = codes "42"
@@ -41,7 +42,7 @@ refusal_text (BadDigits line) = codes "51 at " ++ decimal line
 -- audit finds, which no run answers, are told as want of memory and as a forged event
 abbrev pub line_of : Status → List ℕ
 line_of status.Done = []
-line_of (status.Refused (Text NoMemory)) = codes "x917: no memory\n"
+line_of (status.Refused (Unheard (Text NoMemory))) = codes "x917: no memory\n"
 line_of (status.Refused (Audit (Forged event))) = codes "x917: forged event " ++ (decimal event ++ codes "\n")
 line_of (status.Refused refusal) = codes "x917: refused " ++ (refusal_text refusal ++ codes "\n")
 line_of (status.Usage kind) = codes "x917: usage " ++ (decimal (usage.number_of kind) ++ codes "\n")
@@ -55,7 +56,7 @@ line_of status.NoMemory = codes "x917: no memory\n"
 
 abbrev pub exit_code_of : Status → ℕ
 exit_code_of status.Done = 0
-exit_code_of (status.Refused (Text NoMemory)) = 9
+exit_code_of (status.Refused (Unheard (Text NoMemory))) = 9
 exit_code_of (status.Refused (Audit (Forged event))) = 8
 exit_code_of (status.Refused refusal) = 1
 exit_code_of (status.Usage kind) = 2

@@ -7,7 +7,7 @@ use Rattle.csm_feed.specs.declared.unheard.Unheard.{Unheard}
 use Rattle.csm_feed.specs.declared.unheard.Unheard.TheVariants as unheard
 use Rattle.csm_feed.specs.Heard.{after_leading, Heard, input_limit}
 use Rattle.call_ends.specs.declared.status.Refusal.{Refusal}
-use Rattle.call_ends.specs.declared.status.Refusal.TheVariants.{Text, Trailing, Decided}
+use Rattle.call_ends.specs.declared.status.Refusal.TheVariants as refusal
 use Rattle.call_ends.specs.declared.status.Status.{Status}
 use Rattle.call_ends.specs.declared.status.Status.TheVariants as status
 
@@ -20,20 +20,14 @@ pub record IsHeard (all : List ℕ) (arrival : Arrival) : Type 0 where
   pub heard : Heard (taken all) (Ok arrival.parsed)
   pub text : arrival.text ≡ take arrival.parsed.len (after_leading (taken all))
 
--- where no message is heard, that is the refusal
-abbrev pub refusal_of : Unheard → Refusal
-refusal_of (unheard.Text refusal) = Text refusal
-refusal_of (unheard.Trailing place) = Trailing place
-
 -- the refusals that can come, whatever the input
 abbrev pub IsPossible : Refusal → Type 0
-IsPossible (Text NoMemory) = ⊥
-IsPossible (Text refusal) = Unit {0}
-IsPossible (Trailing place) = Unit {0}
-IsPossible (Decided verdict) = verdict ≡ BadEdc
-IsPossible refusal = ⊥
+IsPossible (refusal.Unheard (unheard.Text NoMemory)) = ⊥
+IsPossible (refusal.Unheard u) = Unit {0}
+IsPossible (refusal.Decided verdict) = verdict ≡ BadEdc
+IsPossible other = ⊥
 
 -- no message arrived: the source failed, or no memory was left, or the bytes are refused
 abbrev pub IsUnheard : Option (List ℕ) → Status → Type 0
 IsUnheard left s = ((s ≡ status.ReadFault) ⊎ (s ≡ status.NoMemory))
-    ⊎ ((u : Unheard) × (s ≡ status.Refused (refusal_of u)) × IsPossible (refusal_of u) × IfSome left (λ all. Heard (taken all) (Err u)))
+    ⊎ ((u : Unheard) × (s ≡ status.Refused (refusal.Unheard u)) × IsPossible (refusal.Unheard u) × IfSome left (λ all. Heard (taken all) (Err u)))

@@ -45,10 +45,10 @@ fn reply(alloc: Global, parsed: &Parsed) -> Result<Text, NoMemory>
     Ok(text)
 }
 
-/// The reply to a message, where its code is right.
-fn judge(alloc: Global, arrival: &Arrival) -> Result<Text, Status>
-    ensures right { IfOk result (λ text. (true ≡ is_right (authenticated_text arrival.now) arrival.now.parsed.shut) × (text ≡ reply_of arrival.now.parsed)) }
-    ensures wrong { IfErr result (λ s. (s ≡ Status.NoMemory) ⊎ ((s ≡ Status.Refused (Refusal.Decided Verdict.BadEdc)) × (false ≡ is_right (authenticated_text arrival.now) arrival.now.parsed.shut))) }
+/// The reply to a message, where its code is right. The message isn't kept.
+fn judge(alloc: Global, arrival: Arrival) -> Result<Text, Status>
+    ensures right { IfOk result (λ text. (true ≡ is_right (authenticated_text arrival) arrival.parsed.shut) × (text ≡ reply_of arrival.parsed)) }
+    ensures wrong { IfErr result (λ s. (s ≡ Status.NoMemory) ⊎ ((s ≡ Status.Refused (Refusal.Decided Verdict.BadEdc)) × (false ≡ is_right (authenticated_text arrival) arrival.parsed.shut))) }
 {
     if !is_right(arrival.auth(), arrival.parsed.shut) {
         return Err(Status::Refused(Refusal::Decided(Verdict::BadEdc)));
@@ -57,14 +57,6 @@ fn judge(alloc: Global, arrival: &Arrival) -> Result<Text, Status>
         Ok(text) => Ok(text),
         Err(NoMemory) => Err(Status::NoMemory),
     }
-}
-
-/// The reply to a message that isn't kept.
-fn answer(alloc: Global, arrival: Arrival) -> Result<Text, Status>
-    ensures right { IfOk result (λ text. (true ≡ is_right (authenticated_text arrival) arrival.parsed.shut) × (text ≡ reply_of arrival.parsed)) }
-    ensures wrong { IfErr result (λ s. (s ≡ Status.NoMemory) ⊎ ((s ≡ Status.Refused (Refusal.Decided Verdict.BadEdc)) × (false ≡ is_right (authenticated_text arrival) arrival.parsed.shut))) }
-{
-    judge(alloc, &arrival)
 }
 
 /// Reads one message, and writes its canonical text where its error detection code is right. An authentication code,
@@ -80,7 +72,7 @@ pub fn check<S: Source, K: Sink>(alloc: Global, source: &mut S, sink: &mut K) ->
         Ok(arrival) => arrival,
         Err(status) => return status,
     };
-    let text = match answer(alloc, arrival) {
+    let text = match judge(alloc, arrival) {
         Ok(text) => text,
         Err(status) => return status,
     };

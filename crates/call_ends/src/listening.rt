@@ -2,24 +2,14 @@
 ghost use Rattle.std.specs.Prelude.{◌≡◌, [], Some, IfSome, IfOk, IfErr};
 ghost use Rattle.x_base.specs.Edge.{Rose};
 ghost use Rattle.csm_feed.specs.Heard.{input_limit};
-ghost use Rattle.call_ends.specs.Listening.{IsHeard, IsUnheard, refusal_of};
+ghost use Rattle.call_ends.specs.Listening.{IsHeard, IsUnheard};
 ghost use Rattle.call_ends.specs.Transfer.{TookAtMost};
 
 use crate::status::{Refusal, Status};
-use csm_feed::{INPUT_LIMIT, Unheard, hear};
+use csm_feed::{INPUT_LIMIT, hear};
 use csm_grammar::Arrival;
 use std::alloc::Global;
 use x_base::{NoMemory, Source};
-
-/// The refusal where no message is heard.
-fn refusal_of(unheard: Unheard) -> Refusal
-    ensures { result ≡ refusal_of unheard }
-{
-    match unheard {
-        Unheard::Text(refusal) => Refusal::Text(refusal),
-        Unheard::Trailing(place) => Refusal::Trailing(place),
-    }
-}
 
 /// Takes the bytes of an input and hears the message in them.
 pub fn listen<S: Source>(alloc: Global, source: &mut S) -> Result<Arrival, Status>
@@ -40,7 +30,7 @@ pub fn listen<S: Source>(alloc: Global, source: &mut S) -> Result<Arrival, Statu
     }
     match hear(alloc, &input[..count]) {
         Ok(Ok(arrival)) => Ok(arrival),
-        Ok(Err(unheard)) => Err(Status::Refused(refusal_of(unheard))),
+        Ok(Err(unheard)) => Err(Status::Refused(Refusal::Unheard(unheard))),
         Err(NoMemory) => Err(Status::NoMemory),
     }
 }

@@ -2,6 +2,7 @@
 ghost use Rattle.std.specs.Prelude.{◌≡◌, ◌++◌, IfOk, OnOk, string_bytes};
 ghost use Rattle.call_ends.specs.Lines.{pay_text, refusal_text, line_of, exit_code_of};
 
+use csm_feed::Unheard;
 use csm_grammar::ReadRefusal;
 use pay_auth::PayRefusal;
 use scenario::AuditFault;
@@ -12,10 +13,8 @@ use x_line::UsageKind;
 /// Why an input or a command was refused.
 #[derive(Clone, Copy)]
 pub enum Refusal {
-    /// It was not read as a message. Never with the `NoMemory` of `ReadRefusal`.
-    Text(ReadRefusal),
-    /// Behind the message a byte stands that isn't taken, at this place.
-    Trailing(u64),
+    /// No message is heard of it.
+    Unheard(Unheard),
     /// It is a message that isn't accepted.
     Decided(Verdict),
     /// The command is for a party of the first identity, and on its disk stands one of the second.
@@ -75,12 +74,12 @@ fn refusal_text(alloc: Global, refusal: &Refusal) -> Result<String, AllocError>
     ensures { IfOk result (λ s. string_bytes s ≡ refusal_text refusal.now) }
 {
     match refusal {
-        Refusal::Text(refusal) => {
+        Refusal::Unheard(Unheard::Text(refusal)) => {
             let number = refusal.number();
             let place = refusal.place();
             format!(in alloc; "{number} at {place}")
         }
-        Refusal::Trailing(place) => format!(in alloc; "38 at {place}"),
+        Refusal::Unheard(Unheard::Trailing(place)) => format!(in alloc; "38 at {place}"),
         Refusal::Decided(Verdict::CountLow(expected)) => {
             format!(in alloc; "30 expected {expected}")
         }
@@ -107,7 +106,9 @@ fn refusal_line(alloc: Global, refusal: &Refusal) -> Result<String, AllocError>
     ensures { IfOk result (λ s. string_bytes s ≡ line_of (Status.Refused refusal.now)) }
 {
     match refusal {
-        Refusal::Text(ReadRefusal::NoMemory) => return format!(in alloc; "x917: no memory\n"),
+        Refusal::Unheard(Unheard::Text(ReadRefusal::NoMemory)) => {
+            return format!(in alloc; "x917: no memory\n");
+        }
         Refusal::Audit(AuditFault::Forged(event)) => return forged_line(alloc, *event),
         _ => {}
     }
@@ -173,7 +174,7 @@ pub fn exit_code(status: &Status) -> u8
 {
     match status {
         Status::Done => 0,
-        Status::Refused(Refusal::Text(ReadRefusal::NoMemory)) => 9,
+        Status::Refused(Refusal::Unheard(Unheard::Text(ReadRefusal::NoMemory))) => 9,
         Status::Refused(Refusal::Audit(AuditFault::Forged(_))) => 8,
         Status::Refused(_) => 1,
         Status::Usage(_) => 2,

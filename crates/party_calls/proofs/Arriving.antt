@@ -6,15 +6,15 @@ use Rattle.csm_grammar.specs.declared.arrival.Arrival.{Arrival}
 use Rattle.csm_grammar.specs.declared.parsed.Parsed.{Parsed}
 use Rattle.csm_grammar.specs.Reading.{IsArrival}
 use Rattle.csm_feed.specs.declared.unheard.Unheard.{Unheard}
-use Rattle.csm_feed.specs.declared.unheard.Unheard.TheVariants as unheard
 use Rattle.csm_feed.specs.Heard.{after_leading, Heard}
 use Rattle.csm_feed.specs.Laws.{OneHearing}
 use Rattle.x_disk.specs.Disk.{View}
 use Rattle.party_state.specs.declared.command.Input.TheVariants.{Arrived}
 use Rattle.call_ends.specs.declared.status.Status.{Status}
 use Rattle.call_ends.specs.declared.status.Status.TheVariants as status
+use Rattle.call_ends.specs.declared.status.Refusal.TheVariants as refusal
 use Rattle.call_ends.specs.Transfer.{IsQuiet}
-use Rattle.call_ends.specs.Listening.{taken, refusal_of, IsHeard, IsUnheard}
+use Rattle.call_ends.specs.Listening.{taken, IsHeard, IsUnheard}
 use Rattle.party_calls.specs.Ends.{IsOfParty}
 use Rattle.x_party.specs.Dues.{IsDue}
 use Rattle.party_calls.specs.Dues.{Follows, FollowsBytes}
@@ -23,10 +23,7 @@ use Rattle.party_calls.specs.Dues.{Follows, FollowsBytes}
 pub none_told : (left : Option (List ℕ)) (s : Status) → IsUnheard left s → IsOfParty s → ⊥
 none_told left s (inl (inl fault)) of = subst IsOfParty fault of
 none_told left s (inl (inr memory)) of = subst IsOfParty memory of
-none_told left s (inr (u, is, possible, heard)) of = go u (subst IsOfParty is of) where
-  go : (u : Unheard) → IsOfParty (status.Refused (refusal_of u)) → ⊥
-  go (unheard.Text refusal) of = of
-  go (unheard.Trailing place) of = of
+none_told left s (inr (u, is, possible, heard)) of = subst IsOfParty is of
 
 -- ---- what follows of it
 
@@ -63,6 +60,6 @@ module _ (one : OneHearing) where
   follows_unheard (Some all) name old moment s read reads (inl (inl fault)) cause quiet = absurd (quiet (cause fault))
   follows_unheard (Some all) name old moment s read reads (inl (inr memory)) cause quiet = record { unheard = λ u k. inr memory; heard = λ a k image o now due. inr memory }
   follows_unheard (Some all) name old moment s read reads (inr (u, is, possible, h)) cause quiet = record {
-    unheard = λ v k. (let e : Err u ≡ Err v = same_heard (taken all) (Err u) (Err v) h k in let q : u ≡ v = cc in inl (is ∙ ap (λ (x : Unheard). status.Refused (refusal_of x)) q));
+    unheard = λ v k. (let e : Err u ≡ Err v = same_heard (taken all) (Err u) (Err v) h k in let q : u ≡ v = cc in inl (is ∙ ap (λ (x : Unheard). status.Refused (refusal.Unheard x)) q));
     heard = λ a k. heard_or_not all a u k h;
   }

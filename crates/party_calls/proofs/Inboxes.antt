@@ -8,7 +8,8 @@ use Rattle.x_spool.specs.Inbox.{IsInbox, IsRefusedStream, OneInbox}
 use Rattle.call_ends.specs.Transfer.{IsAtEnd, IsFront, IsQuiet, Took}
 use Rattle.call_ends.specs.Causes.{HasCause, IsSilent}
 use Rattle.call_ends.specs.declared.status.Refusal.{Refusal}
-use Rattle.call_ends.specs.declared.status.Refusal.TheVariants.{Text, Trailing}
+use Rattle.csm_feed.specs.declared.unheard.Unheard.TheVariants.{Text, Trailing}
+use Rattle.call_ends.specs.declared.status.Refusal.TheVariants.{Unheard}
 use Rattle.call_ends.specs.declared.status.Status.{Status}
 use Rattle.call_ends.specs.declared.status.Status.TheVariants as status
 use Rattle.party_calls.specs.Batched.{FollowsInbox, IsMade, IsRefusedInbox, NoMessage, TooMany}
@@ -22,7 +23,7 @@ few (suc n) [] = omega arith
 few (suc n) (x ∷ xs) = omega (arith, few n xs)
 
 -- more bytes came than are taken
-pub too_many : (left : Option (List ℕ)) (text : List ℕ) → IsFront batch_limit left text → length text ≡ batch_limit → IfSome left (λ all. IsRefusedInbox all (Trailing 1048576))
+pub too_many : (left : Option (List ℕ)) (text : List ℕ) → IsFront batch_limit left text → length text ≡ batch_limit → IfSome left (λ all. IsRefusedInbox all (Unheard (Trailing 1048576)))
 too_many None text front full = tt
 too_many (Some all) text front full = TooMany (omega (arith, ap length front, few batch_limit all, full)) refl
 
@@ -34,12 +35,12 @@ module _ (left rest : Option (List ℕ)) (text : List ℕ) (took : Took left res
   pub takes : TakesBatch left rest text
   takes = all_taken left rest text took end short
 
-  pub refused_all : (r : ReadRefusal) → IsRefusedStream text r → IfSome left (λ all. IsRefusedInbox all (Text r))
+  pub refused_all : (r : ReadRefusal) → IsRefusedStream text r → IfSome left (λ all. IsRefusedInbox all (Unheard (Text r)))
   refused_all r is = go left takes
     where
-      go : (o : Option (List ℕ)) → TakesBatch o rest text → IfSome o (λ all. IsRefusedInbox all (Text r))
+      go : (o : Option (List ℕ)) → TakesBatch o rest text → IfSome o (λ all. IsRefusedInbox all (Unheard (Text r)))
       go None t = tt
-      go (Some all) t = subst (λ (x : List ℕ). IsRefusedInbox x (Text r)) (sym t.0) (NoMessage short r refl is)
+      go (Some all) t = subst (λ (x : List ℕ). IsRefusedInbox x (Unheard (Text r))) (sym t.0) (NoMessage short r refl is)
 
   pub lines_all : (moment : ℕ) (lines : List ℕ) → IsInbox moment text lines → IfSome left (λ all. IsInbox moment all lines × (rest ≡ Some []))
   lines_all moment lines is = go left takes
@@ -65,7 +66,7 @@ module _ (one : OneInbox) (all : List ℕ) where
       same other (TooMany long is) (TooMany long-2 also) = is ∙ sym also
       same other (TooMany long is) (NoMessage few r also stream) = absurd (omega (arith, few, long))
       same other (NoMessage few r is stream) (TooMany long also) = absurd (omega (arith, few, long))
-      same other (NoMessage few r is stream) (NoMessage few-2 s also stream-2) = is ∙ (ap (λ (x : ReadRefusal). Text x) (one.one_reason all r s stream stream-2) ∙ sym also)
+      same other (NoMessage few r is stream) (NoMessage few-2 s also stream-2) = is ∙ (ap (λ (x : ReadRefusal). Unheard (Text x)) (one.one_reason all r s stream stream-2) ∙ sym also)
 
   follows_done : (moment : ℕ) (lines : List ℕ) → length all ≤ 1048576 → IsInbox moment all lines → FollowsInbox all status.Done
   follows_done moment lines short is = record { done = λ arrivals short messages. inl refl; refused = λ refusal bad. absurd (never refusal bad) }

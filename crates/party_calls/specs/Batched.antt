@@ -4,9 +4,10 @@ use Rattle.std.specs.Prelude.{◌≡◌, ◌≤◌, ◌⊎◌, ℕ, List, [], le
 use Rattle.csm_grammar.specs.declared.arrival.Arrival.{Arrival}
 use Rattle.csm_grammar.specs.declared.refusal.ReadRefusal.{ReadRefusal}
 use Rattle.csm_feed.specs.Streams.{AreMessages}
+use Rattle.csm_feed.specs.declared.unheard.Unheard.TheVariants.{Text, Trailing}
 use Rattle.x_spool.specs.Inbox.{IsInbox, IsRefusedStream}
 use Rattle.call_ends.specs.declared.status.Refusal.{Refusal}
-use Rattle.call_ends.specs.declared.status.Refusal.TheVariants.{Text, Trailing}
+use Rattle.call_ends.specs.declared.status.Refusal.TheVariants.{Unheard}
 use Rattle.call_ends.specs.declared.status.Status.{Status}
 use Rattle.call_ends.specs.declared.status.Status.TheVariants as status
 use Rattle.call_ends.specs.Puts.{Puts}
@@ -15,8 +16,8 @@ use Rattle.party_calls.specs.Spooled.{batch_limit}
 
 -- the bytes of a stream are refused: they are too many, or behind its messages stands what isn't one
 pub data IsRefusedInbox (all : List ℕ) (refusal : Refusal) : Type 0 where
-  TooMany : batch_limit ≤ length all → refusal ≡ Trailing 1048576 → IsRefusedInbox all refusal
-  NoMessage : length all ≤ 1048576 → (r : ReadRefusal) → refusal ≡ Text r → IsRefusedStream all r → IsRefusedInbox all refusal
+  TooMany : batch_limit ≤ length all → refusal ≡ Unheard (Trailing 1048576) → IsRefusedInbox all refusal
+  NoMessage : length all ≤ 1048576 → (r : ReadRefusal) → refusal ≡ Unheard (Text r) → IsRefusedStream all r → IsRefusedInbox all refusal
 
 -- the source failed or no memory was left; or its bytes are refused; and nothing was written. Or they are messages, and the line by
 -- which each arrives at this moment was written, in their order

@@ -9,7 +9,8 @@ use Rattle.x_party.specs.Dues.{IsDue}
 use Rattle.x_party.specs.declared.outcome.Outcome.{Outcome}
 use Rattle.call_ends.specs.declared.status.Status.{Status}
 use Rattle.call_ends.specs.declared.status.Status.TheVariants as status
-use Rattle.call_ends.specs.Listening.{IsHeard, refusal_of, taken}
+use Rattle.call_ends.specs.declared.status.Refusal.TheVariants as refusal
+use Rattle.call_ends.specs.Listening.{IsHeard, taken}
 use Rattle.party_calls.specs.Ends.{status_of_outcome}
 
 -- the status is this one, or no memory was left
@@ -22,5 +23,5 @@ Follows old due s = (image : List ℕ) (o : Outcome) → old.now ≡ Some image 
 
 -- where bytes arrive at the party of this name: the refusal to hear them, or what is due of the message
 pub record FollowsBytes (all name : List ℕ) (old : View) (moment : ℕ) (s : Status) : Type 0 where
-  pub unheard : (u : Unheard) → Heard (taken all) (Err u) → (s ≡ status.Refused (refusal_of u)) ⊎ (s ≡ status.NoMemory)
+  pub unheard : (u : Unheard) → Heard (taken all) (Err u) → (s ≡ status.Refused (refusal.Unheard u)) ⊎ (s ≡ status.NoMemory)
   pub heard : (arrival : Arrival) → IsHeard all arrival → Follows old (IsDue name (Arrived arrival) moment) s

@@ -11,6 +11,7 @@ ghost use Rattle.party_calls.specs.Spooled.{FollowsBatch, FollowsOutbox, IsBatch
 use crate::finish::{finish_batch, finish_outbox};
 use call_ends::{GatherError, Refusal, Status, gather, put_text};
 use csm_batch::{Batch, BatchFault, law_bad_in_front, law_one_reading};
+use csm_feed::Unheard;
 use std::alloc::Global;
 use x_base::{Ident, Sink, Source};
 use x_disk::Shelf;
@@ -93,11 +94,13 @@ pub fn batch<S: Source, K: Sink>(alloc: Global, moment: u64, source: &mut S, sin
         Err(GatherError::NoMemory) => return Status::NoMemory,
     };
     if input.bytes().len() == BATCH_LIMIT {
-        return Status::Refused(Refusal::Trailing(BATCH_LIMIT as u64 - 1));
+        return Status::Refused(Refusal::Unheard(Unheard::Trailing(BATCH_LIMIT as u64 - 1)));
     }
     match inbox_lines(alloc, moment, input.bytes()) {
         Ok(lines) => put_text(sink, Some(lines), b"", Status::Done),
-        Err(InboxFault::Refused(refusal)) => Status::Refused(Refusal::Text(refusal)),
+        Err(InboxFault::Refused(refusal)) => {
+            Status::Refused(Refusal::Unheard(Unheard::Text(refusal)))
+        }
         Err(InboxFault::NoMemory) => Status::NoMemory,
     }
 }

@@ -46,4 +46,4 @@ returns-in-Ok-Err-clause-unheard g c =
       | else-taking-test w ↦ c.taking.invariant.end (search (rules, w.taking-test.false))
     ] in
     unheard_was before after text text (front_of 2049 before after text c.taking.invariant.took short end) short end refl c.in-Ok-Err.field-0 c.in-Ok-Err.ensures.heard
-    c.in-Ok-Err.unheard c.refusal_of.result e c.refusal_of.ensures (λ is. c.in-Ok-Err.ensures.memory (ap Ok (e ∙ ap Err is)))
+    c.in-Ok-Err.unheard e (λ is. c.in-Ok-Err.ensures.memory (ap Ok (e ∙ ap Err is)))

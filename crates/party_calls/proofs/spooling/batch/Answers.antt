@@ -1,6 +1,7 @@
 use Rattle.std.proofs.Common.{◌≡◌, ℕ, List, length, inl, inr, ap, refl, subst, arith}
 use Rattle.x_spool.specs.Inbox.{IsInbox, IsRefusedStream}
-use Rattle.call_ends.specs.declared.status.Refusal.TheVariants.{Text, Trailing}
+use Rattle.csm_feed.specs.declared.unheard.Unheard.TheVariants.{Text, Trailing}
+use Rattle.call_ends.specs.declared.status.Refusal.TheVariants.{Unheard}
 use Rattle.call_ends.specs.declared.status.Status.TheVariants as status
 use Rattle.party_calls.specs.Spooled.{batch_limit}
 use Rattle.party_calls.proofs.Inboxes.{ends, forgets, lines_all, lines_done, lines_fault, lines_silent, lines_unread, refused_all, refuses, short, takes, too_many}
@@ -29,8 +30,8 @@ returns-then-bytes-eq-BATCH_LIMIT g c =
     let left = g.S.Source.left c.args.source.now in
     let all = too_many left c.in-Ok.input c.in-Ok.ensures.front (omega (arith, ap length c.bytes.ensures, c.if-bytes-eq-BATCH_LIMIT.true)) in
     record {
-      made = inr (inl (Trailing 1048576, refl, all, refl));
-      follows = λ read_quiet put_quiet. refuses c.law_one_inbox.ensures left (Trailing 1048576) all;
+      made = inr (inl (Unheard (Trailing 1048576), refl, all, refl));
+      follows = λ read_quiet put_quiet. refuses c.law_one_inbox.ensures left (Unheard (Trailing 1048576)) all;
       input = record { most = c.gather.ensures.most; fault = λ e. absurd (cc e) };
       output = record { silent = λ silent. refl; fault = λ e. absurd (cc e) };
     }
@@ -69,8 +70,8 @@ returns-in-Err-Refused g c =
     let is = subst (λ (x : List ℕ). IsRefusedStream x r) c.bytes-2.ensures (rw c.in-Err-Refused.field-0-is at c.in-Err-Refused.ensures.refused) in
     let all = refused_all left rest text c.in-Ok.ensures.took c.in-Ok.ensures.end c.in-Ok.ensures.bound other r is in
     record {
-      made = inr (inl (Text r, refl, all, refl));
-      follows = λ read_quiet put_quiet. refuses c.law_one_inbox.ensures left (Text r) all;
+      made = inr (inl (Unheard (Text r), refl, all, refl));
+      follows = λ read_quiet put_quiet. refuses c.law_one_inbox.ensures left (Unheard (Text r)) all;
       input = record { most = c.gather.ensures.most; fault = λ e. absurd (cc e) };
       output = record { silent = λ silent. refl; fault = λ e. absurd (cc e) };
     }
