@@ -1,5 +1,5 @@
 -- Two disks of a shelf that are taken out at once, and put back (this project's profile).
-use Rattle.std.specs.Prelude.{◌≡◌, ◌≢◌, ◌<◌, ◌≤◌, ℕ, List, Result, IfOk, OnOk, OnErr, IsErrOf}
+use Rattle.std.specs.Prelude.{◌≡◌, ◌≢◌, ◌<◌, ◌≤◌, ℕ, List, Result, Ok, Err, IfOk, OnOk, OnErr, IsErrOf}
 use Rattle.x_base.specs.Edge.{Rose}
 use Rattle.x_disk.specs.Disk.{View}
 use Rattle.x_disk.specs.Shelf.{ShelfView, IsAlike, SlotsStay}
@@ -40,3 +40,16 @@ pub record ArePutBack {D : Type 0} (told : D → View) (name other : List ℕ) (
   pub first_seen : 0 < (told put.first).faults → Rose old.faults new.faults
   pub second_seen : 0 < (told put.second).faults → Rose old.faults new.faults
   pub cause : IsErrOf result Fault → Rose old.faults new.faults
+
+-- what is told in the end: the outcome, or the failure of the put back in its place
+abbrev pub told_after : {O : Type 0} → (DiskErr → O) → O → Result Unit DiskErr → O
+told_after failure o (Ok done) = o
+told_after failure o (Err cause) = failure cause
+
+-- what a call leaves of the shelf: where it answered both disks are back, the others stay, and a fault comes only where the shelf's
+-- count of faults rose
+pub record LeavesPair (name other : List ℕ) (answered fault_told first_back second_back : Type 0) (old new : List ℕ → View) (before after : ℕ) : Type 0 where
+  pub back : answered → first_back × second_back
+  pub thirds : ThirdsStay name other old new
+  pub fault : fault_told → Rose before after
+  pub later : before ≤ after

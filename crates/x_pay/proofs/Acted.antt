@@ -14,6 +14,7 @@ use Rattle.journal_state.specs.States.{StandsForOldOrNext}
 use Rattle.journal_state.specs.Results.{kept_disk}
 use Rattle.journal_state.specs.Keeping.{IsReplaced}
 use Rattle.disk_pair.specs.declared.disks.Disks.{Disks}
+use Rattle.disk_pair.proofs.Around.{rose_from}
 use Rattle.pay_auth.specs.declared.entry.Entry.{Entry}
 use Rattle.pay_auth.specs.declared.turn.PayTurn.{PayTurn}
 use Rattle.pay_auth.specs.declared.turn.PayTurn.TheVariants as turn
@@ -30,10 +31,6 @@ use Rattle.x_pay.proofs.Books.{own_party, opening_leaves, tells_of, told_image}
 failed_by : (d : DiskErr) → outcome_of (cause_of d) ≡ outcome.Fault → d ≡ disk.Fault
 failed_by disk.Fault is = refl
 failed_by disk.NoMemory is = absurd (cc is)
-
-rose_later : (a b c : ℕ) → a ≤ b → Rose b c → Rose a c
-rose_later a b c le (inl less) = inl (omega (arith, le, less))
-rose_later a b c le (inr most) = inr most
 
 module _ {D : Type 0} (told : D → View) (sound : (d : D) → IsSound (told d)) (name : List ℕ) (old : Disks D) (node : Stored D) (book : LedgerView D) (opened : AreOpened told name old node book)
     (not_blank : (image : List ℕ) (es : List Entry) → HasEntries image es → is_blank image ≡ false) (w : Payment) where
@@ -57,7 +54,7 @@ module _ {D : Type 0} (told : D → View) (sound : (d : D) → IsSound (told d))
     };
     first_faults = opened.party.faults;
     second_faults = omega (arith, opened.ledger.faults, later);
-    fault = λ is. inr (rose_later (told old.second).faults (told book.disk).faults (told d).faults opened.ledger.faults (shows is));
+    fault = λ is. inr (rose_from (told old.second).faults (told book.disk).faults (told d).faults opened.ledger.faults (shows is));
   }
 
   -- no call was made over the ledger's disk

@@ -11,6 +11,7 @@ use Rattle.party_state.specs.State.{Party}
 use Rattle.key_store.specs.Store.{Stored}
 use Rattle.journal_state.specs.States.{IsBlankOrFor}
 use Rattle.disk_pair.specs.declared.disks.Disks.{Disks}
+use Rattle.disk_pair.proofs.Alike.{untouched_self}
 use Rattle.pay_auth.specs.declared.entry.Entry.{Entry}
 use Rattle.pay_auth.specs.Bodies.{PutsBody}
 use Rattle.pay_auth.specs.Ledgers.{HasEntries, ReadsEntries, IsLedgerDamage}
@@ -19,7 +20,6 @@ use Rattle.x_pay.specs.Outcomes.{Payment, nothing, IsOwnParty, MakesPayment, May
 use Rattle.x_pay.specs.Steps.{IsPartyOpened, IsNoParty, WhyNoParty, HasActed, outcome_of}
 use Rattle.x_pay.specs.declared.outcome.PayOutcome.{PayOutcome}
 use Rattle.x_pay.specs.declared.outcome.PayOutcome.TheVariants as outcome
-use Rattle.x_pay.proofs.Alike.{untouched_self}
 
 pub tells_of : (v : View) (image : List ℕ) → v.now ≡ Some image → Tells v
 tells_of v image now = ap is_some now

@@ -1,4 +1,3 @@
-mod Alike
 mod Parties
 mod Books
 mod Acted

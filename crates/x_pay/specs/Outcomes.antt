@@ -1,13 +1,12 @@
 -- What became of a payment of a party on a shelf (this project's profile). `party_disk` and `ledger_disk` are what the shelf tells
 -- of the two disks before the call, and `ledger_after` what it tells of the ledger's afterwards.
-use Rattle.std.specs.Prelude.{◌≡◌, ◌≢◌, ◌⊎◌, ℕ, ◌≤◌, true, List, Some, is_some}
-use Rattle.x_base.specs.Edge.{Rose}
+use Rattle.std.specs.Prelude.{◌≡◌, ◌≢◌, ◌⊎◌, ℕ, true, List, Some, is_some}
 use Rattle.x_disk.specs.Disk.{View, Tells, LeavesOnly, IsDurable, IsUntouched}
 use Rattle.key_journal.specs.Journal.{is_blank}
 use Rattle.party_state.specs.State.{Party}
 use Rattle.key_store.specs.Store.{Stands}
 use Rattle.key_store.specs.Store as party
-use Rattle.disk_pair.specs.Pairs.{ThirdsStay}
+use Rattle.disk_pair.specs.Pairs.{LeavesPair}
 use Rattle.pay_auth.specs.declared.entry.Entry.{Entry}
 use Rattle.pay_auth.specs.declared.refusal.PayRefusal.{PayRefusal}
 use Rattle.pay_auth.specs.Entries.{put_entry}
@@ -118,10 +117,6 @@ IsNoFailure outcome.Fault = ⊥
 IsNoFailure outcome.NoMemory = ⊥
 IsNoFailure other = Unit {0}
 
--- what is left of the shelf: both disks are back where the call didn't fail, the others stay, and a fault comes only where the
--- shelf's count of faults rose
-pub record LeavesShelf (name ledger : List ℕ) (o : PayOutcome) (party_back ledger_back : Type 0) (old new : List ℕ → View) (before after : ℕ) : Type 0 where
-  pub back : IsNoFailure o → party_back × ledger_back
-  pub thirds : ThirdsStay name ledger old new
-  pub fault : o ≡ outcome.Fault → Rose before after
-  pub later : before ≤ after
+-- what is left of the shelf, where a failure is no answer
+abbrev pub LeavesShelf : List ℕ → List ℕ → PayOutcome → Type 0 → Type 0 → (List ℕ → View) → (List ℕ → View) → ℕ → ℕ → Type 0
+LeavesShelf name ledger o party_back ledger_back old new before after = LeavesPair name ledger (IsNoFailure o) (o ≡ outcome.Fault) party_back ledger_back old new before after

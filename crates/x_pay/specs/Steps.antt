@@ -1,9 +1,8 @@
--- The steps of a call: both disks are fetched, party and ledger are opened, the ledger acts, and both disks are put back (this
+-- The steps of a call between the fetch of both disks and their put back: party and ledger are opened, and the ledger acts (this
 -- project's profile).
-use Rattle.std.specs.Prelude.{◌≡◌, ◌≢◌, ◌⊎◌, ℕ, ◌≤◌, ◌<◌, true, List, Some, Result, Ok, IfOk, IfErr, OnOk, OnErr}
+use Rattle.std.specs.Prelude.{◌≡◌, ◌≢◌, ◌⊎◌, ℕ, ◌≤◌, true, List, Some, Ok}
 use Rattle.x_base.specs.Edge.{Rose}
 use Rattle.x_disk.specs.Disk.{View, IsUntouched}
-use Rattle.x_disk.specs.Shelf.{ShelfView, IsAlike}
 use Rattle.x_disk.specs.declared.disk.DiskErr.{DiskErr}
 use Rattle.x_disk.specs.declared.disk.DiskErr.TheVariants as disk
 use Rattle.key_journal.specs.declared.cause.Cause.{Cause}
@@ -11,14 +10,13 @@ use Rattle.key_journal.specs.declared.cause.Cause.TheVariants as cause
 use Rattle.party_state.specs.State.{Party}
 use Rattle.key_store.specs.Store.{Stored, Stands, IsStore, IsFirstDamage}
 use Rattle.disk_pair.specs.declared.disks.Disks.{Disks}
-use Rattle.disk_pair.specs.Pairs.{ThirdsStay}
 use Rattle.pay_auth.specs.declared.turn.PayTurn.{PayTurn}
 use Rattle.pay_auth.specs.declared.turn.PayTurn.TheVariants as turn
 use Rattle.pay_auth.specs.Ledgers.{LedgerView}
 use Rattle.pay_auth.specs.Opening.{IsLedgerOpened}
 use Rattle.key_journal.specs.Causes.{cause_of}
 use Rattle.key_journal.specs.Journal.{is_blank}
-use Rattle.x_pay.specs.Outcomes.{Payment, MakesPayment, IsSafePayment, IsNoFailure}
+use Rattle.x_pay.specs.Outcomes.{Payment, MakesPayment, IsSafePayment}
 use Rattle.x_pay.specs.declared.outcome.PayOutcome.{PayOutcome}
 use Rattle.x_pay.specs.declared.outcome.PayOutcome.TheVariants as outcome
 
@@ -51,39 +49,10 @@ pub record HasActed {D : Type 0} (w : Payment) (name : List ℕ) (told : D → V
   pub second_faults : (told old.second).faults ≤ (told new.second).faults
   pub fault : o ≡ outcome.Fault → Rose (told old.first).faults (told new.first).faults ⊎ Rose (told old.second).faults (told new.second).faults
 
--- the outcome, or an error of the put back in its place
-abbrev pub IsClosed : PayOutcome → ℕ → ℕ → PayOutcome → Type 0
-IsClosed o before after result = (result ≡ o) ⊎ (((result ≡ outcome.Fault) × Rose before after) ⊎ (result ≡ outcome.NoMemory))
-
 -- a failure of the shelf as an outcome
 abbrev pub failure_of : DiskErr → PayOutcome
 failure_of disk.Fault = outcome.Fault
 failure_of disk.NoMemory = outcome.NoMemory
-
--- both disks are fetched, or all stays
-pub record AreOut {D : Type 0} (told : D → View) (name other : List ℕ) (old new : ShelfView) (result : Result (Disks D) PayOutcome) : Type 0 where
-  pub first : IfOk result (λ d. IsAlike (old.entry name) (told d.first))
-  pub second : IfOk result (λ d. IsAlike (old.entry other) (told d.second))
-  pub first_fresh : IfOk result (λ d. (told d.first).faults ≡ 0)
-  pub second_fresh : IfOk result (λ d. (told d.second).faults ≡ 0)
-  pub first_slot : OnOk result (new.has_slot name)
-  pub second_slot : OnOk result (new.has_slot other)
-  pub thirds : ThirdsStay name other old.entry new.entry
-  pub first_stays : OnErr result (IsAlike (old.entry name) (new.entry name))
-  pub second_stays : OnErr result (IsAlike (old.entry other) (new.entry other))
-  pub later : old.faults ≤ new.faults
-  pub failed : IfErr result (λ o. (o ≡ outcome.NoMemory) ⊎ ((o ≡ outcome.Fault) × Rose old.faults new.faults))
-
--- both disks are put back
-pub record AreBack {D : Type 0} (told : D → View) (name other : List ℕ) (put : Disks D) (o : PayOutcome) (old new : ShelfView) (result : PayOutcome) : Type 0 where
-  pub first : IsAlike (told put.first) (new.entry name)
-  pub second : IsAlike (told put.second) (new.entry other)
-  pub back : IsNoFailure result → new.is_back name × new.is_back other
-  pub thirds : ThirdsStay name other old.entry new.entry
-  pub later : old.faults ≤ new.faults
-  pub first_seen : 0 < (told put.first).faults → Rose old.faults new.faults
-  pub second_seen : 0 < (told put.second).faults → Rose old.faults new.faults
-  pub closed : IsClosed o old.faults new.faults result
 
 -- the party of the name is opened
 pub record IsPartyOpened {D : Type 0} (told : D → View) (name : List ℕ) (old : D) (node : Stored D) : Type 0 where

@@ -5,9 +5,10 @@ ghost use Rattle.x_pay.specs.Dues.{GivesDue};
 ghost use Rattle.x_pay.specs.Payments.{paying};
 
 use crate::acting::pay_over;
-use crate::closing::{close, fetch};
+use crate::closing::{closed, failure};
 use crate::laws::law_one_due;
 use crate::outcome::PayOutcome;
+use disk_pair::{fetch_two, put_back_two};
 use std::alloc::Global;
 use x_base::{Count, Ident, KeyName};
 use x_disk::Shelf;
@@ -30,10 +31,10 @@ pub fn pay<H: Shelf>(
     ensures shelf { LeavesShelf party.now ledger.now result (H.is_back shelf.new party.now) (H.is_back shelf.new ledger.now) (H.entry shelf.old) (H.entry shelf.new) (H.faults shelf.old) (H.faults shelf.new) }
 {
     law_one_due();
-    let disks = match fetch(shelf, party, ledger) {
+    let disks = match fetch_two(shelf, party, ledger) {
         Ok(disks) => disks,
-        Err(outcome) => return outcome,
+        Err(cause) => return failure(cause),
     };
     let (disks, outcome) = pay_over(alloc, disks, party, peer, name, amount);
-    close(shelf, party, ledger, disks, outcome)
+    closed(outcome, put_back_two(shelf, party, ledger, disks))
 }

@@ -1,26 +1,20 @@
 -- Both disks are fetched, something is done, and both are put back.
-use Rattle.std.proofs.Common.{◌≡◌, ◌⊎◌, inl, inr, ℕ, ◌≤◌, ◌<◌, List, is_some, Ok, Err, sym, ◌∙◌, ap, subst, arith}
-use Rattle.x_base.specs.Edge.{Rose}
-use Rattle.x_disk.specs.Disk.{View, IsDurable, IsSound}
+use Rattle.std.proofs.Common.{◌≡◌, ◌⊎◌, inl, inr, ℕ, List, is_some, Result, Ok, Err, sym, ◌∙◌, ap, subst}
+use Rattle.x_disk.specs.Disk.{View, IsSound}
 use Rattle.x_disk.specs.Shelf.{ShelfView, IsAlike}
+use Rattle.x_disk.specs.declared.disk.DiskErr.{DiskErr}
 use Rattle.member.specs.Member.{Member}
 use Rattle.csm_batch.specs.declared.entry.Entry.{Entry}
 use Rattle.csm_spool.specs.InStep.{PairsInStep}
 use Rattle.disk_pair.specs.declared.disks.Disks.{Disks}
+use Rattle.disk_pair.specs.Pairs.{AreFetched, ArePutBack, told_after}
+use Rattle.disk_pair.proofs.Alike.{durable_alike, untouched_alike, untouched_around}
+use Rattle.disk_pair.proofs.Around.{IsFailed, IsTold, around_leaves, closed, unfetched, unfetched_leaves}
 use Rattle.x_spool.specs.Outcomes.{AreUntouched, BothStay, IsDoneOrFailed, IsNoFailure, IsSafeBatch, LeavesBatch, MakesBatch, StaysInStep}
 use Rattle.x_spool.specs.Shelves.{LeavesShelf}
-use Rattle.x_spool.specs.Steps.{HasActed, AreOut, AreBack, IsClosed}
+use Rattle.x_spool.specs.Steps.{HasActed, failure_of}
 use Rattle.x_spool.specs.declared.outcome.SpoolOutcome.{SpoolOutcome}
 use Rattle.x_spool.specs.declared.outcome.SpoolOutcome.TheVariants as outcome
-use Rattle.x_spool.proofs.Alike.{thirds_on, untouched_alike, untouched_around}
-
-rose_some : (before after : ℕ) → before ≡ 0 → Rose before after → 0 < after
-rose_some before after none (inl less) = omega (arith, none, less)
-rose_some before after none (inr most) = omega (arith, none, most)
-
-rose_from : (first mid last : ℕ) → first ≤ mid → Rose mid last → Rose first last
-rose_from first mid last le (inl less) = inl (omega (arith, le, less))
-rose_from first mid last le (inr most) = inr most
 
 abbrev IsFailure : SpoolOutcome → Type 0
 IsFailure o = (o ≡ outcome.NoMemory) ⊎ (o ≡ outcome.Fault)
@@ -42,18 +36,17 @@ module _ (name text : List ℕ) (entries : List Entry) (party_disk spool_disk pa
   failed_done o (inl is) = subst IsDoneOrFailed (sym is) tt
   failed_done o (inr is) = subst IsDoneOrFailed (sym is) tt
 
-is_failure : (o : SpoolOutcome) (rose : Type 0) → (o ≡ outcome.NoMemory) ⊎ ((o ≡ outcome.Fault) × rose) → IsFailure o
-is_failure o rose (inl is) = inl is
-is_failure o rose (inr is) = inr is.0
+is_failure : (o : SpoolOutcome) (before after : ℕ) → IsFailed failure_of o before after → IsFailure o
+is_failure o before after (inl is) = inl is
+is_failure o before after (inr is) = inr is.0
 
-failed_rose : (o : SpoolOutcome) (rose : Type 0) → (o ≡ outcome.NoMemory) ⊎ ((o ≡ outcome.Fault) × rose) → o ≡ outcome.Fault → rose
-failed_rose o rose (inl is) fault = let both : outcome.NoMemory ≡ outcome.Fault = sym is ∙ fault in absurd (cc both)
-failed_rose o rose (inr is) fault = is.1
+apart : outcome.NoMemory ≡ outcome.Fault → ⊥
+apart same = cc same
 
 -- neither disk was fetched
-module _ {D : Type 0} (told : D → View) (text : List ℕ) (entries : List Entry) (name other : List ℕ) (old new : ShelfView) (o : SpoolOutcome) (out : AreOut told name other old new (Err o)) where
+module _ {D : Type 0} (told : D → View) (text : List ℕ) (entries : List Entry) (name other : List ℕ) (old new : ShelfView) (e : DiskErr) (o : SpoolOutcome) (is : o ≡ failure_of e) (out : AreFetched told name other old new (Err e)) where
   failure : IsFailure o
-  failure = is_failure o (Rose old.faults new.faults) out.failed
+  failure = is_failure o old.faults new.faults (unfetched told name other failure_of old new e o is out)
 
   pub unfetched_makes : MakesBatch name text entries (old.entry name) (old.entry other) (new.entry name) (new.entry other) o
   unfetched_makes = failed_makes name text entries (old.entry name) (old.entry other) (new.entry name) (new.entry other) o failure
@@ -72,22 +65,11 @@ module _ {D : Type 0} (told : D → View) (text : List ℕ) (entries : List Entr
       }
 
   pub unfetched_shelf : LeavesShelf name other o (new.is_back name) (new.is_back other) old.entry new.entry old.faults new.faults
-  unfetched_shelf = record {
-    back = λ answered. absurd (unanswered name text entries (old.entry name) (old.entry other) (new.entry name) (new.entry other) o failure answered);
-    thirds = out.thirds;
-    fault = failed_rose o (Rose old.faults new.faults) out.failed;
-    later = out.later;
-  }
+  unfetched_shelf = unfetched_leaves told name other failure_of IsNoFailure (λ no. no) (λ no. no) apart old new e o is out
 
 -- what was done between them, of the disks that were fetched and put back
 module _ (name text : List ℕ) (entries : List Entry) (first second out_first out_second mid_first mid_second new_first new_second : View)
     (first_out : IsAlike first out_first) (second_out : IsAlike second out_second) (first_back : IsAlike mid_first new_first) (second_back : IsAlike mid_second new_second) where
-  durable_alike : (mid new : View) → IsAlike mid new → IsDurable mid → IsDurable new
-  durable_alike mid new alike durable = record {
-    only = λ b c now left. durable.only b c (sym alike.now ∙ now) (alike.images c left);
-    stable = alike.stable ∙ (durable.stable ∙ sym alike.now);
-  }
-
   start : (x : Member) → PairsInStep first second text x entries → PairsInStep out_first out_second text x entries
   start x was i j left right = was i j (first_out.images i left) (second_out.images j right)
 
@@ -115,11 +97,11 @@ module _ (name text : List ℕ) (entries : List Entry) (first second out_first o
   left_around (outcome.Done out) is = record {
     plans = is.plans;
     whole = is.whole;
-    spool = record { durable = durable_alike mid_second new_second second_back is.spool.durable; holds = λ image now. is.spool.holds image (sym second_back.now ∙ now) };
+    spool = record { durable = durable_alike mid_second new_second is.spool.durable second_back; holds = λ image now. is.spool.holds image (sym second_back.now ∙ now) };
     front = λ book p told_book has. is.front book p (second_out.now ∙ told_book) has;
     outbox = is.outbox;
     member = is.member;
-    party = record { durable = durable_alike mid_first new_first first_back is.party.durable; stands = λ image now. is.party.stands image (sym first_back.now ∙ now) };
+    party = record { durable = durable_alike mid_first new_first is.party.durable first_back; stands = λ image now. is.party.stands image (sym first_back.now ∙ now) };
     ends = λ x party_tells spool_tells was. is.ends x (ap is_some first_out.now ∙ party_tells) (ap is_some second_out.now ∙ spool_tells) (start x was);
   }
   left_around outcome.OtherBatch is = both_around is
@@ -136,17 +118,15 @@ module _ (name text : List ℕ) (entries : List Entry) (first second out_first o
     left = left_around o made.left;
   }
 
-  pub closed_makes : (o result : SpoolOutcome) (before after : ℕ) → IsClosed o before after result → MakesBatch name text entries out_first out_second mid_first mid_second o → MakesBatch name text entries first second new_first new_second result
+  pub closed_makes : (o result : SpoolOutcome) (before after : ℕ) → IsTold failure_of o before after result → MakesBatch name text entries out_first out_second mid_first mid_second o → MakesBatch name text entries first second new_first new_second result
   closed_makes o result before after (inl is) made = subst (MakesBatch name text entries first second new_first new_second) (sym is) (makes_around o made)
-  closed_makes o result before after (inr (inl is)) made = failed_makes name text entries first second new_first new_second result (inr is.0)
-  closed_makes o result before after (inr (inr is)) made = failed_makes name text entries first second new_first new_second result (inl is)
+  closed_makes o result before after (inr failed) made = failed_makes name text entries first second new_first new_second result (is_failure result before after failed)
 
-  closed_done : (o result : SpoolOutcome) (before after : ℕ) → IsClosed o before after result → IsDoneOrFailed o → IsDoneOrFailed result
+  closed_done : (o result : SpoolOutcome) (before after : ℕ) → IsTold failure_of o before after result → IsDoneOrFailed o → IsDoneOrFailed result
   closed_done o result before after (inl is) done = subst IsDoneOrFailed (sym is) done
-  closed_done o result before after (inr (inl is)) done = failed_done name text entries first second new_first new_second result (inr is.0)
-  closed_done o result before after (inr (inr is)) done = failed_done name text entries first second new_first new_second result (inl is)
+  closed_done o result before after (inr failed) done = failed_done name text entries first second new_first new_second result (is_failure result before after failed)
 
-  pub closed_stays : (o result : SpoolOutcome) (before after : ℕ) → IsClosed o before after result → StaysInStep name text entries out_first out_second mid_first mid_second o → StaysInStep name text entries first second new_first new_second result
+  pub closed_stays : (o result : SpoolOutcome) (before after : ℕ) → IsTold failure_of o before after result → StaysInStep name text entries out_first out_second mid_first mid_second o → StaysInStep name text entries first second new_first new_second result
   closed_stays o result before after closed did = record {
     pairs = λ x party_tells spool_tells was i j left right.
         did.pairs x (ap is_some first_out.now ∙ party_tells) (ap is_some second_out.now ∙ spool_tells) (start x was) i j (first_back.images i left) (second_back.images j right);
@@ -157,31 +137,15 @@ module _ (name text : List ℕ) (entries : List Entry) (first second out_first o
   }
 
 -- the whole call
-module _ {D : Type 0} (told : D → View) (text : List ℕ) (entries : List Entry) (name other : List ℕ) (old mid new : ShelfView) (taken put : Disks D) (o result : SpoolOutcome)
-    (out : AreOut told name other old mid (Ok taken)) (did : HasActed name text entries told taken put o) (back : AreBack told name other put o mid new result) where
+module _ {D : Type 0} (told : D → View) (text : List ℕ) (entries : List Entry) (name other : List ℕ) (old mid new : ShelfView) (taken put : Disks D) (r : Result Unit DiskErr) (o result : SpoolOutcome)
+    (out : AreFetched told name other old mid (Ok taken)) (did : HasActed name text entries told taken put o) (back : ArePutBack told name other put mid new r) (is : result ≡ told_after failure_of o r) where
   pub all_makes : MakesBatch name text entries (old.entry name) (old.entry other) (new.entry name) (new.entry other) result
   all_makes = closed_makes name text entries (old.entry name) (old.entry other) (told taken.first) (told taken.second) (told put.first) (told put.second) (new.entry name) (new.entry other)
-      out.first out.second back.first back.second o result mid.faults new.faults back.closed did.made
+      out.first out.second back.first back.second o result mid.faults new.faults (closed told name other failure_of put mid new r o result is back) did.made
 
   pub all_stays : StaysInStep name text entries (old.entry name) (old.entry other) (new.entry name) (new.entry other) result
   all_stays = closed_stays name text entries (old.entry name) (old.entry other) (told taken.first) (told taken.second) (told put.first) (told put.second) (new.entry name) (new.entry other)
-      out.first out.second back.first back.second o result mid.faults new.faults back.closed did.in_step
-
-  shown : o ≡ outcome.Fault → Rose mid.faults new.faults
-  shown is = elim (did.fault is) [
-    | inl rose ↦ back.first_seen (rose_some (told taken.first).faults (told put.first).faults out.first_fresh rose)
-    | inr rose ↦ back.second_seen (rose_some (told taken.second).faults (told put.second).faults out.second_fresh rose)
-  ]
-
-  fault_closed : IsClosed o mid.faults new.faults result → result ≡ outcome.Fault → Rose mid.faults new.faults
-  fault_closed (inl is) fault = shown (sym is ∙ fault)
-  fault_closed (inr (inl is)) fault = is.1
-  fault_closed (inr (inr is)) fault = let both : outcome.NoMemory ≡ outcome.Fault = sym is ∙ fault in absurd (cc both)
+      out.first out.second back.first back.second o result mid.faults new.faults (closed told name other failure_of put mid new r o result is back) did.in_step
 
   pub all_shelf : LeavesShelf name other result (new.is_back name) (new.is_back other) old.entry new.entry old.faults new.faults
-  all_shelf = record {
-    back = back.back;
-    thirds = thirds_on name other old.entry mid.entry new.entry out.thirds back.thirds;
-    fault = λ is. rose_from old.faults mid.faults new.faults out.later (fault_closed back.closed is);
-    later = omega (arith, out.later, back.later);
-  }
+  all_shelf = around_leaves told name other failure_of IsNoFailure (λ no. no) (λ no. no) apart old mid new taken put r o result out back is did.fault

@@ -26,12 +26,12 @@ use Rattle.csm_spool.specs.InStep.{InStep, PairsInStep}
 use Rattle.csm_spool.specs.declared.outcome.Driven.{Driven}
 use Rattle.csm_spool.specs.declared.outcome.Driven.TheVariants as drive
 use Rattle.disk_pair.specs.declared.disks.Disks.{Disks}
+use Rattle.disk_pair.proofs.Alike.{untouched_self}
 use Rattle.x_spool.specs.Dues.{FindsMember, IsDueBatch, IsDueOut, ReadsBatch}
 use Rattle.x_spool.specs.Outcomes.{AreUntouched, BothStay, IsDoneOrFailed, IsNoFailure, IsSafeBatch, LeavesBatch, progress_of}
 use Rattle.x_spool.specs.Steps.{HasActed, HandsOut, IsEnd, driven_disks, outcome_of, outcome_of_spool, two_disks}
 use Rattle.x_spool.specs.declared.outcome.SpoolOutcome.{SpoolOutcome}
 use Rattle.x_spool.specs.declared.outcome.SpoolOutcome.TheVariants as outcome
-use Rattle.x_spool.proofs.Alike.{untouched_self}
 use Rattle.x_spool.proofs.Standing.{OneParty, OneFormat, OneProgress, NotBlank, differ, now_image, same_member, same_progress, tells_of, told_image}
 
 rose_later : (a b c : ℕ) → a ≤ b → Rose b c → Rose a c

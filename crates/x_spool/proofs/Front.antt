@@ -8,17 +8,14 @@ use Rattle.member.specs.Member.{Member}
 use Rattle.csm_batch.specs.declared.entry.Entry.{Entry}
 use Rattle.csm_spool.specs.InStep.{PairsInStep}
 use Rattle.disk_pair.specs.declared.disks.Disks.{Disks}
+use Rattle.disk_pair.proofs.Alike.{untouched_on, untouched_self}
+use Rattle.disk_pair.proofs.Around.{rose_from}
 use Rattle.x_spool.specs.Dues.{IsDueBatch}
 use Rattle.x_spool.specs.Outcomes.{AreUntouched, BothStay, IsDoneOrFailed, IsNoFailure, IsSafeBatch, LeavesBatch}
 use Rattle.x_spool.specs.Steps.{HasActed, IsNoParty, IsPartyOpened, WhyNoParty, two_disks}
 use Rattle.x_spool.specs.declared.outcome.SpoolOutcome.{SpoolOutcome}
 use Rattle.x_spool.specs.declared.outcome.SpoolOutcome.TheVariants as outcome
-use Rattle.x_spool.proofs.Alike.{untouched_on, untouched_self}
 use Rattle.x_spool.proofs.Standing.{stands_of}
-
-rose_later : (a b c : ℕ) → a ≤ b → Rose b c → Rose a c
-rose_later a b c le (inl less) = inl (omega (arith, le, less))
-rose_later a b c le (inr most) = inr most
 
 -- the party's disk was opened
 module _ {D : Type 0} (told : D → View) (name text : List ℕ) (entries : List Entry) (old : Disks D) (node : Stored D) (opened : IsPartyOpened told name old.first node) where
@@ -77,7 +74,7 @@ module _ {D : Type 0} (told : D → View) (name text : List ℕ) (entries : List
     };
     first_faults = omega (arith, opened.faults, did.first_faults);
     second_faults = did.second_faults;
-    fault = λ is. elim (did.fault is) [ inl rose ↦ inl (rose_later (told old.first).faults (told node.disk).faults (told new.first).faults opened.faults rose) | inr rose ↦ inr rose ];
+    fault = λ is. elim (did.fault is) [ inl rose ↦ inl (rose_from (told old.first).faults (told node.disk).faults (told new.first).faults opened.faults rose) | inr rose ↦ inr rose ];
   }
 
   pub named : (new : Disks D) (o : SpoolOutcome) → HasActed node.party.own text entries told (two_disks node.disk old.second) new o → HasActed name text entries told old new o

@@ -1,4 +1,3 @@
-mod Alike
 mod Standing
 mod Single
 mod Parties

@@ -1,5 +1,5 @@
 -- A spool is opened, and its outbox is told.
-use Rattle.std.proofs.Common.{◌≡◌, ◌⊎◌, inl, inr, ℕ, ◌-◌, ◌<◌, ◌≤◌, List, length, Option, Some, None, Ok, Err, refl, sym, ◌∙◌, ap, subst, arith}
+use Rattle.std.proofs.Common.{◌≡◌, ◌⊎◌, inl, inr, ℕ, ◌-◌, List, length, Option, Some, None, Ok, Err, refl, sym, ◌∙◌, ap, subst, arith}
 use Rattle.x_base.specs.Edge.{Rose}
 use Rattle.x_disk.specs.Disk.{View, IsUntouched}
 use Rattle.x_disk.specs.Shelf.{ShelfView}
@@ -11,11 +11,12 @@ use Rattle.journal_state.specs.States as journal
 use Rattle.spool_store.specs.Contents.{Progress, Goes, IsSpoolDamage}
 use Rattle.spool_store.specs.Opening.{IsOpenRefusal, IsSpoolOpened}
 use Rattle.spool_store.specs.Spools.{Spooled, outbox_of}
+use Rattle.disk_pair.proofs.Alike.{alike_trans, untouched_around}
+use Rattle.disk_pair.proofs.Around.{rose_from, rose_some}
 use Rattle.x_spool.specs.Outboxes.{IsDueOutbox, IsNoFailure, IsOutbox, GivesOutbox, LeavesOne, ShowsOutbox}
 use Rattle.x_spool.specs.Looks.{HandsOutbox, HasLooked, IsEndOf, IsReturned, IsTaken, look_of}
 use Rattle.x_spool.specs.declared.outcome.OutboxOutcome.{OutboxOutcome}
 use Rattle.x_spool.specs.declared.outcome.OutboxOutcome.TheVariants as outbox
-use Rattle.x_spool.proofs.Alike.{alike_trans, untouched_around}
 use Rattle.x_spool.proofs.Standing.{OneProgress, NotBlank, differ, same_progress}
 
 -- by an image one outcome is due
@@ -92,14 +93,6 @@ module _ {D : Type 0} (told : D → View) (old : D) where
     told_by outbox.Blank is = absurd is
     told_by (outbox.Damaged place) is = absurd is
     told_by outbox.Fault is = absurd is
-
-rose_some : (before after : ℕ) → before ≡ 0 → Rose before after → 0 < after
-rose_some before after none (inl less) = omega (arith, none, less)
-rose_some before after none (inr most) = omega (arith, none, most)
-
-rose_from : (first mid last : ℕ) → first ≤ mid → Rose mid last → Rose first last
-rose_from first mid last le (inl less) = inl (omega (arith, le, less))
-rose_from first mid last le (inr most) = inr most
 
 -- the disk wasn't fetched
 module _ {D : Type 0} (told : D → View) (name : List ℕ) (old new : ShelfView) (o : OutboxOutcome) (out : IsTaken told name old new (Err o)) where

@@ -1,9 +1,8 @@
--- The steps of a call: both disks are fetched, the party is opened, the spool is begun, the batch is driven, and both disks are put
--- back (this project's profile).
-use Rattle.std.specs.Prelude.{◌≡◌, ◌≢◌, ◌⊎◌, ℕ, ◌≤◌, ◌<◌, true, List, Some, Result, IfOk, IfErr, OnOk, OnErr}
+-- The steps of a call between the fetch of both disks and their put back: the party is opened, the spool is begun, and the batch is
+-- driven (this project's profile).
+use Rattle.std.specs.Prelude.{◌≡◌, ◌≢◌, ◌⊎◌, ℕ, ◌≤◌, true, List, Some}
 use Rattle.x_base.specs.Edge.{Rose}
 use Rattle.x_disk.specs.Disk.{View, IsUntouched}
-use Rattle.x_disk.specs.Shelf.{ShelfView, IsAlike}
 use Rattle.x_disk.specs.declared.disk.DiskErr.{DiskErr}
 use Rattle.x_disk.specs.declared.disk.DiskErr.TheVariants as disk
 use Rattle.key_journal.specs.Causes.{cause_of}
@@ -20,8 +19,7 @@ use Rattle.csm_spool.specs.declared.outcome.Driven.{Driven}
 use Rattle.csm_spool.specs.declared.outcome.Driven.TheVariants as drive
 use Rattle.csm_spool.specs.Drives.{party_disk, spool_disk}
 use Rattle.disk_pair.specs.declared.disks.Disks.{Disks}
-use Rattle.disk_pair.specs.Pairs.{ThirdsStay}
-use Rattle.x_spool.specs.Outcomes.{MakesBatch, StaysInStep, IsNoFailure}
+use Rattle.x_spool.specs.Outcomes.{MakesBatch, StaysInStep}
 use Rattle.x_spool.specs.declared.outcome.SpoolOutcome.{SpoolOutcome}
 use Rattle.x_spool.specs.declared.outcome.SpoolOutcome.TheVariants as outcome
 
@@ -70,39 +68,10 @@ IsEnd told (drive.NodeBroken b s) o = o ≡ outcome_of (cause_of b.cause)
 IsEnd told (drive.SpoolBroken node b) o = o ≡ outcome_of (cause_of b.cause)
 IsEnd told (drive.NoMemory node s) o = o ≡ outcome.NoMemory
 
--- the outcome, or an error of the put back in its place
-abbrev pub IsClosed : SpoolOutcome → ℕ → ℕ → SpoolOutcome → Type 0
-IsClosed o before after result = (result ≡ o) ⊎ (((result ≡ outcome.Fault) × Rose before after) ⊎ (result ≡ outcome.NoMemory))
-
 -- a failure of the shelf as an outcome
 abbrev pub failure_of : DiskErr → SpoolOutcome
 failure_of disk.Fault = outcome.Fault
 failure_of disk.NoMemory = outcome.NoMemory
-
--- both disks are fetched, or all stays
-pub record AreOut {D : Type 0} (told : D → View) (name other : List ℕ) (old new : ShelfView) (result : Result (Disks D) SpoolOutcome) : Type 0 where
-  pub first : IfOk result (λ d. IsAlike (old.entry name) (told d.first))
-  pub second : IfOk result (λ d. IsAlike (old.entry other) (told d.second))
-  pub first_fresh : IfOk result (λ d. (told d.first).faults ≡ 0)
-  pub second_fresh : IfOk result (λ d. (told d.second).faults ≡ 0)
-  pub first_slot : OnOk result (new.has_slot name)
-  pub second_slot : OnOk result (new.has_slot other)
-  pub thirds : ThirdsStay name other old.entry new.entry
-  pub first_stays : OnErr result (IsAlike (old.entry name) (new.entry name))
-  pub second_stays : OnErr result (IsAlike (old.entry other) (new.entry other))
-  pub later : old.faults ≤ new.faults
-  pub failed : IfErr result (λ o. (o ≡ outcome.NoMemory) ⊎ ((o ≡ outcome.Fault) × Rose old.faults new.faults))
-
--- both disks are put back
-pub record AreBack {D : Type 0} (told : D → View) (name other : List ℕ) (put : Disks D) (o : SpoolOutcome) (old new : ShelfView) (result : SpoolOutcome) : Type 0 where
-  pub first : IsAlike (told put.first) (new.entry name)
-  pub second : IsAlike (told put.second) (new.entry other)
-  pub back : IsNoFailure result → new.is_back name × new.is_back other
-  pub thirds : ThirdsStay name other old.entry new.entry
-  pub later : old.faults ≤ new.faults
-  pub first_seen : 0 < (told put.first).faults → Rose old.faults new.faults
-  pub second_seen : 0 < (told put.second).faults → Rose old.faults new.faults
-  pub closed : IsClosed o old.faults new.faults result
 
 -- the party of the name is opened
 pub record IsPartyOpened {D : Type 0} (told : D → View) (name : List ℕ) (old : D) (node : Stored D) : Type 0 where

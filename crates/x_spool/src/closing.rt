@@ -1,15 +1,13 @@
-// Both disks are fetched, and put back.
-ghost use Rattle.std.specs.Prelude.{◌≡◌, ◌≢◌};
-ghost use Rattle.x_disk.specs.Shelf.{shelf_view};
-ghost use Rattle.x_spool.specs.Steps.{AreOut, AreBack, failure_of};
+// A failure of the shelf, and what is told in the end.
+ghost use Rattle.std.specs.Prelude.{◌≡◌};
+ghost use Rattle.disk_pair.specs.Pairs.{told_after};
+ghost use Rattle.x_spool.specs.Steps.{failure_of};
 
 use crate::outcome::SpoolOutcome;
-use disk_pair::{Disks, fetch_two, put_back_two};
-use x_base::Ident;
-use x_disk::{DiskErr, Shelf};
+use x_disk::DiskErr;
 
 /// A failure of the shelf as an outcome.
-fn failure(cause: DiskErr) -> SpoolOutcome
+pub(crate) fn failure(cause: DiskErr) -> SpoolOutcome
     ensures { result ≡ failure_of cause }
 {
     match cause {
@@ -18,35 +16,11 @@ fn failure(cause: DiskErr) -> SpoolOutcome
     }
 }
 
-/// Fetches both disks. Where one can't be fetched, all stays.
-pub(crate) fn fetch<H: Shelf>(
-    shelf: &mut H,
-    party: &Ident,
-    spool: &Ident,
-) -> Result<Disks<H::Disk>, SpoolOutcome>
-    requires { party.now ≢ spool.now }
-    ensures { AreOut H.Disk.told party.now spool.now (shelf_view H.entry H.has_slot H.is_back H.faults shelf.old) (shelf_view H.entry H.has_slot H.is_back H.faults shelf.new) result }
+/// The outcome, or the failure of the put back in its place.
+pub(crate) fn closed(outcome: SpoolOutcome, put: Result<(), DiskErr>) -> SpoolOutcome
+    ensures { result ≡ told_after failure_of outcome put }
 {
-    match fetch_two(shelf, party, spool) {
-        Ok(disks) => Ok(disks),
-        Err(cause) => Err(failure(cause)),
-    }
-}
-
-/// Puts both disks back. An error of that comes in place of the outcome.
-pub(crate) fn close<H: Shelf>(
-    shelf: &mut H,
-    party: &Ident,
-    spool: &Ident,
-    disks: Disks<H::Disk>,
-    outcome: SpoolOutcome,
-) -> SpoolOutcome
-    requires apart { party.now ≢ spool.now }
-    requires party_slot { H.has_slot shelf.old party.now }
-    requires spool_slot { H.has_slot shelf.old spool.now }
-    ensures { AreBack H.Disk.told party.now spool.now disks outcome (shelf_view H.entry H.has_slot H.is_back H.faults shelf.old) (shelf_view H.entry H.has_slot H.is_back H.faults shelf.new) result }
-{
-    match put_back_two(shelf, party, spool, disks) {
+    match put {
         Ok(()) => outcome,
         Err(cause) => failure(cause),
     }

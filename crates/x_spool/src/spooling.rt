@@ -4,11 +4,12 @@ ghost use Rattle.x_spool.specs.Dues.{GivesDue};
 ghost use Rattle.x_spool.specs.Outcomes.{MakesBatch, StaysInStep};
 ghost use Rattle.x_spool.specs.Shelves.{LeavesShelf};
 
-use crate::closing::{close, fetch};
+use crate::closing::{closed, failure};
 use crate::driving::spool_over;
 use crate::laws::law_one_due;
 use crate::outcome::SpoolOutcome;
 use csm_batch::Batch;
+use disk_pair::{fetch_two, put_back_two};
 use std::alloc::Global;
 use x_base::Ident;
 use x_disk::Shelf;
@@ -31,10 +32,10 @@ pub fn spool<H: Shelf>(
     ensures shelf { LeavesShelf party.now spool.now result (H.is_back shelf.new party.now) (H.is_back shelf.new spool.now) (H.entry shelf.old) (H.entry shelf.new) (H.faults shelf.old) (H.faults shelf.new) }
 {
     law_one_due();
-    let disks = match fetch(shelf, party, spool) {
+    let disks = match fetch_two(shelf, party, spool) {
         Ok(disks) => disks,
-        Err(outcome) => return outcome,
+        Err(cause) => return failure(cause),
     };
     let (disks, outcome) = spool_over(alloc, disks, party, batch);
-    close(shelf, party, spool, disks, outcome)
+    closed(outcome, put_back_two(shelf, party, spool, disks))
 }

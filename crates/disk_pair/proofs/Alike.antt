@@ -1,11 +1,11 @@
 -- One disk tells what another does, step after step.
-use Rattle.std.proofs.Common.{ℕ, List, refl, ◌∙◌}
-use Rattle.x_disk.specs.Disk.{View, LeavesOnly, IsSound, IsUntouched}
+use Rattle.std.proofs.Common.{ℕ, List, refl, sym, ◌∙◌}
+use Rattle.x_disk.specs.Disk.{View, IsDurable, LeavesOnly, IsSound, IsUntouched}
 use Rattle.x_disk.specs.Shelf.{IsAlike}
-use Rattle.x_disk.proofs.Runs.{began, weaker, begins_alike, ends_alike}
+use Rattle.x_disk.proofs.Runs.{began, joined, weaker, begins_alike, ends_alike}
 use Rattle.disk_pair.specs.Pairs.{ThirdsStay}
 
-alike_trans : (u v w : View) → IsAlike u v → IsAlike v w → IsAlike u w
+pub alike_trans : (u v w : View) → IsAlike u v → IsAlike v w → IsAlike u w
 alike_trans u v w first second = record {
   now = second.now ∙ first.now;
   stable = second.stable ∙ first.stable;
@@ -20,9 +20,23 @@ alike_trans u v w first second = record {
 pub thirds_on : (name other : List ℕ) (old mid new : List ℕ → View) → ThirdsStay name other old mid → ThirdsStay name other mid new → ThirdsStay name other old new
 thirds_on name other old mid new first second = λ third apart from. alike_trans (old third) (mid third) (new third) (first third apart from) (second third apart from)
 
+pub durable_alike : (v w : View) → IsDurable v → IsAlike v w → IsDurable w
+durable_alike v w durable alike = record {
+  only = λ b c now left. durable.only b c (sym alike.now ∙ now) (alike.images c left);
+  stable = alike.stable ∙ (durable.stable ∙ sym alike.now);
+}
+
 -- no call was made
 pub untouched_self : (v : View) → IsSound v → IsUntouched v v
 untouched_self v sound = record { now = refl; images = λ c left. left; any_moment = began v v.may_leave sound (λ c left. left) }
+
+-- two runs that write nothing
+pub untouched_on : (old mid new : View) → IsUntouched old mid → IsUntouched mid new → IsUntouched old new
+untouched_on old mid new first second = record {
+  now = second.now ∙ first.now;
+  images = λ c left. first.images c (second.images c left);
+  any_moment = joined old mid new old.may_leave first.any_moment (weaker mid new mid.may_leave old.may_leave second.any_moment first.images);
+}
 
 pub untouched_alike : (old new : View) → IsSound old → IsAlike old new → IsUntouched old new
 untouched_alike old new sound alike = record {
