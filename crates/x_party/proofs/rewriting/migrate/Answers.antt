@@ -15,7 +15,7 @@ returns-in-Ok-clause-migrated g c =
     rewritten_on migrated_in (entry c.args.shelf.now c.args.name.now) (told node.disk) (told (turn_disk c.migrate.result)) (entry c.close.new.shelf c.args.name.now)
     node.gate node.end node.format node.party c.in-Ok.ensures.node c.close.ensures.disk (outcome_of_turn c.migrate.result) c.close.result
     (faults c.open.new.shelf) (faults c.close.new.shelf)
-    (has_rewritten told node (g.met.H.Disk.Disk.sound node.disk) law.fits law.too_large (migrated_in node.format) c.migrate.result c.migrate.ensures) c.close.ensures.outcome
+    (has_rewritten told node (g.met.H.Disk.Disk.sound node.disk) law.fits law.too_large (migrated_in node.format) c.migrate.result c.migrate.ensures.turn) c.close.ensures.outcome
 
 pub returns-in-Ok-clause-safe : goal.returns-in-Ok-clause-safe
 returns-in-Ok-clause-safe g c =
@@ -25,7 +25,7 @@ returns-in-Ok-clause-safe g c =
     let law = c.law_can_compact.ensures in
     safe_rewriting migrated_in (entry c.args.shelf.now c.args.name.now) (told node.disk) (told (turn_disk c.migrate.result)) (entry c.close.new.shelf c.args.name.now)
     node.gate node.end node.format node.party c.in-Ok.ensures.node c.close.ensures.disk c.law_one_space.ensures (outcome_of_turn c.migrate.result)
-    (has_rewritten told node (g.met.H.Disk.Disk.sound node.disk) law.fits law.too_large (migrated_in node.format) c.migrate.result c.migrate.ensures)
+    (has_rewritten told node (g.met.H.Disk.Disk.sound node.disk) law.fits law.too_large (migrated_in node.format) c.migrate.result c.migrate.ensures.turn)
 
 pub returns-in-Ok-clause-due : goal.returns-in-Ok-clause-due
 returns-in-Ok-clause-due g c =
