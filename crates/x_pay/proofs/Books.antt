@@ -9,6 +9,9 @@ use Rattle.key_journal.specs.declared.cause.Cause.TheVariants as cause
 use Rattle.key_journal.specs.declared.cause.Unmade.{Unmade}
 use Rattle.party_state.specs.State.{Party}
 use Rattle.key_store.specs.Store.{Stored}
+use Rattle.node_core.specs.Named.{IsOpenedNamed, IsNotOpenedNamed, IsWhyNotOpened}
+use Rattle.node_core.specs.declared.named.WhyNotOpened.{WhyNotOpened}
+use Rattle.node_core.specs.declared.named.WhyNotOpened.TheVariants as why
 use Rattle.journal_state.specs.States.{IsBlankOrFor}
 use Rattle.disk_pair.specs.declared.disks.Disks.{Disks}
 use Rattle.disk_pair.proofs.Alike.{untouched_self}
@@ -17,7 +20,7 @@ use Rattle.pay_auth.specs.Bodies.{PutsBody}
 use Rattle.pay_auth.specs.Ledgers.{HasEntries, ReadsEntries, IsLedgerDamage}
 use Rattle.pay_auth.specs.Opening.{IsLedgerRefusal, IsLedgerOpened}
 use Rattle.x_pay.specs.Outcomes.{Payment, nothing, IsOwnParty, MakesPayment, MayLeave, Before, Old}
-use Rattle.x_pay.specs.Steps.{IsPartyOpened, IsNoParty, WhyNoParty, HasActed, outcome_of}
+use Rattle.x_pay.specs.Steps.{HasActed, outcome_of, outcome_of_why}
 use Rattle.x_pay.specs.declared.outcome.PayOutcome.{PayOutcome}
 use Rattle.x_pay.specs.declared.outcome.PayOutcome.TheVariants as outcome
 
@@ -36,7 +39,7 @@ fault_cause (cause.Damaged place) is = absurd (cc is)
 fault_cause cause.Fault is = refl
 fault_cause cause.NoMemory is = absurd (cc is)
 
-pub own_party : {D : Type 0} (told : D → View) (name : List ℕ) (old : D) (node : Stored D) → IsPartyOpened told name old node → IsOwnParty name (told old) node.party
+pub own_party : {D : Type 0} (told : D → View) (name : List ℕ) (old : D) (node : Stored D) → IsOpenedNamed told name old node → IsOwnParty name (told old) node.party
 own_party told name old node opened = record {
   reads = λ image now. record { format = node.format; stands = opened.store.stands image (opened.untouched.now ∙ now) };
   own = opened.own;
@@ -70,28 +73,21 @@ none_read book none = by_test (is_blank book) refl
 
 -- the party of the name isn't opened, and its ledger stays closed
 module _ {D : Type 0} (told : D → View) (name : List ℕ) (old : Disks D) (new : D) (sound : IsSound (told old.second)) where
-  makes : (o : PayOutcome) → WhyNoParty name (told old.first) (told new) o → MakesPayment nothing name (told old.first) (told old.second) (told old.second) o
-  makes (outcome.Done text) none = absurd none
-  makes (outcome.Refused why) none = absurd none
-  makes (outcome.OtherParty asked found) none =
-      record { p = none.p; reads = none.reads; called = none.called; own = none.own; differs = none.differs; untouched = untouched_self (told old.second) sound }
-  makes outcome.Blank none = record { blank = none; untouched = untouched_self (told old.second) sound }
-  makes (outcome.Damaged place) none = inl (record { first = none; untouched = untouched_self (told old.second) sound })
-  makes outcome.Fault none = tt
-  makes outcome.NoMemory none = tt
+  makes : (w : WhyNotOpened) → IsWhyNotOpened name (told old.first) (told new) w → MakesPayment nothing name (told old.first) (told old.second) (told old.second) (outcome_of_why name w)
+  makes (why.OtherParty found) is = record { p = is.p; reads = is.reads; called = refl; own = is.own; differs = is.differs; untouched = untouched_self (told old.second) sound }
+  makes (why.Unmade cause.Blank) is = record { blank = is.refused; untouched = untouched_self (told old.second) sound }
+  makes (why.Unmade cause.NotEmpty) is = absurd (is.names refl)
+  makes (why.Unmade (cause.Damaged place)) is = inl (record { first = is.refused; untouched = untouched_self (told old.second) sound })
+  makes (why.Unmade cause.Fault) is = tt
+  makes (why.Unmade cause.NoMemory) is = tt
 
-  shows : (o : PayOutcome) → WhyNoParty name (told old.first) (told new) o → o ≡ outcome.Fault → Rose (told old.first).faults (told new).faults
-  shows (outcome.Done text) none is = absurd none
-  shows (outcome.Refused why) none is = absurd none
-  shows (outcome.OtherParty asked found) none is = absurd (cc is)
-  shows outcome.Blank none is = absurd (cc is)
-  shows (outcome.Damaged place) none is = absurd (cc is)
-  shows outcome.Fault none is = none
-  shows outcome.NoMemory none is = absurd (cc is)
+  shows : (w : WhyNotOpened) → IsWhyNotOpened name (told old.first) (told new) w → outcome_of_why name w ≡ outcome.Fault → Rose (told old.first).faults (told new).faults
+  shows (why.OtherParty found) is fault = absurd (cc fault)
+  shows (why.Unmade reason) is fault = is.fault (fault_cause reason fault)
 
-  pub nobody_acted : (o : PayOutcome) → IsNoParty told name old.first new o → HasActed nothing name told old (record { first = new; second = old.second }) o
-  nobody_acted o none = record {
-    makes = makes o none.why;
+  pub nobody_acted : (w : WhyNotOpened) (o : PayOutcome) → o ≡ outcome_of_why name w → IsNotOpenedNamed told name old.first new w → HasActed nothing name told old (record { first = new; second = old.second }) o
+  nobody_acted w o same none = subst (HasActed nothing name told old (record { first = new; second = old.second })) (sym same) (record {
+    makes = makes w none.reason;
     safe = record {
       party = none.untouched;
       ledger = λ p entries image book now stands own told_book reads.
@@ -102,11 +98,11 @@ module _ {D : Type 0} (told : D → View) (name : List ℕ) (old : Disks D) (new
     };
     first_faults = none.faults;
     second_faults = omega arith;
-    fault = λ is. inl (shows o none.why is);
-  }
+    fault = λ is. inl (shows w none.reason is);
+  })
 
 -- the party is opened, and its ledger isn't
-module _ {D : Type 0} (told : D → View) (name : List ℕ) (old : Disks D) (node : Stored D) (u : Unmade D) (own : IsPartyOpened told name old.first node) (refused : IsLedgerOpened told old.second (Err u))
+module _ {D : Type 0} (told : D → View) (name : List ℕ) (old : Disks D) (node : Stored D) (u : Unmade D) (own : IsOpenedNamed told name old.first node) (refused : IsLedgerOpened told old.second (Err u))
     (not_blank : (image : List ℕ) (es : List Entry) → HasEntries image es → is_blank image ≡ false) where
   damaged_book : (place : ℕ) → ((image : List ℕ) → (told old.second).now ≡ Some image → IsLedgerDamage image place) → MakesPayment nothing name (told old.first) (told old.second) (told u.disk) (outcome.Damaged place)
   damaged_book place first = inr (record {
@@ -118,11 +114,11 @@ module _ {D : Type 0} (told : D → View) (name : List ℕ) (old : Disks D) (nod
 
   tells_why : (reason : Cause) → (reason ≡ cause.Blank → ⊥) → ((image : List ℕ) → (told old.second).now ≡ Some image → IsLedgerRefusal image reason)
       → MakesPayment nothing name (told old.first) (told old.second) (told u.disk) (outcome_of reason)
-  tells_why cause.Blank names why = absurd (names refl)
-  tells_why cause.NotEmpty names why = damaged_book 0 (λ image now. absurd (why image now))
-  tells_why (cause.Damaged place) names why = damaged_book place why
-  tells_why cause.Fault names why = tt
-  tells_why cause.NoMemory names why = tt
+  tells_why cause.Blank names refused_so = absurd (names refl)
+  tells_why cause.NotEmpty names refused_so = damaged_book 0 (λ image now. absurd (refused_so image now))
+  tells_why (cause.Damaged place) names refused_so = damaged_book place refused_so
+  tells_why cause.Fault names refused_so = tt
+  tells_why cause.NoMemory names refused_so = tt
 
   closed : HasActed nothing name told old (record { first = node.disk; second = u.disk }) (outcome_of u.cause)
   closed = record {

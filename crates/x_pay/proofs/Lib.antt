@@ -1,4 +1,3 @@
-mod Parties
 mod Books
 mod Acted
 mod Around

@@ -1,21 +1,22 @@
 -- The steps of a call between the fetch of both disks and their put back: party and ledger are opened, and the ledger acts (this
 -- project's profile).
-use Rattle.std.specs.Prelude.{◌≡◌, ◌≢◌, ◌⊎◌, ℕ, ◌≤◌, true, List, Some, Ok}
+use Rattle.std.specs.Prelude.{◌≡◌, ◌⊎◌, ℕ, ◌≤◌, List, Ok}
 use Rattle.x_base.specs.Edge.{Rose}
-use Rattle.x_disk.specs.Disk.{View, IsUntouched}
+use Rattle.x_disk.specs.Disk.{View}
 use Rattle.x_disk.specs.declared.disk.DiskErr.{DiskErr}
 use Rattle.x_disk.specs.declared.disk.DiskErr.TheVariants as disk
 use Rattle.key_journal.specs.declared.cause.Cause.{Cause}
 use Rattle.key_journal.specs.declared.cause.Cause.TheVariants as cause
-use Rattle.party_state.specs.State.{Party}
-use Rattle.key_store.specs.Store.{Stored, Stands, IsStore, IsFirstDamage}
+use Rattle.key_store.specs.Store.{Stored}
+use Rattle.node_core.specs.Named.{IsOpenedNamed}
+use Rattle.node_core.specs.declared.named.WhyNotOpened.{WhyNotOpened}
+use Rattle.node_core.specs.declared.named.WhyNotOpened.TheVariants as why
 use Rattle.disk_pair.specs.declared.disks.Disks.{Disks}
 use Rattle.pay_auth.specs.declared.turn.PayTurn.{PayTurn}
 use Rattle.pay_auth.specs.declared.turn.PayTurn.TheVariants as turn
 use Rattle.pay_auth.specs.Ledgers.{LedgerView}
 use Rattle.pay_auth.specs.Opening.{IsLedgerOpened}
 use Rattle.key_journal.specs.Causes.{cause_of}
-use Rattle.key_journal.specs.Journal.{is_blank}
 use Rattle.x_pay.specs.Outcomes.{Payment, MakesPayment, IsSafePayment}
 use Rattle.x_pay.specs.declared.outcome.PayOutcome.{PayOutcome}
 use Rattle.x_pay.specs.declared.outcome.PayOutcome.TheVariants as outcome
@@ -27,6 +28,11 @@ outcome_of cause.NotEmpty = outcome.Damaged 0
 outcome_of (cause.Damaged place) = outcome.Damaged place
 outcome_of cause.Fault = outcome.Fault
 outcome_of cause.NoMemory = outcome.NoMemory
+
+-- and where the party of the name isn't opened
+abbrev pub outcome_of_why : List ℕ → WhyNotOpened → PayOutcome
+outcome_of_why name (why.OtherParty found) = outcome.OtherParty name found
+outcome_of_why name (why.Unmade reason) = outcome_of reason
 
 -- what is left of a turn: the ledger's disk, and the outcome
 abbrev pub turn_disk : {D : Type 0} → PayTurn D → D
@@ -54,39 +60,7 @@ abbrev pub failure_of : DiskErr → PayOutcome
 failure_of disk.Fault = outcome.Fault
 failure_of disk.NoMemory = outcome.NoMemory
 
--- the party of the name is opened
-pub record IsPartyOpened {D : Type 0} (told : D → View) (name : List ℕ) (old : D) (node : Stored D) : Type 0 where
-  pub store : IsStore (told node.disk) node.gate node.end node.format node.party
-  pub untouched : IsUntouched (told old) (told node.disk)
-  -- an image that stands is opened as its party
-  pub exact : (image : List ℕ) (p : Party) → (told old).now ≡ Some image → Stands image p → node.party ≡ p
-  pub own : node.party.own ≡ name
-  pub faults : (told old).faults ≤ (told node.disk).faults
-
--- the disk's image stands for a party of another identity
-pub record FindsOther (name : List ℕ) (old : View) (asked found : List ℕ) : Type 0 where
-  pub p : Party
-  pub reads : (image : List ℕ) → old.now ≡ Some image → Stands image p
-  pub called : asked ≡ name
-  pub own : found ≡ p.own
-  pub differs : found ≢ name
-
--- why it isn't
-abbrev pub WhyNoParty : List ℕ → View → View → PayOutcome → Type 0
-WhyNoParty name old new (outcome.Done text) = ⊥
-WhyNoParty name old new (outcome.Refused why) = ⊥
-WhyNoParty name old new (outcome.OtherParty asked found) = FindsOther name old asked found
-WhyNoParty name old new outcome.Blank = (image : List ℕ) → old.now ≡ Some image → is_blank image ≡ true
-WhyNoParty name old new (outcome.Damaged place) = (image : List ℕ) → old.now ≡ Some image → IsFirstDamage image place
-WhyNoParty name old new outcome.Fault = Rose old.faults new.faults
-WhyNoParty name old new outcome.NoMemory = Unit {0}
-
-pub record IsNoParty {D : Type 0} (told : D → View) (name : List ℕ) (old new : D) (o : PayOutcome) : Type 0 where
-  pub why : WhyNoParty name (told old) (told new) o
-  pub untouched : IsUntouched (told old) (told new)
-  pub faults : (told old).faults ≤ (told new).faults
-
 -- the party of the name and its ledger are opened
 pub record AreOpened {D : Type 0} (told : D → View) (name : List ℕ) (old : Disks D) (node : Stored D) (book : LedgerView D) : Type 0 where
-  pub party : IsPartyOpened told name old.first node
+  pub party : IsOpenedNamed told name old.first node
   pub ledger : IsLedgerOpened told old.second (Ok book)

@@ -1,13 +1,13 @@
 // The party is opened, and then its ledger.
 ghost use Rattle.std.specs.Prelude.{◌≡◌, IfOk, IfErr};
 ghost use Rattle.x_pay.specs.Outcomes.{nothing};
-ghost use Rattle.x_pay.specs.Steps.{AreOpened, HasActed, IsNoParty, IsPartyOpened, outcome_of};
+ghost use Rattle.x_pay.specs.Steps.{AreOpened, HasActed, outcome_of, outcome_of_why};
 
 use crate::outcome::PayOutcome;
 use disk_pair::Disks;
 use journal_state::law_one_finding;
 use key_journal::{Cause, Unmade};
-use node_core::Node;
+use node_core::{Node, NotOpened, WhyNotOpened};
 use pay_auth::{Entries, Ledger};
 use std::alloc::Global;
 use x_base::Ident;
@@ -18,13 +18,6 @@ use x_disk::Disk;
 pub(crate) struct Opened<D: Disk> {
     pub(crate) node: Node<D>,
     pub(crate) ledger: Ledger<D>,
-}
-
-/// A disk on which no party of the name was opened, and what is told of that.
-#[derive(Drop)]
-struct NoParty<D: Disk> {
-    disk: D,
-    outcome: PayOutcome,
 }
 
 /// Two disks of which a party or a ledger wasn't opened, and what is told of that.
@@ -47,28 +40,14 @@ pub(crate) fn outcome_of(cause: Cause) -> PayOutcome
     }
 }
 
-/// Opens the party of this name.
-fn open_party<D: Disk>(alloc: Global, disk: D, party: &Ident) -> Result<Node<D>, NoParty<D>>
-    ensures opened { IfOk result (IsPartyOpened D.told party.now disk) }
-    ensures failed { IfErr result (λ n. IsNoParty D.told party.now disk n.disk n.outcome) }
+/// The outcome where the party of the name isn't opened.
+fn no_party(party: &Ident, why: WhyNotOpened) -> PayOutcome
+    ensures { result ≡ outcome_of_why party.now why }
 {
-    let node = match Node::open_from(alloc, disk) {
-        Ok(node) => node,
-        Err(Unmade { disk, cause }) => {
-            return Err(NoParty {
-                disk,
-                outcome: outcome_of(cause),
-            });
-        }
-    };
-    let own = node.view().own();
-    if own != *party {
-        return Err(NoParty {
-            disk: node.into_disk(),
-            outcome: PayOutcome::OtherParty(*party, own),
-        });
+    match why {
+        WhyNotOpened::OtherParty(found) => PayOutcome::OtherParty(*party, found),
+        WhyNotOpened::Unmade(cause) => outcome_of(cause),
     }
-    Ok(node)
 }
 
 /// Opens the party of this name, whose disk is the first, and then the ledger.
@@ -82,15 +61,15 @@ pub(crate) fn open_both<D: Disk>(
 {
     law_one_finding::<Entries>();
     let Disks { first, second } = disks;
-    let node = match open_party(alloc, first, party) {
+    let node = match Node::open_named(alloc, first, party) {
         Ok(node) => node,
-        Err(NoParty { disk, outcome }) => {
+        Err(NotOpened { disk, why }) => {
             return Err(Unopened {
                 disks: Disks {
                     first: disk,
                     second,
                 },
-                outcome,
+                outcome: no_party(party, why),
             });
         }
     };

@@ -6,7 +6,6 @@ use Rattle.x_disk.specs.declared.disk.DiskErr.{DiskErr}
 use Rattle.x_disk.specs.declared.disk.DiskErr.TheVariants as disk
 use Rattle.key_journal.specs.Causes.{cause_of}
 use Rattle.key_journal.specs.Journal.{is_blank}
-use Rattle.key_journal.specs.declared.cause.Cause.{Cause}
 use Rattle.key_journal.specs.declared.cause.Cause.TheVariants as cause
 use Rattle.key_store.specs.Store.{Stored, IsStore}
 use Rattle.member.specs.Member.{Member}

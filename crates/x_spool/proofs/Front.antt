@@ -1,9 +1,14 @@
 -- The party is opened in front of what is done over the spool, or it isn't.
-use Rattle.std.proofs.Common.{◌≡◌, ◌⊎◌, inl, inr, ℕ, ◌≤◌, List, Some, refl, sym, ◌∙◌, ap, subst, arith}
+use Rattle.std.proofs.Common.{◌≡◌, inl, inr, ℕ, List, Some, refl, sym, ◌∙◌, ap, subst, arith}
 use Rattle.std.specs.Prelude.{is_some}
 use Rattle.x_base.specs.Edge.{Rose}
 use Rattle.x_disk.specs.Disk.{View, Tells, IsSound}
+use Rattle.key_journal.specs.declared.cause.Cause.TheVariants as cause
+use Rattle.party_state.specs.State.{Party}
 use Rattle.key_store.specs.Store.{Stored}
+use Rattle.node_core.specs.Named.{IsReasonFor, IsNotOpenedNamed, IsOpenedNamed, IsWhyNotOpened}
+use Rattle.node_core.specs.declared.named.WhyNotOpened.{WhyNotOpened}
+use Rattle.node_core.specs.declared.named.WhyNotOpened.TheVariants as why
 use Rattle.member.specs.Member.{Member}
 use Rattle.csm_batch.specs.declared.entry.Entry.{Entry}
 use Rattle.csm_spool.specs.InStep.{PairsInStep}
@@ -12,13 +17,13 @@ use Rattle.disk_pair.proofs.Alike.{untouched_on, untouched_self}
 use Rattle.disk_pair.proofs.Around.{rose_from}
 use Rattle.x_spool.specs.Dues.{IsDueBatch}
 use Rattle.x_spool.specs.Outcomes.{AreUntouched, BothStay, IsDoneOrFailed, IsNoFailure, IsSafeBatch, LeavesBatch}
-use Rattle.x_spool.specs.Steps.{HasActed, IsNoParty, IsPartyOpened, WhyNoParty, two_disks}
+use Rattle.x_spool.specs.Steps.{HasActed, outcome_of_why, two_disks}
 use Rattle.x_spool.specs.declared.outcome.SpoolOutcome.{SpoolOutcome}
 use Rattle.x_spool.specs.declared.outcome.SpoolOutcome.TheVariants as outcome
 use Rattle.x_spool.proofs.Standing.{stands_of}
 
 -- the party's disk was opened
-module _ {D : Type 0} (told : D → View) (name text : List ℕ) (entries : List Entry) (old : Disks D) (node : Stored D) (opened : IsPartyOpened told name old.first node) where
+module _ {D : Type 0} (told : D → View) (name text : List ℕ) (entries : List Entry) (old : Disks D) (node : Stored D) (opened : IsOpenedNamed told name old.first node) where
   fewer : (x : Member) → PairsInStep (told old.first) (told old.second) text x entries → PairsInStep (told node.disk) (told old.second) text x entries
   fewer x start i j left right = start i j (opened.untouched.images i left) right
 
@@ -81,16 +86,15 @@ module _ {D : Type 0} (told : D → View) (name text : List ℕ) (entries : List
   named new o did = behind new o (subst (λ (n : List ℕ). HasActed n text entries told (two_disks node.disk old.second) new o) opened.own did)
 
 -- no party of the name was opened
-module _ {D : Type 0} (told : D → View) (sound : (d : D) → IsSound (told d)) (name text : List ℕ) (entries : List Entry) (old : Disks D) (new : D) (o : SpoolOutcome) (none : IsNoParty told name old.first new o) where
-  due : (out : SpoolOutcome) → WhyNoParty name (told old.first) (told new) out → (image book : List ℕ) → (told old.first).now ≡ Some image → (told old.second).now ≡ Some book → IsNoFailure out → IsDueBatch name image book text out
-  due (outcome.OtherParty asked found) why = λ image book now told_book answered. record { p = why.p; stands = why.reads image now; called = why.called; own = why.own; differs = why.differs }
-  due outcome.Blank why = λ image book now told_book answered. why image now
-  due (outcome.Damaged place) why = λ image book now told_book answered. inl (why image now)
-  due outcome.Fault why = λ image book now told_book answered. absurd answered
-  due outcome.NoMemory why = λ image book now told_book answered. absurd answered
-  due (outcome.Done out) why = absurd why
-  due outcome.OtherBatch why = absurd why
-  due (outcome.OutOfStep e) why = absurd why
+module _ {D : Type 0} (told : D → View) (sound : (d : D) → IsSound (told d)) (name text : List ℕ) (entries : List Entry) (old : Disks D) (new : D) (w : WhyNotOpened) (none : IsNotOpenedNamed told name old.first new w) where
+  due : (w : WhyNotOpened) → IsWhyNotOpened name (told old.first) (told new) w → (image book : List ℕ) → (told old.first).now ≡ Some image → (told old.second).now ≡ Some book → IsNoFailure (outcome_of_why name w)
+      → IsDueBatch name image book text (outcome_of_why name w)
+  due (why.OtherParty found) is = λ image book now told_book answered. record { p = is.p; stands = is.reads image now; called = refl; own = is.own; differs = is.differs }
+  due (why.Unmade cause.Blank) is = λ image book now told_book answered. is.refused image now
+  due (why.Unmade cause.NotEmpty) is = absurd (is.names refl)
+  due (why.Unmade (cause.Damaged place)) is = λ image book now told_book answered. inl (is.refused image now)
+  due (why.Unmade cause.Fault) is = λ image book now told_book answered. absurd answered
+  due (why.Unmade cause.NoMemory) is = λ image book now told_book answered. absurd answered
 
   rest : BothStay (told old.first) (told old.second) (told new) (told old.second)
   rest = record { party = none.untouched; spool = λ tells. untouched_self (told old.second) (sound old.second) }
@@ -98,41 +102,41 @@ module _ {D : Type 0} (told : D → View) (sound : (d : D) → IsSound (told d))
   untouched_all : AreUntouched (told old.first) (told old.second) (told new) (told old.second)
   untouched_all = record { party = none.untouched; spool = untouched_self (told old.second) (sound old.second) }
 
-  left : (out : SpoolOutcome) → WhyNoParty name (told old.first) (told new) out → LeavesBatch text entries (told old.first) (told old.second) (told new) (told old.second) out
-  left (outcome.OtherParty asked found) why = rest
-  left outcome.Blank why = rest
-  left (outcome.Damaged place) why = rest
-  left outcome.Fault why = tt
-  left outcome.NoMemory why = tt
-  left (outcome.Done out) why = absurd why
-  left outcome.OtherBatch why = absurd why
-  left (outcome.OutOfStep e) why = absurd why
+  left : (w : WhyNotOpened) → LeavesBatch text entries (told old.first) (told old.second) (told new) (told old.second) (outcome_of_why name w)
+  left (why.OtherParty found) = rest
+  left (why.Unmade cause.Blank) = rest
+  left (why.Unmade cause.NotEmpty) = rest
+  left (why.Unmade (cause.Damaged place)) = rest
+  left (why.Unmade cause.Fault) = tt
+  left (why.Unmade cause.NoMemory) = tt
 
-  shows : (out : SpoolOutcome) → WhyNoParty name (told old.first) (told new) out → out ≡ outcome.Fault → Rose (told old.first).faults (told new).faults
-  shows (outcome.OtherParty asked found) why is = absurd (cc is)
-  shows outcome.Blank why is = absurd (cc is)
-  shows (outcome.Damaged place) why is = absurd (cc is)
-  shows outcome.Fault why is = why
-  shows outcome.NoMemory why is = absurd (cc is)
-  shows (outcome.Done out) why is = absurd why
-  shows outcome.OtherBatch why is = absurd why
-  shows (outcome.OutOfStep e) why is = absurd why
+  shows : (w : WhyNotOpened) → IsWhyNotOpened name (told old.first) (told new) w → outcome_of_why name w ≡ outcome.Fault → Rose (told old.first).faults (told new).faults
+  shows (why.OtherParty found) is fault = absurd (cc fault)
+  shows (why.Unmade cause.Blank) is fault = absurd (cc fault)
+  shows (why.Unmade cause.NotEmpty) is fault = absurd (cc fault)
+  shows (why.Unmade (cause.Damaged place)) is fault = absurd (cc fault)
+  shows (why.Unmade cause.Fault) is fault = is.fault refl
+  shows (why.Unmade cause.NoMemory) is fault = absurd (cc fault)
 
-  failed : (o ≡ outcome.Fault) ⊎ (o ≡ outcome.NoMemory) → IsDoneOrFailed o
-  failed (inl is) = subst IsDoneOrFailed (sym is) tt
-  failed (inr is) = subst IsDoneOrFailed (sym is) tt
+  failed : (w : WhyNotOpened) (p : Party) → IsReasonFor name p w → p.own ≡ name → IsDoneOrFailed (outcome_of_why name w)
+  failed (why.OtherParty found) p is own = absurd (is.1 own)
+  failed (why.Unmade cause.Blank) p is own = absurd is
+  failed (why.Unmade cause.NotEmpty) p is own = absurd is
+  failed (why.Unmade (cause.Damaged place)) p is own = absurd is
+  failed (why.Unmade cause.Fault) p is own = tt
+  failed (why.Unmade cause.NoMemory) p is own = tt
 
-  pub nobody : HasActed name text entries told old (two_disks new old.second) o
-  nobody = record {
-    made = record { due = due o none.why; left = left o none.why };
+  pub nobody : (o : SpoolOutcome) → o ≡ outcome_of_why name w → HasActed name text entries told old (two_disks new old.second) o
+  nobody o same = subst (HasActed name text entries told old (two_disks new old.second)) (sym same) (record {
+    made = record { due = due w none.reason; left = left w };
     in_step = record {
       pairs = λ x party_tells spool_tells start i j first second. start i j (none.untouched.images i first) second;
-      complete = λ x y image tells start now finds. failed (none.never image y.party now (stands_of y image finds.stands) finds.own);
+      complete = λ x y image tells start now finds. failed w y.party (none.never image y.party now (stands_of y image finds.stands)) finds.own;
       safe = record { nobody = λ image now nobody. untouched_all; unread = λ book told_book unread. untouched_all; out = λ image book e now told_book due. untouched_all; finished = λ image book x p now told_book finds holds is. untouched_all };
       party_tells = ap is_some none.untouched.now;
       spool_tells = refl;
     };
     first_faults = none.faults;
     second_faults = omega arith;
-    fault = λ is. inl (shows o none.why is);
-  }
+    fault = λ is. inl (shows w none.reason is);
+  })

@@ -1,6 +1,5 @@
 mod Standing
 mod Single
-mod Parties
 mod Beside
 mod Front
 mod Around

@@ -1,16 +1,16 @@
 -- The steps of a call between the fetch of both disks and their put back: the party is opened, the spool is begun, and the batch is
 -- driven (this project's profile).
-use Rattle.std.specs.Prelude.{◌≡◌, ◌≢◌, ◌⊎◌, ℕ, ◌≤◌, true, List, Some}
+use Rattle.std.specs.Prelude.{◌≡◌, ◌⊎◌, ℕ, ◌≤◌, List}
 use Rattle.x_base.specs.Edge.{Rose}
-use Rattle.x_disk.specs.Disk.{View, IsUntouched}
+use Rattle.x_disk.specs.Disk.{View}
 use Rattle.x_disk.specs.declared.disk.DiskErr.{DiskErr}
 use Rattle.x_disk.specs.declared.disk.DiskErr.TheVariants as disk
 use Rattle.key_journal.specs.Causes.{cause_of}
-use Rattle.key_journal.specs.Journal.{is_blank}
 use Rattle.key_journal.specs.declared.cause.Cause.{Cause}
 use Rattle.key_journal.specs.declared.cause.Cause.TheVariants as cause
-use Rattle.party_state.specs.State.{Party}
-use Rattle.key_store.specs.Store.{Stored, Stands, IsStore, IsFirstDamage}
+use Rattle.key_store.specs.Store.{IsStore}
+use Rattle.node_core.specs.declared.named.WhyNotOpened.{WhyNotOpened}
+use Rattle.node_core.specs.declared.named.WhyNotOpened.TheVariants as why
 use Rattle.csm_batch.specs.declared.entry.Entry.{Entry}
 use Rattle.spool_store.specs.declared.cause.SpoolCause.{SpoolCause}
 use Rattle.spool_store.specs.declared.cause.SpoolCause.TheVariants as spool
@@ -30,6 +30,11 @@ outcome_of cause.NotEmpty = outcome.Damaged 0
 outcome_of (cause.Damaged place) = outcome.Damaged place
 outcome_of cause.Fault = outcome.Fault
 outcome_of cause.NoMemory = outcome.NoMemory
+
+-- and where the party of the name isn't opened
+abbrev pub outcome_of_why : List ℕ → WhyNotOpened → SpoolOutcome
+outcome_of_why name (why.OtherParty found) = outcome.OtherParty name found
+outcome_of_why name (why.Unmade reason) = outcome_of reason
 
 -- the outcome where no spool is begun; over a disk that tells it is neither blank nor not empty
 abbrev pub outcome_of_spool : SpoolCause → SpoolOutcome
@@ -72,34 +77,3 @@ IsEnd told (drive.NoMemory node s) o = o ≡ outcome.NoMemory
 abbrev pub failure_of : DiskErr → SpoolOutcome
 failure_of disk.Fault = outcome.Fault
 failure_of disk.NoMemory = outcome.NoMemory
-
--- the party of the name is opened
-pub record IsPartyOpened {D : Type 0} (told : D → View) (name : List ℕ) (old : D) (node : Stored D) : Type 0 where
-  pub store : IsStore (told node.disk) node.gate node.end node.format node.party
-  pub untouched : IsUntouched (told old) (told node.disk)
-  pub own : node.party.own ≡ name
-  pub faults : (told old).faults ≤ (told node.disk).faults
-
--- the disk's image stands for a party of another identity
-pub record FindsOther (name : List ℕ) (old : View) (asked found : List ℕ) : Type 0 where
-  pub p : Party
-  pub reads : (image : List ℕ) → old.now ≡ Some image → Stands image p
-  pub called : asked ≡ name
-  pub own : found ≡ p.own
-  pub differs : found ≢ name
-
--- why it isn't
-abbrev pub WhyNoParty : List ℕ → View → View → SpoolOutcome → Type 0
-WhyNoParty name old new (outcome.OtherParty asked found) = FindsOther name old asked found
-WhyNoParty name old new outcome.Blank = (image : List ℕ) → old.now ≡ Some image → is_blank image ≡ true
-WhyNoParty name old new (outcome.Damaged place) = (image : List ℕ) → old.now ≡ Some image → IsFirstDamage image place
-WhyNoParty name old new outcome.Fault = Rose old.faults new.faults
-WhyNoParty name old new outcome.NoMemory = Unit {0}
-WhyNoParty name old new other = ⊥
-
-pub record IsNoParty {D : Type 0} (told : D → View) (name : List ℕ) (old new : D) (o : SpoolOutcome) : Type 0 where
-  pub why : WhyNoParty name (told old) (told new) o
-  pub untouched : IsUntouched (told old) (told new)
-  pub faults : (told old).faults ≤ (told new).faults
-  -- an image that stands for a party of the name gives no other outcome than a failure
-  pub never : (image : List ℕ) (p : Party) → (told old).now ≡ Some image → Stands image p → p.own ≡ name → (o ≡ outcome.Fault) ⊎ (o ≡ outcome.NoMemory)

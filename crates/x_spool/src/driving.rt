@@ -3,14 +3,14 @@ ghost use Rattle.std.specs.Prelude.{◌≡◌};
 ghost use Rattle.spool_store.specs.Spools.{outbox_of};
 ghost use Rattle.x_spool.specs.Steps.{HandsOut, HasActed, IsEnd, driven_disks, outcome_of_spool, two_disks};
 
-use crate::opening::{NoParty, open_party, outcome_of};
+use crate::opening::{no_party, outcome_of};
 use crate::outcome::SpoolOutcome;
 use csm_batch::Batch;
 use csm_spool::{Driven, begin, drive};
 use disk_pair::Disks;
 use key_journal::Cause;
 use key_store::law_one_finding;
-use node_core::Node;
+use node_core::{Node, NotOpened};
 use spool_store::{Contents, Spool, SpoolCause, Unbegun};
 use std::alloc::Global;
 use x_base::{Ident, NoMemory};
@@ -114,14 +114,14 @@ pub(crate) fn spool_over<D: Disk>(
     ensures { HasActed party.now batch.now.0 batch.now.1 D.told disks result.0 result.1 }
 {
     let Disks { first, second } = disks;
-    match open_party(alloc, first, party) {
+    match Node::open_named(alloc, first, party) {
         Ok(node) => drive_over(alloc, node, second, batch),
-        Err(NoParty { disk, outcome }) => {
+        Err(NotOpened { disk, why }) => {
             let disks = Disks {
                 first: disk,
                 second,
             };
-            (disks, outcome)
+            (disks, no_party(party, why))
         }
     }
 }

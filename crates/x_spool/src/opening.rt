@@ -1,20 +1,11 @@
-// The party is opened.
-ghost use Rattle.std.specs.Prelude.{◌≡◌, IfOk, IfErr};
-ghost use Rattle.x_spool.specs.Steps.{IsNoParty, IsPartyOpened, outcome_of};
+// What is told where the party isn't opened.
+ghost use Rattle.std.specs.Prelude.{◌≡◌};
+ghost use Rattle.x_spool.specs.Steps.{outcome_of, outcome_of_why};
 
 use crate::outcome::SpoolOutcome;
-use key_journal::{Cause, Unmade};
-use node_core::Node;
-use std::alloc::Global;
+use key_journal::Cause;
+use node_core::WhyNotOpened;
 use x_base::Ident;
-use x_disk::Disk;
-
-/// A disk on which no party of the name was opened, and what is told of that.
-#[derive(Drop)]
-pub(crate) struct NoParty<D: Disk> {
-    pub(crate) disk: D,
-    pub(crate) outcome: SpoolOutcome,
-}
 
 /// The outcome where a disk isn't opened, or failed. No opening tells that a disk isn't empty, but of a file that changes by
 /// itself.
@@ -30,30 +21,12 @@ pub(crate) fn outcome_of(cause: Cause) -> SpoolOutcome
     }
 }
 
-/// Opens the party of this name.
-pub(crate) fn open_party<D: Disk>(
-    alloc: Global,
-    disk: D,
-    party: &Ident,
-) -> Result<Node<D>, NoParty<D>>
-    ensures opened { IfOk result (IsPartyOpened D.told party.now disk) }
-    ensures failed { IfErr result (λ n. IsNoParty D.told party.now disk n.disk n.outcome) }
+/// The outcome where the party of the name isn't opened.
+pub(crate) fn no_party(party: &Ident, why: WhyNotOpened) -> SpoolOutcome
+    ensures { result ≡ outcome_of_why party.now why }
 {
-    let node = match Node::open_from(alloc, disk) {
-        Ok(node) => node,
-        Err(Unmade { disk, cause }) => {
-            return Err(NoParty {
-                disk,
-                outcome: outcome_of(cause),
-            });
-        }
-    };
-    let own = node.view().own();
-    if own != *party {
-        return Err(NoParty {
-            disk: node.into_disk(),
-            outcome: SpoolOutcome::OtherParty(*party, own),
-        });
+    match why {
+        WhyNotOpened::OtherParty(found) => SpoolOutcome::OtherParty(*party, found),
+        WhyNotOpened::Unmade(cause) => outcome_of(cause),
     }
-    Ok(node)
 }

@@ -3,7 +3,7 @@ use Rattle.x_pay.proofs.opening.open_both.Goals as goal
 
 pub returns-in-Err-clause-failed : goal.returns-in-Err-clause-failed
 returns-in-Err-clause-failed g c =
-    nobody_acted g.D.Disk.told c.args.party.now c.args.disks c.in-Err.field-0.disk (g.met.D.Disk.sound c.args.disks.second) c.in-Err.field-0.outcome c.in-Err.ensures.failed
+    nobody_acted g.D.Disk.told c.args.party.now c.args.disks c.in-Err.field-0.disk (g.met.D.Disk.sound c.args.disks.second) c.in-Err.field-0.why c.no_party.result c.no_party.ensures c.in-Err.ensures.failed
 
 pub returns-in-Err-open_ledger-clause-failed : goal.returns-in-Err-open_ledger-clause-failed
 returns-in-Err-open_ledger-clause-failed g c =
