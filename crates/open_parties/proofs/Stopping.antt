@@ -5,7 +5,7 @@ use Rattle.party_state.specs.State.{Party}
 use Rattle.change_code.specs.declared.format.Format.{Format}
 use Rattle.key_store.specs.Store.{Stands, StandsAs, IsStore}
 use Rattle.member.specs.Member.{Member}
-use Rattle.node_core.specs.Turns.{IsImageOf, IsOldOrNext}
+use Rattle.node_core.specs.Turns.{IsImageOf, IsOldOrNext, ReadIsOf, StableIsOf}
 use Rattle.open_parties.specs.Stops.{IsDiskAtStop, IsRestarted}
 use Rattle.open_parties.proofs.Images.{told_now}
 
@@ -19,7 +19,7 @@ only_now w P tells durable now image left =
     subst P (sym (durable.only here.0 image here.1 left)) (now here.0 here.1)
 
 -- nothing was carried out
-pub at_stop_idle : (v : View) (x : Member) (n : ℕ) → IsDurable v → ((image : List ℕ) → v.now ≡ Some image → IsImageOf x image) → IsDiskAtStop v v x x ⊥ n
+pub at_stop_idle : (v : View) (x : Member) (n : ℕ) → IsDurable v → ReadIsOf v x → IsDiskAtStop v v x x ⊥ n
 at_stop_idle v x n durable stands = record {
   either = λ told image left. inl (only_now v (IsImageOf x) told durable stands image left);
   early = λ told keep. absurd keep;
@@ -30,7 +30,7 @@ at_stop_idle v x n durable stands = record {
 }
 
 module _ (v w : View) (x y : Member) (keep : Type 0) (n : ℕ) (tells : is_some w.now ≡ is_some v.now) where
-  pub at_stop_none : IsDurable w → ((image : List ℕ) → w.now ≡ Some image → IsImageOf x image) → (keep → ⊥) → IsDiskAtStop v w x y keep n
+  pub at_stop_none : IsDurable w → ReadIsOf w x → (keep → ⊥) → IsDiskAtStop v w x y keep n
   at_stop_none durable stands none = record {
     either = λ told image left. inl (only_now w (IsImageOf x) (tells ∙ told) durable stands image left);
     early = λ told keep few. absurd (none keep);
@@ -40,7 +40,7 @@ module _ (v w : View) (x y : Member) (keep : Type 0) (n : ℕ) (tells : is_some 
     tells = tells;
   }
 
-  pub at_stop_cut : IsSound w → (calls : ℕ) → calls ≡ n - 1 → n ≤ 4 → keep → ((image : List ℕ) → w.stable ≡ Some image → IsImageOf x image) → (calls ≡ 3 → w.faults ≡ 0 → (image : List ℕ) → w.now ≡ Some image → IsImageOf y image)
+  pub at_stop_cut : IsSound w → (calls : ℕ) → calls ≡ n - 1 → n ≤ 4 → keep → StableIsOf w x → (calls ≡ 3 → w.faults ≡ 0 → ReadIsOf w y)
       → (Tells v → LeavesOnly v w (IsOldOrNext x y)) → (calls ≤ 1 → Tells v → LeavesOnly v w (IsImageOf x)) → IsDiskAtStop v w x y keep n
   at_stop_cut sound calls is most kept stable pending run early = record {
     either = λ told image left. one_of image ((run told).each image (sound.counts_now v.moment image (run told).later left));
@@ -55,7 +55,7 @@ module _ (v w : View) (x y : Member) (keep : Type 0) (n : ℕ) (tells : is_some 
       one_of image (inl old) = inl old
       one_of image (inr new) = inr (kept, new)
 
-  pub at_stop_whole : 5 ≤ n → IsDurable w → ((image : List ℕ) → w.now ≡ Some image → IsImageOf y image) → keep ⊎ (keep → ⊥) → ((keep → ⊥) → y ≡ x) → IsDiskAtStop v w x y keep n
+  pub at_stop_whole : 5 ≤ n → IsDurable w → ReadIsOf w y → keep ⊎ (keep → ⊥) → ((keep → ⊥) → y ≡ x) → IsDiskAtStop v w x y keep n
   at_stop_whole many durable stands decided same = record {
     either = λ told image left. go decided image (here told image left);
     early = λ told keep few. absurd (omega (arith, many, few));

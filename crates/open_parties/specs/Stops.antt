@@ -6,15 +6,15 @@ use Rattle.party_state.specs.State.{Party}
 use Rattle.change_code.specs.declared.format.Format.{Format}
 use Rattle.key_store.specs.Store.{StandsAs, IsStore}
 use Rattle.member.specs.Member.{Member}
-use Rattle.node_core.specs.Turns.{IsImageOf}
+use Rattle.node_core.specs.Turns.{IsImageOf, LeftIsOf, ReadIsOf, StableIsOf}
 
 -- a disk over which an event was carried out up to a call, before the power goes
 pub record IsDiskAtStop (v w : View) (x y : Member) (keep : Type 0) (n : ℕ) : Type 0 where
   pub either : Tells v → (image : List ℕ) → w.may_leave image → IsImageOf x image ⊎ (keep × IsImageOf y image)
-  pub early : Tells v → keep → n ≤ 2 → (image : List ℕ) → w.may_leave image → IsImageOf x image
-  pub stable : keep → n ≤ 4 → (image : List ℕ) → w.stable ≡ Some image → IsImageOf x image
-  pub pending : keep → n ≡ 4 → w.faults ≡ 0 → (image : List ℕ) → w.now ≡ Some image → IsImageOf y image
-  pub whole : Tells v → keep → 5 ≤ n → (image : List ℕ) → w.may_leave image → IsImageOf y image
+  pub early : Tells v → keep → n ≤ 2 → LeftIsOf w x
+  pub stable : keep → n ≤ 4 → StableIsOf w x
+  pub pending : keep → n ≡ 4 → w.faults ≡ 0 → ReadIsOf w y
+  pub whole : Tells v → keep → 5 ≤ n → LeftIsOf w y
   pub tells : is_some w.now ≡ is_some v.now
 
 -- from a disk to the party that is opened once the power went, in the format in which it stands

@@ -3,7 +3,7 @@
 use Rattle.std.specs.Prelude.{◌≡◌, ℕ, List, ◌++◌, length, Some, is_some}
 use Rattle.x_disk.specs.Disk.{View, Tells, IsDurable, IsUntouched}
 use Rattle.member.specs.Member.{Member}
-use Rattle.node_core.specs.Turns.{IsImageOf}
+use Rattle.node_core.specs.Turns.{ReadIsOf}
 use Rattle.csm_batch.specs.declared.entry.Entry.{Entry}
 use Rattle.spool_store.specs.declared.entry_plan.EntryPlan.{EntryPlan}
 use Rattle.spool_store.specs.Contents.{Progress, HoldsPlans}
@@ -18,7 +18,7 @@ use Rattle.x_spool.specs.declared.outcome.SpoolOutcome.TheVariants as outcome
 -- each image that a crash may leave of the disk stands for this member
 pub record KeepsMember (v : View) (x : Member) : Type 0 where
   pub durable : IsDurable v
-  pub stands : (image : List ℕ) → v.now ≡ Some image → IsImageOf x image
+  pub stands : ReadIsOf v x
 
 -- each image that a crash may leave of the disk holds the batch and these plans
 pub record KeepsPlans (v : View) (p : Progress) : Type 0 where
