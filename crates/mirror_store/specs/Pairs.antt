@@ -29,7 +29,7 @@ Recovers first second party = (Stands first party × IsBlankOrLike party second)
 abbrev pub IsMadeAnew : List ℕ → Party → List ℕ → Type 0
 IsMadeAnew before party image = (Stands before party → ⊥) × StandsAlone image party
 
--- one image is blank as another was, or stands for the party for which that stood, with the room that it had
+-- one image is blank as another was, or stands for the party for which that stood, with the space that it had
 abbrev pub IsAsBefore : List ℕ → List ℕ → Type 0
 IsAsBefore before image = ((is_blank before ≡ true) × (is_blank image ≡ true)) ⊎ ((party : Party) × (space : Space) × StandsWith before party space × StandsWith image party space)
 

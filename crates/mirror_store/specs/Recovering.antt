@@ -18,7 +18,7 @@ IsEither one other image = Stands image one ⊎ Stands image other
 abbrev pub RecoversEither : Party → Party → List ℕ → List ℕ → Type 0
 RecoversEither one other first second = Recovers first second one ⊎ Recovers first second other
 
--- one image is blank as another was, or stands for the party for which that stood, in whichever room
+-- one image is blank as another was, or stands for the party for which that stood, with any space
 abbrev pub IsLikeBefore : List ℕ → List ℕ → Type 0
 IsLikeBefore before image = ((is_blank before ≡ true) × (is_blank image ≡ true)) ⊎ ((party : Party) × Stands before party × Stands image party)
 

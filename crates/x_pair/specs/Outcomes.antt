@@ -141,13 +141,13 @@ left_on_first x = x.space
 abbrev pub left_on_second : Member → Space
 left_on_second x = space_of_whole Two x.party
 
--- an image that a crash may leave: it is made anew for the party that is opened, stands for a member after it, with this room, is
--- blank as it was, stands for the party for which it stood, with the room that it had, or could be left before
-pub data MayLeave (w : Work) (room : Member → Space) (first second : List ℕ) (party : Party) (was : List ℕ) (before : List ℕ → Type 0) (image : List ℕ) : Type 0 where
-  Opened : IsMadeAnew was party image → MayLeave w room first second party was before image
-  After : (next : Member) → Changes w first second party next → StandsWith image next.party (room next) → MayLeave w room first second party was before image
-  AsItWas : IsAsBefore was image → MayLeave w room first second party was before image
-  Before : before image → MayLeave w room first second party was before image
+-- an image that a crash may leave: it is made anew for the party that is opened, stands for a member after it, with the space that
+-- is left then, is blank as it was, stands for the party for which it stood, with the space that it had, or could be left before
+pub data MayLeave (w : Work) (left : Member → Space) (first second : List ℕ) (party : Party) (was : List ℕ) (before : List ℕ → Type 0) (image : List ℕ) : Type 0 where
+  Opened : IsMadeAnew was party image → MayLeave w left first second party was before image
+  After : (next : Member) → Changes w first second party next → StandsWith image next.party (left next) → MayLeave w left first second party was before image
+  AsItWas : IsAsBefore was image → MayLeave w left first second party was before image
+  Before : before image → MayLeave w left first second party was before image
 
 -- the second disk is as an opening alone leaves it: a crash at any moment leaves an image that is made anew for the party that is
 -- opened, is as it was, or could be left before; where both disks stood for the party, or the first was blank, nothing is written
