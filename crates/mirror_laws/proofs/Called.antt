@@ -18,7 +18,7 @@ use Rattle.member.specs.Deciding.{decision}
 use Rattle.member.specs.Leads.{lead_in}
 use Rattle.member.specs.Member.{Member, Plan, plan_at, as_full, after}
 use Rattle.member.specs.Acts.{taking}
-use Rattle.mirror_store.specs.Pairs.{Recovers}
+use Rattle.mirror_store.specs.Pairs.{Recovers, IsMadeAnew}
 use Rattle.mirror_store.specs.Opening.{AreRead, HasFirstSpace, IsPairRefusal}
 use Rattle.mirror_store.specs.Recovering.{IsPairFailure}
 use Rattle.mirror_store.specs.Turns.{fits_frame, pair_plan_at}
@@ -110,7 +110,7 @@ module _ (inputs : (x : Member) (i : Input) (moment : ℕ) → IsEventOf x (taki
       refused_by (fits_frame party plan.edits) refl opened.next verdict reply (opened.says.same ∙ is) opened.says.refused
       (opened.says.said ∙ ap (λ (y : Member). (pair_plan_at y i moment).verdict) is) (opened.says.written ∙ ap (λ (y : Member). (pair_plan_at y i moment).reply) is) opened.stand
 
-  answers : (o : Outcome) → MakesOf (turning name i moment) was_first was_second first_after second_after o → AnswersPair x i moment e was_first was_second first_after second_after o
+  pub answers : (o : Outcome) → MakesOf (turning name i moment) was_first was_second first_after second_after o → AnswersPair x i moment e was_first was_second first_after second_after o
   answers (outcome.Done reply) makes = done reply makes
   answers (outcome.Refused verdict reply) (inl opened) = elim (refuses verdict reply opened) [ inl whole ↦ inl whole | inr held ↦ inr (inl held) ]
   answers (outcome.Refused verdict reply) (inr (inl none)) = absurd (refused was_first was_second party (First cause.Blank) recovers (none.first_blank, none.second_blank))
@@ -125,30 +125,32 @@ module _ (inputs : (x : Member) (i : Input) (moment : ℕ) → IsEventOf x (taki
   answers outcome.NoMemory makes = tt
 
   -- an image of the member after the event that is cut off
-  cut_call : (z : Member) → CutTo x e z → (p : Party) → p ≡ z.party → (image : List ℕ) → Stands image p → IsCutPairCall x e image
-  cut_call z to p is image stands = record {
-    completion = to.completion;
-    cut = to.cut;
-    stands = λ n w at. record { member = z; at = to.at n w at; holds = subst (Stands image) is stands };
-  }
+  cut_call : (room : Member → Space) (z : Member) → CutTo x e z → (image : List ℕ) → StandsWith image z.party (room z) → IsCutPairCall x e room image
+  cut_call room z to image stands = record { completion = to.completion; cut = to.cut; stands = λ n w at. record { member = z; at = to.at n w at; holds = stands } }
 
-  leaves : (room : Member → Space) (was : List ℕ) (before : List ℕ → Type 0) (image : List ℕ) → MayLeave (turning name i moment) room was_first was_second party was before image → IsPairCutOr x e was before image
-  leaves room was before image (Opened made) = inl (cut_call x (to_old x bytes i moment event) party refl image (image_stands image party (space_of_whole Two party) made.1))
-  leaves room was before image (After next changes stands) =
+  -- the space of what is made anew on the first disk
+  made_space : (image : List ℕ) → IsMadeAnew was_first party image → HasFirstSpace was_first party space → space_of_whole Two party ≡ space
+  made_space image made (inl stands) = absurd (made.0 (image_stands was_first party space stands))
+  made_space image made (inr whole) = sym whole.1
+
+  leaves : (room : Member → Space) (was : List ℕ) (before : List ℕ → Type 0) → ((image : List ℕ) → IsMadeAnew was party image → space_of_whole Two party ≡ room x) → (image : List ℕ)
+      → MayLeave (turning name i moment) room was_first was_second party was before image → IsPairCutOr x e room was before image
+  leaves room was before whole image (Opened made) = inl (cut_call room x (to_old x bytes i moment event) image (subst (λ (s : Space). StandsWith image party s) (whole image made) made.1))
+  leaves room was before whole image (After next changes stands) =
       let may = changes.may in
       let same : may.space ≡ space = same_space party may.space space may.left left in
       let is : next ≡ after x (pair_plan_at x i moment).edits =
       may.is ∙ ap (λ (s : Space). let z : Member = record { party = party; space = s } in after z (pair_plan_at z i moment).edits) same in
-      inl (cut_call (after x (pair_plan_at x i moment).edits) (to_next x bytes i moment event) next.party (ap (λ (z : Member). z.party) is) image (image_stands image next.party (room next) stands))
-  leaves room was before image (AsItWas is) = inr (inl is)
-  leaves room was before image (Before is) = inr (inr is)
+      inl (cut_call room (after x (pair_plan_at x i moment).edits) (to_next x bytes i moment event) image (subst (λ (z : Member). StandsWith image z.party (room z)) is stands))
+  leaves room was before whole image (AsItWas is) = inr (inl is)
+  leaves room was before whole image (Before is) = inr (inr is)
 
   pub is_call : (first second : View) (o : Outcome) → AreRead first second was_first was_second → MakesPair (turning name i moment) first second first_after second_after o
       → IsSafePair (turning name i moment) first second first_after second_after → IsPairCallEvent x bytes i moment was_first was_second first second first_after second_after o
   is_call first second o read makes safe = record {
     whole = answers o (makes was_first was_second read);
-    cut_first = weaker first first_after (MayLeave (turning name i moment) left_on_first was_first was_second party was_first first.may_leave) (IsPairCutOr x e was_first first.may_leave)
-        (safe.on_first was_first was_second party read recovers) (leaves left_on_first was_first first.may_leave);
-    cut_second = weaker second second_after (MayLeave (turning name i moment) left_on_second was_first was_second party was_second second.may_leave) (IsPairCutOr x e was_second second.may_leave)
-        (safe.on_second was_first was_second party read recovers) (leaves left_on_second was_second second.may_leave);
+    cut_first = weaker first first_after (MayLeave (turning name i moment) left_on_first was_first was_second party was_first first.may_leave) (IsPairCutOr x e left_on_first was_first first.may_leave)
+        (safe.on_first was_first was_second party read recovers) (leaves left_on_first was_first first.may_leave (λ c made. made_space c made left));
+    cut_second = weaker second second_after (MayLeave (turning name i moment) left_on_second was_first was_second party was_second second.may_leave) (IsPairCutOr x e left_on_second was_second second.may_leave)
+        (safe.on_second was_first was_second party read recovers) (leaves left_on_second was_second second.may_leave (λ c made. refl));
   }

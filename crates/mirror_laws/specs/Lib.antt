@@ -2,3 +2,6 @@ pub mod Runs
 pub mod Losses
 pub mod Turns
 pub mod Calls
+pub mod Sessions
+pub mod Deeds
+pub mod SettingUp

@@ -1,4 +1,4 @@
--- Runs of a network whose parties keep two disks each: its events, and one more (this project's profile).
+-- Runs of a network whose parties keep one disk or two: its events, and one more (this project's profile).
 use Rattle.std.specs.Prelude.{ℕ, suc, Option, Some, None, List, [], ◌∷◌}
 use Rattle.change_code.specs.declared.format.Format.TheVariants.{Two}
 use Rattle.member.specs.Member.{Member}
@@ -11,8 +11,8 @@ use Rattle.world_laws.specs.Honest.{HonestAt}
 pub data Which : Type 0 where
   FirstDisk SecondDisk : Which
 
--- an event of the network, at a party that is kept on both its disks; or one of the two disks of the party of this name becomes
--- blank, the other stays, and the pair is opened again: between two events, or behind one that is cut off
+-- an event of the network, at a party that is kept on its one disk or on both its disks; or one of the two disks of the party of
+-- this name becomes blank, the other stays, and the pair is opened again: between two events, or behind one that is cut off
 pub data PairEvent : Type 0 where
   Happens : Event → PairEvent
   Loses : List ℕ → Which → PairEvent

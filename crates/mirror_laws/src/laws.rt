@@ -1,4 +1,4 @@
-// What holds of every run of parties that keep two disks each, told by a call that does nothing.
+// What holds of every run of parties that keep one disk or two, told by a call that does nothing.
 ghost use Rattle.std.specs.Prelude.{List};
 ghost use Rattle.world_laws.specs.World.{World};
 ghost use Rattle.world_laws.specs.Starts.{HasAcceptedNothing, IsBareStart, IsStart};

@@ -1,0 +1,154 @@
+-- A call over two disks goes on from what a session may have come to, by its events.
+use Rattle.std.proofs.Common.{◌≡◌, ◌≢◌, ◌⊎◌, inl, inr, ℕ, ◌+◌, true, false, Option, Some, List, [], ◌∷◌, ◌++◌, length, sym, ◌∙◌, subst}
+use Rattle.x_disk.specs.Disk.{View, Tells, IsSound, IsUntouched}
+use Rattle.key_journal.specs.Journal.{is_blank}
+use Rattle.party_state.specs.declared.command.Input.{Input}
+use Rattle.party_state.specs.State.{Party}
+use Rattle.party_state.specs.Verdicts.{is_accept}
+use Rattle.change_code.specs.Whole.{IsTooLarge}
+use Rattle.change_code.specs.declared.format.Format.TheVariants.{Two}
+use Rattle.member.specs.Deciding.{decision}
+use Rattle.member.specs.Member.{Member, plan_at, after}
+use Rattle.member.specs.Acts.{taking}
+use Rattle.mirror_store.specs.Pairs.{Recovers}
+use Rattle.mirror_store.specs.Opening.{AreRead, HasFirstSpace, IsPairRefusal, IsTooLargeToWrite}
+use Rattle.mirror_store.specs.Recovering.{IsPairFailure}
+use Rattle.mirror_store.specs.Turns.{pair_plan_at}
+use Rattle.mirror_store.specs.declared.pair.PairCause.{PairCause}
+use Rattle.x_party.specs.declared.outcome.Outcome.{Outcome}
+use Rattle.x_pair.specs.Outcomes.{turning}
+use Rattle.world_laws.specs.World.{World, member_at}
+use Rattle.world_laws.specs.Events.{IsAction}
+use Rattle.world_laws.specs.Nodes.{IsEventOf, input_event}
+use Rattle.call_laws.specs.Sessions.{reply_of}
+use Rattle.mirror_laws.specs.Runs.{PairEvent}
+use Rattle.mirror_laws.specs.Turns.{action_of}
+use Rattle.mirror_laws.specs.Sessions.{PairDeed, Called, CutOff, HaveOwnDisks, IsTurned, PairOffWithin}
+use Rattle.mirror_laws.specs.Deeds.{IsUnanswered, IsPairCallOf, IsCallOn, IsCutOn}
+use Rattle.mirror_laws.proofs.Called.{answers}
+use Rattle.mirror_laws.proofs.Images.{Pair, MayBe, Known, told, fewer, never_blank}
+use Rattle.mirror_laws.proofs.Ways.{Somebody, Way, FirstLeft, SecondLeft, untouched_way, way_more}
+use Rattle.mirror_laws.proofs.TurnWays.{unanswered_way, nothing}
+use Rattle.mirror_laws.proofs.LeftImages.{turned_is, first_left, second_left}
+use Rattle.mirror_laws.proofs.Answered.{answered_way, large_way}
+use Rattle.mirror_laws.proofs.Led.{GoesOn}
+use Rattle.mirror_laws.proofs.Asked.{OthersMay, somebody, ended_goes, cut_goes}
+use Rattle.mirror_laws.proofs.OwnDisks.{ButOwn, second_view, second_sound}
+
+-- ---- a call
+
+module _ (known : Known) (inputs : (x : Member) (i : Input) (moment : ℕ) → IsEventOf x (taking (plan_at x i moment)) (input_event x i moment))
+    (refusing : (p : Party) (i : Input) (moment : ℕ) → is_accept (decision p i moment).verdict ≡ false → (decision p i moment).change ≡ [])
+    (one_pair : (i j : List ℕ) (p q : Party) → Recovers i j p → Recovers i j q → p ≡ q)
+    (refused : (i j : List ℕ) (p : Party) (reason : PairCause) → Recovers i j p → IsPairRefusal i j reason → IsPairFailure p reason)
+    (start : World) (mirror : List ℕ → Option (List ℕ)) (apart : HaveOwnDisks mirror start) (disks : ℕ → List ℕ → View) (ds : List PairDeed) (texts : List (List ℕ)) (g : GoesOn start mirror disks ds texts (disks (0 + length ds)))
+    (sound : (q : List ℕ) → IsSound (disks (0 + length ds) q))
+    (name second bytes : List ℕ) (has : mirror name ≡ Some second) (i : Input) (moment : ℕ) (o : Outcome) (is_action : IsAction (action_of bytes i)) (x0 : Member) (at0 : member_at name start.members ≡ Some x0) (mid : List ℕ → View)
+    (turned : IsTurned name i moment o (disks (0 + length ds) name) (second_view (mirror name) (disks (0 + length ds))) (mid name) (second_view (mirror name) mid))
+    (thirds : ButOwn mirror name (disks (0 + length ds)) mid) where
+  abbrev was : List ℕ → View
+  was = disks (0 + length ds)
+
+  first_now : (b : List ℕ) × ((was name).now ≡ Some b)
+  first_now = told (was name) (g.first_tells name x0 at0)
+
+  second_now : (b : List ℕ) × ((second_view (mirror name) was).now ≡ Some b)
+  second_now = told (second_view (mirror name) was) (g.second_tells name x0 at0)
+
+  read : AreRead (was name) (second_view (mirror name) was) first_now.0 second_now.0
+  read = record { first = first_now.1; second = second_now.1 }
+
+  first_may : (was name).may_leave first_now.0
+  first_may = (sound name).now_among first_now.0 first_now.1
+
+  second_may : (second_view (mirror name) was).may_leave second_now.0
+  second_may = (second_sound (mirror name) was sound).now_among second_now.0 second_now.1
+
+  first_told : Tells (mid name)
+  first_told = turned.safe.first_tells ∙ g.first_tells name x0 at0
+
+  second_told : Tells (second_view (mirror name) mid)
+  second_told = turned.safe.second_tells ∙ g.second_tells name x0 at0
+
+  -- with these images of the others
+  module _ (images : List ℕ → Pair) (others : OthersMay start mirror apart disks ds texts g name x0 at0 mid thirds images) where
+    abbrev some : (f : Option (List ℕ)) (d : List ℕ) → MayBe (was name).may_leave (second_view (mirror name) was).may_leave f d → Somebody name f d
+    some f d may = somebody start mirror disks ds texts g name x0 at0 images others f d may
+
+    abbrev here : Somebody name (Some first_now.0) second_now.0
+    here = some (Some first_now.0) second_now.0 (first_may, second_may)
+
+    abbrev x : Member
+    x = here.member
+
+    abbrev next : Member
+    next = after x (pair_plan_at x i moment).edits
+
+    abbrev Change : Type 0
+    Change = (pair_plan_at x i moment).edits ≢ []
+
+    abbrev f : Option (List ℕ)
+    f = (images name).first
+
+    abbrev d : List ℕ
+    d = (images name).second
+
+    abbrev WayBy : (List PairEvent → Type 0) → List (List ℕ) → Type 0
+    WayBy are more = Way name (was name).may_leave (second_view (mirror name) was).may_leave some more are f d
+
+    too_large : (is_blank first_now.0 ≡ true) × IsTooLarge Two x.party → IsTooLargeToWrite first_now.0 second_now.0
+    too_large large = record { party = x.party; recovers = here.stands.recovers; apart = λ both. never_blank known first_now.0 x.party large.0 both.first_is; too_large = large.1 }
+
+    still : IsTooLargeToWrite first_now.0 second_now.0 → IsUntouched (was name) (mid name) × IsUntouched (second_view (mirror name) was) (second_view (mirror name) mid)
+    still large = turned.safe.too_large first_now.0 second_now.0 read large
+
+    -- the call failed, or was cut off
+    cut_way : MayBe ((mid name).left_since (was name).moment) ((second_view (mirror name) mid).left_since (second_view (mirror name) was).moment) f d → WayBy (IsUnanswered name (action_of bytes i) moment (was name)) []
+    cut_way since = by_space here.stands.space
+      where
+        by_space : HasFirstSpace first_now.0 x.party x.space ⊎ ((is_blank first_now.0 ≡ true) × IsTooLarge Two x.party) → WayBy (IsUnanswered name (action_of bytes i) moment (was name)) []
+        by_space (inl left) =
+            unanswered_way known inputs name bytes i moment is_action (was name) (second_view (mirror name) was) some first_now.0 second_now.0 first_may second_may f d
+            (fewer ((mid name).left_since (was name).moment) ((second_view (mirror name) mid).left_since (second_view (mirror name) was).moment)
+            (FirstLeft x next Change (was name).may_leave first_now.0) (SecondLeft x next Change (second_view (mirror name) was).may_leave second_now.0)
+            (λ c l. first_left known (turning name i moment) x first_now.0 second_now.0 left next Change (turned_is known name i moment x first_now.0 left) (was name).may_leave c ((turned.safe.on_first first_now.0 second_now.0 x.party read here.stands.recovers).each c l))
+            (λ c l. second_left known (turning name i moment) x first_now.0 second_now.0 left next Change (turned_is known name i moment x first_now.0 left) (second_view (mirror name) was).may_leave c ((turned.safe.on_second first_now.0 second_now.0 x.party read here.stands.recovers).each c l)) f d since)
+        by_space (inr large) =
+            let stays = still (too_large large) in
+            untouched_way name (was name).may_leave (second_view (mirror name) was).may_leave some (IsUnanswered name (action_of bytes i) moment (was name))
+            (nothing known inputs name bytes i moment is_action (was name) (second_view (mirror name) was) some first_now.0 second_now.0 first_may second_may) f d
+            (fewer ((mid name).left_since (was name).moment) ((second_view (mirror name) mid).left_since (second_view (mirror name) was).moment) (was name).may_leave (second_view (mirror name) was).may_leave stays.0.any_moment.each stays.1.any_moment.each f d since)
+
+    -- the call ended
+    called_way : ((q : List ℕ) → IsSound (mid q)) → MayBe (mid name).may_leave (second_view (mirror name) mid).may_leave f d → WayBy (IsPairCallOf o name (action_of bytes i) moment (was name)) (reply_of o)
+    called_way sound_mid may = by_space here.stands.space
+      where
+        since : MayBe ((mid name).left_since (was name).moment) ((second_view (mirror name) mid).left_since (second_view (mirror name) was).moment) f d
+        since = fewer (mid name).may_leave (second_view (mirror name) mid).may_leave ((mid name).left_since (was name).moment) ((second_view (mirror name) mid).left_since (second_view (mirror name) was).moment)
+            (λ c l. (sound_mid name).counts_now (was name).moment c (turned.safe.on_first first_now.0 second_now.0 x.party read here.stands.recovers).later l)
+            (λ c l. (second_sound (mirror name) mid sound_mid).counts_now (second_view (mirror name) was).moment c (turned.safe.on_second first_now.0 second_now.0 x.party read here.stands.recovers).later l) f d may
+
+        by_space : HasFirstSpace first_now.0 x.party x.space ⊎ ((is_blank first_now.0 ≡ true) × IsTooLarge Two x.party) → WayBy (IsPairCallOf o name (action_of bytes i) moment (was name)) (reply_of o)
+        by_space (inl left) =
+            answered_way known inputs one_pair refused name bytes i moment is_action (was name) (second_view (mirror name) was) (mid name) (second_view (mirror name) mid) some first_now.0 second_now.0 first_may second_may first_told second_told
+            still f d may (cut_way since) o
+            (answers inputs refusing known.not_blank known.one_space one_pair refused name bytes i moment (mid name) (second_view (mirror name) mid) first_now.0 second_now.0 x.party x.space here.stands.recovers left here.own o
+            (turned.makes first_now.0 second_now.0 read))
+        by_space (inr large) =
+            large_way known inputs one_pair refused name bytes i moment is_action (was name) (second_view (mirror name) was) (mid name) (second_view (mirror name) mid) some first_now.0 second_now.0 first_may second_may first_told second_told
+            (too_large large) (still (too_large large)) f d may o (turned.makes first_now.0 second_now.0 read)
+
+  pub called : ((q : List ℕ) → IsSound (mid q)) → GoesOn start mirror disks (ds ++ Called name (action_of bytes i) moment o ∷ []) (texts ++ reply_of o) mid
+  called sound_mid =
+      ended_goes start mirror apart disks ds texts g name x0 at0 mid thirds (Called name (action_of bytes i) moment o) (reply_of o) first_told second_told
+      (λ images others may. way_more name (was name).may_leave (second_view (mirror name) was).may_leave (some images others) (reply_of o) (IsPairCallOf o name (action_of bytes i) moment (was name))
+      (IsCallOn (mirror name) o name (action_of bytes i) moment (was name)) (λ es is. subst (λ (m : Option (List ℕ)). IsCallOn m o name (action_of bytes i) moment (was name) es) (sym has) is)
+      (images name).first (images name).second (called_way images others sound_mid may))
+
+  -- the power fails in it
+  pub cut_off : (new : List ℕ → View) → PairOffWithin mirror name was mid new → GoesOn start mirror disks (ds ++ CutOff name (action_of bytes i) moment o ∷ []) (texts ++ []) new
+  cut_off new off =
+      cut_goes start mirror apart disks ds texts g name x0 at0 mid thirds (CutOff name (action_of bytes i) moment o) new off
+      (λ images others may. way_more name (was name).may_leave (second_view (mirror name) was).may_leave (some images others) [] (IsUnanswered name (action_of bytes i) moment (was name))
+      (IsCutOn (mirror name) name (action_of bytes i) moment (was name)) (λ es is. subst (λ (m : Option (List ℕ)). IsCutOn m name (action_of bytes i) moment (was name) es) (sym has) is)
+      (images name).first (images name).second (cut_way images others may))

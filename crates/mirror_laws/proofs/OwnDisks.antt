@@ -1,0 +1,67 @@
+-- What is told of the second disk of a party: where it has none, what is told of a disk that is blank and stays so.
+use Rattle.std.proofs.Common.{◌≡◌, ◌≢◌, ℕ, Option, Some, None, List, [], refl, sym, ◌∙◌, ap}
+use Rattle.x_disk.specs.Disk.{View, IsSound, Tells}
+use Rattle.x_disk.specs.Shelf.{IsAlike, alike_refl}
+use Rattle.call_laws.specs.Sessions.{IsOff}
+use Rattle.mirror_laws.specs.Sessions.{AllButOwnStay, StaysUnwritten}
+
+abbrev pub no_disk : View
+no_disk = record {
+  now = Some [];
+  stable = Some [];
+  may_leave = λ c. c ≡ [];
+  moment = 0;
+  left_since = λ t c. c ≡ [];
+  faults = 0;
+  covers = λ end bytes calls. ⊥;
+  calls_left = None;
+}
+
+abbrev pub second_view : Option (List ℕ) → (List ℕ → View) → View
+second_view None disks = no_disk
+second_view (Some second) disks = disks second
+
+pub no_disk_sound : IsSound no_disk
+no_disk_sound = record {
+  tells = refl;
+  now_among = λ b e. sym (cc e);
+  stable_among = λ b e. sym (cc e);
+  counts_now = λ t c early left. left;
+  only_now = λ c left. left;
+  covers_less = λ end bytes calls less fewer covered few some. absurd covered;
+}
+
+pub second_sound : (m : Option (List ℕ)) (disks : List ℕ → View) → ((q : List ℕ) → IsSound (disks q)) → IsSound (second_view m disks)
+second_sound None disks sound = no_disk_sound
+second_sound (Some second) disks sound = sound second
+
+pub second_told : (m : Option (List ℕ)) (disks : List ℕ → View) → ((s : List ℕ) → m ≡ Some s → Tells (disks s)) → Tells (second_view m disks)
+second_told None disks tells = refl
+second_told (Some second) disks tells = tells second refl
+
+pub second_alike : (m : Option (List ℕ)) (old new : List ℕ → View) → ((s : List ℕ) → m ≡ Some s → IsAlike (old s) (new s)) → IsAlike (second_view m old) (second_view m new)
+second_alike None old new stays = alike_refl no_disk
+second_alike (Some second) old new stays = stays second refl
+
+pub second_off : (m : Option (List ℕ)) (old new : List ℕ → View) → ((s : List ℕ) → m ≡ Some s → IsOff (old s).may_leave (new s)) → IsOff (second_view m old).may_leave (second_view m new)
+second_off None old new off = record { image = []; reads = refl; left = refl; durable = record { only = λ b c e left. left ∙ cc e; stable = refl } }
+second_off (Some second) old new off = off second refl
+
+pub second_off_since : (m : Option (List ℕ)) (old mid new : List ℕ → View) → ((s : List ℕ) → m ≡ Some s → IsOff ((mid s).left_since (old s).moment) (new s)) → IsOff ((second_view m mid).left_since (second_view m old).moment) (second_view m new)
+second_off_since None old mid new off = record { image = []; reads = refl; left = refl; durable = record { only = λ b c e left. left ∙ cc e; stable = refl } }
+second_off_since (Some second) old mid new off = off second refl
+
+pub second_unwritten : (m : Option (List ℕ)) (old new : List ℕ → View) → ((s : List ℕ) → m ≡ Some s → StaysUnwritten (old s) (new s)) → StaysUnwritten (second_view m old) (second_view m new)
+second_unwritten None old new unwritten = record { now = refl; images = λ c left. left }
+second_unwritten (Some second) old new unwritten = unwritten second refl
+
+-- the disks that aren't the party's stay
+abbrev pub ButOwn : (List ℕ → Option (List ℕ)) → List ℕ → (List ℕ → View) → (List ℕ → View) → Type 0
+ButOwn mirror name old new = (other : List ℕ) → other ≢ name → mirror name ≢ Some other → IsAlike (old other) (new other)
+
+pub but_own : (mirror : List ℕ → Option (List ℕ)) (name : List ℕ) (old new : List ℕ → View) → AllButOwnStay (mirror name) name old new → ButOwn mirror name old new
+but_own mirror name old new stay = go (mirror name) refl stay
+  where
+    go : (m : Option (List ℕ)) → mirror name ≡ m → AllButOwnStay m name old new → ButOwn mirror name old new
+    go None none others other ne away = others other ne
+    go (Some second) has thirds other ne away = thirds other ne (λ is. away (has ∙ ap (λ (a : List ℕ). Some a) (sym is)))

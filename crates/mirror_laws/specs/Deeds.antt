@@ -1,0 +1,138 @@
+-- Which events the deeds of a session over one disk or two each are (this project's profile).
+use Rattle.std.specs.Prelude.{◌≡◌, ◌⊎◌, ℕ, suc, true, Option, Some, None, List, [], ◌∷◌, ◌++◌, length, map}
+use Rattle.x_base.specs.declared.verdict.Verdict.{Verdict}
+use Rattle.x_base.specs.declared.verdict.Verdict.TheVariants.{JournalFull}
+use Rattle.x_disk.specs.Disk.{View, Tells}
+use Rattle.key_journal.specs.Journal.{is_blank}
+use Rattle.change_code.specs.Whole.{IsTooLarge}
+use Rattle.change_code.specs.declared.format.Format.TheVariants.{Two}
+use Rattle.key_store.specs.Store.{StandsWith}
+use Rattle.member.specs.Member.{Member}
+use Rattle.mirror_store.specs.Pairs.{Recovers}
+use Rattle.mirror_store.specs.Opening.{HasFirstSpace}
+use Rattle.x_party.specs.declared.outcome.Outcome.{Outcome}
+use Rattle.x_party.specs.declared.outcome.Outcome.TheVariants as outcome
+use Rattle.world_laws.specs.World.{World, member_at}
+use Rattle.world_laws.specs.Events.{Action, Event, Whole, CutNew}
+use Rattle.world_laws.specs.Laws.{OneKeyPerCount, Once, Agreement, EndedBoth}
+use Rattle.call_laws.specs.Deeds.{event_of, IsCutOrNone, IsCallOf}
+use Rattle.mirror_laws.specs.Runs.{FirstDisk, PairEvent, Happens, Loses, pair_run, ArePairEvents, HonestPairRun}
+use Rattle.mirror_laws.specs.Sessions.{PairDeed, Called, CutOff, Shown, ShowCutOff, Looked, PowerFails, Lost, pair_texts_in}
+
+-- the event is cut off with the new state, or there is none
+abbrev pub IsCutNewOrNone : List ℕ → Action → ℕ → List PairEvent → Type 0
+IsCutNewOrNone name action moment es = (es ≡ []) ⊎ (es ≡ Happens (event_of name action moment CutNew) ∷ [])
+
+-- a crash may leave the disk blank
+pub record MayBeBlank (v : View) : Type 0 where
+  pub image : List ℕ
+  pub left : v.may_leave image
+  pub blank : is_blank image ≡ true
+
+-- where a crash could leave the first disk blank, its space may be that of one frame, as after its loss; nothing else changes
+abbrev pub IsLostAgainOrNot : List ℕ → View → List PairEvent → Type 0
+IsLostAgainOrNot name first es = (es ≡ []) ⊎ (MayBeBlank first × (es ≡ Loses name FirstDisk ∷ []))
+
+-- of a call that failed or was cut off: its event cut off, or none, and behind it such a loss, or none. `first` is what its first
+-- disk told before
+pub record IsUnanswered (name : List ℕ) (action : Action) (moment : ℕ) (first : View) (es : List PairEvent) : Type 0 where
+  pub event : List PairEvent
+  pub loss : List PairEvent
+  pub whole : es ≡ event ++ loss
+  pub is_event : IsCutNewOrNone name action moment event
+  pub is_loss : IsLostAgainOrNot name first loss
+
+-- JournalFull is answered and nothing handed out: no event
+pub record IsHeldBackCall (verdict : Verdict) (reply : Option (List ℕ)) (es : List PairEvent) : Type 0 where
+  pub said : verdict ≡ JournalFull
+  pub silent : reply ≡ None
+  pub none : es ≡ []
+
+-- of a call that answered it is the whole event, or none, where it was held back; of one that ended with a fault or with no memory
+-- as above
+abbrev pub IsPairCallOf : Outcome → List ℕ → Action → ℕ → View → List PairEvent → Type 0
+IsPairCallOf (outcome.Done reply) name action moment first es = es ≡ Happens (event_of name action moment Whole) ∷ []
+IsPairCallOf (outcome.Refused verdict reply) name action moment first es = (es ≡ Happens (event_of name action moment Whole) ∷ []) ⊎ IsHeldBackCall verdict reply es
+IsPairCallOf (outcome.OtherParty asked found) name action moment first es = ⊥
+IsPairCallOf (outcome.Damaged place) name action moment first es = ⊥
+IsPairCallOf outcome.Fault name action moment first es = IsUnanswered name action moment first es
+IsPairCallOf outcome.NoMemory name action moment first es = IsUnanswered name action moment first es
+
+-- these are such events of the network, and no loss
+pub record OnlyHappen (are : List Event → Type 0) (es : List PairEvent) : Type 0 where
+  pub events : List Event
+  pub is : are events
+  pub whole : es ≡ map Happens events
+
+-- over one disk a call is what it is in a session over one disk each; over two disks it is that above
+
+abbrev pub IsCallOn : Option (List ℕ) → Outcome → List ℕ → Action → ℕ → View → List PairEvent → Type 0
+IsCallOn None o name action moment first es = OnlyHappen (IsCallOf o name action moment) es
+IsCallOn (Some second) o name action moment first es = IsPairCallOf o name action moment first es
+
+abbrev pub IsCutOn : Option (List ℕ) → List ℕ → Action → ℕ → View → List PairEvent → Type 0
+IsCutOn None name action moment first es = OnlyHappen (IsCutOrNone name action moment) es
+IsCutOn (Some second) name action moment first es = IsUnanswered name action moment first es
+
+-- a show is none, or a loss as above; a call that writes no disk is none, and a failure of power between two calls; a loss is
+-- that loss. `disks` is what the shelf tells of each disk before
+abbrev pub IsOfPairDeed : (List ℕ → Option (List ℕ)) → PairDeed → (List ℕ → View) → List PairEvent → Type 0
+IsOfPairDeed mirror (Called name action moment o) disks es = IsCallOn (mirror name) o name action moment (disks name) es
+IsOfPairDeed mirror (CutOff name action moment o) disks es = IsCutOn (mirror name) name action moment (disks name) es
+IsOfPairDeed mirror (Shown name) disks es = IsLostAgainOrNot name (disks name) es
+IsOfPairDeed mirror (ShowCutOff name) disks es = IsLostAgainOrNot name (disks name) es
+IsOfPairDeed mirror (Looked name) disks es = es ≡ []
+IsOfPairDeed mirror PowerFails disks es = es ≡ []
+IsOfPairDeed mirror (Lost name which) disks es = es ≡ Loses name which ∷ []
+
+-- the events are those of the first deed, and then those of the others
+pub record IsPairFollowed (first_is rest : List PairEvent → Type 0) (es : List PairEvent) : Type 0 where
+  pub first : List PairEvent
+  pub others : List PairEvent
+  pub whole : es ≡ first ++ others
+  pub is : first_is first
+  pub follow : rest others
+
+-- the events of the deeds, in their order; the first is done over the disks of this number
+abbrev pub AreOfPairDeeds : (List ℕ → Option (List ℕ)) → List PairDeed → ℕ → (ℕ → List ℕ → View) → List PairEvent → Type 0
+AreOfPairDeeds mirror [] k disks es = es ≡ []
+AreOfPairDeeds mirror (d ∷ ds) k disks es = IsPairFollowed (IsOfPairDeed mirror d (disks k)) (AreOfPairDeeds mirror ds (suc k) disks) es
+
+-- the member's party is the one to be opened of the two images, with its space; the space isn't said where the first image is blank
+-- and the party is too large to be written over it
+pub record RecoversAs (first second : List ℕ) (x : Member) : Type 0 where
+  pub recovers : Recovers first second x.party
+  pub space : HasFirstSpace first x.party x.space ⊎ ((is_blank first ≡ true) × IsTooLarge Two x.party)
+
+-- the image of its one disk stands for the member, with its space; or those of its two recover it
+abbrev pub AreImagesOf : Option (List ℕ) → List ℕ → (List ℕ → List ℕ) → Member → Type 0
+AreImagesOf None name image x = StandsWith (image name) x.party x.space
+AreImagesOf (Some second) name image x = RecoversAs (image name) (image second) x
+
+-- a crash may leave these images of the disks of a member
+pub record MayLeaveOf (mirror : List ℕ → Option (List ℕ)) (disks : List ℕ → View) (name : List ℕ) (image : List ℕ → List ℕ) : Type 0 where
+  pub first : (disks name).may_leave (image name)
+  pub second : (other : List ℕ) → mirror name ≡ Some other → (disks other).may_leave (image other)
+
+-- of the disks of each member
+abbrev pub AllMayLeave : (List ℕ → Option (List ℕ)) → (List ℕ → View) → World → (List ℕ → List ℕ) → Type 0
+AllMayLeave mirror disks w image = (name : List ℕ) (x : Member) → member_at name w.members ≡ Some x → MayLeaveOf mirror disks name image
+
+-- there are events of these deeds after which the images stand for the members, and the network has written what was handed out; so
+-- the laws hold of it. `image` is an image of each disk
+pub record EndsAsPairDone (start : World) (mirror : List ℕ → Option (List ℕ)) (deeds : List PairDeed) (disks : ℕ → List ℕ → View) (image : List ℕ → List ℕ) : Type 0 where
+  pub events : List PairEvent
+  pub of_deeds : AreOfPairDeeds mirror deeds 0 disks events
+  pub are_events : ArePairEvents events
+  pub images : (name : List ℕ) (x : Member) → member_at name (pair_run 1 start events).members ≡ Some x → AreImagesOf (mirror name) name image x
+  pub texts_are : (pair_run 1 start events).texts ≡ start.texts ++ pair_texts_in deeds
+  pub counts : OneKeyPerCount (pair_run 1 start events)
+  pub once : Once (pair_run 1 start events)
+  pub agreement : HonestPairRun 1 start events → Agreement (pair_run 1 start events)
+  pub ended : HonestPairRun 1 start events → EndedBoth (pair_run 1 start events)
+
+-- the disks of each member tell, and the session ends so whichever images of them a crash may leave
+pub record EndsOnAllImages (start : World) (mirror : List ℕ → Option (List ℕ)) (deeds : List PairDeed) (disks : ℕ → List ℕ → View) : Type 0 where
+  pub first_tells : (name : List ℕ) (x : Member) → member_at name start.members ≡ Some x → Tells (disks (length deeds) name)
+  pub second_tells : (name second : List ℕ) (x : Member) → member_at name start.members ≡ Some x → mirror name ≡ Some second → Tells (disks (length deeds) second)
+  pub ends : (image : List ℕ → List ℕ) → AllMayLeave mirror (disks (length deeds)) start image → EndsAsPairDone start mirror deeds disks image

@@ -1,0 +1,161 @@
+-- Calls over a network whose parties keep one disk or two, one after the other, with failures of power and losses of a disk (this
+-- project's profile). `mirror` names the second disk of each party that keeps two. `old`, `mid` and `new` are what the shelf tells of
+-- each disk before, where a call ends, and afterwards.
+use Rattle.std.specs.Prelude.{◌≡◌, ◌≢◌, ℕ, suc, true, false, Option, Some, None, List, [], ◌∷◌, ◌++◌}
+use Rattle.x_disk.specs.Disk.{View, IsDurable, LeavesNoMore, Tells}
+use Rattle.x_disk.specs.Shelf.{OthersStay}
+use Rattle.key_journal.specs.Journal.{is_blank}
+use Rattle.party_state.specs.declared.command.Input.{Input}
+use Rattle.party_state.specs.declared.command.Input.TheVariants as input
+use Rattle.member.specs.Member.{Member}
+use Rattle.disk_pair.specs.Pairs.{ThirdsStay}
+use Rattle.x_party.specs.Images.{DiskStandsFor}
+use Rattle.x_party.specs.declared.outcome.Outcome.{Outcome}
+use Rattle.x_pair.specs.Outcomes.{BothStand, MakesPair, IsSafePair, showing, turning}
+use Rattle.world_laws.specs.World.{World, member_at}
+use Rattle.world_laws.specs.Events.{Action, Orders, Hears, Compacts, Migrates, IsAction}
+use Rattle.call_laws.specs.Sessions.{IsMade, IsOff, AllOff, reply_of}
+use Rattle.mirror_laws.specs.Runs.{Which, FirstDisk, SecondDisk}
+
+-- what is done: the party of this name is called over its one disk or its two, at a moment, with an outcome; it is called, and the
+-- power fails at some moment from the beginning of the call to the end that it would have; it is shown over its two disks, with or
+-- without such a failure; it is called, and no disk of it is written; the power fails between two calls, or in a call that writes
+-- none; or one of its two disks is lost between two calls
+pub data PairDeed : Type 0 where
+  Called CutOff : List ℕ → Action → ℕ → Outcome → PairDeed
+  Shown ShowCutOff Looked : List ℕ → PairDeed
+  PowerFails : PairDeed
+  Lost : List ℕ → Which → PairDeed
+
+-- no two disks of the members of a network have one name
+pub record HaveOwnDisks (mirror : List ℕ → Option (List ℕ)) (w : World) : Type 0 where
+  pub firsts : (p q : List ℕ) (x y : Member) → member_at p w.members ≡ Some x → member_at q w.members ≡ Some y → mirror q ≢ Some p
+  pub seconds : (p q second : List ℕ) (x y : Member) → member_at p w.members ≡ Some x → member_at q w.members ≡ Some y → p ≢ q → mirror p ≡ Some second → mirror q ≢ Some second
+
+-- the two disks tell, and stand for the member
+pub record StandsOnBoth (first second : View) (x : Member) : Type 0 where
+  pub first_tells : Tells first
+  pub second_tells : Tells second
+  pub stand : BothStand first second x
+
+-- so does its one disk, or its two
+abbrev pub StandsOnOwn : Option (List ℕ) → List ℕ → (List ℕ → View) → Member → Type 0
+StandsOnOwn None name disks x = Tells (disks name) × DiskStandsFor (disks name) x.party x.space
+StandsOnOwn (Some second) name disks x = StandsOnBoth (disks name) (disks second) x
+
+-- each member of the network does
+abbrev pub AllStandOnOwn : (List ℕ → Option (List ℕ)) → (List ℕ → View) → World → Type 0
+AllStandOnOwn mirror disks w = (name : List ℕ) (x : Member) → member_at name w.members ≡ Some x → StandsOnOwn (mirror name) name disks x
+
+-- what the turn of the party of this name with an input promises of two disks
+pub record IsTurned (name : List ℕ) (i : Input) (moment : ℕ) (o : Outcome) (first second first_after second_after : View) : Type 0 where
+  pub makes : MakesPair (turning name i moment) first second first_after second_after o
+  pub safe : IsSafePair (turning name i moment) first second first_after second_after
+
+-- what the call of this action promises of them: it is a command, or a message that is heard
+abbrev pub IsPairMade : List ℕ → Action → ℕ → Outcome → View → View → View → View → Type 0
+IsPairMade name (Orders c) moment o first second first_after second_after = IsTurned name (input.Ordered c) moment o first second first_after second_after
+IsPairMade name (Hears bytes (Some a)) moment o first second first_after second_after = IsTurned name (input.Arrived a) moment o first second first_after second_after
+IsPairMade name (Hears bytes None) moment o first second first_after second_after = ⊥
+IsPairMade name Compacts moment o first second first_after second_after = ⊥
+IsPairMade name Migrates moment o first second first_after second_after = ⊥
+
+-- what it promises of the party's one disk, or of its two
+abbrev pub IsMadeOn : Option (List ℕ) → List ℕ → Action → ℕ → Outcome → (List ℕ → View) → (List ℕ → View) → Type 0
+IsMadeOn None name action moment o old new = IsMade name action moment o (old name) (new name)
+IsMadeOn (Some second) name action moment o old new = IsPairMade name action moment o (old name) (old second) (new name) (new second)
+
+-- all disks stay but its one disk, or its two
+abbrev pub AllButOwnStay : Option (List ℕ) → List ℕ → (List ℕ → View) → (List ℕ → View) → Type 0
+AllButOwnStay None name old new = OthersStay name old new
+AllButOwnStay (Some second) name old new = ThirdsStay name second old new
+
+-- a member of the network is called by an action that is an event, over its own disks; the others stay
+pub record IsPairCalled (start : World) (mirror : List ℕ → Option (List ℕ)) (name : List ℕ) (action : Action) (moment : ℕ) (o : Outcome) (old new : List ℕ → View) : Type 0 where
+  pub member : Member
+  pub at : member_at name start.members ≡ Some member
+  pub is_action : IsAction action
+  pub made : IsMadeOn (mirror name) name action moment o old new
+  pub others : AllButOwnStay (mirror name) name old new
+
+-- a member is shown over its own two disks, one of which may be made anew then; the others stay
+pub record IsPairShown (start : World) (mirror : List ℕ → Option (List ℕ)) (name : List ℕ) (old new : List ℕ → View) : Type 0 where
+  pub member : Member
+  pub at : member_at name start.members ≡ Some member
+  pub second : List ℕ
+  pub has : mirror name ≡ Some second
+  pub safe : IsSafePair showing (old name) (old second) (new name) (new second)
+  pub others : AllButOwnStay (mirror name) name old new
+
+-- the disk isn't written: a read gives what it gave before, and a crash leaves nothing but what it could leave before
+pub record StaysUnwritten (old new : View) : Type 0 where
+  pub now : new.now ≡ old.now
+  pub images : LeavesNoMore old new
+
+-- a member is called over its own disks, neither of which is written; the others stay
+pub record IsLookedAt (start : World) (mirror : List ℕ → Option (List ℕ)) (name : List ℕ) (old new : List ℕ → View) : Type 0 where
+  pub member : Member
+  pub at : member_at name start.members ≡ Some member
+  pub first : StaysUnwritten (old name) (new name)
+  pub second : (other : List ℕ) → mirror name ≡ Some other → StaysUnwritten (old other) (new other)
+  pub others : AllButOwnStay (mirror name) name old new
+
+-- the power failed at some moment of the call of this name: of each of its disks one of the images is read that could be left then,
+-- which need not be of the same moment
+pub record PairOffWithin (mirror : List ℕ → Option (List ℕ)) (name : List ℕ) (old mid new : List ℕ → View) : Type 0 where
+  pub first : IsOff ((mid name).left_since (old name).moment) (new name)
+  pub second : (other : List ℕ) → mirror name ≡ Some other → IsOff ((mid other).left_since (old other).moment) (new other)
+  pub others : (other : List ℕ) → other ≢ name → mirror name ≢ Some other → IsOff (old other).may_leave (new other)
+
+-- the disk that is lost of the two, and the other one
+
+abbrev pub lost_disk : List ℕ → List ℕ → Which → List ℕ
+lost_disk first second FirstDisk = first
+lost_disk first second SecondDisk = second
+
+abbrev pub other_disk : List ℕ → List ℕ → Which → List ℕ
+other_disk first second FirstDisk = second
+other_disk first second SecondDisk = first
+
+-- one of a member's two disks becomes blank, and a crash leaves nothing else of it, where no crash could leave the other one blank; all
+-- others stay
+pub record IsLost (start : World) (mirror : List ℕ → Option (List ℕ)) (name : List ℕ) (which : Which) (old new : List ℕ → View) : Type 0 where
+  pub member : Member
+  pub at : member_at name start.members ≡ Some member
+  pub second : List ℕ
+  pub has : mirror name ≡ Some second
+  pub image : List ℕ
+  pub reads : (new (lost_disk name second which)).now ≡ Some image
+  pub blank : is_blank image ≡ true
+  pub durable : IsDurable (new (lost_disk name second which))
+  pub left : (other : List ℕ) → (old (other_disk name second which)).may_leave other → is_blank other ≡ false
+  pub others : OthersStay (lost_disk name second which) old new
+
+abbrev pub IsDeedDone : World → (List ℕ → Option (List ℕ)) → PairDeed → (List ℕ → View) → (List ℕ → View) → (List ℕ → View) → Type 0
+IsDeedDone start mirror (Called name action moment o) old mid new = IsPairCalled start mirror name action moment o old new
+IsDeedDone start mirror (CutOff name action moment o) old mid new = IsPairCalled start mirror name action moment o old mid × PairOffWithin mirror name old mid new
+IsDeedDone start mirror (Shown name) old mid new = IsPairShown start mirror name old new
+IsDeedDone start mirror (ShowCutOff name) old mid new = IsPairShown start mirror name old mid × PairOffWithin mirror name old mid new
+IsDeedDone start mirror (Looked name) old mid new = IsLookedAt start mirror name old new
+IsDeedDone start mirror PowerFails old mid new = AllOff old new
+IsDeedDone start mirror (Lost name which) old mid new = IsLost start mirror name which old new
+
+-- each deed is done, from the disks of its number to those of the next
+abbrev pub AreDeedsDone : World → (List ℕ → Option (List ℕ)) → List PairDeed → ℕ → (ℕ → List ℕ → View) → (ℕ → List ℕ → View) → Type 0
+AreDeedsDone start mirror [] k disks ends = Unit {0}
+AreDeedsDone start mirror (d ∷ ds) k disks ends = IsDeedDone start mirror d (disks k) (ends k) (disks (suc k)) × AreDeedsDone start mirror ds (suc k) disks ends
+
+-- what was handed out, joined: nothing by a call that failed or was cut off. What is shown of a party is no text
+
+abbrev pub pair_deed_texts : PairDeed → List (List ℕ)
+pair_deed_texts (Called name action moment o) = reply_of o
+pair_deed_texts (CutOff name action moment o) = []
+pair_deed_texts (Shown name) = []
+pair_deed_texts (ShowCutOff name) = []
+pair_deed_texts (Looked name) = []
+pair_deed_texts PowerFails = []
+pair_deed_texts (Lost name which) = []
+
+abbrev pub pair_texts_in : List PairDeed → List (List ℕ)
+pair_texts_in [] = []
+pair_texts_in (d ∷ ds) = pair_deed_texts d ++ pair_texts_in ds
