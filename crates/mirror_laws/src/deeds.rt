@@ -18,8 +18,8 @@ use x_party::law_one_space;
 /// arriving messages, each called over its own party's disks, of a party with one disk also compactions and migrations; parties with
 /// two disks that are shown over them; calls that write none of the party's disks; power failures between these calls and inside
 /// them; and losses of one of a party's two disks between them; from disks that stand for a start. The run has an event for each call
-/// that answered, done whole, and in its place, or none, where a call over two disks was held back. For each call that ended with a
-/// fault or with no memory, or in which the power failed, it has its event cut off, or none: over one disk with the old party or the
+/// that answered, done whole and in its place; a call over two disks that was held back may have none. For each call that ended with
+/// a fault or with no memory, or in which the power failed, it has its event cut off, or none: over one disk with the old party or the
 /// new one; over two with the new state, and behind it, or behind a show, once more the loss of its first disk, where that could be
 /// left blank before. It has each loss; and no others. After it, of whichever images of a party's disks a crash may leave then, the
 /// one stands for the member of the network, with its space, or of the two that member's party is to be opened, with its space, which

@@ -1,5 +1,5 @@
 // A network that is set up over two disks of each party is a start, told by calls that do nothing.
-ghost use Rattle.std.specs.Prelude.{◌+◌, ◌∷◌, List, [], ℕ, length};
+ghost use Rattle.std.specs.Prelude.{◌+◌, List, [], ℕ, length};
 ghost use Rattle.world_laws.specs.Starts.{IsStart};
 ghost use Rattle.call_laws.specs.SetUp.{SetUp, network_of, names_in};
 ghost use Rattle.call_laws.specs.Rules.{SharedKey, KeepsRules};
