@@ -1,15 +1,15 @@
--- A network that is set up over two disks of each party, and a session that goes on there.
+-- A network that is set up over one disk or two of each party, and a session that goes on there.
 use Rattle.std.proofs.Common.{arith, ◌≡◌, ℕ, suc, ◌+◌, Option, List, [], ◌∷◌, length, refl, subst}
 use Rattle.x_disk.specs.Disk.{View}
 use Rattle.world_laws.specs.World.{World}
 use Rattle.call_laws.specs.SetUp.{SetUp, names_in, network_of}
 use Rattle.call_laws.proofs.Loads.{LoadsExactly}
 use Rattle.mirror_laws.specs.Sessions.{PairDeed, HaveOwnDisks, IsDeedDone, AreDeedsDone}
-use Rattle.mirror_laws.specs.SettingUp.{all_mirrored, ArePairSetUp, AllTellOnBoth}
+use Rattle.mirror_laws.specs.SettingUp.{AreSetUpOn, AllTellOnOwn}
 use Rattle.mirror_laws.proofs.Images.{Known}
 use Rattle.mirror_laws.proofs.Began.{AreSteps, steps}
 
-pub set_up : (known : Known) (exactly : LoadsExactly) (mirror : List ℕ → List ℕ) (ss : List SetUp) (apart : HaveOwnDisks (all_mirrored mirror) (network_of ss)) (disks : ℕ → List ℕ → View) → AllTellOnBoth mirror (names_in ss) (disks 0) → ArePairSetUp mirror [] ss 0 disks
+pub set_up : (known : Known) (exactly : LoadsExactly) (mirror : List ℕ → Option (List ℕ)) (ss : List SetUp) (apart : HaveOwnDisks mirror (network_of ss)) (disks : ℕ → List ℕ → View) → AllTellOnOwn mirror (names_in ss) (disks 0) → AreSetUpOn mirror [] ss 0 disks
     → AreSteps known exactly mirror (network_of ss) apart [] ss (disks (length ss))
 set_up known exactly mirror ss apart disks tell is =
     let place : 0 + length ss ≡ length ss = omega arith in
