@@ -15,7 +15,7 @@ use Rattle.mirror_laws.proofs.Moves.{own_found}
 use Rattle.mirror_laws.proofs.Images.{Pair, StandsFor, MayBe, fewer}
 use Rattle.mirror_laws.proofs.Ways.{Somebody, Way}
 use Rattle.mirror_laws.proofs.Led.{IsPossible, Led, GoesOn, led_on}
-use Rattle.mirror_laws.proofs.OwnDisks.{ButOwn, second_view, second_alike, second_off, second_off_since}
+use Rattle.mirror_laws.proofs.OwnDisks.{ButOwn, second_view, second_alike, second_off, second_off_since, not_second, not_first, not_mirror}
 
 -- another pair under one name
 abbrev pub put_pair : List ℕ → Pair → (List ℕ → Pair) → List ℕ → Pair
@@ -83,18 +83,8 @@ module _ (start : World) (mirror : List ℕ → Option (List ℕ)) (apart : Have
   abbrev was : List ℕ → View
   was = disks (0 + length ds)
 
-  -- the disks of the others are others
-  not_second : (q : List ℕ) (x : Member) → member_at q start.members ≡ Some x → mirror name ≢ Some q
-  not_second q x h = apart.firsts q name x x0 h at0
-
-  not_first : (q : List ℕ) (x : Member) → member_at q start.members ≡ Some x → (s : List ℕ) → mirror q ≡ Some s → s ≢ name
-  not_first q x h s e is = apart.firsts name q x0 x at0 h (e ∙ ap (λ (a : List ℕ). Some a) is)
-
-  not_mirror : (q : List ℕ) (x : Member) → member_at q start.members ≡ Some x → q ≢ name → (s : List ℕ) → mirror q ≡ Some s → mirror name ≢ Some s
-  not_mirror q x h ne s e = apart.seconds q name s x x0 h at0 ne e
-
   second_stays : (q : List ℕ) (x : Member) → member_at q start.members ≡ Some x → q ≢ name → IsAlike (second_view (mirror q) was) (second_view (mirror q) mid)
-  second_stays q x h ne = second_alike (mirror q) was mid (λ s e. thirds s (not_first q x h s e) (not_mirror q x h ne s e))
+  second_stays q x h ne = second_alike (mirror q) was mid (λ s e. thirds s (not_first start mirror apart name x0 at0 q x h s e) (not_mirror start mirror apart name x0 at0 q x h ne s e))
 
   is_other : (q : List ℕ) → bytes_eq q name ≡ false → q ≢ name
   is_other q e is = (let t : bytes_eq q name ≡ true = (test_idents.decides q name).1 is in cc)
@@ -118,7 +108,7 @@ module _ (start : World) (mirror : List ℕ → Option (List ℕ)) (apart : Have
         where
           go : (t : Bool) → bytes_eq q name ≡ t → Tells (mid q)
           go true e = (let is : q ≡ name = (test_idents.decides q name).0 e in subst (λ (a : List ℕ). Tells (mid a)) (sym is) first_told)
-          go false e = ap is_some (thirds q (is_other q e) (not_second q x h)).now ∙ g.first_tells q x h
+          go false e = ap is_some (thirds q (is_other q e) (not_second start mirror apart name x0 at0 q x h)).now ∙ g.first_tells q x h
 
       second_tells : (q : List ℕ) (x : Member) → member_at q start.members ≡ Some x → Tells (second_view (mirror q) mid)
       second_tells q x h = go (bytes_eq q name) refl
@@ -129,7 +119,7 @@ module _ (start : World) (mirror : List ℕ → Option (List ℕ)) (apart : Have
 
       others : (images : List ℕ → Pair) → IsPossible start mirror mid images → OthersMay images
       others images possible q x h ne =
-          fewer (mid q).may_leave (second_view (mirror q) mid).may_leave (was q).may_leave (second_view (mirror q) was).may_leave (thirds q ne (not_second q x h)).images (second_stays q x h ne).images
+          fewer (mid q).may_leave (second_view (mirror q) mid).may_leave (was q).may_leave (second_view (mirror q) was).may_leave (thirds q ne (not_second start mirror apart name x0 at0 q x h)).images (second_stays q x h ne).images
           (images q).first (images q).second (possible q x h)
 
       reach : (images : List ℕ → Pair) → IsPossible start mirror mid images → Led start mirror disks (ds ++ c ∷ []) (texts ++ more) images
@@ -144,14 +134,14 @@ module _ (start : World) (mirror : List ℕ → Option (List ℕ)) (apart : Have
       own_second_off = second_off_since (mirror name) was mid new off.second
 
       other_second_off : (q : List ℕ) (x : Member) → member_at q start.members ≡ Some x → q ≢ name → IsOff (second_view (mirror q) was).may_leave (second_view (mirror q) new)
-      other_second_off q x h ne = second_off (mirror q) was new (λ s e. off.others s (not_first q x h s e) (not_mirror q x h ne s e))
+      other_second_off q x h ne = second_off (mirror q) was new (λ s e. off.others s (not_first start mirror apart name x0 at0 q x h s e) (not_mirror start mirror apart name x0 at0 q x h ne s e))
 
       first_tells : (q : List ℕ) (x : Member) → member_at q start.members ≡ Some x → Tells (new q)
       first_tells q x h = go (bytes_eq q name) refl
         where
           go : (t : Bool) → bytes_eq q name ≡ t → Tells (new q)
           go true e = (let is : q ≡ name = (test_idents.decides q name).0 e in subst (λ (a : List ℕ). Tells (new a)) (sym is) (ap is_some off.first.reads))
-          go false e = ap is_some (off.others q (is_other q e) (not_second q x h)).reads
+          go false e = ap is_some (off.others q (is_other q e) (not_second start mirror apart name x0 at0 q x h)).reads
 
       second_tells : (q : List ℕ) (x : Member) → member_at q start.members ≡ Some x → Tells (second_view (mirror q) new)
       second_tells q x h = go (bytes_eq q name) refl
@@ -162,7 +152,7 @@ module _ (start : World) (mirror : List ℕ → Option (List ℕ)) (apart : Have
 
       others : (images : List ℕ → Pair) → IsPossible start mirror new images → OthersMay images
       others images possible q x h ne =
-          fewer (new q).may_leave (second_view (mirror q) new).may_leave (was q).may_leave (second_view (mirror q) was).may_leave (off_left (was q).may_leave (new q) (off.others q ne (not_second q x h)))
+          fewer (new q).may_leave (second_view (mirror q) new).may_leave (was q).may_leave (second_view (mirror q) was).may_leave (off_left (was q).may_leave (new q) (off.others q ne (not_second start mirror apart name x0 at0 q x h)))
           (off_left (second_view (mirror q) was).may_leave (second_view (mirror q) new) (other_second_off q x h ne)) (images q).first (images q).second (possible q x h)
 
       left : (images : List ℕ → Pair) → IsPossible start mirror new images → MayBe ((mid name).left_since (was name).moment) ((second_view (mirror name) mid).left_since (second_view (mirror name) was).moment) (images name).first (images name).second

@@ -16,7 +16,7 @@ use Rattle.mirror_laws.proofs.Images.{Pair, StandsFor, MayBe, Known, told, fewer
 use Rattle.mirror_laws.proofs.Ways.{Somebody, Going, Way}
 use Rattle.mirror_laws.proofs.Led.{IsPossible, Led, GoesOn, led_still, same_led}
 use Rattle.mirror_laws.proofs.Asked.{somebody, by_way, off_left}
-use Rattle.mirror_laws.proofs.OwnDisks.{second_view, second_sound, second_alike, second_off}
+use Rattle.mirror_laws.proofs.OwnDisks.{second_view, second_sound, second_alike, second_off, not_second, not_first, not_mirror}
 
 -- the power fails between two calls
 pub all_off : (start : World) (mirror : List ℕ → Option (List ℕ)) (disks : ℕ → List ℕ → View) (ds : List PairDeed) (texts : List (List ℕ)) → GoesOn start mirror disks ds texts (disks (0 + length ds)) → (new : List ℕ → View) → AllOff (disks (0 + length ds)) new
@@ -47,16 +47,6 @@ module _ (known : Known) (start : World) (mirror : List ℕ → Option (List ℕ
   abbrev was : List ℕ → View
   was = disks (0 + length ds)
 
-  module _ (x0 : Member) (at0 : member_at name start.members ≡ Some x0) where
-    not_second : (q : List ℕ) (x : Member) → member_at q start.members ≡ Some x → mirror name ≢ Some q
-    not_second q x h = apart.firsts q name x x0 h at0
-
-    not_first : (q : List ℕ) (x : Member) → member_at q start.members ≡ Some x → (s : List ℕ) → mirror q ≡ Some s → s ≢ name
-    not_first q x h s e is = apart.firsts name q x0 x at0 h (e ∙ ap (λ (a : List ℕ). Some a) is)
-
-    not_mirror : (q : List ℕ) (x : Member) → member_at q start.members ≡ Some x → q ≢ name → (s : List ℕ) → mirror q ≡ Some s → mirror name ≢ Some s
-    not_mirror q x h ne s e = apart.seconds q name s x x0 h at0 ne e
-
   -- what is left of the others
   abbrev OthersMay : (List ℕ → Pair) → Type 0
   OthersMay images = (q : List ℕ) (x : Member) → member_at q start.members ≡ Some x → q ≢ name → MayBe (was q).may_leave (second_view (mirror q) was).may_leave (images q).first (images q).second
@@ -71,7 +61,7 @@ module _ (known : Known) (start : World) (mirror : List ℕ → Option (List ℕ
 
   module _ (l : IsLost start mirror name FirstDisk was new) where
     seconds_stay : (q : List ℕ) (x : Member) → member_at q start.members ≡ Some x → IsAlike (second_view (mirror q) was) (second_view (mirror q) new)
-    seconds_stay q x h = second_alike (mirror q) was new (λ s e. l.others s (not_first l.member l.at q x h s e))
+    seconds_stay q x h = second_alike (mirror q) was new (λ s e. l.others s (not_first start mirror apart name l.member l.at q x h s e))
 
     full : (d : List ℕ) → (second_view (mirror name) was).may_leave d → is_blank d ≡ false
     full = subst (λ (m : Option (List ℕ)). (d : List ℕ) → (second_view m was).may_leave d → is_blank d ≡ false) (sym l.has) l.left
@@ -117,10 +107,10 @@ module _ (known : Known) (start : World) (mirror : List ℕ → Option (List ℕ
 
   module _ (l : IsLost start mirror name SecondDisk was new) where
     first_other : (q : List ℕ) (x : Member) → member_at q start.members ≡ Some x → q ≢ l.second
-    first_other q x h is = not_second l.member l.at q x h (l.has ∙ ap (λ (a : List ℕ). Some a) (sym is))
+    first_other q x h is = not_second start mirror apart name l.member l.at q x h (l.has ∙ ap (λ (a : List ℕ). Some a) (sym is))
 
     other_seconds_stay : (q : List ℕ) (x : Member) → member_at q start.members ≡ Some x → q ≢ name → IsAlike (second_view (mirror q) was) (second_view (mirror q) new)
-    other_seconds_stay q x h ne = second_alike (mirror q) was new (λ s e. l.others s (λ is. not_mirror l.member l.at q x h ne s e (l.has ∙ ap (λ (a : List ℕ). Some a) (sym is))))
+    other_seconds_stay q x h ne = second_alike (mirror q) was new (λ s e. l.others s (λ is. not_mirror start mirror apart name l.member l.at q x h ne s e (l.has ∙ ap (λ (a : List ℕ). Some a) (sym is))))
 
     reads : (second_view (mirror name) new).now ≡ Some l.image
     reads = subst (λ (m : Option (List ℕ)). (second_view m new).now ≡ Some l.image) (sym l.has) l.reads

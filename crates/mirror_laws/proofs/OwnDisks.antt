@@ -2,8 +2,10 @@
 use Rattle.std.proofs.Common.{◌≡◌, ◌≢◌, ℕ, Option, Some, None, List, [], refl, sym, ◌∙◌, ap}
 use Rattle.x_disk.specs.Disk.{View, IsSound, Tells}
 use Rattle.x_disk.specs.Shelf.{IsAlike, alike_refl}
+use Rattle.member.specs.Member.{Member}
+use Rattle.world_laws.specs.World.{World, member_at}
 use Rattle.call_laws.specs.Sessions.{IsOff}
-use Rattle.mirror_laws.specs.Sessions.{AllButOwnStay, StaysUnwritten}
+use Rattle.mirror_laws.specs.Sessions.{AllButOwnStay, HaveOwnDisks, StaysUnwritten}
 
 abbrev pub no_disk : View
 no_disk = record {
@@ -65,3 +67,14 @@ but_own mirror name old new stay = go (mirror name) refl stay
     go : (m : Option (List ℕ)) → mirror name ≡ m → AllButOwnStay m name old new → ButOwn mirror name old new
     go None none others other ne away = others other ne
     go (Some second) has thirds other ne away = thirds other ne (λ is. away (has ∙ ap (λ (a : List ℕ). Some a) (sym is)))
+
+-- the disks of other members are others
+module _ (start : World) (mirror : List ℕ → Option (List ℕ)) (apart : HaveOwnDisks mirror start) (name : List ℕ) (x0 : Member) (at0 : member_at name start.members ≡ Some x0) where
+  pub not_second : (q : List ℕ) (x : Member) → member_at q start.members ≡ Some x → mirror name ≢ Some q
+  not_second q x h = apart.firsts q name x x0 h at0
+
+  pub not_first : (q : List ℕ) (x : Member) → member_at q start.members ≡ Some x → (s : List ℕ) → mirror q ≡ Some s → s ≢ name
+  not_first q x h s e is = apart.firsts name q x0 x at0 h (e ∙ ap (λ (a : List ℕ). Some a) is)
+
+  pub not_mirror : (q : List ℕ) (x : Member) → member_at q start.members ≡ Some x → q ≢ name → (s : List ℕ) → mirror q ≡ Some s → mirror name ≢ Some s
+  not_mirror q x h ne s e = apart.seconds q name s x x0 h at0 ne e
