@@ -17,6 +17,7 @@ use Rattle.change_code.specs.declared.space.Space.{Space}
 use Rattle.key_store.specs.Store.{Stands, StandsWith}
 use Rattle.member.specs.Member.{Member}
 use Rattle.x_party.specs.Images.{DiskStandsFor}
+use Rattle.x_party.proofs.Alike.{stands_alike}
 use Rattle.x_party.specs.Outcomes.{IsAccepted}
 use Rattle.member.specs.Deciding.{decision}
 use Rattle.world_laws.specs.World.{own_of, member_at}
@@ -52,13 +53,6 @@ tells_now v t = go v.now t
     go : (o : Option (List ℕ)) → is_some o ≡ true → (image : List ℕ) × (o ≡ Some image)
     go None h = absurd (cc)
     go (Some image) h = (image, refl)
-
--- what a disk that tells the same stands for
-alike_stands : (v w : View) (p : Party) (space : Space) → IsAlike v w → DiskStandsFor v p space → DiskStandsFor w p space
-alike_stands v w p space a s = record {
-  durable = record { only = λ b c now left. s.durable.only b c (sym a.now ∙ now) (a.images c left); stable = a.stable ∙ (s.durable.stable ∙ sym a.now) };
-  reads = λ image now. s.reads image (sym a.now ∙ now);
-}
 
 alike_tells : (v w : View) → IsAlike v w → Tells v → Tells w
 alike_tells v w a t = ap is_some a.now ∙ t
@@ -102,7 +96,7 @@ module _ (exactly : LoadsExactly)
     created_on tells name x at = elim (put_cases (first_member own role generator) ms name x at) [
       | inl here ↦ subst (λ (q : List ℕ). Tells (new q) × DiskStandsFor (new q) x.party x.space) (sym here.0)
           (is.tells ∙ tells, subst (λ (z : Member). DiskStandsFor (new own) z.party z.space) (sym here.1) is.made.stands)
-      | inr there ↦ (alike_tells (old name) (new name) (is.others name there.0) (on name x there.1).0, alike_stands (old name) (new name) x.party x.space (is.others name there.0) (on name x there.1).1)
+      | inr there ↦ (alike_tells (old name) (new name) (is.others name there.0) (on name x there.1).0, stands_alike (old name) (new name) x.party x.space (is.others name there.0) (on name x there.1).1)
     ]
 
     created_tells : (names : List (List ℕ)) → AllTell (own ∷ names) old → AllTell names new
@@ -156,7 +150,7 @@ module _ (exactly : LoadsExactly)
       | inl here ↦ subst (λ (q : List ℕ). Tells (new q) × DiskStandsFor (new q) z.party z.space) (own_is ∙ sym here.0)
           (is.tells ∙ tells, subst (λ (y : Member). DiskStandsFor (new e.own) y.party y.space) (sym here.1) stands_new)
       | inr there ↦ (let ne : name ≢ e.own = λ same. there.0 (same ∙ own_is) in
-          (alike_tells (old name) (new name) (is.others name ne) (on name z there.1).0, alike_stands (old name) (new name) z.party z.space (is.others name ne) (on name z there.1).1))
+          (alike_tells (old name) (new name) (is.others name ne) (on name z there.1).0, stands_alike (old name) (new name) z.party z.space (is.others name ne) (on name z there.1).1))
     ])
 
     pub loaded_tells : (names : List (List ℕ)) → AllTell names old → AllTell names new

@@ -13,7 +13,8 @@ use Rattle.spool_store.specs.Spools.{Spooled}
 use Rattle.csm_spool.specs.Beginning.{StaysInStep}
 use Rattle.csm_spool.specs.InStep.{InStep}
 use Rattle.csm_spool.specs.Laws.{LawBegins}
-use Rattle.csm_spool.proofs.Images.{NotBlank, left_now, told_now}
+use Rattle.x_disk.proofs.Alike.{told_now}
+use Rattle.csm_spool.proofs.Images.{NotBlank, left_now}
 
 -- where the spool's image is blank, the party stands at the start
 at_start : NotBlank → (party spool text : List ℕ) (x : Member) (entries : List Entry) → is_blank spool ≡ true → InStep party spool text x entries → IsImageOf x party

@@ -1,6 +1,7 @@
 -- What the images of a party and of a spool at rest stand for.
-use Rattle.std.proofs.Common.{◌≡◌, inl, inr, ℕ, ◌-◌, List, Option, Some, None, is_some, true, false, refl, sym, ap, subst, ◌∙◌, arith}
+use Rattle.std.proofs.Common.{◌≡◌, inl, inr, ℕ, ◌-◌, List, Option, Some, None, true, false, sym, ap, subst, ◌∙◌, arith}
 use Rattle.x_disk.specs.Disk.{View, Tells, IsSound, LeavesOnly}
+use Rattle.x_disk.proofs.Alike.{told_now}
 use Rattle.key_journal.specs.Journal.{is_blank}
 use Rattle.party_state.specs.State.{Party}
 use Rattle.change_code.specs.declared.format.Format.{Format}
@@ -16,10 +17,6 @@ use Rattle.spool_store.specs.Spools.{Spooled, IsSpool}
 -- what a run of calls leaves, it may leave at its end
 pub left_now : (old new : View) (P : List ℕ → Type 0) → IsSound new → LeavesOnly old new P → (c : List ℕ) → new.may_leave c → P c
 left_now old new P sound run c left = run.each c (sound.counts_now old.moment c run.later left)
-
-pub told_now : (now : Option (List ℕ)) → is_some now ≡ true → (image : List ℕ) × (now ≡ Some image)
-told_now (Some image) is = (image, refl)
-told_now None is = absurd (cc is)
 
 pub now_image : {D : Type 0} (told : D → View) (node : Stored D) → IsStore (told node.disk) node.gate node.end node.format node.party → (image : List ℕ) → (told node.disk).now ≡ Some image → IsImageOf (member_of node) image
 now_image told node store image now =

@@ -4,6 +4,5 @@ pub mod Hexadecimal
 pub mod Named
 pub mod Standing
 pub mod Codes
-pub mod Reading
 pub mod Lengths
-pub mod Saying
+pub mod Closings

@@ -2,4 +2,3 @@ pub mod Canon
 pub mod Writable
 pub mod Writing
 pub mod Shortness
-pub mod Laws

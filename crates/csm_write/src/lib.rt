@@ -5,7 +5,6 @@ mod classes;
 mod closing;
 mod digits;
 mod field_text;
-mod laws;
 mod optional;
 mod shortness;
 mod writer;
@@ -13,6 +12,5 @@ mod writing;
 
 pub use closing::Closing;
 pub use digits::code_digits;
-pub use laws::{law_auth_says, law_canon_reads_back, law_canon_rewrites};
 pub use shortness::law_canon_short;
 pub use writing::write;

@@ -1,11 +1,9 @@
 ghost use Rattle.std.specs.Prelude.{◌≡◌, [], IfOk, OnOk};
 ghost use Rattle.csm_write.specs.Canon.{shut_over, canon};
-ghost use Rattle.csm_write.specs.Writable.{Writable, AreTyped};
-ghost use Rattle.csm_write.specs.Laws.{ReadsBack, Rewrites};
+ghost use Rattle.csm_write.specs.Writable.{AreTyped};
 
 use crate::classes::opening;
 use crate::closing::Closing;
-use crate::laws::{law_canon_reads_back, law_canon_rewrites};
 use crate::writer::Writer;
 use csm_grammar::{Message, Shut};
 use std::alloc::Global;
@@ -24,7 +22,7 @@ fn shut(closing: &Closing, auth: &[u8]) -> Shut
 }
 
 /// Writes the canonical text of a message into a writer of no text.
-#[tactic(auto, using(crate::proofs::Reading::closing_typed))]
+#[tactic(auto, using(crate::proofs::Closings::closing_typed))]
 fn put(writer: &mut Writer, message: &Message, closing: &Closing) -> Result<(), NoMemory>
     requires { writer.old ≡ [] }
     ensures canonical { OnOk result (writer.new ≡ canon message.now closing.now) }
@@ -37,29 +35,17 @@ fn put(writer: &mut Writer, message: &Message, closing: &Closing) -> Result<(), 
     writer.push(b")")
 }
 
-/// The canonical text of a message.
-fn written(alloc: Global, message: &Message, closing: &Closing) -> Result<Text, NoMemory>
+/// Writes the canonical text of a message: its fields in one fixed order with single blanks between
+/// them, hexadecimal digits in upper case, counts without leading zeros. The code that closes it is
+/// that of its own authenticated text, or the stated one.
+///
+/// That it is read back as the message, where the texts of the message are of their kinds, its form allows the code and the text has
+/// at most 1,024 bytes, is a law of canonical texts (`law_canon_reads_back`, crate canon_laws).
+pub fn write(alloc: Global, message: &Message, closing: &Closing) -> Result<Text, NoMemory>
     ensures canonical { IfOk result (λ text. text ≡ canon message.now closing.now) }
     ensures typed { OnOk result (AreTyped message.now closing.now) }
 {
     let mut writer = Writer::new(alloc)?;
     put(&mut writer, message, closing)?;
     Ok(writer.into_text())
-}
-
-/// Writes the canonical text of a message: its fields in one fixed order with single blanks between
-/// them, hexadecimal digits in upper case, counts without leading zeros. The code that closes it is
-/// that of its own authenticated text, or the stated one.
-///
-/// Where the texts of the message are of their kinds, its form allows the code and the text has at
-/// most 1,024 bytes, what is read of the text is the message, whatever follows.
-pub fn write(alloc: Global, message: &Message, closing: &Closing) -> Result<Text, NoMemory>
-    ensures canonical { IfOk result (λ text. text ≡ canon message.now closing.now) }
-    ensures typed { OnOk result (AreTyped message.now closing.now) }
-    ensures reads_back { Writable message.now closing.now → IfOk result (ReadsBack message.now closing.now) }
-    ensures rewrites { Writable message.now closing.now → IfOk result (Rewrites closing.now) }
-{
-    law_canon_reads_back();
-    law_canon_rewrites();
-    written(alloc, message, closing)
 }

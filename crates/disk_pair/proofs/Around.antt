@@ -6,8 +6,11 @@ use Rattle.x_disk.specs.Shelf.{ShelfView}
 use Rattle.x_disk.specs.declared.disk.DiskErr.{DiskErr}
 use Rattle.x_disk.specs.declared.disk.DiskErr.TheVariants.{Fault, NoMemory}
 use Rattle.disk_pair.specs.declared.disks.Disks.{Disks}
-use Rattle.disk_pair.specs.Pairs.{AreFetched, ArePutBack, LeavesPair, told_after}
-use Rattle.disk_pair.proofs.Alike.{thirds_on}
+use Rattle.x_disk.proofs.Alike.{alike_trans}
+use Rattle.disk_pair.specs.Pairs.{AreFetched, ArePutBack, LeavesPair, ThirdsStay, told_after}
+
+pub thirds_on : (name other : List ℕ) (old mid new : List ℕ → View) → ThirdsStay name other old mid → ThirdsStay name other mid new → ThirdsStay name other old new
+thirds_on name other old mid new first second = λ third apart from. alike_trans (old third) (mid third) (new third) (first third apart from) (second third apart from)
 
 pub rose_some : (before after : ℕ) → before ≡ 0 → Rose before after → 0 < after
 rose_some before after none (inl less) = omega (arith, none, less)

@@ -1,15 +1,12 @@
 -- A store's file is wiped.
-use Rattle.std.proofs.Common.{◌≡◌, ℕ, ◌+◌, true, List, Option, Some, None, is_some, Ok, Err, refl, sym, ◌∙◌, subst, arith}
+use Rattle.std.proofs.Common.{◌≡◌, ℕ, ◌+◌, List, Option, Some, None, is_some, Ok, Err, refl, sym, ◌∙◌, subst, arith}
 use Rattle.x_disk.specs.Disk.{View, Tells, LeavesOnly}
+use Rattle.x_disk.proofs.Alike.{told_now}
 use Rattle.x_disk.proofs.Runs.{weaker}
 use Rattle.key_journal.specs.States.{Site, Failed, room_of}
 use Rattle.key_journal.specs.Wiping.{KeepsCounting, LeavesCounting, IsWipe}
 use Rattle.key_store.specs.Store.{Stored, StandsWith, IsStore, space}
 use Rattle.key_store.specs.Wiping.{IsStoreWipe}
-
-told_now : (now : Option (List ℕ)) → is_some now ≡ true → (image : List ℕ) × (now ≡ Some image)
-told_now (Some image) is = (image, refl)
-told_now None is = absurd cc
 
 told_before : (old new : Option (List ℕ)) (c : List ℕ) → is_some new ≡ is_some old → new ≡ Some c → (b : List ℕ) × (old ≡ Some b)
 told_before (Some b) new c tells is = (b, refl)

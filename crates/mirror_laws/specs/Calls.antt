@@ -45,7 +45,8 @@ abbrev pub IsPairCutOr : Member → (Completion → Event) → (Member → Space
 IsPairCutOr x e room was before image = IsCutPairCall x e room image ⊎ (IsAsBefore was image ⊎ before image)
 
 -- the call is the event: whole, where the party answered; and whatever comes, a crash at any moment of it leaves on either disk
--- the party as it is after the event that is cut off: on the first with the space of the member, on the second alone in its area
+-- the party as it is after the event that is cut off: on the first with the space of the member, on the second
+-- with the space that one frame of it in format 2 leaves
 pub record IsPairCallEvent (x : Member) (bytes : List ℕ) (i : Input) (moment : ℕ) (was_first was_second : List ℕ) (first second first_after second_after : View) (o : Outcome) : Type 0 where
   pub whole : AnswersPair x i moment (turn_event x bytes i moment) was_first was_second first_after second_after o
   pub cut_first : LeavesOnly first first_after (IsPairCutOr x (turn_event x bytes i moment) left_on_first was_first first.may_leave)

@@ -13,7 +13,7 @@ use Rattle.key_journal.specs.declared.cause.Cause.TheVariants as cause
 use Rattle.party_state.specs.State.{Party}
 use Rattle.change_code.specs.declared.space.Space.{Space}
 use Rattle.change_code.specs.Cost.{space_of_whole}
-use Rattle.key_store.specs.Store.{Stored, StandsWith, StandsAlone, IsStore, IsBlankOrFirst, space}
+use Rattle.key_store.specs.Store.{Stored, StandsWith, StandsAnew, IsStore, IsBlankOrFirst, space}
 use Rattle.key_store.specs.Replacing.{IsOldOrOther, IsReplacing}
 use Rattle.mirror_store.specs.Framing.{IsBlankOrBefore, IsCopying}
 use Rattle.mirror_store.specs.declared.uncopied.Uncopied.TheVariants as uncopied
@@ -21,20 +21,20 @@ use Rattle.mirror_store.proofs.Moments.{rests, store_left}
 use Rattle.change_code.specs.declared.format.Format.TheVariants.{Two}
 use Rattle.change_code.specs.Whole.{IsTooLarge}
 
-one_made : (v : View) (made copy : Party) → made ≡ copy → (c : List ℕ) → IsBlankOrFirst made c ⊎ v.may_leave c → StandsAlone c copy ⊎ IsBlankOrBefore v c
+one_made : (v : View) (made copy : Party) → made ≡ copy → (c : List ℕ) → IsBlankOrFirst made c ⊎ v.may_leave c → StandsAnew c copy ⊎ IsBlankOrBefore v c
 one_made v made copy is c (inl (inl blank)) = inr (inl blank)
-one_made v made copy is c (inl (inr stands)) = inl (subst (λ (p : Party). StandsAlone c p) is stands)
+one_made v made copy is c (inl (inr stands)) = inl (subst (λ (p : Party). StandsAnew c p) is stands)
 one_made v made copy is c (inr left) = inr (inr left)
 
-pub made_moments : (v w : View) (made copy : Party) → made ≡ copy → (Tells v → LeavesOnly v w (λ c. IsBlankOrFirst made c ⊎ v.may_leave c)) → Tells v → LeavesOnly v w (λ c. StandsAlone c copy ⊎ IsBlankOrBefore v c)
-made_moments v w made copy is run tells = weaker v w (λ c. IsBlankOrFirst made c ⊎ v.may_leave c) (λ c. StandsAlone c copy ⊎ IsBlankOrBefore v c) (run tells) (one_made v made copy is)
+pub made_moments : (v w : View) (made copy : Party) → made ≡ copy → (Tells v → LeavesOnly v w (λ c. IsBlankOrFirst made c ⊎ v.may_leave c)) → Tells v → LeavesOnly v w (λ c. StandsAnew c copy ⊎ IsBlankOrBefore v c)
+made_moments v w made copy is run tells = weaker v w (λ c. IsBlankOrFirst made c ⊎ v.may_leave c) (λ c. StandsAnew c copy ⊎ IsBlankOrBefore v c) (run tells) (one_made v made copy is)
 
-one_other : (old other copy : Party) (space : Space) → other ≡ copy → (c : List ℕ) → IsOldOrOther old space Two other c → StandsAlone c copy ⊎ StandsWith c old space
+one_other : (old other copy : Party) (space : Space) → other ≡ copy → (c : List ℕ) → IsOldOrOther old space Two other c → StandsAnew c copy ⊎ StandsWith c old space
 one_other old other copy space is c (inl stood) = inr stood
-one_other old other copy space is c (inr stands) = inl (subst (λ (p : Party). StandsAlone c p) is stands)
+one_other old other copy space is c (inr stands) = inl (subst (λ (p : Party). StandsAnew c p) is stands)
 
-pub other_moments : (v w : View) (old other copy : Party) (space : Space) → other ≡ copy → (Tells v → LeavesOnly v w (IsOldOrOther old space Two other)) → Tells v → LeavesOnly v w (λ c. StandsAlone c copy ⊎ StandsWith c old space)
-other_moments v w old other copy space is run tells = weaker v w (IsOldOrOther old space Two other) (λ c. StandsAlone c copy ⊎ StandsWith c old space) (run tells) (one_other old other copy space is)
+pub other_moments : (v w : View) (old other copy : Party) (space : Space) → other ≡ copy → (Tells v → LeavesOnly v w (IsOldOrOther old space Two other)) → Tells v → LeavesOnly v w (λ c. StandsAnew c copy ⊎ StandsWith c old space)
+other_moments v w old other copy space is run tells = weaker v w (IsOldOrOther old space Two other) (λ c. StandsAnew c copy ⊎ StandsWith c old space) (run tells) (one_other old other copy space is)
 
 -- over a blank image no disk is told as not empty
 pub free_over_blank : (reason : Cause) (b : List ℕ) → is_blank b ≡ true → IsFree reason ⊎ ((reason ≡ cause.NotEmpty) × (is_blank b ≡ false)) → IsFree reason
@@ -78,8 +78,8 @@ module _ {D : Type 0} (told : D → View) (old : Stored D) (framed copy : Party)
 
 -- nothing was written
 module _ {D : Type 0} (told : D → View) (old : Stored D) (copy : Party) (sound : IsSound (told old.disk)) (store : IsStore (told old.disk) old.gate old.end old.format old.party) where
-  still : Tells (told old.disk) → LeavesOnly (told old.disk) (told old.disk) (λ c. StandsAlone c copy ⊎ StandsWith c old.party (space old))
-  still tells = rests (told old.disk) (λ c. StandsAlone c copy ⊎ StandsWith c old.party (space old)) sound (λ c left. inr (store_left (told old.disk) old.gate old.end old.format old.party store tells c left))
+  still : Tells (told old.disk) → LeavesOnly (told old.disk) (told old.disk) (λ c. StandsAnew c copy ⊎ StandsWith c old.party (space old))
+  still tells = rests (told old.disk) (λ c. StandsAnew c copy ⊎ StandsWith c old.party (space old)) sound (λ c left. inr (store_left (told old.disk) old.gate old.end old.format old.party store tells c left))
 
   pub switch_too_large : IsTooLarge Two copy → IsCopying told old.disk (λ c. StandsWith c old.party (space old)) copy (Err (uncopied.TooLarge old.disk))
   switch_too_large large = record { stands = tt; party = tt; left = tt; small = tt; refused = large; stays = λ is. refl; moments = still; faults = omega arith; tells = refl }

@@ -17,7 +17,8 @@ use Rattle.mirror_store.specs.Creating.{IsLookedAt, IsUncreated, IsPairCreated, 
 use Rattle.disk_pair.specs.declared.disks.Disks.{Disks}
 use Rattle.mirror_store.specs.declared.pair.PairCause.TheVariants.{First, Second}
 use Rattle.mirror_store.specs.declared.pair.PairUnmade.{PairUnmade}
-use Rattle.mirror_store.proofs.Moments.{stands_with, untouched_self, untouched_then}
+use Rattle.x_disk.proofs.Alike.{untouched_self, untouched_then}
+use Rattle.mirror_store.proofs.Moments.{stands_with}
 use Rattle.mirror_store.proofs.Opened.{rose_later, first_same, second_same, never_first, never_second}
 
 free_first : (i j : List ℕ) (reason : Cause) → IsFree reason → IsUncreated i j (First reason)

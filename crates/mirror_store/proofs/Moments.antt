@@ -1,30 +1,13 @@
 -- What a crash leaves on a disk that isn't touched, and on one that is written after it was read.
-use Rattle.std.proofs.Common.{◌≡◌, ◌⊎◌, inr, ℕ, List, true, Option, Some, None, is_some, refl, sym, ◌∙◌, ap, subst, arith}
-use Rattle.x_disk.specs.Disk.{View, Tells, LeavesOnly, IsSound, IsUntouched}
+use Rattle.std.proofs.Common.{◌≡◌, ◌⊎◌, inr, ℕ, List, Some, sym, subst, arith}
+use Rattle.x_disk.specs.Disk.{View, Tells, LeavesOnly, IsSound}
+use Rattle.x_disk.proofs.Alike.{told_now}
 use Rattle.x_disk.proofs.Runs.{began, joined, weaker}
 use Rattle.party_state.specs.State.{Party}
 use Rattle.change_code.specs.declared.format.Format.{Format}
 use Rattle.key_store.specs.Store.{StandsAs, Stands, StandsWith, IsStore, space_between}
 use Rattle.mirror_store.specs.Pairs.{IsMadeAnew, IsAsBefore}
 use Rattle.mirror_store.specs.Opening.{LeavesParty}
-
-pub told_image : (now : Option (List ℕ)) → is_some now ≡ true → (image : List ℕ) × (now ≡ Some image)
-told_image (Some image) is = (image, refl)
-told_image None is = absurd (cc is)
-
-pub tells_by : (now : Option (List ℕ)) (image : List ℕ) → now ≡ Some image → is_some now ≡ true
-tells_by now image is = ap is_some is
-
--- no call was made
-pub untouched_self : (v : View) → IsSound v → IsUntouched v v
-untouched_self v sound = record { now = refl; images = λ c left. left; any_moment = began v v.may_leave sound (λ c left. left) }
-
-pub untouched_then : (v w u : View) → IsUntouched v w → IsUntouched w u → IsUntouched v u
-untouched_then v w u first second = record {
-  now = second.now ∙ first.now;
-  images = λ c left. first.images c (second.images c left);
-  any_moment = joined v w u v.may_leave first.any_moment (weaker w u w.may_leave v.may_leave second.any_moment (λ c left. first.images c left));
-}
 
 pub rests : (v : View) (P : List ℕ → Type 0) → IsSound v → ((c : List ℕ) → v.may_leave c → P c) → LeavesOnly v v P
 rests v P sound here = began v P sound here
@@ -41,7 +24,7 @@ stands_with v gate end f party store image now =
 -- each image of a store that a crash may leave now stands for its party, with its space
 pub store_left : (v : View) (gate end : ℕ) (f : Format) (party : Party) → IsStore v gate end f party → Tells v → (c : List ℕ) → v.may_leave c → StandsWith c party (space_between gate end f)
 store_left v gate end f party store tells c left =
-    let image = told_image v.now tells in
+    let image = told_now v.now tells in
     subst (λ (l : List ℕ). StandsWith l party (space_between gate end f)) (sym (store.durable.only image.0 c image.1 left)) (stands_with v gate end f party store image.0 image.1)
 
 -- a disk that was only read leaves what it could

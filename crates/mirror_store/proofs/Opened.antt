@@ -12,7 +12,7 @@ use Rattle.party_state.specs.State.{Party}
 use Rattle.change_code.specs.Cost.{space_of_whole}
 use Rattle.change_code.specs.Whole.{IsTooLarge}
 use Rattle.change_code.specs.declared.format.Format.TheVariants.{Two}
-use Rattle.key_store.specs.Store.{Stored, Stands, StandsWith, StandsAlone, IsStore, IsRefusal, space}
+use Rattle.key_store.specs.Store.{Stored, Stands, StandsWith, StandsAnew, IsStore, IsRefusal, space}
 use Rattle.key_store.specs.Loaded.{IsLoaded}
 use Rattle.mirror_store.specs.Pairs.{PairStands, IsBlankOrLike, Recovers, Twin}
 use Rattle.mirror_store.specs.Recovering.{IsPairFailure}
@@ -24,7 +24,8 @@ use Rattle.mirror_store.specs.declared.pair.PairCause.{PairCause}
 use Rattle.mirror_store.specs.declared.pair.PairCause.TheVariants.{First, Second, OtherParty, TooLarge}
 use Rattle.mirror_store.specs.declared.pair.PairUnmade.{PairUnmade}
 use Rattle.mirror_store.specs.declared.uncopied.Uncopied.TheVariants as uncopied
-use Rattle.mirror_store.proofs.Moments.{tells_by, untouched_self, untouched_then, rests, stands_for, store_left, stands_with, only_read, read_then}
+use Rattle.x_disk.proofs.Alike.{tells_by, untouched_self, untouched_then}
+use Rattle.mirror_store.proofs.Moments.{rests, stands_for, store_left, stands_with, only_read, read_then}
 
 pub rose_later : (a b c : ℕ) → a ≤ b → Rose b c → Rose a c
 rose_later a b c le (inl less) = inl (omega (arith, le, less))
@@ -47,7 +48,7 @@ never_both is = cc is
 
 -- what a crash leaves where the second disk is made to stand for the first one's party
 abbrev IsSwitched : {D : Type 0} → Stored D → Stored D → List ℕ → Type 0
-IsSwitched one two c = ((two.party ≢ one.party) × StandsAlone c one.party) ⊎ StandsWith c two.party (space two)
+IsSwitched one two c = ((two.party ≢ one.party) × StandsAnew c one.party) ⊎ StandsWith c two.party (space two)
 
 -- what a refusal of the second disk says beside the first
 free_second : (one : Party) (j : List ℕ) (reason : Cause) → IsFree reason → IsBesideRefusal one j (Second reason)
@@ -201,10 +202,10 @@ module _ (unique : (image : List ℕ) (p q : Party) → Stands image p → Stand
 
     -- the second disk is blank
     module _ (one : Stored D) (old disk : D) (load : IsLoaded told old (Err (record { disk = disk; cause = cause.Blank }))) where
-      blank_moments : (new : D) → (Tells (told disk) → LeavesOnly (told disk) (told new) (λ c. StandsAlone c one.party ⊎ IsBlankOrBefore (told disk) c))
+      blank_moments : (new : D) → (Tells (told disk) → LeavesOnly (told disk) (told new) (λ c. StandsAnew c one.party ⊎ IsBlankOrBefore (told disk) c))
           → (j : List ℕ) → (told old).now ≡ Some j → LeavesParty (told old) (told new) j one.party
       blank_moments new run j now =
-          read_then (told old) (told disk) (told new) j one.party (λ c. StandsAlone c one.party ⊎ IsBlankOrBefore (told disk) c) load.any_moment (run (tells_by (told disk).now j (load.now ∙ now)))
+          read_then (told old) (told disk) (told new) j one.party (λ c. StandsAnew c one.party ⊎ IsBlankOrBefore (told disk) c) load.any_moment (run (tells_by (told disk).now j (load.now ∙ now)))
           (λ c either. elim either [
             | inl is ↦ inl (inl (blank_never j one.party (load.refused j now), is))
             | inr (inl blank) ↦ inl (inr (inl (load.refused j now, blank)))
@@ -308,13 +309,13 @@ module _ (unique : (image : List ℕ) (p q : Party) → Stands image p → Stand
 
     -- the first disk is blank, and the second stands
     module _ (old : Disks D) (two : Stored D) (load : IsLoaded told old.second (Ok two)) (blank : (i : List ℕ) → (told old.first).now ≡ Some i → is_blank i ≡ true) where
-      over_moments : (new : D) → (Tells (told old.first) → LeavesOnly (told old.first) (told new) (λ c. StandsAlone c two.party ⊎ IsBlankOrBefore (told old.first) c))
+      over_moments : (new : D) → (Tells (told old.first) → LeavesOnly (told old.first) (told new) (λ c. StandsAnew c two.party ⊎ IsBlankOrBefore (told old.first) c))
           → (i j : List ℕ) (party : Party) → (told old.first).now ≡ Some i → (told old.second).now ≡ Some j → Stands j party → LeavesParty (told old.first) (told new) i party
       over_moments new run i j party now_i now_j stands =
           let same : two.party ≡ party = unique j two.party party (stands_for j two.format two.party (load.stands.stands j (load.now ∙ now_j))) stands in
-          weaker (told old.first) (told new) (λ c. StandsAlone c two.party ⊎ IsBlankOrBefore (told old.first) c) _ (run (tells_by (told old.first).now i now_i))
+          weaker (told old.first) (told new) (λ c. StandsAnew c two.party ⊎ IsBlankOrBefore (told old.first) c) _ (run (tells_by (told old.first).now i now_i))
           (λ c either. elim either [
-            | inl is ↦ inl (inl (blank_never i party (blank i now_i), subst (λ (p : Party). StandsAlone c p) same is))
+            | inl is ↦ inl (inl (blank_never i party (blank i now_i), subst (λ (p : Party). StandsAnew c p) same is))
             | inr (inl is_blank) ↦ inl (inr (inl (blank i now_i, is_blank)))
             | inr (inr left) ↦ inr left
           ])
@@ -617,9 +618,9 @@ module _ {D : Type 0} (told : D → View) (one two : Stored D) (one_store : IsSt
   stays : Tells (told two.disk) → LeavesOnly (told two.disk) (told two.disk) (IsSwitched one two)
   stays tells = rests (told two.disk) (IsSwitched one two) sound (λ c left. inr (store_left (told two.disk) two.gate two.end two.format two.party two_store tells c left))
 
-  apart_moments : (two.party ≡ one.party → ⊥) → (new : D) → (Tells (told two.disk) → LeavesOnly (told two.disk) (told new) (λ c. StandsAlone c one.party ⊎ StandsWith c two.party (space two)))
+  apart_moments : (two.party ≡ one.party → ⊥) → (new : D) → (Tells (told two.disk) → LeavesOnly (told two.disk) (told new) (λ c. StandsAnew c one.party ⊎ StandsWith c two.party (space two)))
       → Tells (told two.disk) → LeavesOnly (told two.disk) (told new) (IsSwitched one two)
-  apart_moments apart new run tells = weaker (told two.disk) (told new) (λ c. StandsAlone c one.party ⊎ StandsWith c two.party (space two)) (IsSwitched one two) (run tells)
+  apart_moments apart new run tells = weaker (told two.disk) (told new) (λ c. StandsAnew c one.party ⊎ StandsWith c two.party (space two)) (IsSwitched one two) (run tells)
       (λ c either. elim either [ inl is ↦ inl (apart, is) | inr is ↦ inr is ])
 
   pub settled_other : (a b : List ℕ) → a ≡ one.party.own → b ≡ two.party.own → (a ≡ b → ⊥) → IsSettled told one two (Err (record { disks = record { first = one.disk; second = two.disk }; cause = OtherParty a b }))

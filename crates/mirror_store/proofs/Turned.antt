@@ -35,7 +35,8 @@ use Rattle.mirror_store.specs.Turns.{fits_frame, pair_plan, IsKeptTwice, HasFail
 use Rattle.mirror_store.specs.declared.pair.PairCause.TheVariants.{First, Second}
 use Rattle.mirror_store.specs.declared.mirror.PairTurn.{PairTurn}
 use Rattle.mirror_store.specs.declared.mirror.PairTurn.TheVariants as turn
-use Rattle.mirror_store.proofs.Moments.{told_image, stands_with}
+use Rattle.x_disk.proofs.Alike.{told_now}
+use Rattle.mirror_store.proofs.Moments.{stands_with}
 use Rattle.mirror_store.proofs.Opened.{never_first, never_second}
 
 -- which plan is carried out
@@ -86,7 +87,7 @@ accepted_plan law x i moment some = accepted_by (fits x.space (decision x.party 
 
 at_rest : (v : View) (gate end : ℕ) (f : Format) (party : Party) → IsSound v → IsStore v gate end f party → Tells v → LeavesOnly v v (λ c. StandsWith c party (space_between gate end f))
 at_rest v gate end f party sound store tells =
-    let image = told_image v.now tells in
+    let image = told_now v.now tells in
     began v (λ c. StandsWith c party (space_between gate end f)) sound
     (λ c left. subst (λ (l : List ℕ). StandsWith l party (space_between gate end f)) (sym (store.durable.only image.0 c image.1 left)) (stands_with v gate end f party store image.0 image.1))
 

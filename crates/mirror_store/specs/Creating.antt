@@ -50,15 +50,15 @@ IsUncreated first second (Second cause.NoMemory) = Unit {0}
 IsUncreated first second (OtherParty a b) = ⊥
 IsUncreated first second TooLarge = ⊥
 
--- the party is alone in its area on either disk, in format 2
-abbrev pub IsAloneOnBoth : {D : Type 0} → Party → Twin D → Type 0
-IsAloneOnBoth party m = (space m.first ≡ space_of_whole Two party) × (space m.second ≡ space_of_whole Two party)
+-- the party has on either disk the space that one frame of it in format 2 leaves
+abbrev pub IsAnewOnBoth : {D : Type 0} → Party → Twin D → Type 0
+IsAnewOnBoth party m = (space m.first ≡ space_of_whole Two party) × (space m.second ≡ space_of_whole Two party)
 
 -- a party is created on two disks, whose images both were blank
 pub record IsPairCreated {D : Type 0} (told : D → View) (own : List ℕ) (role : Role) (generator : Gen) (old : Disks D) (result : Result (Twin D) (PairUnmade D)) : Type 0 where
   pub stand : IfOk result (IsTwin told)
   pub party : IfOk result (λ m. m.first.party ≡ begun own role generator)
-  pub left : IfOk result (λ m. IsAloneOnBoth (begun own role generator) m)
+  pub left : IfOk result (λ m. IsAnewOnBoth (begun own role generator) m)
   pub blank : IfOk result (λ m. (i j : List ℕ) → AreRead (told old.first) (told old.second) i j → (is_blank i ≡ true) × (is_blank j ≡ true))
   pub refused : IfErr result (λ u. (i j : List ℕ) → AreRead (told old.first) (told old.second) i j → IsUncreated i j u.cause)
   -- where either isn't blank, nothing is written
@@ -78,7 +78,7 @@ pub record IsPairCreated {D : Type 0} (told : D → View) (own : List ℕ) (role
 pub record IsMadeTwice {D : Type 0} (told : D → View) (own : List ℕ) (role : Role) (generator : Gen) (old : Disks D) (result : Result (Twin D) (PairUnmade D)) : Type 0 where
   pub stand : IfOk result (IsTwin told)
   pub party : IfOk result (λ m. m.first.party ≡ begun own role generator)
-  pub left : IfOk result (λ m. IsAloneOnBoth (begun own role generator) m)
+  pub left : IfOk result (λ m. IsAnewOnBoth (begun own role generator) m)
   pub refused : IfErr result (λ u. (i j : List ℕ) → AreRead (told old.first) (told old.second) i j → IsUncreated i j u.cause)
   pub first_moments : Tells (told old.first) → LeavesOnly (told old.first) (told (opened_disks result).first) (λ c. IsBlankOrFirst (begun own role generator) c ⊎ (told old.first).may_leave c)
   pub second_moments : Tells (told old.second) → LeavesOnly (told old.second) (told (opened_disks result).second) (λ c. IsBlankOrFirst (begun own role generator) c ⊎ (told old.second).may_leave c)

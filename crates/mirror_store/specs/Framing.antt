@@ -9,7 +9,7 @@ use Rattle.party_state.specs.State.{Party}
 use Rattle.change_code.specs.Cost.{space_of_whole}
 use Rattle.change_code.specs.declared.format.Format.TheVariants.{Two}
 use Rattle.change_code.specs.Whole.{IsTooLarge}
-use Rattle.key_store.specs.Store.{Stored, StandsWith, StandsAlone, IsStore, space}
+use Rattle.key_store.specs.Store.{Stored, StandsWith, StandsAnew, IsStore, space}
 use Rattle.mirror_store.specs.Pairs.{Twin, IsTwin}
 use Rattle.mirror_store.specs.Answers.{opened_disks}
 use Rattle.mirror_store.specs.declared.pair.PairCause.{PairCause}
@@ -38,7 +38,7 @@ pub record IsCopying {D : Type 0} (told : D → View) (old : D) (P : List ℕ �
   pub refused : IfErr result (IsUncopied told old copy)
   -- it isn't touched for a party that is too large
   pub stays : IsTooLarge Two copy → copied_disk result ≡ old
-  pub moments : Tells (told old) → LeavesOnly (told old) (told (copied_disk result)) (λ c. StandsAlone c copy ⊎ P c)
+  pub moments : Tells (told old) → LeavesOnly (told old) (told (copied_disk result)) (λ c. StandsAnew c copy ⊎ P c)
   pub faults : (told old).faults ≤ (told (copied_disk result)).faults
   pub tells : is_some (told (copied_disk result)).now ≡ is_some (told old).now
 
@@ -59,7 +59,7 @@ pub record IsSettled {D : Type 0} (told : D → View) (one two : Stored D) (resu
   pub party : IfOk result (λ m. m.first.party ≡ one.party)
   pub own : IfOk result (λ m. two.party.own ≡ one.party.own)
   pub same : IfOk result (λ m. m.first ≡ one)
-  -- the second stays where it stands for that party, which otherwise is alone there as one frame
+  -- the second stays where it stands for that party, which otherwise has the space there that one frame of it leaves
   pub second_left : IfOk result (λ m. ((two.party ≡ one.party) × (m.second ≡ two)) ⊎ ((two.party ≢ one.party) × (space m.second ≡ space_of_whole Two one.party)))
   -- what is written isn't too large for one frame
   pub small : IfOk result (λ m. two.party ≢ one.party → IsTooLarge Two one.party → ⊥)
@@ -70,8 +70,9 @@ pub record IsSettled {D : Type 0} (told : D → View) (one two : Stored D) (resu
   pub apart : (two.party.own ≡ one.party.own → ⊥) → (opened_disks result).second ≡ two.disk
   -- nor where that is too large to be written
   pub too_large : IsTooLarge Two one.party → (opened_disks result).second ≡ two.disk
-  -- a crash at any moment leaves the one, where it is another, alone in its area, or the other in the space that it had
-  pub moments : Tells (told two.disk) → LeavesOnly (told two.disk) (told (opened_disks result).second) (λ c. ((two.party ≢ one.party) × StandsAlone c one.party) ⊎ StandsWith c two.party (space two))
+  -- a crash at any moment leaves the one, where it is another, with the space that one frame of it leaves, or the other with the space
+  -- that it had
+  pub moments : Tells (told two.disk) → LeavesOnly (told two.disk) (told (opened_disks result).second) (λ c. ((two.party ≢ one.party) × StandsAnew c one.party) ⊎ StandsWith c two.party (space two))
   pub fault : IfErr result (λ u. u.cause ≡ Second cause.Fault → Rose (told two.disk).faults (told u.disks.second).faults)
   pub names : IfErr result (λ u. u.cause ≡ First cause.Fault → ⊥)
   pub faults : (told two.disk).faults ≤ (told (opened_disks result).second).faults

@@ -4,7 +4,7 @@ use Rattle.x_disk.specs.Disk.{View, IsDurable}
 use Rattle.key_journal.specs.Journal.{is_blank}
 use Rattle.party_state.specs.State.{Party}
 use Rattle.change_code.specs.declared.space.Space.{Space}
-use Rattle.key_store.specs.Store.{Stored, Stands, StandsWith, StandsAlone, IsStore}
+use Rattle.key_store.specs.Store.{Stored, Stands, StandsWith, StandsAnew, IsStore}
 
 -- each image of the disk that a crash may leave now stands for the party, with this space
 pub record IsKeptOn (v : View) (party : Party) (space : Space) : Type 0 where
@@ -25,9 +25,9 @@ IsBlankOrLike party image = (is_blank image ≡ true) ⊎ ((other : Party) × St
 abbrev pub Recovers : List ℕ → List ℕ → Party → Type 0
 Recovers first second party = (Stands first party × IsBlankOrLike party second) ⊎ ((is_blank first ≡ true) × Stands second party)
 
--- the image stands for the party, for which the one before didn't, alone in its area
+-- the image stands for the party, for which the one before didn't, in format 2, with the room that one frame of it leaves
 abbrev pub IsMadeAnew : List ℕ → Party → List ℕ → Type 0
-IsMadeAnew before party image = (Stands before party → ⊥) × StandsAlone image party
+IsMadeAnew before party image = (Stands before party → ⊥) × StandsAnew image party
 
 -- one image is blank as another was, or stands for the party for which that stood, with the space that it had
 abbrev pub IsAsBefore : List ℕ → List ℕ → Type 0

@@ -1,14 +1,10 @@
 -- What a read gives of a party's disk.
-use Rattle.std.proofs.Common.{◌≡◌, ℕ, ◌+◌, ◌-◌, true, List, Option, Some, None, is_some, refl, arith}
+use Rattle.std.proofs.Common.{◌≡◌, ℕ, ◌+◌, ◌-◌, List, Some, arith}
 use Rattle.x_disk.specs.Disk.{View, LeavesOnly, IsSound}
 use Rattle.key_journal.specs.States.{room_of}
 use Rattle.party_state.specs.State.{Party}
 use Rattle.change_code.specs.declared.format.Format.{Format}
 use Rattle.key_store.specs.Store.{StandsWith, IsStore, space_between}
-
-pub told_now : (now : Option (List ℕ)) → is_some now ≡ true → (image : List ℕ) × (now ≡ Some image)
-told_now (Some image) is = (image, refl)
-told_now None is = absurd (cc is)
 
 left_over : (gate end room : ℕ) → end ≡ gate + room → room ≡ end - gate
 left_over gate end room is = omega (arith, is)

@@ -13,7 +13,7 @@ use Rattle.open_parties.specs.Failing.{IsFailing, ReadsEither, IsFailedPartyDisk
 use Rattle.open_parties.specs.Stops.{IsDiskAtStop}
 use Rattle.open_parties.specs.declared.failure.Failure.{Failure}
 use Rattle.open_parties.specs.declared.failure.Failure.TheVariants as failure
-use Rattle.open_parties.proofs.Images.{told_now}
+use Rattle.x_disk.proofs.Alike.{told_now}
 
 -- the power-off failed, or the opening behind it
 pub failed_off : (v w : View) (why : Failure) → IsFailing why → IsSound w → LeavesNoMore v w → is_some w.now ≡ is_some v.now → IsFailedPartyDisk v w why

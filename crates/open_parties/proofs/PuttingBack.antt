@@ -4,7 +4,8 @@ use Rattle.std.proofs.Common.{◌≡◌, inl, inr, ⊎_elim, ℕ, ◌≤◌, ari
 use mathlib.Core.Logic.{◌≢◌}
 use Rattle.std.proofs.lemmas.List.{append-nil}
 use Rattle.x_disk.specs.Disk.{View}
-use Rattle.x_disk.specs.Shelf.{IsAlike, OthersStay, SlotsStay, alike_refl}
+use Rattle.x_disk.specs.Shelf.{OthersStay, SlotsStay, alike_refl}
+use Rattle.x_disk.proofs.Alike.{alike_trans}
 use Rattle.key_store.specs.Store.{Stored}
 use Rattle.open_parties.specs.OpenParties.{open_party, NoneOf, IsPlace, IsTakenOut, owners}
 use Rattle.open_parties.specs.Closing.{IsBack, AllBack, OtherDisksStay, AllSlots, AreApart, IsFaulty, AnyFaulty, IsClosing}
@@ -12,18 +13,6 @@ use Rattle.open_parties.specs.declared.open_party.OpenParty.{OpenParty}
 use Rattle.open_parties.specs.declared.open_party.PartyDisk.{PartyDisk}
 use Rattle.open_parties.specs.declared.open_party.PartyDisk.TheVariants.{Open, Closed, Away}
 use Rattle.open_parties.proofs.Owning.{none_alike}
-
-pub alike_on : (u v w : View) → IsAlike u v → IsAlike v w → IsAlike u w
-alike_on u v w first second = record {
-  now = second.now ∙ first.now;
-  stable = second.stable ∙ first.stable;
-  moment = second.moment ∙ first.moment;
-  images = λ c left. first.images c (second.images c left);
-  images_stay = λ c left. second.images_stay c (first.images_stay c left);
-  since = λ t c left. first.since t c (second.since t c left);
-  since_stays = λ t c left. second.since_stays t c (first.since_stays t c left);
-  covers = λ end bytes calls is. second.covers end bytes calls (first.covers end bytes calls is);
-}
 
 pub rose_on : (a b e : ℕ) → a ≤ b → Rose b e → Rose a e
 rose_on a b e le (inl less) = inl (omega (arith, le, less))
@@ -35,9 +24,9 @@ rose_then a b e le (inr most) = inr (omega (arith, le, most))
 
 module _ {D : Type 0} (told : D → View) where
   back_on : (start old new : List ℕ → View) (own other : List ℕ) (h : PartyDisk D) → OthersStay own old new → other ≢ own → IsBack told start old other h → IsBack told start new other h
-  back_on start old new own other (Open node) others apart back = (alike_on (told node.disk) (old other) (new other) back.0 (others other apart), back.1)
-  back_on start old new own other (Closed disk) others apart back = alike_on (told disk) (old other) (new other) back (others other apart)
-  back_on start old new own other Away others apart back = alike_on (start other) (old other) (new other) back (others other apart)
+  back_on start old new own other (Open node) others apart back = (alike_trans (told node.disk) (old other) (new other) back.0 (others other apart), back.1)
+  back_on start old new own other (Closed disk) others apart back = alike_trans (told disk) (old other) (new other) back (others other apart)
+  back_on start old new own other Away others apart back = alike_trans (start other) (old other) (new other) back (others other apart)
 
   all_on : (start old new : List ℕ → View) (own : List ℕ) (open_parties : List (OpenParty D)) → OthersStay own old new → NoneOf open_parties own → AllBack told start old open_parties → AllBack told start new open_parties
   all_on start old new own [] others none back = tt
@@ -47,7 +36,7 @@ module _ {D : Type 0} (told : D → View) where
   back_since : (start old new : List ℕ → View) (own : List ℕ) (h : PartyDisk D) → IsAlike (start own) (old own) → IsBack told old new own h → IsBack told start new own h
   back_since start old new own (Open node) stayed back = back
   back_since start old new own (Closed disk) stayed back = back
-  back_since start old new own Away stayed back = alike_on (start own) (old own) (new own) stayed back
+  back_since start old new own Away stayed back = alike_trans (start own) (old own) (new own) stayed back
 
   apart_at : (left : List (OpenParty D)) (s : OpenParty D) (done : List (OpenParty D)) → AreApart (left ++ s ∷ done) → NoneOf done s.own
   apart_at [] s done apart = apart.0
@@ -82,7 +71,7 @@ module _ {D : Type 0} (told : D → View) where
         done = s ∷ so_far.done;
         split = split;
         back = (back_since start old new s.own s.held (so_far.others s.own alone) back, all_on start old new s.own so_far.done others alone so_far.back);
-        others = λ own none. alike_on (start own) (old own) (new own) (so_far.others own none.1) (others own (λ is_own. none.0 (sym is_own)));
+        others = λ own none. alike_trans (start own) (old own) (new own) (so_far.others own none.1) (others own (λ is_own. none.0 (sym is_own)));
         seen = λ faulty. ⊎_elim (λ one. rose_on before mid after first (seen one)) (λ more. rose_then before mid after last (so_far.seen more)) faulty;
       }
 
@@ -101,7 +90,7 @@ module _ {D : Type 0} (told : D → View) where
 -- the disks of all others stay from line to line
 module _ {D : Type 0} where
   pub others_on : (old mid new : List ℕ → View) (open_parties now : List (OpenParty D)) → owners now ≡ owners open_parties → OtherDisksStay old mid open_parties → OtherDisksStay mid new now → OtherDisksStay old new open_parties
-  others_on old mid new open_parties now same first more = λ own none. alike_on (old own) (mid own) (new own) (first own none) (more own (none_alike open_parties now own (sym same) none))
+  others_on old mid new open_parties now same first more = λ own none. alike_trans (old own) (mid own) (new own) (first own none) (more own (none_alike open_parties now own (sym same) none))
 
 -- a closed disk that failed
 pub faulty_at : {D : Type 0} (told : D → View) (front : List (OpenParty D)) (own : List ℕ) (disk : D) (back : List (OpenParty D)) → 0 < (told disk).faults → AnyFaulty told (front ++ open_party own (Closed disk) ∷ back)

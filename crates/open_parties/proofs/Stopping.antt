@@ -7,7 +7,7 @@ use Rattle.key_store.specs.Store.{Stands, StandsAs, IsStore}
 use Rattle.member.specs.Member.{Member}
 use Rattle.node_core.specs.Turns.{IsImageOf, IsOldOrNext, ReadIsOf, StableIsOf}
 use Rattle.open_parties.specs.Stops.{IsDiskAtStop, IsRestarted}
-use Rattle.open_parties.proofs.Images.{told_now}
+use Rattle.x_disk.proofs.Alike.{told_now}
 
 pub differ : (a : Bool) → a ≡ true → a ≡ false → ⊥
 differ a is not = let both : true ≡ false = sym is ∙ not in cc both

@@ -41,7 +41,8 @@ use Rattle.replay.specs.declared.making.SetUpEnd.TheVariants.{Failed}
 use Rattle.x_disk.proofs.Runs.{began, weaker}
 use Rattle.replay.proofs.Adding.{OrBefore, adds_call, adds_on}
 use Rattle.open_parties.proofs.Carrying.{is_fault}
-use Rattle.open_parties.proofs.Images.{image_of, told_now}
+use Rattle.x_disk.proofs.Alike.{told_now}
+use Rattle.open_parties.proofs.Images.{image_of}
 use Rattle.replay.proofs.Lengths.{first_few, longest_is}
 use Rattle.replay.proofs.Loads.{put_longer}
 

@@ -24,7 +24,7 @@ use Rattle.replay.proofs.Adding.{adds_end, adds_now}
 use Rattle.open_parties.proofs.Holding.{apart_by, still_there, back_on_shelf}
 use Rattle.replay.proofs.Joining.{begins_from, begins_to, sets_up_only, split_at_party, failed_set_up_alike, failed_set_up_or_fails, none_of, tell_parts, apart_at}
 use Rattle.replay.proofs.Lasting.{durable_back}
-use Rattle.open_parties.proofs.PuttingBack.{alike_on}
+use Rattle.x_disk.proofs.Alike.{alike_trans}
 use Rattle.replay.proofs.Standing.{stand_on_shelf}
 
 -- the party of a line is among those of all
@@ -46,7 +46,7 @@ module _ {D : Type 0} (told : D → View) (lines : List Line) (start entry : Lis
   alike = so_far.others p.own none
 
   other_stays : (own : List ℕ) → NoneOf open_parties own → own ≢ p.own → IsAlike (start own) (entry3 own)
-  other_stays own out apart = alike_on (start own) (entry own) (entry3 own) (so_far.others own out) (alike_on (entry own) (entry2 own) (entry3 own) (failed_set_up.others own apart) (others own out))
+  other_stays own out apart = alike_trans (start own) (entry own) (entry3 own) (so_far.others own out) (alike_trans (entry own) (entry2 own) (entry3 own) (failed_set_up.others own apart) (others own out))
 
   -- a crash at any moment of the set-up
   begun_only : BeginsOnly (start p.own) (entry3 p.own) (new_member p) (loads_of p.own lines)

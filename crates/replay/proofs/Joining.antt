@@ -35,7 +35,7 @@ use Rattle.open_parties.specs.declared.open_party.PartyDisk.TheVariants.{Open, C
 use Rattle.replay.proofs.Adding.{adds_begin, adds_end, adds_none, adds_weaker}
 use Rattle.open_parties.proofs.Holding.{apart_by, held_last, held_front, still_there}
 use Rattle.replay.proofs.Loads.{own_stays, more_of, follows, split_lines}
-use Rattle.open_parties.proofs.PuttingBack.{alike_on}
+use Rattle.x_disk.proofs.Alike.{alike_trans}
 
 -- ---- a disk on which no party is set up, by what a read of it gives
 
@@ -239,7 +239,7 @@ module _ {D : Type 0} (told : D → View) (lines : List Line) (start entry : Lis
       owners_are = so_far.owners_are ∙ sym parties;
       apart = so_far.apart;
       slots = slots_on slot slot2 (owners open_parties) stay so_far.slots;
-      others = λ own none. alike_on (start own) (entry own) (entry2 own) (so_far.others own none) (all own);
+      others = λ own none. alike_trans (start own) (entry own) (entry2 own) (so_far.others own none) (all own);
       shown = λ tell tells.
           let s = so_far.shown tell (λ t. subst (AllTell start) parties (tells t)) in
           record { all_open = s.all_open; members_are = s.members_are ∙ sym names; blank = subst (AllReadBlank start) (sym parties) s.blank };
@@ -290,7 +290,7 @@ module _ {D : Type 0} (told : D → View) (lines : List Line) (start entry : Lis
         slots = slots_push slot2 open_parties (open_party p.own (Open next.node)) (slots_on slot slot2 (owners open_parties) stay so_far.slots) next.placed;
         others = λ own none.
             let both = none_parts open_parties (open_party p.own (Open next.node)) own none in
-            alike_on (start own) (entry own) (entry2 own) (so_far.others own both.0) (next.others own (λ same. both.1 (sym same)));
+            alike_trans (start own) (entry own) (entry2 own) (so_far.others own both.0) (next.others own (λ same. both.1 (sym same)));
         shown = shows next.node next.made;
         any_moment = λ tells own. each tells own (bytes_eq p.own own) refl;
       })

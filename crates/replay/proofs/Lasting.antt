@@ -2,7 +2,6 @@
 use Rattle.std.proofs.Common.{◌≡◌, ℕ, Bool, true, false, List, [], ◌∷◌, Some, bytes_eq, refl, sym, ◌∙◌, subst}
 use Rattle.std.proofs.lemmas.Slice.Eq.{bytes_eq-Decides}
 use Rattle.x_disk.specs.Disk.{View, IsDurable}
-use Rattle.x_disk.specs.Shelf.{IsAlike}
 use Rattle.key_store.specs.Store.{Stored}
 use Rattle.member.specs.Member.{Member}
 use Rattle.world_laws.specs.World.{own_of, member_at}
@@ -14,15 +13,10 @@ use Rattle.open_parties.specs.OpenParties.{members, with_held, IsIn, AreIn, IsOp
 use Rattle.open_parties.specs.declared.open_party.OpenParty.{OpenParty}
 use Rattle.open_parties.specs.declared.open_party.PartyDisk.{PartyDisk}
 use Rattle.open_parties.specs.declared.open_party.PartyDisk.TheVariants.{Open, Closed, Away}
-use Rattle.open_parties.proofs.Images.{image_of, told_now}
+use Rattle.x_disk.proofs.Alike.{durable_alike, told_now}
+use Rattle.open_parties.proofs.Images.{image_of}
 use Rattle.open_parties.proofs.Members.{cond_yes, cond_not}
 use Rattle.replay.proofs.Standing.{named_for}
-
-durable_alike : (v w : View) → IsAlike v w → IsDurable v → IsDurable w
-durable_alike v w alike durable = record {
-  only = λ b c now left. durable.only b c (sym alike.now ∙ now) (alike.images c left);
-  stable = alike.stable ∙ (durable.stable ∙ sym alike.now);
-}
 
 -- each image stands for the member as what a read gives does
 pub durable_image : (v : View) (x : Member) → TellsAndReadsAs v x → IsDurable v → (image : List ℕ) → v.may_leave image → IsImageOf x image
@@ -36,7 +30,7 @@ module _ {D : Type 0} (told : D → View) where
   durable_first : (old entry : List ℕ → View) (mine : List ℕ) (node : Stored D) (ms : List Member) → IsBack told old entry mine (Open node) → node.party.own ≡ mine → AreDurable entry ms
       → (own : List ℕ) (x : Member) (t : Bool) → bytes_eq own node.party.own ≡ t → member_at own (member_of node ∷ ms) ≡ Some x → IsDurable (entry own)
   durable_first old entry mine node ms back named rest own x true is at =
-      subst (λ (name : List ℕ). IsDurable (entry name)) (sym ((bytes_eq-Decides own node.party.own).0 is ∙ named)) (durable_alike (told node.disk) (entry mine) back.0 back.1.durable)
+      subst (λ (name : List ℕ). IsDurable (entry name)) (sym ((bytes_eq-Decides own node.party.own).0 is ∙ named)) (durable_alike (told node.disk) (entry mine) back.1.durable back.0)
   durable_first old entry mine node ms back named rest own x false is at = rest own x (sym (cond_not (bytes_eq own node.party.own) (Some (member_of node)) (member_at own ms) is) ∙ at)
 
   durable_more : (old entry : List ℕ → View) (mine : List ℕ) (h : PartyDisk D) (ms : List Member) → IsBack told old entry mine h → IsIn true told mine h → AreDurable entry ms → AreDurable entry (with_held h ms)
@@ -60,7 +54,7 @@ turned own a b is = go (bytes_eq own a) (bytes_eq b own) refl refl
 
 module _ {D : Type 0} (told : D → View) (old entry : List ℕ → View) where
   durable_at : (own : List ℕ) (h : PartyDisk D) → IsOpen h → IsBack told old entry own h → IsDurable (entry own)
-  durable_at own (Open node) all_in back = durable_alike (told node.disk) (entry own) back.0 back.1.durable
+  durable_at own (Open node) all_in back = durable_alike (told node.disk) (entry own) back.1.durable back.0
   durable_at own (Closed disk) all_in back = absurd all_in
   durable_at own Away all_in back = absurd all_in
 

@@ -5,7 +5,7 @@ use Rattle.member.specs.Member.{Member}
 use Rattle.node_core.specs.Turns.{IsImageOf}
 use Rattle.replay.specs.Breaking.{TellsAndReadsAs}
 use Rattle.open_parties.specs.Failing.{ReadsEither}
-use Rattle.open_parties.proofs.Images.{told_now}
+use Rattle.x_disk.proofs.Alike.{told_now}
 
 -- what a read gives is one image
 reads_some : (v : View) (x : Member) (image : List ℕ) → Tells v → v.now ≡ Some image → IsImageOf x image → TellsAndReadsAs v x

@@ -11,7 +11,7 @@ use Rattle.node_core.specs.Turns.{IsImageOf, member_of}
 use Rattle.course.specs.declared.progress.Stop.{Stop}
 use Rattle.open_parties.specs.Stops.{IsDiskAtStop, IsRestarted}
 use Rattle.replay.specs.Stops.{IsStopped}
-use Rattle.open_parties.proofs.Images.{told_now}
+use Rattle.x_disk.proofs.Alike.{told_now}
 use Rattle.open_parties.proofs.Stopping.{differ}
 
 same_rooms : (a b : ℕ) → a ≡ b → not (nat_eq a b) ≡ false

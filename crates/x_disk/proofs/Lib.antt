@@ -1,3 +1,4 @@
+pub mod Alike
 mod Clauses
 mod FusedCalls
 mod ImageLemmas

@@ -30,7 +30,8 @@ use Rattle.x_party.specs.declared.outcome.Outcome.{Outcome}
 use Rattle.x_party.specs.declared.outcome.Outcome.TheVariants as outcome
 use Rattle.x_pair.specs.Outcomes.{Work, Changes, MakesOf, IsAsOpened, KeepsNext, MayLeave, Opened, After, AsItWas, left_on_first, left_on_second, showing, turning}
 use Rattle.x_pair.specs.Steps.{HasActed, outcome_of_pair, outcome_of_turn}
-use Rattle.x_pair.proofs.Alike.{tells_by, store_stands}
+use Rattle.x_disk.proofs.Alike.{tells_by}
+use Rattle.x_party.proofs.Alike.{store_stands}
 use Rattle.x_pair.proofs.Opened.{both_stand, opening_leaves, second_opened, rested}
 
 -- a party of another name isn't asked

@@ -1,5 +1,5 @@
 -- Both disks are fetched, something is done, and both are put back.
-use Rattle.std.proofs.Common.{◌≡◌, ◌⊎◌, inl, inr, ℕ, ◌≤◌, ◌<◌, List, is_some, Ok, Err, sym, ◌∙◌, ap, subst, arith}
+use Rattle.std.proofs.Common.{◌≡◌, ◌⊎◌, inl, inr, ℕ, List, is_some, Ok, Err, sym, ◌∙◌, ap, subst, arith}
 use Rattle.x_base.specs.Edge.{Rose}
 use Rattle.x_disk.specs.Disk.{View, IsSound, IsUntouched}
 use Rattle.x_disk.specs.Shelf.{ShelfView, IsAlike}
@@ -18,15 +18,9 @@ use Rattle.x_party.specs.declared.outcome.Outcome.TheVariants as outcome
 use Rattle.x_pair.specs.Outcomes.{Work, OfOpened, MakesOf, MakesPair, IsAsOpened, KeepsNext, IsSafePair, MayLeave, Opened, After, AsItWas, Before, left_on_first, left_on_second, LeavesPair}
 use Rattle.x_pair.specs.Creations.{CreatesPair, IsSafeCreation, IsDueOrFailed, StandsWhereDone}
 use Rattle.x_pair.specs.Steps.{HasActed, HasCreated, HasFaults, AreOut, AreBack, IsClosed}
-use Rattle.x_pair.proofs.Alike.{durable_alike, stands_alike, thirds_on, untouched_alike, leaves_around, untouched_around}
-
-rose_some : (before after : ℕ) → before ≡ 0 → Rose before after → 0 < after
-rose_some before after none (inl less) = omega (arith, none, less)
-rose_some before after none (inr most) = omega (arith, none, most)
-
-rose_from : (first mid last : ℕ) → first ≤ mid → Rose mid last → Rose first last
-rose_from first mid last le (inl less) = inl (omega (arith, le, less))
-rose_from first mid last le (inr most) = inr most
+use Rattle.x_disk.proofs.Alike.{durable_alike, leaves_around, untouched_alike, untouched_around}
+use Rattle.x_party.proofs.Alike.{stands_alike}
+use Rattle.disk_pair.proofs.Around.{rose_from, rose_some, thirds_on}
 
 -- a failure tells nothing
 abbrev IsFailure : Outcome → Type 0 → Type 0

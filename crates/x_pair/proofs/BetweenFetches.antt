@@ -11,7 +11,8 @@ use Rattle.x_pair.specs.Comparisons.{IsAnswered, LeavesCompared, TellsLikeness}
 use Rattle.x_pair.specs.Looking.{HasCompared, failed_as}
 use Rattle.x_pair.specs.declared.likeness.Compared.{Compared}
 use Rattle.x_pair.specs.declared.likeness.Compared.TheVariants as compared
-use Rattle.x_pair.proofs.Alike.{thirds_on, untouched_alike, untouched_around}
+use Rattle.x_disk.proofs.Alike.{untouched_alike, untouched_around}
+use Rattle.disk_pair.proofs.Around.{thirds_on}
 
 rose_some : (before after : ℕ) → before ≡ 0 → Rose before after → 0 < after
 rose_some before after none (inl less) = omega (arith, none, less)

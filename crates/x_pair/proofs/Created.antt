@@ -20,9 +20,9 @@ use Rattle.mirror_store.specs.declared.pair.PairUnmade.{PairUnmade}
 use Rattle.x_party.specs.Images.{DiskStandsFor}
 use Rattle.x_party.specs.declared.outcome.Outcome.{Outcome}
 use Rattle.x_party.specs.declared.outcome.Outcome.TheVariants as outcome
-use Rattle.x_pair.specs.Creations.{CreatesPair, GivesDueCreation, IsDueOfTwo, IsDueOrFailed, DiskStandsAlone, StandsWhereDone}
+use Rattle.x_pair.specs.Creations.{CreatesPair, GivesDueCreation, IsDueOfTwo, IsDueOrFailed, DiskStandsAnew, StandsWhereDone}
 use Rattle.x_pair.specs.Steps.{HasCreated, outcome_of_pair}
-use Rattle.x_pair.proofs.Alike.{store_stands}
+use Rattle.x_party.proofs.Alike.{store_stands}
 use Rattle.x_pair.proofs.Opened.{refused_rose}
 
 -- why it isn't created
@@ -55,17 +55,17 @@ none_stands (OtherParty one other) a b own role generator = tt
 none_stands TooLarge a b own role generator = tt
 
 module _ {D : Type 0} (told : D → View) (own : List ℕ) (role : Role) (generator : Gen) (old : Disks D) where
-  stands_alone : (s : Stored D) (party : Party) → IsStore (told s.disk) s.gate s.end s.format s.party → s.party ≡ party → space s ≡ space_of_whole Two party → DiskStandsAlone (told s.disk) party
+  stands_alone : (s : Stored D) (party : Party) → IsStore (told s.disk) s.gate s.end s.format s.party → s.party ≡ party → space s ≡ space_of_whole Two party → DiskStandsAnew (told s.disk) party
   stands_alone s party store same left =
       subst (λ (p : Party). DiskStandsFor (told s.disk) p (space_of_whole Two party)) same
       (subst (λ (room : Space). DiskStandsFor (told s.disk) s.party room) left (store_stands (told s.disk) s.gate s.end s.format s.party store))
 
-  first_stands : (m : Twin D) → IsPairCreated told own role generator old (Ok m) → DiskStandsAlone (told m.first.disk) (begun own role generator)
+  first_stands : (m : Twin D) → IsPairCreated told own role generator old (Ok m) → DiskStandsAnew (told m.first.disk) (begun own role generator)
   first_stands m is = stands_alone m.first (begun own role generator) is.stand.first_stands is.party is.left.0
 
   -- what is kept on the first disk, where the second failed
   kept_first : (u : PairUnmade D) → IsUntouched (told old.second) (told u.disks.second) ⊎ IsKeptOn (told u.disks.first) (begun own role generator) (space_of_whole Two (begun own role generator))
-      → IsUntouched (told old.second) (told u.disks.second) ⊎ DiskStandsAlone (told u.disks.first) (begun own role generator)
+      → IsUntouched (told old.second) (told u.disks.second) ⊎ DiskStandsAnew (told u.disks.first) (begun own role generator)
   kept_first u (inl still) = inl still
   kept_first u (inr kept) = inr (record { durable = kept.durable; reads = kept.stands })
 

@@ -1,4 +1,3 @@
-mod Alike
 mod Opened
 mod Acted
 mod Dues

@@ -22,7 +22,7 @@ use Rattle.x_party.specs.declared.outcome.Outcome.{Outcome}
 use Rattle.x_party.specs.declared.outcome.Outcome.TheVariants as outcome
 use Rattle.x_pair.specs.Outcomes.{Work, BothStand, MakesOf, MayLeave, Opened, AsItWas, Before, left_on_first, left_on_second, IsAsOpened, IsSafePair}
 use Rattle.x_pair.specs.Steps.{HasActed, outcome_of_pair}
-use Rattle.x_pair.proofs.Alike.{store_stands}
+use Rattle.x_party.proofs.Alike.{store_stands}
 
 pub both_stand : {D : Type 0} (told : D → View) (m : Twin D) → IsTwin told m → BothStand (told m.first.disk) (told m.second.disk) (member_of m.first)
 both_stand told m twin = record {

@@ -19,13 +19,13 @@ IsDueOfTwo i j (outcome.Done reply) = (reply ≡ None) × (is_blank i ≡ true) 
 IsDueOfTwo i j (outcome.Refused verdict reply) = (verdict ≡ NotEmpty) × (reply ≡ None) × ((is_blank i ≡ false) ⊎ (is_blank j ≡ false))
 IsDueOfTwo i j o = ⊥
 
--- each image that a crash may leave stands for the party alone in its area, in format 2
-abbrev pub DiskStandsAlone : View → Party → Type 0
-DiskStandsAlone v party = DiskStandsFor v party (space_of_whole Two party)
+-- each image that a crash may leave stands for the party in format 2, with the room that one frame of it leaves
+abbrev pub DiskStandsAnew : View → Party → Type 0
+DiskStandsAnew v party = DiskStandsFor v party (space_of_whole Two party)
 
 -- where a party is created, both disks stand for it
 abbrev pub StandsWhereDone : Outcome → View → View → Party → Type 0
-StandsWhereDone (outcome.Done reply) first_after second_after party = DiskStandsAlone first_after party × DiskStandsAlone second_after party
+StandsWhereDone (outcome.Done reply) first_after second_after party = DiskStandsAnew first_after party × DiskStandsAnew second_after party
 StandsWhereDone o first_after second_after party = Unit {0}
 
 -- the outcome is the one that is due, a fault or want of memory
@@ -52,6 +52,6 @@ pub record IsSafeCreation (party : Party) (first second first_after second_after
   pub on_first : Tells first → LeavesOnly first first_after (OrBefore first (IsBlankOrFirst party))
   pub on_second : Tells second → LeavesOnly second second_after (OrBefore second (IsBlankOrFirst party))
   -- nothing is written on the second, or each image of the first that a crash may leave stands for the party
-  pub order : IsUntouched second second_after ⊎ DiskStandsAlone first_after party
+  pub order : IsUntouched second second_after ⊎ DiskStandsAnew first_after party
   pub first_tells : StillTells first first_after
   pub second_tells : StillTells second second_after

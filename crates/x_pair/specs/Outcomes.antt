@@ -134,7 +134,8 @@ pub record Changes (w : Work) (first second : List ℕ) (party : Party) (next : 
   pub may : w.May first party next
   pub small : (PairStands first second party → ⊥) → IsTooLarge Two party → ⊥
 
--- the space that a member after the call has on its first disk, and on the second, where it stands alone in its area
+-- the space that a member after the call has on its first disk, and on the second, where that is what one frame of it in format 2
+-- leaves
 abbrev pub left_on_first : Member → Space
 left_on_first x = x.space
 

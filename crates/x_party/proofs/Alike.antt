@@ -1,33 +1,15 @@
--- One disk tells what another does, step after step.
-use Rattle.std.proofs.Common.{◌≡◌, ℕ, ◌+◌, ◌-◌, List, refl, sym, ◌∙◌, subst, arith}
+-- What a party's disk tells, fetched and put back.
+use Rattle.std.proofs.Common.{◌≡◌, ℕ, ◌+◌, ◌-◌, sym, ◌∙◌, subst, arith}
 use Rattle.x_disk.specs.Disk.{View, LeavesOnly, LeavesNoMore, IsSound, IsUntouched}
-use Rattle.x_disk.specs.Shelf.{IsAlike, OthersStay}
-use Rattle.x_disk.proofs.Runs.{began, joined, weaker, begins_alike, ends_alike}
+use Rattle.x_disk.specs.Shelf.{IsAlike}
+use Rattle.x_disk.proofs.Alike.{durable_alike, untouched_self, untouched_then}
+use Rattle.x_disk.proofs.Runs.{weaker, begins_alike, ends_alike}
 use Rattle.party_state.specs.State.{Party}
 use Rattle.key_journal.specs.States.{room_of}
 use Rattle.change_code.specs.declared.format.Format.{Format}
 use Rattle.change_code.specs.declared.space.Space.{Space}
 use Rattle.key_store.specs.Store.{Stored, IsStore, space, space_between}
 use Rattle.x_party.specs.Images.{DiskStandsFor}
-
-pub alike_trans : (u v w : View) → IsAlike u v → IsAlike v w → IsAlike u w
-alike_trans u v w first second = record {
-  now = second.now ∙ first.now;
-  stable = second.stable ∙ first.stable;
-  moment = second.moment ∙ first.moment;
-  images = λ c left. first.images c (second.images c left);
-  images_stay = λ c left. second.images_stay c (first.images_stay c left);
-  since = λ t c left. first.since t c (second.since t c left);
-  since_stays = λ t c left. second.since_stays t c (first.since_stays t c left);
-  covers = λ end bytes calls is. second.covers end bytes calls (first.covers end bytes calls is);
-}
-
-pub others_on : (name : List ℕ) (old mid new : List ℕ → View) → OthersStay name old mid → OthersStay name mid new → OthersStay name old new
-others_on name old mid new first second = λ other apart. alike_trans (old other) (mid other) (new other) (first other apart) (second other apart)
-
--- no call was made
-pub untouched_self : (v : View) → IsSound v → IsUntouched v v
-untouched_self v sound = record { now = refl; images = λ c left. left; any_moment = began v v.may_leave sound (λ c left. left) }
 
 -- between a fetch and a put back nothing was written
 pub untouched_between : (old v w new : View) → IsAlike old v → w.now ≡ v.now → LeavesNoMore v w → LeavesOnly v w v.may_leave → IsAlike w new → IsUntouched old new
@@ -39,19 +21,17 @@ untouched_between old v w new out same images run back = record {
 
 -- nor before it, and then the disk was put back
 pub untouched_on : (old v w new : View) → IsUntouched old v → IsUntouched v w → IsAlike w new → IsUntouched old new
-untouched_on old v w new first second back = record {
-  now = back.now ∙ (second.now ∙ first.now);
-  images = λ c left. first.images c (second.images c (back.images c left));
-  any_moment = joined old v new old.may_leave first.any_moment
-      (ends_alike v w new old.may_leave (weaker v w v.may_leave old.may_leave second.any_moment first.images) back);
-}
+untouched_on old v w new first second back =
+    let both = untouched_then old v w first second in
+    record {
+      now = back.now ∙ both.now;
+      images = λ c left. both.images c (back.images c left);
+      any_moment = ends_alike old w new old.may_leave both.any_moment back;
+    }
 
 pub stands_alike : (v w : View) (party : Party) (left : Space) → DiskStandsFor v party left → IsAlike v w → DiskStandsFor w party left
 stands_alike v w party left stands alike = record {
-  durable = record {
-    only = λ b c now stays. stands.durable.only b c (sym alike.now ∙ now) (alike.images c stays);
-    stable = alike.stable ∙ (stands.durable.stable ∙ sym alike.now);
-  };
+  durable = durable_alike v w stands.durable alike;
   reads = λ image now. stands.reads image (sym alike.now ∙ now);
 }
 

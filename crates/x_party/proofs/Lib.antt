@@ -1,5 +1,5 @@
 mod Acted
-mod Alike
+pub mod Alike
 mod Asked
 mod AlwaysDue
 mod Created

@@ -1,9 +1,8 @@
 -- A disk that was only looked at.
 use Rattle.std.proofs.Common.{◌≡◌, ℕ, List, Some, None, ◌∙◌, ap, subst, refl}
 use Rattle.std.specs.Prelude.{Option, Result, Ok, Err, IfOk}
-use Rattle.x_disk.specs.Disk.{View, IsUntouched}
+use Rattle.x_disk.specs.Disk.{View}
 use Rattle.x_disk.specs.Shelf.{IsAlike}
-use Rattle.x_disk.proofs.Runs.{joined, weaker}
 use Rattle.key_journal.specs.declared.cause.Cause.{Cause}
 use Rattle.key_journal.specs.declared.cause.Cause.TheVariants as cause
 use Rattle.key_journal.specs.Opening.{IsFree}
@@ -12,14 +11,6 @@ use Rattle.party_state.specs.declared.command.Input.{Input}
 use Rattle.party_state.specs.State.{Party}
 use Rattle.member.specs.Deciding.{decision}
 use Rattle.x_party.specs.Notices.{FindsNotice, notice_of}
-
--- two spans in which nothing was written, one after the other
-pub untouched_then : (old mid new : View) → IsUntouched old mid → IsUntouched mid new → IsUntouched old new
-untouched_then old mid new first second = record {
-  now = second.now ∙ first.now;
-  images = λ c left. first.images c (second.images c left);
-  any_moment = joined old mid new old.may_leave first.any_moment (weaker mid new mid.may_leave old.may_leave second.any_moment first.images);
-}
 
 -- the disk was taken out of the shelf as it was
 pub looked_out : (old v : View) (i : Input) (class : List ℕ) (moment : ℕ) (notice : Option (List ℕ)) → IsAlike old v → FindsNotice v i class moment notice → FindsNotice old i class moment notice

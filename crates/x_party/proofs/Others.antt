@@ -1,7 +1,7 @@
 -- A party that isn't that of the name isn't asked.
-use Rattle.std.proofs.Common.{◌≡◌, ◌≢◌, inl, ℕ, Bool, false, not, bytes_eq, List, Option, Some, None, is_some, true, refl, sym, ◌∙◌, ap, subst, arith}
-use Rattle.std.proofs.lemmas.Slice.Eq.{bytes_eq-Decides}
+use Rattle.std.proofs.Common.{◌≡◌, ◌≢◌, inl, ℕ, List, refl, sym, ◌∙◌, subst, arith}
 use Rattle.x_disk.specs.Disk.{View, IsSound, Tells, LeavesOnly}
+use Rattle.x_disk.proofs.Alike.{told_now, untouched_self}
 use Rattle.x_disk.proofs.Runs.{began}
 use Rattle.party_state.specs.declared.decision.Decision.{Decision}
 use Rattle.party_state.specs.State.{Party}
@@ -10,24 +10,7 @@ use Rattle.change_code.specs.declared.space.Space.{Space}
 use Rattle.key_store.specs.Store.{Stored, StandsWith, IsStore, StandsForOldOrNew, space, space_between}
 use Rattle.x_party.proofs.Acts.{HasActed}
 use Rattle.x_party.specs.declared.outcome.Outcome.TheVariants as outcome
-use Rattle.x_party.proofs.Alike.{untouched_self, store_stands}
-
--- what a comparison says
-pub same_name : (own name : List ℕ) (differ : Bool) → differ ≡ not (bytes_eq own name) → differ ≡ false → own ≡ name
-same_name own name differ is none = go (bytes_eq own name) refl where
-  go : (b : Bool) → bytes_eq own name ≡ b → own ≡ name
-  go true same = (bytes_eq-Decides own name).0 same
-  go false other = let no : false ≡ true = sym none ∙ (is ∙ ap not other) in absurd cc
-
-pub other_name : (own name : List ℕ) (differ : Bool) → differ ≡ not (bytes_eq own name) → differ ≡ true → own ≢ name
-other_name own name differ is some = go (bytes_eq own name) refl where
-  go : (b : Bool) → bytes_eq own name ≡ b → own ≢ name
-  go true same = let no : true ≡ false = sym some ∙ (is ∙ ap not same) in absurd cc
-  go false other = λ equal. let no : false ≡ true = sym other ∙ (bytes_eq-Decides own name).1 equal in absurd cc
-
-told_now : (now : Option (List ℕ)) → is_some now ≡ true → (image : List ℕ) × (now ≡ Some image)
-told_now (Some image) is = (image, refl)
-told_now None is = absurd cc
+use Rattle.x_party.proofs.Alike.{store_stands}
 
 -- no disk call was made
 module _ (name : List ℕ) (v : View) (gate end : ℕ) (f : Format) (p : Party) (d : Decision) (sound : IsSound v) (store : IsStore v gate end f p) where

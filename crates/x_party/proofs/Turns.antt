@@ -7,6 +7,7 @@ use Rattle.x_disk.specs.Disk.{View, LeavesOnly, IsUntouched}
 use Rattle.x_disk.specs.Shelf.{OthersStay}
 use Rattle.x_disk.specs.declared.disk.DiskErr.{DiskErr}
 use Rattle.x_disk.specs.declared.disk.DiskErr.TheVariants as disk
+use Rattle.x_disk.proofs.Alike.{untouched_then}
 use Rattle.x_disk.proofs.Runs.{joined, weaker}
 use Rattle.change_code.specs.declared.space.Space.{Space}
 use Rattle.csm_grammar.specs.declared.arrival.Arrival.{Arrival}
@@ -23,7 +24,6 @@ use Rattle.x_party.specs.Steps.{outcome_of}
 use Rattle.x_party.specs.declared.outcome.Outcome.{Outcome}
 use Rattle.x_party.specs.declared.outcome.Outcome.TheVariants as outcome
 use Rattle.x_party.specs.Notices.{FindsNotice, HasNotice, class_word, kept_notice}
-use Rattle.x_party.proofs.Looks.{untouched_then}
 
 module _ (old mid new : View) (looked : IsUntouched old mid) where
   reads_before : (party : Party) (space : Space) → ReadsAs mid party space → ReadsAs old party space

@@ -18,6 +18,7 @@ mod wording;
 
 pub use creating::create;
 pub use laws::{law_always_due, law_one_space};
+pub use looking::notice_at;
 pub use noticing::{TurnWithNotice, turn_with_notice};
 pub use outcome::Outcome;
 pub use rewriting::{compact, migrate};
@@ -25,3 +26,4 @@ pub use showing::show;
 pub use turning::turn;
 pub use valuing::value;
 pub use wiping::wipe;
+pub use wording::class_word;

@@ -15,8 +15,8 @@ use std::alloc::Global;
 use x_base::{Ident, NoMemory, Text};
 use x_disk::{Disk, DiskErr, Shelf};
 
-/// The notice of what a party decides of an input of this class.
-fn notice_at(
+/// The notice of what a party decides of an input at a moment, given the word of the class of its message.
+pub fn notice_at(
     alloc: Global,
     state: &State,
     input: &Input,

@@ -26,7 +26,7 @@ pub struct TurnWithNotice {
 
 impl TurnWithNotice {
     /// The notice is kept where the turn is done.
-    fn of(outcome: Outcome, notice: Option<Text>) -> TurnWithNotice
+    pub fn of(outcome: Outcome, notice: Option<Text>) -> TurnWithNotice
         ensures outcome { result.outcome ≡ outcome }
         ensures notice { result.notice ≡ kept_notice outcome notice }
     {

@@ -9,8 +9,8 @@ use party_state::{Edit, Edits, KeyStatus};
 use std::alloc::Global;
 use x_base::{NoMemory, Text};
 
-/// The word for the class of a message.
-pub(crate) fn class_word(message: &Message) -> &'static [u8]
+/// The word for the class of a message, three letters.
+pub fn class_word(message: &Message) -> &'static [u8]
     ensures { result.now ≡ class_word message.now }
 {
     match message {

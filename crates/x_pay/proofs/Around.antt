@@ -8,7 +8,7 @@ use Rattle.x_disk.proofs.Runs.{weaker}
 use Rattle.party_state.specs.State.{Party}
 use Rattle.disk_pair.specs.declared.disks.Disks.{Disks}
 use Rattle.disk_pair.specs.Pairs.{AreFetched, ArePutBack, told_after}
-use Rattle.disk_pair.proofs.Alike.{durable_alike, leaves_around, untouched_alike, untouched_around}
+use Rattle.x_disk.proofs.Alike.{durable_alike, leaves_around, untouched_alike, untouched_around}
 use Rattle.disk_pair.proofs.Around.{IsTold, around_leaves, closed, unfetched, unfetched_leaves}
 use Rattle.pay_auth.specs.declared.entry.Entry.{Entry}
 use Rattle.x_pay.specs.Outcomes.{Payment, IsOwnParty, KeepsEntries, MakesPayment, IsSafePayment, MayLeave, Before, Old, New, IsNoFailure, LeavesShelf}

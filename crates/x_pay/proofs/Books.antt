@@ -14,7 +14,7 @@ use Rattle.node_core.specs.declared.named.WhyNotOpened.{WhyNotOpened}
 use Rattle.node_core.specs.declared.named.WhyNotOpened.TheVariants as why
 use Rattle.journal_state.specs.States.{IsBlankOrFor}
 use Rattle.disk_pair.specs.declared.disks.Disks.{Disks}
-use Rattle.disk_pair.proofs.Alike.{untouched_self}
+use Rattle.x_disk.proofs.Alike.{untouched_self}
 use Rattle.pay_auth.specs.declared.entry.Entry.{Entry}
 use Rattle.pay_auth.specs.Bodies.{PutsBody}
 use Rattle.pay_auth.specs.Ledgers.{HasEntries, ReadsEntries, IsLedgerDamage}

@@ -8,7 +8,7 @@ use Rattle.csm_batch.specs.declared.entry.Entry.{Entry}
 use Rattle.csm_spool.specs.InStep.{PairsInStep}
 use Rattle.disk_pair.specs.declared.disks.Disks.{Disks}
 use Rattle.disk_pair.specs.Pairs.{AreFetched, ArePutBack, told_after}
-use Rattle.disk_pair.proofs.Alike.{durable_alike, untouched_alike, untouched_around}
+use Rattle.x_disk.proofs.Alike.{durable_alike, untouched_alike, untouched_around}
 use Rattle.disk_pair.proofs.Around.{IsFailed, IsTold, around_leaves, closed, unfetched, unfetched_leaves}
 use Rattle.x_spool.specs.Outcomes.{AreUntouched, BothStay, IsDoneOrFailed, IsNoFailure, IsSafeBatch, LeavesBatch, MakesBatch, StaysInStep}
 use Rattle.x_spool.specs.Shelves.{LeavesShelf}

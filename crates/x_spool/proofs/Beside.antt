@@ -25,7 +25,7 @@ use Rattle.csm_spool.specs.InStep.{InStep, PairsInStep}
 use Rattle.csm_spool.specs.declared.outcome.Driven.{Driven}
 use Rattle.csm_spool.specs.declared.outcome.Driven.TheVariants as drive
 use Rattle.disk_pair.specs.declared.disks.Disks.{Disks}
-use Rattle.disk_pair.proofs.Alike.{untouched_self}
+use Rattle.x_disk.proofs.Alike.{untouched_self}
 use Rattle.x_spool.specs.Dues.{FindsMember, IsDueBatch, IsDueOut, ReadsBatch}
 use Rattle.x_spool.specs.Outcomes.{AreUntouched, BothStay, IsDoneOrFailed, IsNoFailure, IsSafeBatch, LeavesBatch, progress_of}
 use Rattle.x_spool.specs.Steps.{HasActed, HandsOut, IsEnd, driven_disks, outcome_of, outcome_of_spool, two_disks}

@@ -13,7 +13,7 @@ use Rattle.member.specs.Member.{Member}
 use Rattle.csm_batch.specs.declared.entry.Entry.{Entry}
 use Rattle.csm_spool.specs.InStep.{PairsInStep}
 use Rattle.disk_pair.specs.declared.disks.Disks.{Disks}
-use Rattle.disk_pair.proofs.Alike.{untouched_on, untouched_self}
+use Rattle.x_disk.proofs.Alike.{untouched_self, untouched_then}
 use Rattle.disk_pair.proofs.Around.{rose_from}
 use Rattle.x_spool.specs.Dues.{IsDueBatch}
 use Rattle.x_spool.specs.Outcomes.{AreUntouched, BothStay, IsDoneOrFailed, IsNoFailure, IsSafeBatch, LeavesBatch}
@@ -31,10 +31,10 @@ module _ {D : Type 0} (told : D → View) (name text : List ℕ) (entries : List
   tells_on tells = ap is_some opened.untouched.now ∙ tells
 
   stays : (new : Disks D) → BothStay (told node.disk) (told old.second) (told new.first) (told new.second) → BothStay (told old.first) (told old.second) (told new.first) (told new.second)
-  stays new both = record { party = untouched_on (told old.first) (told node.disk) (told new.first) opened.untouched both.party; spool = both.spool }
+  stays new both = record { party = untouched_then (told old.first) (told node.disk) (told new.first) opened.untouched both.party; spool = both.spool }
 
   untouched : (new : Disks D) → AreUntouched (told node.disk) (told old.second) (told new.first) (told new.second) → AreUntouched (told old.first) (told old.second) (told new.first) (told new.second)
-  untouched new both = record { party = untouched_on (told old.first) (told node.disk) (told new.first) opened.untouched both.party; spool = both.spool }
+  untouched new both = record { party = untouched_then (told old.first) (told node.disk) (told new.first) opened.untouched both.party; spool = both.spool }
 
   safe_on : (new : Disks D) → IsSafeBatch name text (told node.disk) (told old.second) (told new.first) (told new.second) → IsSafeBatch name text (told old.first) (told old.second) (told new.first) (told new.second)
   safe_on new safe = record {

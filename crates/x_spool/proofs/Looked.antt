@@ -11,7 +11,7 @@ use Rattle.journal_state.specs.States as journal
 use Rattle.spool_store.specs.Contents.{Progress, Goes, IsSpoolDamage}
 use Rattle.spool_store.specs.Opening.{IsOpenRefusal, IsSpoolOpened}
 use Rattle.spool_store.specs.Spools.{Spooled, outbox_of}
-use Rattle.disk_pair.proofs.Alike.{alike_trans, untouched_around}
+use Rattle.x_disk.proofs.Alike.{alike_trans, untouched_around}
 use Rattle.disk_pair.proofs.Around.{rose_from, rose_some}
 use Rattle.x_spool.specs.Outboxes.{IsDueOutbox, IsNoFailure, IsOutbox, GivesOutbox, LeavesOne, ShowsOutbox}
 use Rattle.x_spool.specs.Looks.{HandsOutbox, HasLooked, IsEndOf, IsReturned, IsTaken, look_of}

@@ -19,8 +19,8 @@ use Rattle.csm_write.specs.declared.closing.Closing.TheVariants as closing
 use Rattle.csm_write.specs.Canon.{auth_of, shut_of, canon, field_for}
 use Rattle.csm_write.specs.Writable.{IsProperText, IsTypedField, AreTyped, Writable}
 use Rattle.csm_write.specs.Shortness.{free_length}
-use Rattle.csm_write.specs.Laws.{read_of}
-use Rattle.csm_write.proofs.Reading.{reads_back}
+use Rattle.canon_laws.specs.Laws.{read_of}
+use Rattle.canon_laws.proofs.Reading.{reads_back}
 use Rattle.csm_write.proofs.Lengths.{canon_short}
 use Rattle.csm_feed.specs.Heard.{leading, first_other, refused_place, trailing, input_limit}
 use Rattle.x_mac.specs.Code.{mac_of, edc_of}

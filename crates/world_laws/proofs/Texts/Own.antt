@@ -13,10 +13,10 @@ use Rattle.csm_write.specs.declared.closing.Closing.TheVariants as closing
 use Rattle.csm_write.specs.Canon.{auth_of}
 use Rattle.csm_write.specs.Writable.{IsProperText, IsTypedField, AreTyped}
 use Rattle.csm_write.specs.Shortness.{free_length}
-use Rattle.csm_write.specs.Laws.{OwnMeaning}
-use Rattle.csm_write.proofs.Reading.{reads_back}
+use Rattle.canon_laws.specs.Laws.{OwnMeaning}
+use Rattle.canon_laws.proofs.Reading.{reads_back}
 use Rattle.csm_write.proofs.Lengths.{canon_short}
-use Rattle.csm_write.proofs.Saying.{auth_says}
+use Rattle.canon_laws.proofs.Saying.{auth_says}
 
 -- a message that a party can write under a key
 pub record IsOwn (m : Message) : Type 0 where

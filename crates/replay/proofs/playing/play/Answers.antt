@@ -14,7 +14,7 @@ use Rattle.replay.proofs.LineByLine.{disk_sound}
 use Rattle.replay.proofs.Throughout.{OfPlay, blank_of, play_leaves, owned_or_not, set_up_leaves}
 use Rattle.open_parties.proofs.Owning.{none_absent, count_owners}
 use Rattle.replay.proofs.Declaring.{few_parties}
-use Rattle.open_parties.proofs.PuttingBack.{alike_on}
+use Rattle.x_disk.proofs.Alike.{alike_trans}
 use Rattle.replay.proofs.playing.play.Goals as goal
 
 pub play_parties-requires-clause-few : goal.play_parties-requires-clause-few
@@ -58,7 +58,7 @@ returns-in-Ok-clause-crash g c = λ tells own.
     (subst (λ (ls : List Line). AddsOnly mid new (IsOfLines low high ls (start_course ls) own)) c.lines.ensures.lines on))
     (λ (none : NoneOf c.in-Ok.parties own).
     adds_none (old own) new (OfPlay low high lines own (old own)) (g.met.H.Shelf.sound c.args.shelf.now own)
-    (alike_on (old own) (entry c.set_up.new.shelf own) new (all.others own none) (c.play_parties.ensures.others own none)))
+    (alike_trans (old own) (entry c.set_up.new.shelf own) new (all.others own none) (c.play_parties.ensures.others own none)))
     (owned_or_not c.in-Ok.parties own)
 
 pub returns-in-Err-clause-crash : goal.returns-in-Err-clause-crash
@@ -101,4 +101,4 @@ returns-in-Ok-clause-others g c = λ own absent.
     let entry = g.H.Shelf.entry in
     let open_parties = c.in-Ok.parties in
     let none = none_absent open_parties own (λ is. absent (subst (λ (owns : List (List ℕ)). Contains owns own) c.in-Ok.ensures.set_up.owners_are is)) in
-    alike_on (entry c.args.shelf.now own) (entry c.set_up.new.shelf own) (entry c.play_parties.new.shelf own) (c.in-Ok.ensures.others own absent) (c.play_parties.ensures.others own none)
+    alike_trans (entry c.args.shelf.now own) (entry c.set_up.new.shelf own) (entry c.play_parties.new.shelf own) (c.in-Ok.ensures.others own absent) (c.play_parties.ensures.others own none)

@@ -12,7 +12,7 @@ use Rattle.open_parties.proofs.Holding.{back_on_shelf}
 use Rattle.replay.proofs.Causes.{write_fault_by, disk_fault_rose, never_refused}
 use Rattle.replay.proofs.Concluding.{starts, concludes, runs}
 use Rattle.open_parties.proofs.Owning.{slots_stay, apart_alike, none_alike}
-use Rattle.open_parties.proofs.PuttingBack.{alike_on}
+use Rattle.x_disk.proofs.Alike.{alike_trans}
 use Rattle.replay.proofs.playing.play_parties.Goals as goal
 
 pub put_back_all-back-requires-clause-slots : goal.put_back_all-back-requires-clause-slots
@@ -89,5 +89,5 @@ returns-clause-others g c = λ own none.
     let entry = g.H.Shelf.entry in
     let played = c.play_to_end-outcome in
     let back = c.put_back_all-back in
-    alike_on (entry c.args.shelf.now own) (entry played.new.shelf own) (entry back.new.shelf own) (played.ensures.around.others own none)
+    alike_trans (entry c.args.shelf.now own) (entry played.new.shelf own) (entry back.new.shelf own) (played.ensures.around.others own none)
     (back.ensures.others own (none_alike c.args.parties played.new.play_state.parties own (sym played.ensures.around.owners_stay) none))

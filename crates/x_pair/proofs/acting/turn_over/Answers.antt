@@ -2,7 +2,7 @@ use Rattle.std.proofs.Common.{sym, ◌∙◌, ap, subst}
 use Rattle.x_pair.specs.Outcomes.{turning}
 use Rattle.x_pair.specs.Steps.{HasActed}
 use Rattle.x_pair.proofs.Acted.{other, turned}
-use Rattle.x_pair.proofs.Alike.{other_name, same_name}
+use Rattle.node_core.proofs.ByName.{other_name, same_name}
 use Rattle.x_pair.proofs.Opened.{not_opened}
 use Rattle.x_pair.proofs.acting.turn_over.Goals as goal
 

@@ -1,5 +1,5 @@
 use Rattle.std.proofs.Common.{inl, inr, refl, sym, ◌∙◌}
-use Rattle.x_pair.proofs.Alike.{other_name, same_name}
+use Rattle.node_core.proofs.ByName.{other_name, same_name}
 use Rattle.x_pair.proofs.comparing.of_parties.Goals as goal
 
 pub returns-then-ne : goal.returns-then-ne

@@ -1,6 +1,6 @@
 use Rattle.std.proofs.Common.{arith, inr, sym, ◌∙◌, ap, Err}
 use Rattle.party_state.specs.State.{begun}
-use Rattle.x_party.proofs.Alike.{others_on}
+use Rattle.x_disk.proofs.Alike.{others_on}
 use Rattle.x_party.proofs.Created.{created_on, made_fault, failed, fault_error}
 use Rattle.x_party.proofs.Following.{created_due}
 use Rattle.x_party.proofs.Opened.{shown_fault, failed_back}

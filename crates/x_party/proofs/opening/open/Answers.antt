@@ -1,6 +1,6 @@
 use Rattle.std.proofs.Common.{subst, arith}
 use Rattle.x_party.specs.Steps.{IsOutcome}
-use Rattle.x_party.proofs.Alike.{others_on}
+use Rattle.x_disk.proofs.Alike.{others_on}
 use Rattle.x_party.proofs.Opened.{opened, not_opened, open_fault}
 use Rattle.x_party.proofs.opening.open.Goals as goal
 

@@ -1,6 +1,6 @@
 use Rattle.std.proofs.Common.{subst, arith}
 use Rattle.x_party.specs.Steps.{IsText}
-use Rattle.x_party.proofs.Alike.{others_on}
+use Rattle.x_disk.proofs.Alike.{others_on}
 use Rattle.x_party.proofs.Following.{shown_due}
 use Rattle.x_party.proofs.Opened.{shown_fault}
 use Rattle.x_party.proofs.Shown.{shown_on, not_shown, text_fault}

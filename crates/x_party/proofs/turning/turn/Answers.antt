@@ -7,7 +7,8 @@ use Rattle.x_party.specs.Steps.{outcome_of_turn}
 use Rattle.x_party.proofs.Acted.{turned_on, safe_on, not_turned}
 use Rattle.x_party.proofs.Ended.{has_acted}
 use Rattle.x_party.proofs.Following.{turned_due}
-use Rattle.x_party.proofs.Others.{same_name, other_name, other_by}
+use Rattle.node_core.proofs.ByName.{other_name, same_name}
+use Rattle.x_party.proofs.Others.{other_by}
 use Rattle.x_party.proofs.turning.turn.Goals as goal
 
 pub returns-in-Err-clause-due : goal.returns-in-Err-clause-due

@@ -1,6 +1,6 @@
 use Rattle.std.proofs.Common.{subst, arith}
 use Rattle.x_party.specs.Asking.{value_answer}
-use Rattle.x_party.proofs.Alike.{others_on}
+use Rattle.x_disk.proofs.Alike.{others_on}
 use Rattle.x_party.proofs.Asked.{IsAnswer, asked_due, asked_on, not_asked, value_fault}
 use Rattle.x_party.proofs.Opened.{shown_fault}
 use Rattle.x_party.proofs.valuing.value.Goals as goal

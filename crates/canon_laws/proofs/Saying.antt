@@ -8,7 +8,7 @@ use Rattle.csm_grammar.specs.Messages.{shut_field}
 use Rattle.csm_grammar.specs.Spelling.{Says, field_text}
 use Rattle.csm_write.specs.declared.closing.Closing.{Closing}
 use Rattle.csm_write.specs.Canon.{auth_of, shut_of, canon, field_for}
-use Rattle.csm_write.specs.Laws.{read_of, AuthSays, CanonReadsBack}
+use Rattle.canon_laws.specs.Laws.{read_of, AuthSays, CanonReadsBack}
 
 front : (m : Message) (c : Closing) → take (length (auth_of m)) (canon m c ++ []) ≡ auth_of m
 front m c =

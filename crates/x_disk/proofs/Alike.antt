@@ -1,9 +1,15 @@
--- One disk tells what another does, step after step.
-use Rattle.std.proofs.Common.{ℕ, List, refl, sym, ◌∙◌}
+-- What a read gives, a disk that isn't written, and one that tells what another does, step after step.
+use Rattle.std.proofs.Common.{◌≡◌, ℕ, List, true, Option, Some, None, is_some, refl, sym, ◌∙◌, ap}
 use Rattle.x_disk.specs.Disk.{View, IsDurable, LeavesOnly, IsSound, IsUntouched}
-use Rattle.x_disk.specs.Shelf.{IsAlike}
+use Rattle.x_disk.specs.Shelf.{IsAlike, OthersStay}
 use Rattle.x_disk.proofs.Runs.{began, joined, weaker, begins_alike, ends_alike}
-use Rattle.disk_pair.specs.Pairs.{ThirdsStay}
+
+pub told_now : (now : Option (List ℕ)) → is_some now ≡ true → (image : List ℕ) × (now ≡ Some image)
+told_now (Some image) is = (image, refl)
+told_now None is = absurd (cc is)
+
+pub tells_by : (now : Option (List ℕ)) (image : List ℕ) → now ≡ Some image → is_some now ≡ true
+tells_by now image is = ap is_some is
 
 pub alike_trans : (u v w : View) → IsAlike u v → IsAlike v w → IsAlike u w
 alike_trans u v w first second = record {
@@ -17,8 +23,8 @@ alike_trans u v w first second = record {
   covers = λ end bytes calls is. second.covers end bytes calls (first.covers end bytes calls is);
 }
 
-pub thirds_on : (name other : List ℕ) (old mid new : List ℕ → View) → ThirdsStay name other old mid → ThirdsStay name other mid new → ThirdsStay name other old new
-thirds_on name other old mid new first second = λ third apart from. alike_trans (old third) (mid third) (new third) (first third apart from) (second third apart from)
+pub others_on : (name : List ℕ) (old mid new : List ℕ → View) → OthersStay name old mid → OthersStay name mid new → OthersStay name old new
+others_on name old mid new first second = λ other apart. alike_trans (old other) (mid other) (new other) (first other apart) (second other apart)
 
 pub durable_alike : (v w : View) → IsDurable v → IsAlike v w → IsDurable w
 durable_alike v w durable alike = record {
@@ -31,8 +37,8 @@ pub untouched_self : (v : View) → IsSound v → IsUntouched v v
 untouched_self v sound = record { now = refl; images = λ c left. left; any_moment = began v v.may_leave sound (λ c left. left) }
 
 -- two runs that write nothing
-pub untouched_on : (old mid new : View) → IsUntouched old mid → IsUntouched mid new → IsUntouched old new
-untouched_on old mid new first second = record {
+pub untouched_then : (old mid new : View) → IsUntouched old mid → IsUntouched mid new → IsUntouched old new
+untouched_then old mid new first second = record {
   now = second.now ∙ first.now;
   images = λ c left. first.images c (second.images c left);
   any_moment = joined old mid new old.may_leave first.any_moment (weaker mid new mid.may_leave old.may_leave second.any_moment first.images);

@@ -1,9 +1,7 @@
 -- The canonical text is read back.
-use Rattle.std.proofs.Common.{◌≡◌, ℕ, List, [], ◌∷◌, ◌++◌, map, Result, Ok, Err, refl, sym, ◌∙◌, ap, subst, inl, inr}
-use Rattle.std.specs.Prelude.{IfOk, OnOk}
+use Rattle.std.proofs.Common.{◌≡◌, ℕ, List, [], ◌∷◌, ◌++◌, map, refl, sym, ◌∙◌, ap, inl, inr}
 use Rattle.std.specs.List.{All, AllZip}
 use Rattle.std.proofs.lemmas.List.Elements.{All-head, All-tail}
-use Rattle.x_base.specs.declared.text.NoMemory.{NoMemory}
 use Rattle.csm_grammar.specs.declared.message.Message.{Message}
 use Rattle.csm_grammar.specs.declared.parsed.Shut.{Shut}
 use Rattle.csm_grammar.specs.declared.parsed.Shut.TheVariants as shuts
@@ -15,9 +13,9 @@ use Rattle.csm_grammar.specs.Written.{IsFor}
 use Rattle.csm_read.specs.Laws.{OneAnswer, WrittenRead}
 use Rattle.csm_write.specs.declared.closing.Closing.{Closing}
 use Rattle.csm_write.specs.declared.closing.Closing.TheVariants as closings
-use Rattle.csm_write.specs.Canon.{field_for, front_fields, auth_of, shut_over, shut_of, canon}
-use Rattle.csm_write.specs.Writable.{IsProperText, IsTypedField, IsTypedClosing, Writable, AreTyped}
-use Rattle.csm_write.specs.Laws.{read_of, ReadsBack, Rewrites, CanonReadsBack, CanonRewrites}
+use Rattle.csm_write.specs.Canon.{field_for, front_fields, auth_of, shut_of, canon}
+use Rattle.csm_write.specs.Writable.{IsProperText, IsTypedField, IsTypedClosing, AreTyped}
+use Rattle.canon_laws.specs.Laws.{read_of, CanonReadsBack, CanonRewrites}
 use Rattle.csm_write.proofs.Codes.{mac_below}
 use Rattle.csm_write.proofs.Standing.{class_stands, stands}
 
@@ -38,12 +36,6 @@ fields_stand (v ∷ vs) w t p h = (
   field_stands v (All-head IsTypedField v vs t) (All-head IsProper v vs p),
   fields_stand vs w (All-tail IsTypedField v vs t) (All-tail IsProper v vs p) h,
 )
-
--- a code of 32 bits that closes a text
-pub closing_typed : (auth : List ℕ) (c : Closing) (shut : Shut) → shut ≡ shut_over auth c → IsTypedField (shut_field shut) → IsTypedClosing c
-closing_typed auth (closings.Mac key) shut e t = _
-closing_typed auth closings.Edc shut e t = _
-closing_typed auth (closings.Stated stated) shut e t = subst (λ (s : Shut). IsTypedField (shut_field s)) e t
 
 code_typed : (m : Message) (c : Closing) → IsTypedClosing c → IsTypedField (shut_field (shut_of m c))
 code_typed m (closings.Mac key) t = mac_below key (auth_of m)
@@ -73,11 +65,3 @@ pub rewrites : OneAnswer → CanonReadsBack → CanonRewrites
 rewrites one back m c t w rest p h =
     let e : p ≡ read_of m c = one_read one (canon m c ++ rest) p (read_of m c) h (back m c t w rest) in
     (ap (λ (q : Parsed). canon q.message c) e, ap (λ (q : Parsed). canon q.message (closings.Stated q.shut)) e)
-
-pub reads_back_ok : (m : Message) (c : Closing) (r : Result (List ℕ) NoMemory) → CanonReadsBack → IfOk r (λ t. t ≡ canon m c) → OnOk r (AreTyped m c) → Writable m c → IfOk r (ReadsBack m c)
-reads_back_ok m c (Ok t) law e typed w = subst (ReadsBack m c) (sym e) (law m c typed w)
-reads_back_ok m c (Err f) law e typed w = _
-
-pub rewrites_ok : (m : Message) (c : Closing) (r : Result (List ℕ) NoMemory) → CanonRewrites → IfOk r (λ t. t ≡ canon m c) → OnOk r (AreTyped m c) → Writable m c → IfOk r (Rewrites c)
-rewrites_ok m c (Ok t) law e typed w = subst (Rewrites c) (sym e) (law m c typed w)
-rewrites_ok m c (Err f) law e typed w = _

@@ -1,5 +1,5 @@
 // What is promised of every canonical text.
-ghost use Rattle.csm_write.specs.Laws.{AuthSays, CanonReadsBack, CanonRewrites};
+ghost use Rattle.canon_laws.specs.Laws.{AuthSays, CanonReadsBack, CanonRewrites};
 
 use csm_read::{law_one_answer, law_one_meaning, law_read_says, law_written_read};
 

@@ -1,5 +1,0 @@
-use Rattle.csm_write.proofs.Reading.{reads_back}
-use Rattle.csm_write.proofs.laws.law_canon_reads_back.Goals as goal
-
-pub returns : goal.returns
-returns c = reads_back c.law_written_read.ensures
