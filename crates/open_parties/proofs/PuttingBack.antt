@@ -4,7 +4,7 @@ use Rattle.std.proofs.Common.{◌≡◌, inl, inr, ⊎_elim, ℕ, ◌≤◌, ari
 use mathlib.Core.Logic.{◌≢◌}
 use Rattle.std.proofs.lemmas.List.{append-nil}
 use Rattle.x_disk.specs.Disk.{View}
-use Rattle.x_disk.specs.Shelf.{OthersStay, SlotsStay, alike_refl}
+use Rattle.x_disk.specs.Shelf.{IsAlike, OthersStay, SlotsStay, alike_refl}
 use Rattle.x_disk.proofs.Alike.{alike_trans}
 use Rattle.key_store.specs.Store.{Stored}
 use Rattle.open_parties.specs.OpenParties.{open_party, NoneOf, IsPlace, IsTakenOut, owners}
