@@ -96,7 +96,7 @@ module _ (exactly : LoadsExactly)
     created_on tells name x at = elim (put_cases (first_member own role generator) ms name x at) [
       | inl here ↦ subst (λ (q : List ℕ). Tells (new q) × DiskStandsFor (new q) x.party x.space) (sym here.0)
           (is.tells ∙ tells, subst (λ (z : Member). DiskStandsFor (new own) z.party z.space) (sym here.1) is.made.stands)
-      | inr there ↦ (alike_tells (old name) (new name) (is.others name there.0) (on name x there.1).0, stands_alike (old name) (new name) x.party x.space (is.others name there.0) (on name x there.1).1)
+      | inr there ↦ (alike_tells (old name) (new name) (is.others name there.0) (on name x there.1).0, stands_alike (old name) (new name) x.party x.space (on name x there.1).1 (is.others name there.0))
     ]
 
     created_tells : (names : List (List ℕ)) → AllTell (own ∷ names) old → AllTell names new
@@ -150,7 +150,7 @@ module _ (exactly : LoadsExactly)
       | inl here ↦ subst (λ (q : List ℕ). Tells (new q) × DiskStandsFor (new q) z.party z.space) (own_is ∙ sym here.0)
           (is.tells ∙ tells, subst (λ (y : Member). DiskStandsFor (new e.own) y.party y.space) (sym here.1) stands_new)
       | inr there ↦ (let ne : name ≢ e.own = λ same. there.0 (same ∙ own_is) in
-          (alike_tells (old name) (new name) (is.others name ne) (on name z there.1).0, stands_alike (old name) (new name) z.party z.space (is.others name ne) (on name z there.1).1))
+          (alike_tells (old name) (new name) (is.others name ne) (on name z there.1).0, stands_alike (old name) (new name) z.party z.space (on name z there.1).1 (is.others name ne)))
     ])
 
     pub loaded_tells : (names : List (List ℕ)) → AllTell names old → AllTell names new
