@@ -15,7 +15,7 @@ use x_disk::Shelf;
 use x_party::turn_with_notice;
 
 /// The notice, where the status is done.
-fn notice_at(status: &Status, notice: Option<Text>) -> Option<Text>
+pub(crate) fn notice_at(status: &Status, notice: Option<Text>) -> Option<Text>
     ensures { result ≡ notice_at status.now notice }
 {
     match status {

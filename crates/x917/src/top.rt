@@ -7,7 +7,7 @@ ghost use Rattle.x_line.specs.declared.order.Order.TheVariants.{Audit, Replay, D
 ghost use Rattle.x_line.specs.declared.usage.UsageKind.{UsageKind};
 ghost use Rattle.call_ends.specs.Transfer.{TookAtMost, IsQuiet};
 ghost use Rattle.call_ends.specs.Causes.{HasFaults};
-ghost use Rattle.party_calls.specs.Notice.{LeavesNotice};
+ghost use Rattle.party_calls.specs.Notice.{LeavesMirroredNotice, LeavesNotice};
 ghost use Rattle.party_calls.specs.Obeys.{Obeys, LeavesOthers, most_of};
 ghost use Rattle.party_calls.specs.Mirrored.{LeavesMirrored, ObeysMirrored};
 ghost use Rattle.x917.specs.Audited.{IsAudit};
@@ -92,11 +92,11 @@ pub fn run<S: Source, K: Sink, H: Shelf>(
     ensures silent { (order : Order) (mirror : Option (List ℕ)) → IsGiven words.now order mirror → IsSilentOf order result → sink.new ≡ sink.old }
     ensures most { (order : Order) (mirror : Option (List ℕ)) → IsGiven words.now order mirror → TookAtMost (most_of order) (S.left source.old) (S.left source.new) }
 
-    // The notice that is handed out for standard error: of a message that is taken with `--tell` over one disk, where it is done,
-    // its class, and the name and the status of each data key whose record the party put. Every other order has none, and
-    // neither have words that stand for no order.
+    // The notice that is handed out for standard error: of a message that is taken with `--tell`, over one disk or two, where it is
+    // done, its class, and the name and the status of each data key whose record the party put, which is the one that is opened of
+    // the two. Every other order has none, and neither have words that stand for no order.
     ensures notice { (order : Order) → IsOrder words.now order → LeavesNotice (is_telling words.now) order moment result (S.left source.old) (H.entry shelf.old) notice.new }
-    ensures no_notice { (order : Order) (mirror : List ℕ) → IsMirrored words.now order mirror → notice.new ≡ None }
+    ensures mirrored_notice { (order : Order) (mirror : List ℕ) → IsMirrored words.now order mirror → LeavesMirroredNotice (is_telling words.now) order mirror moment result (S.left source.old) (H.entry shelf.old) notice.new }
     ensures no_order { (kind : UsageKind) → usage_of words.now ≡ Some kind → notice.new ≡ None }
 {
     *notice = None;
@@ -113,7 +113,10 @@ pub fn run<S: Source, K: Sink, H: Shelf>(
                 carry_out(alloc, order, tell, moment, source, sink, shelf, notice)
             }
             Some(mirror) => {
-                carry_out_mirrored(alloc, given.order, &mirror, moment, source, sink, shelf)
+                let Given { order, tell, .. } = given;
+                carry_out_mirrored(
+                    alloc, order, &mirror, tell, moment, source, sink, shelf, notice,
+                )
             }
         },
         Err(LineFault::Usage(kind)) => help_or_fault(alloc, words, kind, sink),

@@ -6,3 +6,4 @@ mod Created
 mod Likenesses
 mod OneLikeness
 mod BetweenFetches
+mod Noticed

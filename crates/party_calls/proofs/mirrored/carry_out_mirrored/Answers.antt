@@ -1,11 +1,14 @@
-use Rattle.std.proofs.Common.{◌≡◌, Some, None, [], refl, sym, ap, subst}
+use Rattle.std.proofs.Common.{◌≡◌, ◌∙◌, Some, None, [], refl, sym, ap, subst}
 use Rattle.x_line.specs.declared.order.Order.{Order}
+use Rattle.x_line.specs.declared.order.Order.TheVariants as order
 use Rattle.x_line.specs.Orders.{IsOfTwo}
 use Rattle.call_ends.specs.Transfer.{TookAtMost}
 use Rattle.party_calls.specs.Mirrored.{LeavesMirrored, ObeysMirrored}
+use Rattle.party_calls.specs.Notice.{LeavesMirroredNotice}
 use Rattle.call_ends.specs.Commands.{command_of}
 use Rattle.party_calls.specs.Obeys.{most_of, party_of}
 use Rattle.party_calls.proofs.Mirrors.{apart_of, commands_of_two, finished_of_two}
+use Rattle.party_calls.proofs.Noticing.{none_left_of_two}
 use Rattle.party_calls.proofs.Orders.{took_nothing}
 use Rattle.party_calls.proofs.mirrored.carry_out_mirrored.Goals as goal
 
@@ -15,8 +18,8 @@ create_pair-outcome-requires g c = subst (λ (o : Order). IsOfTwo o c.args.mirro
 pub show_pair-outcome-requires : goal.show_pair-outcome-requires
 show_pair-outcome-requires g c = subst (λ (o : Order). IsOfTwo o c.args.mirror.now) c.in-Show.is c.requires
 
-pub take_mirrored-requires : goal.take_mirrored-requires
-take_mirrored-requires g c = subst (λ (o : Order). IsOfTwo o c.args.mirror.now) c.in-Take.is c.requires
+pub take_mirrored-requires-clause-two : goal.take_mirrored-requires-clause-two
+take_mirrored-requires-clause-two g c = subst (λ (o : Order). IsOfTwo o c.args.mirror.now) c.in-Take.is c.requires
 
 pub command_mirrored-requires : goal.command_mirrored-requires
 command_mirrored-requires g c =
@@ -49,6 +52,7 @@ returns-in-Init g c =
       cause = done.cause reads reads;
       silent = f.output.silent;
       most = took_nothing (most_of c.args.order) left;
+      notice = none_left_of_two c.args.tell c.args.order (λ p wanted same. (let no : order.Init c.in-Init.party c.in-Init.role c.in-Init.key c.in-Init.v ≡ order.Take p = sym is ∙ same in absurd cc)) mirror c.args.moment s left old;
     }
 
 pub create_mirrored-requires : goal.create_mirrored-requires
@@ -72,6 +76,7 @@ returns-in-Create g c =
       cause = r.cause;
       silent = r.silent;
       most = subst (λ (o : Order). TookAtMost (most_of o) left rest) (sym is) r.most;
+      notice = none_left_of_two c.args.tell c.args.order (λ p wanted same. (let no : order.Create c.in-Create.party c.in-Create.role ≡ order.Take p = sym is ∙ same in absurd cc)) mirror c.args.moment s left old;
     }
 
 pub enter_mirrored-requires : goal.enter_mirrored-requires
@@ -95,6 +100,7 @@ returns-in-Enter g c =
       cause = r.cause;
       silent = r.silent;
       most = subst (λ (o : Order). TookAtMost (most_of o) left rest) (sym is) r.most;
+      notice = none_left_of_two c.args.tell c.args.order (λ p wanted same. (let no : order.Enter c.in-Enter.party c.in-Enter.peer c.in-Enter.label c.in-Enter.side ≡ order.Take p = sym is ∙ same in absurd cc)) mirror c.args.moment s left old;
     }
 
 pub returns-in-Show : goal.returns-in-Show
@@ -121,6 +127,7 @@ returns-in-Show g c =
       cause = done.cause reads reads;
       silent = f.output.silent;
       most = took_nothing (most_of c.args.order) left;
+      notice = none_left_of_two c.args.tell c.args.order (λ p wanted same. (let no : order.Show c.in-Show.party ≡ order.Take p = sym is ∙ same in absurd cc)) mirror c.args.moment s left old;
     }
 
 pub returns-in-Take : goal.returns-in-Take
@@ -141,6 +148,7 @@ returns-in-Take g c =
       cause = r.cause;
       silent = r.silent;
       most = subst (λ (o : Order). TookAtMost (most_of o) left rest) (sym is) r.most;
+      notice = subst (λ (o : Order). LeavesMirroredNotice c.args.tell o mirror c.args.moment s left old c.take_mirrored.new.notice) (sym is) r.notice;
     }
 
 pub returns-in-Some : goal.returns-in-Some
@@ -158,6 +166,7 @@ returns-in-Some g c =
       cause = r.cause reads reads;
       silent = r.silent;
       most = took_nothing (most_of c.args.order) left;
+      notice = none_left_of_two c.args.tell c.args.order (λ p wanted same. c.in_default.not-Take p same) c.args.mirror.now c.args.moment c.command_mirrored.result left (g.H.Shelf.entry c.args.shelf.now);
     }
 
 pub unreachable-requires : goal.unreachable-requires

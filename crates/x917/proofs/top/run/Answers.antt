@@ -11,14 +11,14 @@ use Rattle.x_line.specs.declared.usage.LineFault.TheVariants as fault
 use Rattle.x_line.specs.declared.usage.UsageKind.{UsageKind}
 use Rattle.x_line.specs.declared.usage.UsageKind.TheVariants.{Line}
 use Rattle.party_calls.specs.Mirrored.{LeavesMirrored, ObeysMirrored}
-use Rattle.party_calls.specs.Notice.{LeavesNotice}
+use Rattle.party_calls.specs.Notice.{LeavesMirroredNotice, LeavesNotice}
 use Rattle.party_calls.specs.Obeys.{Obeys, LeavesOthers, most_of}
 use Rattle.x917.specs.Expects.{Expects, IsSilentOf}
 use Rattle.call_ends.specs.Transfer.{TookAtMost}
 use Rattle.x917.proofs.Audits.{without_memory}
 use Rattle.x917.proofs.Forgetting.{forgets_order}
 use Rattle.x917.proofs.HelpWritten.{no_order}
-use Rattle.party_calls.proofs.Noticing.{none_without_memory}
+use Rattle.party_calls.proofs.Noticing.{none_of_two_without_memory, none_without_memory}
 use Rattle.party_calls.proofs.Orders.{idle, leaves_all, faults_of, took_nothing, within_of}
 use Rattle.x917.proofs.Played.{silent_of}
 use Rattle.party_calls.proofs.Mirrors.{idle_mirrored, left_all, never_both, not_replay}
@@ -196,14 +196,32 @@ returns-in-None-clause-notice g c = λ o is.
     (subst (λ (x : Order). LeavesNotice c.in-Ok.given.tell x c.args.moment s left old notice)
     (c.law_one_order.ensures c.args.words.now c.in-Ok.given.order o c.in-Ok.given.mirror None c.in-Ok.ensures.order is).0 c.carry_out.ensures.notice)
 
-pub returns-in-None-clause-no_notice : goal.returns-in-None-clause-no_notice
-returns-in-None-clause-no_notice g c = λ o m is. never_both c.in-Ok.given.mirror m (c.law_one_order.ensures c.args.words.now c.in-Ok.given.order o c.in-Ok.given.mirror (Some m) c.in-Ok.ensures.order is).1 c.in-None.is
+pub returns-in-None-clause-mirrored_notice : goal.returns-in-None-clause-mirrored_notice
+returns-in-None-clause-mirrored_notice g c = λ o m is. never_both c.in-Ok.given.mirror m (c.law_one_order.ensures c.args.words.now c.in-Ok.given.order o c.in-Ok.given.mirror (Some m) c.in-Ok.ensures.order is).1 c.in-None.is
 
 pub returns-in-None-clause-no_order : goal.returns-in-None-clause-no_order
 returns-in-None-clause-no_order g c = λ kind is. no_order c.args.words.now kind is c.in-Ok.ensures.order.0
 
 pub returns-in-Some-clause-notice : goal.returns-in-Some-clause-notice
 returns-in-Some-clause-notice g c = λ o is. never_both c.in-Ok.given.mirror c.in-Some.mirror c.in-Some.is (c.law_one_order.ensures c.args.words.now c.in-Ok.given.order o c.in-Ok.given.mirror None c.in-Ok.ensures.order is).1
+
+pub returns-in-Some-clause-mirrored_notice : goal.returns-in-Some-clause-mirrored_notice
+returns-in-Some-clause-mirrored_notice g c = λ o m is.
+    let both = c.law_one_order.ensures c.args.words.now c.in-Ok.given.order o c.in-Ok.given.mirror (Some m) c.in-Ok.ensures.order is in
+    let one : c.in-Some.mirror ≡ m = (let same : Some c.in-Some.mirror ≡ Some m = sym c.in-Some.is ∙ both.1 in cc) in
+    let left = g.S.Source.left c.args.source.now in
+    let old = g.H.Shelf.entry c.args.shelf.now in
+    let s = c.carry_out_mirrored.result in
+    let notice = c.carry_out_mirrored.new.notice in
+    subst (λ (wanted : Bool). LeavesMirroredNotice wanted o m c.args.moment s left old notice) c.in-Ok.ensures.tell
+    (subst (λ (n : List ℕ). LeavesMirroredNotice c.in-Ok.given.tell o n c.args.moment s left old notice) one
+    (subst (λ (x : Order). LeavesMirroredNotice c.in-Ok.given.tell x c.in-Some.mirror c.args.moment s left old notice) both.0 c.carry_out_mirrored.ensures.notice))
+
+pub returns-in-Some-clause-no_order : goal.returns-in-Some-clause-no_order
+returns-in-Some-clause-no_order g c = λ kind is. no_order c.args.words.now kind is c.in-Ok.ensures.order.0
+
+pub returns-in-Err-NoMemory-clause-mirrored_notice : goal.returns-in-Err-NoMemory-clause-mirrored_notice
+returns-in-Err-NoMemory-clause-mirrored_notice g c = λ o m is. none_of_two_without_memory _ o m c.args.moment (g.S.Source.left c.args.source.now) (g.H.Shelf.entry c.args.shelf.now)
 
 pub returns-in-Err-NoMemory-clause-notice : goal.returns-in-Err-NoMemory-clause-notice
 returns-in-Err-NoMemory-clause-notice g c = λ o is. none_without_memory _ o c.args.moment (g.S.Source.left c.args.source.now) (g.H.Shelf.entry c.args.shelf.now)
@@ -239,6 +257,6 @@ returns-in-Err-Usage g c =
       silent = λ o m is. no_order words kind wrong is.0;
       most = λ o m is. no_order words kind wrong is.0;
       notice = λ o is. no_order words kind wrong is.0;
-      no_notice = λ o m is. no_order words kind wrong is.0;
+      mirrored_notice = λ o m is. no_order words kind wrong is.0;
       no_order = λ other is. refl;
     }
