@@ -10,7 +10,7 @@ use Rattle.x_party.specs.Dues.{GivesDue}
 use Rattle.x_party.specs.Outcomes.{IsNoFailure, LeavesShelf}
 use Rattle.x_party.specs.declared.outcome.Outcome.{Outcome}
 use Rattle.x_party.specs.declared.outcome.Outcome.TheVariants as outcome
-use Rattle.x_pair.specs.Outcomes.{LeavesPair}
+use Rattle.x_pair.specs.Outcomes.{LeavesBoth}
 use Rattle.call_ends.specs.Causes.{HasCause}
 use Rattle.call_ends.specs.declared.status.Status.{Status}
 use Rattle.call_ends.specs.declared.status.Status.TheVariants as status
@@ -118,8 +118,8 @@ module _ (value : List ℕ) where
     later = shelf.later;
   }
 
-  pub leaves_pair_valued : (name mirror : List ℕ) (o : Outcome) (first_back second_back : Type 0) (old new : List ℕ → View) (before after : ℕ) → LeavesPair name mirror o first_back second_back old new before after
-      → LeavesPair name mirror (valued value o) first_back second_back old new before after
+  pub leaves_pair_valued : (name mirror : List ℕ) (o : Outcome) (first_back second_back : Type 0) (old new : List ℕ → View) (before after : ℕ) → LeavesBoth name mirror o first_back second_back old new before after
+      → LeavesBoth name mirror (valued value o) first_back second_back old new before after
   leaves_pair_valued name mirror o first_back second_back old new before after shelf = record {
     back = λ none. shelf.back (valued_failure o none);
     thirds = shelf.thirds;

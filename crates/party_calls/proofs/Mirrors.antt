@@ -16,7 +16,7 @@ use Rattle.x_line.specs.declared.order.Order.{Order}
 use Rattle.x_line.specs.declared.order.Order.TheVariants as order
 use Rattle.x_line.specs.Orders.{IsOfTwo}
 use Rattle.x_pair.specs.Dues.{IsDueShow, IsDueTurn}
-use Rattle.x_pair.specs.Outcomes.{Before, LeavesPair, MayLeave, Work, left_on_first, left_on_second, showing, turning}
+use Rattle.x_pair.specs.Outcomes.{Before, LeavesBoth, MayLeave, Work, left_on_first, left_on_second, showing, turning}
 use Rattle.x_party.specs.Images.{OrBefore}
 use Rattle.x_party.specs.Outcomes.{IsNoFailure}
 use Rattle.x_party.specs.declared.outcome.Outcome.{Outcome}
@@ -39,7 +39,7 @@ pub record IsFinishedOfTwo (o : Order) (mirror : List ℕ) (s : Status) (is_back
 
 pub finished_of_two : (o : Order) (party mirror : List ℕ) (s : Status) (is_back : List ℕ → Type 0) (unread : Type 0) (old new : List ℕ → View) (outcome : Outcome) (ending : List ℕ) (before after : Option (List ℕ)) (put puts disk disks : ℕ)
     → party_of o ≡ Some party → Ends outcome ending s before after → (IsOfParty s → IsNoFailure outcome) → (s ≡ status.WriteFault → Rose put puts)
-    → LeavesPair party mirror outcome (is_back party) (is_back mirror) old new disk disks → (is_reading o ≡ false → unread) → IsFinishedOfTwo o mirror s is_back unread old new put puts disk disks
+    → LeavesBoth party mirror outcome (is_back party) (is_back mirror) old new disk disks → (is_reading o ≡ false → unread) → IsFinishedOfTwo o mirror s is_back unread old new put puts disk disks
 finished_of_two o party mirror s is_back unread old new outcome ending before after put puts disk disks is ends answered put_cause shelf same = record {
   others = record {
     back = λ of. (subst (λ (x : Option (List ℕ)). IfSome x is_back) (sym is) (shelf.back (answered of)).0, (shelf.back (answered of)).1);

@@ -9,7 +9,7 @@ ghost use Rattle.call_ends.specs.Causes.{HasCause, IsSilent};
 ghost use Rattle.call_ends.specs.Commands.{command_of};
 ghost use Rattle.x_pair.specs.Dues.{GivesDuePair, IsDueTurn};
 ghost use Rattle.x_pair.specs.Notices.{HasPairNotice};
-ghost use Rattle.x_pair.specs.Outcomes.{IsSafePair, LeavesPair, MakesPair, turning};
+ghost use Rattle.x_pair.specs.Outcomes.{IsSafePair, LeavesBoth, MakesPair, turning};
 ghost use Rattle.party_calls.specs.Mirrored.{LeavesMirrored, ObeysMirrored};
 ghost use Rattle.party_calls.specs.Notice.{LeavesMirroredNotice};
 ghost use Rattle.party_calls.specs.Obeys.{most_of};
@@ -39,7 +39,7 @@ fn turn_told<H: Shelf>(
     ensures turned { MakesPair (turning party.now (Arrived arrival) moment) (H.entry shelf.old party.now) (H.entry shelf.old mirror.now) (H.entry shelf.new party.now) (H.entry shelf.new mirror.now) result.outcome }
     ensures safe { IsSafePair (turning party.now (Arrived arrival) moment) (H.entry shelf.old party.now) (H.entry shelf.old mirror.now) (H.entry shelf.new party.now) (H.entry shelf.new mirror.now) }
     ensures due { GivesDuePair (H.entry shelf.old party.now) (H.entry shelf.old mirror.now) (IsDueTurn party.now (Arrived arrival) moment) result.outcome }
-    ensures shelf { LeavesPair party.now mirror.now result.outcome (H.is_back shelf.new party.now) (H.is_back shelf.new mirror.now) (H.entry shelf.old) (H.entry shelf.new) (H.faults shelf.old) (H.faults shelf.new) }
+    ensures shelf { LeavesBoth party.now mirror.now result.outcome (H.is_back shelf.new party.now) (H.is_back shelf.new mirror.now) (H.entry shelf.old) (H.entry shelf.new) (H.faults shelf.old) (H.faults shelf.new) }
     ensures notice { tell ≡ true → HasPairNotice (H.entry shelf.old party.now) (H.entry shelf.old mirror.now) arrival moment result.outcome result.notice }
     ensures no_notice { tell ≡ false → result.notice ≡ None }
 {

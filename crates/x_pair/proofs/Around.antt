@@ -1,60 +1,57 @@
 -- Both disks are fetched, something is done, and both are put back.
-use Rattle.std.proofs.Common.{◌≡◌, ◌⊎◌, inl, inr, ℕ, List, is_some, Ok, Err, sym, ◌∙◌, ap, subst, arith}
-use Rattle.x_base.specs.Edge.{Rose}
+use Rattle.std.proofs.Common.{◌≡◌, ◌⊎◌, inl, inr, ℕ, List, is_some, Result, Ok, Err, sym, ◌∙◌, ap, subst}
 use Rattle.x_disk.specs.Disk.{View, IsSound, IsUntouched}
 use Rattle.x_disk.specs.Shelf.{ShelfView, IsAlike}
+use Rattle.x_disk.specs.declared.disk.DiskErr.{DiskErr}
 use Rattle.x_disk.proofs.Runs.{weaker}
 use Rattle.party_state.specs.State.{Party}
 use Rattle.change_code.specs.Cost.{space_of_whole}
 use Rattle.change_code.specs.declared.format.Format.TheVariants.{Two}
 use Rattle.key_store.specs.Store.{IsBlankOrFirst}
 use Rattle.disk_pair.specs.declared.disks.Disks.{Disks}
+use Rattle.disk_pair.specs.Pairs.{AreFetched, ArePutBack, told_after}
 use Rattle.mirror_store.specs.Pairs.{IsMadeAnew, IsAsBefore}
 use Rattle.mirror_store.specs.Opening.{AreRead}
 use Rattle.x_party.specs.Images.{OrBefore}
 use Rattle.x_party.specs.Outcomes.{IsNoFailure}
 use Rattle.x_party.specs.declared.outcome.Outcome.{Outcome}
 use Rattle.x_party.specs.declared.outcome.Outcome.TheVariants as outcome
-use Rattle.x_pair.specs.Outcomes.{Work, OfOpened, MakesOf, MakesPair, IsAsOpened, KeepsNext, IsSafePair, MayLeave, Opened, After, AsItWas, Before, left_on_first, left_on_second, LeavesPair}
+use Rattle.x_pair.specs.Outcomes.{Work, OfOpened, MakesOf, MakesPair, IsAsOpened, KeepsNext, IsSafePair, MayLeave, Opened, After, AsItWas, Before, left_on_first, left_on_second, LeavesBoth}
 use Rattle.x_pair.specs.Creations.{CreatesPair, IsSafeCreation, IsDueOrFailed, StandsWhereDone}
-use Rattle.x_pair.specs.Steps.{HasActed, HasCreated, HasFaults, AreOut, AreBack, IsClosed}
+use Rattle.x_pair.specs.Steps.{HasActed, HasCreated, HasFaults, failure_of}
 use Rattle.x_disk.proofs.Alike.{durable_alike, leaves_around, untouched_alike, untouched_around}
 use Rattle.x_party.proofs.Alike.{stands_alike}
-use Rattle.disk_pair.proofs.Around.{rose_from, rose_some, thirds_on}
+use Rattle.disk_pair.proofs.Around.{IsFailed, IsTold, around_leaves, closed, unfetched, unfetched_leaves}
 
 -- a failure tells nothing
-abbrev IsFailure : Outcome → Type 0 → Type 0
-IsFailure o rose = (o ≡ outcome.NoMemory) ⊎ ((o ≡ outcome.Fault) × rose)
 
-failed_makes : (w : Work) (i j : List ℕ) (a b : View) (o : Outcome) (rose : Type 0) → IsFailure o rose → MakesOf w i j a b o
-failed_makes w i j a b o rose (inl is) = subst (MakesOf w i j a b) (sym is) tt
-failed_makes w i j a b o rose (inr is) = subst (MakesOf w i j a b) (sym is.0) tt
+failed_makes : (w : Work) (i j : List ℕ) (a b : View) (o : Outcome) (before after : ℕ) → IsFailed failure_of o before after → MakesOf w i j a b o
+failed_makes w i j a b o before after (inl is) = subst (MakesOf w i j a b) (sym is) tt
+failed_makes w i j a b o before after (inr is) = subst (MakesOf w i j a b) (sym is.0) tt
 
-failed_due : (i j : List ℕ) (o : Outcome) (rose : Type 0) → IsFailure o rose → IsDueOrFailed i j o
-failed_due i j o rose (inl is) = subst (IsDueOrFailed i j) (sym is) tt
-failed_due i j o rose (inr is) = subst (IsDueOrFailed i j) (sym is.0) tt
+failed_due : (i j : List ℕ) (o : Outcome) (before after : ℕ) → IsFailed failure_of o before after → IsDueOrFailed i j o
+failed_due i j o before after (inl is) = subst (IsDueOrFailed i j) (sym is) tt
+failed_due i j o before after (inr is) = subst (IsDueOrFailed i j) (sym is.0) tt
 
-failed_stands : (o : Outcome) (rose : Type 0) (a b : View) (party : Party) → IsFailure o rose → StandsWhereDone o a b party
-failed_stands o rose a b party (inl is) = subst (λ (x : Outcome). StandsWhereDone x a b party) (sym is) tt
-failed_stands o rose a b party (inr is) = subst (λ (x : Outcome). StandsWhereDone x a b party) (sym is.0) tt
+failed_stands : (o : Outcome) (before after : ℕ) (a b : View) (party : Party) → IsFailed failure_of o before after → StandsWhereDone o a b party
+failed_stands o before after a b party (inl is) = subst (λ (x : Outcome). StandsWhereDone x a b party) (sym is) tt
+failed_stands o before after a b party (inr is) = subst (λ (x : Outcome). StandsWhereDone x a b party) (sym is.0) tt
 
-failed_back : (o : Outcome) (back rose : Type 0) → IsFailure o rose → IsNoFailure o → back
-failed_back o back rose (inl is) answered = absurd (subst IsNoFailure is answered)
-failed_back o back rose (inr is) answered = absurd (subst IsNoFailure is.0 answered)
-
-failed_rose : (o : Outcome) (rose : Type 0) → IsFailure o rose → o ≡ outcome.Fault → rose
-failed_rose o rose (inl is) fault = let both : outcome.NoMemory ≡ outcome.Fault = sym is ∙ fault in absurd (cc both)
-failed_rose o rose (inr is) fault = is.1
+apart : outcome.NoMemory ≡ outcome.Fault → ⊥
+apart same = cc same
 
 -- what an opening may leave of a disk
 abbrev IsLeftOrBefore : View → List ℕ → Party → List ℕ → Type 0
 IsLeftOrBefore v was party image = (IsMadeAnew was party image ⊎ IsAsBefore was image) ⊎ v.may_leave image
 
 -- neither disk was fetched
-module _ {D : Type 0} (told : D → View) (name other : List ℕ) (old new : ShelfView) (o : Outcome) (out : AreOut told name other old new (Err o))
+module _ {D : Type 0} (told : D → View) (name other : List ℕ) (old new : ShelfView) (e : DiskErr) (o : Outcome) (is : o ≡ failure_of e) (out : AreFetched told name other old new (Err e))
     (first : IsSound (old.entry name)) (second : IsSound (old.entry other)) where
+  pub failed : IsFailed failure_of o old.faults new.faults
+  failed = unfetched told name other failure_of old new e o is out
+
   pub unfetched_makes : (w : Work) → MakesPair w (old.entry name) (old.entry other) (new.entry name) (new.entry other) o
-  unfetched_makes w = λ i j read. failed_makes w i j (new.entry name) (new.entry other) o (Rose old.faults new.faults) out.failed
+  unfetched_makes w = λ i j read. failed_makes w i j (new.entry name) (new.entry other) o old.faults new.faults failed
 
   first_still : IsUntouched (old.entry name) (new.entry name)
   first_still = untouched_alike (old.entry name) (new.entry name) first out.first_stays
@@ -81,8 +78,8 @@ module _ {D : Type 0} (told : D → View) (name other : List ℕ) (old new : She
 
   pub unfetched_creates : (party : Party) → CreatesPair party (old.entry name) (old.entry other) (new.entry name) (new.entry other) o
   unfetched_creates party = record {
-    is_due = λ i j read. failed_due i j o (Rose old.faults new.faults) out.failed;
-    stand = failed_stands o (Rose old.faults new.faults) (new.entry name) (new.entry other) party out.failed;
+    is_due = λ i j read. failed_due i j o old.faults new.faults failed;
+    stand = failed_stands o old.faults new.faults (new.entry name) (new.entry other) party failed;
   }
 
   pub unfetched_creation : (party : Party) → IsSafeCreation party (old.entry name) (old.entry other) (new.entry name) (new.entry other)
@@ -96,13 +93,8 @@ module _ {D : Type 0} (told : D → View) (name other : List ℕ) (old new : She
     second_tells = ap is_some out.second_stays.now;
   }
 
-  pub unfetched_shelf : LeavesPair name other o (new.is_back name) (new.is_back other) old.entry new.entry old.faults new.faults
-  unfetched_shelf = record {
-    back = failed_back o (new.is_back name × new.is_back other) (Rose old.faults new.faults) out.failed;
-    thirds = out.thirds;
-    fault = failed_rose o (Rose old.faults new.faults) out.failed;
-    later = out.later;
-  }
+  pub unfetched_shelf : LeavesBoth name other o (new.is_back name) (new.is_back other) old.entry new.entry old.faults new.faults
+  unfetched_shelf = unfetched_leaves told name other failure_of IsNoFailure (λ no. no) (λ no. no) apart old new e o is out
 
 -- what was done between them, of the disks that were fetched and put back
 module _ (first second out_first out_second mid_first mid_second new_first new_second : View)
@@ -139,10 +131,9 @@ module _ (first second out_first out_second mid_first mid_second new_first new_s
     makes_alike i j outcome.Fault is = tt
     makes_alike i j outcome.NoMemory is = tt
 
-    closed_makes : (o result : Outcome) (before after : ℕ) → IsClosed o before after result → MakesPair w out_first out_second mid_first mid_second o → MakesPair w first second new_first new_second result
+    closed_makes : (o result : Outcome) (before after : ℕ) → IsTold failure_of o before after result → MakesPair w out_first out_second mid_first mid_second o → MakesPair w first second new_first new_second result
     closed_makes o result before after (inl is) makes = λ i j read. subst (MakesOf w i j new_first new_second) (sym is) (makes_alike i j o (makes i j (read_out i j read)))
-    closed_makes o result before after (inr (inl is)) makes = λ i j read. subst (MakesOf w i j new_first new_second) (sym is.0) tt
-    closed_makes o result before after (inr (inr is)) makes = λ i j read. subst (MakesOf w i j new_first new_second) (sym is) tt
+    closed_makes o result before after (inr failed) makes = λ i j read. failed_makes w i j new_first new_second result before after failed
 
     leaves_first : (image other : List ℕ) (party : Party) (was c : List ℕ) → MayLeave w left_on_first image other party was out_first.may_leave c → MayLeave w left_on_first image other party was first.may_leave c
     leaves_first image other party was c (Opened stands) = Opened stands
@@ -192,13 +183,15 @@ module _ (first second out_first out_second mid_first mid_second new_first new_s
     stands_back outcome.Fault is = tt
     stands_back outcome.NoMemory is = tt
 
-    closed_creates : (o result : Outcome) (before after : ℕ) → IsClosed o before after result → CreatesPair party out_first out_second mid_first mid_second o → CreatesPair party first second new_first new_second result
+    closed_creates : (o result : Outcome) (before after : ℕ) → IsTold failure_of o before after result → CreatesPair party out_first out_second mid_first mid_second o → CreatesPair party first second new_first new_second result
     closed_creates o result before after (inl is) makes = subst (λ (x : Outcome). CreatesPair party first second new_first new_second x) (sym is) (record {
       is_due = λ i j read. makes.is_due i j (read_out i j read);
       stand = stands_back o makes.stand;
     })
-    closed_creates o result before after (inr (inl is)) makes = subst (λ (x : Outcome). CreatesPair party first second new_first new_second x) (sym is.0) (record { is_due = λ i j read. tt; stand = tt })
-    closed_creates o result before after (inr (inr is)) makes = subst (λ (x : Outcome). CreatesPair party first second new_first new_second x) (sym is) (record { is_due = λ i j read. tt; stand = tt })
+    closed_creates o result before after (inr failed) makes = record {
+      is_due = λ i j read. failed_due i j result before after failed;
+      stand = failed_stands result before after new_first new_second party failed;
+    }
 
     before_first : (c : List ℕ) → OrBefore out_first (IsBlankOrFirst party) c → OrBefore first (IsBlankOrFirst party) c
     before_first c (inl is) = inl is
@@ -225,11 +218,14 @@ module _ (first second out_first out_second mid_first mid_second new_first new_s
     }
 
 -- the whole call
-module _ {D : Type 0} (told : D → View) (name other : List ℕ) (old mid new : ShelfView) (taken put : Disks D) (o result : Outcome)
-    (out : AreOut told name other old mid (Ok taken)) (back : AreBack told name other put o mid new result) where
+module _ {D : Type 0} (told : D → View) (name other : List ℕ) (old mid new : ShelfView) (taken put : Disks D) (r : Result Unit DiskErr) (o result : Outcome)
+    (out : AreFetched told name other old mid (Ok taken)) (back : ArePutBack told name other put mid new r) (is : result ≡ told_after failure_of o r) where
+  pub told_so : IsTold failure_of o mid.faults new.faults result
+  told_so = closed told name other failure_of put mid new r o result is back
+
   pub all_makes : (w : Work) → HasActed w told taken put o → MakesPair w (old.entry name) (old.entry other) (new.entry name) (new.entry other) result
   all_makes w did = closed_makes (old.entry name) (old.entry other) (told taken.first) (told taken.second) (told put.first) (told put.second) (new.entry name) (new.entry other)
-      out.first out.second back.first back.second w o result mid.faults new.faults back.closed did.makes
+      out.first out.second back.first back.second w o result mid.faults new.faults told_so did.makes
 
   pub all_safe : (w : Work) → HasActed w told taken put o → IsSafePair w (old.entry name) (old.entry other) (new.entry name) (new.entry other)
   all_safe w did = safe_around (old.entry name) (old.entry other) (told taken.first) (told taken.second) (told put.first) (told put.second) (new.entry name) (new.entry other)
@@ -237,28 +233,11 @@ module _ {D : Type 0} (told : D → View) (name other : List ℕ) (old mid new :
 
   pub all_creates : (party : Party) → HasCreated party told taken put o → CreatesPair party (old.entry name) (old.entry other) (new.entry name) (new.entry other) result
   all_creates party did = closed_creates (old.entry name) (old.entry other) (told taken.first) (told taken.second) (told put.first) (told put.second) (new.entry name) (new.entry other)
-      out.first out.second back.first back.second party o result mid.faults new.faults back.closed did.makes
+      out.first out.second back.first back.second party o result mid.faults new.faults told_so did.makes
 
   pub all_creation : (party : Party) → HasCreated party told taken put o → IsSafeCreation party (old.entry name) (old.entry other) (new.entry name) (new.entry other)
   all_creation party did = creation_around (old.entry name) (old.entry other) (told taken.first) (told taken.second) (told put.first) (told put.second) (new.entry name) (new.entry other)
       out.first out.second back.first back.second party did.safe
 
-  module _ (faults : HasFaults told taken put o) where
-    shown : o ≡ outcome.Fault → Rose mid.faults new.faults
-    shown is = elim (faults.fault is) [
-      | inl rose ↦ back.first_seen (rose_some (told taken.first).faults (told put.first).faults out.first_fresh rose)
-      | inr rose ↦ back.second_seen (rose_some (told taken.second).faults (told put.second).faults out.second_fresh rose)
-    ]
-
-    fault_closed : IsClosed o mid.faults new.faults result → result ≡ outcome.Fault → Rose mid.faults new.faults
-    fault_closed (inl is) fault = shown (sym is ∙ fault)
-    fault_closed (inr (inl is)) fault = is.1
-    fault_closed (inr (inr is)) fault = let both : outcome.NoMemory ≡ outcome.Fault = sym is ∙ fault in absurd (cc both)
-
-    pub all_shelf : LeavesPair name other result (new.is_back name) (new.is_back other) old.entry new.entry old.faults new.faults
-    all_shelf = record {
-      back = back.back;
-      thirds = thirds_on name other old.entry mid.entry new.entry out.thirds back.thirds;
-      fault = λ is. rose_from old.faults mid.faults new.faults out.later (fault_closed back.closed is);
-      later = omega (arith, out.later, back.later);
-    }
+  pub all_shelf : HasFaults told taken put o → LeavesBoth name other result (new.is_back name) (new.is_back other) old.entry new.entry old.faults new.faults
+  all_shelf faults = around_leaves told name other failure_of IsNoFailure (λ no. no) (λ no. no) apart old mid new taken put r o result out back is faults.fault

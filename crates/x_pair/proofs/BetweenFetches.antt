@@ -1,5 +1,5 @@
 -- Both disks are fetched, compared, and put back.
-use Rattle.std.proofs.Common.{◌≡◌, ◌⊎◌, inl, inr, ℕ, ◌≤◌, ◌<◌, List, Result, Ok, Err, refl, sym, ◌∙◌, ap, subst, arith}
+use Rattle.std.proofs.Common.{◌≡◌, ◌⊎◌, inl, inr, ℕ, List, Result, Ok, Err, refl, sym, ◌∙◌, ap, subst, arith}
 use Rattle.x_base.specs.Edge.{Rose}
 use Rattle.x_disk.specs.Disk.{View, IsSound}
 use Rattle.x_disk.specs.Shelf.{ShelfView, IsAlike}
@@ -12,15 +12,7 @@ use Rattle.x_pair.specs.Looking.{HasCompared, failed_as}
 use Rattle.x_pair.specs.declared.likeness.Compared.{Compared}
 use Rattle.x_pair.specs.declared.likeness.Compared.TheVariants as compared
 use Rattle.x_disk.proofs.Alike.{untouched_alike, untouched_around}
-use Rattle.disk_pair.proofs.Around.{thirds_on}
-
-rose_some : (before after : ℕ) → before ≡ 0 → Rose before after → 0 < after
-rose_some before after none (inl less) = omega (arith, none, less)
-rose_some before after none (inr most) = omega (arith, none, most)
-
-rose_from : (first mid last : ℕ) → first ≤ mid → Rose mid last → Rose first last
-rose_from first mid last le (inl less) = inl (omega (arith, le, less))
-rose_from first mid last le (inr most) = inr most
+use Rattle.disk_pair.proofs.Around.{rose_from, rose_some, thirds_on}
 
 pub not_answered : {A : Type 0} (e : DiskErr) → IsAnswered (failed_as e) → A
 not_answered disk.Fault is = absurd is

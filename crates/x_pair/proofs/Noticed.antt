@@ -1,5 +1,5 @@
 -- The notice of a turn over two disks.
-use Rattle.std.proofs.Common.{◌≡◌, ◌⊎◌, inl, inr, ℕ, List, Option, Some, None, Ok, refl, sym, ◌∙◌, subst}
+use Rattle.std.proofs.Common.{◌≡◌, inl, inr, ℕ, List, Option, Some, None, Ok, refl, sym, ◌∙◌, subst}
 use Rattle.x_disk.specs.Disk.{View}
 use Rattle.x_disk.specs.Shelf.{IsAlike}
 use Rattle.key_journal.specs.declared.cause.Cause.TheVariants as cause
@@ -9,6 +9,7 @@ use Rattle.party_state.specs.declared.command.Input.TheVariants.{Arrived}
 use Rattle.party_state.specs.State.{Party}
 use Rattle.member.specs.Deciding.{decision}
 use Rattle.disk_pair.specs.declared.disks.Disks.{Disks}
+use Rattle.disk_pair.proofs.Around.{IsFailed, IsTold}
 use Rattle.mirror_store.specs.Pairs.{Recovers, Twin}
 use Rattle.mirror_store.specs.Opening.{AreRead, IsPairOpened}
 use Rattle.mirror_store.specs.declared.pair.PairCause.{PairCause}
@@ -17,7 +18,7 @@ use Rattle.x_party.specs.Notices.{class_word, kept_notice, notice_of}
 use Rattle.x_party.specs.declared.outcome.Outcome.{Outcome}
 use Rattle.x_party.specs.declared.outcome.Outcome.TheVariants as outcome
 use Rattle.x_pair.specs.Notices.{HasPairNotice, notice_for}
-use Rattle.x_pair.specs.Steps.{IsClosed, outcome_of_pair}
+use Rattle.x_pair.specs.Steps.{failure_of, outcome_of_pair}
 
 -- the notice of what the party that is opened decides of the message
 abbrev IsOpenedNotice : View → View → Arrival → ℕ → Option (List ℕ) → Type 0
@@ -58,9 +59,9 @@ unopened first second a moment (OtherParty one other) = refl
 unopened first second a moment TooLarge = refl
 
 -- nor where the disks aren't fetched
-pub unfetched : (first second : View) (a : Arrival) (moment : ℕ) (o : Outcome) (rose : Type 0) → (o ≡ outcome.NoMemory) ⊎ ((o ≡ outcome.Fault) × rose) → HasPairNotice first second a moment o None
-unfetched first second a moment o rose (inl is) = subst (λ (x : Outcome). HasPairNotice first second a moment x None) (sym is) refl
-unfetched first second a moment o rose (inr is) = subst (λ (x : Outcome). HasPairNotice first second a moment x None) (sym is.0) refl
+pub unfetched : (first second : View) (a : Arrival) (moment : ℕ) (o : Outcome) (before after : ℕ) → IsFailed failure_of o before after → HasPairNotice first second a moment o None
+unfetched first second a moment o before after (inl is) = subst (λ (x : Outcome). HasPairNotice first second a moment x None) (sym is) refl
+unfetched first second a moment o before after (inr is) = subst (λ (x : Outcome). HasPairNotice first second a moment x None) (sym is.0) refl
 
 -- what was told of the disks that were fetched is told of those on the shelf, where they are put back
 module _ (first second out_first out_second : View) (first_out : IsAlike first out_first) (second_out : IsAlike second out_second) (a : Arrival) (moment : ℕ) (notice : Option (List ℕ)) where
@@ -72,7 +73,7 @@ module _ (first second out_first out_second : View) (first_out : IsAlike first o
   notice_out outcome.Fault has = refl
   notice_out outcome.NoMemory has = refl
 
-  pub closed : (o result : Outcome) (before after : ℕ) → IsClosed o before after result → HasPairNotice out_first out_second a moment o (kept_notice o notice) → HasPairNotice first second a moment result (kept_notice result notice)
+  pub closed : (o result : Outcome) (before after : ℕ) → IsTold failure_of o before after result → HasPairNotice out_first out_second a moment o (kept_notice o notice) → HasPairNotice first second a moment result (kept_notice result notice)
   closed o result before after (inl is) has = subst (λ (x : Outcome). HasPairNotice first second a moment x (kept_notice x notice)) (sym is) (notice_out o has)
-  closed o result before after (inr (inl is)) has = subst (λ (x : Outcome). HasPairNotice first second a moment x (kept_notice x notice)) (sym is.0) refl
-  closed o result before after (inr (inr is)) has = subst (λ (x : Outcome). HasPairNotice first second a moment x (kept_notice x notice)) (sym is) refl
+  closed o result before after (inr (inl is)) has = subst (λ (x : Outcome). HasPairNotice first second a moment x (kept_notice x notice)) (sym is) refl
+  closed o result before after (inr (inr is)) has = subst (λ (x : Outcome). HasPairNotice first second a moment x (kept_notice x notice)) (sym is.0) refl

@@ -1,7 +1,6 @@
 -- What becomes of a party on a shelf that is kept on two disks (this project's profile). `first` and `second` are what the
 -- shelf tells of the two disks before, `first_after` and `second_after` what it tells afterwards.
-use Rattle.std.specs.Prelude.{◌≡◌, ◌≢◌, ◌⊎◌, ◌≤◌, ℕ, true, false, List, [], Option, Some, None}
-use Rattle.x_base.specs.Edge.{Rose}
+use Rattle.std.specs.Prelude.{◌≡◌, ◌≢◌, ◌⊎◌, ℕ, true, false, List, [], Option, Some, None}
 use Rattle.x_base.specs.declared.verdict.Verdict.{Verdict}
 use Rattle.x_base.specs.declared.verdict.Verdict.TheVariants.{Accept, JournalFull, Blank}
 use Rattle.x_disk.specs.Disk.{View, IsDurable, LeavesOnly, IsUntouched}
@@ -15,7 +14,7 @@ use Rattle.change_code.specs.declared.format.Format.TheVariants.{Two}
 use Rattle.change_code.specs.declared.space.Space.{Space}
 use Rattle.key_store.specs.Store.{Stands, StandsWith, IsFirstDamage}
 use Rattle.member.specs.Member.{Member, after}
-use Rattle.disk_pair.specs.Pairs.{ThirdsStay}
+use Rattle.disk_pair.specs.Pairs.{LeavesPair}
 use Rattle.mirror_store.specs.Pairs.{PairStands, Recovers, IsMadeAnew, IsAsBefore}
 use Rattle.mirror_store.specs.Opening.{AreRead, AreOthers, IsSound, IsTooLargeToWrite, HasFirstSpace, LeavesParty}
 use Rattle.mirror_store.specs.Turns.{pair_plan_at}
@@ -187,8 +186,5 @@ pub record IsSafePair (w : Work) (first second first_after second_after : View) 
 
 -- what is left of the shelf: both disks are back where the call didn't fail, the others stay, and a fault comes only where the
 -- shelf's count of faults rose
-pub record LeavesPair (name mirror : List ℕ) (o : Outcome) (first_back second_back : Type 0) (old new : List ℕ → View) (before after : ℕ) : Type 0 where
-  pub back : IsNoFailure o → first_back × second_back
-  pub thirds : ThirdsStay name mirror old new
-  pub fault : o ≡ outcome.Fault → Rose before after
-  pub later : before ≤ after
+abbrev pub LeavesBoth : List ℕ → List ℕ → Outcome → Type 0 → Type 0 → (List ℕ → View) → (List ℕ → View) → ℕ → ℕ → Type 0
+LeavesBoth name mirror o first_back second_back old new before after = LeavesPair name mirror (IsNoFailure o) (o ≡ outcome.Fault) first_back second_back old new before after

@@ -1,21 +1,18 @@
--- The steps of a call: both disks are fetched, the pair is opened and acts, and both disks are put back (this project's profile).
-use Rattle.std.specs.Prelude.{◌≡◌, ◌⊎◌, ℕ, ◌≤◌, ◌<◌, List, None, Result, IfOk, IfErr, OnOk, OnErr}
+-- The steps of a call between the fetch of both disks and their put back: the pair is opened and acts (this project's profile).
+use Rattle.std.specs.Prelude.{◌≡◌, ◌⊎◌, ◌≤◌, None}
 use Rattle.x_base.specs.Edge.{Rose}
 use Rattle.x_base.specs.declared.verdict.Verdict.TheVariants as verdict
 use Rattle.x_disk.specs.Disk.{View}
-use Rattle.x_disk.specs.Shelf.{ShelfView, IsAlike}
 use Rattle.x_disk.specs.declared.disk.DiskErr.{DiskErr}
 use Rattle.x_disk.specs.declared.disk.DiskErr.TheVariants as disk
 use Rattle.key_journal.specs.declared.cause.Cause.{Cause}
 use Rattle.key_journal.specs.declared.cause.Cause.TheVariants as cause
 use Rattle.party_state.specs.State.{Party}
 use Rattle.disk_pair.specs.declared.disks.Disks.{Disks}
-use Rattle.disk_pair.specs.Pairs.{ThirdsStay}
 use Rattle.mirror_store.specs.declared.pair.PairCause.{PairCause}
 use Rattle.mirror_store.specs.declared.pair.PairCause.TheVariants.{First, Second, OtherParty, TooLarge}
 use Rattle.mirror_store.specs.declared.mirror.PairTurn.{PairTurn}
 use Rattle.mirror_store.specs.declared.mirror.PairTurn.TheVariants as turn
-use Rattle.x_party.specs.Outcomes.{IsNoFailure}
 use Rattle.x_party.specs.declared.outcome.Outcome.{Outcome}
 use Rattle.x_party.specs.declared.outcome.Outcome.TheVariants as outcome
 use Rattle.x_pair.specs.Outcomes.{Work, MakesPair, IsSafePair}
@@ -65,32 +62,3 @@ pub record HasCreated {D : Type 0} (party : Party) (told : D → View) (old new 
   pub makes : CreatesPair party (told old.first) (told old.second) (told new.first) (told new.second) o
   pub safe : IsSafeCreation party (told old.first) (told old.second) (told new.first) (told new.second)
   pub faults : HasFaults told old new o
-
--- the outcome, or an error of the put back in its place
-abbrev pub IsClosed : Outcome → ℕ → ℕ → Outcome → Type 0
-IsClosed o before after result = (result ≡ o) ⊎ (((result ≡ outcome.Fault) × Rose before after) ⊎ (result ≡ outcome.NoMemory))
-
--- both disks are fetched, or all stays
-pub record AreOut {D : Type 0} (told : D → View) (name other : List ℕ) (old new : ShelfView) (result : Result (Disks D) Outcome) : Type 0 where
-  pub first : IfOk result (λ d. IsAlike (old.entry name) (told d.first))
-  pub second : IfOk result (λ d. IsAlike (old.entry other) (told d.second))
-  pub first_fresh : IfOk result (λ d. (told d.first).faults ≡ 0)
-  pub second_fresh : IfOk result (λ d. (told d.second).faults ≡ 0)
-  pub first_slot : OnOk result (new.has_slot name)
-  pub second_slot : OnOk result (new.has_slot other)
-  pub thirds : ThirdsStay name other old.entry new.entry
-  pub first_stays : OnErr result (IsAlike (old.entry name) (new.entry name))
-  pub second_stays : OnErr result (IsAlike (old.entry other) (new.entry other))
-  pub later : old.faults ≤ new.faults
-  pub failed : IfErr result (λ o. (o ≡ outcome.NoMemory) ⊎ ((o ≡ outcome.Fault) × Rose old.faults new.faults))
-
--- both disks are put back
-pub record AreBack {D : Type 0} (told : D → View) (name other : List ℕ) (put : Disks D) (o : Outcome) (old new : ShelfView) (result : Outcome) : Type 0 where
-  pub first : IsAlike (told put.first) (new.entry name)
-  pub second : IsAlike (told put.second) (new.entry other)
-  pub back : IsNoFailure result → new.is_back name × new.is_back other
-  pub thirds : ThirdsStay name other old.entry new.entry
-  pub later : old.faults ≤ new.faults
-  pub first_seen : 0 < (told put.first).faults → Rose old.faults new.faults
-  pub second_seen : 0 < (told put.second).faults → Rose old.faults new.faults
-  pub closed : IsClosed o old.faults new.faults result

@@ -2,10 +2,11 @@
 ghost use Rattle.std.specs.Prelude.{◌≢◌};
 ghost use Rattle.party_state.specs.State.{begun};
 ghost use Rattle.x_pair.specs.Creations.{CreatesPair, IsSafeCreation, GivesDueCreation};
-ghost use Rattle.x_pair.specs.Outcomes.{LeavesPair};
+ghost use Rattle.x_pair.specs.Outcomes.{LeavesBoth};
 
 use crate::acting::create_over;
-use crate::closing::{close, fetch};
+use crate::closing::{closed, failure};
+use disk_pair::{fetch_two, put_back_two};
 use std::alloc::Global;
 use x_base::{Ident, Role};
 use x_disk::Shelf;
@@ -26,12 +27,12 @@ pub fn create_pair<H: Shelf>(
     ensures created { CreatesPair (begun own role generator) (H.entry shelf.old own) (H.entry shelf.old mirror.now) (H.entry shelf.new own) (H.entry shelf.new mirror.now) result }
     ensures due { GivesDueCreation (H.entry shelf.old own) (H.entry shelf.old mirror.now) result }
     ensures safe { IsSafeCreation (begun own role generator) (H.entry shelf.old own) (H.entry shelf.old mirror.now) (H.entry shelf.new own) (H.entry shelf.new mirror.now) }
-    ensures shelf { LeavesPair own mirror.now result (H.is_back shelf.new own) (H.is_back shelf.new mirror.now) (H.entry shelf.old) (H.entry shelf.new) (H.faults shelf.old) (H.faults shelf.new) }
+    ensures shelf { LeavesBoth own mirror.now result (H.is_back shelf.new own) (H.is_back shelf.new mirror.now) (H.entry shelf.old) (H.entry shelf.new) (H.faults shelf.old) (H.faults shelf.new) }
 {
-    let disks = match fetch(shelf, &own, mirror) {
+    let disks = match fetch_two(shelf, &own, mirror) {
         Ok(disks) => disks,
-        Err(outcome) => return outcome,
+        Err(cause) => return failure(cause),
     };
     let (disks, outcome) = create_over(alloc, disks, own, role, generator);
-    close(shelf, &own, mirror, disks, outcome)
+    closed(outcome, put_back_two(shelf, &own, mirror, disks))
 }

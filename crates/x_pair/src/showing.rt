@@ -1,10 +1,11 @@
 // A party on two disks is shown.
 ghost use Rattle.std.specs.Prelude.{◌≢◌};
 ghost use Rattle.x_pair.specs.Dues.{GivesDuePair, IsDueShow};
-ghost use Rattle.x_pair.specs.Outcomes.{MakesPair, IsSafePair, LeavesPair, showing};
+ghost use Rattle.x_pair.specs.Outcomes.{MakesPair, IsSafePair, LeavesBoth, showing};
 
 use crate::acting::show_over;
-use crate::closing::{close, fetch};
+use crate::closing::{closed, failure};
+use disk_pair::{fetch_two, put_back_two};
 use key_store::law_one_finding;
 use mirror_store::law_recovers;
 use std::alloc::Global;
@@ -20,14 +21,14 @@ pub fn show_pair<H: Shelf>(alloc: Global, shelf: &mut H, name: &Ident, mirror: &
     ensures shown { MakesPair showing (H.entry shelf.old name.now) (H.entry shelf.old mirror.now) (H.entry shelf.new name.now) (H.entry shelf.new mirror.now) result }
     ensures safe { IsSafePair showing (H.entry shelf.old name.now) (H.entry shelf.old mirror.now) (H.entry shelf.new name.now) (H.entry shelf.new mirror.now) }
     ensures due { GivesDuePair (H.entry shelf.old name.now) (H.entry shelf.old mirror.now) IsDueShow result }
-    ensures shelf { LeavesPair name.now mirror.now result (H.is_back shelf.new name.now) (H.is_back shelf.new mirror.now) (H.entry shelf.old) (H.entry shelf.new) (H.faults shelf.old) (H.faults shelf.new) }
+    ensures shelf { LeavesBoth name.now mirror.now result (H.is_back shelf.new name.now) (H.is_back shelf.new mirror.now) (H.entry shelf.old) (H.entry shelf.new) (H.faults shelf.old) (H.faults shelf.new) }
 {
     law_one_finding();
     law_recovers();
-    let disks = match fetch(shelf, name, mirror) {
+    let disks = match fetch_two(shelf, name, mirror) {
         Ok(disks) => disks,
-        Err(outcome) => return outcome,
+        Err(cause) => return failure(cause),
     };
     let (disks, outcome) = show_over(alloc, disks);
-    close(shelf, name, mirror, disks, outcome)
+    closed(outcome, put_back_two(shelf, name, mirror, disks))
 }

@@ -5,11 +5,12 @@ ghost use Rattle.party_state.specs.declared.command.Input.TheVariants.{Arrived};
 ghost use Rattle.x_party.specs.Notices.{class_word};
 ghost use Rattle.x_pair.specs.Dues.{GivesDuePair, IsDueTurn};
 ghost use Rattle.x_pair.specs.Notices.{HasPairNotice};
-ghost use Rattle.x_pair.specs.Outcomes.{MakesPair, IsSafePair, LeavesPair, turning};
+ghost use Rattle.x_pair.specs.Outcomes.{MakesPair, IsSafePair, LeavesBoth, turning};
 
 use crate::acting::turn_over;
-use crate::closing::{close, fetch};
+use crate::closing::{closed, failure};
 use csm_grammar::Arrival;
+use disk_pair::{fetch_two, put_back_two};
 use key_store::law_one_finding;
 use mirror_store::law_recovers;
 use party_state::Input;
@@ -32,23 +33,24 @@ fn turn_noticed<H: Shelf>(
     ensures turned { MakesPair (turning name.now input.now moment) (H.entry shelf.old name.now) (H.entry shelf.old mirror.now) (H.entry shelf.new name.now) (H.entry shelf.new mirror.now) result.outcome }
     ensures safe { IsSafePair (turning name.now input.now moment) (H.entry shelf.old name.now) (H.entry shelf.old mirror.now) (H.entry shelf.new name.now) (H.entry shelf.new mirror.now) }
     ensures due { GivesDuePair (H.entry shelf.old name.now) (H.entry shelf.old mirror.now) (IsDueTurn name.now input.now moment) result.outcome }
-    ensures shelf { LeavesPair name.now mirror.now result.outcome (H.is_back shelf.new name.now) (H.is_back shelf.new mirror.now) (H.entry shelf.old) (H.entry shelf.new) (H.faults shelf.old) (H.faults shelf.new) }
+    ensures shelf { LeavesBoth name.now mirror.now result.outcome (H.is_back shelf.new name.now) (H.is_back shelf.new mirror.now) (H.entry shelf.old) (H.entry shelf.new) (H.faults shelf.old) (H.faults shelf.new) }
     ensures notice { (a : Arrival) → input.now ≡ Arrived a → option_map (λ w. w.now) class.entry ≡ Some (class_word a.parsed.message) → HasPairNotice (H.entry shelf.old name.now) (H.entry shelf.old mirror.now) a moment result.outcome result.notice }
 {
     law_one_finding();
     law_one_space();
     law_recovers();
-    let disks = match fetch(shelf, name, mirror) {
+    let disks = match fetch_two(shelf, name, mirror) {
         Ok(disks) => disks,
-        Err(outcome) => {
+        Err(cause) => {
             return TurnWithNotice {
-                outcome,
+                outcome: failure(cause),
                 notice: None,
             };
         }
     };
     let (disks, outcome, notice) = turn_over(alloc, disks, name, input, class, moment);
-    let outcome = close(shelf, name, mirror, disks, outcome);
+    let put = put_back_two(shelf, name, mirror, disks);
+    let outcome = closed(outcome, put);
     TurnWithNotice::of(outcome, notice)
 }
 
@@ -72,7 +74,7 @@ pub fn turn_pair<H: Shelf>(
     ensures turned { MakesPair (turning name.now input.now moment) (H.entry shelf.old name.now) (H.entry shelf.old mirror.now) (H.entry shelf.new name.now) (H.entry shelf.new mirror.now) result }
     ensures safe { IsSafePair (turning name.now input.now moment) (H.entry shelf.old name.now) (H.entry shelf.old mirror.now) (H.entry shelf.new name.now) (H.entry shelf.new mirror.now) }
     ensures due { GivesDuePair (H.entry shelf.old name.now) (H.entry shelf.old mirror.now) (IsDueTurn name.now input.now moment) result }
-    ensures shelf { LeavesPair name.now mirror.now result (H.is_back shelf.new name.now) (H.is_back shelf.new mirror.now) (H.entry shelf.old) (H.entry shelf.new) (H.faults shelf.old) (H.faults shelf.new) }
+    ensures shelf { LeavesBoth name.now mirror.now result (H.is_back shelf.new name.now) (H.is_back shelf.new mirror.now) (H.entry shelf.old) (H.entry shelf.new) (H.faults shelf.old) (H.faults shelf.new) }
 {
     let turn = turn_noticed(alloc, shelf, name, mirror, input, None, moment);
     turn.outcome
@@ -93,7 +95,7 @@ pub fn turn_pair_with_notice<H: Shelf>(
     ensures turned { MakesPair (turning name.now (Arrived arrival) moment) (H.entry shelf.old name.now) (H.entry shelf.old mirror.now) (H.entry shelf.new name.now) (H.entry shelf.new mirror.now) result.outcome }
     ensures safe { IsSafePair (turning name.now (Arrived arrival) moment) (H.entry shelf.old name.now) (H.entry shelf.old mirror.now) (H.entry shelf.new name.now) (H.entry shelf.new mirror.now) }
     ensures due { GivesDuePair (H.entry shelf.old name.now) (H.entry shelf.old mirror.now) (IsDueTurn name.now (Arrived arrival) moment) result.outcome }
-    ensures shelf { LeavesPair name.now mirror.now result.outcome (H.is_back shelf.new name.now) (H.is_back shelf.new mirror.now) (H.entry shelf.old) (H.entry shelf.new) (H.faults shelf.old) (H.faults shelf.new) }
+    ensures shelf { LeavesBoth name.now mirror.now result.outcome (H.is_back shelf.new name.now) (H.is_back shelf.new mirror.now) (H.entry shelf.old) (H.entry shelf.new) (H.faults shelf.old) (H.faults shelf.new) }
     ensures notice { HasPairNotice (H.entry shelf.old name.now) (H.entry shelf.old mirror.now) arrival moment result.outcome result.notice }
 {
     let class = class_word(&arrival.parsed.message);

@@ -12,12 +12,12 @@ returns-in-Err g c =
     let p = begun own c.args.role c.args.generator in
     let first = g.met.H.Shelf.sound c.args.shelf.now own in
     let second = g.met.H.Shelf.sound c.args.shelf.now mirror in
-    let made = unfetched_creates told own mirror _ _ c.in-Err.outcome c.in-Err.ensures first second p in
+    let made = unfetched_creates told own mirror _ _ c.in-Err.cause c.failure.result c.failure.ensures c.in-Err.ensures first second p in
     record {
       created = made;
-      due = creation_due (entry c.args.shelf.now own) (entry c.args.shelf.now mirror) (entry c.fetch.new.shelf own) (entry c.fetch.new.shelf mirror) own c.args.role c.args.generator c.in-Err.outcome made;
-      safe = unfetched_creation told own mirror _ _ c.in-Err.outcome c.in-Err.ensures first second p;
-      shelf = unfetched_shelf told own mirror _ _ c.in-Err.outcome c.in-Err.ensures first second;
+      due = creation_due (entry c.args.shelf.now own) (entry c.args.shelf.now mirror) (entry c.fetch_two.new.shelf own) (entry c.fetch_two.new.shelf mirror) own c.args.role c.args.generator c.failure.result made;
+      safe = unfetched_creation told own mirror _ _ c.in-Err.cause c.failure.result c.failure.ensures c.in-Err.ensures first second p;
+      shelf = unfetched_shelf told own mirror _ _ c.in-Err.cause c.failure.result c.failure.ensures c.in-Err.ensures first second;
     }
 
 pub returns : goal.returns
@@ -29,10 +29,10 @@ returns g c =
     let p = begun own c.args.role c.args.generator in
     let disks = c.in-Ok.disks in
     let did = c.create_over-disks.result in
-    let made = all_creates told own mirror _ _ _ disks did.0 did.1 c.close.result c.in-Ok.ensures c.close.ensures p c.create_over-disks.ensures in
+    let made = all_creates told own mirror _ _ _ disks did.0 c.put_back_two.result did.1 c.closed.result c.in-Ok.ensures c.put_back_two.ensures c.closed.ensures p c.create_over-disks.ensures in
     record {
       created = made;
-      due = creation_due (entry c.args.shelf.now own) (entry c.args.shelf.now mirror) (entry c.close.new.shelf own) (entry c.close.new.shelf mirror) own c.args.role c.args.generator c.close.result made;
-      safe = all_creation told own mirror _ _ _ disks did.0 did.1 c.close.result c.in-Ok.ensures c.close.ensures p c.create_over-disks.ensures;
-      shelf = all_shelf told own mirror _ _ _ disks did.0 did.1 c.close.result c.in-Ok.ensures c.close.ensures c.create_over-disks.ensures.faults;
+      due = creation_due (entry c.args.shelf.now own) (entry c.args.shelf.now mirror) (entry c.put_back_two.new.shelf own) (entry c.put_back_two.new.shelf mirror) own c.args.role c.args.generator c.closed.result made;
+      safe = all_creation told own mirror _ _ _ disks did.0 c.put_back_two.result did.1 c.closed.result c.in-Ok.ensures c.put_back_two.ensures c.closed.ensures p c.create_over-disks.ensures;
+      shelf = all_shelf told own mirror _ _ _ disks did.0 c.put_back_two.result did.1 c.closed.result c.in-Ok.ensures c.put_back_two.ensures c.closed.ensures c.create_over-disks.ensures.faults;
     }
