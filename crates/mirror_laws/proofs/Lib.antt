@@ -16,7 +16,8 @@ mod Asked
 mod OneDisk
 mod CallsGo
 mod ShowsGo
-mod LooksGo
+pub mod Asides
+mod AsidesGo
 mod LossesGo
 mod Session
 mod Began

@@ -17,7 +17,7 @@ use Rattle.world_laws.specs.Events.{Action, Event, Whole, CutNew}
 use Rattle.world_laws.specs.Laws.{OneKeyPerCount, Once, Agreement, EndedBoth}
 use Rattle.call_laws.specs.Deeds.{event_of, IsCutOrNone, IsCallOf}
 use Rattle.mirror_laws.specs.Runs.{FirstDisk, PairEvent, Happens, Loses, pair_run, ArePairEvents, HonestPairRun}
-use Rattle.mirror_laws.specs.Sessions.{PairDeed, Called, CutOff, Shown, ShowCutOff, Looked, PowerFails, Lost, pair_texts_in}
+use Rattle.mirror_laws.specs.Sessions.{PairDeed, Called, CutOff, Shown, ShowCutOff, Aside, PowerFails, Lost, pair_texts_in}
 
 -- the event is cut off with the new state, or there is none
 abbrev pub IsCutNewOrNone : List ℕ → Action → ℕ → List PairEvent → Type 0
@@ -74,14 +74,14 @@ abbrev pub IsCutOn : Option (List ℕ) → List ℕ → Action → ℕ → View 
 IsCutOn None name action moment first es = OnlyHappen (IsCutOrNone name action moment) es
 IsCutOn (Some second) name action moment first es = IsUnanswered name action moment first es
 
--- a show is none, or a loss as above; a call that writes no disk is none, and a failure of power between two calls; a loss is
+-- a show is none, or a loss as above; what writes no party's disk is none, and a failure of power between two calls; a loss is
 -- that loss. `disks` is what the shelf tells of each disk before
 abbrev pub IsOfPairDeed : (List ℕ → Option (List ℕ)) → PairDeed → (List ℕ → View) → List PairEvent → Type 0
 IsOfPairDeed mirror (Called name action moment o) disks es = IsCallOn (mirror name) o name action moment (disks name) es
 IsOfPairDeed mirror (CutOff name action moment o) disks es = IsCutOn (mirror name) name action moment (disks name) es
 IsOfPairDeed mirror (Shown name) disks es = IsLostAgainOrNot name (disks name) es
 IsOfPairDeed mirror (ShowCutOff name) disks es = IsLostAgainOrNot name (disks name) es
-IsOfPairDeed mirror (Looked name) disks es = es ≡ []
+IsOfPairDeed mirror Aside disks es = es ≡ []
 IsOfPairDeed mirror PowerFails disks es = es ≡ []
 IsOfPairDeed mirror (Lost name which) disks es = es ≡ Loses name which ∷ []
 

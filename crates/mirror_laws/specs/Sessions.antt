@@ -19,12 +19,12 @@ use Rattle.mirror_laws.specs.Runs.{Which, FirstDisk, SecondDisk}
 
 -- what is done: the party of this name is called over its one disk or its two, at a moment, with an outcome; it is called, and the
 -- power fails at some moment from the beginning of the call to the end that it would have; it is shown over its two disks, with or
--- without such a failure; it is called, and no disk of it is written; the power fails between two calls, or in a call that writes
--- none; or one of its two disks is lost between two calls
+-- without such a failure; something is done that writes no party's disk; the power fails between two calls, or in a call that writes
+-- nothing; or one of a party's two disks is lost between two calls
 pub data PairDeed : Type 0 where
   Called CutOff : List ℕ → Action → ℕ → Outcome → PairDeed
-  Shown ShowCutOff Looked : List ℕ → PairDeed
-  PowerFails : PairDeed
+  Shown ShowCutOff : List ℕ → PairDeed
+  Aside PowerFails : PairDeed
   Lost : List ℕ → Which → PairDeed
 
 -- no two disks of the members of a network have one name
@@ -92,13 +92,15 @@ pub record StaysUnwritten (old new : View) : Type 0 where
   pub now : new.now ≡ old.now
   pub images : LeavesNoMore old new
 
--- a member is called over its own disks, neither of which is written; the others stay
-pub record IsLookedAt (start : World) (mirror : List ℕ → Option (List ℕ)) (name : List ℕ) (old new : List ℕ → View) : Type 0 where
-  pub member : Member
-  pub at : member_at name start.members ≡ Some member
-  pub first : StaysUnwritten (old name) (new name)
-  pub second : (other : List ℕ) → mirror name ≡ Some other → StaysUnwritten (old other) (new other)
-  pub others : AllButOwnStay (mirror name) name old new
+-- no disk of a member is written; all else on the shelf may change in any way
+pub record IsAside (start : World) (mirror : List ℕ → Option (List ℕ)) (old new : List ℕ → View) : Type 0 where
+  pub firsts : (name : List ℕ) (x : Member) → member_at name start.members ≡ Some x → StaysUnwritten (old name) (new name)
+  pub seconds : (name second : List ℕ) (x : Member) → member_at name start.members ≡ Some x → mirror name ≡ Some second → StaysUnwritten (old second) (new second)
+
+-- a file is no disk of a member
+pub record IsNobodys (start : World) (mirror : List ℕ → Option (List ℕ)) (file : List ℕ) : Type 0 where
+  pub no_first : (x : Member) → member_at file start.members ≢ Some x
+  pub no_second : (name : List ℕ) (x : Member) → member_at name start.members ≡ Some x → mirror name ≢ Some file
 
 -- the power failed at some moment of the call of this name: of each of its disks one of the images is read that could be left then,
 -- which need not be of the same moment
@@ -136,7 +138,7 @@ IsDeedDone start mirror (Called name action moment o) old mid new = IsPairCalled
 IsDeedDone start mirror (CutOff name action moment o) old mid new = IsPairCalled start mirror name action moment o old mid × PairOffWithin mirror name old mid new
 IsDeedDone start mirror (Shown name) old mid new = IsPairShown start mirror name old new
 IsDeedDone start mirror (ShowCutOff name) old mid new = IsPairShown start mirror name old mid × PairOffWithin mirror name old mid new
-IsDeedDone start mirror (Looked name) old mid new = IsLookedAt start mirror name old new
+IsDeedDone start mirror Aside old mid new = IsAside start mirror old new
 IsDeedDone start mirror PowerFails old mid new = AllOff old new
 IsDeedDone start mirror (Lost name which) old mid new = IsLost start mirror name which old new
 
@@ -145,14 +147,15 @@ abbrev pub AreDeedsDone : World → (List ℕ → Option (List ℕ)) → List Pa
 AreDeedsDone start mirror [] k disks ends = Unit {0}
 AreDeedsDone start mirror (d ∷ ds) k disks ends = IsDeedDone start mirror d (disks k) (ends k) (disks (suc k)) × AreDeedsDone start mirror ds (suc k) disks ends
 
--- what was handed out, joined: nothing by a call that failed or was cut off. What is shown of a party is no text
+-- what was handed out, joined: nothing by a call that failed or was cut off. What is shown of a party is no text, nor what else
+-- comes out where no party's disk is written
 
 abbrev pub pair_deed_texts : PairDeed → List (List ℕ)
 pair_deed_texts (Called name action moment o) = reply_of o
 pair_deed_texts (CutOff name action moment o) = []
 pair_deed_texts (Shown name) = []
 pair_deed_texts (ShowCutOff name) = []
-pair_deed_texts (Looked name) = []
+pair_deed_texts Aside = []
 pair_deed_texts PowerFails = []
 pair_deed_texts (Lost name which) = []
 

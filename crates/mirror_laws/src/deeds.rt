@@ -16,8 +16,8 @@ use x_party::law_one_space;
 
 /// What parties do day by day, each of which keeps one disk or two, is a run in which disks are lost: commands (but loading) and
 /// arriving messages, each called over its own party's disks, of a party with one disk also compactions and migrations; parties with
-/// two disks that are shown over them; calls that write none of the party's disks; power failures between these calls and inside
-/// them; and losses of one of a party's two disks between them; from disks that stand for a start. The run has an event for each call
+/// two disks that are shown over them; whatever writes no party's disk; power failures between these calls and inside them; and
+/// losses of one of a party's two disks between them; from disks that stand for a start. The run has an event for each call
 /// that answered, done whole and in its place; a call over two disks that was held back may have none. For each call that ended with
 /// a fault or with no memory, or in which the power failed, it has its event cut off, or none: over one disk with the old party or the
 /// new one; over two with the new state, and behind it, or behind a show, once more the loss of its first disk, where that could be
