@@ -11,7 +11,7 @@ use Rattle.member.specs.Deciding.{decision}
 use Rattle.member.specs.Member.{Member, plan_at, after}
 use Rattle.member.specs.Acts.{taking}
 use Rattle.mirror_store.specs.Pairs.{Recovers}
-use Rattle.mirror_store.specs.Opening.{AreRead, HasFirstSpace, IsPairRefusal, IsTooLargeToWrite}
+use Rattle.mirror_store.specs.Opening.{HasFirstSpace, IsPairRefusal, IsTooLargeToWrite}
 use Rattle.mirror_store.specs.Recovering.{IsPairFailure}
 use Rattle.mirror_store.specs.Turns.{pair_plan_at}
 use Rattle.mirror_store.specs.declared.pair.PairCause.{PairCause}
@@ -26,10 +26,11 @@ use Rattle.mirror_laws.specs.Turns.{action_of}
 use Rattle.mirror_laws.specs.Sessions.{PairDeed, Called, CutOff, HaveOwnDisks, IsTurned, PairOffWithin}
 use Rattle.mirror_laws.specs.Deeds.{IsUnanswered, IsPairCallOf, IsCallOn, IsCutOn}
 use Rattle.mirror_laws.proofs.Called.{answers}
-use Rattle.mirror_laws.proofs.Images.{Pair, MayBe, Known, told, fewer, never_blank}
-use Rattle.mirror_laws.proofs.Ways.{Somebody, Way, FirstLeft, SecondLeft, untouched_way, way_more}
+use Rattle.mirror_laws.proofs.Images.{Pair, MayBe, Known}
+use Rattle.mirror_laws.proofs.Ways.{Somebody, Way, way_more}
 use Rattle.mirror_laws.proofs.TurnWays.{unanswered_way, nothing}
-use Rattle.mirror_laws.proofs.LeftImages.{turned_is, first_left, second_left}
+use Rattle.mirror_laws.proofs.LeftImages.{turned_is}
+use Rattle.mirror_laws.proofs.SafeWays.{Reads, reads_of, too_large, left_at_end, safe_way}
 use Rattle.mirror_laws.proofs.Answered.{answered_way, large_way}
 use Rattle.mirror_laws.proofs.Led.{GoesOn}
 use Rattle.mirror_laws.proofs.Asked.{OthersMay, somebody, ended_goes, cut_goes}
@@ -49,20 +50,8 @@ module _ (known : Known) (inputs : (x : Member) (i : Input) (moment : ℕ) → I
   abbrev was : List ℕ → View
   was = disks (0 + length ds)
 
-  first_now : (b : List ℕ) × ((was name).now ≡ Some b)
-  first_now = told (was name) (g.first_tells name x0 at0)
-
-  second_now : (b : List ℕ) × ((second_view (mirror name) was).now ≡ Some b)
-  second_now = told (second_view (mirror name) was) (g.second_tells name x0 at0)
-
-  read : AreRead (was name) (second_view (mirror name) was) first_now.0 second_now.0
-  read = record { first = first_now.1; second = second_now.1 }
-
-  first_may : (was name).may_leave first_now.0
-  first_may = (sound name).now_among first_now.0 first_now.1
-
-  second_may : (second_view (mirror name) was).may_leave second_now.0
-  second_may = (second_sound (mirror name) was sound).now_among second_now.0 second_now.1
+  now : Reads (was name) (second_view (mirror name) was)
+  now = reads_of (was name) (second_view (mirror name) was) (sound name) (second_sound (mirror name) was sound) (g.first_tells name x0 at0) (g.second_tells name x0 at0)
 
   first_told : Tells (mid name)
   first_told = turned.safe.first_tells ∙ g.first_tells name x0 at0
@@ -75,8 +64,8 @@ module _ (known : Known) (inputs : (x : Member) (i : Input) (moment : ℕ) → I
     abbrev some : (f : Option (List ℕ)) (d : List ℕ) → MayBe (was name).may_leave (second_view (mirror name) was).may_leave f d → Somebody name f d
     some f d may = somebody start mirror disks ds texts g name x0 at0 images others f d may
 
-    abbrev here : Somebody name (Some first_now.0) second_now.0
-    here = some (Some first_now.0) second_now.0 (first_may, second_may)
+    abbrev here : Somebody name (Some now.was_first) now.was_second
+    here = some (Some now.was_first) now.was_second (now.first_may, now.second_may)
 
     abbrev x : Member
     x = here.member
@@ -96,47 +85,34 @@ module _ (known : Known) (inputs : (x : Member) (i : Input) (moment : ℕ) → I
     abbrev WayBy : (List PairEvent → Type 0) → List (List ℕ) → Type 0
     WayBy are more = Way name (was name).may_leave (second_view (mirror name) was).may_leave some more are f d
 
-    too_large : (is_blank first_now.0 ≡ true) × IsTooLarge Two x.party → IsTooLargeToWrite first_now.0 second_now.0
-    too_large large = record { party = x.party; recovers = here.stands.recovers; apart = λ both. never_blank known first_now.0 x.party large.0 both.first_is; too_large = large.1 }
-
-    still : IsTooLargeToWrite first_now.0 second_now.0 → IsUntouched (was name) (mid name) × IsUntouched (second_view (mirror name) was) (second_view (mirror name) mid)
-    still large = turned.safe.too_large first_now.0 second_now.0 read large
+    still : IsTooLargeToWrite now.was_first now.was_second → IsUntouched (was name) (mid name) × IsUntouched (second_view (mirror name) was) (second_view (mirror name) mid)
+    still large = turned.safe.too_large now.was_first now.was_second now.read large
 
     -- the call failed, or was cut off
     cut_way : MayBe ((mid name).left_since (was name).moment) ((second_view (mirror name) mid).left_since (second_view (mirror name) was).moment) f d → WayBy (IsUnanswered name (action_of bytes i) moment (was name)) []
-    cut_way since = by_space here.stands.space
-      where
-        by_space : HasFirstSpace first_now.0 x.party x.space ⊎ ((is_blank first_now.0 ≡ true) × IsTooLarge Two x.party) → WayBy (IsUnanswered name (action_of bytes i) moment (was name)) []
-        by_space (inl left) =
-            unanswered_way known inputs name bytes i moment is_action (was name) (second_view (mirror name) was) some first_now.0 second_now.0 first_may second_may f d
-            (fewer ((mid name).left_since (was name).moment) ((second_view (mirror name) mid).left_since (second_view (mirror name) was).moment)
-            (FirstLeft x next Change (was name).may_leave first_now.0) (SecondLeft x next Change (second_view (mirror name) was).may_leave second_now.0)
-            (λ c l. first_left known (turning name i moment) x first_now.0 second_now.0 left next Change (turned_is known name i moment x first_now.0 left) (was name).may_leave c ((turned.safe.on_first first_now.0 second_now.0 x.party read here.stands.recovers).each c l))
-            (λ c l. second_left known (turning name i moment) x first_now.0 second_now.0 left next Change (turned_is known name i moment x first_now.0 left) (second_view (mirror name) was).may_leave c ((turned.safe.on_second first_now.0 second_now.0 x.party read here.stands.recovers).each c l)) f d since)
-        by_space (inr large) =
-            let stays = still (too_large large) in
-            untouched_way name (was name).may_leave (second_view (mirror name) was).may_leave some (IsUnanswered name (action_of bytes i) moment (was name))
-            (nothing known inputs name bytes i moment is_action (was name) (second_view (mirror name) was) some first_now.0 second_now.0 first_may second_may) f d
-            (fewer ((mid name).left_since (was name).moment) ((second_view (mirror name) mid).left_since (second_view (mirror name) was).moment) (was name).may_leave (second_view (mirror name) was).may_leave stays.0.any_moment.each stays.1.any_moment.each f d since)
+    cut_way =
+        safe_way known (turning name i moment) name (was name) (second_view (mirror name) was) (mid name) (second_view (mirror name) mid) now turned.safe some (IsUnanswered name (action_of bytes i) moment (was name))
+        (nothing known inputs name bytes i moment is_action (was name) (second_view (mirror name) was) some now.was_first now.was_second now.first_may now.second_may) next Change (turned_is known name i moment x now.was_first)
+        (unanswered_way known inputs name bytes i moment is_action (was name) (second_view (mirror name) was) some now.was_first now.was_second now.first_may now.second_may) f d
 
     -- the call ended
     called_way : ((q : List ℕ) → IsSound (mid q)) → MayBe (mid name).may_leave (second_view (mirror name) mid).may_leave f d → WayBy (IsPairCallOf o name (action_of bytes i) moment (was name)) (reply_of o)
     called_way sound_mid may = by_space here.stands.space
       where
-        since : MayBe ((mid name).left_since (was name).moment) ((second_view (mirror name) mid).left_since (second_view (mirror name) was).moment) f d
-        since = fewer (mid name).may_leave (second_view (mirror name) mid).may_leave ((mid name).left_since (was name).moment) ((second_view (mirror name) mid).left_since (second_view (mirror name) was).moment)
-            (λ c l. (sound_mid name).counts_now (was name).moment c (turned.safe.on_first first_now.0 second_now.0 x.party read here.stands.recovers).later l)
-            (λ c l. (second_sound (mirror name) mid sound_mid).counts_now (second_view (mirror name) was).moment c (turned.safe.on_second first_now.0 second_now.0 x.party read here.stands.recovers).later l) f d may
+        failed : WayBy (IsUnanswered name (action_of bytes i) moment (was name)) []
+        failed =
+            cut_way (left_at_end known (turning name i moment) name (was name) (second_view (mirror name) was) (mid name) (second_view (mirror name) mid) now turned.safe some (sound_mid name) (second_sound (mirror name) mid sound_mid) f d may)
 
-        by_space : HasFirstSpace first_now.0 x.party x.space ⊎ ((is_blank first_now.0 ≡ true) × IsTooLarge Two x.party) → WayBy (IsPairCallOf o name (action_of bytes i) moment (was name)) (reply_of o)
+        by_space : HasFirstSpace now.was_first x.party x.space ⊎ ((is_blank now.was_first ≡ true) × IsTooLarge Two x.party) → WayBy (IsPairCallOf o name (action_of bytes i) moment (was name)) (reply_of o)
         by_space (inl left) =
-            answered_way known inputs one_pair refused name bytes i moment is_action (was name) (second_view (mirror name) was) (mid name) (second_view (mirror name) mid) some first_now.0 second_now.0 first_may second_may first_told second_told
-            still f d may (cut_way since) o
-            (answers inputs refusing known.not_blank known.one_space one_pair refused name bytes i moment (mid name) (second_view (mirror name) mid) first_now.0 second_now.0 x.party x.space here.stands.recovers left here.own o
-            (turned.makes first_now.0 second_now.0 read))
-        by_space (inr large) =
-            large_way known inputs one_pair refused name bytes i moment is_action (was name) (second_view (mirror name) was) (mid name) (second_view (mirror name) mid) some first_now.0 second_now.0 first_may second_may first_told second_told
-            (too_large large) (still (too_large large)) f d may o (turned.makes first_now.0 second_now.0 read)
+            answered_way known inputs one_pair refused name bytes i moment is_action (was name) (second_view (mirror name) was) (mid name) (second_view (mirror name) mid) some now.was_first now.was_second now.first_may now.second_may
+            first_told second_told still f d may failed o
+            (answers inputs refusing known.not_blank known.one_space one_pair refused name bytes i moment (mid name) (second_view (mirror name) mid) now.was_first now.was_second x.party x.space here.stands.recovers left here.own o
+            (turned.makes now.was_first now.was_second now.read))
+        by_space (inr is) =
+            let large : IsTooLargeToWrite now.was_first now.was_second = too_large known name now.was_first now.was_second here is in
+            large_way known inputs one_pair refused name bytes i moment is_action (was name) (second_view (mirror name) was) (mid name) (second_view (mirror name) mid) some now.was_first now.was_second now.first_may now.second_may
+            first_told second_told large (still large) f d may o (turned.makes now.was_first now.was_second now.read)
 
   pub called : ((q : List ℕ) → IsSound (mid q)) → GoesOn start mirror disks (ds ++ Called name (action_of bytes i) moment o ∷ []) (texts ++ reply_of o) mid
   called sound_mid =

@@ -9,6 +9,7 @@ mod Images
 mod Ways
 mod TurnWays
 mod LeftImages
+mod SafeWays
 mod Answered
 mod OwnDisks
 mod Led
