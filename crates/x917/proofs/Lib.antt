@@ -1,5 +1,6 @@
 pub mod Audits
 pub mod NetworkEvents
+pub mod DeedsDone
 pub mod Lawful
 pub mod Headlines
 pub mod HelpWritten

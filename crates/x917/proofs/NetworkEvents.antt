@@ -35,11 +35,11 @@ name_given least text new h = go (is_name least 16 text) refl h
     go true is h = let same : text ≡ new = cc in subst (λ (t : List ℕ). is_name least 16 t ≡ true) same is
     go false is h = absurd (cc)
 
-label_given : (o : Option (List ℕ)) (new : List ℕ) → option_and_then label_of o ≡ Some new → IsLabel new
+pub label_given : (o : Option (List ℕ)) (new : List ℕ) → option_and_then label_of o ≡ Some new → IsLabel new
 label_given None new h = absurd (cc)
 label_given (Some text) new h = name_given 1 text new h
 
-ident_given : (o : Option (List ℕ)) (new : List ℕ) → option_and_then ident_of o ≡ Some new → IsIdent new
+pub ident_given : (o : Option (List ℕ)) (new : List ℕ) → option_and_then ident_of o ≡ Some new → IsIdent new
 ident_given None new h = absurd (cc)
 ident_given (Some text) new h = name_given 4 text new h
 

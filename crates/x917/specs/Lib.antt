@@ -5,3 +5,4 @@ pub mod Playable
 pub mod Audited
 pub mod Expects
 pub mod Network
+pub mod Deeds

@@ -10,7 +10,9 @@ ghost use Rattle.call_ends.specs.Causes.{HasFaults};
 ghost use Rattle.party_calls.specs.Notice.{LeavesMirroredNotice, LeavesNotice};
 ghost use Rattle.party_calls.specs.Obeys.{Obeys, LeavesOthers, most_of};
 ghost use Rattle.party_calls.specs.Mirrored.{LeavesMirrored, ObeysMirrored};
+ghost use Rattle.world_laws.specs.World.{World};
 ghost use Rattle.x917.specs.Audited.{IsAudit};
+ghost use Rattle.x917.specs.Deeds.{IsDeed};
 ghost use Rattle.x917.specs.Headline.{IsReplay};
 ghost use Rattle.x917.specs.Helped.{Helps};
 ghost use Rattle.x917.specs.Drilled.{IsDrill};
@@ -70,6 +72,12 @@ pub fn run<S: Source, K: Sink, H: Shelf>(
     // of both, which repairs the one that lacks it. Where the party answered both are back on the shelf.
     ensures mirrored { (order : Order) (mirror : List ℕ) → IsMirrored words.now order mirror → ObeysMirrored order mirror moment result (S.left source.old) (S.left source.new) (K.written sink.old) (K.written sink.new) (H.entry shelf.old) (H.entry shelf.new) }
     ensures mirrors { (order : Order) (mirror : List ℕ) → IsMirrored words.now order mirror → LeavesMirrored order mirror result (H.is_back shelf.new) (source.new ≡ source.old) (H.entry shelf.old) (H.entry shelf.new) }
+
+    // The same of a network in which some parties keep one disk and others two: the order is the deed of a session over it, where
+    // its party is one of the network, called over just the disks that it keeps there. Over files of which none is a party's
+    // none of theirs is written.
+    ensures deeds { (order : Order) (mirror : Option (List ℕ)) → IsGiven words.now order mirror → (start : World) (mirrors : List ℕ → Option (List ℕ))
+        → IsDeed start mirrors order mirror moment result (S.left source.old) (K.written sink.old) (K.written sink.new) (H.entry shelf.old) (H.entry shelf.new) }
 
     // A scenario is played as its lines say, and what it ends with is true of the network that they describe.
     ensures replays { IsOrder words.now Replay → IsReplay result (S.left source.old) (S.left source.new) (K.written sink.old) (K.written sink.new) (H.entry shelf.old) (H.entry shelf.new) (H.faults shelf.old) (H.faults shelf.new) }

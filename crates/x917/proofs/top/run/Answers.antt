@@ -4,7 +4,7 @@ use Rattle.call_ends.specs.declared.status.Status.TheVariants as status
 use Rattle.x_line.specs.declared.order.Order.{Order}
 use Rattle.x_line.specs.declared.order.Order.TheVariants as order
 use Rattle.x_line.specs.Line.{rows_of_line}
-use Rattle.x_line.specs.Orders.{IsFault, IsGiven}
+use Rattle.x_line.specs.Orders.{IsFault, IsGiven, IsOfTwo}
 use Rattle.x_line.specs.Usage.{usage_of}
 use Rattle.x_line.specs.declared.usage.LineFault.{LineFault}
 use Rattle.x_line.specs.declared.usage.LineFault.TheVariants as fault
@@ -22,6 +22,8 @@ use Rattle.party_calls.proofs.Noticing.{none_of_two_without_memory, none_without
 use Rattle.party_calls.proofs.Orders.{idle, leaves_all, faults_of, took_nothing, within_of}
 use Rattle.x917.proofs.Played.{silent_of}
 use Rattle.party_calls.proofs.Mirrors.{idle_mirrored, left_all, never_both, not_replay}
+use Rattle.x917.specs.Deeds.{IsDeed}
+use Rattle.x917.proofs.DeedsDone.{deed_idle, deed_of_one, deed_of_two}
 use Rattle.x917.proofs.NetworkEvents.{network_event}
 use Rattle.x917.proofs.top.run.Goals as goal
 
@@ -72,6 +74,48 @@ returns-in-Err-NoMemory-clause-network g c = λ o is.
     let written = g.K.Sink.written c.args.sink.now in
     network_event g.H.Shelf.entry laws.commands laws.arrivals laws.compactions laws.migrations c.args.moment status.NoMemory left left written written c.args.shelf.now c.args.shelf.now (rows_of_line c.args.words.now) o is.1.1
     (idle c.args.moment left written entry (λ name. g.met.H.Shelf.sound c.args.shelf.now name) o)
+
+pub returns-in-None-clause-deeds : goal.returns-in-None-clause-deeds
+returns-in-None-clause-deeds g c = λ o m is start mirrors.
+    let left = g.S.Source.left c.args.source.now in
+    let rest = g.S.Source.left c.carry_out.new.source in
+    let before = g.K.Sink.written c.args.sink.now in
+    let after = g.K.Sink.written c.carry_out.new.sink in
+    let old = g.H.Shelf.entry c.args.shelf.now in
+    let new = g.H.Shelf.entry c.carry_out.new.shelf in
+    let is_back = g.H.Shelf.is_back c.carry_out.new.shelf in
+    let unread = c.carry_out.new.source ≡ c.args.source.now in
+    let s = c.carry_out.result in
+    let both = c.law_one_order.ensures c.args.words.now c.in-Ok.given.order o c.in-Ok.given.mirror m c.in-Ok.ensures.order is in
+    subst (λ (n : Option (List ℕ)). IsDeed start mirrors o n c.args.moment s left before after old new) (sym c.in-None.is ∙ both.1)
+    (deed_of_one start mirrors old new c.args.moment s left rest before after is_back unread (rows_of_line c.args.words.now) o is.1.1
+    (subst (λ (x : Order). Obeys x c.args.moment s left rest before after old new) both.0 c.carry_out.ensures.obeys)
+    (subst (λ (x : Order). LeavesOthers x s is_back unread old new) both.0 c.carry_out.ensures.others))
+
+pub returns-in-Some-clause-deeds : goal.returns-in-Some-clause-deeds
+returns-in-Some-clause-deeds g c = λ o m is start mirrors.
+    let left = g.S.Source.left c.args.source.now in
+    let rest = g.S.Source.left c.carry_out_mirrored.new.source in
+    let before = g.K.Sink.written c.args.sink.now in
+    let after = g.K.Sink.written c.carry_out_mirrored.new.sink in
+    let old = g.H.Shelf.entry c.args.shelf.now in
+    let new = g.H.Shelf.entry c.carry_out_mirrored.new.shelf in
+    let is_back = g.H.Shelf.is_back c.carry_out_mirrored.new.shelf in
+    let unread = c.carry_out_mirrored.new.source ≡ c.args.source.now in
+    let s = c.carry_out_mirrored.result in
+    let second = c.in-Some.mirror in
+    let both = c.law_one_order.ensures c.args.words.now c.in-Ok.given.order o c.in-Ok.given.mirror m c.in-Ok.ensures.order is in
+    let of = c.law_mirror_apart.ensures.mirrors c.args.words.now c.in-Ok.given.order second (subst (λ (m : Option (List ℕ)). IsGiven c.args.words.now c.in-Ok.given.order m) c.in-Some.is c.in-Ok.ensures.order) in
+    subst (λ (n : Option (List ℕ)). IsDeed start mirrors o n c.args.moment s left before after old new) (sym c.in-Some.is ∙ both.1)
+    (deed_of_two start mirrors old new c.args.moment s left rest before after is_back unread (rows_of_line c.args.words.now) second o is.1.1
+    (subst (λ (x : Order). IsOfTwo x second) both.0 of)
+    (subst (λ (x : Order). ObeysMirrored x second c.args.moment s left rest before after old new) both.0 c.carry_out_mirrored.ensures.obeys)
+    (subst (λ (x : Order). LeavesMirrored x second s is_back unread old new) both.0 c.carry_out_mirrored.ensures.others))
+
+pub returns-in-Err-NoMemory-clause-deeds : goal.returns-in-Err-NoMemory-clause-deeds
+returns-in-Err-NoMemory-clause-deeds g c = λ o m is start mirrors.
+    deed_idle start mirrors (g.H.Shelf.entry c.args.shelf.now) (λ name. g.met.H.Shelf.sound c.args.shelf.now name) c.args.moment (g.S.Source.left c.args.source.now) (g.K.Sink.written c.args.sink.now) (rows_of_line c.args.words.now) o is.1.1
+    m (λ second has. c.law_mirror_apart.ensures.mirrors c.args.words.now o second (subst (λ (n : Option (List ℕ)). IsGiven c.args.words.now o n) has is))
 
 pub carry_out-requires-clause-within : goal.carry_out-requires-clause-within
 carry_out-requires-clause-within g c =
@@ -250,6 +294,7 @@ returns-in-Err-Usage g c =
       others = λ o is. no_order words kind wrong is.0;
       mirrored = λ o m is. no_order words kind wrong is.0;
       mirrors = λ o m is. no_order words kind wrong is.0;
+      deeds = λ o m is. no_order words kind wrong is.0;
       replays = λ is. no_order words kind wrong is.0;
       drills = λ seed events is. no_order words kind wrong is.0;
       audits = λ is. no_order words kind wrong is.0;
