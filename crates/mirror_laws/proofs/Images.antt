@@ -1,5 +1,5 @@
 -- Images of a party's two disks, the first of which may be left out: then it is lost, and the second decides alone.
-use Rattle.std.proofs.Common.{◌≡◌, ◌⊎◌, inl, inr, ℕ, Bool, true, false, cond, Option, Some, None, is_some, List, refl, sym, ◌∙◌, subst}
+use Rattle.std.proofs.Common.{◌≡◌, ◌⊎◌, inl, inr, ℕ, Bool, true, false, cond, Option, Some, None, is_some, List, refl, sym, ◌∙◌, ap, subst}
 use Rattle.x_disk.specs.Disk.{View, Tells}
 use Rattle.key_journal.specs.Journal.{is_blank}
 use Rattle.party_state.specs.State.{Party}
@@ -58,7 +58,11 @@ told v tells = go v.now tells
 pub stands_so : (image : List ℕ) (p : Party) (left : Space) → StandsWith image p left → Stands image p
 stands_so image p left is = record { format = left.format; stands = record { bodies = is.bodies; holds = is.holds; fold = is.fold } }
 
-stands_with : (image : List ℕ) (p : Party) (is : Stands image p) → StandsWith image p (record { format = is.format; room = room_of is.stands.bodies })
+-- the space with which it stands
+abbrev pub space_of : (image : List ℕ) (p : Party) → Stands image p → Space
+space_of image p is = record { format = is.format; room = room_of is.stands.bodies }
+
+pub stands_with : (image : List ℕ) (p : Party) (is : Stands image p) → StandsWith image p (space_of image p is)
 stands_with image p is = record { bodies = is.stands.bodies; holds = is.stands.holds; fold = is.stands.fold; left = refl }
 
 -- what is known of images
@@ -73,7 +77,7 @@ IsWholeOrLarge x = (x.space ≡ space_of_whole Two x.party) ⊎ IsTooLarge Two x
 
 module _ (known : Known) where
   pub one_party : (image : List ℕ) (p q : Party) → Stands image p → Stands image q → p ≡ q
-  one_party image p q a b = (known.one_space image p q (record { format = a.format; room = room_of a.stands.bodies }) (record { format = b.format; room = room_of b.stands.bodies }) (stands_with image p a) (stands_with image q b)).0
+  one_party image p q a b = (known.one_space image p q (space_of image p a) (space_of image q b) (stands_with image p a) (stands_with image q b)).0
 
   pub never_blank : {A : Type 0} (image : List ℕ) (p : Party) → is_blank image ≡ true → Stands image p → A
   never_blank image p blank stands = (let is : true ≡ false = sym blank ∙ known.not_blank image p stands in absurd (cc is))
@@ -129,13 +133,6 @@ module _ (known : Known) where
       go true fits = opened_second c d (record { party = x.party; space = space_of_whole Two x.party }) blank stands (inl refl)
       go false unfit = opened_second c d x blank stands (inr (known.large Two x.party unfit))
 
-  pub party_kept : (x : Member) → (after_lost FirstDisk x).party ≡ x.party
-  party_kept x = go (can_compact Two x.party)
-    where
-      go : (b : Bool) → (cond b (record { party = x.party; space = space_of_whole Two x.party }) x).party ≡ x.party
-      go true = refl
-      go false = refl
-
   -- ---- the second image
 
   pub like_opened : (c d name : List ℕ) (x : Member) → x.party.own ≡ name → RecoversAs c d x → IsLike name d
@@ -145,6 +142,18 @@ module _ (known : Known) where
       go (inl (stands, inl blank)) = inl blank
       go (inl (stands, inr other)) = inr (other.0, other.1, other.2 ∙ own)
       go (inr second) = inr (x.party, second.1, own)
+
+  pub own_like : (name d : List ℕ) (p : Party) → Stands d p → IsLike name d → p.own ≡ name
+  own_like name d p stands (inl blank) = never_blank d p blank stands
+  own_like name d p stands (inr other) = ap (λ (q : Party). q.own) (one_party d p other.0 stands other.1) ∙ other.2
+
+  -- beside a first image, or none, another second one of the same party is as good
+  pub same_second : (name : List ℕ) (f : Option (List ℕ)) (was d : List ℕ) (x : Member) → x.party.own ≡ name → (p : Party) → Stands was p → Stands d p → StandsFor f was x → StandsFor f d x
+  same_second name (Some c) was d x own p before now is = elim (by_blank c) [
+    | inl blank ↦ opened_second c d x blank (subst (Stands d) (one_party was p x.party before (second_stands c was x is blank)) now) (second_space c was x is blank)
+    | inr not ↦ opened_first c d name x own (first_stands c was x is not) (inr (p, now, own_like name was p before (like_opened c was name x own is)))
+  ]
+  same_second name None was d x own p before now is = subst (Stands d) (one_party was p x.party before is) now
 
   -- ---- both disks stand
 

@@ -5,14 +5,15 @@ use Rattle.x_disk.specs.Disk.{View, Tells, IsSound, IsDurable}
 use Rattle.x_disk.specs.Shelf.{IsAlike}
 use Rattle.key_journal.specs.Journal.{is_blank}
 use Rattle.party_tables.proofs.Keys.{test_idents}
+use Rattle.change_code.specs.declared.format.Format.TheVariants.{Two}
 use Rattle.key_store.specs.Store.{Stands}
 use Rattle.member.specs.Member.{Member}
 use Rattle.world_laws.specs.World.{World, member_at}
 use Rattle.call_laws.specs.Sessions.{AllOff}
 use Rattle.mirror_laws.specs.Runs.{Which, FirstDisk, SecondDisk, Loses}
 use Rattle.mirror_laws.specs.Sessions.{PairDeed, PowerFails, Lost, HaveOwnDisks, IsLost}
-use Rattle.mirror_laws.proofs.Moves.{after_lost, lost_moves}
-use Rattle.mirror_laws.proofs.Images.{Pair, StandsFor, MayBe, Known, told, fewer, opened_first, first_stands, opened_lost, party_kept}
+use Rattle.mirror_laws.proofs.Moves.{after_lost, party_kept, lost_moves}
+use Rattle.mirror_laws.proofs.Images.{Pair, StandsFor, MayBe, Known, told, fewer, opened_first, first_stands, opened_lost}
 use Rattle.mirror_laws.proofs.Ways.{Somebody, Going, Way}
 use Rattle.mirror_laws.proofs.Led.{IsPossible, Led, GoesOn, led_still, same_led}
 use Rattle.mirror_laws.proofs.Asked.{somebody, by_way, off_left}
@@ -83,7 +84,7 @@ module _ (known : Known) (start : World) (mirror : List ℕ → Option (List ℕ
     first_lost images others None d may =
         let possible : MayBe (was name).may_leave (second_view (mirror name) was).may_leave None d = (second_may d may.0, may.1) in
         let k : Somebody name None d = somebody start mirror disks ds texts g name l.member l.at images others None d possible in
-        record { from_first = None; from_second = d; possible = possible; going = lost_by name FirstDisk k.member None d (subst (Stands d) (sym (party_kept known k.member)) k.stands) }
+        record { from_first = None; from_second = d; possible = possible; going = lost_by name FirstDisk k.member None d (subst (Stands d) (sym (party_kept (Some Two) k.member)) k.stands) }
 
     pub loses_first : GoesOn start mirror disks (ds ++ Lost name FirstDisk ∷ []) (texts ++ []) new
     loses_first = record { first_tells = first_tells; second_tells = second_tells; reach = reach }

@@ -1,17 +1,18 @@
 -- What events at one member make of a network.
-use Rattle.std.proofs.Common.{◌≡◌, ◌≢◌, ℕ, suc, Bool, true, false, cond, Option, Some, List, [], ◌∷◌, ◌++◌, refl, sym, ◌∙◌, subst, bytes_eq, append-nil}
+use Rattle.std.proofs.Common.{◌≡◌, ◌≢◌, ℕ, suc, Bool, true, false, cond, Option, Some, None, List, [], ◌∷◌, ◌++◌, refl, sym, ◌∙◌, subst, bytes_eq, append-nil}
 use Rattle.party_tables.proofs.Keys.{test_idents}
 use Rattle.party_tables.proofs.Tables.{find_key}
 use Rattle.party_state.specs.declared.command.Input.{Input}
 use Rattle.party_state.specs.declared.edit.Edit.{Edit}
 use Rattle.change_code.specs.Cost.{can_compact, is_change, space_of_whole}
+use Rattle.change_code.specs.declared.format.Format.{Format}
 use Rattle.change_code.specs.declared.format.Format.TheVariants.{Two}
 use Rattle.member.specs.Member.{Member, Plan, plan_at, as_full, after}
 use Rattle.member.specs.Acts.{taking}
 use Rattle.mirror_store.specs.Turns.{fits_frame, pair_plan_at}
 use Rattle.world_laws.specs.World.{World, own_of, member_at}
-use Rattle.world_laws.specs.Events.{CutNew}
-use Rattle.world_laws.specs.Steps.{step, world_with_space}
+use Rattle.world_laws.specs.Events.{Whole, CutNew}
+use Rattle.world_laws.specs.Steps.{step, world_with_space, world_rewritten}
 use Rattle.world_laws.specs.Nodes.{IsEventOf, input_event}
 use Rattle.call_laws.proofs.Members.{put_here, put_there}
 use Rattle.call_laws.proofs.Others.{Beside, step_beside}
@@ -39,27 +40,48 @@ moved_on name w mid later texts y z first next = record {
   texts_are = next.texts_are ∙ (append-nil mid.texts ∙ first.texts_are);
 }
 
--- ---- a loss
+-- ---- the party is written whole
 
-abbrev pub written_whole : Member → Member
-written_whole x = record { party = x.party; space = space_of_whole Two x.party }
+abbrev pub written_whole : Format → Member → Member
+written_whole f x = record { party = x.party; space = space_of_whole f x.party }
+
+-- the member after its party was to be written whole in this format, if in any
+abbrev pub after_written : Option Format → Member → Member
+after_written None x = x
+after_written (Some f) x = cond (can_compact f x.party) (written_whole f x) x
+
+pub party_kept : (o : Option Format) (x : Member) → (after_written o x).party ≡ x.party
+party_kept None x = refl
+party_kept (Some f) x = go (can_compact f x.party)
+  where
+    go : (b : Bool) → (cond b (written_whole f x) x).party ≡ x.party
+    go true = refl
+    go false = refl
 
 -- the member after the loss of this disk
 abbrev pub after_lost : Which → Member → Member
-after_lost FirstDisk x = cond (can_compact Two x.party) (written_whole x) x
+after_lost FirstDisk x = after_written (Some Two) x
 after_lost SecondDisk x = x
 
 module _ (name : List ℕ) (w : World) (x : Member) (at : member_at name w.members ≡ Some x) where
-  rewritten : (b : Bool) → Moved name w (cond b (world_with_space w x (space_of_whole Two x.party)) w) [] (cond b (written_whole x) x)
-  rewritten true = record {
-    at = put_here (written_whole x) w.members name (own_found name w x at);
-    others = λ q ne. put_there (written_whole x) w.members q (λ is. ne (is ∙ sym (own_found name w x at)));
+  rewritten : (f : Format) (b : Bool) → Moved name w (cond b (world_with_space w x (space_of_whole f x.party)) w) [] (cond b (written_whole f x) x)
+  rewritten f true = record {
+    at = put_here (written_whole f x) w.members name (own_found name w x at);
+    others = λ q ne. put_there (written_whole f x) w.members q (λ is. ne (is ∙ sym (own_found name w x at)));
     texts_are = sym (append-nil w.texts);
   }
-  rewritten false = unmoved name w x at
+  rewritten f false = unmoved name w x at
+
+  pub written_moves : (o : Option Format) → Moved name w (world_rewritten o w x Whole) [] (after_written o x)
+  written_moves None = unmoved name w x at
+  written_moves (Some f) = rewritten f (can_compact f x.party)
+
+  pub cut_written_moves : (o : Option Format) → Moved name w (world_rewritten o w x CutNew) [] (after_written o x)
+  cut_written_moves None = unmoved name w x at
+  cut_written_moves (Some f) = rewritten f (can_compact f x.party)
 
   lost_by : (which : Which) → Moved name w (world_after_loss w which (Some x)) [] (after_lost which x)
-  lost_by FirstDisk = rewritten (can_compact Two x.party)
+  lost_by FirstDisk = written_moves (Some Two)
   lost_by SecondDisk = unmoved name w x at
 
   pub lost_moves : (which : Which) (n : ℕ) → Moved name w (pair_step n w (Loses name which)) [] (after_lost which x)

@@ -1,5 +1,5 @@
 -- By which events a member goes on to the images that a call over its two disks leaves.
-use Rattle.std.proofs.Common.{◌≡◌, inl, inr, ℕ, true, false, Option, Some, None, List, [], ◌∷◌, sym, ◌∙◌, ap, subst}
+use Rattle.std.proofs.Common.{◌≡◌, inl, inr, ℕ, true, false, Option, Some, None, List, [], ◌∷◌, sym, ◌∙◌, subst}
 use Rattle.x_disk.specs.Disk.{View}
 use Rattle.key_journal.specs.Journal.{is_blank}
 use Rattle.party_state.specs.State.{Party}
@@ -9,7 +9,7 @@ use Rattle.world_laws.specs.World.{World, member_at}
 use Rattle.mirror_laws.specs.Runs.{FirstDisk, PairEvent, Loses, pair_run, ArePairEvents}
 use Rattle.mirror_laws.specs.Deeds.{MayBeBlank}
 use Rattle.mirror_laws.proofs.Moves.{Moved, unmoved, after_lost, lost_moves}
-use Rattle.mirror_laws.proofs.Images.{StandsFor, MayBe, IsLike, by_blank, Known, one_party, never_blank, opened_first, first_stands, opened_second, second_stands, second_space, blank_again, opened_lost, like_opened}
+use Rattle.mirror_laws.proofs.Images.{StandsFor, MayBe, IsLike, by_blank, Known, one_party, never_blank, opened_first, first_stands, opened_second, second_stands, second_space, blank_again, opened_lost, like_opened, own_like}
 
 -- under this name somebody stands for the images
 pub record Somebody (name : List ℕ) (f : Option (List ℕ)) (d : List ℕ) : Type 0 where
@@ -101,15 +101,11 @@ module _ (known : Known) (name : List ℕ) (first second : View) (some : (f : Op
   abbrev Left : List ℕ → Type 0
   Left d = SecondLeft x next Change second.may_leave was_second d
 
-  same_own : (p : Party) → Stands was_second p → IsLike name was_second → p.own ≡ name
-  same_own p stands (inl blank) = never_blank known was_second p blank stands
-  same_own p stands (inr other) = ap (λ (q : Party). q.own) (one_party known was_second p other.0 stands other.1) ∙ other.2
-
   like_left : (d : List ℕ) → Left d → IsLike name d
   like_left d (OldSecond stands) = inr (x.party, stands, here.own)
   like_left d (NewSecond change stands) = inr (next.party, stands, next_own change)
   like_left d (BlankSecond was blank) = inl blank
-  like_left d (SameSecond p was stands) = inr (p, stands, same_own p was (like_now was_second second_left))
+  like_left d (SameSecond p was stands) = inr (p, stands, own_like known name was_second p was (like_now was_second second_left))
   like_left d (WasSecond left) = like_now d left
 
   -- the first image is blank
