@@ -17,6 +17,8 @@ mod Asked
 mod OneDisk
 mod CallsGo
 mod ShowsGo
+mod Tending
+mod TendsGo
 pub mod Asides
 mod AsidesGo
 mod LossesGo

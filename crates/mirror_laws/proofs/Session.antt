@@ -23,7 +23,7 @@ use Rattle.world_laws.specs.Laws.{OneKeyPerCount, Once, Agreement, EndedBoth}
 use Rattle.world_laws.proofs.Counting.Runs.{start_bare}
 use Rattle.call_laws.specs.Sessions.{reply_of}
 use Rattle.mirror_laws.specs.Runs.{FirstDisk, SecondDisk, PairEvent, pair_run, ArePairEvents, HonestPairRun}
-use Rattle.mirror_laws.specs.Sessions.{PairDeed, Called, CutOff, Shown, ShowCutOff, Aside, PowerFails, Lost, HaveOwnDisks, StandsOnOwn, AllStandOnOwn, IsTurned, IsPairMade, IsMadeOn, IsPairCalled, PairOffWithin, IsDeedDone, AreDeedsDone, pair_deed_texts, pair_texts_in}
+use Rattle.mirror_laws.specs.Sessions.{PairDeed, Called, CutOff, Shown, ShowCutOff, Tended, TendCutOff, Aside, PowerFails, Lost, HaveOwnDisks, StandsOnOwn, AllStandOnOwn, IsTurned, IsPairMade, IsMadeOn, IsPairCalled, PairOffWithin, IsDeedDone, AreDeedsDone, pair_deed_texts, pair_texts_in}
 use Rattle.mirror_laws.specs.Deeds.{RecoversAs, AreImagesOf, AllMayLeave, EndsAsPairDone, EndsOnAllImages}
 use Rattle.mirror_laws.proofs.Moves.{own_found}
 use Rattle.mirror_laws.proofs.Images.{Pair, StandsFor, MayBe, Known, told, both_stand}
@@ -31,6 +31,7 @@ use Rattle.mirror_laws.proofs.Led.{IsPossible, Led, GoesOn}
 use Rattle.mirror_laws.proofs.OneDisk.{alone_stands, stands_alone, one_called, one_cut_off}
 use Rattle.mirror_laws.proofs.CallsGo.{called, cut_off}
 use Rattle.mirror_laws.proofs.ShowsGo.{shows, show_cut_off}
+use Rattle.mirror_laws.proofs.TendsGo.{tends_first, first_cut_off, tends_second, second_cut_off}
 use Rattle.mirror_laws.proofs.AsidesGo.{aside}
 use Rattle.mirror_laws.proofs.LossesGo.{all_off, loses_first, loses_second}
 use Rattle.mirror_laws.proofs.OwnDisks.{second_view, but_own}
@@ -175,6 +176,10 @@ module _ (known : Known) (inputs : (x : Member) (i : Input) (moment : ℕ) → I
     deed_goes (CutOff name action moment o) mid new later is = by_cut name action moment o mid new is.0 is.1
     deed_goes (Shown name) mid new later is = shows known start mirror apart disks ds texts g (sound (0 + length ds)) name new is later
     deed_goes (ShowCutOff name) mid new later is = show_cut_off known start mirror apart disks ds texts g (sound (0 + length ds)) name mid is.0 new is.1
+    deed_goes (Tended name FirstDisk t moment o) mid new later is = tends_first known refused start mirror apart disks ds texts g (sound (0 + length ds)) name t moment o new is later
+    deed_goes (Tended name SecondDisk t moment o) mid new later is = tends_second known refused start mirror apart disks ds texts g (sound (0 + length ds)) name t moment o new is later
+    deed_goes (TendCutOff name FirstDisk t moment o) mid new later is = first_cut_off known refused start mirror apart disks ds texts g (sound (0 + length ds)) name t moment o mid is.0 new is.1
+    deed_goes (TendCutOff name SecondDisk t moment o) mid new later is = second_cut_off known refused start mirror apart disks ds texts g (sound (0 + length ds)) name t moment o mid is.0 new is.1
     deed_goes Aside mid new later is = aside start mirror disks ds texts g new is
     deed_goes PowerFails mid new later is = all_off start mirror disks ds texts g new is
     deed_goes (Lost name FirstDisk) mid new later is = loses_first known start mirror apart disks ds texts g (sound (0 + length ds)) name new is

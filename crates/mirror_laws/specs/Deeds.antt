@@ -13,11 +13,11 @@ use Rattle.mirror_store.specs.Opening.{HasFirstSpace}
 use Rattle.x_party.specs.declared.outcome.Outcome.{Outcome}
 use Rattle.x_party.specs.declared.outcome.Outcome.TheVariants as outcome
 use Rattle.world_laws.specs.World.{World, member_at}
-use Rattle.world_laws.specs.Events.{Action, Event, Whole, CutNew}
+use Rattle.world_laws.specs.Events.{Action, Compacts, Migrates, Event, Whole, CutNew}
 use Rattle.world_laws.specs.Laws.{OneKeyPerCount, Once, Agreement, EndedBoth}
 use Rattle.call_laws.specs.Deeds.{event_of, IsCutOrNone, IsCallOf}
-use Rattle.mirror_laws.specs.Runs.{FirstDisk, PairEvent, Happens, Loses, pair_run, ArePairEvents, HonestPairRun}
-use Rattle.mirror_laws.specs.Sessions.{PairDeed, Called, CutOff, Shown, ShowCutOff, Aside, PowerFails, Lost, pair_texts_in}
+use Rattle.mirror_laws.specs.Runs.{Which, FirstDisk, SecondDisk, PairEvent, Happens, Loses, pair_run, ArePairEvents, HonestPairRun}
+use Rattle.mirror_laws.specs.Sessions.{Tending, Compacting, Migrating, Wiping, PairDeed, Called, CutOff, Shown, ShowCutOff, Tended, TendCutOff, Aside, PowerFails, Lost, pair_texts_in}
 
 -- the event is cut off with the new state, or there is none
 abbrev pub IsCutNewOrNone : List ℕ → Action → ℕ → List PairEvent → Type 0
@@ -74,6 +74,31 @@ abbrev pub IsCutOn : Option (List ℕ) → List ℕ → Action → ℕ → View 
 IsCutOn None name action moment first es = OnlyHappen (IsCutOrNone name action moment) es
 IsCutOn (Some second) name action moment first es = IsUnanswered name action moment first es
 
+-- of a call that was to write a party whole on its first disk it is the whole event; none, where it was refused; and where it ended
+-- with a fault or with no memory, the event cut off with the new state, or none
+abbrev pub IsRewritingOf : Outcome → List ℕ → Action → ℕ → List PairEvent → Type 0
+IsRewritingOf (outcome.Done reply) name action moment es = es ≡ Happens (event_of name action moment Whole) ∷ []
+IsRewritingOf (outcome.Refused verdict reply) name action moment es = es ≡ []
+IsRewritingOf (outcome.OtherParty asked found) name action moment es = ⊥
+IsRewritingOf (outcome.Damaged place) name action moment es = ⊥
+IsRewritingOf outcome.Fault name action moment es = IsCutNewOrNone name action moment es
+IsRewritingOf outcome.NoMemory name action moment es = IsCutNewOrNone name action moment es
+
+-- the format and the room of a member are those of its first disk: a compaction or a migration of that is an event; what is done
+-- with the second is none, nor is wiping
+abbrev pub IsTendingOf : Which → Tending → Outcome → List ℕ → ℕ → List PairEvent → Type 0
+IsTendingOf FirstDisk Compacting o name moment es = IsRewritingOf o name Compacts moment es
+IsTendingOf FirstDisk Migrating o name moment es = IsRewritingOf o name Migrates moment es
+IsTendingOf FirstDisk Wiping o name moment es = es ≡ []
+IsTendingOf SecondDisk t o name moment es = es ≡ []
+
+-- where the power failed in it
+abbrev pub IsCutTendingOf : Which → Tending → List ℕ → ℕ → List PairEvent → Type 0
+IsCutTendingOf FirstDisk Compacting name moment es = IsCutNewOrNone name Compacts moment es
+IsCutTendingOf FirstDisk Migrating name moment es = IsCutNewOrNone name Migrates moment es
+IsCutTendingOf FirstDisk Wiping name moment es = es ≡ []
+IsCutTendingOf SecondDisk t name moment es = es ≡ []
+
 -- a show is none, or a loss as above; what writes no party's disk is none, and a failure of power between two calls; a loss is
 -- that loss. `disks` is what the shelf tells of each disk before
 abbrev pub IsOfPairDeed : (List ℕ → Option (List ℕ)) → PairDeed → (List ℕ → View) → List PairEvent → Type 0
@@ -81,6 +106,8 @@ IsOfPairDeed mirror (Called name action moment o) disks es = IsCallOn (mirror na
 IsOfPairDeed mirror (CutOff name action moment o) disks es = IsCutOn (mirror name) name action moment (disks name) es
 IsOfPairDeed mirror (Shown name) disks es = IsLostAgainOrNot name (disks name) es
 IsOfPairDeed mirror (ShowCutOff name) disks es = IsLostAgainOrNot name (disks name) es
+IsOfPairDeed mirror (Tended name which t moment o) disks es = IsTendingOf which t o name moment es
+IsOfPairDeed mirror (TendCutOff name which t moment o) disks es = IsCutTendingOf which t name moment es
 IsOfPairDeed mirror Aside disks es = es ≡ []
 IsOfPairDeed mirror PowerFails disks es = es ≡ []
 IsOfPairDeed mirror (Lost name which) disks es = es ≡ Loses name which ∷ []

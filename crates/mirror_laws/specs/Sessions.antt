@@ -10,6 +10,7 @@ use Rattle.party_state.specs.declared.command.Input.TheVariants as input
 use Rattle.member.specs.Member.{Member}
 use Rattle.disk_pair.specs.Pairs.{ThirdsStay}
 use Rattle.x_party.specs.Images.{DiskStandsFor}
+use Rattle.x_party.specs.Outcomes.{CompactsParty, MigratesParty, WipesParty, IsSafeCompaction, IsSafeMigration, IsSafeWiping}
 use Rattle.x_party.specs.declared.outcome.Outcome.{Outcome}
 use Rattle.x_pair.specs.Outcomes.{BothStand, MakesPair, IsSafePair, showing, turning}
 use Rattle.world_laws.specs.World.{World, member_at}
@@ -17,13 +18,19 @@ use Rattle.world_laws.specs.Events.{Action, Orders, Hears, Compacts, Migrates, I
 use Rattle.call_laws.specs.Sessions.{IsMade, IsOff, AllOff, reply_of}
 use Rattle.mirror_laws.specs.Runs.{Which, FirstDisk, SecondDisk}
 
+-- what is done with one disk of a party, which stays as it is: the party is written whole in its format, or in format 2, or what
+-- doesn't count of the file is wiped
+pub data Tending : Type 0 where
+  Compacting Migrating Wiping : Tending
+
 -- what is done: the party of this name is called over its one disk or its two, at a moment, with an outcome; it is called, and the
 -- power fails at some moment from the beginning of the call to the end that it would have; it is shown over its two disks, with or
--- without such a failure; something is done that writes no party's disk; the power fails between two calls, or in a call that writes
--- nothing; or one of a party's two disks is lost between two calls
+-- without such a failure; one disk of it is tended, with or without such a failure; something is done that writes no party's disk; the
+-- power fails between two calls, or in a call that writes nothing; or one of a party's two disks is lost between two calls
 pub data PairDeed : Type 0 where
   Called CutOff : List ℕ → Action → ℕ → Outcome → PairDeed
   Shown ShowCutOff : List ℕ → PairDeed
+  Tended TendCutOff : List ℕ → Which → Tending → ℕ → Outcome → PairDeed
   Aside PowerFails : PairDeed
   Lost : List ℕ → Which → PairDeed
 
@@ -87,6 +94,26 @@ pub record IsPairShown (start : World) (mirror : List ℕ → Option (List ℕ))
   pub safe : IsSafePair showing (old name) (old second) (new name) (new second)
   pub others : AllButOwnStay (mirror name) name old new
 
+-- what the call that tends a disk promises of it
+abbrev pub IsTendedDisk : Tending → Outcome → View → View → Type 0
+IsTendedDisk Compacting o old new = CompactsParty old new o × IsSafeCompaction old new
+IsTendedDisk Migrating o old new = MigratesParty old new o × IsSafeMigration old new
+IsTendedDisk Wiping o old new = WipesParty old new o × IsSafeWiping old new
+
+-- the disk of a party: its first, which may be its only one; or its second, where it has one
+abbrev pub own_disk : (List ℕ → Option (List ℕ)) → List ℕ → Which → Option (List ℕ)
+own_disk mirror name FirstDisk = Some name
+own_disk mirror name SecondDisk = mirror name
+
+-- one disk of a member of the network is tended; the others stay, the other one of this member too
+pub record IsTended (start : World) (mirror : List ℕ → Option (List ℕ)) (name : List ℕ) (which : Which) (t : Tending) (o : Outcome) (old new : List ℕ → View) : Type 0 where
+  pub member : Member
+  pub at : member_at name start.members ≡ Some member
+  pub disk : List ℕ
+  pub own : own_disk mirror name which ≡ Some disk
+  pub made : IsTendedDisk t o (old disk) (new disk)
+  pub others : OthersStay disk old new
+
 -- the disk isn't written: a read gives what it gave before, and a crash leaves nothing but what it could leave before
 pub record StaysUnwritten (old new : View) : Type 0 where
   pub now : new.now ≡ old.now
@@ -138,6 +165,8 @@ IsDeedDone start mirror (Called name action moment o) old mid new = IsPairCalled
 IsDeedDone start mirror (CutOff name action moment o) old mid new = IsPairCalled start mirror name action moment o old mid × PairOffWithin mirror name old mid new
 IsDeedDone start mirror (Shown name) old mid new = IsPairShown start mirror name old new
 IsDeedDone start mirror (ShowCutOff name) old mid new = IsPairShown start mirror name old mid × PairOffWithin mirror name old mid new
+IsDeedDone start mirror (Tended name which t moment o) old mid new = IsTended start mirror name which t o old new
+IsDeedDone start mirror (TendCutOff name which t moment o) old mid new = IsTended start mirror name which t o old mid × PairOffWithin mirror name old mid new
 IsDeedDone start mirror Aside old mid new = IsAside start mirror old new
 IsDeedDone start mirror PowerFails old mid new = AllOff old new
 IsDeedDone start mirror (Lost name which) old mid new = IsLost start mirror name which old new
@@ -147,14 +176,16 @@ abbrev pub AreDeedsDone : World → (List ℕ → Option (List ℕ)) → List Pa
 AreDeedsDone start mirror [] k disks ends = Unit {0}
 AreDeedsDone start mirror (d ∷ ds) k disks ends = IsDeedDone start mirror d (disks k) (ends k) (disks (suc k)) × AreDeedsDone start mirror ds (suc k) disks ends
 
--- what was handed out, joined: nothing by a call that failed or was cut off. What is shown of a party is no text, nor what else
--- comes out where no party's disk is written
+-- what was handed out, joined: nothing by a call that failed or was cut off, nor where one disk is tended. What is shown of a party is
+-- no text, nor what else comes out where no party's disk is written
 
 abbrev pub pair_deed_texts : PairDeed → List (List ℕ)
 pair_deed_texts (Called name action moment o) = reply_of o
 pair_deed_texts (CutOff name action moment o) = []
 pair_deed_texts (Shown name) = []
 pair_deed_texts (ShowCutOff name) = []
+pair_deed_texts (Tended name which t moment o) = []
+pair_deed_texts (TendCutOff name which t moment o) = []
 pair_deed_texts Aside = []
 pair_deed_texts PowerFails = []
 pair_deed_texts (Lost name which) = []
