@@ -9,9 +9,8 @@ use Rattle.change_code.specs.declared.format.Format.TheVariants.{Two}
 use Rattle.key_store.specs.Store.{Stands}
 use Rattle.member.specs.Member.{Member}
 use Rattle.world_laws.specs.World.{World, member_at}
-use Rattle.call_laws.specs.Sessions.{AllOff}
 use Rattle.mirror_laws.specs.Runs.{Which, FirstDisk, SecondDisk, Loses}
-use Rattle.mirror_laws.specs.Sessions.{PairDeed, PowerFails, Lost, HaveOwnDisks, IsLost}
+use Rattle.mirror_laws.specs.Sessions.{PairDeed, PowerFails, Lost, HaveOwnDisks, AllOwnOff, IsLost}
 use Rattle.mirror_laws.proofs.Moves.{after_lost, party_kept, lost_moves}
 use Rattle.mirror_laws.proofs.Images.{Pair, StandsFor, MayBe, Known, told, fewer, opened_first, first_stands, opened_lost}
 use Rattle.mirror_laws.proofs.Ways.{Somebody, Going, Way}
@@ -19,15 +18,15 @@ use Rattle.mirror_laws.proofs.Led.{IsPossible, Led, GoesOn, led_still, same_led}
 use Rattle.mirror_laws.proofs.Asked.{somebody, by_way, off_left}
 use Rattle.mirror_laws.proofs.OwnDisks.{second_view, second_sound, second_alike, second_off, not_second, not_first, not_mirror}
 
--- the power fails between two calls
-pub all_off : (start : World) (mirror : List ℕ → Option (List ℕ)) (disks : ℕ → List ℕ → View) (ds : List PairDeed) (texts : List (List ℕ)) → GoesOn start mirror disks ds texts (disks (0 + length ds)) → (new : List ℕ → View) → AllOff (disks (0 + length ds)) new
+-- the power fails while no party's disk is written
+pub all_off : (start : World) (mirror : List ℕ → Option (List ℕ)) (disks : ℕ → List ℕ → View) (ds : List PairDeed) (texts : List (List ℕ)) → GoesOn start mirror disks ds texts (disks (0 + length ds)) → (new : List ℕ → View) → AllOwnOff start mirror (disks (0 + length ds)) new
     → GoesOn start mirror disks (ds ++ PowerFails ∷ []) (texts ++ []) new
 all_off start mirror disks ds texts g new off = record {
-  first_tells = λ q x h. ap is_some (off q).reads;
-  second_tells = λ q x h. ap is_some (second_off (mirror q) (disks (0 + length ds)) new (λ s e. off s)).reads;
+  first_tells = λ q x h. ap is_some (off.firsts q x h).reads;
+  second_tells = λ q x h. ap is_some (second_off (mirror q) (disks (0 + length ds)) new (λ s e. off.seconds q s x h e)).reads;
   reach = λ images possible. same_led start mirror disks (ds ++ PowerFails ∷ []) texts images (led_still start mirror disks ds texts images PowerFails refl (g.reach images (λ q x h.
       fewer (new q).may_leave (second_view (mirror q) new).may_leave (disks (0 + length ds) q).may_leave (second_view (mirror q) (disks (0 + length ds))).may_leave
-      (off_left (disks (0 + length ds) q).may_leave (new q) (off q)) (off_left (second_view (mirror q) (disks (0 + length ds))).may_leave (second_view (mirror q) new) (second_off (mirror q) (disks (0 + length ds)) new (λ s e. off s)))
+      (off_left (disks (0 + length ds) q).may_leave (new q) (off.firsts q x h)) (off_left (second_view (mirror q) (disks (0 + length ds))).may_leave (second_view (mirror q) new) (second_off (mirror q) (disks (0 + length ds)) new (λ s e. off.seconds q s x h e)))
       (images q).first (images q).second (possible q x h))));
 }
 

@@ -15,7 +15,7 @@ use Rattle.x_party.specs.declared.outcome.Outcome.{Outcome}
 use Rattle.x_pair.specs.Outcomes.{BothStand, MakesPair, IsSafePair, showing, turning}
 use Rattle.world_laws.specs.World.{World, member_at}
 use Rattle.world_laws.specs.Events.{Action, Orders, Hears, Compacts, Migrates, IsAction}
-use Rattle.call_laws.specs.Sessions.{IsMade, IsOff, AllOff, reply_of}
+use Rattle.call_laws.specs.Sessions.{IsMade, IsOff, reply_of}
 use Rattle.mirror_laws.specs.Runs.{Which, FirstDisk, SecondDisk}
 
 -- what is done with one disk of a party, which stays as it is: the party is written whole in its format, or in format 2, or what
@@ -26,7 +26,7 @@ pub data Tending : Type 0 where
 -- what is done: the party of this name is called over its one disk or its two, at a moment, with an outcome; it is called, and the
 -- power fails at some moment from the beginning of the call to the end that it would have; it is shown over its two disks, with or
 -- without such a failure; one disk of it is tended, with or without such a failure; something is done that writes no party's disk; the
--- power fails between two calls, or in a call that writes nothing; or one of a party's two disks is lost between two calls
+-- power fails while no such disk is written; or one of a party's two disks is lost between two calls
 pub data PairDeed : Type 0 where
   Called CutOff : List ℕ → Action → ℕ → Outcome → PairDeed
   Shown ShowCutOff : List ℕ → PairDeed
@@ -136,6 +136,12 @@ pub record PairOffWithin (mirror : List ℕ → Option (List ℕ)) (name : List 
   pub second : (other : List ℕ) → mirror name ≡ Some other → IsOff ((mid other).left_since (old other).moment) (new other)
   pub others : (other : List ℕ) → other ≢ name → mirror name ≢ Some other → IsOff (old other).may_leave (new other)
 
+-- the power failed while no disk of a member was written: of each one of the images is read that could be left; all else on the shelf
+-- may be in any way
+pub record AllOwnOff (start : World) (mirror : List ℕ → Option (List ℕ)) (old new : List ℕ → View) : Type 0 where
+  pub firsts : (name : List ℕ) (x : Member) → member_at name start.members ≡ Some x → IsOff (old name).may_leave (new name)
+  pub seconds : (name second : List ℕ) (x : Member) → member_at name start.members ≡ Some x → mirror name ≡ Some second → IsOff (old second).may_leave (new second)
+
 -- the disk that is lost of the two, and the other one
 
 abbrev pub lost_disk : List ℕ → List ℕ → Which → List ℕ
@@ -168,7 +174,7 @@ IsDeedDone start mirror (ShowCutOff name) old mid new = IsPairShown start mirror
 IsDeedDone start mirror (Tended name which t moment o) old mid new = IsTended start mirror name which t o old new
 IsDeedDone start mirror (TendCutOff name which t moment o) old mid new = IsTended start mirror name which t o old mid × PairOffWithin mirror name old mid new
 IsDeedDone start mirror Aside old mid new = IsAside start mirror old new
-IsDeedDone start mirror PowerFails old mid new = AllOff old new
+IsDeedDone start mirror PowerFails old mid new = AllOwnOff start mirror old new
 IsDeedDone start mirror (Lost name which) old mid new = IsLost start mirror name which old new
 
 -- each deed is done, from the disks of its number to those of the next

@@ -18,9 +18,9 @@ use Rattle.x_line.specs.declared.order.Order.TheVariants as order
 use Rattle.x_line.specs.Options.{name_of}
 use Rattle.x_line.specs.Orders.{HasValues, IsOfTwo}
 use Rattle.world_laws.specs.World.{World}
-use Rattle.world_laws.specs.Events.{Action, Orders, Hears, Compacts, Migrates, IsAction, IsCommand}
+use Rattle.world_laws.specs.Events.{Action, Orders, Hears, IsAction, IsCommand}
 use Rattle.call_laws.specs.Sessions.{IsMade}
-use Rattle.mirror_laws.specs.Sessions.{AllButOwnStay, IsAside, IsMadeOn, IsNobodys, IsPairMade}
+use Rattle.mirror_laws.specs.Sessions.{Tending, Compacting, Migrating, Wiping, AllButOwnStay, IsAside, IsMadeOn, IsNobodys, IsPairMade, IsTendedDisk}
 use Rattle.mirror_laws.proofs.Asides.{alike_unwritten, aside_but_one, aside_but_two, aside_of_all, untouched_unwritten}
 use Rattle.call_ends.specs.declared.status.Status.{Status}
 use Rattle.call_ends.specs.declared.status.Status.TheVariants as status
@@ -30,7 +30,7 @@ use Rattle.party_calls.specs.Mirrored.{IsPairCall, LeavesMirrored, ObeysMirrored
 use Rattle.party_calls.specs.Obeys.{IsPartyTurn, LeavesOthers, Obeys, OthersOf, ledger_of, party_of}
 use Rattle.party_calls.proofs.Mirrors.{idle_mirrored, left_all}
 use Rattle.party_calls.proofs.Orders.{idle, leaves_all}
-use Rattle.x917.specs.Deeds.{IsCallDeed, IsDeed, IsDeedOf, OverOwn}
+use Rattle.x917.specs.Deeds.{IsCallDeed, IsDeed, IsDeedOf, IsTendingDeed, OverOwn}
 use Rattle.x917.proofs.NetworkEvents.{ident_given, label_given}
 
 module _ (start : World) (mirrors : List ℕ → Option (List ℕ)) (old new : List ℕ → View) where
@@ -77,6 +77,13 @@ module _ (start : World) (mirrors : List ℕ → Option (List ℕ)) (old new : L
       ends = ends;
     }
 
+    tended_one : (file : List ℕ) (t : Tending) (o : Outcome) → IsTendedDisk t o (old file) (new file) → OthersStay file old new → Ends o [] s before after → IsTendingDeed start mirrors file t old new s before after
+    tended_one file t o made others ends = record {
+      outcome = o;
+      tended = λ name which x at own. record { member = x; at = at; disk = file; own = own; made = made; others = others };
+      ends = ends;
+    }
+
     command_one : (c : Command) (name : List ℕ) → IsCommand c → IsPartyTurn name (Ordered c) moment (old name) (new name) s before after → OthersStay name old new
         → OverOwn start mirrors name None (IsCallDeed start mirrors name (Orders c) moment (10 ∷ []) old new s before after)
     command_one c name is turned others = call_one name (Orders c) (10 ∷ []) turned.outcome is (turned.turned, turned.safe) others turned.ends
@@ -117,7 +124,7 @@ module _ (start : World) (mirrors : List ℕ → Option (List ℕ)) (old new : L
       deed_one (order.Enter party peer label side) values obeys leaves = tt
       deed_one (order.Value party peer label side) values obeys leaves = aside_untouched party obeys.untouched (leaves.others refl)
       deed_one (order.Show party) values obeys leaves = aside_untouched party obeys.untouched (leaves.others refl)
-      deed_one (order.Wipe party) values obeys leaves = tt
+      deed_one (order.Wipe party) values obeys leaves = tended_one party Wiping obeys.outcome (obeys.wiped, obeys.safe) (leaves.others refl) obeys.ends
       deed_one (order.Compare party other) values obeys leaves =
           aside_but_two start mirrors old new party other (inl (untouched_unwritten (old party) (new party) obeys.first_stays)) (inl (untouched_unwritten (old other) (new other) obeys.second_stays)) (leaves.others refl)
       deed_one order.Replay values obeys leaves = tt
@@ -129,8 +136,8 @@ module _ (start : World) (mirrors : List ℕ → Option (List ℕ)) (old new : L
       deed_one (order.Spool party spool) values obeys leaves = tt
       deed_one (order.Outbox spool) values obeys leaves = aside_untouched spool obeys.untouched (leaves.others refl)
       deed_one order.Batch values obeys leaves = aside_of_all start mirrors old new (leaves.others refl)
-      deed_one (order.Compact party) values obeys leaves = call_one party Compacts [] obeys.outcome tt (obeys.rewritten, obeys.safe) (leaves.others refl) obeys.ends
-      deed_one (order.Migrate party) values obeys leaves = call_one party Migrates [] obeys.outcome tt (obeys.rewritten, obeys.safe) (leaves.others refl) obeys.ends
+      deed_one (order.Compact party) values obeys leaves = tended_one party Compacting obeys.outcome (obeys.rewritten, obeys.safe) (leaves.others refl) obeys.ends
+      deed_one (order.Migrate party) values obeys leaves = tended_one party Migrating obeys.outcome (obeys.rewritten, obeys.safe) (leaves.others refl) obeys.ends
       deed_one (order.Take party) values (inl (unheard, same, alike)) leaves = inl (unheard, same, aside_but_one start mirrors old new party (inl (alike_unwritten (old party) (new party) alike)) (leaves.others refl))
       deed_one (order.Take party) values (inr (a, heard, turned)) leaves = inr (take_one party a heard turned (leaves.others refl))
       deed_one (order.Start party peer label) values obeys leaves = command_one (command.Start peer label) party tt obeys (leaves.others refl)

@@ -9,8 +9,9 @@ use Rattle.x_party.specs.declared.outcome.Outcome.{Outcome}
 use Rattle.x_line.specs.declared.order.Order.{Order}
 use Rattle.x_line.specs.declared.order.Order.TheVariants as order
 use Rattle.world_laws.specs.World.{World, member_at}
-use Rattle.world_laws.specs.Events.{Action, Orders, Hears, Compacts, Migrates}
-use Rattle.mirror_laws.specs.Sessions.{IsPairCalled, IsPairShown, IsAside, IsNobodys}
+use Rattle.world_laws.specs.Events.{Action, Orders, Hears}
+use Rattle.mirror_laws.specs.Runs.{Which}
+use Rattle.mirror_laws.specs.Sessions.{Tending, Compacting, Migrating, Wiping, IsPairCalled, IsPairShown, IsAside, IsNobodys, IsTended, own_disk}
 use Rattle.call_ends.specs.declared.party_command.PartyCommand.{PartyCommand}
 use Rattle.call_ends.specs.declared.status.Status.{Status}
 use Rattle.call_ends.specs.Commands.{command_of}
@@ -28,7 +29,14 @@ pub record IsCallDeed (start : World) (mirrors : List ℕ → Option (List ℕ))
   pub called : IsPairCalled start mirrors name action moment outcome old new
   pub ends : Ends outcome ending s before after
 
--- a message is heard of the bytes that are taken, and its arrival is the action; or none is, and no disk is written
+-- the disk of this name is tended, if it is one of the two of a party of the network, or its only one
+pub record IsTendingDeed (start : World) (mirrors : List ℕ → Option (List ℕ)) (file : List ℕ) (t : Tending) (old new : List ℕ → View) (s : Status) (before after : Option (List ℕ)) : Type 0 where
+  pub outcome : Outcome
+  pub tended : (name : List ℕ) (which : Which) (x : Member) → member_at name start.members ≡ Some x → own_disk mirrors name which ≡ Some file → IsTended start mirrors name which t outcome old new
+  pub ends : Ends outcome [] s before after
+
+-- a message is heard of the bytes that are taken, and its arrival is the action; or none is, nothing is written out, and no disk of a
+-- party is written
 abbrev pub IsArrivalDeed : World → (List ℕ → Option (List ℕ)) → List ℕ → Option (List ℕ) → ℕ → Option (List ℕ) → (List ℕ → View) → (List ℕ → View) → Status → Option (List ℕ) → Option (List ℕ) → Type 0
 IsArrivalDeed start mirrors name mirror moment left old new s before after = (IsUnheard left s × (after ≡ before) × IsAside start mirrors old new)
     ⊎ IfSome left (λ all. (arrival : Arrival) × OverOwn start mirrors name mirror (IsCallDeed start mirrors name (Hears (taken all) (Some arrival)) moment (10 ∷ []) old new s before after))
@@ -43,7 +51,7 @@ IsShowDeed start mirrors name None old new = IsAside start mirrors old new
 IsShowDeed start mirrors name (Some second) old new = OverOwn start mirrors name (Some second) (IsPairShown start mirrors name old new)
 
 -- which deed an order is, of a party with that second disk or with none: the set-up is in front of the deeds, a batch is many
--- events, what doesn't count of a file is wiped beside them, and a scenario is a network of its own
+-- events, and a scenario is a network of its own
 abbrev pub IsDeedOf : World → (List ℕ → Option (List ℕ)) → Order → Option (List ℕ) → ℕ → Status → Option (List ℕ) → Option (List ℕ) → Option (List ℕ) → (List ℕ → View) → (List ℕ → View) → Type 0
 IsDeedOf start mirrors order.Check mirror moment s left before after old new = IsAside start mirrors old new
 IsDeedOf start mirrors (order.Init party role key v) mirror moment s left before after old new = Unit {0}
@@ -52,7 +60,7 @@ IsDeedOf start mirrors (order.Create party role) mirror moment s left before aft
 IsDeedOf start mirrors (order.Enter party peer label side) mirror moment s left before after old new = Unit {0}
 IsDeedOf start mirrors (order.Value party peer label side) mirror moment s left before after old new = IsAside start mirrors old new
 IsDeedOf start mirrors (order.Show party) mirror moment s left before after old new = IsShowDeed start mirrors party mirror old new
-IsDeedOf start mirrors (order.Wipe party) mirror moment s left before after old new = Unit {0}
+IsDeedOf start mirrors (order.Wipe party) mirror moment s left before after old new = IsTendingDeed start mirrors party Wiping old new s before after
 IsDeedOf start mirrors (order.Compare party other) mirror moment s left before after old new = IsAside start mirrors old new
 IsDeedOf start mirrors order.Replay mirror moment s left before after old new = Unit {0}
 IsDeedOf start mirrors order.Audit mirror moment s left before after old new = IsAside start mirrors old new
@@ -62,8 +70,8 @@ IsDeedOf start mirrors (order.Accept party ledger) mirror moment s left before a
 IsDeedOf start mirrors (order.Spool party spool) mirror moment s left before after old new = Unit {0}
 IsDeedOf start mirrors (order.Outbox spool) mirror moment s left before after old new = IsAside start mirrors old new
 IsDeedOf start mirrors order.Batch mirror moment s left before after old new = IsAside start mirrors old new
-IsDeedOf start mirrors (order.Compact party) mirror moment s left before after old new = OverOwn start mirrors party mirror (IsCallDeed start mirrors party Compacts moment [] old new s before after)
-IsDeedOf start mirrors (order.Migrate party) mirror moment s left before after old new = OverOwn start mirrors party mirror (IsCallDeed start mirrors party Migrates moment [] old new s before after)
+IsDeedOf start mirrors (order.Compact party) mirror moment s left before after old new = IsTendingDeed start mirrors party Compacting old new s before after
+IsDeedOf start mirrors (order.Migrate party) mirror moment s left before after old new = IsTendingDeed start mirrors party Migrating old new s before after
 IsDeedOf start mirrors (order.Take party) mirror moment s left before after old new = IsArrivalDeed start mirrors party mirror moment left old new s before after
 IsDeedOf start mirrors o mirror moment s left before after old new = IsCommandDeed start mirrors (command_of o) mirror moment old new s before after
 
