@@ -1,21 +1,21 @@
 -- What writes no party's disk goes on from what a session may have come to.
 use Rattle.std.proofs.Common.{◌≡◌, ℕ, ◌+◌, Option, Some, List, [], ◌∷◌, ◌++◌, length, refl, ◌∙◌, ap}
 use Rattle.std.specs.Prelude.{is_some}
-use Rattle.x_disk.specs.Disk.{View}
+use Rattle.x_disk.specs.Disk.{View, IsUntouched}
 use Rattle.member.specs.Member.{Member}
 use Rattle.world_laws.specs.World.{World, member_at}
-use Rattle.mirror_laws.specs.Sessions.{PairDeed, Aside, StaysUnwritten, IsAside}
+use Rattle.mirror_laws.specs.Sessions.{PairDeed, Aside, IsAside}
 use Rattle.mirror_laws.proofs.Images.{Pair, fewer}
 use Rattle.mirror_laws.proofs.Led.{IsPossible, GoesOn, led_still, same_led}
-use Rattle.mirror_laws.proofs.OwnDisks.{second_view, second_unwritten}
+use Rattle.mirror_laws.proofs.OwnDisks.{second_view, second_untouched}
 
 module _ (start : World) (mirror : List ℕ → Option (List ℕ)) (disks : ℕ → List ℕ → View) (ds : List PairDeed) (texts : List (List ℕ)) (g : GoesOn start mirror disks ds texts (disks (0 + length ds)))
     (new : List ℕ → View) (is : IsAside start mirror (disks (0 + length ds)) new) where
   abbrev was : List ℕ → View
   was = disks (0 + length ds)
 
-  second : (q : List ℕ) (x : Member) → member_at q start.members ≡ Some x → StaysUnwritten (second_view (mirror q) was) (second_view (mirror q) new)
-  second q x h = second_unwritten (mirror q) was new (λ s e. is.seconds q s x h e)
+  second : (q : List ℕ) (x : Member) → member_at q start.members ≡ Some x → IsUntouched (second_view (mirror q) was) (second_view (mirror q) new)
+  second q x h = second_untouched (mirror q) was new (λ s e. is.seconds q s x h e)
 
   possible_before : (images : List ℕ → Pair) → IsPossible start mirror new images → IsPossible start mirror was images
   possible_before images possible q x h =

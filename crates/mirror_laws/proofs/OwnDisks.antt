@@ -1,11 +1,12 @@
 -- What is told of the second disk of a party: where it has none, what is told of a disk that is blank and stays so.
 use Rattle.std.proofs.Common.{◌≡◌, ◌≢◌, ℕ, Option, Some, None, List, [], refl, sym, ◌∙◌, ap}
-use Rattle.x_disk.specs.Disk.{View, IsSound, Tells}
+use Rattle.x_disk.specs.Disk.{View, IsSound, IsUntouched, Tells}
 use Rattle.x_disk.specs.Shelf.{IsAlike, alike_refl}
+use Rattle.x_disk.proofs.Alike.{untouched_self}
 use Rattle.member.specs.Member.{Member}
 use Rattle.world_laws.specs.World.{World, member_at}
 use Rattle.call_laws.specs.Sessions.{IsOff}
-use Rattle.mirror_laws.specs.Sessions.{AllButOwnStay, HaveOwnDisks, StaysUnwritten}
+use Rattle.mirror_laws.specs.Sessions.{AllButOwnStay, HaveOwnDisks}
 
 abbrev pub no_disk : View
 no_disk = record {
@@ -53,9 +54,9 @@ pub second_off_since : (m : Option (List ℕ)) (old mid new : List ℕ → View)
 second_off_since None old mid new off = record { image = []; reads = refl; left = refl; durable = record { only = λ b c e left. left ∙ cc e; stable = refl } }
 second_off_since (Some second) old mid new off = off second refl
 
-pub second_unwritten : (m : Option (List ℕ)) (old new : List ℕ → View) → ((s : List ℕ) → m ≡ Some s → StaysUnwritten (old s) (new s)) → StaysUnwritten (second_view m old) (second_view m new)
-second_unwritten None old new unwritten = record { now = refl; images = λ c left. left }
-second_unwritten (Some second) old new unwritten = unwritten second refl
+pub second_untouched : (m : Option (List ℕ)) (old new : List ℕ → View) → ((s : List ℕ) → m ≡ Some s → IsUntouched (old s) (new s)) → IsUntouched (second_view m old) (second_view m new)
+second_untouched None old new untouched = untouched_self no_disk no_disk_sound
+second_untouched (Some second) old new untouched = untouched second refl
 
 -- the disks that aren't the party's stay
 abbrev pub ButOwn : (List ℕ → Option (List ℕ)) → List ℕ → (List ℕ → View) → (List ℕ → View) → Type 0

@@ -99,7 +99,7 @@ IsCutTendingOf FirstDisk Migrating name moment es = IsCutNewOrNone name Migrates
 IsCutTendingOf FirstDisk Wiping name moment es = es ≡ []
 IsCutTendingOf SecondDisk t name moment es = es ≡ []
 
--- a show is none, or a loss as above; what writes no party's disk is none, and a failure of power between two calls; a loss is
+-- a show is none, or a loss as above; what writes no party's disk is none, nor is a failure of power while none is written; a loss is
 -- that loss. `disks` is what the shelf tells of each disk before
 abbrev pub IsOfPairDeed : (List ℕ → Option (List ℕ)) → PairDeed → (List ℕ → View) → List PairEvent → Type 0
 IsOfPairDeed mirror (Called name action moment o) disks es = IsCallOn (mirror name) o name action moment (disks name) es

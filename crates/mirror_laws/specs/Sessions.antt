@@ -2,7 +2,7 @@
 -- project's profile). `mirror` names the second disk of each party that keeps two. `old`, `mid` and `new` are what the shelf tells of
 -- each disk before, where a call ends, and afterwards.
 use Rattle.std.specs.Prelude.{◌≡◌, ◌≢◌, ℕ, suc, true, false, Option, Some, None, List, [], ◌∷◌, ◌++◌}
-use Rattle.x_disk.specs.Disk.{View, IsDurable, LeavesNoMore, Tells}
+use Rattle.x_disk.specs.Disk.{View, IsDurable, IsUntouched, Tells}
 use Rattle.x_disk.specs.Shelf.{OthersStay}
 use Rattle.key_journal.specs.Journal.{is_blank}
 use Rattle.party_state.specs.declared.command.Input.{Input}
@@ -114,15 +114,10 @@ pub record IsTended (start : World) (mirror : List ℕ → Option (List ℕ)) (n
   pub made : IsTendedDisk t o (old disk) (new disk)
   pub others : OthersStay disk old new
 
--- the disk isn't written: a read gives what it gave before, and a crash leaves nothing but what it could leave before
-pub record StaysUnwritten (old new : View) : Type 0 where
-  pub now : new.now ≡ old.now
-  pub images : LeavesNoMore old new
-
--- no disk of a member is written; all else on the shelf may change in any way
+-- no disk of a member is written, at any moment; all else on the shelf may change in any way
 pub record IsAside (start : World) (mirror : List ℕ → Option (List ℕ)) (old new : List ℕ → View) : Type 0 where
-  pub firsts : (name : List ℕ) (x : Member) → member_at name start.members ≡ Some x → StaysUnwritten (old name) (new name)
-  pub seconds : (name second : List ℕ) (x : Member) → member_at name start.members ≡ Some x → mirror name ≡ Some second → StaysUnwritten (old second) (new second)
+  pub firsts : (name : List ℕ) (x : Member) → member_at name start.members ≡ Some x → IsUntouched (old name) (new name)
+  pub seconds : (name second : List ℕ) (x : Member) → member_at name start.members ≡ Some x → mirror name ≡ Some second → IsUntouched (old second) (new second)
 
 -- a file is no disk of a member
 pub record IsNobodys (start : World) (mirror : List ℕ → Option (List ℕ)) (file : List ℕ) : Type 0 where

@@ -22,8 +22,9 @@ use x_party::law_one_space;
 /// place; a call over two disks that was held back may have none. For each call that ended with a fault or with no memory, or in
 /// which the power failed, it has its event cut off, or none: over one disk with the old party or the new one; over two with the new
 /// state, and behind it, or behind a show, once more the loss of its first disk, where that could be left blank before. Where a first
-/// disk is tended, a compaction or a migration is an event, none where it was refused, and cut off with the new state alone; a wiping
-/// is none, nor is what is done with a second disk. It has each loss; and no others. After it, of whichever images of a party's disks a
+/// disk is tended, a compaction or a migration is an event where it was done, none where it was refused, and cut off with the new
+/// state, or none, where it failed or the power did; a wiping is none, nor is what is done with a second disk. It has each loss; and
+/// no others. After it, of whichever images of a party's disks a
 /// crash may leave then, the one stands for the member of the network, with its space, or of the two that member's party is to be
 /// opened, with its space, which isn't said where the first image is blank and the party is too large to be written over it; what was
 /// handed out, joined, is what the network has written; and the laws of runs hold of it.

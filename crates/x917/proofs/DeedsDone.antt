@@ -3,6 +3,7 @@ use Rattle.std.proofs.Common.{◌≡◌, ℕ, inl, inr, List, [], ◌∷◌, Opt
 use Rattle.clap.specs.Words.{Row, first_of}
 use Rattle.x_disk.specs.Disk.{View, IsSound, IsUntouched}
 use Rattle.x_disk.specs.Shelf.{OthersStay}
+use Rattle.x_disk.proofs.Alike.{untouched_alike}
 use Rattle.csm_grammar.specs.declared.arrival.Arrival.{Arrival}
 use Rattle.party_state.specs.declared.command.Command.{Command}
 use Rattle.party_state.specs.declared.command.Command.TheVariants as command
@@ -21,7 +22,7 @@ use Rattle.world_laws.specs.World.{World}
 use Rattle.world_laws.specs.Events.{Action, Orders, Hears, IsAction, IsCommand}
 use Rattle.call_laws.specs.Sessions.{IsMade}
 use Rattle.mirror_laws.specs.Sessions.{Tending, Compacting, Migrating, Wiping, AllButOwnStay, IsAside, IsMadeOn, IsNobodys, IsPairMade, IsTendedDisk}
-use Rattle.mirror_laws.proofs.Asides.{alike_unwritten, aside_but_one, aside_but_two, aside_of_all, untouched_unwritten}
+use Rattle.mirror_laws.proofs.Asides.{aside_but_one, aside_but_two, aside_of_all}
 use Rattle.call_ends.specs.declared.status.Status.{Status}
 use Rattle.call_ends.specs.declared.status.Status.TheVariants as status
 use Rattle.call_ends.specs.Listening.{IsHeard, taken}
@@ -33,18 +34,18 @@ use Rattle.party_calls.proofs.Orders.{idle, leaves_all}
 use Rattle.x917.specs.Deeds.{IsCallDeed, IsDeed, IsDeedOf, IsTendingDeed, OverOwn}
 use Rattle.x917.proofs.NetworkEvents.{ident_given, label_given}
 
-module _ (start : World) (mirrors : List ℕ → Option (List ℕ)) (old new : List ℕ → View) where
+module _ (start : World) (mirrors : List ℕ → Option (List ℕ)) (old new : List ℕ → View) (sound : (name : List ℕ) → IsSound (old name)) where
   aside_untouched : (file : List ℕ) → IsUntouched (old file) (new file) → OthersStay file old new → IsAside start mirrors old new
-  aside_untouched file still others = aside_but_one start mirrors old new file (inl (untouched_unwritten (old file) (new file) still)) others
+  aside_untouched file still others = aside_but_one start mirrors old new sound file (inl still) others
 
   aside_paid : (party ledger : List ℕ) → IsUntouched (old party) (new party) → ThirdsStay party ledger old new → IsNobodys start mirrors ledger → IsAside start mirrors old new
-  aside_paid party ledger still thirds none = aside_but_two start mirrors old new party ledger (inl (untouched_unwritten (old party) (new party) still)) (inr none) thirds
+  aside_paid party ledger still thirds none = aside_but_two start mirrors old new sound party ledger (inl still) (inr none) thirds
 
   -- the files of an order are nobody's
   aside_apart : (party other : Option (List ℕ)) → OthersOf party other old new → IfSome party (IsNobodys start mirrors) → IfSome other (IsNobodys start mirrors) → IsAside start mirrors old new
-  aside_apart None other stay none nor = aside_of_all start mirrors old new stay
-  aside_apart (Some party) None stay none nor = aside_but_one start mirrors old new party (inr none) stay
-  aside_apart (Some party) (Some other) stay none nor = aside_but_two start mirrors old new party other (inr none) (inr nor) stay
+  aside_apart None other stay none nor = aside_of_all start mirrors old new sound stay
+  aside_apart (Some party) None stay none nor = aside_but_one start mirrors old new sound party (inr none) stay
+  aside_apart (Some party) (Some other) stay none nor = aside_but_two start mirrors old new sound party other (inr none) (inr nor) stay
 
   -- ---- a call over its party's one disk, or its two
 
@@ -103,21 +104,21 @@ module _ (start : World) (mirrors : List ℕ → Option (List ℕ)) (old new : L
     arrived P a by (Some all) heard = (a, by all heard.0)
 
     take_one : (name : List ℕ) (a : Arrival) → IfSome left (λ all. IsHeard all a × (rest ≡ Some [])) → IsPartyTurn name (Arrived a) moment (old name) (new name) s before after → OthersStay name old new
-        → IfSome left (λ all. (arrival : Arrival) × OverOwn start mirrors name None (IsCallDeed start mirrors name (Hears (taken all) (Some arrival)) moment (10 ∷ []) old new s before after))
-    take_one name a heard turned others = arrived (λ all arrival. OverOwn start mirrors name None (IsCallDeed start mirrors name (Hears (taken all) (Some arrival)) moment (10 ∷ []) old new s before after)) a
-        (λ all is. call_one name (Hears (taken all) (Some a)) (10 ∷ []) turned.outcome (is.heard, is.text) (turned.turned, turned.safe) others turned.ends) left heard
+        → IfSome left (λ all. (arrival : Arrival) × IsHeard all arrival × OverOwn start mirrors name None (IsCallDeed start mirrors name (Hears (taken all) (Some arrival)) moment (10 ∷ []) old new s before after))
+    take_one name a heard turned others = arrived (λ all arrival. IsHeard all arrival × OverOwn start mirrors name None (IsCallDeed start mirrors name (Hears (taken all) (Some arrival)) moment (10 ∷ []) old new s before after)) a
+        (λ all is. (is, call_one name (Hears (taken all) (Some a)) (10 ∷ []) turned.outcome (is.heard, is.text) (turned.turned, turned.safe) others turned.ends)) left heard
 
     take_two : (name second : List ℕ) (a : Arrival) → IfSome left (λ all. IsHeard all a × (rest ≡ Some []))
         → IsPairCall (turning name (Arrived a) moment) (IsDueTurn name (Arrived a) moment) (10 ∷ []) name second old new s before after → ThirdsStay name second old new
-        → IfSome left (λ all. (arrival : Arrival) × OverOwn start mirrors name (Some second) (IsCallDeed start mirrors name (Hears (taken all) (Some arrival)) moment (10 ∷ []) old new s before after))
-    take_two name second a heard call thirds = arrived (λ all arrival. OverOwn start mirrors name (Some second) (IsCallDeed start mirrors name (Hears (taken all) (Some arrival)) moment (10 ∷ []) old new s before after)) a
-        (λ all is. turn_two (Arrived a) (Hears (taken all) (Some a)) name second (is.heard, is.text) call (record { makes = call.made; safe = call.safe }) thirds) left heard
+        → IfSome left (λ all. (arrival : Arrival) × IsHeard all arrival × OverOwn start mirrors name (Some second) (IsCallDeed start mirrors name (Hears (taken all) (Some arrival)) moment (10 ∷ []) old new s before after))
+    take_two name second a heard call thirds = arrived (λ all arrival. IsHeard all arrival × OverOwn start mirrors name (Some second) (IsCallDeed start mirrors name (Hears (taken all) (Some arrival)) moment (10 ∷ []) old new s before after)) a
+        (λ all is. (is, turn_two (Arrived a) (Hears (taken all) (Some a)) name second (is.heard, is.text) call (record { makes = call.made; safe = call.safe }) thirds)) left heard
 
     -- ---- over one disk
 
     module _ (is_back : List ℕ → Type 0) (unread : Type 0) (rows : List Row) where
       deed_one : (o : Order) → HasValues rows o → Obeys o moment s left rest before after old new → LeavesOthers o s is_back unread old new → IsDeedOf start mirrors o None moment s left before after old new
-      deed_one order.Check values obeys leaves = aside_of_all start mirrors old new (leaves.others refl)
+      deed_one order.Check values obeys leaves = aside_of_all start mirrors old new sound (leaves.others refl)
       deed_one (order.Init party role key v) values obeys leaves = tt
       deed_one (order.Load party peer label side pair) values obeys leaves = tt
       deed_one (order.Create party role) values obeys leaves = tt
@@ -126,19 +127,19 @@ module _ (start : World) (mirrors : List ℕ → Option (List ℕ)) (old new : L
       deed_one (order.Show party) values obeys leaves = aside_untouched party obeys.untouched (leaves.others refl)
       deed_one (order.Wipe party) values obeys leaves = tended_one party Wiping obeys.outcome (obeys.wiped, obeys.safe) (leaves.others refl) obeys.ends
       deed_one (order.Compare party other) values obeys leaves =
-          aside_but_two start mirrors old new party other (inl (untouched_unwritten (old party) (new party) obeys.first_stays)) (inl (untouched_unwritten (old other) (new other) obeys.second_stays)) (leaves.others refl)
+          aside_but_two start mirrors old new sound party other (inl obeys.first_stays) (inl obeys.second_stays) (leaves.others refl)
       deed_one order.Replay values obeys leaves = tt
-      deed_one order.Audit values obeys leaves = aside_of_all start mirrors old new (leaves.others refl)
-      deed_one (order.Drill seed events) values obeys leaves = aside_of_all start mirrors old new (leaves.others refl)
+      deed_one order.Audit values obeys leaves = aside_of_all start mirrors old new sound (leaves.others refl)
+      deed_one (order.Drill seed events) values obeys leaves = aside_of_all start mirrors old new sound (leaves.others refl)
       deed_one (order.Pay party peer name ledger amount) values obeys leaves = aside_paid party ledger obeys.safe.party (leaves.others refl)
-      deed_one (order.Accept party ledger) values (inl (why, same, stay)) leaves = λ none. aside_of_all start mirrors old new stay
+      deed_one (order.Accept party ledger) values (inl (why, same, stay)) leaves = λ none. aside_of_all start mirrors old new sound stay
       deed_one (order.Accept party ledger) values (inr (bytes, takes, paid)) leaves = aside_paid party ledger paid.safe.party (leaves.others refl)
       deed_one (order.Spool party spool) values obeys leaves = tt
       deed_one (order.Outbox spool) values obeys leaves = aside_untouched spool obeys.untouched (leaves.others refl)
-      deed_one order.Batch values obeys leaves = aside_of_all start mirrors old new (leaves.others refl)
+      deed_one order.Batch values obeys leaves = aside_of_all start mirrors old new sound (leaves.others refl)
       deed_one (order.Compact party) values obeys leaves = tended_one party Compacting obeys.outcome (obeys.rewritten, obeys.safe) (leaves.others refl) obeys.ends
       deed_one (order.Migrate party) values obeys leaves = tended_one party Migrating obeys.outcome (obeys.rewritten, obeys.safe) (leaves.others refl) obeys.ends
-      deed_one (order.Take party) values (inl (unheard, same, alike)) leaves = inl (unheard, same, aside_but_one start mirrors old new party (inl (alike_unwritten (old party) (new party) alike)) (leaves.others refl))
+      deed_one (order.Take party) values (inl (unheard, same, alike)) leaves = inl (unheard, same, aside_but_one start mirrors old new sound party (inl (untouched_alike (old party) (new party) (sound party) alike)) (leaves.others refl))
       deed_one (order.Take party) values (inr (a, heard, turned)) leaves = inr (take_one party a heard turned (leaves.others refl))
       deed_one (order.Start party peer label) values obeys leaves = command_one (command.Start peer label) party tt obeys (leaves.others refl)
       deed_one (order.StartKk party peer label_new label single) values obeys leaves =
@@ -161,20 +162,20 @@ module _ (start : World) (mirrors : List ℕ → Option (List ℕ)) (old new : L
 
       module _ (m : List ℕ) where
         apart_two : (o : Order) → IsOfTwo o m → IfSome (party_of o) (λ party. ThirdsStay party m old new) → IfSome (party_of o) (IsNobodys start mirrors) → IsNobodys start mirrors m → IsAside start mirrors old new
-        apart_two (order.Init party role key v) of thirds none nor = aside_but_two start mirrors old new party m (inr none) (inr nor) thirds
-        apart_two (order.Create party role) of thirds none nor = aside_but_two start mirrors old new party m (inr none) (inr nor) thirds
-        apart_two (order.Load party peer label side pair) of thirds none nor = aside_but_two start mirrors old new party m (inr none) (inr nor) thirds
-        apart_two (order.Enter party peer label side) of thirds none nor = aside_but_two start mirrors old new party m (inr none) (inr nor) thirds
-        apart_two (order.Start party peer label) of thirds none nor = aside_but_two start mirrors old new party m (inr none) (inr nor) thirds
-        apart_two (order.StartKk party peer label_new label single) of thirds none nor = aside_but_two start mirrors old new party m (inr none) (inr nor) thirds
-        apart_two (order.Ask party peer ultimate) of thirds none nor = aside_but_two start mirrors old new party m (inr none) (inr nor) thirds
-        apart_two (order.Translate party peer ultimate) of thirds none nor = aside_but_two start mirrors old new party m (inr none) (inr nor) thirds
-        apart_two (order.Take party) of thirds none nor = aside_but_two start mirrors old new party m (inr none) (inr nor) thirds
-        apart_two (order.Purge party) of thirds none nor = aside_but_two start mirrors old new party m (inr none) (inr nor) thirds
-        apart_two (order.Show party) of thirds none nor = aside_but_two start mirrors old new party m (inr none) (inr nor) thirds
-        apart_two (order.Resend party peer) of thirds none nor = aside_but_two start mirrors old new party m (inr none) (inr nor) thirds
-        apart_two (order.Drop party peer) of thirds none nor = aside_but_two start mirrors old new party m (inr none) (inr nor) thirds
-        apart_two (order.End party peer name) of thirds none nor = aside_but_two start mirrors old new party m (inr none) (inr nor) thirds
+        apart_two (order.Init party role key v) of thirds none nor = aside_but_two start mirrors old new sound party m (inr none) (inr nor) thirds
+        apart_two (order.Create party role) of thirds none nor = aside_but_two start mirrors old new sound party m (inr none) (inr nor) thirds
+        apart_two (order.Load party peer label side pair) of thirds none nor = aside_but_two start mirrors old new sound party m (inr none) (inr nor) thirds
+        apart_two (order.Enter party peer label side) of thirds none nor = aside_but_two start mirrors old new sound party m (inr none) (inr nor) thirds
+        apart_two (order.Start party peer label) of thirds none nor = aside_but_two start mirrors old new sound party m (inr none) (inr nor) thirds
+        apart_two (order.StartKk party peer label_new label single) of thirds none nor = aside_but_two start mirrors old new sound party m (inr none) (inr nor) thirds
+        apart_two (order.Ask party peer ultimate) of thirds none nor = aside_but_two start mirrors old new sound party m (inr none) (inr nor) thirds
+        apart_two (order.Translate party peer ultimate) of thirds none nor = aside_but_two start mirrors old new sound party m (inr none) (inr nor) thirds
+        apart_two (order.Take party) of thirds none nor = aside_but_two start mirrors old new sound party m (inr none) (inr nor) thirds
+        apart_two (order.Purge party) of thirds none nor = aside_but_two start mirrors old new sound party m (inr none) (inr nor) thirds
+        apart_two (order.Show party) of thirds none nor = aside_but_two start mirrors old new sound party m (inr none) (inr nor) thirds
+        apart_two (order.Resend party peer) of thirds none nor = aside_but_two start mirrors old new sound party m (inr none) (inr nor) thirds
+        apart_two (order.Drop party peer) of thirds none nor = aside_but_two start mirrors old new sound party m (inr none) (inr nor) thirds
+        apart_two (order.End party peer name) of thirds none nor = aside_but_two start mirrors old new sound party m (inr none) (inr nor) thirds
         apart_two order.Check of thirds none nor = absurd of
         apart_two order.Replay of thirds none nor = absurd of
         apart_two order.Audit of thirds none nor = absurd of
@@ -203,7 +204,7 @@ module _ (start : World) (mirrors : List ℕ → Option (List ℕ)) (old new : L
           safe = obeys.safe;
           others = subst (λ (n : Option (List ℕ)). AllButOwnStay n party old new) (sym own) leaves.others;
         }
-        deed_two (order.Take party) values of (inl (unheard, same, stay)) leaves = inl (unheard, same, aside_of_all start mirrors old new stay)
+        deed_two (order.Take party) values of (inl (unheard, same, stay)) leaves = inl (unheard, same, aside_of_all start mirrors old new sound stay)
         deed_two (order.Take party) values of (inr (a, heard, call)) leaves = inr (take_two party m a heard call leaves.others)
         deed_two (order.Start party peer label) values of obeys leaves = command_two (command.Start peer label) party m tt obeys leaves.others
         deed_two (order.StartKk party peer label_new label single) values of obeys leaves =
@@ -241,7 +242,7 @@ module _ (start : World) (mirrors : List ℕ → Option (List ℕ)) (old new : L
 pub deed_idle : (start : World) (mirrors : List ℕ → Option (List ℕ)) (e : List ℕ → View) → ((name : List ℕ) → IsSound (e name)) → (moment : ℕ) (left before : Option (List ℕ)) (rows : List Row) (o : Order) → HasValues rows o
     → (m : Option (List ℕ)) → ((second : List ℕ) → m ≡ Some second → IsOfTwo o second) → IsDeed start mirrors o m moment status.NoMemory left before before e e
 deed_idle start mirrors e sound moment left before rows o values None of =
-    deed_of_one start mirrors e e moment status.NoMemory left left before before (λ name. Unit {0}) (Unit {0}) rows o values (idle moment left before e sound o) (leaves_all o status.NoMemory (λ name. Unit {0}) (Unit {0}) e (λ is. is) tt)
+    deed_of_one start mirrors e e sound moment status.NoMemory left left before before (λ name. Unit {0}) (Unit {0}) rows o values (idle moment left before e sound o) (leaves_all o status.NoMemory (λ name. Unit {0}) (Unit {0}) e (λ is. is) tt)
 deed_idle start mirrors e sound moment left before rows o values (Some second) of =
-    deed_of_two start mirrors e e moment status.NoMemory left left before before (λ name. Unit {0}) (Unit {0}) rows second o values (of second refl)
+    deed_of_two start mirrors e e sound moment status.NoMemory left left before before (λ name. Unit {0}) (Unit {0}) rows second o values (of second refl)
     (idle_mirrored moment left before e sound o second (of second refl)) (left_all o second status.NoMemory (λ name. Unit {0}) (Unit {0}) e (λ is. is) (λ reading. tt))

@@ -15,11 +15,12 @@ use Rattle.mirror_laws.specs.Sessions.{Tending, Compacting, Migrating, Wiping, I
 use Rattle.call_ends.specs.declared.party_command.PartyCommand.{PartyCommand}
 use Rattle.call_ends.specs.declared.status.Status.{Status}
 use Rattle.call_ends.specs.Commands.{command_of}
-use Rattle.call_ends.specs.Listening.{IsUnheard, taken}
+use Rattle.call_ends.specs.Listening.{IsHeard, IsUnheard, taken}
 use Rattle.party_calls.specs.Ends.{Ends}
 use Rattle.party_calls.specs.Obeys.{is_replay, ledger_of, party_of}
 
--- what holds where the party of this name is one of the network, which keeps just the second disk that is named, or none
+-- what holds where the party of this name is one of the network, and keeps as second disk the one that is named, and none where none
+-- is named
 abbrev pub OverOwn : World → (List ℕ → Option (List ℕ)) → List ℕ → Option (List ℕ) → Type 0 → Type 0
 OverOwn start mirrors name mirror deed = (x : Member) → member_at name start.members ≡ Some x → mirrors name ≡ mirror → deed
 
@@ -39,7 +40,7 @@ pub record IsTendingDeed (start : World) (mirrors : List ℕ → Option (List �
 -- party is written
 abbrev pub IsArrivalDeed : World → (List ℕ → Option (List ℕ)) → List ℕ → Option (List ℕ) → ℕ → Option (List ℕ) → (List ℕ → View) → (List ℕ → View) → Status → Option (List ℕ) → Option (List ℕ) → Type 0
 IsArrivalDeed start mirrors name mirror moment left old new s before after = (IsUnheard left s × (after ≡ before) × IsAside start mirrors old new)
-    ⊎ IfSome left (λ all. (arrival : Arrival) × OverOwn start mirrors name mirror (IsCallDeed start mirrors name (Hears (taken all) (Some arrival)) moment (10 ∷ []) old new s before after))
+    ⊎ IfSome left (λ all. (arrival : Arrival) × IsHeard all arrival × OverOwn start mirrors name mirror (IsCallDeed start mirrors name (Hears (taken all) (Some arrival)) moment (10 ∷ []) old new s before after))
 
 abbrev pub IsCommandDeed : World → (List ℕ → Option (List ℕ)) → Option PartyCommand → Option (List ℕ) → ℕ → (List ℕ → View) → (List ℕ → View) → Status → Option (List ℕ) → Option (List ℕ) → Type 0
 IsCommandDeed start mirrors (Some t) mirror moment old new s before after = OverOwn start mirrors t.party mirror (IsCallDeed start mirrors t.party (Orders t.command) moment (10 ∷ []) old new s before after)

@@ -88,7 +88,7 @@ returns-in-None-clause-deeds g c = λ o m is start mirrors.
     let s = c.carry_out.result in
     let both = c.law_one_order.ensures c.args.words.now c.in-Ok.given.order o c.in-Ok.given.mirror m c.in-Ok.ensures.order is in
     subst (λ (n : Option (List ℕ)). IsDeed start mirrors o n c.args.moment s left before after old new) (sym c.in-None.is ∙ both.1)
-    (deed_of_one start mirrors old new c.args.moment s left rest before after is_back unread (rows_of_line c.args.words.now) o is.1.1
+    (deed_of_one start mirrors old new (λ name. g.met.H.Shelf.sound c.args.shelf.now name) c.args.moment s left rest before after is_back unread (rows_of_line c.args.words.now) o is.1.1
     (subst (λ (x : Order). Obeys x c.args.moment s left rest before after old new) both.0 c.carry_out.ensures.obeys)
     (subst (λ (x : Order). LeavesOthers x s is_back unread old new) both.0 c.carry_out.ensures.others))
 
@@ -107,7 +107,7 @@ returns-in-Some-clause-deeds g c = λ o m is start mirrors.
     let both = c.law_one_order.ensures c.args.words.now c.in-Ok.given.order o c.in-Ok.given.mirror m c.in-Ok.ensures.order is in
     let of = c.law_mirror_apart.ensures.mirrors c.args.words.now c.in-Ok.given.order second (subst (λ (m : Option (List ℕ)). IsGiven c.args.words.now c.in-Ok.given.order m) c.in-Some.is c.in-Ok.ensures.order) in
     subst (λ (n : Option (List ℕ)). IsDeed start mirrors o n c.args.moment s left before after old new) (sym c.in-Some.is ∙ both.1)
-    (deed_of_two start mirrors old new c.args.moment s left rest before after is_back unread (rows_of_line c.args.words.now) second o is.1.1
+    (deed_of_two start mirrors old new (λ name. g.met.H.Shelf.sound c.args.shelf.now name) c.args.moment s left rest before after is_back unread (rows_of_line c.args.words.now) second o is.1.1
     (subst (λ (x : Order). IsOfTwo x second) both.0 of)
     (subst (λ (x : Order). ObeysMirrored x second c.args.moment s left rest before after old new) both.0 c.carry_out_mirrored.ensures.obeys)
     (subst (λ (x : Order). LeavesMirrored x second s is_back unread old new) both.0 c.carry_out_mirrored.ensures.others))
