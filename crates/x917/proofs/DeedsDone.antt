@@ -99,20 +99,20 @@ module _ (start : World) (mirrors : List ℕ → Option (List ℕ)) (old new : L
     command_two c name second is call thirds = turn_two (Ordered c) (Orders c) name second is call (record { makes = call.made; safe = call.safe }) thirds
 
     -- the arrival of a message that is heard
-    arrived : (P : List ℕ → Arrival → Type 0) (a : Arrival) → ((all : List ℕ) → IsHeard all a → P all a) → (o : Option (List ℕ)) → IfSome o (λ all. IsHeard all a × (rest ≡ Some [])) → IfSome o (λ all. (arrival : Arrival) × P all arrival)
+    arrived : (P : List ℕ → Arrival → Type 0) (a : Arrival) → ((all : List ℕ) → IsHeard all a → P all a) → (o : Option (List ℕ)) → IfSome o (λ all. IsHeard all a × (rest ≡ Some [])) → IfSome o (λ all. (arrival : Arrival) × IsHeard all arrival × P all arrival)
     arrived P a by None heard = tt
-    arrived P a by (Some all) heard = (a, by all heard.0)
+    arrived P a by (Some all) heard = (a, heard.0, by all heard.0)
 
     take_one : (name : List ℕ) (a : Arrival) → IfSome left (λ all. IsHeard all a × (rest ≡ Some [])) → IsPartyTurn name (Arrived a) moment (old name) (new name) s before after → OthersStay name old new
         → IfSome left (λ all. (arrival : Arrival) × IsHeard all arrival × OverOwn start mirrors name None (IsCallDeed start mirrors name (Hears (taken all) (Some arrival)) moment (10 ∷ []) old new s before after))
-    take_one name a heard turned others = arrived (λ all arrival. IsHeard all arrival × OverOwn start mirrors name None (IsCallDeed start mirrors name (Hears (taken all) (Some arrival)) moment (10 ∷ []) old new s before after)) a
-        (λ all is. (is, call_one name (Hears (taken all) (Some a)) (10 ∷ []) turned.outcome (is.heard, is.text) (turned.turned, turned.safe) others turned.ends)) left heard
+    take_one name a heard turned others = arrived (λ all arrival. OverOwn start mirrors name None (IsCallDeed start mirrors name (Hears (taken all) (Some arrival)) moment (10 ∷ []) old new s before after)) a
+        (λ all is. call_one name (Hears (taken all) (Some a)) (10 ∷ []) turned.outcome (is.heard, is.text) (turned.turned, turned.safe) others turned.ends) left heard
 
     take_two : (name second : List ℕ) (a : Arrival) → IfSome left (λ all. IsHeard all a × (rest ≡ Some []))
         → IsPairCall (turning name (Arrived a) moment) (IsDueTurn name (Arrived a) moment) (10 ∷ []) name second old new s before after → ThirdsStay name second old new
         → IfSome left (λ all. (arrival : Arrival) × IsHeard all arrival × OverOwn start mirrors name (Some second) (IsCallDeed start mirrors name (Hears (taken all) (Some arrival)) moment (10 ∷ []) old new s before after))
-    take_two name second a heard call thirds = arrived (λ all arrival. IsHeard all arrival × OverOwn start mirrors name (Some second) (IsCallDeed start mirrors name (Hears (taken all) (Some arrival)) moment (10 ∷ []) old new s before after)) a
-        (λ all is. (is, turn_two (Arrived a) (Hears (taken all) (Some a)) name second (is.heard, is.text) call (record { makes = call.made; safe = call.safe }) thirds)) left heard
+    take_two name second a heard call thirds = arrived (λ all arrival. OverOwn start mirrors name (Some second) (IsCallDeed start mirrors name (Hears (taken all) (Some arrival)) moment (10 ∷ []) old new s before after)) a
+        (λ all is. turn_two (Arrived a) (Hears (taken all) (Some a)) name second (is.heard, is.text) call (record { makes = call.made; safe = call.safe }) thirds) left heard
 
     -- ---- over one disk
 
